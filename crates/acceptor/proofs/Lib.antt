@@ -1,0 +1,3 @@
+pub mod Certain
+pub mod Greatest
+pub mod SoundRows

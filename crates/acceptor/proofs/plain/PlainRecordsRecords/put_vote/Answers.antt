@@ -1,0 +1,19 @@
+use Rattle.std.proofs.Common.{◌≡◌, max, rules, sym, ap, subst, ◌∙◌}
+use Rattle.ballots.specs.Ballots.{number_of}
+use Rattle.ballots.specs.declared.letters.Cast.{Cast}
+use Rattle.ballots.specs.Rows.{put}
+use Rattle.acceptor.specs.Content.{AreRowsFrom, greatest}
+use Rattle.acceptor.proofs.Greatest.{replaced}
+use Rattle.acceptor.proofs.SoundRows.{rows_put}
+use Rattle.acceptor.proofs.plain.PlainRecordsRecords.put_vote.Goals as goal
+
+pub invariant_of-self-2 : goal.invariant_of-self-2
+invariant_of-self-2 c =
+    let votes = c.self.inside.votes.entries in
+    let row = number_of c.self.inside.row in
+    let cast : Cast = record { ballot = c.args.ballot; value = c.in_ok-copy.field-0 } in
+    let others = replaced row votes c.number.result cast in
+    let now : c.put_at.new.votes.entries ≡ put votes c.number.result cast = search rules in
+    let before = c.self.invariant.0 ∙ others.1 ∙ ap (λ b. max b others.0) (sym c.in_ok-replaced.ensures.replaced) in
+    let after = ap (greatest row) now ∙ others.2 in
+    (c.highest_after-self-inside.ensures others.0 before after, subst (AreRowsFrom 1) (sym now) (rows_put 1 c.number.result cast votes c.number.ensures.fits.0 c.number.ensures.fits.1 c.self.invariant.1))

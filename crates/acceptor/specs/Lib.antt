@@ -1,0 +1,5 @@
+pub mod Answers
+pub mod Content
+pub mod Faults
+pub mod Found
+pub mod Kept

@@ -1,0 +1,160 @@
+//! Promises and votes: each is written before it is answered (Lamport, Paxos Made Simple).
+
+ghost use Rattle.std.specs.Prelude.{◌≡◌, ◌<◌, ◌≤◌, IsTrue, Option, Some, IfSome, IfNone, IfOk, IfErr, OnOk, OnErr};
+ghost use Rattle.ballots.specs.Ballots.{number_of};
+ghost use Rattle.ballots.specs.declared.letters.Cast.{Cast as Ballotted};
+ghost use Rattle.acceptor.specs.Answers.{IsOfBallot};
+ghost use Rattle.acceptor.specs.Content.{Content, Write, promised, after_write};
+ghost use Rattle.acceptor.specs.Content.Write.{Promises, Votes as Casts};
+ghost use Rattle.acceptor.specs.Found.{FindsSame, HasMade, Holds, Keeps, MayHaveMade};
+ghost use Rattle.acceptor.specs.Faults.{CountsFaults, IsHarmless};
+
+use crate::records::{Records, RecordsFault};
+use ballots::{Ballot, Bytes, Cast, Place, Value, Votes};
+
+/// What an acceptor answers to a ballot.
+#[derive(Drop)]
+pub enum Prepared {
+    /// It takes part in no lower ballot. These are its votes from the place on.
+    Promised(Votes),
+    /// The ballot that it has promised, which isn't below.
+    Higher(Ballot),
+}
+
+/// What an acceptor answers to a value.
+#[derive(Drop)]
+pub enum Accepted {
+    /// It has voted in this ballot, now or before, for this value.
+    Voted(Bytes),
+    /// The ballot that it has promised, which is above.
+    Higher(Ballot),
+}
+
+/// An acceptor over its records.
+#[derive(Drop)]
+pub struct Acceptor<R> {
+    pub records: R,
+}
+
+/// The first ballot, where it isn't below the other.
+fn at_least(promised: Option<Ballot>, ballot: Ballot) -> Option<Ballot>
+    ensures some { IfSome result (λ other. (ballot ≤ other) × (other ≡ number_of promised)) }
+    ensures none { IfNone result (number_of promised < ballot) }
+{
+    let number = ballot.number();
+    match promised {
+        Some(other) if other.number() >= number => Some(other),
+        _ => None,
+    }
+}
+
+/// The first ballot, where it is above the other.
+fn above(promised: Option<Ballot>, ballot: Ballot) -> Option<Ballot>
+    ensures some { IfSome result (λ other. (ballot < other) × (other ≡ number_of promised)) }
+    ensures none { IfNone result (number_of promised ≤ ballot) }
+{
+    let number = ballot.number();
+    match promised {
+        Some(other) if other.number() > number => Some(other),
+        _ => None,
+    }
+}
+
+/// The value of the vote, where it is of the ballot.
+fn value_for(vote: Option<Cast>, ballot: Ballot) -> Option<Bytes>
+    ensures some { IfSome result (λ value. vote ≡ Some record { ballot = ballot; value = value }) }
+    ensures none { IfNone result (IsOfBallot vote ballot → ⊥) }
+{
+    let vote = vote?;
+    if vote.ballot.number() != ballot.number() {
+        return None;
+    }
+    Some(vote.value)
+}
+
+fn number(ballot: Option<Ballot>) -> u64
+    ensures { result ≡ number_of ballot }
+{
+    match ballot {
+        Some(ballot) => ballot.number(),
+        None => 0,
+    }
+}
+
+impl<R: Records> Acceptor<R> {
+    ghost use Rattle.std.specs.Prelude.{max};
+    ghost use Rattle.acceptor.specs.Answers.{Prepares, Accepts, MayHavePromised, MayHaveVoted};
+
+    /// The greatest of the ballots that it tried, promised or voted in, and 0 where there is none.
+    pub fn greatest_used(&mut self) -> Result<u64, RecordsFault>
+        ensures value { IsTrue (R.is_honest self.new.records) → IfOk result (λ b. (c : Content) → Holds (R.may_find self.old.records) c → b ≡ max c.tried (promised c)) }
+        ensures kept { IsTrue (R.is_honest self.new.records) → Keeps result (R.may_find self.old.records) (R.may_find self.new.records) }
+        ensures honest { IsTrue (R.is_honest self.new.records) → IsTrue (R.is_honest self.old.records) }
+        ensures count { CountsFaults result (R.count_of self.old.records) (R.count_of self.new.records) }
+    {
+        let tried = self.records.tried()?;
+        let promised = self.records.promised()?;
+        Ok(number(tried).max(number(promised)))
+    }
+
+    /// Promises to take part in no lower ballot, where the ballot is above the promise. The promise is written before it is answered.
+    pub fn prepare(&mut self, ballot: Ballot, place: Place) -> Result<Prepared, RecordsFault>
+        ensures ok { IsTrue (R.is_honest self.new.records) → IfOk result (λ answer. (c : Content) → Holds (R.may_find self.old.records) c
+            → (write : Option Write) × Prepares c ballot place answer write × Holds (R.may_find self.new.records) (after_write c write)) }
+        ensures harmless { IsTrue (R.is_honest self.new.records) → IfErr result (λ e. IsHarmless e → FindsSame (R.may_find self.old.records) (R.may_find self.new.records)) }
+        ensures doubt { IsTrue (R.is_honest self.new.records) → OnErr result ((c : Content) → Holds (R.may_find self.old.records) c → MayHavePromised c ballot (R.may_find self.new.records)) }
+        ensures honest { IsTrue (R.is_honest self.new.records) → IsTrue (R.is_honest self.old.records) }
+        ensures count { CountsFaults result (R.count_of self.old.records) (R.count_of self.new.records) }
+    {
+        let promised = self.records.promised()?;
+        if let Some(other) = at_least(promised, ballot) {
+            return Ok(Prepared::Higher(other));
+        }
+        let votes = self.records.votes_from(place)?;
+        self.records.put_promised(ballot)?;
+        Ok(Prepared::Promised(votes))
+    }
+
+    /// Votes for the value, where the ballot isn't below the promise and the place has no vote of the ballot. The vote is written before it is answered. One that is there is answered again, and nothing is written.
+    pub fn accept(
+        &mut self,
+        ballot: Ballot,
+        place: Place,
+        value: Value,
+    ) -> Result<Accepted, RecordsFault>
+        ensures ok { IsTrue (R.is_honest self.new.records) → IfOk result (λ answer. (c : Content) → Holds (R.may_find self.old.records) c
+            → (write : Option Write) × Accepts c ballot place value answer write × Holds (R.may_find self.new.records) (after_write c write)) }
+        ensures harmless { IsTrue (R.is_honest self.new.records) → IfErr result (λ e. IsHarmless e → FindsSame (R.may_find self.old.records) (R.may_find self.new.records)) }
+        ensures doubt { IsTrue (R.is_honest self.new.records) → OnErr result ((c : Content) → Holds (R.may_find self.old.records) c → MayHaveVoted c ballot place value (R.may_find self.new.records)) }
+        ensures honest { IsTrue (R.is_honest self.new.records) → IsTrue (R.is_honest self.old.records) }
+        ensures count { CountsFaults result (R.count_of self.old.records) (R.count_of self.new.records) }
+    {
+        let promised = self.records.promised()?;
+        if let Some(other) = above(promised, ballot) {
+            return Ok(Accepted::Higher(other));
+        }
+        let vote = self.records.vote(place)?;
+        if let Some(told) = value_for(vote, ballot) {
+            return Ok(Accepted::Voted(told));
+        }
+        Ok(Accepted::Voted(self.vote_now(ballot, place, value)?))
+    }
+
+    /// Writes the vote, and then gives the value for the answer.
+    fn vote_now(
+        &mut self,
+        ballot: Ballot,
+        place: Place,
+        value: Value,
+    ) -> Result<Bytes, RecordsFault>
+        ensures told { IfOk result (λ told. told ≡ value) }
+        ensures ok { IsTrue (R.is_honest self.new.records) → OnOk result (HasMade (R.may_find self.old.records) (R.may_find self.new.records) (Casts place record { ballot = ballot; value = value })) }
+        ensures harmless { IsTrue (R.is_honest self.new.records) → IfErr result (λ e. IsHarmless e → FindsSame (R.may_find self.old.records) (R.may_find self.new.records)) }
+        ensures doubt { IsTrue (R.is_honest self.new.records) → MayHaveMade (R.may_find self.old.records) (R.may_find self.new.records) (Casts place record { ballot = ballot; value = value }) }
+        ensures honest { IsTrue (R.is_honest self.new.records) → IsTrue (R.is_honest self.old.records) }
+        ensures count { CountsFaults result (R.count_of self.old.records) (R.count_of self.new.records) }
+    {
+        self.records.put_vote(place, ballot, &value)?;
+        Ok(value.into_bytes())
+    }
+}

@@ -1,0 +1,217 @@
+//! Records in memory.
+
+ghost use Rattle.std.specs.Prelude.{◌≡◌, ℕ, max, List, Option, Some, None, IfOk, IfSome, IsTrue, OnOk, OnErr, ◌↔◌, true};
+ghost use Rattle.ballots.specs.Limits.{IsPlace};
+ghost use Rattle.ballots.specs.Rows.{at, put, rows_from};
+ghost use Rattle.ballots.specs.Ballots.{number_of};
+ghost use Rattle.acceptor.specs.Content.{AreRowsFrom, Content, no_content, greatest};
+ghost use Rattle.acceptor.specs.Kept.{ballot_in};
+
+use crate::records::{Records, RecordsFault};
+use ballots::{Ballot, Cast, Place, Value, Votes};
+use std::alloc::{AllocError, Global};
+use std::collections::BTreeMap;
+use std::marker::Model;
+
+/// Records that are lost with the process. They fail for memory alone.
+#[derive(Drop)]
+pub struct PlainRecords {
+    alloc: Global,
+    tried: Option<Ballot>,
+    row: Option<Ballot>,
+    votes: BTreeMap<u64, Cast>,
+    // The greatest of the promised row and of all votes' ballots, so that no call looks through the votes for it.
+    highest: Option<Ballot>,
+}
+
+impl Model for PlainRecords {
+    ghost use Rattle.std.specs.Prelude.{◌≡◌, ℕ, List};
+    ghost use Rattle.ballots.specs.Ballots.{number_of};
+    ghost use Rattle.acceptor.specs.Content.{AreRowsFrom, Content, greatest};
+
+    ghost Value = { Content };
+
+    ghost view = { λ r. record { tried = number_of r.tried; row = number_of r.row; votes = r.votes.entries } };
+
+    ghost invariant = { λ r. (number_of r.highest ≡ greatest (number_of r.row) r.votes.entries) × AreRowsFrom 1 r.votes.entries };
+}
+
+impl PlainRecords {
+    pub fn new(alloc: Global) -> PlainRecords
+        ensures { result ≡ no_content }
+    {
+        PlainRecords {
+            alloc,
+            tried: None,
+            row: None,
+            votes: BTreeMap::new(alloc),
+            highest: None,
+        }
+    }
+}
+
+fn copied(alloc: Global, cast: &Cast) -> Result<Cast, AllocError>
+    ensures { IfOk result (λ c. c ≡ cast.now) }
+{
+    Ok(Cast {
+        ballot: cast.ballot,
+        value: cast.value.copy(alloc)?,
+    })
+}
+
+fn higher(ballot: Option<Ballot>, other: Ballot) -> Option<Ballot>
+    ensures { number_of result ≡ max (number_of ballot) other }
+{
+    match ballot {
+        Some(b) if b.number() >= other.number() => ballot,
+        _ => Some(other),
+    }
+}
+
+/// The greatest of a ballot and those of the votes.
+#[tactic(auto, using(crate::proofs::Greatest::greatest_max))]
+fn greatest_of(ballot: Option<Ballot>, votes: &BTreeMap<u64, Cast>) -> Option<Ballot>
+    ensures { number_of result ≡ greatest (number_of ballot) votes.now.entries }
+{
+    let mut most = ballot;
+    for (_place, cast) in votes {
+        most = higher(most, cast.ballot);
+    }
+    most
+}
+
+fn is_of(ballot: Option<Ballot>, number: u64) -> bool
+    ensures { IsTrue result ↔ (number_of ballot ≡ number) }
+{
+    match ballot {
+        Some(ballot) => ballot.number() == number,
+        None => number == 0,
+    }
+}
+
+/// The greatest ballot after `ballot` took the place of `replaced`, and none where a lower ballot took the place of the greatest, so that only the votes can tell.
+fn raised(highest: Option<Ballot>, replaced: Option<Ballot>, ballot: Ballot) -> Option<Ballot>
+    ensures { IfSome result (λ b. (others : ℕ) → number_of highest ≡ max (number_of replaced) others → b ≡ max ballot others) }
+{
+    match highest {
+        Some(was) if ballot.number() < was.number() => {
+            if is_of(replaced, was.number()) {
+                None
+            } else {
+                Some(was)
+            }
+        }
+        _ => Some(ballot),
+    }
+}
+
+/// The greatest ballot after `ballot` took the place of `replaced`.
+fn highest_after(
+    highest: Option<Ballot>,
+    replaced: Option<Ballot>,
+    ballot: Ballot,
+    row: Option<Ballot>,
+    votes: &BTreeMap<u64, Cast>,
+) -> Option<Ballot>
+    ensures { (others : ℕ) → number_of highest ≡ max (number_of replaced) others → greatest (number_of row) votes.now.entries ≡ max ballot others → number_of result ≡ greatest (number_of row) votes.now.entries }
+{
+    if let Some(highest) = raised(highest, replaced, ballot) {
+        return Some(highest);
+    }
+    greatest_of(row, votes)
+}
+
+fn copy_at(
+    alloc: Global,
+    votes: &BTreeMap<u64, Cast>,
+    place: Place,
+) -> Result<Option<Cast>, AllocError>
+    ensures { IfOk result (λ v. v ≡ at votes.now.entries place) }
+{
+    match votes.get(&place.number()) {
+        Some(cast) => Ok(Some(copied(alloc, cast)?)),
+        None => Ok(None),
+    }
+}
+
+fn copy_from(alloc: Global, votes: &BTreeMap<u64, Cast>, place: Place) -> Result<Votes, AllocError>
+    ensures { IfOk result (λ rows. rows ≡ rows_from votes.now.entries place) }
+{
+    let mut rows = Vec::new(alloc);
+    for (at, cast) in votes.range(place.number()..) {
+        rows.push((*at, copied(alloc, cast)?))?;
+    }
+    Ok(Votes::new(rows))
+}
+
+/// Puts the vote, and gives the ballot of the one that stood there.
+fn put_at(
+    votes: &mut BTreeMap<u64, Cast>,
+    place: u64,
+    cast: Cast,
+) -> Result<Option<Ballot>, AllocError>
+    ensures ok { OnOk result (votes.new.entries ≡ put votes.old.entries place cast) }
+    ensures replaced { IfOk result (λ ballot. number_of ballot ≡ ballot_in (at votes.old.entries place)) }
+    ensures err { OnErr result (votes.new.entries ≡ votes.old.entries) }
+{
+    match votes.insert(place, cast).map_err(AllocError::from)? {
+        Some(old) => Ok(Some(old.ballot)),
+        None => Ok(None),
+    }
+}
+
+impl Records for PlainRecords {
+    ghost may_find = { λ r c. c ≡ r };
+
+    ghost is_honest = { λ _. true };
+
+    ghost count_of = { λ _. 0 };
+
+    fn failures(&self) -> u64 {
+        0
+    }
+
+    fn tried(&mut self) -> Result<Option<Ballot>, RecordsFault> {
+        Ok(self.tried)
+    }
+
+    fn promised(&mut self) -> Result<Option<Ballot>, RecordsFault> {
+        Ok(self.highest)
+    }
+
+    fn vote(&mut self, place: Place) -> Result<Option<Cast>, RecordsFault> {
+        Ok(copy_at(self.alloc, &self.votes, place)?)
+    }
+
+    fn votes_from(&mut self, place: Place) -> Result<Votes, RecordsFault> {
+        Ok(copy_from(self.alloc, &self.votes, place)?)
+    }
+
+    fn put_tried(&mut self, ballot: Ballot) -> Result<(), RecordsFault> {
+        self.tried = Some(ballot);
+        Ok(())
+    }
+
+    fn put_promised(&mut self, ballot: Ballot) -> Result<(), RecordsFault> {
+        let replaced = self.row;
+        self.row = Some(ballot);
+        self.highest = highest_after(self.highest, replaced, ballot, self.row, &self.votes);
+        Ok(())
+    }
+
+    fn put_vote(
+        &mut self,
+        place: Place,
+        ballot: Ballot,
+        value: &Value,
+    ) -> Result<(), RecordsFault> {
+        let value = value.copy(self.alloc)?.into_bytes();
+        let replaced = put_at(&mut self.votes, place.number(), Cast { ballot, value })?;
+        self.highest = highest_after(self.highest, replaced, ballot, self.row, &self.votes);
+        Ok(())
+    }
+
+    fn reopen(&mut self) -> Result<(), RecordsFault> {
+        Ok(())
+    }
+}

@@ -1,0 +1,4 @@
+pub mod OneValue
+pub mod PutRows
+pub mod Quorums
+pub mod Safety

@@ -1,0 +1,152 @@
+//! The letters that nodes send to one another (Lamport, Paxos Made Simple, section 2.2). They say what their sender put in: a node has to test it.
+
+ghost use Rattle.std.specs.Prelude.{◌≡◌, IfOk};
+
+use crate::ballot::{Ballot, NodeId};
+use crate::values::Bytes;
+use std::alloc::{AllocError, Global};
+use std::marker::Model;
+
+/// A vote at a place: its ballot, and the value that it is for.
+#[derive(Drop, Clone)]
+pub struct Cast {
+    pub ballot: Ballot,
+    pub value: Bytes,
+}
+
+/// Votes with their places. A store gives its own by ascending place.
+#[derive(Drop)]
+pub struct Votes {
+    rows: Vec<(u64, Cast)>,
+}
+
+impl Model for Votes {
+    ghost use Rattle.std.specs.Prelude.{ℕ, List};
+    ghost use Rattle.ballots.specs.declared.letters.Cast.{Cast};
+
+    ghost Value = { List (ℕ × Cast) };
+
+    ghost view = { λ v. v.rows.items };
+}
+
+impl Votes {
+    /// Votes with their places, in this order.
+    pub fn new(rows: Vec<(u64, Cast)>) -> Votes
+        ensures { result ≡ rows.items }
+    {
+        Votes { rows }
+    }
+
+    /// The same votes again.
+    pub fn copy(&self, alloc: Global) -> Result<Votes, AllocError>
+        ensures { IfOk result (λ v. v ≡ self.now) }
+    {
+        let mut rows = Vec::new(alloc);
+        for row in self.rows() {
+            let cast = Cast {
+                ballot: row.1.ballot,
+                value: row.1.value.copy(alloc)?,
+            };
+            rows.push((row.0, cast))?;
+        }
+        Ok(Votes::new(rows))
+    }
+
+    /// The place and the vote of each.
+    pub fn rows(&self) -> &[(u64, Cast)]
+        ensures { result.now ≡ self.now }
+    {
+        self.rows.as_slice()
+    }
+}
+
+/// What a letter says. Its places and values may be none of the log.
+#[derive(Drop)]
+pub enum Note {
+    /// Asks for a promise of the ballot, for all places from one on.
+    Prepare {
+        ballot: Ballot,
+        place: u64,
+    },
+    /// Takes part in no lower ballot, and reports the votes from the place on.
+    Promise {
+        ballot: Ballot,
+        place: u64,
+        votes: Votes,
+    },
+    /// Asks for a vote.
+    Accept {
+        ballot: Ballot,
+        place: u64,
+        value: Bytes,
+    },
+    /// Has voted.
+    Voted {
+        ballot: Ballot,
+        place: u64,
+        value: Bytes,
+    },
+    /// Has promised this ballot, so that a lower one isn't taken.
+    Higher {
+        ballot: Ballot,
+    },
+    /// Has learned the value of the place.
+    Known {
+        place: u64,
+        value: Bytes,
+    },
+}
+
+impl Note {
+    /// The same note again.
+    pub fn copy(&self, alloc: Global) -> Result<Note, AllocError>
+        ensures { IfOk result (λ n. n ≡ self.now) }
+    {
+        match self {
+            Note::Prepare { ballot, place } => Ok(Note::Prepare {
+                ballot: *ballot,
+                place: *place,
+            }),
+            Note::Promise {
+                ballot,
+                place,
+                votes,
+            } => Ok(Note::Promise {
+                ballot: *ballot,
+                place: *place,
+                votes: votes.copy(alloc)?,
+            }),
+            Note::Accept {
+                ballot,
+                place,
+                value,
+            } => Ok(Note::Accept {
+                ballot: *ballot,
+                place: *place,
+                value: value.copy(alloc)?,
+            }),
+            Note::Voted {
+                ballot,
+                place,
+                value,
+            } => Ok(Note::Voted {
+                ballot: *ballot,
+                place: *place,
+                value: value.copy(alloc)?,
+            }),
+            Note::Higher { ballot } => Ok(Note::Higher { ballot: *ballot }),
+            Note::Known { place, value } => Ok(Note::Known {
+                place: *place,
+                value: value.copy(alloc)?,
+            }),
+        }
+    }
+}
+
+/// What a node tells another, or itself.
+#[derive(Drop)]
+pub struct Letter {
+    pub from: NodeId,
+    pub to: NodeId,
+    pub note: Note,
+}

@@ -1,0 +1,35 @@
+//! Nodes, ballots and letters, and what a voting history chooses.
+#![tactic(auto)]
+
+ghost use Rattle.ballots.specs.Ballots.{BallotsDiffer};
+ghost use Rattle.ballots.specs.Voting.{Agreement, QuorumsMeet};
+
+mod ballot;
+mod letters;
+mod members;
+mod places;
+mod values;
+
+pub use ballot::{Ballot, NodeId, RoundsSpent, least_above};
+pub use letters::{Cast, Letter, Note, Votes};
+pub use members::Members;
+pub use places::{MOST_PLACES, Place};
+pub use values::{Bytes, LONGEST_VALUE, Value};
+
+/// Ballots of two nodes differ.
+pub fn ballots_differ()
+    ensures { BallotsDiffer }
+{}
+
+/// Two quorums share a member.
+pub fn quorums_meet()
+    ensures { QuorumsMeet }
+{}
+
+/// In a legal voting history at most one value is chosen at a place (Lamport, Paxos Made Simple, section 2.2).
+pub fn agreement()
+    ensures { Agreement }
+{}
+
+#[cfg(test)]
+mod tests;

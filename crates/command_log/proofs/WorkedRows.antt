@@ -1,0 +1,44 @@
+-- Worked examples of the definitions.
+use Rattle.std.proofs.Common.{◌≡◌, ℕ, List, [], ◌∷◌, ◌++◌, Some, None, map, refl}
+use Rattle.flow_state.specs.declared.channel.Channel.{Channel}
+use Rattle.flow_state.specs.declared.flow.FlowKind.TheVariants.{BestEffort, Ugs, Poll}
+use Rattle.grant_machine.specs.declared.command.Command.TheVariants as commands
+use Rattle.grant_machine.specs.declared.output.Output.TheVariants as outputs
+use Rattle.command_log.specs.Spelling.{spelling}
+use Rattle.command_log.specs.Reading.{command_in}
+use Rattle.command_log.specs.Values.{outputs_of_values}
+
+abbrev channel_x : Channel
+channel_x = record { id = 1; ucd = 7; short_max = 16; ranging_backoff = (2, 5); data_backoff = (3, 8); base = 1000 }
+
+abbrev channel_bytes : List ℕ
+channel_bytes = 0x01 ∷ 0x01 ∷ 0x07 ∷ 0x00 ∷ 0x10 ∷ 0x02 ∷ 0x05 ∷ 0x03 ∷ 0x08 ∷ 0x00 ∷ 0x00 ∷ 0x00 ∷ 0x00 ∷ 0x00 ∷ 0x00 ∷ 0x03 ∷ 0xE8 ∷ []
+
+channel_spelled : spelling (commands.Channel channel_x) ≡ channel_bytes
+channel_spelled = refl
+
+channel_read : command_in channel_bytes ≡ Some (commands.Channel channel_x)
+channel_read = refl
+
+request_spelled : spelling (commands.Request 1 1 20 990) ≡ 0x04 ∷ 0x01 ∷ 0x00 ∷ 0x01 ∷ 0x00 ∷ 0x14 ∷ 0x00 ∷ 0x00 ∷ 0x00 ∷ 0x00 ∷ 0x00 ∷ 0x00 ∷ 0x03 ∷ 0xDE ∷ []
+request_spelled = refl
+
+-- a byte less, a byte more, and another first byte
+channel_short : command_in (0x01 ∷ 0x01 ∷ 0x07 ∷ 0x00 ∷ 0x10 ∷ 0x02 ∷ 0x05 ∷ 0x03 ∷ 0x08 ∷ 0x00 ∷ 0x00 ∷ 0x00 ∷ 0x00 ∷ 0x00 ∷ 0x00 ∷ 0x03 ∷ []) ≡ None
+channel_short = refl
+
+channel_long : command_in (channel_bytes ++ 0x00 ∷ []) ≡ None
+channel_long = refl
+
+other_first : command_in (0xFF ∷ 0x01 ∷ 0x07 ∷ 0x00 ∷ 0x10 ∷ 0x02 ∷ 0x05 ∷ 0x03 ∷ 0x08 ∷ 0x00 ∷ 0x00 ∷ 0x00 ∷ 0x00 ∷ 0x00 ∷ 0x00 ∷ 0x03 ∷ 0xE8 ∷ []) ≡ None
+other_first = refl
+
+-- each form is read back
+kinds_read : map (λ c. command_in (spelling c)) (commands.Noop ∷ commands.Flow 1 50 1 (BestEffort 3) ∷ commands.Flow 1 50 70000 (Ugs 4 40 8 1000) ∷ commands.Flow 2 51 2 (Poll 50 0 1000) ∷ commands.Drop 1 258 ∷ commands.Request 1 1 20 990 ∷ commands.Cut 1 4096 5 6 ∷ [])
+    ≡ map Some (commands.Noop ∷ commands.Flow 1 50 1 (BestEffort 3) ∷ commands.Flow 1 50 70000 (Ugs 4 40 8 1000) ∷ commands.Flow 2 51 2 (Poll 50 0 1000) ∷ commands.Drop 1 258 ∷ commands.Request 1 1 20 990 ∷ commands.Cut 1 4096 5 6 ∷ [])
+kinds_read = refl
+
+-- values that are no command do nothing
+outputs_in_order : outputs_of_values (channel_bytes ∷ (0xFF ∷ []) ∷ spelling (commands.Cut 1 1 0 0) ∷ []) ≡ outputs.ChannelSet 1 7 ∷ outputs.Nothing ∷ outputs.Map 1 1000 1
+    (0x01 ∷ 0x07 ∷ 0x02 ∷ 0x00 ∷ 0x00 ∷ 0x00 ∷ 0x03 ∷ 0xE8 ∷ 0x00 ∷ 0x00 ∷ 0x00 ∷ 0x00 ∷ 0x02 ∷ 0x05 ∷ 0x03 ∷ 0x08 ∷ 0xFF ∷ 0xFC ∷ 0x40 ∷ 0x00 ∷ 0x00 ∷ 0x01 ∷ 0xC0 ∷ 0x01 ∷ []) ∷ []
+outputs_in_order = refl

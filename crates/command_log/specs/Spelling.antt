@@ -1,0 +1,36 @@
+-- Commands as bytes: most significant byte first, of fixed lengths, one spelling a command (this project's format).
+use Rattle.std.specs.Prelude.{◌≡◌, ℕ, List, [], ◌∷◌, ◌++◌}
+use Rattle.std.specs.Int.{w16, w32, w64, to_be_bytes}
+use Rattle.flow_state.specs.declared.channel.Channel.{Channel}
+use Rattle.flow_state.specs.declared.flow.FlowKind.{FlowKind}
+use Rattle.flow_state.specs.declared.flow.FlowKind.TheVariants.{BestEffort, Ugs, Poll}
+use Rattle.grant_machine.specs.declared.command.Command.{Command}
+use Rattle.grant_machine.specs.declared.command.Command.TheVariants as commands
+use Rattle.grant_machine.specs.Fits.{FitsCommand}
+
+abbrev pub channel_spelling : Channel → List ℕ
+channel_spelling c =
+    c.id ∷ c.ucd ∷ to_be_bytes w16 c.short_max
+    ++ c.ranging_backoff.0 ∷ c.ranging_backoff.1 ∷ c.data_backoff.0 ∷ c.data_backoff.1 ∷ to_be_bytes w64 c.base
+
+abbrev pub kind_spelling : FlowKind → List ℕ
+kind_spelling (BestEffort priority) = 0 ∷ priority ∷ []
+kind_spelling (Ugs size interval jitter base) = 1 ∷ to_be_bytes w16 size ++ to_be_bytes w32 interval ++ to_be_bytes w32 jitter ++ to_be_bytes w64 base
+kind_spelling (Poll interval jitter base) = 2 ∷ to_be_bytes w32 interval ++ to_be_bytes w32 jitter ++ to_be_bytes w64 base
+
+-- the bytes of a command
+abbrev pub spelling : Command → List ℕ
+spelling commands.Noop = 0 ∷ []
+spelling (commands.Channel c) = 1 ∷ channel_spelling c
+spelling (commands.Flow ch modem tag kind) = 2 ∷ ch ∷ to_be_bytes w32 modem ++ to_be_bytes w32 tag ++ kind_spelling kind
+spelling (commands.Drop ch sid) = 3 ∷ ch ∷ to_be_bytes w16 sid
+spelling (commands.Request ch sid n sent) = 4 ∷ ch ∷ to_be_bytes w16 sid ++ to_be_bytes w16 n ++ to_be_bytes w64 sent
+spelling (commands.Cut ch len not_before ack) = 5 ∷ ch ∷ to_be_bytes w16 len ++ to_be_bytes w64 not_before ++ to_be_bytes w64 ack
+
+-- the bytes spell the command
+abbrev pub Spells : List ℕ → Command → Type 0
+Spells bytes c = FitsCommand c × (bytes ≡ spelling c)
+
+-- the bytes spell no command
+abbrev pub SpellsNone : List ℕ → Type 0
+SpellsNone bytes = (c : Command) → ¬ Spells bytes c

@@ -1,0 +1,114 @@
+ghost use Rattle.std.specs.Prelude.{◌≡◌, ◌+◌, ◌≤◌, IsTrue, IsFalse, length};
+ghost use Rattle.std.specs.Int.{w16, w32, w64};
+ghost use Rattle.grant_machine.specs.declared.command.Command.TheVariants as commands;
+ghost use Rattle.command_log.specs.Spelling.{Spells, SpellsNone};
+ghost use Rattle.command_log.specs.Reading.{byte, channel_in, command_in, command_of, flow_command_in, number};
+
+use byteorder::{BigEndian, ByteOrder};
+use flow_state::{Channel, FlowKind};
+use grant_machine::Command;
+
+fn u16_at(bytes: &[u8], place: usize) -> u16
+    requires { place + 2 ≤ length bytes.now }
+    ensures { result ≡ number w16 bytes.now place }
+{
+    BigEndian::read_u16(&bytes[place..])
+}
+
+fn u32_at(bytes: &[u8], place: usize) -> u32
+    requires { place + 4 ≤ length bytes.now }
+    ensures { result ≡ number w32 bytes.now place }
+{
+    BigEndian::read_u32(&bytes[place..])
+}
+
+fn u64_at(bytes: &[u8], place: usize) -> u64
+    requires { place + 8 ≤ length bytes.now }
+    ensures { result ≡ number w64 bytes.now place }
+{
+    BigEndian::read_u64(&bytes[place..])
+}
+
+fn channel_of(bytes: &[u8]) -> Channel
+    requires { length bytes.now ≡ 17 }
+    ensures { result ≡ channel_in bytes.now }
+{
+    Channel {
+        id: bytes[1],
+        ucd: bytes[2],
+        short_max: u16_at(bytes, 3),
+        ranging_backoff: (bytes[5], bytes[6]),
+        data_backoff: (bytes[7], bytes[8]),
+        base: u64_at(bytes, 9),
+    }
+}
+
+/// The flow with the kind that its byte and the length tell.
+fn flow_of(bytes: &[u8]) -> Option<Command>
+    requires { byte bytes.now 0 ≡ 2 }
+    ensures { result ≡ flow_command_in bytes.now }
+{
+    let kind_byte = *bytes.get(10)?;
+    let kind = match (kind_byte, bytes.len()) {
+        (0, 12) => FlowKind::BestEffort(bytes[11]),
+        (1, 29) => FlowKind::Ugs {
+            size: u16_at(bytes, 11),
+            interval: u32_at(bytes, 13),
+            jitter: u32_at(bytes, 17),
+            base: u64_at(bytes, 21),
+        },
+        (2, 27) => FlowKind::Poll {
+            interval: u32_at(bytes, 11),
+            jitter: u32_at(bytes, 15),
+            base: u64_at(bytes, 19),
+        },
+        _ => return None,
+    };
+    Some(Command::Flow {
+        ch: bytes[1],
+        modem: u32_at(bytes, 2),
+        tag: u32_at(bytes, 6),
+        kind,
+    })
+}
+
+/// The command that bytes spell, by the first byte and the length.
+fn command_at(bytes: &[u8]) -> Option<Command>
+    ensures { result ≡ command_in bytes.now }
+{
+    let first = *bytes.first()?;
+    match (first, bytes.len()) {
+        (0, 1) => Some(Command::Noop),
+        (1, 17) => Some(Command::Channel(channel_of(bytes))),
+        (2, _) => flow_of(bytes),
+        (3, 4) => Some(Command::Drop {
+            ch: bytes[1],
+            sid: u16_at(bytes, 2),
+        }),
+        (4, 14) => Some(Command::Request {
+            ch: bytes[1],
+            sid: u16_at(bytes, 2),
+            n: u16_at(bytes, 4),
+            sent: u64_at(bytes, 6),
+        }),
+        (5, 20) => Some(Command::Cut {
+            ch: bytes[1],
+            len: u16_at(bytes, 2),
+            not_before: u64_at(bytes, 4),
+            ack: u64_at(bytes, 12),
+        }),
+        _ => None,
+    }
+}
+
+/// The command that bytes spell, and true; Noop and false where they spell none. It takes no memory.
+pub fn read_command(bytes: &[u8]) -> (Command, bool)
+    ensures read { IsTrue result.1 → Spells bytes.now result.0 }
+    ensures other { IsFalse result.1 → (result.0 ≡ commands.Noop) × SpellsNone bytes.now }
+    ensures value { result.0 ≡ command_of bytes.now }
+{
+    match command_at(bytes) {
+        Some(command) => (command, true),
+        None => (Command::Noop, false),
+    }
+}

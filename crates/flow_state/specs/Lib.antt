@@ -1,0 +1,9 @@
+pub mod Limits
+pub mod Rows
+pub mod Refusals
+pub mod Changes
+pub mod View
+pub mod Sound
+pub mod StoredTable
+pub mod Entries
+pub mod Kept

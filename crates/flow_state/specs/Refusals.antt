@@ -1,0 +1,88 @@
+-- The first refusal of each call that applies, in order.
+use Rattle.std.specs.Prelude.{◌≡◌, ℕ, Bool, false, not, ◌||◌, nat_le, is_some, is_none, if◌then◌else◌, length, Option, Some, None}
+use Rattle.std.specs.Option.{option_map_or}
+use Rattle.flow_state.specs.declared.channel.Channel.{Channel}
+use Rattle.flow_state.specs.declared.flow.FlowKind.{FlowKind}
+use Rattle.flow_state.specs.declared.refusal.Refusal.{Refusal}
+use Rattle.flow_state.specs.declared.refusal.Refusal.TheVariants.{NoChannel, ChannelThere, NoFlow, SidsSpent, Busy, OldRequest, BadValue, OutOfMemory}
+use Rattle.flow_state.specs.Limits.{is_good_channel, is_good_kind, is_size, is_ugs, last_time, most_waiting}
+use Rattle.flow_state.specs.Rows.{Rows, Table, FlowRow, table_of, flow_of, assignment_of, free_sid, waits}
+
+abbrev pub set_channel_refusal : Rows → Channel → Option Refusal
+set_channel_refusal rows c =
+    if not (is_good_channel c) then Some BadValue
+    else if is_some (table_of rows c.id) then Some ChannelThere
+    else None
+
+-- where modem and tag were there before, there is no refusal, whatever the kind
+abbrev pub table_flow_refusal : Table → ℕ → ℕ → FlowKind → Option Refusal
+table_flow_refusal t modem tag kind =
+    if is_some (assignment_of t modem tag) then None
+    else if not (is_good_kind kind) then Some BadValue
+    else if is_none (free_sid t) then Some SidsSpent
+    else None
+
+abbrev pub table_drop_refusal : Table → ℕ → Option Refusal
+table_drop_refusal t sid = if is_none (flow_of t sid) then Some NoFlow else None
+
+-- a request was sent not later than the last accepted one of its flow
+abbrev pub is_old : Option ℕ → ℕ → Bool
+is_old None sent = false
+is_old (Some last) sent = nat_le sent last
+
+-- the refusal of a request of a flow, where it is busy or isn't
+abbrev pub first_refusal : FlowRow → ℕ → ℕ → Bool → Option Refusal
+first_refusal f n sent busy =
+    if not (is_size n) || not (nat_le sent last_time) || is_ugs f.kind then Some BadValue
+    else if is_old f.last_sent sent then Some OldRequest
+    else if busy then Some Busy
+    else None
+
+-- a SID is busy where a request of it waits, or no more may wait
+abbrev pub is_busy : Table → ℕ → Bool
+is_busy t sid = waits t sid || nat_le most_waiting (length t.waiting)
+
+abbrev pub flow_request_refusal : Table → FlowRow → ℕ → ℕ → Option Refusal
+flow_request_refusal t f n sent = first_refusal f n sent (is_busy t f.sid)
+
+abbrev pub request_refusal_on : Option FlowRow → Table → ℕ → ℕ → Option Refusal
+request_refusal_on (Some f) t n sent = flow_request_refusal t f n sent
+request_refusal_on None t n sent = Some NoFlow
+
+abbrev pub table_request_refusal : Table → ℕ → ℕ → ℕ → Option Refusal
+table_request_refusal t sid n sent = request_refusal_on (flow_of t sid) t n sent
+
+-- the refusal of a call on a channel: NoChannel first
+abbrev pub on_table : Rows → ℕ → (Table → Option Refusal) → Option Refusal
+on_table rows ch refusal = option_map_or refusal (table_of rows ch) (Some NoChannel)
+
+abbrev pub add_flow_refusal : Rows → ℕ → ℕ → ℕ → FlowKind → Option Refusal
+add_flow_refusal rows ch modem tag kind = on_table rows ch (λ t. table_flow_refusal t modem tag kind)
+
+abbrev pub drop_flow_refusal : Rows → ℕ → ℕ → Option Refusal
+drop_flow_refusal rows ch sid = on_table rows ch (λ t. table_drop_refusal t sid)
+
+abbrev pub request_refusal : Rows → ℕ → ℕ → ℕ → ℕ → Option Refusal
+request_refusal rows ch sid n sent = on_table rows ch (λ t. table_request_refusal t sid n sent)
+
+-- a call may refuse so, where this is the first refusal that applies: want of memory comes after every other
+abbrev pub Refuses : Option Refusal → Refusal → Type 0
+Refuses first OutOfMemory = first ≡ None
+Refuses first NoChannel = first ≡ Some NoChannel
+Refuses first ChannelThere = first ≡ Some ChannelThere
+Refuses first NoFlow = first ≡ Some NoFlow
+Refuses first SidsSpent = first ≡ Some SidsSpent
+Refuses first Busy = first ≡ Some Busy
+Refuses first OldRequest = first ≡ Some OldRequest
+Refuses first BadValue = first ≡ Some BadValue
+
+-- the number of a refusal
+abbrev pub number_of : Refusal → ℕ
+number_of NoChannel = 1
+number_of ChannelThere = 2
+number_of NoFlow = 3
+number_of SidsSpent = 4
+number_of Busy = 5
+number_of OldRequest = 6
+number_of BadValue = 7
+number_of OutOfMemory = 8

@@ -1,0 +1,27 @@
+-- What is always true of a stored table.
+use Rattle.std.specs.Prelude.{◌≡◌, ℕ, nat_eq, Some}
+use Rattle.std.specs.List.{AllByRecursion}
+use Rattle.indexmap.specs.IndexMap.{IsUnique}
+use Rattle.flow_state.specs.declared.flow.Flow.{Flow}
+use Rattle.flow_state.specs.declared.table.ChannelTable.TheInside.{Inside}
+use Rattle.flow_state.specs.Limits.{due_time, due_index}
+use Rattle.flow_state.specs.Sound.{IsSound}
+use Rattle.flow_state.specs.View.{table_view}
+
+-- a flow stands under its SID, and its next due time is one of its due times
+pub record IsStoredFlow (e : ℕ × Flow) : Type 0 where
+  pub key : e.1.sid ≡ e.0
+  pub due : e.1.due ≡ due_time e.1.kind (due_index e.1.kind e.1.due)
+
+pub record IsStored (a : Inside) : Type 0 where
+  pub flows : AllByRecursion IsStoredFlow a.flows.entries
+  pub unique : IsUnique nat_eq a.flows
+  pub sound : IsSound (table_view a)
+
+-- a stored flow whose last accepted request was sent at this time
+abbrev pub with_sent : Flow → ℕ → Flow
+with_sent f sent = record f { last_sent = Some sent }
+
+-- a stored flow that is due next at this time
+abbrev pub with_next_due : Flow → ℕ → Flow
+with_next_due f due = record f { due = due }

@@ -1,0 +1,134 @@
+//! Calls on the table of a channel, found by the channel's id.
+
+ghost use Rattle.std.specs.Prelude.{◌≡◌, [], ◌∷◌, ◌++◌, None, Some, nat_eq, is_some, false, IsOk, OnOk, IfOk, IfErr, IsTrue};
+ghost use Rattle.std.specs.Map.{lookup};
+ghost use Rattle.std.specs.Option.{option_map_or};
+ghost use Rattle.indexmap.specs.IndexMap.{get, IsUnique};
+ghost use Rattle.flow_state.specs.Entries.{change_entry, on_entry, entry_refusal};
+ghost use Rattle.flow_state.specs.Limits.{IsDueTime};
+ghost use Rattle.flow_state.specs.Rows.{Table, FlowRow, flow_of, assignment_of, waits, without_request};
+ghost use Rattle.flow_state.specs.Refusals.{Refuses, table_flow_refusal, table_drop_refusal, table_request_refusal};
+ghost use Rattle.flow_state.specs.Changes.{new_table, sid_on, flow_in_table, drop_in_table, request_in_table, due_in_table, close_table};
+
+use crate::channel::Channel;
+use crate::flow::FlowKind;
+use crate::refusal::Refusal;
+use crate::table::ChannelTable;
+use indexmap::IndexMap;
+
+/// Sets a channel.
+pub(crate) fn set_channel(
+    tables: &mut IndexMap<u8, ChannelTable>,
+    channel: Channel,
+) -> Result<(), Refusal>
+    ensures ok { OnOk result ((entry_refusal tables.old.entries channel ≡ None) × (tables.new.entries ≡ tables.old.entries ++ (channel.id, new_table channel) ∷ [])) }
+    ensures err { IfErr result (λ refusal. Refuses (entry_refusal tables.old.entries channel) refusal × (tables.new.entries ≡ tables.old.entries)) }
+    ensures unique { IsUnique nat_eq tables.old → IsUnique nat_eq tables.new }
+{
+    if !channel.is_good() {
+        return Err(Refusal::BadValue);
+    }
+    if tables.contains_key(&channel.id) {
+        return Err(Refusal::ChannelThere);
+    }
+    let table = ChannelTable::new(*tables.allocator(), channel);
+    tables.insert(channel.id, table)?;
+    Ok(())
+}
+
+/// Adds a flow to the channel.
+#[tactic(auto, using(std::proofs::lemmas::Map::Steps::set_value_same))]
+pub(crate) fn add_flow(
+    tables: &mut IndexMap<u8, ChannelTable>,
+    ch: u8,
+    modem: u32,
+    tag: u32,
+    kind: FlowKind,
+) -> Result<u16, Refusal>
+    ensures ok { OnOk result ((on_entry tables.old.entries ch (λ t. table_flow_refusal t modem tag kind) ≡ None) × (tables.new.entries ≡ change_entry tables.old.entries ch (λ t. flow_in_table t modem tag kind))) }
+    ensures sid { IfOk result (λ sid. sid ≡ sid_on (get nat_eq tables.old ch) modem tag) }
+    ensures known { IsTrue (option_map_or (λ t. is_some (assignment_of t modem tag)) (get nat_eq tables.old ch) false) → IsOk result }
+    ensures err { IfErr result (λ refusal. Refuses (on_entry tables.old.entries ch (λ t. table_flow_refusal t modem tag kind)) refusal × (tables.new.entries ≡ tables.old.entries)) }
+    ensures unique { IsUnique nat_eq tables.old → IsUnique nat_eq tables.new }
+{
+    match tables.get_mut(&ch) {
+        Some(table) => table.add_flow(modem, tag, kind),
+        None => Err(Refusal::NoChannel),
+    }
+}
+
+/// Drops a flow of the channel.
+#[tactic(auto, using(std::proofs::lemmas::Map::Steps::set_value_same))]
+pub(crate) fn drop_flow(
+    tables: &mut IndexMap<u8, ChannelTable>,
+    ch: u8,
+    sid: u16,
+) -> Result<(), Refusal>
+    ensures ok { OnOk result ((on_entry tables.old.entries ch (λ t. table_drop_refusal t sid) ≡ None) × (tables.new.entries ≡ change_entry tables.old.entries ch (λ t. drop_in_table t sid))) }
+    ensures err { IfErr result (λ refusal. (on_entry tables.old.entries ch (λ t. table_drop_refusal t sid) ≡ Some refusal) × (tables.new.entries ≡ tables.old.entries)) }
+    ensures unique { IsUnique nat_eq tables.old → IsUnique nat_eq tables.new }
+{
+    match tables.get_mut(&ch) {
+        Some(table) => table.drop_flow(sid),
+        None => Err(Refusal::NoChannel),
+    }
+}
+
+/// Accepts a request on the channel.
+#[tactic(auto, using(std::proofs::lemmas::Map::Steps::set_value_same))]
+pub(crate) fn request(
+    tables: &mut IndexMap<u8, ChannelTable>,
+    ch: u8,
+    sid: u16,
+    n: u16,
+    sent: u64,
+) -> Result<(), Refusal>
+    ensures ok { OnOk result ((on_entry tables.old.entries ch (λ t. table_request_refusal t sid n sent) ≡ None) × (tables.new.entries ≡ change_entry tables.old.entries ch (λ t. request_in_table t sid n sent))) }
+    ensures err { IfErr result (λ refusal. Refuses (on_entry tables.old.entries ch (λ t. table_request_refusal t sid n sent)) refusal × (tables.new.entries ≡ tables.old.entries)) }
+    ensures unique { IsUnique nat_eq tables.old → IsUnique nat_eq tables.new }
+{
+    match tables.get_mut(&ch) {
+        Some(table) => table.request(sid, n, sent),
+        None => Err(Refusal::NoChannel),
+    }
+}
+
+/// Takes a waiting request of the channel out.
+pub(crate) fn granted(tables: &mut IndexMap<u8, ChannelTable>, ch: u8, sid: u16) -> bool
+    ensures found { result ≡ option_map_or (λ t. waits t sid) (get nat_eq tables.old ch) false }
+    ensures written { tables.new.entries ≡ change_entry tables.old.entries ch (λ t. without_request t sid) }
+    ensures unique { IsUnique nat_eq tables.old → IsUnique nat_eq tables.new }
+{
+    match tables.get_mut(&ch) {
+        Some(table) => table.granted(sid),
+        None => false,
+    }
+}
+
+/// Sets the next due time of a flow of the channel.
+pub(crate) fn set_due(tables: &mut IndexMap<u8, ChannelTable>, ch: u8, sid: u16, due: u64) -> bool
+    requires { (t : Table) (f : FlowRow) → get nat_eq tables.old ch ≡ Some t → flow_of t sid ≡ Some f → IsDueTime f.kind due }
+    ensures found { result ≡ option_map_or (λ t. is_some (flow_of t sid)) (get nat_eq tables.old ch) false }
+    ensures written { tables.new.entries ≡ change_entry tables.old.entries ch (λ t. due_in_table t sid due) }
+    ensures unique { IsUnique nat_eq tables.old → IsUnique nat_eq tables.new }
+{
+    match tables.get_mut(&ch) {
+        Some(table) => table.set_due(sid, due),
+        None => false,
+    }
+}
+
+/// Sets the start of the channel's next MAP and its Ack Time.
+pub(crate) fn close_cut(tables: &mut IndexMap<u8, ChannelTable>, ch: u8, end: u64, ack: u64) -> bool
+    ensures found { result ≡ is_some (get nat_eq tables.old ch) }
+    ensures written { tables.new.entries ≡ change_entry tables.old.entries ch (λ t. close_table t end ack) }
+    ensures unique { IsUnique nat_eq tables.old → IsUnique nat_eq tables.new }
+{
+    match tables.get_mut(&ch) {
+        Some(table) => {
+            table.close_cut(end, ack);
+            true
+        }
+        None => false,
+    }
+}

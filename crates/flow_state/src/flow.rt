@@ -1,0 +1,144 @@
+ghost use Rattle.std.specs.Prelude.{◌≡◌, None};
+ghost use Rattle.flow_state.specs.Limits.{is_size as size_fits, is_schedule as schedule_fits, is_good_kind, is_ugs, due_time};
+ghost use Rattle.flow_state.specs.Refusals.{is_old, first_refusal};
+ghost use Rattle.flow_state.specs.View.{flow_view};
+
+use crate::limits::LAST_TIME;
+use crate::refusal::Refusal;
+
+/// How a service flow is scheduled (CM-SP-MULPIv3.1, Upstream Service Flow Scheduling Services).
+/// Sizes and intervals are minislots, a base is a minislot time.
+#[derive(Clone, Copy, Debug, PartialEq, Eq)]
+pub enum FlowKind {
+    /// On request, by priority, 0 to 7.
+    BestEffort(u8),
+    /// Unsolicited grants of a size, each due an interval after the one before, the first at the
+    /// base. A grant begins from its due time to a jitter later.
+    Ugs {
+        size: u16,
+        interval: u32,
+        jitter: u32,
+        base: u64,
+    },
+    /// Polls, each due an interval after the one before, the first at the base.
+    Poll {
+        interval: u32,
+        jitter: u32,
+        base: u64,
+    },
+}
+
+/// Can a request or an unsolicited grant have so many minislots? 1 to 255.
+pub(crate) fn is_size(n: u16) -> bool
+    ensures { result ≡ size_fits n }
+{
+    1 <= n && n <= 255
+}
+
+/// Can grants or polls be due so? An interval is 1 to 1,000,000, a jitter below it, a base at most 2^62.
+fn is_schedule(interval: u32, jitter: u32, base: u64) -> bool
+    ensures { result ≡ schedule_fits interval jitter base }
+{
+    1 <= interval && interval <= 1_000_000 && jitter < interval && base <= LAST_TIME
+}
+
+impl FlowKind {
+    /// Are all values within the limits?
+    pub(crate) fn is_good(self) -> bool
+        ensures { result ≡ is_good_kind self }
+    {
+        match self {
+            FlowKind::BestEffort(priority) => priority <= 7,
+            FlowKind::Ugs {
+                size,
+                interval,
+                jitter,
+                base,
+            } => is_size(size) && is_schedule(interval, jitter, base),
+            FlowKind::Poll {
+                interval,
+                jitter,
+                base,
+            } => is_schedule(interval, jitter, base),
+        }
+    }
+
+    /// Are its grants unsolicited?
+    pub(crate) fn is_ugs(self) -> bool
+        ensures { result ≡ is_ugs self }
+    {
+        matches!(self, FlowKind::Ugs { .. })
+    }
+
+    /// The first due time, 0 where it has none.
+    fn first_due(self) -> u64
+        ensures { result ≡ due_time self 0 }
+    {
+        match self {
+            FlowKind::BestEffort(_) => 0,
+            FlowKind::Ugs { base, .. } | FlowKind::Poll { base, .. } => base,
+        }
+    }
+}
+
+/// A flow, with the minislot time at which it is due next (0 where it is never due) and the one at
+/// which its last accepted request was sent.
+#[derive(Clone, Copy, Debug, PartialEq, Eq)]
+pub struct Flow {
+    pub sid: u16,
+    pub modem: u32,
+    pub tag: u32,
+    pub kind: FlowKind,
+    pub due: u64,
+    pub last_sent: Option<u64>,
+}
+
+impl Flow {
+    /// A flow as it is added.
+    pub(crate) fn new(sid: u16, modem: u32, tag: u32, kind: FlowKind) -> Flow
+        ensures { result ≡ record { sid = sid; modem = modem; tag = tag; kind = kind; due = due_time kind 0; last_sent = None } }
+    {
+        Flow {
+            sid,
+            modem,
+            tag,
+            kind,
+            due: kind.first_due(),
+            last_sent: None,
+        }
+    }
+
+    /// The first refusal of a request for n minislots that was sent at a time, where a request of
+    /// the flow may be accepted now or is busy.
+    pub(crate) fn request_refusal(&self, n: u16, sent: u64, busy: bool) -> Option<Refusal>
+        ensures { result ≡ first_refusal (flow_view self.now) n sent busy }
+    {
+        if !is_size(n) || sent > LAST_TIME || self.kind.is_ugs() {
+            Some(Refusal::BadValue)
+        } else if self.is_old(sent) {
+            Some(Refusal::OldRequest)
+        } else if busy {
+            Some(Refusal::Busy)
+        } else {
+            None
+        }
+    }
+
+    /// Was a request sent no later than the last accepted one?
+    fn is_old(&self, sent: u64) -> bool
+        ensures { result ≡ is_old self.now.last_sent sent }
+    {
+        match self.last_sent {
+            Some(last) => sent <= last,
+            None => false,
+        }
+    }
+}
+
+/// A request for n minislots, 1 to 255, that was sent at a minislot time and waits to be granted.
+#[derive(Clone, Copy, Debug, PartialEq, Eq)]
+pub struct Waiting {
+    pub sid: u16,
+    pub n: u16,
+    pub sent: u64,
+}

@@ -1,0 +1,150 @@
+use crate::at_channel;
+use crate::channel::{Channel, ChannelRow};
+use crate::flow::{Flow, FlowKind, Waiting};
+use crate::refusal::Refusal;
+use crate::table::ChannelTable;
+use indexmap::IndexMap;
+use std::alloc::Global;
+use std::marker::Model;
+
+/// The rows of all channels: what is set, the service flows and the waiting requests. A refusal
+/// changes nothing.
+#[derive(Drop)]
+pub struct Flows {
+    tables: IndexMap<u8, ChannelTable>,
+}
+
+impl Model for Flows {
+    ghost use Rattle.flow_state.specs.Rows.{Rows};
+
+    ghost Value = { Rows };
+
+    ghost use Rattle.flow_state.specs.Entries.{rows_of};
+    ghost use Rattle.flow_state.specs.Kept.{IsKept};
+
+    ghost view = { λ a. rows_of a.tables.entries };
+
+    ghost invariant = { IsKept };
+}
+
+impl Flows {
+    ghost use Rattle.std.specs.Prelude.{◌≡◌, [], Some, is_some, IsTrue, IsOk, OnOk, IfOk, IfErr, IfSome, ◌<◌, ◌≤◌};
+    ghost use Rattle.std.specs.Option.{option_copied};
+    ghost use Rattle.flow_state.specs.Limits.{IsDueTime, is_good_kind, last_sid, most_waiting};
+    ghost use Rattle.flow_state.specs.Sound.{IsSound};
+    ghost use Rattle.flow_state.specs.Rows.{FlowRow, table_of, channel_at, flow_at, waiting_at};
+    ghost use Rattle.flow_state.specs.Refusals.{Refuses, set_channel_refusal, add_flow_refusal, drop_flow_refusal, request_refusal};
+    ghost use Rattle.flow_state.specs.Changes.{with_channel, is_known, sid_of, with_flow, without_flow, with_request, is_waiting, without_waiting, flow_row, with_due, with_cut_closed};
+
+    /// No channel is set.
+    pub fn new(alloc: Global) -> Flows
+        ensures { result ≡ [] }
+    {
+        Flows {
+            tables: IndexMap::new(alloc),
+        }
+    }
+
+    /// Sets a channel for good: its first MAP begins at its base, its Ack Time is 0. Refused are
+    /// values outside the limits and then a channel that is set.
+    pub fn set_channel(&mut self, channel: Channel) -> Result<(), Refusal>
+        ensures ok { OnOk result ((set_channel_refusal self.old channel ≡ None) × (self.new ≡ with_channel self.old channel)) }
+        ensures err { IfErr result (λ refusal. Refuses (set_channel_refusal self.old channel) refusal × (self.new ≡ self.old)) }
+    {
+        at_channel::set_channel(&mut self.tables, channel)
+    }
+
+    /// Adds a flow, and answers its SID: the least never given, or the one that modem and tag were
+    /// given before, which changes nothing and takes no memory. Refused are a channel that isn't
+    /// set, then values outside the limits, then a channel whose SIDs are spent.
+    pub fn add_flow(&mut self, ch: u8, modem: u32, tag: u32, kind: FlowKind) -> Result<u16, Refusal>
+        ensures ok { OnOk result ((add_flow_refusal self.old ch modem tag kind ≡ None) × (self.new ≡ with_flow self.old ch modem tag kind)) }
+        ensures sid { IfOk result (λ sid. sid ≡ sid_of self.old ch modem tag) }
+        ensures known { IsTrue (is_known self.old ch modem tag) → IsOk result }
+        ensures err { IfErr result (λ refusal. Refuses (add_flow_refusal self.old ch modem tag kind) refusal × (self.new ≡ self.old)) }
+    {
+        at_channel::add_flow(&mut self.tables, ch, modem, tag, kind)
+    }
+
+    /// Drops a flow and its waiting request. Its SID isn't given again. It takes no memory, and
+    /// takes time for the channel's flows above it, which move down by one place.
+    pub fn drop_flow(&mut self, ch: u8, sid: u16) -> Result<(), Refusal>
+        ensures ok { OnOk result ((drop_flow_refusal self.old ch sid ≡ None) × (self.new ≡ without_flow self.old ch sid)) }
+        ensures err { IfErr result (λ refusal. (drop_flow_refusal self.old ch sid ≡ Some refusal) × (self.new ≡ self.old)) }
+    {
+        at_channel::drop_flow(&mut self.tables, ch, sid)
+    }
+
+    /// Accepts a request for n minislots, 1 to 255, that was sent at a minislot time, 2^62 at most
+    /// (CM-SP-MULPIv3.1, Request). Refused are, in this order, a channel that isn't set, a SID
+    /// without a flow, values outside the limits or an unsolicited grant flow, a request sent no
+    /// later than the last accepted one of the SID, and a SID of which one waits or a channel on
+    /// which 118 wait.
+    pub fn request(&mut self, ch: u8, sid: u16, n: u16, sent: u64) -> Result<(), Refusal>
+        ensures ok { OnOk result ((request_refusal self.old ch sid n sent ≡ None) × (self.new ≡ with_request self.old ch sid n sent)) }
+        ensures err { IfErr result (λ refusal. Refuses (request_refusal self.old ch sid n sent) refusal × (self.new ≡ self.old)) }
+    {
+        at_channel::request(&mut self.tables, ch, sid, n, sent)
+    }
+
+    /// The channel's row. What holds of every table holds of the channel's.
+    pub fn channel(&self, ch: u8) -> Option<&ChannelRow>
+        ensures row { option_copied result ≡ channel_at self.now ch }
+        ensures sound { IfSome (table_of self.now ch) IsSound }
+    {
+        match self.tables.get(&ch) {
+            Some(table) => Some(table.row()),
+            None => None,
+        }
+    }
+
+    /// The channel's flow number k, by SID, from 0. Its kind is within the limits.
+    pub fn flow(&self, ch: u8, k: usize) -> Option<&Flow>
+        ensures row { option_copied result ≡ flow_at self.now ch k }
+        ensures good { IfSome result (λ flow. IsTrue (is_good_kind flow.now.kind)) }
+        ensures unicast { IfSome result (λ flow. (1 ≤ flow.now.sid) × (flow.now.sid ≤ last_sid)) }
+    {
+        match self.tables.get(&ch) {
+            Some(table) => table.flow(k),
+            None => None,
+        }
+    }
+
+    /// The channel's waiting request number k, by arrival, from 0. At most 118 wait.
+    pub fn waiting(&self, ch: u8, k: usize) -> Option<&Waiting>
+        ensures row { option_copied result ≡ waiting_at self.now ch k }
+        ensures few { IfSome result (λ _. k < most_waiting) }
+    {
+        match self.tables.get(&ch) {
+            Some(table) => table.waiting(k),
+            None => None,
+        }
+    }
+
+    /// Takes the SID's waiting request out. False where there is none. It takes no memory.
+    pub fn granted(&mut self, ch: u8, sid: u16) -> bool
+        ensures found { result ≡ is_waiting self.old ch sid }
+        ensures rows { self.new ≡ without_waiting self.old ch sid }
+    {
+        at_channel::granted(&mut self.tables, ch, sid)
+    }
+
+    /// Sets the flow's next due time, which is one of its due times. False where there is no such
+    /// flow. It takes no memory.
+    pub fn set_due(&mut self, ch: u8, sid: u16, due: u64) -> bool
+        requires { (row : FlowRow) → flow_row self.old ch sid ≡ Some row → IsDueTime row.kind due }
+        ensures found { result ≡ is_some (flow_row self.old ch sid) }
+        ensures rows { self.new ≡ with_due self.old ch sid due }
+    {
+        at_channel::set_due(&mut self.tables, ch, sid, due)
+    }
+
+    /// Sets the start of the channel's next MAP and its Ack Time. False where there is no such
+    /// channel. It takes no memory.
+    pub fn close_cut(&mut self, ch: u8, end: u64, ack: u64) -> bool
+        ensures found { result ≡ is_some (table_of self.old ch) }
+        ensures rows { self.new ≡ with_cut_closed self.old ch end ack }
+    {
+        at_channel::close_cut(&mut self.tables, ch, end, ack)
+    }
+}

@@ -1,0 +1,17 @@
+//! The rows that a scheduler keeps: channels, service flows and waiting requests.
+#![tactic(auto)]
+
+mod at_channel;
+mod channel;
+mod flow;
+mod flows;
+mod limits;
+mod refusal;
+mod table;
+#[cfg(test)]
+mod tests;
+
+pub use channel::{Channel, ChannelRow};
+pub use flow::{Flow, FlowKind, Waiting};
+pub use flows::Flows;
+pub use refusal::Refusal;

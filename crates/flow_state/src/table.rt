@@ -1,0 +1,252 @@
+ghost use Rattle.std.specs.Prelude.{◌≡◌, ℕ, is_some, slice_get, map, Some, None, IsOk, IsTrue, IsNone, IsSome, OnErr, IfOk, OnOk, IfErr, IfSome, IfNone, nat_eq, ◌<◌, ◌≤◌};
+ghost use Rattle.std.specs.Map.{set_value};
+ghost use Rattle.std.specs.Option.{option_copied, option_map};
+ghost use Rattle.indexmap.specs.IndexMap.{get, IsUnique};
+ghost use Rattle.flow_state.specs.Limits.{IsDueTime, is_good_kind, last_sid, most_waiting};
+ghost use Rattle.flow_state.specs.Sound.{IsSound};
+ghost use Rattle.flow_state.specs.Rows.{FlowRow, lent_flow, flow_of, waits, without_request, free_sid, change_flow, assignment_of};
+ghost use Rattle.flow_state.specs.Refusals.{Refuses, table_flow_refusal, table_drop_refusal, table_request_refusal, is_busy};
+ghost use Rattle.flow_state.specs.StoredTable.{with_sent, with_next_due};
+ghost use Rattle.flow_state.specs.Changes.{new_table, sid_for, flow_in_table, add_to_table, drop_in_table, request_in_table, due_in_table, close_table};
+
+use crate::channel::{Channel, ChannelRow};
+use crate::flow::{Flow, FlowKind, Waiting};
+use crate::limits::{LAST_SID, MOST_WAITING};
+use crate::refusal::Refusal;
+use indexmap::IndexMap;
+use std::alloc::{AllocError, Global};
+use std::marker::Model;
+
+/// All that is kept of a channel. Flows are in the order of their SIDs.
+#[derive(Drop)]
+pub struct ChannelTable {
+    row: ChannelRow,
+    assigned: IndexMap<(u32, u32), u16>,
+    flows: IndexMap<u16, Flow>,
+    waiting: Vec<Waiting>,
+}
+
+impl Model for ChannelTable {
+    ghost use Rattle.flow_state.specs.Rows.{Table};
+
+    ghost Value = { Table };
+
+    ghost use Rattle.flow_state.specs.View.{table_view};
+    ghost use Rattle.flow_state.specs.StoredTable.{IsStored};
+
+    ghost view = { table_view };
+
+    ghost invariant = { IsStored };
+}
+
+impl ChannelTable {
+    /// A channel as it is set.
+    pub(crate) fn new(alloc: Global, channel: Channel) -> ChannelTable
+        ensures { result ≡ new_table channel }
+    {
+        ChannelTable {
+            row: ChannelRow {
+                channel,
+                next_start: channel.base,
+                ack: 0,
+            },
+            assigned: IndexMap::new(alloc),
+            flows: IndexMap::new(alloc),
+            waiting: Vec::new(alloc),
+        }
+    }
+
+    /// The channel's row.
+    pub(crate) fn row(&self) -> &ChannelRow
+        ensures row { result.now ≡ self.now.row }
+        ensures sound { IsSound self.now }
+    {
+        &self.row
+    }
+
+    /// Flow number k, by SID.
+    pub(crate) fn flow(&self, k: usize) -> Option<&Flow>
+        ensures row { option_copied result ≡ option_map lent_flow (slice_get self.now.flows k) }
+        ensures good { IfSome result (λ flow. IsTrue (is_good_kind flow.now.kind)) }
+        ensures unicast { IfSome result (λ flow. (1 ≤ flow.now.sid) × (flow.now.sid ≤ last_sid)) }
+    {
+        match self.flows.get_index(k) {
+            Some((_, flow)) => Some(flow),
+            None => None,
+        }
+    }
+
+    /// Waiting request number k, by arrival.
+    pub(crate) fn waiting(&self, k: usize) -> Option<&Waiting>
+        ensures row { option_copied result ≡ slice_get self.now.waiting k }
+        ensures few { IfSome result (λ _. k < most_waiting) }
+    {
+        self.waiting.get(k)
+    }
+
+    /// The SID that no modem was given yet, the least one. None where all are given.
+    fn free_sid(&self) -> Option<u16>
+        ensures { result ≡ free_sid self.now }
+    {
+        let given = self.assigned.len();
+        if given < usize::from(LAST_SID) {
+            Some(given as u16 + 1)
+        } else {
+            None
+        }
+    }
+
+    /// Adds a flow under a free SID. Room is made in both maps before either is written.
+    fn insert_flow(
+        &mut self,
+        sid: u16,
+        modem: u32,
+        tag: u32,
+        kind: FlowKind,
+    ) -> Result<(), AllocError>
+        requires free { free_sid self.old ≡ Some sid }
+        requires good { IsTrue (is_good_kind kind) }
+        requires unknown { assignment_of self.old modem tag ≡ None }
+        ensures ok { OnOk result (self.new ≡ add_to_table self.old modem tag kind sid) }
+        ensures err { OnErr result (self.new ≡ self.old) }
+    {
+        self.flows.reserve(1)?;
+        self.assigned.insert((modem, tag), sid)?;
+        self.flows.insert(sid, Flow::new(sid, modem, tag, kind))?;
+        Ok(())
+    }
+
+    /// Adds a flow, and answers its SID, or the one that modem and tag were given before.
+    pub(crate) fn add_flow(&mut self, modem: u32, tag: u32, kind: FlowKind) -> Result<u16, Refusal>
+        ensures ok { OnOk result ((table_flow_refusal self.old modem tag kind ≡ None) × (self.new ≡ flow_in_table self.old modem tag kind)) }
+        ensures sid { IfOk result (λ sid. sid ≡ sid_for self.old modem tag) }
+        ensures known { IsSome (assignment_of self.old modem tag) → IsOk result }
+        ensures err { IfErr result (λ refusal. Refuses (table_flow_refusal self.old modem tag kind) refusal × (self.new ≡ self.old)) }
+    {
+        if let Some(sid) = self.given_sid(modem, tag) {
+            return Ok(sid);
+        }
+        if !kind.is_good() {
+            return Err(Refusal::BadValue);
+        }
+        match self.free_sid() {
+            Some(sid) => {
+                self.insert_flow(sid, modem, tag, kind)?;
+                Ok(sid)
+            }
+            None => Err(Refusal::SidsSpent),
+        }
+    }
+
+    /// The SID that modem and tag were given before.
+    fn given_sid(&self, modem: u32, tag: u32) -> Option<u16>
+        ensures { result ≡ option_map (λ a. a.sid) (assignment_of self.now modem tag) }
+    {
+        self.assigned.get(&(modem, tag)).copied()
+    }
+
+    /// Drops a flow and its waiting request. The flows above it move down by one place.
+    pub(crate) fn drop_flow(&mut self, sid: u16) -> Result<(), Refusal>
+        ensures ok { OnOk result ((table_drop_refusal self.old sid ≡ None) × (self.new ≡ drop_in_table self.old sid)) }
+        ensures err { IfErr result (λ refusal. (table_drop_refusal self.old sid ≡ Some refusal) × (self.new ≡ self.old)) }
+    {
+        match self.flows.shift_remove(&sid) {
+            Some(_) => {
+                self.waiting.retain(|w| w.sid != sid);
+                Ok(())
+            }
+            None => Err(Refusal::NoFlow),
+        }
+    }
+
+    /// The first refusal of a request for n minislots that was sent at a time.
+    fn request_refusal(&self, sid: u16, n: u16, sent: u64) -> Option<Refusal>
+        ensures { result ≡ table_request_refusal self.now sid n sent }
+    {
+        match self.flows.get(&sid) {
+            Some(flow) => flow.request_refusal(n, sent, self.is_busy(sid)),
+            None => Some(Refusal::NoFlow),
+        }
+    }
+
+    /// Does a request of the SID wait, or may no more wait?
+    fn is_busy(&self, sid: u16) -> bool
+        ensures { result ≡ is_busy self.now sid }
+    {
+        self.waits(sid) || self.waiting.len() >= MOST_WAITING
+    }
+
+    /// Accepts a request for n minislots that was sent at a time.
+    pub(crate) fn request(&mut self, sid: u16, n: u16, sent: u64) -> Result<(), Refusal>
+        ensures ok { OnOk result ((table_request_refusal self.old sid n sent ≡ None) × (self.new ≡ request_in_table self.old sid n sent)) }
+        ensures err { IfErr result (λ refusal. Refuses (table_request_refusal self.old sid n sent) refusal × (self.new ≡ self.old)) }
+    {
+        if let Some(refusal) = self.request_refusal(sid, n, sent) {
+            return Err(refusal);
+        }
+        self.waiting.push(Waiting { sid, n, sent })?;
+        note_sent(&mut self.flows, sid, sent);
+        Ok(())
+    }
+
+    /// Sets the flow's next due time, which is one of its due times. False where there is no such flow.
+    pub(crate) fn set_due(&mut self, sid: u16, due: u64) -> bool
+        requires { (f : FlowRow) → flow_of self.old sid ≡ Some f → IsDueTime f.kind due }
+        ensures found { result ≡ is_some (flow_of self.old sid) }
+        ensures table { self.new ≡ due_in_table self.old sid due }
+    {
+        note_due(&mut self.flows, sid, due)
+    }
+
+    /// Does a request of the SID wait?
+    fn waits(&self, sid: u16) -> bool
+        ensures { result ≡ waits self.now sid }
+    {
+        self.waiting.iter().any(|w| w.sid == sid)
+    }
+
+    /// Takes the SID's waiting request out. False where there is none.
+    pub(crate) fn granted(&mut self, sid: u16) -> bool
+        ensures found { result ≡ waits self.old sid }
+        ensures table { self.new ≡ without_request self.old sid }
+    {
+        let found = self.waits(sid);
+        self.waiting.retain(|w| w.sid != sid);
+        found
+    }
+
+    /// The MAPs reach to end, and this is the Ack Time.
+    pub(crate) fn close_cut(&mut self, end: u64, ack: u64)
+        ensures { self.new ≡ close_table self.old end ack }
+    {
+        self.row.next_start = end;
+        self.row.ack = ack;
+    }
+}
+
+/// Notes that a flow's last accepted request was sent at this time.
+fn note_sent(flows: &mut IndexMap<u16, Flow>, sid: u16, sent: u64)
+    ensures written { IfSome (get nat_eq flows.old sid) (λ f. flows.new.entries ≡ set_value (nat_eq sid) flows.old.entries (with_sent f sent)) }
+    ensures absent { IfNone (get nat_eq flows.old sid) (flows.new.entries ≡ flows.old.entries) }
+    ensures unique { IsUnique nat_eq flows.old → IsUnique nat_eq flows.new }
+{
+    if let Some(flow) = flows.get_mut(&sid) {
+        flow.last_sent = Some(sent);
+    }
+}
+
+/// Sets a flow's next due time, where it is there.
+fn note_due(flows: &mut IndexMap<u16, Flow>, sid: u16, due: u64) -> bool
+    ensures found { result ≡ is_some (get nat_eq flows.old sid) }
+    ensures written { IfSome (get nat_eq flows.old sid) (λ f. flows.new.entries ≡ set_value (nat_eq sid) flows.old.entries (with_next_due f due)) }
+    ensures absent { IfNone (get nat_eq flows.old sid) (flows.new.entries ≡ flows.old.entries) }
+    ensures unique { IsUnique nat_eq flows.old → IsUnique nat_eq flows.new }
+{
+    match flows.get_mut(&sid) {
+        Some(flow) => {
+            flow.due = due;
+            true
+        }
+        None => false,
+    }
+}

@@ -1,0 +1,448 @@
+-- The rows after a MAP is closed, and the elements of its body.
+use Rattle.std.proofs.Common.{◌≡◌, ◌⊎◌, ℕ, zero, suc, ◌+◌, ◌<◌, ◌≤◌, Bool, true, false, cond, not, ◌||◌, ◌&&◌, max, min, List, [], ◌∷◌, ◌++◌, map, filter, length, Option, Some, None, refl, sym, ap, subst, ◌∙◌, arith, inl, inr, eqb, ◌^◌}
+use Rattle.std.specs.List.{list_any, find, filter_map, flat_map, range_with_len, AllByRecursion, AllZip}
+use Rattle.std.specs.Option.{option_map, option_and_then, option_map_or}
+use Rattle.std.specs.Prelude.{IfSome}
+use Rattle.std.proofs.lemmas.Bool.{eqb-true}
+use Rattle.minislot_time.specs.Extent.{Extent}
+use Rattle.map_body.specs.declared.element.Element.{Element}
+use Rattle.map_body.specs.Rules.{AreElements}
+use Rattle.map_body.specs.Layout.{layout}
+use Rattle.flow_state.specs.declared.refusal.Refusal.TheVariants.{NoChannel}
+use Rattle.grant_machine.specs.declared.command.Command.TheVariants as commands
+use Rattle.grant_machine.specs.declared.output.Output.TheVariants as outputs
+use Rattle.grant_machine.specs.Steps.{Step, step, step_on, cut_on, cut_step}
+use Rattle.flow_state.specs.declared.channel.Channel.{Channel}
+use Rattle.flow_state.specs.declared.channel.ChannelRow.{ChannelRow}
+use Rattle.flow_state.specs.declared.flow.Flow.{Flow}
+use Rattle.flow_state.specs.declared.flow.FlowKind.{FlowKind}
+use Rattle.flow_state.specs.declared.flow.Waiting.{Waiting}
+use Rattle.flow_state.specs.Limits.{last_time, due_index}
+use Rattle.flow_state.specs.Rows.{Rows, Table, FlowRow, is_table, table_of, change_table, is_flow, is_of, flow_of, without_request, channel_at}
+use Rattle.flow_state.specs.Changes.{with_due, without_waiting, flow_row, with_cut_closed, close_table}
+use Rattle.grant_machine.specs.declared.cut.Filled.{Filled}
+use Rattle.grant_machine.specs.Placing.{Placement}
+use Rattle.grant_machine.specs.Cutting.{Filled as FilledMap, fill, fill_span, fill_refusal, span_of, ack_of, end_of, in_order, priority_of, still_waiting, is_grant_of, table_after}
+use Rattle.grant_machine.specs.Drawing.{begins_at, null_element, pending_element, elements_of, head_of, bytes_of}
+use Rattle.grant_machine.specs.Runs.{IsReached}
+use Rattle.grant_machine.specs.Lent.{row_of, IsUnicast, IsOfKind, due_times_set, requests_taken, without_if}
+use Rattle.grant_machine.specs.Plans.{IsFilledBy, elements_in}
+use Rattle.grant_machine.proofs.Maps.{changed, is_found, some_is, same_id, KeepsId}
+use Rattle.grant_machine.proofs.Sids.{eqb_same}
+use Rattle.grant_machine.proofs.Filters.{filter_append}
+use Rattle.grant_machine.proofs.Members.{Has, map_has, all_has, found_has, filter_has, any_has, has_any}
+use Rattle.grant_machine.proofs.Wells.{IsWell, RisingFrom, one_flow, both}
+use Rattle.grant_machine.proofs.Fillings.{Moves, MovesTwice, fill_moves, flow_from, is_cut}
+use Rattle.grant_machine.proofs.Reached.{reached_is_well}
+use Rattle.grant_machine.proofs.Standing.{Apart, reached_apart}
+use Rattle.grant_machine.proofs.Lending.{due_set}
+use Rattle.grant_machine.proofs.Settling.{unicast}
+use Rattle.grant_machine.proofs.Written.{cut_elements, cut_few}
+
+-- ---- changes of one channel's table
+
+change_none : (rows : Rows) (ch : ℕ) → change_table rows ch (λ t. t) ≡ rows
+change_none [] ch = refl
+change_none (t ∷ rows) ch = elim (is_table ch t) as (λ b. cond b t t ∷ change_table rows ch (λ u. u) ≡ t ∷ rows) [ true ↦ ap (λ (r : Rows). t ∷ r) (change_none rows ch) | false ↦ ap (λ (r : Rows). t ∷ r) (change_none rows ch) ]
+
+change_twice : (rows : Rows) (ch : ℕ) (first second : Table → Table) → KeepsId first → change_table (change_table rows ch first) ch second ≡ change_table rows ch (λ t. second (first t))
+change_twice [] ch first second ids = refl
+change_twice (t ∷ rows) ch first second ids =
+    let same : is_table ch (changed ch first t) ≡ is_table ch t = ap (λ i. eqb i ch) (same_id ch first t ids) in
+    let one : cond (is_table ch t) (second (changed ch first t)) (changed ch first t) ≡ cond (is_table ch t) (second (first t)) t =
+    elim (is_table ch t) as (λ b. cond b (second (cond b (first t) t)) (cond b (first t) t) ≡ cond b (second (first t)) t) [ true ↦ refl | false ↦ refl ] in
+    ap (λ b. cond b (second (changed ch first t)) (changed ch first t) ∷ change_table (change_table rows ch first) ch second) same
+    ∙ ap (λ (u : Table). u ∷ change_table (change_table rows ch first) ch second) one
+    ∙ ap (λ (r : Rows). cond (is_table ch t) (second (first t)) t ∷ r) (change_twice rows ch first second ids)
+
+change_absent : (rows : Rows) (ch : ℕ) (change : Table → Table) → table_of rows ch ≡ None → change_table rows ch change ≡ rows
+change_absent [] ch change e = refl
+change_absent (t ∷ rows) ch change e = elim (is_table ch t) as (λ b. cond b (Some t) (table_of rows ch) ≡ None → cond b (change t) t ∷ change_table rows ch change ≡ t ∷ rows) [ true ↦ λ f. absurd cc | false ↦ λ f. ap (λ (r : Rows). t ∷ r) (change_absent rows ch change f) ] e
+
+-- a change is what it does to the one table of the channel
+change_at : (rows : Rows) (ch : ℕ) (t : Table) (first second : Table → Table) → Apart rows → table_of rows ch ≡ Some t → first t ≡ second t → change_table rows ch first ≡ change_table rows ch second
+change_at [] ch t first second a e same = absurd cc
+change_at (u ∷ rows) ch t first second a e same =
+    elim (is_table ch u) as (λ b. is_table ch u ≡ b → cond b (Some u) (table_of rows ch) ≡ Some t → cond b (first u) u ∷ change_table rows ch first ≡ cond b (second u) u ∷ change_table rows ch second) [
+      | true ↦ λ h f.
+          let here : u ≡ t = some_is u t f in
+          let others : table_of rows ch ≡ None = subst (λ i. table_of rows i ≡ None) (eqb-true _ _ h) a.0 in
+          let one : first u ≡ second u = ap first here ∙ same ∙ ap second (sym here) in
+          ap (λ (v : Table). v ∷ change_table rows ch first) one ∙ ap (λ (r : Rows). second u ∷ r) (change_absent rows ch first others ∙ sym (change_absent rows ch second others))
+      | false ↦ λ h f. ap (λ (r : Rows). u ∷ r) (change_at rows ch t first second a.1 f same)
+    ] refl e
+
+-- ---- due times
+
+abbrev set_flows : List Flow → List FlowRow → List FlowRow
+set_flows [] fs = fs
+set_flows (s ∷ ss) fs = set_flows ss (map (due_set s.sid s.due) fs)
+
+dues_are : (rows : Rows) (ch : ℕ) (ss : List Flow) → due_times_set rows ch ss ≡ change_table rows ch (λ t. record t { flows = set_flows ss t.flows })
+dues_are rows ch [] = sym (change_none rows ch)
+dues_are rows ch (s ∷ ss) =
+    dues_are (with_due rows ch s.sid s.due) ch ss
+    ∙ change_twice rows ch (λ t. record t { flows = map (due_set s.sid s.due) t.flows }) (λ t. record t { flows = set_flows ss t.flows }) (λ t. refl)
+
+-- a flow of which another due time is next
+abbrev IsMoved : FlowRow → FlowRow → Type 0
+IsMoved f g = (k : ℕ) × (g ≡ record f { index = k })
+
+moved_twice : (fs bs gs : List FlowRow) → AllZip Moves fs bs → AllZip Moves bs gs → AllZip IsMoved fs gs
+moved_twice [] [] [] a b = tt
+moved_twice (f ∷ fs) (c ∷ bs) (g ∷ gs) a b =
+    let second = b.0 in
+    let first = a.0 in
+    ((second.index, second.is ∙ ap (λ (h : FlowRow). record h { index = second.index }) first.is), moved_twice fs bs gs a.1 b.1)
+moved_twice [] [] (g ∷ gs) a b = absurd b
+moved_twice [] (c ∷ bs) gs a b = absurd a
+moved_twice (f ∷ fs) [] gs a b = absurd a
+moved_twice (f ∷ fs) (c ∷ bs) [] a b = absurd b
+
+other_sid : (sid n : ℕ) → sid < n → eqb n sid ≡ false
+other_sid sid n lt = grind arith
+
+-- flows of greater SIDs stay
+unset : (sid due low : ℕ) (fs : List FlowRow) → RisingFrom low fs → sid < low → map (due_set sid due) fs ≡ fs
+unset sid due low [] r lt = refl
+unset sid due low (f ∷ fs) r lt =
+    let off : is_flow sid f ≡ false = other_sid sid f.sid (omega (arith, r.0)) in
+    ap (λ b. cond b (record f { index = due_index f.kind due }) f ∷ map (due_set sid due) fs) off ∙ ap (λ (gs : List FlowRow). f ∷ gs) (unset sid due (f.sid + 1) fs r.1 (omega (arith, r.0)))
+
+abbrev AreAbove : ℕ → List Flow → Type 0
+AreAbove low ss = AllByRecursion (λ s. low ≤ s.sid) ss
+
+above_weaker : (low more : ℕ) (ss : List Flow) → low ≤ more → AreAbove more ss → AreAbove low ss
+above_weaker low more [] le a = tt
+above_weaker low more (s ∷ ss) le a = (omega (arith, a.0), above_weaker low more ss le a.1)
+
+moved_sid : (f : FlowRow) (s : Flow) → IsMoved f (row_of s) → s.sid ≡ f.sid
+moved_sid f s m = ap (λ (g : FlowRow). g.sid) m.1
+
+above : (low : ℕ) (fs : List FlowRow) (ss : List Flow) → RisingFrom low fs → AllZip IsMoved fs (map row_of ss) → AreAbove low ss
+above low [] [] r z = tt
+above low [] (s ∷ ss) r z = absurd z
+above low (f ∷ fs) [] r z = absurd z
+above low (f ∷ fs) (s ∷ ss) r z = let same = moved_sid f s z.0 in (omega (arith, r.0), above_weaker low (f.sid + 1) ss (omega (arith, r.0)) (above (f.sid + 1) fs ss r.1 z.1))
+
+-- the first flow stays, where all others are above it
+head_stays : (g : FlowRow) (ss : List Flow) (fs : List FlowRow) → AreAbove (g.sid + 1) ss → set_flows ss (g ∷ fs) ≡ g ∷ set_flows ss fs
+head_stays g [] fs a = refl
+head_stays g (s ∷ ss) fs a =
+    let off : is_flow s.sid g ≡ false = lower s.sid g.sid (omega (arith, a.0)) in
+    ap (λ b. set_flows ss (cond b (record g { index = due_index g.kind s.due }) g ∷ map (due_set s.sid s.due) fs)) off ∙ head_stays g ss (map (due_set s.sid s.due) fs) a.1
+  where
+    lower : (sid n : ℕ) → n < sid → eqb n sid ≡ false
+    lower sid n lt = grind arith
+
+is_set : (f : FlowRow) (s : Flow) → IsMoved f (row_of s) → due_set s.sid s.due f ≡ row_of s
+is_set f s m =
+    let kind : f.kind ≡ s.kind = sym (ap (λ (g : FlowRow). g.kind) m.1) in
+    let index : due_index s.kind s.due ≡ m.0 = ap (λ (g : FlowRow). g.index) m.1 in
+    ap (λ n. cond (eqb f.sid n) (record f { index = due_index f.kind s.due }) f) (moved_sid f s m)
+    ∙ ap (λ b. cond b (record f { index = due_index f.kind s.due }) f) (eqb_same f.sid)
+    ∙ ap (λ (k : FlowKind). record f { index = due_index k s.due }) kind
+    ∙ ap (λ i. record f { index = i }) index
+    ∙ sym m.1
+
+all_set : (low : ℕ) (fs : List FlowRow) (ss : List Flow) → RisingFrom low fs → AllZip IsMoved fs (map row_of ss) → set_flows ss fs ≡ map row_of ss
+all_set low [] [] r z = refl
+all_set low [] (s ∷ ss) r z = absurd z
+all_set low (f ∷ fs) [] r z = absurd z
+all_set low (f ∷ fs) (s ∷ ss) r z =
+    let same = moved_sid f s z.0 in
+    ap (λ (g : FlowRow). set_flows ss (g ∷ map (due_set s.sid s.due) fs)) (is_set f s z.0)
+    ∙ ap (λ (gs : List FlowRow). set_flows ss (row_of s ∷ gs)) (unset s.sid s.due (f.sid + 1) fs r.1 (omega arith))
+    ∙ head_stays (row_of s) ss fs (above_weaker (s.sid + 1) (f.sid + 1) ss (omega arith) (above (f.sid + 1) fs ss r.1 z.1))
+    ∙ ap (λ (gs : List FlowRow). row_of s ∷ gs) (all_set (f.sid + 1) fs ss r.1 z.1)
+
+-- ---- requests
+
+abbrev is_granted : List Placement → Waiting → Bool
+is_granted ps w = list_any (is_grant_of w) ps
+
+abbrev take_all : List Placement → List Waiting → List Waiting → List Waiting
+take_all ps [] us = us
+take_all ps (w ∷ ws) us = take_all ps ws (cond (is_granted ps w) (filter (λ u. not (is_of w.sid u)) us) us)
+
+taken_are : (rows : Rows) (ch : ℕ) (ps : List Placement) (ws : List Waiting) → requests_taken rows ch ps ws ≡ change_table rows ch (λ t. record t { waiting = take_all ps ws t.waiting })
+taken_are rows ch ps [] = sym (change_none rows ch)
+taken_are rows ch ps (w ∷ ws) =
+    elim (is_granted ps w) as (λ b. requests_taken (without_if b rows ch w.sid) ch ps ws ≡ change_table rows ch (λ t. record t { waiting = take_all ps ws (cond b (filter (λ u. not (is_of w.sid u)) t.waiting) t.waiting) })) [
+      | true ↦ taken_are (without_waiting rows ch w.sid) ch ps ws ∙ change_twice rows ch (λ t. without_request t w.sid) (λ t. record t { waiting = take_all ps ws t.waiting }) (λ t. refl)
+      | false ↦ taken_are rows ch ps ws
+    ]
+
+filter_twice : (p q : Waiting → Bool) (us : List Waiting) → filter p (filter q us) ≡ filter (λ u. q u && p u) us
+filter_twice p q [] = refl
+filter_twice p q (u ∷ us) = elim (q u) as (λ b. filter p (cond b (u ∷ filter q us) (filter q us)) ≡ cond (b && p u) (u ∷ filter (λ x. q x && p x) us) (filter (λ x. q x && p x) us)) [
+  | true ↦ ap (λ (xs : List Waiting). cond (p u) (u ∷ xs) xs) (filter_twice p q us)
+  | false ↦ filter_twice p q us
+]
+
+filter_same : (p q : Waiting → Bool) (us : List Waiting) → ((u : Waiting) → Has us u → p u ≡ q u) → filter p us ≡ filter q us
+filter_same p q [] same = refl
+filter_same p q (u ∷ us) same =
+    ap (λ b. cond b (u ∷ filter p us) (filter p us)) (same u (inl refl)) ∙ ap (λ (xs : List Waiting). cond (q u) (u ∷ xs) xs) (filter_same p q us (λ x h. same x (inr h)))
+
+all_stay : (us : List Waiting) → filter (λ u. true) us ≡ us
+all_stay [] = refl
+all_stay (u ∷ us) = ap (λ (xs : List Waiting). u ∷ xs) (all_stay us)
+
+-- a request of the SID of one that is granted
+abbrev is_taken : List Placement → List Waiting → Waiting → Bool
+is_taken ps ws u = list_any (λ w. is_granted ps w && is_of w.sid u) ws
+
+taken_filter : (ps : List Placement) (ws us : List Waiting) → take_all ps ws us ≡ filter (λ u. not (is_taken ps ws u)) us
+taken_filter ps [] us = sym (all_stay us)
+taken_filter ps (w ∷ ws) us =
+    elim (is_granted ps w) as (λ b. take_all ps ws (cond b (filter (λ u. not (is_of w.sid u)) us) us) ≡ filter (λ u. not ((b && is_of w.sid u) || is_taken ps ws u)) us) [
+      | true ↦ taken_filter ps ws (filter (λ u. not (is_of w.sid u)) us)
+          ∙ filter_twice (λ u. not (is_taken ps ws u)) (λ u. not (is_of w.sid u)) us
+          ∙ filter_same (λ u. not (is_of w.sid u) && not (is_taken ps ws u)) (λ u. not (is_of w.sid u || is_taken ps ws u)) us (λ u h. not_or (is_of w.sid u) (is_taken ps ws u))
+      | false ↦ taken_filter ps ws us
+    ]
+  where
+    not_or : (a b : Bool) → (not a && not b) ≡ not (a || b)
+    not_or true b = refl
+    not_or false b = refl
+
+-- of one that passes, at most, two are the same
+one_passes : (xs : List Waiting) (u w : Waiting) → length xs ≤ 1 → Has xs u → Has xs w → u ≡ w
+one_passes [] u w le h k = absurd h
+one_passes (x ∷ []) u w le (inl e) (inl f) = sym e ∙ f
+one_passes (x ∷ []) u w le (inl e) (inr k) = absurd k
+one_passes (x ∷ []) u w le (inr h) k = absurd h
+one_passes (x ∷ (y ∷ xs)) u w le h k = absurd (omega arith)
+
+abbrev AreAlone : List Waiting → Type 0
+AreAlone us = (sid : ℕ) → length (filter (is_of sid) us) ≤ 1
+
+same_request : (us : List Waiting) (u w : Waiting) → AreAlone us → Has us u → Has us w → eqb u.sid w.sid ≡ true → u ≡ w
+same_request us u w alone h k e = one_passes (filter (is_of w.sid) us) u w (alone w.sid) (filter_has (is_of w.sid) us u h e) (filter_has (is_of w.sid) us w k (eqb_same w.sid))
+
+taken_is : (ps : List Placement) (us : List Waiting) (u : Waiting) → AreAlone us → Has us u → is_taken ps us u ≡ is_granted ps u
+taken_is ps us u alone h = by (is_granted ps u) refl (is_taken ps us u) refl
+  where
+    by : (a : Bool) → is_granted ps u ≡ a → (b : Bool) → is_taken ps us u ≡ b → is_taken ps us u ≡ is_granted ps u
+    by true e true f = f ∙ sym e
+    by true e false f = absurd (let on : (is_granted ps u && is_of u.sid u) ≡ true = ap (λ b. b && is_of u.sid u) e ∙ eqb_same u.sid in let any = has_any (λ w. is_granted ps w && is_of w.sid u) us u h on in cc)
+    by false e true f = absurd (
+        let some = any_has (λ w. is_granted ps w && is_of w.sid u) us f in
+        let tests = both (is_granted ps some.0) (is_of some.0.sid u) some.2 in
+        let same : u ≡ some.0 = same_request us u some.0 alone h some.1 tests.1 in
+        let on : is_granted ps u ≡ true = ap (is_granted ps) same ∙ tests.0 in cc)
+    by false e false f = f ∙ sym e
+
+pub taken_all : (ps : List Placement) (us : List Waiting) → AreAlone us → take_all ps us us ≡ still_waiting ps us
+taken_all ps us alone = taken_filter ps us us ∙ filter_same (λ u. not (is_taken ps us u)) (λ u. not (is_granted ps u)) us (λ u h. ap not (taken_is ps us u alone h))
+
+-- ---- a MAP that is closed
+
+-- the channel's table, by its row
+pub record IsThere (rows : Rows) (ch : ℕ) (row : ChannelRow) : Type 0 where
+  pub table : Table
+  pub found : table_of rows ch ≡ Some table
+  pub row_is : table.row ≡ row
+
+pub is_there : (rows : Rows) (ch : ℕ) (row : ChannelRow) → channel_at rows ch ≡ Some row → IsThere rows ch row
+is_there rows ch row e = by (table_of rows ch) refl e
+  where
+    by : (o : Option Table) → table_of rows ch ≡ o → option_map (λ t. t.row) o ≡ Some row → IsThere rows ch row
+    by (Some t) f g = record { table = t; found = f; row_is = let same : t.row ≡ row = cc in same }
+    by None f g = absurd cc
+
+pub row_of_table : (rows : Rows) (ch : ℕ) (row : ChannelRow) (t : Table) → channel_at rows ch ≡ Some row → table_of rows ch ≡ Some t → t.row ≡ row
+row_of_table rows ch row t e f = let there : Some t.row ≡ Some row = sym (ap (λ o. option_map (λ u. u.row) o) f) ∙ e in cc
+
+-- the next MAP's times are early
+pub next_early : (rows : Rows) (ch : ℕ) (row : ChannelRow) → IsReached rows → channel_at rows ch ≡ Some row → (row.next_start ≤ last_time) × (row.ack ≤ last_time)
+next_early rows ch row r e =
+    let there = is_there rows ch row e in
+    let well = reached_is_well rows r ch there.table there.found in
+    let next = well.next in
+    let ack = well.ack in
+    let same_next : there.table.row.next_start ≡ row.next_start = ap (λ (x : ChannelRow). x.next_start) there.row_is in
+    let same_ack : there.table.row.ack ≡ row.ack = ap (λ (x : ChannelRow). x.ack) there.row_is in
+    (omega arith, omega arith)
+
+pub cut_early : (rows : Rows) (ch : ℕ) (row : ChannelRow) (len not_before ack : ℕ) → channel_at rows ch ≡ Some row → fill_refusal row len not_before ack ≡ None → (len ≤ 4096) × (max row.next_start not_before + len ≤ last_time)
+cut_early rows ch row len not_before ack e ok =
+    let there = is_there rows ch row e in
+    let cut = is_cut there.table len not_before ack (ap (λ (x : ChannelRow). fill_refusal x len not_before ack) there.row_is ∙ ok) in
+    let same : there.table.row.next_start ≡ row.next_start = ap (λ (x : ChannelRow). x.next_start) there.row_is in
+    let end = cut.end in
+    (cut.most, subst (λ n. max n not_before + len ≤ last_time) same end)
+
+moved_rows : (t : Table) (span : Extent) (ack : ℕ) → end_of span ≤ last_time → AllZip IsMoved t.flows (fill_span t span ack).flows
+moved_rows t span ack le = let twice = fill_moves t span ack le in moved_twice t.flows twice.between (fill_span t span ack).flows twice.first twice.second
+
+abbrev after_of : Table → (end ack : ℕ) → List FlowRow → List Waiting → Table
+after_of t end ack flows waiting = record { row = record t.row { next_start = end; ack = ack }; assigned = t.assigned; flows = flows; waiting = waiting }
+
+module _ (rows : Rows) (ch : ℕ) (t : Table) (len not_before ack : ℕ) (x : Filled) (reached : IsReached rows) (found : table_of rows ch ≡ Some t) (ok : fill_refusal t.row len not_before ack ≡ None) (by : IsFilledBy t (span_of t.row len not_before) x) where
+  abbrev filled : FilledMap
+  filled = fill t len not_before ack
+
+  well : IsWell t
+  well = reached_is_well rows reached ch t found
+
+  ended : end_of (span_of t.row len not_before) ≤ last_time
+  ended = (is_cut t len not_before ack ok).end
+
+  placed : x.filling.placements ≡ filled.placements
+  placed = by.placements filled.ack
+
+  flows_are : map row_of x.flows.items ≡ filled.flows
+  flows_are = by.flows filled.ack
+
+  rows_set : set_flows x.flows.items t.flows ≡ filled.flows
+  rows_set = all_set 1 t.flows x.flows.items well.rising (subst (AllZip IsMoved t.flows) (sym flows_are) (moved_rows t (span_of t.row len not_before) filled.ack ended)) ∙ flows_are
+
+  requests_left : take_all x.filling.placements x.waiting.items t.waiting ≡ filled.waiting
+  requests_left =
+      ap (λ (ps : List Placement). take_all ps x.waiting.items t.waiting) placed
+      ∙ ap (λ (ws : List Waiting). take_all filled.placements ws t.waiting) by.waiting
+      ∙ taken_all filled.placements t.waiting well.alone
+
+  abbrev set_all : Table → Table
+  set_all u = record u { flows = set_flows x.flows.items u.flows }
+
+  abbrev take_granted : Table → Table
+  take_granted u = record u { waiting = take_all x.filling.placements x.waiting.items u.waiting }
+
+  pub rows_closed : (a : ℕ) → a ≡ filled.ack
+      → with_cut_closed (requests_taken (due_times_set rows ch x.flows.items) ch x.filling.placements x.waiting.items) ch (end_of x.filling.span) a ≡ change_table rows ch (λ u. table_after u filled)
+  rows_closed a same =
+      let close : Table → Table = λ u. close_table u (end_of x.filling.span) a in
+      ap (λ (r : Rows). change_table r ch close) (taken_are (due_times_set rows ch x.flows.items) ch x.filling.placements x.waiting.items)
+      ∙ ap (λ (r : Rows). change_table (change_table r ch take_granted) ch close) (dues_are rows ch x.flows.items)
+      ∙ ap (λ (r : Rows). change_table r ch close) (change_twice rows ch set_all take_granted (λ u. refl))
+      ∙ change_twice rows ch (λ u. take_granted (set_all u)) close (λ u. refl)
+      ∙ change_at rows ch t (λ u. close (take_granted (set_all u))) (λ u. table_after u filled) (reached_apart rows reached) found
+        (ap (λ (s : Extent). after_of t (end_of s) a (set_flows x.flows.items t.flows) (take_all x.filling.placements x.waiting.items t.waiting)) by.span_is
+        ∙ ap (λ n. after_of t (end_of filled.span) n (set_flows x.flows.items t.flows) (take_all x.filling.placements x.waiting.items t.waiting)) same
+        ∙ ap (λ (fs : List FlowRow). after_of t (end_of filled.span) filled.ack fs (take_all x.filling.placements x.waiting.items t.waiting)) rows_set
+        ∙ ap (λ (ws : List Waiting). after_of t (end_of filled.span) filled.ack filled.flows ws) requests_left)
+
+  -- the flows' kinds are those of the rows
+  pub kinds_are : AllByRecursion (IsOfKind rows ch) x.flows.items
+  kinds_are = all_has (IsOfKind rows ch) x.flows.items (λ f h row e.
+      let there : Has filled.flows (row_of f) = subst (λ (gs : List FlowRow). Has gs (row_of f)) flows_are (map_has row_of x.flows.items f h) in
+      let from = flow_from t filled.flows (row_of f) (fill_moves t (span_of t.row len not_before) filled.ack ended) there in
+      let at : flow_of t f.sid ≡ Some row = sym (ap (λ o. option_and_then (λ u. flow_of u f.sid) o) found) ∙ e in
+      let has = found_has (is_flow f.sid) t.flows row at in
+      let sid : row.sid ≡ from.0.sid = eqb-true _ _ has.1 ∙ from.2.sid in
+      let same : row ≡ from.0 = one_flow 1 t.flows row from.0 well.rising has.0 from.1 sid in
+      ap (λ (g : FlowRow). g.kind) same ∙ sym from.2.kind)
+
+-- ---- the elements of its body
+
+filter_turned : (p q : Waiting → Bool) (ws : List Waiting) → filter p (filter q ws) ≡ filter q (filter p ws)
+filter_turned p q ws = filter_twice p q ws ∙ filter_same (λ w. q w && p w) (λ w. p w && q w) ws (λ w h. turned (q w) (p w)) ∙ sym (filter_twice q p ws)
+  where
+    turned : (a b : Bool) → (a && b) ≡ (b && a)
+    turned true true = refl
+    turned true false = refl
+    turned false true = refl
+    turned false false = refl
+
+listed : (p : ℕ → Waiting → Bool) (q : Waiting → Bool) (ws : List Waiting) (ns : List ℕ) → flat_map (λ n. filter (p n) (filter q ws)) ns ≡ filter q (flat_map (λ n. filter (p n) ws) ns)
+listed p q ws [] = refl
+listed p q ws (n ∷ ns) =
+    ap (λ (xs : List Waiting). xs ++ flat_map (λ m. filter (p m) (filter q ws)) ns) (filter_turned (p n) q ws)
+    ∙ ap (λ (xs : List Waiting). filter q (filter (p n) ws) ++ xs) (listed p q ws ns)
+    ∙ sym (filter_append q (filter (p n) ws) (flat_map (λ m. filter (p m) ws) ns))
+
+-- those that still wait, in order
+waiting_in_order : (t : Table) (ps : List Placement) (ws : List Waiting) → still_waiting ps (in_order t ws) ≡ in_order t (still_waiting ps ws)
+waiting_in_order t ps ws = sym (listed (λ n w. eqb (priority_of t w) n) (λ w. not (is_granted ps w)) ws (7 ∷ 6 ∷ 5 ∷ 4 ∷ 3 ∷ 2 ∷ 1 ∷ 0 ∷ []))
+
+abbrev drawn : Channel → List Placement → ℕ → List Waiting → List Element
+drawn c ps len rs = filter_map (begins_at ps) (range_with_len 0 len) ++ null_element len ∷ map (pending_element c len) rs
+
+pub elements_are : (t : Table) (len not_before ack : ℕ) (x : Filled) (c : Channel) → t.row.channel ≡ c → IsFilledBy t (span_of t.row len not_before) x → elements_in c x ≡ elements_of t (fill t len not_before ack)
+elements_are t len not_before ack x c same by =
+    let f : FilledMap = fill t len not_before ack in
+    ap (λ (d : Channel). elements_in d x) (sym same)
+    ∙ ap (λ (s : Extent). drawn t.row.channel x.filling.placements s.len (still_waiting x.filling.placements x.requests.items)) by.span_is
+    ∙ ap (λ (ps : List Placement). drawn t.row.channel ps len (still_waiting ps x.requests.items)) (by.placements f.ack)
+    ∙ ap (λ (ws : List Waiting). drawn t.row.channel f.placements len (still_waiting f.placements ws)) by.requests
+    ∙ ap (λ (ws : List Waiting). drawn t.row.channel f.placements len ws) (waiting_in_order t f.placements t.waiting)
+
+-- ---- a cut that isn't refused
+
+-- the table that a MAP was filled for
+pub record IsMade (rows : Rows) (ch : ℕ) (row : ChannelRow) (len not_before ack : ℕ) (x : Filled) : Type 0 where
+  pub table : Table
+  pub found : table_of rows ch ≡ Some table
+  pub row_is : table.row ≡ row
+  pub good : fill_refusal table.row len not_before ack ≡ None
+  pub by : IsFilledBy table (span_of table.row len not_before) x
+
+pub is_made : (rows : Rows) (ch : ℕ) (row : ChannelRow) (len not_before ack start : ℕ) (x : Filled) → channel_at rows ch ≡ Some row → fill_refusal row len not_before ack ≡ None → start ≡ max row.next_start not_before
+    → ((t : Table) → table_of rows ch ≡ Some t → IsFilledBy t (record { start = start; len = len }) x) → IsMade rows ch row len not_before ack x
+is_made rows ch row len not_before ack start x there ok begun by =
+    let at = is_there rows ch row there in
+    let span : record { start = start; len = len } ≡ span_of at.table.row len not_before =
+    ap (λ n. record { start = n; len = len }) (begun ∙ ap (λ (r : ChannelRow). max r.next_start not_before) (sym at.row_is)) in
+    record {
+      table = at.table;
+      found = at.found;
+      row_is = at.row_is;
+      good = ap (λ (r : ChannelRow). fill_refusal r len not_before ack) at.row_is ∙ ok;
+      by = subst (λ (s : Extent). IsFilledBy at.table s x) span (by at.table at.found);
+    }
+
+module _ (rows : Rows) (ch : ℕ) (row : ChannelRow) (len not_before ack : ℕ) (x : Filled) (reached : IsReached rows) (m : IsMade rows ch row len not_before ack x) where
+  abbrev made : FilledMap
+  made = fill m.table len not_before ack
+
+  well_table : IsWell m.table
+  well_table = reached_is_well rows reached ch m.table m.found
+
+  drawn_are : elements_in row.channel x ≡ elements_of m.table made
+  drawn_are = elements_are m.table len not_before ack x row.channel (ap (λ (r : ChannelRow). r.channel) m.row_is) m.by
+
+  pub made_unicast : AllByRecursion IsUnicast x.requests.items
+  made_unicast = subst (AllByRecursion IsUnicast) (sym m.by.requests) (unicast m.table well_table)
+
+  pub made_sound : AreElements (elements_in row.channel x)
+  made_sound = subst AreElements (sym drawn_are) (cut_elements m.table len not_before ack well_table m.good)
+
+  pub made_few : length (elements_in row.channel x) ≤ 255
+  made_few = let few = cut_few m.table len not_before ack well_table m.good in let same : length (elements_in row.channel x) ≡ length (elements_of m.table made) = ap length drawn_are in omega arith
+
+  pub made_kinds : AllByRecursion (IsOfKind rows ch) x.flows.items
+  made_kinds = kinds_are rows ch m.table len not_before ack x reached m.found m.good m.by
+
+  step_is : step rows (commands.Cut ch len not_before ack) ≡ cut_step rows ch m.table made
+  step_is =
+      ap (λ o. step_on (option_map_or (λ t. fill_refusal t.row len not_before ack) o (Some NoChannel)) rows (commands.Cut ch len not_before ack)) m.found
+      ∙ ap (λ o. step_on o rows (commands.Cut ch len not_before ack)) m.good
+      ∙ ap (λ o. cut_on o rows ch len not_before ack) m.found
+
+  ack_is : (start a : ℕ) → start ≡ max row.next_start not_before → a ≡ max row.ack (min ack start) → a ≡ made.ack
+  ack_is start a begun is =
+      is ∙ ap (λ n. max row.ack (min ack n)) begun ∙ ap (λ (r : ChannelRow). max r.ack (min ack (max r.next_start not_before))) (sym m.row_is)
+
+  pub made_rows : (start a : ℕ) → start ≡ max row.next_start not_before → a ≡ max row.ack (min ack start)
+      → with_cut_closed (requests_taken (due_times_set rows ch x.flows.items) ch x.filling.placements x.waiting.items) ch (end_of x.filling.span) a ≡ (step rows (commands.Cut ch len not_before ack)).rows
+  made_rows start a begun is = rows_closed rows ch m.table len not_before ack x reached m.found m.good m.by a (ack_is start a begun is) ∙ ap (λ (s : Step). s.rows) (sym step_is)
+
+  pub made_output : (start a : ℕ) (bytes : List ℕ) → start ≡ max row.next_start not_before → a ≡ max row.ack (min ack start) → bytes ≡ layout (head_of row.channel start a) (elements_in row.channel x) 0
+      → outputs.Map ch start len bytes ≡ (step rows (commands.Cut ch len not_before ack)).output
+  made_output start a bytes begun is spelled =
+      let start_is : start ≡ made.span.start = begun ∙ ap (λ (r : ChannelRow). max r.next_start not_before) (sym m.row_is) in
+      let bytes_are : bytes ≡ bytes_of m.table made =
+      spelled
+      ∙ ap (λ (c : Channel). layout (head_of c start a) (elements_in row.channel x) 0) (sym (ap (λ (r : ChannelRow). r.channel) m.row_is))
+      ∙ ap (λ n. layout (head_of m.table.row.channel n a) (elements_in row.channel x) 0) start_is
+      ∙ ap (λ n. layout (head_of m.table.row.channel made.span.start n) (elements_in row.channel x) 0) (ack_is start a begun is)
+      ∙ ap (λ (es : List Element). layout (head_of m.table.row.channel made.span.start made.ack) es 0) drawn_are in
+      ap (λ n. outputs.Map ch n len bytes) start_is ∙ ap (outputs.Map ch made.span.start len) bytes_are ∙ ap (λ (s : Step). s.output) (sym step_is)
+
+-- a time is what it was made of
+pub slot_is : (o : Option ℕ) (s n : ℕ) → o ≡ Some s → IfSome o (λ t. (t ≡ n) × (n < 2 ^ 63)) → s ≡ n
+slot_is (Some t) s n e h = let same : t ≡ s = cc in sym same ∙ h.0
+slot_is None s n e h = absurd cc

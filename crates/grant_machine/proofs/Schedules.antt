@@ -1,0 +1,269 @@
+-- What modems can rely on in the outputs of any list of commands.
+use Rattle.std.proofs.Common.{◌≡◌, ℕ, zero, suc, ◌+◌, ◌-◌, ◌<◌, ◌≤◌, List, [], ◌∷◌, ◌++◌, map, length, Option, Some, None, refl, sym, ap, subst, ◌∙◌, arith, inl, inr, slice_get}
+use Rattle.std.specs.List.{AllByRecursion}
+use Rattle.std.specs.Prelude.{unwrap_or}
+use Rattle.std.proofs.lemmas.Bool.{eqb-true}
+use Rattle.minislot_time.specs.Wire.{wire}
+use Rattle.map_body.specs.declared.element.Element.{Element}
+use Rattle.map_body.specs.Body.{Body}
+use Rattle.map_body.specs.Layout.{IsBody, IsWritten}
+use Rattle.map_body.specs.Cell.{IsCell}
+use Rattle.map_body.proofs.Readings.{one_body}
+use Rattle.flow_state.specs.declared.flow.FlowKind.{FlowKind}
+use Rattle.flow_state.specs.declared.refusal.Refusal.{Refusal}
+use Rattle.flow_state.specs.Limits.{last_time, last_sid}
+use Rattle.flow_state.specs.Rows.{Rows, Table, Assignment, table_of, is_assignment, assignment_of, free_sid}
+use Rattle.flow_state.specs.Refusals.{table_flow_refusal}
+use Rattle.flow_state.specs.Changes.{flow_among, sid_among, sid_on}
+use Rattle.grant_machine.specs.declared.command.Command.{Command}
+use Rattle.grant_machine.specs.declared.command.Command.TheVariants as commands
+use Rattle.grant_machine.specs.declared.output.Output.{Output}
+use Rattle.grant_machine.specs.declared.output.Output.TheVariants as outputs
+use Rattle.grant_machine.specs.Placing.{Placement}
+use Rattle.grant_machine.specs.Cutting.{Filled, fill, fill_refusal, span_of}
+use Rattle.grant_machine.specs.Drawing.{null_element, body_of, bytes_of}
+use Rattle.grant_machine.specs.Steps.{step, step_on, refusal_of, accepted, cut_on}
+use Rattle.grant_machine.specs.Runs.{outputs_from, outputs_of, rows_from}
+use Rattle.grant_machine.specs.Fits.{FitsCommand}
+use Rattle.grant_machine.specs.Owner.{IsMapOf}
+use Rattle.grant_machine.specs.Laws.{OutputsGoOn, MapsAreBodies, SharedMapsAreOne, SidsAreUnicast, OwnersAreOne}
+use Rattle.grant_machine.proofs.Members.{Has, contains_at, has_pushed, found_has}
+use Rattle.grant_machine.proofs.Maps.{output_is, is_found, maps_are_disjoint}
+use Rattle.grant_machine.proofs.Sids.{sids_are_for_good, there, refusal_there, some_sid, unwrap_some, assigned_fields}
+use Rattle.grant_machine.proofs.Wells.{IsWell, free_range}
+use Rattle.grant_machine.proofs.Fillings.{is_cut}
+use Rattle.grant_machine.proofs.Bodies.{count, null_at, none_before}
+use Rattle.grant_machine.proofs.Written.{pending, cut_placed, cut_most, pending_plain, cut_written}
+use Rattle.grant_machine.proofs.Reached.{Kept, At, at_step, AllWell, none_well, well_rows, FitsTable, none_fit, fit_rows}
+use Rattle.grant_machine.proofs.Cuts.{cut_of_map}
+use Rattle.grant_machine.proofs.Tellings.{map_parts, drawn_body, cut_cell}
+
+-- ---- outputs of longer lists
+
+one_each : (rows : Rows) (cs : List Command) → length (outputs_from rows cs) ≡ length cs
+one_each rows [] = refl
+one_each rows (c ∷ cs) = ap suc (one_each (step rows c).rows cs)
+
+go_on : (rows : Rows) (cs more : List Command) (p : ℕ) (o : Output) → slice_get (outputs_from rows cs) p ≡ Some o → slice_get (outputs_from rows (cs ++ more)) p ≡ Some o
+go_on rows [] more p o e = absurd cc
+go_on rows (c ∷ cs) more zero o e = e
+go_on rows (c ∷ cs) more (suc p) o e = go_on (step rows c).rows cs more p o e
+
+pub outputs_go_on : OutputsGoOn
+outputs_go_on = record { one_each = λ cs. one_each [] cs; go_on = λ cs more p o e. go_on [] cs more p o e }
+
+-- ---- the step that gives an output
+
+-- some command gives the output, after the commands before it
+pub record IsStepAt (rows : Rows) (cs : List Command) (o : Output) : Type 0 where
+  pub front : List Command
+  pub command : Command
+  pub fits : AllByRecursion FitsCommand cs → AllByRecursion FitsCommand front
+  pub gives : (step (rows_from rows front) command).output ≡ o
+
+step_at : (rows : Rows) (cs : List Command) (k : ℕ) (o : Output) → slice_get (outputs_from rows cs) k ≡ Some o → IsStepAt rows cs o
+step_at rows [] k o e = absurd cc
+step_at rows (c ∷ cs) zero o e = record { front = []; command = c; fits = λ all. tt; gives = output_is _ _ e }
+step_at rows (c ∷ cs) (suc k) o e =
+    let later = step_at (step rows c).rows cs k o e in
+    record { front = c ∷ later.front; command = later.command; fits = λ all. (all.0, later.fits all.1); gives = later.gives }
+
+-- ---- MAPs
+
+-- the MAP is what was drawn of a table
+pub record IsDrawn (ch start len : ℕ) (bytes : List ℕ) (P : Table → Type 0) : Type 0 where
+  pub table : Table
+  pub not_before : ℕ
+  pub ack : ℕ
+  pub well : IsWell table
+  pub holds : P table
+  pub ok : fill_refusal table.row len not_before ack ≡ None
+  pub channel_is : table.row.channel.id ≡ ch
+  pub start_is : (span_of table.row len not_before).start ≡ start
+  pub bytes_is : bytes_of table (fill table len not_before ack) ≡ bytes
+
+drawn_now : (P : Table → Type 0) (rows : Rows) (c : Command) (ch start len : ℕ) (bytes : List ℕ) → AllWell rows → ((at : ℕ) → At P rows at) → (step rows c).output ≡ outputs.Map ch start len bytes → IsDrawn ch start len bytes P
+drawn_now P rows c ch start len bytes w p out =
+    let cut = cut_of_map rows c ch start len bytes out in
+    let t : Table = cut.table in
+    let f : Filled = fill t cut.len cut.not_before cut.ack in
+    let parts = map_parts ch f.span.start f.span.len cut.channel start len (bytes_of t f) bytes (sym cut.output_is ∙ out) in
+    let drawn : IsDrawn cut.channel f.span.start cut.len (bytes_of t f) P = record {
+      table = t;
+      not_before = cut.not_before;
+      ack = cut.ack;
+      well = w cut.channel t cut.found;
+      holds = p cut.channel t cut.found;
+      ok = cut.ok;
+      channel_is = eqb-true _ _ (is_found rows cut.channel t cut.found);
+      start_is = refl;
+      bytes_is = refl;
+    } in
+    subst (λ (n : ℕ). IsDrawn n start len bytes P) parts.0
+    (subst (λ (n : ℕ). IsDrawn cut.channel n len bytes P) parts.1
+    (subst (λ (n : ℕ). IsDrawn cut.channel f.span.start n bytes P) parts.2
+    (subst (λ (bs : List ℕ). IsDrawn cut.channel f.span.start cut.len bs P) parts.3 drawn)))
+
+drawn_at : (cs : List Command) (k ch start len : ℕ) (bytes : List ℕ) → slice_get (outputs_of cs) k ≡ Some (outputs.Map ch start len bytes) → IsDrawn ch start len bytes (λ t. Unit {0})
+drawn_at cs k ch start len bytes e =
+    let s = step_at [] cs k (outputs.Map ch start len bytes) e in
+    drawn_now (λ t. Unit {0}) (rows_from [] s.front) s.command ch start len bytes (well_rows [] s.front none_well) (λ at t found. tt) s.gives
+
+body_of_drawn : (ch start len : ℕ) (bytes : List ℕ) → IsDrawn ch start len bytes FitsTable → IsMapOf ch start len bytes
+body_of_drawn ch start len bytes d =
+    let t : Table = d.table in
+    let w = d.well in
+    let ok = d.ok in
+    let f : Filled = fill t len d.not_before d.ack in
+    let a = cut_placed t len d.not_before d.ack w ok in
+    let most = cut_most t len d.not_before d.ack w ok in
+    let rest = pending t len d.not_before d.ack w ok in
+    let plain = pending_plain t len d.not_before d.ack w ok in
+    let cut = is_cut t len d.not_before d.ack ok in
+    record {
+      map = body_of t f;
+      body = subst (λ (bs : List ℕ). IsWritten bs (body_of t f)) d.bytes_is (cut_written t len d.not_before d.ack w ok d.holds.id d.holds.ucd);
+      channel = d.channel_is;
+      start_is = ap wire d.start_is;
+      null = record {
+        place = count t f.span f.placements a len refl most rest plain;
+        null = null_element len;
+        here_is = null_at t f.span f.placements a len refl most rest plain;
+        is_null = refl;
+        first = none_before t f.span f.placements a len refl most rest plain;
+        offset_is = refl;
+      };
+      some = cut.some;
+      most = cut.most;
+      last = subst (λ n. n + len ≤ last_time) d.start_is cut.end;
+    }
+
+-- each MAP's bytes are its body
+pub maps_are_bodies : MapsAreBodies
+maps_are_bodies cs ch start len bytes all contains =
+    let here = contains_at (outputs_of cs) (outputs.Map ch start len bytes) contains in
+    let s = step_at [] cs here.0 (outputs.Map ch start len bytes) here.1 in
+    body_of_drawn ch start len bytes
+    (drawn_now FitsTable (rows_from [] s.front) s.command ch start len bytes (well_rows [] s.front none_well) (fit_rows [] s.front (s.fits all) none_fit) s.gives)
+
+-- two MAPs of a channel that share a minislot are the same
+pub shared_maps_are_one : SharedMapsAreOne
+shared_maps_are_one cs ch m start len start' len' bytes bytes' a b p q =
+    let j = contains_at (outputs_of cs) (outputs.Map ch start len bytes) a in
+    let k = contains_at (outputs_of cs) (outputs.Map ch start' len' bytes') b in
+    let same : j.0 ≡ k.0 = maps_are_disjoint cs j.0 k.0 ch m start len start' len' bytes bytes' j.1 k.1 p q in
+    let parts = map_parts ch start len ch start' len' bytes bytes' (output_is _ _ (sym j.1 ∙ ap (slice_get (outputs_of cs)) same ∙ k.1)) in
+    (parts.1, parts.2, parts.3)
+
+-- ---- SIDs
+
+-- each SID that was given is a unicast one
+abbrev GivesUnicast : Table → Type 0
+GivesUnicast t = (a : Assignment) → Has t.assigned a → (1 ≤ a.sid) × (a.sid ≤ last_sid)
+
+free_unicast : (t : Table) (sid : ℕ) → free_sid t ≡ Some sid → (1 ≤ sid) × (sid ≤ last_sid)
+free_unicast t sid e =
+    let range = free_range t sid e in
+    (range.0, omega (arith, range.1))
+
+unicast_flow : (o : Option Assignment) (t : Table) (modem tag : ℕ) (kind : FlowKind) → assignment_of t modem tag ≡ o → table_flow_refusal t modem tag kind ≡ None → GivesUnicast t → GivesUnicast (flow_among o t modem tag kind)
+unicast_flow (Some a) t modem tag kind e ok g = g
+unicast_flow None t modem tag kind e ok g =
+    let free = some_sid t modem tag kind e ok in
+    let range = free_unicast t free.0 free.1 in
+    let sid_is : unwrap_or (free_sid t) 0 ≡ free.0 = unwrap_some (free_sid t) free.0 free.1 in
+    λ a h. elim (has_pushed t.assigned (record { modem = modem; tag = tag; sid = unwrap_or (free_sid t) 0 }) a h) [
+      | inl old ↦ g a old
+      | inr new ↦ subst (λ n. (1 ≤ n) × (n ≤ last_sid)) (sym sid_is ∙ ap (λ (b : Assignment). b.sid) new) range
+    ]
+
+unicast_kept : Kept GivesUnicast
+unicast_kept = record {
+  flow = λ t modem tag kind ok g. unicast_flow (assignment_of t modem tag) t modem tag kind refl ok g;
+  drop = λ t sid g. g;
+  request = λ t sid n sent ok g. g;
+  cut = λ t len not_before ack ok g. g;
+}
+
+unicast_rows : (rows : Rows) (cs : List Command) → ((ch : ℕ) → At GivesUnicast rows ch) → (ch : ℕ) → At GivesUnicast (rows_from rows cs) ch
+unicast_rows rows [] g ch = g ch
+unicast_rows rows (c ∷ cs) g ch = unicast_rows (step rows c).rows cs (λ at. at_step GivesUnicast unicast_kept rows c at (λ n is good a h. absurd h) (g at)) ch
+
+sid_unicast : (o : Option Assignment) (t : Table) (modem tag : ℕ) (kind : FlowKind) → assignment_of t modem tag ≡ o → table_flow_refusal t modem tag kind ≡ None → GivesUnicast t → (1 ≤ sid_among o t) × (sid_among o t ≤ last_sid)
+sid_unicast (Some a) t modem tag kind e ok g = g a (found_has (is_assignment modem tag) t.assigned a e).0
+sid_unicast None t modem tag kind e ok g =
+    let free = some_sid t modem tag kind e ok in
+    subst (λ n. (1 ≤ n) × (n ≤ last_sid)) (sym (unwrap_some (free_sid t) free.0 free.1)) (free_unicast t free.0 free.1)
+
+assigned_unicast : (rows : Rows) (c : Command) (m ch sid : ℕ) → ((at : ℕ) → At GivesUnicast rows at) → (step rows c).output ≡ outputs.Assigned m ch sid → (1 ≤ sid) × (sid ≤ last_sid)
+assigned_unicast rows c m ch sid g e = by (refusal_of rows c) refl e
+  where
+    cut_not : (o : Option Table) (at len not_before ack : ℕ) → (cut_on o rows at len not_before ack).output ≡ outputs.Assigned m ch sid → ⊥
+    cut_not (Some t) at len not_before ack f = cc
+    cut_not None at len not_before ack f = cc
+
+    on : (d : Command) → refusal_of rows d ≡ None → (accepted rows d).output ≡ outputs.Assigned m ch sid → (1 ≤ sid) × (sid ≤ last_sid)
+    on commands.Noop ok f = absurd cc
+    on (commands.Channel n) ok f = absurd cc
+    on (commands.Flow at modem tag kind) ok f =
+        let here = there (table_of rows at) (λ t. table_flow_refusal t modem tag kind) ok in
+        let t : Table = here.0 in
+        let range = sid_unicast (assignment_of t modem tag) t modem tag kind refl (refusal_there rows at t (λ u. table_flow_refusal u modem tag kind) here.1 ok) (g at t here.1) in
+        let sid_is : sid_on (table_of rows at) modem tag ≡ sid = (assigned_fields modem at (sid_on (table_of rows at) modem tag) m ch sid f).2 in
+        subst (λ n. (1 ≤ n) × (n ≤ last_sid)) (ap (λ o. sid_on o modem tag) (sym here.1) ∙ sid_is) range
+    on (commands.Drop at s) ok f = absurd cc
+    on (commands.Request at s n sent) ok f = absurd cc
+    on (commands.Cut at len not_before ack) ok f = absurd (cut_not (table_of rows at) at len not_before ack f)
+
+    by : (o : Option Refusal) → refusal_of rows c ≡ o → (step_on o rows c).output ≡ outputs.Assigned m ch sid → (1 ≤ sid) × (sid ≤ last_sid)
+    by (Some r) h f = absurd cc
+    by None h f = on c h f
+
+pub sids_are_unicast : SidsAreUnicast
+sids_are_unicast cs m ch sid contains =
+    let here = contains_at (outputs_of cs) (outputs.Assigned m ch sid) contains in
+    let s = step_at [] cs here.0 (outputs.Assigned m ch sid) here.1 in
+    assigned_unicast (rows_from [] s.front) s.command m ch sid (unicast_rows [] s.front (λ at t e. absurd cc)) s.gives
+
+-- ---- owners
+
+-- two cells of one minislot of a MAP that are no cells of all modems' have one SID
+same_sid : (t : Table) (len not_before ack x : ℕ) (map : Body) (d e : Element) (w : IsWell t) (ok : fill_refusal t.row len not_before ack ≡ None) → map ≡ body_of t (fill t len not_before ack)
+    → IsCell map x d → IsCell map x e → d.sid ≤ last_sid → e.sid ≤ last_sid → d.sid ≡ e.sid
+same_sid t len not_before ack x map d e w ok same c k small little =
+    elim (cut_cell t len not_before ack x map d w ok same c).1 [
+      | inl p ↦ elim (cut_cell t len not_before ack x map e w ok same k).1 [
+        | inl q ↦
+            let one : p.0 ≡ q.0 = (cut_placed t len not_before ack w ok).apart x p.0 q.0 p.1 q.1 p.2 q.2 in
+            ap (λ (y : Element). y.sid) (sym p.3) ∙ ap (λ (r : Placement). r.sid) one ∙ ap (λ (y : Element). y.sid) q.3
+        | inr all ↦ absurd (omega arith)
+      ]
+      | inr all ↦ absurd (omega arith)
+    ]
+
+-- a minislot that is given lies in its MAP
+given_within : (cs : List Command) (k ch start len m : ℕ) (bytes : List ℕ) (map : Body) (e : Element) → slice_get (outputs_of cs) k ≡ Some (outputs.Map ch start len bytes) → IsBody bytes map → start ≤ m → IsCell map (m - start) e → m < start + len
+given_within cs k ch start len m bytes map e out body from cell =
+    let d = drawn_at cs k ch start len bytes out in
+    let drawn = drawn_body d.table len d.not_before d.ack bytes map d.well d.ok d.bytes_is body in
+    let within : m - start < len = (cut_cell d.table len d.not_before d.ack (m - start) map e d.well d.ok drawn cell).0 in
+    omega arith
+
+-- a minislot has one owner at most
+pub owners_are_one : OwnersAreOne
+owners_are_one cs ch m a b p q =
+    let u = p.given in
+    let v = q.given in
+    let j = contains_at (outputs_of cs) (outputs.Map ch u.start u.len u.bytes) u.told in
+    let k = contains_at (outputs_of cs) (outputs.Map ch v.start v.len v.bytes) v.told in
+    let first = given_within cs j.0 ch u.start u.len m u.bytes u.map p.element j.1 u.body u.begun u.cell in
+    let second = given_within cs k.0 ch v.start v.len m v.bytes v.map q.element k.1 v.body v.begun v.cell in
+    let one = shared_maps_are_one cs ch m u.start u.len v.start v.len u.bytes v.bytes u.told v.told (u.begun, first) (v.begun, second) in
+    let map_is : v.map ≡ u.map = one_body u.bytes v.map u.map (subst (λ (bs : List ℕ). IsBody bs v.map) (sym one.2) v.body) u.body in
+    let cell : IsCell u.map (m - u.start) q.element = subst (λ (n : ℕ). IsCell u.map (m - n) q.element) (sym one.0) (subst (λ (x : Body). IsCell x (m - v.start) q.element) map_is v.cell) in
+    let d = drawn_at cs j.0 ch u.start u.len u.bytes j.1 in
+    let drawn = drawn_body d.table u.len d.not_before d.ack u.bytes u.map d.well d.ok d.bytes_is u.body in
+    let sid : p.element.sid ≡ q.element.sid = same_sid d.table u.len d.not_before d.ack (m - u.start) u.map p.element q.element d.well d.ok drawn u.cell cell p.unicast.1 q.unicast.1 in
+    let x = contains_at (outputs_of cs) (outputs.Assigned a ch p.element.sid) p.assigned in
+    let y = contains_at (outputs_of cs) (outputs.Assigned b ch q.element.sid) q.assigned in
+    sids_are_for_good cs x.0 y.0 a b ch p.element.sid x.1 (subst (λ n. slice_get (outputs_of cs) y.0 ≡ Some (outputs.Assigned b ch n)) (sym sid) y.1)

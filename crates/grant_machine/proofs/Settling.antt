@@ -1,0 +1,119 @@
+-- What a filled MAP is made of, and its flows as they are lent.
+use Rattle.std.proofs.Common.{◌≡◌, ℕ, ◌+◌, ◌≤◌, true, List, [], ◌∷◌, map, filter, eqb, Option, Some, None, refl, sym, ap, subst, ◌∙◌, arith, inl, inr}
+use Rattle.std.specs.List.{AllByRecursion, flat_map, find}
+use Rattle.minislot_time.specs.Extent.{Extent}
+use Rattle.flow_state.specs.declared.channel.Channel.{Channel}
+use Rattle.flow_state.specs.declared.flow.Flow.{Flow}
+use Rattle.flow_state.specs.declared.flow.FlowKind.{FlowKind}
+use Rattle.flow_state.specs.declared.flow.FlowKind.TheVariants.{BestEffort, Ugs, Poll}
+use Rattle.flow_state.specs.declared.flow.Waiting.{Waiting}
+use Rattle.flow_state.specs.Limits.{last_sid, is_good_kind, due_time, due_index}
+use Rattle.flow_state.specs.Rows.{Rows, Table, FlowRow, table_of, lent_flow, is_flow}
+use Rattle.grant_machine.specs.declared.services.Service.TheVariants.{Grants, Polls}
+use Rattle.grant_machine.specs.Placing.{Placement}
+use Rattle.grant_machine.specs.Cutting.{flow_priority, Periodic, Passed, pass, in_order, place_requests, fill_span, fill_polls, fill_requests, grants_of_flow, polls_of_flow}
+use Rattle.grant_machine.specs.Runs.{IsReached}
+use Rattle.grant_machine.specs.Filling.{PartMap}
+use Rattle.grant_machine.specs.Lent.{row_of, IsLent, IsUnicast, IsOfTable, given, given_to, flows_on, requests_on, by_priority}
+use Rattle.grant_machine.proofs.Members.{Has, all_has}
+use Rattle.grant_machine.proofs.Wells.{IsWell, IsWellFlow, both}
+use Rattle.grant_machine.proofs.Reached.{reached_is_well}
+use Rattle.grant_machine.proofs.Fillings.{in_order_has}
+use Rattle.grant_machine.proofs.Giving.{schedule_pos, round_at}
+use Rattle.grant_machine.proofs.Standing.{IsIdle, AreIdle, idle, reached_idle}
+
+-- the number of a due time is its own
+round_kind : (sid : ℕ) (kind : FlowKind) (i : ℕ) → is_good_kind kind ≡ true → idle kind i → due_index kind (due_time kind i) ≡ i
+round_kind sid (BestEffort priority) i good h = sym h
+round_kind sid (Ugs size interval jitter base) i good h = round_at base i interval (schedule_pos interval jitter base (both _ _ good).1)
+round_kind sid (Poll interval jitter base) i good h = round_at base i interval (schedule_pos interval jitter base good)
+
+-- a flow's row is what it was lent from
+pub row_back : (f : FlowRow) → IsWellFlow f → IsIdle f → row_of (lent_flow f) ≡ f
+row_back f w h = ap (λ i. record f { index = i }) (round_kind f.sid f.kind f.index w.kind h)
+
+pub rows_back : (fs : List FlowRow) → AllByRecursion IsWellFlow fs → AllByRecursion IsIdle fs → map row_of (map lent_flow fs) ≡ fs
+rows_back [] w h = refl
+rows_back (f ∷ fs) w h = rw (row_back f w.0 h.0, rows_back fs w.1 h.1) refl
+
+lent_one : (f : FlowRow) → IsWellFlow f → IsIdle f → IsLent (lent_flow f)
+lent_one f w h = record {
+  sid = w.last;
+  kind = w.kind;
+  due = ap (due_time f.kind) (sym (round_kind f.sid f.kind f.index w.kind h));
+  early = w.due;
+}
+
+lent_all : (fs : List FlowRow) → AllByRecursion IsWellFlow fs → AllByRecursion IsIdle fs → AllByRecursion IsLent (map lent_flow fs)
+lent_all [] w h = tt
+lent_all (f ∷ fs) w h = (lent_one f w.0 h.0, lent_all fs w.1 h.1)
+
+well_flows : (rows : Rows) (ch : ℕ) (t : Table) → IsReached rows → table_of rows ch ≡ Some t → AllByRecursion IsWellFlow t.flows
+well_flows rows ch t r e = all_has IsWellFlow t.flows (reached_is_well rows r ch t e).flows
+
+-- what is lent of the channel's flows
+pub flows_lent : (rows : Rows) (ch : ℕ) → IsReached rows → AllByRecursion IsLent (flows_on (table_of rows ch))
+flows_lent rows ch r = by (table_of rows ch) refl
+  where
+    by : (o : Option Table) → table_of rows ch ≡ o → AllByRecursion IsLent (flows_on (table_of rows ch))
+    by (Some t) e = rw e (lent_all t.flows (well_flows rows ch t r e) (reached_idle rows r ch t e))
+    by None e = rw e tt
+
+pub flows_back : (rows : Rows) (ch : ℕ) (t : Table) → IsReached rows → table_of rows ch ≡ Some t → map row_of (flows_on (table_of rows ch)) ≡ t.flows
+flows_back rows ch t r e = ap (λ o. map row_of (flows_on o)) e ∙ rows_back t.flows (well_flows rows ch t r e) (reached_idle rows r ch t e)
+
+-- the requests by the priority of these flows
+abbrev in_priority : List FlowRow → List Waiting → List Waiting
+in_priority fs ws = flat_map (λ priority. filter (λ w. eqb (flow_priority (find (is_flow w.sid) fs)) priority) ws) (7 ∷ 6 ∷ 5 ∷ 4 ∷ 3 ∷ 2 ∷ 1 ∷ 0 ∷ [])
+
+pub ordered : (rows : Rows) (ch : ℕ) (t : Table) → IsReached rows → table_of rows ch ≡ Some t → by_priority (flows_on (table_of rows ch)) (requests_on (table_of rows ch)) ≡ in_order t t.waiting
+ordered rows ch t r e =
+    ap (λ o. in_priority (map row_of (flows_on o)) (requests_on o)) e
+    ∙ ap (λ (fs : List FlowRow). in_priority fs t.waiting) (rows_back t.flows (well_flows rows ch t r e) (reached_idle rows r ch t e))
+
+pub unicast : (t : Table) → IsWell t → AllByRecursion IsUnicast (in_order t t.waiting)
+unicast t w = all_has IsUnicast (in_order t t.waiting) (λ x h.
+    let asked = w.requests x (in_order_has t t.waiting x h) in
+    subst (λ n. n ≤ last_sid) asked.sid (w.flows asked.flow asked.there).last)
+
+pub requests_unicast : (rows : Rows) (ch : ℕ) → IsReached rows → AllByRecursion IsUnicast (by_priority (flows_on (table_of rows ch)) (requests_on (table_of rows ch)))
+requests_unicast rows ch r = by (table_of rows ch) refl
+  where
+    by : (o : Option Table) → table_of rows ch ≡ o → AllByRecursion IsUnicast (by_priority (flows_on (table_of rows ch)) (requests_on (table_of rows ch)))
+    by (Some t) e = subst (AllByRecursion IsUnicast) (sym (ordered rows ch t r e)) (unicast t (reached_is_well rows r ch t e))
+    by None e = rw e tt
+
+-- two services and then the requests fill a MAP
+pub served_filled : (t : Table) (span : Extent) (ack : ℕ) (c : Channel) (f0 f1 f2 : List Flow) (rs : List Waiting) (p1 p2 p3 : List Placement) → t.row.channel ≡ c → map row_of f0 ≡ t.flows
+    → p1 ≡ (pass span (given_to Grants c) (map row_of f0) []).placements → map row_of f1 ≡ (pass span (given_to Grants c) (map row_of f0) []).flows
+    → p2 ≡ (pass span (given_to Polls c) (map row_of f1) p1).placements → map row_of f2 ≡ (pass span (given_to Polls c) (map row_of f1) p1).flows
+    → rs ≡ in_order t t.waiting → p3 ≡ place_requests span c rs p2
+    → (p3 ≡ (fill_span t span ack).placements) × (map row_of f2 ≡ (fill_span t span ack).flows)
+served_filled t span ack c f0 f1 f2 rs p1 p2 p3 row start placed1 flows1 placed2 flows2 order placed3 =
+    let first : Passed = pass span (grants_of_flow t.row.channel) t.flows [] in
+    let one : pass span (given_to Grants c) (map row_of f0) [] ≡ first = ap (λ d. pass span (grants_of_flow d) (map row_of f0) []) (sym row) ∙ ap (λ (fs : List FlowRow). pass span (grants_of_flow t.row.channel) fs []) start in
+    let p1_is : p1 ≡ first.placements = placed1 ∙ ap (λ (p : Passed). p.placements) one in
+    let f1_is : map row_of f1 ≡ first.flows = flows1 ∙ ap (λ (p : Passed). p.flows) one in
+    let two : pass span (given_to Polls c) (map row_of f1) p1 ≡ fill_polls t span first =
+        ap (λ d. pass span (polls_of_flow d) (map row_of f1) p1) (sym row) ∙ ap (λ (fs : List FlowRow). pass span (polls_of_flow t.row.channel) fs p1) f1_is
+        ∙ ap (λ (ps : List Placement). pass span (polls_of_flow t.row.channel) first.flows ps) p1_is in
+    let p2_is : p2 ≡ (fill_polls t span first).placements = placed2 ∙ ap (λ (p : Passed). p.placements) two in
+    (
+      placed3 ∙ ap (λ d. place_requests span d rs p2) (sym row) ∙ ap (λ (ws : List Waiting). place_requests span t.row.channel ws p2) order
+      ∙ ap (λ (ps : List Placement). place_requests span t.row.channel (in_order t t.waiting) ps) p2_is,
+      flows2 ∙ ap (λ (p : Passed). p.flows) two,
+    )
+
+-- the same of a MAP that is filled step by step
+pub parts_filled : (t : Table) (ack : ℕ) (c : Channel) (a b d e : PartMap) (f0 f1 f2 : List Flow) (rs : List Waiting) → IsOfTable t c f0 rs → a.placements ≡ [] → b.span ≡ a.span → d.span ≡ b.span
+    → b.placements ≡ (pass a.span (given_to Grants c) (map row_of f0) a.placements).placements → map row_of f1 ≡ (pass a.span (given_to Grants c) (map row_of f0) a.placements).flows
+    → d.placements ≡ (pass b.span (given_to Polls c) (map row_of f1) b.placements).placements → map row_of f2 ≡ (pass b.span (given_to Polls c) (map row_of f1) b.placements).flows
+    → e.placements ≡ place_requests d.span c rs d.placements
+    → (e.placements ≡ (fill_span t a.span ack).placements) × (map row_of f2 ≡ (fill_span t a.span ack).flows)
+parts_filled t ack c a b d e f0 f1 f2 rs of empty same1 same2 placed1 flows1 placed2 flows2 placed3 =
+    let grants : pass a.span (given_to Grants c) (map row_of f0) a.placements ≡ pass a.span (given_to Grants c) (map row_of f0) [] = ap (λ (ps : List Placement). pass a.span (given_to Grants c) (map row_of f0) ps) empty in
+    let polls : pass b.span (given_to Polls c) (map row_of f1) b.placements ≡ pass a.span (given_to Polls c) (map row_of f1) b.placements = ap (λ (s : Extent). pass s (given_to Polls c) (map row_of f1) b.placements) same1 in
+    served_filled t a.span ack c f0 f1 f2 rs b.placements d.placements e.placements of.channel of.flows_are
+    (placed1 ∙ ap (λ (p : Passed). p.placements) grants) (flows1 ∙ ap (λ (p : Passed). p.flows) grants)
+    (placed2 ∙ ap (λ (p : Passed). p.placements) polls) (flows2 ∙ ap (λ (p : Passed). p.flows) polls)
+    of.requests_are (placed3 ∙ ap (λ (s : Extent). place_requests s c rs d.placements) (same2 ∙ same1))

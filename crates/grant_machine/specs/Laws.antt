@@ -1,0 +1,179 @@
+-- What holds of every list of commands.
+use Rattle.std.specs.Prelude.{◌≡◌, ◌≢◌, ◌⊎◌, ℕ, ◌+◌, ◌-◌, ◌<◌, ◌≤◌, ◌==◌, ◌&&◌, Bool, List, ◌++◌, length, Some, slice_get}
+use Rattle.std.specs.List.{filter, AllZip, AllByRecursion, Contains}
+use Rattle.std.specs.List.Sorted.{IsStrictlyIncreasing}
+use Rattle.flow_state.specs.declared.flow.FlowKind.{FlowKind}
+use Rattle.flow_state.specs.declared.flow.FlowKind.TheVariants.{BestEffort, Ugs, Poll}
+use Rattle.flow_state.specs.Limits.{due_time, last_sid}
+use Rattle.map_body.specs.declared.element.Element.{Element}
+use Rattle.map_body.specs.Body.{Body}
+use Rattle.map_body.specs.Layout.{IsBody, IsWritten}
+use Rattle.map_body.specs.Cell.{IsCell}
+use Rattle.grant_machine.specs.declared.command.Command.{Command}
+use Rattle.grant_machine.specs.declared.command.Command.TheVariants as commands
+use Rattle.grant_machine.specs.declared.output.Output.{Output}
+use Rattle.grant_machine.specs.declared.output.Output.TheVariants as outputs
+use Rattle.grant_machine.specs.Placing.{Cause, Window, Sent}
+use Rattle.grant_machine.specs.Fits.{FitsCommand}
+use Rattle.grant_machine.specs.Runs.{outputs_of, Grant, grants_of}
+use Rattle.grant_machine.specs.Owner.{Owns, IsMapOf}
+
+-- output number k is this MAP
+abbrev pub IsMapAt : List Command → ℕ → (ch start len : ℕ) → List ℕ → Type 0
+IsMapAt cs k ch start len bytes = slice_get (outputs_of cs) k ≡ Some (outputs.Map ch start len bytes)
+
+-- minislot m lies in a MAP of these bounds
+abbrev pub InMap : (start len m : ℕ) → Type 0
+InMap start len m = (start ≤ m) × (m < start + len)
+
+-- a minislot of a channel lies in one MAP at most
+abbrev pub MapsAreDisjoint : Type 0
+MapsAreDisjoint =
+    (cs : List Command) (j k ch m start len start' len' : ℕ) (bytes bytes' : List ℕ)
+    → IsMapAt cs j ch start len bytes → IsMapAt cs k ch start' len' bytes'
+    → InMap start len m → InMap start' len' m → j ≡ k
+
+-- output number k gives the modem this SID
+abbrev pub IsAssignedAt : List Command → ℕ → (modem ch sid : ℕ) → Type 0
+IsAssignedAt cs k modem ch sid = slice_get (outputs_of cs) k ≡ Some (outputs.Assigned modem ch sid)
+
+-- a SID of a channel is one modem's for good
+abbrev pub SidsAreForGood : Type 0
+SidsAreForGood =
+    (cs : List Command) (j k modem modem' ch sid : ℕ)
+    → IsAssignedAt cs j modem ch sid → IsAssignedAt cs k modem' ch sid → modem ≡ modem'
+
+-- command number k is a request that was accepted
+pub record IsAcceptedAt (cs : List Command) (k ch sid n sent : ℕ) : Type 0 where
+  pub asked : slice_get cs k ≡ Some (commands.Request ch sid n sent)
+  pub accepted : slice_get (outputs_of cs) k ≡ Some outputs.Nothing
+
+-- grant number k is of the request that was sent at this time
+pub record IsGrantedAt (cs : List Command) (k : ℕ) (g : Grant) (ch sid sent : ℕ) : Type 0 where
+  pub grant : slice_get (grants_of cs) k ≡ Some g
+  pub channel : g.channel ≡ ch
+  pub sid_is : g.sid ≡ sid
+  pub cause : g.cause ≡ Sent sent
+
+-- a request is accepted once at most, and granted once at most; what is granted was accepted, and is granted whole
+pub record RequestsAreGrantedOnce : Type 0 where
+  pub accepted_once : (cs : List Command) (j k ch sid n n' sent : ℕ)
+      → IsAcceptedAt cs j ch sid n sent → IsAcceptedAt cs k ch sid n' sent → j ≡ k
+  pub granted_once : (cs : List Command) (j k ch sid sent : ℕ) (g h : Grant)
+      → IsGrantedAt cs j g ch sid sent → IsGrantedAt cs k h ch sid sent → j ≡ k
+  pub whole : (cs : List Command) (k ch sid sent : ℕ) (g : Grant)
+      → IsGrantedAt cs k g ch sid sent → (j : ℕ) × IsAcceptedAt cs j ch sid g.size sent
+
+-- command number k added a flow of this kind, and no earlier one gave its SID
+pub record IsAddedAt (cs : List Command) (k ch sid : ℕ) (kind : FlowKind) : Type 0 where
+  pub modem : ℕ
+  pub tag : ℕ
+  pub asked : slice_get cs k ≡ Some (commands.Flow ch modem tag kind)
+  pub added : IsAssignedAt cs k modem ch sid
+  pub first : (j other : ℕ) → j < k → ¬ IsAssignedAt cs j other ch sid
+
+abbrev pub is_grant_to : ℕ → ℕ → Grant → Bool
+is_grant_to ch sid g = (g.channel == ch) && (g.sid == sid)
+
+-- the grants of a SID in order
+abbrev pub grants_to : List Command → ℕ → ℕ → List Grant
+grants_to cs ch sid = filter (is_grant_to ch sid) (grants_of cs)
+
+-- the grant is of this size, and begins from due time number i to jitter after it
+pub record IsDueGrant (kind : FlowKind) (size jitter : ℕ) (g : Grant) (i : ℕ) : Type 0 where
+  pub whole : g.size ≡ size
+  pub not_early : due_time kind i ≤ g.start
+  pub not_late : g.start ≤ due_time kind i + jitter
+
+-- the grants of an unsolicited grant flow, in order, begin within the jitter of due times whose numbers rise
+abbrev pub UnsolicitedGrantsAreDue : Type 0
+UnsolicitedGrantsAreDue =
+    (cs : List Command) (k ch sid size interval jitter base : ℕ)
+    → IsAddedAt cs k ch sid (Ugs size interval jitter base)
+    → (numbers : List ℕ) × IsStrictlyIncreasing numbers
+    × AllZip (IsDueGrant (Ugs size interval jitter base) size jitter) (grants_to cs ch sid) numbers
+
+-- the grant is at due time number i of a flow of this kind: an unsolicited grant, or a poll of one minislot
+abbrev pub IsServedAt : FlowKind → Grant → ℕ → Type 0
+IsServedAt (BestEffort priority) g i = ⊥
+IsServedAt (Ugs size interval jitter base) g i = IsDueGrant (Ugs size interval jitter base) size jitter g i
+IsServedAt (Poll interval jitter base) g i = IsDueGrant (Poll interval jitter base) 1 jitter g i
+
+-- the grant is at due time number i of a flow that was added under its SID
+pub record IsOfFlow (cs : List Command) (g : Grant) (i : ℕ) : Type 0 where
+  pub place : ℕ
+  pub kind : FlowKind
+  pub added : IsAddedAt cs place g.channel g.sid kind
+  pub served : IsServedAt kind g i
+
+-- what isn't granted to a request is granted at a due time of an unsolicited grant flow or of a polled one
+abbrev pub OtherGrantsAreDue : Type 0
+OtherGrantsAreDue = (cs : List Command) (k i : ℕ) (g : Grant) → slice_get (grants_of cs) k ≡ Some g → g.cause ≡ Window i → IsOfFlow cs g i
+
+-- the use of what serves a request is a grant's, short or long (5, 6); at a due time it may be a poll's too (1)
+abbrev pub IsUseFor : Cause → ℕ → Type 0
+IsUseFor (Sent time) iuc = (iuc ≡ 5) ⊎ (iuc ≡ 6)
+IsUseFor (Window index) iuc = (iuc ≡ 1) ⊎ ((iuc ≡ 5) ⊎ (iuc ≡ 6))
+
+-- the grant is told: a MAP's body gives each of its minislots to its SID by one element, of a use for what it serves
+pub record IsTold (cs : List Command) (g : Grant) : Type 0 where
+  pub place : ℕ
+  pub start : ℕ
+  pub len : ℕ
+  pub bytes : List ℕ
+  pub map : Body
+  pub told : IsMapAt cs place g.channel start len bytes
+  pub body : IsWritten bytes map
+  pub begun : start ≤ g.start
+  pub ended : g.start + g.size ≤ start + len
+  pub iuc : ℕ
+  pub use_is : IsUseFor g.cause iuc
+  pub cell : (m : ℕ) → g.start ≤ m → m < g.start + g.size
+      → IsCell map (m - start) (record { sid = g.sid; iuc = iuc; offset = g.start - start })
+
+-- each grant is told by the MAP that placed it
+abbrev pub GrantsAreTold : Type 0
+GrantsAreTold = (cs : List Command) (k : ℕ) (g : Grant) → AllByRecursion FitsCommand cs → slice_get (grants_of cs) k ≡ Some g → IsTold cs g
+
+-- the other way: a unicast SID's cell before the Null is in a grant to it
+pub record IsTakenFrom (cs : List Command) (ch sid m : ℕ) : Type 0 where
+  pub place : ℕ
+  pub grant : Grant
+  pub given : slice_get (grants_of cs) place ≡ Some grant
+  pub channel : grant.channel ≡ ch
+  pub sid_is : grant.sid ≡ sid
+  pub begun : grant.start ≤ m
+  pub not_ended : m < grant.start + grant.size
+
+-- what a MAP gives to one SID is part of a grant to it: MAPs give nothing else but to all modems (SID 0x3FFF)
+abbrev pub CellsAreGranted : Type 0
+CellsAreGranted =
+    (cs : List Command) (k ch start len m : ℕ) (bytes : List ℕ) (map : Body) (e : Element)
+    → IsMapAt cs k ch start len bytes → IsBody bytes map
+    → start ≤ m → IsCell map (m - start) e → e.sid ≢ 16383 → IsTakenFrom cs ch e.sid m
+
+-- one output a command, and those of a longer list begin with those of its beginning
+pub record OutputsGoOn : Type 0 where
+  pub one_each : (cs : List Command) → length (outputs_of cs) ≡ length cs
+  pub go_on : (cs more : List Command) (p : ℕ) (output : Output) → slice_get (outputs_of cs) p ≡ Some output → slice_get (outputs_of (cs ++ more)) p ≡ Some output
+
+-- each MAP's bytes are its body
+abbrev pub MapsAreBodies : Type 0
+MapsAreBodies =
+    (cs : List Command) (ch start len : ℕ) (bytes : List ℕ)
+    → AllByRecursion FitsCommand cs → Contains (outputs_of cs) (outputs.Map ch start len bytes) → IsMapOf ch start len bytes
+
+-- two MAPs of a channel that share a minislot are the same
+abbrev pub SharedMapsAreOne : Type 0
+SharedMapsAreOne =
+    (cs : List Command) (ch m start len start' len' : ℕ) (bytes bytes' : List ℕ)
+    → Contains (outputs_of cs) (outputs.Map ch start len bytes) → Contains (outputs_of cs) (outputs.Map ch start' len' bytes')
+    → InMap start len m → InMap start' len' m → (start ≡ start') × (len ≡ len') × (bytes ≡ bytes')
+
+-- SIDs that are given are unicast ones
+abbrev pub SidsAreUnicast : Type 0
+SidsAreUnicast = (cs : List Command) (modem ch sid : ℕ) → Contains (outputs_of cs) (outputs.Assigned modem ch sid) → (1 ≤ sid) × (sid ≤ last_sid)
+
+-- a minislot has one owner at most
+abbrev pub OwnersAreOne : Type 0
+OwnersAreOne = (cs : List Command) (ch m a b : ℕ) → Owns (outputs_of cs) ch m a → Owns (outputs_of cs) ch m b → a ≡ b

@@ -1,0 +1,157 @@
+//! A cut: a channel's next MAP.
+
+ghost use Rattle.std.specs.Prelude.{◌≡◌, ℕ, ◌+◌, ◌≤◌, [], Some, None, length, map, is_none, IfOk, OnOk, OnErr};
+ghost use Rattle.std.specs.List.{AllByRecursion};
+ghost use Rattle.map_body.specs.Rules.{AreElements};
+ghost use Rattle.map_body.specs.Layout.{layout};
+ghost use Rattle.flow_state.specs.Limits.{last_time};
+ghost use Rattle.flow_state.specs.Rows.{Table, table_of, channel_at};
+ghost use Rattle.flow_state.specs.Changes.{with_cut_closed};
+ghost use Rattle.grant_machine.specs.declared.command.Command.TheVariants as commands;
+ghost use Rattle.grant_machine.specs.Cutting.{fill_span, fill_refusal, end_of};
+ghost use Rattle.grant_machine.specs.Drawing.{head_of};
+ghost use Rattle.grant_machine.specs.Steps.{step};
+ghost use Rattle.grant_machine.specs.Fits.{FitsCommand};
+ghost use Rattle.grant_machine.specs.Runs.{IsReached};
+ghost use Rattle.grant_machine.specs.Lent.{row_of, IsLent, IsUnicast, IsOfTable, IsOfKind, due_times_set, requests_taken};
+ghost use Rattle.grant_machine.specs.Plans.{IsFilledBy, elements_in};
+
+use crate::drawing;
+use crate::output::{MapBytes, Output};
+use crate::placing::Filling;
+use crate::waiting::{by_priority, place_requests};
+use crate::rows::{copy_flows, copy_requests, set_due_times, take_granted};
+use crate::services::{Service, serve};
+use flow_state::{Channel, ChannelRow, Flow, Flows, Refusal, Waiting};
+use minislot_time::Slot;
+use std::alloc::{AllocError, Global};
+
+/// Times in commands are at most this.
+const LAST_TIME: u64 = 1 << 62;
+
+/// A MAP has at most so many minislots.
+const MOST_MINISLOTS: u16 = 4096;
+
+/// A channel's next MAP, filled; its flows with their next due times; its requests by arrival, and
+/// by priority.
+#[derive(Drop)]
+pub struct Filled {
+    filling: Filling,
+    flows: Vec<Flow>,
+    waiting: Vec<Waiting>,
+    requests: Vec<Waiting>,
+}
+
+/// May a channel's next MAP have this length, start and Ack Time?
+fn is_within_limits(row: &ChannelRow, len: u16, not_before: u64, ack: u64) -> bool
+    requires { row.now.next_start ≤ last_time }
+    ensures { result ≡ is_none (fill_refusal row.now len not_before ack) }
+{
+    let start = row.next_start.max(not_before);
+    1 <= len
+        && len <= MOST_MINISLOTS
+        && not_before <= LAST_TIME
+        && ack <= LAST_TIME
+        && start + u64::from(len) <= LAST_TIME
+}
+
+/// Places unsolicited grants, then polls, then requests in their order.
+fn place_all(channel: &Channel, filling: &mut Filling, flows: &mut [Flow], requests: &[Waiting]) -> Result<(), AllocError>
+    requires empty { filling.old.placements ≡ [] }
+    requires lent { AllByRecursion IsLent flows.old }
+    requires unicast { AllByRecursion IsUnicast requests.now }
+    ensures span { filling.new.span ≡ filling.old.span }
+    ensures placed { OnOk result ((t : Table) (ack : ℕ) → IsOfTable t channel.now flows.old requests.now → filling.new.placements ≡ (fill_span t filling.old.span ack).placements) }
+    ensures flows { OnOk result ((t : Table) (ack : ℕ) → IsOfTable t channel.now flows.old requests.now → map row_of flows.new ≡ (fill_span t filling.old.span ack).flows) }
+    ensures lent { OnOk result (AllByRecursion IsLent flows.new) }
+{
+    serve(Service::Grants, channel, filling, flows)?;
+    serve(Service::Polls, channel, filling, flows)?;
+    place_requests(filling, channel, requests)?;
+    Ok(())
+}
+
+/// Fills a channel's next MAP.
+fn fill(alloc: Global, flows: &Flows, ch: u8, channel: &Channel, start: u64, len: u16) -> Result<Filled, AllocError>
+    requires reached { IsReached flows.now }
+    requires channel { (t : Table) → table_of flows.now ch ≡ Some t → t.row.channel ≡ channel.now }
+    requires short { len ≤ 4096 }
+    requires early { start + len ≤ last_time }
+    ensures { IfOk result (λ filled. (t : Table) → table_of flows.now ch ≡ Some t → IsFilledBy t (record { start = start; len = len }) filled) }
+{
+    let mut served = copy_flows(alloc, flows, ch)?;
+    let waiting = copy_requests(alloc, flows, ch)?;
+    let requests = by_priority(alloc, &served, &waiting)?;
+    let mut filling = Filling::new(alloc, start, len)?;
+    place_all(channel, &mut filling, &mut served, &requests)?;
+    Ok(Filled {
+        filling,
+        flows: served,
+        waiting,
+        requests,
+    })
+}
+
+/// Sets the due times, takes the granted requests out, and closes the MAP. It takes no memory.
+fn close(flows: &mut Flows, ch: u8, filled: &Filled, ack: u64)
+    requires lent { AllByRecursion IsLent filled.now.flows.items }
+    requires kinds { AllByRecursion (IsOfKind flows.old ch) filled.now.flows.items }
+    ensures { flows.new ≡ with_cut_closed (requests_taken (due_times_set flows.old ch filled.now.flows.items) ch filled.now.filling.placements filled.now.waiting.items) ch (end_of filled.now.filling.span) ack }
+{
+    set_due_times(flows, ch, &filled.flows);
+    take_granted(flows, ch, filled.filling.placements(), &filled.waiting);
+    flows.close_cut(ch, filled.filling.end(), ack);
+}
+
+/// The bytes of a filled MAP's body.
+fn draw(alloc: Global, channel: &Channel, filled: &Filled, start: Slot, ack: Slot) -> Result<Vec<u8>, AllocError>
+    requires unicast { AllByRecursion IsUnicast filled.now.requests.items }
+    requires sound { AreElements (elements_in channel.now filled.now) }
+    requires few { length (elements_in channel.now filled.now) ≤ 255 }
+    ensures { IfOk result (λ bytes. bytes.items ≡ layout (head_of channel.now start ack) (elements_in channel.now filled.now) 0) }
+{
+    let elements = drawing::elements_of(alloc, channel, &filled.filling, &filled.requests)?;
+    let head = drawing::head_of(channel, start, ack);
+    drawing::bytes_of(alloc, head, elements)
+}
+
+/// Makes a channel's next MAP, which is within the limits.
+fn cut_row(flows: &mut Flows, alloc: Global, ch: u8, row: ChannelRow, len: u16, not_before: u64, ack: u64) -> Result<Output, AllocError>
+    requires reached { IsReached flows.old }
+    requires there { channel_at flows.old ch ≡ Some row }
+    requires good { fill_refusal row len not_before ack ≡ None }
+    ensures output { IfOk result (λ output. output ≡ (step flows.old (commands.Cut ch len not_before ack)).output) }
+    ensures rows { OnOk result (flows.new ≡ (step flows.old (commands.Cut ch len not_before ack)).rows) }
+    ensures err { OnErr result (flows.new ≡ flows.old) }
+{
+    let start = row.next_start.max(not_before);
+    let ack_time = row.ack.max(ack.min(start));
+    let filled = fill(alloc, flows, ch, &row.channel, start, len)?;
+    let slot = Slot::new(start).unwrap();
+    let bytes = draw(alloc, &row.channel, &filled, slot, Slot::new(ack_time).unwrap())?;
+    close(flows, ch, &filled, ack_time);
+    Ok(Output::Map {
+        ch,
+        start: slot,
+        len,
+        bytes: MapBytes::new(bytes),
+    })
+}
+
+/// Makes a channel's next MAP.
+pub fn cut(flows: &mut Flows, alloc: Global, ch: u8, len: u16, not_before: u64, ack: u64) -> Result<Output, AllocError>
+    requires { IsReached flows.old }
+    ensures output { IfOk result (λ output. output ≡ (step flows.old (commands.Cut ch len not_before ack)).output) }
+    ensures fits { FitsCommand (commands.Cut ch len not_before ack) }
+    ensures rows { OnOk result (flows.new ≡ (step flows.old (commands.Cut ch len not_before ack)).rows) }
+    ensures err { OnErr result (flows.new ≡ flows.old) }
+{
+    let Some(row) = flows.channel(ch) else {
+        return Ok(Output::Refused(Refusal::NoChannel.number()));
+    };
+    let row = *row;
+    if !is_within_limits(&row, len, not_before, ack) {
+        return Ok(Output::Refused(Refusal::BadValue.number()));
+    }
+    cut_row(flows, alloc, ch, row, len, not_before, ack)
+}

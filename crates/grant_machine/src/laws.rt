@@ -1,0 +1,67 @@
+//! What holds of every list of commands.
+
+ghost use Rattle.grant_machine.specs.Laws.{MapsAreDisjoint, SidsAreForGood, UnsolicitedGrantsAreDue, RequestsAreGrantedOnce, OtherGrantsAreDue, GrantsAreTold, CellsAreGranted};
+ghost use Rattle.grant_machine.specs.Laws.{OutputsGoOn, MapsAreBodies, SharedMapsAreOne, SidsAreUnicast, OwnersAreOne};
+
+/// A minislot of a channel lies in one MAP at most.
+pub fn maps_are_disjoint()
+    ensures { MapsAreDisjoint }
+{}
+
+/// A SID of a channel is one modem's for good.
+pub fn sids_are_for_good()
+    ensures { SidsAreForGood }
+{}
+
+/// The grants of an unsolicited grant flow, in order, begin within the jitter of due times whose
+/// numbers rise.
+pub fn unsolicited_grants_are_due()
+    ensures { UnsolicitedGrantsAreDue }
+{}
+
+/// A request is accepted once at most, and granted once at most; what is granted was accepted, and
+/// is granted whole.
+pub fn requests_are_granted_once()
+    ensures { RequestsAreGrantedOnce }
+{}
+
+/// What isn't granted to a request is granted at a due time of an unsolicited grant flow or of a
+/// polled one.
+pub fn other_grants_are_due()
+    ensures { OtherGrantsAreDue }
+{}
+
+/// Each grant is told by the MAP that placed it.
+pub fn grants_are_told()
+    ensures { GrantsAreTold }
+{}
+
+/// What a MAP gives to one SID is part of a grant to it.
+pub fn cells_are_granted()
+    ensures { CellsAreGranted }
+{}
+
+/// A minislot has one owner at most.
+pub fn owners_are_one()
+    ensures { OwnersAreOne }
+{}
+
+/// One output a command, and the outputs of a longer list begin with those of its beginning.
+pub fn outputs_go_on()
+    ensures { OutputsGoOn }
+{}
+
+/// Each MAP's bytes are its body.
+pub fn maps_are_bodies()
+    ensures { MapsAreBodies }
+{}
+
+/// Two MAPs of a channel that share a minislot are the same.
+pub fn shared_maps_are_one()
+    ensures { SharedMapsAreOne }
+{}
+
+/// SIDs that are given are unicast ones, 1 to 8191.
+pub fn sids_are_unicast()
+    ensures { SidsAreUnicast }
+{}

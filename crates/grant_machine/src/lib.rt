@@ -1,0 +1,28 @@
+//! The scheduler as a machine: commands in, outputs out.
+#![tactic(auto)]
+
+mod cells;
+mod command;
+mod cut;
+mod drawing;
+mod due_times;
+mod laws;
+mod machine;
+mod output;
+mod placing;
+mod refusals;
+mod rows;
+mod services;
+mod waiting;
+
+pub use command::Command;
+pub use laws::{
+    cells_are_granted, grants_are_told, maps_are_bodies, maps_are_disjoint, other_grants_are_due,
+    outputs_go_on, owners_are_one, requests_are_granted_once, shared_maps_are_one,
+    sids_are_for_good, sids_are_unicast, unsolicited_grants_are_due,
+};
+pub use machine::Machine;
+pub use output::{MapBytes, Output, again};
+
+#[cfg(test)]
+mod tests;

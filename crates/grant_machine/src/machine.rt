@@ -1,0 +1,71 @@
+use crate::command::Command;
+use crate::cut;
+use crate::output::Output;
+use crate::refusals::{add_flow, drop_flow, request, set_channel};
+use flow_state::Flows;
+use std::alloc::{AllocError, Global};
+use std::marker::Model;
+
+/// The scheduler. What it holds is what some commands leave.
+#[derive(Drop)]
+pub struct Machine {
+    flows: Flows,
+    alloc: Global,
+}
+
+impl Model for Machine {
+    ghost use Rattle.flow_state.specs.Rows.{Rows};
+
+    ghost Value = { Rows };
+
+    ghost use Rattle.grant_machine.specs.Runs.{IsReached};
+
+    ghost view = { λ a. a.flows };
+
+    ghost invariant = { λ a. IsReached a.flows };
+}
+
+impl Machine {
+    ghost use Rattle.std.specs.Prelude.{◌≡◌, [], IsOk, IfOk, OnOk, OnErr};
+    ghost use Rattle.grant_machine.specs.Steps.{step, TakesNoMemory};
+    ghost use Rattle.grant_machine.specs.Runs.{IsReached};
+
+    /// No channel is set.
+    pub fn new(alloc: Global) -> Machine
+        ensures { result ≡ [] }
+    {
+        Machine {
+            flows: Flows::new(alloc),
+            alloc,
+        }
+    }
+
+    /// Takes a command: its output, and the rows after it. Where there is no memory nothing changes.
+    pub fn apply(&mut self, command: &Command) -> Result<Output, AllocError>
+        ensures output { IfOk result (λ output. output ≡ (step self.old command.now).output) }
+        ensures rows { OnOk result (self.new ≡ (step self.old command.now).rows) }
+        ensures err { OnErr result (self.new ≡ self.old) }
+        ensures reached { IsReached self.new }
+        ensures no_memory { TakesNoMemory self.old command.now → IsOk result }
+    {
+        let flows = &mut self.flows;
+        match *command {
+            Command::Noop => Ok(Output::Nothing),
+            Command::Channel(channel) => set_channel(flows, channel),
+            Command::Flow {
+                ch,
+                modem,
+                tag,
+                kind,
+            } => add_flow(flows, ch, modem, tag, kind),
+            Command::Drop { ch, sid } => drop_flow(flows, ch, sid),
+            Command::Request { ch, sid, n, sent } => request(flows, ch, sid, n, sent),
+            Command::Cut {
+                ch,
+                len,
+                not_before,
+                ack,
+            } => cut::cut(flows, self.alloc, ch, len, not_before, ack),
+        }
+    }
+}

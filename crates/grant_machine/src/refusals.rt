@@ -1,0 +1,82 @@
+//! Commands on the rows, and their refusals as outputs.
+
+ghost use Rattle.std.specs.Prelude.{◌≡◌, ◌≢◌, IsTrue, IsOk, IfOk, OnOk, OnErr};
+ghost use Rattle.flow_state.specs.declared.refusal.Refusal.TheVariants.{OutOfMemory};
+ghost use Rattle.flow_state.specs.Refusals.{number_of};
+ghost use Rattle.flow_state.specs.Changes.{is_known};
+ghost use Rattle.grant_machine.specs.declared.command.Command.TheVariants as commands;
+ghost use Rattle.grant_machine.specs.declared.output.Output.TheVariants as outputs;
+ghost use Rattle.grant_machine.specs.Steps.{step};
+ghost use Rattle.grant_machine.specs.Fits.{FitsCommand};
+
+use crate::output::Output;
+use flow_state::{Channel, FlowKind, Flows, Refusal};
+use std::alloc::AllocError;
+
+/// A refusal as an output. Want of memory has none.
+fn refused(refusal: Refusal) -> Result<Output, AllocError>
+    ensures told { IfOk result (λ output. output ≡ outputs.Refused (number_of refusal)) }
+    ensures some { OnOk result (refusal ≢ OutOfMemory) }
+    ensures none { OnErr result (refusal ≡ OutOfMemory) }
+{
+    match refusal {
+        Refusal::OutOfMemory => Err(AllocError),
+        _ => Ok(Output::Refused(refusal.number())),
+    }
+}
+
+/// Sets a channel.
+pub fn set_channel(flows: &mut Flows, channel: Channel) -> Result<Output, AllocError>
+    ensures output { IfOk result (λ output. output ≡ (step flows.old (commands.Channel channel)).output) }
+    ensures fits { FitsCommand (commands.Channel channel) }
+    ensures rows { OnOk result (flows.new ≡ (step flows.old (commands.Channel channel)).rows) }
+    ensures err { OnErr result (flows.new ≡ flows.old) }
+{
+    match flows.set_channel(channel) {
+        Ok(()) => Ok(Output::ChannelSet {
+            ch: channel.id,
+            ucd: channel.ucd,
+        }),
+        Err(refusal) => refused(refusal),
+    }
+}
+
+/// Adds a flow of a modem, under a tag of its own.
+pub fn add_flow(flows: &mut Flows, ch: u8, modem: u32, tag: u32, kind: FlowKind) -> Result<Output, AllocError>
+    ensures output { IfOk result (λ output. output ≡ (step flows.old (commands.Flow ch modem tag kind)).output) }
+    ensures fits { FitsCommand (commands.Flow ch modem tag kind) }
+    ensures rows { OnOk result (flows.new ≡ (step flows.old (commands.Flow ch modem tag kind)).rows) }
+    ensures err { OnErr result (flows.new ≡ flows.old) }
+    ensures known { IsTrue (is_known flows.old ch modem tag) → IsOk result }
+{
+    match flows.add_flow(ch, modem, tag, kind) {
+        Ok(sid) => Ok(Output::Assigned { modem, ch, sid }),
+        Err(refusal) => refused(refusal),
+    }
+}
+
+/// Drops a flow. It takes no memory.
+pub fn drop_flow(flows: &mut Flows, ch: u8, sid: u16) -> Result<Output, AllocError>
+    ensures output { IfOk result (λ output. output ≡ (step flows.old (commands.Drop ch sid)).output) }
+    ensures fits { FitsCommand (commands.Drop ch sid) }
+    ensures rows { OnOk result (flows.new ≡ (step flows.old (commands.Drop ch sid)).rows) }
+    ensures ok { IsOk result }
+{
+    match flows.drop_flow(ch, sid) {
+        Ok(()) => Ok(Output::Nothing),
+        Err(refusal) => Ok(Output::Refused(refusal.number())),
+    }
+}
+
+/// Accepts a request for n minislots that was sent at a time.
+pub fn request(flows: &mut Flows, ch: u8, sid: u16, n: u16, sent: u64) -> Result<Output, AllocError>
+    ensures output { IfOk result (λ output. output ≡ (step flows.old (commands.Request ch sid n sent)).output) }
+    ensures fits { FitsCommand (commands.Request ch sid n sent) }
+    ensures rows { OnOk result (flows.new ≡ (step flows.old (commands.Request ch sid n sent)).rows) }
+    ensures err { OnErr result (flows.new ≡ flows.old) }
+{
+    match flows.request(ch, sid, n, sent) {
+        Ok(()) => Ok(Output::Nothing),
+        Err(refusal) => refused(refusal),
+    }
+}

@@ -1,0 +1,56 @@
+//! What a cut reads of the rows, and writes back.
+
+ghost use Rattle.std.specs.Prelude.{◌≡◌, IfOk};
+ghost use Rattle.std.specs.List.{AllByRecursion};
+ghost use Rattle.flow_state.specs.Limits.{due_time, due_index};
+ghost use Rattle.flow_state.specs.Rows.{table_of};
+ghost use Rattle.grant_machine.specs.Lent.{IsLent, flows_on, requests_on, due_times_set, requests_taken, IsOfKind};
+
+use crate::placing::Placement;
+use crate::waiting::is_granted;
+use flow_state::{Flow, Flows, Waiting};
+use std::alloc::{AllocError, Global};
+
+/// The flows of a channel, by SID.
+pub fn copy_flows(alloc: Global, flows: &Flows, ch: u8) -> Result<Vec<Flow>, AllocError>
+    ensures { IfOk result (λ copied. copied.items ≡ flows_on (table_of flows.now ch)) }
+{
+    let mut copied = Vec::new(alloc);
+    while let Some(flow) = flows.flow(ch, copied.len()) {
+        copied.push(*flow)?;
+    }
+    Ok(copied)
+}
+
+/// The waiting requests of a channel, by arrival.
+pub fn copy_requests(alloc: Global, flows: &Flows, ch: u8) -> Result<Vec<Waiting>, AllocError>
+    ensures { IfOk result (λ copied. copied.items ≡ requests_on (table_of flows.now ch)) }
+{
+    let mut copied = Vec::new(alloc);
+    while let Some(request) = flows.waiting(ch, copied.len()) {
+        copied.push(*request)?;
+    }
+    Ok(copied)
+}
+
+/// Sets the next due times of a channel's flows.
+pub fn set_due_times(flows: &mut Flows, ch: u8, served: &[Flow])
+    requires lent { AllByRecursion IsLent served.now }
+    requires kinds { AllByRecursion (IsOfKind flows.old ch) served.now }
+    ensures { flows.new ≡ due_times_set flows.old ch served.now }
+{
+    for flow in served {
+        flows.set_due(ch, flow.sid, flow.due);
+    }
+}
+
+/// Takes the requests that are granted out of those that wait.
+pub fn take_granted(flows: &mut Flows, ch: u8, placements: &[Placement], requests: &[Waiting])
+    ensures { flows.new ≡ requests_taken flows.old ch placements.now requests.now }
+{
+    for request in requests {
+        if is_granted(placements, request) {
+            flows.granted(ch, request.sid);
+        }
+    }
+}

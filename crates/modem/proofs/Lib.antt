@@ -1,0 +1,11 @@
+pub mod Times
+pub mod CellList
+pub mod Parts
+pub mod Least
+pub mod AtCell
+pub mod Made
+pub mod Clocks
+pub mod Stands
+pub mod Given
+pub mod Owned
+pub mod Transmits

@@ -1,0 +1,54 @@
+-- What a modem holds, it owns.
+use Rattle.std.proofs.Common.{◌≡◌, ℕ, ◌-◌, ◌≤◌, List, [], ◌∷◌, inl, inr, sym, ◌∙◌, subst, arith, Contains}
+use Rattle.minislot_time.specs.Wire.{IsNear}
+use Rattle.modem.proofs.Times.{near_once}
+use Rattle.map_body.specs.Body.{Body}
+use Rattle.map_body.specs.Cell.{IsCell}
+use Rattle.map_body.proofs.Readings.{one_body}
+use Rattle.grant_machine.specs.declared.output.Output.{Output}
+use Rattle.grant_machine.specs.declared.output.Output.TheVariants.{Nothing, ChannelSet, Assigned, Map as MapOutput, Refused}
+use Rattle.grant_machine.specs.Owner.{Owns}
+use Rattle.modem.specs.Held.{Hearing, Held, HeldBy, Gives, WasAssigned}
+use Rattle.modem.specs.Owner.{IsSchedule, IsMapOf, IsTimely, HeardFrom}
+
+-- what was heard to be assigned was assigned
+assigned_of : (outputs : List Output) (id : ℕ) (hearings : List Hearing) (ch sid : ℕ) → HeardFrom outputs hearings → WasAssigned id hearings ch sid → Contains outputs (Assigned id ch sid)
+assigned_of outputs id [] ch sid heard was = absurd was
+assigned_of outputs id (h ∷ earlier) ch sid heard was =
+    elim was [ inl e ↦ subst (λ (o : Output). Contains outputs o) e heard.0 | inr before ↦ assigned_of outputs id earlier ch sid heard.2 before ]
+
+-- a Map that gives a cell near its start owns it
+owner_of : (outputs : List Output) (id : ℕ) (o : Output) (near ch m sid iuc : ℕ) → IsSchedule outputs → Contains outputs o → IsTimely o near → Gives o near ch m sid iuc → Contains outputs (Assigned id ch sid) → Owns outputs ch m id
+owner_of outputs id Nothing near ch m sid iuc schedule is_output timely gives assigned = absurd gives
+owner_of outputs id (Refused n) near ch m sid iuc schedule is_output timely gives assigned = absurd gives
+owner_of outputs id (ChannelSet c u) near ch m sid iuc schedule is_output timely gives assigned = absurd gives
+owner_of outputs id (Assigned a c s) near ch m sid iuc schedule is_output timely gives assigned = absurd gives
+owner_of outputs id (MapOutput c start len bytes) near ch m sid iuc schedule is_output timely (map, begin, starts, given) assigned =
+    let facts = schedule.maps c start len bytes is_output in
+    let one : facts.0 ≡ map = one_body bytes facts.0 map facts.1.body starts.body in
+    let P : Body → Type 0 = λ o. IsMapOf c start bytes o in
+    let here : IsMapOf c start bytes map = subst P one facts.1 in
+    let near_start : IsNear map.head.start near start = record { low = here.start_is; not_earlier = omega (arith, timely.0); earlier = timely.1; fits = here.bound } in
+    let same : begin ≡ start = near_once map.head.start near begin start starts.extension near_start in
+    let channel : c ≡ ch = sym here.channel ∙ given.channel in
+    let O : ℕ → Type 0 = λ n. Contains outputs (MapOutput n start len bytes) in
+    let B : ℕ → Type 0 = λ n. n ≤ m in
+    let C : ℕ → Type 0 = λ n. IsCell map (m - n) given.cell.0 in
+    let same_sid : given.cell.0.sid ≡ sid = given.cell.2 in
+    let A : ℕ → Type 0 = λ n. Contains outputs (Assigned id ch n) in
+    let U : ℕ → Type 0 = λ n. (1 ≤ n) × (n ≤ 8191) in
+    record {
+      element = given.cell.0;
+      given = record { start = start; len = len; bytes = bytes; map = map; told = subst O channel is_output; body = starts.body; begun = subst B same given.from; cell = subst C same given.cell.1 };
+      unicast = subst U (sym same_sid) (schedule.unicast id ch sid assigned);
+      assigned = subst A (sym same_sid) assigned;
+    }
+
+-- what a modem that heard outputs of a schedule holds, it owns
+pub held_is_owned : (outputs : List Output) (id : ℕ) (hearings : List Hearing) (ch m sid iuc : ℕ) → IsSchedule outputs → HeardFrom outputs hearings → HeldBy id hearings ch m sid iuc → Owns outputs ch m id
+held_is_owned outputs id [] ch m sid iuc schedule heard held = absurd held
+held_is_owned outputs id (h ∷ earlier) ch m sid iuc schedule heard held =
+    elim held [ inl now ↦ owner_of outputs id h.output h.near ch m sid iuc schedule heard.0 heard.1 now.1 (assigned_of outputs id earlier ch sid heard.2 now.2) | inr before ↦ held_is_owned outputs id earlier ch m sid iuc schedule heard.2 before ]
+
+pub all_held_is_owned : (outputs : List Output) (hearings : List Hearing) (id ch m sid : ℕ) → IsSchedule outputs → HeardFrom outputs hearings → Held id hearings ch m sid → Owns outputs ch m id
+all_held_is_owned outputs hearings id ch m sid schedule heard held = held_is_owned outputs id hearings ch m sid held.0 schedule heard held.1

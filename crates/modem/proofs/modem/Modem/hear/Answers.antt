@@ -1,0 +1,11 @@
+use Rattle.grant_machine.specs.declared.output.Output.TheVariants.{ChannelSet, Map as MapOutput}
+use Rattle.modem.proofs.Stands.{stands_if_ok}
+use Rattle.modem.proofs.modem.Modem.hear.Goals as goal
+
+pub returns-in-ChannelSet-clause-stands : goal.returns-in-ChannelSet-clause-stands
+returns-in-ChannelSet-clause-stands c =
+    rw c.in-ChannelSet.is (stands_if_ok c.hear_channel.result c.args.self.now c.hear_channel.new.self (ChannelSet c.in-ChannelSet.ch c.in-ChannelSet.ucd) c.args.near c.hear_channel.ensures.ok)
+
+pub returns-in-Map-clause-stands : goal.returns-in-Map-clause-stands
+returns-in-Map-clause-stands c =
+    rw c.in-Map.is (stands_if_ok c.hear_map.result c.args.self.now c.hear_map.new.self (MapOutput c.in-Map.ch c.in-Map.start c.in-Map.len c.in-Map.bytes) c.args.near (rw c.as_slice.ensures at c.hear_map.ensures.ok))

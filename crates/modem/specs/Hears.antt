@@ -1,0 +1,72 @@
+-- What hearing an output does, by cases.
+use Rattle.std.specs.Prelude.{◌≡◌, ℕ, ◌+◌, ◌^◌, ◌<◌, ◌≤◌, max, true, ◌==◌, List, Option, Some, None, ◌⊎◌, ◌↔◌, MatchBool}
+use Rattle.std.specs.List.{filter_map}
+use Rattle.minislot_time.specs.Wire.{IsNear}
+use Rattle.modem.specs.Elements.{null_offset}
+use Rattle.map_body.specs.Body.{Body}
+use Rattle.map_body.specs.Layout.{IsBody}
+use Rattle.grant_machine.specs.declared.output.Output.{Output}
+use Rattle.grant_machine.specs.declared.output.Output.TheVariants.{Nothing, ChannelSet, Assigned, Map as MapOutput, Refused}
+use Rattle.modem.specs.declared.types.Channel.{Channel}
+use Rattle.modem.specs.declared.types.Heard.{Heard}
+use Rattle.modem.specs.declared.types.Heard.TheVariants.{Taken, NotMine, OtherUcd, Past, Unreadable}
+use Rattle.modem.specs.State.{State, HasAt, is_own, with_sid, with_ucd, with_channel, channel_of, clock_of, everybody}
+use Rattle.modem.specs.Intervals.{decided}
+use Rattle.modem.specs.Held.{GivesCell}
+
+-- the map's 64-bit start near a time and its end, which is the Null's offset later; both are below 2^63
+pub record IsExtent (near : ℕ) (map : Body) (start «end» : ℕ) : Type 0 where
+  pub extension : IsNear map.head.start near start
+  pub null : (len : ℕ) × (null_offset map.elements ≡ Some len) × («end» ≡ start + len)
+  pub bound : «end» < 2 ^ 63
+
+-- the bytes can be read near a time: a map, its start and its end
+pub record Reads (bytes : List ℕ) (near : ℕ) (map : Body) (start «end» : ℕ) : Type 0 where
+  pub body : IsBody bytes map
+  pub extent : IsExtent near map start «end»
+
+-- from the clock on, the new state holds what the old one held, and its request minislots are the same
+pub record KeepsHeld (old new : State) : Type 0 where
+  pub grants : (ch m sid iuc : ℕ) → clock_of new.channels ch ≤ m → HasAt new.grants ch m sid iuc ↔ HasAt old.grants ch m sid iuc
+  pub open_to_all : (ch m : ℕ) → clock_of new.channels ch ≤ m → HasAt new.open_to_all ch m everybody 1 ↔ HasAt old.open_to_all ch m everybody 1
+
+-- the map, heard too late, moves the clock of its channel and nothing else
+pub record Passes (old : State) (c : Channel) (near : ℕ) (new : State) : Type 0 where
+  pub id : new.id ≡ old.id
+  pub channels : new.channels ≡ with_channel (record c { clock = max c.clock near }) old.channels
+  pub sids : new.sids ≡ old.sids
+  pub held : KeepsHeld old new
+  pub wants : new.wants ≡ old.wants
+
+-- the time up to which the map acknowledges requests, extended near its start; None where there is no such time
+abbrev pub IsAckTime : ℕ → ℕ → Option ℕ → Type 0
+IsAckTime wire start None = (t : ℕ) → ¬ IsNear wire start t
+IsAckTime wire start (Some t) = IsNear wire start t
+
+-- the map is taken: what it gives the modem's SIDs and what it opens to all is held from then on, its back-offs are the channel's, and it decides wants
+pub record Takes (old : State) (c : Channel) (near : ℕ) (map : Body) (start : ℕ) (new : State) : Type 0 where
+  pub id : new.id ≡ old.id
+  pub channels : new.channels ≡ with_channel (record c { clock = max c.clock near; backoff = map.head.data_backoff }) old.channels
+  pub sids : new.sids ≡ old.sids
+  pub grants : (ch m sid iuc : ℕ) → clock_of new.channels ch ≤ m → HasAt new.grants ch m sid iuc ↔ (HasAt old.grants ch m sid iuc ⊎ (is_own old.sids ch sid ≡ true) × GivesCell map start ch m sid iuc)
+  pub open_to_all : (ch m : ℕ) → clock_of new.channels ch ≤ m → HasAt new.open_to_all ch m everybody 1 ↔ (HasAt old.open_to_all ch m everybody 1 ⊎ GivesCell map start ch m everybody 1)
+  pub wants : (ack : Option ℕ) × IsAckTime map.head.ack start ack × (new.wants ≡ filter_map (decided map.elements map.head.channel ack) old.wants)
+
+-- a modem that hears the bytes of a map near a time gives this answer and becomes new
+abbrev pub HearsMap : State → List ℕ → ℕ → Heard → State → Type 0
+HearsMap old bytes near Unreadable new = ((map : Body) (start «end» : ℕ) → ¬ Reads bytes near map start «end») × (new ≡ old)
+HearsMap old bytes near OtherUcd new = (map : Body) × (start : ℕ) × («end» : ℕ) × Reads bytes near map start «end» × ((c : Channel) → channel_of old.channels map.head.channel ≡ Some c → c.ucd ≡ map.head.ucd → ⊥) × (new ≡ old)
+HearsMap old bytes near Past new = (map : Body) × (start : ℕ) × («end» : ℕ) × Reads bytes near map start «end» × (c : Channel) × (channel_of old.channels map.head.channel ≡ Some c) × (c.ucd ≡ map.head.ucd) × («end» ≤ max c.clock near) × Passes old c near new
+HearsMap old bytes near Taken new = (map : Body) × (start : ℕ) × («end» : ℕ) × Reads bytes near map start «end» × (c : Channel) × (channel_of old.channels map.head.channel ≡ Some c) × (c.ucd ≡ map.head.ucd) × (max c.clock near < «end») × Takes old c near map start new
+HearsMap old bytes near NotMine new = ⊥
+
+-- a modem that hears an output near a time gives this answer and becomes new
+abbrev pub Hears : State → Output → ℕ → Heard → State → Type 0
+Hears old Nothing near answer new = (answer ≡ NotMine) × (new ≡ old)
+Hears old (Refused _) near answer new = (answer ≡ NotMine) × (new ≡ old)
+Hears old (ChannelSet ch ucd) near answer new = (answer ≡ Taken) × (new ≡ record old { channels = with_ucd old.channels ch ucd (channel_of old.channels ch) })
+Hears old (Assigned modem ch sid) near answer new =
+    MatchBool (modem == old.id)
+    ((answer ≡ Taken) × (new ≡ record old { sids = with_sid old.sids ch sid }))
+    ((answer ≡ NotMine) × (new ≡ old))
+Hears old (MapOutput _ _ _ bytes) near answer new = HearsMap old bytes near answer new

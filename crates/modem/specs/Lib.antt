@@ -1,0 +1,10 @@
+pub mod State
+pub mod Elements
+pub mod Cells
+pub mod Wants
+pub mod Intervals
+pub mod Held
+pub mod Hears
+pub mod Ticks
+pub mod Steps
+pub mod Owner

@@ -1,0 +1,47 @@
+-- A modem's wants: at most one request of a SID, sent or not yet.
+use Rattle.std.specs.Prelude.{◌≡◌, ◌≢◌, ℕ, ◌≤◌, Bool, true, false, ◌==◌, ◌&&◌, ◌||◌, not, nat_lt, if◌then◌else◌, List, map, find, Option, Some, None}
+use Rattle.std.specs.List.{list_any}
+use Rattle.modem.specs.declared.types.Progress.{Progress}
+use Rattle.modem.specs.declared.types.Progress.TheVariants.{Unsent, Sent}
+use Rattle.modem.specs.declared.types.Want.{Want}
+use Rattle.modem.specs.declared.types.WantFault.{WantFault}
+use Rattle.modem.specs.declared.types.WantFault.TheVariants.{NotMine, Waiting, BadSize, OutOfMemory}
+use Rattle.modem.specs.State.{State, is_own}
+
+abbrev pub is_want : ℕ → ℕ → Want → Bool
+is_want ch sid w = (w.channel == ch) && (w.sid == sid)
+
+abbrev pub is_unsent : Progress → Bool
+is_unsent (Unsent drawn) = true
+is_unsent (Sent «at») = false
+
+-- the unsent want of a SID
+abbrev pub unsent_of : List Want → ℕ → ℕ → Option Want
+unsent_of wants ch sid = find (λ w. is_want ch sid w && is_unsent w.progress) wants
+
+-- the wants with this one in place of the one of its SID
+abbrev pub with_want : Want → List Want → List Want
+with_want row wants = map (λ w. if is_want row.channel row.sid w then row else w) wants
+
+-- of the SIDs of a channel that have an unsent want, the least one's; None where none has
+abbrev pub IsLeastUnsent : List Want → ℕ → Option Want → Type 0
+IsLeastUnsent wants ch None = (sid : ℕ) → unsent_of wants ch sid ≡ None
+IsLeastUnsent wants ch (Some w) = (unsent_of wants ch w.sid ≡ Some w) × ((sid : ℕ) → unsent_of wants ch sid ≢ None → w.sid ≤ sid)
+
+-- a request that is wanted anew
+abbrev pub new_want : ℕ → ℕ → ℕ → Want
+new_want ch sid n = record { channel = ch; sid = sid; n = n; tries = 0; progress = Unsent None }
+
+-- why a request isn't taken: the first that applies
+abbrev pub want_refusal : State → ℕ → ℕ → ℕ → Option WantFault
+want_refusal v ch sid n =
+    if not (is_own v.sids ch sid) then Some NotMine
+    else (if nat_lt n 1 || nat_lt 255 n then Some BadSize
+    else (if list_any (is_want ch sid) v.wants then Some Waiting else None))
+
+-- the number of a fault
+abbrev pub number_of_fault : WantFault → ℕ
+number_of_fault NotMine = 1
+number_of_fault Waiting = 2
+number_of_fault BadSize = 3
+number_of_fault OutOfMemory = 4

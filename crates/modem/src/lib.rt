@@ -1,0 +1,17 @@
+//! A cable modem's part in upstream bandwidth allocation: it hears MAPs, keeps what they give it, and says what it sends at each minislot.
+#![tactic(auto)]
+
+mod cells;
+mod channels;
+mod intervals;
+mod modem;
+mod owner;
+pub mod types;
+mod wants;
+
+pub use modem::Modem;
+pub use owner::one_owner;
+pub use types::{Heard, Sending, TimeBack, WantFault};
+
+#[cfg(test)]
+mod tests;

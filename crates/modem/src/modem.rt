@@ -1,0 +1,288 @@
+//! The modem core, which keeps what it heard as a plain list of cells.
+
+ghost use Rattle.std.specs.Prelude.{◌≡◌, ℕ, ◌<◌, ◌≤◌, None, Some, Ok, Err, OnOk, OnErr, IfOk, IfErr, IfSome, IfNone, IsOkAnd, IsErr, List, true, ◌∷◌, ◌++◌, [], ◌⊎◌, ◌==◌, MatchBool};
+ghost use Rattle.map_body.specs.declared.fault.MapFault.TheVariants.{OutOfMemory};
+ghost use Rattle.map_body.specs.Body.{Body};
+ghost use Rattle.map_body.specs.Layout.{IsBody};
+ghost use Rattle.std.specs.Option.{option_map};
+ghost use Rattle.modem.specs.declared.types.Channel.{Channel};
+ghost use Rattle.modem.specs.State.{new_modem, channel_of, with_ucd, with_sid};
+ghost use Rattle.modem.specs.Held.{StandsFor, Hearing, Held, unicast_sid};
+ghost use Rattle.modem.specs.Hears.{Hears, HearsMap, Takes};
+ghost use Rattle.modem.specs.Wants.{want_refusal, new_want};
+ghost use Rattle.modem.specs.Ticks.{Ticks};
+
+use crate::cells::{self, Cell};
+use crate::types::{Channel, Heard, OwnSid, Progress, Sending, TimeBack, Want, WantFault};
+use crate::{channels, intervals, wants};
+use grant_machine::Output;
+use map_body::{MapBody, MapFault, decode};
+use minislot_time::Slot;
+use std::alloc::{AllocError, Global};
+use std::marker::Model;
+
+fn is_memory(fault: MapFault) -> bool
+    ensures { fault ≡ OutOfMemory → result ≡ true }
+{
+    matches!(fault, MapFault::OutOfMemory)
+}
+
+// The map that bytes are, if they are one.
+fn read(alloc: Global, bytes: &[u8]) -> Result<Option<MapBody>, AllocError>
+    ensures read { IfOk result (λ found. IfSome found (IsBody bytes.now)) }
+    ensures unreadable { IfOk result (λ found. IfNone found ((map : Body) → ¬ IsBody bytes.now map)) }
+{
+    match decode(alloc, bytes) {
+        Ok(map) => Ok(Some(map)),
+        Err(fault) => {
+            if is_memory(fault) {
+                Err(AllocError)
+            } else {
+                Ok(None)
+            }
+        }
+    }
+}
+
+/// A modem: it hears outputs, takes wants, and answers each tick with what it sends.
+#[derive(Drop)]
+pub struct Modem {
+    id: u32,
+    channels: Vec<Channel>,
+    sids: Vec<OwnSid>,
+    grants: Vec<Cell>,
+    open_to_all: Vec<Cell>,
+    wants: Vec<Want>,
+}
+
+impl Model for Modem {
+    ghost use Rattle.std.specs.Prelude.{map};
+    ghost use Rattle.modem.specs.State.{State};
+    ghost use Rattle.modem.specs.Cells.{kept_cell};
+
+    ghost Value = { State };
+
+    ghost view = { λ m. record { id = m.id; channels = m.channels.items; sids = m.sids.items; grants = map kept_cell m.grants.items; open_to_all = map kept_cell m.open_to_all.items; wants = m.wants.items } };
+}
+
+impl Modem {
+    /// A modem with this id, which has heard nothing.
+    pub fn new(alloc: Global, id: u32) -> Modem
+        ensures value { result ≡ new_modem id }
+        ensures stands { StandsFor result [] }
+    {
+        Modem {
+            id,
+            channels: Vec::new(alloc),
+            sids: Vec::new(alloc),
+            grants: Vec::new(alloc),
+            open_to_all: Vec::new(alloc),
+            wants: Vec::new(alloc),
+        }
+    }
+
+    /// The modem's clock on a channel that it knows: no tick before this minislot is taken.
+    pub fn clock(&self, ch: u8) -> Option<u64>
+        ensures { result ≡ option_map (λ (c : Channel). c.clock) (channel_of self.now.channels ch) }
+    {
+        match channels::find(self.channels.as_slice(), ch) {
+            Some(channel) => Some(channel.clock),
+            None => None,
+        }
+    }
+
+    /// Takes a request of n minislots, 1 to 255, for a SID of the modem's.
+    pub fn want(&mut self, ch: u8, sid: u16, n: u16) -> Result<(), WantFault>
+        ensures ok { OnOk result ((want_refusal self.old ch sid n ≡ None) × (self.new ≡ record self.old { wants = self.old.wants ++ new_want ch sid n ∷ [] })) }
+        ensures err { IfErr result (λ e. (self.new ≡ self.old) × ((want_refusal self.old ch sid n ≡ Some e) ⊎ ((want_refusal self.old ch sid n ≡ None) × (e ≡ WantFault.OutOfMemory)))) }
+        ensures stands { (hearings : List Hearing) → StandsFor self.old hearings → StandsFor self.new hearings }
+    {
+        if !channels::is_own(self.sids.as_slice(), ch, sid) {
+            return Err(WantFault::NotMine);
+        }
+        if n < 1 || 255 < n {
+            return Err(WantFault::BadSize);
+        }
+        if wants::has_want(self.wants.as_slice(), ch, sid) {
+            return Err(WantFault::Waiting);
+        }
+        let want = Want {
+            channel: ch,
+            sid,
+            n,
+            tries: 0,
+            progress: Progress::Unsent(None),
+        };
+        match self.wants.push(want) {
+            Ok(()) => Ok(()),
+            Err(_) => Err(WantFault::OutOfMemory),
+        }
+    }
+
+    /// What the modem sends at a minislot of a channel: by a grant of its own, else at a poll, else a request
+    /// where all may send one (truncated binary exponential back-off; CM-SP-MULPIv3.1, upstream bandwidth
+    /// allocation). It takes no memory.
+    pub fn tick(&mut self, ch: u8, slot: Slot, random: u64) -> Result<Option<Sending>, TimeBack>
+        ensures unknown { channel_of self.old.channels ch ≡ None → (result ≡ Ok None) × (self.new ≡ self.old) }
+        ensures back { IfSome (channel_of self.old.channels ch) (λ c. slot < c.clock → IsErr result × (self.new ≡ self.old)) }
+        ensures ticks { IfSome (channel_of self.old.channels ch) (λ c. c.clock ≤ slot → IsOkAnd result (λ sending. Ticks self.old c slot random sending self.new)) }
+        ensures held { IfOk result (λ sending. (hearings : List Hearing) (sid : ℕ) → StandsFor self.old hearings → unicast_sid sending ≡ Some sid → Held self.old.id hearings ch slot sid) }
+        ensures stands { (hearings : List Hearing) → StandsFor self.old hearings → StandsFor self.new hearings }
+    {
+        let Some(channel) = channels::find(self.channels.as_slice(), ch) else {
+            return Ok(None);
+        };
+        let at = slot.get();
+        if at < channel.clock {
+            return Err(TimeBack);
+        }
+        let counted = cells::counted(self.grants.as_slice(), channel.id, at);
+        let open = cells::is_open(self.open_to_all.as_slice(), channel.id, at);
+        let sending = wants::send(&mut self.wants, channel, at, random, counted, open);
+        channels::set(
+            &mut self.channels,
+            Channel {
+                clock: at + 1,
+                ..channel
+            },
+        );
+        Ok(sending)
+    }
+
+    /// Hears an output near a time. Of a Map only the bytes are looked at.
+    pub fn hear(&mut self, output: &Output, near: Slot) -> Result<Heard, AllocError>
+        ensures ok { IfOk result (λ answer. Hears self.old output.now near answer self.new) }
+        ensures err { OnErr result (self.new ≡ self.old) }
+        ensures stands { IfOk result (λ answer. (hearings : List Hearing) → StandsFor self.old hearings → StandsFor self.new (record { output = output.now; near = near; answer = answer } ∷ hearings)) }
+    {
+        match output {
+            Output::Nothing => Ok(Heard::NotMine),
+            Output::Refused(_) => Ok(Heard::NotMine),
+            Output::ChannelSet { ch, ucd } => self.hear_channel(*ch, *ucd),
+            Output::Assigned { modem, ch, sid } => self.hear_assigned(*modem, *ch, *sid),
+            Output::Map {
+                ch: _,
+                start: _,
+                len: _,
+                bytes,
+            } => self.hear_map(bytes.as_slice(), near),
+        }
+    }
+
+    fn hear_channel(&mut self, ch: u8, ucd: u8) -> Result<Heard, AllocError>
+        ensures ok { IfOk result (λ answer. (answer ≡ Heard.Taken) × (self.new ≡ record self.old { channels = with_ucd self.old.channels ch ucd (channel_of self.old.channels ch) })) }
+        ensures err { OnErr result (self.new ≡ self.old) }
+    {
+        match channels::find(self.channels.as_slice(), ch) {
+            Some(channel) => {
+                channels::set(&mut self.channels, Channel { ucd, ..channel });
+                Ok(Heard::Taken)
+            }
+            None => {
+                self.channels.push(Channel {
+                    id: ch,
+                    ucd,
+                    clock: 0,
+                    backoff: (0, 0),
+                })?;
+                Ok(Heard::Taken)
+            }
+        }
+    }
+
+    fn hear_assigned(&mut self, modem: u32, ch: u8, sid: u16) -> Result<Heard, AllocError>
+        ensures ok { IfOk result (λ answer. MatchBool (modem == self.old.id) ((answer ≡ Heard.Taken) × (self.new ≡ record self.old { sids = with_sid self.old.sids ch sid })) ((answer ≡ Heard.NotMine) × (self.new ≡ self.old))) }
+        ensures err { OnErr result (self.new ≡ self.old) }
+    {
+        if modem != self.id {
+            return Ok(Heard::NotMine);
+        }
+        if channels::is_own(self.sids.as_slice(), ch, sid) {
+            return Ok(Heard::Taken);
+        }
+        self.sids.push(OwnSid { channel: ch, sid })?;
+        Ok(Heard::Taken)
+    }
+
+    fn hear_map(&mut self, bytes: &[u8], near: Slot) -> Result<Heard, AllocError>
+        ensures ok { IfOk result (λ answer. HearsMap self.old bytes.now near answer self.new) }
+        ensures err { OnErr result (self.new ≡ self.old) }
+    {
+        let alloc = *self.wants.allocator();
+        let Some(map) = read(alloc, bytes)? else {
+            return Ok(Heard::Unreadable);
+        };
+        let Some((start, end)) = intervals::extent(&map, near) else {
+            return Ok(Heard::Unreadable);
+        };
+        let head = *map.head();
+        let Some(channel) = channels::find(self.channels.as_slice(), head.channel) else {
+            return Ok(Heard::OtherUcd);
+        };
+        if channel.ucd != head.ucd {
+            return Ok(Heard::OtherUcd);
+        }
+        let clock = channel.clock.max(near.get());
+        if end <= clock {
+            channels::set(&mut self.channels, Channel { clock, ..channel });
+            return Ok(Heard::Past);
+        }
+        self.take(&map, start, channel, near)?;
+        Ok(Heard::Taken)
+    }
+
+    // Keeps what a map gives, and lets it decide wants. All that takes memory comes first.
+    fn take(
+        &mut self,
+        map: &MapBody,
+        start: Slot,
+        channel: Channel,
+        near: Slot,
+    ) -> Result<(), AllocError>
+        ensures ok { OnOk result (Takes self.old channel near map.now start self.new) }
+        ensures err { OnErr result (self.new ≡ self.old) }
+    {
+        let alloc = *self.wants.allocator();
+        let head = *map.head();
+        let heard = intervals::intervals(alloc, map.elements())?;
+        let own = intervals::own(alloc, heard.as_slice(), self.sids.as_slice(), head.channel)?;
+        let open = intervals::open_to_all(alloc, heard.as_slice())?;
+        let first = start.get();
+        let grants = cells::with_cells(
+            alloc,
+            self.grants.as_slice(),
+            head.channel,
+            first,
+            own.as_slice(),
+        )?;
+        let open_to_all = cells::with_cells(
+            alloc,
+            self.open_to_all.as_slice(),
+            head.channel,
+            first,
+            open.as_slice(),
+        )?;
+        let ack = intervals::ack_time(head.ack, start);
+        let wants = wants::decided(
+            alloc,
+            self.wants.as_slice(),
+            heard.as_slice(),
+            map.elements(),
+            head.channel,
+            ack,
+        )?;
+        self.grants = grants;
+        self.open_to_all = open_to_all;
+        self.wants = wants;
+        let clock = channel.clock.max(near.get());
+        channels::set(
+            &mut self.channels,
+            Channel {
+                clock,
+                backoff: head.data_backoff,
+                ..channel
+            },
+        );
+        Ok(())
+    }
+}

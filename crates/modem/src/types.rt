@@ -1,0 +1,108 @@
+//! The types of a modem's interface.
+
+ghost use Rattle.std.specs.Prelude.{◌≡◌};
+ghost use Rattle.modem.specs.Wants.{number_of_fault};
+
+use thiserror::Error;
+
+/// A channel that the modem knows: its UCD Count, its clock (a minislot) and the latest data back-offs, start
+/// and end.
+#[derive(Clone, Copy, Debug, PartialEq, Eq)]
+pub struct Channel {
+    pub id: u8,
+    pub ucd: u8,
+    pub clock: u64,
+    pub backoff: (u8, u8),
+}
+
+/// A SID of the modem's on a channel.
+#[derive(Clone, Copy, Debug, PartialEq, Eq)]
+pub struct OwnSid {
+    pub channel: u8,
+    pub sid: u16,
+}
+
+/// How far a want has come.
+#[derive(Clone, Copy, Debug, PartialEq, Eq)]
+pub enum Progress {
+    /// Not sent; the request minislots that it still lets pass, once drawn.
+    Unsent(Option<u16>),
+    /// Sent at this minislot.
+    Sent(u64),
+}
+
+/// A request that the modem wants to send, or has sent.
+#[derive(Clone, Copy, Debug, PartialEq, Eq)]
+pub struct Want {
+    pub channel: u8,
+    pub sid: u16,
+    pub n: u16,
+    pub tries: u8,
+    pub progress: Progress,
+}
+
+/// An element of a map before the Null, with the offset at which it ends.
+#[derive(Clone, Copy, Debug, PartialEq, Eq)]
+pub struct Interval {
+    pub sid: u16,
+    pub iuc: u8,
+    pub from: u16,
+    pub to: u16,
+}
+
+/// The answer to an output that is heard: it is taken; it is for another modem; it is a MAP of a channel
+/// that isn't known or of another UCD Count, one that has ended, or one that can't be read near that time.
+#[derive(Clone, Copy, Debug, PartialEq, Eq)]
+pub enum Heard {
+    Taken,
+    NotMine,
+    OtherUcd,
+    Past,
+    Unreadable,
+}
+
+/// Why a want is refused. The tests come in the order NotMine, BadSize, Waiting, OutOfMemory.
+#[derive(Clone, Copy, Debug, PartialEq, Eq, Error)]
+pub enum WantFault {
+    /// The SID isn't the modem's.
+    #[error("NotMine")]
+    NotMine,
+    /// A want of the SID is there.
+    #[error("Waiting")]
+    Waiting,
+    /// It isn't 1 to 255 minislots.
+    #[error("BadSize")]
+    BadSize,
+    #[error("OutOfMemory")]
+    OutOfMemory,
+}
+
+impl WantFault {
+    /// The number of the fault, from 1.
+    pub fn number(self) -> u8
+        ensures { result ≡ number_of_fault self }
+    {
+        match self {
+            WantFault::NotMine => 1,
+            WantFault::Waiting => 2,
+            WantFault::BadSize => 3,
+            WantFault::OutOfMemory => 4,
+        }
+    }
+}
+
+/// What is sent at a minislot.
+#[derive(Clone, Copy, Debug, PartialEq, Eq)]
+pub enum Sending {
+    /// A grant is used.
+    Unicast(u16),
+    /// A request at a poll.
+    Polled(u16, u16),
+    /// A request in a minislot that is open to all.
+    Request(u16, u16),
+}
+
+/// A tick before the channel's clock.
+#[derive(Clone, Copy, Debug, PartialEq, Eq, Error)]
+#[error("TimeBack")]
+pub struct TimeBack;

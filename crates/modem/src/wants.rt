@@ -1,0 +1,266 @@
+//! A modem's wants, over slices.
+
+ghost use Rattle.std.specs.Prelude.{◌≡◌, ℕ, ◌+◌, ◌-◌, ◌<◌, ◌≤◌, ◌==◌, ◌&&◌, if◌then◌else◌, IfOk, Option, Some, None};
+ghost use Rattle.std.specs.List.{filter_map, list_any};
+ghost use Rattle.modem.specs.declared.types.Want.{Want};
+ghost use Rattle.modem.specs.Wants.{is_want, is_unsent, unsent_of, with_want, IsLeastUnsent};
+ghost use Rattle.modem.specs.Intervals.{intervals, is_decision, is_granted, is_pending, is_acknowledged, lost, decided};
+ghost use Rattle.modem.specs.Steps.{lesser};
+ghost use Rattle.modem.specs.Ticks.{number_of, sent_at, Polls, Contends, SendsBy};
+
+use crate::types::{Channel, Interval, Progress, Sending, Want};
+use map_body::Element;
+use std::alloc::{AllocError, Global};
+
+fn is_of(want: &Want, ch: u8, sid: u16) -> bool
+    ensures { result ≡ is_want ch sid want.now }
+{
+    want.channel == ch && want.sid == sid
+}
+
+fn is_unsent(progress: Progress) -> bool
+    ensures { result ≡ is_unsent progress }
+{
+    match progress {
+        Progress::Unsent(_) => true,
+        Progress::Sent(_) => false,
+    }
+}
+
+pub(crate) fn has_want(wants: &[Want], ch: u8, sid: u16) -> bool
+    ensures { result ≡ list_any (is_want ch sid) wants.now }
+{
+    wants.iter().any(|w| is_of(w, ch, sid))
+}
+
+fn unsent(wants: &[Want], ch: u8, sid: u16) -> Option<Want>
+    ensures { result ≡ unsent_of wants.now ch sid }
+{
+    for want in wants {
+        if is_of(want, ch, sid) && is_unsent(want.progress) {
+            return Some(*want);
+        }
+    }
+    None
+}
+
+fn lesser(ch: u8, least: Option<Want>, want: Want) -> Option<Want>
+    ensures { result ≡ lesser ch least want }
+{
+    if want.channel != ch || !is_unsent(want.progress) {
+        return least;
+    }
+    let Some(best) = least else {
+        return Some(want);
+    };
+    if best.sid <= want.sid {
+        Some(best)
+    } else {
+        Some(want)
+    }
+}
+
+fn least_unsent(wants: &[Want], ch: u8) -> Option<Want>
+    ensures { IsLeastUnsent wants.now ch result }
+{
+    let mut least: Option<Want> = None;
+    for want in wants {
+        least = lesser(ch, least, *want);
+    }
+    least
+}
+
+fn chosen(want: Want, row: Want) -> Want
+    ensures { result ≡ (if is_want row.channel row.sid want then row else want) }
+{
+    if is_of(&want, row.channel, row.sid) {
+        row
+    } else {
+        want
+    }
+}
+
+#[tactic(auto, using(std::proofs::lemmas::List::Edits::map_over_more))]
+fn set(wants: &mut [Want], row: Want)
+    ensures { wants.new ≡ with_want row wants.old }
+{
+    for want in wants.iter_mut() {
+        *want = chosen(*want, row);
+    }
+}
+
+// The number of request minislots that an unsent want lets pass.
+fn number_of(channel: Channel, want: Want, random: u64) -> u16
+    ensures { result ≡ number_of channel want random want.progress }
+{
+    match want.progress {
+        Progress::Unsent(Some(number)) => number,
+        Progress::Unsent(None) => {
+            let exponent = (u16::from(channel.backoff.0) + u16::from(want.tries))
+                .min(u16::from(channel.backoff.1))
+                .min(15);
+            (random % (1u64 << exponent)) as u16
+        }
+        Progress::Sent(_) => 0,
+    }
+}
+
+fn send_now(wants: &mut [Want], want: Want, at: u64)
+    ensures { wants.new ≡ with_want (sent_at at want) wants.old }
+{
+    let progress = Progress::Sent(at);
+    set(wants, Want { progress, ..want });
+}
+
+fn wait(wants: &mut [Want], want: Want, number: u16)
+    ensures { wants.new ≡ with_want (record want { progress = Progress.Unsent (Some number) }) wants.old }
+{
+    let progress = Progress::Unsent(Some(number));
+    set(wants, Want { progress, ..want });
+}
+
+// The unsent want of the least SID takes part in a request minislot.
+fn share(wants: &mut [Want], channel: Channel, at: u64, random: u64) -> Option<Sending>
+    ensures { (least : Option Want) × IsLeastUnsent wants.old channel.id least × Contends wants.old channel at random result wants.new least }
+{
+    let want = least_unsent(wants, channel.id)?;
+    let number = number_of(channel, want, random);
+    if number == 0 {
+        send_now(wants, want, at);
+        Some(Sending::Request(want.sid, want.n))
+    } else {
+        wait(wants, want, number - 1);
+        None
+    }
+}
+
+fn poll(wants: &mut [Want], channel: Channel, sid: u16, at: u64) -> Option<Sending>
+    ensures { Polls wants.old sid at result wants.new (unsent_of wants.old channel.id sid) }
+{
+    let want = unsent(wants, channel.id, sid)?;
+    send_now(wants, want, at);
+    Some(Sending::Polled(sid, want.n))
+}
+
+/// What is sent at a minislot by the SID and IUC that count there, or in a request minislot.
+pub(crate) fn send(
+    wants: &mut Vec<Want>,
+    channel: Channel,
+    at: u64,
+    random: u64,
+    counted: Option<(u16, u8)>,
+    is_open: bool,
+) -> Option<Sending>
+    ensures { SendsBy wants.old.items channel at random is_open result wants.new.items counted }
+{
+    send_of(wants.as_mut_slice(), channel, at, random, counted, is_open)
+}
+
+fn send_of(
+    wants: &mut [Want],
+    channel: Channel,
+    at: u64,
+    random: u64,
+    counted: Option<(u16, u8)>,
+    is_open: bool,
+) -> Option<Sending>
+    ensures { SendsBy wants.old channel at random is_open result wants.new counted }
+{
+    match counted {
+        Some((sid, 5 | 6)) => Some(Sending::Unicast(sid)),
+        Some((sid, 1)) => poll(wants, channel, sid, at),
+        _ if is_open => share(wants, channel, at, random),
+        _ => None,
+    }
+}
+
+fn is_granted(heard: &[Interval], elements: &[Element], sid: u16) -> bool
+    requires { heard.now ≡ intervals elements.now }
+    ensures { result ≡ is_granted elements.now sid }
+{
+    heard.iter().any(|i| i.sid == sid && ((i.iuc == 5 || i.iuc == 6) && i.from < i.to))
+}
+
+fn has_grant(elements: &[Element], sid: u16) -> bool
+    ensures { result ≡ list_any (λ e. (e.sid == sid) && is_decision e.iuc) elements.now }
+{
+    elements.iter().any(|e| e.sid.get() == sid && (e.iuc.get() == 5 || e.iuc.get() == 6))
+}
+
+fn is_pending(elements: &[Element], sid: u16) -> bool
+    ensures { result ≡ is_pending elements.now sid }
+{
+    for (i, e) in elements.iter().enumerate() {
+        if e.iuc.get() == 7 {
+            return has_grant(&elements[i + 1..], sid);
+        }
+    }
+    false
+}
+
+fn is_acknowledged(want: &Want, ch: u8, ack: Option<u64>) -> bool
+    ensures { result ≡ is_acknowledged ch ack want.now want.now.progress }
+{
+    let Some(ack) = ack else {
+        return false;
+    };
+    match want.progress {
+        Progress::Sent(at) => want.channel == ch && at < ack,
+        Progress::Unsent(_) => false,
+    }
+}
+
+fn lost(want: Want) -> Option<Want>
+    ensures { result ≡ lost want }
+{
+    if want.tries >= 15 {
+        return None;
+    }
+    let progress = Progress::Unsent(None);
+    let tries = want.tries + 1;
+    Some(Want {
+        tries,
+        progress,
+        ..want
+    })
+}
+
+fn decide(
+    want: Want,
+    heard: &[Interval],
+    elements: &[Element],
+    ch: u8,
+    ack: Option<u64>,
+) -> Option<Want>
+    requires { heard.now ≡ intervals elements.now }
+    ensures { result ≡ decided elements.now ch ack want }
+{
+    if !is_acknowledged(&want, ch, ack) {
+        Some(want)
+    } else if is_granted(heard, elements, want.sid) {
+        None
+    } else if is_pending(elements, want.sid) {
+        Some(want)
+    } else {
+        lost(want)
+    }
+}
+
+/// The wants after a map has decided them.
+pub(crate) fn decided(
+    alloc: Global,
+    wants: &[Want],
+    heard: &[Interval],
+    elements: &[Element],
+    ch: u8,
+    ack: Option<u64>,
+) -> Result<Vec<Want>, AllocError>
+    requires { heard.now ≡ intervals elements.now }
+    ensures { IfOk result (λ v. v.items ≡ filter_map (decided elements.now ch ack) wants.now) }
+{
+    let left = wants
+        .iter()
+        .filter_map(|w| decide(*w, heard, elements, ch, ack))
+        .collect(alloc)?;
+    Ok(left)
+}

@@ -1,0 +1,112 @@
+-- Each event can be answered: the computed run of a script in which nothing fails is a run.
+use Rattle.std.proofs.Common.{◌≡◌, ◌⊎◌, inl, inr, ℕ, ◌+◌, ◌-◌, ◌*◌, ◌/◌, ◌%◌, ◌^◌, ◌<◌, ◌≤◌, max, nat_lt, nat_le, List, [], ◌++◌, length, refl, sym, ◌∙◌, ap, arith, append-nil, Option, Some, None, Result, Ok, Err, slice_get}
+use Rattle.std.proofs.lemmas.Bool.{cond_both, ltb-true, ltb-false, leb-true, leb-false}
+use Rattle.std.proofs.lemmas.Option.{slice_get_within}
+use Rattle.ballots.specs.Ballots.{IsBallotOf, IsLeastAbove, NoneAbove}
+use Rattle.ballots.specs.declared.letters.Letter.{Letter}
+use Rattle.node.specs.View.{View, Standing, gapless}
+use Rattle.node.specs.View.Standing.{Running, Stopped}
+use Rattle.proposer.specs.declared.fault.NodeFault.{NodeFault as Fault}
+use Rattle.proposer.specs.declared.fault.NodeFault.TheVariants as fault
+use Rattle.node.specs.Step.{Outcome, receive, offer, limit, last_place, Leads}
+use Rattle.network_script.specs.declared.event.Event.TheVariants as event
+use Rattle.network_script.specs.declared.event.Answer.{Answer}
+use Rattle.network_script.specs.declared.event.Answer.TheVariants as answer
+use Rattle.network_script.specs.declared.event.Refusal.TheVariants as refusal
+use Rattle.network_script.specs.declared.event.Transmission.{Transmission}
+use Rattle.network_script.specs.World.{Receiver, Written}
+use Rattle.network_script.specs.Modems.{OfModem}
+use Rattle.network_script.specs.Next.{Fails, Ends, Asks, Restarts, Next}
+use Rattle.network_script.specs.Plain as plain
+use Rattle.network_script.specs.Plain.{least_ballot, lead_at, lead, act, EachIsAnswered}
+
+-- what is told of the least ballot
+abbrev IsToldLeast : ℕ → ℕ → Option ℕ → Type 0
+IsToldLeast above node None = NoneAbove above node
+IsToldLeast above node (Some b) = IsLeastAbove above node b
+
+above_least : (above node round : ℕ) → node < 8 → round ≡ max 1 ((above + 8 - node) / 8) → above < round * 8 + node
+above_least above node round small is = omega arith
+
+least_least : (above node round c : ℕ) → node < 8 → round ≡ max 1 ((above + 8 - node) / 8) → 8 ≤ c → c % 8 ≡ node → above < c → round * 8 + node ≤ c
+least_least above node round c small is from node_is higher = omega arith
+
+least_ballot_tells : (above node : ℕ) → node < 8 → IsToldLeast above node (least_ballot above node)
+least_ballot_tells above node small =
+    cond_both (nat_lt round (2 ^ 40)) (Some (round * 8 + node)) None (λ o. IsToldLeast above node o)
+    (λ less. let low : round < 2 ^ 40 = ltb-true round (2 ^ 40) less in
+    ((omega arith, omega arith, omega arith), above_least above node round small refl, λ c of_node higher. least_least above node round c small refl of_node.0 of_node.2 higher))
+    (λ no c of_node. let high : 2 ^ 40 ≤ round = ltb-false round (2 ^ 40) no in none c of_node high (le_or_above c above))
+  where
+    round : ℕ
+    round = max 1 ((above + 8 - node) / 8)
+
+    le_or_above : (a b : ℕ) → (a ≤ b) ⊎ (b < a)
+    le_or_above a b = grind arith
+
+    none : (c : ℕ) → IsBallotOf node c → 2 ^ 40 ≤ round → (c ≤ above) ⊎ (above < c) → c ≤ above
+    none c of_node high (inl le) = le
+    none c of_node high (inr higher) = let least : round * 8 + node ≤ c = least_least above node round c small refl of_node.0 of_node.2 higher in absurd (omega (arith, of_node.1))
+
+leads_so : (members k : ℕ) (view : View) (o : Option ℕ) → length (gapless view) < last_place → IsToldLeast (limit view) k o → Leads members k view (lead_at members k view o)
+leads_so members k view None room told = inr (refl, room, told)
+leads_so members k view (Some b) room told = (room, (b, told, refl))
+
+lead_leads : (members k : ℕ) (view : View) → k < 8 → Leads members k view (lead members k view)
+lead_leads members k view small =
+    cond_both (nat_le last_place (length (gapless view))) (Err fault.LogFull) (lead_at members k view (least_ballot (limit view) k)) (λ course. Leads members k view course) (λ full. inl (refl, leb-true last_place (length (gapless view)) full))
+    (λ room. leads_so members k view (least_ballot (limit view) k) (leb-false last_place (length (gapless view)) room) (least_ballot_tells (limit view) k small))
+
+fails_so : (w : Written) (k : ℕ) (view : View) (IsCourse : Result Outcome Fault → Type 0) (f : Fault) → IsCourse (Err f) → Fails w k view IsCourse f (plain.after_fault w k view f)
+fails_so w k view IsCourse fault.OutOfMemory is = refl
+fails_so w k view IsCourse fault.StoreRefused is = refl
+fails_so w k view IsCourse fault.Down is = inl refl
+fails_so w k view IsCourse fault.NotLeading is = (is, refl)
+fails_so w k view IsCourse fault.LogFull is = (is, refl)
+fails_so w k view IsCourse fault.RoundsSpent is = (is, refl)
+fails_so w k view IsCourse fault.ValueTooLong is = (is, refl)
+
+ends_so : (w : Written) (k : ℕ) (view : View) (IsCourse : Result Outcome Fault → Type 0) (course : Result Outcome Fault) → IsCourse course → Ends w k view IsCourse (plain.ends w k view course).0 (plain.ends w k view course).1
+ends_so w k view IsCourse (Ok o) is = (o, is, refl, refl)
+ends_so w k view IsCourse (Err f) is = fails_so w k view IsCourse f is
+
+asks_so : (w : Written) (Goes : View → Answer → Written → Type 0) (go : View → Answer × Written) (there : Option Standing) → ((view : View) → there ≡ Some (Running view) → Goes view (go view).0 (go view).1)
+    → Asks w there Goes (plain.asks w there go).0 (plain.asks w there go).1
+asks_so w Goes go None each = (refl, refl)
+asks_so w Goes go (Some (Stopped c doubt)) each = (refl, refl)
+asks_so w Goes go (Some (Running view)) each = each view refl
+
+restarts_so : (w : Written) (k : ℕ) (there : Option Standing) → Restarts w k there (plain.restarts w k there).0 (plain.restarts w k there).1
+restarts_so w k None = (refl, refl)
+restarts_so w k (Some (Running view)) = (refl, refl)
+restarts_so w k (Some (Stopped c doubt)) = inl refl
+
+module _ (members : ℕ) (w : Written) where
+  takes_so : (i : ℕ) (letter : Option Letter) → slice_get w.letters i ≡ letter → Next members w (event.Deliver i) (act members w (event.Deliver i)).0 (act members w (event.Deliver i)).1
+  takes_so i None is = rw is (refl, refl)
+  takes_so i (Some l) is = rw is (asks_so w _ _ (slice_get w.nodes l.to) (λ view here. ends_so w l.to view (λ course. course ≡ Ok (receive members l.to view l)) (Ok (receive members l.to view l)) refl))
+
+  takes_then_crashes_so : (i : ℕ) (letter : Option Letter) → slice_get w.letters i ≡ letter → Next members w (event.DeliverThenCrash i) (act members w (event.DeliverThenCrash i)).0 (act members w (event.DeliverThenCrash i)).1
+  takes_then_crashes_so i None is = rw is (refl, refl)
+  takes_then_crashes_so i (Some l) is = rw is (asks_so w _ _ (slice_get w.nodes l.to) (λ view here. (receive members l.to view l, refl, refl)))
+
+no_modems_so : (modems : List Receiver) (m : ℕ) (Does : Receiver → Answer → Receiver → Type 0) → modems ≡ [] → OfModem modems m (slice_get modems m) Does (answer.Refused refusal.NoModem) modems
+no_modems_so modems m Does none = rw none (refl, refl)
+
+same_world : (w : Written) (more : List Transmission) → more ≡ [] → w ≡ record w { modems = w.modems; transmissions = w.transmissions ++ more }
+same_world w more none = λ i. record w { transmissions = (sym (append-nil w.transmissions) ∙ ap (λ (ts : List Transmission). w.transmissions ++ ts) (sym none)) i }
+
+pub each_is_answered : EachIsAnswered
+each_is_answered w (event.Lead k) few none =
+    asks_so w _ _ (slice_get w.nodes k) (λ view here.
+    ends_so w k view (Leads (length w.nodes) k view) (lead (length w.nodes) k view) (lead_leads (length w.nodes) k view (let within : k < length w.nodes = slice_get_within w.nodes k (Running view) here in omega arith)))
+each_is_answered w (event.Offer k value) few none =
+    asks_so w _ _ (slice_get w.nodes k) (λ view here. ends_so w k view (λ course. course ≡ offer (length w.nodes) k view view.role value) (offer (length w.nodes) k view view.role value) refl)
+each_is_answered w (event.Deliver i) few none = takes_so (length w.nodes) w i (slice_get w.letters i) refl
+each_is_answered w (event.DeliverThenCrash i) few none = takes_then_crashes_so (length w.nodes) w i (slice_get w.letters i) refl
+each_is_answered w (event.Crash k) few none = asks_so w _ _ (slice_get w.nodes k) (λ view here. (refl, refl))
+each_is_answered w (event.Restart k) few none = restarts_so w k (slice_get w.nodes k)
+each_is_answered w (event.Release k now) few none = asks_so w _ _ (slice_get w.nodes k) (λ view here. (refl, refl))
+each_is_answered w (event.Hear m i near) few none = (w.modems, no_modems_so w.modems m _ none, same_world w [] refl)
+each_is_answered w (event.Want m ch sid n) few none = (w.modems, no_modems_so w.modems m _ none, same_world w [] refl)
+each_is_answered w (event.Tick m ch slot random) few none = (w.modems, no_modems_so w.modems m _ none, same_world w [] refl)

@@ -1,0 +1,232 @@
+-- Each event of a run keeps the invariant, and moves the world in one of few ways.
+use Rattle.std.proofs.Common.{◌≡◌, ◌⊎◌, inl, inr, ⊎_elim, ℕ, ◌<◌, max, not, ◌&&◌, nat_lt, ◌==◌, List, ◌++◌, drop, refl, sym, subst, Option, Some, None, Result, Ok, Err, slice_get, slice_set}
+use Rattle.std.proofs.lemmas.Bool.{cond_both, and_parts, ltb-true}
+use Rattle.ballots.specs.declared.letters.Note.{Note}
+use Rattle.ballots.specs.declared.letters.Letter.{Letter}
+use Rattle.ballots.specs.declared.letters.Note.TheVariants.{Prepare, Promise, Accept, Voted, Higher, Known}
+use Rattle.ballots.specs.Voting.{Entry, IsIn}
+use Rattle.ballots.specs.Rows.{at}
+use Rattle.acceptor.specs.Content.{Content, Write, record_write}
+use Rattle.command_log.specs.Values.{outputs_of_values}
+use Rattle.node.specs.View.{View, Standing, gapless}
+use Rattle.node.specs.View.Standing.{Running, Stopped}
+use Rattle.proposer.specs.declared.fault.NodeFault.{NodeFault as Fault}
+use Rattle.proposer.specs.declared.fault.NodeFault.TheVariants as fault
+use Rattle.node.specs.Step.{Outcome, nothing, is_heeded, is_sound, heed, receive, offer, Leads}
+use Rattle.network_script.specs.declared.event.Event.{Event}
+use Rattle.network_script.specs.declared.event.Event.TheVariants as event
+use Rattle.network_script.specs.declared.event.Answer.{Answer}
+use Rattle.network_script.specs.declared.event.Answer.TheVariants as answer
+use Rattle.network_script.specs.declared.event.ReleasedOutput.{ReleasedOutput}
+use Rattle.map_release.specs.Released.{numbered, has_ended}
+use Rattle.network_script.specs.Release.{released, released_view}
+use Rattle.network_script.specs.World.{Written, released_by}
+use Rattle.network_script.specs.Modems.{ModemNext, sent_at}
+use Rattle.network_script.specs.Next.{Fails, Ends, EndsInCrash, Releases, Asks, Starts, Restarts, Comes, OnModems, Next}
+use Rattle.network_script.proofs.Invariant.{IsProposed, WriteOk, UpOk, DownOk, LetterOk, Invariant}
+use Rattle.network_script.proofs.Lists.{in_left, in_append, in_filter, get_in}
+use Rattle.network_script.proofs.Kept.{goes_quietly}
+use Rattle.network_script.proofs.Sound.{Sound, whole_kept, lost_kept, broken_kept, restarted_kept}
+use Rattle.network_script.proofs.Acceptors.{nothing_sound, prepare_sound, accept_sound, known_sound}
+use Rattle.network_script.proofs.Learners.{voted_sound, higher_sound}
+use Rattle.network_script.proofs.Proposers.{promise_sound, SoundIfOk, offer_sound, lead_sound}
+use Rattle.network_script.proofs.Outputs.{FromChosen, learned_chosen, in_drop, in_numbered, in_released_by, written_keeps}
+
+module _ (members : ℕ) (h : List Entry) (sent : List Letter) (states : List Standing) (k : ℕ) (view : View) (inv : Invariant members h sent states) (here : slice_get states k ≡ Some (Running view)) where
+  was : UpOk members h sent k view
+  was = inv.nodes k (Running view) here
+
+  heed_sound : (from : ℕ) (note : Note) → from < members → LetterOk members h from note → ((b p : ℕ) (v : List ℕ) → note ≡ Accept b p v → IsProposed sent b p v) → Sound members h sent k view (heed members k view from note)
+  heed_sound from (Prepare b q) member ok proposed = prepare_sound members h sent states k view inv here b q from
+  heed_sound from (Promise b q votes) member ok proposed = promise_sound members h sent states k view inv here view.role b q votes from was.role was.own member ok
+  heed_sound from (Accept b p v) member ok proposed = accept_sound members h sent states k view inv here b p v from (proposed b p v refl)
+  heed_sound from (Voted b p v) member ok proposed = voted_sound members h sent states k view inv here (at view.tally.learned p) b p v from ok
+  heed_sound from (Higher b) member ok proposed = higher_sound members h sent states k view inv here b (max view.hint b) view.role was.role was.own
+  heed_sound from (Known p v) member ok proposed = known_sound members h sent states k view inv here (at view.tally.learned p) p v ok
+
+  -- any sent letter may come
+  receive_sound : (l : Letter) → IsIn sent l → Sound members h sent k view (receive members k view l)
+  receive_sound l sent_it =
+      cond_both (is_heeded members k l) (heed members k view l.from l.note) (nothing view) (λ o. Sound members h sent k view o)
+      (λ heeded.
+      let x = and_parts (nat_lt l.from members && nat_lt l.to members && l.to == k) (is_sound l l.note) heeded in
+      let y = and_parts (nat_lt l.from members && nat_lt l.to members) (l.to == k) x.0 in
+      let z = and_parts (nat_lt l.from members) (nat_lt l.to members) y.0 in
+      heed_sound l.from l.note (ltb-true l.from members z.0) (inv.letters l sent_it) (λ b p v is. (l, sent_it, is)))
+      (λ no. nothing_sound members h sent states k view inv here)
+
+  leads_sound : (course : Result Outcome Fault) → Leads members k view course → SoundIfOk members h sent states k view inv here course
+  leads_sound (Ok o) leads = subst (λ (x : Outcome). Sound members h sent k view x) (sym leads.1.2) (lead_sound members h sent states k view inv here leads.1.0 leads.1.1)
+  leads_sound (Err fault) leads = tt
+
+-- the event keeps the invariant; the history and the outputs only grow, what is newly released is from chosen values, and the modems go on by it or stay
+pub record Moved (members : ℕ) (w : Written) (happens : Event) (told : Answer) (w' : Written) : Type 0 where
+  pub fine : Invariant members w'.history w'.letters w'.nodes
+  pub keeps : (e : Entry) → IsIn w.history e → IsIn w'.history e
+  pub stays : (x : ReleasedOutput) → IsIn w.outputs x → IsIn w'.outputs x
+  pub fresh : (x : ReleasedOutput) → IsIn w'.outputs x → IsIn w.outputs x ⊎ FromChosen members w'.history x
+  pub modems : ((w'.modems ≡ w.modems) × (w'.transmissions ≡ w.transmissions)) ⊎ (ModemNext w.modems w.outputs happens told w'.modems × (w'.transmissions ≡ w.transmissions ++ sent_at happens told))
+
+module _ (members : ℕ) (w : Written) (inv : Invariant members w.history w.letters w.nodes) (happens : Event) where
+  -- what the event may do, whatever is answered
+  abbrev Moves : Answer → Written → Type 0
+  Moves told w' = Moved members w happens told w'
+
+  -- the nodes, the letters and the history change, and nothing else
+  on_nodes : (told : Answer) (nodes : List Standing) (letters : List Letter) (k : ℕ) (write : Option Write) → Invariant members (record_write k write w.history) letters nodes
+      → Moves told (record w { nodes = nodes; letters = letters; history = record_write k write w.history })
+  on_nodes told nodes letters k write fine = record { fine = fine; keeps = written_keeps k write w.history; stays = λ x here. here; fresh = λ x here. inl here; modems = inl (refl, refl) }
+
+  same : (told : Answer) (w' : Written) → w' ≡ w → Moves told w'
+  same told w' is = subst (Moves told) (sym is) (on_nodes told w.nodes w.letters 0 None inv)
+
+  module _ (k : ℕ) (view : View) (here : slice_get w.nodes k ≡ Some (Running view)) where
+    -- a call that is whole does what keeps the invariant
+    abbrev AreSound : (Result Outcome Fault → Type 0) → Type 0
+    AreSound IsCourse = (o : Outcome) → IsCourse (Ok o) → Sound members w.history w.letters k view o
+
+    broken : (told : Answer) (write : Option Write) → WriteOk w.letters view.content write → (w' : Written) → w' ≡ record w { nodes = slice_set w.nodes k (Stopped view.content write) } → Moves told w'
+    broken told write fine w' is = subst (Moves told) (sym is) (on_nodes told _ w.letters k None (broken_kept members w.history w.letters w.nodes k view inv here write fine))
+
+    lost_moves : (told : Answer) (o : Outcome) → Sound members w.history w.letters k view o → (w' : Written)
+        → w' ≡ record w { nodes = slice_set w.nodes k (Stopped o.view.content None); history = record_write k o.write w.history } → Moves told w'
+    lost_moves told o sound w' is = subst (Moves told) (sym is) (on_nodes told _ w.letters k o.write (lost_kept members w.history w.letters w.nodes k view inv here o sound))
+
+    whole_moves : (told : Answer) (o : Outcome) → Sound members w.history w.letters k view o → (w' : Written)
+        → w' ≡ record w { nodes = slice_set w.nodes k (Running o.view); letters = w.letters ++ o.letters; history = record_write k o.write w.history } → Moves told w'
+    whole_moves told o sound w' is = subst (Moves told) (sym is) (on_nodes told _ (w.letters ++ o.letters) k o.write (whole_kept members w.history w.letters w.nodes k view inv here o sound))
+
+    fails : (IsCourse : Result Outcome Fault → Type 0) → AreSound IsCourse → (told : Answer) (f : Fault) (w' : Written) → Fails w k view IsCourse f w' → Moves told w'
+    fails IsCourse sound told fault.OutOfMemory w' is = broken told None tt w' is
+    fails IsCourse sound told fault.StoreRefused w' is = broken told None tt w' is
+    fails IsCourse sound told fault.Down w' (inl is) = broken told None tt w' is
+    fails IsCourse sound told fault.Down w' (inr is) = broken told is.0.write (sound is.0 is.1).write w' is.2
+    fails IsCourse sound told fault.NotLeading w' is = same told w' is.1
+    fails IsCourse sound told fault.LogFull w' is = same told w' is.1
+    fails IsCourse sound told fault.RoundsSpent w' is = same told w' is.1
+    fails IsCourse sound told fault.ValueTooLong w' is = same told w' is.1
+
+    ends : (IsCourse : Result Outcome Fault → Type 0) → AreSound IsCourse → (told : Answer) (w' : Written) → Ends w k view IsCourse told w' → Moves told w'
+    ends IsCourse sound (answer.Sent n) w' is = whole_moves _ is.0 (sound is.0 is.1) w' is.3
+    ends IsCourse sound answer.Crashed w' is = lost_moves _ is.0 (sound is.0 is.1) w' is.3
+    ends IsCourse sound (answer.Fault f) w' is = fails IsCourse sound (answer.Fault f) f w' is
+    ends IsCourse sound answer.Finished w' is = absurd is
+    ends IsCourse sound (answer.Released n) w' is = absurd is
+    ends IsCourse sound (answer.Heard h) w' is = absurd is
+    ends IsCourse sound (answer.Ticked s) w' is = absurd is
+    ends IsCourse sound (answer.WantRefused f) w' is = absurd is
+    ends IsCourse sound (answer.Refused r) w' is = absurd is
+
+    ends_in_crash : (IsCourse : Result Outcome Fault → Type 0) → AreSound IsCourse → (told : Answer) (w' : Written) → EndsInCrash w k view IsCourse told w' → Moves told w'
+    ends_in_crash IsCourse sound answer.Finished w' is = lost_moves _ is.0 (sound is.0 is.1) w' is.2
+    ends_in_crash IsCourse sound (answer.Fault f) w' is = fails IsCourse sound (answer.Fault f) f w' is
+    ends_in_crash IsCourse sound (answer.Sent n) w' is = absurd is
+    ends_in_crash IsCourse sound answer.Crashed w' is = absurd is
+    ends_in_crash IsCourse sound (answer.Released n) w' is = absurd is
+    ends_in_crash IsCourse sound (answer.Heard h) w' is = absurd is
+    ends_in_crash IsCourse sound (answer.Ticked s) w' is = absurd is
+    ends_in_crash IsCourse sound (answer.WantRefused f) w' is = absurd is
+    ends_in_crash IsCourse sound (answer.Refused r) w' is = absurd is
+
+    view_was : UpOk members w.history w.letters k view
+    view_was = inv.nodes k (Running view) here
+
+    -- a view whose cursor has moved
+    releases_sound : Sound members w.history w.letters k view (nothing (released_view view))
+    releases_sound =
+        let s = nothing_sound members w.history w.letters w.nodes k view inv here in
+        record { write = s.write; content = s.content; letters = s.letters; role = s.role; own = s.own; counted = s.counted; learned = s.learned }
+
+    given_from : (now : ℕ) (x : ReleasedOutput) → IsIn (released_by k (released view now)) x → FromChosen members w.history x
+    given_from now x new =
+        let item = in_released_by k (released view now) x new in
+        let kept = (in_filter (λ y. not (has_ended now y.output)) (drop view.cursor (numbered 1 (outputs_of_values (gapless view)))) x.numbered item).0 in
+        (gapless view, learned_chosen members w.history view view_was.learned, in_numbered 1 (outputs_of_values (gapless view)) x.numbered (in_drop view.cursor (numbered 1 (outputs_of_values (gapless view))) x.numbered kept))
+
+    gives : (now : ℕ) (told : Answer) (w' : Written) → w' ≡ record w { nodes = slice_set w.nodes k (Running (released_view view)); outputs = w.outputs ++ released_by k (released view now) } → Moves told w'
+    gives now told w' is = subst (Moves told) (sym is) record {
+      fine = goes_quietly members w.history w.letters w.nodes k (Running view) inv here None (Running (released_view view)) tt
+          record { content = view_was.content; own = view_was.own; role = view_was.role; counted = view_was.counted; learned = view_was.learned };
+      keeps = λ e there. there;
+      stays = λ x there. in_left w.outputs (released_by k (released view now)) x there;
+      fresh = λ x there. ⊎_elim (λ old. inl old) (λ new. inr (given_from now x new)) (in_append w.outputs (released_by k (released view now)) x there);
+      modems = inl (refl, refl);
+    }
+
+    releases : (now : ℕ) (told : Answer) (w' : Written) → Releases w k now view told w' → Moves told w'
+    releases now (answer.Released n) w' is = gives now _ w' is.1
+    releases now answer.Crashed w' is = broken _ None tt w' is.1
+    releases now (answer.Fault f) w' is =
+        fails (λ course. course ≡ Ok (nothing (released_view view))) (λ o course. let e : o ≡ nothing (released_view view) = cc (course) in subst (λ (x : Outcome). Sound members w.history w.letters k view x) (sym e) releases_sound) (answer.Fault f) f w' is
+    releases now (answer.Sent n) w' is = absurd is
+    releases now answer.Finished w' is = absurd is
+    releases now (answer.Heard h) w' is = absurd is
+    releases now (answer.Ticked s) w' is = absurd is
+    releases now (answer.WantRefused f) w' is = absurd is
+    releases now (answer.Refused r) w' is = absurd is
+
+    receives : (l : Letter) → IsIn w.letters l → AreSound (λ course. course ≡ Ok (receive members k view l))
+    receives l sent_it o course =
+        let e : o ≡ receive members k view l = cc (course) in
+        subst (λ (x : Outcome). Sound members w.history w.letters k view x) (sym e) (receive_sound members w.history w.letters w.nodes k view inv here l sent_it)
+
+    offers : (value : List ℕ) → AreSound (λ course. course ≡ offer members k view view.role value)
+    offers value o course =
+        subst (λ (c : Result Outcome Fault). SoundIfOk members w.history w.letters w.nodes k view inv here c) (sym course)
+        (offer_sound members w.history w.letters w.nodes k view inv here view.role value view_was.role view_was.own)
+
+    leads : AreSound (Leads members k view)
+    leads o course = leads_sound members w.history w.letters w.nodes k view inv here (Ok o) course
+
+  asks : (k : ℕ) (Does : View → Answer → Written → Type 0) (told : Answer) (w' : Written) → ((view : View) → slice_get w.nodes k ≡ Some (Running view) → Does view told w' → Moves told w')
+      → (there : Option Standing) → slice_get w.nodes k ≡ there → Asks w there Does told w' → Moves told w'
+  asks k Does told w' moves None is unmoved = same told w' unmoved.1
+  asks k Does told w' moves (Some (Stopped c doubt)) is unmoved = same told w' unmoved.1
+  asks k Does told w' moves (Some (Running view)) is goes = moves view is goes
+
+  starts : (k : ℕ) (c : Content) (doubt : Option Write) → slice_get w.nodes k ≡ Some (Stopped c doubt) → (told : Answer) (w' : Written) → Starts w k c doubt told w' → Moves told w'
+  starts k c doubt is answer.Finished w' (inl without) = subst (Moves _) (sym without) (on_nodes _ _ w.letters k None (restarted_kept members w.history w.letters w.nodes k c doubt None inv is tt))
+  starts k c doubt is answer.Finished w' (inr with_it) =
+      let ok : DownOk w.history w.letters k c doubt = inv.nodes k (Stopped c doubt) is in
+      subst (Moves _) (sym with_it) (on_nodes _ _ w.letters k doubt (restarted_kept members w.history w.letters w.nodes k c doubt doubt inv is ok.doubt))
+  starts k c doubt is (answer.Fault f) w' failed = same _ w' failed.1
+  starts k c doubt is (answer.Sent n) w' none = absurd none
+  starts k c doubt is (answer.Released n) w' none = absurd none
+  starts k c doubt is (answer.Heard h) w' none = absurd none
+  starts k c doubt is (answer.Ticked s) w' none = absurd none
+  starts k c doubt is (answer.WantRefused f) w' none = absurd none
+  starts k c doubt is (answer.Refused r) w' none = absurd none
+  starts k c doubt is answer.Crashed w' none = absurd none
+
+  restarts : (k : ℕ) (told : Answer) (w' : Written) (there : Option Standing) → slice_get w.nodes k ≡ there → Restarts w k there told w' → Moves told w'
+  restarts k told w' None is unmoved = same told w' unmoved.1
+  restarts k told w' (Some (Running view)) is unmoved = same told w' unmoved.1
+  restarts k told w' (Some (Stopped c doubt)) is goes = starts k c doubt is told w' goes
+
+  comes : (i : ℕ) (Takes : Letter → View → Answer → Written → Type 0) (told : Answer) (w' : Written)
+      → ((l : Letter) (view : View) → IsIn w.letters l → slice_get w.nodes l.to ≡ Some (Running view) → Takes l view told w' → Moves told w')
+      → (letter : Option Letter) → slice_get w.letters i ≡ letter → Comes w letter Takes told w' → Moves told w'
+  comes i Takes told w' moves None is unmoved = same told w' unmoved.1
+  comes i Takes told w' moves (Some l) is goes = asks l.to (Takes l) told w' (λ view here does. moves l view (get_in w.letters i l is) here does) (slice_get w.nodes l.to) refl goes
+
+  on_modems : (told : Answer) (w' : Written) → OnModems w happens told w' → Moves told w'
+  on_modems told w' is = subst (Moves told) (sym is.2) record { fine = inv; keeps = λ e here. here; stays = λ x here. here; fresh = λ x here. inl here; modems = inr (is.1, refl) }
+
+pub next_moves : (members : ℕ) (w : Written) → Invariant members w.history w.letters w.nodes → (happens : Event) (told : Answer) (w' : Written) → Next members w happens told w' → Moved members w happens told w'
+next_moves members w inv (event.Lead k) told w' goes =
+    asks members w inv (event.Lead k) k _ told w' (λ view here call. ends members w inv (event.Lead k) k view here (Leads members k view) (leads members w inv (event.Lead k) k view here) told w' call) (slice_get w.nodes k) refl goes
+next_moves members w inv (event.Offer k value) told w' goes =
+    asks members w inv (event.Offer k value) k _ told w' (λ view here call. ends members w inv (event.Offer k value) k view here (λ course. course ≡ offer members k view view.role value) (offers members w inv (event.Offer k value) k view here value) told w' call) (slice_get w.nodes k) refl goes
+next_moves members w inv (event.Deliver i) told w' goes =
+    comes members w inv (event.Deliver i) i _ told w' (λ l view sent_it here call. ends members w inv (event.Deliver i) l.to view here (λ course. course ≡ Ok (receive members l.to view l)) (receives members w inv (event.Deliver i) l.to view here l sent_it) told w' call) (slice_get w.letters i) refl goes
+next_moves members w inv (event.DeliverThenCrash i) told w' goes =
+    comes members w inv (event.DeliverThenCrash i) i _ told w'
+    (λ l view sent_it here call. ends_in_crash members w inv (event.DeliverThenCrash i) l.to view here (λ course. course ≡ Ok (receive members l.to view l)) (receives members w inv (event.DeliverThenCrash i) l.to view here l sent_it) told w' call) (slice_get w.letters i) refl goes
+next_moves members w inv (event.Crash k) told w' goes =
+    asks members w inv (event.Crash k) k _ told w' (λ view here is. broken members w inv (event.Crash k) k view here told None tt w' is.1) (slice_get w.nodes k) refl goes
+next_moves members w inv (event.Restart k) told w' goes = restarts members w inv (event.Restart k) k told w' (slice_get w.nodes k) refl goes
+next_moves members w inv (event.Release k now) told w' goes =
+    asks members w inv (event.Release k now) k _ told w' (λ view here call. releases members w inv (event.Release k now) k view here now told w' call) (slice_get w.nodes k) refl goes
+next_moves members w inv (event.Hear m i near) told w' goes = on_modems members w inv (event.Hear m i near) told w' goes
+next_moves members w inv (event.Want m ch sid n) told w' goes = on_modems members w inv (event.Want m ch sid n) told w' goes
+next_moves members w inv (event.Tick m ch slot random) told w' goes = on_modems members w inv (event.Tick m ch slot random) told w' goes

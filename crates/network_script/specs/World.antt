@@ -1,0 +1,64 @@
+-- The written world: nodes, letters, outputs, modems and the voting history of a run.
+use Rattle.std.specs.Prelude.{ℕ, List, [], ◌∷◌, ◌++◌, map, replicate, slice_set, None}
+use Rattle.ballots.specs.declared.letters.Letter.{Letter}
+use Rattle.ballots.specs.Voting.{Entry}
+use Rattle.acceptor.specs.Content.{no_content, record_write}
+use Rattle.node.specs.View.{Standing, started}
+use Rattle.node.specs.View.Standing.{Running, Stopped}
+use Rattle.node.specs.Step.{Outcome}
+use Rattle.modem.specs.State.{State, new_modem}
+use Rattle.modem.specs.Held.{Hearing}
+use Rattle.map_release.specs.declared.numbered.Numbered.{Numbered}
+use Rattle.network_script.specs.declared.event.ReleasedOutput.{ReleasedOutput}
+use Rattle.network_script.specs.declared.event.Transmission.{Transmission}
+
+-- a modem, and what it has heard, the newest first
+pub record Receiver : Type 0 where
+  pub state : State
+  pub heard : List Hearing
+
+pub record Written : Type 0 where
+  -- where each node stands, by its number
+  pub nodes : List Standing
+  -- every letter that was ever sent, in order: any of them may come at any time, again, or never
+  pub letters : List Letter
+  -- every output that a node released, in order
+  pub outputs : List ReleasedOutput
+  -- the modems, by their numbers
+  pub modems : List Receiver
+  -- what the modems sent, in order
+  pub transmissions : List Transmission
+  -- every promise and vote that a node committed, the newest first
+  pub history : List Entry
+
+-- node k stands so
+abbrev pub with_node : Written → ℕ → Standing → Written
+with_node w k s = record w { nodes = slice_set w.nodes k s }
+
+-- node k made a whole call
+abbrev pub whole : Written → ℕ → Outcome → Written
+whole w k o = record w { nodes = slice_set w.nodes k (Running o.view); letters = w.letters ++ o.letters; history = record_write k o.write w.history }
+
+-- node k made a whole call, its letters are lost, and then it crashed
+abbrev pub lost : Written → ℕ → Outcome → Written
+lost w k o = record w { nodes = slice_set w.nodes k (Stopped o.view.content None); history = record_write k o.write w.history }
+
+-- these outputs, released by node k
+abbrev pub released_by : ℕ → List Numbered → List ReleasedOutput
+released_by k [] = []
+released_by k (x ∷ xs) = record { node = k; numbered = x } ∷ released_by k xs
+
+-- a modem that has heard nothing
+abbrev pub new_receiver : ℕ → Receiver
+new_receiver id = record { state = new_modem id; heard = [] }
+
+-- so many fresh nodes, modems with these ids, and nothing sent, released or voted for
+abbrev pub opening : ℕ → List ℕ → Written
+opening members ids = record {
+  nodes = replicate members (Running (started no_content));
+  letters = [];
+  outputs = [];
+  modems = map new_receiver ids;
+  transmissions = [];
+  history = [];
+}

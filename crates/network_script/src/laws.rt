@@ -1,0 +1,64 @@
+//! What holds of every run, whatever is lost, repeated and reordered, and whichever nodes crash and restart.
+
+ghost use Rattle.network_script.specs.Headline.{CoversOnce, GaplessIsBeginning, HasOneSchedule, Headline, HeldIsOwned, HistoryIsLegal, HoldersAreOne, LearnedIsChosen, MapsAreOne, OfEveryRun, OwnersAreOne, ReleasedIsOutput, RunsJoin, SentByOwner, SentIsHeld, WithSchedule};
+ghost use Rattle.network_script.specs.Examples.{IsRefused, LeastBallots, OneLeader, ReleasesInOrder, TakesOver, TakesOverAfresh, TriesHigher, VoteOutlivesCrash};
+ghost use Rattle.network_script.specs.Plain.{EachIsAnswered};
+
+/// The voting history of every run is legal, and what a node learned, at any time of the run, is
+/// chosen (Lamport, Paxos Made Simple).
+pub fn votes_legal()
+    ensures legal { OfEveryRun HistoryIsLegal }
+    ensures learned { OfEveryRun LearnedIsChosen }
+{}
+
+/// A run has one list of chosen values. Each node's gapless learned values are a beginning of it, each
+/// released output is the one at its place of its outputs, and released MAPs of a channel that share a
+/// minislot have equal bytes, since one MAP of its outputs at most covers a minislot.
+pub fn one_schedule()
+    ensures one { OfEveryRun HasOneSchedule }
+    ensures gapless { OfEveryRun (WithSchedule GaplessIsBeginning) }
+    ensures released { OfEveryRun (WithSchedule ReleasedIsOutput) }
+    ensures maps { OfEveryRun MapsAreOne }
+    ensures covers { OfEveryRun (WithSchedule CoversOnce) }
+{}
+
+/// What a modem holds, it owns by the outputs of the chosen values, and a minislot has one owner at
+/// most, so modems of two ids hold no minislot both. Each unicast transmission is at a minislot that its modem holds, and so is made by its one
+/// owner.
+pub fn one_owner()
+    ensures held { OfEveryRun (WithSchedule HeldIsOwned) }
+    ensures owners { OfEveryRun (WithSchedule OwnersAreOne) }
+    ensures holders { OfEveryRun HoldersAreOne }
+    ensures sent { OfEveryRun SentIsHeld }
+    ensures by_owner { OfEveryRun (WithSchedule SentByOwner) }
+{}
+
+/// For every script of deliveries, losses, repeats, reorderings, takeovers, crashes and restarts: no log
+/// place has two chosen commands, every released MAP is the one that the chosen commands give its
+/// minislots, and every unicast transmission is made by the minislot's one owner.
+pub fn headline()
+    ensures { Headline }
+{}
+
+/// A run may be cut in two.
+pub fn runs_join()
+    ensures { RunsJoin }
+{}
+
+/// In a world without modems each event can be answered, whatever happened before.
+pub fn each_is_answered()
+    ensures { EachIsAnswered }
+{}
+
+/// Runs of the definitions, computed: three nodes with one leader, takeovers, a crash after a vote and
+/// before a ballot, refused events, and a gap that is closed.
+pub fn examples()
+    ensures one_leader { OneLeader }
+    ensures takes_over { TakesOver }
+    ensures takes_over_afresh { TakesOverAfresh }
+    ensures vote_outlives_crash { VoteOutlivesCrash }
+    ensures tries_higher { TriesHigher }
+    ensures is_refused { IsRefused }
+    ensures releases_in_order { ReleasesInOrder }
+    ensures least_ballots { LeastBallots }
+{}

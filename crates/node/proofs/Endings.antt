@@ -1,0 +1,122 @@
+-- How a call of a node that is up ends, by what its records did.
+use Rattle.std.proofs.Common.{◌≡◌, ◌⊎◌, inl, inr, refl, sym, ap, subst, true, false, List, None, Result, Ok, Err, Vec, ℕ, [], cond}
+use Rattle.ballots.specs.declared.letters.Letter.{Letter}
+use Rattle.acceptor.specs.Content.{Content, after_write}
+use Rattle.acceptor.specs.Found.{Findable, Holds, HoldsEither, AddsNothing, FindsSame}
+use Rattle.acceptor.specs.Faults.{IsHarmless}
+use Rattle.acceptor.specs.declared.acceptor.Acceptor.{Acceptor}
+use Rattle.acceptor.specs.declared.records.RecordsFault.{RecordsFault}
+use Rattle.acceptor.specs.declared.records.RecordsFault.TheVariants.{Refused, Broken, OutOfMemory}
+use Rattle.node.specs.View.{View, Standing, started}
+use Rattle.node.specs.View.Standing.{Running, Stopped}
+use Rattle.ballots.specs.Members.{member_count}
+use Rattle.node.specs.Step.{Outcome, heed, is_heeded, nothing}
+use Rattle.node.specs.Calls.{Called, Cause, Course}
+use Rattle.node.specs.Calls.Cause.{Receive}
+use Rattle.std.specs.declared.alloc.Global.{Global}
+use Rattle.node.specs.Calls.{Ends, IsStop, Restarts, answer}
+use Rattle.node.specs.Sched.{Stands, Does, Fails, view_over, who_of}
+use Rattle.proposer.specs.declared.fault.NodeFault.{NodeFault as Fault}
+use Rattle.node.specs.declared.parts.Parts.{Parts}
+
+pub either_same : (found : Content → Type 0) (c : Content) → Holds found c → HoldsEither found c c
+either_same found c h d is = inl (h.1 d is)
+
+-- the same content is held where the same may be found
+pub still_holds : (old new : Findable) (c : Content) → FindsSame old new → Holds old c → Holds new c
+still_holds old new c same holds = ((same c).0 holds.0, λ d found. holds.1 d ((same d).1 found))
+
+module _ {R : Type 0} (may_find : R → Content → Type 0) (old : Parts R) (up : old.is_down ≡ false) (content : Content) (holds : Holds (may_find old.acceptor.records) content) (IsCourse : Result Outcome Fault → Type 0) where
+  -- the call ends so
+  abbrev pub EndsSo : Result (List Letter) Fault → Parts R → Type 0
+  EndsSo result new = (t : Standing) × Ends IsCourse (view_over old content) result t × Stands may_find new t
+
+  pub unchanged : (result : Result (List Letter) Fault) → result ≡ Err Fault.OutOfMemory → EndsSo result old
+  unchanged result is = subst (λ r. EndsSo r old) (sym is) (Running (view_over old content), refl, (up, refl, holds))
+
+  -- the same view in other words
+  pub same_view : (new : Parts R) → new.is_down ≡ false → view_over old content ≡ view_over new content → new.acceptor.records ≡ old.acceptor.records
+      → (result : Result (List Letter) Fault) → result ≡ Err Fault.OutOfMemory → EndsSo result new
+  same_view new still same records result is = subst (λ r. EndsSo r new) (sym is) (Running (view_over old content), refl, (still, same, subst (λ r. Holds (may_find r) content) (sym records) holds))
+
+  -- a call that writes nothing
+  pub turns : (new : Parts R) (o : Outcome) (letters : List Letter) → new.is_down ≡ false → view_over new content ≡ o.view → new.acceptor.records ≡ old.acceptor.records
+      → IsCourse (Ok o) → letters ≡ o.letters → EndsSo (Ok letters) new
+  turns new o letters still same records course sent =
+      (Running o.view, (o, course, sent, refl), subst (λ v. Stands may_find new (Running v)) same (still, refl, subst (λ r. Holds (may_find r) content) (sym records) holds))
+
+  module _ (a : Acceptor R) where
+    abbrev pub later : Parts R
+    later = record old { acceptor = a }
+
+    pub ends : (o : Outcome) (letters : List Letter) (d : Content) → IsCourse (Ok o) → letters ≡ o.letters → o.view ≡ view_over old d → Holds (may_find a.records) d → EndsSo (Ok letters) later
+    ends o letters d course sent is found = (Running o.view, (o, course, sent, refl), subst (λ v. Stands may_find later (Running v)) (sym is) (up, refl, found))
+
+    pub kept : (result : Result (List Letter) Fault) → result ≡ Err Fault.OutOfMemory → Holds (may_find a.records) content → EndsSo result later
+    kept result is found = subst (λ r. EndsSo r later) (sym is) (Running (view_over old content), refl, (up, refl, found))
+
+    pub fails : (fault : RecordsFault) (told : Fault) (new : Parts R) → Fails later fault told new
+        → (IsHarmless fault → FindsSame (may_find old.acceptor.records) (may_find a.records))
+        → (HoldsEither (may_find a.records) content content ⊎ ((o : Outcome) × IsCourse (Ok o) × HoldsEither (may_find a.records) content (after_write content o.write)))
+        → EndsSo (Err told) new
+    fails Refused told new so harmless doubt = subst (λ n. EndsSo (Err told) n) (sym so.1) (subst (λ f. EndsSo (Err f) later) (sym so.0) (Running (view_over old content), refl, (up, refl, still_holds (may_find old.acceptor.records) (may_find a.records) content (harmless tt) holds)))
+    fails OutOfMemory told new so harmless doubt = subst (λ n. EndsSo (Err told) n) (sym so.1) (subst (λ f. EndsSo (Err f) later) (sym so.0) (Running (view_over old content), refl, (up, refl, still_holds (may_find old.acceptor.records) (may_find a.records) content (harmless tt) holds)))
+    fails Broken told new so harmless (inl found) = subst (λ n. EndsSo (Err told) n) (sym so.1) (subst (λ f. EndsSo (Err f) record later { is_down = true }) (sym so.0) (Stopped content None, inl refl, (refl, found)))
+    fails Broken told new so harmless (inr (o, course, either)) = subst (λ n. EndsSo (Err told) n) (sym so.1) (subst (λ f. EndsSo (Err f) record later { is_down = true }) (sym so.0) (Stopped content o.write, inr (o, course, refl), (refl, either)))
+
+-- what a part of a call does, it does for each view that the node stands for
+pub for_view : {R : Type 0} (may_find : R → Content → Type 0) (old new : Parts R) (IsCourse : View → Result Outcome Fault → Type 0) (result : Result (Vec Letter Global) Fault)
+    → Does may_find old IsCourse result new → (view : View) → Stands may_find old (Running view) → (t : Standing) × Ends (IsCourse view) view (answer result) t × Stands may_find new t
+for_view may_find old new IsCourse result does view stands = subst (λ v. (t : Standing) × Ends (IsCourse v) v (answer result) t × Stands may_find new t) (sym stands.1) (does view.content stands.2)
+
+-- a restart that failed
+module _ {R : Type 0} (may_find : R → Content → Type 0) (old : Parts R) (a : Acceptor R) (adds : AddsNothing (may_find old.acceptor.records) (may_find a.records)) where
+  abbrev pub FailsSo : Standing → Fault → Parts R → Type 0
+  FailsSo s told new = (t : Standing) × Restarts s (Err told) t × Stands may_find new t
+
+  pub restart_fails : (fault : RecordsFault) (told : Fault) (new : Parts R) → (IsHarmless fault → FindsSame (may_find old.acceptor.records) (may_find a.records)) → Fails record old { acceptor = a } fault told new → (s : Standing) → Stands may_find old s → FailsSo s told new
+  restart_fails Refused told new harmless so (Running view) stands = subst (λ n. FailsSo (Running view) told n) (sym so.1) (subst (λ f. FailsSo (Running view) f record old { acceptor = a }) (sym so.0) (Running view, refl, (stands.0, stands.1, still_holds (may_find old.acceptor.records) (may_find a.records) view.content (harmless tt) stands.2)))
+  restart_fails OutOfMemory told new harmless so (Running view) stands = subst (λ n. FailsSo (Running view) told n) (sym so.1) (subst (λ f. FailsSo (Running view) f record old { acceptor = a }) (sym so.0) (Running view, refl, (stands.0, stands.1, still_holds (may_find old.acceptor.records) (may_find a.records) view.content (harmless tt) stands.2)))
+  restart_fails Broken told new harmless so (Running view) stands = subst (λ n. FailsSo (Running view) told n) (sym so.1) (subst (λ f. FailsSo (Running view) f record old { acceptor = a; is_down = true }) (sym so.0) (Stopped view.content None, refl, (refl, λ d is. inl (stands.2.1 d (adds d is)))))
+  restart_fails Refused told new harmless so (Stopped c doubt) stands = subst (λ n. FailsSo (Stopped c doubt) told n) (sym so.1) (Stopped c doubt, (subst IsStop (sym so.0) tt, refl), (stands.0, λ d is. stands.1 d (adds d is)))
+  restart_fails OutOfMemory told new harmless so (Stopped c doubt) stands = subst (λ n. FailsSo (Stopped c doubt) told n) (sym so.1) (Stopped c doubt, (subst IsStop (sym so.0) tt, refl), (stands.0, λ d is. stands.1 d (adds d is)))
+  restart_fails Broken told new harmless so (Stopped c doubt) stands = subst (λ n. FailsSo (Stopped c doubt) told n) (sym so.1) (Stopped c doubt, (subst IsStop (sym so.0) tt, refl), (refl, λ d is. stands.1 d (adds d is)))
+
+-- a restart that is Ok
+pub restart_ends : {R : Type 0} (may_find : R → Content → Type 0) (old new : Parts R) → new.is_down ≡ false → ((c : Content) → view_over new c ≡ started c)
+    → ((a b : Content) → HoldsEither (may_find old.acceptor.records) a b → Holds (may_find new.acceptor.records) a ⊎ Holds (may_find new.acceptor.records) b)
+    → (s : Standing) → Stands may_find old s → (t : Standing) × Restarts s (Ok tt) t × Stands may_find new t
+restart_ends may_find old new up fresh finds (Running view) stands = (Running (started view.content), refl, (up, sym (fresh view.content), same (finds view.content view.content (either_same (may_find old.acceptor.records) view.content stands.2))))
+  where
+    same : Holds (may_find new.acceptor.records) view.content ⊎ Holds (may_find new.acceptor.records) view.content → Holds (may_find new.acceptor.records) view.content
+    same (inl h) = h
+    same (inr h) = h
+restart_ends may_find old new up fresh finds (Stopped c doubt) stands = by_one (finds c (after_write c doubt) stands.1)
+  where
+    by_one : Holds (may_find new.acceptor.records) c ⊎ Holds (may_find new.acceptor.records) (after_write c doubt) → (t : Standing) × Restarts (Stopped c doubt) (Ok tt) t × Stands may_find new t
+    by_one (inl h) = (Running (started c), inl refl, (up, sym (fresh c), h))
+    by_one (inr h) = (Running (started (after_write c doubt)), inr refl, (up, sym (fresh (after_write c doubt)), h))
+
+-- a letter that isn't heeded
+pub unheeded : {R : Type 0} (may_find : R → Content → Type 0) (count_of : R → ℕ) (n : Parts R) (l : Letter) → n.is_down ≡ false → is_heeded (member_count n.proposer.members) n.proposer.id l ≡ false → (letters : List Letter) → letters ≡ []
+    → (s : Standing) → Stands may_find n s → (t : Standing) × Called (member_count n.proposer.members) n.proposer.id s (Receive l) (Ok letters) t × Stands may_find n t
+unheeded may_find count_of n l up not_so letters none (Running view) stands =
+    (Running view, (nothing view, sym (ap (λ x. Ok (cond x (heed (member_count n.proposer.members) n.proposer.id view l.from l.note) (nothing view))) not_so), none, refl), stands)
+unheeded may_find count_of n l up not_so letters none (Stopped c doubt) stands = absurd (cc (up, stands.0))
+
+-- a letter that is heeded
+pub received : {R : Type 0} (may_find : R → Content → Type 0) (count_of : R → ℕ) (old new : Parts R) (l : Letter) → old.is_down ≡ false → is_heeded (member_count old.proposer.members) old.proposer.id l ≡ true → (result : Result (Vec Letter Global) Fault)
+    → Does may_find old (λ view course. course ≡ Ok (heed (member_count old.proposer.members) old.proposer.id view l.from l.note)) result new
+    → (s : Standing) → Stands may_find old s → (t : Standing) × Called (member_count old.proposer.members) old.proposer.id s (Receive l) (answer result) t × Stands may_find new t
+received may_find count_of old new l up so result does (Running view) stands =
+    subst (λ (o : Outcome). (t : Standing) × Ends (λ course. course ≡ Ok o) view (answer result) t × Stands may_find new t)
+    (sym (ap (λ x. cond x (heed (member_count old.proposer.members) old.proposer.id view l.from l.note) (nothing view)) so))
+    (for_view may_find old new (λ view course. course ≡ Ok (heed (member_count old.proposer.members) old.proposer.id view l.from l.note)) result does view stands)
+received may_find count_of old new l up so result does (Stopped c doubt) stands = absurd (cc (up, stands.0))
+
+-- a call of a node that is up
+pub called : {R : Type 0} (may_find : R → Content → Type 0) (count_of : R → ℕ) (old new : Parts R) (cause : Cause) → old.is_down ≡ false → (result : Result (Vec Letter Global) Fault)
+    → Does may_find old (λ view. Course (member_count old.proposer.members) old.proposer.id view cause) result new
+    → (s : Standing) → Stands may_find old s → (t : Standing) × Called (member_count old.proposer.members) old.proposer.id s cause (answer result) t × Stands may_find new t
+called may_find count_of old new cause up result does (Running view) stands = for_view may_find old new (λ view. Course (member_count old.proposer.members) old.proposer.id view cause) result does view stands
+called may_find count_of old new cause up result does (Stopped c doubt) stands = absurd (cc (up, stands.0))

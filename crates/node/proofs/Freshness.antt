@@ -1,0 +1,89 @@
+-- Whether a node is fresh.
+use Rattle.std.proofs.Common.{◌≡◌, ◌⊎◌, inl, inr, ◌↔◌, ℕ, ◌+◌, ◌≤◌, max, nat_le, Bool, true, false, IsTrue, cond, List, [], ◌∷◌, refl, sym, ap, subst, ◌∙◌, arith, rules, Result, Ok, Err, None}
+use Rattle.std.proofs.lemmas.Bool.{le-leb}
+use Rattle.ballots.specs.Rows.{rows_from}
+use Rattle.ballots.specs.declared.letters.Cast.{Cast}
+use Rattle.acceptor.specs.Content.{Content, IsSound, AreRowsFrom, no_content, promised, greatest}
+use Rattle.acceptor.specs.Found.{Findable, Holds, HoldsEither, FindsSame, AddsNothing, Keeps}
+use Rattle.acceptor.specs.declared.records.RecordsFault.{RecordsFault}
+use Rattle.acceptor.specs.declared.records.RecordsFault.TheVariants.{Refused, Broken, OutOfMemory}
+use Rattle.acceptor.specs.declared.acceptor.Acceptor.{Acceptor}
+use Rattle.learner.specs.Tally.{Tally, no_tally}
+use Rattle.learner.specs.Kept.{tally}
+use Rattle.proposer.specs.declared.fault.NodeFault.{NodeFault as Fault}
+use Rattle.proposer.specs.declared.role.Role.{Role}
+use Rattle.node.specs.View.{View, Standing, started}
+use Rattle.node.specs.View.Standing.{Running, Stopped}
+use Rattle.node.specs.Calls.{TellsFresh}
+use Rattle.node.specs.Learned.{Learned}
+use Rattle.node.specs.Sched.{Stands, Fails, IsUntouched, view_over}
+use Rattle.node.specs.declared.parts.Parts.{Parts}
+use Rattle.node.proofs.Endings.{still_holds}
+
+-- the greatest is none of the lesser
+greatest_above : (m : ℕ) (votes : List (ℕ × Cast)) → m ≤ greatest m votes
+greatest_above m [] = omega arith
+greatest_above m (vote ∷ votes) = omega (arith, greatest_above m votes)
+
+-- the votes from place 1 on are all votes
+all_votes : (p : ℕ) (votes : List (ℕ × Cast)) → 1 ≤ p → AreRowsFrom p votes → rows_from votes 1 ≡ votes
+all_votes p [] first are = refl
+all_votes p (vote ∷ votes) first are =
+    let at_first : 1 ≤ vote.0 = omega (arith, first, are.0) in
+    ap (λ b. cond b (vote ∷ rows_from votes 1) (rows_from votes 1)) (le-leb 1 vote.0 at_first) ∙ ap (λ r. vote ∷ r) (all_votes (vote.0 + 1) votes (omega (arith, at_first)) are.2)
+
+pub empty_content : (c : Content) (used : ℕ) → used ≡ max c.tried (promised c) → used ≡ 0 → IsSound c → rows_from c.votes 1 ≡ [] → c ≡ no_content
+empty_content c used is none sound empty =
+    let above : c.row ≤ promised c = greatest_above c.row c.votes in
+    let tried : c.tried ≡ 0 = omega (arith, is, none) in
+    let row : c.row ≡ 0 = omega (arith, is, none, above) in
+    let votes : c.votes ≡ [] = sym (all_votes 1 c.votes (omega arith) sound) ∙ empty in
+    (λ i. record { tried = tried i; row = row i; votes = votes i })
+
+module _ {R : Type 0} (may_find : R → Content → Type 0) (old : Parts R) (up : old.is_down ≡ false) where
+  -- it is fresh exactly where it is untouched over no content
+  pub fresh_so : (c : Content) → c ≡ no_content → (fresh : Bool) → (IsTrue fresh ↔ IsUntouched old) → IsTrue fresh ↔ (view_over old c ≡ started no_content)
+  fresh_so c empty fresh is =
+      (
+        λ yes. let so = is.0 yes in (λ i. record { content = empty i; role = so.0 i; hint = so.1 i; tally = ap (λ (l : Learned). l.tally) so.2 i; cursor = ap (λ (l : Learned). l.cursor) so.2 i }),
+        λ same. is.1 (ap (λ (v : View). v.role) same, ap (λ (v : View). v.hint) same, ap (λ (v : View). record { tally = v.tally; cursor = v.cursor }) same),
+      )
+
+  pub used_content : (c : Content) (used : ℕ) → used ≡ max c.tried (promised c) → (used ≡ 0 → ⊥) → view_over old c ≡ started no_content → ⊥
+  used_content c used is some same = let empty : c ≡ no_content = ap (λ (v : View). v.content) same in some (is ∙ ap (λ (d : Content). max d.tried (promised d)) empty)
+
+  pub voted_content : (c : Content) (votes : List (ℕ × Cast)) → votes ≡ rows_from c.votes 1 → (votes ≡ [] → ⊥) → view_over old c ≡ started no_content → ⊥
+  voted_content c votes is some same = let empty : c ≡ no_content = ap (λ (v : View). v.content) same in some (is ∙ ap (λ (d : Content). rows_from d.votes 1) empty)
+
+  module _ (a : Acceptor R) where
+    abbrev pub later : Parts R
+    later = record old { acceptor = a }
+
+    pub tells : FindsSame (may_find old.acceptor.records) (may_find a.records) → (fresh : Bool) → ((c : Content) → Holds (may_find old.acceptor.records) c → IsTrue fresh ↔ (view_over old c ≡ started no_content))
+        → (s : Standing) → Stands may_find old s → (t : Standing) × TellsFresh s (Ok fresh) t × Stands may_find later t
+    tells same fresh is (Running view) stands =
+        (Running view, (subst (λ v. IsTrue fresh ↔ (v ≡ started no_content)) (sym stands.1) (is view.content stands.2), refl), (up, stands.1, still_holds (may_find old.acceptor.records) (may_find a.records) view.content same stands.2))
+    tells same fresh is (Stopped c doubt) stands = absurd (cc (up, stands.0))
+
+    abbrev FailsSo : Standing → Fault → Parts R → Type 0
+    FailsSo s told new = (t : Standing) × TellsFresh s (Err told) t × Stands may_find new t
+
+    pub tell_fails : (T : Type 0) (mid : Findable) (fault : RecordsFault) (told : Fault) (new : Parts R) → FindsSame (may_find old.acceptor.records) mid → Keeps {T = T} (Err fault) mid (may_find a.records) → Fails later fault told new
+        → (s : Standing) → Stands may_find old s → FailsSo s told new
+    tell_fails T mid Refused told new same keeps so (Running view) stands =
+        subst (λ n. FailsSo (Running view) told n) (sym so.1) (subst (λ f. FailsSo (Running view) f later) (sym so.0) (Running view, refl, (up, stands.1, still_holds mid (may_find a.records) view.content keeps (still_holds (may_find old.acceptor.records) mid view.content same stands.2))))
+    tell_fails T mid OutOfMemory told new same keeps so (Running view) stands =
+        subst (λ n. FailsSo (Running view) told n) (sym so.1) (subst (λ f. FailsSo (Running view) f later) (sym so.0) (Running view, refl, (up, stands.1, still_holds mid (may_find a.records) view.content keeps (still_holds (may_find old.acceptor.records) mid view.content same stands.2))))
+    tell_fails T mid Broken told new same keeps so (Running view) stands =
+        subst (λ n. FailsSo (Running view) told n) (sym so.1) (subst (λ f. FailsSo (Running view) f record later { is_down = true }) (sym so.0) (Stopped view.content None, refl, (refl, λ d is. inl (stands.2.1 d ((same d).1 (keeps d is))))))
+    tell_fails T mid fault told new same keeps so (Stopped c doubt) stands = absurd (cc (up, stands.0))
+
+pub same_found : (found : Findable) → FindsSame found found
+same_found found d = (λ is. is, λ is. is)
+
+pub both_same : (old mid new : Findable) → FindsSame old mid → FindsSame mid new → FindsSame old new
+both_same old mid new first next d = (λ is. (next d).0 ((first d).0 is), λ is. (first d).1 ((next d).1 is))
+
+-- it isn't fresh
+pub no_tell : (P : Type 0) → (P → ⊥) → IsTrue false ↔ P
+no_tell P none = (λ no. absurd (search rules), λ is. absurd (none is))

@@ -1,0 +1,51 @@
+-- What a node has learned after one more vote or Known.
+use Rattle.std.proofs.Common.{◌≡◌, ◌⊎◌, inl, inr, ℕ, ◌≤◌, Bool, true, false, cond, List, Option, Some, None, refl, sym, ap, subst, ◌∙◌}
+use Rattle.ballots.specs.Rows.{at, put}
+use Rattle.learner.specs.Tally.{Tally, known, voted, learn, count_vote, is_majority, voters}
+use Rattle.command_log.specs.Values.{Rows, outputs_of_values, gapless, values_from}
+use Rattle.command_log.specs.View.{AreRows, IsLog, LogView, last_place}
+use Rattle.command_log.proofs.Rows.{are_rows_put}
+use Rattle.command_log.proofs.Runs.{outputs_first}
+use Rattle.std.proofs.Common.{length, take, ◌+◌, arith, length-take}
+use Rattle.map_release.specs.Released.{applied_outputs}
+use Rattle.node.specs.Learned.{IsPart}
+use Rattle.node.proofs.Prefixes.{part_grows, front}
+
+-- nothing is learned, or one value at a place that had none
+abbrev LearnsOne : Tally → Rows → ℕ → List ℕ → Type 0
+LearnsOne tally new p v = (new ≡ tally.learned) ⊎ ((at tally.learned p ≡ None) × (new ≡ put tally.learned p v))
+
+known_one : (tally : Tally) (o : Option (List ℕ)) (p : ℕ) (v : List ℕ) → at tally.learned p ≡ o → LearnsOne tally (known tally o p v).learned p v
+known_one tally None p v none = inr (none, refl)
+known_one tally (Some w) p v some = inl refl
+
+voted_one : (members : ℕ) (tally : Tally) (o : Option (List ℕ)) (b p : ℕ) (v : List ℕ) (n : ℕ) → at tally.learned p ≡ o → LearnsOne tally (voted members tally o b p v n).learned p v
+voted_one members tally (Some w) b p v n some = inl refl
+voted_one members tally None b p v n none = by_test (is_majority members (voters (count_vote tally.counted n b p v) b p v))
+  where
+    by_test : (x : Bool) → LearnsOne tally (cond x (learn tally p v) record { counted = count_vote tally.counted n b p v; learned = tally.learned }).learned p v
+    by_test true = inr (none, refl)
+    by_test false = inl refl
+
+module _ (tally : Tally) (p : ℕ) (v : List ℕ) (log : Rows) (lo : 1 ≤ p) (hi : p ≤ last_place) (are : AreRows 1 tally.learned) (part : IsPart log tally.learned) where
+  keeps : (new : Rows) → LearnsOne tally new p v → AreRows 1 new × IsPart log new
+  keeps new (inl is) = (subst (AreRows 1) (sym is) are, subst (IsPart log) (sym is) part)
+  keeps new (inr learns) = (subst (AreRows 1) (sym learns.1) (are_rows_put 1 p v tally.learned are lo hi), subst (IsPart log) (sym learns.1) (part_grows log tally.learned p v part learns.0))
+
+  pub known_keeps : (new : Tally) → new ≡ known tally (at tally.learned p) p v → AreRows 1 new.learned × IsPart log new.learned
+  known_keeps new is = keeps new.learned (subst (λ (t : Tally). LearnsOne tally t.learned p v) (sym is) (known_one tally (at tally.learned p) p v refl))
+
+  pub voted_keeps : (members b n : ℕ) (new : Tally) → new ≡ voted members tally (at tally.learned p) b p v n → AreRows 1 new.learned × IsPart log new.learned
+  voted_keeps members b n new is = keeps new.learned (subst (λ (t : Tally). LearnsOne tally t.learned p v) (sym is) (voted_one members tally (at tally.learned p) b p v n refl))
+
+-- a log to which all of these are applied
+module _ (log : LogView) (learned : Rows) (is_log : IsLog log) (are : AreRows 1 learned) (part : IsPart log.learned learned) (end : at learned (log.applied + 1) ≡ None) where
+  same_values : take log.applied (gapless log.learned) ≡ gapless learned
+  same_values = front 1 log.applied log.learned learned is_log.rows are part is_log.gapless (let place : 1 + log.applied ≡ log.applied + 1 = omega arith in ap (at learned) place ∙ end)
+
+  pub same_outputs : applied_outputs log ≡ outputs_of_values (values_from 1 learned)
+  same_outputs = sym (outputs_first log.applied (gapless log.learned)) ∙ ap outputs_of_values same_values
+
+
+  pub same_length : log.applied ≡ length (values_from 1 learned)
+  same_length = omega (arith, ap length same_values, is_log.gapless, length-take log.applied (gapless log.learned))

@@ -1,0 +1,11 @@
+pub mod Endings
+pub mod Acceptances
+pub mod Preparations
+pub mod Turning
+pub mod Leading
+pub mod Somewhere
+pub mod Offers
+pub mod Freshness
+pub mod Prefixes
+pub mod Knowing
+pub mod Releasing

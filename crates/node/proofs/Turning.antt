@@ -1,0 +1,103 @@
+-- A proposer's turns are the cases of the node's table.
+use Rattle.std.proofs.Common.{◌≡◌, ◌⊎◌, inl, inr, ℕ, ◌+◌, ◌-◌, ◌≤◌, ◌<◌, max, Bool, true, false, cond, ◌&&◌, not, ◌==◌, nat_eq, nat_le, nat_lt, List, [], ◌∷◌, filter, length, refl, sym, ap, subst, ◌∙◌, arith, Result, Ok, Err, Some, None}
+use Rattle.std.specs.List.{list_any}
+use Rattle.std.proofs.lemmas.Bool.{leb-true, ltb-true, and_parts}
+use Rattle.ballots.specs.Limits.{most_places, longest_value, IsPlace, IsValue}
+use Rattle.ballots.specs.Ballots.{ballot_node}
+use Rattle.ballots.specs.declared.letters.Cast.{Cast}
+use Rattle.ballots.specs.declared.letters.Letter.{Letter}
+use Rattle.ballots.specs.declared.letters.Note.TheVariants.{Prepare, Promise, Accept}
+use Rattle.proposer.specs.Bounds.{in_log}
+use Rattle.proposer.specs.Joining.{join, place_after}
+use Rattle.proposer.specs.Turns as turn
+use Rattle.proposer.specs.Turns.{Turn, are_majority}
+use Rattle.proposer.specs.declared.role.Role.{Role}
+use Rattle.proposer.specs.declared.role.Role.TheVariants.{Idle, Preparing, Leading}
+use Rattle.proposer.specs.declared.fault.NodeFault.{NodeFault as Fault}
+use Rattle.node.specs.View.{View}
+use Rattle.node.specs.Step.{Outcome, nothing, sends, promise, after_promise, offer, proposals, are_votes, is_place, is_value, is_sound, is_heeded, last_place, to_all}
+
+-- what a turn leaves of a view
+abbrev pub turned : View → Turn → Outcome
+turned view t = sends (record view { role = t.role }) t.letters
+
+module _ (members me : ℕ) (view : View) where
+  stays : (role : Role) → view.role ≡ role → nothing view ≡ turned view (turn.stays role)
+  stays role is = λ i. nothing (record view { role = is i })
+
+  after_so : (b q : ℕ) (counted : List ℕ) (joined : List (ℕ × Cast)) → after_promise members me view b q counted joined ≡ turned view (turn.after_promise members me b q counted joined)
+  after_so b q counted joined = by_test (are_majority members counted)
+    where
+      by_test : (x : Bool) → cond x (sends (record view { role = Leading b (place_after q joined) }) (proposals members me b joined q (place_after q joined - q))) (nothing (record view { role = Preparing b q counted joined }))
+          ≡ turned view (cond x (record { role = Leading b (place_after q joined); letters = proposals members me b joined q (place_after q joined - q) }) (turn.stays (Preparing b q counted joined)))
+      by_test true = refl
+      by_test false = refl
+
+  pub promise_so : (role : Role) → view.role ≡ role → (b q : ℕ) (votes : List (ℕ × Cast)) (n : ℕ) → promise members me view role b q votes n ≡ turned view (turn.promise members me role b q votes n)
+  promise_so Idle is b q votes n = stays Idle is
+  promise_so (Leading c next) is b q votes n = stays (Leading c next) is
+  promise_so (Preparing c place counted joined) is b q votes n = by_test (b == c && q == place && not (list_any (nat_eq n) counted))
+    where
+      by_test : (x : Bool) → cond x (after_promise members me view b q (n ∷ counted) (join joined votes)) (nothing view) ≡ turned view (cond x (turn.after_promise members me b q (n ∷ counted) (join joined votes)) (turn.stays (Preparing c place counted joined)))
+      by_test true = after_so b q (n ∷ counted) (join joined votes)
+      by_test false = stays (Preparing c place counted joined) is
+
+  -- what a turn that may be declined leaves of a view
+  abbrev pub turned_or : Result Turn Fault → Result Outcome Fault
+  turned_or (Ok t) = Ok (turned view t)
+  turned_or (Err fault) = Err fault
+
+  pub offer_so : (role : Role) (v : List ℕ) → offer members me view role v ≡ turned_or (turn.offer members me role v)
+  offer_so Idle v = refl
+  offer_so (Preparing b q counted joined) v = refl
+  offer_so (Leading b next) v = by_test (nat_lt longest_value (length v)) (nat_lt most_places next)
+    where
+      by_test : (x y : Bool) → cond x (Err Fault.ValueTooLong) (cond y (Err Fault.LogFull) (Ok (sends (record view { role = Leading b (next + 1) }) (to_all members me (Accept b next v)))))
+          ≡ turned_or (cond x (Err Fault.ValueTooLong) (cond y (Err Fault.LogFull) (Ok (record { role = Leading b (next + 1); letters = to_all members me (Accept b next v) }))))
+      by_test true y = refl
+      by_test false true = refl
+      by_test false false = refl
+
+  -- an offer is declined by a fault of its own
+  pub never_down : (role : Role) (v : List ℕ) → turn.offer members me role v ≡ Err Fault.Down → ⊥
+  never_down Idle v is = absurd (cc (is))
+  never_down (Preparing b q counted joined) v is = absurd (cc (is))
+  never_down (Leading b next) v is = by_test (nat_lt longest_value (length v)) (nat_lt most_places next) is
+    where
+      by_test : (x y : Bool) → cond {A = Result Turn Fault} x (Err Fault.ValueTooLong) (cond y (Err Fault.LogFull) (Ok (record { role = Leading b (next + 1); letters = to_all members me (Accept b next v) }))) ≡ Err Fault.Down → ⊥
+      by_test true y is = absurd (cc (is))
+      by_test false true is = absurd (cc (is))
+      by_test false false is = absurd (cc (is))
+
+-- the votes of a promise that is heeded are in the log
+pub all_in_log : (b q : ℕ) (votes : List (ℕ × Cast)) → are_votes b q votes ≡ true → in_log votes ≡ votes
+all_in_log b q [] are = refl
+all_in_log b q (vote ∷ votes) are =
+    let all = and_parts (nat_le q vote.0 && is_place vote.0 && is_value vote.1.value && nat_lt vote.1.ballot b) (are_votes b (vote.0 + 1) votes) are in
+    let three = and_parts (nat_le q vote.0 && is_place vote.0 && is_value vote.1.value) (nat_lt vote.1.ballot b) all.0 in
+    let two = and_parts (nat_le q vote.0 && is_place vote.0) (is_value vote.1.value) three.0 in
+    let place = and_parts (nat_le q vote.0) (is_place vote.0) two.0 in
+    let within = and_parts (nat_lt 0 vote.0) (nat_le vote.0 last_place) place.1 in
+    ap (λ x. cond x (vote ∷ in_log votes) (in_log votes)) within.1 ∙ ap (λ r. vote ∷ r) (all_in_log b (vote.0 + 1) votes all.1)
+
+-- what soundness of a letter says
+pub place_sound : (p : ℕ) → is_place p ≡ true → IsPlace p
+place_sound p is = let both = and_parts (nat_lt 0 p) (nat_le p last_place) is in (ltb-true 0 p both.0, leb-true p last_place both.1)
+
+pub value_sound : (v : List ℕ) → is_value v ≡ true → IsValue v
+value_sound v is = leb-true (length v) longest_value is
+
+pub prepare_sound : (l : Letter) (b q : ℕ) → is_sound l (Prepare b q) ≡ true → IsPlace q
+prepare_sound l b q sound = place_sound q (and_parts (is_place q) (ballot_node b == l.from) sound).0
+
+pub promise_sound : (l : Letter) (b q : ℕ) (votes : List (ℕ × Cast)) → is_sound l (Promise b q votes) ≡ true → are_votes b q votes ≡ true
+promise_sound l b q votes sound = (and_parts (is_place q && ballot_node b == l.to) (are_votes b q votes) sound).1
+
+pub accept_sound : (l : Letter) (b p : ℕ) (v : List ℕ) → is_sound l (Accept b p v) ≡ true → IsPlace p × IsValue v
+accept_sound l b p v sound =
+    let both = and_parts (is_place p && is_value v) (ballot_node b == l.from) sound in
+    let two = and_parts (is_place p) (is_value v) both.0 in
+    (place_sound p two.0, value_sound v two.1)
+
+pub heeded_sound : (members me : ℕ) (l : Letter) → is_heeded members me l ≡ true → is_sound l l.note ≡ true
+heeded_sound members me l is = (and_parts (nat_lt l.from members && nat_lt l.to members && l.to == me) (is_sound l l.note) is).1

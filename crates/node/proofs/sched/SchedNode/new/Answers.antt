@@ -1,0 +1,13 @@
+use Rattle.std.proofs.Common.{◌≡◌, refl, sym, ap}
+use Rattle.node.specs.Learned.{Learned}
+use Rattle.node.specs.View.{started}
+use Rattle.node.specs.View.Standing.{Running}
+use Rattle.node.proofs.sched.SchedNode.new.Goals as goal
+
+pub returns-clause-stands : goal.returns-clause-stands
+returns-clause-stands g c content holds = (refl, (λ i. record { content = content; role = sym c.new.ensures.role i; hint = sym c.new.ensures.hint i; tally = ap (λ (l : Learned). l.tally) (sym c.new-2.ensures) i; cursor = ap (λ (l : Learned). l.cursor) (sym c.new-2.ensures) i }), holds)
+
+pub invariant_of-result : goal.invariant_of-result
+invariant_of-result g c = record {
+  somewhere = λ honest. let held = c.requires.certain honest in ∣ (Running (started held.0), (refl, (λ i. record { content = held.0; role = sym c.new.ensures.role i; hint = sym c.new.ensures.hint i; tally = ap (λ (l : Learned). l.tally) (sym c.new-2.ensures) i; cursor = ap (λ (l : Learned). l.cursor) (sym c.new-2.ensures) i }), held.1)) ∣₁;
+}

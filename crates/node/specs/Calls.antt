@@ -1,0 +1,107 @@
+-- How the calls of a node end.
+use Rattle.std.specs.Prelude.{◌≡◌, ◌⊎◌, ◌↔◌, ℕ, ◌≤◌, Bool, true, false, IsTrue, List, None, Result, Ok, Err, Vec, IfErr}
+use Rattle.std.specs.declared.alloc.Global.{Global}
+use Rattle.ballots.specs.declared.letters.Letter.{Letter}
+use Rattle.acceptor.specs.Content.{no_content, after_write}
+use Rattle.acceptor.specs.Faults.{HasRisen}
+use Rattle.node.specs.View.{View, Standing, started}
+use Rattle.node.specs.View.Standing.{Running, Stopped}
+use Rattle.proposer.specs.declared.fault.NodeFault.{NodeFault as Fault}
+use Rattle.proposer.specs.declared.fault.NodeFault.TheVariants.{OutOfMemory, StoreRefused, Down}
+use Rattle.node.specs.Step.{Outcome, receive, offer, Leads}
+
+-- a node by its number, the number of members, how often its store failed, and whether it waits for a restart
+pub record Who : Type 0 where
+  pub id : ℕ
+  pub members : ℕ
+  pub failures : ℕ
+  pub down : Bool
+
+-- what a node is asked
+pub data Cause : Type 0 where
+  Receive : Letter → Cause
+  Lead : Cause
+  Offer : (value : List ℕ) → Cause
+
+-- the course of a whole call of node me
+abbrev pub Course : ℕ → ℕ → View → Cause → Result Outcome Fault → Type 0
+Course members me view (Receive l) course = course ≡ Ok (receive members me view l)
+Course members me view Lead course = Leads members me view course
+Course members me view (Offer v) course = course ≡ offer members me view view.role v
+
+-- the letters of a call that was answered
+abbrev pub answer : Result (Vec Letter Global) Fault → Result (List Letter) Fault
+answer (Ok letters) = Ok letters.items
+answer (Err fault) = Err fault
+
+-- a call of a running node ends so. Want of memory and a store that refused change nothing, a broken store leaves the node down, the one write of the call there or not, and any other fault is the case's
+abbrev pub Ends : (Result Outcome Fault → Type 0) → View → Result (List Letter) Fault → Standing → Type 0
+Ends IsCourse view (Ok letters) new = (o : Outcome) × IsCourse (Ok o) × (letters ≡ o.letters) × (new ≡ Running o.view)
+Ends IsCourse view (Err OutOfMemory) new = new ≡ Running view
+Ends IsCourse view (Err StoreRefused) new = new ≡ Running view
+Ends IsCourse view (Err Down) new = (new ≡ Stopped view.content None) ⊎ ((o : Outcome) × IsCourse (Ok o) × (new ≡ Stopped view.content o.write))
+Ends IsCourse view (Err declined) new = IsCourse (Err declined) × (new ≡ Running view)
+
+-- a call of node me, and where the node then stands. One that is down answers so and changes nothing
+abbrev pub Called : ℕ → ℕ → Standing → Cause → Result (List Letter) Fault → Standing → Type 0
+Called members me (Running view) cause result new = Ends (Course members me view cause) view result new
+Called members me (Stopped c doubt) cause result new = (result ≡ Err Down) × (new ≡ Stopped c doubt)
+
+-- a call that writes nothing fails so
+abbrev pub StoreFails : View → Fault → Standing → Type 0
+StoreFails view OutOfMemory new = new ≡ Running view
+StoreFails view StoreRefused new = new ≡ Running view
+StoreFails view Down new = new ≡ Stopped view.content None
+StoreFails view other new = ⊥
+
+-- want of memory, or a store that failed
+abbrev pub IsStop : Fault → Type 0
+IsStop OutOfMemory = Unit {0}
+IsStop StoreRefused = Unit {0}
+IsStop Down = Unit {0}
+IsStop other = ⊥
+
+-- a restart starts over what the records hold, a write in doubt made or not
+abbrev pub Restarts : Standing → Result (Unit {0}) Fault → Standing → Type 0
+Restarts (Running view) (Ok _) new = new ≡ Running (started view.content)
+Restarts (Stopped c doubt) (Ok _) new = (new ≡ Running (started c)) ⊎ (new ≡ Running (started (after_write c doubt)))
+Restarts (Running view) (Err fault) new = StoreFails view fault new
+Restarts (Stopped c doubt) (Err fault) new = IsStop fault × (new ≡ Stopped c doubt)
+
+-- a node is fresh where it has nothing in its records and has heard nothing
+abbrev pub TellsFresh : Standing → Result Bool Fault → Standing → Type 0
+TellsFresh (Running view) (Ok fresh) new = (IsTrue fresh ↔ (view ≡ started no_content)) × (new ≡ Running view)
+TellsFresh (Running view) (Err fault) new = StoreFails view fault new
+TellsFresh (Stopped c doubt) result new = (result ≡ Err Down) × (new ≡ Stopped c doubt)
+
+-- a fault that comes only where the store failed, of a node that was down or not
+abbrev pub NeedsCause : Bool → Fault → Type 0
+NeedsCause was_down StoreRefused = Unit {0}
+NeedsCause was_down Down = was_down ≡ false
+NeedsCause was_down other = ⊥
+
+-- a node is down after the fault Down, and else as it was
+abbrev pub down_after : {T : Type 0} → Result T Fault → Bool → Bool
+down_after (Ok _) was = was
+down_after (Err Down) was = true
+down_after (Err other) was = was
+
+-- after a restart that is Ok it is not
+abbrev pub down_after_restart : {T : Type 0} → Result T Fault → Bool → Bool
+down_after_restart (Ok _) was = false
+down_after_restart (Err Down) was = true
+down_after_restart (Err other) was = was
+
+-- what each call owes whatever its store does: who it is stays, and the store's faults come only where their count rose
+abbrev pub Kept : {T : Type 0} → Who → Result T Fault → Who → Type 0
+Kept old result new =
+    (new.id ≡ old.id) × (new.members ≡ old.members) × (old.failures ≤ new.failures)
+    × IfErr result (λ fault. NeedsCause old.down fault → HasRisen old.failures new.failures)
+    × (new.down ≡ down_after result old.down)
+
+-- the same of a restart, which is Down only where its store broke
+abbrev pub KeptByRestart : {T : Type 0} → Who → Result T Fault → Who → Type 0
+KeptByRestart old result new =
+    (new.id ≡ old.id) × (new.members ≡ old.members) × (old.failures ≤ new.failures)
+    × IfErr result (λ fault. NeedsCause false fault → HasRisen old.failures new.failures)
+    × (new.down ≡ down_after_restart result old.down)

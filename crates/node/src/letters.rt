@@ -1,0 +1,92 @@
+//! The letters of a node's answers.
+
+ghost use Rattle.std.specs.Prelude.{◌≡◌, ◌-◌, ◌≤◌, ◌<◌, [], ◌∷◌, IfOk, length, set, take};
+ghost use Rattle.ballots.specs.Rows.{rows_from};
+ghost use Rattle.ballots.specs.declared.letters.Note.TheVariants.{Higher as HigherNote};
+ghost use Rattle.node.specs.Answers.{prepared_note};
+ghost use Rattle.node.specs.Step.{known_letters, last_place, letter};
+ghost use Rattle.node.specs.View.{values_from};
+
+use acceptor::Prepared;
+use ballots::{Ballot, Bytes, Letter, MOST_PLACES, NodeId, Note, Place};
+use std::alloc::{AllocError, Global};
+use std::collections::BTreeMap;
+
+/// One letter that tells a higher ballot.
+pub(crate) fn one_letter(
+    alloc: Global,
+    from: NodeId,
+    to: NodeId,
+    ballot: Ballot,
+) -> Result<Vec<Letter>, AllocError>
+    ensures { IfOk result (λ letters. letters.items ≡ letter from to (HigherNote ballot) ∷ []) }
+{
+    let mut letters = Vec::new(alloc);
+    letters.push(Letter {
+        from,
+        to,
+        note: Note::Higher { ballot },
+    })?;
+    Ok(letters)
+}
+
+/// Known letters of the first 64 learned places from one on.
+pub(crate) fn known_letters(
+    alloc: Global,
+    from: NodeId,
+    to: NodeId,
+    place: u64,
+    learned: &BTreeMap<u64, Bytes>,
+) -> Result<Vec<Letter>, AllocError>
+    ensures { IfOk result (λ letters. letters.items ≡ known_letters from to (take 64 (rows_from learned.now.entries place))) }
+{
+    let mut letters = Vec::new(alloc);
+    for (at, value) in learned {
+        if letters.len() < 64 && place <= *at {
+            let note = Note::Known {
+                place: *at,
+                value: value.copy(alloc)?,
+            };
+            letters.push(Letter { from, to, note })?;
+        }
+    }
+    Ok(letters)
+}
+
+/// How many places from the first on are learned without a gap, as far as the last place.
+pub(crate) fn prefix_len(learned: &BTreeMap<u64, Bytes>) -> u64
+    ensures below { result < last_place → result ≡ length (values_from 1 learned.now.entries) }
+    ensures full { last_place ≤ result → last_place ≤ length (values_from 1 learned.now.entries) }
+{
+    let mut next = 1;
+    for (at, _value) in learned {
+        if *at != next || next > MOST_PLACES {
+            break;
+        }
+        next += 1;
+    }
+    next - 1
+}
+
+/// What an acceptor's answer to a Prepare says.
+pub(crate) fn prepared_note(answer: Prepared, ballot: Ballot, place: Place) -> Note
+    ensures { result ≡ prepared_note ballot place answer }
+{
+    match answer {
+        Prepared::Promised(votes) => Note::Promise {
+            ballot,
+            place: place.number(),
+            votes,
+        },
+        Prepared::Higher(other) => Note::Higher { ballot: other },
+    }
+}
+
+pub(crate) fn replace_last(letters: &mut Vec<Letter>, letter: Letter)
+    requires { 1 ≤ length letters.old.items }
+    ensures { letters.new.items ≡ set letters.old.items (length letters.old.items - 1) letter }
+{
+    let last = letters.len() - 1;
+    letters[last] = letter;
+}
+

@@ -1,0 +1,385 @@
+//! What a node is made of, and what its parts do with letters.
+
+ghost use Rattle.std.specs.Prelude.{◌≡◌, ◌++◌, ◌∷◌, [], ◌<◌, ◌≤◌, ◌↔◌, Ok, true, false, IsTrue, IfOk, OnErr, take};
+ghost use Rattle.ballots.specs.Limits.{IsPlace, IsValue};
+ghost use Rattle.ballots.specs.Members.{member_count};
+ghost use Rattle.ballots.specs.Rows.{at, rows_from};
+ghost use Rattle.ballots.specs.declared.letters.Note.TheVariants.{Higher as HigherNote, Voted as VotedNote};
+ghost use Rattle.learner.specs.Tally.{voted, known};
+ghost use Rattle.node.specs.Answers.{accepted_letters, WroteNothing};
+ghost use Rattle.node.specs.Calls.{Kept, KeptByRestart, Restarts, TellsFresh};
+ghost use Rattle.node.specs.Releases.{Releases, outputs};
+ghost use Rattle.node.specs.View.{Standing};
+ghost use Rattle.node.specs.Step.{Leads, accept, after_higher, are_votes, heed, is_sound, known_letters, letter, nothing, offer, prepare, promise, to_all};
+
+use crate::knowledge::Knowledge;
+use crate::letters::{known_letters, one_letter, prefix_len, prepared_note, replace_last};
+use acceptor::{Accepted, Acceptor, Records, RecordsFault};
+use ballots::{Ballot, Bytes, Letter, Note, NodeId, Place, Value, Votes};
+use map_release::Numbered;
+use proposer::{NodeFault, Proposer, Role, to_all};
+use std::alloc::{AllocError, Global};
+
+/// What a node is made of.
+#[derive(Drop)]
+pub(crate) struct Parts<R> {
+    pub(crate) alloc: Global,
+    pub(crate) acceptor: Acceptor<R>,
+    pub(crate) proposer: Proposer,
+    pub(crate) knowledge: Knowledge,
+    pub(crate) is_down: bool,
+}
+
+/// The value of these bytes.
+fn value_of(bytes: Bytes) -> Value
+    requires { IsValue bytes }
+    ensures { result ≡ bytes }
+{
+    Value::new(bytes).unwrap()
+}
+
+/// The place of this number.
+fn place_of(number: u64) -> Place
+    requires { IsPlace number }
+    ensures { result ≡ number }
+{
+    Place::new(number).unwrap()
+}
+
+impl<R: Records> Parts<R> {
+    ghost use Rattle.node.specs.Sched.{Does, Fails, IsUntouched, Stands, Stops, who_of};
+
+    /// The store failed.
+    pub(crate) fn fail(&mut self, fault: RecordsFault) -> NodeFault
+        ensures fails { Fails self.old fault result self.new }
+        ensures acceptor { self.new.acceptor ≡ self.old.acceptor }
+    {
+        match fault {
+            RecordsFault::Refused => NodeFault::StoreRefused,
+            RecordsFault::OutOfMemory => NodeFault::OutOfMemory,
+            RecordsFault::Broken => {
+                self.is_down = true;
+                NodeFault::Down
+            }
+        }
+    }
+
+    /// A fault came, which may be that the store is broken.
+    fn stop(&mut self, fault: NodeFault) -> NodeFault
+        ensures same { result ≡ fault }
+        ensures stops { Stops self.old fault self.new }
+    {
+        if let NodeFault::Down = fault {
+            self.is_down = true;
+        }
+        fault
+    }
+
+    /// The letters of a Prepare's answer, the last with the answer still to be put in.
+    fn before_promise(
+        &self,
+        from: NodeId,
+        ballot: Ballot,
+        place: Place,
+    ) -> Result<Vec<Letter>, AllocError>
+        ensures { IfOk result (λ letters. letters.items ≡ known_letters self.now.proposer.id from (take 64 (rows_from self.now.knowledge.tally.learned place)) ++ letter self.now.proposer.id from (HigherNote ballot) ∷ []) }
+    {
+        let me = self.proposer.id;
+        let learned = self.knowledge.values();
+        let mut letters = known_letters(self.alloc, me, from, place.number(), learned)?;
+        letters.push(Letter {
+            from: me,
+            to: from,
+            note: Note::Higher { ballot },
+        })?;
+        Ok(letters)
+    }
+
+    /// A Prepare comes.
+    fn take_prepare(
+        &mut self,
+        from: NodeId,
+        ballot: Ballot,
+        place: Place,
+    ) -> Result<Vec<Letter>, NodeFault>
+        requires { self.old.is_down ≡ false }
+        ensures honesty { IsTrue (R.is_honest self.new.acceptor.records) → IsTrue (R.is_honest self.old.acceptor.records) }
+        ensures kept { Kept (who_of R.count_of self.old) result (who_of R.count_of self.new) }
+        ensures done { IsTrue (R.is_honest self.new.acceptor.records)
+            → Does R.may_find self.old (λ view course. course ≡ Ok (prepare self.old.proposer.id view ballot place from)) result self.new }
+    {
+        let mut letters = self.before_promise(from, ballot, place)?;
+        let answer = match self.acceptor.prepare(ballot, place) {
+            Ok(answer) => answer,
+            Err(fault) => return Err(self.fail(fault)),
+        };
+        let answer = Letter {
+            from: self.proposer.id,
+            to: from,
+            note: prepared_note(answer, ballot, place),
+        };
+        replace_last(&mut letters, answer);
+        Ok(letters)
+    }
+
+    /// A Promise comes.
+    fn take_promise(
+        &mut self,
+        from: NodeId,
+        ballot: Ballot,
+        place: u64,
+        votes: &Votes,
+    ) -> Result<Vec<Letter>, NodeFault>
+        requires up { self.old.is_down ≡ false }
+        requires sound { are_votes ballot place votes.now ≡ true }
+        ensures honesty { IsTrue (R.is_honest self.new.acceptor.records) → IsTrue (R.is_honest self.old.acceptor.records) }
+        ensures kept { Kept (who_of R.count_of self.old) result (who_of R.count_of self.new) }
+        ensures done { IsTrue (R.is_honest self.new.acceptor.records)
+            → Does R.may_find self.old (λ view course. course ≡ Ok (promise (member_count self.old.proposer.members) self.old.proposer.id view view.role ballot place votes.now from)) result self.new }
+    {
+        Ok(self.proposer.promise(from, ballot, place, votes.rows())?)
+    }
+
+    /// What a vote needs: its letters, and a copy of the value to keep.
+    fn before_vote(
+        &self,
+        ballot: Ballot,
+        place: Place,
+        value: &Bytes,
+    ) -> Result<(Vec<Letter>, Value), AllocError>
+        requires { IsValue value.now }
+        ensures { IfOk result (λ parts. (parts.0.items ≡ to_all (member_count self.now.proposer.members) self.now.proposer.id (VotedNote ballot place value.now)) × (parts.1 ≡ value.now)) }
+    {
+        let kept = value_of(value.copy(self.alloc)?);
+        let note = Note::Voted {
+            ballot,
+            place: place.number(),
+            value: value.copy(self.alloc)?,
+        };
+        let letters = to_all(self.alloc, self.proposer.members, self.proposer.id, &note)?;
+        Ok((letters, kept))
+    }
+
+    /// The letters of an acceptor's answer, where those of a vote for the value are ready.
+    fn after_vote(
+        &self,
+        answer: Accepted,
+        ready: Vec<Letter>,
+        from: NodeId,
+        ballot: Ballot,
+        place: Place,
+        value: &Bytes,
+    ) -> Result<Vec<Letter>, AllocError>
+        requires { ready.items ≡ to_all (member_count self.now.proposer.members) self.now.proposer.id (VotedNote ballot place value.now) }
+        ensures ok { IfOk result (λ letters. letters.items ≡ accepted_letters (member_count self.now.proposer.members) self.now.proposer.id from ballot place answer) }
+        ensures err { OnErr result (WroteNothing answer value.now) }
+    {
+        match answer {
+            Accepted::Voted(told) => {
+                if told.as_slice() == value.as_slice() {
+                    return Ok(ready);
+                }
+                let note = Note::Voted {
+                    ballot,
+                    place: place.number(),
+                    value: told,
+                };
+                to_all(self.alloc, self.proposer.members, self.proposer.id, &note)
+            }
+            Accepted::Higher(other) => one_letter(self.alloc, self.proposer.id, from, other),
+        }
+    }
+
+    /// An Accept comes.
+    fn take_accept(
+        &mut self,
+        from: NodeId,
+        ballot: Ballot,
+        place: Place,
+        value: &Bytes,
+    ) -> Result<Vec<Letter>, NodeFault>
+        requires up { self.old.is_down ≡ false }
+        requires short { IsValue value.now }
+        ensures honesty { IsTrue (R.is_honest self.new.acceptor.records) → IsTrue (R.is_honest self.old.acceptor.records) }
+        ensures kept { Kept (who_of R.count_of self.old) result (who_of R.count_of self.new) }
+        ensures done { IsTrue (R.is_honest self.new.acceptor.records)
+            → Does R.may_find self.old (λ view course. course ≡ Ok (accept (member_count self.old.proposer.members) self.old.proposer.id view ballot place value.now from)) result self.new }
+    {
+        let (letters, kept) = self.before_vote(ballot, place, value)?;
+        let answer = match self.acceptor.accept(ballot, place, kept) {
+            Ok(answer) => answer,
+            Err(fault) => return Err(self.fail(fault)),
+        };
+        Ok(self.after_vote(answer, letters, from, ballot, place, value)?)
+    }
+
+    /// A vote was heard of.
+    fn take_voted(
+        &mut self,
+        from: NodeId,
+        ballot: Ballot,
+        place: Place,
+        value: &Bytes,
+    ) -> Result<Vec<Letter>, NodeFault>
+        requires { self.old.is_down ≡ false }
+        ensures honesty { IsTrue (R.is_honest self.new.acceptor.records) → IsTrue (R.is_honest self.old.acceptor.records) }
+        ensures kept { Kept (who_of R.count_of self.old) result (who_of R.count_of self.new) }
+        ensures done { IsTrue (R.is_honest self.new.acceptor.records)
+            → Does R.may_find self.old (λ view course. course ≡ Ok (nothing record view { tally = voted (member_count self.old.proposer.members) view.tally (at view.tally.learned place) ballot place value.now from })) result self.new }
+    {
+        let value = value.copy(self.alloc)?;
+        let members = self.proposer.members;
+        self.knowledge.voted(members, ballot, place, value, from)?;
+        Ok(Vec::new(self.alloc))
+    }
+
+    /// A value is known to be chosen.
+    fn take_known(&mut self, place: Place, value: &Bytes) -> Result<Vec<Letter>, NodeFault>
+        requires { self.old.is_down ≡ false }
+        ensures honesty { IsTrue (R.is_honest self.new.acceptor.records) → IsTrue (R.is_honest self.old.acceptor.records) }
+        ensures kept { Kept (who_of R.count_of self.old) result (who_of R.count_of self.new) }
+        ensures done { IsTrue (R.is_honest self.new.acceptor.records)
+            → Does R.may_find self.old (λ view course. course ≡ Ok (nothing record view { tally = known view.tally (at view.tally.learned place) place value.now })) result self.new }
+    {
+        let value = value.copy(self.alloc)?;
+        self.knowledge.known(place, value)?;
+        Ok(Vec::new(self.alloc))
+    }
+
+    /// A higher ballot was heard of.
+    fn take_higher(&mut self, ballot: Ballot) -> Result<Vec<Letter>, NodeFault>
+        requires { self.old.is_down ≡ false }
+        ensures honesty { IsTrue (R.is_honest self.new.acceptor.records) → IsTrue (R.is_honest self.old.acceptor.records) }
+        ensures kept { Kept (who_of R.count_of self.old) result (who_of R.count_of self.new) }
+        ensures done { IsTrue (R.is_honest self.new.acceptor.records)
+            → Does R.may_find self.old (λ view course. course ≡ Ok (nothing (after_higher view ballot))) result self.new }
+    {
+        self.proposer.higher(ballot);
+        Ok(Vec::new(self.alloc))
+    }
+
+    /// A value is offered to a node that is up.
+    pub(crate) fn propose(&mut self, value: &[u8]) -> Result<Vec<Letter>, NodeFault>
+        requires { self.old.is_down ≡ false }
+        ensures honesty { IsTrue (R.is_honest self.new.acceptor.records) → IsTrue (R.is_honest self.old.acceptor.records) }
+        ensures kept { Kept (who_of R.count_of self.old) result (who_of R.count_of self.new) }
+        ensures done { IsTrue (R.is_honest self.new.acceptor.records)
+            → Does R.may_find self.old (λ view course. course ≡ offer (member_count self.old.proposer.members) self.old.proposer.id view view.role value.now) result self.new }
+    {
+        self.proposer.offer(value)
+    }
+
+    /// A node that is up is asked to lead.
+    pub(crate) fn lead_up(&mut self) -> Result<Vec<Letter>, NodeFault>
+        requires { self.old.is_down ≡ false }
+        ensures honesty { IsTrue (R.is_honest self.new.acceptor.records) → IsTrue (R.is_honest self.old.acceptor.records) }
+        ensures kept { Kept (who_of R.count_of self.old) result (who_of R.count_of self.new) }
+        ensures done { IsTrue (R.is_honest self.new.acceptor.records)
+            → Does R.may_find self.old (λ view course. Leads (member_count self.old.proposer.members) self.old.proposer.id view course) result self.new }
+    {
+        let prefix = prefix_len(self.knowledge.values());
+        match self.proposer.lead(&mut self.acceptor.records, prefix) {
+            Ok(letters) => Ok(letters),
+            Err(fault) => Err(self.stop(fault)),
+        }
+    }
+
+    /// What a letter that is heeded says.
+    pub(crate) fn heed(&mut self, letter: &Letter) -> Result<Vec<Letter>, NodeFault>
+        requires up { self.old.is_down ≡ false }
+        requires sound { is_sound letter.now letter.now.note ≡ true }
+        ensures honesty { IsTrue (R.is_honest self.new.acceptor.records) → IsTrue (R.is_honest self.old.acceptor.records) }
+        ensures kept { Kept (who_of R.count_of self.old) result (who_of R.count_of self.new) }
+        ensures done { IsTrue (R.is_honest self.new.acceptor.records)
+            → Does R.may_find self.old (λ view course. course ≡ Ok (heed (member_count self.old.proposer.members) self.old.proposer.id view letter.now.from letter.now.note)) result self.new }
+    {
+        match &letter.note {
+            Note::Prepare { ballot, place } => {
+                self.take_prepare(letter.from, *ballot, place_of(*place))
+            }
+            Note::Promise {
+                ballot,
+                place,
+                votes,
+            } => self.take_promise(letter.from, *ballot, *place, votes),
+            Note::Accept {
+                ballot,
+                place,
+                value,
+            } => self.take_accept(letter.from, *ballot, place_of(*place), value),
+            Note::Voted {
+                ballot,
+                place,
+                value,
+            } => self.take_voted(letter.from, *ballot, place_of(*place), value),
+            Note::Higher { ballot } => self.take_higher(*ballot),
+            Note::Known { place, value } => self.take_known(place_of(*place), value),
+        }
+    }
+
+    /// Outputs are released by a node that is up.
+    pub(crate) fn release_up(&mut self, now: u64) -> Result<Vec<Numbered>, NodeFault>
+        requires { self.old.is_down ≡ false }
+        ensures honesty { IsTrue (R.is_honest self.new.acceptor.records) → IsTrue (R.is_honest self.old.acceptor.records) }
+        ensures kept { Kept (who_of R.count_of self.old) result (who_of R.count_of self.new) }
+        ensures done { IsTrue (R.is_honest self.new.acceptor.records) → (s : Standing) → Stands R.may_find self.old s
+            → (t : Standing) × Releases s now (outputs result) t × Stands R.may_find self.new t }
+    {
+        Ok(self.knowledge.release(self.alloc, now)?)
+    }
+
+    /// Starts over its records.
+    pub(crate) fn start_over(&mut self) -> Result<(), NodeFault>
+        ensures honesty { IsTrue (R.is_honest self.new.acceptor.records) → IsTrue (R.is_honest self.old.acceptor.records) }
+        ensures kept { KeptByRestart (who_of R.count_of self.old) result (who_of R.count_of self.new) }
+        ensures done { IsTrue (R.is_honest self.new.acceptor.records) → (s : Standing) → Stands R.may_find self.old s
+            → (t : Standing) × Restarts s result t × Stands R.may_find self.new t }
+    {
+        if let Err(fault) = self.acceptor.records.reopen() {
+            return Err(self.fail(fault));
+        }
+        self.proposer.role = Role::Idle;
+        self.proposer.hint = 0;
+        self.knowledge = Knowledge::new(self.alloc);
+        self.is_down = false;
+        Ok(())
+    }
+
+    /// Whether it prepares and leads nothing, and has heard of nothing.
+    fn is_untouched(&self) -> bool
+        ensures { IsTrue result ↔ IsUntouched self.now }
+    {
+        let Role::Idle = &self.proposer.role else {
+            return false;
+        };
+        if self.proposer.hint != 0 {
+            return false;
+        }
+        self.knowledge.is_empty()
+    }
+
+    /// Whether its records are empty and it is untouched.
+    pub(crate) fn tells_fresh(&mut self) -> Result<bool, NodeFault>
+        requires { self.old.is_down ≡ false }
+        ensures honesty { IsTrue (R.is_honest self.new.acceptor.records) → IsTrue (R.is_honest self.old.acceptor.records) }
+        ensures kept { Kept (who_of R.count_of self.old) result (who_of R.count_of self.new) }
+        ensures done { IsTrue (R.is_honest self.new.acceptor.records) → (s : Standing) → Stands R.may_find self.old s
+            → (t : Standing) × TellsFresh s result t × Stands R.may_find self.new t }
+    {
+        let used = match self.acceptor.greatest_used() {
+            Ok(used) => used,
+            Err(fault) => return Err(self.fail(fault)),
+        };
+        let votes = match self.acceptor.records.votes_from(place_of(1)) {
+            Ok(votes) => votes,
+            Err(fault) => return Err(self.fail(fault)),
+        };
+        if used != 0 {
+            return Ok(false);
+        }
+        if !votes.rows().is_empty() {
+            return Ok(false);
+        }
+        Ok(self.is_untouched())
+    }
+}

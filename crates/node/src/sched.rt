@@ -1,0 +1,114 @@
+//! A node over its records.
+
+ghost use Rattle.std.specs.Prelude.{◌≡◌, ◌<◌, false, IsTrue};
+ghost use Rattle.ballots.specs.Members.{member_count};
+ghost use Rattle.acceptor.specs.Content.{Content};
+ghost use Rattle.acceptor.specs.Found.{Holds};
+ghost use Rattle.node.specs.Sched.{Stands, who_of};
+ghost use Rattle.node.specs.View.{Standing, started};
+ghost use Rattle.node.specs.View.Standing.{Running};
+
+use crate::knowledge::Knowledge;
+use crate::heeded::is_heeded;
+use crate::node::Node;
+use crate::parts::Parts;
+use acceptor::{Acceptor, Records};
+use ballots::{Bytes, Letter, Members, NodeId};
+use map_release::Numbered;
+use proposer::{NodeFault, Proposer};
+use std::alloc::Global;
+
+/// A node of the scheduler over its records. While these are honest there is a standing that it may be in.
+#[derive(Drop)]
+pub struct SchedNode<R: Records> {
+    parts: Parts<R>,
+    ghost somewhere: { IsTrue (R.is_honest parts.acceptor.records) → ∥ ((s : Standing) × Stands R.may_find parts s) ∥₁ },
+}
+
+impl<R: Records> SchedNode<R> {
+    /// A node that starts over these records, with a member's number. They aren't in doubt of a write.
+    pub fn new(alloc: Global, id: NodeId, members: Members, records: R) -> SchedNode<R>
+        requires member { id < member_count members }
+        requires certain { IsTrue (R.is_honest records) → (c : Content) × Holds (R.may_find records) c }
+        ensures who { who_of R.count_of result.parts ≡ record { id = id; members = member_count members; failures = R.count_of records; down = false } }
+        ensures honest { R.is_honest result.parts.acceptor.records ≡ R.is_honest records }
+        ensures stands { (c : Content) → Holds (R.may_find records) c → Stands R.may_find result.parts (Running (started c)) }
+    {
+        SchedNode {
+            parts: Parts {
+                alloc,
+                acceptor: Acceptor { records },
+                proposer: Proposer::new(alloc, id, members),
+                knowledge: Knowledge::new(alloc),
+                is_down: false,
+            },
+        }
+    }
+}
+
+impl<R: Records + Drop> Node for SchedNode<R> {
+    ghost use Rattle.std.specs.Prelude.{Option};
+    ghost who = { λ n. who_of R.count_of n.parts };
+
+    ghost honest = { λ n. R.is_honest n.parts.acceptor.records };
+
+    ghost stands = { λ n s. Stands R.may_find n.parts s };
+
+    fn id(&self) -> NodeId {
+        self.parts.proposer.id
+    }
+
+    fn members(&self) -> Members {
+        self.parts.proposer.members
+    }
+
+    fn failures(&self) -> u64 {
+        self.parts.acceptor.records.failures()
+    }
+
+    fn learned(&self, place: u64) -> Option<&Bytes> {
+        self.parts.knowledge.learned(place)
+    }
+
+    fn receive(&mut self, letter: &Letter) -> Result<Vec<Letter>, NodeFault> {
+        if self.parts.is_down {
+            return Err(NodeFault::Down);
+        }
+        if !is_heeded(self.parts.proposer.members, self.parts.proposer.id, letter) {
+            return Ok(Vec::new(self.parts.alloc));
+        }
+        self.parts.heed(letter)
+    }
+
+    fn lead(&mut self) -> Result<Vec<Letter>, NodeFault> {
+        if self.parts.is_down {
+            return Err(NodeFault::Down);
+        }
+        self.parts.lead_up()
+    }
+
+    fn offer(&mut self, value: &[u8]) -> Result<Vec<Letter>, NodeFault> {
+        if self.parts.is_down {
+            return Err(NodeFault::Down);
+        }
+        self.parts.propose(value)
+    }
+
+    fn release(&mut self, now: u64) -> Result<Vec<Numbered>, NodeFault> {
+        if self.parts.is_down {
+            return Err(NodeFault::Down);
+        }
+        self.parts.release_up(now)
+    }
+
+    fn restart(&mut self) -> Result<(), NodeFault> {
+        self.parts.start_over()
+    }
+
+    fn is_fresh(&mut self) -> Result<bool, NodeFault> {
+        if self.parts.is_down {
+            return Err(NodeFault::Down);
+        }
+        self.parts.tells_fresh()
+    }
+}

@@ -1,0 +1,46 @@
+-- Steps of a proposer's turn.
+use Rattle.std.proofs.Common.{◌≡◌, ◌⊎◌, inl, inr, ℕ, zero, suc, ◌+◌, ◌-◌, ◌*◌, ◌≤◌, ◌<◌, max, Bool, true, false, cond, ◌&&◌, not, ◌==◌, nat_eq, nat_lt, List, [], ◌∷◌, ◌++◌, refl, sym, ap, subst, ◌∙◌, arith, Result, Ok, Err, OnErr, Some}
+use Rattle.std.specs.List.{list_any}
+use Rattle.std.proofs.lemmas.Bool.{lt-ltb, le-ltb, eq-eqb, ne_eqb}
+use Rattle.ballots.specs.Ballots.{IsLeastAbove}
+use Rattle.ballots.specs.Rows.{at}
+use Rattle.ballots.specs.Voting.{count_below}
+use Rattle.ballots.specs.declared.letters.Cast.{Cast}
+use Rattle.ballots.specs.declared.letters.Letter.{Letter}
+use Rattle.ballots.specs.declared.letters.Note.TheVariants.{Accept}
+use Rattle.acceptor.specs.Content.{Content, promised, after_write}
+use Rattle.acceptor.specs.Content.Write.{Tries}
+use Rattle.acceptor.specs.Found.{Findable, Holds, HoldsEither, FindsSame, MayHaveMade}
+use Rattle.proposer.specs.Joining.{join, place_after, proposal}
+use Rattle.proposer.specs.Letters.{to_all, proposals}
+use Rattle.proposer.specs.Turns.{Turn, stays, are_majority, after_promise, promise, limit, IsNextBallot, MayHaveTried}
+use Rattle.proposer.specs.declared.role.Role.{Role}
+use Rattle.proposer.specs.declared.role.Role.TheVariants.{Idle, Preparing, Leading}
+
+pub on_err : {T E : Type 0} (r : Result T E) (P : Type 0) → P → OnErr r P
+on_err (Ok x) P p = tt
+on_err (Err e) P p = p
+
+assoc : (xs ys zs : List Letter) → (xs ++ ys) ++ zs ≡ xs ++ (ys ++ zs)
+assoc [] ys zs = refl
+assoc (x ∷ xs) ys zs = ap (λ r. x ∷ r) (assoc xs ys zs)
+
+-- the letters of one more place
+pub proposals_step : (members me b : ℕ) (joined : List (ℕ × Cast)) (p next : ℕ) (letters : List Letter) → p < next
+    → (letters ++ to_all members me (Accept b p (proposal (at joined p)))) ++ proposals members me b joined (p + 1) (next - (p + 1)) ≡ letters ++ proposals members me b joined p (next - p)
+proposals_step members me b joined p next letters before =
+    let count : next - p ≡ suc (next - (p + 1)) = omega (arith, before) in
+    assoc letters (to_all members me (Accept b p (proposal (at joined p)))) (proposals members me b joined (p + 1) (next - (p + 1))) ∙ ap (λ n. letters ++ proposals members me b joined p n) (sym count)
+
+-- the ballot above what was used and heard of
+pub next_ballot : (found : Findable) (hint me b used above : ℕ) → ((c : Content) → Holds found c → used ≡ max c.tried (promised c)) → above ≡ max used hint → IsLeastAbove above me b → IsNextBallot found hint me b
+next_ballot found hint me b used above is top least = λ c holds.
+    let so : used ≡ max c.tried (promised c) = is c holds in
+    subst (λ u. IsLeastAbove u me b) (omega (arith, so, top)) least
+
+pub still_holds : (old new : Findable) (c : Content) → FindsSame old new → Holds old c → Holds new c
+still_holds old new c same holds = ((same c).0 holds.0, λ d found. holds.1 d ((same d).1 found))
+
+pub may_have_tried : (old mid new : Findable) (hint me b : ℕ) → IsNextBallot old hint me b → FindsSame old mid → MayHaveMade mid new (Tries b) → MayHaveTried old new hint me
+may_have_tried old mid new hint me b next same made = λ c holds. inr (b, next c holds, made c (still_holds old mid c same holds))
+

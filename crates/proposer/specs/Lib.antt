@@ -1,0 +1,6 @@
+pub mod Bounds
+pub mod Faults
+pub mod Joining
+pub mod Letters
+pub mod Roles
+pub mod Turns

@@ -1,0 +1,4 @@
+mod Pairs
+mod Channels
+mod Spelled
+mod Printed

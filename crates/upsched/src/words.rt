@@ -1,0 +1,95 @@
+//! The words of the command line.
+
+ghost use Rattle.std.specs.Prelude.{◌≡◌, ◌≢◌};
+ghost use Rattle.clap.specs.Words.{kind_of};
+ghost use Rattle.upsched.specs.declared.status.Status.TheVariants.{Faulted, NotUnderstood};
+
+use crate::fault::Fault;
+use crate::status::Status;
+use clap::error::ErrorKind;
+use clap::{Arg, Command, Error};
+use std::alloc::Global;
+use std::io::Write;
+
+/// What `maps` is told.
+#[derive(Clone, Copy, Debug)]
+pub struct MapsWords<'a> {
+    /// The path of the plan.
+    pub plan: &'a str,
+}
+
+/// What `show` is told.
+#[derive(Clone, Copy, Debug)]
+pub struct ShowWords<'a> {
+    /// A MAP body in hexadecimal.
+    pub hex: &'a str,
+}
+
+/// A command of the program.
+#[derive(Clone, Copy, Debug)]
+pub enum Words<'a> {
+    /// Applies a plan's commands and prints their outputs.
+    Maps(MapsWords<'a>),
+    /// Prints a MAP body.
+    Show(ShowWords<'a>),
+}
+
+fn program<'a>(alloc: Global) -> Result<Command<'a>, Error> {
+    let plan = Arg::new(alloc, "PLAN")
+        .required(true)
+        .help("A plan in TOML");
+    let maps = Command::new(alloc, "maps")
+        .about("Applies a plan's commands and prints their outputs")
+        .arg(plan)?;
+    let hex = Arg::new(alloc, "HEX")
+        .required(true)
+        .help("A MAP body in hexadecimal");
+    let show = Command::new(alloc, "show")
+        .about("Prints a MAP body")
+        .arg(hex)?;
+    let program = Command::new(alloc, "upsched")
+        .about("A DOCSIS upstream scheduler")
+        .subcommand_required(true)
+        .subcommand(maps)?
+        .subcommand(show)?;
+    Ok(program)
+}
+
+/// Reads the words, the program's own name first.
+pub fn read_words<'a>(alloc: Global, words: &'a [String]) -> Result<Words<'a>, Error> {
+    let mut program = program(alloc)?;
+    let matches = program.try_get_matches_from_mut(words)?;
+    let command = match matches.subcommand() {
+        Some(("maps", words)) => words
+            .get_str("PLAN")
+            .map(|plan| Words::Maps(MapsWords { plan })),
+        Some(("show", words)) => words
+            .get_str("HEX")
+            .map(|hex| Words::Show(ShowWords { hex })),
+        _ => None,
+    };
+    match command {
+        Some(command) => Ok(command),
+        None => Err(program.error(ErrorKind::MissingSubcommand, "no command")?),
+    }
+}
+
+/// Writes why the words aren't read, or the help that they ask for.
+pub fn refused<O: Write, E: Write>(error: &Error, output: &mut O, errors: &mut E) -> Status
+    ensures memory { kind_of error.now ≡ ErrorKind.OutOfMemory → result ≡ Faulted }
+    ensures help { kind_of error.now ≡ ErrorKind.DisplayHelp → result ≢ NotUnderstood }
+    ensures mistake { kind_of error.now ≢ ErrorKind.OutOfMemory → kind_of error.now ≢ ErrorKind.DisplayHelp
+        → kind_of error.now ≢ ErrorKind.DisplayVersion → result ≡ NotUnderstood }
+{
+    if error.kind() == ErrorKind::OutOfMemory {
+        return Fault::Memory.told(errors);
+    }
+    if error.use_stderr() {
+        let _ = write!(errors, "{error}");
+        return Status::NotUnderstood;
+    }
+    match write!(output, "{error}") {
+        Ok(()) => Status::Done,
+        Err(_) => Fault::Output.told(errors),
+    }
+}
