@@ -12,7 +12,7 @@ for crate in minislot_time map_body flow_state grant_machine command_log; do
     cp -r "$top/crates/$crate" "$work/crates"
     grep -E "^$crate:" "$top/crates.txt" >> "$work/crates.txt"
 done
-cp "$top/bench/log/main.rt" "$work/crates/log_bench/src"
+cp "$top/bench/log/main.rt.in" "$work/crates/log_bench/src/main.rt"
 echo 'log_bench: command_log flow_state grant_machine map_body anyhow' >> "$work/crates.txt"
 cd "$work/crates/log_bench"
 rt run --jobs 1

@@ -8,7 +8,7 @@ work=$(mktemp -d)
 trap 'rm -rf "$work"' EXIT
 mkdir -p "$work/crates/records_bench/src"
 cp -r "$top/crates/ballots" "$top/crates/acceptor" "$work/crates"
-cp "$top/bench/records/main.rt" "$work/crates/records_bench/src"
+cp "$top/bench/records/main.rt.in" "$work/crates/records_bench/src/main.rt"
 grep -E '^(ballots|acceptor):' "$top/crates.txt" > "$work/crates.txt"
 echo 'records_bench: ballots acceptor anyhow' >> "$work/crates.txt"
 cd "$work/crates/records_bench"
