@@ -56,9 +56,9 @@ plan() {
                     next_flow()
                     command("kind = \"request\"\nch = " turn % 8 "\nsid = " sid "\nn = " 1 + (k * 7) % 40 "\nsent = " ++sent)
                 }
-                command("kind = \"cut\"\nch = " round % 8 "\nlen = 4096\nnot_before = " (far ? round * 1000000000 : 0) "\nack = " sent)
+                command("kind = \"cut\"\nch = " round % 8 "\nlen = 4096\nnot_before = " sprintf("%.0f", far ? round * 1000000000 : 0) "\nack = " sent)
             }
-        }' OFMT='%d' CONVFMT='%d'
+        }'
 }
 
 # measure COUNT PLAN: the least time of three runs, and the peak memory.

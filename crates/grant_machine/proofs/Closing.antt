@@ -320,10 +320,10 @@ module _ (rows : Rows) (ch : ℕ) (t : Table) (len not_before ack : ℕ) (x : Fi
       ∙ ap (λ (r : Rows). change_table r ch close) (change_twice rows ch set_all take_granted (λ u. refl))
       ∙ change_twice rows ch (λ u. take_granted (set_all u)) close (λ u. refl)
       ∙ change_at rows ch t (λ u. close (take_granted (set_all u))) (λ u. table_after u filled) (reached_apart rows reached) found
-        (ap (λ (s : Extent). after_of t (end_of s) a (set_flows x.flows.items t.flows) (take_all x.filling.placements x.waiting.items t.waiting)) by.span_is
-        ∙ ap (λ n. after_of t (end_of filled.span) n (set_flows x.flows.items t.flows) (take_all x.filling.placements x.waiting.items t.waiting)) same
-        ∙ ap (λ (fs : List FlowRow). after_of t (end_of filled.span) filled.ack fs (take_all x.filling.placements x.waiting.items t.waiting)) rows_set
-        ∙ ap (λ (ws : List Waiting). after_of t (end_of filled.span) filled.ack filled.flows ws) requests_left)
+      (ap (λ (s : Extent). after_of t (end_of s) a (set_flows x.flows.items t.flows) (take_all x.filling.placements x.waiting.items t.waiting)) by.span_is
+      ∙ ap (λ n. after_of t (end_of filled.span) n (set_flows x.flows.items t.flows) (take_all x.filling.placements x.waiting.items t.waiting)) same
+      ∙ ap (λ (fs : List FlowRow). after_of t (end_of filled.span) filled.ack fs (take_all x.filling.placements x.waiting.items t.waiting)) rows_set
+      ∙ ap (λ (ws : List Waiting). after_of t (end_of filled.span) filled.ack filled.flows ws) requests_left)
 
   -- the flows' kinds are those of the rows
   pub kinds_are : AllByRecursion (IsOfKind rows ch) x.flows.items

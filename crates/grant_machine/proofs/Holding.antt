@@ -29,11 +29,11 @@ pub cells_added : (span : Extent) (ps : List Placement) (p : Placement) (before 
 cells_added span ps p before after is len cells =
     fill_by_all (λ x. not (is_free (ps ++ p ∷ []) x)) after span.len false len
     (λ k lt.
-        cells k false lt
-        ∙ ap (λ (xs : List Bool). get_or xs k false || holds k p) is
-        ∙ ap (λ b. b || holds k p) (get_or-map-range_with_len (λ x. not (is_free ps x)) 0 span.len k k false lt (omega arith))
-        ∙ not_and (is_free ps k) (holds k p)
-        ∙ ap not (sym (free_added ps p k)))
+    cells k false lt
+    ∙ ap (λ (xs : List Bool). get_or xs k false || holds k p) is
+    ∙ ap (λ b. b || holds k p) (get_or-map-range_with_len (λ x. not (is_free ps x)) 0 span.len k k false lt (omega arith))
+    ∙ not_and (is_free ps k) (holds k p)
+    ∙ ap not (sym (free_added ps p k)))
 
 -- no placement holds anything
 pub no_cells : (held : List Bool) (start n : ℕ) → held ≡ replicate n false → held ≡ held_cells (record { start = start; len = length held }) []

@@ -29,3 +29,4 @@ pub mod Standing
 pub mod Settling
 pub mod Closing
 pub mod Reaching
+pub mod Ranges

@@ -29,16 +29,16 @@ due_step p i end pos lt =
     let next : due_at p (i + 1) ≡ d + p.interval = next_due p i in
     ap (λ b. cond b ((end - 1 - d) / p.interval + 1) 0) (lt-ltb d end lt)
     ∙ ⊎_elim
-      (λ (more : d + p.interval < end).
-          let back : end - 1 - d ≡ end - 1 - (d + p.interval) + p.interval = omega arith in
-          ap (λ n. n / p.interval + 1) back
-          ∙ ap (λ n. n + 1) (div_more (end - 1 - (d + p.interval)) p.interval pos)
-          ∙ add-one _
-          ∙ ap (λ b. suc (cond b ((end - 1 - (d + p.interval)) / p.interval + 1) 0)) (sym (lt-ltb (d + p.interval) end more)))
-      (λ (last : end ≤ d + p.interval).
-          ap (λ n. n + 1) (div-eq_of_lt (let small : end - 1 - d < p.interval = omega arith in small))
-          ∙ ap (λ b. suc (cond b ((end - 1 - (d + p.interval)) / p.interval + 1) 0)) (sym (not_lt (d + p.interval) end last)))
-      (cases_lt (d + p.interval) end)
+    (λ (more : d + p.interval < end).
+    let back : end - 1 - d ≡ end - 1 - (d + p.interval) + p.interval = omega arith in
+    ap (λ n. n / p.interval + 1) back
+    ∙ ap (λ n. n + 1) (div_more (end - 1 - (d + p.interval)) p.interval pos)
+    ∙ add-one _
+    ∙ ap (λ b. suc (cond b ((end - 1 - (d + p.interval)) / p.interval + 1) 0)) (sym (lt-ltb (d + p.interval) end more)))
+    (λ (last : end ≤ d + p.interval).
+    ap (λ n. n + 1) (div-eq_of_lt (let small : end - 1 - d < p.interval = omega arith in small))
+    ∙ ap (λ b. suc (cond b ((end - 1 - (d + p.interval)) / p.interval + 1) 0)) (sym (not_lt (d + p.interval) end last)))
+    (cases_lt (d + p.interval) end)
     ∙ ap (λ n. suc (cond (ltb n end) ((end - 1 - n) / p.interval + 1) 0)) (sym next)
 
 -- none is

@@ -95,12 +95,11 @@ served_filled t span ack c f0 f1 f2 rs p1 p2 p3 row start placed1 flows1 placed2
     let p1_is : p1 ≡ first.placements = placed1 ∙ ap (λ (p : Passed). p.placements) one in
     let f1_is : map row_of f1 ≡ first.flows = flows1 ∙ ap (λ (p : Passed). p.flows) one in
     let two : pass span (given_to Polls c) (map row_of f1) p1 ≡ fill_polls t span first =
-        ap (λ d. pass span (polls_of_flow d) (map row_of f1) p1) (sym row) ∙ ap (λ (fs : List FlowRow). pass span (polls_of_flow t.row.channel) fs p1) f1_is
-        ∙ ap (λ (ps : List Placement). pass span (polls_of_flow t.row.channel) first.flows ps) p1_is in
-    let p2_is : p2 ≡ (fill_polls t span first).placements = placed2 ∙ ap (λ (p : Passed). p.placements) two in
-    (
+    ap (λ d. pass span (polls_of_flow d) (map row_of f1) p1) (sym row) ∙ ap (λ (fs : List FlowRow). pass span (polls_of_flow t.row.channel) fs p1) f1_is
+    ∙ ap (λ (ps : List Placement). pass span (polls_of_flow t.row.channel) first.flows ps) p1_is in
+    let p2_is : p2 ≡ (fill_polls t span first).placements = placed2 ∙ ap (λ (p : Passed). p.placements) two in (
       placed3 ∙ ap (λ d. place_requests span d rs p2) (sym row) ∙ ap (λ (ws : List Waiting). place_requests span t.row.channel ws p2) order
-      ∙ ap (λ (ps : List Placement). place_requests span t.row.channel (in_order t t.waiting) ps) p2_is,
+          ∙ ap (λ (ps : List Placement). place_requests span t.row.channel (in_order t t.waiting) ps) p2_is,
       flows2 ∙ ap (λ (p : Passed). p.flows) two,
     )
 

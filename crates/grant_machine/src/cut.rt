@@ -19,9 +19,9 @@ ghost use Rattle.grant_machine.specs.Plans.{IsFilledBy, elements_in};
 use crate::drawing;
 use crate::output::{MapBytes, Output};
 use crate::placing::Filling;
-use crate::waiting::{by_priority, place_requests};
 use crate::rows::{copy_flows, copy_requests, set_due_times, take_granted};
 use crate::services::{Service, serve};
+use crate::waiting::{by_priority, place_requests};
 use flow_state::{Channel, ChannelRow, Flow, Flows, Refusal, Waiting};
 use minislot_time::Slot;
 use std::alloc::{AllocError, Global};
@@ -47,16 +47,21 @@ fn is_within_limits(row: &ChannelRow, len: u16, not_before: u64, ack: u64) -> bo
     requires { row.now.next_start ≤ last_time }
     ensures { result ≡ is_none (fill_refusal row.now len not_before ack) }
 {
-    let start = row.next_start.max(not_before);
+    let from = row.next_start.max(not_before);
     1 <= len
         && len <= MOST_MINISLOTS
         && not_before <= LAST_TIME
         && ack <= LAST_TIME
-        && start + u64::from(len) <= LAST_TIME
+        && from + u64::from(len) <= LAST_TIME
 }
 
 /// Places unsolicited grants, then polls, then requests in their order.
-fn place_all(channel: &Channel, filling: &mut Filling, flows: &mut [Flow], requests: &[Waiting]) -> Result<(), AllocError>
+fn place_all(
+    channel: &Channel,
+    filling: &mut Filling,
+    flows: &mut [Flow],
+    requests: &[Waiting],
+) -> Result<(), AllocError>
     requires empty { filling.old.placements ≡ [] }
     requires lent { AllByRecursion IsLent flows.old }
     requires unicast { AllByRecursion IsUnicast requests.now }
@@ -72,7 +77,14 @@ fn place_all(channel: &Channel, filling: &mut Filling, flows: &mut [Flow], reque
 }
 
 /// Fills a channel's next MAP.
-fn fill(alloc: Global, flows: &Flows, ch: u8, channel: &Channel, start: u64, len: u16) -> Result<Filled, AllocError>
+fn fill(
+    alloc: Global,
+    flows: &Flows,
+    ch: u8,
+    channel: &Channel,
+    start: u64,
+    len: u16,
+) -> Result<Filled, AllocError>
     requires reached { IsReached flows.now }
     requires channel { (t : Table) → table_of flows.now ch ≡ Some t → t.row.channel ≡ channel.now }
     requires short { len ≤ 4096 }
@@ -104,7 +116,13 @@ fn close(flows: &mut Flows, ch: u8, filled: &Filled, ack: u64)
 }
 
 /// The bytes of a filled MAP's body.
-fn draw(alloc: Global, channel: &Channel, filled: &Filled, start: Slot, ack: Slot) -> Result<Vec<u8>, AllocError>
+fn draw(
+    alloc: Global,
+    channel: &Channel,
+    filled: &Filled,
+    start: Slot,
+    ack: Slot,
+) -> Result<Vec<u8>, AllocError>
     requires unicast { AllByRecursion IsUnicast filled.now.requests.items }
     requires sound { AreElements (elements_in channel.now filled.now) }
     requires few { length (elements_in channel.now filled.now) ≤ 255 }
@@ -116,7 +134,15 @@ fn draw(alloc: Global, channel: &Channel, filled: &Filled, start: Slot, ack: Slo
 }
 
 /// Makes a channel's next MAP, which is within the limits.
-fn cut_row(flows: &mut Flows, alloc: Global, ch: u8, row: ChannelRow, len: u16, not_before: u64, ack: u64) -> Result<Output, AllocError>
+fn cut_row(
+    flows: &mut Flows,
+    alloc: Global,
+    ch: u8,
+    row: ChannelRow,
+    len: u16,
+    not_before: u64,
+    ack: u64,
+) -> Result<Output, AllocError>
     requires reached { IsReached flows.old }
     requires there { channel_at flows.old ch ≡ Some row }
     requires good { fill_refusal row len not_before ack ≡ None }
@@ -128,7 +154,13 @@ fn cut_row(flows: &mut Flows, alloc: Global, ch: u8, row: ChannelRow, len: u16, 
     let ack_time = row.ack.max(ack.min(start));
     let filled = fill(alloc, flows, ch, &row.channel, start, len)?;
     let slot = Slot::new(start).unwrap();
-    let bytes = draw(alloc, &row.channel, &filled, slot, Slot::new(ack_time).unwrap())?;
+    let bytes = draw(
+        alloc,
+        &row.channel,
+        &filled,
+        slot,
+        Slot::new(ack_time).unwrap(),
+    )?;
     close(flows, ch, &filled, ack_time);
     Ok(Output::Map {
         ch,
@@ -139,7 +171,14 @@ fn cut_row(flows: &mut Flows, alloc: Global, ch: u8, row: ChannelRow, len: u16, 
 }
 
 /// Makes a channel's next MAP.
-pub fn cut(flows: &mut Flows, alloc: Global, ch: u8, len: u16, not_before: u64, ack: u64) -> Result<Output, AllocError>
+pub fn cut(
+    flows: &mut Flows,
+    alloc: Global,
+    ch: u8,
+    len: u16,
+    not_before: u64,
+    ack: u64,
+) -> Result<Output, AllocError>
     requires { IsReached flows.old }
     ensures output { IfOk result (λ output. output ≡ (step flows.old (commands.Cut ch len not_before ack)).output) }
     ensures fits { FitsCommand (commands.Cut ch len not_before ack) }

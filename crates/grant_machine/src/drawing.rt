@@ -12,8 +12,8 @@ ghost use Rattle.grant_machine.specs.Drawing.{free_element, null_element, pendin
 ghost use Rattle.grant_machine.specs.Lent.{IsUnicast};
 
 use crate::placing::{Filling, Placement};
-use crate::waiting::is_granted;
 use crate::services::grant_iuc;
+use crate::waiting::is_granted;
 use flow_state::{Channel, Waiting};
 use map_body::{Element, Head, Iuc, MapBody, Offset, Sid, encode};
 use minislot_time::{Slot, wire};
@@ -78,7 +78,11 @@ fn begins_at(placements: &[Placement], x: u16) -> Option<Element>
 }
 
 /// Adds an element for each placement and each longest free run, by offset.
-fn put_intervals(elements: &mut Vec<Element>, placements: &[Placement], len: u16) -> Result<(), AllocError>
+fn put_intervals(
+    elements: &mut Vec<Element>,
+    placements: &[Placement],
+    len: u16,
+) -> Result<(), AllocError>
     requires { len ≤ 4096 }
     ensures { OnOk result (elements.new.items ≡ elements.old.items ++ filter_map (begins_at placements.now) (range_with_len 0 len)) }
 {
@@ -91,7 +95,13 @@ fn put_intervals(elements: &mut Vec<Element>, placements: &[Placement], len: u16
 }
 
 /// Adds an element for each request that is not granted.
-fn put_pending(elements: &mut Vec<Element>, channel: &Channel, placements: &[Placement], requests: &[Waiting], len: u16) -> Result<(), AllocError>
+fn put_pending(
+    elements: &mut Vec<Element>,
+    channel: &Channel,
+    placements: &[Placement],
+    requests: &[Waiting],
+    len: u16,
+) -> Result<(), AllocError>
     requires short { len ≤ 4096 }
     requires unicast { AllByRecursion IsUnicast requests.now }
     ensures { OnOk result (elements.new.items ≡ elements.old.items ++ map (pending_element channel.now len) (still_waiting placements.now requests.now)) }
@@ -110,7 +120,12 @@ fn put_pending(elements: &mut Vec<Element>, channel: &Channel, placements: &[Pla
 
 /// The elements of a filled MAP: those by offset, the Null at its length, then those of the
 /// requests that still wait.
-pub fn elements_of(alloc: Global, channel: &Channel, filling: &Filling, requests: &[Waiting]) -> Result<Vec<Element>, AllocError>
+pub fn elements_of(
+    alloc: Global,
+    channel: &Channel,
+    filling: &Filling,
+    requests: &[Waiting],
+) -> Result<Vec<Element>, AllocError>
     requires { AllByRecursion IsUnicast requests.now }
     ensures { IfOk result (λ elements. elements.items ≡ filter_map (begins_at filling.now.placements) (range_with_len 0 filling.now.span.len) ++ null_element filling.now.span.len ∷ map (pending_element channel.now filling.now.span.len) (still_waiting filling.now.placements requests.now)) }
 {

@@ -42,7 +42,13 @@ pub fn set_channel(flows: &mut Flows, channel: Channel) -> Result<Output, AllocE
 }
 
 /// Adds a flow of a modem, under a tag of its own.
-pub fn add_flow(flows: &mut Flows, ch: u8, modem: u32, tag: u32, kind: FlowKind) -> Result<Output, AllocError>
+pub fn add_flow(
+    flows: &mut Flows,
+    ch: u8,
+    modem: u32,
+    tag: u32,
+    kind: FlowKind,
+) -> Result<Output, AllocError>
     ensures output { IfOk result (λ output. output ≡ (step flows.old (commands.Flow ch modem tag kind)).output) }
     ensures fits { FitsCommand (commands.Flow ch modem tag kind) }
     ensures rows { OnOk result (flows.new ≡ (step flows.old (commands.Flow ch modem tag kind)).rows) }

@@ -37,7 +37,15 @@ fn periodic_of(service: Service, channel: &Channel, flow: &Flow) -> Option<Perio
 {
     let sid = Sid::new(flow.sid).unwrap();
     match (service, flow.kind) {
-        (Service::Grants, FlowKind::Ugs { size, interval, jitter, base }) => Some(Periodic {
+        (
+            Service::Grants,
+            FlowKind::Ugs {
+                size,
+                interval,
+                jitter,
+                base,
+            },
+        ) => Some(Periodic {
             sid,
             iuc: grant_iuc(channel, size),
             size,
@@ -45,7 +53,14 @@ fn periodic_of(service: Service, channel: &Channel, flow: &Flow) -> Option<Perio
             jitter,
             base,
         }),
-        (Service::Polls, FlowKind::Poll { interval, jitter, base }) => Some(Periodic {
+        (
+            Service::Polls,
+            FlowKind::Poll {
+                interval,
+                jitter,
+                base,
+            },
+        ) => Some(Periodic {
             sid,
             iuc: Iuc::new(1).unwrap(),
             size: 1,
@@ -58,7 +73,12 @@ fn periodic_of(service: Service, channel: &Channel, flow: &Flow) -> Option<Perio
 }
 
 /// Places what a service gives a flow before the MAP's end. The flow's next due time.
-fn next_due(service: Service, channel: &Channel, filling: &mut Filling, flow: &Flow) -> Result<u64, AllocError>
+fn next_due(
+    service: Service,
+    channel: &Channel,
+    filling: &mut Filling,
+    flow: &Flow,
+) -> Result<u64, AllocError>
     requires { IsLent flow.now }
     ensures span { filling.new.span ≡ filling.old.span }
     ensures placed { OnOk result (filling.new.placements ≡ (run_flow filling.old.span (given service channel.now flow.now.sid flow.now.kind) (due_index flow.now.kind flow.now.due) filling.old.placements).placements) }
@@ -77,7 +97,12 @@ fn next_due(service: Service, channel: &Channel, filling: &mut Filling, flow: &F
 }
 
 /// Places what a service gives the flows of a channel, by SID, and sets their next due times.
-pub fn serve(service: Service, channel: &Channel, filling: &mut Filling, flows: &mut [Flow]) -> Result<(), AllocError>
+pub fn serve(
+    service: Service,
+    channel: &Channel,
+    filling: &mut Filling,
+    flows: &mut [Flow],
+) -> Result<(), AllocError>
     requires { AllByRecursion IsLent flows.old }
     ensures span { filling.new.span ≡ filling.old.span }
     ensures placed { OnOk result (filling.new.placements ≡ (pass filling.old.span (given_to service channel.now) (map row_of flows.old) filling.old.placements).placements) }

@@ -36,7 +36,12 @@ fn request_priority(flows: &[Flow], request: &Waiting) -> u8
 }
 
 /// Adds the requests of one priority, by arrival.
-fn add_priority(ordered: &mut Vec<Waiting>, flows: &[Flow], waiting: &[Waiting], priority: u8) -> Result<(), AllocError>
+fn add_priority(
+    ordered: &mut Vec<Waiting>,
+    flows: &[Flow],
+    waiting: &[Waiting],
+    priority: u8,
+) -> Result<(), AllocError>
     ensures { OnOk result (ordered.new.items ≡ ordered.old.items ++ of_priority flows.now waiting.now priority) }
 {
     for request in waiting {
@@ -48,7 +53,11 @@ fn add_priority(ordered: &mut Vec<Waiting>, flows: &[Flow], waiting: &[Waiting],
 }
 
 /// The waiting requests by priority, greater first, and then by arrival.
-pub fn by_priority(alloc: Global, flows: &[Flow], waiting: &[Waiting]) -> Result<Vec<Waiting>, AllocError>
+pub fn by_priority(
+    alloc: Global,
+    flows: &[Flow],
+    waiting: &[Waiting],
+) -> Result<Vec<Waiting>, AllocError>
     ensures { IfOk result (λ ordered. ordered.items ≡ by_priority flows.now waiting.now) }
 {
     let mut ordered = Vec::new(alloc);
@@ -59,7 +68,11 @@ pub fn by_priority(alloc: Global, flows: &[Flow], waiting: &[Waiting]) -> Result
 }
 
 /// Places each request whole at its first fit, where there is one.
-pub fn place_requests(filling: &mut Filling, channel: &Channel, requests: &[Waiting]) -> Result<(), AllocError>
+pub fn place_requests(
+    filling: &mut Filling,
+    channel: &Channel,
+    requests: &[Waiting],
+) -> Result<(), AllocError>
     requires { AllByRecursion IsUnicast requests.now }
     ensures span { filling.new.span ≡ filling.old.span }
     ensures placed { OnOk result (filling.new.placements ≡ place_requests filling.old.span channel.now requests.now filling.old.placements) }
@@ -76,7 +89,13 @@ ghost use Rattle.std.specs.Prelude.{◌-◌, ◌∷◌, []};
 ghost use Rattle.grant_machine.specs.Cutting.{end_of};
 
 /// Places a request whole at its first fit, where there is one.
-fn place_request(filling: &mut Filling, channel: &Channel, request: &Waiting, start: u64, end: u64) -> Result<(), AllocError>
+fn place_request(
+    filling: &mut Filling,
+    channel: &Channel,
+    request: &Waiting,
+    start: u64,
+    end: u64,
+) -> Result<(), AllocError>
     requires unicast { IsUnicast request.now }
     requires begun { start ≡ filling.old.span.start }
     requires ended { end ≡ end_of filling.old.span }
@@ -112,5 +131,7 @@ pub fn is_granted(placements: &[Placement], request: &Waiting) -> bool
 {
     let sid = request.sid;
     let sent = request.sent;
-    placements.iter().any(|p| p.sid.get() == sid && is_cause_sent(p.cause, sent))
+    placements
+        .iter()
+        .any(|p| p.sid.get() == sid && is_cause_sent(p.cause, sent))
 }

@@ -43,11 +43,10 @@ empty_content c used is none sound empty =
 module _ {R : Type 0} (may_find : R → Content → Type 0) (old : Parts R) (up : old.is_down ≡ false) where
   -- it is fresh exactly where it is untouched over no content
   pub fresh_so : (c : Content) → c ≡ no_content → (fresh : Bool) → (IsTrue fresh ↔ IsUntouched old) → IsTrue fresh ↔ (view_over old c ≡ started no_content)
-  fresh_so c empty fresh is =
-      (
-        λ yes. let so = is.0 yes in (λ i. record { content = empty i; role = so.0 i; hint = so.1 i; tally = ap (λ (l : Learned). l.tally) so.2 i; cursor = ap (λ (l : Learned). l.cursor) so.2 i }),
-        λ same. is.1 (ap (λ (v : View). v.role) same, ap (λ (v : View). v.hint) same, ap (λ (v : View). record { tally = v.tally; cursor = v.cursor }) same),
-      )
+  fresh_so c empty fresh is = (
+    λ yes. let so = is.0 yes in (λ i. record { content = empty i; role = so.0 i; hint = so.1 i; tally = ap (λ (l : Learned). l.tally) so.2 i; cursor = ap (λ (l : Learned). l.cursor) so.2 i }),
+    λ same. is.1 (ap (λ (v : View). v.role) same, ap (λ (v : View). v.hint) same, ap (λ (v : View). record { tally = v.tally; cursor = v.cursor }) same),
+  )
 
   pub used_content : (c : Content) (used : ℕ) → used ≡ max c.tried (promised c) → (used ≡ 0 → ⊥) → view_over old c ≡ started no_content → ⊥
   used_content c used is some same = let empty : c ≡ no_content = ap (λ (v : View). v.content) same in some (is ∙ ap (λ (d : Content). max d.tried (promised d)) empty)

@@ -46,6 +46,5 @@ module _ (log : LogView) (learned : Rows) (is_log : IsLog log) (are : AreRows 1 
   pub same_outputs : applied_outputs log ≡ outputs_of_values (values_from 1 learned)
   same_outputs = sym (outputs_first log.applied (gapless log.learned)) ∙ ap outputs_of_values same_values
 
-
   pub same_length : log.applied ≡ length (values_from 1 learned)
   same_length = omega (arith, ap length same_values, is_log.gapless, length-take log.applied (gapless log.learned))

@@ -89,23 +89,23 @@ front p (suc n) (row ∷ rows) second are_first are_second part few none = elim 
     by_second go [] are part none is = let there : at [] p ≡ Some row.1 = part p row.1 (at_here row rows p (sym is)) in absurd (cc (there))
     by_second go (other ∷ others) are part none is = elim (cases_eq other.0 p) [
       | inl same ↦
-        let found : at (other ∷ others) p ≡ Some row.1 = part p row.1 (at_here row rows p (sym is)) in
-        let told : Some other.1 ≡ Some row.1 = sym (at_here other others p (sym same)) ∙ found in
-        let value : row.1 ≡ other.1 = cc in
-        let later_first : AreRows (p + 1) rows = subst (λ k. AreRows (k + 1) rows) is are_first.2 in
-        let later_second : AreRows (p + 1) others = subst (λ k. AreRows (k + 1) others) same are.2 in
-        let rest : IsPart rows others = λ q w here.
+          let found : at (other ∷ others) p ≡ Some row.1 = part p row.1 (at_here row rows p (sym is)) in
+          let told : Some other.1 ≡ Some row.1 = sym (at_here other others p (sym same)) ∙ found in
+          let value : row.1 ≡ other.1 = cc in
+          let later_first : AreRows (p + 1) rows = subst (λ k. AreRows (k + 1) rows) is are_first.2 in
+          let later_second : AreRows (p + 1) others = subst (λ k. AreRows (k + 1) others) same are.2 in
+          let rest : IsPart rows others = λ q w here.
           let past : q ≢ p = λ at_p. let nothing : at rows p ≡ None = none_below p (p + 1) rows (omega arith) later_first in let something : at rows p ≡ Some w = ap (at rows) (sym at_p) ∙ here in absurd (cc (nothing, something)) in
           sym (at_there other others q (omega arith)) ∙ part q w (at_there row rows q (omega arith) ∙ here) in
-        let fewer : n ≤ length (values_from (p + 1) rows) = omega (arith, few, ap length (values_here p row rows is)) in
-        let place : p + suc n ≡ p + 1 + n = omega arith in
-        let ends : at others (p + 1 + n) ≡ None = ap (at others) (sym place) ∙ sym (at_there other others (p + suc n) (omega arith)) ∙ none in
-        ap (take (suc n)) (values_here p row rows is) ∙ ap (λ (vs : List (List ℕ)). row.1 ∷ vs) (go others later_first later_second rest fewer ends)
-        ∙ ap (λ v. v ∷ values_from (p + 1) others) value ∙ sym (values_here p other others same)
+          let fewer : n ≤ length (values_from (p + 1) rows) = omega (arith, few, ap length (values_here p row rows is)) in
+          let place : p + suc n ≡ p + 1 + n = omega arith in
+          let ends : at others (p + 1 + n) ≡ None = ap (at others) (sym place) ∙ sym (at_there other others (p + suc n) (omega arith)) ∙ none in
+          ap (take (suc n)) (values_here p row rows is) ∙ ap (λ (vs : List (List ℕ)). row.1 ∷ vs) (go others later_first later_second rest fewer ends)
+          ∙ ap (λ v. v ∷ values_from (p + 1) others) value ∙ sym (values_here p other others same)
       | inr past ↦
-        let found : at (other ∷ others) p ≡ Some row.1 = part p row.1 (at_here row rows p (sym is)) in
-        let nothing : at (other ∷ others) p ≡ None = none_below p other.0 (other ∷ others) (omega (arith, are.0)) (omega arith, are.1, are.2) in
-        absurd (cc (found, nothing))
+          let found : at (other ∷ others) p ≡ Some row.1 = part p row.1 (at_here row rows p (sym is)) in
+          let nothing : at (other ∷ others) p ≡ None = none_below p other.0 (other ∷ others) (omega (arith, are.0)) (omega arith, are.1, are.2) in
+          absurd (cc (found, nothing))
     ]
 
 -- the next value that is put makes one more without a gap
@@ -119,11 +119,11 @@ one_more rows n v are few within same = by_value (at rows (n + 1)) refl
     reaches : n ≤ length (gapless (put rows (n + 1) v)) → n < length (gapless (put rows (n + 1) v))
     reaches below = elim (cases_eq n (length (gapless (put rows (n + 1) v)))) [
       | inl is ↦
-        let place : n + 1 ≡ 1 + n = omega arith in
-        let here : at (put rows (n + 1) v) (n + 1) ≡ slice_get (gapless (put rows (n + 1) v)) n = ap (at (put rows (n + 1) v)) place ∙ value_is_at 1 n (put rows (n + 1) v) later below in
-        let past : slice_get (gapless (put rows (n + 1) v)) n ≡ None = slice_get_past (gapless (put rows (n + 1) v)) n (omega arith) in
-        let there : at (put rows (n + 1) v) (n + 1) ≡ Some v = at_put_same rows (n + 1) v in
-        absurd (cc (here, past, there))
+          let place : n + 1 ≡ 1 + n = omega arith in
+          let here : at (put rows (n + 1) v) (n + 1) ≡ slice_get (gapless (put rows (n + 1) v)) n = ap (at (put rows (n + 1) v)) place ∙ value_is_at 1 n (put rows (n + 1) v) later below in
+          let past : slice_get (gapless (put rows (n + 1) v)) n ≡ None = slice_get_past (gapless (put rows (n + 1) v)) n (omega arith) in
+          let there : at (put rows (n + 1) v) (n + 1) ≡ Some v = at_put_same rows (n + 1) v in
+          absurd (cc (here, past, there))
       | inr other ↦ omega (arith, below, other)
     ]
 

@@ -23,7 +23,7 @@ module _ {R : Type 0} (may_find : R → Content → Type 0) (old : Parts R) (up 
   releases now numbered is after (Running view) stands =
       let told : numbered ≡ released now view.cursor (outputs_of_values (values_from 1 view.tally.learned)) = subst (λ (v : View). numbered ≡ released now v.cursor (outputs_of_values (values_from 1 v.tally.learned))) (sym stands.1) is in
       let same : released_all view ≡ view_over later view.content =
-        ap released_all stands.1 ∙ ap (λ (l : Learned). record (view_over old view.content) { tally = l.tally; cursor = l.cursor }) (sym after) in
+      ap released_all stands.1 ∙ ap (λ (l : Learned). record (view_over old view.content) { tally = l.tally; cursor = l.cursor }) (sym after) in
       (Running (released_all view), (told, refl), (up, same, stands.2))
   releases now numbered is after (Stopped c doubt) stands = absurd (cc (up, stands.0))
 

@@ -75,4 +75,3 @@ pub(crate) fn is_heeded(members: Members, me: NodeId, letter: &Letter) -> bool
         && letter.to.number() == me.number()
         && is_sound(letter)
 }
-

@@ -89,4 +89,3 @@ pub(crate) fn replace_last(letters: &mut Vec<Letter>, letter: Letter)
     let last = letters.len() - 1;
     letters[last] = letter;
 }
-

@@ -15,7 +15,7 @@ ghost use Rattle.node.specs.Step.{Leads, accept, after_higher, are_votes, heed, 
 use crate::knowledge::Knowledge;
 use crate::letters::{known_letters, one_letter, prefix_len, prepared_note, replace_last};
 use acceptor::{Accepted, Acceptor, Records, RecordsFault};
-use ballots::{Ballot, Bytes, Letter, Note, NodeId, Place, Value, Votes};
+use ballots::{Ballot, Bytes, Letter, NodeId, Note, Place, Value, Votes};
 use map_release::Numbered;
 use proposer::{NodeFault, Proposer, Role, to_all};
 use std::alloc::{AllocError, Global};

@@ -8,8 +8,8 @@ ghost use Rattle.node.specs.Sched.{Stands, who_of};
 ghost use Rattle.node.specs.View.{Standing, started};
 ghost use Rattle.node.specs.View.Standing.{Running};
 
-use crate::knowledge::Knowledge;
 use crate::heeded::is_heeded;
+use crate::knowledge::Knowledge;
 use crate::node::Node;
 use crate::parts::Parts;
 use acceptor::{Acceptor, Records};
@@ -48,6 +48,7 @@ impl<R: Records> SchedNode<R> {
 
 impl<R: Records + Drop> Node for SchedNode<R> {
     ghost use Rattle.std.specs.Prelude.{Option};
+
     ghost who = { λ n. who_of R.count_of n.parts };
 
     ghost honest = { λ n. R.is_honest n.parts.acceptor.records };

@@ -24,7 +24,11 @@ struct Cluster {
     letters: Vec<Letter>,
 }
 
-fn fresh_node(alloc: Global, id: NodeId, members: Members) -> Result<SchedNode<PlainRecords>, Fail> {
+fn fresh_node(
+    alloc: Global,
+    id: NodeId,
+    members: Members,
+) -> Result<SchedNode<PlainRecords>, Fail> {
     if id.number() >= members.count() {
         return Err("member".into());
     }

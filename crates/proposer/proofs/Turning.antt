@@ -43,4 +43,3 @@ still_holds old new c same holds = ((same c).0 holds.0, λ d found. holds.1 d ((
 
 pub may_have_tried : (old mid new : Findable) (hint me b : ℕ) → IsNextBallot old hint me b → FindsSame old mid → MayHaveMade mid new (Tries b) → MayHaveTried old new hint me
 may_have_tried old mid new hint me b next same made = λ c holds. inr (b, next c holds, made c (still_holds old mid c same holds))
-

@@ -31,7 +31,6 @@ pub enum NodeFault {
 
 impl From<AllocError> for NodeFault {
     ghost use Rattle.proposer.specs.declared.fault.NodeFault.TheVariants.{OutOfMemory};
-
     ghost use Rattle.std.specs.Prelude.{◌≡◌};
 
     ghost from_gives = { λ _ e. e ≡ OutOfMemory };
@@ -43,7 +42,6 @@ impl From<AllocError> for NodeFault {
 
 impl<T: Drop> From<AllocFailed<T>> for NodeFault {
     ghost use Rattle.proposer.specs.declared.fault.NodeFault.TheVariants.{OutOfMemory};
-
     ghost use Rattle.std.specs.Prelude.{◌≡◌};
 
     ghost from_gives = { λ _ e. e ≡ OutOfMemory };
@@ -55,7 +53,6 @@ impl<T: Drop> From<AllocFailed<T>> for NodeFault {
 
 impl From<RecordsFault> for NodeFault {
     ghost use Rattle.proposer.specs.Faults.{told};
-
     ghost use Rattle.std.specs.Prelude.{◌≡◌};
 
     ghost from_gives = { λ fault e. e ≡ told fault };

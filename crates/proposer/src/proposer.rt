@@ -20,7 +20,9 @@ use crate::letters::to_all;
 use crate::promises::{Joined, Nodes};
 use crate::role::{Role, higher};
 use acceptor::{Records, RecordsFault};
-use ballots::{Ballot, Bytes, Cast, LONGEST_VALUE, Letter, MOST_PLACES, Members, NodeId, Note, least_above};
+use ballots::{
+    Ballot, Bytes, Cast, LONGEST_VALUE, Letter, MOST_PLACES, Members, NodeId, Note, least_above,
+};
 use std::alloc::{AllocError, Global};
 use std::mem;
 

@@ -101,7 +101,10 @@ fn a_refused_command(rt: HostRuntime) {
     let plan = "command = [{kind = 'drop', ch = 1, sid = 1}, {kind = 'noop'}]";
     let run = run_of_maps(rt.alloc(), plan.as_bytes());
     assert_eq!(rt; run.status, Status::Done);
-    assert_eq!(rt; run.output.as_slice(), b"1 refused 1\n2 nothing\n".as_slice());
+    assert_eq!(rt;
+        run.output.as_slice(),
+        b"1 refused 1\n2 nothing\n".as_slice()
+    );
     assert!(rt; run.errors.is_empty());
 }
 

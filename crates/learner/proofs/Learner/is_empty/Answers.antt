@@ -17,8 +17,7 @@ pub returns : goal.returns
 returns c =
     let l = c.args.self.now in
     let len : vec_len l.counted ≡ 0 = eqb-true (vec_len l.counted) 0 (sym c.if-not-is_empty.ensures) in
-    let counted : l.counted.items ≡ [] = nil_from_length l.counted.items (omega (arith, l.counted.ok.0)) in
-    (
+    let counted : l.counted.items ≡ [] = nil_from_length l.counted.items (omega (arith, l.counted.ok.0)) in (
       λ yes. let learned = nil_from_length l.learned.entries (c.is_empty-2.ensures.0 yes) in (λ i. record { counted = counted i; learned = learned i }),
       λ is. c.is_empty-2.ensures.1 (ap (λ (t : Tally). length t.learned) is),
     )

@@ -21,8 +21,7 @@ loop-applied-preserved c =
     let was : c.learn.new.self.applied ≡ n = ap (λ (l : LogView). l.applied) c.in-Ok.ensures.ok.1 ∙ c.loop-applied.invariant.0 in
     let longer : n < length (gapless c.learn.new.self.learned) = subst (λ r. n < length (gapless r)) (sym before) more.1 in
     let yes : c.in_ok-advance.field-0 ≡ true = c.in_ok-advance.ensures.more.1 (subst (λ k. k < length (gapless c.learn.new.self.learned)) (sym was) longer) in
-    let applied : c.advance.new.self.applied ≡ n + 1 = c.in_ok-advance.ensures.applied ∙ (λ i. was i + (if yes i then 1 else 0)) in
-    (
+    let applied : c.advance.new.self.applied ≡ n + 1 = c.in_ok-advance.ensures.applied ∙ (λ i. was i + (if yes i then 1 else 0)) in (
       applied,
       record {
         rows = subst (AreRows 1) (sym learned) more.0;

@@ -19,7 +19,7 @@ returns-in-Err-clause-done g c honest content holds =
     let stops : Stops record old { acceptor = record { records = c.lead.new.records } } c.in-Err.fault c.stop.new.self = subst (λ (p : Proposer). Stops record old { acceptor = record { records = c.lead.new.records }; proposer = p } c.in-Err.fault c.stop.new.self) c.in-Err.ensures.unchanged c.stop.ensures.stops in
     subst (λ f. Ended g.R.Records.may_find old c.requires content holds c.prefix_len-prefix.result c.lead.new.records below full (Err f) c.stop.new.self) (sym c.stop.ensures.same)
     (lead_fails g.R.Records.may_find old c.requires content holds c.prefix_len-prefix.result c.lead.new.records below full c.in-Err.fault c.stop.new.self
-      (c.in-Err.ensures.declined before) (c.in-Err.ensures.harmless before) (c.in-Err.ensures.doubt before) stops)
+    (c.in-Err.ensures.declined before) (c.in-Err.ensures.harmless before) (c.in-Err.ensures.doubt before) stops)
 
 pub returns-in-Ok-clause-done : goal.returns-in-Ok-clause-done
 returns-in-Ok-clause-done g c honest content holds =

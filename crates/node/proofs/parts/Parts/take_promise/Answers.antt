@@ -26,8 +26,8 @@ returns-clause-done g c honest content holds =
     let me = old.proposer.id in
     let view = view_over old content in
     let given : turn.promise members me old.proposer.role c.args.ballot c.args.place c.args.votes.now c.args.from ≡ record { role = c.promise.new.self.role; letters = c.in_ok-promise.field-0.items } =
-      ap (λ vs. turn.promise members me old.proposer.role c.args.ballot c.args.place vs c.args.from) (sym (all_in_log c.args.ballot c.args.place c.args.votes.now c.requires.sound))
-      ∙ ap (λ vs. turn.promise members me old.proposer.role c.args.ballot c.args.place (in_log vs) c.args.from) (sym c.rows.ensures) ∙ c.in_ok-promise.ensures.ok in
+    ap (λ vs. turn.promise members me old.proposer.role c.args.ballot c.args.place vs c.args.from) (sym (all_in_log c.args.ballot c.args.place c.args.votes.now c.requires.sound))
+    ∙ ap (λ vs. turn.promise members me old.proposer.role c.args.ballot c.args.place (in_log vs) c.args.from) (sym c.rows.ensures) ∙ c.in_ok-promise.ensures.ok in
     let hint : old.proposer.hint ≡ c.promise.new.self.hint = sym (ap (λ (p : Proposer). p.hint) c.in_ok-promise.ensures.rest) in
     let o = turned view record { role = c.promise.new.self.role; letters = c.in_ok-promise.field-0.items } in
     turns g.R.Records.may_find old c.requires.up content holds (λ course. course ≡ Ok (promise members me view old.proposer.role c.args.ballot c.args.place c.args.votes.now c.args.from))

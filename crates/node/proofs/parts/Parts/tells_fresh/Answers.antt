@@ -37,7 +37,7 @@ returns-then-not-is_empty-clause-done g c honest =
     let votes : c.in-Ok-votes_from.votes ≡ [] → ⊥ = λ none. absurd (cc (eq-eqb (length c.rows.result.now) 0 (ap length (c.rows.ensures ∙ none)), c.if-not-is_empty.ensures)) in
     tells g.R.Records.may_find c.args.self.now c.requires record { records = c.votes_from.new.self } (both_same _ _ _ (c.in-Ok.ensures.kept first) (c.in-Ok-votes_from.ensures.kept honest)) _
     (λ content holds. no_tell _ (voted_content g.R.Records.may_find c.args.self.now c.requires content c.in-Ok-votes_from.votes
-      (c.in-Ok-votes_from.ensures.value honest content (still_holds _ _ content (c.in-Ok.ensures.kept first) holds) ∙ ap (rows_from content.votes) c.place_of.ensures) votes))
+    (c.in-Ok-votes_from.ensures.value honest content (still_holds _ _ content (c.in-Ok.ensures.kept first) holds) ∙ ap (rows_from content.votes) c.place_of.ensures) votes))
 
 pub returns-clause-done : goal.returns-clause-done
 returns-clause-done g c honest =
@@ -45,6 +45,6 @@ returns-clause-done g c honest =
     let votes : c.in-Ok-votes_from.votes ≡ [] = sym c.rows.ensures ∙ nil_from_length c.rows.result.now (eqb-true (length c.rows.result.now) 0 (sym c.if-not-is_empty.ensures)) in
     tells g.R.Records.may_find c.args.self.now c.requires record { records = c.votes_from.new.self } (both_same _ _ _ (c.in-Ok.ensures.kept first) (c.in-Ok-votes_from.ensures.kept honest)) c.is_untouched.result
     (λ content holds.
-      let mid = still_holds _ _ content (c.in-Ok.ensures.kept first) holds in
-      let rows : rows_from content.votes 1 ≡ [] = sym (c.in-Ok-votes_from.ensures.value honest content mid ∙ ap (rows_from content.votes) c.place_of.ensures) ∙ votes in
-      fresh_so g.R.Records.may_find c.args.self.now c.requires content (empty_content content c.in-Ok.used (c.in-Ok.ensures.value first content holds) (omega (arith, c.if-used-ne0.false)) (c.in-Ok-votes_from.ensures.sound honest content mid) rows) c.is_untouched.result c.is_untouched.ensures)
+    let mid = still_holds _ _ content (c.in-Ok.ensures.kept first) holds in
+    let rows : rows_from content.votes 1 ≡ [] = sym (c.in-Ok-votes_from.ensures.value honest content mid ∙ ap (rows_from content.votes) c.place_of.ensures) ∙ votes in
+    fresh_so g.R.Records.may_find c.args.self.now c.requires content (empty_content content c.in-Ok.used (c.in-Ok.ensures.value first content holds) (omega (arith, c.if-used-ne0.false)) (c.in-Ok-votes_from.ensures.sound honest content mid) rows) c.is_untouched.result c.is_untouched.ensures)

@@ -17,14 +17,12 @@ loop-vote-preserved c =
     let so_far : join was (in_log (vote ∷ rest)) ≡ join c.args.self.now (in_log c.args.votes.now) = ap (λ v. join was (in_log v)) (sym here) ∙ c.loop-vote.invariant.0 in
     elim c.if-vote-le-MOST_PLACES.branch [
       | then-vote-le-MOST_PLACES+in_ok-join_vote w ↦
-        let is : c.if-vote-le-MOST_PLACES.rows.entries ≡ join_one was vote.0 vote.1 (at was vote.0) = ap (λ m. m.entries) w.rows-is ∙ w.in_ok-join_vote.ensures in
-        (
-          ap (λ r. join r (in_log rest)) is ∙ sym (joins was vote rest w.if-vote-le-MOST_PLACES.true) ∙ so_far,
-          subst AreInLog (sym is) (join_one_in_log was vote.0 vote.1 (at was vote.0) c.loop-vote.invariant.1 w.if-vote-le-MOST_PLACES.true),
-        )
-      | else-vote-le-MOST_PLACES w ↦
-        (
-          ap (λ m. join m.entries (in_log rest)) w.rows-is ∙ sym (passes was vote rest w.if-vote-le-MOST_PLACES.false) ∙ so_far,
-          subst (λ m. AreInLog m.entries) (sym w.rows-is) c.loop-vote.invariant.1,
-        )
+          let is : c.if-vote-le-MOST_PLACES.rows.entries ≡ join_one was vote.0 vote.1 (at was vote.0) = ap (λ m. m.entries) w.rows-is ∙ w.in_ok-join_vote.ensures in (
+            ap (λ r. join r (in_log rest)) is ∙ sym (joins was vote rest w.if-vote-le-MOST_PLACES.true) ∙ so_far,
+            subst AreInLog (sym is) (join_one_in_log was vote.0 vote.1 (at was vote.0) c.loop-vote.invariant.1 w.if-vote-le-MOST_PLACES.true),
+          )
+      | else-vote-le-MOST_PLACES w ↦ (
+        ap (λ m. join m.entries (in_log rest)) w.rows-is ∙ sym (passes was vote rest w.if-vote-le-MOST_PLACES.false) ∙ so_far,
+        subst (λ m. AreInLog m.entries) (sym w.rows-is) c.loop-vote.invariant.1,
+      )
     ]
