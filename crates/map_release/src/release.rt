@@ -3,7 +3,7 @@ ghost use Rattle.map_release.specs.Released.{applied_outputs, has_ended, release
 
 use crate::numbered::Numbered;
 use command_log::Log;
-use grant_machine::Output;
+use grant_machine::{Output, again};
 use std::alloc::{AllocError, Global};
 use std::marker::Model;
 
@@ -15,12 +15,6 @@ fn has_ended(output: &Output, now: u64) -> bool
         Output::Map { start, len, .. } => start.get() + u64::from(*len) <= now,
         _ => false,
     }
-}
-
-fn copy_of(output: &Output) -> Result<Output, AllocError>
-    ensures { IfOk result (λ copy. copy ≡ output.now) }
-{
-    output.clone()
 }
 
 /// The outputs of the places behind the cursor that the log has applied, without the MAPs that have
@@ -38,7 +32,7 @@ fn outputs_behind(
         let place = passed + 1;
         if let Some(output) = log.output(place) {
             if !has_ended(output, now) {
-                let output = copy_of(output)?;
+                let output = again(output)?;
                 outputs
                     .push(Numbered { place, output })
                     .map_err(AllocError::from)?;

@@ -15,7 +15,7 @@ use Rattle.node.specs.Calls.{Called, Cause, Course}
 use Rattle.node.specs.Calls.Cause.{Receive}
 use Rattle.std.specs.declared.alloc.Global.{Global}
 use Rattle.node.specs.Calls.{Ends, IsStop, Restarts, answer}
-use Rattle.node.specs.Sched.{Stands, Does, Fails, view_over, who_of}
+use Rattle.node.specs.Sched.{Stands, Does, Fails, view_over}
 use Rattle.proposer.specs.declared.fault.NodeFault.{NodeFault as Fault}
 use Rattle.node.specs.declared.parts.Parts.{Parts}
 

@@ -1,17 +1,14 @@
 -- Whether a node is fresh.
-use Rattle.std.proofs.Common.{◌≡◌, ◌⊎◌, inl, inr, ◌↔◌, ℕ, ◌+◌, ◌≤◌, max, nat_le, Bool, true, false, IsTrue, cond, List, [], ◌∷◌, refl, sym, ap, subst, ◌∙◌, arith, rules, Result, Ok, Err, None}
+use Rattle.std.proofs.Common.{◌≡◌, inl, ◌↔◌, ℕ, ◌+◌, ◌≤◌, max, Bool, true, false, IsTrue, cond, List, [], ◌∷◌, refl, sym, ap, subst, ◌∙◌, arith, rules, Ok, Err, None}
 use Rattle.std.proofs.lemmas.Bool.{le-leb}
 use Rattle.ballots.specs.Rows.{rows_from}
 use Rattle.ballots.specs.declared.letters.Cast.{Cast}
 use Rattle.acceptor.specs.Content.{Content, IsSound, AreRowsFrom, no_content, promised, greatest}
-use Rattle.acceptor.specs.Found.{Findable, Holds, HoldsEither, FindsSame, AddsNothing, Keeps}
+use Rattle.acceptor.specs.Found.{Findable, Holds, FindsSame, Keeps}
 use Rattle.acceptor.specs.declared.records.RecordsFault.{RecordsFault}
 use Rattle.acceptor.specs.declared.records.RecordsFault.TheVariants.{Refused, Broken, OutOfMemory}
 use Rattle.acceptor.specs.declared.acceptor.Acceptor.{Acceptor}
-use Rattle.learner.specs.Tally.{Tally, no_tally}
-use Rattle.learner.specs.Kept.{tally}
 use Rattle.proposer.specs.declared.fault.NodeFault.{NodeFault as Fault}
-use Rattle.proposer.specs.declared.role.Role.{Role}
 use Rattle.node.specs.View.{View, Standing, started}
 use Rattle.node.specs.View.Standing.{Running, Stopped}
 use Rattle.node.specs.Calls.{TellsFresh}

@@ -3,7 +3,6 @@ use Rattle.std.proofs.Common.{◌≡◌, ◌⊎◌, inl, inr, ℕ, Bool, IsTrue,
 use Rattle.ballots.specs.Members.{member_count}
 use Rattle.ballots.specs.Ballots.{IsLeastAbove}
 use Rattle.ballots.specs.declared.letters.Letter.{Letter}
-use Rattle.ballots.specs.declared.letters.Note.TheVariants.{Prepare}
 use Rattle.acceptor.specs.Content.{Content, after_write}
 use Rattle.acceptor.specs.Content.Write.{Tries}
 use Rattle.acceptor.specs.Found.{Holds, HoldsEither, FindsSame, HasMade}
@@ -12,13 +11,13 @@ use Rattle.proposer.specs.Turns as turn
 use Rattle.proposer.specs.Turns.{Turn, DeclinesToLead, MayHaveTried, IsNextBallot}
 use Rattle.proposer.specs.declared.fault.NodeFault.{NodeFault as Fault}
 use Rattle.proposer.specs.declared.proposer.Proposer.{Proposer}
-use Rattle.node.specs.View.{View, Standing, values_from, gapless}
+use Rattle.node.specs.View.{View, values_from, gapless}
 use Rattle.node.specs.View.Standing.{Running, Stopped}
-use Rattle.node.specs.Step.{Outcome, Leads, lead_with, last_place, limit, to_all}
+use Rattle.node.specs.Step.{Leads, lead_with, last_place, limit}
 use Rattle.node.specs.Calls.{Ends}
 use Rattle.node.specs.Sched.{Stands, Stops, view_over}
 use Rattle.node.specs.declared.parts.Parts.{Parts}
-use Rattle.node.proofs.Endings.{EndsSo, either_same, still_holds}
+use Rattle.node.proofs.Endings.{EndsSo, still_holds}
 
 -- a node's own fault leaves its records
 pub honest_before : {R : Type 0} (is_honest : R → Bool) (old : Parts R) (fault : Fault) (new : Parts R) → Stops old fault new → IsTrue (is_honest new.acceptor.records) → IsTrue (is_honest old.acceptor.records)

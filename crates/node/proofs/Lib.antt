@@ -9,3 +9,4 @@ pub mod Freshness
 pub mod Prefixes
 pub mod Knowing
 pub mod Releasing
+pub mod Orders

@@ -1,5 +1,5 @@
 -- An offer is the case of the node's table.
-use Rattle.std.proofs.Common.{◌≡◌, ◌⊎◌, inl, inr, List, ℕ, refl, sym, ap, subst, ◌∙◌, Result, Ok, Err, Vec, IfOk, IfErr, OnErr, IsTrue, is_ok, true, false}
+use Rattle.std.proofs.Common.{◌≡◌, ◌⊎◌, inl, inr, List, ℕ, refl, sym, ap, subst, ◌∙◌, Result, Ok, Err, Vec, IfOk, IfErr, OnErr, IsTrue, is_ok, false}
 use Rattle.std.specs.declared.alloc.Global.{Global}
 use Rattle.ballots.specs.Members.{member_count}
 use Rattle.ballots.specs.declared.letters.Letter.{Letter}
@@ -9,11 +9,11 @@ use Rattle.proposer.specs.Turns as turn
 use Rattle.proposer.specs.Turns.{Turn}
 use Rattle.proposer.specs.declared.fault.NodeFault.{NodeFault as Fault}
 use Rattle.proposer.specs.declared.proposer.Proposer.{Proposer}
-use Rattle.node.specs.View.{View, Standing}
+use Rattle.node.specs.View.{View}
 use Rattle.node.specs.View.Standing.{Running}
 use Rattle.node.specs.Step.{offer, Outcome}
 use Rattle.node.specs.Calls.{Ends, answer}
-use Rattle.node.specs.Sched.{Stands, view_over}
+use Rattle.node.specs.Sched.{view_over}
 use Rattle.node.specs.declared.parts.Parts.{Parts}
 use Rattle.node.proofs.Endings.{EndsSo, turns}
 use Rattle.node.proofs.Turning.{turned, turned_or, offer_so, never_down}

@@ -1,5 +1,5 @@
 -- What a node that is up releases.
-use Rattle.std.proofs.Common.{◌≡◌, ◌∙◌, ℕ, refl, sym, ap, subst, List, Result, Ok, Err, false, length}
+use Rattle.std.proofs.Common.{◌≡◌, ◌∙◌, ℕ, refl, sym, ap, subst, List, Ok, Err, false, length}
 use Rattle.acceptor.specs.Content.{Content}
 use Rattle.command_log.specs.Values.{outputs_of_values}
 use Rattle.map_release.specs.Released.{released}

@@ -1,5 +1,5 @@
 -- A node of honest records stands somewhere, and a call keeps that.
-use Rattle.std.proofs.Common.{◌≡◌, Bool, IsTrue, Result, Vec, subst, false}
+use Rattle.std.proofs.Common.{◌≡◌, Bool, IsTrue, Result, Vec, false}
 use Rattle.std.specs.declared.alloc.Global.{Global}
 use Rattle.std.proofs.Math.Logic.{∥∥₁_map}
 use Rattle.ballots.specs.declared.letters.Letter.{Letter}

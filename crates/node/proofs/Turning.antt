@@ -1,5 +1,5 @@
 -- A proposer's turns are the cases of the node's table.
-use Rattle.std.proofs.Common.{◌≡◌, ◌⊎◌, inl, inr, ℕ, ◌+◌, ◌-◌, ◌≤◌, ◌<◌, max, Bool, true, false, cond, ◌&&◌, not, ◌==◌, nat_eq, nat_le, nat_lt, List, [], ◌∷◌, filter, length, refl, sym, ap, subst, ◌∙◌, arith, Result, Ok, Err, Some, None}
+use Rattle.std.proofs.Common.{◌≡◌, ℕ, ◌+◌, ◌-◌, Bool, true, false, cond, ◌&&◌, not, ◌==◌, nat_eq, nat_le, nat_lt, List, [], ◌∷◌, length, refl, ap, ◌∙◌, Result, Ok, Err}
 use Rattle.std.specs.List.{list_any}
 use Rattle.std.proofs.lemmas.Bool.{leb-true, ltb-true, and_parts}
 use Rattle.ballots.specs.Limits.{most_places, longest_value, IsPlace, IsValue}

@@ -1,14 +1,14 @@
 -- How the calls of a node end.
-use Rattle.std.specs.Prelude.{◌≡◌, ◌⊎◌, ◌↔◌, ℕ, ◌≤◌, Bool, true, false, IsTrue, List, None, Result, Ok, Err, Vec, IfErr}
+use Rattle.std.specs.Prelude.{◌≡◌, ◌⊎◌, ◌↔◌, ℕ, ◌≤◌, Bool, true, false, IsTrue, List, None, Result, Ok, Err, is_ok, Vec, IfErr, ◌<◌, length}
 use Rattle.std.specs.declared.alloc.Global.{Global}
 use Rattle.ballots.specs.declared.letters.Letter.{Letter}
 use Rattle.acceptor.specs.Content.{no_content, after_write}
 use Rattle.acceptor.specs.Faults.{HasRisen}
-use Rattle.node.specs.View.{View, Standing, started}
+use Rattle.node.specs.View.{View, Standing, started, gapless}
 use Rattle.node.specs.View.Standing.{Running, Stopped}
 use Rattle.proposer.specs.declared.fault.NodeFault.{NodeFault as Fault}
 use Rattle.proposer.specs.declared.fault.NodeFault.TheVariants.{OutOfMemory, StoreRefused, Down}
-use Rattle.node.specs.Step.{Outcome, receive, offer, Leads}
+use Rattle.node.specs.Step.{Outcome, receive, offer, Leads, last_place}
 
 -- a node by its number, the number of members, how often its store failed, and whether it waits for a restart
 pub record Who : Type 0 where
@@ -60,6 +60,17 @@ IsStop OutOfMemory = Unit {0}
 IsStop StoreRefused = Unit {0}
 IsStop Down = Unit {0}
 IsStop other = ⊥
+
+-- nothing that node me knows without its records declines the call
+abbrev pub MayGoOn : ℕ → ℕ → View → Cause → Type 0
+MayGoOn members me view (Receive l) = Unit {0}
+MayGoOn members me view Lead = length (gapless view) < last_place
+MayGoOn members me view (Offer v) = IsTrue (is_ok (offer members me view view.role v))
+
+-- want of memory and a store that fails come last: only where the call isn't declined
+abbrev pub StopsLast : ℕ → ℕ → View → Cause → Result (List Letter) Fault → Type 0
+StopsLast members me view cause (Ok letters) = Unit {0}
+StopsLast members me view cause (Err fault) = IsStop fault → MayGoOn members me view cause
 
 -- a restart starts over what the records hold, a write in doubt made or not
 abbrev pub Restarts : Standing → Result (Unit {0}) Fault → Standing → Type 0

@@ -5,7 +5,7 @@ ghost use Rattle.ballots.specs.Members.{member_count};
 ghost use Rattle.ballots.specs.Rows.{at};
 ghost use Rattle.node.specs.View.{View, Standing};
 ghost use Rattle.node.specs.View.Standing.{Running};
-ghost use Rattle.node.specs.Calls.{Who, Called, Kept, KeptByRestart, Restarts, TellsFresh, answer};
+ghost use Rattle.node.specs.Calls.{Who, Called, Kept, KeptByRestart, Restarts, StopsLast, TellsFresh, answer};
 ghost use Rattle.node.specs.Releases.{Releases, outputs};
 ghost use Rattle.node.specs.Calls.Cause.{Receive, Lead, Offer};
 
@@ -50,14 +50,18 @@ pub trait Node: Drop {
         ensures honesty { IsTrue (honest self.new) → IsTrue (honest self.old) }
         ensures kept { Kept (who self.old) result (who self.new) }
         ensures done { IsTrue (honest self.new) → (s : Standing) → stands self.old s
-            → (t : Standing) × Called (who self.old).members (who self.old).id s Lead (answer result) t × stands self.new t };
+            → (t : Standing) × Called (who self.old).members (who self.old).id s Lead (answer result) t × stands self.new t }
+        ensures order { IsTrue (honest self.new) → (view : View) → stands self.old (Running view)
+            → StopsLast (who self.old).members (who self.old).id view Lead (answer result) };
 
     /// A value is offered.
     fn offer(&mut self, value: &[u8]) -> Result<Vec<Letter>, NodeFault>
         ensures honesty { IsTrue (honest self.new) → IsTrue (honest self.old) }
         ensures kept { Kept (who self.old) result (who self.new) }
         ensures done { IsTrue (honest self.new) → (s : Standing) → stands self.old s
-            → (t : Standing) × Called (who self.old).members (who self.old).id s (Offer value.now) (answer result) t × stands self.new t };
+            → (t : Standing) × Called (who self.old).members (who self.old).id s (Offer value.now) (answer result) t × stands self.new t }
+        ensures order { IsTrue (honest self.new) → (view : View) → stands self.old (Running view)
+            → StopsLast (who self.old).members (who self.old).id view (Offer value.now) (answer result) };
 
     /// The outputs of its gapless learned values behind those that it released before, in order, without the MAPs that end at `now` (in minislots) or before.
     fn release(&mut self, now: u64) -> Result<Vec<Numbered>, NodeFault>

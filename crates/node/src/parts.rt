@@ -7,7 +7,9 @@ ghost use Rattle.ballots.specs.Rows.{at, rows_from};
 ghost use Rattle.ballots.specs.declared.letters.Note.TheVariants.{Higher as HigherNote, Voted as VotedNote};
 ghost use Rattle.learner.specs.Tally.{voted, known};
 ghost use Rattle.node.specs.Answers.{accepted_letters, WroteNothing};
-ghost use Rattle.node.specs.Calls.{Kept, KeptByRestart, Restarts, TellsFresh};
+ghost use Rattle.acceptor.specs.Content.{Content};
+ghost use Rattle.node.specs.Calls.{Kept, KeptByRestart, Restarts, StopsLast, TellsFresh, answer};
+ghost use Rattle.node.specs.Calls.Cause.{Lead, Offer};
 ghost use Rattle.node.specs.Releases.{Releases, outputs};
 ghost use Rattle.node.specs.View.{Standing};
 ghost use Rattle.node.specs.Step.{Leads, accept, after_higher, are_votes, heed, is_sound, known_letters, letter, nothing, offer, prepare, promise, to_all};
@@ -47,7 +49,7 @@ fn place_of(number: u64) -> Place
 }
 
 impl<R: Records> Parts<R> {
-    ghost use Rattle.node.specs.Sched.{Does, Fails, IsUntouched, Stands, Stops, who_of};
+    ghost use Rattle.node.specs.Sched.{Does, Fails, IsUntouched, Stands, Stops, view_over, who_of};
 
     /// The store failed.
     pub(crate) fn fail(&mut self, fault: RecordsFault) -> NodeFault
@@ -265,6 +267,7 @@ impl<R: Records> Parts<R> {
         ensures kept { Kept (who_of R.count_of self.old) result (who_of R.count_of self.new) }
         ensures done { IsTrue (R.is_honest self.new.acceptor.records)
             → Does R.may_find self.old (λ view course. course ≡ offer (member_count self.old.proposer.members) self.old.proposer.id view view.role value.now) result self.new }
+        ensures order { (c : Content) → StopsLast (member_count self.old.proposer.members) self.old.proposer.id (view_over self.old c) (Offer value.now) (answer result) }
     {
         self.proposer.offer(value)
     }
@@ -276,6 +279,8 @@ impl<R: Records> Parts<R> {
         ensures kept { Kept (who_of R.count_of self.old) result (who_of R.count_of self.new) }
         ensures done { IsTrue (R.is_honest self.new.acceptor.records)
             → Does R.may_find self.old (λ view course. Leads (member_count self.old.proposer.members) self.old.proposer.id view course) result self.new }
+        ensures order { IsTrue (R.is_honest self.new.acceptor.records)
+            → (c : Content) → StopsLast (member_count self.old.proposer.members) self.old.proposer.id (view_over self.old c) Lead (answer result) }
     {
         let prefix = prefix_len(self.knowledge.values());
         match self.proposer.lead(&mut self.acceptor.records, prefix) {

@@ -1,8 +1,8 @@
-use Rattle.std.proofs.Common.{◌≡◌, ◌+◌, ◌<◌, ◌≤◌, ℕ, true, if◌then◌else◌, length, Some, refl, sym, ap, subst, ◌∙◌, rules, arith}
+use Rattle.std.proofs.Common.{◌≡◌, ◌+◌, ◌<◌, ◌≤◌, true, if◌then◌else◌, length, Some, sym, ap, subst, ◌∙◌, rules, arith}
 use Rattle.std.proofs.lemmas.Grind.{common_steps}
 use Rattle.ballots.specs.Rows.{at, put}
-use Rattle.command_log.specs.Values.{Rows, gapless}
-use Rattle.command_log.specs.View.{AreRows, LogView, with_learned, last_place}
+use Rattle.command_log.specs.Values.{gapless}
+use Rattle.command_log.specs.View.{AreRows, LogView, last_place}
 use Rattle.node.specs.Learned.{IsPart}
 use Rattle.node.proofs.Prefixes.{part_put, one_more, beyond}
 use Rattle.node.proofs.knowledge.apply.Goals as goal

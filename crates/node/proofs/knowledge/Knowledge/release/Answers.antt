@@ -1,6 +1,5 @@
-use Rattle.std.proofs.Common.{◌≡◌, ap, sym, subst, ◌∙◌, length, IfOk}
+use Rattle.std.proofs.Common.{◌≡◌, ap, subst, ◌∙◌, length, IfOk}
 use Rattle.std.proofs.lemmas.Result.{on_ok_weaker}
-use Rattle.learner.specs.Kept.{tally}
 use Rattle.command_log.specs.Values.{outputs_of_values, values_from}
 use Rattle.map_release.specs.Released.{released}
 use Rattle.node.specs.Learned.{Learned}

@@ -1,5 +1,4 @@
-use Rattle.std.proofs.Common.{◌≡◌, refl, ap, subst, sym, Err, Result, rules}
-use Rattle.map_release.specs.declared.numbered.Numbered.{Numbered}
+use Rattle.std.proofs.Common.{◌≡◌, refl, subst, sym, Err, rules}
 use Rattle.proposer.specs.declared.fault.NodeFault.{NodeFault as Fault}
 use Rattle.node.specs.Releases.{Releases, outputs}
 use Rattle.node.specs.Sched.{Stands}

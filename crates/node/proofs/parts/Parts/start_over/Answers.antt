@@ -1,4 +1,4 @@
-use Rattle.std.proofs.Common.{◌≡◌, refl, ap, subst, IsTrue, false}
+use Rattle.std.proofs.Common.{refl, ap, subst, IsTrue, false}
 use Rattle.acceptor.specs.declared.acceptor.Acceptor.{Acceptor}
 use Rattle.node.specs.Learned.{Learned}
 use Rattle.proposer.specs.declared.role.Role.TheVariants.{Idle}

@@ -3,7 +3,7 @@ use Rattle.ballots.specs.declared.letters.Note.TheVariants.{Higher as HigherNote
 use Rattle.acceptor.specs.declared.acceptor.Acceptor.{Acceptor}
 use Rattle.acceptor.specs.Content.{after_write, promised}
 use Rattle.acceptor.specs.Content.Write.{Promises}
-use Rattle.acceptor.specs.Found.{Holds, HoldsEither}
+use Rattle.acceptor.specs.Found.{HoldsEither}
 use Rattle.node.specs.Step.{Outcome, prepare, letter}
 use Rattle.node.specs.Calls.{answer}
 use Rattle.node.specs.Sched.{view_over}

@@ -1,13 +1,9 @@
-use Rattle.std.proofs.Common.{◌≡◌, ◌↔◌, ℕ, [], ap, sym, subst, ◌∙◌, IsTrue, length, arith, rules}
+use Rattle.std.proofs.Common.{◌≡◌, ℕ, [], ap, sym, subst, ◌∙◌, IsTrue, length, arith}
 use Rattle.std.proofs.lemmas.List.{nil_from_length}
 use Rattle.std.proofs.lemmas.Bool.{eq-eqb, eqb-true}
 use Rattle.ballots.specs.Rows.{rows_from}
 use Rattle.ballots.specs.declared.letters.Votes.{Votes}
-use Rattle.acceptor.specs.Content.{Content, no_content}
-use Rattle.acceptor.specs.Found.{Holds}
 use Rattle.acceptor.specs.declared.acceptor.Acceptor.{Acceptor}
-use Rattle.node.specs.View.{started}
-use Rattle.node.specs.Sched.{view_over}
 use Rattle.node.proofs.Endings.{still_holds}
 use Rattle.node.proofs.Freshness.{tells, tell_fails, fresh_so, used_content, voted_content, empty_content, same_found, both_same, no_tell}
 use Rattle.node.proofs.parts.Parts.tells_fresh.Goals as goal

@@ -1,4 +1,4 @@
-use Rattle.std.proofs.Common.{◌≡◌, refl, sym, ap}
+use Rattle.std.proofs.Common.{refl, sym, ap}
 use Rattle.node.specs.Learned.{Learned}
 use Rattle.node.specs.View.{started}
 use Rattle.node.specs.View.Standing.{Running}
