@@ -19,7 +19,7 @@ use Rattle.network_script.specs.declared.event.Answer.{Answer}
 use Rattle.network_script.specs.declared.event.Answer.TheVariants as answer
 use Rattle.network_script.specs.declared.event.ReleasedOutput.{ReleasedOutput}
 use Rattle.map_release.specs.Released.{numbered, has_ended}
-use Rattle.network_script.specs.Release.{released, released_view}
+use Rattle.network_script.specs.Release.{released, released_all}
 use Rattle.network_script.specs.World.{Written, released_by}
 use Rattle.network_script.specs.Modems.{ModemNext, sent_at}
 use Rattle.network_script.specs.Next.{Fails, Ends, EndsInCrash, Releases, Asks, Starts, Restarts, Comes, OnModems, Next}
@@ -132,7 +132,7 @@ module _ (members : ℕ) (w : Written) (inv : Invariant members w.history w.lett
     view_was = inv.nodes k (Running view) here
 
     -- a view whose cursor has moved
-    releases_sound : Sound members w.history w.letters k view (nothing (released_view view))
+    releases_sound : Sound members w.history w.letters k view (nothing (released_all view))
     releases_sound =
         let s = nothing_sound members w.history w.letters w.nodes k view inv here in
         record { write = s.write; content = s.content; letters = s.letters; role = s.role; own = s.own; counted = s.counted; learned = s.learned }
@@ -143,9 +143,9 @@ module _ (members : ℕ) (w : Written) (inv : Invariant members w.history w.lett
         let kept = (in_filter (λ y. not (has_ended now y.output)) (drop view.cursor (numbered 1 (outputs_of_values (gapless view)))) x.numbered item).0 in
         (gapless view, learned_chosen members w.history view view_was.learned, in_numbered 1 (outputs_of_values (gapless view)) x.numbered (in_drop view.cursor (numbered 1 (outputs_of_values (gapless view))) x.numbered kept))
 
-    gives : (now : ℕ) (told : Answer) (w' : Written) → w' ≡ record w { nodes = slice_set w.nodes k (Running (released_view view)); outputs = w.outputs ++ released_by k (released view now) } → Moves told w'
+    gives : (now : ℕ) (told : Answer) (w' : Written) → w' ≡ record w { nodes = slice_set w.nodes k (Running (released_all view)); outputs = w.outputs ++ released_by k (released view now) } → Moves told w'
     gives now told w' is = subst (Moves told) (sym is) record {
-      fine = goes_quietly members w.history w.letters w.nodes k (Running view) inv here None (Running (released_view view)) tt
+      fine = goes_quietly members w.history w.letters w.nodes k (Running view) inv here None (Running (released_all view)) tt
           record { content = view_was.content; own = view_was.own; role = view_was.role; counted = view_was.counted; learned = view_was.learned };
       keeps = λ e there. there;
       stays = λ x there. in_left w.outputs (released_by k (released view now)) x there;
@@ -157,7 +157,7 @@ module _ (members : ℕ) (w : Written) (inv : Invariant members w.history w.lett
     releases now (answer.Released n) w' is = gives now _ w' is.1
     releases now answer.Crashed w' is = broken _ None tt w' is.1
     releases now (answer.Fault f) w' is =
-        fails (λ course. course ≡ Ok (nothing (released_view view))) (λ o course. let e : o ≡ nothing (released_view view) = cc (course) in subst (λ (x : Outcome). Sound members w.history w.letters k view x) (sym e) releases_sound) (answer.Fault f) f w' is
+        fails (λ course. course ≡ Ok (nothing (released_all view))) (λ o course. let e : o ≡ nothing (released_all view) = cc (course) in subst (λ (x : Outcome). Sound members w.history w.letters k view x) (sym e) releases_sound) (answer.Fault f) f w' is
     releases now (answer.Sent n) w' is = absurd is
     releases now answer.Finished w' is = absurd is
     releases now (answer.Heard h) w' is = absurd is

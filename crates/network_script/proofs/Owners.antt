@@ -31,7 +31,7 @@ use Rattle.network_script.proofs.Drawn.{is_drawn}
 use Rattle.network_script.proofs.Moves.{Moved, next_moves}
 use Rattle.network_script.proofs.Runs.{IsFine, next_fine, opening_fine}
 use Rattle.network_script.proofs.Schedule.{released_is_output}
-use Rattle.network_script.proofs.Receivers.{AreReleased, ModemsOk, ok_outputs, modem_next}
+use Rattle.network_script.proofs.Hearings.{AreReleased, ModemsOk, ok_outputs, modem_next}
 
 -- ---- what the scheduler promises of the outputs of every list of commands
 

@@ -14,7 +14,7 @@ use Rattle.network_script.specs.declared.event.Event.TheVariants.{Lead, Offer, D
 use Rattle.network_script.specs.declared.event.Answer.{Answer}
 use Rattle.network_script.specs.declared.event.Answer.TheVariants.{Sent, Finished, Released, Refused, Fault, Crashed}
 use Rattle.network_script.specs.declared.event.Refusal.TheVariants.{NoLetter, NodeDown, NodeUp, NoNode}
-use Rattle.network_script.specs.Release.{released, released_view}
+use Rattle.network_script.specs.Release.{released, released_all}
 use Rattle.network_script.specs.World.{Written, Receiver, with_node, whole, lost, released_by, opening}
 use Rattle.network_script.specs.Modems.{ModemNext, sent_at}
 
@@ -48,9 +48,9 @@ EndsInCrash w k view IsCourse answer w' = ⊥
 abbrev pub Releases : Written → ℕ → ℕ → View → Answer → Written → Type 0
 Releases w k now view (Released n) w' =
     (n ≡ length (released view now))
-    × (w' ≡ record w { nodes = slice_set w.nodes k (Running (released_view view)); outputs = w.outputs ++ released_by k (released view now) })
+    × (w' ≡ record w { nodes = slice_set w.nodes k (Running (released_all view)); outputs = w.outputs ++ released_by k (released view now) })
 Releases w k now view Crashed w' = (released view now ≢ []) × (w' ≡ with_node w k (Stopped view.content None))
-Releases w k now view (Fault fault) w' = Fails w k view (λ course. course ≡ Ok (nothing (released_view view))) fault w'
+Releases w k now view (Fault fault) w' = Fails w k view (λ course. course ≡ Ok (nothing (released_all view))) fault w'
 Releases w k now view answer w' = ⊥
 
 -- node k crashes: its content is left, which is all that it wrote

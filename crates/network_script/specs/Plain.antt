@@ -11,7 +11,7 @@ use Rattle.network_script.specs.declared.event.Event.TheVariants.{Lead, Offer, D
 use Rattle.network_script.specs.declared.event.Answer.{Answer}
 use Rattle.network_script.specs.declared.event.Answer.TheVariants as answer
 use Rattle.network_script.specs.declared.event.Refusal.TheVariants.{NoLetter, NodeDown, NodeUp, NoNode, NoModem}
-use Rattle.network_script.specs.Release.{released, released_view}
+use Rattle.network_script.specs.Release.{released, released_all}
 use Rattle.network_script.specs.World.{Written, with_node, whole, lost, released_by}
 use Rattle.network_script.specs.Next.{Next}
 
@@ -63,7 +63,7 @@ comes w (Some l) takes = asks w (slice_get w.nodes l.to) (takes l)
 abbrev pub releases : Written → ℕ → ℕ → View → Told
 releases w k now view = (
   answer.Released (length (released view now)),
-  record w { nodes = slice_set w.nodes k (Running (released_view view)); outputs = w.outputs ++ released_by k (released view now) },
+  record w { nodes = slice_set w.nodes k (Running (released_all view)); outputs = w.outputs ++ released_by k (released view now) },
 )
 
 -- the answer of an event in which nothing fails, and the world after it, where there are no modems

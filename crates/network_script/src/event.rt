@@ -5,7 +5,9 @@ use map_release::Numbered;
 use minislot_time::Slot;
 use modem::{Heard, Sending, WantFault};
 use node::NodeFault;
+use std::alloc::{AllocError, AllocFailed};
 use std::marker::Model;
+use thiserror::Error;
 
 /// What happens next. Nodes, letters, outputs and modems are named by their numbers from 0 on. A
 /// loss is a letter that no event delivers.
@@ -119,4 +121,21 @@ pub struct Transmission {
     pub channel: u8,
     pub slot: Slot,
     pub sending: Sending,
+}
+
+/// There is no room for a world, or for the answers of a run.
+#[derive(Clone, Copy, Debug, PartialEq, Eq, Error)]
+#[error("out of memory")]
+pub struct OutOfMemory;
+
+impl From<AllocError> for OutOfMemory {
+    fn from(_: AllocError) -> Self {
+        OutOfMemory
+    }
+}
+
+impl<T: Drop> From<AllocFailed<T>> for OutOfMemory {
+    fn from(_: AllocFailed<T>) -> Self {
+        OutOfMemory
+    }
 }

@@ -3,6 +3,7 @@
 ghost use Rattle.network_script.specs.Headline.{CoversOnce, GaplessIsBeginning, HasOneSchedule, Headline, HeldIsOwned, HistoryIsLegal, HoldersAreOne, LearnedIsChosen, MapsAreOne, OfEveryRun, OwnersAreOne, ReleasedIsOutput, RunsJoin, SentByOwner, SentIsHeld, WithSchedule};
 ghost use Rattle.network_script.specs.Examples.{IsRefused, LeastBallots, OneLeader, ReleasesInOrder, TakesOver, TakesOverAfresh, TriesHigher, VoteOutlivesCrash};
 ghost use Rattle.network_script.specs.Plain.{EachIsAnswered};
+ghost use Rattle.network_script.specs.Counts.{FewFaults};
 
 /// The voting history of every run is legal, and what a node learned, at any time of the run, is
 /// chosen (Lamport, Paxos Made Simple).
@@ -61,4 +62,10 @@ pub fn examples()
     ensures is_refused { IsRefused }
     ensures releases_in_order { ReleasesInOrder }
     ensures least_ballots { LeastBallots }
+{}
+
+/// A run has no more faults of a node's store than its count of failures rose by, while that is below
+/// its last value.
+pub fn few_faults()
+    ensures { FewFaults }
 {}

@@ -1,4 +1,4 @@
-mod Pairs
-mod Channels
-mod Spelled
+mod PlanFaults
 mod Printed
+mod Told
+mod FirstNodes

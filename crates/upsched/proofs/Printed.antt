@@ -15,7 +15,7 @@ appends_none None = tt
 appends_none (Some xs) = sym (append-nil xs)
 
 -- known bytes grow by one text and then another
-appends_both : (old mid new : Option (List ℕ)) (xs ys : List ℕ) → Appends old mid xs → Appends mid new ys → Appends old new (xs ++ ys)
+pub appends_both : (old mid new : Option (List ℕ)) (xs ys : List ℕ) → Appends old mid xs → Appends mid new ys → Appends old new (xs ++ ys)
 appends_both None mid new xs ys first second = tt
 appends_both (Some a) None new xs ys first second = absurd first
 appends_both (Some a) (Some b) None xs ys first second = absurd second

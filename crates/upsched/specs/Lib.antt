@@ -1,5 +1,6 @@
 pub mod Status
 pub mod Lines
-pub mod CommandTable
 pub mod Plan
 pub mod Show
+pub mod RunLines
+pub mod Run

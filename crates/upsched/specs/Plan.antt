@@ -1,40 +1,28 @@
 -- A plan: commands under the key `command` of a TOML text. Positions count from 1.
-use Rattle.std.specs.Prelude.{◌≡◌, ℕ, ◌+◌, ◌<◌, Bool, true, false, List, [], ◌∷◌, Option, Some, None, is_some, slice_get, codes}
+use Rattle.std.specs.Prelude.{◌≡◌, ℕ, ◌+◌, Bool, true, false, List, [], Option, Some, None, codes}
 use Rattle.std.specs.Io.KnownBytes.{Appends}
 use Rattle.std.specs.List.{AllZip, list_all}
-use Rattle.toml.specs.Data.{Data, Items, no_items, item, Members, get_member, as_table, as_array}
+use Rattle.toml.specs.Data.{Data, Items, Members, get_member, as_array}
 use Rattle.toml.specs.Parse.{parse_document}
 use Rattle.grant_machine.specs.declared.command.Command.{Command}
 use Rattle.grant_machine.specs.Runs.{outputs_of}
 use Rattle.upsched.specs.declared.plan.PlanFault.{PlanFault}
 use Rattle.upsched.specs.declared.plan.PlanFault.TheVariants.{NotToml, BadCommand, OutOfMemory}
-use Rattle.upsched.specs.CommandTable.{SpellsCommand}
+use Rattle.network_script.specs.CommandTable.{SpellsCommand}
+use Rattle.network_script.specs.Items.{list_of, is_table, IsFirstBad}
 use Rattle.upsched.specs.Lines.{output_lines}
-
--- the items of an array as a list
-abbrev pub list_of : Items → List Data
-list_of no_items = []
-list_of (item d ds) = d ∷ list_of ds
 
 -- the items spell the commands, one each
 abbrev pub SpellCommands : List Data → List Command → Type 0
 SpellCommands ds cs = AllZip SpellsCommand ds cs
 
-abbrev pub is_table : Data → Bool
-is_table d = is_some (as_table d)
-
--- the item at this position spells no command, and each before it spells one
-pub record IsFirstBad (ds : List Data) (position : ℕ) : Type 0 where
-  pub index : ℕ
-  pub counted : position ≡ index + 1
-  pub bad : Data
-  pub here : slice_get ds index ≡ Some bad
-  pub spells_nothing : (c : Command) → ¬ SpellsCommand bad c
-  pub sound_before : (k : ℕ) (d : Data) → k < index → slice_get ds k ≡ Some d → (c : Command) × SpellsCommand d c
+-- the first item that spells no command is at this position
+abbrev pub IsFirstBadFromOne : List Data → ℕ → Type 0
+IsFirstBadFromOne ds position = (index : ℕ) × (position ≡ index + 1) × IsFirstBad SpellsCommand ds index
 
 -- the bad position of an array: that of the first item that spells no command, but 1 where not all items are tables
 abbrev pub IsBadPosition : Bool → List Data → ℕ → Type 0
-IsBadPosition true ds position = IsFirstBad ds position
+IsBadPosition true ds position = IsFirstBadFromOne ds position
 IsBadPosition false ds position = position ≡ 1
 
 -- an array lists the commands

@@ -3,6 +3,7 @@
 use crate::plan::PlanFault;
 use crate::status::Status;
 use map_body::MapFault;
+use network_script::ScriptFault;
 use std::io;
 use std::io::{ErrorKind, Write};
 use thiserror::Error;
@@ -15,6 +16,8 @@ pub enum Fault<'a> {
     Unreadable(&'a str),
     #[error("plan {0}")]
     Plan(PlanFault),
+    #[error("script {0}")]
+    Script(ScriptFault),
     #[error("body {number} {fault}")]
     Body { number: u8, fault: MapFault },
     #[error("hex")]

@@ -1,18 +1,25 @@
-//! The program: applies plans to the scheduler and prints MAP bodies.
+//! The program: applies plans to the scheduler, runs scripts over its nodes, and prints MAP bodies.
 #![tactic(auto)]
 
-mod command_table;
 mod fault;
 mod lines;
 mod maps;
+mod opening;
 mod plan;
+mod report;
+mod run_lines;
+#[cfg(test)]
+mod run_tests;
+mod script_run;
 mod show;
 mod status;
 #[cfg(test)]
 mod tests;
+mod text;
 mod words;
 
 use fault::Fault;
+use log::Log;
 use status::Status;
 #[cfg(test)]
 use std::alloc::Global;
@@ -20,7 +27,7 @@ use std::io::{BufWriter, ErrorKind, Write};
 use std::process::ExitCode;
 use std::rt::{Env, Files};
 use std::{env, fs};
-use words::{MapsWords, Words};
+use words::{MapsWords, RunWords, Words};
 
 /// Opens the plan and ends as `maps` does.
 fn run_maps<R: Files + AllocGlobal, O: Write, E: Write>(
@@ -32,6 +39,19 @@ fn run_maps<R: Files + AllocGlobal, O: Write, E: Write>(
     match fs::open(rt, words.plan) {
         Ok(mut plan) => maps::maps(rt.alloc(), &mut plan, words, output, errors),
         Err(error) => Fault::of_reading(&error, words.plan).told(errors),
+    }
+}
+
+/// Opens the script and ends as `run_script` does.
+fn run_run<R: Files + Log + AllocGlobal, O: Write, E: Write>(
+    rt: &R,
+    words: &RunWords<'_>,
+    output: &mut O,
+    errors: &mut E,
+) -> Status {
+    match fs::open(rt, words.script) {
+        Ok(mut script) => script_run::run_script(rt, &mut script, words, output, errors),
+        Err(error) => Fault::of_reading(&error, words.script).told(errors),
     }
 }
 
@@ -54,7 +74,7 @@ fn given_words<R: Env + AllocGlobal, E: Write>(
 }
 
 /// Reads the words and ends as the command does that they name.
-fn run<R: Env + Files + AllocGlobal, O: Write, E: Write>(
+fn run<R: Env + Files + Log + AllocGlobal, O: Write, E: Write>(
     rt: &R,
     output: &mut O,
     errors: &mut E,
@@ -65,6 +85,7 @@ fn run<R: Env + Files + AllocGlobal, O: Write, E: Write>(
     };
     match words::read_words(rt.alloc(), given.as_slice()) {
         Ok(Words::Maps(words)) => run_maps(rt, &words, output, errors),
+        Ok(Words::Run(words)) => run_run(rt, &words, output, errors),
         Ok(Words::Show(words)) => show::show(rt.alloc(), &words, output, errors),
         Err(error) => words::refused(&error, output, errors),
     }

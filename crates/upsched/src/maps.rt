@@ -1,6 +1,6 @@
 //! `upsched maps PLAN`: from a plan to outputs.
 
-ghost use Rattle.std.specs.Prelude.{◌≡◌, ◌≢◌, ℕ, List, Some, IfOk, OnOk, IfSome, string_bytes};
+ghost use Rattle.std.specs.Prelude.{◌≡◌, ◌≢◌, OnOk};
 ghost use Rattle.std.specs.Io.KnownBytes.{Appends};
 ghost use Rattle.grant_machine.specs.declared.command.Command.{Command};
 ghost use Rattle.grant_machine.specs.Steps.{step};
@@ -13,21 +13,11 @@ use crate::fault::Fault;
 use crate::lines::output_text;
 use crate::plan::read_plan;
 use crate::status::Status;
+use crate::text::text_of;
 use crate::words::MapsWords;
 use grant_machine::{Command, Machine};
 use std::alloc::Global;
 use std::io::{Read, Write};
-
-/// The whole text of a file.
-fn text_of<'a, R: Read>(alloc: Global, file: &mut R, path: &'a str) -> Result<String, Fault<'a>>
-    ensures { IfOk result (λ text. IfSome (R.remaining file.old) (λ bytes. string_bytes text ≡ bytes)) }
-{
-    let mut text = String::new(alloc);
-    match file.read_to_string(&mut text) {
-        Ok(_) => Ok(text),
-        Err(error) => Err(Fault::of_reading(&error, path)),
-    }
-}
 
 /// Applies a command and writes the line of its output.
 fn print_output<'a, O: Write>(

@@ -5,10 +5,11 @@ ghost use Rattle.std.specs.List.{list_all};
 ghost use Rattle.toml.specs.Data.{as_array};
 ghost use Rattle.toml.specs.View.{view, table_view};
 ghost use Rattle.upsched.specs.declared.plan.PlanFault.TheVariants.{OutOfMemory};
-ghost use Rattle.upsched.specs.Plan.{SpellCommands, IsFirstBad, is_table, IsBadPosition, ListsCommands, IsBadList, HasCommands, IsBadAt, IsFaultAt, IsPlan, IsPlanFault};
+ghost use Rattle.network_script.specs.Items.{is_table};
+ghost use Rattle.upsched.specs.Plan.{SpellCommands, IsBadPosition, IsFirstBadFromOne, ListsCommands, IsBadList, HasCommands, IsBadAt, IsFaultAt, IsPlan, IsPlanFault};
 
-use crate::command_table::command_of;
 use grant_machine::Command;
+use network_script::command_of;
 use std::alloc::{AllocFailed, Global};
 use thiserror::Error;
 use toml::{Table, Value};
@@ -37,7 +38,7 @@ impl<T: Drop> From<AllocFailed<T>> for PlanFault {
 
 fn read_items(alloc: Global, items: &[Value]) -> Result<Vec<Command>, PlanFault>
     ensures read { IfOk result (λ commands. SpellCommands (map view items.now) commands.items) }
-    ensures fault { IfErr result (IsFaultAt (IsFirstBad (map view items.now))) }
+    ensures fault { IfErr result (IsFaultAt (IsFirstBadFromOne (map view items.now))) }
 {
     let mut commands = Vec::new(alloc);
     for (i, item) in items.iter().enumerate() {

@@ -231,7 +231,15 @@ fn words(rt: HostRuntime) -> Result<(), Fail> {
         ("upsched maps", Status::NotUnderstood),
         ("upsched show", Status::NotUnderstood),
         ("upsched maps one two", Status::NotUnderstood),
-        ("upsched run script.toml", Status::NotUnderstood),
+        ("upsched run script.toml", Status::Done),
+        ("upsched run script.toml --verbose", Status::Done),
+        ("upsched run", Status::NotUnderstood),
+        (
+            "upsched run script.toml --store folder",
+            Status::NotUnderstood,
+        ),
+        ("upsched maps plan.toml --verbose", Status::NotUnderstood),
+        ("upsched live plan.toml", Status::NotUnderstood),
         ("upsched --help", Status::Done),
     ];
     for (line, status) in cases {

@@ -7,7 +7,7 @@ ghost use Rattle.upsched.specs.declared.status.Status.TheVariants.{Faulted, NotU
 use crate::fault::Fault;
 use crate::status::Status;
 use clap::error::ErrorKind;
-use clap::{Arg, Command, Error};
+use clap::{Arg, ArgAction, Command, Error};
 use std::alloc::Global;
 use std::io::Write;
 
@@ -16,6 +16,15 @@ use std::io::Write;
 pub struct MapsWords<'a> {
     /// The path of the plan.
     pub plan: &'a str,
+}
+
+/// What `run` is told.
+#[derive(Clone, Copy, Debug)]
+pub struct RunWords<'a> {
+    /// The path of the script.
+    pub script: &'a str,
+    /// Whether the faults of nodes are logged too.
+    pub verbose: bool,
 }
 
 /// What `show` is told.
@@ -30,8 +39,25 @@ pub struct ShowWords<'a> {
 pub enum Words<'a> {
     /// Applies a plan's commands and prints their outputs.
     Maps(MapsWords<'a>),
+    /// Runs a script and prints its answers.
+    Run(RunWords<'a>),
     /// Prints a MAP body.
     Show(ShowWords<'a>),
+}
+
+fn run_command<'a>(alloc: Global) -> Result<Command<'a>, Error> {
+    let script = Arg::new(alloc, "SCRIPT")
+        .required(true)
+        .help("A script in TOML");
+    let verbose = Arg::new(alloc, "verbose")
+        .long("verbose")
+        .action(ArgAction::SetTrue)
+        .help("Logs each fault of a node too");
+    let run = Command::new(alloc, "run")
+        .about("Runs a script over nodes and modems and prints its answers")
+        .arg(script)?
+        .arg(verbose)?;
+    Ok(run)
 }
 
 fn program<'a>(alloc: Global) -> Result<Command<'a>, Error> {
@@ -51,6 +77,7 @@ fn program<'a>(alloc: Global) -> Result<Command<'a>, Error> {
         .about("A DOCSIS upstream scheduler")
         .subcommand_required(true)
         .subcommand(maps)?
+        .subcommand(run_command(alloc)?)?
         .subcommand(show)?;
     Ok(program)
 }
@@ -63,6 +90,12 @@ pub fn read_words<'a>(alloc: Global, words: &'a [String]) -> Result<Words<'a>, E
         Some(("maps", words)) => words
             .get_str("PLAN")
             .map(|plan| Words::Maps(MapsWords { plan })),
+        Some(("run", words)) => {
+            let verbose = words.get_flag("verbose");
+            words
+                .get_str("SCRIPT")
+                .map(|script| Words::Run(RunWords { script, verbose }))
+        }
         Some(("show", words)) => words
             .get_str("HEX")
             .map(|hex| Words::Show(ShowWords { hex })),

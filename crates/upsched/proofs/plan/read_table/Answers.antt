@@ -3,7 +3,7 @@ use Rattle.toml.proofs.Views.{table_get}
 use Rattle.toml.specs.Data.{as_array}
 use Rattle.toml.specs.View.{view, table_view}
 use Rattle.upsched.specs.Plan.{IsBadList, IsBadAt}
-use Rattle.upsched.proofs.Spelled.{fault_along}
+use Rattle.upsched.proofs.PlanFaults.{fault_along}
 use Rattle.upsched.proofs.plan.read_table.Goals as goal
 
 pub returns-in-None-clause-read : goal.returns-in-None-clause-read

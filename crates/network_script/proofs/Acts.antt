@@ -1,0 +1,241 @@
+-- What a call of a node does to the written world.
+use Rattle.std.proofs.Common.{◌≡◌, ◌<◌, ◌≤◌, ◌++◌, inl, inr, ℕ, zero, suc, List, [], ◌∷◌, Option, Some, None, Result, Ok, Err, Bool, true, false, IsTrue, length, get_or, slice_get, slice_set, refl, sym, ap, ◌∙◌, subst, arith, append_assoc}
+use Rattle.std.proofs.lemmas.Option.{slice_get_read}
+use Rattle.ballots.specs.declared.letters.Letter.{Letter}
+use Rattle.ballots.specs.Voting.{Entry}
+use Rattle.acceptor.specs.Content.{Content, Write, record_write}
+use Rattle.map_release.specs.declared.numbered.Numbered.{Numbered}
+use Rattle.node.specs.declared.node.Node.{Ghosts}
+use Rattle.node.specs.View.{View, Standing}
+use Rattle.node.specs.View.Standing.{Running, Stopped}
+use Rattle.node.specs.Calls.{Cause, Course, Ends as NodeEnds, StoreFails}
+use Rattle.node.specs.Releases.{Releases as NodeReleases}
+use Rattle.node.specs.Step.{Outcome, nothing}
+use Rattle.proposer.specs.declared.fault.NodeFault.{NodeFault}
+use Rattle.proposer.specs.declared.fault.NodeFault.TheVariants as fault
+use Rattle.network_script.specs.declared.event.Answer.{Answer}
+use Rattle.network_script.specs.declared.event.Answer.TheVariants.{Sent, Released, Finished, Refused, Fault, Crashed}
+use Rattle.network_script.specs.declared.event.Refusal.{Refusal}
+use Rattle.network_script.specs.declared.event.Refusal.TheVariants.{NoLetter, NodeDown, NoNode}
+use Rattle.network_script.specs.declared.event.ReleasedOutput.{ReleasedOutput}
+use Rattle.network_script.specs.declared.seat.Seat.{Seat}
+use Rattle.network_script.specs.Seat.{CalledIn, ReleasedIn, RestartsWith, Shown, shown, stays_up, survives, crashed}
+use Rattle.network_script.specs.Seats.{Stands, Each, AreStandings, member, IsNumbered, IsHonest, AllHonest, IsUpAt, IsMissed}
+use Rattle.network_script.specs.Release.{released_all}
+use Rattle.network_script.specs.World.{Written, released_by}
+use Rattle.network_script.specs.Next.{Asks, Comes, Ends, EndsInCrash, Fails, Releases, Starts, Restarts as WorldRestarts}
+use Rattle.network_script.specs.Worlds.{Posted, Lost, Keeps, left}
+use Rattle.network_script.proofs.Places.{who_at, honest_at, each_length, each_at, each_set}
+
+-- one that isn't up may stand only where it has crashed
+pub crashed_at : (up : Bool) (may : Standing → Type 0) (s : Standing) → up ≡ false → Shown up may s → (c : Content) × (doubt : Option Write) × (s ≡ Stopped c doubt)
+crashed_at up may s is shown =
+    let was = subst (λ (b : Bool). Shown b may s) is shown in
+    let r = stopped was.0 in
+    (r.0, r.1, was.2 ∙ r.2)
+  where
+    stopped : (s : Standing) → (c : Content) × (doubt : Option Write) × (crashed s ≡ Stopped c doubt)
+    stopped (Running view) = (view.content, None, refl)
+    stopped (Stopped c doubt) = (c, doubt, refl)
+
+-- node k is up in each written world too
+pub seen_up : {N : Type 0} {g : Ghosts N} (seats : List (Seat N g)) (nodes : List Standing) (k : ℕ) (seat : Seat N g) → AreStandings seats nodes → k < length seats → seat ≡ get_or seats k seat → seat.up ≡ true
+    → (view : View) × (slice_get nodes k ≡ Some (Running view)) × Stands seat (Running view)
+seen_up {N} {g} seats nodes k seat each lt is up =
+    let R : Seat N g → Standing → Type 0 = Stands in
+    let r = each_at R seats nodes k seat each lt is in
+    let v = subst (λ (b : Bool). Shown b (g.stands seat.node) r.0) up r.2 in
+    (v.1, r.1 ∙ ap Some v.2, subst (R seat) v.2 r.2)
+
+-- node k is crashed in each written world too
+pub seen_down : {N : Type 0} {g : Ghosts N} (seats : List (Seat N g)) (nodes : List Standing) (k : ℕ) (seat : Seat N g) → AreStandings seats nodes → k < length seats → seat ≡ get_or seats k seat → seat.up ≡ false
+    → (c : Content) × (doubt : Option Write) × (slice_get nodes k ≡ Some (Stopped c doubt)) × Stands seat (Stopped c doubt)
+seen_down {N} {g} seats nodes k seat each lt is down =
+    let R : Seat N g → Standing → Type 0 = Stands in
+    let r = each_at R seats nodes k seat each lt is in
+    let c = crashed_at seat.up (g.stands seat.node) r.0 down r.2 in
+    (c.0, c.1, r.1 ∙ ap Some c.2, subst (R seat) c.2 r.2)
+
+-- there is no node k in any written world either
+pub seen_none : {N : Type 0} {g : Ghosts N} (seats : List (Seat N g)) (nodes : List Standing) (k : ℕ) → AreStandings seats nodes → length seats ≤ k → length nodes ≤ k
+seen_none {N} {g} seats nodes k each le =
+    let R : Seat N g → Standing → Type 0 = Stands in
+    rw (each_length R seats nodes each) le
+
+-- the node at seat k went on
+pub moves : {N : Type 0} {g : Ghosts N} (seats : List (Seat N g)) (nodes : List Standing) (k : ℕ) (new : Seat N g) (s : Standing) → AreStandings seats nodes → Stands new s → AreStandings (slice_set seats k new) (slice_set nodes k s)
+moves {N} {g} seats nodes k new s each stands =
+    let R : Seat N g → Standing → Type 0 = Stands in
+    each_set R seats nodes k new s each stands
+
+set_got : {A : Type 0} (xs : List A) (k : ℕ) (x : A) → slice_get xs k ≡ Some x → slice_set xs k x ≡ xs
+set_got [] k x at = refl
+set_got {A} (y ∷ xs) zero x at = let same : y ≡ x = cc in ap (λ (z : A). z ∷ xs) (sym same)
+set_got {A} (y ∷ xs) (suc k) x at = ap (λ (zs : List A). y ∷ zs) (set_got xs k x at)
+
+-- the node at seat k stands where it stood
+pub unmoved : {N : Type 0} {g : Ghosts N} (seats : List (Seat N g)) (nodes : List Standing) (k : ℕ) (new : Seat N g) (s : Standing) → AreStandings seats nodes → slice_get nodes k ≡ Some s → Stands new s → AreStandings (slice_set seats k new) nodes
+unmoved {N} {g} seats nodes k new s each at stands =
+    let R : Seat N g → Standing → Type 0 = Stands in
+    subst (λ (ns : List Standing). Each R (slice_set seats k new) ns) (set_got nodes k s at) (each_set R seats nodes k new s each stands)
+
+-- a node that was read twice is one
+pub same_at : {A : Type 0} (xs : List A) (k : ℕ) (x y : A) → k < length xs → x ≡ get_or xs k x → y ≡ get_or xs k y → x ≡ y
+same_at xs k x y lt is_x is_y =
+    let a = slice_get_read xs (length xs) k x refl lt is_x in
+    let b = slice_get_read xs (length xs) k y refl lt is_y in
+    cc
+
+get_none : {A : Type 0} (xs : List A) (k : ℕ) → length xs ≤ k → slice_get xs k ≡ None
+get_none [] k le = refl
+get_none (x ∷ xs) zero le = absurd (omega arith)
+get_none (x ∷ xs) (suc k) le = get_none xs k (omega arith)
+
+-- a call of node k, in each written world
+pub record CallOf {N : Type 0} {g : Ghosts N} (nodes : List Standing) (k : ℕ) (cause : Cause) (given : Result (List Letter) NodeFault) (mid : Seat N g) : Type 0 where
+  pub view : View
+  pub at : slice_get nodes k ≡ Some (Running view)
+  pub after : Standing
+  pub ends : NodeEnds (Course (length nodes) k view cause) view given after
+  pub stands : Stands mid (shown (stays_up given) after)
+
+-- a call of the node at seat k is one of node k in each written world
+pub called_at : {N : Type 0} {g : Ghosts N} (nodes : List Standing) (seats : List (Seat N g)) (k : ℕ) (seat mid new : Seat N g) (cause : Cause) (given : Result (List Letter) NodeFault)
+    → AreStandings seats nodes → IsNumbered seats → IsUpAt seats k → seat ≡ get_or seats k seat
+    → (IsHonest mid → CalledIn (g.who seat.node) (Stands seat) cause given (Stands mid))
+    → new.node ≡ mid.node → AllHonest (slice_set seats k new)
+    → CallOf nodes k cause given mid
+called_at {N} {g} nodes seats k seat mid new cause given each numbered up is called node all =
+    let R : Seat N g → Standing → Type 0 = Stands in
+    let r = seen_up seats nodes k seat each up.0 is (up.1 seat is) in
+    let same : member seat ≡ (k, length nodes) = rw (each_length R seats nodes each) (who_at seats k seat up.0 is numbered) in
+    let honest : IsHonest mid = subst (λ (n : N). IsTrue (g.honest n)) node (honest_at seats k new up.0 all) in
+    let call = called honest r.0 r.2 in
+    let there = subst (λ (m : ℕ × ℕ). NodeEnds (Course m.1 m.0 r.0 cause) r.0 given call.0) same call.1 in
+    record { view = r.0; at = r.1; after = call.0; ends = there; stands = call.2 }
+
+-- and a release
+pub record ReleaseOf {N : Type 0} {g : Ghosts N} (nodes : List Standing) (k now : ℕ) (given : Result (List Numbered) NodeFault) (mid : Seat N g) : Type 0 where
+  pub view : View
+  pub at : slice_get nodes k ≡ Some (Running view)
+  pub after : Standing
+  pub ends : NodeReleases (Running view) now given after
+  pub stands : Stands mid (shown (stays_up given) after)
+
+pub released_at : {N : Type 0} {g : Ghosts N} (nodes : List Standing) (seats : List (Seat N g)) (k : ℕ) (seat mid new : Seat N g) (now : ℕ) (given : Result (List Numbered) NodeFault)
+    → AreStandings seats nodes → IsUpAt seats k → seat ≡ get_or seats k seat
+    → (IsHonest mid → ReleasedIn (Stands seat) now given (Stands mid))
+    → new.node ≡ mid.node → AllHonest (slice_set seats k new)
+    → ReleaseOf nodes k now given mid
+released_at {N} {g} nodes seats k seat mid new now given each up is called node all =
+    let r = seen_up seats nodes k seat each up.0 is (up.1 seat is) in
+    let honest : IsHonest mid = subst (λ (n : N). IsTrue (g.honest n)) node (honest_at seats k new up.0 all) in
+    let call = called honest r.0 r.2 in
+    record { view = r.0; at = r.1; after = call.0; ends = call.1; stands = call.2 }
+
+-- two calls leave the same world where their parts are the same
+same_call : (w : Written) (k : ℕ) (s s' : Standing) (letters letters' : List Letter) (outputs outputs' : List ReleasedOutput) (history : List Entry) → s ≡ s' → letters ≡ letters' → outputs ≡ outputs'
+    → record w { nodes = slice_set w.nodes k s; letters = letters; outputs = outputs; history = history } ≡ record w { nodes = slice_set w.nodes k s'; letters = letters'; outputs = outputs'; history = history }
+same_call w k s s' letters letters' outputs outputs' history standing sent out = λ i. record w { nodes = slice_set w.nodes k (standing i); letters = sent i; outputs = out i; history = history }
+
+-- a call that changed nothing
+same_still : (w : Written) (k : ℕ) (s s' : Standing) (letters : List Letter) → slice_get w.nodes k ≡ Some s' → s ≡ s' → letters ≡ w.letters → record w { nodes = slice_set w.nodes k s; letters = letters } ≡ w
+same_still w k s s' letters at same sent =
+    let nodes : slice_set w.nodes k s ≡ w.nodes = ap (λ (x : Standing). slice_set w.nodes k x) same ∙ set_got w.nodes k s' at in
+    λ i. record w { nodes = nodes i; letters = sent i }
+
+-- the world after a fault of node k
+fails : (w : Written) (k : ℕ) (view : View) (IsCourse : Result Outcome NodeFault → Type 0) (told : NodeFault) (t : Standing) (letters : List Letter)
+    → slice_get w.nodes k ≡ Some (Running view) → NodeEnds IsCourse view (Err told) t → letters ≡ w.letters
+    → Fails w k view IsCourse told (record w { nodes = slice_set w.nodes k (shown (survives told) t); letters = letters })
+fails w k view IsCourse fault.OutOfMemory t letters at ends sent = same_call w k _ _ letters _ _ _ _ (ap crashed ends) sent refl
+fails w k view IsCourse fault.StoreRefused t letters at ends sent = same_call w k _ _ letters _ _ _ _ (ap crashed ends) sent refl
+fails w k view IsCourse fault.Down t letters at (inl stopped) sent = inl (same_call w k _ _ letters _ _ _ _ (ap crashed stopped) sent refl)
+fails w k view IsCourse fault.Down t letters at (inr (o, course, stopped)) sent = inr (o, course, same_call w k _ _ letters _ _ _ _ (ap crashed stopped) sent refl)
+fails w k view IsCourse declined t letters at ends sent = (ends.0, same_still w k _ _ letters at ends.1 sent)
+
+-- a call whose letters are to be sent
+pub sends : (w : Written) (k : ℕ) (view : View) (IsCourse : Result Outcome NodeFault → Type 0) (given : Result (List Letter) NodeFault) (t : Standing) (letters : List Letter) (answer : Answer)
+    → slice_get w.nodes k ≡ Some (Running view) → NodeEnds IsCourse view given t → Posted given w.letters answer letters
+    → (history : List Entry) × Ends w k view IsCourse answer (record w { nodes = slice_set w.nodes k (left answer (shown (stays_up given) t)); letters = letters; history = history })
+sends w k view IsCourse (Ok given) t letters (Sent n) at (o, course, is, runs) posted =
+    (record_write k o.write w.history, (o, course, posted.0 ∙ ap length is, same_call w k _ _ _ _ _ _ _ runs (posted.1 ∙ ap (λ (ls : List Letter). w.letters ++ ls) is) refl))
+sends w k view IsCourse (Ok given) t letters Crashed at (o, course, is, runs) posted =
+    (record_write k o.write w.history, (o, course, (λ none. posted.0 (is ∙ none)), same_call w k _ _ _ _ _ _ _ (ap crashed runs) posted.1 refl))
+sends w k view IsCourse (Err told) t letters (Fault shown_fault) at ends posted =
+    (w.history, subst (λ (f : NodeFault). Fails w k view IsCourse f (record w { nodes = slice_set w.nodes k (shown (survives told) t); letters = letters })) (sym posted.0) (fails w k view IsCourse told t letters at ends posted.1))
+sends w k view IsCourse given t letters answer at ends posted = absurd posted
+
+-- a call whose letters are thrown away
+pub loses : (w : Written) (k : ℕ) (view : View) (IsCourse : Result Outcome NodeFault → Type 0) (given : Result (List Letter) NodeFault) (t : Standing) (answer : Answer)
+    → slice_get w.nodes k ≡ Some (Running view) → NodeEnds IsCourse view given t → Lost given answer
+    → (history : List Entry) × EndsInCrash w k view IsCourse answer (record w { nodes = slice_set w.nodes k (left answer (shown (stays_up given) t)); history = history })
+loses w k view IsCourse (Ok given) t Finished at (o, course, is, runs) lost =
+    (record_write k o.write w.history, (o, course, same_call w k _ _ _ _ _ _ _ (ap crashed runs) refl refl))
+loses w k view IsCourse (Err told) t (Fault shown_fault) at ends lost =
+    (w.history, subst (λ (f : NodeFault). Fails w k view IsCourse f (record w { nodes = slice_set w.nodes k (shown (survives told) t) })) (sym lost) (fails w k view IsCourse told t w.letters at ends refl))
+loses w k view IsCourse given t answer at ends lost = absurd lost
+
+-- a release that failed, having written nothing
+release_fails : (w : Written) (k : ℕ) (view : View) (IsCourse : Result Outcome NodeFault → Type 0) (told : NodeFault) (t : Standing) (outputs : List ReleasedOutput)
+    → StoreFails view told t → outputs ≡ w.outputs
+    → Fails w k view IsCourse told (record w { nodes = slice_set w.nodes k (shown (survives told) t); outputs = outputs })
+release_fails w k view IsCourse fault.OutOfMemory t outputs ends kept = same_call w k _ _ _ _ outputs _ _ (ap crashed ends) refl kept
+release_fails w k view IsCourse fault.StoreRefused t outputs ends kept = same_call w k _ _ _ _ outputs _ _ (ap crashed ends) refl kept
+release_fails w k view IsCourse fault.Down t outputs ends kept = inl (same_call w k _ _ _ _ outputs _ _ (ap crashed ends) refl kept)
+release_fails w k view IsCourse declined t outputs ends kept = absurd ends
+
+-- a call that is to release outputs
+pub releases : (w : Written) (k now : ℕ) (view : View) (given : Result (List Numbered) NodeFault) (t : Standing) (outputs : List ReleasedOutput) (answer : Answer)
+    → NodeReleases (Running view) now given t → Keeps given k w.outputs answer outputs
+    → Releases w k now view answer (record w { nodes = slice_set w.nodes k (left answer (shown (stays_up given) t)); outputs = outputs })
+releases w k now view (Ok given) t outputs (Released n) (is, runs) kept =
+    (kept.0 ∙ ap length is, same_call w k _ _ _ _ outputs _ _ runs refl (kept.1 ∙ ap (λ (xs : List Numbered). w.outputs ++ released_by k xs) is))
+releases w k now view (Ok given) t outputs Crashed (is, runs) kept =
+    ((λ none. kept.0 (is ∙ none)), same_call w k _ _ _ _ outputs _ _ (ap crashed runs) refl kept.1)
+releases w k now view (Err told) t outputs (Fault shown_fault) ends kept =
+    let course : Result Outcome NodeFault → Type 0 = λ whole. whole ≡ Ok (nothing (released_all view)) in
+    subst (λ (f : NodeFault). Fails w k view course f (record w { nodes = slice_set w.nodes k (shown (survives told) t); outputs = outputs })) (sym kept.0) (release_fails w k view course told t outputs ends kept.1)
+releases w k now view given t outputs answer ends kept = absurd kept
+
+-- a restart over what a crash left
+pub starts : (w : Written) (k : ℕ) (c : Content) (doubt : Option Write) (t : Standing) → RestartsWith (Stopped c doubt) (Ok tt) t
+    → (history : List Entry) × Starts w k c doubt Finished (record w { nodes = slice_set w.nodes k t; history = history })
+starts w k c doubt t (inl as_it_was) = (w.history, inl (same_call w k _ _ _ _ _ _ _ as_it_was refl refl))
+starts w k c doubt t (inr made) = (record_write k doubt w.history, inr (same_call w k _ _ _ _ _ _ _ made refl refl))
+
+-- a node that is up goes on
+pub asks : (w w' : Written) (k : ℕ) (view : View) (Goes : View → Answer → Written → Type 0) (answer : Answer) → slice_get w.nodes k ≡ Some (Running view) → Goes view answer w' → Asks w (slice_get w.nodes k) Goes answer w'
+asks w w' k view Goes answer at goes = subst (λ (s : Option Standing). Asks w s Goes answer w') (sym at) goes
+
+-- a node that can't be called
+pub misses : (w : Written) (k : ℕ) (Goes : View → Answer → Written → Type 0) (refusal : Refusal) → IsMissed w.nodes k refusal → Asks w (slice_get w.nodes k) Goes (Refused refusal) w
+misses w k Goes NoNode missed = subst (λ (s : Option Standing). Asks w s Goes (Refused NoNode) w) (sym (get_none w.nodes k missed)) (refl, refl)
+misses w k Goes NodeDown (c, doubt, at) = subst (λ (s : Option Standing). Asks w s Goes (Refused NodeDown) w) (sym at) (refl, refl)
+misses w k Goes other missed = absurd missed
+
+-- a letter comes to a node
+pub comes : (w w' : Written) (i : ℕ) (letter : Letter) (k : ℕ) (Takes : ℕ → Letter → View → Answer → Written → Type 0) (answer : Answer) → i < length w.letters → letter ≡ get_or w.letters i letter → k ≡ letter.to
+    → Asks w (slice_get w.nodes k) (Takes k letter) answer w' → Comes w (slice_get w.letters i) (λ l. Takes l.to l) answer w'
+comes w w' i letter k Takes answer lt is to goes =
+    subst (λ (l : Option Letter). Comes w l (λ (x : Letter). Takes x.to x) answer w') (sym (slice_get_read w.letters (length w.letters) i letter refl lt is))
+    (subst (λ (n : ℕ). Asks w (slice_get w.nodes n) (Takes n letter) answer w') to goes)
+
+-- there is no such letter
+pub no_letter : (w : Written) (i : ℕ) (Takes : Letter → View → Answer → Written → Type 0) → length w.letters ≤ i → Comes w (slice_get w.letters i) Takes (Refused NoLetter) w
+no_letter w i Takes le = subst (λ (l : Option Letter). Comes w l Takes (Refused NoLetter) w) (sym (get_none w.letters i le)) (refl, refl)
+
+-- a restart of a node that crashed
+pub restarts : (w w' : Written) (k : ℕ) (s : Standing) (answer : Answer) → slice_get w.nodes k ≡ Some s → WorldRestarts w k (Some s) answer w' → WorldRestarts w k (slice_get w.nodes k) answer w'
+restarts w w' k s answer at goes = subst (λ (x : Option Standing). WorldRestarts w k x answer w') (sym at) goes
+
+-- there is no such node to restart
+pub restarts_none : (w : Written) (k : ℕ) → length w.nodes ≤ k → WorldRestarts w k (slice_get w.nodes k) (Refused NoNode) w
+restarts_none w k le = subst (λ (x : Option Standing). WorldRestarts w k x (Refused NoNode) w) (sym (get_none w.nodes k le)) (refl, refl)
+
+-- one more output is numbered, and one less is left
+pub numbered_more : (outputs new : List ReleasedOutput) (k : ℕ) (x : Numbered) (rest left : List Numbered) (all : List ReleasedOutput) → new ≡ outputs ++ record { node = k; numbered = x } ∷ [] → rest ≡ x ∷ left
+    → outputs ++ released_by k rest ≡ all → new ++ released_by k left ≡ all
+numbered_more outputs new k x rest left all more is whole =
+    ap (λ (xs : List ReleasedOutput). xs ++ released_by k left) more
+    ∙ (append_assoc outputs (record { node = k; numbered = x } ∷ []) (released_by k left) ∙ (sym (ap (λ (r : List Numbered). outputs ++ released_by k r) is) ∙ whole))

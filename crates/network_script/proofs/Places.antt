@@ -1,0 +1,129 @@
+-- A node at its place in the world.
+use Rattle.std.proofs.Common.{◌≡◌, ◌<◌, ℕ, zero, suc, List, [], ◌∷◌, ◌++◌, Some, map, length, set, get_or, slice_get, slice_set, refl, sym, ap, ◌∙◌, subst, arith, append_assoc, replicate, true}
+use Rattle.std.specs.List.{range_with_len}
+use Rattle.std.specs.Prelude.{All}
+use Rattle.std.proofs.lemmas.List.{map-set, set-get_or, set-set, get_or-map, length-set, length-map, get_or-set_same, map_push}
+use Rattle.std.proofs.lemmas.List.Elements.{All-set, All-head, All-tail}
+use Rattle.std.proofs.lemmas.List.FromFn.{get_or-map-range_with_len}
+use Rattle.std.proofs.lemmas.Option.{slice_get_read}
+use Rattle.node.specs.declared.node.Node.{Ghosts}
+use Rattle.node.specs.View.{Standing, started}
+use Rattle.node.specs.View.Standing.{Running}
+use Rattle.acceptor.specs.Content.{no_content}
+use Rattle.network_script.specs.declared.seat.Seat.{Seat}
+use Rattle.network_script.specs.Seat.{SameMember}
+use Rattle.network_script.specs.Seats.{Stands, member, node_of, Each, AreStandings, IsNumbered, IsHonest, AllHonest}
+
+-- what is there stays there, if it is written again
+pub set_same : {A : Type 0} (xs : List A) (k : ℕ) (x : A) → x ≡ get_or xs k x → set xs k x ≡ xs
+set_same xs k x is = ap (λ y. set xs k y) is ∙ set-get_or xs k x
+
+-- and what was there comes back
+pub set_back : {A : Type 0} (xs : List A) (k : ℕ) (x y : A) → x ≡ get_or xs k x → set (set xs k y) k x ≡ xs
+set_back xs k x y is = set-set xs k y x ∙ set_same xs k x is
+
+-- what is seen of what stands at a place
+pub seen_at : {A B : Type 0} (f : A → B) (xs : List A) (k : ℕ) (x : A) → k < length xs → x ≡ get_or xs k x → slice_get (map f xs) k ≡ Some (f x)
+seen_at f xs k x lt is =
+    slice_get_read (map f xs) (length xs) k (f x) (sym (length-map xs f)) lt (ap f is ∙ sym (get_or-map f xs k x (f x) lt))
+
+-- the nodes stay numbered
+pub numbered_set : {N : Type 0} {g : Ghosts N} (seats : List (Seat N g)) (k : ℕ) (seat seat' : Seat N g) → seat ≡ get_or seats k seat → SameMember (g.who seat.node) (g.who seat'.node) → IsNumbered seats → IsNumbered (slice_set seats k seat')
+numbered_set {N} {g} seats k seat seat' is same numbered =
+    let f : Seat N g → ℕ × ℕ = member in
+    let seen : f seat' ≡ f seat = cc in
+    let kept : map f (set seats k seat') ≡ map f seats =
+    map-set f seats k seat' ∙ (ap (λ m. set (map f seats) k m) seen ∙ (sym (map-set f seats k seat) ∙ ap (map f) (set_same seats k seat is))) in
+    kept ∙ (numbered ∙ ap (λ n. map (λ j. (j, n)) (range_with_len 0 n)) (sym (length-set seats k seat')))
+
+-- the node at place k is number k of as many
+pub who_at : {N : Type 0} {g : Ghosts N} (seats : List (Seat N g)) (k : ℕ) (seat : Seat N g) → k < length seats → seat ≡ get_or seats k seat → IsNumbered seats → member seat ≡ (k, length seats)
+who_at {N} {g} seats k seat lt is numbered =
+    let f : Seat N g → ℕ × ℕ = member in
+    ap f is
+    ∙ (sym (get_or-map f seats k seat (0, 0) lt)
+    ∙ (ap (λ ms. get_or ms k (0, 0)) numbered
+    ∙ get_or-map-range_with_len (λ j. (j, length seats)) 0 (length seats) k k (0, 0) lt (omega arith)))
+
+-- the one that was written is honest if all are
+pub honest_at : {N : Type 0} {g : Ghosts N} (seats : List (Seat N g)) (k : ℕ) (seat' : Seat N g) → k < length seats → AllHonest (slice_set seats k seat') → IsHonest seat'
+honest_at {N} {g} seats k seat' lt all =
+    let P : Seat N g → Type 0 = IsHonest in
+    let within : k < length (set seats k seat') = omega (arith, length-set seats k seat') in
+    subst P (get_or-set_same seats k seat' seat' lt) (all k seat' within)
+
+-- all were honest before
+pub honest_before : {N : Type 0} {g : Ghosts N} (seats : List (Seat N g)) (k : ℕ) (seat seat' : Seat N g) → k < length seats → seat ≡ get_or seats k seat → (IsHonest seat' → IsHonest seat) → AllHonest (slice_set seats k seat') → AllHonest seats
+honest_before {N} {g} seats k seat seat' lt is before all =
+    let P : Seat N g → Type 0 = IsHonest in
+    let there = before (honest_at seats k seat' lt all) in
+    subst (All P) (set_back seats k seat seat' is) (All-set P (set seats k seat') k seat there all)
+
+-- one more is seen, and one less is left
+pub grown : {A B : Type 0} (f : A → B) (xs new : List A) (x : A) (b : B) (rest left all : List B) → new ≡ xs ++ x ∷ [] → f x ≡ b → rest ≡ b ∷ left → map f xs ++ rest ≡ all → map f new ++ left ≡ all
+grown f xs new x b rest left all more is first whole =
+    ap (λ l. map f l ++ left) more ∙ (ap (λ m. m ++ left) (map_push f xs x) ∙ (append_assoc (map f xs) (f x ∷ []) left
+    ∙ (ap (λ y. map f xs ++ y ∷ left) is ∙ (ap (λ r. map f xs ++ r) (sym first) ∙ whole))))
+
+-- all are seen alike
+pub all_alike : {A B : Type 0} (f : A → B) (b : B) (xs : List A) → All (λ x. f x ≡ b) xs → map f xs ≡ replicate (length xs) b
+all_alike f b [] all = refl
+all_alike {A} f b (x ∷ xs) all =
+    let P = λ (y : A). f y ≡ b in
+    let here : f x ≡ b = All-head P x xs all in
+    let there : map f xs ≡ replicate (length xs) b = all_alike f b xs (All-tail P x xs all) in
+    cc
+
+-- where a fresh node stands
+abbrev pub fresh_standing : Standing
+fresh_standing = Running (started no_content)
+
+-- fresh nodes stand at the opening
+pub opened_stand : {N : Type 0} {g : Ghosts N} (seats : List (Seat N g)) → All (λ (node : N). g.stands node fresh_standing) (map node_of seats) → All (λ (seat : Seat N g). seat.up ≡ true) seats → AreStandings seats (replicate (length seats) fresh_standing)
+opened_stand {N} {g} [] fresh up = tt
+opened_stand {N} {g} (seat ∷ seats) fresh up =
+    let F = λ (node : N). g.stands node fresh_standing in
+    let U = λ (s : Seat N g). s.up ≡ true in
+    let is_up : seat.up ≡ true = All-head U seat seats up in
+    (rw is_up (All-head F seat.node (map node_of seats) fresh, started no_content, refl), opened_stand seats (All-tail F seat.node (map node_of seats) fresh) (All-tail U seat seats up))
+
+-- lists that go together are as long
+pub each_length : {A B : Type 0} (R : A → B → Type 0) (xs : List A) (ys : List B) → Each R xs ys → length ys ≡ length xs
+each_length R [] [] each = refl
+each_length R (x ∷ xs) (y ∷ ys) each = ap suc (each_length R xs ys each.1)
+each_length R [] (y ∷ ys) each = absurd each
+each_length R (x ∷ xs) [] each = absurd each
+
+-- what goes with the one at a place
+pub each_at : {A B : Type 0} (R : A → B → Type 0) (xs : List A) (ys : List B) (k : ℕ) (x : A) → Each R xs ys → k < length xs → x ≡ get_or xs k x → (y : B) × (slice_get ys k ≡ Some y) × R x y
+each_at R [] ys k x each lt is = absurd (omega arith)
+each_at R (z ∷ xs) [] k x each lt is = absurd each
+each_at {A} {B} R (z ∷ xs) (y ∷ ys) zero x each lt is = (y, refl, subst (λ (a : A). R a y) (sym is) each.0)
+each_at R (z ∷ xs) (y ∷ ys) (suc k) x each lt is = each_at R xs ys k x each.1 (omega arith) is
+
+-- one of each is changed
+pub each_set : {A B : Type 0} (R : A → B → Type 0) (xs : List A) (ys : List B) (k : ℕ) (x : A) (y : B) → Each R xs ys → R x y → Each R (slice_set xs k x) (slice_set ys k y)
+each_set R [] [] k x y each here = tt
+each_set R (z ∷ xs) (w ∷ ys) zero x y each here = (here, each.1)
+each_set R (z ∷ xs) (w ∷ ys) (suc k) x y each here = (each.0, each_set R xs ys k x y each.1 here)
+each_set R [] (w ∷ ys) k x y each here = absurd each
+each_set R (z ∷ xs) [] k x y each here = absurd each
+
+-- who sits there, seen through the node
+seen_through : {N : Type 0} {g : Ghosts N} (f : N → ℕ × ℕ) (seats : List (Seat N g)) → map (λ (seat : Seat N g). f seat.node) seats ≡ map f (map node_of seats)
+seen_through f [] = refl
+seen_through f (seat ∷ seats) = ap (λ ms. f seat.node ∷ ms) (seen_through f seats)
+
+-- numbered nodes sit at numbered seats
+pub numbered_seats : {N : Type 0} {g : Ghosts N} (nodes : List N) (seats : List (Seat N g)) → map node_of seats ≡ nodes → map {B = ℕ × ℕ} (λ (node : N). ((g.who node).id, (g.who node).members)) nodes ≡ map (λ k. (k, length nodes)) (range_with_len 0 (length nodes)) → IsNumbered seats
+numbered_seats {N} {g} nodes seats seated numbered =
+    let f : N → ℕ × ℕ = λ node. ((g.who node).id, (g.who node).members) in
+    let size : length seats ≡ length nodes = sym (length-map seats (node_of {N = N} {g = g})) ∙ ap length seated in
+    seen_through f seats ∙ (ap (map f) seated ∙ (numbered ∙ ap (λ n. map (λ k. (k, n)) (range_with_len 0 n)) (sym size)))
+
+-- what an event of one node keeps
+pub ruleset one_node = (numbered_set, honest_before)
+
+-- there are as many standings as nodes
+pub standings_length : {N : Type 0} {g : Ghosts N} (seats : List (Seat N g)) (nodes : List Standing) → AreStandings seats nodes → length nodes ≡ length seats
+standings_length {N} {g} seats nodes each = each_length (Stands {N = N} {g = g}) seats nodes each

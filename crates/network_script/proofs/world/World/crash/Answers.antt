@@ -1,0 +1,40 @@
+use Rattle.std.proofs.Common.{refl, slice_set, arith}
+use Rattle.node.specs.View.Standing.{Running}
+use Rattle.network_script.specs.declared.event.Answer.TheVariants.{Finished}
+use Rattle.network_script.specs.Seat.{crashed}
+use Rattle.network_script.specs.Worlds.{written}
+use Rattle.network_script.specs.Next.{Crashes}
+use Rattle.network_script.proofs.Acts.{seen_up, moves, asks, misses}
+use Rattle.network_script.specs.declared.event.Event.TheVariants as event
+use Rattle.network_script.proofs.Counted.{count_still}
+use Rattle.network_script.proofs.Tallied.{counted_seat, false_true}
+use Rattle.network_script.proofs.world.World.crash.Goals as goal
+
+pub returns-in-Some-clause-next : goal.returns-in-Some-clause-next
+returns-in-Some-clause-next g c = λ all nodes modems history each hold.
+    let w = written c.args.self.now nodes modems history in
+    (nodes, modems, history, each, hold, misses w c.args.k (Crashes w c.args.k) c.in-Some.refusal (c.in-Some.ensures.missed nodes each))
+
+pub returns-clause-next : goal.returns-clause-next
+returns-clause-next g c = λ all nodes modems history each hold.
+    let w = written c.args.self.now nodes modems history in
+    let seats = c.args.self.now.seats.items in
+    let seat = c.index_mut-seat.result.now in
+    let at = c.index_mut-seat.ensures.value in
+    let up = seen_up seats nodes c.args.k seat each c.in_default.ensures.up.0 at (c.in_default.ensures.up.1 seat at) in
+    let s = crashed (Running up.0) in (
+      slice_set nodes c.args.k s,
+      modems,
+      history,
+      moves seats nodes c.args.k c.crash.new.self s each (c.crash.ensures.stands (Running up.0) up.2),
+      hold,
+      asks w _ c.args.k up.0 (Crashes w c.args.k) Finished up.1 (refl, refl),
+    )
+
+pub returns-in-Some-clause-counted : goal.returns-in-Some-clause-counted
+returns-in-Some-clause-counted g c = count_still _ _ _ refl
+
+pub returns-clause-counted : goal.returns-clause-counted
+returns-clause-counted g c =
+    counted_seat c.args.self.now.seats.items c.args.k c.index_mut-seat.result.now c.crash.new.self (event.Crash c.args.k) Finished _ _
+    c.in_default.ensures.up.0 c.index_mut-seat.ensures.value (λ i n at. at) refl (rw c.crash.ensures.node (omega arith)) (λ loud. absurd (false_true loud))

@@ -1,0 +1,62 @@
+use Rattle.std.proofs.Common.{◌<◌, ◌∙◌, ℕ, rules, length, slice_set, refl, Some, ap, sym}
+use Rattle.ballots.specs.declared.letters.Letter.{Letter}
+use Rattle.node.specs.View.{View}
+use Rattle.node.specs.Calls.{Course, answer}
+use Rattle.node.specs.Calls.Cause.{Receive}
+use Rattle.network_script.specs.declared.event.Answer.TheVariants.{Refused}
+use Rattle.network_script.specs.Seat.{shown, stays_up}
+use Rattle.network_script.specs.Worlds.{written, left}
+use Rattle.network_script.specs.Next.{EndsInCrash}
+use Rattle.network_script.proofs.Acts.{called_at, moves, loses, asks, misses, comes, no_letter}
+use Rattle.network_script.specs.declared.event.Event.TheVariants as event
+use Rattle.network_script.proofs.Places.{seen_at}
+use Rattle.network_script.proofs.Counted.{count_still}
+use Rattle.network_script.proofs.Tallied.{counted_call, lost_rose}
+use Rattle.network_script.proofs.world.World.deliver_then_crash.Goals as goal
+
+pub returns-then-i-len-clause-next : goal.returns-then-i-len-clause-next
+returns-then-i-len-clause-next g c = λ all nodes modems history each hold.
+    let w = written c.args.self.now nodes modems history in
+    (nodes, modems, history, each, hold, no_letter w c.args.i (λ l view. EndsInCrash w l.to view (Course (length nodes) l.to view (Receive l))) (search rules))
+
+pub returns-in-Some-clause-next : goal.returns-in-Some-clause-next
+returns-in-Some-clause-next g c = λ all nodes modems history each hold.
+    let w = written c.args.self.now nodes modems history in
+    let letter = c.index-letter.result.now in
+    let takes = λ (n : ℕ) (l : Letter) (view : View). EndsInCrash w n view (Course (length nodes) n view (Receive l)) in
+    let gone = misses w c.from-k.result (takes c.from-k.result letter) c.in-Some.refusal (c.in-Some.ensures.missed nodes each) in
+    (nodes, modems, history, each, hold, comes w w c.args.i letter c.from-k.result takes (Refused c.in-Some.refusal) (search rules) c.index-letter.ensures (c.from-k.ensures ∙ c.number.ensures.same) gone)
+
+pub returns-clause-next : goal.returns-clause-next
+returns-clause-next g c = λ all nodes modems history each hold.
+    let w = written c.args.self.now nodes modems history in
+    let letter = c.index-letter.result.now in
+    let lt : c.args.i < length c.args.self.now.letters.items = search rules in
+    let seats = c.args.self.now.seats.items in
+    let k = c.from-k.result in
+    let given = answer c.receive-given.result in
+    let call = called_at nodes seats k c.index_mut-seat.result.now c.receive-given.new.self c.lose.new.seat (Receive letter) given
+    each c.args.self.now.numbered c.in_default.ensures.up c.index_mut-seat.ensures.value c.receive-given.ensures.called c.lose.ensures.node all in
+    let s = shown (stays_up given) call.after in
+    let takes = λ (n : ℕ) (l : Letter) (view : View). EndsInCrash w n view (Course (length nodes) n view (Receive l)) in
+    let made = loses w k call.view (Course (length nodes) k call.view (Receive letter)) given call.after c.lose.result call.at call.ends c.lose.ensures.lost in (
+      slice_set nodes k (left c.lose.result s),
+      modems,
+      made.0,
+      moves seats nodes k c.lose.new.seat (left c.lose.result s) each (c.lose.ensures.stands s call.stands),
+      hold,
+      comes w _ c.args.i letter k takes c.lose.result lt c.index-letter.ensures (c.from-k.ensures ∙ c.number.ensures.same) (asks w _ k call.view (takes k letter) c.lose.result call.at made.1),
+    )
+
+pub returns-then-i-len-clause-counted : goal.returns-then-i-len-clause-counted
+returns-then-i-len-clause-counted g c = count_still _ _ _ refl
+
+pub returns-in-Some-clause-counted : goal.returns-in-Some-clause-counted
+returns-in-Some-clause-counted g c = count_still _ _ _ refl
+
+pub returns-clause-counted : goal.returns-clause-counted
+returns-clause-counted g c =
+    let lt : c.args.i < length c.args.self.now.letters.items = search rules in
+    let called = seen_at (λ (letter : Letter). letter.to) c.args.self.now.letters.items c.args.i c.index-letter.result.now lt c.index-letter.ensures ∙ ap Some (sym (c.from-k.ensures ∙ c.number.ensures.same)) in
+    counted_call c.args.self.now.seats.items c.from-k.result c.index_mut-seat.result.now c.receive-given.new.self c.lose.new.seat c.receive-given.result (event.DeliverThenCrash c.args.i) c.lose.result _ _
+    c.in_default.ensures.up c.index_mut-seat.ensures.value (λ i n at. at) called c.receive-given.ensures.kept c.lose.ensures.node (lost_rose c.receive-given.result c.lose.result c.lose.ensures.lost)

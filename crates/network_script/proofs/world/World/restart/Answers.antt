@@ -1,0 +1,73 @@
+use Rattle.std.proofs.Common.{◌≡◌, ◌<◌, refl, rules, length, false, slice_set}
+use Rattle.node.specs.View.Standing.{Running, Stopped}
+use Rattle.network_script.specs.declared.event.Answer.TheVariants.{Finished, Refused, Fault}
+use Rattle.network_script.specs.declared.event.Refusal.TheVariants.{NodeUp}
+use Rattle.network_script.specs.Worlds.{written}
+use Rattle.network_script.proofs.Places.{honest_at}
+use Rattle.network_script.proofs.Acts.{seen_none, seen_up, seen_down, same_at, moves, unmoved, starts, restarts, restarts_none}
+use Rattle.network_script.specs.declared.event.Event.TheVariants as event
+use Rattle.network_script.proofs.Counted.{count_still}
+use Rattle.network_script.proofs.Tallied.{counted_seat, restart_rose, false_true}
+use Rattle.network_script.proofs.world.World.restart.Goals as goal
+
+pub returns-then-k-len-clause-next : goal.returns-then-k-len-clause-next
+returns-then-k-len-clause-next g c = λ all nodes modems history each hold.
+    let w = written c.args.self.now nodes modems history in
+    (nodes, modems, history, each, hold, restarts_none w c.args.k (seen_none c.args.self.now.seats.items nodes c.args.k each (search rules)))
+
+pub returns-then-index-clause-next : goal.returns-then-index-clause-next
+returns-then-index-clause-next g c = λ all nodes modems history each hold.
+    let w = written c.args.self.now nodes modems history in
+    let r = seen_up c.args.self.now.seats.items nodes c.args.k c.index.result.now each (search rules) c.index.ensures c.if-index.true in
+    (nodes, modems, history, each, hold, restarts w w c.args.k (Running r.0) (Refused NodeUp) r.1 (refl, refl))
+
+pub returns-in-Ok-clause-next : goal.returns-in-Ok-clause-next
+returns-in-Ok-clause-next g c = λ all nodes modems history each hold.
+    let w = written c.args.self.now nodes modems history in
+    let seats = c.args.self.now.seats.items in
+    let lt : c.args.k < length seats = search rules in
+    let same = same_at seats c.args.k _ _ lt c.index.ensures c.index_mut-seat.ensures.value in
+    let down : c.index_mut-seat.result.now.up ≡ false = rw (← same) c.if-index.false in
+    let r = seen_down seats nodes c.args.k c.index_mut-seat.result.now each lt c.index_mut-seat.ensures.value down in
+    let found = c.in-Ok.ensures.restarted (honest_at seats c.args.k c.restart.new.self lt all) (Stopped r.0 r.1) r.3 in
+    let made = starts w c.args.k r.0 r.1 found.0 found.1 in (
+      slice_set nodes c.args.k found.0,
+      modems,
+      made.0,
+      moves seats nodes c.args.k c.restart.new.self found.0 each found.2,
+      hold,
+      restarts w (record w { nodes = slice_set nodes c.args.k found.0; history = made.0 }) c.args.k (Stopped r.0 r.1) Finished r.2 made.1,
+    )
+
+pub returns-in-Err-clause-next : goal.returns-in-Err-clause-next
+returns-in-Err-clause-next g c = λ all nodes modems history each hold.
+    let w = written c.args.self.now nodes modems history in
+    let seats = c.args.self.now.seats.items in
+    let lt : c.args.k < length seats = search rules in
+    let same = same_at seats c.args.k _ _ lt c.index.ensures c.index_mut-seat.ensures.value in
+    let down : c.index_mut-seat.result.now.up ≡ false = rw (← same) c.if-index.false in
+    let r = seen_down seats nodes c.args.k c.index_mut-seat.result.now each lt c.index_mut-seat.ensures.value down in
+    let found = c.in-Err.ensures.restarted (honest_at seats c.args.k c.restart.new.self lt all) (Stopped r.0 r.1) r.3 in (
+      nodes,
+      modems,
+      history,
+      unmoved seats nodes c.args.k c.restart.new.self (Stopped r.0 r.1) each r.2 (rw (← found.1.1) found.2),
+      hold,
+      restarts w w c.args.k (Stopped r.0 r.1) (Fault c.in-Err.fault) r.2 (found.1.0, refl),
+    )
+
+pub returns-then-k-len-clause-counted : goal.returns-then-k-len-clause-counted
+returns-then-k-len-clause-counted g c = count_still _ _ _ refl
+
+pub returns-then-index-clause-counted : goal.returns-then-index-clause-counted
+returns-then-index-clause-counted g c = count_still _ _ _ refl
+
+pub returns-in-Ok-clause-counted : goal.returns-in-Ok-clause-counted
+returns-in-Ok-clause-counted g c =
+    counted_seat c.args.self.now.seats.items c.args.k c.index_mut-seat.result.now c.restart.new.self (event.Restart c.args.k) Finished _ _
+    (search rules) c.index_mut-seat.ensures.value (λ i n at. at) refl c.in-Ok.ensures.kept.2 (λ loud. absurd (false_true loud))
+
+pub returns-in-Err-clause-counted : goal.returns-in-Err-clause-counted
+returns-in-Err-clause-counted g c =
+    counted_seat c.args.self.now.seats.items c.args.k c.index_mut-seat.result.now c.restart.new.self (event.Restart c.args.k) (Fault c.in-Err.fault) _ _
+    (search rules) c.index_mut-seat.ensures.value (λ i n at. at) refl c.in-Err.ensures.kept.2 (restart_rose (Unit {0}) _ _ c.in-Err.fault c.in-Err.ensures.kept)

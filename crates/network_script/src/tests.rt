@@ -1,0 +1,7 @@
+//! Scripts over nodes with plain records.
+
+mod checks;
+mod modems;
+mod nodes;
+mod scripts;
+mod shapes;
