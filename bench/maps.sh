@@ -61,34 +61,12 @@ plan() {
         }'
 }
 
-# measure COUNT PLAN: the least time of three runs, and the peak memory.
-measure() {
-    python3 - "$program" "$1" "$2" <<'PYTHON'
-import os, sys, time
-program, count, plan = sys.argv[1], int(sys.argv[2]), sys.argv[3]
-least, peak = None, 0
-for _ in range(3):
-    start = time.monotonic()
-    child = os.fork()
-    if child == 0:
-        os.dup2(os.open(os.devnull, os.O_WRONLY), 1)
-        os.execv(program, [program, "maps", plan])
-    _, status, usage = os.wait4(child, 0)
-    taken = time.monotonic() - start
-    if status != 0:
-        sys.exit("bench/maps.sh: the program ended with status %d" % os.waitstatus_to_exitcode(status))
-    least = taken if least is None else min(least, taken)
-    peak = max(peak, usage.ru_maxrss)
-print("%d %.0f %.1f %.9f" % (count, count / least, peak / 1024, least / count))
-PYTHON
-}
-
 [ $# -gt 0 ] || set -- requests service far
 for kind in "$@"; do
     echo "$kind"
     for count in 1000 10000 100000; do
         plan "$kind" "$count" >"$plans/plan.toml"
-        measure "$count" "$plans/plan.toml"
+        python3 "$root/bench/measure.py" "$program" maps "$count" "$plans/plan.toml"
     done | awk '
         { printf "  %6d commands: %8d a second, peak %6.1f MiB\n", $1, $2, $3 }
         NR == 1 { first = $4 }
