@@ -2,6 +2,7 @@
 use Rattle.std.specs.Prelude.{ℕ, zero, suc, ◌+◌, ◌-◌, ◌*◌, ◌/◌, ◌==◌, Bool, false, not, ◌&&◌, nat_lt, nat_le, if◌then◌else◌, min, max, List, [], ◌∷◌, ◌++◌, Option, Some, None}
 use Rattle.std.specs.List.{filter, list_any, flat_map}
 use Rattle.minislot_time.specs.Extent.{Extent}
+use Rattle.map_body.specs.Iucs as iucs
 use Rattle.flow_state.specs.declared.channel.Channel.{Channel}
 use Rattle.flow_state.specs.declared.channel.ChannelRow.{ChannelRow}
 use Rattle.flow_state.specs.declared.flow.FlowKind.{FlowKind}
@@ -9,7 +10,7 @@ use Rattle.flow_state.specs.declared.flow.FlowKind.TheVariants.{BestEffort, Ugs,
 use Rattle.flow_state.specs.declared.flow.Waiting.{Waiting}
 use Rattle.flow_state.specs.declared.refusal.Refusal.{Refusal}
 use Rattle.flow_state.specs.declared.refusal.Refusal.TheVariants.{BadValue}
-use Rattle.flow_state.specs.Limits.{last_time}
+use Rattle.flow_state.specs.Limits.{last_time, most_minislots}
 use Rattle.flow_state.specs.Rows.{Table, FlowRow, flow_of}
 use Rattle.grant_machine.specs.Placing.{Cause, Window, Sent, Placement, first_fit}
 -- what comes at each due time of a flow: minislots of this size and use, from the due time to jitter after it
@@ -17,14 +18,14 @@ pub use Rattle.grant_machine.specs.declared.due_times.Periodic.{Periodic}
 
 -- the use of a grant to a request: short up to the channel's short_max, else long
 abbrev pub grant_iuc : Channel → ℕ → ℕ
-grant_iuc c n = if nat_le n c.short_max then 5 else 6
+grant_iuc c n = if nat_le n c.short_max then iucs.short_data_grant else iucs.long_data_grant
 
 -- the use of an unsolicited grant, and of a poll
 abbrev pub unsolicited_iuc : Channel → ℕ → ℕ
 unsolicited_iuc c n = grant_iuc c n
 
 abbrev pub poll_iuc : ℕ
-poll_iuc = 1
+poll_iuc = iucs.request
 
 -- the unsolicited grants of a flow, if it has any
 abbrev pub grants_of_kind : Channel → ℕ → FlowKind → Option Periodic
@@ -163,10 +164,10 @@ pub record Filled : Type 0 where
 abbrev pub span_of : ChannelRow → (len not_before : ℕ) → Extent
 span_of row len not_before = record { start = max row.next_start not_before; len = len }
 
--- a MAP has 1 to 4096 minislots, and its times are at most the last one
+-- a MAP has a minislot, and not too many, and its times are at most the last one
 abbrev pub fill_refusal : ChannelRow → (len not_before ack : ℕ) → Option Refusal
 fill_refusal row len not_before ack =
-    if nat_le 1 len && nat_le len 4096 && nat_le not_before last_time && nat_le ack last_time && nat_le (end_of (span_of row len not_before)) last_time
+    if nat_le 1 len && nat_le len most_minislots && nat_le not_before last_time && nat_le ack last_time && nat_le (end_of (span_of row len not_before)) last_time
     then None else Some BadValue
 
 -- the Ack Time never falls, and never passes the MAP's start

@@ -1,6 +1,7 @@
 -- A MAP while it is filled, and what is known of what is placed in it.
 use Rattle.std.specs.Prelude.{ℕ, ◌+◌, ◌<◌, ◌≤◌, Bool, true, false, List, [], ◌∷◌, ◌++◌}
 use Rattle.minislot_time.specs.Extent.{Extent}
+use Rattle.map_body.specs.Iucs as iucs
 use Rattle.flow_state.specs.Limits.{last_time}
 use Rattle.grant_machine.specs.Placing.{Placement}
 use Rattle.grant_machine.specs.Cutting.{Periodic, Verdict, Missed, Placed, Kept, placement_at}
@@ -12,7 +13,7 @@ pub record PartMap : Type 0 where
 
 -- a placement's use is no expansion element's
 abbrev pub has_use : Placement → Type 0
-has_use p = p.iuc < 15
+has_use p = p.iuc < iucs.expansion
 
 -- next due times are at most this
 abbrev pub last_due : ℕ
@@ -22,7 +23,7 @@ last_due = last_time + 1000000
 pub record IsTimely (p : Periodic) : Type 0 where
   pub more : 1 ≤ p.interval
   pub most : p.interval ≤ 1000000
-  pub use_of : p.iuc < 15
+  pub use_of : p.iuc < iucs.expansion
 
 -- the flow goes on to its next due time
 abbrev pub goes_on : Verdict → Bool

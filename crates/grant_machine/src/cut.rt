@@ -4,7 +4,7 @@ ghost use Rattle.std.specs.Prelude.{◌≡◌, ℕ, ◌+◌, ◌≤◌, [], Some
 ghost use Rattle.std.specs.List.{AllByRecursion};
 ghost use Rattle.map_body.specs.Rules.{AreElements};
 ghost use Rattle.map_body.specs.Layout.{layout};
-ghost use Rattle.flow_state.specs.Limits.{last_time};
+ghost use Rattle.flow_state.specs.Limits.{last_time, most_minislots};
 ghost use Rattle.flow_state.specs.Rows.{Table, table_of, channel_at};
 ghost use Rattle.flow_state.specs.Changes.{with_cut_closed};
 ghost use Rattle.grant_machine.specs.declared.command.Command.TheVariants as commands;
@@ -22,15 +22,9 @@ use crate::placing::Filling;
 use crate::rows::{copy_flows, copy_requests, set_due_times, take_granted};
 use crate::services::{Service, serve};
 use crate::waiting::{by_priority, place_requests};
-use flow_state::{Channel, ChannelRow, Flow, Flows, Refusal, Waiting};
+use flow_state::{Channel, ChannelRow, Flow, Flows, LAST_TIME, MOST_MINISLOTS, Refusal, Waiting};
 use minislot_time::Slot;
 use std::alloc::{AllocError, Global};
-
-/// Times in commands are at most this.
-const LAST_TIME: u64 = 1 << 62;
-
-/// A MAP has at most so many minislots.
-const MOST_MINISLOTS: u16 = 4096;
 
 /// A channel's next MAP, filled; its flows with their next due times; its requests by arrival, and
 /// by priority.
@@ -87,7 +81,7 @@ fn fill(
 ) -> Result<Filled, AllocError>
     requires reached { IsReached flows.now }
     requires channel { (t : Table) → table_of flows.now ch ≡ Some t → t.row.channel ≡ channel.now }
-    requires short { len ≤ 4096 }
+    requires short { len ≤ most_minislots }
     requires early { start + len ≤ last_time }
     ensures { IfOk result (λ filled. (t : Table) → table_of flows.now ch ≡ Some t → IsFilledBy t (record { start = start; len = len }) filled) }
 {

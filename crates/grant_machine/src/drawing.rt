@@ -4,7 +4,7 @@ ghost use Rattle.std.specs.Prelude.{◌≡◌, ℕ, ◌^◌, ◌<◌, ◌≤◌,
 ghost use Rattle.std.specs.List.{filter_map, range_with_len};
 ghost use Rattle.map_body.specs.Rules.{AreElements};
 ghost use Rattle.map_body.specs.Layout.{layout};
-ghost use Rattle.flow_state.specs.Limits.{last_sid};
+ghost use Rattle.flow_state.specs.Limits.{most_minislots};
 ghost use Rattle.std.specs.List.{AllByRecursion};
 ghost use Rattle.grant_machine.specs.Placing.{holds, holder};
 ghost use Rattle.grant_machine.specs.Cutting.{still_waiting};
@@ -46,8 +46,8 @@ fn free_element(x: u16) -> Element
     ensures { result ≡ free_element x }
 {
     Element {
-        sid: Sid::new(0x3FFF).unwrap(),
-        iuc: Iuc::new(1).unwrap(),
+        sid: Sid::EVERYBODY,
+        iuc: Iuc::REQUEST,
         offset: Offset::new(x).unwrap(),
     }
 }
@@ -83,7 +83,7 @@ fn put_intervals(
     placements: &[Placement],
     len: u16,
 ) -> Result<(), AllocError>
-    requires { len ≤ 4096 }
+    requires { len ≤ most_minislots }
     ensures { OnOk result (elements.new.items ≡ elements.old.items ++ filter_map (begins_at placements.now) (range_with_len 0 len)) }
 {
     for x in 0..len {
@@ -102,7 +102,7 @@ fn put_pending(
     requests: &[Waiting],
     len: u16,
 ) -> Result<(), AllocError>
-    requires short { len ≤ 4096 }
+    requires short { len ≤ most_minislots }
     requires unicast { AllByRecursion IsUnicast requests.now }
     ensures { OnOk result (elements.new.items ≡ elements.old.items ++ map (pending_element channel.now len) (still_waiting placements.now requests.now)) }
 {
@@ -134,8 +134,8 @@ pub fn elements_of(
     let mut elements = Vec::new(alloc);
     put_intervals(&mut elements, placements, len)?;
     elements.push(Element {
-        sid: Sid::new(0).unwrap(),
-        iuc: Iuc::new(7).unwrap(),
+        sid: Sid::NOBODY,
+        iuc: Iuc::NULL,
         offset: Offset::new(len).unwrap(),
     })?;
     put_pending(&mut elements, channel, placements, requests, len)?;

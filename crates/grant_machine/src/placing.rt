@@ -2,7 +2,7 @@
 
 ghost use Rattle.std.specs.Prelude.{◌≡◌, ℕ, ◌+◌, ◌<◌, ◌≤◌, Bool, not, ◌&&◌, ◌||◌, nat_lt, nat_le, [], ◌∷◌, ◌++◌, length, slice_index_or, IfOk, OnOk, IfSome};
 ghost use Rattle.std.specs.List.{AllByRecursion};
-ghost use Rattle.flow_state.specs.Limits.{last_time};
+ghost use Rattle.flow_state.specs.Limits.{last_time, most_minislots};
 ghost use Rattle.grant_machine.specs.Placing.{most_placements, first_fit};
 ghost use Rattle.grant_machine.specs.Cutting.{end_of};
 ghost use Rattle.grant_machine.specs.Filling.{has_use};
@@ -56,7 +56,7 @@ impl Model for Filling {
 impl Filling {
     /// All of the minislots free.
     pub fn new(alloc: Global, start: u64, len: u16) -> Result<Filling, AllocError>
-        requires short { len ≤ 4096 }
+        requires short { len ≤ most_minislots }
         requires early { start + len ≤ last_time }
         ensures { IfOk result (λ f. f ≡ record { span = record { start = start; len = len }; placements = [] }) }
     {
@@ -77,7 +77,7 @@ impl Filling {
     /// How many minislots it has.
     pub fn len(&self) -> u16
         ensures same { result ≡ self.now.span.len }
-        ensures short { result ≤ 4096 }
+        ensures short { result ≤ most_minislots }
     {
         self.held.len() as u16
     }
@@ -110,7 +110,7 @@ impl Filling {
     pub fn first_fit(&self, n: u16, lo: u64, hi: u64) -> Option<usize>
         ensures same { result ≡ first_fit self.now.span self.now.placements n lo hi }
         ensures within { IfSome result (λ x. x + n ≤ self.now.span.len) }
-        ensures short { IfSome result (λ x. self.now.span.len ≤ 4096) }
+        ensures short { IfSome result (λ x. self.now.span.len ≤ most_minislots) }
     {
         if self.is_full() {
             return None;

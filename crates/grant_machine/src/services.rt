@@ -2,6 +2,7 @@
 
 ghost use Rattle.std.specs.Prelude.{◌≡◌, ◌≤◌, map, IfOk, OnOk, IfSome};
 ghost use Rattle.std.specs.List.{AllByRecursion};
+ghost use Rattle.map_body.specs.Iucs as iucs;
 ghost use Rattle.flow_state.specs.Limits.{due_time, due_index};
 ghost use Rattle.grant_machine.specs.Cutting.{grant_iuc, run_flow, pass};
 ghost use Rattle.grant_machine.specs.Filling.{last_due, IsTimely};
@@ -24,10 +25,13 @@ pub enum Service {
 /// The use of a grant of n minislots.
 pub fn grant_iuc(channel: &Channel, n: u16) -> Iuc
     ensures same { result ≡ grant_iuc channel.now n }
-    ensures used { result ≤ 6 }
+    ensures used { result ≤ iucs.long_data_grant }
 {
-    let number = if n <= channel.short_max { 5 } else { 6 };
-    Iuc::new(number).unwrap()
+    if n <= channel.short_max {
+        Iuc::SHORT_DATA_GRANT
+    } else {
+        Iuc::LONG_DATA_GRANT
+    }
 }
 
 /// What a service gives a flow, if anything.
@@ -62,7 +66,7 @@ fn periodic_of(service: Service, channel: &Channel, flow: &Flow) -> Option<Perio
             },
         ) => Some(Periodic {
             sid,
-            iuc: Iuc::new(1).unwrap(),
+            iuc: Iuc::REQUEST,
             size: 1,
             interval,
             jitter,
