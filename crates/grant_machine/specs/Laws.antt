@@ -1,12 +1,11 @@
 -- What holds of every list of commands.
-use Rattle.std.specs.Prelude.{◌≡◌, ◌≢◌, ◌⊎◌, ℕ, ◌+◌, ◌-◌, ◌<◌, ◌≤◌, ◌==◌, ◌&&◌, Bool, List, ◌++◌, length, Some, slice_get}
+use Rattle.std.specs.Prelude.{◌≡◌, ◌≢◌, ℕ, ◌+◌, ◌-◌, ◌<◌, ◌≤◌, ◌==◌, ◌&&◌, Bool, List, ◌++◌, length, Some, slice_get}
 use Rattle.std.specs.List.{filter, AllZip, AllByRecursion, Contains}
 use Rattle.std.specs.List.Sorted.{IsStrictlyIncreasing}
 use Rattle.flow_state.specs.declared.flow.FlowKind.{FlowKind}
 use Rattle.flow_state.specs.declared.flow.FlowKind.TheVariants.{BestEffort, Ugs, Poll}
 use Rattle.flow_state.specs.Limits.{due_time, last_sid}
 use Rattle.map_body.specs.declared.element.Element.{Element}
-use Rattle.map_body.specs.Iucs as iucs
 use Rattle.map_body.specs.Sids.{everybody}
 use Rattle.map_body.specs.Body.{Body}
 use Rattle.map_body.specs.Layout.{IsBody, IsWritten}
@@ -15,7 +14,8 @@ use Rattle.grant_machine.specs.declared.command.Command.{Command}
 use Rattle.grant_machine.specs.declared.command.Command.TheVariants as commands
 use Rattle.grant_machine.specs.declared.output.Output.{Output}
 use Rattle.grant_machine.specs.declared.output.Output.TheVariants as outputs
-use Rattle.grant_machine.specs.Placing.{Cause, Window, Sent}
+use Rattle.grant_machine_parts.specs.Filling.{IsUseFor}
+use Rattle.grant_machine_parts.specs.declared.placing.Cause.TheVariants.{Window, Sent}
 use Rattle.grant_machine.specs.Fits.{FitsCommand}
 use Rattle.grant_machine.specs.Runs.{outputs_of, Grant, grants_of}
 use Rattle.grant_machine.specs.Owner.{Owns, IsMapOf}
@@ -111,11 +111,6 @@ pub record IsOfFlow (cs : List Command) (g : Grant) (i : ℕ) : Type 0 where
 -- what isn't granted to a request is granted at a due time of an unsolicited grant flow or of a polled one
 abbrev pub OtherGrantsAreDue : Type 0
 OtherGrantsAreDue = (cs : List Command) (k i : ℕ) (g : Grant) → slice_get (grants_of cs) k ≡ Some g → g.cause ≡ Window i → IsOfFlow cs g i
-
--- the use of what serves a request is a grant's, short or long; at a due time it may be a poll's too
-abbrev pub IsUseFor : Cause → ℕ → Type 0
-IsUseFor (Sent time) iuc = (iuc ≡ iucs.short_data_grant) ⊎ (iuc ≡ iucs.long_data_grant)
-IsUseFor (Window index) iuc = (iuc ≡ iucs.request) ⊎ ((iuc ≡ iucs.short_data_grant) ⊎ (iuc ≡ iucs.long_data_grant))
 
 -- the grant is told: a MAP's body gives each of its minislots to its SID by one element, of a use for what it serves
 pub record IsTold (cs : List Command) (g : Grant) : Type 0 where

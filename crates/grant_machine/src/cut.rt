@@ -8,21 +8,19 @@ ghost use Rattle.flow_state.specs.Limits.{last_time, most_minislots};
 ghost use Rattle.flow_state.specs.Rows.{Table, table_of, channel_at};
 ghost use Rattle.flow_state.specs.Changes.{with_cut_closed};
 ghost use Rattle.grant_machine.specs.declared.command.Command.TheVariants as commands;
-ghost use Rattle.grant_machine.specs.Cutting.{fill_span, fill_refusal, end_of};
-ghost use Rattle.grant_machine.specs.Drawing.{head_of};
+ghost use Rattle.grant_machine_parts.specs.Cutting.{fill_span, fill_refusal, end_of};
+ghost use Rattle.grant_machine_parts.specs.Drawing.{head_of};
 ghost use Rattle.grant_machine.specs.Steps.{step};
 ghost use Rattle.grant_machine.specs.Fits.{FitsCommand};
 ghost use Rattle.grant_machine.specs.Runs.{IsReached};
-ghost use Rattle.grant_machine.specs.Lent.{row_of, IsLent, IsUnicast, IsOfTable, IsOfKind, due_times_set, requests_taken};
+ghost use Rattle.grant_machine_parts.specs.Lent.{row_of, IsLent, IsUnicast};
+ghost use Rattle.grant_machine.specs.CutRows.{IsOfTable, IsOfKind, due_times_set, requests_taken};
 ghost use Rattle.grant_machine.specs.Plans.{IsFilledBy, elements_in};
 
-use crate::drawing;
 use crate::output::{MapBytes, Output};
-use crate::placing::Filling;
 use crate::rows::{copy_flows, copy_requests, set_due_times, take_granted};
-use crate::services::{Service, serve};
-use crate::waiting::{by_priority, place_requests};
 use flow_state::{Channel, ChannelRow, Flow, Flows, LAST_TIME, MOST_MINISLOTS, Refusal, Waiting};
+use grant_machine_parts::{Filling, Service, by_priority, drawing, place_requests, serve};
 use minislot_time::Slot;
 use std::alloc::{AllocError, Global};
 
