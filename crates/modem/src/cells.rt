@@ -89,7 +89,8 @@ pub(crate) fn counted(cells: &[Cell], ch: u8, at: u64) -> Option<(u16, Iuc)>
 fn has_cell(cells: &[Cell], ch: u8, at: u64, sid: Sid, iuc: Iuc) -> bool
     ensures { result ≡ list_any (is_cell ch at sid iuc) cells.now }
 {
-    cells.iter().any(|c| (c.channel == ch && c.minislot == at) && (c.sid == sid.get() && c.iuc == iuc))
+    cells.iter().any(|c| (c.channel == ch && c.minislot == at)
+        && (c.sid == sid.get() && c.iuc == iuc))
 }
 
 /// Whether a minislot is a request minislot that is open to all.

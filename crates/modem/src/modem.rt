@@ -272,13 +272,7 @@ impl Modem {
             open.as_slice(),
         )?;
         let ack = intervals::ack_time(head.ack, start);
-        let wants = wants::decided(
-            alloc,
-            self.wants.as_slice(),
-            map,
-            heard.as_slice(),
-            ack,
-        )?;
+        let wants = wants::decided(alloc, self.wants.as_slice(), map, heard.as_slice(), ack)?;
         self.grants = grants;
         self.open_to_all = open_to_all;
         self.wants = wants;

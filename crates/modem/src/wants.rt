@@ -7,7 +7,7 @@ ghost use Rattle.modem.specs.Wants.{is_want, is_unsent, unsent_of, with_want, Is
 ghost use Rattle.map_body.specs.Intervals.{intervals};
 ghost use Rattle.modem.specs.Intervals.{is_granted, is_pending, is_acknowledged, lost, decided};
 ghost use Rattle.modem.specs.Steps.{lesser};
-ghost use Rattle.modem.specs.Ticks.{number_of, sent_at, Polls, Contends, SendsBy};
+ghost use Rattle.modem.specs.Ticks.{number_of, sent_at, Polls, Contends, SendsBy, Shares};
 
 use crate::types::{Channel, Progress, Sending, Want};
 use map_body::{Interval, Iuc, MapBody};
@@ -168,10 +168,45 @@ fn send_of(
     ensures { SendsBy wants.old channel at random is_open result wants.new counted }
 {
     match counted {
-        Some((sid, iuc)) if iuc.lets_transmit() => Some(Sending::Unicast(sid)),
-        Some((sid, iuc)) if iuc.lets_request() => poll(wants, channel, sid, at),
-        _ if is_open => share(wants, channel, at, random),
-        _ => None,
+        Some(interval) => send_by(wants, channel, at, random, interval, is_open),
+        None => send_shared(wants, channel, at, random, is_open),
+    }
+}
+
+// By an interval of the modem's: its SID and IUC.
+fn send_by(
+    wants: &mut [Want],
+    channel: Channel,
+    at: u64,
+    random: u64,
+    interval: (u16, Iuc),
+    is_open: bool,
+) -> Option<Sending>
+    ensures { SendsBy wants.old channel at random is_open result wants.new (Some interval) }
+{
+    let (sid, iuc) = interval;
+    if iuc.lets_transmit() {
+        Some(Sending::Unicast(sid))
+    } else if iuc.lets_request() {
+        poll(wants, channel, sid, at)
+    } else {
+        send_shared(wants, channel, at, random, is_open)
+    }
+}
+
+fn send_shared(
+    wants: &mut [Want],
+    channel: Channel,
+    at: u64,
+    random: u64,
+    is_open: bool,
+) -> Option<Sending>
+    ensures { Shares wants.old channel at random is_open result wants.new }
+{
+    if is_open {
+        share(wants, channel, at, random)
+    } else {
+        None
     }
 }
 
@@ -179,15 +214,16 @@ fn is_granted(map: &MapBody, heard: &[Interval], sid: u16) -> bool
     requires { heard.now ≡ intervals map.now.elements }
     ensures { result ≡ is_granted map.now.elements sid }
 {
-    heard
-        .iter()
-        .any(|i| i.sid.get() == sid && (i.iuc.answers_request() && i.from.get() < i.to.get()))
+    heard.iter().any(|i| i.sid.get() == sid
+        && (i.iuc.answers_request() && i.from.get() < i.to.get()))
 }
 
 fn is_pending(map: &MapBody, sid: u16) -> bool
     ensures { result ≡ is_pending map.now.elements sid }
 {
-    map.after_null().iter().any(|e| e.sid.get() == sid && e.iuc.answers_request())
+    map.after_null()
+        .iter()
+        .any(|e| e.sid.get() == sid && e.iuc.answers_request())
 }
 
 fn is_acknowledged(want: &Want, ch: u8, ack: Option<u64>) -> bool
@@ -217,12 +253,7 @@ fn lost(want: Want) -> Option<Want>
     })
 }
 
-fn decide(
-    want: Want,
-    map: &MapBody,
-    heard: &[Interval],
-    ack: Option<u64>,
-) -> Option<Want>
+fn decide(want: Want, map: &MapBody, heard: &[Interval], ack: Option<u64>) -> Option<Want>
     requires { heard.now ≡ intervals map.now.elements }
     ensures { result ≡ decided map.now.elements map.now.head.channel ack want }
 {
