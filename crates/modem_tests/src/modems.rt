@@ -1,6 +1,6 @@
-use crate::{Heard, Modem, Sending, TimeBack, WantFault};
 use grant_machine::{MapBytes, Output};
 use minislot_time::Slot;
+use modem::{Heard, Modem, Sending, TimeBack, WantFault};
 use std::alloc::{AllocError, Global};
 use std::process::Abort;
 use std::test::Fail;

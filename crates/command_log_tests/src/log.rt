@@ -1,4 +1,4 @@
-use super::*;
+use command_log::{Log, LogFault, command_bytes, read_command};
 use flow_state::{Channel, FlowKind};
 use grant_machine::{Command, Output};
 use std::test::Fail;

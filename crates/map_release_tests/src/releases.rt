@@ -1,6 +1,6 @@
-use super::*;
 use command_log::Log;
 use grant_machine::Output;
+use map_release::Release;
 use std::test::Fail;
 
 const CHANNEL: [u8; 17] = [
