@@ -3,8 +3,7 @@ use Rattle.ballots.proofs.OneValue.{agreement}
 use Rattle.command_log.specs.Values.{Owner}
 use Rattle.grant_machine.proofs.Callers.{maps_are_disjoint}
 use Rattle.grant_machine.proofs.Callers as schedules
-use Rattle.modem.proofs.Stands.{Hears-stands, Ticks-stands}
-use Rattle.modem.proofs.Transmits.{Ticks-held}
+use Rattle.modem.proofs.Callers.{Hears-stands, Ticks-stands, Ticks-held}
 use Rattle.network_script.specs.Headline.{OfEveryRun, WithSchedule, HeldIsOwned, ModemsAreNamed, OwnersAreOne, HoldersAreOne, SentIsHeld, SentByOwner, Headline}
 use Rattle.network_script.proofs.Runs.{history_legal, learned_is_chosen}
 use Rattle.network_script.proofs.Schedule.{one_schedule, gapless_is_beginning, released_is_output, maps_are_one, covers_once}
