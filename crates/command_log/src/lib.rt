@@ -11,6 +11,3 @@ pub use laws::{one_spelling, outputs_go_on};
 pub use log::{Log, LogFault};
 pub use reading::read_command;
 pub use writing::command_bytes;
-
-#[cfg(test)]
-mod tests;
