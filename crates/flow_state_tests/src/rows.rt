@@ -1,4 +1,4 @@
-use super::*;
+use flow_state::{Channel, FlowKind, Flows, Refusal};
 use std::alloc::Global;
 use std::ops::Range;
 use std::test::Fail;

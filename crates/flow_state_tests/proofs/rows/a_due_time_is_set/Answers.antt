@@ -5,7 +5,7 @@ use Rattle.flow_state.specs.declared.flow.FlowKind.TheVariants.{Ugs}
 use Rattle.flow_state.specs.Limits.{IsDueTime, due_time}
 use Rattle.flow_state.specs.Rows.{Rows, FlowRow, unicast_sids}
 use Rattle.flow_state.specs.Changes.{with_channel, with_flow, flow_row}
-use Rattle.flow_state.proofs.tests.a_due_time_is_set.Goals as goal
+use Rattle.flow_state_tests.proofs.rows.a_due_time_is_set.Goals as goal
 
 channel : Channel
 channel = record { id = 1; ucd = 7; short_max = 16; ranging_backoff = (2, 5); data_backoff = (3, 8); base = 1000 }

@@ -1,5 +1,5 @@
-use super::*;
 use flow_state::{Channel, FlowKind};
+use grant_machine::{Command, Machine, Output, again};
 use std::alloc::{AllocError, Global};
 use std::test::Fail;
 
