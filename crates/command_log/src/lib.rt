@@ -4,7 +4,6 @@
 mod laws;
 mod log;
 mod reading;
-mod value;
 mod writing;
 
 pub use laws::{one_spelling, outputs_go_on};

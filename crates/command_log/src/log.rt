@@ -1,5 +1,5 @@
 use crate::reading::read_command;
-use crate::value::Value;
+use ballots::Bytes;
 use grant_machine::{Machine, Output};
 use std::alloc::{AllocError, Global};
 use std::collections::BTreeMap;
@@ -38,7 +38,7 @@ impl From<AllocError> for LogFault {
 #[derive(Drop)]
 pub struct Log {
     alloc: Global,
-    learned: BTreeMap<u64, Value>,
+    learned: BTreeMap<u64, Bytes>,
     outputs: Vec<Output>,
     machine: Machine,
 }
@@ -83,12 +83,12 @@ impl Log {
             return Err(LogFault::BeyondLimit);
         }
         if let Some(known) = self.learned.get(&place) {
-            if known.bytes() == value {
+            if known.as_slice() == value {
                 return Ok(());
             }
             return Err(LogFault::Contradiction);
         }
-        let value = Value::copy_of(self.alloc, value)?;
+        let value = Bytes::new(value.to_vec(self.alloc)?);
         self.learned.insert(place, value).map_err(AllocError::from)?;
         Ok(())
     }
@@ -106,7 +106,7 @@ impl Log {
         let Some(value) = self.learned.get(&next) else {
             return Ok(false);
         };
-        let (command, _) = read_command(value.bytes());
+        let (command, _) = read_command(value.as_slice());
         self.outputs.reserve(1)?;
         let output = self.machine.apply(&command)?;
         self.outputs.push(output).map_err(AllocError::from)?;

@@ -3,17 +3,17 @@ use Rattle.std.proofs.Common.{◌≡◌, ℕ, ◌+◌, ◌<◌, ◌≤◌, List,
 use Rattle.std.proofs.lemmas.List.{drop_all, length-replicate}
 use Rattle.std.proofs.Math.Seq.{drop-cons}
 use Rattle.std.specs.Io.KnownBytes.{Appends}
-use Rattle.network_script.specs.declared.event.Answer.{Answer}
+use Rattle.network_script_parts.specs.declared.event.Answer.{Answer}
 use Rattle.ballots.specs.declared.letters.Letter.{Letter}
 use Rattle.ballots.specs.declared.members.Members.{Members}
-use Rattle.network_script.specs.declared.event.Event.{Event}
-use Rattle.network_script.specs.declared.event.ReleasedOutput.{ReleasedOutput}
-use Rattle.network_script.specs.declared.event.Transmission.{Transmission}
+use Rattle.network_script_parts.specs.declared.event.Event.{Event}
+use Rattle.network_script_parts.specs.declared.event.ReleasedOutput.{ReleasedOutput}
+use Rattle.network_script_parts.specs.declared.event.Transmission.{Transmission}
 use Rattle.acceptor.specs.Content.{no_content}
 use Rattle.node.specs.View.{started}
 use Rattle.node.specs.View.Standing.{Running}
 use Rattle.network_script.specs.Next.{Goes, Run}
-use Rattle.network_script.specs.Script.{IsScript}
+use Rattle.network_script_parts.specs.Script.{IsScript}
 use Rattle.network_script.specs.World.{Written, opening}
 use Rattle.upsched_parts.specs.RunLines.{answer_line, answer_lines, place_lines, released_count, counts_line}
 use Rattle.upsched_parts.specs.Run.{PrintsEvents, NoScript}
@@ -61,12 +61,11 @@ all_told answers i rest whole old new end before =
     rw (← (sym (append-nil last.text) ∙ last.joined)) last.grown
 
 -- a run is printed whole: its answers with their outputs, and then the counts
-pub run_told : {T E : Type 0} (r : Result T E) (members : ℕ) (ids : List ℕ) (events : List Event) (report answers : List Answer) (w : Written) (letters : List Letter) (outputs counted : List ReleasedOutput) (sent : List Transmission) (old mid new : Option (List ℕ))
+pub run_told : (members : ℕ) (ids : List ℕ) (events : List Event) (report answers : List Answer) (w : Written) (letters : List Letter) (outputs counted : List ReleasedOutput) (sent : List Transmission) (old mid new : Option (List ℕ))
     → Goes (length (opening members ids).nodes) (opening members ids) events report w → answers ≡ report → outputs ≡ w.outputs → letters ≡ w.letters → counted ≡ w.outputs → sent ≡ w.transmissions
-    → Appends old mid (answer_lines 0 answers outputs) → OnOk r (Appends mid new (counts_line (length letters) (length counted) (length sent)))
-    → OnOk r (PrintsEvents members ids events old new)
-run_told (Err e) members ids events report answers w letters outputs counted sent old mid new goes is_report is_outputs is_letters is_counted is_sent first last = tt
-run_told (Ok x) members ids events report answers w letters outputs counted sent old mid new goes is_report is_outputs is_letters is_counted is_sent first last =
+    → Appends old mid (answer_lines 0 answers outputs) → Appends mid new (counts_line (length letters) (length counted) (length sent))
+    → PrintsEvents members ids events old new
+run_told members ids events report answers w letters outputs counted sent old mid new goes is_report is_outputs is_letters is_counted is_sent first last =
     let run : Run members ids events report w = subst (λ (m : ℕ). Goes m (opening members ids) events report w) (length-replicate members (Running (started no_content))) goes in
     let told : Appends old mid (answer_lines 0 report w.outputs) = rw (is_report, is_outputs) at first in
     let counts : Appends mid new (counts_line (length w.letters) (length w.outputs) (length w.transmissions)) = rw (is_letters, is_counted, is_sent) at last in

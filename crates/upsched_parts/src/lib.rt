@@ -5,7 +5,6 @@
 mod body_show;
 mod fault;
 mod lines;
-mod opening;
 mod plan;
 mod plan_run;
 mod program;

@@ -1,14 +1,14 @@
 //! `upsched run SCRIPT`: what happens to nodes and modems.
 
-ghost use Rattle.std.specs.Prelude.{◌≡◌, ◌≢◌, IsTrue, OnOk, length, map};
+ghost use Rattle.std.specs.Prelude.{◌≡◌, ◌≢◌, IfOk, OnOk, length, map};
 ghost use Rattle.ballots.specs.Members.{member_count};
-ghost use Rattle.network_script.specs.Receiving.{AreNew};
-ghost use Rattle.network_script.specs.Worlds.{AreFresh};
+ghost use Rattle.network_script_parts.specs.Receiving.{AreNew};
+ghost use Rattle.network_script_parts.specs.Fresh.{AreFresh};
+ghost use Rattle.network_script.specs.Worlds.{AreHonest};
 ghost use Rattle.upsched_parts.specs.declared.status.Status.TheVariants.{Done, NotUnderstood};
 ghost use Rattle.upsched_parts.specs.Run.{NoScript, PrintsEvents, PrintsScript};
 
 use crate::fault::Fault;
-use crate::opening::{fresh_nodes, new_modems};
 use crate::report::{print_answers, print_counts};
 use crate::run_lines::fault_text;
 use crate::status::Status;
@@ -16,7 +16,8 @@ use crate::text::text_of;
 use crate::words::RunWords;
 use log::{Log, warn};
 use modem::Modem;
-use network_script::{Answer, Event, Script, World, read_script};
+use network_script::World;
+use network_script_parts::{Answer, Event, Script, new_modems, plain_nodes, read_script};
 use node::Node;
 use std::io::{Read, Write};
 
@@ -34,7 +35,8 @@ fn warn_of<R: Log>(rt: &R, answers: &[Answer]) {
     }
 }
 
-/// What the events do to fresh nodes and new modems is printed.
+/// What the events do to fresh nodes and new modems is printed. The world is given back as they left
+/// it: the promise of the printed lines holds where its nodes are honest.
 fn print_events<'a, R: Log + AllocGlobal, N: Node, O: Write>(
     rt: &R,
     nodes: Vec<N>,
@@ -42,11 +44,10 @@ fn print_events<'a, R: Log + AllocGlobal, N: Node, O: Write>(
     events: &[Event],
     verbose: bool,
     output: &mut O,
-) -> Result<(), Fault<'a>>
-    requires nodes { AreFresh N.who N.stands nodes.items }
-    requires honest { (node : N) → IsTrue (N.honest node) }
+) -> Result<World<N>, Fault<'a>>
+    requires nodes { AreFresh N.who N.honest N.stands nodes.items }
     requires modems { AreNew modems.items }
-    ensures { OnOk result (PrintsEvents (length nodes.items) (map (λ modem. modem.id) modems.items) events.now
+    ensures { IfOk result (λ world. AreHonest world → PrintsEvents (length nodes.items) (map (λ modem. modem.id) modems.items) events.now
         (O.contents output.old) (O.contents output.new)) }
 {
     let Ok(mut world) = World::new(rt.alloc(), nodes, modems) else {
@@ -61,7 +62,8 @@ fn print_events<'a, R: Log + AllocGlobal, N: Node, O: Write>(
     print_answers(rt.alloc(), report.answers(), world.outputs(), output)?;
     let letters = world.letters().len();
     let outputs = world.outputs().len();
-    print_counts(letters, outputs, world.transmissions().len(), output)
+    print_counts(letters, outputs, world.transmissions().len(), output)?;
+    Ok(world)
 }
 
 /// What a script does is printed.
@@ -74,13 +76,14 @@ fn print_script<'a, R: Log + AllocGlobal, O: Write>(
     ensures { OnOk result (PrintsEvents (member_count script.now.members) script.now.modems.items script.now.events.items
         (O.contents output.old) (O.contents output.new)) }
 {
-    let Ok(nodes) = fresh_nodes(rt.alloc(), script.members) else {
+    let Ok(nodes) = plain_nodes(rt.alloc(), script.members) else {
         return Err(Fault::Memory);
     };
     let Ok(modems) = new_modems(rt.alloc(), script.modems.as_slice()) else {
         return Err(Fault::Memory);
     };
-    print_events(rt, nodes, modems, script.events.as_slice(), verbose, output)
+    print_events(rt, nodes, modems, script.events.as_slice(), verbose, output)?;
+    Ok(())
 }
 
 fn print_text<'a, R: Log + AllocGlobal, F: Read, O: Write>(

@@ -1,20 +1,23 @@
-use Rattle.std.proofs.Common.{length, slice_set, refl}
+use Rattle.std.proofs.Common.{length, slice_set, refl, ◌∙◌, ap}
 use Rattle.node.specs.View.{View}
 use Rattle.node.specs.Calls.{Course, answer}
 use Rattle.node.specs.Calls.Cause.{Offer}
-use Rattle.network_script.specs.Seat.{shown, stays_up}
+use Rattle.network_script_parts.specs.Seat.{shown, stays_up}
 use Rattle.network_script.specs.Worlds.{written, left}
-use Rattle.network_script.specs.Next.{Ends}
-use Rattle.network_script.proofs.Acts.{called_at, moves, sends, asks, misses}
-use Rattle.network_script.specs.declared.event.Event.TheVariants as event
+use Rattle.network_script.specs.Next.{Calls}
+use Rattle.network_script.proofs.Acts.{called_at, moves, sends, asks, misses, told_last}
+use Rattle.network_script_parts.specs.declared.event.Event.TheVariants as event
 use Rattle.network_script.proofs.Counted.{count_still}
 use Rattle.network_script.proofs.Tallied.{counted_call, posted_letters, posted_rose}
+use Rattle.network_script.specs.Worlds.{up_after}
+use Rattle.network_script.specs.Outward.{outward, Sends}
+use Rattle.network_script.proofs.Outwardly.{missed_seen, goes_seen, sends_seen, answer_stays}
 use Rattle.network_script.proofs.world.World.offer.Goals as goal
 
 pub returns-in-Some-clause-next : goal.returns-in-Some-clause-next
 returns-in-Some-clause-next g c = λ all nodes modems history each hold.
     let w = written c.args.self.now nodes modems history in
-    (nodes, modems, history, each, hold, misses w c.args.k (λ view. Ends w c.args.k view (Course (length nodes) c.args.k view (Offer c.args.value.now))) c.in-Some.refusal (c.in-Some.ensures.missed nodes each))
+    (nodes, modems, history, each, hold, misses w c.args.k (Calls (length nodes) w c.args.k (Offer c.args.value.now)) c.in-Some.refusal (c.in-Some.ensures.missed nodes each))
 
 pub returns-clause-next : goal.returns-clause-next
 returns-clause-next g c = λ all nodes modems history each hold.
@@ -22,7 +25,7 @@ returns-clause-next g c = λ all nodes modems history each hold.
     let seats = c.args.self.now.seats.items in
     let given = answer c.offer-given.result in
     let call = called_at nodes seats c.args.k c.index_mut-seat.result.now c.offer-given.new.self c.post.new.seat (Offer c.args.value.now) given
-    each c.args.self.now.numbered c.in_default.ensures.up c.index_mut-seat.ensures.value c.offer-given.ensures.called c.post.ensures.node all in
+    each c.args.self.now.numbered c.in_default.ensures.up c.index_mut-seat.ensures.value c.offer-given.ensures.called c.offer-given.ensures.order c.post.ensures.node all in
     let s = shown (stays_up given) call.after in
     let course = λ (view : View). Course (length nodes) c.args.k view (Offer c.args.value.now) in
     let made = sends w c.args.k call.view (course call.view) given call.after c.post.new.letters.items c.post.result call.at call.ends c.post.ensures.posted in (
@@ -31,7 +34,7 @@ returns-clause-next g c = λ all nodes modems history each hold.
       made.0,
       moves seats nodes c.args.k c.post.new.seat (left c.post.result s) each (c.post.ensures.stands s call.stands),
       hold,
-      asks w _ c.args.k call.view (λ view. Ends w c.args.k view (course view)) c.post.result call.at made.1,
+      asks w _ c.args.k call.view (Calls (length nodes) w c.args.k (Offer c.args.value.now)) c.post.result call.at (told_last (length nodes) c.args.k call.view (Offer c.args.value.now) given _ _ c.post.result c.post.ensures.posted call.order, made.1),
     )
 
 pub returns-in-Some-clause-counted : goal.returns-in-Some-clause-counted
@@ -41,3 +44,19 @@ pub returns-clause-counted : goal.returns-clause-counted
 returns-clause-counted g c =
     counted_call c.args.self.now.seats.items c.args.k c.index_mut-seat.result.now c.offer-given.new.self c.post.new.seat c.offer-given.result (event.Offer c.args.k c.args.value.now) c.post.result _ _
     c.in_default.ensures.up c.index_mut-seat.ensures.value (posted_letters c.offer-given.result _ c.post.result _ c.post.ensures.posted) refl c.offer-given.ensures.kept c.post.ensures.node (posted_rose c.offer-given.result _ c.post.result _ c.post.ensures.posted)
+
+pub returns-in-Some-clause-seen : goal.returns-in-Some-clause-seen
+returns-in-Some-clause-seen g c = λ modems hold.
+    let o = outward c.args.self.now modems in
+    (modems, missed_seen o c.args.k (Sends o c.args.k) c.in-Some.refusal c.in-Some.ensures.seen, hold)
+
+pub returns-clause-seen : goal.returns-clause-seen
+returns-clause-seen g c = λ modems hold.
+    let o = outward c.args.self.now modems in
+    let given = answer c.offer-given.result in
+    let turned = c.post.ensures.up ∙ ap (up_after c.post.result) (c.offer-given.ensures.up ∙ answer_stays c.offer-given.result) in (
+      modems,
+      goes_seen o c.args.self.now.seats.items c.args.k c.index_mut-seat.result.now c.post.new.seat (up_after c.post.result (stays_up given)) (λ up. record o { up = up; letters = c.post.new.letters.items }) (Sends o c.args.k) c.post.result
+          refl c.in_default.ensures.up c.index_mut-seat.ensures.value turned (sends_seen o c.args.k given c.post.new.letters.items c.post.result c.post.ensures.posted),
+      hold,
+    )
