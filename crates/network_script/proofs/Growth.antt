@@ -7,7 +7,7 @@ use Rattle.ballots.specs.declared.letters.Letter.{Letter}
 use Rattle.ballots.specs.declared.letters.Note.TheVariants.{Prepare, Promise, Accept, Voted, Higher, Known}
 use Rattle.ballots.specs.Voting.{Entry, node_of, IsIn, Quorum, IsOf, NoneBelow, HighestBelow, IsSafe, IsChosen, MayFollow}
 use Rattle.ballots.specs.Voting.Entry.{Promised, Vote}
-use Rattle.ballots.proofs.Safety.{old_vote}
+use Rattle.ballots.proofs.Callers.{old_vote}
 use Rattle.acceptor.specs.Content.{Content, Write}
 use Rattle.acceptor.specs.Content.Write.{Tries, Promises, Votes}
 use Rattle.proposer.specs.declared.role.Role.{Role}
