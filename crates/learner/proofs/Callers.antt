@@ -11,7 +11,7 @@ use Rattle.ballots.specs.Rows.{at, put}
 use Rattle.ballots.specs.Voting.{IsIn}
 use Rattle.ballots.proofs.Callers.{at_in, in_put}
 use Rattle.learner.specs.Proposals.{Proposal, proposal_cmp, proposal_of}
-use Rattle.learner.specs.Tally.{Groups, IsCounted, groups_at, is_voter, nobody, put_voters, voters_in, with_voter}
+use Rattle.learner.specs.Tally.{Groups, IsVoteCounted, groups_at, is_voter, nobody, put_voters, voters_in, with_voter}
 
 is_equal : (o : Ordering) → is_eq o ≡ true → o ≡ Equal
 is_equal Less is = absurd (cc (is))
@@ -69,12 +69,12 @@ nobody_is (suc k) zero is = absurd (cc (is))
 nobody_is (suc k) (suc m) is = nobody_is k m is
 
 -- a voter at p is a voter of the row there
-voter_of_row : (counted : List (ℕ × Groups)) (b p : ℕ) (v : List ℕ) (m : ℕ) (o : Option Groups) → at counted p ≡ o → is_voter (voters_in (unwrap_or o []) b v) m ≡ true → IsCounted counted m b p v
+voter_of_row : (counted : List (ℕ × Groups)) (b p : ℕ) (v : List ℕ) (m : ℕ) (o : Option Groups) → at counted p ≡ o → is_voter (voters_in (unwrap_or o []) b v) m ≡ true → IsVoteCounted counted m b p v
 voter_of_row counted b p v m None none is = absurd (nobody_is 5 m is)
 voter_of_row counted b p v m (Some groups) some is = (groups, at_in counted p groups some, is)
 
 -- a voter with node n's vote is n, or is counted
-pub voter_counted : (counted : List (ℕ × Groups)) (n b p : ℕ) (v : List ℕ) (m : ℕ) → is_voter (with_voter counted n b p v) m ≡ true → (m ≡ n) ⊎ IsCounted counted m b p v
+pub voter_counted : (counted : List (ℕ × Groups)) (n b p : ℕ) (v : List ℕ) (m : ℕ) → is_voter (with_voter counted n b p v) m ≡ true → (m ≡ n) ⊎ IsVoteCounted counted m b p v
 voter_counted counted n b p v m is = ⊎_elim (λ same. inl same) (λ was. inr (voter_of_row counted b p v m (at counted p) refl was)) (voter_more (voters_in (groups_at counted p) b v) n m is)
 
 -- the row at p with node n's vote
@@ -82,23 +82,23 @@ abbrev row_with : List (ℕ × Groups) → ℕ → ℕ → ℕ → List ℕ → 
 row_with counted n b p v = insert_entry proposal_cmp (groups_at counted p) (proposal_of b v) (with_voter counted n b p v)
 
 -- a vote that is counted is node n's new one, or was counted
-pub counted_more : (counted : List (ℕ × Groups)) (n b p : ℕ) (v : List ℕ) (m c q : ℕ) (w : List ℕ) → IsCounted (put_voters counted b p v (with_voter counted n b p v)) m c q w
-    → ((m ≡ n) × (c ≡ b) × (q ≡ p) × (w ≡ v)) ⊎ IsCounted counted m c q w
+pub counted_more : (counted : List (ℕ × Groups)) (n b p : ℕ) (v : List ℕ) (m c q : ℕ) (w : List ℕ) → IsVoteCounted (put_voters counted b p v (with_voter counted n b p v)) m c q w
+    → ((m ≡ n) × (c ≡ b) × (q ≡ p) × (w ≡ v)) ⊎ IsVoteCounted counted m c q w
 counted_more counted n b p v m c q w (groups, here, is) = ⊎_elim new (λ old. inr (groups, old, is)) (in_put counted p (row_with counted n b p v) q groups here)
   where
-    same_so : q ≡ p → ((c ≡ b) × (w ≡ v)) → is_voter (with_voter counted n b p v) m ≡ true → ((m ≡ n) × (c ≡ b) × (q ≡ p) × (w ≡ v)) ⊎ IsCounted counted m c q w
+    same_so : q ≡ p → ((c ≡ b) × (w ≡ v)) → is_voter (with_voter counted n b p v) m ≡ true → ((m ≡ n) × (c ≡ b) × (q ≡ p) × (w ≡ v)) ⊎ IsVoteCounted counted m c q w
     same_so place same voter =
-        ⊎_elim (λ me. inl (me, same.0, place, same.1)) (λ was. inr (subst (λ (x : ℕ). IsCounted counted m c x w) (sym place) (subst (λ (x : ℕ). IsCounted counted m x p w) (sym same.0) (subst (λ (x : List ℕ). IsCounted counted m b p x) (sym same.1) was))))
+        ⊎_elim (λ me. inl (me, same.0, place, same.1)) (λ was. inr (subst (λ (x : ℕ). IsVoteCounted counted m c x w) (sym place) (subst (λ (x : ℕ). IsVoteCounted counted m x p w) (sym same.0) (subst (λ (x : List ℕ). IsVoteCounted counted m b p x) (sym same.1) was))))
         (voter_counted counted n b p v m voter)
 
-    by_look : (o : Option (List Bool)) → lookup (is_at (proposal_cmp (proposal_of c w))) (row_with counted n b p v) ≡ o → is_voter (unwrap_or o nobody) m ≡ true → q ≡ p → ((m ≡ n) × (c ≡ b) × (q ≡ p) × (w ≡ v)) ⊎ IsCounted counted m c q w
+    by_look : (o : Option (List Bool)) → lookup (is_at (proposal_cmp (proposal_of c w))) (row_with counted n b p v) ≡ o → is_voter (unwrap_or o nobody) m ≡ true → q ≡ p → ((m ≡ n) × (c ≡ b) × (q ≡ p) × (w ≡ v)) ⊎ IsVoteCounted counted m c q w
     by_look None look voter place = absurd (nobody_is 5 m voter)
     by_look (Some found) look voter place =
         ⊎_elim (λ same. same_so place (ap (λ (x : Proposal). x.ballot) same.0, ap (λ (x : Proposal). x.value) same.0) (subst (λ (s : List Bool). is_voter s m ≡ true) same.1 voter))
-        (λ old. inr (subst (λ (x : ℕ). IsCounted counted m c x w) (sym place) (voter_of_row counted c p w m (at counted p) refl (subst (λ (o : Option (List Bool)). is_voter (unwrap_or o nobody) m ≡ true) (sym old) voter))))
+        (λ old. inr (subst (λ (x : ℕ). IsVoteCounted counted m c x w) (sym place) (voter_of_row counted c p w m (at counted p) refl (subst (λ (o : Option (List Bool)). is_voter (unwrap_or o nobody) m ≡ true) (sym old) voter))))
         (found_put (proposal_of b v) (with_voter counted n b p v) (proposal_of c w) found (groups_at counted p) look)
 
-    new : (q ≡ p) × (groups ≡ row_with counted n b p v) → ((m ≡ n) × (c ≡ b) × (q ≡ p) × (w ≡ v)) ⊎ IsCounted counted m c q w
+    new : (q ≡ p) × (groups ≡ row_with counted n b p v) → ((m ≡ n) × (c ≡ b) × (q ≡ p) × (w ≡ v)) ⊎ IsVoteCounted counted m c q w
     new at_place = by_look (lookup (is_at (proposal_cmp (proposal_of c w))) (row_with counted n b p v)) refl (subst (λ (g : Groups). is_voter (voters_in g c w) m ≡ true) at_place.1 is) at_place.0
 
 in_removed : (test : ℕ → Bool) (rows : List (ℕ × Groups)) (x : ℕ × Groups) → IsIn (remove_entry test rows) x → IsIn rows x
@@ -111,5 +111,5 @@ in_removed test (row ∷ rows) x here = by_test (test row.0) here (in_removed te
     by_test false (inr there) rest = inr (rest there)
 
 -- a vote that is still counted once a place was learned was counted before
-pub counted_less : (test : ℕ → Bool) (counted : List (ℕ × Groups)) (m c q : ℕ) (w : List ℕ) → IsCounted (remove_entry test counted) m c q w → IsCounted counted m c q w
+pub counted_less : (test : ℕ → Bool) (counted : List (ℕ × Groups)) (m c q : ℕ) (w : List ℕ) → IsVoteCounted (remove_entry test counted) m c q w → IsVoteCounted counted m c q w
 counted_less test counted m c q w (groups, here, is) = (groups, in_removed test counted (q, groups) here, is)

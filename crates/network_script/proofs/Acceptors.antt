@@ -11,7 +11,7 @@ use Rattle.acceptor.specs.Content.{Content, Write, promised, after_write, record
 use Rattle.ballots.specs.Rows.{at, rows_from}
 use Rattle.acceptor.specs.Content.Write.{Promises, Votes}
 use Rattle.proposer.specs.declared.role.Role.{Role}
-use Rattle.learner.specs.Tally.{IsCounted}
+use Rattle.learner.specs.Tally.{IsVoteCounted}
 use Rattle.learner.proofs.Callers.{counted_less}
 use Rattle.std.specs.BTreeMap.{is_at}
 use Rattle.std.specs.Ordering.{nat_cmp}
@@ -134,7 +134,7 @@ module _ (members : ℕ) (h : List Entry) (sent : List Letter) (states : List St
       (λ no. vote_at_sound b p v (at view.content.votes p) refl (ltb-false b (promised view.content) no) proposed)
 
   -- a view that differs in what it counted and learned
-  pub learns_sound : (new : View) → new.content ≡ view.content → new.role ≡ view.role → ((n b q : ℕ) (w : List ℕ) → IsCounted new.tally.counted n b q w → IsIn h (Vote n b q w)) → ((p : ℕ) (v : List ℕ) → IsIn new.tally.learned (p, v) → IsChosen members h p v)
+  pub learns_sound : (new : View) → new.content ≡ view.content → new.role ≡ view.role → ((n b q : ℕ) (w : List ℕ) → IsVoteCounted new.tally.counted n b q w → IsIn h (Vote n b q w)) → ((p : ℕ) (v : List ℕ) → IsIn new.tally.learned (p, v) → IsChosen members h p v)
       → Sound members h sent k view (nothing new)
   learns_sound new content role counted learned = record {
     write = tt;

@@ -10,7 +10,7 @@ use Rattle.node.specs.View.{View, Standing}
 use Rattle.proposer.specs.declared.role.Role.TheVariants.{Idle, Preparing, Leading}
 use Rattle.node.specs.View.Standing.{Running}
 use Rattle.node.specs.Step.{nothing}
-use Rattle.learner.specs.Tally.{Groups, Tally, IsCounted, is_majority, is_voter, learn, put_voters, voted, with_voter}
+use Rattle.learner.specs.Tally.{Groups, Tally, IsVoteCounted, is_majority, is_voter, learn, put_voters, voted, with_voter}
 use Rattle.learner.proofs.Callers.{counted_more, voter_counted}
 use Rattle.proposer.specs.Roles.{role_after}
 use Rattle.network_script.proofs.Invariant.{OwnOk, RoleOk, UpOk, Invariant}
@@ -19,7 +19,7 @@ use Rattle.network_script.proofs.Sound.{Sound, quiet_letters, quiet_own}
 
 -- each vote that is counted was cast
 abbrev pub AreCast : List Entry → List (ℕ × Groups) → Type 0
-AreCast h counted = (n b p : ℕ) (v : List ℕ) → IsCounted counted n b p v → IsIn h (Vote n b p v)
+AreCast h counted = (n b p : ℕ) (v : List ℕ) → IsVoteCounted counted n b p v → IsIn h (Vote n b p v)
 
 is_cast : (h : List Entry) (n b p : ℕ) (v : List ℕ) → IsIn h (Vote n b p v) → (m c q : ℕ) (w : List ℕ) → (m ≡ n) × (c ≡ b) × (q ≡ p) × (w ≡ v) → IsIn h (Vote m c q w)
 is_cast h n b p v vote m c q w same = subst (λ (e : Entry). IsIn h e) (λ i. Vote (sym same.0 i) (sym same.1 i) (sym same.2 i) (sym same.3 i)) vote

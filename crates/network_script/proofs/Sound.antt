@@ -7,7 +7,7 @@ use Rattle.ballots.specs.Voting.{Entry, IsIn, IsChosen}
 use Rattle.ballots.specs.Voting.Entry.{Vote}
 use Rattle.acceptor.specs.Content.{Content, Write, after_write, record_write}
 use Rattle.proposer.specs.declared.role.Role.{Role}
-use Rattle.learner.specs.Tally.{IsCounted}
+use Rattle.learner.specs.Tally.{IsVoteCounted}
 use Rattle.node.specs.View.{View, Standing, started}
 use Rattle.node.specs.View.Standing.{Running, Stopped}
 use Rattle.node.specs.Step.{Outcome}
@@ -23,7 +23,7 @@ pub record Sound (members : ℕ) (h : List Entry) (sent : List Letter) (k : ℕ)
   pub letters : NewLetters members (record_write k o.write h) sent o.letters k
   pub role : RoleOk members h k o.view.content.tried o.view.role
   pub own : OwnOk (sent ++ o.letters) k o.view.content.tried o.view.role
-  pub counted : (n b p : ℕ) (v : List ℕ) → IsCounted o.view.tally.counted n b p v → IsIn h (Vote n b p v)
+  pub counted : (n b p : ℕ) (v : List ℕ) → IsVoteCounted o.view.tally.counted n b p v → IsIn h (Vote n b p v)
   pub learned : (p : ℕ) (v : List ℕ) → IsIn o.view.tally.learned (p, v) → IsChosen members h p v
 
 -- a letter that proposes nothing
