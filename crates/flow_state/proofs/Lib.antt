@@ -6,3 +6,9 @@ pub mod Stored
 pub mod Requests
 pub mod Adding
 pub mod Tables
+pub mod Members
+pub mod Filters
+pub mod Found
+pub mod Assignments
+pub mod Wells
+pub mod Callers

@@ -14,4 +14,5 @@ mod tests;
 pub use channel::{Channel, ChannelRow};
 pub use flow::{Flow, FlowKind, Waiting};
 pub use flows::Flows;
+pub use limits::{LAST_SID, LAST_TIME, MOST_MINISLOTS};
 pub use refusal::Refusal;

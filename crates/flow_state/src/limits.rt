@@ -1,8 +1,11 @@
 /// The last minislot time that a command may have.
-pub(crate) const LAST_TIME: u64 = 1 << 62;
+pub const LAST_TIME: u64 = 1 << 62;
+
+/// A MAP has at most so many minislots.
+pub const MOST_MINISLOTS: u16 = 4096;
 
 /// The last unicast SID (CM-SP-MULPIv3.1, Service Identifier).
-pub(crate) const LAST_SID: u16 = 8191;
+pub const LAST_SID: u16 = 8191;
 
 /// So many requests may wait on a channel.
 pub(crate) const MOST_WAITING: usize = 118;

@@ -17,16 +17,19 @@ use Rattle.grant_machine.specs.declared.command.Command.{Command}
 use Rattle.grant_machine.specs.declared.command.Command.TheVariants as commands
 use Rattle.grant_machine.specs.declared.output.Output.{Output}
 use Rattle.grant_machine.specs.declared.output.Output.TheVariants as outputs
-use Rattle.grant_machine.specs.Placing.{Placement}
-use Rattle.grant_machine.specs.Cutting.{Passed, pass, fill, fill_span, span_of, ack_of, table_after, grants_of_flow, polls_of_flow, place_requests, in_order, is_grant_of}
+use Rattle.grant_machine_parts.specs.declared.placing.Placement.{Placement}
+use Rattle.grant_machine_parts.specs.Cutting.{Passed, pass, fill, fill_span, span_of, ack_of, table_after, grants_of_flow, polls_of_flow, place_requests, in_order, is_grant_of}
 use Rattle.grant_machine.specs.Steps.{step, step_on, refusal_of, accepted, cut_on}
 use Rattle.grant_machine.specs.Runs.{outputs_from, grants_from, Grant, grant_of, grants_in, grants_on, accepted_grants, step_grants, step_grants_on}
 use Rattle.grant_machine.specs.Laws.{UnsolicitedGrantsAreDue, is_grant_to}
-use Rattle.grant_machine.proofs.Windows.{Rising}
-use Rattle.grant_machine.proofs.Maps.{find_changed, is_found, some_is, changed, KeepsId, output_is}
-use Rattle.grant_machine.proofs.Sids.{eqb_same, at_same, refusal_there, flow_keeps_id, found_before, there, assigned_fields}
-use Rattle.grant_machine.proofs.Filters.{filter_append}
-use Rattle.grant_machine.proofs.Served.{Serving, has, filter_sub, is_to, pass_none, grants_keep, polls_keep, requests_none, in_order_none}
+use Rattle.grant_machine_parts.proofs.Callers.{Rising}
+use Rattle.flow_state.proofs.Callers.{find_changed, is_found, some_is, changed, KeepsId}
+use Rattle.grant_machine.proofs.Maps.{output_is}
+use Rattle.flow_state.proofs.Callers.{eqb_same, at_same, refusal_there, flow_keeps_id, found_before, there}
+use Rattle.grant_machine.proofs.Sids.{assigned_fields}
+use Rattle.flow_state.proofs.Callers.{filter_append}
+use Rattle.grant_machine_parts.proofs.Callers.{Serving, filter_sub, is_to, pass_none, grants_keep, polls_keep, requests_none, in_order_none}
+use Rattle.flow_state.proofs.Callers.{has}
 use Rattle.grant_machine.proofs.Due.{Serves, AreDue, due_from, insert_same, own_grants, other_grants, not_found}
 
 -- the SID isn't given in the table, and nothing is there for it

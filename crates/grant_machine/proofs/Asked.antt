@@ -8,12 +8,12 @@ use Rattle.flow_state.specs.declared.flow.Waiting.{Waiting}
 use Rattle.flow_state.specs.Rows.{Table, FlowRow, Assignment, is_of, is_flow, assignment_of, free_sid}
 use Rattle.flow_state.specs.Refusals.{is_old, table_flow_refusal, table_request_refusal}
 use Rattle.flow_state.specs.Changes.{new_flow, flow_among, drop_in_table, request_in_table}
-use Rattle.grant_machine.specs.Cutting.{is_grant_of, fill, fill_refusal, span_of, ack_of, table_after}
-use Rattle.grant_machine.proofs.Members.{Has, has_left, has_pushed, has_map, has_filter, any_has, has_any}
-use Rattle.grant_machine.proofs.Sids.{eqb_same, some_sid, unwrap_some, free_is_free}
-use Rattle.grant_machine.proofs.Served.{has}
-use Rattle.grant_machine.proofs.Wells.{IsWell, has_inserted, flow_is_well, drop_is_well, request_is_well, is_asked, asked, asked_same, not_le}
-use Rattle.grant_machine.proofs.Fillings.{is_cut, fill_moves, flow_from, cut_is_well}
+use Rattle.grant_machine_parts.specs.Cutting.{is_grant_of, fill, fill_refusal, span_of, ack_of, table_after}
+use Rattle.flow_state.proofs.Callers.{Has, has_left, has_pushed, has_map, has_filter, any_has, has_any}
+use Rattle.flow_state.proofs.Callers.{eqb_same, some_sid, unwrap_some, free_is_free}
+use Rattle.flow_state.proofs.Callers.{has}
+use Rattle.flow_state.proofs.Callers.{IsWell, has_inserted, flow_is_well, drop_is_well, request_is_well, is_asked, asked, asked_same, not_le}
+use Rattle.grant_machine_parts.proofs.Callers.{is_cut, fill_moves, flow_from, cut_is_well}
 use Rattle.grant_machine.proofs.Reached.{Kept}
 
 -- the last accepted request was sent at this time or later

@@ -1,6 +1,6 @@
 -- The rows after a MAP is closed, and the elements of its body.
-use Rattle.std.proofs.Common.{◌≡◌, ◌⊎◌, ℕ, zero, suc, ◌+◌, ◌<◌, ◌≤◌, Bool, true, false, cond, not, ◌||◌, ◌&&◌, max, min, List, [], ◌∷◌, ◌++◌, map, filter, length, Option, Some, None, refl, sym, ap, subst, ◌∙◌, arith, inl, inr, eqb, ◌^◌}
-use Rattle.std.specs.List.{list_any, find, filter_map, flat_map, range_with_len, AllByRecursion, AllZip}
+use Rattle.std.proofs.Common.{◌≡◌, ℕ, ◌+◌, ◌<◌, ◌≤◌, Bool, true, false, cond, not, ◌||◌, ◌&&◌, max, min, List, [], ◌∷◌, ◌++◌, map, filter, length, Option, Some, None, refl, sym, ap, subst, ◌∙◌, arith, inl, inr, eqb, ◌^◌}
+use Rattle.std.specs.List.{list_any, filter_map, flat_map, range_with_len, AllByRecursion, AllZip}
 use Rattle.std.specs.Option.{option_map, option_and_then, option_map_or}
 use Rattle.std.specs.Prelude.{IfSome}
 use Rattle.std.proofs.lemmas.Bool.{eqb-true}
@@ -19,25 +19,26 @@ use Rattle.flow_state.specs.declared.flow.FlowKind.{FlowKind}
 use Rattle.flow_state.specs.declared.flow.Waiting.{Waiting}
 use Rattle.flow_state.specs.Limits.{last_time, due_index}
 use Rattle.flow_state.specs.Rows.{Rows, Table, FlowRow, is_table, table_of, change_table, is_flow, is_of, flow_of, without_request, channel_at}
-use Rattle.flow_state.specs.Changes.{with_due, without_waiting, flow_row, with_cut_closed, close_table}
+use Rattle.flow_state.specs.Changes.{with_due, without_waiting, with_cut_closed, close_table}
 use Rattle.grant_machine.specs.declared.cut.Filled.{Filled}
-use Rattle.grant_machine.specs.Placing.{Placement}
-use Rattle.grant_machine.specs.Cutting.{Filled as FilledMap, fill, fill_span, fill_refusal, span_of, ack_of, end_of, in_order, priority_of, still_waiting, is_grant_of, table_after}
-use Rattle.grant_machine.specs.Drawing.{begins_at, null_element, pending_element, elements_of, head_of, bytes_of}
+use Rattle.grant_machine_parts.specs.declared.placing.Placement.{Placement}
+use Rattle.grant_machine_parts.specs.Cutting.{Filled as FilledMap, fill, fill_span, fill_refusal, span_of, end_of, in_order, priority_of, still_waiting, is_grant_of, table_after}
+use Rattle.grant_machine_parts.specs.Drawing.{begins_at, null_element, pending_element, elements_of, head_of, bytes_of}
 use Rattle.grant_machine.specs.Runs.{IsReached}
-use Rattle.grant_machine.specs.Lent.{row_of, IsUnicast, IsOfKind, due_times_set, requests_taken, without_if}
+use Rattle.grant_machine_parts.specs.Lent.{row_of, IsUnicast}
+use Rattle.grant_machine.specs.CutRows.{IsOfKind, due_times_set, requests_taken, without_if}
 use Rattle.grant_machine.specs.Plans.{IsFilledBy, elements_in}
-use Rattle.grant_machine.proofs.Maps.{changed, is_found, some_is, same_id, KeepsId}
-use Rattle.grant_machine.proofs.Sids.{eqb_same}
-use Rattle.grant_machine.proofs.Filters.{filter_append}
-use Rattle.grant_machine.proofs.Members.{Has, map_has, all_has, found_has, filter_has, any_has, has_any}
-use Rattle.grant_machine.proofs.Wells.{IsWell, RisingFrom, one_flow, both}
-use Rattle.grant_machine.proofs.Fillings.{Moves, MovesTwice, fill_moves, flow_from, is_cut}
+use Rattle.flow_state.proofs.Callers.{changed, some_is, same_id, KeepsId}
+use Rattle.flow_state.proofs.Callers.{eqb_same}
+use Rattle.flow_state.proofs.Callers.{filter_append}
+use Rattle.flow_state.proofs.Callers.{Has, map_has, all_has, found_has, filter_has, any_has, has_any}
+use Rattle.flow_state.proofs.Callers.{IsWell, RisingFrom, one_flow, both}
+use Rattle.grant_machine_parts.proofs.Callers.{Moves, fill_moves, flow_from, is_cut}
 use Rattle.grant_machine.proofs.Reached.{reached_is_well}
 use Rattle.grant_machine.proofs.Standing.{Apart, reached_apart}
 use Rattle.grant_machine.proofs.Lending.{due_set}
 use Rattle.grant_machine.proofs.Settling.{unicast}
-use Rattle.grant_machine.proofs.Written.{cut_elements, cut_few}
+use Rattle.grant_machine_parts.proofs.Callers.{cut_elements, cut_few}
 
 -- ---- changes of one channel's table
 

@@ -5,11 +5,11 @@ use Rattle.flow_state.specs.Rows.{Rows, Table, table_of, change_table}
 use Rattle.grant_machine.specs.declared.command.Command.{Command}
 use Rattle.grant_machine.specs.declared.command.Command.TheVariants as commands
 use Rattle.grant_machine.specs.declared.output.Output.TheVariants as outputs
-use Rattle.grant_machine.specs.Cutting.{fill, fill_refusal, table_after}
+use Rattle.grant_machine_parts.specs.Cutting.{fill, fill_refusal, table_after}
 use Rattle.grant_machine.specs.Steps.{step, step_on, refusal_of, accepted, cut_on, map_output}
 use Rattle.grant_machine.specs.Runs.{Grant, grants_in, grants_on, step_grants, step_grants_on, accepted_grants}
-use Rattle.grant_machine.proofs.Members.{Has}
-use Rattle.grant_machine.proofs.Sids.{refusal_there}
+use Rattle.flow_state.proofs.Callers.{Has}
+use Rattle.flow_state.proofs.Callers.{refusal_there}
 
 -- the command cuts the channel's table t: what it gives, leaves and grants
 pub record IsCutStep (rows : Rows) (c : Command) : Type 0 where

@@ -1,17 +1,16 @@
 -- What is lent of a channel, place by place, and what its due times' changes keep.
-use Rattle.std.proofs.Common.{◌≡◌, ℕ, zero, suc, ◌+◌, ◌<◌, Bool, true, false, cond, List, [], ◌∷◌, ◌++◌, length, map, take, Option, Some, None, refl, sym, ap, subst, ◌∙◌, arith, slice_get, add-one, eqb}
+use Rattle.std.proofs.Common.{◌≡◌, ℕ, zero, suc, Bool, true, false, cond, List, [], ◌∷◌, ◌++◌, length, map, take, Option, Some, None, refl, sym, ap, subst, ◌∙◌, slice_get, add-one, eqb}
 use Rattle.std.specs.List.{find, AllByRecursion}
 use Rattle.std.specs.Option.{option_map}
 use Rattle.std.proofs.lemmas.List.{length_push}
 use Rattle.flow_state.specs.declared.flow.Flow.{Flow}
-use Rattle.flow_state.specs.declared.flow.Waiting.{Waiting}
 use Rattle.flow_state.specs.declared.flow.FlowKind.{FlowKind}
-use Rattle.flow_state.specs.Rows.{Rows, Table, FlowRow, table_of, flow_of, is_flow, is_table, lent_flow, flow_at, waiting_at, change_table}
+use Rattle.flow_state.specs.Rows.{Rows, Table, FlowRow, table_of, flow_of, is_flow, lent_flow, flow_at, waiting_at}
 use Rattle.flow_state.specs.Changes.{with_due, flow_row}
 use Rattle.flow_state.specs.Limits.{due_index}
-use Rattle.grant_machine.specs.Lent.{flows_on, requests_on, IsOfKind}
-use Rattle.grant_machine.proofs.Sids.{found_before}
-use Rattle.grant_machine.proofs.Maps.{is_found}
+use Rattle.grant_machine.specs.CutRows.{flows_on, requests_on, IsOfKind}
+use Rattle.flow_state.proofs.Callers.{found_before}
+use Rattle.flow_state.proofs.Callers.{is_found}
 
 get_map : {X Y : Type 0} (f : X → Y) (xs : List X) (k : ℕ) → slice_get (map f xs) k ≡ option_map f (slice_get xs k)
 get_map f [] k = refl

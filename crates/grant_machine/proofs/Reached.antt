@@ -11,15 +11,15 @@ use Rattle.flow_state.specs.Refusals.{table_flow_refusal, table_request_refusal,
 use Rattle.flow_state.specs.Changes.{new_table, flow_among, flow_in_table, drop_in_table, request_in_table}
 use Rattle.grant_machine.specs.declared.command.Command.{Command}
 use Rattle.grant_machine.specs.declared.command.Command.TheVariants as commands
-use Rattle.grant_machine.specs.Cutting.{fill, fill_refusal, table_after}
+use Rattle.grant_machine_parts.specs.Cutting.{fill, fill_refusal, table_after}
 use Rattle.grant_machine.specs.Steps.{step, step_on, refusal_of, accepted, cut_on}
 use Rattle.grant_machine.specs.Runs.{rows_from, rows_after, IsReached}
 use Rattle.grant_machine.specs.Fits.{FitsChannel, FitsCommand}
-use Rattle.grant_machine.proofs.Maps.{find_changed, find_added, some_is, changed, KeepsId}
-use Rattle.grant_machine.proofs.Sids.{at_same, refusal_there, flow_keeps_id, found_before}
+use Rattle.flow_state.proofs.Callers.{find_changed, find_added, some_is, changed, KeepsId}
+use Rattle.flow_state.proofs.Callers.{at_same, refusal_there, flow_keeps_id, found_before}
 use Rattle.grant_machine.proofs.Added.{find_pushed}
-use Rattle.grant_machine.proofs.Wells.{IsWell, new_is_well, flow_is_well, drop_is_well, request_is_well, passes_on, not_false}
-use Rattle.grant_machine.proofs.Fillings.{cut_is_well}
+use Rattle.flow_state.proofs.Callers.{IsWell, new_is_well, flow_is_well, drop_is_well, request_is_well, passes_on, not_false}
+use Rattle.grant_machine_parts.proofs.Callers.{cut_is_well}
 
 -- each accepted command keeps what holds of a table
 pub record Kept (P : Table → Type 0) : Type 0 where

@@ -1,5 +1,5 @@
 -- One more command reaches the rows after it.
-use Rattle.std.proofs.Common.{◌≡◌, ℕ, List, [], ◌∷◌, ◌++◌, refl, sym, ap, subst, ◌∙◌, Result, Ok, Err}
+use Rattle.std.proofs.Common.{◌≡◌, List, [], ◌∷◌, ◌++◌, refl, sym, ap, subst, ◌∙◌, Result, Ok, Err}
 use Rattle.std.specs.List.{AllByRecursion}
 use Rattle.std.specs.Prelude.{OnOk, OnErr, IsOk}
 use Rattle.std.specs.declared.alloc.AllocError.{AllocError}
@@ -7,7 +7,7 @@ use Rattle.flow_state.specs.Rows.{Rows}
 use Rattle.grant_machine.specs.declared.command.Command.{Command}
 use Rattle.grant_machine.specs.declared.output.Output.{Output}
 use Rattle.grant_machine.specs.Steps.{step}
-use Rattle.grant_machine.specs.Runs.{rows_from, rows_after, IsReached}
+use Rattle.grant_machine.specs.Runs.{rows_from, IsReached}
 use Rattle.grant_machine.specs.Fits.{FitsCommand}
 
 rows_push : (rows : Rows) (cs : List Command) (c : Command) → rows_from rows (cs ++ c ∷ []) ≡ (step (rows_from rows cs) c).rows

@@ -14,20 +14,25 @@ use Rattle.grant_machine.specs.declared.command.Command.{Command}
 use Rattle.grant_machine.specs.declared.command.Command.TheVariants as commands
 use Rattle.grant_machine.specs.declared.output.Output.{Output}
 use Rattle.grant_machine.specs.declared.output.Output.TheVariants as outputs
-use Rattle.grant_machine.specs.Placing.{Cause, Window, Sent, Placement, first_fit}
-use Rattle.grant_machine.specs.Cutting.{Periodic, Passed, pass, grants_of_flow, polls_of_flow, in_order, placement_at, placement_for, place_requests, is_cause_sent, is_grant_of, Filled, fill, fill_span, fill_refusal, span_of, ack_of, end_of, table_after}
+use Rattle.grant_machine_parts.specs.declared.placing.Cause.{Cause}
+use Rattle.grant_machine_parts.specs.declared.placing.Placement.{Placement}
+use Rattle.grant_machine_parts.specs.declared.placing.Cause.TheVariants.{Window, Sent}
+use Rattle.grant_machine_parts.specs.Placing.{first_fit}
+use Rattle.grant_machine_parts.specs.declared.due_times.Periodic.{Periodic}
+use Rattle.grant_machine_parts.specs.Cutting.{Passed, pass, grants_of_flow, polls_of_flow, in_order, placement_at, placement_for, place_requests, is_cause_sent, is_grant_of, Filled, fill, fill_span, fill_refusal, span_of, ack_of, end_of, table_after}
 use Rattle.grant_machine.specs.Steps.{step, step_on, refusal_of, accepted, cut_on}
 use Rattle.grant_machine.specs.Runs.{outputs_from, grants_from, Grant, grant_of, step_grants}
 use Rattle.grant_machine.specs.Laws.{RequestsAreGrantedOnce, IsGrantedAt}
-use Rattle.grant_machine.proofs.Members.{Has, has_at, has_either, has_pushed, has_map, has_filter, filter_has, filter_empty, has_any}
-use Rattle.grant_machine.proofs.Filters.{filter_append}
-use Rattle.grant_machine.proofs.Maps.{output_is, is_found, some_is, find_changed, found_after, changed, KeepsId}
-use Rattle.grant_machine.proofs.Sids.{eqb_same, refusal_there, there, found_before, at_same, flow_keeps_id}
+use Rattle.flow_state.proofs.Callers.{Has, has_at, has_either, has_pushed, has_map, has_filter, filter_has, filter_empty, has_any}
+use Rattle.flow_state.proofs.Callers.{filter_append}
+use Rattle.grant_machine.proofs.Maps.{output_is, found_after}
+use Rattle.flow_state.proofs.Callers.{is_found, some_is, find_changed, changed, KeepsId}
+use Rattle.flow_state.proofs.Callers.{eqb_same, refusal_there, there, found_before, at_same, flow_keeps_id}
 use Rattle.grant_machine.proofs.Added.{command_is, find_pushed}
-use Rattle.grant_machine.proofs.Orders.{in_order_fewer}
-use Rattle.grant_machine.proofs.Wells.{IsWell, one_flow, both, is_asked}
-use Rattle.grant_machine.proofs.Fillings.{pass_keeps, IsFor, is_cut, fill_moves, flow_from, cut_is_well}
-use Rattle.grant_machine.proofs.Bodies.{fill_placed}
+use Rattle.grant_machine_parts.proofs.Callers.{in_order_fewer}
+use Rattle.flow_state.proofs.Callers.{IsWell, one_flow, both, is_asked}
+use Rattle.grant_machine_parts.proofs.Callers.{pass_keeps, IsFor, is_cut, fill_moves, flow_from, cut_is_well}
+use Rattle.grant_machine_parts.proofs.Callers.{fill_placed}
 use Rattle.grant_machine.proofs.Reached.{Stands, stands_step, AllWell, none_well, well_step}
 use Rattle.grant_machine.proofs.Cuts.{IsCutStep, cut_of_grant}
 use Rattle.grant_machine.proofs.Asked.{WasAsked, IsSentBy, IsGone, newer, asked_kept, asked_now, gone_kept}

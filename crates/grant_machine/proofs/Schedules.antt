@@ -8,7 +8,7 @@ use Rattle.map_body.specs.declared.element.Element.{Element}
 use Rattle.map_body.specs.Body.{Body}
 use Rattle.map_body.specs.Layout.{IsBody, IsWritten}
 use Rattle.map_body.specs.Cell.{IsCell}
-use Rattle.map_body.proofs.Readings.{one_body}
+use Rattle.map_body.proofs.Callers.{one_body}
 use Rattle.flow_state.specs.declared.flow.FlowKind.{FlowKind}
 use Rattle.flow_state.specs.declared.refusal.Refusal.{Refusal}
 use Rattle.flow_state.specs.Limits.{last_time, last_sid}
@@ -19,21 +19,23 @@ use Rattle.grant_machine.specs.declared.command.Command.{Command}
 use Rattle.grant_machine.specs.declared.command.Command.TheVariants as commands
 use Rattle.grant_machine.specs.declared.output.Output.{Output}
 use Rattle.grant_machine.specs.declared.output.Output.TheVariants as outputs
-use Rattle.grant_machine.specs.Placing.{Placement}
-use Rattle.grant_machine.specs.Cutting.{Filled, fill, fill_refusal, span_of}
-use Rattle.grant_machine.specs.Drawing.{null_element, body_of, bytes_of}
+use Rattle.grant_machine_parts.specs.declared.placing.Placement.{Placement}
+use Rattle.grant_machine_parts.specs.Cutting.{Filled, fill, fill_refusal, span_of}
+use Rattle.grant_machine_parts.specs.Drawing.{null_element, body_of, bytes_of}
 use Rattle.grant_machine.specs.Steps.{step, step_on, refusal_of, accepted, cut_on}
 use Rattle.grant_machine.specs.Runs.{outputs_from, outputs_of, rows_from}
 use Rattle.grant_machine.specs.Fits.{FitsCommand}
 use Rattle.grant_machine.specs.Owner.{IsMapOf}
 use Rattle.grant_machine.specs.Laws.{OutputsGoOn, MapsAreBodies, SharedMapsAreOne, SidsAreUnicast, OwnersAreOne}
-use Rattle.grant_machine.proofs.Members.{Has, contains_at, has_pushed, found_has}
-use Rattle.grant_machine.proofs.Maps.{output_is, is_found, maps_are_disjoint}
-use Rattle.grant_machine.proofs.Sids.{sids_are_for_good, there, refusal_there, some_sid, unwrap_some, assigned_fields}
-use Rattle.grant_machine.proofs.Wells.{IsWell, free_range}
-use Rattle.grant_machine.proofs.Fillings.{is_cut}
-use Rattle.grant_machine.proofs.Bodies.{count, null_at, none_before}
-use Rattle.grant_machine.proofs.Written.{pending, cut_placed, cut_most, pending_plain, cut_written}
+use Rattle.flow_state.proofs.Callers.{Has, contains_at, has_pushed, found_has}
+use Rattle.grant_machine.proofs.Maps.{output_is, maps_are_disjoint}
+use Rattle.flow_state.proofs.Callers.{is_found}
+use Rattle.grant_machine.proofs.Sids.{sids_are_for_good, assigned_fields}
+use Rattle.flow_state.proofs.Callers.{there, refusal_there, some_sid, unwrap_some}
+use Rattle.flow_state.proofs.Callers.{IsWell, free_range}
+use Rattle.grant_machine_parts.proofs.Callers.{is_cut}
+use Rattle.grant_machine_parts.proofs.Callers.{count, null_at, none_before}
+use Rattle.grant_machine_parts.proofs.Callers.{pending, cut_placed, cut_most, pending_plain, cut_written}
 use Rattle.grant_machine.proofs.Reached.{Kept, At, at_step, AllWell, none_well, well_rows, FitsTable, none_fit, fit_rows}
 use Rattle.grant_machine.proofs.Cuts.{cut_of_map}
 use Rattle.grant_machine.proofs.Tellings.{map_parts, drawn_body, cut_cell}

@@ -1,5 +1,5 @@
 -- What a filled MAP is made of, and its flows as they are lent.
-use Rattle.std.proofs.Common.{◌≡◌, ℕ, ◌+◌, ◌≤◌, true, List, [], ◌∷◌, map, filter, eqb, Option, Some, None, refl, sym, ap, subst, ◌∙◌, arith, inl, inr}
+use Rattle.std.proofs.Common.{◌≡◌, ℕ, ◌≤◌, true, List, [], ◌∷◌, map, filter, eqb, Option, Some, None, refl, sym, ap, subst, ◌∙◌}
 use Rattle.std.specs.List.{AllByRecursion, flat_map, find}
 use Rattle.minislot_time.specs.Extent.{Extent}
 use Rattle.flow_state.specs.declared.channel.Channel.{Channel}
@@ -9,18 +9,19 @@ use Rattle.flow_state.specs.declared.flow.FlowKind.TheVariants.{BestEffort, Ugs,
 use Rattle.flow_state.specs.declared.flow.Waiting.{Waiting}
 use Rattle.flow_state.specs.Limits.{last_sid, is_good_kind, due_time, due_index}
 use Rattle.flow_state.specs.Rows.{Rows, Table, FlowRow, table_of, lent_flow, is_flow}
-use Rattle.grant_machine.specs.declared.services.Service.TheVariants.{Grants, Polls}
-use Rattle.grant_machine.specs.Placing.{Placement}
-use Rattle.grant_machine.specs.Cutting.{flow_priority, Periodic, Passed, pass, in_order, place_requests, fill_span, fill_polls, fill_requests, grants_of_flow, polls_of_flow}
+use Rattle.grant_machine_parts.specs.declared.services.Service.TheVariants.{Grants, Polls}
+use Rattle.grant_machine_parts.specs.declared.placing.Placement.{Placement}
+use Rattle.grant_machine_parts.specs.Cutting.{flow_priority, Passed, pass, in_order, place_requests, fill_span, fill_polls, grants_of_flow, polls_of_flow}
 use Rattle.grant_machine.specs.Runs.{IsReached}
-use Rattle.grant_machine.specs.Filling.{PartMap}
-use Rattle.grant_machine.specs.Lent.{row_of, IsLent, IsUnicast, IsOfTable, given, given_to, flows_on, requests_on, by_priority}
-use Rattle.grant_machine.proofs.Members.{Has, all_has}
-use Rattle.grant_machine.proofs.Wells.{IsWell, IsWellFlow, both}
+use Rattle.grant_machine_parts.specs.Filling.{PartMap}
+use Rattle.grant_machine_parts.specs.Lent.{row_of, IsLent, IsUnicast, given_to, by_priority}
+use Rattle.grant_machine.specs.CutRows.{IsOfTable, flows_on, requests_on}
+use Rattle.flow_state.proofs.Callers.{all_has}
+use Rattle.flow_state.proofs.Callers.{IsWell, IsWellFlow, both}
 use Rattle.grant_machine.proofs.Reached.{reached_is_well}
-use Rattle.grant_machine.proofs.Fillings.{in_order_has}
-use Rattle.grant_machine.proofs.Giving.{schedule_pos, round_at}
-use Rattle.grant_machine.proofs.Standing.{IsIdle, AreIdle, idle, reached_idle}
+use Rattle.grant_machine_parts.proofs.Callers.{in_order_has}
+use Rattle.grant_machine_parts.proofs.Callers.{schedule_pos, round_at}
+use Rattle.grant_machine.proofs.Standing.{IsIdle, idle, reached_idle}
 
 -- the number of a due time is its own
 round_kind : (sid : ℕ) (kind : FlowKind) (i : ℕ) → is_good_kind kind ≡ true → idle kind i → due_index kind (due_time kind i) ≡ i

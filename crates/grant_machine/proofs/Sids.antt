@@ -1,56 +1,26 @@
 -- A SID stays with the modem that it was given to.
-use Rattle.std.proofs.Common.{◌≡◌, ◌⊎◌, ℕ, zero, suc, Bool, true, false, cond, not, ◌||◌, ◌&&◌, List, [], ◌∷◌, ◌++◌, Option, Some, None, refl, sym, ap, subst, ◌∙◌, slice_get, arith, eqb, inl, inr, is_some, is_none}
+use Rattle.std.proofs.Common.{◌≡◌, ℕ, zero, suc, Bool, true, false, cond, ◌&&◌, List, [], ◌∷◌, ◌++◌, Option, Some, None, refl, sym, ap, subst, ◌∙◌, slice_get, eqb, inl, inr}
 use Rattle.std.specs.List.{find, list_any}
 use Rattle.std.specs.Prelude.{unwrap_or}
-use Rattle.std.specs.Option.{option_map_or}
 use Rattle.flow_state.specs.declared.flow.FlowKind.{FlowKind}
 use Rattle.flow_state.specs.declared.refusal.Refusal.{Refusal}
-use Rattle.flow_state.specs.declared.refusal.Refusal.TheVariants.{NoChannel, BadValue, SidsSpent}
-use Rattle.flow_state.specs.Limits.{is_good_kind}
-use Rattle.flow_state.specs.Rows.{Rows, Table, Assignment, is_table, table_of, change_table, is_assignment, assignment_of, unicast_sids, free_sid}
+use Rattle.flow_state.specs.Rows.{Rows, Table, Assignment, is_table, table_of, change_table, is_assignment, assignment_of, free_sid}
 use Rattle.flow_state.specs.Refusals.{table_flow_refusal, on_table}
 use Rattle.flow_state.specs.Changes.{new_table, flow_among, flow_in_table, sid_among, sid_for, sid_on}
+use Rattle.flow_state.proofs.Callers.{found_before, at_same, refusal_there, flow_keeps_id, there}
+use Rattle.flow_state.proofs.Callers.{has, eqb_same, free_is_free, some_sid, unwrap_some, find_kept, find_pushed, find_last, find_passes}
 use Rattle.grant_machine.specs.declared.command.Command.{Command}
 use Rattle.grant_machine.specs.declared.command.Command.TheVariants as commands
 use Rattle.grant_machine.specs.declared.output.Output.TheVariants as outputs
-use Rattle.grant_machine.specs.Cutting.{fill, table_after}
+use Rattle.grant_machine_parts.specs.Cutting.{fill, table_after}
 use Rattle.grant_machine.specs.Steps.{step, step_on, refusal_of, accepted, cut_on}
 use Rattle.grant_machine.specs.Runs.{outputs_from}
 use Rattle.grant_machine.specs.Laws.{SidsAreForGood}
-use Rattle.grant_machine.proofs.Maps.{find_changed, find_added, is_found, some_is, same_id, changed, KeepsId, output_is}
+use Rattle.flow_state.proofs.Callers.{find_changed, find_added, is_found, some_is, changed, KeepsId}
+use Rattle.grant_machine.proofs.Maps.{output_is}
 use Rattle.std.proofs.lemmas.Bool.{eqb-true}
 
 -- ---- assignments
-
-abbrev pub has : ℕ → Assignment → Bool
-has sid a = eqb a.sid sid
-
-module _ {X : Type 0} (p : X → Bool) where
-  find_kept : (xs : List X) (a b : X) → find p xs ≡ Some a → find p (xs ++ b ∷ []) ≡ Some a
-  find_kept [] a b e = absurd cc
-  find_kept (x ∷ xs) a b e =
-      elim (p x) as (λ c. cond c (Some x) (find p xs) ≡ Some a → cond c (Some x) (find p (xs ++ b ∷ [])) ≡ Some a) [ true ↦ λ f. f | false ↦ λ f. find_kept xs a b f ] e
-
-  find_pushed : (xs : List X) (a b : X) → find p (xs ++ b ∷ []) ≡ Some a → (find p xs ≡ Some a) ⊎ (b ≡ a)
-  find_pushed [] a b e = elim (p b) as (λ c. cond c (Some b) None ≡ Some a → (None ≡ Some a) ⊎ (b ≡ a)) [ true ↦ λ f. inr cc | false ↦ λ f. inl f ] e
-  find_pushed (x ∷ xs) a b e =
-      elim (p x) as (λ c. cond c (Some x) (find p (xs ++ b ∷ [])) ≡ Some a → (cond c (Some x) (find p xs) ≡ Some a) ⊎ (b ≡ a)) [ true ↦ λ f. inl f | false ↦ λ f. find_pushed xs a b f ] e
-
-  find_last : (xs : List X) (b : X) → list_any p xs ≡ false → p b ≡ true → find p (xs ++ b ∷ []) ≡ Some b
-  find_last [] b none is = ap (λ c. cond c (Some b) None) is
-  find_last (x ∷ xs) b none is =
-      elim (p x) as (λ c. (c || list_any p xs) ≡ false → cond c (Some x) (find p (xs ++ b ∷ [])) ≡ Some b) [ true ↦ λ f. absurd cc | false ↦ λ f. find_last xs b f is ] none
-
-  find_passes : (xs : List X) (a : X) → find p xs ≡ Some a → p a ≡ true
-  find_passes [] a e = absurd cc
-  find_passes (x ∷ xs) a e =
-      elim (p x) as (λ c. p x ≡ c → cond c (Some x) (find p xs) ≡ Some a → p a ≡ true) [
-        | true ↦ λ h f. let same : x ≡ a = cc in ap p (sym same) ∙ h
-        | false ↦ λ h f. find_passes xs a f
-      ] refl e
-
-pub eqb_same : (n : ℕ) → eqb n n ≡ true
-eqb_same n = grind arith
 
 -- what modem and tag were given, the SID leads back to
 abbrev pub LeadBack : List Assignment → Type 0
@@ -71,23 +41,6 @@ pub record Leads (t : Table) (sid modem : ℕ) : Type 0 where
   pub found : find (has sid) t.assigned ≡ Some assignment
   pub modem_is : assignment.modem ≡ modem
 
-pub free_is_free : (t : Table) (sid : ℕ) → free_sid t ≡ Some sid → list_any (has sid) t.assigned ≡ false
-free_is_free t sid e = not_true (list_any (has sid) t.assigned) (find_passes (λ s. not (list_any (has s) t.assigned)) unicast_sids sid e)
-  where
-    not_true : (b : Bool) → not b ≡ true → b ≡ false
-    not_true true h = absurd cc
-    not_true false h = refl
-
--- a flow that isn't refused has a SID
-pub some_sid : (t : Table) (modem tag : ℕ) (kind : FlowKind) → assignment_of t modem tag ≡ None → table_flow_refusal t modem tag kind ≡ None → (sid : ℕ) × (free_sid t ≡ Some sid)
-some_sid t modem tag kind none e =
-    by (is_good_kind kind) (free_sid t) refl (ap (λ (o : Option Assignment). cond (is_some o) None (cond (not (is_good_kind kind)) (Some BadValue) (cond (is_none (free_sid t)) (Some SidsSpent) None))) (sym none) ∙ e)
-  where
-    by : (good : Bool) (o : Option ℕ) → free_sid t ≡ o → cond (not good) (Some BadValue) (cond (is_none o) (Some SidsSpent) None) ≡ None → (sid : ℕ) × (free_sid t ≡ Some sid)
-    by false o f h = absurd cc
-    by true None f h = absurd cc
-    by true (Some sid) f h = (sid, f)
-
 -- ---- a table after a flow is added
 
 -- both facts of the table after, for the flow's SID and modem
@@ -95,9 +48,6 @@ pub record Added (t after : Table) (sid modem : ℕ) : Type 0 where
   pub leads : Leads after sid modem
   pub back : LeadBack after.assigned
   pub kept : (s m : ℕ) → Leads t s m → Leads after s m
-
-pub unwrap_some : (o : Option ℕ) (n : ℕ) → o ≡ Some n → unwrap_or o 0 ≡ n
-unwrap_some o n e = ap (λ (p : Option ℕ). unwrap_or p 0) e
 
 added : (o : Option Assignment) (t : Table) (modem tag : ℕ) (kind : FlowKind) → assignment_of t modem tag ≡ o → table_flow_refusal t modem tag kind ≡ None → LeadBack t.assigned
     → Added t (flow_among o t modem tag kind) (sid_among o t) modem
@@ -134,25 +84,11 @@ pub record IsOwned (rows : Rows) (ch sid modem : ℕ) : Type 0 where
   pub found : table_of rows ch ≡ Some table
   pub leads : Leads table sid modem
 
--- a table that is found after a change was found before it
-pub found_before : (rows : Rows) (ch at : ℕ) (change : Table → Table) (u : Table) → KeepsId change → table_of (change_table rows at change) ch ≡ Some u
-    → (t : Table) × (table_of rows ch ≡ Some t) × (u ≡ changed at change t)
-found_before [] ch at change u keeps e = absurd cc
-found_before (r ∷ rows) ch at change u keeps e =
-    let same : is_table ch r ≡ is_table ch (changed at change r) = ap (λ i. eqb i ch) (sym (same_id at change r keeps)) in
-    elim (is_table ch r) as (λ b. cond b (Some (changed at change r)) (table_of (change_table rows at change) ch) ≡ Some u → (t : Table) × (cond b (Some r) (table_of rows ch) ≡ Some t) × (u ≡ changed at change t)) [
-      | true ↦ λ f. (r, refl, sym (some_is (changed at change r) u f))
-      | false ↦ λ f. found_before rows ch at change u keeps f
-    ] (ap (λ b. cond b (Some (changed at change r)) (table_of (change_table rows at change) ch)) same ∙ e)
-
 -- a change that keeps channels, and what SIDs lead to in the table that is found
 pub record KeepsLeads (rows : Rows) (at : ℕ) (change : Table → Table) : Type 0 where
   pub ids : KeepsId change
   pub back : (t : Table) → table_of rows at ≡ Some t → LeadBack t.assigned → LeadBack (change t).assigned
   pub kept : (t : Table) → table_of rows at ≡ Some t → (s m : ℕ) → Leads t s m → Leads (change t) s m
-
-pub at_same : (rows : Rows) (ch at : ℕ) (t : Table) → table_of rows ch ≡ Some t → is_table at t ≡ true → ch ≡ at
-at_same rows ch at t found here = sym (eqb-true _ _ (is_found rows ch t found)) ∙ eqb-true _ _ here
 
 back_after_change : (rows : Rows) (at : ℕ) (change : Table → Table) → KeepsLeads rows at change → AllLeadBack rows → AllLeadBack (change_table rows at change)
 back_after_change rows at change keeps good ch u e =
@@ -194,14 +130,6 @@ same_assigned rows at change ids same = record {
 
 keeps_by : (rows : Rows) (at : ℕ) (change : Table → Table) → KeepsLeads rows at change → AllLeadBack rows → Keeps rows (change_table rows at change)
 keeps_by rows at change keeps good = record { back = back_after_change rows at change keeps good; owned = λ ch sid modem o. owned_after_change rows ch sid modem at change keeps o }
-
--- the refusal of a table that is found
-pub refusal_there : (rows : Rows) (ch : ℕ) (t : Table) (refusal : Table → Option Refusal) → table_of rows ch ≡ Some t → on_table rows ch refusal ≡ None → refusal t ≡ None
-refusal_there rows ch t refusal found e = sym (ap (λ (o : Option Table). option_map_or refusal o (Some NoChannel)) found) ∙ e
-
-pub flow_keeps_id : (o : Option Assignment) (t : Table) (modem tag : ℕ) (kind : FlowKind) → (flow_among o t modem tag kind).row.channel.id ≡ t.row.channel.id
-flow_keeps_id (Some a) t modem tag kind = refl
-flow_keeps_id None t modem tag kind = refl
 
 flow_keeps_leads : (rows : Rows) (at modem tag : ℕ) (kind : FlowKind) → AllLeadBack rows → on_table rows at (λ t. table_flow_refusal t modem tag kind) ≡ None → KeepsLeads rows at (λ t. flow_in_table t modem tag kind)
 flow_keeps_leads rows at modem tag kind good ok = record {
@@ -246,11 +174,6 @@ step_keeps rows c good = by (refusal_of rows c) refl
 
 pub assigned_fields : (modem at s m ch sid : ℕ) → outputs.Assigned modem at s ≡ outputs.Assigned m ch sid → (modem ≡ m) × (at ≡ ch) × (s ≡ sid)
 assigned_fields modem at s m ch sid e = (cc, cc, cc)
-
--- the table of a call that isn't refused is there
-pub there : (o : Option Table) (refusal : Table → Option Refusal) → option_map_or refusal o (Some NoChannel) ≡ None → (t : Table) × (o ≡ Some t)
-there (Some t) refusal e = (t, refl)
-there None refusal e = absurd cc
 
 flow_owned : (rows : Rows) (at modem tag : ℕ) (kind : FlowKind) → AllLeadBack rows → on_table rows at (λ t. table_flow_refusal t modem tag kind) ≡ None
     → IsOwned (change_table rows at (λ t. flow_in_table t modem tag kind)) at (sid_on (table_of rows at) modem tag) modem

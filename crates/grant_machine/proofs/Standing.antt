@@ -1,5 +1,5 @@
 -- What is true of the rows that commands reach, beside what is true of each table: each channel has one table, and a best-effort flow stays at due time number 0.
-use Rattle.std.proofs.Common.{◌≡◌, ◌⊎◌, ℕ, zero, suc, ◌+◌, Bool, true, false, cond, not, List, [], ◌∷◌, ◌++◌, map, filter, Option, Some, None, refl, sym, ap, subst, ◌∙◌, arith, inl, inr, eqb, leb, is_some}
+use Rattle.std.proofs.Common.{◌≡◌, ℕ, Bool, true, false, cond, not, List, [], ◌∷◌, ◌++◌, map, filter, Option, Some, None, refl, sym, ap, subst, ◌∙◌, arith, inl, inr, eqb, leb, is_some}
 use Rattle.std.specs.List.{AllByRecursion}
 use Rattle.std.specs.Prelude.{unwrap_or}
 use Rattle.minislot_time.specs.Extent.{Extent}
@@ -10,17 +10,18 @@ use Rattle.flow_state.specs.declared.refusal.Refusal.{Refusal}
 use Rattle.flow_state.specs.declared.refusal.Refusal.TheVariants.{BadValue, ChannelThere}
 use Rattle.flow_state.specs.Limits.{is_good_channel}
 use Rattle.flow_state.specs.Rows.{Rows, Table, FlowRow, Assignment, is_table, table_of, change_table, assignment_of, is_flow, free_sid, insert_flow}
-use Rattle.flow_state.specs.Changes.{new_table, new_flow, flow_among, flow_in_table, drop_in_table, request_in_table}
+use Rattle.flow_state.specs.Changes.{new_table, new_flow, flow_among, drop_in_table, request_in_table}
 use Rattle.grant_machine.specs.declared.command.Command.{Command}
 use Rattle.grant_machine.specs.declared.command.Command.TheVariants as commands
-use Rattle.grant_machine.specs.Placing.{Placement}
-use Rattle.grant_machine.specs.Cutting.{Periodic, grants_of_kind, polls_of_kind, grants_of_flow, polls_of_flow, run_flow, pass, fill, table_after, span_of}
+use Rattle.grant_machine_parts.specs.declared.placing.Placement.{Placement}
+use Rattle.grant_machine_parts.specs.declared.due_times.Periodic.{Periodic}
+use Rattle.grant_machine_parts.specs.Cutting.{grants_of_kind, polls_of_kind, grants_of_flow, polls_of_flow, run_flow, pass, fill, table_after, span_of}
 use Rattle.grant_machine.specs.Steps.{step, step_on, refusal_of, accepted, cut_on}
-use Rattle.grant_machine.specs.Runs.{rows_from, rows_after, IsReached}
-use Rattle.grant_machine.proofs.Maps.{some_is, changed, same_id, KeepsId}
-use Rattle.grant_machine.proofs.Sids.{flow_keeps_id}
-use Rattle.grant_machine.proofs.Members.{Has, has_either, has_filter, has_map, has_all, all_has}
-use Rattle.grant_machine.proofs.Wells.{passes_on}
+use Rattle.grant_machine.specs.Runs.{rows_from, IsReached}
+use Rattle.flow_state.proofs.Callers.{changed, same_id, KeepsId}
+use Rattle.flow_state.proofs.Callers.{flow_keeps_id}
+use Rattle.flow_state.proofs.Callers.{has_either, has_filter, has_all, all_has}
+use Rattle.flow_state.proofs.Callers.{passes_on}
 use Rattle.grant_machine.proofs.Reached.{Kept, At, at_step}
 
 -- ---- best-effort flows

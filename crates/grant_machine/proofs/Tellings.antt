@@ -6,23 +6,25 @@ use Rattle.map_body.specs.declared.head.Head.{Head}
 use Rattle.map_body.specs.Body.{Body}
 use Rattle.map_body.specs.Layout.{FitsHead, head_bytes, IsBody, IsWritten}
 use Rattle.map_body.specs.Cell.{IsCell}
-use Rattle.map_body.proofs.Readings.{one_body}
+use Rattle.map_body.proofs.Callers.{one_body}
 use Rattle.flow_state.specs.Rows.{Rows, Table}
 use Rattle.grant_machine.specs.declared.command.Command.{Command}
 use Rattle.grant_machine.specs.declared.output.Output.{Output}
 use Rattle.grant_machine.specs.declared.output.Output.TheVariants as outputs
-use Rattle.grant_machine.specs.Placing.{Placement, holds}
-use Rattle.grant_machine.specs.Cutting.{Filled, fill, fill_refusal}
-use Rattle.grant_machine.specs.Drawing.{placed_element, body_of, bytes_of}
+use Rattle.grant_machine_parts.specs.declared.placing.Placement.{Placement}
+use Rattle.grant_machine_parts.specs.Placing.{holds}
+use Rattle.grant_machine_parts.specs.Cutting.{Filled, fill, fill_refusal}
+use Rattle.grant_machine_parts.specs.Drawing.{placed_element, body_of, bytes_of}
 use Rattle.grant_machine.specs.Steps.{step, map_output}
 use Rattle.grant_machine.specs.Runs.{outputs_from, grants_from, Grant, grant_of, step_grants}
 use Rattle.grant_machine.specs.Fits.{FitsCommand}
-use Rattle.grant_machine.specs.Laws.{GrantsAreTold, CellsAreGranted, IsUseFor}
-use Rattle.grant_machine.proofs.Members.{Has, has_at, place_of, has_left, has_right, has_either, has_map, map_has}
+use Rattle.grant_machine_parts.specs.Filling.{IsUseFor}
+use Rattle.grant_machine.specs.Laws.{GrantsAreTold, CellsAreGranted}
+use Rattle.flow_state.proofs.Callers.{Has, has_at, place_of, has_left, has_right, has_either, has_map, map_has}
 use Rattle.grant_machine.proofs.Maps.{output_is}
-use Rattle.grant_machine.proofs.Wells.{IsWell}
-use Rattle.grant_machine.proofs.Bodies.{it_holds, holds_from, holds_below, cell_of_placement, cell_tells}
-use Rattle.grant_machine.proofs.Written.{pending, cut_placed, cut_most, pending_plain, cut_written}
+use Rattle.flow_state.proofs.Callers.{IsWell}
+use Rattle.grant_machine_parts.proofs.Callers.{it_holds, holds_from, holds_below, cell_of_placement, cell_tells}
+use Rattle.grant_machine_parts.proofs.Callers.{pending, cut_placed, cut_most, pending_plain, cut_written}
 use Rattle.grant_machine.proofs.Reached.{AllWell, none_well, well_step, AllFit, none_fit, fit_step}
 use Rattle.grant_machine.proofs.Cuts.{cut_of_grant, cut_of_map}
 

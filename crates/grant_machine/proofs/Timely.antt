@@ -15,19 +15,24 @@ use Rattle.grant_machine.specs.declared.command.Command.{Command}
 use Rattle.grant_machine.specs.declared.command.Command.TheVariants as commands
 use Rattle.grant_machine.specs.declared.output.Output.{Output}
 use Rattle.grant_machine.specs.declared.output.Output.TheVariants as outputs
-use Rattle.grant_machine.specs.Placing.{Cause, Window, Sent, Placement}
-use Rattle.grant_machine.specs.Cutting.{Periodic, due_at, end_of, Missed, Placed, Kept, verdict, placement_at, Ran, run_due_times, run_flow, due_before, Passed, pass, grants_of_kind, polls_of_kind, grants_of_flow, polls_of_flow, in_order, placement_for, Filled, fill, fill_span, fill_refusal, span_of, ack_of, table_after}
+use Rattle.grant_machine_parts.specs.declared.placing.Cause.{Cause}
+use Rattle.grant_machine_parts.specs.declared.placing.Placement.{Placement}
+use Rattle.grant_machine_parts.specs.declared.placing.Cause.TheVariants.{Window, Sent}
+use Rattle.grant_machine_parts.specs.declared.due_times.Periodic.{Periodic}
+use Rattle.grant_machine_parts.specs.Cutting.{due_at, end_of, Missed, Placed, Kept, verdict, placement_at, Ran, run_due_times, run_flow, due_before, Passed, pass, grants_of_kind, polls_of_kind, grants_of_flow, polls_of_flow, in_order, placement_for, Filled, fill, fill_span, fill_refusal, span_of, ack_of, table_after}
 use Rattle.grant_machine.specs.Steps.{step, step_on, refusal_of, accepted, cut_on}
 use Rattle.grant_machine.specs.Runs.{outputs_from, grants_from, Grant, grant_of, step_grants}
 use Rattle.grant_machine.specs.Laws.{IsServedAt, OtherGrantsAreDue}
-use Rattle.grant_machine.proofs.Members.{Has, has_at, has_either, has_pushed, has_map, has_filter, has_any, any_has, has_found, found_has}
-use Rattle.grant_machine.proofs.Windows.{placed_tells}
-use Rattle.grant_machine.proofs.Maps.{output_is, some_is, changed, KeepsId}
-use Rattle.grant_machine.proofs.Sids.{AllLeadBack, IsOwned, step_keeps, step_gives, found_before, at_same, flow_keeps_id, there, refusal_there, some_sid, unwrap_some, free_is_free}
+use Rattle.flow_state.proofs.Callers.{Has, has_at, has_either, has_pushed, has_map, has_filter, has_any, any_has, has_found, found_has}
+use Rattle.grant_machine_parts.proofs.Callers.{placed_tells}
+use Rattle.grant_machine.proofs.Maps.{output_is}
+use Rattle.flow_state.proofs.Callers.{some_is, changed, KeepsId}
+use Rattle.grant_machine.proofs.Sids.{AllLeadBack, IsOwned, step_keeps, step_gives}
+use Rattle.flow_state.proofs.Callers.{found_before, at_same, flow_keeps_id, there, refusal_there, some_sid, unwrap_some, free_is_free}
 use Rattle.grant_machine.proofs.Added.{find_pushed}
-use Rattle.grant_machine.proofs.Served.{has}
-use Rattle.grant_machine.proofs.Wells.{has_inserted, asked}
-use Rattle.grant_machine.proofs.Fillings.{requests_keep, grants_ask_well, pass_moves, moved_from, is_cut, fill_moves, flow_from}
+use Rattle.flow_state.proofs.Callers.{has}
+use Rattle.flow_state.proofs.Callers.{has_inserted, asked}
+use Rattle.grant_machine_parts.proofs.Callers.{requests_keep, grants_ask_well, pass_moves, moved_from, is_cut, fill_moves, flow_from}
 use Rattle.grant_machine.proofs.Reached.{At}
 use Rattle.grant_machine.proofs.Cuts.{IsCutStep, cut_of_grant}
 

@@ -1,11 +1,12 @@
 -- What holds of every list of commands.
-use Rattle.std.specs.Prelude.{◌≡◌, ◌≢◌, ◌⊎◌, ℕ, ◌+◌, ◌-◌, ◌<◌, ◌≤◌, ◌==◌, ◌&&◌, Bool, List, ◌++◌, length, Some, slice_get}
+use Rattle.std.specs.Prelude.{◌≡◌, ◌≢◌, ℕ, ◌+◌, ◌-◌, ◌<◌, ◌≤◌, ◌==◌, ◌&&◌, Bool, List, ◌++◌, length, Some, slice_get}
 use Rattle.std.specs.List.{filter, AllZip, AllByRecursion, Contains}
 use Rattle.std.specs.List.Sorted.{IsStrictlyIncreasing}
 use Rattle.flow_state.specs.declared.flow.FlowKind.{FlowKind}
 use Rattle.flow_state.specs.declared.flow.FlowKind.TheVariants.{BestEffort, Ugs, Poll}
 use Rattle.flow_state.specs.Limits.{due_time, last_sid}
 use Rattle.map_body.specs.declared.element.Element.{Element}
+use Rattle.map_body.specs.Sids.{everybody}
 use Rattle.map_body.specs.Body.{Body}
 use Rattle.map_body.specs.Layout.{IsBody, IsWritten}
 use Rattle.map_body.specs.Cell.{IsCell}
@@ -13,7 +14,8 @@ use Rattle.grant_machine.specs.declared.command.Command.{Command}
 use Rattle.grant_machine.specs.declared.command.Command.TheVariants as commands
 use Rattle.grant_machine.specs.declared.output.Output.{Output}
 use Rattle.grant_machine.specs.declared.output.Output.TheVariants as outputs
-use Rattle.grant_machine.specs.Placing.{Cause, Window, Sent}
+use Rattle.grant_machine_parts.specs.Filling.{IsUseFor}
+use Rattle.grant_machine_parts.specs.declared.placing.Cause.TheVariants.{Window, Sent}
 use Rattle.grant_machine.specs.Fits.{FitsCommand}
 use Rattle.grant_machine.specs.Runs.{outputs_of, Grant, grants_of}
 use Rattle.grant_machine.specs.Owner.{Owns, IsMapOf}
@@ -110,11 +112,6 @@ pub record IsOfFlow (cs : List Command) (g : Grant) (i : ℕ) : Type 0 where
 abbrev pub OtherGrantsAreDue : Type 0
 OtherGrantsAreDue = (cs : List Command) (k i : ℕ) (g : Grant) → slice_get (grants_of cs) k ≡ Some g → g.cause ≡ Window i → IsOfFlow cs g i
 
--- the use of what serves a request is a grant's, short or long (5, 6); at a due time it may be a poll's too (1)
-abbrev pub IsUseFor : Cause → ℕ → Type 0
-IsUseFor (Sent time) iuc = (iuc ≡ 5) ⊎ (iuc ≡ 6)
-IsUseFor (Window index) iuc = (iuc ≡ 1) ⊎ ((iuc ≡ 5) ⊎ (iuc ≡ 6))
-
 -- the grant is told: a MAP's body gives each of its minislots to its SID by one element, of a use for what it serves
 pub record IsTold (cs : List Command) (g : Grant) : Type 0 where
   pub place : ℕ
@@ -145,12 +142,12 @@ pub record IsTakenFrom (cs : List Command) (ch sid m : ℕ) : Type 0 where
   pub begun : grant.start ≤ m
   pub not_ended : m < grant.start + grant.size
 
--- what a MAP gives to one SID is part of a grant to it: MAPs give nothing else but to all modems (SID 0x3FFF)
+-- what a MAP gives to one SID is part of a grant to it: MAPs give nothing else but to every modem
 abbrev pub CellsAreGranted : Type 0
 CellsAreGranted =
     (cs : List Command) (k ch start len m : ℕ) (bytes : List ℕ) (map : Body) (e : Element)
     → IsMapAt cs k ch start len bytes → IsBody bytes map
-    → start ≤ m → IsCell map (m - start) e → e.sid ≢ 16383 → IsTakenFrom cs ch e.sid m
+    → start ≤ m → IsCell map (m - start) e → e.sid ≢ everybody → IsTakenFrom cs ch e.sid m
 
 -- one output a command, and those of a longer list begin with those of its beginning
 pub record OutputsGoOn : Type 0 where

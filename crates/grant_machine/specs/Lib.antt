@@ -1,13 +1,7 @@
-pub mod Placing
-pub mod Cutting
-pub mod Drawing
 pub mod Steps
 pub mod Runs
 pub mod Fits
 pub mod Owner
-pub mod Cells
-pub mod Filling
-pub mod Kept
-pub mod Lent
+pub mod CutRows
 pub mod Plans
 pub mod Laws

@@ -2,12 +2,13 @@
 use Rattle.std.specs.Prelude.{◌≡◌, ℕ, ◌+◌, ◌-◌, ◌≤◌, List, Some, slice_get}
 use Rattle.std.specs.List.{Contains}
 use Rattle.map_body.specs.declared.element.Element.{Element}
+use Rattle.map_body.specs.Iucs as iucs
 use Rattle.map_body.specs.Body.{Body}
 use Rattle.map_body.specs.Layout.{IsBody, IsWritten}
 use Rattle.map_body.specs.Rules.{NoNullBefore}
 use Rattle.map_body.specs.Cell.{IsCell}
 use Rattle.minislot_time.specs.Wire.{wire}
-use Rattle.flow_state.specs.Limits.{last_sid, last_time}
+use Rattle.flow_state.specs.Limits.{last_sid, last_time, most_minislots}
 use Rattle.grant_machine.specs.declared.output.Output.{Output}
 use Rattle.grant_machine.specs.declared.output.Output.TheVariants as outputs
 
@@ -34,11 +35,11 @@ pub record IsNullAt (map : Body) (offset : ℕ) : Type 0 where
   pub place : ℕ
   pub null : Element
   pub here_is : slice_get map.elements place ≡ Some null
-  pub is_null : null.iuc ≡ 7
+  pub is_null : null.iuc ≡ iucs.null
   pub first : NoNullBefore map.elements place
   pub offset_is : null.offset ≡ offset
 
--- the bytes are a MAP body as it is written: of this channel, with the low bits of its start, 1 to 4096 minislots long up to the Null
+-- the bytes are a MAP body as it is written: of this channel, with the low bits of its start, as long as a MAP may be up to the Null
 pub record IsMapOf (ch start len : ℕ) (bytes : List ℕ) : Type 0 where
   pub map : Body
   pub body : IsWritten bytes map
@@ -46,5 +47,5 @@ pub record IsMapOf (ch start len : ℕ) (bytes : List ℕ) : Type 0 where
   pub start_is : map.head.start ≡ wire start
   pub null : IsNullAt map len
   pub some : 1 ≤ len
-  pub most : len ≤ 4096
+  pub most : len ≤ most_minislots
   pub last : start + len ≤ last_time

@@ -6,9 +6,9 @@ use Rattle.map_body.specs.declared.element.Element.{Element}
 use Rattle.flow_state.specs.declared.channel.Channel.{Channel}
 use Rattle.flow_state.specs.Rows.{Table}
 use Rattle.grant_machine.specs.declared.cut.Filled.{Filled}
-use Rattle.grant_machine.specs.Cutting.{fill_span, in_order, still_waiting}
-use Rattle.grant_machine.specs.Drawing.{begins_at, null_element, pending_element}
-use Rattle.grant_machine.specs.Lent.{row_of, IsLent}
+use Rattle.grant_machine_parts.specs.Cutting.{fill_span, in_order, still_waiting}
+use Rattle.grant_machine_parts.specs.Drawing.{begins_at, null_element, pending_element}
+use Rattle.grant_machine_parts.specs.Lent.{row_of, IsLent}
 
 -- a table's MAP, filled, with its flows, its waiting requests and those by priority
 pub record IsFilledBy (t : Table) (span : Extent) (f : Filled) : Type 0 where

@@ -8,8 +8,8 @@ use Rattle.grant_machine.specs.declared.command.Command.{Command}
 use Rattle.grant_machine.specs.declared.command.Command.TheVariants as commands
 use Rattle.grant_machine.specs.declared.output.Output.{Output}
 use Rattle.grant_machine.specs.declared.output.Output.TheVariants as outputs
-use Rattle.grant_machine.specs.Cutting.{Filled, fill, fill_refusal, table_after}
-use Rattle.grant_machine.specs.Drawing.{bytes_of}
+use Rattle.grant_machine_parts.specs.Cutting.{Filled, fill, fill_refusal, table_after}
+use Rattle.grant_machine_parts.specs.Drawing.{bytes_of}
 
 -- an output, and the rows after it
 pub record Step : Type 0 where

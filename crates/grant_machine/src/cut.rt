@@ -4,33 +4,25 @@ ghost use Rattle.std.specs.Prelude.{◌≡◌, ℕ, ◌+◌, ◌≤◌, [], Some
 ghost use Rattle.std.specs.List.{AllByRecursion};
 ghost use Rattle.map_body.specs.Rules.{AreElements};
 ghost use Rattle.map_body.specs.Layout.{layout};
-ghost use Rattle.flow_state.specs.Limits.{last_time};
+ghost use Rattle.flow_state.specs.Limits.{last_time, most_minislots};
 ghost use Rattle.flow_state.specs.Rows.{Table, table_of, channel_at};
 ghost use Rattle.flow_state.specs.Changes.{with_cut_closed};
 ghost use Rattle.grant_machine.specs.declared.command.Command.TheVariants as commands;
-ghost use Rattle.grant_machine.specs.Cutting.{fill_span, fill_refusal, end_of};
-ghost use Rattle.grant_machine.specs.Drawing.{head_of};
+ghost use Rattle.grant_machine_parts.specs.Cutting.{fill_span, fill_refusal, end_of};
+ghost use Rattle.grant_machine_parts.specs.Drawing.{head_of};
 ghost use Rattle.grant_machine.specs.Steps.{step};
 ghost use Rattle.grant_machine.specs.Fits.{FitsCommand};
 ghost use Rattle.grant_machine.specs.Runs.{IsReached};
-ghost use Rattle.grant_machine.specs.Lent.{row_of, IsLent, IsUnicast, IsOfTable, IsOfKind, due_times_set, requests_taken};
+ghost use Rattle.grant_machine_parts.specs.Lent.{row_of, IsLent, IsUnicast};
+ghost use Rattle.grant_machine.specs.CutRows.{IsOfTable, IsOfKind, due_times_set, requests_taken};
 ghost use Rattle.grant_machine.specs.Plans.{IsFilledBy, elements_in};
 
-use crate::drawing;
 use crate::output::{MapBytes, Output};
-use crate::placing::Filling;
 use crate::rows::{copy_flows, copy_requests, set_due_times, take_granted};
-use crate::services::{Service, serve};
-use crate::waiting::{by_priority, place_requests};
-use flow_state::{Channel, ChannelRow, Flow, Flows, Refusal, Waiting};
+use flow_state::{Channel, ChannelRow, Flow, Flows, LAST_TIME, MOST_MINISLOTS, Refusal, Waiting};
+use grant_machine_parts::{Filling, Service, by_priority, drawing, place_requests, serve};
 use minislot_time::Slot;
 use std::alloc::{AllocError, Global};
-
-/// Times in commands are at most this.
-const LAST_TIME: u64 = 1 << 62;
-
-/// A MAP has at most so many minislots.
-const MOST_MINISLOTS: u16 = 4096;
 
 /// A channel's next MAP, filled; its flows with their next due times; its requests by arrival, and
 /// by priority.
@@ -87,7 +79,7 @@ fn fill(
 ) -> Result<Filled, AllocError>
     requires reached { IsReached flows.now }
     requires channel { (t : Table) → table_of flows.now ch ≡ Some t → t.row.channel ≡ channel.now }
-    requires short { len ≤ 4096 }
+    requires short { len ≤ most_minislots }
     requires early { start + len ≤ last_time }
     ensures { IfOk result (λ filled. (t : Table) → table_of flows.now ch ≡ Some t → IsFilledBy t (record { start = start; len = len }) filled) }
 {

@@ -61,7 +61,7 @@ pub fn shared_maps_are_one()
     ensures { SharedMapsAreOne }
 {}
 
-/// SIDs that are given are unicast ones, 1 to 8191.
+/// SIDs that are given are unicast ones.
 pub fn sids_are_unicast()
     ensures { SidsAreUnicast }
 {}

@@ -1,19 +1,13 @@
 //! The scheduler as a machine: commands in, outputs out.
 #![tactic(auto)]
 
-mod cells;
 mod command;
 mod cut;
-mod drawing;
-mod due_times;
 mod laws;
 mod machine;
 mod output;
-mod placing;
 mod refusals;
 mod rows;
-mod services;
-mod waiting;
 
 pub use command::Command;
 pub use laws::{

@@ -4,11 +4,11 @@ ghost use Rattle.std.specs.Prelude.{◌≡◌, IfOk};
 ghost use Rattle.std.specs.List.{AllByRecursion};
 ghost use Rattle.flow_state.specs.Limits.{due_time, due_index};
 ghost use Rattle.flow_state.specs.Rows.{table_of};
-ghost use Rattle.grant_machine.specs.Lent.{IsLent, flows_on, requests_on, due_times_set, requests_taken, IsOfKind};
+ghost use Rattle.grant_machine_parts.specs.Lent.{IsLent};
+ghost use Rattle.grant_machine.specs.CutRows.{flows_on, requests_on, due_times_set, requests_taken, IsOfKind};
 
-use crate::placing::Placement;
-use crate::waiting::is_granted;
 use flow_state::{Flow, Flows, Waiting};
+use grant_machine_parts::{Placement, is_granted};
 use std::alloc::{AllocError, Global};
 
 /// The flows of a channel, by SID.

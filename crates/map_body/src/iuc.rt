@@ -1,9 +1,10 @@
 ghost use Rattle.std.specs.Prelude.{◌≡◌, ◌^◌, ◌<◌, ◌≤◌, IfSome, IfNone};
+ghost use Rattle.map_body.specs.Iucs as iucs;
 
 use std::marker::Model;
 
-/// An interval usage code (IUC), of 4 bits (CM-SP-MULPIv3.1, MAP message). 15, an expansion element, can
-/// be told here and is refused by bodies.
+/// An interval usage code (IUC), of 4 bits (CM-SP-MULPIv3.1, MAP message): what the minislots of an
+/// interval are for. An expansion element's can be told here and is refused by bodies.
 #[derive(Clone, Copy, Debug, PartialEq, Eq, PartialOrd, Ord)]
 pub struct Iuc {
     number: u8,
@@ -22,6 +23,23 @@ impl Model for Iuc {
 }
 
 impl Iuc {
+    /// Request: of one modem, a poll, where the SID is its own; of all where it is everybody's.
+    pub const REQUEST: Iuc = Iuc { number: 1 };
+    /// REQ/Data.
+    pub const REQUEST_OR_DATA: Iuc = Iuc { number: 2 };
+    /// Initial Maintenance.
+    pub const INITIAL_MAINTENANCE: Iuc = Iuc { number: 3 };
+    /// Station Maintenance.
+    pub const STATION_MAINTENANCE: Iuc = Iuc { number: 4 };
+    /// Short Data Grant.
+    pub const SHORT_DATA_GRANT: Iuc = Iuc { number: 5 };
+    /// Long Data Grant.
+    pub const LONG_DATA_GRANT: Iuc = Iuc { number: 6 };
+    /// Null Information Element: its offset is where the last interval ends.
+    pub const NULL: Iuc = Iuc { number: 7 };
+    /// Expansion.
+    pub const EXPANSION: Iuc = Iuc { number: 15 };
+
     /// The code, unless it is 2^4 or more.
     pub fn new(number: u8) -> Option<Iuc>
         ensures found { IfSome result (λ iuc. (iuc ≡ number) × (number < 2 ^ 4)) }
@@ -40,5 +58,26 @@ impl Iuc {
         ensures below { result < 2 ^ 4 }
     {
         self.number
+    }
+
+    /// May a modem send a request in an interval of its SID, as at a poll?
+    pub fn lets_request(self) -> bool
+        ensures { result ≡ iucs.lets_request self }
+    {
+        self == Iuc::REQUEST
+    }
+
+    /// May a modem send data in an interval of its SID?
+    pub fn lets_transmit(self) -> bool
+        ensures { result ≡ iucs.lets_transmit self }
+    {
+        matches!(self, Iuc::SHORT_DATA_GRANT | Iuc::LONG_DATA_GRANT)
+    }
+
+    /// Does an element of the SID answer a request that waits, before the Null as granted, after it as pending?
+    pub fn answers_request(self) -> bool
+        ensures { result ≡ iucs.answers_request self }
+    {
+        matches!(self, Iuc::SHORT_DATA_GRANT | Iuc::LONG_DATA_GRANT)
     }
 }

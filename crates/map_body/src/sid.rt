@@ -2,8 +2,7 @@ ghost use Rattle.std.specs.Prelude.{◌≡◌, ◌^◌, ◌<◌, ◌≤◌, IfSo
 
 use std::marker::Model;
 
-/// A service identifier (SID), of 14 bits (CM-SP-MULPIv3.1, MAP message): 0 addresses no modem, 0x3FFF
-/// all of them.
+/// A service identifier (SID), of 14 bits (CM-SP-MULPIv3.1, MAP message).
 #[derive(Clone, Copy, Debug, PartialEq, Eq, PartialOrd, Ord)]
 pub struct Sid {
     number: u16,
@@ -22,6 +21,11 @@ impl Model for Sid {
 }
 
 impl Sid {
+    /// Addresses no modem.
+    pub const NOBODY: Sid = Sid { number: 0 };
+    /// Addresses every modem.
+    pub const EVERYBODY: Sid = Sid { number: 0x3FFF };
+
     /// The identifier, unless it is 2^14 or more.
     pub fn new(number: u16) -> Option<Sid>
         ensures found { IfSome result (λ sid. (sid ≡ number) × (number < 2 ^ 14)) }

@@ -4,7 +4,7 @@ use Rattle.minislot_time.specs.Wire.{IsNear}
 use Rattle.modem.proofs.Times.{near_once}
 use Rattle.map_body.specs.Body.{Body}
 use Rattle.map_body.specs.Cell.{IsCell}
-use Rattle.map_body.proofs.Readings.{one_body}
+use Rattle.map_body.proofs.Callers.{one_body}
 use Rattle.grant_machine.specs.declared.output.Output.{Output}
 use Rattle.grant_machine.specs.declared.output.Output.TheVariants.{Nothing, ChannelSet, Assigned, Map as MapOutput, Refused}
 use Rattle.grant_machine.specs.Owner.{Owns}

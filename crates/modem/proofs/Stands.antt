@@ -9,7 +9,7 @@ use Rattle.modem.specs.Ticks.{Ticks, Counts, SendsBy}
 use Rattle.minislot_time.specs.Wire.{IsNear}
 use Rattle.modem.proofs.Times.{near_once}
 use Rattle.map_body.specs.Body.{Body}
-use Rattle.map_body.proofs.Readings.{one_body}
+use Rattle.map_body.proofs.Callers.{one_body}
 use Rattle.std.proofs.lemmas.List.Folds.{list_any-append}
 use Rattle.modem.proofs.Parts.{no_true, both, one_of, left_true, right_true, and_intro, same_number, number_same}
 use Rattle.modem.proofs.Clocks.{clock_of-row, clock_of-with_ucd}

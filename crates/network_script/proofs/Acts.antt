@@ -8,22 +8,24 @@ use Rattle.map_release.specs.declared.numbered.Numbered.{Numbered}
 use Rattle.node.specs.declared.node.Node.{Ghosts}
 use Rattle.node.specs.View.{View, Standing}
 use Rattle.node.specs.View.Standing.{Running, Stopped}
-use Rattle.node.specs.Calls.{Cause, Course, Ends as NodeEnds, StoreFails}
+use Rattle.node.specs.Calls.{Cause, Course, Ends as NodeEnds, IsStop, MayGoOn, StopsLast, StoreFails}
+use Rattle.node.specs.Calls.Cause.{Receive}
 use Rattle.node.specs.Releases.{Releases as NodeReleases}
 use Rattle.node.specs.Step.{Outcome, nothing}
 use Rattle.proposer.specs.declared.fault.NodeFault.{NodeFault}
 use Rattle.proposer.specs.declared.fault.NodeFault.TheVariants as fault
-use Rattle.network_script.specs.declared.event.Answer.{Answer}
-use Rattle.network_script.specs.declared.event.Answer.TheVariants.{Sent, Released, Finished, Refused, Fault, Crashed}
-use Rattle.network_script.specs.declared.event.Refusal.{Refusal}
-use Rattle.network_script.specs.declared.event.Refusal.TheVariants.{NoLetter, NodeDown, NoNode}
-use Rattle.network_script.specs.declared.event.ReleasedOutput.{ReleasedOutput}
-use Rattle.network_script.specs.declared.seat.Seat.{Seat}
-use Rattle.network_script.specs.Seat.{CalledIn, ReleasedIn, RestartsWith, Shown, shown, stays_up, survives, crashed}
-use Rattle.network_script.specs.Seats.{Stands, Each, AreStandings, member, IsNumbered, IsHonest, AllHonest, IsUpAt, IsMissed}
+use Rattle.network_script_parts.specs.declared.event.Answer.{Answer}
+use Rattle.network_script_parts.specs.declared.event.Answer.TheVariants.{Sent, Released, Finished, Refused, Fault, Crashed}
+use Rattle.network_script_parts.specs.declared.event.Refusal.{Refusal}
+use Rattle.network_script_parts.specs.declared.event.Refusal.TheVariants.{NoLetter, NodeDown, NoNode}
+use Rattle.network_script_parts.specs.declared.event.ReleasedOutput.{ReleasedOutput}
+use Rattle.network_script_parts.specs.declared.seat.Seat.{Seat}
+use Rattle.network_script_parts.specs.Seat.{CalledIn, ReleasedIn, RestartsWith, Shown, shown, stays_up, survives, crashed}
+use Rattle.network_script.specs.Seats.{Each, AreStandings, IsNumbered, AllHonest, IsUpAt, IsMissed}
+use Rattle.network_script_parts.specs.Occupant.{Stands, member, IsHonest}
 use Rattle.network_script.specs.Release.{released_all}
 use Rattle.network_script.specs.World.{Written, released_by}
-use Rattle.network_script.specs.Next.{Asks, Comes, Ends, EndsInCrash, Fails, Releases, Starts, Restarts as WorldRestarts}
+use Rattle.network_script.specs.Next.{Asks, Comes, Ends, EndsInCrash, Fails, IsToldLast, Releases, Starts, Restarts as WorldRestarts}
 use Rattle.network_script.specs.Worlds.{Posted, Lost, Keeps, left}
 use Rattle.network_script.proofs.Places.{who_at, honest_at, each_length, each_at, each_set}
 
@@ -97,22 +99,37 @@ pub record CallOf {N : Type 0} {g : Ghosts N} (nodes : List Standing) (k : ℕ) 
   pub at : slice_get nodes k ≡ Some (Running view)
   pub after : Standing
   pub ends : NodeEnds (Course (length nodes) k view cause) view given after
+  pub order : StopsLast (length nodes) k view cause given
   pub stands : Stands mid (shown (stays_up given) after)
 
 -- a call of the node at seat k is one of node k in each written world
 pub called_at : {N : Type 0} {g : Ghosts N} (nodes : List Standing) (seats : List (Seat N g)) (k : ℕ) (seat mid new : Seat N g) (cause : Cause) (given : Result (List Letter) NodeFault)
     → AreStandings seats nodes → IsNumbered seats → IsUpAt seats k → seat ≡ get_or seats k seat
     → (IsHonest mid → CalledIn (g.who seat.node) (Stands seat) cause given (Stands mid))
+    → (IsHonest mid → (view : View) → Stands seat (Running view) → StopsLast (g.who seat.node).members (g.who seat.node).id view cause given)
     → new.node ≡ mid.node → AllHonest (slice_set seats k new)
     → CallOf nodes k cause given mid
-called_at {N} {g} nodes seats k seat mid new cause given each numbered up is called node all =
+called_at {N} {g} nodes seats k seat mid new cause given each numbered up is called ordered node all =
     let R : Seat N g → Standing → Type 0 = Stands in
     let r = seen_up seats nodes k seat each up.0 is (up.1 seat is) in
     let same : member seat ≡ (k, length nodes) = rw (each_length R seats nodes each) (who_at seats k seat up.0 is numbered) in
     let honest : IsHonest mid = subst (λ (n : N). IsTrue (g.honest n)) node (honest_at seats k new up.0 all) in
     let call = called honest r.0 r.2 in
     let there = subst (λ (m : ℕ × ℕ). NodeEnds (Course m.1 m.0 r.0 cause) r.0 given call.0) same call.1 in
-    record { view = r.0; at = r.1; after = call.0; ends = there; stands = call.2 }
+    let last = subst (λ (m : ℕ × ℕ). StopsLast m.1 m.0 r.0 cause given) same (ordered honest r.0 r.2) in
+    record { view = r.0; at = r.1; after = call.0; ends = there; order = last; stands = call.2 }
+
+-- nothing declines a letter
+pub receives_last : (members me : ℕ) (view : View) (l : Letter) (given : Result (List Letter) NodeFault) → StopsLast members me view (Receive l) given
+receives_last members me view l (Ok letters) = tt
+receives_last members me view l (Err told) = λ stop. tt
+
+-- what is told last of a call is told last in the world
+pub told_last : (members me : ℕ) (view : View) (cause : Cause) (given : Result (List Letter) NodeFault) (letters letters' : List Letter) (answer : Answer) → Posted given letters answer letters' → StopsLast members me view cause given → IsToldLast members me view cause answer
+told_last members me view cause (Ok sent) letters letters' (Sent n) posted order = tt
+told_last members me view cause (Ok sent) letters letters' Crashed posted order = tt
+told_last members me view cause (Err told) letters letters' (Fault shown_fault) posted order = subst (λ (f : NodeFault). IsStop f → MayGoOn members me view cause) (sym posted.0) order
+told_last members me view cause given letters letters' answer posted order = absurd posted
 
 -- and a release
 pub record ReleaseOf {N : Type 0} {g : Ghosts N} (nodes : List Standing) (k now : ℕ) (given : Result (List Numbered) NodeFault) (mid : Seat N g) : Type 0 where

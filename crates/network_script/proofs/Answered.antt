@@ -1,5 +1,5 @@
 -- Each event can be answered: the computed run of a script in which nothing fails is a run.
-use Rattle.std.proofs.Common.{◌≡◌, ◌⊎◌, inl, inr, ℕ, ◌+◌, ◌-◌, ◌*◌, ◌/◌, ◌%◌, ◌^◌, ◌<◌, ◌≤◌, max, nat_lt, nat_le, List, [], ◌++◌, length, refl, sym, ◌∙◌, ap, arith, append-nil, Option, Some, None, Result, Ok, Err, slice_get}
+use Rattle.std.proofs.Common.{◌≡◌, ◌⊎◌, inl, inr, ℕ, ◌+◌, ◌-◌, ◌*◌, ◌/◌, ◌%◌, ◌^◌, ◌<◌, ◌≤◌, max, nat_lt, nat_le, List, [], ◌++◌, length, if◌then◌else◌, refl, sym, ◌∙◌, ap, arith, append-nil, Option, Some, None, Result, Ok, Err, slice_get}
 use Rattle.std.proofs.lemmas.Bool.{cond_both, ltb-true, ltb-false, leb-true, leb-false}
 use Rattle.std.proofs.lemmas.Option.{slice_get_within}
 use Rattle.ballots.specs.Ballots.{IsBallotOf, IsLeastAbove, NoneAbove}
@@ -8,15 +8,22 @@ use Rattle.node.specs.View.{View, Standing, gapless}
 use Rattle.node.specs.View.Standing.{Running, Stopped}
 use Rattle.proposer.specs.declared.fault.NodeFault.{NodeFault as Fault}
 use Rattle.proposer.specs.declared.fault.NodeFault.TheVariants as fault
-use Rattle.node.specs.Step.{Outcome, receive, offer, limit, last_place, Leads}
-use Rattle.network_script.specs.declared.event.Event.TheVariants as event
-use Rattle.network_script.specs.declared.event.Answer.{Answer}
-use Rattle.network_script.specs.declared.event.Answer.TheVariants as answer
-use Rattle.network_script.specs.declared.event.Refusal.TheVariants as refusal
-use Rattle.network_script.specs.declared.event.Transmission.{Transmission}
-use Rattle.network_script.specs.World.{Receiver, Written}
-use Rattle.network_script.specs.Modems.{OfModem}
-use Rattle.network_script.specs.Next.{Fails, Ends, Asks, Restarts, Next}
+use Rattle.node.specs.Calls.{Cause, IsStop}
+use Rattle.node.specs.Calls.Cause.{Lead as AskedToLead, Offer as Offered}
+use Rattle.ballots.specs.Limits.{longest_value}
+use Rattle.node.specs.Step.{Outcome, receive, offer, limit, last_place, sends, to_all, Leads}
+use Rattle.proposer.specs.declared.role.Role.{Role}
+use Rattle.proposer.specs.declared.role.Role.TheVariants.{Idle, Preparing, Leading}
+use Rattle.ballots.specs.declared.letters.Note.TheVariants.{Accept}
+use Rattle.network_script_parts.specs.declared.event.Event.TheVariants as event
+use Rattle.network_script_parts.specs.declared.event.Answer.{Answer}
+use Rattle.network_script_parts.specs.declared.event.Answer.TheVariants as answer
+use Rattle.network_script_parts.specs.declared.event.Refusal.TheVariants as refusal
+use Rattle.network_script_parts.specs.declared.event.Transmission.{Transmission}
+use Rattle.network_script.specs.World.{Written}
+use Rattle.network_script_parts.specs.Receiver.{Receiver}
+use Rattle.network_script_parts.specs.Modems.{OfModem}
+use Rattle.network_script.specs.Next.{Fails, Ends, Asks, IsToldLast, Restarts, Next}
 use Rattle.network_script.specs.Plain as plain
 use Rattle.network_script.specs.Plain.{least_ballot, lead_at, lead, act, EachIsAnswered}
 
@@ -96,12 +103,37 @@ no_modems_so modems m Does none = rw none (refl, refl)
 same_world : (w : Written) (more : List Transmission) → more ≡ [] → w ≡ record w { modems = w.modems; transmissions = w.transmissions ++ more }
 same_world w more none = λ i. record w { transmissions = (sym (append-nil w.transmissions) ∙ ap (λ (ts : List Transmission). w.transmissions ++ ts) (sym none)) i }
 
+-- a call that is computed isn't told to lack memory or a store
+lead_told : (w : Written) (k : ℕ) (view : View) → IsToldLast (length w.nodes) k view AskedToLead (plain.ends w k view (lead (length w.nodes) k view)).0
+lead_told w k view =
+    cond_both (nat_le last_place (length (gapless view))) (Err fault.LogFull) (lead_at (length w.nodes) k view (least_ballot (limit view) k))
+    (λ course. IsToldLast (length w.nodes) k view AskedToLead (plain.ends w k view course).0)
+    (λ full stop. absurd stop) (λ room. tries (least_ballot (limit view) k))
+  where
+    tries : (o : Option ℕ) → IsToldLast (length w.nodes) k view AskedToLead (plain.ends w k view (lead_at (length w.nodes) k view o)).0
+    tries None = λ stop. absurd stop
+    tries (Some b) = tt
+
+offer_told : (w : Written) (k : ℕ) (view : View) (role : Role) (value : List ℕ) → view.role ≡ role → IsToldLast (length w.nodes) k view (Offered value) (plain.ends w k view (offer (length w.nodes) k view role value)).0
+offer_told w k view Idle value is = λ stop. absurd stop
+offer_told w k view (Preparing b q counted joined) value is = λ stop. absurd stop
+offer_told w k view (Leading b next) value is =
+    cond_both (nat_lt longest_value (length value)) (Err fault.ValueTooLong) (if nat_lt last_place next then Err fault.LogFull else Ok whole) Told
+    (λ long stop. absurd stop)
+    (λ short. cond_both (nat_lt last_place next) (Err fault.LogFull) (Ok whole) Told (λ full stop. absurd stop) (λ room. tt))
+  where
+    whole : Outcome
+    whole = sends (record view { role = Leading b (next + 1) }) (to_all (length w.nodes) k (Accept b next value))
+
+    Told : Result Outcome Fault → Type 0
+    Told course = IsToldLast (length w.nodes) k view (Offered value) (plain.ends w k view course).0
+
 pub each_is_answered : EachIsAnswered
 each_is_answered w (event.Lead k) few none =
     asks_so w _ _ (slice_get w.nodes k) (λ view here.
-    ends_so w k view (Leads (length w.nodes) k view) (lead (length w.nodes) k view) (lead_leads (length w.nodes) k view (let within : k < length w.nodes = slice_get_within w.nodes k (Running view) here in omega arith)))
+    (lead_told w k view, ends_so w k view (Leads (length w.nodes) k view) (lead (length w.nodes) k view) (lead_leads (length w.nodes) k view (let within : k < length w.nodes = slice_get_within w.nodes k (Running view) here in omega arith))))
 each_is_answered w (event.Offer k value) few none =
-    asks_so w _ _ (slice_get w.nodes k) (λ view here. ends_so w k view (λ course. course ≡ offer (length w.nodes) k view view.role value) (offer (length w.nodes) k view view.role value) refl)
+    asks_so w _ _ (slice_get w.nodes k) (λ view here. (offer_told w k view view.role value refl, ends_so w k view (λ course. course ≡ offer (length w.nodes) k view view.role value) (offer (length w.nodes) k view view.role value) refl))
 each_is_answered w (event.Deliver i) few none = takes_so (length w.nodes) w i (slice_get w.letters i) refl
 each_is_answered w (event.DeliverThenCrash i) few none = takes_then_crashes_so (length w.nodes) w i (slice_get w.letters i) refl
 each_is_answered w (event.Crash k) few none = asks_so w _ _ (slice_get w.nodes k) (λ view here. (refl, refl))

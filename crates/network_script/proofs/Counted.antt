@@ -4,11 +4,11 @@ use Rattle.std.proofs.lemmas.Bool.Decides.{eqb_tells}
 use Rattle.std.proofs.lemmas.Bool.{cases_lt}
 use Rattle.std.proofs.Math.Nat.{min-eq_left, min-eq_right}
 use Rattle.acceptor.specs.Faults.{HasRisen}
-use Rattle.network_script.specs.declared.event.Event.{Event}
-use Rattle.network_script.specs.declared.event.Event.TheVariants as event
-use Rattle.network_script.specs.declared.event.Answer.{Answer}
+use Rattle.network_script_parts.specs.declared.event.Event.{Event}
+use Rattle.network_script_parts.specs.declared.event.Event.TheVariants as event
+use Rattle.network_script_parts.specs.declared.event.Answer.{Answer}
 use Rattle.network_script.specs.Counts.{Counts, CountNext, CountRun, called_by, is_node, faults_of, FewFaults}
-use Rattle.network_script.specs.StoreFaults.{is_store_fault}
+use Rattle.network_script_parts.specs.StoreFaults.{is_store_fault}
 
 false_true : false ≡ true → ⊥
 false_true e = cc

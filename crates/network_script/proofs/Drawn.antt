@@ -16,8 +16,8 @@ use Rattle.flow_state.specs.Rows.{Rows, Table, is_table, table_of}
 use Rattle.grant_machine.specs.declared.command.Command.{Command}
 use Rattle.grant_machine.specs.declared.command.Command.TheVariants as commands
 use Rattle.grant_machine.specs.declared.output.Output.TheVariants as outputs
-use Rattle.grant_machine.specs.Cutting.{end_of, span_of, fill, fill_refusal}
-use Rattle.grant_machine.specs.Drawing.{head_of, elements_of, bytes_of}
+use Rattle.grant_machine_parts.specs.Cutting.{end_of, span_of, fill, fill_refusal}
+use Rattle.grant_machine_parts.specs.Drawing.{head_of, elements_of, bytes_of}
 use Rattle.grant_machine.specs.Steps.{step, step_on, refusal_of, accepted, cut_on, map_output}
 use Rattle.grant_machine.specs.Runs.{outputs_from, outputs_of}
 

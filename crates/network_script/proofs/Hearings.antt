@@ -12,15 +12,15 @@ use Rattle.modem.specs.Held.{Hearing, Held, StandsFor, unicast_sid}
 use Rattle.modem.specs.Hears.{Hears}
 use Rattle.modem.specs.Ticks.{Ticks}
 use Rattle.modem.specs.Owner.{IsTimely}
-use Rattle.network_script.specs.declared.event.Event.{Event}
-use Rattle.network_script.specs.declared.event.Event.TheVariants as event
-use Rattle.network_script.specs.declared.event.Answer.{Answer}
-use Rattle.network_script.specs.declared.event.Answer.TheVariants as answer
-use Rattle.network_script.specs.declared.event.Refusal.TheVariants as refusal
-use Rattle.network_script.specs.declared.event.ReleasedOutput.{ReleasedOutput}
-use Rattle.network_script.specs.declared.event.Transmission.{Transmission}
-use Rattle.network_script.specs.World.{Receiver}
-use Rattle.network_script.specs.Modems.{HearsOutput, Listens, Wants, ComesToKnown, ComesToUnknown, ComesTo, OfModem, ModemNext, sent_at}
+use Rattle.network_script_parts.specs.declared.event.Event.{Event}
+use Rattle.network_script_parts.specs.declared.event.Event.TheVariants as event
+use Rattle.network_script_parts.specs.declared.event.Answer.{Answer}
+use Rattle.network_script_parts.specs.declared.event.Answer.TheVariants as answer
+use Rattle.network_script_parts.specs.declared.event.Refusal.TheVariants as refusal
+use Rattle.network_script_parts.specs.declared.event.ReleasedOutput.{ReleasedOutput}
+use Rattle.network_script_parts.specs.declared.event.Transmission.{Transmission}
+use Rattle.network_script_parts.specs.Receiver.{Receiver}
+use Rattle.network_script_parts.specs.Modems.{HearsOutput, Listens, Wants, ComesToKnown, ComesToUnknown, ComesTo, OfModem, ModemNext, sent_at}
 use Rattle.network_script.proofs.Lists.{in_append, get_set, get_in}
 
 -- each output that was heard was released, and each MAP was heard near its start

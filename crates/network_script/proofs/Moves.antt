@@ -13,15 +13,15 @@ use Rattle.node.specs.View.Standing.{Running, Stopped}
 use Rattle.proposer.specs.declared.fault.NodeFault.{NodeFault as Fault}
 use Rattle.proposer.specs.declared.fault.NodeFault.TheVariants as fault
 use Rattle.node.specs.Step.{Outcome, nothing, is_heeded, is_sound, heed, receive, offer, Leads}
-use Rattle.network_script.specs.declared.event.Event.{Event}
-use Rattle.network_script.specs.declared.event.Event.TheVariants as event
-use Rattle.network_script.specs.declared.event.Answer.{Answer}
-use Rattle.network_script.specs.declared.event.Answer.TheVariants as answer
-use Rattle.network_script.specs.declared.event.ReleasedOutput.{ReleasedOutput}
+use Rattle.network_script_parts.specs.declared.event.Event.{Event}
+use Rattle.network_script_parts.specs.declared.event.Event.TheVariants as event
+use Rattle.network_script_parts.specs.declared.event.Answer.{Answer}
+use Rattle.network_script_parts.specs.declared.event.Answer.TheVariants as answer
+use Rattle.network_script_parts.specs.declared.event.ReleasedOutput.{ReleasedOutput}
 use Rattle.map_release.specs.Released.{numbered, has_ended}
 use Rattle.network_script.specs.Release.{released, released_all}
 use Rattle.network_script.specs.World.{Written, released_by}
-use Rattle.network_script.specs.Modems.{ModemNext, sent_at}
+use Rattle.network_script_parts.specs.Modems.{ModemNext, sent_at}
 use Rattle.network_script.specs.Next.{Fails, Ends, EndsInCrash, Releases, Asks, Starts, Restarts, Comes, OnModems, Next}
 use Rattle.network_script.proofs.Invariant.{IsProposed, WriteOk, UpOk, DownOk, LetterOk, Invariant}
 use Rattle.network_script.proofs.Lists.{in_left, in_append, in_filter, get_in}
@@ -214,9 +214,9 @@ module _ (members : ℕ) (w : Written) (inv : Invariant members w.history w.lett
 
 pub next_moves : (members : ℕ) (w : Written) → Invariant members w.history w.letters w.nodes → (happens : Event) (told : Answer) (w' : Written) → Next members w happens told w' → Moved members w happens told w'
 next_moves members w inv (event.Lead k) told w' goes =
-    asks members w inv (event.Lead k) k _ told w' (λ view here call. ends members w inv (event.Lead k) k view here (Leads members k view) (leads members w inv (event.Lead k) k view here) told w' call) (slice_get w.nodes k) refl goes
+    asks members w inv (event.Lead k) k _ told w' (λ view here call. ends members w inv (event.Lead k) k view here (Leads members k view) (leads members w inv (event.Lead k) k view here) told w' call.1) (slice_get w.nodes k) refl goes
 next_moves members w inv (event.Offer k value) told w' goes =
-    asks members w inv (event.Offer k value) k _ told w' (λ view here call. ends members w inv (event.Offer k value) k view here (λ course. course ≡ offer members k view view.role value) (offers members w inv (event.Offer k value) k view here value) told w' call) (slice_get w.nodes k) refl goes
+    asks members w inv (event.Offer k value) k _ told w' (λ view here call. ends members w inv (event.Offer k value) k view here (λ course. course ≡ offer members k view view.role value) (offers members w inv (event.Offer k value) k view here value) told w' call.1) (slice_get w.nodes k) refl goes
 next_moves members w inv (event.Deliver i) told w' goes =
     comes members w inv (event.Deliver i) i _ told w' (λ l view sent_it here call. ends members w inv (event.Deliver i) l.to view here (λ course. course ≡ Ok (receive members l.to view l)) (receives members w inv (event.Deliver i) l.to view here l sent_it) told w' call) (slice_get w.letters i) refl goes
 next_moves members w inv (event.DeliverThenCrash i) told w' goes =

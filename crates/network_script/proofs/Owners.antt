@@ -19,12 +19,13 @@ use Rattle.modem.specs.Held.{Hearing, Gives, WasAssigned, HeldBy, Held, StandsFo
 use Rattle.modem.specs.Hears.{Hears}
 use Rattle.modem.specs.Ticks.{Ticks}
 use Rattle.modem.specs.Owner.{IsTimely}
-use Rattle.network_script.specs.declared.event.Event.{Event}
-use Rattle.network_script.specs.declared.event.Answer.{Answer}
-use Rattle.network_script.specs.declared.event.ReleasedOutput.{ReleasedOutput}
-use Rattle.network_script.specs.declared.event.Transmission.{Transmission}
-use Rattle.network_script.specs.World.{Receiver, Written, new_receiver, opening}
-use Rattle.network_script.specs.Modems.{sent_at}
+use Rattle.network_script_parts.specs.declared.event.Event.{Event}
+use Rattle.network_script_parts.specs.declared.event.Answer.{Answer}
+use Rattle.network_script_parts.specs.declared.event.ReleasedOutput.{ReleasedOutput}
+use Rattle.network_script_parts.specs.declared.event.Transmission.{Transmission}
+use Rattle.network_script.specs.World.{Written, opening}
+use Rattle.network_script_parts.specs.Receiver.{Receiver, new_receiver}
+use Rattle.network_script_parts.specs.Modems.{sent_at}
 use Rattle.network_script.specs.Next.{Goes, Run}
 use Rattle.network_script.specs.Headline.{OfEveryRun, WithSchedule, HeldIsOwned, OwnersAreOne, SentIsHeld}
 use Rattle.network_script.proofs.Drawn.{is_drawn}

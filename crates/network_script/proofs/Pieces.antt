@@ -4,8 +4,8 @@ use Rattle.std.proofs.lemmas.List.{take_more, length-replicate}
 use Rattle.acceptor.specs.Content.{no_content}
 use Rattle.node.specs.View.{started}
 use Rattle.node.specs.View.Standing.{Running}
-use Rattle.network_script.specs.declared.event.Event.{Event}
-use Rattle.network_script.specs.declared.event.Answer.{Answer}
+use Rattle.network_script_parts.specs.declared.event.Event.{Event}
+use Rattle.network_script_parts.specs.declared.event.Answer.{Answer}
 use Rattle.network_script.specs.World.{Written, opening}
 use Rattle.network_script.specs.Next.{Next, Goes, Run}
 

@@ -1,5 +1,5 @@
 -- A node at its place in the world.
-use Rattle.std.proofs.Common.{◌≡◌, ◌<◌, ℕ, zero, suc, List, [], ◌∷◌, ◌++◌, Some, map, length, set, get_or, slice_get, slice_set, refl, sym, ap, ◌∙◌, subst, arith, append_assoc, replicate, true}
+use Rattle.std.proofs.Common.{◌≡◌, ◌<◌, ℕ, Bool, zero, suc, List, [], ◌∷◌, ◌++◌, Some, map, length, set, get_or, slice_get, slice_set, refl, sym, ap, ◌∙◌, subst, arith, append_assoc, replicate, true, IsTrue}
 use Rattle.std.specs.List.{range_with_len}
 use Rattle.std.specs.Prelude.{All}
 use Rattle.std.proofs.lemmas.List.{map-set, set-get_or, set-set, get_or-map, length-set, length-map, get_or-set_same, map_push}
@@ -10,9 +10,10 @@ use Rattle.node.specs.declared.node.Node.{Ghosts}
 use Rattle.node.specs.View.{Standing, started}
 use Rattle.node.specs.View.Standing.{Running}
 use Rattle.acceptor.specs.Content.{no_content}
-use Rattle.network_script.specs.declared.seat.Seat.{Seat}
-use Rattle.network_script.specs.Seat.{SameMember}
-use Rattle.network_script.specs.Seats.{Stands, member, node_of, Each, AreStandings, IsNumbered, IsHonest, AllHonest}
+use Rattle.network_script_parts.specs.declared.seat.Seat.{Seat}
+use Rattle.network_script_parts.specs.Seat.{SameMember, Shown}
+use Rattle.network_script.specs.Seats.{Each, AreStandings, IsNumbered, AllHonest}
+use Rattle.network_script_parts.specs.Occupant.{Stands, member, node_of, IsHonest, is_up}
 
 -- what is there stays there, if it is written again
 pub set_same : {A : Type 0} (xs : List A) (k : ℕ) (x : A) → x ≡ get_or xs k x → set xs k x ≡ xs
@@ -78,14 +79,16 @@ all_alike {A} f b (x ∷ xs) all =
 abbrev pub fresh_standing : Standing
 fresh_standing = Running (started no_content)
 
--- fresh nodes stand at the opening
-pub opened_stand : {N : Type 0} {g : Ghosts N} (seats : List (Seat N g)) → All (λ (node : N). g.stands node fresh_standing) (map node_of seats) → All (λ (seat : Seat N g). seat.up ≡ true) seats → AreStandings seats (replicate (length seats) fresh_standing)
-opened_stand {N} {g} [] fresh up = tt
-opened_stand {N} {g} (seat ∷ seats) fresh up =
-    let F = λ (node : N). g.stands node fresh_standing in
-    let U = λ (s : Seat N g). s.up ≡ true in
-    let is_up : seat.up ≡ true = All-head U seat seats up in
-    (rw is_up (All-head F seat.node (map node_of seats) fresh, started no_content, refl), opened_stand seats (All-tail F seat.node (map node_of seats) fresh) (All-tail U seat seats up))
+-- fresh nodes whose records are honest stand at the opening
+pub opened_stand : {N : Type 0} {g : Ghosts N} (seats : List (Seat N g)) → All (λ (node : N). IsTrue (g.honest node) → g.stands node fresh_standing) (map node_of seats) → All (λ (seat : Seat N g). is_up seat ≡ true) seats → AllHonest seats → AreStandings seats (replicate (length seats) fresh_standing)
+opened_stand {N} {g} [] fresh up honest = tt
+opened_stand {N} {g} (seat ∷ seats) fresh up honest =
+    let F = λ (node : N). IsTrue (g.honest node) → g.stands node fresh_standing in
+    let U = λ (s : Seat N g). is_up s ≡ true in
+    let H : Seat N g → Type 0 = IsHonest in
+    let is : is_up seat ≡ true = All-head U seat seats up in
+    let stands = All-head F (node_of seat) (map node_of seats) fresh (All-head H seat seats honest) in
+    (subst (λ (b : Bool). Shown b (g.stands (node_of seat)) fresh_standing) (sym is) (stands, started no_content, refl), opened_stand seats (All-tail F (node_of seat) (map node_of seats) fresh) (All-tail U seat seats up) (All-tail H seat seats honest))
 
 -- lists that go together are as long
 pub each_length : {A B : Type 0} (R : A → B → Type 0) (xs : List A) (ys : List B) → Each R xs ys → length ys ≡ length xs

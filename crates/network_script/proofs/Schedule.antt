@@ -14,8 +14,8 @@ use Rattle.command_log.specs.Values.{outputs_of_values}
 use Rattle.node.specs.View.{gapless}
 use Rattle.node.specs.View.Standing.{Running}
 use Rattle.map_release.specs.declared.numbered.Numbered.{Numbered}
-use Rattle.network_script.specs.declared.event.Event.{Event}
-use Rattle.network_script.specs.declared.event.Answer.{Answer}
+use Rattle.network_script_parts.specs.declared.event.Event.{Event}
+use Rattle.network_script_parts.specs.declared.event.Answer.{Answer}
 use Rattle.network_script.specs.World.{Written}
 use Rattle.network_script.specs.Next.{Run}
 use Rattle.network_script.specs.Headline.{OfEveryRun, WithSchedule, IsBeginning, IsSchedule, HasOneSchedule, GaplessIsBeginning, ReleasedIsOutput, IsReleasedMap, MapsAreOne, CoversOnce}

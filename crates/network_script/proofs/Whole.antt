@@ -1,8 +1,8 @@
 -- The headline, from its parts.
 use Rattle.ballots.proofs.Callers.{agreement}
 use Rattle.command_log.specs.Values.{Owner}
-use Rattle.grant_machine.proofs.Maps.{maps_are_disjoint}
-use Rattle.grant_machine.proofs.Schedules as schedules
+use Rattle.grant_machine.proofs.Callers.{maps_are_disjoint}
+use Rattle.grant_machine.proofs.Callers as schedules
 use Rattle.modem.proofs.Stands.{Hears-stands, Ticks-stands}
 use Rattle.modem.proofs.Transmits.{Ticks-held}
 use Rattle.network_script.specs.Headline.{OfEveryRun, WithSchedule, HeldIsOwned, OwnersAreOne, HoldersAreOne, SentIsHeld, SentByOwner, Headline}

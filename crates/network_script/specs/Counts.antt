@@ -2,11 +2,13 @@
 use Rattle.std.specs.Prelude.{◌≡◌, ◌≤◌, ◌+◌, ◌-◌, ◌^◌, ◌⊎◌, ℕ, List, [], ◌∷◌, Option, Some, None, Bool, true, false, map, slice_get, if◌then◌else◌, ◌==◌, ◌&&◌}
 use Rattle.acceptor.specs.Faults.{HasRisen}
 use Rattle.node.specs.declared.node.Node.{Ghosts}
-use Rattle.network_script.specs.declared.event.Event.{Event}
-use Rattle.network_script.specs.declared.event.Event.TheVariants as event
-use Rattle.network_script.specs.declared.event.Answer.{Answer}
+use Rattle.network_script_parts.specs.declared.event.Event.{Event}
+use Rattle.network_script_parts.specs.declared.event.Event.TheVariants as event
+use Rattle.network_script_parts.specs.declared.event.Answer.{Answer}
 use Rattle.network_script.specs.declared.world.World.{World}
-use Rattle.network_script.specs.StoreFaults.{is_store_fault}
+use Rattle.network_script_parts.specs.Occupant.{who_of}
+use Rattle.network_script.specs.Worlds.{seats_of, letters_of}
+use Rattle.network_script_parts.specs.StoreFaults.{is_store_fault}
 
 -- each node's count of failures, and whom each letter is to
 pub record Counts : Type 0 where
@@ -15,8 +17,8 @@ pub record Counts : Type 0 where
 
 abbrev pub counts : {N : Type 0} {g : Ghosts N} → World N g → Counts
 counts {N} {g} world = record {
-  failures = map (λ seat. (g.who seat.node).failures) world.seats.items;
-  addressees = map (λ letter. letter.to) world.letters.items;
+  failures = map (λ seat. (who_of seat).failures) (seats_of world);
+  addressees = map (λ letter. letter.to) (letters_of world);
 }
 
 -- the node that an event is of, if it is of one

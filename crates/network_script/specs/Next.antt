@@ -6,17 +6,18 @@ use Rattle.node.specs.View.{View, Standing, started}
 use Rattle.node.specs.View.Standing.{Running, Stopped}
 use Rattle.proposer.specs.declared.fault.NodeFault.{NodeFault}
 use Rattle.proposer.specs.declared.fault.NodeFault.TheVariants as fault
-use Rattle.node.specs.Calls.{Course, IsStop}
+use Rattle.node.specs.Calls.{Cause, Course, IsStop, MayGoOn}
 use Rattle.node.specs.Calls.Cause.{Lead as AskedToLead, Offer as Offered, Receive as Received}
 use Rattle.node.specs.Step.{Outcome, nothing}
-use Rattle.network_script.specs.declared.event.Event.{Event}
-use Rattle.network_script.specs.declared.event.Event.TheVariants.{Lead, Offer, Deliver, DeliverThenCrash, Crash, Restart, Release, Hear, Want, Tick}
-use Rattle.network_script.specs.declared.event.Answer.{Answer}
-use Rattle.network_script.specs.declared.event.Answer.TheVariants.{Sent, Finished, Released, Refused, Fault, Crashed}
-use Rattle.network_script.specs.declared.event.Refusal.TheVariants.{NoLetter, NodeDown, NodeUp, NoNode}
+use Rattle.network_script_parts.specs.declared.event.Event.{Event}
+use Rattle.network_script_parts.specs.declared.event.Event.TheVariants.{Lead, Offer, Deliver, DeliverThenCrash, Crash, Restart, Release, Hear, Want, Tick}
+use Rattle.network_script_parts.specs.declared.event.Answer.{Answer}
+use Rattle.network_script_parts.specs.declared.event.Answer.TheVariants.{Sent, Finished, Released, Refused, Fault, Crashed}
+use Rattle.network_script_parts.specs.declared.event.Refusal.TheVariants.{NoLetter, NodeDown, NodeUp, NoNode}
 use Rattle.network_script.specs.Release.{released, released_all}
-use Rattle.network_script.specs.World.{Written, Receiver, with_node, whole, lost, released_by, opening}
-use Rattle.network_script.specs.Modems.{ModemNext, sent_at}
+use Rattle.network_script.specs.World.{Written, with_node, whole, lost, released_by, opening}
+use Rattle.network_script_parts.specs.Receiver.{Receiver}
+use Rattle.network_script_parts.specs.Modems.{ModemNext, sent_at}
 
 -- the event is answered so, and nothing changes
 abbrev pub Unmoved : Written → Answer → Answer → Written → Type 0
@@ -43,6 +44,15 @@ abbrev pub EndsInCrash : Written → ℕ → View → (Result Outcome NodeFault 
 EndsInCrash w k view IsCourse Finished w' = (o : Outcome) × IsCourse (Ok o) × (w' ≡ lost w k o)
 EndsInCrash w k view IsCourse (Fault fault) w' = Fails w k view IsCourse fault w'
 EndsInCrash w k view IsCourse answer w' = ⊥
+
+-- want of memory and a store that failed are told last: only where nothing that node me knows without its records declines the call
+abbrev pub IsToldLast : ℕ → ℕ → View → Cause → Answer → Type 0
+IsToldLast members me view cause (Fault fault) = IsStop fault → MayGoOn members me view cause
+IsToldLast members me view cause answer = Unit {0}
+
+-- node k, which was up with this view, is asked so, and its letters are sent
+abbrev pub Calls : ℕ → Written → ℕ → Cause → View → Answer → Written → Type 0
+Calls members w k cause view answer w' = IsToldLast members k view cause answer × Ends w k view (Course members k view cause) answer w'
 
 -- node k releases, or there is no room for what it released, which is lost, and the node crashes, or it fails, having written nothing
 abbrev pub Releases : Written → ℕ → ℕ → View → Answer → Written → Type 0
@@ -90,9 +100,8 @@ OnModems w event answer w' =
 
 -- in this world of so many members the event may be answered so, and leave that world
 abbrev pub Next : ℕ → Written → Event → Answer → Written → Type 0
-Next members w (Lead k) answer w' = Asks w (slice_get w.nodes k) (λ view. Ends w k view (Course members k view AskedToLead)) answer w'
-Next members w (Offer k value) answer w' =
-    Asks w (slice_get w.nodes k) (λ view. Ends w k view (Course members k view (Offered value))) answer w'
+Next members w (Lead k) answer w' = Asks w (slice_get w.nodes k) (Calls members w k AskedToLead) answer w'
+Next members w (Offer k value) answer w' = Asks w (slice_get w.nodes k) (Calls members w k (Offered value)) answer w'
 Next members w (Deliver i) answer w' =
     Comes w (slice_get w.letters i) (λ l view. Ends w l.to view (Course members l.to view (Received l))) answer w'
 Next members w (DeliverThenCrash i) answer w' =

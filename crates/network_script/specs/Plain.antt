@@ -6,11 +6,11 @@ use Rattle.node.specs.View.Standing.{Running, Stopped}
 use Rattle.proposer.specs.declared.fault.NodeFault.{NodeFault as Fault}
 use Rattle.proposer.specs.declared.fault.NodeFault.TheVariants as fault
 use Rattle.node.specs.Step.{Outcome, receive, offer, limit, lead_with, last_place}
-use Rattle.network_script.specs.declared.event.Event.{Event}
-use Rattle.network_script.specs.declared.event.Event.TheVariants.{Lead, Offer, Deliver, DeliverThenCrash, Crash, Restart, Release}
-use Rattle.network_script.specs.declared.event.Answer.{Answer}
-use Rattle.network_script.specs.declared.event.Answer.TheVariants as answer
-use Rattle.network_script.specs.declared.event.Refusal.TheVariants.{NoLetter, NodeDown, NodeUp, NoNode, NoModem}
+use Rattle.network_script_parts.specs.declared.event.Event.{Event}
+use Rattle.network_script_parts.specs.declared.event.Event.TheVariants.{Lead, Offer, Deliver, DeliverThenCrash, Crash, Restart, Release}
+use Rattle.network_script_parts.specs.declared.event.Answer.{Answer}
+use Rattle.network_script_parts.specs.declared.event.Answer.TheVariants as answer
+use Rattle.network_script_parts.specs.declared.event.Refusal.TheVariants.{NoLetter, NodeDown, NodeUp, NoNode, NoModem}
 use Rattle.network_script.specs.Release.{released, released_all}
 use Rattle.network_script.specs.World.{Written, with_node, whole, lost, released_by}
 use Rattle.network_script.specs.Next.{Next}

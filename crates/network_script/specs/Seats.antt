@@ -1,26 +1,14 @@
 -- The nodes of a world, as a list.
-use Rattle.std.specs.Prelude.{◌≡◌, ◌<◌, ◌≤◌, ℕ, List, [], ◌∷◌, Option, Some, true, IsTrue, map, length, All, slice_get, slice_index_or}
+use Rattle.std.specs.Prelude.{◌≡◌, ◌<◌, ◌≤◌, ℕ, List, [], ◌∷◌, Option, Some, true, map, length, All, slice_get, slice_index_or}
 use Rattle.std.specs.List.{range_with_len}
 use Rattle.node.specs.declared.node.Node.{Ghosts}
 use Rattle.acceptor.specs.Content.{Content, Write}
 use Rattle.node.specs.View.{Standing}
 use Rattle.node.specs.View.Standing.{Stopped}
-use Rattle.network_script.specs.declared.event.Refusal.{Refusal}
-use Rattle.network_script.specs.declared.event.Refusal.TheVariants.{NodeDown, NoNode}
-use Rattle.network_script.specs.declared.seat.Seat.{Seat}
-use Rattle.network_script.specs.Seat.{Shown}
-
--- a node may stand so in the world
-abbrev pub Stands : {N : Type 0} {g : Ghosts N} → Seat N g → Standing → Type 0
-Stands {N} {g} seat s = Shown seat.up (g.stands seat.node) s
-
--- who a node says it is: its number, and of how many
-abbrev pub member : {N : Type 0} {g : Ghosts N} → Seat N g → ℕ × ℕ
-member {N} {g} seat = ((g.who seat.node).id, (g.who seat.node).members)
-
--- the records of a node have returned what they committed
-abbrev pub IsHonest : {N : Type 0} {g : Ghosts N} → Seat N g → Type 0
-IsHonest {N} {g} seat = IsTrue (g.honest seat.node)
+use Rattle.network_script_parts.specs.declared.event.Refusal.{Refusal}
+use Rattle.network_script_parts.specs.declared.event.Refusal.TheVariants.{NodeDown, NoNode}
+use Rattle.network_script_parts.specs.declared.seat.Seat.{Seat}
+use Rattle.network_script_parts.specs.Occupant.{Stands, IsHonest, is_up, member, node_of}
 
 -- two lists go together, place by place
 abbrev pub Each : {A B : Type 0} → (A → B → Type 0) → List A → List B → Type 0
@@ -42,14 +30,11 @@ AllHonest {N} {g} seats = All (IsHonest {N = N} {g = g}) seats
 
 -- the node at place k is up
 abbrev pub IsUpAt : {N : Type 0} {g : Ghosts N} → List (Seat N g) → ℕ → Type 0
-IsUpAt {N} {g} seats k = (k < length seats) × ((seat : Seat N g) → seat ≡ slice_index_or seats k seat → seat.up ≡ true)
-
-abbrev pub node_of : {N : Type 0} {g : Ghosts N} → Seat N g → N
-node_of {N} {g} seat = seat.node
+IsUpAt {N} {g} seats k = (k < length seats) × ((seat : Seat N g) → seat ≡ slice_index_or seats k seat → is_up seat ≡ true)
 
 -- a seat for each node, in order, and each is up
 abbrev pub AreSeated : {N : Type 0} {g : Ghosts N} → List N → List (Seat N g) → Type 0
-AreSeated {N} {g} nodes seats = (map (node_of {N = N} {g = g}) seats ≡ nodes) × All (λ seat. seat.up ≡ true) seats
+AreSeated {N} {g} nodes seats = (map (node_of {N = N} {g = g}) seats ≡ nodes) × All (λ seat. is_up seat ≡ true) seats
 
 -- node k is there and crashed
 abbrev pub IsDownAt : List Standing → ℕ → Type 0

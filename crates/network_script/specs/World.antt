@@ -6,16 +6,10 @@ use Rattle.acceptor.specs.Content.{no_content, record_write}
 use Rattle.node.specs.View.{Standing, started}
 use Rattle.node.specs.View.Standing.{Running, Stopped}
 use Rattle.node.specs.Step.{Outcome}
-use Rattle.modem.specs.State.{State, new_modem}
-use Rattle.modem.specs.Held.{Hearing}
 use Rattle.map_release.specs.declared.numbered.Numbered.{Numbered}
-use Rattle.network_script.specs.declared.event.ReleasedOutput.{ReleasedOutput}
-use Rattle.network_script.specs.declared.event.Transmission.{Transmission}
-
--- a modem, and what it has heard, the newest first
-pub record Receiver : Type 0 where
-  pub state : State
-  pub heard : List Hearing
+use Rattle.network_script_parts.specs.declared.event.ReleasedOutput.{ReleasedOutput}
+use Rattle.network_script_parts.specs.declared.event.Transmission.{Transmission}
+use Rattle.network_script_parts.specs.Receiver.{Receiver, new_receiver}
 
 pub record Written : Type 0 where
   -- where each node stands, by its number
@@ -47,10 +41,6 @@ lost w k o = record w { nodes = slice_set w.nodes k (Stopped o.view.content None
 abbrev pub released_by : ℕ → List Numbered → List ReleasedOutput
 released_by k [] = []
 released_by k (x ∷ xs) = record { node = k; numbered = x } ∷ released_by k xs
-
--- a modem that has heard nothing
-abbrev pub new_receiver : ℕ → Receiver
-new_receiver id = record { state = new_modem id; heard = [] }
 
 -- so many fresh nodes, modems with these ids, and nothing sent, released or voted for
 abbrev pub opening : ℕ → List ℕ → Written

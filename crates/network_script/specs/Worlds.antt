@@ -1,48 +1,76 @@
 -- Which written worlds a world stands for.
-use Rattle.std.specs.Prelude.{◌≡◌, ◌≢◌, ◌++◌, ℕ, List, [], map, All, length, Result, Ok, Err, false}
-use Rattle.std.specs.List.{range_with_len}
+use Rattle.std.specs.Prelude.{◌≡◌, ◌≢◌, ◌++◌, ℕ, List, [], length, Result, Ok, Err}
 use Rattle.ballots.specs.declared.letters.Letter.{Letter}
 use Rattle.ballots.specs.Voting.{Entry}
-use Rattle.acceptor.specs.Content.{no_content}
 use Rattle.map_release.specs.declared.numbered.Numbered.{Numbered}
 use Rattle.node.specs.declared.node.Node.{Ghosts}
-use Rattle.node.specs.View.{Standing, started}
-use Rattle.node.specs.View.Standing.{Running}
-use Rattle.node.specs.Calls.{Who}
+use Rattle.node.specs.View.{Standing}
 use Rattle.proposer.specs.declared.fault.NodeFault.{NodeFault}
-use Rattle.network_script.specs.declared.event.Event.{Event}
-use Rattle.network_script.specs.declared.event.Answer.{Answer}
-use Rattle.network_script.specs.declared.event.Answer.TheVariants.{Sent, Finished, Released, Fault, Crashed}
-use Rattle.network_script.specs.declared.event.ReleasedOutput.{ReleasedOutput}
+use Rattle.network_script_parts.specs.declared.event.Event.{Event}
+use Rattle.network_script_parts.specs.declared.event.Answer.{Answer}
+use Rattle.network_script_parts.specs.declared.event.Answer.TheVariants.{Sent, Finished, Released, Fault, Crashed}
+use Rattle.network_script_parts.specs.declared.event.ReleasedOutput.{ReleasedOutput}
+use Rattle.network_script_parts.specs.declared.event.Transmission.{Transmission}
+use Rattle.network_script_parts.specs.declared.receivers.Receivers.{Receivers}
+use Rattle.network_script_parts.specs.declared.seat.Seat.{Seat}
 use Rattle.network_script.specs.declared.world.World.{World}
-use Rattle.network_script.specs.Seat.{crashed}
-use Rattle.network_script.specs.Seats.{AreStandings}
-use Rattle.network_script.specs.World.{Written, Receiver, released_by}
-use Rattle.network_script.specs.Receiving.{Hold}
+use Rattle.network_script_parts.specs.Seat.{crashed}
+use Rattle.network_script.specs.Seats.{AllHonest, AreStandings}
+use Rattle.network_script.specs.World.{Written, released_by}
+use Rattle.network_script_parts.specs.Receiver.{Receiver}
+use Rattle.network_script_parts.specs.Receiving.{Hold, sent_by}
 use Rattle.network_script.specs.Next.{Next}
+
+-- the nodes of a world, each in its seat, by number
+abbrev pub seats_of : {N : Type 0} {g : Ghosts N} → World N g → List (Seat N g)
+seats_of world = world.seats.items
+
+-- every letter that was ever sent, in order
+abbrev pub letters_of : {N : Type 0} {g : Ghosts N} → World N g → List Letter
+letters_of world = world.letters.items
+
+-- every output that a node released, in order
+abbrev pub outputs_of : {N : Type 0} {g : Ghosts N} → World N g → List ReleasedOutput
+outputs_of world = world.outputs.items
+
+-- its modems, and what they sent
+abbrev pub receivers_of : {N : Type 0} {g : Ghosts N} → World N g → Receivers
+receivers_of world = world.receivers
+
+-- what its modems sent, in order
+abbrev pub transmissions_of : {N : Type 0} {g : Ghosts N} → World N g → List Transmission
+transmissions_of world = sent_by (receivers_of world)
+
+-- the records of each of its nodes have returned what they committed
+abbrev pub AreHonest : {N : Type 0} {g : Ghosts N} → World N g → Type 0
+AreHonest world = AllHonest (seats_of world)
+
+-- how many nodes it has
+abbrev pub node_count : {N : Type 0} {g : Ghosts N} → World N g → ℕ
+node_count world = length (seats_of world)
 
 -- the written world of these nodes, modems and this history: the rest is the world's
 abbrev pub written : {N : Type 0} {g : Ghosts N} → World N g → List Standing → List Receiver → List Entry → Written
 written world nodes modems history = record {
   nodes = nodes;
-  letters = world.letters.items;
-  outputs = world.outputs.items;
+  letters = letters_of world;
+  outputs = outputs_of world;
   modems = modems;
-  transmissions = world.receivers.transmissions.items;
+  transmissions = transmissions_of world;
   history = history;
 }
 
 -- a world stands for each written world whose nodes stand as its nodes may, and whose modems may be its modems, whatever the history
 abbrev pub StandsFor : {N : Type 0} {g : Ghosts N} → World N g → Written → Type 0
-StandsFor world w = (w ≡ written world w.nodes w.modems w.history) × AreStandings world.seats.items w.nodes × Hold world.receivers w.modems
+StandsFor world w = (w ≡ written world w.nodes w.modems w.history) × AreStandings (seats_of world) w.nodes × Hold (receivers_of world) w.modems
 
 -- an event, from whatever standings, modems and history
 abbrev pub Happens : {N : Type 0} {g : Ghosts N} → World N g → Event → Answer → World N g → Type 0
 Happens old event answer new =
     (nodes : List Standing) (modems : List Receiver) (history : List Entry)
-    → AreStandings old.seats.items nodes → Hold old.receivers modems
+    → AreStandings (seats_of old) nodes → Hold (receivers_of old) modems
     → (nodes' : List Standing) × (modems' : List Receiver) × (history' : List Entry)
-    × AreStandings new.seats.items nodes' × Hold new.receivers modems'
+    × AreStandings (seats_of new) nodes' × Hold (receivers_of new) modems'
     × Next (length nodes) (written old nodes modems history) event answer (written new nodes' modems' history')
 
 -- where an answer leaves a node: it crashes for want of room, or since the event says so
@@ -70,9 +98,3 @@ Keeps (Ok given) k outputs (Released n) outputs' = (n ≡ length given) × (outp
 Keeps (Ok given) k outputs Crashed outputs' = (given ≢ []) × (outputs' ≡ outputs)
 Keeps (Err fault) k outputs (Fault told) outputs' = (told ≡ fault) × (outputs' ≡ outputs)
 Keeps result k outputs answer outputs' = ⊥
-
--- the nodes are fresh and up, have the numbers from 0 on, and know how many they are
-pub record AreFresh {N : Type 0} (who : N → Who) (stands : N → Standing → Type 0) (nodes : List N) : Type 0 where
-  pub fresh : All (λ node. stands node (Running (started no_content))) nodes
-  pub up : All (λ node. (who node).down ≡ false) nodes
-  pub numbered : map {B = ℕ × ℕ} (λ node. ((who node).id, (who node).members)) nodes ≡ map (λ k. (k, length nodes)) (range_with_len 0 (length nodes))

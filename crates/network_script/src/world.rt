@@ -5,12 +5,12 @@ ghost use Rattle.node.specs.View.{Standing};
 ghost use Rattle.network_script.specs.World.{released_by};
 ghost use Rattle.network_script.specs.Seats.{IsNumbered, IsUpAt, IsMissed, AreSeated, AreStandings};
 
-use crate::event::{Answer, Event, OutOfMemory, Refusal, ReleasedOutput, Report, Transmission};
-use crate::receivers::Receivers;
-use crate::seat::Seat;
 use ballots::Letter;
 use map_release::Numbered;
 use modem::Modem;
+use network_script_parts::{
+    Answer, Event, OutOfMemory, Receivers, Refusal, ReleasedOutput, Report, Seat, Transmission,
+};
 use node::{Node, NodeFault};
 use std::alloc::{AllocError, Global};
 
@@ -51,7 +51,7 @@ fn missed<N: Node>(seats: &Vec<Seat<N>>, k: usize) -> Option<Refusal>
     if k >= seats.len() {
         return Some(Refusal::NoNode);
     }
-    if !seats[k].up {
+    if !seats[k].is_up() {
         return Some(Refusal::NodeDown);
     }
     None
@@ -64,7 +64,7 @@ fn seated<N: Node>(alloc: Global, nodes: Vec<N>) -> Result<Vec<Seat<N>>, AllocEr
 {
     let mut seats = Vec::new(alloc);
     for node in nodes {
-        seats.push(Seat { node, up: true })?;
+        seats.push(Seat::new(node))?;
     }
     Ok(seats)
 }
@@ -84,15 +84,16 @@ impl<N: Node> World<N> {
     ghost use Rattle.std.specs.Prelude.{◌≡◌, length, map, All, IfOk};
     ghost use Rattle.network_script.specs.World.{opening};
     ghost use Rattle.network_script.specs.Seats.{AreSeated};
-    ghost use Rattle.network_script.specs.Receiving.{AreNew};
-    ghost use Rattle.network_script.specs.Worlds.{AreFresh, StandsFor};
+    ghost use Rattle.network_script_parts.specs.Receiving.{AreNew};
+    ghost use Rattle.network_script_parts.specs.Fresh.{AreFresh};
+    ghost use Rattle.network_script.specs.Worlds.{AreHonest, StandsFor, seats_of};
 
     /// The opening world of these nodes and modems.
     pub fn new(alloc: Global, nodes: Vec<N>, modems: Vec<Modem>) -> Result<World<N>, OutOfMemory>
-        requires nodes { AreFresh N.who N.stands nodes.items }
+        requires nodes { AreFresh N.who N.honest N.stands nodes.items }
         requires modems { AreNew modems.items }
-        ensures seated { IfOk result (λ world. AreSeated nodes.items world.seats.items) }
-        ensures opens { IfOk result (λ world. StandsFor world (opening (length nodes.items) (map (λ modem. modem.id) modems.items))) }
+        ensures seated { IfOk result (λ world. AreSeated nodes.items (seats_of world)) }
+        ensures opens { IfOk result (λ world. AreHonest world → StandsFor world (opening (length nodes.items) (map (λ modem. modem.id) modems.items))) }
     {
         let seats = seated(alloc, nodes)?;
         Ok(World {
@@ -110,16 +111,16 @@ impl<N: Node> World<N> {
     ghost use Rattle.std.specs.Prelude.{◌≡◌, ℕ, List, length, IfOk, OnErr};
     ghost use Rattle.ballots.specs.declared.letters.Letter.{Letter as SentLetter};
     ghost use Rattle.node.specs.Calls.{answer};
-    ghost use Rattle.node.specs.Releases.{outputs as outputs_of};
+    ghost use Rattle.node.specs.Releases.{outputs as outputs_given};
     ghost use Rattle.node.specs.View.{Standing};
-    ghost use Rattle.network_script.specs.declared.event.Event.TheVariants as event;
-    ghost use Rattle.network_script.specs.declared.event.Answer.{Answer};
-    ghost use Rattle.network_script.specs.Seat.{crashed};
-    ghost use Rattle.network_script.specs.Seats.{Stands, AllHonest};
+    ghost use Rattle.network_script_parts.specs.declared.event.Event.TheVariants as event;
+    ghost use Rattle.network_script_parts.specs.declared.event.Answer.{Answer};
+    ghost use Rattle.network_script_parts.specs.Seat.{crashed};
+    ghost use Rattle.network_script_parts.specs.Occupant.{Stands};
     ghost use Rattle.network_script.specs.Next.{Goes};
     ghost use Rattle.network_script.specs.Counts.{CountNext, CountRun, counts};
     ghost use Rattle.network_script.specs.World.{Written};
-    ghost use Rattle.network_script.specs.Worlds.{StandsFor, Happens, Posted, Lost, Keeps, left};
+    ghost use Rattle.network_script.specs.Worlds.{AreHonest, StandsFor, Happens, Posted, Lost, Keeps, left, letters_of, node_count, outputs_of, transmissions_of};
 
     /// Sends what a node gave. Where there is no room it is lost, and the node crashes.
     fn post(
@@ -164,9 +165,9 @@ impl<N: Node> World<N> {
 
     /// Node `k` is asked to lead.
     fn lead(&mut self, k: usize) -> Answer
-        ensures honesty { AllHonest self.new.seats.items → AllHonest self.old.seats.items }
-        ensures members { length self.new.seats.items ≡ length self.old.seats.items }
-        ensures next { AllHonest self.new.seats.items → Happens self.old (event.Lead k) result self.new }
+        ensures honesty { AreHonest self.new → AreHonest self.old }
+        ensures members { node_count self.new ≡ node_count self.old }
+        ensures next { AreHonest self.new → Happens self.old (event.Lead k) result self.new }
         ensures counted { CountNext (counts self.old) (event.Lead k) result (counts self.new) }
     {
         if let Some(refusal) = missed(&self.seats, k) {
@@ -179,9 +180,9 @@ impl<N: Node> World<N> {
 
     /// Node `k` is offered a value.
     fn offer(&mut self, k: usize, value: &[u8]) -> Answer
-        ensures honesty { AllHonest self.new.seats.items → AllHonest self.old.seats.items }
-        ensures members { length self.new.seats.items ≡ length self.old.seats.items }
-        ensures next { AllHonest self.new.seats.items → Happens self.old (event.Offer k value.now) result self.new }
+        ensures honesty { AreHonest self.new → AreHonest self.old }
+        ensures members { node_count self.new ≡ node_count self.old }
+        ensures next { AreHonest self.new → Happens self.old (event.Offer k value.now) result self.new }
         ensures counted { CountNext (counts self.old) (event.Offer k value.now) result (counts self.new) }
     {
         if let Some(refusal) = missed(&self.seats, k) {
@@ -194,9 +195,9 @@ impl<N: Node> World<N> {
 
     /// Letter `i` comes to the node that it is to.
     fn deliver(&mut self, i: usize) -> Answer
-        ensures honesty { AllHonest self.new.seats.items → AllHonest self.old.seats.items }
-        ensures members { length self.new.seats.items ≡ length self.old.seats.items }
-        ensures next { AllHonest self.new.seats.items → Happens self.old (event.Deliver i) result self.new }
+        ensures honesty { AreHonest self.new → AreHonest self.old }
+        ensures members { node_count self.new ≡ node_count self.old }
+        ensures next { AreHonest self.new → Happens self.old (event.Deliver i) result self.new }
         ensures counted { CountNext (counts self.old) (event.Deliver i) result (counts self.new) }
     {
         if i >= self.letters.len() {
@@ -214,9 +215,9 @@ impl<N: Node> World<N> {
 
     /// Letter `i` comes to the node that it is to, its answer is thrown away, and the node crashes.
     fn deliver_then_crash(&mut self, i: usize) -> Answer
-        ensures honesty { AllHonest self.new.seats.items → AllHonest self.old.seats.items }
-        ensures members { length self.new.seats.items ≡ length self.old.seats.items }
-        ensures next { AllHonest self.new.seats.items → Happens self.old (event.DeliverThenCrash i) result self.new }
+        ensures honesty { AreHonest self.new → AreHonest self.old }
+        ensures members { node_count self.new ≡ node_count self.old }
+        ensures next { AreHonest self.new → Happens self.old (event.DeliverThenCrash i) result self.new }
         ensures counted { CountNext (counts self.old) (event.DeliverThenCrash i) result (counts self.new) }
     {
         if i >= self.letters.len() {
@@ -234,9 +235,9 @@ impl<N: Node> World<N> {
 
     /// Node `k` crashes.
     fn crash(&mut self, k: usize) -> Answer
-        ensures honesty { AllHonest self.new.seats.items → AllHonest self.old.seats.items }
-        ensures members { length self.new.seats.items ≡ length self.old.seats.items }
-        ensures next { AllHonest self.new.seats.items → Happens self.old (event.Crash k) result self.new }
+        ensures honesty { AreHonest self.new → AreHonest self.old }
+        ensures members { node_count self.new ≡ node_count self.old }
+        ensures next { AreHonest self.new → Happens self.old (event.Crash k) result self.new }
         ensures counted { CountNext (counts self.old) (event.Crash k) result (counts self.new) }
     {
         if let Some(refusal) = missed(&self.seats, k) {
@@ -249,15 +250,15 @@ impl<N: Node> World<N> {
 
     /// Node `k`, which crashed, starts over its records.
     fn restart(&mut self, k: usize) -> Answer
-        ensures honesty { AllHonest self.new.seats.items → AllHonest self.old.seats.items }
-        ensures members { length self.new.seats.items ≡ length self.old.seats.items }
-        ensures next { AllHonest self.new.seats.items → Happens self.old (event.Restart k) result self.new }
+        ensures honesty { AreHonest self.new → AreHonest self.old }
+        ensures members { node_count self.new ≡ node_count self.old }
+        ensures next { AreHonest self.new → Happens self.old (event.Restart k) result self.new }
         ensures counted { CountNext (counts self.old) (event.Restart k) result (counts self.new) }
     {
         if k >= self.seats.len() {
             return Answer::Refused(Refusal::NoNode);
         }
-        if self.seats[k].up {
+        if self.seats[k].is_up() {
             return Answer::Refused(Refusal::NodeUp);
         }
         let seat = &mut self.seats[k];
@@ -277,7 +278,7 @@ impl<N: Node> World<N> {
     ) -> Answer
         ensures node { seat.new.node ≡ seat.old.node }
         ensures stands { (s : Standing) → Stands seat.old s → Stands seat.new (left result s) }
-        ensures keeps { Keeps (outputs_of given) k outputs.old.items result outputs.new.items }
+        ensures keeps { Keeps (outputs_given given) k outputs.old.items result outputs.new.items }
     {
         match given {
             Ok(released) => {
@@ -297,9 +298,9 @@ impl<N: Node> World<N> {
 
     /// Node `k` releases what it can, at a minislot time.
     fn release(&mut self, k: usize, now: u64) -> Answer
-        ensures honesty { AllHonest self.new.seats.items → AllHonest self.old.seats.items }
-        ensures members { length self.new.seats.items ≡ length self.old.seats.items }
-        ensures next { AllHonest self.new.seats.items → Happens self.old (event.Release k now) result self.new }
+        ensures honesty { AreHonest self.new → AreHonest self.old }
+        ensures members { node_count self.new ≡ node_count self.old }
+        ensures next { AreHonest self.new → Happens self.old (event.Release k now) result self.new }
         ensures counted { CountNext (counts self.old) (event.Release k now) result (counts self.new) }
     {
         if let Some(refusal) = missed(&self.seats, k) {
@@ -313,9 +314,9 @@ impl<N: Node> World<N> {
 
     /// One event.
     fn happen(&mut self, event: &Event) -> Answer
-        ensures honesty { AllHonest self.new.seats.items → AllHonest self.old.seats.items }
-        ensures members { length self.new.seats.items ≡ length self.old.seats.items }
-        ensures next { AllHonest self.new.seats.items → Happens self.old event.now result self.new }
+        ensures honesty { AreHonest self.new → AreHonest self.old }
+        ensures members { node_count self.new ≡ node_count self.old }
+        ensures next { AreHonest self.new → Happens self.old event.now result self.new }
         ensures counted { CountNext (counts self.old) event.now result (counts self.new) }
     {
         match event {
@@ -334,10 +335,10 @@ impl<N: Node> World<N> {
 
     /// The events one after another. Room for their answers is taken first; later nothing stops a run.
     pub fn run(&mut self, events: &[Event]) -> Result<Report, OutOfMemory>
-        ensures honesty { AllHonest self.new.seats.items → AllHonest self.old.seats.items }
-        ensures run { IfOk result (λ report. AllHonest self.new.seats.items → (w : Written) → StandsFor self.old w →
+        ensures honesty { AreHonest self.new → AreHonest self.old }
+        ensures run { IfOk result (λ report. AreHonest self.new → (w : Written) → StandsFor self.old w →
             (w' : Written) × Goes (length w.nodes) w events.now report w' × StandsFor self.new w') }
-        ensures members { length self.new.seats.items ≡ length self.old.seats.items }
+        ensures members { node_count self.new ≡ node_count self.old }
         ensures counted { IfOk result (λ report. CountRun (counts self.old) events.now report (counts self.new)) }
         ensures err { OnErr result (self.new ≡ self.old) }
     {
@@ -351,7 +352,7 @@ impl<N: Node> World<N> {
 
     /// Every letter that was ever sent, in order.
     pub fn letters(&self) -> &[Letter]
-        ensures items { result.now ≡ self.now.letters.items }
+        ensures items { result.now ≡ letters_of self.now }
         ensures written { (w : Written) → StandsFor self.now w → result.now ≡ w.letters }
     {
         self.letters.as_slice()
@@ -359,7 +360,7 @@ impl<N: Node> World<N> {
 
     /// Every output that a node released, in order.
     pub fn outputs(&self) -> &[ReleasedOutput]
-        ensures items { result.now ≡ self.now.outputs.items }
+        ensures items { result.now ≡ outputs_of self.now }
         ensures written { (w : Written) → StandsFor self.now w → result.now ≡ w.outputs }
     {
         self.outputs.as_slice()
@@ -367,7 +368,7 @@ impl<N: Node> World<N> {
 
     /// What the modems sent, in order.
     pub fn transmissions(&self) -> &[Transmission]
-        ensures items { result.now ≡ self.now.receivers.transmissions.items }
+        ensures items { result.now ≡ transmissions_of self.now }
         ensures written { (w : Written) → StandsFor self.now w → result.now ≡ w.transmissions }
     {
         self.receivers.transmissions()

@@ -1,4 +1,4 @@
 mod PlanFaults
 mod Printed
 mod Told
-mod FirstNodes
+mod AllHold

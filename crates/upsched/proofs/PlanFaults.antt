@@ -4,8 +4,8 @@ use Rattle.std.specs.List.{list_all}
 use Rattle.toml.specs.Data.{Data, Items}
 use Rattle.toml.specs.View.{items_of}
 use Rattle.grant_machine.specs.declared.command.Command.{Command}
-use Rattle.network_script.specs.Items.{is_table}
-use Rattle.network_script.proofs.Items.{list_of-items_of}
+use Rattle.network_script_parts.specs.Items.{is_table}
+use Rattle.network_script_parts.proofs.Callers.{list_of-items_of}
 use Rattle.upsched.specs.declared.plan.PlanFault.{PlanFault}
 use Rattle.upsched.specs.declared.plan.PlanFault.TheVariants.{NotToml, BadCommand, OutOfMemory}
 use Rattle.upsched.specs.Plan.{SpellCommands, ListsCommands, IsBadPosition, IsBadList, IsFaultAt}

@@ -3,17 +3,17 @@ use Rattle.std.proofs.Common.{◌≡◌, ℕ, ◌+◌, ◌<◌, ◌≤◌, List,
 use Rattle.std.proofs.lemmas.List.{drop_all, length-replicate}
 use Rattle.std.proofs.Math.Seq.{drop-cons}
 use Rattle.std.specs.Io.KnownBytes.{Appends}
-use Rattle.network_script.specs.declared.event.Answer.{Answer}
+use Rattle.network_script_parts.specs.declared.event.Answer.{Answer}
 use Rattle.ballots.specs.declared.letters.Letter.{Letter}
 use Rattle.ballots.specs.declared.members.Members.{Members}
-use Rattle.network_script.specs.declared.event.Event.{Event}
-use Rattle.network_script.specs.declared.event.ReleasedOutput.{ReleasedOutput}
-use Rattle.network_script.specs.declared.event.Transmission.{Transmission}
+use Rattle.network_script_parts.specs.declared.event.Event.{Event}
+use Rattle.network_script_parts.specs.declared.event.ReleasedOutput.{ReleasedOutput}
+use Rattle.network_script_parts.specs.declared.event.Transmission.{Transmission}
 use Rattle.acceptor.specs.Content.{no_content}
 use Rattle.node.specs.View.{started}
 use Rattle.node.specs.View.Standing.{Running}
 use Rattle.network_script.specs.Next.{Goes, Run}
-use Rattle.network_script.specs.Script.{IsScript}
+use Rattle.network_script_parts.specs.Script.{IsScript}
 use Rattle.network_script.specs.World.{Written, opening}
 use Rattle.upsched.specs.RunLines.{answer_line, answer_lines, place_lines, released_count, counts_line}
 use Rattle.upsched.specs.Run.{PrintsEvents, NoScript}

@@ -8,8 +8,8 @@ use Rattle.grant_machine.specs.declared.command.Command.{Command}
 use Rattle.grant_machine.specs.Runs.{outputs_of}
 use Rattle.upsched.specs.declared.plan.PlanFault.{PlanFault}
 use Rattle.upsched.specs.declared.plan.PlanFault.TheVariants.{NotToml, BadCommand, OutOfMemory}
-use Rattle.network_script.specs.CommandTable.{SpellsCommand}
-use Rattle.network_script.specs.Items.{list_of, is_table, IsFirstBad}
+use Rattle.network_script_parts.specs.CommandTable.{SpellsCommand}
+use Rattle.network_script_parts.specs.Items.{list_of, is_table, IsFirstBad}
 use Rattle.upsched.specs.Lines.{output_lines}
 
 -- the items spell the commands, one each

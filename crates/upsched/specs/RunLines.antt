@@ -9,11 +9,11 @@ use Rattle.modem.specs.declared.types.WantFault.{WantFault}
 use Rattle.modem.specs.declared.types.WantFault.TheVariants as want
 use Rattle.proposer.specs.declared.fault.NodeFault.{NodeFault}
 use Rattle.proposer.specs.declared.fault.NodeFault.TheVariants as fault
-use Rattle.network_script.specs.declared.event.Answer.{Answer}
-use Rattle.network_script.specs.declared.event.Answer.TheVariants.{Sent, Finished, Released, Heard as HeardSo, Ticked, WantRefused, Refused, Fault, Crashed}
-use Rattle.network_script.specs.declared.event.Refusal.{Refusal}
-use Rattle.network_script.specs.declared.event.Refusal.TheVariants as refusal
-use Rattle.network_script.specs.declared.event.ReleasedOutput.{ReleasedOutput}
+use Rattle.network_script_parts.specs.declared.event.Answer.{Answer}
+use Rattle.network_script_parts.specs.declared.event.Answer.TheVariants.{Sent, Finished, Released, Heard as HeardSo, Ticked, WantRefused, Refused, Fault, Crashed}
+use Rattle.network_script_parts.specs.declared.event.Refusal.{Refusal}
+use Rattle.network_script_parts.specs.declared.event.Refusal.TheVariants as refusal
+use Rattle.network_script_parts.specs.declared.event.ReleasedOutput.{ReleasedOutput}
 use Rattle.network_script.specs.World.{Written}
 use Rattle.upsched.specs.Lines.{output_text}
 

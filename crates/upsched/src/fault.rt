@@ -3,7 +3,7 @@
 use crate::plan::PlanFault;
 use crate::status::Status;
 use map_body::MapFault;
-use network_script::ScriptFault;
+use network_script_parts::ScriptFault;
 use std::io;
 use std::io::{ErrorKind, Write};
 use thiserror::Error;

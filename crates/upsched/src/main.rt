@@ -4,7 +4,6 @@
 mod fault;
 mod lines;
 mod maps;
-mod opening;
 mod plan;
 mod report;
 mod run_lines;

@@ -5,11 +5,11 @@ ghost use Rattle.std.specs.List.{list_all};
 ghost use Rattle.toml.specs.Data.{as_array};
 ghost use Rattle.toml.specs.View.{view, table_view};
 ghost use Rattle.upsched.specs.declared.plan.PlanFault.TheVariants.{OutOfMemory};
-ghost use Rattle.network_script.specs.Items.{is_table};
+ghost use Rattle.network_script_parts.specs.Items.{is_table};
 ghost use Rattle.upsched.specs.Plan.{SpellCommands, IsBadPosition, IsFirstBadFromOne, ListsCommands, IsBadList, HasCommands, IsBadAt, IsFaultAt, IsPlan, IsPlanFault};
 
 use grant_machine::Command;
-use network_script::command_of;
+use network_script_parts::command_of;
 use std::alloc::{AllocFailed, Global};
 use thiserror::Error;
 use toml::{Table, Value};

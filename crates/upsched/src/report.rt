@@ -7,7 +7,7 @@ ghost use Rattle.upsched.specs.RunLines.{answer_line, answer_lines, place_line, 
 use crate::fault::Fault;
 use crate::lines::output_text;
 use crate::run_lines::answer_text;
-use network_script::{Answer, ReleasedOutput};
+use network_script_parts::{Answer, ReleasedOutput};
 use std::alloc::Global;
 use std::io::Write;
 

@@ -4,7 +4,7 @@ ghost use Rattle.std.specs.Prelude.{◌≡◌, IfOk, string_bytes};
 ghost use Rattle.upsched.specs.RunLines.{heard_text, sending_text, want_text, refusal_text, fault_text, answer_text};
 
 use modem::{Heard, Sending, WantFault};
-use network_script::{Answer, Refusal};
+use network_script_parts::{Answer, Refusal};
 use node::NodeFault;
 use std::alloc::{AllocError, Global};
 

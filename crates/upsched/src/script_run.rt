@@ -2,13 +2,12 @@
 
 ghost use Rattle.std.specs.Prelude.{◌≡◌, ◌≢◌, IsTrue, OnOk, length, map};
 ghost use Rattle.ballots.specs.Members.{member_count};
-ghost use Rattle.network_script.specs.Receiving.{AreNew};
-ghost use Rattle.network_script.specs.Worlds.{AreFresh};
+ghost use Rattle.network_script_parts.specs.Receiving.{AreNew};
+ghost use Rattle.network_script_parts.specs.Fresh.{AreFresh};
 ghost use Rattle.upsched.specs.declared.status.Status.TheVariants.{Done, NotUnderstood};
 ghost use Rattle.upsched.specs.Run.{NoScript, PrintsEvents, PrintsScript};
 
 use crate::fault::Fault;
-use crate::opening::{fresh_nodes, new_modems};
 use crate::report::{print_answers, print_counts};
 use crate::run_lines::fault_text;
 use crate::status::Status;
@@ -16,7 +15,8 @@ use crate::text::text_of;
 use crate::words::RunWords;
 use log::{Log, warn};
 use modem::Modem;
-use network_script::{Answer, Event, Script, World, read_script};
+use network_script::World;
+use network_script_parts::{Answer, Event, Script, new_modems, plain_nodes, read_script};
 use node::Node;
 use std::io::{Read, Write};
 
@@ -43,7 +43,7 @@ fn print_events<'a, R: Log + AllocGlobal, N: Node, O: Write>(
     verbose: bool,
     output: &mut O,
 ) -> Result<(), Fault<'a>>
-    requires nodes { AreFresh N.who N.stands nodes.items }
+    requires nodes { AreFresh N.who N.honest N.stands nodes.items }
     requires honest { (node : N) → IsTrue (N.honest node) }
     requires modems { AreNew modems.items }
     ensures { OnOk result (PrintsEvents (length nodes.items) (map (λ modem. modem.id) modems.items) events.now
@@ -74,7 +74,7 @@ fn print_script<'a, R: Log + AllocGlobal, O: Write>(
     ensures { OnOk result (PrintsEvents (member_count script.now.members) script.now.modems.items script.now.events.items
         (O.contents output.old) (O.contents output.new)) }
 {
-    let Ok(nodes) = fresh_nodes(rt.alloc(), script.members) else {
+    let Ok(nodes) = plain_nodes(rt.alloc(), script.members) else {
         return Err(Fault::Memory);
     };
     let Ok(modems) = new_modems(rt.alloc(), script.modems.as_slice()) else {

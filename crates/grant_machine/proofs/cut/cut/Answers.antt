@@ -1,4 +1,4 @@
-use Rattle.std.proofs.Common.{sym, arith}
+use Rattle.std.proofs.Common.{sym}
 use Rattle.grant_machine.proofs.Closing.{next_early}
 use Rattle.grant_machine.proofs.cut.cut.Goals as goal
 

@@ -1,10 +1,7 @@
 use Rattle.std.proofs.Common.{◌≡◌, ℕ, ◌≤◌, ◌^◌, max, min, Option, Some, None, refl, sym, ap, ◌∙◌, arith}
 use Rattle.std.specs.Option.{IfNone, IsSome}
 use Rattle.flow_state.specs.Limits.{last_time}
-use Rattle.map_body.specs.Layout.{layout}
-use Rattle.grant_machine.specs.Drawing.{head_of}
-use Rattle.grant_machine.specs.Plans.{elements_in}
-use Rattle.grant_machine.proofs.Closing.{IsMade, is_made, next_early, cut_early, made_unicast, made_sound, made_few, made_kinds, made_rows, made_output, slot_is}
+use Rattle.grant_machine.proofs.Closing.{is_made, next_early, cut_early, made_unicast, made_sound, made_few, made_kinds, made_rows, made_output, slot_is}
 use Rattle.grant_machine.proofs.cut.cut_row.Goals as goal
 
 slot_some : (o : Option ℕ) (n : ℕ) → IfNone o (2 ^ 63 ≤ n) → n ≤ last_time → IsSome o

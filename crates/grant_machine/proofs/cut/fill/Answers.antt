@@ -1,14 +1,15 @@
-use Rattle.std.proofs.Common.{◌≡◌, ℕ, List, length, map, sym, ap, subst, ◌∙◌, arith, Some}
+use Rattle.std.proofs.Common.{◌≡◌, List, map, sym, ap, subst, ◌∙◌, arith}
 use Rattle.std.specs.List.{AllByRecursion}
 use Rattle.std.specs.Vec.{with_items}
 use Rattle.std.proofs.lemmas.List.{with_items_is}
 use Rattle.minislot_time.specs.Extent.{Extent}
 use Rattle.flow_state.specs.declared.flow.Flow.{Flow}
 use Rattle.flow_state.specs.declared.flow.Waiting.{Waiting}
-use Rattle.flow_state.specs.Rows.{Table, table_of}
-use Rattle.grant_machine.specs.Filling.{PartMap}
-use Rattle.grant_machine.specs.Cutting.{in_order, fill_span}
-use Rattle.grant_machine.specs.Lent.{row_of, IsLent, IsUnicast, IsOfTable, flows_on, requests_on, by_priority}
+use Rattle.flow_state.specs.Rows.{table_of}
+use Rattle.grant_machine_parts.specs.Filling.{PartMap}
+use Rattle.grant_machine_parts.specs.Cutting.{fill_span}
+use Rattle.grant_machine_parts.specs.Lent.{row_of, IsLent, IsUnicast, by_priority}
+use Rattle.grant_machine.specs.CutRows.{IsOfTable, flows_on, requests_on}
 use Rattle.grant_machine.proofs.Settling.{flows_lent, flows_back, ordered, requests_unicast}
 use Rattle.grant_machine.proofs.cut.fill.Goals as goal
 

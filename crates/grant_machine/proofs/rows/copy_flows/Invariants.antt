@@ -1,6 +1,6 @@
 use Rattle.std.proofs.Common.{◌≡◌, ◌-◌, length, take}
 use Rattle.flow_state.specs.Rows.{table_of}
-use Rattle.grant_machine.specs.Lent.{flows_on}
+use Rattle.grant_machine.specs.CutRows.{flows_on}
 use Rattle.grant_machine.proofs.rows.copy_flows.Given as goal
 
 abbrev pub invariant-loop-flow : goal.invariant-loop-flow

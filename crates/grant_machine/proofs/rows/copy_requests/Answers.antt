@@ -1,7 +1,7 @@
 use Rattle.std.proofs.Common.{◌≡◌, List, length, take, sym, ap, ◌∙◌, arith}
 use Rattle.flow_state.specs.declared.flow.Waiting.{Waiting}
 use Rattle.flow_state.specs.Rows.{table_of}
-use Rattle.grant_machine.specs.Lent.{requests_on}
+use Rattle.grant_machine.specs.CutRows.{requests_on}
 use Rattle.grant_machine.proofs.Lending.{waiting_at_is, copied_more, copied_all}
 use Rattle.grant_machine.proofs.rows.copy_requests.Goals as goal
 

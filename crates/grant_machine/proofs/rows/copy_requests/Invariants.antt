@@ -1,6 +1,6 @@
 use Rattle.std.proofs.Common.{◌≡◌, ◌-◌, length, take}
 use Rattle.flow_state.specs.Rows.{table_of}
-use Rattle.grant_machine.specs.Lent.{requests_on}
+use Rattle.grant_machine.specs.CutRows.{requests_on}
 use Rattle.grant_machine.proofs.rows.copy_requests.Given as goal
 
 abbrev pub invariant-loop-request : goal.invariant-loop-request

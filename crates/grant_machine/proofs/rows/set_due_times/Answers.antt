@@ -1,10 +1,10 @@
-use Rattle.std.proofs.Common.{◌≡◌, ◌+◌, drop, List, get_or, sym, ap, subst, ◌∙◌, None}
+use Rattle.std.proofs.Common.{◌+◌, drop, List, sym, ap, subst, ◌∙◌, None}
 use Rattle.flow_state.specs.declared.flow.FlowKind.TheVariants.{BestEffort}
 use Rattle.std.specs.List.{AllByRecursion}
 use Rattle.std.proofs.lemmas.List.{drop_more}
 use Rattle.flow_state.specs.declared.flow.Flow.{Flow}
 use Rattle.flow_state.specs.Rows.{Rows}
-use Rattle.grant_machine.specs.Lent.{due_times_set, IsOfKind}
+use Rattle.grant_machine.specs.CutRows.{due_times_set, IsOfKind}
 use Rattle.grant_machine.proofs.Lending.{kinds_kept}
 use Rattle.grant_machine.proofs.rows.set_due_times.Goals as goal
 

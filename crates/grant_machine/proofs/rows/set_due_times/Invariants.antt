@@ -1,6 +1,6 @@
 use Rattle.std.proofs.Common.{◌≡◌, drop}
 use Rattle.std.specs.List.{AllByRecursion}
-use Rattle.grant_machine.specs.Lent.{due_times_set, IsOfKind}
+use Rattle.grant_machine.specs.CutRows.{due_times_set, IsOfKind}
 use Rattle.grant_machine.proofs.rows.set_due_times.Given as goal
 
 -- those from this one on, after those before it

@@ -1,5 +1,5 @@
 use Rattle.std.proofs.Common.{◌≡◌, drop}
-use Rattle.grant_machine.specs.Lent.{requests_taken}
+use Rattle.grant_machine.specs.CutRows.{requests_taken}
 use Rattle.grant_machine.proofs.rows.take_granted.Given as goal
 
 -- those from this one on, after those before it

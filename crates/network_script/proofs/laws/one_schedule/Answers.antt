@@ -1,4 +1,4 @@
-use Rattle.grant_machine.proofs.Maps.{maps_are_disjoint}
+use Rattle.grant_machine.proofs.Callers.{maps_are_disjoint}
 use Rattle.network_script.proofs.Schedule.{one_schedule, gapless_is_beginning, released_is_output, maps_are_one, covers_once}
 use Rattle.network_script.proofs.laws.one_schedule.Goals as goal
 

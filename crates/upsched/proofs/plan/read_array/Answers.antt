@@ -2,7 +2,7 @@ use Rattle.std.proofs.Common.{sym, ◌∙◌, map, refl}
 use Rattle.std.specs.List.{list_all}
 use Rattle.std.proofs.lemmas.List.Folds.{list_all-map}
 use Rattle.toml.specs.View.{view}
-use Rattle.network_script.specs.Items.{is_table}
+use Rattle.network_script_parts.specs.Items.{is_table}
 use Rattle.upsched.specs.Plan.{IsFirstBadFromOne, IsBadPosition}
 use Rattle.upsched.proofs.PlanFaults.{fault_along}
 use Rattle.upsched.proofs.plan.read_array.Goals as goal

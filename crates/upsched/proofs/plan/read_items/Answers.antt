@@ -1,7 +1,7 @@
 use Rattle.std.proofs.Common.{map, refl}
 use Rattle.toml.specs.View.{view}
-use Rattle.network_script.specs.CommandTable.{SpellsCommand}
-use Rattle.network_script.proofs.Items.{read_more, sound_before, item_at}
+use Rattle.network_script_parts.specs.CommandTable.{SpellsCommand}
+use Rattle.network_script_parts.proofs.Callers.{read_more, sound_before, item_at}
 use Rattle.upsched.proofs.plan.read_items.Goals as goal
 
 pub returns-in-None-clause-fault : goal.returns-in-None-clause-fault

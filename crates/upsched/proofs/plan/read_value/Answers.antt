@@ -2,7 +2,7 @@ use Rattle.std.proofs.Common.{map}
 use Rattle.std.specs.List.{list_all}
 use Rattle.toml.specs.Data.{as_array}
 use Rattle.toml.specs.View.{view}
-use Rattle.network_script.specs.Items.{is_table}
+use Rattle.network_script_parts.specs.Items.{is_table}
 use Rattle.upsched.specs.Plan.{IsBadPosition, IsBadList}
 use Rattle.upsched.proofs.PlanFaults.{lists_read, fault_along, bad_in_list}
 use Rattle.upsched.proofs.plan.read_value.Goals as goal

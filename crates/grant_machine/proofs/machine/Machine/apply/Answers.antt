@@ -1,9 +1,8 @@
-use Rattle.std.proofs.Common.{◌≡◌, refl, sym, ap, subst, ◌∙◌}
-use Rattle.flow_state.specs.Rows.{Rows}
+use Rattle.std.proofs.Common.{◌≡◌, sym, subst}
 use Rattle.grant_machine.specs.declared.command.Command.TheVariants as commands
 use Rattle.grant_machine.specs.declared.machine.Machine.TheInside.{Inside}
 use Rattle.grant_machine.specs.Runs.{IsReached}
-use Rattle.grant_machine.proofs.Reaching.{reached_step, reached_call, reached_ok}
+use Rattle.grant_machine.proofs.Reaching.{reached_call, reached_ok}
 use Rattle.grant_machine.proofs.machine.Machine.apply.Goals as goal
 use Rattle.grant_machine.proofs.machine.Machine.apply.Goals.{in-Noop, in-Channel, in-Flow, in-Drop, in-Request, in-Cut}
 

@@ -1,7 +1,7 @@
 use Rattle.std.proofs.Common.{◌≡◌, refl, subst}
 use Rattle.map_body.specs.Body.{Body}
 use Rattle.map_body.specs.Layout.{IsBody}
-use Rattle.map_body.proofs.Readings.{one_body}
+use Rattle.map_body.proofs.Callers.{one_body}
 use Rattle.modem.specs.Hears.{IsExtent}
 use Rattle.modem.proofs.modem.Modem.hear_map.Goals as goal
 

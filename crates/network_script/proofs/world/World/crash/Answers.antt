@@ -1,11 +1,11 @@
 use Rattle.std.proofs.Common.{refl, slice_set, arith}
 use Rattle.node.specs.View.Standing.{Running}
-use Rattle.network_script.specs.declared.event.Answer.TheVariants.{Finished}
-use Rattle.network_script.specs.Seat.{crashed}
+use Rattle.network_script_parts.specs.declared.event.Answer.TheVariants.{Finished}
+use Rattle.network_script_parts.specs.Seat.{crashed}
 use Rattle.network_script.specs.Worlds.{written}
 use Rattle.network_script.specs.Next.{Crashes}
 use Rattle.network_script.proofs.Acts.{seen_up, moves, asks, misses}
-use Rattle.network_script.specs.declared.event.Event.TheVariants as event
+use Rattle.network_script_parts.specs.declared.event.Event.TheVariants as event
 use Rattle.network_script.proofs.Counted.{count_still}
 use Rattle.network_script.proofs.Tallied.{counted_seat, false_true}
 use Rattle.network_script.proofs.world.World.crash.Goals as goal

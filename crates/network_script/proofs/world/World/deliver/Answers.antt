@@ -3,12 +3,12 @@ use Rattle.ballots.specs.declared.letters.Letter.{Letter}
 use Rattle.node.specs.View.{View}
 use Rattle.node.specs.Calls.{Course, answer}
 use Rattle.node.specs.Calls.Cause.{Receive}
-use Rattle.network_script.specs.declared.event.Answer.TheVariants.{Refused}
-use Rattle.network_script.specs.Seat.{shown, stays_up}
+use Rattle.network_script_parts.specs.declared.event.Answer.TheVariants.{Refused}
+use Rattle.network_script_parts.specs.Seat.{shown, stays_up}
 use Rattle.network_script.specs.Worlds.{written, left}
 use Rattle.network_script.specs.Next.{Ends}
-use Rattle.network_script.proofs.Acts.{called_at, moves, sends, asks, misses, comes, no_letter}
-use Rattle.network_script.specs.declared.event.Event.TheVariants as event
+use Rattle.network_script.proofs.Acts.{called_at, receives_last, moves, sends, asks, misses, comes, no_letter}
+use Rattle.network_script_parts.specs.declared.event.Event.TheVariants as event
 use Rattle.network_script.proofs.Places.{seen_at}
 use Rattle.network_script.proofs.Counted.{count_still}
 use Rattle.network_script.proofs.Tallied.{counted_call, posted_letters, posted_rose}
@@ -36,7 +36,7 @@ returns-clause-next g c = λ all nodes modems history each hold.
     let k = c.from-k.result in
     let given = answer c.receive-given.result in
     let call = called_at nodes seats k c.index_mut-seat.result.now c.receive-given.new.self c.post.new.seat (Receive letter) given
-    each c.args.self.now.numbered c.in_default.ensures.up c.index_mut-seat.ensures.value c.receive-given.ensures.called c.post.ensures.node all in
+    each c.args.self.now.numbered c.in_default.ensures.up c.index_mut-seat.ensures.value c.receive-given.ensures.called (λ honest view stands. receives_last (g.N.Node.who c.index_mut-seat.result.now.node).members (g.N.Node.who c.index_mut-seat.result.now.node).id view letter given) c.post.ensures.node all in
     let s = shown (stays_up given) call.after in
     let takes = λ (n : ℕ) (l : Letter) (view : View). Ends w n view (Course (length nodes) n view (Receive l)) in
     let made = sends w k call.view (Course (length nodes) k call.view (Receive letter)) given call.after c.post.new.letters.items c.post.result call.at call.ends c.post.ensures.posted in (

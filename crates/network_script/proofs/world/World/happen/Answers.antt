@@ -1,7 +1,7 @@
 use Rattle.std.proofs.Common.{◌≡◌, List, subst}
-use Rattle.network_script.specs.declared.event.Event.TheVariants.{Hear}
-use Rattle.network_script.specs.declared.event.ReleasedOutput.{ReleasedOutput}
-use Rattle.network_script.specs.Modems.{ModemNext}
+use Rattle.network_script_parts.specs.declared.event.Event.TheVariants.{Hear}
+use Rattle.network_script_parts.specs.declared.event.ReleasedOutput.{ReleasedOutput}
+use Rattle.network_script_parts.specs.Modems.{ModemNext}
 use Rattle.network_script.specs.Worlds.{written}
 use Rattle.network_script.proofs.Counted.{count_still}
 use Rattle.network_script.proofs.world.World.happen.Goals as goal

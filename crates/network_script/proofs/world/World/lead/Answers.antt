@@ -2,11 +2,11 @@ use Rattle.std.proofs.Common.{length, slice_set, refl}
 use Rattle.node.specs.View.{View}
 use Rattle.node.specs.Calls.{Course, answer}
 use Rattle.node.specs.Calls.Cause.{Lead}
-use Rattle.network_script.specs.Seat.{shown, stays_up}
+use Rattle.network_script_parts.specs.Seat.{shown, stays_up}
 use Rattle.network_script.specs.Worlds.{written, left}
-use Rattle.network_script.specs.Next.{Ends}
-use Rattle.network_script.proofs.Acts.{called_at, moves, sends, asks, misses}
-use Rattle.network_script.specs.declared.event.Event.TheVariants as event
+use Rattle.network_script.specs.Next.{Calls}
+use Rattle.network_script.proofs.Acts.{called_at, moves, sends, asks, misses, told_last}
+use Rattle.network_script_parts.specs.declared.event.Event.TheVariants as event
 use Rattle.network_script.proofs.Counted.{count_still}
 use Rattle.network_script.proofs.Tallied.{counted_call, posted_letters, posted_rose}
 use Rattle.network_script.proofs.world.World.lead.Goals as goal
@@ -14,7 +14,7 @@ use Rattle.network_script.proofs.world.World.lead.Goals as goal
 pub returns-in-Some-clause-next : goal.returns-in-Some-clause-next
 returns-in-Some-clause-next g c = λ all nodes modems history each hold.
     let w = written c.args.self.now nodes modems history in
-    (nodes, modems, history, each, hold, misses w c.args.k (λ view. Ends w c.args.k view (Course (length nodes) c.args.k view (Lead))) c.in-Some.refusal (c.in-Some.ensures.missed nodes each))
+    (nodes, modems, history, each, hold, misses w c.args.k (Calls (length nodes) w c.args.k (Lead)) c.in-Some.refusal (c.in-Some.ensures.missed nodes each))
 
 pub returns-clause-next : goal.returns-clause-next
 returns-clause-next g c = λ all nodes modems history each hold.
@@ -22,7 +22,7 @@ returns-clause-next g c = λ all nodes modems history each hold.
     let seats = c.args.self.now.seats.items in
     let given = answer c.lead-given.result in
     let call = called_at nodes seats c.args.k c.index_mut-seat.result.now c.lead-given.new.self c.post.new.seat (Lead) given
-    each c.args.self.now.numbered c.in_default.ensures.up c.index_mut-seat.ensures.value c.lead-given.ensures.called c.post.ensures.node all in
+    each c.args.self.now.numbered c.in_default.ensures.up c.index_mut-seat.ensures.value c.lead-given.ensures.called c.lead-given.ensures.order c.post.ensures.node all in
     let s = shown (stays_up given) call.after in
     let course = λ (view : View). Course (length nodes) c.args.k view (Lead) in
     let made = sends w c.args.k call.view (course call.view) given call.after c.post.new.letters.items c.post.result call.at call.ends c.post.ensures.posted in (
@@ -31,7 +31,7 @@ returns-clause-next g c = λ all nodes modems history each hold.
       made.0,
       moves seats nodes c.args.k c.post.new.seat (left c.post.result s) each (c.post.ensures.stands s call.stands),
       hold,
-      asks w _ c.args.k call.view (λ view. Ends w c.args.k view (course view)) c.post.result call.at made.1,
+      asks w _ c.args.k call.view (Calls (length nodes) w c.args.k (Lead)) c.post.result call.at (told_last (length nodes) c.args.k call.view (Lead) given _ _ c.post.result c.post.ensures.posted call.order, made.1),
     )
 
 pub returns-in-Some-clause-counted : goal.returns-in-Some-clause-counted

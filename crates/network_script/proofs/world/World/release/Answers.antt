@@ -1,10 +1,10 @@
 use Rattle.std.proofs.Common.{slice_set, refl}
 use Rattle.node.specs.Releases.{outputs}
-use Rattle.network_script.specs.Seat.{shown, stays_up}
+use Rattle.network_script_parts.specs.Seat.{shown, stays_up}
 use Rattle.network_script.specs.Worlds.{written, left}
 use Rattle.network_script.specs.Next.{Releases}
 use Rattle.network_script.proofs.Acts.{released_at, moves, releases, asks, misses}
-use Rattle.network_script.specs.declared.event.Event.TheVariants as event
+use Rattle.network_script_parts.specs.declared.event.Event.TheVariants as event
 use Rattle.network_script.proofs.Counted.{count_still}
 use Rattle.network_script.proofs.Tallied.{counted_call, keeps_rose}
 use Rattle.network_script.proofs.world.World.release.Goals as goal

@@ -1,11 +1,12 @@
-use Rattle.std.proofs.Common.{◌≡◌, ◌<◌, refl, rules, length, false, slice_set}
+use Rattle.std.proofs.Common.{◌≡◌, ◌<◌, ◌∙◌, sym, refl, rules, length, false, slice_set}
 use Rattle.node.specs.View.Standing.{Running, Stopped}
-use Rattle.network_script.specs.declared.event.Answer.TheVariants.{Finished, Refused, Fault}
-use Rattle.network_script.specs.declared.event.Refusal.TheVariants.{NodeUp}
+use Rattle.network_script_parts.specs.declared.event.Answer.TheVariants.{Finished, Refused, Fault}
+use Rattle.network_script_parts.specs.declared.event.Refusal.TheVariants.{NodeUp}
+use Rattle.network_script_parts.specs.Occupant.{is_up}
 use Rattle.network_script.specs.Worlds.{written}
 use Rattle.network_script.proofs.Places.{honest_at}
 use Rattle.network_script.proofs.Acts.{seen_none, seen_up, seen_down, same_at, moves, unmoved, starts, restarts, restarts_none}
-use Rattle.network_script.specs.declared.event.Event.TheVariants as event
+use Rattle.network_script_parts.specs.declared.event.Event.TheVariants as event
 use Rattle.network_script.proofs.Counted.{count_still}
 use Rattle.network_script.proofs.Tallied.{counted_seat, restart_rose, false_true}
 use Rattle.network_script.proofs.world.World.restart.Goals as goal
@@ -15,10 +16,10 @@ returns-then-k-len-clause-next g c = λ all nodes modems history each hold.
     let w = written c.args.self.now nodes modems history in
     (nodes, modems, history, each, hold, restarts_none w c.args.k (seen_none c.args.self.now.seats.items nodes c.args.k each (search rules)))
 
-pub returns-then-index-clause-next : goal.returns-then-index-clause-next
-returns-then-index-clause-next g c = λ all nodes modems history each hold.
+pub returns-then-is_up-clause-next : goal.returns-then-is_up-clause-next
+returns-then-is_up-clause-next g c = λ all nodes modems history each hold.
     let w = written c.args.self.now nodes modems history in
-    let r = seen_up c.args.self.now.seats.items nodes c.args.k c.index.result.now each (search rules) c.index.ensures c.if-index.true in
+    let r = seen_up c.args.self.now.seats.items nodes c.args.k c.index.result.now each (search rules) c.index.ensures (sym c.is_up.ensures ∙ c.if-is_up.true) in
     (nodes, modems, history, each, hold, restarts w w c.args.k (Running r.0) (Refused NodeUp) r.1 (refl, refl))
 
 pub returns-in-Ok-clause-next : goal.returns-in-Ok-clause-next
@@ -27,7 +28,7 @@ returns-in-Ok-clause-next g c = λ all nodes modems history each hold.
     let seats = c.args.self.now.seats.items in
     let lt : c.args.k < length seats = search rules in
     let same = same_at seats c.args.k _ _ lt c.index.ensures c.index_mut-seat.ensures.value in
-    let down : c.index_mut-seat.result.now.up ≡ false = rw (← same) c.if-index.false in
+    let down : is_up c.index_mut-seat.result.now ≡ false = rw (← same) (sym c.is_up.ensures ∙ c.if-is_up.false) in
     let r = seen_down seats nodes c.args.k c.index_mut-seat.result.now each lt c.index_mut-seat.ensures.value down in
     let found = c.in-Ok.ensures.restarted (honest_at seats c.args.k c.restart.new.self lt all) (Stopped r.0 r.1) r.3 in
     let made = starts w c.args.k r.0 r.1 found.0 found.1 in (
@@ -45,7 +46,7 @@ returns-in-Err-clause-next g c = λ all nodes modems history each hold.
     let seats = c.args.self.now.seats.items in
     let lt : c.args.k < length seats = search rules in
     let same = same_at seats c.args.k _ _ lt c.index.ensures c.index_mut-seat.ensures.value in
-    let down : c.index_mut-seat.result.now.up ≡ false = rw (← same) c.if-index.false in
+    let down : is_up c.index_mut-seat.result.now ≡ false = rw (← same) (sym c.is_up.ensures ∙ c.if-is_up.false) in
     let r = seen_down seats nodes c.args.k c.index_mut-seat.result.now each lt c.index_mut-seat.ensures.value down in
     let found = c.in-Err.ensures.restarted (honest_at seats c.args.k c.restart.new.self lt all) (Stopped r.0 r.1) r.3 in (
       nodes,
@@ -59,8 +60,8 @@ returns-in-Err-clause-next g c = λ all nodes modems history each hold.
 pub returns-then-k-len-clause-counted : goal.returns-then-k-len-clause-counted
 returns-then-k-len-clause-counted g c = count_still _ _ _ refl
 
-pub returns-then-index-clause-counted : goal.returns-then-index-clause-counted
-returns-then-index-clause-counted g c = count_still _ _ _ refl
+pub returns-then-is_up-clause-counted : goal.returns-then-is_up-clause-counted
+returns-then-is_up-clause-counted g c = count_still _ _ _ refl
 
 pub returns-in-Ok-clause-counted : goal.returns-in-Ok-clause-counted
 returns-in-Ok-clause-counted g c =

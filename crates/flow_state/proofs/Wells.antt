@@ -1,0 +1,393 @@
+-- What is true of each table that commands reach: times, sizes and SIDs within their limits, flows by SID, and a flow for each waiting request.
+use Rattle.std.proofs.Common.{◌≡◌, ◌⊎◌, ℕ, suc, ◌+◌, ◌*◌, ◌<◌, ◌≤◌, Bool, true, false, cond, not, ◌||◌, ◌&&◌, List, [], ◌∷◌, ◌++◌, map, filter, length, Option, Some, None, refl, sym, ap, subst, ◌∙◌, arith, inl, inr, eqb, leb, ltb, is_some, is_none, length-append}
+use Rattle.std.specs.List.{list_any}
+use Rattle.std.specs.Prelude.{unwrap_or}
+use Rattle.std.proofs.lemmas.Bool.{eqb-true, leb-true}
+use Rattle.flow_state.specs.declared.channel.Channel.{Channel}
+use Rattle.flow_state.specs.declared.flow.FlowKind.{FlowKind}
+use Rattle.flow_state.specs.declared.flow.FlowKind.TheVariants.{BestEffort, Ugs, Poll}
+use Rattle.flow_state.specs.declared.flow.Waiting.{Waiting}
+use Rattle.flow_state.specs.declared.refusal.Refusal.{Refusal}
+use Rattle.flow_state.specs.declared.refusal.Refusal.TheVariants.{BadValue, SidsSpent, OldRequest, Busy}
+use Rattle.flow_state.specs.Limits.{last_time, last_sid, most_waiting, is_good_channel, is_good_kind, is_size, is_schedule, is_ugs, due_time}
+use Rattle.flow_state.specs.Rows.{Table, FlowRow, Assignment, is_flow, is_of, flow_of, assignment_of, unicast_sids, free_sid, insert_flow, waits}
+use Rattle.flow_state.specs.Refusals.{table_flow_refusal, table_request_refusal, request_refusal_on, is_old}
+use Rattle.flow_state.specs.Changes.{new_table, new_flow, add_to_table, flow_among, drop_in_table, request_in_table}
+use Rattle.flow_state.proofs.Members.{Has, has_left, has_right, has_either, has_pushed, has_map, map_has, has_filter, filter_has, any_has, has_any, none_has, found_has, range_has, filter_empty}
+use Rattle.flow_state.proofs.Filters.{filter_append}
+use Rattle.flow_state.proofs.Assignments.{eqb_same, some_sid, unwrap_some, free_is_free}
+use Rattle.flow_state.proofs.Assignments.{has}
+
+-- a flow within the limits; its next due time is at most an interval behind the last time
+pub record IsWellFlow (f : FlowRow) : Type 0 where
+  pub unicast : 1 ≤ f.sid
+  pub last : f.sid ≤ last_sid
+  pub kind : is_good_kind f.kind ≡ true
+  pub due : due_time f.kind f.index ≤ last_time + 1000000
+
+-- a waiting request within the limits, and the flow that it is of
+pub record IsWellRequest (fs : List FlowRow) (w : Waiting) : Type 0 where
+  pub some : 1 ≤ w.n
+  pub most : w.n ≤ 255
+  pub time : w.sent ≤ last_time
+  pub flow : FlowRow
+  pub there : Has fs flow
+  pub sid : flow.sid ≡ w.sid
+  pub last : flow.last_sent ≡ Some w.sent
+  pub asks : is_ugs flow.kind ≡ false
+
+-- flows in strict order of their SIDs, from this one on
+abbrev pub RisingFrom : ℕ → List FlowRow → Type 0
+RisingFrom low [] = Unit {0}
+RisingFrom low (f ∷ fs) = (low ≤ f.sid) × RisingFrom (f.sid + 1) fs
+
+-- a table that commands reach
+pub record IsWell (t : Table) : Type 0 where
+  pub channel : is_good_channel t.row.channel ≡ true
+  pub next : t.row.next_start ≤ last_time
+  pub ack : t.row.ack ≤ t.row.next_start
+  pub flows : (f : FlowRow) → Has t.flows f → IsWellFlow f
+  pub rising : RisingFrom 1 t.flows
+  pub given : (f : FlowRow) → Has t.flows f → list_any (has f.sid) t.assigned ≡ true
+  pub requests : (w : Waiting) → Has t.waiting w → IsWellRequest t.flows w
+  pub alone : (sid : ℕ) → length (filter (is_of sid) t.waiting) ≤ 1
+  pub few : length t.waiting ≤ most_waiting
+
+-- ---- tests
+
+pub both : (a b : Bool) → (a && b) ≡ true → (a ≡ true) × (b ≡ true)
+both true b e = (refl, e)
+both false b e = absurd cc
+
+pub neither : (a b : Bool) → (a || b) ≡ false → (a ≡ false) × (b ≡ false)
+neither true b e = absurd cc
+neither false b e = (refl, e)
+
+pub not_false : (b : Bool) → not b ≡ false → b ≡ true
+not_false true e = refl
+not_false false e = absurd cc
+
+pub not_true : (b : Bool) → not b ≡ true → b ≡ false
+not_true true e = absurd cc
+not_true false e = refl
+
+pub not_le : (m n : ℕ) → leb m n ≡ false → n < m
+not_le m n e = grind (arith, e)
+
+-- no refusal at a test: the test fails, and what comes after it doesn't refuse
+pub passes_on : (b : Bool) (r : Refusal) (o : Option Refusal) → cond b (Some r) o ≡ None → (b ≡ false) × (o ≡ None)
+passes_on true r o e = absurd cc
+passes_on false r o e = (refl, e)
+
+-- ---- flows by SID
+
+rising_weaker : (low more : ℕ) (fs : List FlowRow) → low ≤ more → RisingFrom more fs → RisingFrom low fs
+rising_weaker low more [] le r = tt
+rising_weaker low more (f ∷ fs) le r = (omega (arith, r.0), r.1)
+
+rising_has : (low : ℕ) (fs : List FlowRow) (f : FlowRow) → RisingFrom low fs → Has fs f → low ≤ f.sid
+rising_has low [] f r h = absurd h
+rising_has low (g ∷ fs) f r (inl e) = let same : g.sid ≡ f.sid = ap (λ (x : FlowRow). x.sid) e in omega (arith, r.0)
+rising_has low (g ∷ fs) f r (inr h) = let more = rising_has (g.sid + 1) fs f r.1 h in omega (arith, r.0)
+
+-- one flow has a SID at most
+pub one_flow : (low : ℕ) (fs : List FlowRow) (f g : FlowRow) → RisingFrom low fs → Has fs f → Has fs g → f.sid ≡ g.sid → f ≡ g
+one_flow low [] f g r h k e = absurd h
+one_flow low (x ∷ fs) f g r (inl d) (inl e) same = sym d ∙ e
+one_flow low (x ∷ fs) f g r (inl d) (inr k) same =
+    let more = rising_has (x.sid + 1) fs g r.1 k in let here : x.sid ≡ f.sid = ap (λ (y : FlowRow). y.sid) d in absurd (omega arith)
+one_flow low (x ∷ fs) f g r (inr h) (inl e) same =
+    let more = rising_has (x.sid + 1) fs f r.1 h in let here : x.sid ≡ g.sid = ap (λ (y : FlowRow). y.sid) e in absurd (omega arith)
+one_flow low (x ∷ fs) f g r (inr h) (inr k) same = one_flow (x.sid + 1) fs f g r.1 h k same
+
+rising_filter : (q : FlowRow → Bool) (low : ℕ) (fs : List FlowRow) → RisingFrom low fs → RisingFrom low (filter q fs)
+rising_filter q low [] r = tt
+rising_filter q low (f ∷ fs) r =
+    elim (q f) as (λ b. RisingFrom low (cond b (f ∷ filter q fs) (filter q fs))) [
+      | true ↦ (r.0, rising_filter q (f.sid + 1) fs r.1)
+      | false ↦ rising_weaker low (f.sid + 1) (filter q fs) (omega (arith, r.0)) (rising_filter q (f.sid + 1) fs r.1)
+    ]
+
+rising_map : (change : FlowRow → FlowRow) → ((f : FlowRow) → (change f).sid ≡ f.sid) → (low : ℕ) (fs : List FlowRow) → RisingFrom low fs → RisingFrom low (map change fs)
+rising_map change same low [] r = tt
+rising_map change same low (f ∷ fs) r =
+    let e = same f in
+    (omega (arith, r.0, e), subst (λ n. RisingFrom (n + 1) (map change fs)) (sym e) (rising_map change same (f.sid + 1) fs r.1))
+
+pub has_inserted : (f : FlowRow) (fs : List FlowRow) (g : FlowRow) → Has (insert_flow f fs) g → Has fs g ⊎ (f ≡ g)
+has_inserted f fs g h = elim (has_either (filter (λ x. leb x.sid f.sid) fs) (f ∷ filter (λ x. not (leb x.sid f.sid)) fs) g h) [
+  | inl l ↦ inl (has_filter (λ x. leb x.sid f.sid) fs g l).0
+  | inr r ↦ elim r [ inl e ↦ inr e | inr m ↦ inl (has_filter (λ x. not (leb x.sid f.sid)) fs g m).0 ]
+]
+
+pub inserted_has : (f : FlowRow) (fs : List FlowRow) (g : FlowRow) → Has fs g → Has (insert_flow f fs) g
+inserted_has f fs g h = by (leb g.sid f.sid) refl
+  where
+    by : (b : Bool) → leb g.sid f.sid ≡ b → Has (insert_flow f fs) g
+    by true e = has_left (filter (λ x. leb x.sid f.sid) fs) (f ∷ filter (λ x. not (leb x.sid f.sid)) fs) g (filter_has (λ x. leb x.sid f.sid) fs g h e)
+    by false e = has_right (filter (λ x. leb x.sid f.sid) fs) (f ∷ filter (λ x. not (leb x.sid f.sid)) fs) g (inr (filter_has (λ x. not (leb x.sid f.sid)) fs g h (ap not e)))
+
+-- a flow behind the last one of the front stays in order
+rising_join : (low : ℕ) (xs : List FlowRow) (f : FlowRow) (ys : List FlowRow) → low ≤ f.sid → RisingFrom low xs → ((g : FlowRow) → Has xs g → g.sid < f.sid) → RisingFrom (f.sid + 1) ys → RisingFrom low (xs ++ f ∷ ys)
+rising_join low [] f ys le r below s = (le, s)
+rising_join low (x ∷ xs) f ys le r below s = (r.0, rising_join (x.sid + 1) xs f ys (let b = below x (inl refl) in omega arith) r.1 (λ g h. below g (inr h)) s)
+
+-- what is above a SID rises from behind it
+rising_above : (sid low : ℕ) (fs : List FlowRow) → RisingFrom low fs → RisingFrom (sid + 1) (filter (λ x. not (leb x.sid sid)) fs)
+rising_above sid low [] r = tt
+rising_above sid low (f ∷ fs) r =
+    elim (leb f.sid sid) as (λ b. leb f.sid sid ≡ b → RisingFrom (sid + 1) (cond (not b) (f ∷ filter (λ x. not (leb x.sid sid)) fs) (filter (λ x. not (leb x.sid sid)) fs))) [
+      | true ↦ λ e. rising_above sid (f.sid + 1) fs r.1
+      | false ↦ λ e. let lt = not_le f.sid sid e in (omega arith, rising_filter (λ x. not (leb x.sid sid)) (f.sid + 1) fs r.1)
+    ] refl
+
+rising_inserted : (f : FlowRow) (fs : List FlowRow) → 1 ≤ f.sid → ((g : FlowRow) → Has fs g → ¬ (g.sid ≡ f.sid)) → RisingFrom 1 fs → RisingFrom 1 (insert_flow f fs)
+rising_inserted f fs one other r =
+    rising_join 1 (filter (λ x. leb x.sid f.sid) fs) f (filter (λ x. not (leb x.sid f.sid)) fs) one (rising_filter (λ x. leb x.sid f.sid) 1 fs r)
+    (λ g h. below g (has_filter (λ x. leb x.sid f.sid) fs g h)) (rising_above f.sid 1 fs r)
+  where
+    below : (g : FlowRow) → Has fs g × (leb g.sid f.sid ≡ true) → g.sid < f.sid
+    below g h = let le = leb-true g.sid f.sid h.1 in let off = other g h.0 in less g.sid f.sid le off
+      where
+        less : (m n : ℕ) → m ≤ n → ¬ (m ≡ n) → m < n
+        less m n le off = grind (arith, off)
+
+-- ---- lengths
+
+pub filter_fewer : {X : Type 0} (p : X → Bool) (xs : List X) → length (filter p xs) ≤ length xs
+filter_fewer p [] = omega arith
+filter_fewer p (x ∷ xs) = let less = filter_fewer p xs in elim (p x) as (λ b. length (cond b (x ∷ filter p xs) (filter p xs)) ≤ suc (length xs)) [ true ↦ omega arith | false ↦ omega arith ]
+
+-- what passes two tests is no more than what passes one
+pub filter_both : {X : Type 0} (p q : X → Bool) (xs : List X) → length (filter p (filter q xs)) ≤ length (filter p xs)
+filter_both p q [] = omega arith
+filter_both p q (x ∷ xs) =
+    let less = filter_both p q xs in
+    elim (q x) as (λ b. length (filter p (cond b (x ∷ filter q xs) (filter q xs))) ≤ length (cond (p x) (x ∷ filter p xs) (filter p xs))) [
+      | true ↦ elim (p x) as (λ c. length (cond c (x ∷ filter p (filter q xs)) (filter p (filter q xs))) ≤ length (cond c (x ∷ filter p xs) (filter p xs))) [ true ↦ omega arith | false ↦ less ]
+      | false ↦ elim (p x) as (λ c. length (filter p (filter q xs)) ≤ length (cond c (x ∷ filter p xs) (filter p xs))) [ true ↦ omega arith | false ↦ less ]
+    ]
+
+-- ---- a channel as it is set
+
+pub new_is_well : (c : Channel) → is_good_channel c ≡ true → IsWell (new_table c)
+new_is_well c good = record {
+  channel = good;
+  next = leb-true _ _ (both _ _ good).1;
+  ack = omega arith;
+  flows = λ f h. absurd h;
+  rising = tt;
+  given = λ f h. absurd h;
+  requests = λ w h. absurd h;
+  alone = λ sid. omega arith;
+  few = omega arith;
+}
+
+-- ---- a flow as it is added
+
+-- a flow that isn't refused has a good kind
+pub kind_of_added : (t : Table) (modem tag : ℕ) (kind : FlowKind) → assignment_of t modem tag ≡ None → table_flow_refusal t modem tag kind ≡ None → is_good_kind kind ≡ true
+kind_of_added t modem tag kind none e =
+    not_false _ (passes_on (not (is_good_kind kind)) BadValue (cond (is_none (free_sid t)) (Some SidsSpent) None)
+    (ap (λ (o : Option Assignment). cond (is_some o) None (cond (not (is_good_kind kind)) (Some BadValue) (cond (is_none (free_sid t)) (Some SidsSpent) None))) (sym none) ∙ e)).0
+
+scheduled : (interval jitter base : ℕ) → is_schedule interval jitter base ≡ true → base + 0 * interval ≤ last_time
+scheduled interval jitter base e = let at_most : base ≤ last_time = leb-true base last_time (both (leb 1 interval && leb interval 1000000 && ltb jitter interval) (leb base last_time) e).1 in omega arith
+
+first_due : (kind : FlowKind) → is_good_kind kind ≡ true → due_time kind 0 ≤ last_time
+first_due (BestEffort priority) e = omega arith
+first_due (Ugs size interval jitter base) e = let schedule = both (is_size size) (is_schedule interval jitter base) e in
+    scheduled interval jitter base schedule.1
+first_due (Poll interval jitter base) e = scheduled interval jitter base e
+
+request_more : (fs gs : List FlowRow) (w : Waiting) → ((f : FlowRow) → Has fs f → Has gs f) → IsWellRequest fs w → IsWellRequest gs w
+request_more fs gs w more r = record { some = r.some; most = r.most; time = r.time; flow = r.flow; there = more r.flow r.there; sid = r.sid; last = r.last; asks = r.asks }
+
+listed : (n : ℕ) → Has unicast_sids n → (1 ≤ n) × (n < 1 + last_sid)
+unfolding unicast_sids
+listed n h = range_has 1 last_sid n h
+
+-- a SID that is free is a unicast one
+pub free_range : (t : Table) (sid : ℕ) → free_sid t ≡ Some sid → (1 ≤ sid) × (sid < 1 + last_sid)
+free_range t sid e = listed sid (found_has (λ s. not (list_any (λ a. eqb a.sid s) t.assigned)) unicast_sids sid e).0
+
+pub flow_is_well : (o : Option Assignment) (t : Table) (modem tag : ℕ) (kind : FlowKind) → assignment_of t modem tag ≡ o → table_flow_refusal t modem tag kind ≡ None → IsWell t → IsWell (flow_among o t modem tag kind)
+flow_is_well (Some a) t modem tag kind e ok w = w
+flow_is_well None t modem tag kind e ok w =
+    let free = some_sid t modem tag kind e ok in
+    let sid : ℕ = unwrap_or (free_sid t) 0 in
+    let sid_is : sid ≡ free.0 = unwrap_some (free_sid t) free.0 free.1 in
+    let good = kind_of_added t modem tag kind e ok in
+    by sid sid_is (free_range t free.0 free.1) (free_is_free t free.0 free.1) good
+  where
+    by : (sid : ℕ) {free : ℕ} → sid ≡ free → (1 ≤ free) × (free < 1 + last_sid) → list_any (has free) t.assigned ≡ false → is_good_kind kind ≡ true → IsWell (add_to_table t modem tag kind sid)
+    by sid {free} same range fresh good =
+        let new : FlowRow = new_flow sid modem tag kind in
+        let given : Assignment = record { modem = modem; tag = tag; sid = sid } in
+        let due = first_due kind good in
+        let one : 1 ≤ sid = omega (arith, range.0) in
+        let well : IsWellFlow new = record { unicast = one; last = omega (arith, range.1); kind = good; due = omega arith } in
+        record {
+          channel = w.channel;
+          next = w.next;
+          ack = w.ack;
+          flows = λ f h. elim (has_inserted new t.flows f h) [ inl old ↦ w.flows f old | inr is ↦ subst IsWellFlow is well ];
+          rising = rising_inserted new t.flows one (λ g h is. absurd (let old : list_any (has g.sid) t.assigned ≡ true = w.given g h in
+              let at : list_any (has g.sid) t.assigned ≡ list_any (has free) t.assigned = ap (λ n. list_any (has n) t.assigned) (is ∙ same) in cc)) w.rising;
+          given = λ f h. elim (has_inserted new t.flows f h) [
+            | inl old ↦ let a = any_has (has f.sid) t.assigned (w.given f old) in has_any (has f.sid) (t.assigned ++ given ∷ []) a.0 (has_left t.assigned (given ∷ []) a.0 a.1) a.2
+            | inr is ↦ has_any (has f.sid) (t.assigned ++ given ∷ []) given (has_right t.assigned (given ∷ []) given (inl refl)) (ap (λ (g : FlowRow). eqb sid g.sid) (sym is) ∙ eqb_same sid)
+          ];
+          requests = λ r h. request_more t.flows (insert_flow new t.flows) r (λ f k. inserted_has new t.flows f k) (w.requests r h);
+          alone = w.alone;
+          few = w.few;
+        }
+
+-- ---- a flow is dropped
+
+pub drop_is_well : (t : Table) (at : ℕ) → IsWell t → IsWell (drop_in_table t at)
+drop_is_well t at w = record {
+  channel = w.channel;
+  next = w.next;
+  ack = w.ack;
+  flows = λ f h. w.flows f (has_filter (λ g. not (is_flow at g)) t.flows f h).0;
+  rising = rising_filter (λ g. not (is_flow at g)) 1 t.flows w.rising;
+  given = λ f h. w.given f (has_filter (λ g. not (is_flow at g)) t.flows f h).0;
+  requests = λ r h. by r (has_filter (λ v. not (is_of at v)) t.waiting r h);
+  alone = λ sid. let less = filter_both (is_of sid) (λ v. not (is_of at v)) t.waiting in let one = w.alone sid in omega arith;
+  few = let less = filter_fewer (λ v. not (is_of at v)) t.waiting in let most = w.few in omega arith;
+}
+  where
+    by : (r : Waiting) → Has t.waiting r × (not (is_of at r) ≡ true) → IsWellRequest (filter (λ g. not (is_flow at g)) t.flows) r
+    by r h =
+        let old = w.requests r h.0 in
+        record {
+          some = old.some;
+          most = old.most;
+          time = old.time;
+          flow = old.flow;
+          there = filter_has (λ g. not (is_flow at g)) t.flows old.flow old.there (ap (λ n. not (eqb n at)) old.sid ∙ h.1);
+          sid = old.sid;
+          last = old.last;
+          asks = old.asks;
+        }
+
+-- ---- a request as it is accepted
+
+-- what holds of a request that isn't refused
+pub record IsAsked (t : Table) (sid n sent : ℕ) : Type 0 where
+  pub flow : FlowRow
+  pub found : flow_of t sid ≡ Some flow
+  pub there : Has t.flows flow
+  pub sid_is : flow.sid ≡ sid
+  pub some : 1 ≤ n
+  pub most : n ≤ 255
+  pub time : sent ≤ last_time
+  pub asks : is_ugs flow.kind ≡ false
+  pub new : is_old flow.last_sent sent ≡ false
+  pub idle : waits t sid ≡ false
+  pub room : length t.waiting < most_waiting
+
+pub is_asked : (t : Table) (sid n sent : ℕ) → table_request_refusal t sid n sent ≡ None → IsAsked t sid n sent
+is_asked t sid n sent e = by (flow_of t sid) refl e
+  where
+    by : (o : Option FlowRow) → flow_of t sid ≡ o → request_refusal_on o t n sent ≡ None → IsAsked t sid n sent
+    by None f g = absurd cc
+    by (Some flow) f g =
+        let found = found_has (is_flow sid) t.flows flow f in
+        let same : flow.sid ≡ sid = eqb-true _ _ found.1 in
+        let first = passes_on (not (is_size n) || not (leb sent last_time) || is_ugs flow.kind) BadValue _ g in
+        let second = passes_on (is_old flow.last_sent sent) OldRequest _ first.1 in
+        let third = passes_on (waits t flow.sid || leb most_waiting (length t.waiting)) Busy None second.1 in
+        let values = neither (not (is_size n) || not (leb sent last_time)) (is_ugs flow.kind) first.0 in
+        let parts = neither (not (is_size n)) (not (leb sent last_time)) values.0 in
+        let size = both _ _ (not_false (is_size n) parts.0) in
+        let busy = neither (waits t flow.sid) (leb most_waiting (length t.waiting)) third.0 in
+        record {
+          flow = flow;
+          found = f;
+          there = found.0;
+          sid_is = same;
+          some = leb-true _ _ size.0;
+          most = leb-true _ _ size.1;
+          time = leb-true _ _ (not_false _ parts.1);
+          asks = values.1;
+          new = second.0;
+          idle = ap (waits t) (sym same) ∙ busy.0;
+          room = not_le most_waiting (length t.waiting) busy.1;
+        }
+
+-- a flow as a request of a SID leaves it
+abbrev pub asked : ℕ → ℕ → FlowRow → FlowRow
+asked sid sent f = cond (is_flow sid f) (record f { last_sent = Some sent }) f
+
+pub asked_same : (sid sent : ℕ) (f : FlowRow) → (asked sid sent f).sid ≡ f.sid
+asked_same sid sent f = elim (is_flow sid f) as (λ b. (cond b (record f { last_sent = Some sent }) f).sid ≡ f.sid) [ true ↦ refl | false ↦ refl ]
+
+asked_well : (sid sent : ℕ) (f : FlowRow) → IsWellFlow f → IsWellFlow (asked sid sent f)
+asked_well sid sent f w = elim (is_flow sid f) as (λ b. IsWellFlow (cond b (record f { last_sent = Some sent }) f)) [
+  | true ↦ record { unicast = w.unicast; last = w.last; kind = w.kind; due = w.due }
+  | false ↦ w
+]
+
+pub request_is_well : (t : Table) (sid n sent : ℕ) → table_request_refusal t sid n sent ≡ None → IsWell t → IsWell (request_in_table t sid n sent)
+request_is_well t sid n sent ok w =
+    let a = is_asked t sid n sent ok in
+    let new : Waiting = record { sid = sid; n = n; sent = sent } in
+    record {
+      channel = w.channel;
+      next = w.next;
+      ack = w.ack;
+      flows = λ f h. let m = has_map (asked sid sent) t.flows f h in subst IsWellFlow m.2 (asked_well sid sent m.0 (w.flows m.0 m.1));
+      rising = rising_map (asked sid sent) (asked_same sid sent) 1 t.flows w.rising;
+      given = λ f h. let m = has_map (asked sid sent) t.flows f h in
+          subst (λ k. list_any (has k) t.assigned ≡ true) (sym (asked_same sid sent m.0) ∙ ap (λ (g : FlowRow). g.sid) m.2) (w.given m.0 m.1);
+      requests = λ r h. elim (has_pushed t.waiting new r h) [
+        | inl old ↦ kept a r old
+        | inr is ↦ subst (IsWellRequest (map (asked sid sent) t.flows)) is (record {
+          some = a.some;
+          most = a.most;
+          time = a.time;
+          flow = record a.flow { last_sent = Some sent };
+          there = subst (Has (map (asked sid sent) t.flows)) (ap (λ b. cond b (record a.flow { last_sent = Some sent }) a.flow) (on a)) (map_has (asked sid sent) t.flows a.flow a.there);
+          sid = a.sid_is;
+          last = refl;
+          asks = a.asks;
+        })
+      ];
+      alone = λ s. one a s (eqb sid s) refl;
+      few = let room = a.room in let len = length-append t.waiting (new ∷ []) in omega arith;
+    }
+  where
+    on : (a : IsAsked t sid n sent) → is_flow sid a.flow ≡ true
+    on a = ap (λ m. eqb m sid) a.sid_is ∙ eqb_same sid
+
+    kept : IsAsked t sid n sent → (r : Waiting) → Has t.waiting r → IsWellRequest (map (asked sid sent) t.flows) r
+    kept a r h =
+        let old = w.requests r h in
+        let other : is_flow sid old.flow ≡ false = ap (λ m. eqb m sid) old.sid ∙ none_has (is_of sid) t.waiting r a.idle h in
+        record {
+          some = old.some;
+          most = old.most;
+          time = old.time;
+          flow = old.flow;
+          there = subst (Has (map (asked sid sent) t.flows)) (ap (λ b. cond b (record old.flow { last_sent = Some sent }) old.flow) other) (map_has (asked sid sent) t.flows old.flow old.there);
+          sid = old.sid;
+          last = old.last;
+          asks = old.asks;
+        }
+
+    none : IsAsked t sid n sent → filter (is_of sid) t.waiting ≡ []
+    none a = filter_empty (is_of sid) t.waiting (λ r h. none_has (is_of sid) t.waiting r a.idle h)
+
+    one : IsAsked t sid n sent → (s : ℕ) (b : Bool) → eqb sid s ≡ b → length (filter (is_of s) (t.waiting ++ record { sid = sid; n = n; sent = sent } ∷ [])) ≤ 1
+    one a s b e =
+        let parts : filter (is_of s) (t.waiting ++ record { sid = sid; n = n; sent = sent } ∷ []) ≡ filter (is_of s) t.waiting ++ cond b (record { sid = sid; n = n; sent = sent } ∷ []) [] =
+        filter_append (is_of s) t.waiting _ ∙ ap (λ c. filter (is_of s) t.waiting ++ cond c (record { sid = sid; n = n; sent = sent } ∷ []) []) e in
+        subst (λ (ws : List Waiting). length ws ≤ 1) (sym parts) (few_of b e)
+      where
+        few_of : (b : Bool) → eqb sid s ≡ b → length (filter (is_of s) t.waiting ++ cond b (record { sid = sid; n = n; sent = sent } ∷ []) []) ≤ 1
+        few_of true f =
+            let empty : filter (is_of s) t.waiting ≡ [] = subst (λ m. filter (is_of m) t.waiting ≡ []) (eqb-true _ _ f) (none a) in
+            subst (λ (ws : List Waiting). length (ws ++ record { sid = sid; n = n; sent = sent } ∷ []) ≤ 1) (sym empty) (omega arith)
+        few_of false f = let less = w.alone s in let len = length-append (filter (is_of s) t.waiting) [] in omega arith

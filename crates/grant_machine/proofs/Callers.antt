@@ -1,0 +1,3 @@
+-- What the crates above cite of this crate's proofs: what holds of the outputs of any list of commands.
+pub use Rattle.grant_machine.proofs.Maps.{maps_are_disjoint}
+pub use Rattle.grant_machine.proofs.Schedules.{owners_are_one, sids_are_unicast}

@@ -1,6 +1,0 @@
-use Rattle.std.proofs.Common.{◌≡◌, ◌++◌, take}
-use Rattle.grant_machine.specs.Lent.{of_priority}
-use Rattle.grant_machine.proofs.waiting.add_priority.Given as goal
-
-abbrev pub invariant-loop-request : goal.invariant-loop-request
-invariant-loop-request l = l.ordered.items ≡ l.initial.ordered.items ++ of_priority l.flows (take l.request-index l.waiting) l.priority

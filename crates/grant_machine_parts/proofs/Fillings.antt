@@ -1,0 +1,396 @@
+-- How a MAP is filled: each placement fits where it is put, and the table after it is well.
+use Rattle.std.proofs.Common.{◌≡◌, ◌⊎◌, ℕ, zero, suc, ◌+◌, ◌*◌, ◌-◌, ◌/◌, ◌<◌, ◌≤◌, Bool, true, false, cond, not, max, List, [], ◌∷◌, ◌++◌, filter, length, Option, Some, None, refl, sym, ap, subst, ◌∙◌, arith, inl, inr, eqb, leb, ltb, is_none, add-mul, one-mul, div-mul-le_self, mul-le-mul_right}
+use Rattle.std.specs.List.{list_any, list_all, find, range_with_len, AllZip}
+use Rattle.std.proofs.lemmas.Bool.{leb-true, ltb-true}
+use Rattle.minislot_time.specs.Extent.{Extent}
+use Rattle.flow_state.specs.declared.channel.Channel.{Channel}
+use Rattle.flow_state.specs.declared.flow.FlowKind.{FlowKind}
+use Rattle.flow_state.specs.declared.flow.FlowKind.TheVariants.{BestEffort, Ugs, Poll}
+use Rattle.flow_state.specs.declared.flow.Waiting.{Waiting}
+use Rattle.flow_state.specs.declared.refusal.Refusal.TheVariants.{BadValue}
+use Rattle.flow_state.specs.Limits.{last_time, last_sid, is_good_kind, is_schedule, is_ugs, due_time}
+use Rattle.flow_state.specs.Rows.{Table, FlowRow, is_of}
+use Rattle.grant_machine_parts.specs.Placing.{Cause, Window, Sent, Placement, holder, is_free, fits_at, first_fit, most_placements}
+use Rattle.grant_machine_parts.specs.Cutting.{Periodic, due_at, end_of, Missed, Placed, Kept, verdict, verdict_on, placement_at, Ran, run_due_times, run_flow, due_before, Passed, pass, grants_of_flow, polls_of_flow, grants_of_kind, polls_of_kind, grant_iuc, priority_of, in_order, placement_for, place_requests, is_grant_of, Filled, fill, fill_span, fill_refusal, span_of, ack_of, table_after}
+use Rattle.grant_machine_parts.specs.Filling.{IsUseFor}
+use Rattle.flow_state.proofs.Callers.{Has, has_filter, has_flat_map}
+use Rattle.grant_machine_parts.proofs.Windows.{first_fit_tells, placed_is}
+use Rattle.flow_state.proofs.Callers.{IsWell, IsWellFlow, RisingFrom, both, filter_fewer, filter_both}
+
+-- ---- where a placement may go
+
+-- there is room for a placement, and n free minislots of the MAP begin at x
+pub record Fit (span : Extent) (ps : List Placement) (n x : ℕ) : Type 0 where
+  pub few : length ps < most_placements
+  pub within : x + n ≤ span.len
+  pub free : (y : ℕ) → x ≤ y → y < x + n → holder ps y ≡ None
+
+none_is : {X : Type 0} (o : Option X) → is_none o ≡ true → o ≡ None
+none_is None e = refl
+none_is (Some x) e = absurd cc
+
+all_free : (ps : List Placement) (a n y : ℕ) → list_all (is_free ps) (range_with_len a n) ≡ true → a ≤ y → y < a + n → holder ps y ≡ None
+all_free ps a zero y e ge lt = absurd (omega arith)
+all_free ps a (suc n) y e ge lt = elim (first a y ge) [
+  | inl same ↦ none_is (holder ps y) (subst (λ k. is_free ps k ≡ true) same (both _ _ e).0)
+  | inr more ↦ all_free ps (a + 1) n y (both _ _ e).1 more (omega arith)
+]
+  where
+    first : (a x : ℕ) → a ≤ x → (a ≡ x) ⊎ (a + 1 ≤ x)
+    first a x le = grind arith
+
+pub fit_tells : (span : Extent) (ps : List Placement) (n lo hi x : ℕ) → first_fit span ps n lo hi ≡ Some x → Fit span ps n x
+fit_tells span ps n lo hi x e =
+    let t = first_fit_tells span ps n lo hi x e in
+    record { few = by (ltb (length ps) most_placements) refl e; within = t.within; free = λ y ge lt. all_free ps x n y t.free ge lt }
+  where
+    by : (b : Bool) → ltb (length ps) most_placements ≡ b → cond b (find (fits_at span ps n lo hi) (range_with_len 0 span.len)) None ≡ Some x → length ps < most_placements
+    by true h f = ltb-true _ _ h
+    by false h f = absurd cc
+
+pub placed_fit : (span : Extent) (ps : List Placement) (p : Periodic) (i x : ℕ) → verdict span ps p i ≡ Placed x → Fit span ps p.size x
+placed_fit span ps p i x e =
+    elim (ltb (due_at p i + p.jitter) span.start) as (λ b. cond b Missed (verdict_on span (first_fit span ps p.size (max (due_at p i) span.start) (due_at p i + p.jitter)) (due_at p i + p.jitter)) ≡ Placed x → Fit span ps p.size x) [
+      | true ↦ λ f. absurd cc
+      | false ↦ λ f. fit_tells span ps p.size _ _ x (placed_is span _ _ x f)
+    ] e
+
+-- ---- due times
+
+-- what comes at due times within the limits
+pub record IsWellPeriodic (p : Periodic) : Type 0 where
+  pub some : 1 ≤ p.size
+  pub most : p.size ≤ 255
+  pub unicast : 1 ≤ p.sid
+  pub last : p.sid ≤ last_sid
+  pub iuc : (p.iuc ≡ 1) ⊎ ((p.iuc ≡ 5) ⊎ (p.iuc ≡ 6))
+  pub short : p.interval ≤ 1000000
+
+pub grant_use : (c : Channel) (n : ℕ) → (grant_iuc c n ≡ 5) ⊎ (grant_iuc c n ≡ 6)
+grant_use c n = by (leb n c.short_max)
+  where
+    by : (b : Bool) → (cond {A = ℕ} b 5 6 ≡ 5) ⊎ (cond {A = ℕ} b 5 6 ≡ 6)
+    by true = inl refl
+    by false = inr refl
+
+-- what a flow's kind asks for is at the flow's due times
+pub record IsOfFlow (f : FlowRow) (p : Periodic) : Type 0 where
+  pub well : IsWellPeriodic p
+  pub due : (i : ℕ) → due_time f.kind i ≡ due_at p i
+
+short_interval : (interval jitter base : ℕ) → is_schedule interval jitter base ≡ true → interval ≤ 1000000
+short_interval interval jitter base e = leb-true _ _ (both _ _ (both _ _ (both _ _ e).0).0).1
+
+periodic_is : (q p : Periodic) → Some q ≡ Some p → q ≡ p
+periodic_is q p e = cc
+
+pub grants_of : (c : Channel) (f : FlowRow) (p : Periodic) → IsWellFlow f → grants_of_kind c f.sid f.kind ≡ Some p → IsOfFlow f p
+grants_of c f p w e = by f.kind refl e
+  where
+    by : (k : FlowKind) → f.kind ≡ k → grants_of_kind c f.sid k ≡ Some p → IsOfFlow f p
+    by (BestEffort priority) h g = absurd cc
+    by (Poll interval jitter base) h g = absurd cc
+    by (Ugs size interval jitter base) h g =
+        let good : is_good_kind (Ugs size interval jitter base) ≡ true = ap is_good_kind (sym h) ∙ w.kind in
+        let size_is = both _ _ (both _ _ good).0 in
+        let use_is = grant_use c size in
+        subst (IsOfFlow f) (periodic_is _ p g) (record {
+          well = record {
+            some = leb-true _ _ size_is.0;
+            most = leb-true _ _ size_is.1;
+            unicast = w.unicast;
+            last = w.last;
+            iuc = elim use_is [ inl five ↦ inr (inl five) | inr six ↦ inr (inr six) ];
+            short = short_interval interval jitter base (both _ _ good).1;
+          };
+          due = λ i. ap (λ k. due_time k i) h;
+        })
+
+pub polls_of : (c : Channel) (f : FlowRow) (p : Periodic) → IsWellFlow f → polls_of_kind c f.sid f.kind ≡ Some p → IsOfFlow f p
+polls_of c f p w e = by f.kind refl e
+  where
+    by : (k : FlowKind) → f.kind ≡ k → polls_of_kind c f.sid k ≡ Some p → IsOfFlow f p
+    by (BestEffort priority) h g = absurd cc
+    by (Ugs size interval jitter base) h g = absurd cc
+    by (Poll interval jitter base) h g =
+        let good : is_good_kind (Poll interval jitter base) ≡ true = ap is_good_kind (sym h) ∙ w.kind in
+        subst (IsOfFlow f) (periodic_is _ p g) (record {
+          well = record { some = omega arith; most = omega arith; unicast = w.unicast; last = w.last; iuc = inl refl; short = short_interval interval jitter base good };
+          due = λ i. ap (λ k. due_time k i) h;
+        })
+
+abbrev IndexUpTo : ℕ → Ran → Type 0
+IndexUpTo n ran = ran.index ≤ n
+
+-- a flow goes on by as many due times as are tried, at most
+index_within : (span : Extent) (p : Periodic) (k i : ℕ) (ps : List Placement) → (run_due_times span p k i ps).index ≤ i + k
+index_within span p zero i ps = omega arith
+index_within span p (suc k) i ps =
+    elim (verdict span ps p i) as (λ v. IndexUpTo (i + suc k) (elim v [ Missed ↦ run_due_times span p k (i + 1) ps | Placed x ↦ run_due_times span p k (i + 1) (ps ++ placement_at p i x ∷ []) | Kept ↦ record { placements = ps; index = i } ])) [
+      | Missed ↦ let less = index_within span p k (i + 1) ps in omega arith
+      | Placed x ↦ let less = index_within span p k (i + 1) (ps ++ placement_at p i x ∷ []) in omega arith
+      | Kept ↦ omega arith
+    ]
+
+due_later : (p : Periodic) (i j : ℕ) → i ≤ j → due_at p i ≤ due_at p j
+due_later p i j le = let more : i * p.interval ≤ j * p.interval = mul-le-mul_right p.interval le in omega arith
+
+-- the first due time that isn't tried is at most an interval behind the end
+due_bound : (p : Periodic) (i end most : ℕ) → p.interval ≤ 1000000 → end ≤ most → due_at p i ≤ most + 1000000 → due_at p (i + due_before p i end) ≤ most + 1000000
+due_bound p i end most short le due =
+    elim (ltb (due_at p i) end) as (λ b. ltb (due_at p i) end ≡ b → due_at p (i + cond b ((end - 1 - due_at p i) / p.interval + 1) 0) ≤ most + 1000000) [
+      | true ↦ λ h.
+          let lt : due_at p i < end = ltb-true _ _ h in
+          let q : ℕ = (end - 1 - due_at p i) / p.interval in
+          let most_q : q * p.interval ≤ end - 1 - due_at p i = div-mul-le_self (end - 1 - due_at p i) p.interval in
+          let outer : (i + (q + 1)) * p.interval ≡ i * p.interval + (q + 1) * p.interval = add-mul i (q + 1) p.interval in
+          let inner : (q + 1) * p.interval ≡ q * p.interval + 1 * p.interval = add-mul q 1 p.interval in
+          let last : 1 * p.interval ≡ p.interval = one-mul p.interval in
+          by (i * p.interval) (q * p.interval) ((q + 1) * p.interval) (1 * p.interval) ((i + (q + 1)) * p.interval) p.interval p.base short lt most_q outer inner last
+      | false ↦ λ h. let same : i + 0 ≡ i = omega arith in rw same due
+    ] refl
+  where
+    by : (a b c d e interval base : ℕ) → interval ≤ 1000000 → base + a < end → b ≤ end - 1 - (base + a) → e ≡ a + c → c ≡ b + d → d ≡ interval → base + e ≤ most + 1000000
+    by a b c d e interval base small lt most_q outer inner last = omega arith
+
+run_bound : (span : Extent) (o : Option Periodic) (f : FlowRow) (ps : List Placement) → end_of span ≤ last_time → IsWellFlow f → ((p : Periodic) → o ≡ Some p → IsOfFlow f p) → due_time f.kind (run_flow span o f.index ps).index ≤ last_time + 1000000
+run_bound span None f ps le w of = w.due
+run_bound span (Some p) f ps le w of =
+    let its = of p refl in
+    let k : ℕ = due_before p f.index (end_of span) in
+    let now : due_at p f.index ≤ last_time + 1000000 = subst (λ d. d ≤ last_time + 1000000) (its.due f.index) w.due in
+    let bound = due_bound p f.index (end_of span) last_time its.well.short le now in
+    let less = due_later p (run_flow span (Some p) f.index ps).index (f.index + k) (index_within span p k f.index ps) in
+    subst (λ d. d ≤ last_time + 1000000) (sym (its.due (run_flow span (Some p) f.index ps).index)) (omega arith)
+
+-- ---- a pass over flows
+
+-- a flow before and after a pass: another due time is next
+pub record Moves (f g : FlowRow) : Type 0 where
+  pub index : ℕ
+  pub is : g ≡ record f { index = index }
+  pub well : IsWellFlow f → IsWellFlow g
+
+-- what a pass asks of flows is at their due times
+abbrev pub AsksWell : (FlowRow → Option Periodic) → Type 0
+AsksWell what = (f : FlowRow) (p : Periodic) → IsWellFlow f → what f ≡ Some p → IsOfFlow f p
+
+pub grants_ask_well : (c : Channel) → AsksWell (grants_of_flow c)
+grants_ask_well c f p w e = grants_of c f p w e
+
+pub polls_ask_well : (c : Channel) → AsksWell (polls_of_flow c)
+polls_ask_well c f p w e = polls_of c f p w e
+
+pub pass_moves : (span : Extent) (what : FlowRow → Option Periodic) (fs : List FlowRow) (ps : List Placement) → end_of span ≤ last_time → AsksWell what → AllZip Moves fs (pass span what fs ps).flows
+pass_moves span what [] ps le asks = tt
+pass_moves span what (f ∷ fs) ps le asks = (
+  record {
+    index = (run_flow span (what f) f.index ps).index;
+    is = refl;
+    well = λ w. record { unicast = w.unicast; last = w.last; kind = w.kind; due = run_bound span (what f) f ps le w (λ p e. asks f p w e) };
+  },
+  pass_moves span what fs (run_flow span (what f) f.index ps).placements le asks,
+)
+
+-- the flow that a moved one was, and the one that it becomes
+pub moved_from : (fs gs : List FlowRow) (g : FlowRow) → AllZip Moves fs gs → Has gs g → (f : FlowRow) × Has fs f × Moves f g
+moved_from [] [] g z h = absurd h
+moved_from [] (y ∷ gs) g z h = absurd z
+moved_from (x ∷ fs) [] g z h = absurd z
+moved_from (x ∷ fs) (y ∷ gs) g z (inl e) = (x, inl refl, subst (Moves x) e z.0)
+moved_from (x ∷ fs) (y ∷ gs) g z (inr h) = let m = moved_from fs gs g z.1 h in (m.0, inr m.1, m.2)
+
+pub moved_to : (fs gs : List FlowRow) (f : FlowRow) → AllZip Moves fs gs → Has fs f → (g : FlowRow) × Has gs g × Moves f g
+moved_to [] [] f z h = absurd h
+moved_to [] (y ∷ gs) f z h = absurd z
+moved_to (x ∷ fs) [] f z h = absurd z
+moved_to (x ∷ fs) (y ∷ gs) f z (inl e) = (y, inl refl, subst (λ (v : FlowRow). Moves v y) e z.0)
+moved_to (x ∷ fs) (y ∷ gs) f z (inr h) = let m = moved_to fs gs f z.1 h in (m.0, inr m.1, m.2)
+
+rising_moved : (low : ℕ) (fs gs : List FlowRow) → AllZip Moves fs gs → RisingFrom low fs → RisingFrom low gs
+rising_moved low [] [] z r = tt
+rising_moved low [] (y ∷ gs) z r = absurd z
+rising_moved low (x ∷ fs) [] z r = absurd z
+rising_moved low (x ∷ fs) (y ∷ gs) z r =
+    let same : y.sid ≡ x.sid = ap (λ (v : FlowRow). v.sid) z.0.is in
+    (omega (arith, r.0), subst (λ n. RisingFrom (n + 1) gs) (sym same) (rising_moved (x.sid + 1) fs gs z.1 r.1))
+
+pub moved_well : (fs gs : List FlowRow) → AllZip Moves fs gs → ((f : FlowRow) → Has fs f → IsWellFlow f) → (g : FlowRow) → Has gs g → IsWellFlow g
+moved_well fs gs z each g h = let m = moved_from fs gs g z h in m.2.well (each m.0 m.1)
+
+-- ---- what holds of the placements, kept by each one that is added
+
+module _ (K : List Placement → Type 0) where
+  abbrev KeptIn : Ran → Type 0
+  KeptIn ran = K ran.placements
+
+  run_keeps : (span : Extent) (p : Periodic) → ((ps : List Placement) (i x : ℕ) → K ps → Fit span ps p.size x → K (ps ++ placement_at p i x ∷ [])) → (k i : ℕ) (ps : List Placement) → K ps → K (run_due_times span p k i ps).placements
+  run_keeps span p more zero i ps h = h
+  run_keeps span p more (suc k) i ps h =
+      elim (verdict span ps p i) as (λ v. verdict span ps p i ≡ v → KeptIn (elim v [ Missed ↦ run_due_times span p k (i + 1) ps | Placed x ↦ run_due_times span p k (i + 1) (ps ++ placement_at p i x ∷ []) | Kept ↦ record { placements = ps; index = i } ])) [
+        | Missed ↦ λ e. run_keeps span p more k (i + 1) ps h
+        | Placed x ↦ λ e. run_keeps span p more k (i + 1) (ps ++ placement_at p i x ∷ []) (more ps i x h (placed_fit span ps p i x e))
+        | Kept ↦ λ e. h
+      ] refl
+
+  flow_keeps : (span : Extent) (o : Option Periodic) (i : ℕ) → ((p : Periodic) → o ≡ Some p → (ps : List Placement) (j x : ℕ) → K ps → Fit span ps p.size x → K (ps ++ placement_at p j x ∷ [])) → (ps : List Placement) → K ps → K (run_flow span o i ps).placements
+  flow_keeps span None i more ps h = h
+  flow_keeps span (Some p) i more ps h = run_keeps span p (more p refl) (due_before p i (end_of span)) i ps h
+
+  pub pass_keeps : (span : Extent) (what : FlowRow → Option Periodic) (fs : List FlowRow)
+      → ((f : FlowRow) → Has fs f → (p : Periodic) → what f ≡ Some p → (ps : List Placement) (j x : ℕ) → K ps → Fit span ps p.size x → K (ps ++ placement_at p j x ∷ []))
+      → (ps : List Placement) → K ps → K (pass span what fs ps).placements
+  pass_keeps span what [] more ps h = h
+  pass_keeps span what (f ∷ fs) more ps h =
+      pass_keeps span what fs (λ g k. more g (inr k)) (run_flow span (what f) f.index ps).placements (flow_keeps span (what f) f.index (more f (inl refl)) ps h)
+
+  pub requests_keep : (span : Extent) (c : Channel) (ws : List Waiting)
+      → ((w : Waiting) → Has ws w → (ps : List Placement) (x : ℕ) → K ps → Fit span ps w.n x → K (ps ++ placement_for c w x ∷ []))
+      → (ps : List Placement) → K ps → K (place_requests span c ws ps)
+  requests_keep span c [] more ps h = h
+  requests_keep span c (w ∷ ws) more ps h =
+      elim (first_fit span ps w.n span.start (end_of span - w.n)) as (λ o. first_fit span ps w.n span.start (end_of span - w.n) ≡ o → K (elim o [ Some x ↦ place_requests span c ws (ps ++ placement_for c w x ∷ []) | None ↦ place_requests span c ws ps ])) [
+        | Some x ↦ λ e. requests_keep span c ws (λ v k. more v (inr k)) (ps ++ placement_for c w x ∷ []) (more w (inl refl) ps x h (fit_tells span ps w.n span.start (end_of span - w.n) x e))
+        | None ↦ λ e. requests_keep span c ws (λ v k. more v (inr k)) ps h
+      ] refl
+
+-- the requests in order are those that wait
+pub in_order_has : (t : Table) (ws : List Waiting) (w : Waiting) → Has (in_order t ws) w → Has ws w
+in_order_has t ws w h =
+    let m = has_flat_map (λ priority. filter (λ v. eqb (priority_of t v) priority) ws) (7 ∷ 6 ∷ 5 ∷ 4 ∷ 3 ∷ 2 ∷ 1 ∷ 0 ∷ []) w h in
+    (has_filter (λ v. eqb (priority_of t v) m.0) ws w m.2).0
+
+-- the request that a placement serves, if it serves one
+abbrev pub IsFor : Table → Placement → Cause → Type 0
+IsFor t q (Window i) = Unit {0}
+IsFor t q (Sent s) = (w : Waiting) × Has t.waiting w × (w.sid ≡ q.sid) × (w.n ≡ q.size) × (w.sent ≡ s)
+
+-- a placement that may be added to these
+pub record MayPlace (t : Table) (span : Extent) (ps : List Placement) (q : Placement) : Type 0 where
+  pub fit : Fit span ps q.size q.offset
+  pub some : 1 ≤ q.size
+  pub most : q.size ≤ 255
+  pub unicast : 1 ≤ q.sid
+  pub last : q.sid ≤ last_sid
+  pub iuc : (q.iuc ≡ 1) ⊎ ((q.iuc ≡ 5) ⊎ (q.iuc ≡ 6))
+  pub serves : IsFor t q q.cause
+  pub use_is : IsUseFor q.cause q.iuc
+
+may_place_due : (t : Table) (span : Extent) (ps : List Placement) (p : Periodic) (i x : ℕ) → IsWellPeriodic p → Fit span ps p.size x → MayPlace t span ps (placement_at p i x)
+may_place_due t span ps p i x w fit = record { fit = fit; some = w.some; most = w.most; unicast = w.unicast; last = w.last; iuc = w.iuc; serves = tt; use_is = w.iuc }
+
+may_place_request : (t : Table) (span : Extent) (ps : List Placement) (w : Waiting) (x : ℕ) → IsWell t → Has t.waiting w → Fit span ps w.n x → MayPlace t span ps (placement_for t.row.channel w x)
+may_place_request t span ps w x well h fit =
+    let r = well.requests w h in
+    let f = well.flows r.flow r.there in
+    record {
+      fit = fit;
+      some = r.some;
+      most = r.most;
+      unicast = subst (λ n. 1 ≤ n) r.sid f.unicast;
+      last = subst (λ n. n ≤ last_sid) r.sid f.last;
+      iuc = elim (grant_use t.row.channel w.n) [ inl five ↦ inr (inl five) | inr six ↦ inr (inr six) ];
+      serves = (w, h, refl, refl, refl);
+      use_is = grant_use t.row.channel w.n;
+    }
+
+-- what holds of no placements, and is kept by each that may be added, holds of a filled MAP
+pub fill_keeps : (K : List Placement → Type 0) (t : Table) (span : Extent) (ack : ℕ) → IsWell t → end_of span ≤ last_time → K []
+    → ((ps : List Placement) (q : Placement) → K ps → MayPlace t span ps q → K (ps ++ q ∷ [])) → K (fill_span t span ack).placements
+fill_keeps K t span ack w le none more =
+    let c : Channel = t.row.channel in
+    let first : Passed = pass span (grants_of_flow c) t.flows [] in
+    let second : Passed = pass span (polls_of_flow c) first.flows first.placements in
+    let moved = moved_well t.flows first.flows (pass_moves span (grants_of_flow c) t.flows [] le (grants_ask_well c)) w.flows in
+    let granted : K first.placements = pass_keeps K span (grants_of_flow c) t.flows
+    (λ f h p e ps i x k fit. more ps (placement_at p i x) k (may_place_due t span ps p i x (grants_ask_well c f p (w.flows f h) e).well fit)) [] none in
+    let polled : K second.placements = pass_keeps K span (polls_of_flow c) first.flows
+    (λ f h p e ps i x k fit. more ps (placement_at p i x) k (may_place_due t span ps p i x (polls_ask_well c f p (moved f h) e).well fit)) first.placements granted in
+    requests_keep K span c (in_order t t.waiting) (λ r h ps x k fit. more ps (placement_for c r x) k (may_place_request t span ps r x w (in_order_has t t.waiting r h) fit)) second.placements polled
+
+-- ---- the table after a MAP
+
+-- a cut that isn't refused
+pub record IsCut (t : Table) (len not_before ack : ℕ) : Type 0 where
+  pub some : 1 ≤ len
+  pub most : len ≤ 4096
+  pub end : end_of (span_of t.row len not_before) ≤ last_time
+
+pub is_cut : (t : Table) (len not_before ack : ℕ) → fill_refusal t.row len not_before ack ≡ None → IsCut t len not_before ack
+is_cut t len not_before ack e =
+    let good = test _ e in
+    let four = both _ _ good in
+    let three = both _ _ four.0 in
+    let two = both _ _ three.0 in
+    let one = both _ _ two.0 in
+    record { some = leb-true _ _ one.0; most = leb-true _ _ one.1; end = leb-true _ _ four.1 }
+  where
+    test : (b : Bool) → cond b None (Some BadValue) ≡ None → b ≡ true
+    test true f = refl
+    test false f = absurd cc
+
+-- flows after both passes
+pub record MovesTwice (t : Table) (flows : List FlowRow) : Type 0 where
+  pub between : List FlowRow
+  pub first : AllZip Moves t.flows between
+  pub second : AllZip Moves between flows
+
+pub fill_moves : (t : Table) (span : Extent) (ack : ℕ) → end_of span ≤ last_time → MovesTwice t (fill_span t span ack).flows
+fill_moves t span ack le =
+    let c : Channel = t.row.channel in
+    let first : Passed = pass span (grants_of_flow c) t.flows [] in
+    record {
+      between = first.flows;
+      first = pass_moves span (grants_of_flow c) t.flows [] le (grants_ask_well c);
+      second = pass_moves span (polls_of_flow c) first.flows first.placements le (polls_ask_well c);
+    }
+
+-- what a flow before becomes, but for its due time
+pub record Becomes (f g : FlowRow) : Type 0 where
+  pub sid : g.sid ≡ f.sid
+  pub kind : g.kind ≡ f.kind
+  pub last_sent : g.last_sent ≡ f.last_sent
+
+pub becomes : (f g h : FlowRow) → Moves f g → Moves g h → Becomes f h
+becomes f g h m n = record {
+  sid = ap (λ (x : FlowRow). x.sid) n.is ∙ ap (λ (x : FlowRow). x.sid) m.is;
+  kind = ap (λ (x : FlowRow). x.kind) n.is ∙ ap (λ (x : FlowRow). x.kind) m.is;
+  last_sent = ap (λ (x : FlowRow). x.last_sent) n.is ∙ ap (λ (x : FlowRow). x.last_sent) m.is;
+}
+
+pub flow_from : (t : Table) (flows : List FlowRow) (h : FlowRow) → MovesTwice t flows → Has flows h → (f : FlowRow) × Has t.flows f × Becomes f h
+flow_from t flows h m at =
+    let back = moved_from m.between flows h m.second at in
+    let first = moved_from t.flows m.between back.0 m.first back.1 in
+    (first.0, first.1, becomes first.0 back.0 h first.2 back.2)
+
+pub flow_to : (t : Table) (flows : List FlowRow) (f : FlowRow) → MovesTwice t flows → Has t.flows f → (h : FlowRow) × Has flows h × Becomes f h
+flow_to t flows f m at =
+    let on = moved_to t.flows m.between f m.first at in
+    let last = moved_to m.between flows on.0 m.second on.1 in
+    (last.0, last.1, becomes f on.0 last.0 on.2 last.2)
+
+fill_is_well : (t : Table) (span : Extent) (ack : ℕ) → IsWell t → t.row.next_start ≤ span.start → end_of span ≤ last_time → IsWell (table_after t (fill_span t span (ack_of t.row ack span.start)))
+fill_is_well t span ack w later le =
+    let f : Filled = fill_span t span (ack_of t.row ack span.start) in
+    let m = fill_moves t span (ack_of t.row ack span.start) le in
+    let old_ack = w.ack in
+    record {
+      channel = w.channel;
+      next = le;
+      ack = omega arith;
+      flows = moved_well m.between f.flows m.second (moved_well t.flows m.between m.first w.flows);
+      rising = rising_moved 1 m.between f.flows m.second (rising_moved 1 t.flows m.between m.first w.rising);
+      given = λ g h. let from = flow_from t f.flows g m h in subst (λ n. list_any (λ a. eqb a.sid n) t.assigned ≡ true) (sym from.2.sid) (w.given from.0 from.1);
+      requests = λ r h.
+          let old = w.requests r (has_filter (λ v. not (list_any (is_grant_of v) f.placements)) t.waiting r h).0 in
+          let to = flow_to t f.flows old.flow m old.there in
+          record { some = old.some; most = old.most; time = old.time; flow = to.0; there = to.1; sid = to.2.sid ∙ old.sid; last = to.2.last_sent ∙ old.last; asks = ap is_ugs to.2.kind ∙ old.asks };
+      alone = λ sid. let less = filter_both (is_of sid) (λ v. not (list_any (is_grant_of v) f.placements)) t.waiting in let one = w.alone sid in omega arith;
+      few = let less = filter_fewer (λ v. not (list_any (is_grant_of v) f.placements)) t.waiting in let most = w.few in omega arith;
+    }
+
+pub cut_is_well : (t : Table) (len not_before ack : ℕ) → fill_refusal t.row len not_before ack ≡ None → IsWell t → IsWell (table_after t (fill t len not_before ack))
+cut_is_well t len not_before ack ok w =
+    let cut = is_cut t len not_before ack ok in
+    fill_is_well t (span_of t.row len not_before) ack w (omega arith) cut.end

@@ -1,0 +1,13 @@
+pub mod Fits
+pub mod Windows
+pub mod Holding
+pub mod Ranges
+pub mod Passing
+pub mod Giving
+pub mod Served
+pub mod Fillings
+pub mod Offsets
+pub mod Bodies
+pub mod Orders
+pub mod Written
+pub mod Callers

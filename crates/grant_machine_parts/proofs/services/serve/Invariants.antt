@@ -1,0 +1,17 @@
+use Rattle.std.proofs.Common.{◌≡◌, ◌++◌, map, take, drop}
+use Rattle.std.specs.List.{AllByRecursion}
+use Rattle.grant_machine_parts.specs.Cutting.{pass}
+use Rattle.grant_machine_parts.specs.Lent.{row_of, IsLent, given_to}
+use Rattle.grant_machine_parts.proofs.services.serve.Given as goal
+
+-- the flows from this one on, after those before it
+abbrev pub invariant-loop-flow : goal.invariant-loop-flow
+invariant-loop-flow l = record {
+  span : l.filling.span ≡ l.fn.filling.span;
+  rest : drop l.flow-index l.flows ≡ drop l.flow-index l.fn.flows;
+  placements : (pass l.fn.filling.span (given_to l.service l.channel) (map row_of l.fn.flows) l.fn.filling.placements).placements
+      ≡ (pass l.fn.filling.span (given_to l.service l.channel) (map row_of (drop l.flow-index l.fn.flows)) l.filling.placements).placements;
+  flows : (pass l.fn.filling.span (given_to l.service l.channel) (map row_of l.fn.flows) l.fn.filling.placements).flows
+      ≡ map row_of (take l.flow-index l.flows) ++ (pass l.fn.filling.span (given_to l.service l.channel) (map row_of (drop l.flow-index l.fn.flows)) l.filling.placements).flows;
+  lent : AllByRecursion IsLent l.flows;
+}

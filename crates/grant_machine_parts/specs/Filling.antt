@@ -1,0 +1,43 @@
+-- A MAP while it is filled, and what is known of what is placed in it.
+use Rattle.std.specs.Prelude.{◌≡◌, ◌⊎◌, ℕ, ◌+◌, ◌<◌, ◌≤◌, Bool, true, false, List, [], ◌∷◌, ◌++◌}
+use Rattle.minislot_time.specs.Extent.{Extent}
+use Rattle.map_body.specs.Iucs as iucs
+use Rattle.flow_state.specs.Limits.{last_time}
+use Rattle.grant_machine_parts.specs.Placing.{Cause, Window, Sent, Placement}
+use Rattle.grant_machine_parts.specs.Cutting.{Periodic, Verdict, Missed, Placed, Kept, placement_at}
+
+-- a MAP in part: its minislots, and the placements so far
+pub record PartMap : Type 0 where
+  pub span : Extent
+  pub placements : List Placement
+
+-- a placement's use is no expansion element's
+abbrev pub has_use : Placement → Type 0
+has_use p = p.iuc < iucs.expansion
+
+-- next due times are at most this
+abbrev pub last_due : ℕ
+last_due = last_time + 1000000
+
+-- due times follow one another within the limits
+pub record IsTimely (p : Periodic) : Type 0 where
+  pub more : 1 ≤ p.interval
+  pub most : p.interval ≤ 1000000
+  pub use_of : p.iuc < iucs.expansion
+
+-- the flow goes on to its next due time
+abbrev pub goes_on : Verdict → Bool
+goes_on Missed = true
+goes_on (Placed x) = true
+goes_on Kept = false
+
+-- the placements after a due time
+abbrev pub placements_on : Verdict → List Placement → Periodic → ℕ → List Placement
+placements_on Missed ps p i = ps
+placements_on (Placed x) ps p i = ps ++ placement_at p i x ∷ []
+placements_on Kept ps p i = ps
+
+-- the use of what serves a request is a grant's, short or long; at a due time it may be a poll's too
+abbrev pub IsUseFor : Cause → ℕ → Type 0
+IsUseFor (Sent time) iuc = (iuc ≡ iucs.short_data_grant) ⊎ (iuc ≡ iucs.long_data_grant)
+IsUseFor (Window index) iuc = (iuc ≡ iucs.request) ⊎ ((iuc ≡ iucs.short_data_grant) ⊎ (iuc ≡ iucs.long_data_grant))

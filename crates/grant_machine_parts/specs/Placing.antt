@@ -1,0 +1,38 @@
+-- Minislots of one MAP that are free or held, and the first fit among them.
+use Rattle.std.specs.Prelude.{ℕ, ◌+◌, Bool, ◌&&◌, if◌then◌else◌, nat_lt, nat_le, List, length, map, Option, None, is_none}
+use Rattle.std.specs.List.{find, list_all, range_with_len}
+use Rattle.minislot_time.specs.Extent.{Extent}
+-- what a placement serves (the due time of this number, or the request that was sent at this time), and a placement: minislots that are given to a SID, so many from an offset on
+pub use Rattle.grant_machine_parts.specs.declared.placing.Cause.{Cause}
+pub use Rattle.grant_machine_parts.specs.declared.placing.Cause.TheVariants.{Window, Sent}
+pub use Rattle.grant_machine_parts.specs.declared.placing.Placement.{Placement}
+
+-- the placement holds the minislot at this offset
+abbrev pub holds : ℕ → Placement → Bool
+holds x p = nat_le p.offset x && nat_lt x (p.offset + p.size)
+
+-- which placement holds it
+abbrev pub holder : List Placement → ℕ → Option Placement
+holder ps x = find (holds x) ps
+
+abbrev pub is_free : List Placement → ℕ → Bool
+is_free ps x = is_none (holder ps x)
+
+-- the minislots of a MAP in order, each free or held by a placement
+abbrev pub cells : Extent → List Placement → List (Option Placement)
+cells span ps = map (holder ps) (range_with_len 0 span.len)
+
+-- n minislots from offset x on are free and end within the MAP, and the first of them lies from lo to hi
+abbrev pub fits_at : Extent → List Placement → (n lo hi x : ℕ) → Bool
+fits_at span ps n lo hi x =
+    nat_le lo (span.start + x) && nat_le (span.start + x) hi && nat_le (x + n) span.len
+    && list_all (is_free ps) (range_with_len x n)
+
+-- a MAP has at most so many placements
+abbrev pub most_placements : ℕ
+most_placements = 60
+
+-- the least offset where n minislots fit that begin from lo to hi; none once there are 60 placements
+abbrev pub first_fit : Extent → List Placement → (n lo hi : ℕ) → Option ℕ
+first_fit span ps n lo hi =
+    if nat_lt (length ps) most_placements then find (fits_at span ps n lo hi) (range_with_len 0 span.len) else None

@@ -1,0 +1,172 @@
+//! The MAP body that tells modems of a filled MAP.
+
+ghost use Rattle.std.specs.Prelude.{◌≡◌, ℕ, ◌^◌, ◌<◌, ◌≤◌, ◌∷◌, ◌++◌, length, map, IfOk, OnOk};
+ghost use Rattle.std.specs.List.{filter_map, range_with_len};
+ghost use Rattle.map_body.specs.Rules.{AreElements};
+ghost use Rattle.map_body.specs.Layout.{layout};
+ghost use Rattle.flow_state.specs.Limits.{most_minislots};
+ghost use Rattle.std.specs.List.{AllByRecursion};
+ghost use Rattle.grant_machine_parts.specs.Placing.{holds, holder};
+ghost use Rattle.grant_machine_parts.specs.Cutting.{still_waiting};
+ghost use Rattle.grant_machine_parts.specs.Drawing.{free_element, null_element, pending_element, begins_at, head_of};
+ghost use Rattle.grant_machine_parts.specs.Lent.{IsUnicast};
+
+use crate::placing::{Filling, Placement};
+use crate::services::grant_iuc;
+use crate::waiting::is_granted;
+use flow_state::{Channel, Waiting};
+use map_body::{Element, Head, Iuc, MapBody, Offset, Sid, encode};
+use minislot_time::{Slot, wire};
+use std::alloc::{AllocError, Global};
+
+/// Does the placement hold the minislot at this offset?
+fn holds(x: u16, placement: &Placement) -> bool
+    ensures { result ≡ holds x placement.now }
+{
+    let x = u32::from(x);
+    let from = u32::from(placement.offset.get());
+    from <= x && x < from + u32::from(placement.size)
+}
+
+/// The placement that holds the minislot at this offset.
+fn holder(placements: &[Placement], x: u16) -> Option<Placement>
+    ensures { result ≡ holder placements.now x }
+{
+    for placement in placements {
+        if holds(x, placement) {
+            return Some(*placement);
+        }
+    }
+    None
+}
+
+/// The element of free minislots, which all modems may use for requests.
+fn free_element(x: u16) -> Element
+    requires { x < 2 ^ 14 }
+    ensures { result ≡ free_element x }
+{
+    Element {
+        sid: Sid::EVERYBODY,
+        iuc: Iuc::REQUEST,
+        offset: Offset::new(x).unwrap(),
+    }
+}
+
+/// The element that begins at this offset.
+fn begins_at(placements: &[Placement], x: u16) -> Option<Element>
+    requires { x < 2 ^ 14 }
+    ensures { result ≡ begins_at placements.now x }
+{
+    match holder(placements, x) {
+        Some(placement) => {
+            if placement.offset.get() != x {
+                return None;
+            }
+            Some(Element {
+                sid: placement.sid,
+                iuc: placement.iuc,
+                offset: placement.offset,
+            })
+        }
+        None => {
+            if x != 0 && holder(placements, x - 1).is_none() {
+                return None;
+            }
+            Some(free_element(x))
+        }
+    }
+}
+
+/// Adds an element for each placement and each longest free run, by offset.
+fn put_intervals(
+    elements: &mut Vec<Element>,
+    placements: &[Placement],
+    len: u16,
+) -> Result<(), AllocError>
+    requires { len ≤ most_minislots }
+    ensures { OnOk result (elements.new.items ≡ elements.old.items ++ filter_map (begins_at placements.now) (range_with_len 0 len)) }
+{
+    for x in 0..len {
+        if let Some(element) = begins_at(placements, x) {
+            elements.push(element)?;
+        }
+    }
+    Ok(())
+}
+
+/// Adds an element for each request that is not granted.
+fn put_pending(
+    elements: &mut Vec<Element>,
+    channel: &Channel,
+    placements: &[Placement],
+    requests: &[Waiting],
+    len: u16,
+) -> Result<(), AllocError>
+    requires short { len ≤ most_minislots }
+    requires unicast { AllByRecursion IsUnicast requests.now }
+    ensures { OnOk result (elements.new.items ≡ elements.old.items ++ map (pending_element channel.now len) (still_waiting placements.now requests.now)) }
+{
+    for request in requests {
+        if !is_granted(placements, request) {
+            elements.push(Element {
+                sid: Sid::new(request.sid).unwrap(),
+                iuc: grant_iuc(channel, request.n),
+                offset: Offset::new(len).unwrap(),
+            })?;
+        }
+    }
+    Ok(())
+}
+
+/// The elements of a filled MAP: those by offset, the Null at its length, then those of the
+/// requests that still wait.
+pub fn elements_of(
+    alloc: Global,
+    channel: &Channel,
+    filling: &Filling,
+    requests: &[Waiting],
+) -> Result<Vec<Element>, AllocError>
+    requires { AllByRecursion IsUnicast requests.now }
+    ensures { IfOk result (λ elements. elements.items ≡ filter_map (begins_at filling.now.placements) (range_with_len 0 filling.now.span.len) ++ null_element filling.now.span.len ∷ map (pending_element channel.now filling.now.span.len) (still_waiting filling.now.placements requests.now)) }
+{
+    let placements = filling.placements();
+    let len = filling.len();
+    let mut elements = Vec::new(alloc);
+    put_intervals(&mut elements, placements, len)?;
+    elements.push(Element {
+        sid: Sid::NOBODY,
+        iuc: Iuc::NULL,
+        offset: Offset::new(len).unwrap(),
+    })?;
+    put_pending(&mut elements, channel, placements, requests, len)?;
+    Ok(elements)
+}
+
+/// The head of a channel's MAP.
+pub fn head_of(channel: &Channel, start: Slot, ack: Slot) -> Head
+    ensures { result ≡ head_of channel.now start ack }
+{
+    Head {
+        channel: channel.id,
+        ucd: channel.ucd,
+        start: wire(start),
+        ack: wire(ack),
+        ranging_backoff: channel.ranging_backoff,
+        data_backoff: channel.data_backoff,
+    }
+}
+
+/// The bytes of a MAP body.
+pub fn bytes_of(alloc: Global, head: Head, elements: Vec<Element>) -> Result<Vec<u8>, AllocError>
+    requires sound { AreElements elements.items }
+    requires few { length elements.items ≤ 255 }
+    ensures { IfOk result (λ bytes. bytes.items ≡ layout head elements.items 0) }
+{
+    match MapBody::new(head, elements) {
+        Ok(map) => match encode(alloc, &map) {
+            Ok(bytes) => Ok(bytes),
+            Err(_) => Err(AllocError),
+        },
+        Err(_) => unreachable!(),
+    }
+}

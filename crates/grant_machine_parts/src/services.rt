@@ -1,0 +1,120 @@
+//! What comes by itself for the flows of a channel.
+
+ghost use Rattle.std.specs.Prelude.{◌≡◌, ◌≤◌, map, IfOk, OnOk, IfSome};
+ghost use Rattle.std.specs.List.{AllByRecursion};
+ghost use Rattle.map_body.specs.Iucs as iucs;
+ghost use Rattle.flow_state.specs.Limits.{due_time, due_index};
+ghost use Rattle.grant_machine_parts.specs.Cutting.{grant_iuc, run_flow, pass};
+ghost use Rattle.grant_machine_parts.specs.Filling.{last_due, IsTimely};
+ghost use Rattle.grant_machine_parts.specs.Lent.{row_of, IsLent, given, given_to};
+
+use crate::due_times::Periodic;
+use crate::placing::Filling;
+use flow_state::{Channel, Flow, FlowKind};
+use map_body::{Iuc, Sid};
+use std::alloc::AllocError;
+
+/// Which flows are served.
+#[derive(Clone, Copy, Debug)]
+pub enum Service {
+    /// Unsolicited grants.
+    Grants,
+    Polls,
+}
+
+/// The use of a grant of n minislots.
+pub fn grant_iuc(channel: &Channel, n: u16) -> Iuc
+    ensures same { result ≡ grant_iuc channel.now n }
+    ensures used { result ≤ iucs.long_data_grant }
+{
+    if n <= channel.short_max {
+        Iuc::SHORT_DATA_GRANT
+    } else {
+        Iuc::LONG_DATA_GRANT
+    }
+}
+
+/// What a service gives a flow, if anything.
+fn periodic_of(service: Service, channel: &Channel, flow: &Flow) -> Option<Periodic>
+    requires { IsLent flow.now }
+    ensures same { result ≡ given service channel.now flow.now.sid flow.now.kind }
+{
+    let sid = Sid::new(flow.sid).unwrap();
+    match (service, flow.kind) {
+        (
+            Service::Grants,
+            FlowKind::Ugs {
+                size,
+                interval,
+                jitter,
+                base,
+            },
+        ) => Some(Periodic {
+            sid,
+            iuc: grant_iuc(channel, size),
+            size,
+            interval,
+            jitter,
+            base,
+        }),
+        (
+            Service::Polls,
+            FlowKind::Poll {
+                interval,
+                jitter,
+                base,
+            },
+        ) => Some(Periodic {
+            sid,
+            iuc: Iuc::REQUEST,
+            size: 1,
+            interval,
+            jitter,
+            base,
+        }),
+        _ => None,
+    }
+}
+
+/// Places what a service gives a flow before the MAP's end. The flow's next due time.
+fn next_due(
+    service: Service,
+    channel: &Channel,
+    filling: &mut Filling,
+    flow: &Flow,
+) -> Result<u64, AllocError>
+    requires { IsLent flow.now }
+    ensures span { filling.new.span ≡ filling.old.span }
+    ensures placed { OnOk result (filling.new.placements ≡ (run_flow filling.old.span (given service channel.now flow.now.sid flow.now.kind) (due_index flow.now.kind flow.now.due) filling.old.placements).placements) }
+    ensures index { IfOk result (λ due. due_index flow.now.kind due ≡ (run_flow filling.old.span (given service channel.now flow.now.sid flow.now.kind) (due_index flow.now.kind flow.now.due) filling.old.placements).index) }
+    ensures is_due { IfOk result (λ due. due ≡ due_time flow.now.kind (due_index flow.now.kind due)) }
+    ensures early { IfOk result (λ due. due ≤ last_due) }
+{
+    match periodic_of(service, channel, flow) {
+        None => Ok(flow.due),
+        Some(periodic) => {
+            let first = (flow.due - periodic.base) / u64::from(periodic.interval);
+            let next = periodic.run(filling, first)?;
+            Ok(periodic.due_at(next))
+        }
+    }
+}
+
+/// Places what a service gives the flows of a channel, by SID, and sets their next due times.
+pub fn serve(
+    service: Service,
+    channel: &Channel,
+    filling: &mut Filling,
+    flows: &mut [Flow],
+) -> Result<(), AllocError>
+    requires { AllByRecursion IsLent flows.old }
+    ensures span { filling.new.span ≡ filling.old.span }
+    ensures placed { OnOk result (filling.new.placements ≡ (pass filling.old.span (given_to service channel.now) (map row_of flows.old) filling.old.placements).placements) }
+    ensures flows { OnOk result (map row_of flows.new ≡ (pass filling.old.span (given_to service channel.now) (map row_of flows.old) filling.old.placements).flows) }
+    ensures lent { OnOk result (AllByRecursion IsLent flows.new) }
+{
+    for flow in flows.iter_mut() {
+        flow.due = next_due(service, channel, filling, flow)?;
+    }
+    Ok(())
+}

@@ -1,0 +1,137 @@
+//! Requests that wait, by priority.
+
+ghost use Rattle.std.specs.Prelude.{◌≡◌, ◌++◌, find, map, IfOk, OnOk};
+ghost use Rattle.std.specs.List.{list_any, AllByRecursion};
+ghost use Rattle.flow_state.specs.Rows.{is_flow};
+ghost use Rattle.grant_machine_parts.specs.Cutting.{kind_priority, flow_priority, is_cause_sent, is_grant_of, place_requests};
+ghost use Rattle.grant_machine_parts.specs.Lent.{row_of, request_priority, of_priority, by_priority, IsUnicast};
+
+use crate::placing::{Cause, Filling, Placement};
+use crate::services::grant_iuc;
+use flow_state::{Channel, Flow, FlowKind, Waiting};
+use map_body::{Offset, Sid};
+use std::alloc::{AllocError, Global};
+
+/// The priority of a flow's requests. A polled flow's come first.
+fn kind_priority(kind: FlowKind) -> u8
+    ensures { result ≡ kind_priority kind }
+{
+    match kind {
+        FlowKind::BestEffort(priority) => priority,
+        FlowKind::Ugs { .. } => 0,
+        FlowKind::Poll { .. } => 7,
+    }
+}
+
+/// The priority of a request: its flow's.
+fn request_priority(flows: &[Flow], request: &Waiting) -> u8
+    ensures { result ≡ request_priority flows.now request.now }
+{
+    for flow in flows {
+        if flow.sid == request.sid {
+            return kind_priority(flow.kind);
+        }
+    }
+    0
+}
+
+/// Adds the requests of one priority, by arrival.
+fn add_priority(
+    ordered: &mut Vec<Waiting>,
+    flows: &[Flow],
+    waiting: &[Waiting],
+    priority: u8,
+) -> Result<(), AllocError>
+    ensures { OnOk result (ordered.new.items ≡ ordered.old.items ++ of_priority flows.now waiting.now priority) }
+{
+    for request in waiting {
+        if request_priority(flows, request) == priority {
+            ordered.push(*request)?;
+        }
+    }
+    Ok(())
+}
+
+/// The waiting requests by priority, greater first, and then by arrival.
+pub fn by_priority(
+    alloc: Global,
+    flows: &[Flow],
+    waiting: &[Waiting],
+) -> Result<Vec<Waiting>, AllocError>
+    ensures { IfOk result (λ ordered. ordered.items ≡ by_priority flows.now waiting.now) }
+{
+    let mut ordered = Vec::new(alloc);
+    for priority in [7, 6, 5, 4, 3, 2, 1, 0] {
+        add_priority(&mut ordered, flows, waiting, priority)?;
+    }
+    Ok(ordered)
+}
+
+/// Places each request whole at its first fit, where there is one.
+pub fn place_requests(
+    filling: &mut Filling,
+    channel: &Channel,
+    requests: &[Waiting],
+) -> Result<(), AllocError>
+    requires { AllByRecursion IsUnicast requests.now }
+    ensures span { filling.new.span ≡ filling.old.span }
+    ensures placed { OnOk result (filling.new.placements ≡ place_requests filling.old.span channel.now requests.now filling.old.placements) }
+{
+    let start = filling.start();
+    let end = filling.end();
+    for request in requests {
+        place_request(filling, channel, request, start, end)?;
+    }
+    Ok(())
+}
+
+ghost use Rattle.std.specs.Prelude.{◌-◌, ◌∷◌, []};
+ghost use Rattle.grant_machine_parts.specs.Cutting.{end_of};
+
+/// Places a request whole at its first fit, where there is one.
+fn place_request(
+    filling: &mut Filling,
+    channel: &Channel,
+    request: &Waiting,
+    start: u64,
+    end: u64,
+) -> Result<(), AllocError>
+    requires unicast { IsUnicast request.now }
+    requires begun { start ≡ filling.old.span.start }
+    requires ended { end ≡ end_of filling.old.span }
+    ensures span { filling.new.span ≡ filling.old.span }
+    ensures placed { OnOk result (filling.new.placements ≡ place_requests filling.old.span channel.now (request.now ∷ []) filling.old.placements) }
+{
+    let n = request.n;
+    if let Some(x) = filling.first_fit(n, start, end.saturating_sub(u64::from(n))) {
+        filling.place(Placement {
+            sid: Sid::new(request.sid).unwrap(),
+            iuc: grant_iuc(channel, n),
+            offset: Offset::new(x as u16).unwrap(),
+            size: n,
+            cause: Cause::Sent(request.sent),
+        })?;
+    }
+    Ok(())
+}
+
+/// Was the request sent at this time the cause?
+fn is_cause_sent(cause: Cause, time: u64) -> bool
+    ensures { result ≡ is_cause_sent cause time }
+{
+    match cause {
+        Cause::Window(_) => false,
+        Cause::Sent(sent) => sent == time,
+    }
+}
+
+/// Is the request granted by one of the placements?
+pub fn is_granted(placements: &[Placement], request: &Waiting) -> bool
+    ensures { result ≡ list_any (is_grant_of request.now) placements.now }
+{
+    let sid = request.sid;
+    let sent = request.sent;
+    placements
+        .iter()
+        .any(|p| p.sid.get() == sid && is_cause_sent(p.cause, sent))
+}

@@ -1,0 +1,34 @@
+-- Interval usage codes (CM-SP-MULPIv3.1, MAP message), and what modems make of them.
+use Rattle.std.specs.Prelude.{ℕ, Bool, ◌==◌, ◌||◌}
+
+-- Request
+abbrev pub request : ℕ
+request = 1
+
+-- Short Data Grant
+abbrev pub short_data_grant : ℕ
+short_data_grant = 5
+
+-- Long Data Grant
+abbrev pub long_data_grant : ℕ
+long_data_grant = 6
+
+-- Null Information Element
+abbrev pub null : ℕ
+null = 7
+
+-- Expansion
+abbrev pub expansion : ℕ
+expansion = 15
+
+-- a modem may send a request in an interval of its SID: a poll
+abbrev pub lets_request : ℕ → Bool
+lets_request iuc = iuc == request
+
+-- a modem may send data in an interval of its SID
+abbrev pub lets_transmit : ℕ → Bool
+lets_transmit iuc = (iuc == short_data_grant) || (iuc == long_data_grant)
+
+-- an element of the SID answers a request that waits: granted before the Null, pending after it
+abbrev pub answers_request : ℕ → Bool
+answers_request iuc = (iuc == short_data_grant) || (iuc == long_data_grant)

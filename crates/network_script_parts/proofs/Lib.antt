@@ -1,0 +1,7 @@
+pub mod Callers
+mod AtModem
+mod Calling
+mod Channels
+mod Fresh
+mod Pairs
+mod ScriptFaults

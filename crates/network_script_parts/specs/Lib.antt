@@ -1,0 +1,12 @@
+pub mod Receiver
+pub mod Modems
+pub mod Receiving
+pub mod Seat
+pub mod Occupant
+pub mod Fresh
+pub mod StoreFaults
+pub mod Fields
+pub mod Items
+pub mod CommandTable
+pub mod EventTable
+pub mod Script

@@ -1,0 +1,117 @@
+-- A script: members, ids of modems, and events, under keys of a TOML text. Events count from 0.
+use Rattle.std.specs.Prelude.{◌≡◌, ℕ, ◌^◌, ◌<◌, Bool, true, false, List, [], Option, Some, None, pos, codes}
+use Rattle.std.specs.List.{AllZip, list_all}
+use Rattle.toml.specs.Data.{Data, integer, Items, Members, get_member, as_array}
+use Rattle.toml.specs.Parse.{parse_document}
+use Rattle.ballots.specs.declared.members.Members.{Members as NodeCount}
+use Rattle.ballots.specs.Members.{member_count}
+use Rattle.network_script_parts.specs.declared.event.Event.{Event}
+use Rattle.network_script_parts.specs.declared.script.ScriptFault.{ScriptFault}
+use Rattle.network_script_parts.specs.declared.script.ScriptFault.TheVariants.{NotToml, BadEvent, BadMembers, OutOfMemory}
+use Rattle.network_script_parts.specs.EventTable.{MeansEvent}
+use Rattle.network_script_parts.specs.Items.{list_of, is_table, IsFirstBad}
+
+-- ---- members and modems
+
+-- the number of the members
+abbrev pub HasMembers : Members → NodeCount → Type 0
+HasMembers ms count = get_member (codes "members") ms ≡ Some (integer (pos (member_count count)))
+
+-- a modem's id
+pub record IsId (d : Data) (id : ℕ) : Type 0 where
+  pub held : d ≡ integer (pos id)
+  pub fits : id < 2 ^ 32
+
+-- an array lists the ids
+abbrev pub ListsIds : Option Items → List ℕ → Type 0
+ListsIds None ids = ⊥
+ListsIds (Some ds) ids = AllZip IsId (list_of ds) ids
+
+-- a value, where there is one, lists the ids; no value lists none
+abbrev pub HoldsIds : Option Data → List ℕ → Type 0
+HoldsIds None ids = ids ≡ []
+HoldsIds (Some d) ids = ListsIds (as_array d) ids
+
+abbrev pub HasModems : Members → List ℕ → Type 0
+HasModems ms ids = HoldsIds (get_member (codes "modems") ms) ids
+
+-- nothing is listed, told as bad members, or want of memory, which says nothing
+abbrev pub IsNoIds : (List ℕ → Type 0) → ScriptFault → Type 0
+IsNoIds Lists NotToml = ⊥
+IsNoIds Lists (BadEvent position) = ⊥
+IsNoIds Lists BadMembers = (ids : List ℕ) → ¬ Lists ids
+IsNoIds Lists OutOfMemory = Unit {0}
+
+-- ---- events
+
+-- the items mean the events, one each
+abbrev pub MeanEvents : List Data → List Event → Type 0
+MeanEvents ds events = AllZip MeansEvent ds events
+
+-- the bad position of an array: that of the first item that means no event, but 0 where not all items are tables
+abbrev pub IsBadPosition : Bool → List Data → ℕ → Type 0
+IsBadPosition true ds position = IsFirstBad MeansEvent ds position
+IsBadPosition false ds position = position ≡ 0
+
+-- an array lists the events
+abbrev pub ListsEvents : Option Items → List Event → Type 0
+ListsEvents None events = ⊥
+ListsEvents (Some ds) events = MeanEvents (list_of ds) events
+
+-- the bad position of a value; 0 where it is no array
+abbrev pub IsBadList : Option Items → ℕ → Type 0
+IsBadList None position = position ≡ 0
+IsBadList (Some ds) position = IsBadPosition (list_all is_table (list_of ds)) (list_of ds) position
+
+-- a value, where there is one, lists the events; no value lists none
+abbrev pub HoldsEvents : Option Data → List Event → Type 0
+HoldsEvents None events = events ≡ []
+HoldsEvents (Some d) events = ListsEvents (as_array d) events
+
+abbrev pub HoldsBad : Option Data → ℕ → Type 0
+HoldsBad None position = ⊥
+HoldsBad (Some d) position = IsBadList (as_array d) position
+
+-- the events of a table, and its bad position
+abbrev pub HasEvents : Members → List Event → Type 0
+HasEvents ms events = HoldsEvents (get_member (codes "event") ms) events
+
+abbrev pub IsBadAt : Members → ℕ → Type 0
+IsBadAt ms position = HoldsBad (get_member (codes "event") ms) position
+
+-- a bad event at such a position, or want of memory, which says nothing
+abbrev pub IsFaultAt : (ℕ → Type 0) → ScriptFault → Type 0
+IsFaultAt P NotToml = ⊥
+IsFaultAt P (BadEvent position) = P position
+IsFaultAt P BadMembers = ⊥
+IsFaultAt P OutOfMemory = Unit {0}
+
+-- ---- scripts
+
+-- the table tells members and modems
+abbrev pub TellsWorld : Members → Type 0
+TellsWorld ms = (count : NodeCount) × HasMembers ms count × (ids : List ℕ) × HasModems ms ids
+
+-- the table is a script of these members, ids of modems and events
+pub record IsScriptTable (ms : Members) (count : NodeCount) (ids : List ℕ) (happens : List Event) : Type 0 where
+  pub members : HasMembers ms count
+  pub modems : HasModems ms ids
+  pub events : HasEvents ms happens
+
+-- why a table is no script: first its members and modems count, then its events. Want of memory says nothing
+abbrev pub IsTableFault : Members → ScriptFault → Type 0
+IsTableFault ms NotToml = ⊥
+IsTableFault ms (BadEvent position) = TellsWorld ms × IsBadAt ms position
+IsTableFault ms BadMembers = ¬ TellsWorld ms
+IsTableFault ms OutOfMemory = Unit {0}
+
+-- the text is a script of these members, ids of modems and events
+abbrev pub IsScript : List ℕ → NodeCount → List ℕ → List Event → Type 0
+IsScript text count ids events = (ms : Members) × (parse_document text ≡ Some ms) × IsScriptTable ms count ids events
+
+-- why a text isn't read as a script: it is no TOML, or its table is no script. Want of memory says nothing
+abbrev pub IsScriptFault : List ℕ → ScriptFault → Type 0
+IsScriptFault text NotToml = parse_document text ≡ None
+IsScriptFault text (BadEvent position) = (ms : Members) × (parse_document text ≡ Some ms) × IsTableFault ms (BadEvent position)
+IsScriptFault text BadMembers = (ms : Members) × (parse_document text ≡ Some ms) × IsTableFault ms BadMembers
+IsScriptFault text OutOfMemory = Unit {0}

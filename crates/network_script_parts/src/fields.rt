@@ -1,0 +1,63 @@
+//! What the keys of a table of TOML hold.
+
+ghost use Rattle.std.specs.Prelude.{◌≡◌, ℕ, Some, IfSome, option_map};
+ghost use Rattle.toml.specs.Data.{get_member};
+ghost use Rattle.toml.specs.View.{view, table_view};
+ghost use Rattle.network_script_parts.specs.Fields.{HasNumber};
+
+use minislot_time::Slot;
+use toml::{Table, Value};
+
+/// What the key of the table that is the text holds.
+pub fn member<'a>(table: &'a Table, key: &str) -> Option<&'a Value>
+    ensures { option_map (λ v. view v.now) result ≡ get_member key.now (table_view table.now) }
+{
+    table.get(key)
+}
+
+pub fn u8_at(table: &Value, key: &str) -> Option<u8>
+    ensures found { IfSome result (HasNumber (view table.now) key.now 8) }
+    ensures only { (n : ℕ) → HasNumber (view table.now) key.now 8 n → result ≡ Some n }
+{
+    let number = table.get(key)?.as_integer()?;
+    u8::try_from(number).ok()
+}
+
+pub fn u16_at(table: &Value, key: &str) -> Option<u16>
+    ensures found { IfSome result (HasNumber (view table.now) key.now 16) }
+    ensures only { (n : ℕ) → HasNumber (view table.now) key.now 16 n → result ≡ Some n }
+{
+    let number = table.get(key)?.as_integer()?;
+    u16::try_from(number).ok()
+}
+
+pub fn u32_at(table: &Value, key: &str) -> Option<u32>
+    ensures found { IfSome result (HasNumber (view table.now) key.now 32) }
+    ensures only { (n : ℕ) → HasNumber (view table.now) key.now 32 n → result ≡ Some n }
+{
+    let number = table.get(key)?.as_integer()?;
+    u32::try_from(number).ok()
+}
+
+pub fn u64_at(table: &Value, key: &str) -> Option<u64>
+    ensures found { IfSome result (HasNumber (view table.now) key.now 64) }
+    ensures only { (n : ℕ) → HasNumber (view table.now) key.now 64 n → result ≡ Some n }
+{
+    let number = table.get(key)?.as_integer()?;
+    u64::try_from(number).ok()
+}
+
+pub fn usize_at(table: &Value, key: &str) -> Option<usize>
+    ensures found { IfSome result (HasNumber (view table.now) key.now 64) }
+    ensures only { (n : ℕ) → HasNumber (view table.now) key.now 64 n → result ≡ Some n }
+{
+    let number = table.get(key)?.as_integer()?;
+    usize::try_from(number).ok()
+}
+
+pub fn slot_at(table: &Value, key: &str) -> Option<Slot>
+    ensures found { IfSome result (HasNumber (view table.now) key.now 63) }
+    ensures only { (n : ℕ) → HasNumber (view table.now) key.now 63 n → result ≡ Some n }
+{
+    Slot::new(u64_at(table, key)?)
+}
