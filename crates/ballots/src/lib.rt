@@ -31,5 +31,3 @@ pub fn agreement()
     ensures { Agreement }
 {}
 
-#[cfg(test)]
-mod tests;

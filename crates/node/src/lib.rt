@@ -12,5 +12,5 @@ pub use node::Node;
 pub use proposer::NodeFault;
 pub use sched::SchedNode;
 
-#[cfg(test)]
-mod tests;
+
+
