@@ -10,14 +10,8 @@
 #
 # Usage: bench/maps.sh [KIND..]
 set -euo pipefail
-root=$(CDPATH='' cd -- "$(dirname -- "${BASH_SOURCE[0]}")/.." && pwd -P)
-program=$root/crates/upsched/out/upsched
-if [ ! -x "$program" ]; then
-    echo "bench/maps.sh: no proved program: (cd '$root/crates/upsched' && rm -f out/upsched && rt run -- --help)" >&2
-    exit 1
-fi
-plans=$(mktemp -d)
-trap 'rm -rf "$plans"' EXIT
+. "$(dirname -- "${BASH_SOURCE[0]}")/common.sh"
+needs_program
 
 # plan KIND COUNT: a plan of so many commands.
 plan() {
@@ -65,8 +59,8 @@ plan() {
 for kind in "$@"; do
     echo "$kind"
     for count in 1000 10000 100000; do
-        plan "$kind" "$count" >"$plans/plan.toml"
-        python3 "$root/bench/measure.py" "$program" maps "$count" "$plans/plan.toml"
+        plan "$kind" "$count" >"$made/plan.toml"
+        measure maps "$count" "$made/plan.toml"
     done | awk '
         { printf "  %6d commands: %8d a second, peak %6.1f MiB\n", $1, $2, $3 }
         NR == 1 { first = $4 }

@@ -8,14 +8,8 @@
 #
 # Usage: bench/run.sh
 set -euo pipefail
-root=$(CDPATH='' cd -- "$(dirname -- "${BASH_SOURCE[0]}")/.." && pwd -P)
-program=$root/crates/upsched/out/upsched
-if [ ! -x "$program" ]; then
-    echo "bench/run.sh: no proved program: (cd '$root/crates/upsched' && rm -f out/upsched && rt run -- --help)" >&2
-    exit 1
-fi
-scripts=$(mktemp -d)
-trap 'rm -rf "$scripts"' EXIT
+. "$(dirname -- "${BASH_SOURCE[0]}")/common.sh"
+needs_program
 
 # script COUNT: a script of so many events.
 script() {
@@ -54,8 +48,8 @@ script() {
 }
 
 for count in 1000 10000 100000; do
-    script "$count" >"$scripts/script.toml"
-    python3 "$root/bench/measure.py" "$program" run "$count" "$scripts/script.toml"
+    script "$count" >"$made/script.toml"
+    measure run "$count" "$made/script.toml"
 done | awk '
     { printf "%6d events: %8d a second, peak %6.1f MiB\n", $1, $2, $3 }
     NR == 1 { first = $4 }

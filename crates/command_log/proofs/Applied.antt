@@ -1,5 +1,5 @@
 -- Applied values and their outputs, as a log learns and advances.
-use Rattle.std.proofs.Common.{◌≡◌, ℕ, zero, suc, ◌+◌, ◌-◌, ◌≤◌, true, ◌&&◌, nat_le, nat_lt, is_some, List, [], ◌∷◌, ◌++◌, length, take, map, Option, Some, None, slice_get, refl, sym, ap, ◌∙◌, subst, arith}
+use Rattle.std.proofs.Common.{◌≡◌, ℕ, zero, suc, ◌+◌, ◌-◌, ◌<◌, ◌≤◌, true, ◌&&◌, nat_le, nat_lt, is_some, List, [], ◌∷◌, ◌++◌, length, take, map, Option, Some, None, slice_get, refl, sym, ap, ◌∙◌, subst, arith}
 use Rattle.std.specs.Option.{option_copied, IfSome}
 use Rattle.std.specs.Ordering.{nat_cmp}
 use Rattle.std.specs.BTreeMap.{insert_entry}
@@ -61,6 +61,13 @@ pub is_last : {X : Type 0} (n : ℕ) (xs : List X) → slice_get xs n ≡ None �
 is_last n [] none = omega arith
 is_last zero (x ∷ xs) none = absurd (cc (none))
 is_last (suc n) (x ∷ xs) none = omega (arith, is_last n xs none)
+
+-- a value more is learned, so not all are applied
+pub not_all : (rows : Rows) (n : ℕ) (v : List ℕ) (view : LogView) → slice_get (gapless rows) n ≡ Some v → record { learned = rows; applied = n } ≡ view → view.applied ≡ length (gapless view.learned) → ⊥
+not_all rows n v view some is all =
+    let within : n < length (gapless rows) = slice_get_within (gapless rows) n v some in
+    let more : view.applied < length (gapless view.learned) = subst (λ (w : LogView). w.applied < length (gapless w.learned)) is within in
+    omega arith
 
 take_next : {X : Type 0} (n : ℕ) (x : X) (xs : List X) → slice_get xs n ≡ Some x → take (suc n) xs ≡ take n xs ++ x ∷ []
 take_next n x [] is = absurd (cc (is))

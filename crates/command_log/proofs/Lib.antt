@@ -1,7 +1,8 @@
-pub mod WorkedRows
-pub mod Rows
-pub mod Runs
-pub mod Outputs
+pub mod Callers
+mod WorkedRows
+mod Rows
+mod Runs
+mod Outputs
 mod Applied
 mod Spelled
 mod Fields

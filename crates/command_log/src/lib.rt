@@ -4,13 +4,9 @@
 mod laws;
 mod log;
 mod reading;
-mod value;
 mod writing;
 
 pub use laws::{one_spelling, outputs_go_on};
 pub use log::{Log, LogFault};
 pub use reading::read_command;
 pub use writing::command_bytes;
-
-#[cfg(test)]
-mod tests;

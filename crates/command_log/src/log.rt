@@ -1,5 +1,5 @@
 use crate::reading::read_command;
-use crate::value::Value;
+use ballots::Bytes;
 use grant_machine::{Machine, Output};
 use std::alloc::{AllocError, Global};
 use std::collections::BTreeMap;
@@ -38,7 +38,7 @@ impl From<AllocError> for LogFault {
 #[derive(Drop)]
 pub struct Log {
     alloc: Global,
-    learned: BTreeMap<u64, Value>,
+    learned: BTreeMap<u64, Bytes>,
     outputs: Vec<Output>,
     machine: Machine,
 }
@@ -56,7 +56,7 @@ impl Model for Log {
 }
 
 impl Log {
-    ghost use Rattle.std.specs.Prelude.{◌≡◌, ◌+◌, ◌<◌, ◌≤◌, ◌↔◌, [], length, IsTrue, OnOk, OnErr, IfOk, IfErr, if◌then◌else◌};
+    ghost use Rattle.std.specs.Prelude.{◌≡◌, ◌+◌, ◌<◌, ◌≤◌, ◌↔◌, [], length, Ok, false, IsTrue, OnOk, OnErr, IfOk, IfErr, if◌then◌else◌};
     ghost use Rattle.std.specs.Option.{option_copied};
     ghost use Rattle.command_log.specs.Values.{gapless};
     ghost use Rattle.command_log.specs.View.{CanLearn, IsLog, LearnFault, last_place, with_learned, output_at};
@@ -73,8 +73,8 @@ impl Log {
         }
     }
 
-    /// Learns the value of a place. The same value again is never refused, and takes no memory. It
-    /// costs the logarithm of the places learned.
+    /// Learns the value of a place. The same value again is never refused, and takes no memory; want
+    /// of memory never comes in place of another refusal. It costs the logarithm of the places learned.
     pub fn learn(&mut self, place: u64, value: &[u8]) -> Result<(), LogFault>
         ensures ok { OnOk result (CanLearn self.old place value.now × (self.new ≡ with_learned self.old place value.now)) }
         ensures err { IfErr result (λ fault. LearnFault self.old place value.now fault × (self.new ≡ self.old)) }
@@ -83,20 +83,21 @@ impl Log {
             return Err(LogFault::BeyondLimit);
         }
         if let Some(known) = self.learned.get(&place) {
-            if known.bytes() == value {
+            if known.as_slice() == value {
                 return Ok(());
             }
             return Err(LogFault::Contradiction);
         }
-        let value = Value::copy_of(self.alloc, value)?;
+        let value = Bytes::new(value.to_vec(self.alloc)?);
         self.learned.insert(place, value).map_err(AllocError::from)?;
         Ok(())
     }
 
-    /// Applies the next value, if it is learned. It costs the logarithm of the places learned,
-    /// beside what the command itself costs.
+    /// Applies the next value, if it is learned. Where it isn't, the call takes no memory. It costs the
+    /// logarithm of the places learned, beside what the command itself costs.
     pub fn advance(&mut self) -> Result<bool, AllocError>
         ensures more { IfOk result (λ more. IsTrue more ↔ (self.old.applied < length (gapless self.old.learned))) }
+        ensures no_more { self.old.applied ≡ length (gapless self.old.learned) → result ≡ Ok false }
         ensures learned { self.new.learned ≡ self.old.learned }
         ensures applied { IfOk result (λ more. self.new.applied ≡ self.old.applied + (if more then 1 else 0)) }
         ensures err { OnErr result (self.new ≡ self.old) }
@@ -105,7 +106,7 @@ impl Log {
         let Some(value) = self.learned.get(&next) else {
             return Ok(false);
         };
-        let (command, _) = read_command(value.bytes());
+        let (command, _) = read_command(value.as_slice());
         self.outputs.reserve(1)?;
         let output = self.machine.apply(&command)?;
         self.outputs.push(output).map_err(AllocError::from)?;

@@ -8,8 +8,6 @@ mod flows;
 mod limits;
 mod refusal;
 mod table;
-#[cfg(test)]
-mod tests;
 
 pub use channel::{Channel, ChannelRow};
 pub use flow::{Flow, FlowKind, Waiting};

@@ -5,7 +5,6 @@ pub mod Requests
 pub mod Tellings
 pub mod Schedules
 pub mod Timely
-pub mod WorkedRows
 pub mod Maps
 pub mod Sids
 pub mod Due

@@ -1,6 +1,6 @@
 //! A cut: a channel's next MAP.
 
-ghost use Rattle.std.specs.Prelude.{◌≡◌, ℕ, ◌+◌, ◌≤◌, [], Some, None, length, map, is_none, IfOk, OnOk, OnErr};
+ghost use Rattle.std.specs.Prelude.{◌≡◌, ℕ, ◌+◌, ◌≤◌, [], Some, None, length, map, is_none, IsOk, IsSome, IfOk, OnOk, OnErr};
 ghost use Rattle.std.specs.List.{AllByRecursion};
 ghost use Rattle.map_body.specs.Rules.{AreElements};
 ghost use Rattle.map_body.specs.Layout.{layout};
@@ -10,7 +10,7 @@ ghost use Rattle.flow_state.specs.Changes.{with_cut_closed};
 ghost use Rattle.grant_machine.specs.declared.command.Command.TheVariants as commands;
 ghost use Rattle.grant_machine_parts.specs.Cutting.{fill_span, fill_refusal, end_of};
 ghost use Rattle.grant_machine_parts.specs.Drawing.{head_of};
-ghost use Rattle.grant_machine.specs.Steps.{step};
+ghost use Rattle.grant_machine.specs.Steps.{step, refusal_of};
 ghost use Rattle.grant_machine.specs.Fits.{FitsCommand};
 ghost use Rattle.grant_machine.specs.Runs.{IsReached};
 ghost use Rattle.grant_machine_parts.specs.Lent.{row_of, IsLent, IsUnicast};
@@ -173,6 +173,7 @@ pub fn cut(
 ) -> Result<Output, AllocError>
     requires { IsReached flows.old }
     ensures output { IfOk result (λ output. output ≡ (step flows.old (commands.Cut ch len not_before ack)).output) }
+    ensures declined { IsSome (refusal_of flows.old (commands.Cut ch len not_before ack)) → IsOk result }
     ensures fits { FitsCommand (commands.Cut ch len not_before ack) }
     ensures rows { OnOk result (flows.new ≡ (step flows.old (commands.Cut ch len not_before ack)).rows) }
     ensures err { OnErr result (flows.new ≡ flows.old) }

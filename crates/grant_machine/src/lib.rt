@@ -17,6 +17,3 @@ pub use laws::{
 };
 pub use machine::Machine;
 pub use output::{MapBytes, Output, again};
-
-#[cfg(test)]
-mod tests;

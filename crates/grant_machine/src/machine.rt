@@ -26,8 +26,8 @@ impl Model for Machine {
 }
 
 impl Machine {
-    ghost use Rattle.std.specs.Prelude.{◌≡◌, [], IsOk, IfOk, OnOk, OnErr};
-    ghost use Rattle.grant_machine.specs.Steps.{step, TakesNoMemory};
+    ghost use Rattle.std.specs.Prelude.{◌≡◌, [], IsOk, IsSome, IfOk, OnOk, OnErr};
+    ghost use Rattle.grant_machine.specs.Steps.{step, refusal_of, TakesNoMemory};
     ghost use Rattle.grant_machine.specs.Runs.{IsReached};
 
     /// No channel is set.
@@ -40,11 +40,13 @@ impl Machine {
         }
     }
 
-    /// Takes a command: its output, and the rows after it. Where there is no memory nothing changes.
+    /// Takes a command: its output, and the rows after it. Where there is no memory nothing changes; a
+    /// command that is refused takes none.
     pub fn apply(&mut self, command: &Command) -> Result<Output, AllocError>
         ensures output { IfOk result (λ output. output ≡ (step self.old command.now).output) }
         ensures rows { OnOk result (self.new ≡ (step self.old command.now).rows) }
         ensures err { OnErr result (self.new ≡ self.old) }
+        ensures declined { IsSome (refusal_of self.old command.now) → IsOk result }
         ensures reached { IsReached self.new }
         ensures no_memory { TakesNoMemory self.old command.now → IsOk result }
     {

@@ -1,12 +1,12 @@
 //! Commands on the rows, and their refusals as outputs.
 
-ghost use Rattle.std.specs.Prelude.{◌≡◌, ◌≢◌, IsTrue, IsOk, IfOk, OnOk, OnErr};
+ghost use Rattle.std.specs.Prelude.{◌≡◌, ◌≢◌, IsTrue, IsOk, IsSome, IfOk, OnOk, OnErr};
 ghost use Rattle.flow_state.specs.declared.refusal.Refusal.TheVariants.{OutOfMemory};
 ghost use Rattle.flow_state.specs.Refusals.{number_of};
 ghost use Rattle.flow_state.specs.Changes.{is_known};
 ghost use Rattle.grant_machine.specs.declared.command.Command.TheVariants as commands;
 ghost use Rattle.grant_machine.specs.declared.output.Output.TheVariants as outputs;
-ghost use Rattle.grant_machine.specs.Steps.{step};
+ghost use Rattle.grant_machine.specs.Steps.{step, refusal_of};
 ghost use Rattle.grant_machine.specs.Fits.{FitsCommand};
 
 use crate::output::Output;
@@ -28,6 +28,7 @@ fn refused(refusal: Refusal) -> Result<Output, AllocError>
 /// Sets a channel.
 pub fn set_channel(flows: &mut Flows, channel: Channel) -> Result<Output, AllocError>
     ensures output { IfOk result (λ output. output ≡ (step flows.old (commands.Channel channel)).output) }
+    ensures declined { IsSome (refusal_of flows.old (commands.Channel channel)) → IsOk result }
     ensures fits { FitsCommand (commands.Channel channel) }
     ensures rows { OnOk result (flows.new ≡ (step flows.old (commands.Channel channel)).rows) }
     ensures err { OnErr result (flows.new ≡ flows.old) }
@@ -50,6 +51,7 @@ pub fn add_flow(
     kind: FlowKind,
 ) -> Result<Output, AllocError>
     ensures output { IfOk result (λ output. output ≡ (step flows.old (commands.Flow ch modem tag kind)).output) }
+    ensures declined { IsSome (refusal_of flows.old (commands.Flow ch modem tag kind)) → IsOk result }
     ensures fits { FitsCommand (commands.Flow ch modem tag kind) }
     ensures rows { OnOk result (flows.new ≡ (step flows.old (commands.Flow ch modem tag kind)).rows) }
     ensures err { OnErr result (flows.new ≡ flows.old) }
@@ -77,6 +79,7 @@ pub fn drop_flow(flows: &mut Flows, ch: u8, sid: u16) -> Result<Output, AllocErr
 /// Accepts a request for n minislots that was sent at a time.
 pub fn request(flows: &mut Flows, ch: u8, sid: u16, n: u16, sent: u64) -> Result<Output, AllocError>
     ensures output { IfOk result (λ output. output ≡ (step flows.old (commands.Request ch sid n sent)).output) }
+    ensures declined { IsSome (refusal_of flows.old (commands.Request ch sid n sent)) → IsOk result }
     ensures fits { FitsCommand (commands.Request ch sid n sent) }
     ensures rows { OnOk result (flows.new ≡ (step flows.old (commands.Request ch sid n sent)).rows) }
     ensures err { OnErr result (flows.new ≡ flows.old) }

@@ -5,8 +5,7 @@ use Rattle.std.proofs.lemmas.List.{length-take, length-take-le, take_all}
 use Rattle.grant_machine.specs.declared.output.Output.{Output}
 use Rattle.command_log.specs.Values.{gapless, outputs_of_values}
 use Rattle.command_log.specs.View.{LogView, IsLog, output_at}
-use Rattle.command_log.proofs.Outputs.{output_among}
-use Rattle.command_log.proofs.Runs.{values_length}
+use Rattle.command_log.proofs.Callers.{output_among, values_length}
 use Rattle.map_release.specs.declared.numbered.Numbered.{Numbered}
 use Rattle.map_release.specs.Released.{applied_outputs, numbered, has_ended, released}
 
@@ -88,3 +87,29 @@ is_last (suc n) (x ∷ xs) none = omega (arith, is_last n xs none)
 -- all of them were passed
 pub released_all : (now cursor passed : ℕ) (log : LogView) → IsLog log → log.applied ≤ passed → released now cursor (take passed (applied_outputs log)) ≡ released now cursor (applied_outputs log)
 released_all now cursor passed log is le = ap (released now cursor) (take_all passed (applied_outputs log) (omega (arith, applied_length log is)))
+
+-- where no more is applied, nothing stands behind the cursor
+pub none_behind : (now cursor : ℕ) (log : LogView) → log.applied ≤ cursor → released now cursor (applied_outputs log) ≡ []
+none_behind now cursor log le =
+    ap (filter (λ (x : Numbered). not (has_ended now x.output)))
+    (drop_of_length-le (numbered 1 (applied_outputs log)) (omega (arith, numbered_length 1 (applied_outputs log), length-take log.applied (outputs_of_values (gapless log.learned)))))
+
+rest_empty : (b : Bool) (x : Numbered) (xs : List Numbered) → cond (not b) (x ∷ xs) xs ≡ [] → xs ≡ []
+rest_empty true x xs none = none
+rest_empty false x xs none = absurd (cc (none))
+
+-- an output behind the cursor that hasn't ended is released
+pub is_released : (now p cursor passed : ℕ) (os : List Output) (o : Output) → cursor ≤ passed → slice_get os passed ≡ Some o → has_ended now o ≡ false
+    → filter (λ (x : Numbered). not (has_ended now x.output)) (drop cursor (numbered p os)) ≡ [] → ⊥
+is_released now p cursor passed [] o le is runs none = absurd (cc (is))
+is_released now p zero zero (x ∷ os) o le is runs none =
+    let same : x ≡ o = cc in
+    let ended : has_ended now x ≡ false = ap (has_ended now) same ∙ runs in
+    let rest : List Numbered = filter (λ (y : Numbered). not (has_ended now y.output)) (numbered (p + 1) os) in
+    let here : Numbered = record { place = p; output = x } in
+    let some : here ∷ rest ≡ [] = sym (ap (λ (b : Bool). cond {A = List Numbered} (not b) (here ∷ rest) rest) ended) ∙ none in
+    absurd (cc (some))
+is_released now p zero (suc passed) (x ∷ os) o le is runs none =
+    is_released now (p + 1) zero passed os o (omega arith) is runs (rest_empty (has_ended now x) (record { place = p; output = x }) (filter (λ (y : Numbered). not (has_ended now y.output)) (numbered (p + 1) os)) none)
+is_released now p (suc cursor) zero (x ∷ os) o le is runs none = absurd (omega arith)
+is_released now p (suc cursor) (suc passed) (x ∷ os) o le is runs none = is_released now (p + 1) cursor passed os o (omega arith) is runs none

@@ -6,6 +6,3 @@ mod release;
 
 pub use numbered::Numbered;
 pub use release::Release;
-
-#[cfg(test)]
-mod tests;

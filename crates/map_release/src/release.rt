@@ -1,4 +1,4 @@
-ghost use Rattle.std.specs.Prelude.{◌≡◌, IfOk};
+ghost use Rattle.std.specs.Prelude.{◌≡◌, [], IsOk, IfOk};
 ghost use Rattle.map_release.specs.Released.{applied_outputs, has_ended, released};
 
 use crate::numbered::Numbered;
@@ -25,7 +25,8 @@ fn outputs_behind(
     cursor: u64,
     now: u64,
 ) -> Result<Vec<Numbered>, AllocError>
-    ensures { IfOk result (λ outputs. outputs.items ≡ released now cursor (applied_outputs log.now)) }
+    ensures released { IfOk result (λ outputs. outputs.items ≡ released now cursor (applied_outputs log.now)) }
+    ensures nothing { released now cursor (applied_outputs log.now) ≡ [] → IsOk result }
 {
     let mut outputs = Vec::new(alloc);
     for passed in cursor..log.prefix_len() {
@@ -59,7 +60,7 @@ impl Model for Release {
 }
 
 impl Release {
-    ghost use Rattle.std.specs.Prelude.{◌≡◌, IfOk, OnOk, OnErr};
+    ghost use Rattle.std.specs.Prelude.{◌≡◌, ◌≤◌, [], IsOk, IsOkAnd, IfOk, OnOk, OnErr};
     ghost use Rattle.map_release.specs.Released.{applied_outputs, released};
 
     /// Nothing was released. A node that starts again releases from place 1 on.
@@ -77,9 +78,12 @@ impl Release {
     }
 
     /// The outputs of the places behind the cursor that the log has applied, in order, without the
-    /// MAPs that end at `now` (in minislots) or before. The cursor moves to the last applied place.
+    /// MAPs that end at `now` (in minislots) or before. The cursor moves to the last applied place. Where
+    /// nothing is to be released, the call takes no memory.
     pub fn next(&mut self, alloc: Global, log: &Log, now: u64) -> Result<Vec<Numbered>, AllocError>
         ensures released { IfOk result (λ outputs. outputs.items ≡ released now self.old (applied_outputs log.now)) }
+        ensures nothing { released now self.old (applied_outputs log.now) ≡ [] → IsOk result }
+        ensures none_behind { log.now.applied ≤ self.old → IsOkAnd result (λ outputs. outputs.items ≡ []) }
         ensures cursor { OnOk result (self.new ≡ log.now.applied) }
         ensures err { OnErr result (self.new ≡ self.old) }
     {

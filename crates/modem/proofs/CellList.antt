@@ -6,7 +6,7 @@ use Rattle.map_body.specs.declared.element.Element.{Element}
 use Rattle.map_body.specs.declared.head.Head.{Head}
 use Rattle.map_body.specs.Body.{Body}
 use Rattle.map_body.specs.Rules.{NoNullBefore}
-use Rattle.modem.specs.Elements.{is_null}
+use Rattle.map_body.specs.Intervals.{is_null}
 use Rattle.modem.specs.Held.{HasCell}
 use Rattle.modem.proofs.Parts.{no_true, same_number, number_same}
 

@@ -5,15 +5,16 @@ use Rattle.std.proofs.lemmas.List.{map-append}
 use Rattle.std.proofs.lemmas.Bool.Decides.{nat_tests}
 use Rattle.map_body.specs.declared.element.Element.{Element}
 use Rattle.map_body.specs.Body.{Body}
-use Rattle.modem.specs.Elements.{is_null}
+use Rattle.map_body.specs.Intervals.{intervals, is_null}
+use Rattle.map_body.specs.Sids.{everybody}
 use Rattle.modem.proofs.CellList.{Cell, Covers, cell_in, cell_of}
-use Rattle.modem.specs.declared.types.Interval.{Interval}
+use Rattle.map_body.specs.declared.interval.Interval.{Interval}
 use Rattle.modem.specs.declared.cells.Cell.{Cell as KeptCell}
 use Rattle.modem.specs.declared.types.Channel.{Channel}
 use Rattle.modem.specs.declared.types.OwnSid.{OwnSid}
-use Rattle.modem.specs.State.{State, HasAt, is_own, with_channel, everybody}
+use Rattle.modem.specs.State.{State, HasAt, is_own, with_channel}
 use Rattle.modem.specs.Cells.{kept_cell, cells_from, cells_of}
-use Rattle.modem.specs.Intervals.{intervals, decided}
+use Rattle.modem.specs.Intervals.{decided}
 use Rattle.modem.specs.Hears.{Takes, IsAckTime}
 use Rattle.modem.specs.Held.{GivesCell}
 use Rattle.modem.proofs.Parts.{no_true, same_number}

@@ -1,11 +1,12 @@
-pub mod Times
-pub mod CellList
-pub mod Parts
-pub mod Least
-pub mod AtCell
-pub mod Made
-pub mod Clocks
-pub mod Stands
-pub mod Given
-pub mod Owned
-pub mod Transmits
+pub mod Callers
+mod Times
+mod CellList
+mod Parts
+mod Least
+mod AtCell
+mod Made
+mod Clocks
+mod Stands
+mod Given
+mod Owned
+mod Transmits

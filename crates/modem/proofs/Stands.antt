@@ -4,7 +4,8 @@ use Rattle.modem.specs.declared.types.Channel.{Channel}
 use Rattle.modem.specs.declared.types.OwnSid.{OwnSid}
 use Rattle.modem.specs.declared.types.Sending.{Sending}
 use Rattle.modem.specs.declared.types.Want.{Want}
-use Rattle.modem.specs.State.{State, HasAt, is_own, with_sid, channel_of, clock_of, with_channel, everybody}
+use Rattle.map_body.specs.Sids.{everybody}
+use Rattle.modem.specs.State.{State, HasAt, is_own, with_sid, channel_of, clock_of, with_channel}
 use Rattle.modem.specs.Ticks.{Ticks, Counts, SendsBy}
 use Rattle.minislot_time.specs.Wire.{IsNear}
 use Rattle.modem.proofs.Times.{near_once}

@@ -1,16 +1,18 @@
 -- What hearing an output does, by cases.
-use Rattle.std.specs.Prelude.{◌≡◌, ℕ, ◌+◌, ◌^◌, ◌<◌, ◌≤◌, max, true, ◌==◌, List, Option, Some, None, ◌⊎◌, ◌↔◌, MatchBool}
+use Rattle.std.specs.Prelude.{◌≡◌, ℕ, ◌+◌, ◌^◌, ◌<◌, ◌≤◌, max, true, false, ◌==◌, List, Option, Some, None, ◌⊎◌, ◌↔◌, MatchBool}
 use Rattle.std.specs.List.{filter_map}
 use Rattle.minislot_time.specs.Wire.{IsNear}
-use Rattle.modem.specs.Elements.{null_offset}
+use Rattle.map_body.specs.Intervals.{null_offset}
+use Rattle.map_body.specs.Iucs as iucs
+use Rattle.map_body.specs.Sids.{everybody}
 use Rattle.map_body.specs.Body.{Body}
-use Rattle.map_body.specs.Layout.{IsBody}
+use Rattle.map_body.specs.Layout.{IsBody, IsSized}
 use Rattle.grant_machine.specs.declared.output.Output.{Output}
 use Rattle.grant_machine.specs.declared.output.Output.TheVariants.{Nothing, ChannelSet, Assigned, Map as MapOutput, Refused}
 use Rattle.modem.specs.declared.types.Channel.{Channel}
 use Rattle.modem.specs.declared.types.Heard.{Heard}
 use Rattle.modem.specs.declared.types.Heard.TheVariants.{Taken, NotMine, OtherUcd, Past, Unreadable}
-use Rattle.modem.specs.State.{State, HasAt, is_own, with_sid, with_ucd, with_channel, channel_of, clock_of, everybody}
+use Rattle.modem.specs.State.{State, HasAt, is_own, with_sid, with_ucd, with_channel, channel_of, clock_of}
 use Rattle.modem.specs.Intervals.{decided}
 use Rattle.modem.specs.Held.{GivesCell}
 
@@ -28,7 +30,7 @@ pub record Reads (bytes : List ℕ) (near : ℕ) (map : Body) (start «end» : �
 -- from the clock on, the new state holds what the old one held, and its request minislots are the same
 pub record KeepsHeld (old new : State) : Type 0 where
   pub grants : (ch m sid iuc : ℕ) → clock_of new.channels ch ≤ m → HasAt new.grants ch m sid iuc ↔ HasAt old.grants ch m sid iuc
-  pub open_to_all : (ch m : ℕ) → clock_of new.channels ch ≤ m → HasAt new.open_to_all ch m everybody 1 ↔ HasAt old.open_to_all ch m everybody 1
+  pub open_to_all : (ch m : ℕ) → clock_of new.channels ch ≤ m → HasAt new.open_to_all ch m everybody iucs.request ↔ HasAt old.open_to_all ch m everybody iucs.request
 
 -- the map, heard too late, moves the clock of its channel and nothing else
 pub record Passes (old : State) (c : Channel) (near : ℕ) (new : State) : Type 0 where
@@ -49,8 +51,16 @@ pub record Takes (old : State) (c : Channel) (near : ℕ) (map : Body) (start : 
   pub channels : new.channels ≡ with_channel (record c { clock = max c.clock near; backoff = map.head.data_backoff }) old.channels
   pub sids : new.sids ≡ old.sids
   pub grants : (ch m sid iuc : ℕ) → clock_of new.channels ch ≤ m → HasAt new.grants ch m sid iuc ↔ (HasAt old.grants ch m sid iuc ⊎ (is_own old.sids ch sid ≡ true) × GivesCell map start ch m sid iuc)
-  pub open_to_all : (ch m : ℕ) → clock_of new.channels ch ≤ m → HasAt new.open_to_all ch m everybody 1 ↔ (HasAt old.open_to_all ch m everybody 1 ⊎ GivesCell map start ch m everybody 1)
+  pub open_to_all : (ch m : ℕ) → clock_of new.channels ch ≤ m → HasAt new.open_to_all ch m everybody iucs.request ↔ (HasAt old.open_to_all ch m everybody iucs.request ⊎ GivesCell map start ch m everybody iucs.request)
   pub wants : (ack : Option ℕ) × IsAckTime map.head.ack start ack × (new.wants ≡ filter_map (decided map.elements map.head.channel ack) old.wants)
+
+-- what hearing an output may take memory for: a channel that isn't known, a SID that becomes the modem's, or bytes of a map's length
+abbrev pub MayGrow : State → Output → Type 0
+MayGrow old Nothing = ⊥
+MayGrow old (Refused _) = ⊥
+MayGrow old (ChannelSet ch ucd) = channel_of old.channels ch ≡ None
+MayGrow old (Assigned modem ch sid) = (modem ≡ old.id) × (is_own old.sids ch sid ≡ false)
+MayGrow old (MapOutput _ _ _ bytes) = IsSized bytes
 
 -- a modem that hears the bytes of a map near a time gives this answer and becomes new
 abbrev pub HearsMap : State → List ℕ → ℕ → Heard → State → Type 0

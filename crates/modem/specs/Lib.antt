@@ -1,5 +1,4 @@
 pub mod State
-pub mod Elements
 pub mod Cells
 pub mod Wants
 pub mod Intervals

@@ -2,12 +2,14 @@
 
 ghost use Rattle.std.specs.Prelude.{◌≡◌, ◌+◌, ◌<◌, ◌≤◌, ◌^◌, ◌++◌, ◌↔◌, map, OnOk, IfOk, true};
 ghost use Rattle.std.specs.List.{flat_map, list_any};
-ghost use Rattle.modem.specs.State.{HasAt, everybody};
+ghost use Rattle.map_body.specs.Iucs as iucs;
+ghost use Rattle.map_body.specs.Sids.{everybody};
+ghost use Rattle.modem.specs.State.{HasAt};
 ghost use Rattle.modem.specs.Cells.{kept_cell, cells_of};
 ghost use Rattle.modem.specs.Steps.{first_at, is_cell};
 ghost use Rattle.modem.specs.Ticks.{Counts};
 
-use crate::types::Interval;
+use map_body::{Interval, Iuc, Sid};
 use std::alloc::{AllocError, Global};
 
 /// One minislot of a channel that a map gave a SID, with the element's IUC.
@@ -15,7 +17,7 @@ use std::alloc::{AllocError, Global};
 pub(crate) struct Cell {
     pub channel: u8,
     pub sid: u16,
-    pub iuc: u8,
+    pub iuc: Iuc,
     pub minislot: u64,
 }
 
@@ -28,10 +30,10 @@ fn push_cells(
     requires { start < 2 ^ 63 }
     ensures { OnOk result (cells.new.items ≡ cells.old.items ++ cells_of ch start interval.now) }
 {
-    for offset in interval.from..interval.to {
+    for offset in interval.from.get()..interval.to.get() {
         cells.push(Cell {
             channel: ch,
-            sid: interval.sid,
+            sid: interval.sid.get(),
             iuc: interval.iuc,
             minislot: start + u64::from(offset),
         })?;
@@ -57,7 +59,7 @@ pub(crate) fn with_cells(
     Ok(all)
 }
 
-fn first_at(ch: u8, at: u64, first: Option<(u16, u8)>, cell: Cell) -> Option<(u16, u8)>
+fn first_at(ch: u8, at: u64, first: Option<(u16, Iuc)>, cell: Cell) -> Option<(u16, Iuc)>
     ensures { result ≡ first_at ch at first cell }
 {
     if cell.channel != ch || cell.minislot != at {
@@ -66,7 +68,7 @@ fn first_at(ch: u8, at: u64, first: Option<(u16, u8)>, cell: Cell) -> Option<(u1
     let Some(best) = first else {
         return Some((cell.sid, cell.iuc));
     };
-    if cell.sid < best.0 || cell.sid == best.0 && cell.iuc < best.1 {
+    if cell.sid < best.0 || cell.sid == best.0 && cell.iuc.get() < best.1.get() {
         Some((cell.sid, cell.iuc))
     } else {
         Some(best)
@@ -74,25 +76,26 @@ fn first_at(ch: u8, at: u64, first: Option<(u16, u8)>, cell: Cell) -> Option<(u1
 }
 
 /// Of the cells at a minislot, the SID and IUC that count.
-pub(crate) fn counted(cells: &[Cell], ch: u8, at: u64) -> Option<(u16, u8)>
+pub(crate) fn counted(cells: &[Cell], ch: u8, at: u64) -> Option<(u16, Iuc)>
     ensures { Counts (map kept_cell cells.now) ch at result }
 {
-    let mut counted: Option<(u16, u8)> = None;
+    let mut counted: Option<(u16, Iuc)> = None;
     for cell in cells {
         counted = first_at(ch, at, counted, *cell);
     }
     counted
 }
 
-fn has_cell(cells: &[Cell], ch: u8, at: u64, sid: u16, iuc: u8) -> bool
+fn has_cell(cells: &[Cell], ch: u8, at: u64, sid: Sid, iuc: Iuc) -> bool
     ensures { result ≡ list_any (is_cell ch at sid iuc) cells.now }
 {
-    cells.iter().any(|c| (c.channel == ch && c.minislot == at) && (c.sid == sid && c.iuc == iuc))
+    cells.iter().any(|c| (c.channel == ch && c.minislot == at)
+        && (c.sid == sid.get() && c.iuc == iuc))
 }
 
 /// Whether a minislot is a request minislot that is open to all.
 pub(crate) fn is_open(cells: &[Cell], ch: u8, at: u64) -> bool
-    ensures { (result ≡ true) ↔ HasAt (map kept_cell cells.now) ch at everybody 1 }
+    ensures { (result ≡ true) ↔ HasAt (map kept_cell cells.now) ch at everybody iucs.request }
 {
-    has_cell(cells, ch, at, 0x3FFF, 1)
+    has_cell(cells, ch, at, Sid::EVERYBODY, Iuc::REQUEST)
 }

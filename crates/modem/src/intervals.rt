@@ -1,39 +1,16 @@
 //! The intervals of a map that is heard.
 
 ghost use Rattle.std.specs.Prelude.{◌≡◌, ℕ, ◌+◌, ◌<◌, ◌^◌, ◌==◌, ◌&&◌, filter, IfOk, IfSome, IfNone};
-ghost use Rattle.modem.specs.State.{is_own, everybody};
-ghost use Rattle.modem.specs.Elements.{null_offset};
-ghost use Rattle.modem.specs.Intervals.{intervals};
+ghost use Rattle.map_body.specs.Iucs as iucs;
+ghost use Rattle.map_body.specs.Sids.{everybody};
+ghost use Rattle.modem.specs.State.{is_own};
 ghost use Rattle.modem.specs.Hears.{IsExtent, IsAckTime};
 
 use crate::channels;
-use crate::types::{Interval, OwnSid};
-use map_body::{Element, MapBody};
+use crate::types::OwnSid;
+use map_body::{Interval, Iuc, MapBody, Sid};
 use minislot_time::{Slot, extend};
 use std::alloc::{AllocError, Global};
-
-/// The intervals before the Null.
-pub(crate) fn intervals(alloc: Global, elements: &[Element]) -> Result<Vec<Interval>, AllocError>
-    ensures { IfOk result (λ v. v.items ≡ intervals elements.now) }
-{
-    let mut found = Vec::new(alloc);
-    let mut last: Option<Element> = None;
-    for element in elements {
-        if let Some(e) = last {
-            found.push(Interval {
-                sid: e.sid.get(),
-                iuc: e.iuc.get(),
-                from: e.offset.get(),
-                to: element.offset.get(),
-            })?;
-        }
-        if element.iuc.get() == 7 {
-            return Ok(found);
-        }
-        last = Some(*element);
-    }
-    Ok(found)
-}
 
 /// Those whose SID is the modem's.
 pub(crate) fn own(
@@ -47,7 +24,7 @@ pub(crate) fn own(
     let own = intervals
         .iter()
         .copied()
-        .filter(|i| channels::is_own(sids, ch, i.sid))
+        .filter(|i| channels::is_own(sids, ch, i.sid.get()))
         .collect(alloc)?;
     Ok(own)
 }
@@ -57,25 +34,14 @@ pub(crate) fn open_to_all(
     alloc: Global,
     intervals: &[Interval],
 ) -> Result<Vec<Interval>, AllocError>
-    ensures { IfOk result (λ v. v.items ≡ filter (λ i. (i.sid == everybody) && (i.iuc == 1)) intervals.now) }
+    ensures { IfOk result (λ v. v.items ≡ filter (λ i. (i.sid == everybody) && (i.iuc == iucs.request)) intervals.now) }
 {
     let open = intervals
         .iter()
         .copied()
-        .filter(|i| i.sid == 0x3FFF && i.iuc == 1)
+        .filter(|i| i.sid == Sid::EVERYBODY && i.iuc == Iuc::REQUEST)
         .collect(alloc)?;
     Ok(open)
-}
-
-fn null_offset(elements: &[Element]) -> Option<u16>
-    ensures { result ≡ null_offset elements.now }
-{
-    for element in elements {
-        if element.iuc.get() == 7 {
-            return Some(element.offset.get());
-        }
-    }
-    None
 }
 
 /// The start of a map near a time, and its end, where these are times.
@@ -84,8 +50,7 @@ pub(crate) fn extent(map: &MapBody, near: Slot) -> Option<(Slot, u64)>
     ensures none { IfNone result ((start stop : ℕ) → ¬ IsExtent near map.now start stop) }
 {
     let start = extend(map.head().start, near)?;
-    let len = null_offset(map.elements())?;
-    let end = start.get() + u64::from(len);
+    let end = start.get() + u64::from(map.len().get());
     if end < 0x8000_0000_0000_0000 {
         Some((start, end))
     } else {

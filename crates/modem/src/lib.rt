@@ -12,6 +12,3 @@ mod wants;
 pub use modem::Modem;
 pub use owner::one_owner;
 pub use types::{Heard, Sending, TimeBack, WantFault};
-
-#[cfg(test)]
-mod tests;

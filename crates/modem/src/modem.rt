@@ -1,14 +1,14 @@
 //! The modem core, which keeps what it heard as a plain list of cells.
 
-ghost use Rattle.std.specs.Prelude.{◌≡◌, ℕ, ◌<◌, ◌≤◌, None, Some, Ok, Err, OnOk, OnErr, IfOk, IfErr, IfSome, IfNone, IsOkAnd, IsErr, List, true, ◌∷◌, ◌++◌, [], ◌⊎◌, ◌==◌, MatchBool};
+ghost use Rattle.std.specs.Prelude.{◌≡◌, ℕ, ◌<◌, ◌≤◌, None, Some, Ok, Err, OnOk, OnErr, IfOk, IfErr, IfSome, IfNone, IsOkAnd, IsErr, List, true, false, ◌∷◌, ◌++◌, [], ◌⊎◌, ◌==◌, ◌↔◌, MatchBool};
 ghost use Rattle.map_body.specs.declared.fault.MapFault.TheVariants.{OutOfMemory};
 ghost use Rattle.map_body.specs.Body.{Body};
-ghost use Rattle.map_body.specs.Layout.{IsBody};
+ghost use Rattle.map_body.specs.Layout.{IsBody, IsSized};
 ghost use Rattle.std.specs.Option.{option_map};
 ghost use Rattle.modem.specs.declared.types.Channel.{Channel};
-ghost use Rattle.modem.specs.State.{new_modem, channel_of, with_ucd, with_sid};
+ghost use Rattle.modem.specs.State.{new_modem, channel_of, is_own, with_ucd, with_sid};
 ghost use Rattle.modem.specs.Held.{StandsFor, Hearing, Held, unicast_sid};
-ghost use Rattle.modem.specs.Hears.{Hears, HearsMap, Takes};
+ghost use Rattle.modem.specs.Hears.{Hears, HearsMap, MayGrow, Takes};
 ghost use Rattle.modem.specs.Wants.{want_refusal, new_want};
 ghost use Rattle.modem.specs.Ticks.{Ticks};
 
@@ -22,13 +22,14 @@ use std::alloc::{AllocError, Global};
 use std::marker::Model;
 
 fn is_memory(fault: MapFault) -> bool
-    ensures { fault ≡ OutOfMemory → result ≡ true }
+    ensures { (result ≡ true) ↔ (fault ≡ OutOfMemory) }
 {
     matches!(fault, MapFault::OutOfMemory)
 }
 
 // The map that bytes are, if they are one.
 fn read(alloc: Global, bytes: &[u8]) -> Result<Option<MapBody>, AllocError>
+    ensures memory { IsErr result → IsSized bytes.now }
     ensures read { IfOk result (λ found. IfSome found (IsBody bytes.now)) }
     ensures unreadable { IfOk result (λ found. IfNone found ((map : Body) → ¬ IsBody bytes.now map)) }
 {
@@ -91,9 +92,11 @@ impl Modem {
         }
     }
 
-    /// Takes a request of n minislots, 1 to 255, for a SID of the modem's.
+    /// Takes a request of n minislots, 1 to 255, for a SID of the modem's. Want of memory never comes in
+    /// place of another refusal.
     pub fn want(&mut self, ch: u8, sid: u16, n: u16) -> Result<(), WantFault>
         ensures ok { OnOk result ((want_refusal self.old ch sid n ≡ None) × (self.new ≡ record self.old { wants = self.old.wants ++ new_want ch sid n ∷ [] })) }
+        ensures declined { IfSome (want_refusal self.old ch sid n) (λ fault. result ≡ Err fault) }
         ensures err { IfErr result (λ e. (self.new ≡ self.old) × ((want_refusal self.old ch sid n ≡ Some e) ⊎ ((want_refusal self.old ch sid n ≡ None) × (e ≡ WantFault.OutOfMemory)))) }
         ensures stands { (hearings : List Hearing) → StandsFor self.old hearings → StandsFor self.new hearings }
     {
@@ -149,10 +152,13 @@ impl Modem {
         Ok(sending)
     }
 
-    /// Hears an output near a time. Of a Map only the bytes are looked at.
+    /// Hears an output near a time. Of a Map only the bytes are looked at. It takes memory only for a channel
+    /// that wasn't known, for a new SID of its own, and for a map's bytes, if they have the length that their
+    /// count tells.
     pub fn hear(&mut self, output: &Output, near: Slot) -> Result<Heard, AllocError>
         ensures ok { IfOk result (λ answer. Hears self.old output.now near answer self.new) }
         ensures err { OnErr result (self.new ≡ self.old) }
+        ensures memory { IsErr result → MayGrow self.old output.now }
         ensures stands { IfOk result (λ answer. (hearings : List Hearing) → StandsFor self.old hearings → StandsFor self.new (record { output = output.now; near = near; answer = answer } ∷ hearings)) }
     {
         match output {
@@ -172,6 +178,7 @@ impl Modem {
     fn hear_channel(&mut self, ch: u8, ucd: u8) -> Result<Heard, AllocError>
         ensures ok { IfOk result (λ answer. (answer ≡ Heard.Taken) × (self.new ≡ record self.old { channels = with_ucd self.old.channels ch ucd (channel_of self.old.channels ch) })) }
         ensures err { OnErr result (self.new ≡ self.old) }
+        ensures memory { IsErr result → channel_of self.old.channels ch ≡ None }
     {
         match channels::find(self.channels.as_slice(), ch) {
             Some(channel) => {
@@ -193,6 +200,7 @@ impl Modem {
     fn hear_assigned(&mut self, modem: u32, ch: u8, sid: u16) -> Result<Heard, AllocError>
         ensures ok { IfOk result (λ answer. MatchBool (modem == self.old.id) ((answer ≡ Heard.Taken) × (self.new ≡ record self.old { sids = with_sid self.old.sids ch sid })) ((answer ≡ Heard.NotMine) × (self.new ≡ self.old))) }
         ensures err { OnErr result (self.new ≡ self.old) }
+        ensures memory { IsErr result → (modem ≡ self.old.id) × (is_own self.old.sids ch sid ≡ false) }
     {
         if modem != self.id {
             return Ok(Heard::NotMine);
@@ -207,6 +215,7 @@ impl Modem {
     fn hear_map(&mut self, bytes: &[u8], near: Slot) -> Result<Heard, AllocError>
         ensures ok { IfOk result (λ answer. HearsMap self.old bytes.now near answer self.new) }
         ensures err { OnErr result (self.new ≡ self.old) }
+        ensures memory { IsErr result → IsSized bytes.now }
     {
         let alloc = *self.wants.allocator();
         let Some(map) = read(alloc, bytes)? else {
@@ -244,7 +253,7 @@ impl Modem {
     {
         let alloc = *self.wants.allocator();
         let head = *map.head();
-        let heard = intervals::intervals(alloc, map.elements())?;
+        let heard = map.intervals(alloc)?;
         let own = intervals::own(alloc, heard.as_slice(), self.sids.as_slice(), head.channel)?;
         let open = intervals::open_to_all(alloc, heard.as_slice())?;
         let first = start.get();
@@ -263,14 +272,7 @@ impl Modem {
             open.as_slice(),
         )?;
         let ack = intervals::ack_time(head.ack, start);
-        let wants = wants::decided(
-            alloc,
-            self.wants.as_slice(),
-            heard.as_slice(),
-            map.elements(),
-            head.channel,
-            ack,
-        )?;
+        let wants = wants::decided(alloc, self.wants.as_slice(), map, heard.as_slice(), ack)?;
         self.grants = grants;
         self.open_to_all = open_to_all;
         self.wants = wants;

@@ -41,15 +41,6 @@ pub struct Want {
     pub progress: Progress,
 }
 
-/// An element of a map before the Null, with the offset at which it ends.
-#[derive(Clone, Copy, Debug, PartialEq, Eq)]
-pub struct Interval {
-    pub sid: u16,
-    pub iuc: u8,
-    pub from: u16,
-    pub to: u16,
-}
-
 /// The answer to an output that is heard: it is taken; it is for another modem; it is a MAP of a channel
 /// that isn't known or of another UCD Count, one that has ended, or one that can't be read near that time.
 #[derive(Clone, Copy, Debug, PartialEq, Eq)]

@@ -4,12 +4,13 @@ ghost use Rattle.std.specs.Prelude.{◌≡◌, ℕ, ◌+◌, ◌-◌, ◌<◌, �
 ghost use Rattle.std.specs.List.{filter_map, list_any};
 ghost use Rattle.modem.specs.declared.types.Want.{Want};
 ghost use Rattle.modem.specs.Wants.{is_want, is_unsent, unsent_of, with_want, IsLeastUnsent};
-ghost use Rattle.modem.specs.Intervals.{intervals, is_decision, is_granted, is_pending, is_acknowledged, lost, decided};
+ghost use Rattle.map_body.specs.Intervals.{intervals};
+ghost use Rattle.modem.specs.Intervals.{is_granted, is_pending, is_acknowledged, lost, decided};
 ghost use Rattle.modem.specs.Steps.{lesser};
-ghost use Rattle.modem.specs.Ticks.{number_of, sent_at, Polls, Contends, SendsBy};
+ghost use Rattle.modem.specs.Ticks.{number_of, sent_at, Polls, Contends, SendsBy, Shares};
 
-use crate::types::{Channel, Interval, Progress, Sending, Want};
-use map_body::Element;
+use crate::types::{Channel, Progress, Sending, Want};
+use map_body::{Interval, Iuc, MapBody};
 use std::alloc::{AllocError, Global};
 
 fn is_of(want: &Want, ch: u8, sid: u16) -> bool
@@ -148,7 +149,7 @@ pub(crate) fn send(
     channel: Channel,
     at: u64,
     random: u64,
-    counted: Option<(u16, u8)>,
+    counted: Option<(u16, Iuc)>,
     is_open: bool,
 ) -> Option<Sending>
     ensures { SendsBy wants.old.items channel at random is_open result wants.new.items counted }
@@ -161,41 +162,68 @@ fn send_of(
     channel: Channel,
     at: u64,
     random: u64,
-    counted: Option<(u16, u8)>,
+    counted: Option<(u16, Iuc)>,
     is_open: bool,
 ) -> Option<Sending>
     ensures { SendsBy wants.old channel at random is_open result wants.new counted }
 {
     match counted {
-        Some((sid, 5 | 6)) => Some(Sending::Unicast(sid)),
-        Some((sid, 1)) => poll(wants, channel, sid, at),
-        _ if is_open => share(wants, channel, at, random),
-        _ => None,
+        Some(interval) => send_by(wants, channel, at, random, interval, is_open),
+        None => send_shared(wants, channel, at, random, is_open),
     }
 }
 
-fn is_granted(heard: &[Interval], elements: &[Element], sid: u16) -> bool
-    requires { heard.now ≡ intervals elements.now }
-    ensures { result ≡ is_granted elements.now sid }
+// By an interval of the modem's: its SID and IUC.
+fn send_by(
+    wants: &mut [Want],
+    channel: Channel,
+    at: u64,
+    random: u64,
+    interval: (u16, Iuc),
+    is_open: bool,
+) -> Option<Sending>
+    ensures { SendsBy wants.old channel at random is_open result wants.new (Some interval) }
 {
-    heard.iter().any(|i| i.sid == sid && ((i.iuc == 5 || i.iuc == 6) && i.from < i.to))
-}
-
-fn has_grant(elements: &[Element], sid: u16) -> bool
-    ensures { result ≡ list_any (λ e. (e.sid == sid) && is_decision e.iuc) elements.now }
-{
-    elements.iter().any(|e| e.sid.get() == sid && (e.iuc.get() == 5 || e.iuc.get() == 6))
-}
-
-fn is_pending(elements: &[Element], sid: u16) -> bool
-    ensures { result ≡ is_pending elements.now sid }
-{
-    for (i, e) in elements.iter().enumerate() {
-        if e.iuc.get() == 7 {
-            return has_grant(&elements[i + 1..], sid);
-        }
+    let (sid, iuc) = interval;
+    if iuc.lets_transmit() {
+        Some(Sending::Unicast(sid))
+    } else if iuc.lets_request() {
+        poll(wants, channel, sid, at)
+    } else {
+        send_shared(wants, channel, at, random, is_open)
     }
-    false
+}
+
+fn send_shared(
+    wants: &mut [Want],
+    channel: Channel,
+    at: u64,
+    random: u64,
+    is_open: bool,
+) -> Option<Sending>
+    ensures { Shares wants.old channel at random is_open result wants.new }
+{
+    if is_open {
+        share(wants, channel, at, random)
+    } else {
+        None
+    }
+}
+
+fn is_granted(map: &MapBody, heard: &[Interval], sid: u16) -> bool
+    requires { heard.now ≡ intervals map.now.elements }
+    ensures { result ≡ is_granted map.now.elements sid }
+{
+    heard.iter().any(|i| i.sid.get() == sid
+        && (i.iuc.answers_request() && i.from.get() < i.to.get()))
+}
+
+fn is_pending(map: &MapBody, sid: u16) -> bool
+    ensures { result ≡ is_pending map.now.elements sid }
+{
+    map.after_null()
+        .iter()
+        .any(|e| e.sid.get() == sid && e.iuc.answers_request())
 }
 
 fn is_acknowledged(want: &Want, ch: u8, ack: Option<u64>) -> bool
@@ -225,21 +253,15 @@ fn lost(want: Want) -> Option<Want>
     })
 }
 
-fn decide(
-    want: Want,
-    heard: &[Interval],
-    elements: &[Element],
-    ch: u8,
-    ack: Option<u64>,
-) -> Option<Want>
-    requires { heard.now ≡ intervals elements.now }
-    ensures { result ≡ decided elements.now ch ack want }
+fn decide(want: Want, map: &MapBody, heard: &[Interval], ack: Option<u64>) -> Option<Want>
+    requires { heard.now ≡ intervals map.now.elements }
+    ensures { result ≡ decided map.now.elements map.now.head.channel ack want }
 {
-    if !is_acknowledged(&want, ch, ack) {
+    if !is_acknowledged(&want, map.head().channel, ack) {
         Some(want)
-    } else if is_granted(heard, elements, want.sid) {
+    } else if is_granted(map, heard, want.sid) {
         None
-    } else if is_pending(elements, want.sid) {
+    } else if is_pending(map, want.sid) {
         Some(want)
     } else {
         lost(want)
@@ -250,17 +272,16 @@ fn decide(
 pub(crate) fn decided(
     alloc: Global,
     wants: &[Want],
+    map: &MapBody,
     heard: &[Interval],
-    elements: &[Element],
-    ch: u8,
     ack: Option<u64>,
 ) -> Result<Vec<Want>, AllocError>
-    requires { heard.now ≡ intervals elements.now }
-    ensures { IfOk result (λ v. v.items ≡ filter_map (decided elements.now ch ack) wants.now) }
+    requires { heard.now ≡ intervals map.now.elements }
+    ensures { IfOk result (λ v. v.items ≡ filter_map (decided map.now.elements map.now.head.channel ack) wants.now) }
 {
     let left = wants
         .iter()
-        .filter_map(|w| decide(*w, heard, elements, ch, ack))
+        .filter_map(|w| decide(*w, map, heard, ack))
         .collect(alloc)?;
     Ok(left)
 }

@@ -8,7 +8,6 @@ use Rattle.node.specs.View.{View, Standing, gapless}
 use Rattle.node.specs.View.Standing.{Running, Stopped}
 use Rattle.proposer.specs.declared.fault.NodeFault.{NodeFault as Fault}
 use Rattle.proposer.specs.declared.fault.NodeFault.TheVariants as fault
-use Rattle.node.specs.Calls.{Cause, IsStop}
 use Rattle.node.specs.Calls.Cause.{Lead as AskedToLead, Offer as Offered}
 use Rattle.ballots.specs.Limits.{longest_value}
 use Rattle.node.specs.Step.{Outcome, receive, offer, limit, last_place, sends, to_all, Leads}

@@ -22,6 +22,7 @@ pub mod Whole
 pub mod Joining
 mod Answered
 pub mod Places
+mod Outwardly
 pub mod Acts
 pub mod Pieces
 pub mod Same

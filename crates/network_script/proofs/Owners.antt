@@ -27,7 +27,7 @@ use Rattle.network_script.specs.World.{Written, opening}
 use Rattle.network_script_parts.specs.Receiver.{Receiver, new_receiver}
 use Rattle.network_script_parts.specs.Modems.{sent_at}
 use Rattle.network_script.specs.Next.{Goes, Run}
-use Rattle.network_script.specs.Headline.{OfEveryRun, WithSchedule, HeldIsOwned, OwnersAreOne, SentIsHeld}
+use Rattle.network_script.specs.Headline.{OfEveryRun, WithSchedule, HeldIsOwned, ModemsAreNamed, OwnersAreOne, SentIsHeld}
 use Rattle.network_script.proofs.Drawn.{is_drawn}
 use Rattle.network_script.proofs.Moves.{Moved, next_moves}
 use Rattle.network_script.proofs.Runs.{IsFine, next_fine, opening_fine}
@@ -139,6 +139,9 @@ module _ (hears_stand : (old new : State) (o : Output) (near : ℕ) (h : Heard) 
 
   run_modems : (members : ℕ) (ids : List ℕ) (script : List Event) (report : List Answer) (w : Written) → Run members ids script report w → Fine ids w
   run_modems members ids script report w run = goes_modems members ids (opening members ids) script report w (opening_fine members ids) (opening_modems ids) run
+
+  pub modems_are_named : OfEveryRun ModemsAreNamed
+  modems_are_named members ids script report w run = (run_modems members ids script report w run).named
 
   pub sent_is_held : OfEveryRun SentIsHeld
   sent_is_held members ids script report w run x sid there is =

@@ -3,15 +3,17 @@ use Rattle.ballots.proofs.Callers.{agreement}
 use Rattle.command_log.specs.Values.{Owner}
 use Rattle.grant_machine.proofs.Callers.{maps_are_disjoint}
 use Rattle.grant_machine.proofs.Callers as schedules
-use Rattle.modem.proofs.Stands.{Hears-stands, Ticks-stands}
-use Rattle.modem.proofs.Transmits.{Ticks-held}
-use Rattle.network_script.specs.Headline.{OfEveryRun, WithSchedule, HeldIsOwned, OwnersAreOne, HoldersAreOne, SentIsHeld, SentByOwner, Headline}
+use Rattle.modem.proofs.Callers.{Hears-stands, Ticks-stands, Ticks-held}
+use Rattle.network_script.specs.Headline.{OfEveryRun, WithSchedule, HeldIsOwned, ModemsAreNamed, OwnersAreOne, HoldersAreOne, SentIsHeld, SentByOwner, Headline}
 use Rattle.network_script.proofs.Runs.{history_legal, learned_is_chosen}
 use Rattle.network_script.proofs.Schedule.{one_schedule, gapless_is_beginning, released_is_output, maps_are_one, covers_once}
 use Rattle.network_script.proofs.Owners as owners
 
 pub held_is_owned : OfEveryRun (WithSchedule HeldIsOwned)
 held_is_owned = owners.held_is_owned Hears-stands Ticks-stands Ticks-held (λ cs. record { unicast = schedules.sids_are_unicast cs; one_owner = schedules.owners_are_one cs })
+
+pub modems_are_named : OfEveryRun ModemsAreNamed
+modems_are_named = owners.modems_are_named Hears-stands Ticks-stands Ticks-held (λ cs. record { unicast = schedules.sids_are_unicast cs; one_owner = schedules.owners_are_one cs })
 
 pub owners_are_one : OfEveryRun (WithSchedule OwnersAreOne)
 owners_are_one = owners.owners_are_one Hears-stands Ticks-stands Ticks-held (λ cs. record { unicast = schedules.sids_are_unicast cs; one_owner = schedules.owners_are_one cs })

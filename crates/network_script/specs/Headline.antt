@@ -99,6 +99,10 @@ pub record HoldsAt (ids : List ℕ) (w : Written) (j id ch m sid : ℕ) : Type 0
   pub there : slice_get w.modems j ≡ Some receiver
   pub held : Held id receiver.heard ch m sid
 
+-- the modems are known by these ids
+abbrev pub ModemsAreNamed : ℕ → List ℕ → Written → Type 0
+ModemsAreNamed members ids w = (j : ℕ) (r : Receiver) → slice_get w.modems j ≡ Some r → slice_get ids j ≡ Some r.state.id
+
 -- what a modem holds, it owns by the outputs of the chosen values
 abbrev pub HeldIsOwned : ℕ → List ℕ → Written → List (List ℕ) → Type 0
 HeldIsOwned members ids w c = (j id ch m sid : ℕ) → HoldsAt ids w j id ch m sid → Owner c ch m id

@@ -3,6 +3,7 @@ pub mod World
 pub mod Next
 pub mod Seats
 pub mod Worlds
+pub mod Outward
 pub mod Counts
 pub mod Headline
 pub mod Plain

@@ -1,5 +1,5 @@
 -- The nodes of a world, as a list.
-use Rattle.std.specs.Prelude.{◌≡◌, ◌<◌, ◌≤◌, ℕ, List, [], ◌∷◌, Option, Some, true, map, length, All, slice_get, slice_index_or}
+use Rattle.std.specs.Prelude.{◌≡◌, ◌<◌, ◌≤◌, ℕ, List, [], ◌∷◌, Option, Some, None, Bool, true, false, map, length, All, slice_get, slice_index_or}
 use Rattle.std.specs.List.{range_with_len}
 use Rattle.node.specs.declared.node.Node.{Ghosts}
 use Rattle.acceptor.specs.Content.{Content, Write}
@@ -27,6 +27,16 @@ IsNumbered {N} {g} seats = map (member {N = N} {g = g}) seats ≡ map (λ k. (k,
 -- all of them
 abbrev pub AllHonest : {N : Type 0} {g : Ghosts N} → List (Seat N g) → Type 0
 AllHonest {N} {g} seats = All (IsHonest {N = N} {g = g}) seats
+
+-- which of them are up
+abbrev pub ups : {N : Type 0} {g : Ghosts N} → List (Seat N g) → List Bool
+ups {N} {g} seats = map (is_up {N = N} {g = g}) seats
+
+-- why a node can't be called, where these are up: there is no node k, or it has crashed
+abbrev pub IsNotUp : List Bool → ℕ → Refusal → Type 0
+IsNotUp up k NoNode = slice_get up k ≡ None
+IsNotUp up k NodeDown = slice_get up k ≡ Some false
+IsNotUp up k other = ⊥
 
 -- the node at place k is up
 abbrev pub IsUpAt : {N : Type 0} {g : Ghosts N} → List (Seat N g) → ℕ → Type 0

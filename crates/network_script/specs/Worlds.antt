@@ -1,5 +1,5 @@
 -- Which written worlds a world stands for.
-use Rattle.std.specs.Prelude.{◌≡◌, ◌≢◌, ◌++◌, ℕ, List, [], length, Result, Ok, Err}
+use Rattle.std.specs.Prelude.{◌≡◌, ◌≢◌, ◌++◌, ℕ, List, [], length, Result, Ok, Err, Bool, false}
 use Rattle.ballots.specs.declared.letters.Letter.{Letter}
 use Rattle.ballots.specs.Voting.{Entry}
 use Rattle.map_release.specs.declared.numbered.Numbered.{Numbered}
@@ -78,6 +78,12 @@ abbrev pub left : Answer → Standing → Standing
 left Crashed s = crashed s
 left Finished s = crashed s
 left answer s = s
+
+-- and whether a node that was up stays so
+abbrev pub up_after : Answer → Bool → Bool
+up_after Crashed was = false
+up_after Finished was = false
+up_after answer was = was
 
 -- what becomes of the letters that a node gave: they are sent, or there is no room for them
 abbrev pub Posted : Result (List Letter) NodeFault → List Letter → Answer → List Letter → Type 0

@@ -1,6 +1,6 @@
 //! What holds of every run, whatever is lost, repeated and reordered, and whichever nodes crash and restart.
 
-ghost use Rattle.network_script.specs.Headline.{CoversOnce, GaplessIsBeginning, HasOneSchedule, Headline, HeldIsOwned, HistoryIsLegal, HoldersAreOne, LearnedIsChosen, MapsAreOne, OfEveryRun, OwnersAreOne, ReleasedIsOutput, RunsJoin, SentByOwner, SentIsHeld, WithSchedule};
+ghost use Rattle.network_script.specs.Headline.{CoversOnce, GaplessIsBeginning, HasOneSchedule, Headline, HeldIsOwned, HistoryIsLegal, HoldersAreOne, LearnedIsChosen, MapsAreOne, ModemsAreNamed, OfEveryRun, OwnersAreOne, ReleasedIsOutput, RunsJoin, SentByOwner, SentIsHeld, WithSchedule};
 ghost use Rattle.network_script.specs.Examples.{IsRefused, LeastBallots, OneLeader, ReleasesInOrder, TakesOver, TakesOverAfresh, TriesHigher, VoteOutlivesCrash};
 ghost use Rattle.network_script.specs.Plain.{EachIsAnswered};
 ghost use Rattle.network_script.specs.Counts.{FewFaults};
@@ -23,10 +23,11 @@ pub fn one_schedule()
     ensures covers { OfEveryRun (WithSchedule CoversOnce) }
 {}
 
-/// What a modem holds, it owns by the outputs of the chosen values, and a minislot has one owner at
+/// The modems are known by their ids. What a modem holds, it owns by the outputs of the chosen values, and a minislot has one owner at
 /// most, so modems of two ids hold no minislot both. Each unicast transmission is at a minislot that its modem holds, and so is made by its one
 /// owner.
 pub fn one_owner()
+    ensures named { OfEveryRun ModemsAreNamed }
     ensures held { OfEveryRun (WithSchedule HeldIsOwned) }
     ensures owners { OfEveryRun (WithSchedule OwnersAreOne) }
     ensures holders { OfEveryRun HoldersAreOne }

@@ -3,7 +3,7 @@
 ghost use Rattle.std.specs.Prelude.{◌≡◌, ◌≢◌, ◌++◌, [], List, false, All, map, OnOk, OnErr, IfOk, IfSome, IfNone};
 ghost use Rattle.node.specs.View.{Standing};
 ghost use Rattle.network_script.specs.World.{released_by};
-ghost use Rattle.network_script.specs.Seats.{IsNumbered, IsUpAt, IsMissed, AreSeated, AreStandings};
+ghost use Rattle.network_script.specs.Seats.{IsNumbered, IsNotUp, IsUpAt, IsMissed, AreSeated, AreStandings, ups};
 
 use ballots::Letter;
 use map_release::Numbered;
@@ -46,6 +46,7 @@ fn add_outputs(
 /// Why node `k` can't be called: there is none, or it has crashed.
 fn missed<N: Node>(seats: &Vec<Seat<N>>, k: usize) -> Option<Refusal>
     ensures missed { IfSome result (λ refusal. (nodes : List Standing) → AreStandings seats.now.items nodes → IsMissed nodes k refusal) }
+    ensures seen { IfSome result (IsNotUp (ups seats.now.items) k) }
     ensures up { IfNone result (IsUpAt seats.now.items k) }
 {
     if k >= seats.len() {
@@ -116,11 +117,12 @@ impl<N: Node> World<N> {
     ghost use Rattle.network_script_parts.specs.declared.event.Event.TheVariants as event;
     ghost use Rattle.network_script_parts.specs.declared.event.Answer.{Answer};
     ghost use Rattle.network_script_parts.specs.Seat.{crashed};
-    ghost use Rattle.network_script_parts.specs.Occupant.{Stands};
+    ghost use Rattle.network_script_parts.specs.Occupant.{Stands, is_up, node_of};
     ghost use Rattle.network_script.specs.Next.{Goes};
     ghost use Rattle.network_script.specs.Counts.{CountNext, CountRun, counts};
+    ghost use Rattle.network_script.specs.Outward.{Seen, SeenAll};
     ghost use Rattle.network_script.specs.World.{Written};
-    ghost use Rattle.network_script.specs.Worlds.{AreHonest, StandsFor, Happens, Posted, Lost, Keeps, left, letters_of, node_count, outputs_of, transmissions_of};
+    ghost use Rattle.network_script.specs.Worlds.{AreHonest, StandsFor, Happens, Posted, Lost, Keeps, left, up_after, letters_of, node_count, outputs_of, transmissions_of};
 
     /// Sends what a node gave. Where there is no room it is lost, and the node crashes.
     fn post(
@@ -128,7 +130,8 @@ impl<N: Node> World<N> {
         letters: &mut Vec<Letter>,
         given: Result<Vec<Letter>, NodeFault>,
     ) -> Answer
-        ensures node { seat.new.node ≡ seat.old.node }
+        ensures node { node_of seat.new ≡ node_of seat.old }
+        ensures up { is_up seat.new ≡ up_after result (is_up seat.old) }
         ensures stands { (s : Standing) → Stands seat.old s → Stands seat.new (left result s) }
         ensures posted { Posted (answer given) letters.old.items result letters.new.items }
     {
@@ -150,7 +153,8 @@ impl<N: Node> World<N> {
 
     /// Throws away what a node gave, and the node crashes. One that refused only goes on as it is.
     fn lose(seat: &mut Seat<N>, given: Result<Vec<Letter>, NodeFault>) -> Answer
-        ensures node { seat.new.node ≡ seat.old.node }
+        ensures node { node_of seat.new ≡ node_of seat.old }
+        ensures up { is_up seat.new ≡ up_after result (is_up seat.old) }
         ensures stands { (s : Standing) → Stands seat.old s → Stands seat.new (left result s) }
         ensures lost { Lost (answer given) result }
     {
@@ -169,6 +173,7 @@ impl<N: Node> World<N> {
         ensures members { node_count self.new ≡ node_count self.old }
         ensures next { AreHonest self.new → Happens self.old (event.Lead k) result self.new }
         ensures counted { CountNext (counts self.old) (event.Lead k) result (counts self.new) }
+        ensures seen { Seen self.old (event.Lead k) result self.new }
     {
         if let Some(refusal) = missed(&self.seats, k) {
             return Answer::Refused(refusal);
@@ -184,6 +189,7 @@ impl<N: Node> World<N> {
         ensures members { node_count self.new ≡ node_count self.old }
         ensures next { AreHonest self.new → Happens self.old (event.Offer k value.now) result self.new }
         ensures counted { CountNext (counts self.old) (event.Offer k value.now) result (counts self.new) }
+        ensures seen { Seen self.old (event.Offer k value.now) result self.new }
     {
         if let Some(refusal) = missed(&self.seats, k) {
             return Answer::Refused(refusal);
@@ -199,6 +205,7 @@ impl<N: Node> World<N> {
         ensures members { node_count self.new ≡ node_count self.old }
         ensures next { AreHonest self.new → Happens self.old (event.Deliver i) result self.new }
         ensures counted { CountNext (counts self.old) (event.Deliver i) result (counts self.new) }
+        ensures seen { Seen self.old (event.Deliver i) result self.new }
     {
         if i >= self.letters.len() {
             return Answer::Refused(Refusal::NoLetter);
@@ -219,6 +226,7 @@ impl<N: Node> World<N> {
         ensures members { node_count self.new ≡ node_count self.old }
         ensures next { AreHonest self.new → Happens self.old (event.DeliverThenCrash i) result self.new }
         ensures counted { CountNext (counts self.old) (event.DeliverThenCrash i) result (counts self.new) }
+        ensures seen { Seen self.old (event.DeliverThenCrash i) result self.new }
     {
         if i >= self.letters.len() {
             return Answer::Refused(Refusal::NoLetter);
@@ -229,8 +237,8 @@ impl<N: Node> World<N> {
             return Answer::Refused(refusal);
         }
         let seat = &mut self.seats[k];
-        let given = seat.receive(letter);
-        World::lose(seat, given)
+        let lost = seat.receive(letter);
+        World::lose(seat, lost)
     }
 
     /// Node `k` crashes.
@@ -239,6 +247,7 @@ impl<N: Node> World<N> {
         ensures members { node_count self.new ≡ node_count self.old }
         ensures next { AreHonest self.new → Happens self.old (event.Crash k) result self.new }
         ensures counted { CountNext (counts self.old) (event.Crash k) result (counts self.new) }
+        ensures seen { Seen self.old (event.Crash k) result self.new }
     {
         if let Some(refusal) = missed(&self.seats, k) {
             return Answer::Refused(refusal);
@@ -254,6 +263,7 @@ impl<N: Node> World<N> {
         ensures members { node_count self.new ≡ node_count self.old }
         ensures next { AreHonest self.new → Happens self.old (event.Restart k) result self.new }
         ensures counted { CountNext (counts self.old) (event.Restart k) result (counts self.new) }
+        ensures seen { Seen self.old (event.Restart k) result self.new }
     {
         if k >= self.seats.len() {
             return Answer::Refused(Refusal::NoNode);
@@ -276,7 +286,8 @@ impl<N: Node> World<N> {
         outputs: &mut Vec<ReleasedOutput>,
         given: Result<Vec<Numbered>, NodeFault>,
     ) -> Answer
-        ensures node { seat.new.node ≡ seat.old.node }
+        ensures node { node_of seat.new ≡ node_of seat.old }
+        ensures up { is_up seat.new ≡ up_after result (is_up seat.old) }
         ensures stands { (s : Standing) → Stands seat.old s → Stands seat.new (left result s) }
         ensures keeps { Keeps (outputs_given given) k outputs.old.items result outputs.new.items }
     {
@@ -302,6 +313,7 @@ impl<N: Node> World<N> {
         ensures members { node_count self.new ≡ node_count self.old }
         ensures next { AreHonest self.new → Happens self.old (event.Release k now) result self.new }
         ensures counted { CountNext (counts self.old) (event.Release k now) result (counts self.new) }
+        ensures seen { Seen self.old (event.Release k now) result self.new }
     {
         if let Some(refusal) = missed(&self.seats, k) {
             return Answer::Refused(refusal);
@@ -318,6 +330,7 @@ impl<N: Node> World<N> {
         ensures members { node_count self.new ≡ node_count self.old }
         ensures next { AreHonest self.new → Happens self.old event.now result self.new }
         ensures counted { CountNext (counts self.old) event.now result (counts self.new) }
+        ensures seen { Seen self.old event.now result self.new }
     {
         match event {
             Event::Lead(k) => self.lead(*k),
@@ -340,6 +353,7 @@ impl<N: Node> World<N> {
             (w' : Written) × Goes (length w.nodes) w events.now report w' × StandsFor self.new w') }
         ensures members { node_count self.new ≡ node_count self.old }
         ensures counted { IfOk result (λ report. CountRun (counts self.old) events.now report (counts self.new)) }
+        ensures seen { IfOk result (λ report. SeenAll self.old events.now report self.new) }
         ensures err { OnErr result (self.new ≡ self.old) }
     {
         let mut answers = Vec::with_capacity(self.alloc, events.len())?;

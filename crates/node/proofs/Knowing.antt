@@ -4,8 +4,7 @@ use Rattle.ballots.specs.Rows.{at, put}
 use Rattle.learner.specs.Tally.{Tally, known, voted, learn, put_voters, with_voter, is_majority, is_voter}
 use Rattle.command_log.specs.Values.{Rows, outputs_of_values, gapless, values_from}
 use Rattle.command_log.specs.View.{AreRows, IsLog, LogView, last_place}
-use Rattle.command_log.proofs.Rows.{are_rows_put}
-use Rattle.command_log.proofs.Runs.{outputs_first}
+use Rattle.command_log.proofs.Callers.{are_rows_put, outputs_first}
 use Rattle.std.proofs.Common.{length, take, ◌+◌, arith, length-take}
 use Rattle.map_release.specs.Released.{applied_outputs}
 use Rattle.node.specs.Learned.{IsPart}

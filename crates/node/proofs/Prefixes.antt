@@ -6,7 +6,7 @@ use Rattle.std.proofs.lemmas.Option.{slice_get_past}
 use Rattle.ballots.specs.Rows.{at, put}
 use Rattle.command_log.specs.Values.{Rows, values_from, gapless}
 use Rattle.command_log.specs.View.{AreRows, last_place}
-use Rattle.command_log.proofs.Rows.{none_below, are_rows_put, put_same, values_grow, value_is_at}
+use Rattle.command_log.proofs.Callers.{none_below, are_rows_put, put_same, values_grow, value_is_at}
 use Rattle.node.specs.Learned.{IsPart}
 
 put_equal : (row : ℕ × List ℕ) (rows : Rows) (p : ℕ) (v : List ℕ) → p ≡ row.0 → put (row ∷ rows) p v ≡ (row.0, v) ∷ rows

@@ -3,7 +3,7 @@ use Rattle.std.specs.Option.{option_copied}
 use Rattle.std.proofs.lemmas.List.{append-nil}
 use Rattle.map_release.specs.declared.numbered.Numbered.{Numbered}
 use Rattle.map_release.specs.Released.{applied_outputs, has_ended, released}
-use Rattle.map_release.proofs.Steps.{applied_length, is_last, looked_up, released_all, released_first, released_next}
+use Rattle.map_release.proofs.Steps.{applied_length, is_last, is_released, looked_up, released_all, released_first, released_next}
 use Rattle.map_release.proofs.release.outputs_behind.Goals as goal
 use Rattle.map_release.proofs.release.outputs_behind.Goals.{in-Some+then-not-has_ended+in_ok-output+in_ok-map_err, in-Some+else-not-has_ended, in_default}
 
@@ -37,5 +37,21 @@ loop-passed-preserved c =
           absurd (omega (arith, applied_length log c.prefix_len-passed-end.ensures.kept))
     ]
 
-pub returns : goal.returns
-returns c = c.loop-passed.invariant ∙ released_all c.args.now c.args.cursor c.loop-passed.passed c.args.log.now c.prefix_len-passed-end.ensures.kept (omega arith)
+pub returns-clause-released : goal.returns-clause-released
+returns-clause-released c = c.loop-passed.invariant ∙ released_all c.args.now c.args.cursor c.loop-passed.passed c.args.log.now c.prefix_len-passed-end.ensures.kept (omega arith)
+
+pub returns-in_err-output-clause-nothing : goal.returns-in_err-output-clause-nothing
+returns-in_err-output-clause-nothing c =
+    let log = c.args.log.now in
+    let passed = c.loop-passed.passed in
+    let some : slice_get (applied_outputs log) passed ≡ Some c.in-Some.output.now = looked_up log passed (option_copied c.output.result) c.output.ensures ∙ ap option_copied c.in-Some.is in
+    let runs : has_ended c.args.now c.in-Some.output.now ≡ false = search rules in
+    λ none. absurd (is_released c.args.now 1 c.args.cursor passed (applied_outputs log) c.in-Some.output.now (omega arith) some runs none)
+
+pub returns-in_err-map_err-clause-nothing : goal.returns-in_err-map_err-clause-nothing
+returns-in_err-map_err-clause-nothing c =
+    let log = c.args.log.now in
+    let passed = c.loop-passed.passed in
+    let some : slice_get (applied_outputs log) passed ≡ Some c.in-Some.output.now = looked_up log passed (option_copied c.output.result) c.output.ensures ∙ ap option_copied c.in-Some.is in
+    let runs : has_ended c.args.now c.in-Some.output.now ≡ false = search rules in
+    λ none. absurd (is_released c.args.now 1 c.args.cursor passed (applied_outputs log) c.in-Some.output.now (omega arith) some runs none)

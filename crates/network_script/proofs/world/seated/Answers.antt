@@ -1,4 +1,4 @@
-use Rattle.std.proofs.Common.{◌≡◌, true, false, refl, sym}
+use Rattle.std.proofs.Common.{◌≡◌, true, false, sym}
 use Rattle.std.proofs.lemmas.List.Elements.{All-head, All-tail, All-same, All-push}
 use Rattle.network_script_parts.specs.declared.seat.Seat.{Seat}
 use Rattle.network_script_parts.specs.Occupant.{is_up, node_of}

@@ -1,4 +1,4 @@
-use Rattle.std.proofs.Common.{◌≡◌, ◌++◌, ◌∷◌, [], ℕ, suc, ◌+◌, ◌<◌, ◌≤◌, List, map, take, Some, None, ap, ◌∙◌, length, slice_get, sym, subst, rules, arith}
+use Rattle.std.proofs.Common.{◌≡◌, ◌++◌, ◌∷◌, [], ℕ, suc, ◌+◌, ◌<◌, ◌≤◌, List, map, take, Some, None, ap, ◌∙◌, length, slice_get, refl, sym, subst, rules, arith}
 use Rattle.std.specs.Option.{option_copied}
 use Rattle.std.proofs.lemmas.Option.{slice_get_within}
 use Rattle.grant_machine.specs.declared.output.Output.{Output}
@@ -7,7 +7,7 @@ use Rattle.grant_machine.specs.Runs.{rows_after}
 use Rattle.command_log.specs.Reading.{command_of}
 use Rattle.command_log.specs.Values.{gapless, outputs_of_values}
 use Rattle.command_log.specs.View.{LogView, IsLog}
-use Rattle.command_log.proofs.Applied.{next_found, is_last, advanced, log_push}
+use Rattle.command_log.proofs.Applied.{next_found, is_last, not_all, advanced, log_push}
 use Rattle.command_log.proofs.log.Log.advance.Goals as goal
 
 pub returns-in_default-clause-more : goal.returns-in_default-clause-more
@@ -25,7 +25,7 @@ invariant_of-self-2 c =
     let n = c.self.inside.outputs.len in
     let v = c.in-Some.value.now in
     let some : slice_get (gapless rows) n ≡ Some v = sym (next_found rows n c.prefix_len.result (option_copied c.get.result) c.self.invariant.log (c.prefix_len.ensures.len ∙ sym (ap (λ (v : LogView). v.applied) c.self.view_is)) c.get.ensures.value) ∙ ap option_copied c.in-Some.is in
-    let command : c.read_command-command.result.0 ≡ command_of v = c.read_command-command.ensures.value ∙ ap command_of c.bytes.ensures in
+    let command : c.read_command-command.result.0 ≡ command_of v = c.read_command-command.ensures.value ∙ ap command_of c.as_slice.ensures in
     let pushed : c.push.new.self.items ≡ c.reserve.new.self.items ++ c.in_ok-output.output ∷ [] = search rules in
     let items : c.push.new.self.items ≡ c.self.inside.outputs.items ++ c.in_ok-output.output ∷ [] = pushed ∙ ap (λ (os : List Output). os ++ c.in_ok-output.output ∷ []) c.reserve.ensures.items in
     let one_more : c.push.new.self.len ≡ c.reserve.new.self.len + 1 = search rules in
@@ -48,3 +48,34 @@ returns-clause-more c =
     let within : n < length (gapless rows) = slice_get_within (gapless rows) n v some in
     let more : c.args.self.now.applied < length (gapless c.args.self.now.learned) = subst (λ (v : LogView). v.applied < length (gapless v.learned)) c.self.view_is within in
     (λ _. more, λ _. search rules)
+
+pub returns-in_default-clause-no_more : goal.returns-in_default-clause-no_more
+returns-in_default-clause-no_more c = λ all. refl
+
+pub returns-in_err-reserve-clause-no_more : goal.returns-in_err-reserve-clause-no_more
+returns-in_err-reserve-clause-no_more c =
+    let rows = c.self.inside.learned.entries in
+    let n = c.self.inside.outputs.len in
+    let some : slice_get (gapless rows) n ≡ Some c.in-Some.value.now = sym (next_found rows n c.prefix_len.result (option_copied c.get.result) c.self.invariant.log (c.prefix_len.ensures.len ∙ sym (ap (λ (v : LogView). v.applied) c.self.view_is)) c.get.ensures.value) ∙ ap option_copied c.in-Some.is in
+    λ all. absurd (not_all rows n c.in-Some.value.now c.args.self.now some c.self.view_is all)
+
+pub returns-in_err-output-clause-no_more : goal.returns-in_err-output-clause-no_more
+returns-in_err-output-clause-no_more c =
+    let rows = c.self.inside.learned.entries in
+    let n = c.self.inside.outputs.len in
+    let some : slice_get (gapless rows) n ≡ Some c.in-Some.value.now = sym (next_found rows n c.prefix_len.result (option_copied c.get.result) c.self.invariant.log (c.prefix_len.ensures.len ∙ sym (ap (λ (v : LogView). v.applied) c.self.view_is)) c.get.ensures.value) ∙ ap option_copied c.in-Some.is in
+    λ all. absurd (not_all rows n c.in-Some.value.now c.args.self.now some c.self.view_is all)
+
+pub returns-in_err-map_err-clause-no_more : goal.returns-in_err-map_err-clause-no_more
+returns-in_err-map_err-clause-no_more c =
+    let rows = c.self.inside.learned.entries in
+    let n = c.self.inside.outputs.len in
+    let some : slice_get (gapless rows) n ≡ Some c.in-Some.value.now = sym (next_found rows n c.prefix_len.result (option_copied c.get.result) c.self.invariant.log (c.prefix_len.ensures.len ∙ sym (ap (λ (v : LogView). v.applied) c.self.view_is)) c.get.ensures.value) ∙ ap option_copied c.in-Some.is in
+    λ all. absurd (not_all rows n c.in-Some.value.now c.args.self.now some c.self.view_is all)
+
+pub returns-clause-no_more : goal.returns-clause-no_more
+returns-clause-no_more c =
+    let rows = c.self.inside.learned.entries in
+    let n = c.self.inside.outputs.len in
+    let some : slice_get (gapless rows) n ≡ Some c.in-Some.value.now = sym (next_found rows n c.prefix_len.result (option_copied c.get.result) c.self.invariant.log (c.prefix_len.ensures.len ∙ sym (ap (λ (v : LogView). v.applied) c.self.view_is)) c.get.ensures.value) ∙ ap option_copied c.in-Some.is in
+    λ all. absurd (not_all rows n c.in-Some.value.now c.args.self.now some c.self.view_is all)

@@ -1,7 +1,7 @@
 use Rattle.std.proofs.Common.{◌≡◌, refl, subst}
 use Rattle.map_body.specs.Body.{Body}
 use Rattle.map_body.specs.Layout.{IsBody}
-use Rattle.map_body.proofs.Callers.{one_body}
+use Rattle.map_body.proofs.Callers.{is_sized, one_body}
 use Rattle.modem.specs.Hears.{IsExtent}
 use Rattle.modem.proofs.modem.Modem.hear_map.Goals as goal
 
@@ -16,3 +16,8 @@ returns-in_default-extent-clause-ok c = (
       c.in_default-extent.ensures.none start stop (subst (λ (m : Body). IsExtent c.args.near m start stop) one reads.extent),
   refl,
 )
+
+pub returns-in_err-take-clause-memory : goal.returns-in_err-take-clause-memory
+returns-in_err-take-clause-memory c = λ want.
+    let body : IsBody c.args.bytes.now c.in-Some.map = rw c.in-Some.is at c.in_ok-map.ensures.read in
+    is_sized c.args.bytes.now c.in-Some.map body

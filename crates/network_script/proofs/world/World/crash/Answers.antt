@@ -1,4 +1,4 @@
-use Rattle.std.proofs.Common.{refl, slice_set, arith}
+use Rattle.std.proofs.Common.{false, refl, slice_set, arith}
 use Rattle.node.specs.View.Standing.{Running}
 use Rattle.network_script_parts.specs.declared.event.Answer.TheVariants.{Finished}
 use Rattle.network_script_parts.specs.Seat.{crashed}
@@ -8,6 +8,8 @@ use Rattle.network_script.proofs.Acts.{seen_up, moves, asks, misses}
 use Rattle.network_script_parts.specs.declared.event.Event.TheVariants as event
 use Rattle.network_script.proofs.Counted.{count_still}
 use Rattle.network_script.proofs.Tallied.{counted_seat, false_true}
+use Rattle.network_script.specs.Outward.{outward, Falls}
+use Rattle.network_script.proofs.Outwardly.{missed_seen, goes_seen}
 use Rattle.network_script.proofs.world.World.crash.Goals as goal
 
 pub returns-in-Some-clause-next : goal.returns-in-Some-clause-next
@@ -38,3 +40,17 @@ pub returns-clause-counted : goal.returns-clause-counted
 returns-clause-counted g c =
     counted_seat c.args.self.now.seats.items c.args.k c.index_mut-seat.result.now c.crash.new.self (event.Crash c.args.k) Finished _ _
     c.in_default.ensures.up.0 c.index_mut-seat.ensures.value (λ i n at. at) refl (rw c.crash.ensures.node (omega arith)) (λ loud. absurd (false_true loud))
+
+pub returns-in-Some-clause-seen : goal.returns-in-Some-clause-seen
+returns-in-Some-clause-seen g c = λ modems hold.
+    let o = outward c.args.self.now modems in
+    (modems, missed_seen o c.args.k (Falls o c.args.k) c.in-Some.refusal c.in-Some.ensures.seen, hold)
+
+pub returns-clause-seen : goal.returns-clause-seen
+returns-clause-seen g c = λ modems hold.
+    let o = outward c.args.self.now modems in (
+      modems,
+      goes_seen o c.args.self.now.seats.items c.args.k c.index_mut-seat.result.now c.crash.new.self false (λ up. record o { up = up }) (Falls o c.args.k) Finished
+          refl c.in_default.ensures.up c.index_mut-seat.ensures.value c.crash.ensures.down (refl, refl),
+      hold,
+    )

@@ -12,6 +12,9 @@ use Rattle.network_script_parts.specs.declared.event.Event.TheVariants as event
 use Rattle.network_script.proofs.Places.{seen_at}
 use Rattle.network_script.proofs.Counted.{count_still}
 use Rattle.network_script.proofs.Tallied.{counted_call, posted_letters, posted_rose}
+use Rattle.network_script.specs.Worlds.{up_after}
+use Rattle.network_script.specs.Outward.{outward, Sends}
+use Rattle.network_script.proofs.Outwardly.{missed_seen, goes_seen, comes_seen, no_letter_seen, sends_seen, answer_stays}
 use Rattle.network_script.proofs.world.World.deliver.Goals as goal
 
 pub returns-then-i-len-clause-next : goal.returns-then-i-len-clause-next
@@ -60,3 +63,28 @@ returns-clause-counted g c =
     let called = seen_at (λ (letter : Letter). letter.to) c.args.self.now.letters.items c.args.i c.index-letter.result.now lt c.index-letter.ensures ∙ ap Some (sym (c.from-k.ensures ∙ c.number.ensures.same)) in
     counted_call c.args.self.now.seats.items c.from-k.result c.index_mut-seat.result.now c.receive-given.new.self c.post.new.seat c.receive-given.result (event.Deliver c.args.i) c.post.result _ _
     c.in_default.ensures.up c.index_mut-seat.ensures.value (posted_letters c.receive-given.result _ c.post.result _ c.post.ensures.posted) called c.receive-given.ensures.kept c.post.ensures.node (posted_rose c.receive-given.result _ c.post.result _ c.post.ensures.posted)
+
+pub returns-then-i-len-clause-seen : goal.returns-then-i-len-clause-seen
+returns-then-i-len-clause-seen g c = λ modems hold.
+    let o = outward c.args.self.now modems in
+    (modems, no_letter_seen o c.args.i (Sends o) (search rules), hold)
+
+pub returns-in-Some-clause-seen : goal.returns-in-Some-clause-seen
+returns-in-Some-clause-seen g c = λ modems hold.
+    let o = outward c.args.self.now modems in
+    let k = c.from-k.result in
+    (modems, comes_seen o o c.args.i c.index-letter.result.now k (Sends o) (Refused c.in-Some.refusal) (search rules) c.index-letter.ensures (c.from-k.ensures ∙ c.number.ensures.same) (missed_seen o k (Sends o k) c.in-Some.refusal c.in-Some.ensures.seen), hold)
+
+pub returns-clause-seen : goal.returns-clause-seen
+returns-clause-seen g c = λ modems hold.
+    let o = outward c.args.self.now modems in
+    let k = c.from-k.result in
+    let lt : c.args.i < length c.args.self.now.letters.items = search rules in
+    let given = answer c.receive-given.result in
+    let turned = c.post.ensures.up ∙ ap (up_after c.post.result) (c.receive-given.ensures.up ∙ answer_stays c.receive-given.result) in (
+      modems,
+      comes_seen o _ c.args.i c.index-letter.result.now k (Sends o) c.post.result lt c.index-letter.ensures (c.from-k.ensures ∙ c.number.ensures.same)
+          (goes_seen o c.args.self.now.seats.items k c.index_mut-seat.result.now c.post.new.seat (up_after c.post.result (stays_up given)) (λ up. record o { up = up; letters = c.post.new.letters.items }) (Sends o k) c.post.result
+          refl c.in_default.ensures.up c.index_mut-seat.ensures.value turned (sends_seen o k given c.post.new.letters.items c.post.result c.post.ensures.posted)),
+      hold,
+    )

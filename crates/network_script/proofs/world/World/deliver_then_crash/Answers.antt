@@ -12,6 +12,9 @@ use Rattle.network_script_parts.specs.declared.event.Event.TheVariants as event
 use Rattle.network_script.proofs.Places.{seen_at}
 use Rattle.network_script.proofs.Counted.{count_still}
 use Rattle.network_script.proofs.Tallied.{counted_call, lost_rose}
+use Rattle.network_script.specs.Worlds.{up_after}
+use Rattle.network_script.specs.Outward.{outward, Loses}
+use Rattle.network_script.proofs.Outwardly.{missed_seen, goes_seen, comes_seen, no_letter_seen, loses_seen, answer_stays}
 use Rattle.network_script.proofs.world.World.deliver_then_crash.Goals as goal
 
 pub returns-then-i-len-clause-next : goal.returns-then-i-len-clause-next
@@ -34,9 +37,9 @@ returns-clause-next g c = λ all nodes modems history each hold.
     let lt : c.args.i < length c.args.self.now.letters.items = search rules in
     let seats = c.args.self.now.seats.items in
     let k = c.from-k.result in
-    let given = answer c.receive-given.result in
-    let call = called_at nodes seats k c.index_mut-seat.result.now c.receive-given.new.self c.lose.new.seat (Receive letter) given
-    each c.args.self.now.numbered c.in_default.ensures.up c.index_mut-seat.ensures.value c.receive-given.ensures.called (λ honest view stands. receives_last (g.N.Node.who c.index_mut-seat.result.now.node).members (g.N.Node.who c.index_mut-seat.result.now.node).id view letter given) c.lose.ensures.node all in
+    let given = answer c.receive-lost.result in
+    let call = called_at nodes seats k c.index_mut-seat.result.now c.receive-lost.new.self c.lose.new.seat (Receive letter) given
+    each c.args.self.now.numbered c.in_default.ensures.up c.index_mut-seat.ensures.value c.receive-lost.ensures.called (λ honest view stands. receives_last (g.N.Node.who c.index_mut-seat.result.now.node).members (g.N.Node.who c.index_mut-seat.result.now.node).id view letter given) c.lose.ensures.node all in
     let s = shown (stays_up given) call.after in
     let takes = λ (n : ℕ) (l : Letter) (view : View). EndsInCrash w n view (Course (length nodes) n view (Receive l)) in
     let made = loses w k call.view (Course (length nodes) k call.view (Receive letter)) given call.after c.lose.result call.at call.ends c.lose.ensures.lost in (
@@ -58,5 +61,30 @@ pub returns-clause-counted : goal.returns-clause-counted
 returns-clause-counted g c =
     let lt : c.args.i < length c.args.self.now.letters.items = search rules in
     let called = seen_at (λ (letter : Letter). letter.to) c.args.self.now.letters.items c.args.i c.index-letter.result.now lt c.index-letter.ensures ∙ ap Some (sym (c.from-k.ensures ∙ c.number.ensures.same)) in
-    counted_call c.args.self.now.seats.items c.from-k.result c.index_mut-seat.result.now c.receive-given.new.self c.lose.new.seat c.receive-given.result (event.DeliverThenCrash c.args.i) c.lose.result _ _
-    c.in_default.ensures.up c.index_mut-seat.ensures.value (λ i n at. at) called c.receive-given.ensures.kept c.lose.ensures.node (lost_rose c.receive-given.result c.lose.result c.lose.ensures.lost)
+    counted_call c.args.self.now.seats.items c.from-k.result c.index_mut-seat.result.now c.receive-lost.new.self c.lose.new.seat c.receive-lost.result (event.DeliverThenCrash c.args.i) c.lose.result _ _
+    c.in_default.ensures.up c.index_mut-seat.ensures.value (λ i n at. at) called c.receive-lost.ensures.kept c.lose.ensures.node (lost_rose c.receive-lost.result c.lose.result c.lose.ensures.lost)
+
+pub returns-then-i-len-clause-seen : goal.returns-then-i-len-clause-seen
+returns-then-i-len-clause-seen g c = λ modems hold.
+    let o = outward c.args.self.now modems in
+    (modems, no_letter_seen o c.args.i (Loses o) (search rules), hold)
+
+pub returns-in-Some-clause-seen : goal.returns-in-Some-clause-seen
+returns-in-Some-clause-seen g c = λ modems hold.
+    let o = outward c.args.self.now modems in
+    let k = c.from-k.result in
+    (modems, comes_seen o o c.args.i c.index-letter.result.now k (Loses o) (Refused c.in-Some.refusal) (search rules) c.index-letter.ensures (c.from-k.ensures ∙ c.number.ensures.same) (missed_seen o k (Loses o k) c.in-Some.refusal c.in-Some.ensures.seen), hold)
+
+pub returns-clause-seen : goal.returns-clause-seen
+returns-clause-seen g c = λ modems hold.
+    let o = outward c.args.self.now modems in
+    let k = c.from-k.result in
+    let lt : c.args.i < length c.args.self.now.letters.items = search rules in
+    let given = answer c.receive-lost.result in
+    let turned = c.lose.ensures.up ∙ ap (up_after c.lose.result) (c.receive-lost.ensures.up ∙ answer_stays c.receive-lost.result) in (
+      modems,
+      comes_seen o _ c.args.i c.index-letter.result.now k (Loses o) c.lose.result lt c.index-letter.ensures (c.from-k.ensures ∙ c.number.ensures.same)
+          (goes_seen o c.args.self.now.seats.items k c.index_mut-seat.result.now c.lose.new.seat (up_after c.lose.result (stays_up given)) (λ up. record o { up = up }) (Loses o k) c.lose.result
+          refl c.in_default.ensures.up c.index_mut-seat.ensures.value turned (loses_seen o k given c.lose.result c.lose.ensures.lost)),
+      hold,
+    )

@@ -3,6 +3,7 @@ use Rattle.network_script_parts.specs.declared.event.Event.TheVariants.{Hear}
 use Rattle.network_script_parts.specs.declared.event.ReleasedOutput.{ReleasedOutput}
 use Rattle.network_script_parts.specs.Modems.{ModemNext}
 use Rattle.network_script.specs.Worlds.{written}
+use Rattle.network_script.specs.Outward.{outward}
 use Rattle.network_script.proofs.Counted.{count_still}
 use Rattle.network_script.proofs.world.World.happen.Goals as goal
 
@@ -76,3 +77,44 @@ returns-in-Want-clause-counted g c = count_still _ _ _ c.want.ensures.quiet
 
 pub returns-in-Tick-clause-counted : goal.returns-in-Tick-clause-counted
 returns-in-Tick-clause-counted g c = count_still _ _ _ c.tick.ensures.quiet
+
+pub returns-in-Lead-clause-seen : goal.returns-in-Lead-clause-seen
+returns-in-Lead-clause-seen g c = rw c.in-Lead.is c.lead.ensures.seen
+
+pub returns-in-Deliver-clause-seen : goal.returns-in-Deliver-clause-seen
+returns-in-Deliver-clause-seen g c = rw c.in-Deliver.is c.deliver.ensures.seen
+
+pub returns-in-DeliverThenCrash-clause-seen : goal.returns-in-DeliverThenCrash-clause-seen
+returns-in-DeliverThenCrash-clause-seen g c = rw c.in-DeliverThenCrash.is c.deliver_then_crash.ensures.seen
+
+pub returns-in-Crash-clause-seen : goal.returns-in-Crash-clause-seen
+returns-in-Crash-clause-seen g c = rw c.in-Crash.is c.crash.ensures.seen
+
+pub returns-in-Restart-clause-seen : goal.returns-in-Restart-clause-seen
+returns-in-Restart-clause-seen g c = rw c.in-Restart.is c.restart.ensures.seen
+
+pub returns-in-Release-clause-seen : goal.returns-in-Release-clause-seen
+returns-in-Release-clause-seen g c = rw c.in-Release.is c.release.ensures.seen
+
+pub returns-in-Offer-clause-seen : goal.returns-in-Offer-clause-seen
+returns-in-Offer-clause-seen g c = rw c.in-Offer.is c.offer.ensures.seen
+
+pub returns-in-Hear-clause-seen : goal.returns-in-Hear-clause-seen
+returns-in-Hear-clause-seen g c = rw c.in-Hear.is (λ modems hold.
+    let o = outward c.args.self.now modems in
+    let is : c.deref.result.now ≡ c.args.self.now.outputs.items = c.deref.ensures.value in
+    let r = c.hear.ensures.next modems hold in
+    let heard = subst (λ (outputs : List ReleasedOutput). ModemNext modems outputs (Hear c.in-Hear.m c.in-Hear.i c.in-Hear.near) c.hear.result r.0) is r.1 in
+    (r.0, (r.0, heard, λ i. record o { modems = r.0; transmissions = c.hear.ensures.sent i }), r.2))
+
+pub returns-in-Want-clause-seen : goal.returns-in-Want-clause-seen
+returns-in-Want-clause-seen g c = rw c.in-Want.is (λ modems hold.
+    let o = outward c.args.self.now modems in
+    let r = c.want.ensures.next modems c.args.self.now.outputs.items hold in
+    (r.0, (r.0, r.1, λ i. record o { modems = r.0; transmissions = c.want.ensures.sent i }), r.2))
+
+pub returns-in-Tick-clause-seen : goal.returns-in-Tick-clause-seen
+returns-in-Tick-clause-seen g c = rw c.in-Tick.is (λ modems hold.
+    let o = outward c.args.self.now modems in
+    let r = c.tick.ensures.next modems c.args.self.now.outputs.items hold in
+    (r.0, (r.0, r.1, λ i. record o { modems = r.0; transmissions = c.tick.ensures.sent i }), r.2))

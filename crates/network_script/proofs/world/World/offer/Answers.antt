@@ -1,4 +1,4 @@
-use Rattle.std.proofs.Common.{length, slice_set, refl}
+use Rattle.std.proofs.Common.{length, slice_set, refl, ◌∙◌, ap}
 use Rattle.node.specs.View.{View}
 use Rattle.node.specs.Calls.{Course, answer}
 use Rattle.node.specs.Calls.Cause.{Offer}
@@ -9,6 +9,9 @@ use Rattle.network_script.proofs.Acts.{called_at, moves, sends, asks, misses, to
 use Rattle.network_script_parts.specs.declared.event.Event.TheVariants as event
 use Rattle.network_script.proofs.Counted.{count_still}
 use Rattle.network_script.proofs.Tallied.{counted_call, posted_letters, posted_rose}
+use Rattle.network_script.specs.Worlds.{up_after}
+use Rattle.network_script.specs.Outward.{outward, Sends}
+use Rattle.network_script.proofs.Outwardly.{missed_seen, goes_seen, sends_seen, answer_stays}
 use Rattle.network_script.proofs.world.World.offer.Goals as goal
 
 pub returns-in-Some-clause-next : goal.returns-in-Some-clause-next
@@ -41,3 +44,19 @@ pub returns-clause-counted : goal.returns-clause-counted
 returns-clause-counted g c =
     counted_call c.args.self.now.seats.items c.args.k c.index_mut-seat.result.now c.offer-given.new.self c.post.new.seat c.offer-given.result (event.Offer c.args.k c.args.value.now) c.post.result _ _
     c.in_default.ensures.up c.index_mut-seat.ensures.value (posted_letters c.offer-given.result _ c.post.result _ c.post.ensures.posted) refl c.offer-given.ensures.kept c.post.ensures.node (posted_rose c.offer-given.result _ c.post.result _ c.post.ensures.posted)
+
+pub returns-in-Some-clause-seen : goal.returns-in-Some-clause-seen
+returns-in-Some-clause-seen g c = λ modems hold.
+    let o = outward c.args.self.now modems in
+    (modems, missed_seen o c.args.k (Sends o c.args.k) c.in-Some.refusal c.in-Some.ensures.seen, hold)
+
+pub returns-clause-seen : goal.returns-clause-seen
+returns-clause-seen g c = λ modems hold.
+    let o = outward c.args.self.now modems in
+    let given = answer c.offer-given.result in
+    let turned = c.post.ensures.up ∙ ap (up_after c.post.result) (c.offer-given.ensures.up ∙ answer_stays c.offer-given.result) in (
+      modems,
+      goes_seen o c.args.self.now.seats.items c.args.k c.index_mut-seat.result.now c.post.new.seat (up_after c.post.result (stays_up given)) (λ up. record o { up = up; letters = c.post.new.letters.items }) (Sends o c.args.k) c.post.result
+          refl c.in_default.ensures.up c.index_mut-seat.ensures.value turned (sends_seen o c.args.k given c.post.new.letters.items c.post.result c.post.ensures.posted),
+      hold,
+    )

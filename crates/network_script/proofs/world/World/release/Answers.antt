@@ -1,4 +1,4 @@
-use Rattle.std.proofs.Common.{slice_set, refl}
+use Rattle.std.proofs.Common.{◌∙◌, ap, slice_set, refl}
 use Rattle.node.specs.Releases.{outputs}
 use Rattle.network_script_parts.specs.Seat.{shown, stays_up}
 use Rattle.network_script.specs.Worlds.{written, left}
@@ -7,6 +7,9 @@ use Rattle.network_script.proofs.Acts.{released_at, moves, releases, asks, misse
 use Rattle.network_script_parts.specs.declared.event.Event.TheVariants as event
 use Rattle.network_script.proofs.Counted.{count_still}
 use Rattle.network_script.proofs.Tallied.{counted_call, keeps_rose}
+use Rattle.network_script.specs.Worlds.{up_after}
+use Rattle.network_script.specs.Outward.{outward, Gives}
+use Rattle.network_script.proofs.Outwardly.{missed_seen, goes_seen, gives_seen, outputs_stay}
 use Rattle.network_script.proofs.world.World.release.Goals as goal
 
 pub returns-in-Some-clause-next : goal.returns-in-Some-clause-next
@@ -38,3 +41,19 @@ pub returns-clause-counted : goal.returns-clause-counted
 returns-clause-counted g c =
     counted_call c.args.self.now.seats.items c.args.k c.index_mut-seat.result.now c.release-given.new.self c.keep.new.seat c.release-given.result (event.Release c.args.k c.args.now) c.keep.result _ _
     c.in_default.ensures.up c.index_mut-seat.ensures.value (λ i n at. at) refl c.release-given.ensures.kept c.keep.ensures.node (keeps_rose c.release-given.result c.args.k _ c.keep.result _ c.keep.ensures.keeps)
+
+pub returns-in-Some-clause-seen : goal.returns-in-Some-clause-seen
+returns-in-Some-clause-seen g c = λ modems hold.
+    let o = outward c.args.self.now modems in
+    (modems, missed_seen o c.args.k (Gives o c.args.k) c.in-Some.refusal c.in-Some.ensures.seen, hold)
+
+pub returns-clause-seen : goal.returns-clause-seen
+returns-clause-seen g c = λ modems hold.
+    let o = outward c.args.self.now modems in
+    let given = outputs c.release-given.result in
+    let turned = c.keep.ensures.up ∙ ap (up_after c.keep.result) (c.release-given.ensures.up ∙ outputs_stay c.release-given.result) in (
+      modems,
+      goes_seen o c.args.self.now.seats.items c.args.k c.index_mut-seat.result.now c.keep.new.seat (up_after c.keep.result (stays_up given)) (λ up. record o { up = up; outputs = c.keep.new.outputs.items }) (Gives o c.args.k) c.keep.result
+          refl c.in_default.ensures.up c.index_mut-seat.ensures.value turned (gives_seen o c.args.k given c.keep.new.outputs.items c.keep.result c.keep.ensures.keeps),
+      hold,
+    )

@@ -1,7 +1,7 @@
-use Rattle.std.proofs.Common.{◌≡◌, ◌<◌, ◌∙◌, sym, refl, rules, length, false, slice_set}
+use Rattle.std.proofs.Common.{◌≡◌, ◌<◌, ◌∙◌, sym, refl, rules, length, true, false, None, Some, slice_set}
 use Rattle.node.specs.View.Standing.{Running, Stopped}
 use Rattle.network_script_parts.specs.declared.event.Answer.TheVariants.{Finished, Refused, Fault}
-use Rattle.network_script_parts.specs.declared.event.Refusal.TheVariants.{NodeUp}
+use Rattle.network_script_parts.specs.declared.event.Refusal.TheVariants.{NoNode, NodeUp}
 use Rattle.network_script_parts.specs.Occupant.{is_up}
 use Rattle.network_script.specs.Worlds.{written}
 use Rattle.network_script.proofs.Places.{honest_at}
@@ -9,6 +9,8 @@ use Rattle.network_script.proofs.Acts.{seen_none, seen_up, seen_down, same_at, m
 use Rattle.network_script_parts.specs.declared.event.Event.TheVariants as event
 use Rattle.network_script.proofs.Counted.{count_still}
 use Rattle.network_script.proofs.Tallied.{counted_seat, restart_rose, false_true}
+use Rattle.network_script.specs.Outward.{outward, Rises}
+use Rattle.network_script.proofs.Outwardly.{no_seat, seat_is, rises_seen, unrisen_seen}
 use Rattle.network_script.proofs.world.World.restart.Goals as goal
 
 pub returns-then-k-len-clause-next : goal.returns-then-k-len-clause-next
@@ -72,3 +74,38 @@ pub returns-in-Err-clause-counted : goal.returns-in-Err-clause-counted
 returns-in-Err-clause-counted g c =
     counted_seat c.args.self.now.seats.items c.args.k c.index_mut-seat.result.now c.restart.new.self (event.Restart c.args.k) (Fault c.in-Err.fault) _ _
     (search rules) c.index_mut-seat.ensures.value (λ i n at. at) refl c.in-Err.ensures.kept.2 (restart_rose (Unit {0}) _ _ c.in-Err.fault c.in-Err.ensures.kept)
+
+pub returns-then-k-len-clause-seen : goal.returns-then-k-len-clause-seen
+returns-then-k-len-clause-seen g c = λ modems hold.
+    let o = outward c.args.self.now modems in
+    (modems, unrisen_seen o c.args.k (Rises o c.args.k) None (no_seat c.args.self.now.seats.items c.args.k (search rules)) (Refused NoNode) (refl, refl), hold)
+
+pub returns-then-is_up-clause-seen : goal.returns-then-is_up-clause-seen
+returns-then-is_up-clause-seen g c = λ modems hold.
+    let o = outward c.args.self.now modems in
+    let up = seat_is c.args.self.now.seats.items c.args.k c.index.result.now true (search rules) c.index.ensures (sym c.is_up.ensures ∙ c.if-is_up.true) in
+    (modems, unrisen_seen o c.args.k (Rises o c.args.k) (Some true) up (Refused NodeUp) (refl, refl), hold)
+
+pub returns-in-Ok-clause-seen : goal.returns-in-Ok-clause-seen
+returns-in-Ok-clause-seen g c = λ modems hold.
+    let o = outward c.args.self.now modems in
+    let seats = c.args.self.now.seats.items in
+    let lt : c.args.k < length seats = search rules in
+    let same = same_at seats c.args.k _ _ lt c.index.ensures c.index_mut-seat.ensures.value in
+    let down : is_up c.index_mut-seat.result.now ≡ false = rw (← same) (sym c.is_up.ensures ∙ c.if-is_up.false) in (
+      modems,
+      rises_seen o seats c.args.k c.index_mut-seat.result.now c.restart.new.self true (λ up. record o { up = up }) (Rises o c.args.k) Finished refl lt c.index_mut-seat.ensures.value down c.in-Ok.ensures.up refl,
+      hold,
+    )
+
+pub returns-in-Err-clause-seen : goal.returns-in-Err-clause-seen
+returns-in-Err-clause-seen g c = λ modems hold.
+    let o = outward c.args.self.now modems in
+    let seats = c.args.self.now.seats.items in
+    let lt : c.args.k < length seats = search rules in
+    let same = same_at seats c.args.k _ _ lt c.index.ensures c.index_mut-seat.ensures.value in
+    let down : is_up c.index_mut-seat.result.now ≡ false = rw (← same) (sym c.is_up.ensures ∙ c.if-is_up.false) in (
+      modems,
+      rises_seen o seats c.args.k c.index_mut-seat.result.now c.restart.new.self false (λ up. record o { up = up }) (Rises o c.args.k) (Fault c.in-Err.fault) refl lt c.index_mut-seat.ensures.value down c.in-Err.ensures.up refl,
+      hold,
+    )

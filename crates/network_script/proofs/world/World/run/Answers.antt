@@ -1,5 +1,6 @@
 use Rattle.std.proofs.Common.{◌≡◌, subst, sym, refl, rules, take, length, ◌∙◌, is_ok, true, ap, ◌+◌}
 use Rattle.std.proofs.lemmas.List.{take_all}
+use Rattle.network_script.proofs.Outwardly.{seen_on}
 use Rattle.network_script.proofs.Pieces.{goes_on}
 use Rattle.network_script.proofs.Places.{standings_length}
 use Rattle.network_script.proofs.Tallied.{count_on}
@@ -15,6 +16,7 @@ loop-event-init g c = record {
   honesty = λ all. all;
   members = refl;
   run = λ all nodes modems history each hold. (nodes, modems, history, each, hold, rw c.in_ok-answers.ensures.items refl);
+  seen = λ modems hold. (modems, rw c.in_ok-answers.ensures.items refl, hold);
   counted = rw c.in_ok-answers.ensures.items refl;
 }
 
@@ -32,6 +34,11 @@ loop-event-preserved g c =
           let size : length before.0 ≡ length nodes = standings_length _ _ before.3 ∙ (c.loop-event.invariant.members ∙ sym (standings_length _ _ each)) in
           let items = rw ok at c.push.ensures.items in
           (step.0, step.1, step.2, step.3, step.4, rw items (goes_on (length nodes) _ _ _ c.args.events.now c.loop-event.event-index c.event-item.result _ _ c.loop-event-test.true c.event-item.is before.5 (rw (← size) step.5)));
+      seen = λ modems hold.
+          let before = c.loop-event.invariant.seen modems hold in
+          let step = c.happen-answer.ensures.seen before.0 before.2 in
+          let items = rw ok at c.push.ensures.items in
+          (step.0, rw items (seen_on _ _ _ c.args.events.now c.loop-event.event-index c.event-item.result _ _ c.loop-event-test.true c.event-item.is before.1 step.1), step.2);
       counted =
           let items = rw ok at c.push.ensures.items in
           rw items (count_on _ _ _ c.args.events.now c.loop-event.event-index c.event-item.result _ _ c.loop-event-test.true c.event-item.is c.loop-event.invariant.counted c.happen-answer.ensures.counted);
@@ -49,3 +56,8 @@ pub returns-clause-counted : goal.returns-clause-counted
 returns-clause-counted g c =
     let whole : take c.loop-event.event-index c.args.events.now ≡ c.args.events.now = take_all _ _ c.loop-event-test.false in
     rw (c.new.ensures, ← whole) c.loop-event.invariant.counted
+
+pub returns-clause-seen : goal.returns-clause-seen
+returns-clause-seen g c =
+    let whole : take c.loop-event.event-index c.args.events.now ≡ c.args.events.now = take_all _ _ c.loop-event-test.false in
+    rw (c.new.ensures, ← whole) c.loop-event.invariant.seen

@@ -7,6 +7,7 @@ use Rattle.network_script_parts.specs.Receiving.{Hold}
 use Rattle.network_script.specs.Seats.{AllHonest, AreStandings}
 use Rattle.network_script.specs.Next.{Goes}
 use Rattle.network_script.specs.Worlds.{written}
+use Rattle.network_script.specs.Outward.{SeenAll}
 use Rattle.network_script.specs.Counts.{CountRun, counts}
 use Rattle.network_script.proofs.world.World.run.Given as goal
 
@@ -19,5 +20,6 @@ invariant-loop-event g l = record {
   run : AllHonest l.self.seats.items → (nodes : List Standing) (modems : List Receiver) (history : List Entry) → AreStandings l.fn.self.seats.items nodes → Hold l.fn.self.receivers modems
       → (nodes' : List Standing) × (modems' : List Receiver) × (history' : List Entry) × AreStandings l.self.seats.items nodes' × Hold l.self.receivers modems'
       × Goes (length nodes) (written l.fn.self nodes modems history) (take l.event-index l.events) l.answers.items (written l.self nodes' modems' history');
+  seen : SeenAll l.fn.self (take l.event-index l.events) l.answers.items l.self;
   counted : CountRun (counts l.fn.self) (take l.event-index l.events) l.answers.items (counts l.self);
 }

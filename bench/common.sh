@@ -1,0 +1,46 @@
+# What the benchmarks begin with; they source it. `root` is the repository, and `made` a folder for what
+# a benchmark makes, which goes as it ends.
+root=$(CDPATH='' cd -- "$(dirname -- "${BASH_SOURCE[0]}")/.." && pwd -P)
+made=$(mktemp -d)
+trap 'rm -rf "$made"' EXIT
+program=$root/crates/upsched/out/upsched
+
+# Ends the benchmark where no proved program is there.
+needs_program() {
+    [ -x "$program" ] && return
+    echo "$0: no proved program: (cd '$root/crates/upsched' && rm -f out/upsched && rt run -- --help)" >&2
+    exit 1
+}
+
+# measure COMMAND COUNT FILE: runs the proved program on the file, which has so many commands or events.
+measure() {
+    python3 "$root/bench/measure.py" "$program" "$@"
+}
+
+# closure NAME..: of these crates and libraries, those of the repository, and all that they stand on there.
+closure() {
+    awk -F: -v tops="$*" '
+        function add(name,    k, count, names) {
+            if (!(name in below) || name in seen) return
+            seen[name]
+            print name
+            count = split(below[name], names, " ")
+            for (k = 1; k <= count; k++) add(names[k])
+        }
+        /^[a-z]/ { split($1, words, " "); below[words[1]] = $2 }
+        END { count = split(tops, top, " "); for (k = 1; k <= count; k++) add(top[k]) }' "$root/crates.txt"
+}
+
+# run_over NAME DEP..: proves and runs bench/NAME/main.rt.in over these crates and libraries, in a workspace of its own.
+run_over() {
+    local bench=${1}_bench source=$root/bench/$1/main.rt.in crate
+    shift
+    mkdir -p "$made/crates/$bench/src"
+    cp "$source" "$made/crates/$bench/src/main.rt"
+    for crate in $(closure "$@"); do
+        cp -r "$root/crates/$crate" "$made/crates"
+        grep -E "^$crate:" "$root/crates.txt" >>"$made/crates.txt"
+    done
+    echo "$bench: $*" >>"$made/crates.txt"
+    (cd "$made/crates/$bench" && rt run --jobs 1)
+}

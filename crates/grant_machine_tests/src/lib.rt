@@ -1,0 +1,5 @@
+//! Tests of the scheduler, by its public calls.
+#![tactic(auto)]
+
+#[cfg(test)]
+mod commands;

@@ -1,0 +1,5 @@
+//! Tests of MAP bodies, by their public calls.
+#![tactic(auto)]
+
+#[cfg(test)]
+mod bodies;

@@ -1,0 +1,5 @@
+//! Tests of a modem, by its public calls.
+#![tactic(auto)]
+
+#[cfg(test)]
+mod modems;

@@ -1,0 +1,176 @@
+//! Runs each example of the folders below as the program would, and tells which prints anything
+//! but what stands beside it: `NAME.stdout` where all goes well, `NAME.stderr` where it faults.
+#![tactic(auto)]
+
+use log::Log;
+use std::io::Write;
+use std::path::AsPath;
+use std::process::ExitCode;
+use std::rt::Files;
+use std::{fs, io};
+use upsched_parts::{Status, run_words};
+
+/// A folder of examples of one command.
+#[derive(Clone, Copy, Debug)]
+struct Folder {
+    path: &'static str,
+    command: &'static str,
+    /// What an example's name ends with.
+    ending: &'static str,
+}
+
+const FOLDERS: [Folder; 6] = [
+    Folder {
+        path: "plans",
+        command: "maps",
+        ending: ".toml",
+    },
+    Folder {
+        path: "scripts",
+        command: "run",
+        ending: ".toml",
+    },
+    Folder {
+        path: "bodies",
+        command: "show",
+        ending: ".hex",
+    },
+    Folder {
+        path: "faults/plans",
+        command: "maps",
+        ending: ".toml",
+    },
+    Folder {
+        path: "faults/scripts",
+        command: "run",
+        ending: ".toml",
+    },
+    Folder {
+        path: "faults/bodies",
+        command: "show",
+        ending: ".hex",
+    },
+];
+
+/// How a command ended, and what it wrote.
+#[derive(Debug, Drop)]
+struct Run {
+    status: Status,
+    output: Vec<u8>,
+    errors: Vec<u8>,
+}
+
+/// The last word of an example's command: the digits that `show` takes, else the path.
+fn last_word<R: Files + AllocGlobal>(rt: &R, command: &str, path: &str) -> io::Result<String> {
+    if command != "show" {
+        return Ok(String::from_str(rt.alloc(), path)?);
+    }
+    let digits = fs::read_to_string(rt, path)?;
+    Ok(String::from_str(rt.alloc(), digits.trim_end())?)
+}
+
+/// What the program does with an example.
+fn run_of<R: Files + Log + AllocGlobal>(rt: &R, command: &str, path: &str) -> io::Result<Run> {
+    let mut words = Vec::new(rt.alloc());
+    words.push(String::from_str(rt.alloc(), "upsched")?)?;
+    words.push(String::from_str(rt.alloc(), command)?)?;
+    words.push(last_word(rt, command, path)?)?;
+    let mut output = Vec::new(rt.alloc());
+    let mut errors = Vec::new(rt.alloc());
+    let status = run_words(rt, words.as_slice(), &mut output, &mut errors);
+    Ok(Run {
+        status,
+        output,
+        errors,
+    })
+}
+
+/// What stands beside an example of this path without its ending.
+fn wanted<R: Files + AllocGlobal>(rt: &R, stem: &str) -> io::Result<Run> {
+    let output = format!(in rt.alloc(); "{stem}.stdout")?;
+    if fs::exists(rt, output.as_str())? {
+        return Ok(Run {
+            status: Status::Done,
+            output: fs::read(rt, output.as_str())?,
+            errors: Vec::new(rt.alloc()),
+        });
+    }
+    let errors = format!(in rt.alloc(); "{stem}.stderr")?;
+    Ok(Run {
+        status: Status::Faulted,
+        output: Vec::new(rt.alloc()),
+        errors: fs::read(rt, errors.as_str())?,
+    })
+}
+
+fn are_same(run: &Run, wanted: &Run) -> bool {
+    run.status == wanted.status
+        && run.output.as_slice() == wanted.output.as_slice()
+        && run.errors.as_slice() == wanted.errors.as_slice()
+}
+
+/// Whether the example of this path without its ending prints what stands beside it. It is told
+/// where it doesn't.
+fn agrees<R: Files + Log + AllocGlobal, O: Write>(
+    rt: &R,
+    command: &str,
+    path: &str,
+    stem: &str,
+    output: &mut O,
+) -> io::Result<bool> {
+    let run = run_of(rt, command, path)?;
+    if are_same(&run, &wanted(rt, stem)?) {
+        return Ok(true);
+    }
+    writeln!(output, "{path} prints something else: {run:?}")?;
+    Ok(false)
+}
+
+/// Whether a folder has examples and all of them agree.
+fn run_folder<R: Files + Log + AllocGlobal + Clone + Drop, O: Write>(
+    rt: &R,
+    folder: Folder,
+    output: &mut O,
+) -> io::Result<bool> {
+    let mut has_examples = false;
+    let mut all_agree = true;
+    for entry in fs::read_dir(rt, folder.path)? {
+        let entry = entry?;
+        let path = entry.path();
+        let path = path.path_text();
+        if let Some(stem) = path.strip_suffix(folder.ending) {
+            has_examples = true;
+            all_agree &= agrees(rt, folder.command, path, stem, output)?;
+        }
+    }
+    if !has_examples {
+        writeln!(output, "{} has no example", folder.path)?;
+    }
+    Ok(has_examples && all_agree)
+}
+
+fn run_all<R: Files + Log + AllocGlobal + Clone + Drop, O: Write>(
+    rt: &R,
+    output: &mut O,
+) -> io::Result<bool> {
+    let mut all_agree = true;
+    for folder in FOLDERS {
+        all_agree &= run_folder(rt, folder, output)?;
+    }
+    Ok(all_agree)
+}
+
+fn main(rt: HostRuntime) -> ExitCode {
+    let mut output = rt.stdout();
+    match run_all(&rt, &mut output) {
+        Ok(true) => {
+            let _ = writeln!(output, "each example prints what stands beside it");
+            ExitCode::SUCCESS
+        }
+        Ok(false) => ExitCode::FAILURE,
+        Err(error) => {
+            let _ = writeln!(output, "an example can't be run: {error}");
+            ExitCode::FAILURE
+        }
+    }
+}

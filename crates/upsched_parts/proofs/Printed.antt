@@ -1,0 +1,70 @@
+-- What is printed of a list of commands, one command after another.
+use Rattle.std.proofs.Common.{◌≡◌, ℕ, ◌+◌, ◌<◌, ◌≤◌, List, [], ◌∷◌, ◌++◌, length, take, get_or, Option, Some, None, IfSome, ap, ◌∙◌, sym, refl, append_assoc, append-nil, add-zero, arith}
+use Rattle.std.proofs.lemmas.List.{take_more, take_all, length-take-le}
+use Rattle.std.specs.Io.KnownBytes.{Appends, Keeps}
+use Rattle.flow_state.specs.Rows.{Rows}
+use Rattle.grant_machine.specs.declared.command.Command.{Command}
+use Rattle.grant_machine.specs.Steps.{step}
+use Rattle.grant_machine.specs.Runs.{outputs_from, rows_from, outputs_of, rows_after}
+use Rattle.upsched_parts.specs.Lines.{output_line, output_lines}
+use Rattle.upsched_parts.specs.Plan.{IsPlan, NoPlan}
+
+-- known bytes that stay grow by nothing
+pub appends_none : (known : Option (List ℕ)) → Appends known known []
+appends_none None = tt
+appends_none (Some xs) = sym (append-nil xs)
+
+-- known bytes grow by one text and then another
+pub appends_both : (old mid new : Option (List ℕ)) (xs ys : List ℕ) → Appends old mid xs → Appends mid new ys → Appends old new (xs ++ ys)
+appends_both None mid new xs ys first second = tt
+appends_both (Some a) None new xs ys first second = absurd first
+appends_both (Some a) (Some b) None xs ys first second = absurd second
+appends_both (Some a) (Some b) (Some c) xs ys first second = second ∙ ap (λ t. t ++ ys) first ∙ append_assoc a xs ys
+
+-- known bytes grow by a text and then stay
+appends_kept : (old mid new : Option (List ℕ)) (xs : List ℕ) → Appends old mid xs → Keeps mid new → Appends old new xs
+appends_kept None mid new xs grown kept = tt
+appends_kept (Some a) None new xs grown kept = absurd grown
+appends_kept (Some a) (Some b) None xs grown kept = absurd kept
+appends_kept (Some a) (Some b) (Some c) xs grown kept = kept ∙ grown
+
+-- the rows after one command more
+rows_more : (rows : Rows) (cs : List Command) (c : Command) → rows_from rows (cs ++ c ∷ []) ≡ (step (rows_from rows cs) c).rows
+rows_more rows [] c = refl
+rows_more rows (d ∷ ds) c = rows_more (step rows d).rows ds c
+
+-- the lines of one command more
+lines_more : (n : ℕ) (rows : Rows) (cs : List Command) (c : Command)
+    → output_lines n (outputs_from rows (cs ++ c ∷ [])) ≡ output_lines n (outputs_from rows cs) ++ output_line (n + length cs) (step (rows_from rows cs) c).output
+lines_more n rows [] c = rw (add-zero n) (append-nil (output_line n (step rows c).output))
+lines_more n rows (d ∷ ds) c =
+    let rest = lines_more (n + 1) (step rows d).rows ds c in
+    let count : n + 1 + length ds ≡ n + length (d ∷ ds) = omega arith in
+    ap (λ t. output_line n (step rows d).output ++ t) (rw count at rest)
+    ∙ sym (append_assoc (output_line n (step rows d).output) (output_lines (n + 1) (outputs_from (step rows d).rows ds)) _)
+
+-- the rows after the first commands, and their lines, with one command more
+pub one_more : (cs : List Command) (i : ℕ) (d : Command) (m m' : Rows) (old mid new : Option (List ℕ)) → i < length cs
+    → m ≡ rows_after (take i cs) → Appends old mid (output_lines 1 (outputs_of (take i cs)))
+    → m' ≡ (step m (get_or cs i d)).rows → Appends mid new (output_line (i + 1) (step m (get_or cs i d)).output)
+    → (m' ≡ rows_after (take (i + 1) cs)) × Appends old new (output_lines 1 (outputs_of (take (i + 1) cs)))
+one_more cs i d m m' old mid new below reached before rows line =
+    let front = take i cs in
+    let c = get_or cs i d in
+    let whole : take (i + 1) cs ≡ front ++ c ∷ [] = take_more cs i d below in
+    let long : length front ≡ i = length-take-le i cs (omega arith) in
+    let count : i + 1 ≡ 1 + length front = omega arith in
+    let lines = appends_both old mid new _ _ before (rw (count, reached) at line) in (
+      rows ∙ ap (λ r. (step r c).rows) reached ∙ sym (rows_more [] front c) ∙ ap rows_after (sym whole),
+      rw (whole, lines_more 1 [] front c) lines,
+    )
+
+-- all of the lines, and then nothing more
+pub all_lines : (cs : List Command) (i : ℕ) (old mid new : Option (List ℕ)) → length cs ≤ i
+    → Appends old mid (output_lines 1 (outputs_of (take i cs))) → Keeps mid new → Appends old new (output_lines 1 (outputs_of cs))
+all_lines cs i old mid new end grown kept = appends_kept old mid new _ (rw (take_all i cs end) at grown) kept
+
+-- a text that is read as a plan isn't known to be none
+pub no_plan_read : (known : Option (List ℕ)) (text read : List ℕ) (cs : List Command) → NoPlan known → IfSome known (λ bytes. text ≡ bytes) → read ≡ text → IsPlan read cs → ⊥
+no_plan_read None text read cs none same whole plan = none
+no_plan_read (Some bytes) text read cs none same whole plan = none cs (rw (whole ∙ same) at plan)

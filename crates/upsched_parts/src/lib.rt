@@ -1,0 +1,25 @@
+//! What the program does with its words: it applies plans to the scheduler, runs scripts over its
+//! nodes, and prints MAP bodies.
+#![tactic(auto)]
+
+mod body_show;
+mod fault;
+mod lines;
+mod plan;
+mod plan_run;
+mod program;
+mod report;
+mod run_lines;
+mod script_run;
+mod status;
+mod text;
+mod words;
+
+pub use body_show::show;
+pub use fault::Fault;
+pub use plan::{PlanFault, read_plan};
+pub use plan_run::maps;
+pub use program::{run, run_words};
+pub use script_run::run_script;
+pub use status::Status;
+pub use words::{MapsWords, RunWords, ShowWords, Words, read_words, refused};

@@ -1,0 +1,100 @@
+//! A plan: an array of commands in TOML.
+
+ghost use Rattle.std.specs.Prelude.{◌≡◌, IfOk, IfErr, map};
+ghost use Rattle.std.specs.List.{list_all};
+ghost use Rattle.toml.specs.Data.{as_array};
+ghost use Rattle.toml.specs.View.{view, table_view};
+ghost use Rattle.upsched_parts.specs.declared.plan.PlanFault.TheVariants.{OutOfMemory};
+ghost use Rattle.network_script_parts.specs.Items.{is_table};
+ghost use Rattle.upsched_parts.specs.Plan.{SpellCommands, IsBadPosition, IsFirstBadFromOne, ListsCommands, IsBadList, HasCommands, IsBadAt, IsFaultAt, IsPlan, IsPlanFault};
+
+use grant_machine::Command;
+use network_script_parts::command_of;
+use std::alloc::{AllocFailed, Global};
+use thiserror::Error;
+use toml::{Table, Value};
+
+/// Why a text is no plan. Positions count commands from 1.
+#[derive(Clone, Copy, Debug, PartialEq, Eq, Error)]
+pub enum PlanFault {
+    /// The text isn't TOML.
+    #[error("1 NotToml")]
+    NotToml,
+    /// The command at this position isn't one. Position 1 too where `command` isn't an array of
+    /// tables.
+    #[error("2 BadCommand {0}")]
+    BadCommand(usize),
+    #[error("3 OutOfMemory")]
+    OutOfMemory,
+}
+
+impl<T: Drop> From<AllocFailed<T>> for PlanFault {
+    ghost from_gives = { λ _ e. e ≡ OutOfMemory };
+
+    fn from(_e: AllocFailed<T>) -> PlanFault {
+        PlanFault::OutOfMemory
+    }
+}
+
+fn read_items(alloc: Global, items: &[Value]) -> Result<Vec<Command>, PlanFault>
+    ensures read { IfOk result (λ commands. SpellCommands (map view items.now) commands.items) }
+    ensures fault { IfErr result (IsFaultAt (IsFirstBadFromOne (map view items.now))) }
+{
+    let mut commands = Vec::new(alloc);
+    for (i, item) in items.iter().enumerate() {
+        match command_of(item) {
+            Some(command) => commands.push(command)?,
+            None => return Err(PlanFault::BadCommand(i + 1)),
+        }
+    }
+    Ok(commands)
+}
+
+fn are_tables(items: &[Value]) -> bool
+    ensures { result ≡ list_all (λ v. is_table (view v)) items.now }
+{
+    items.iter().all(|item| item.is_table())
+}
+
+fn read_array(alloc: Global, items: &[Value]) -> Result<Vec<Command>, PlanFault>
+    ensures read { IfOk result (λ commands. SpellCommands (map view items.now) commands.items) }
+    ensures fault { IfErr result (IsFaultAt (IsBadPosition (list_all is_table (map view items.now)) (map view items.now))) }
+{
+    if are_tables(items) {
+        read_items(alloc, items)
+    } else {
+        Err(PlanFault::BadCommand(1))
+    }
+}
+
+fn read_value(alloc: Global, value: &Value) -> Result<Vec<Command>, PlanFault>
+    ensures read { IfOk result (λ commands. ListsCommands (as_array (view value.now)) commands.items) }
+    ensures fault { IfErr result (IsFaultAt (IsBadList (as_array (view value.now)))) }
+{
+    match value.as_array() {
+        Some(items) => read_array(alloc, items.as_slice()),
+        None => Err(PlanFault::BadCommand(1)),
+    }
+}
+
+fn read_table(alloc: Global, table: &Table) -> Result<Vec<Command>, PlanFault>
+    ensures read { IfOk result (λ commands. HasCommands (table_view table.now) commands.items) }
+    ensures fault { IfErr result (IsFaultAt (IsBadAt (table_view table.now))) }
+{
+    match table.get("command") {
+        None => Ok(Vec::new(alloc)),
+        Some(value) => read_value(alloc, value),
+    }
+}
+
+/// Reads the commands of a plan, none where the text has no key `command`.
+pub fn read_plan(alloc: Global, text: &str) -> Result<Vec<Command>, PlanFault>
+    ensures read { IfOk result (λ commands. IsPlan text.now commands.items) }
+    ensures fault { IfErr result (IsPlanFault text.now) }
+{
+    match toml::table_from_str(alloc, text) {
+        Ok(table) => read_table(alloc, &table),
+        Err(error) if error.is_memory() => Err(PlanFault::OutOfMemory),
+        Err(_) => Err(PlanFault::NotToml),
+    }
+}

@@ -1,0 +1,83 @@
+//! From the words of the command line to how the program ends.
+
+use crate::body_show::show;
+use crate::fault::Fault;
+use crate::plan_run::maps;
+use crate::script_run::run_script;
+use crate::status::Status;
+use crate::words::{MapsWords, RunWords, Words, read_words, refused};
+use log::Log;
+use std::io::{ErrorKind, Write};
+use std::rt::{Env, Files};
+use std::{env, fs};
+
+/// Opens the plan and ends as `maps` does.
+fn run_maps<R: Files + AllocGlobal, O: Write, E: Write>(
+    rt: &R,
+    words: &MapsWords<'_>,
+    output: &mut O,
+    errors: &mut E,
+) -> Status {
+    match fs::open(rt, words.plan) {
+        Ok(mut plan) => maps(rt.alloc(), &mut plan, words, output, errors),
+        Err(error) => Fault::of_reading(&error, words.plan).told(errors),
+    }
+}
+
+/// Opens the script and ends as `run_script` does.
+fn run_run<R: Files + Log + AllocGlobal, O: Write, E: Write>(
+    rt: &R,
+    words: &RunWords<'_>,
+    output: &mut O,
+    errors: &mut E,
+) -> Status {
+    match fs::open(rt, words.script) {
+        Ok(mut script) => run_script(rt, &mut script, words, output, errors),
+        Err(error) => Fault::of_reading(&error, words.script).told(errors),
+    }
+}
+
+/// The words of the command line, or how the program ends without them.
+fn given_words<R: Env + AllocGlobal, E: Write>(
+    rt: &R,
+    errors: &mut E,
+) -> Result<Vec<String>, Status> {
+    match env::args(rt) {
+        Ok(mut given) => match given.collect(rt.alloc()) {
+            Ok(given) => Ok(given),
+            Err(_) => Err(Fault::Memory.told(errors)),
+        },
+        Err(error) if error.kind() == ErrorKind::OutOfMemory => Err(Fault::Memory.told(errors)),
+        Err(_) => {
+            let _ = writeln!(errors, "error: a word isn't UTF-8");
+            Err(Status::NotUnderstood)
+        }
+    }
+}
+
+/// Reads the words, the program's own name first, and ends as the command does that they name.
+pub fn run_words<R: Files + Log + AllocGlobal, O: Write, E: Write>(
+    rt: &R,
+    given: &[String],
+    output: &mut O,
+    errors: &mut E,
+) -> Status {
+    match read_words(rt.alloc(), given) {
+        Ok(Words::Maps(words)) => run_maps(rt, &words, output, errors),
+        Ok(Words::Run(words)) => run_run(rt, &words, output, errors),
+        Ok(Words::Show(words)) => show(rt.alloc(), &words, output, errors),
+        Err(error) => refused(&error, output, errors),
+    }
+}
+
+/// Ends as the words of the command line say.
+pub fn run<R: Env + Files + Log + AllocGlobal, O: Write, E: Write>(
+    rt: &R,
+    output: &mut O,
+    errors: &mut E,
+) -> Status {
+    match given_words(rt, errors) {
+        Ok(given) => run_words(rt, given.as_slice(), output, errors),
+        Err(status) => status,
+    }
+}

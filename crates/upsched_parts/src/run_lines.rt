@@ -1,0 +1,91 @@
+//! The printed lines of a run.
+
+ghost use Rattle.std.specs.Prelude.{◌≡◌, IfOk, string_bytes};
+ghost use Rattle.upsched_parts.specs.RunLines.{heard_text, sending_text, want_text, refusal_text, fault_text, answer_text};
+
+use modem::{Heard, Sending, WantFault};
+use network_script_parts::{Answer, Refusal};
+use node::NodeFault;
+use std::alloc::{AllocError, Global};
+
+fn heard_text(heard: Heard) -> &'static str
+    ensures { result.now ≡ heard_text heard }
+{
+    match heard {
+        Heard::Taken => "taken",
+        Heard::NotMine => "not-mine",
+        Heard::OtherUcd => "other-ucd",
+        Heard::Past => "past",
+        Heard::Unreadable => "unreadable",
+    }
+}
+
+fn sending_text(alloc: Global, sending: Option<Sending>) -> Result<String, AllocError>
+    ensures { IfOk result (λ text. string_bytes text ≡ sending_text sending) }
+{
+    match sending {
+        None => String::from_str(alloc, "idle"),
+        Some(Sending::Unicast(sid)) => format!(in alloc; "unicast {sid}"),
+        Some(Sending::Polled(sid, n)) => format!(in alloc; "polled {sid} {n}"),
+        Some(Sending::Request(sid, n)) => format!(in alloc; "request {sid} {n}"),
+    }
+}
+
+fn want_text(fault: WantFault) -> &'static str
+    ensures { result.now ≡ want_text fault }
+{
+    match fault {
+        WantFault::NotMine => "1",
+        WantFault::Waiting => "2",
+        WantFault::BadSize => "3",
+        WantFault::OutOfMemory => "4",
+    }
+}
+
+fn refusal_text(refusal: Refusal) -> &'static str
+    ensures { result.now ≡ refusal_text refusal }
+{
+    match refusal {
+        Refusal::NoLetter => "1 NoLetter",
+        Refusal::NodeDown => "2 NodeDown",
+        Refusal::NodeUp => "3 NodeUp",
+        Refusal::NoOutput => "4 NoOutput",
+        Refusal::TooOld => "5 TooOld",
+        Refusal::NoModem => "6 NoModem",
+        Refusal::TimeBack => "7 TimeBack",
+        Refusal::NoNode => "8 NoNode",
+        Refusal::OutOfMemory => "9 OutOfMemory",
+    }
+}
+
+/// A node's fault, by its number and its name.
+pub fn fault_text(fault: NodeFault) -> &'static str
+    ensures { result.now ≡ fault_text fault }
+{
+    match fault {
+        NodeFault::NotLeading => "1 NotLeading",
+        NodeFault::LogFull => "2 LogFull",
+        NodeFault::RoundsSpent => "3 RoundsSpent",
+        NodeFault::ValueTooLong => "4 ValueTooLong",
+        NodeFault::OutOfMemory => "5 OutOfMemory",
+        NodeFault::StoreRefused => "6 StoreRefused",
+        NodeFault::Down => "7 Down",
+    }
+}
+
+/// An answer, without its event's number and its line's end.
+pub fn answer_text(alloc: Global, answer: Answer) -> Result<String, AllocError>
+    ensures { IfOk result (λ text. string_bytes text ≡ answer_text answer) }
+{
+    match answer {
+        Answer::Sent(count) => format!(in alloc; "sent {count}"),
+        Answer::Finished => String::from_str(alloc, "done"),
+        Answer::Released(count) => format!(in alloc; "released {count}"),
+        Answer::Heard(heard) => format!(in alloc; "heard {}", heard_text(heard)),
+        Answer::Ticked(sending) => sending_text(alloc, sending),
+        Answer::WantRefused(fault) => format!(in alloc; "want-refused {}", want_text(fault)),
+        Answer::Refused(refusal) => format!(in alloc; "refused {}", refusal_text(refusal)),
+        Answer::Fault(fault) => format!(in alloc; "fault {}", fault_text(fault)),
+        Answer::Crashed => String::from_str(alloc, "crashed"),
+    }
+}

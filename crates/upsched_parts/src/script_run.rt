@@ -1,0 +1,125 @@
+//! `upsched run SCRIPT`: what happens to nodes and modems.
+
+ghost use Rattle.std.specs.Prelude.{◌≡◌, ◌≢◌, IfOk, OnOk, length, map};
+ghost use Rattle.ballots.specs.Members.{member_count};
+ghost use Rattle.network_script_parts.specs.Receiving.{AreNew};
+ghost use Rattle.network_script_parts.specs.Fresh.{AreFresh};
+ghost use Rattle.network_script.specs.Worlds.{AreHonest};
+ghost use Rattle.upsched_parts.specs.declared.status.Status.TheVariants.{Done, NotUnderstood};
+ghost use Rattle.upsched_parts.specs.Run.{NoScript, PrintsEvents, PrintsScript};
+
+use crate::fault::Fault;
+use crate::report::{print_answers, print_counts};
+use crate::run_lines::fault_text;
+use crate::status::Status;
+use crate::text::text_of;
+use crate::words::RunWords;
+use log::{Log, warn};
+use modem::Modem;
+use network_script::World;
+use network_script_parts::{Answer, Event, Script, new_modems, plain_nodes, read_script};
+use node::Node;
+use std::io::{Read, Write};
+
+/// Logs each answer that is a node's fault or a crash.
+fn warn_of<R: Log>(rt: &R, answers: &[Answer]) {
+    for (number, answer) in answers.iter().enumerate() {
+        match answer {
+            Answer::Fault(fault) => {
+                warn!(rt; "event {number}: the node answers with fault {}", fault_text(*fault));
+            }
+            Answer::Crashed =>
+                warn!(rt; "event {number}: no room for what the node sent, so it crashed"),
+            _ => {}
+        }
+    }
+}
+
+/// What the events do to fresh nodes and new modems is printed. The world is given back as they left
+/// it: the promise of the printed lines holds where its nodes are honest.
+fn print_events<'a, R: Log + AllocGlobal, N: Node, O: Write>(
+    rt: &R,
+    nodes: Vec<N>,
+    modems: Vec<Modem>,
+    events: &[Event],
+    verbose: bool,
+    output: &mut O,
+) -> Result<World<N>, Fault<'a>>
+    requires nodes { AreFresh N.who N.honest N.stands nodes.items }
+    requires modems { AreNew modems.items }
+    ensures { IfOk result (λ world. AreHonest world → PrintsEvents (length nodes.items) (map (λ modem. modem.id) modems.items) events.now
+        (O.contents output.old) (O.contents output.new)) }
+{
+    let Ok(mut world) = World::new(rt.alloc(), nodes, modems) else {
+        return Err(Fault::Memory);
+    };
+    let Ok(report) = world.run(events) else {
+        return Err(Fault::Memory);
+    };
+    if verbose {
+        warn_of(rt, report.answers());
+    }
+    print_answers(rt.alloc(), report.answers(), world.outputs(), output)?;
+    let letters = world.letters().len();
+    let outputs = world.outputs().len();
+    print_counts(letters, outputs, world.transmissions().len(), output)?;
+    Ok(world)
+}
+
+/// What a script does is printed.
+fn print_script<'a, R: Log + AllocGlobal, O: Write>(
+    rt: &R,
+    script: &Script,
+    verbose: bool,
+    output: &mut O,
+) -> Result<(), Fault<'a>>
+    ensures { OnOk result (PrintsEvents (member_count script.now.members) script.now.modems.items script.now.events.items
+        (O.contents output.old) (O.contents output.new)) }
+{
+    let Ok(nodes) = plain_nodes(rt.alloc(), script.members) else {
+        return Err(Fault::Memory);
+    };
+    let Ok(modems) = new_modems(rt.alloc(), script.modems.as_slice()) else {
+        return Err(Fault::Memory);
+    };
+    print_events(rt, nodes, modems, script.events.as_slice(), verbose, output)?;
+    Ok(())
+}
+
+fn print_text<'a, R: Log + AllocGlobal, F: Read, O: Write>(
+    rt: &R,
+    script: &mut F,
+    words: &RunWords<'a>,
+    output: &mut O,
+) -> Result<(), Fault<'a>>
+    ensures printed { OnOk result (PrintsScript (F.remaining script.old) (O.contents output.old) (O.contents output.new)) }
+    ensures no_script { NoScript (F.remaining script.old) → output.new ≡ output.old }
+{
+    let text = text_of(rt.alloc(), script, words.script)?;
+    match read_script(rt.alloc(), text.as_str()) {
+        Ok(script) => print_script(rt, &script, words.verbose, output),
+        Err(fault) => Err(Fault::Script(fault)),
+    }
+}
+
+/// Runs a script over nodes with records in memory, and prints for each event its number and its
+/// answer, behind a release the outputs that it released, and last how many letters, outputs and
+/// transmissions there were. A fault of the script is found before anything happens, and is told
+/// in one line. With `verbose` each fault of a node and each crash is logged too.
+pub fn run_script<R: Log + AllocGlobal, F: Read, O: Write, E: Write>(
+    rt: &R,
+    script: &mut F,
+    words: &RunWords<'_>,
+    output: &mut O,
+    errors: &mut E,
+) -> Status
+    ensures printed { result ≡ Done → PrintsScript (F.remaining script.old) (O.contents output.old) (O.contents output.new) }
+    ensures quiet { result ≡ Done → errors.new ≡ errors.old }
+    ensures no_script { NoScript (F.remaining script.old) → output.new ≡ output.old }
+    ensures understood { result ≢ NotUnderstood }
+{
+    match print_text(rt, script, words, output) {
+        Ok(()) => Status::Done,
+        Err(fault) => fault.told(errors),
+    }
+}

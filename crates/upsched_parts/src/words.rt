@@ -1,0 +1,150 @@
+//! The words of the command line.
+
+ghost use Rattle.std.specs.Prelude.{◌≡◌, ◌≢◌};
+ghost use Rattle.clap.specs.Words.{kind_of};
+ghost use Rattle.upsched_parts.specs.declared.status.Status.TheVariants.{Faulted, NotUnderstood};
+
+use crate::fault::Fault;
+use crate::status::Status;
+use clap::error::ErrorKind;
+use clap::{Arg, ArgAction, Command, Error};
+use std::alloc::Global;
+use std::io::Write;
+
+/// What `maps` is told.
+#[derive(Clone, Copy, Debug)]
+pub struct MapsWords<'a> {
+    /// The path of the plan.
+    pub plan: &'a str,
+}
+
+/// What `run` is told.
+#[derive(Clone, Copy, Debug)]
+pub struct RunWords<'a> {
+    /// The path of the script.
+    pub script: &'a str,
+    /// Whether the faults of nodes are logged too.
+    pub verbose: bool,
+}
+
+/// What `show` is told.
+#[derive(Clone, Copy, Debug)]
+pub struct ShowWords<'a> {
+    /// A MAP body in hexadecimal.
+    pub hex: &'a str,
+}
+
+/// A command of the program.
+#[derive(Clone, Copy, Debug)]
+pub enum Words<'a> {
+    /// Applies a plan's commands and prints their outputs.
+    Maps(MapsWords<'a>),
+    /// Runs a script and prints its answers.
+    Run(RunWords<'a>),
+    /// Prints a MAP body.
+    Show(ShowWords<'a>),
+}
+
+/// The version that `--version` tells.
+const VERSION: &str = "0.1.0";
+
+/// What the help ends with.
+const WHERE_TO_READ_ON: &str = "docs/RULES.md tells how plans and scripts are written and what is \
+printed, docs/SCRIPTS.md what the events of a script do. examples/ has some of each.";
+
+fn maps_command<'a>(alloc: Global) -> Result<Command<'a>, Error> {
+    let plan = Arg::new(alloc, "PLAN")
+        .required(true)
+        .help("A file of commands in TOML (docs/RULES.md, \"Plans\")");
+    let maps = Command::new(alloc, "maps")
+        .about("Applies a plan's commands to one scheduler and prints their outputs")
+        .arg(plan)?;
+    Ok(maps)
+}
+
+fn run_command<'a>(alloc: Global) -> Result<Command<'a>, Error> {
+    let script = Arg::new(alloc, "SCRIPT").required(true).help(
+        "A file of events in TOML (docs/RULES.md, \"Scripts\", and docs/SCRIPTS.md)",
+    );
+    let verbose = Arg::new(alloc, "verbose")
+        .long("verbose")
+        .action(ArgAction::SetTrue)
+        .help(
+            "Also logs each fault and each crash of a node on standard error; what is printed stays the same",
+        );
+    let run = Command::new(alloc, "run")
+        .about("Runs a script over three or five nodes and their modems and prints its answers")
+        .arg(script)?
+        .arg(verbose)?;
+    Ok(run)
+}
+
+fn show_command<'a>(alloc: Global) -> Result<Command<'a>, Error> {
+    let hex = Arg::new(alloc, "HEX")
+        .required(true)
+        .help("A MAP body in hexadecimal, without spaces");
+    let show = Command::new(alloc, "show")
+        .about("Prints what a MAP body holds")
+        .arg(hex)?;
+    Ok(show)
+}
+
+fn program<'a>(alloc: Global) -> Result<Command<'a>, Error> {
+    let program = Command::new(alloc, "upsched")
+        .version(VERSION)
+        .about("A DOCSIS upstream scheduler over three or five nodes")
+        .after_help(WHERE_TO_READ_ON)
+        .subcommand_required(true)
+        .subcommand(maps_command(alloc)?)?
+        .subcommand(run_command(alloc)?)?
+        .subcommand(show_command(alloc)?)?;
+    Ok(program)
+}
+
+/// Reads the words, the program's own name first. What it doesn't understand, and what asks for help or
+/// for the version, is an error, for `refused` to tell.
+pub fn read_words<'a>(alloc: Global, words: &'a [String]) -> Result<Words<'a>, Error> {
+    let mut program = program(alloc)?;
+    let matches = program.try_get_matches_from_mut(words)?;
+    let command = match matches.subcommand() {
+        Some(("maps", words)) => words
+            .get_str("PLAN")
+            .map(|plan| Words::Maps(MapsWords { plan })),
+        Some(("run", words)) => {
+            let verbose = words.get_flag("verbose");
+            words
+                .get_str("SCRIPT")
+                .map(|script| Words::Run(RunWords { script, verbose }))
+        }
+        Some(("show", words)) => words
+            .get_str("HEX")
+            .map(|hex| Words::Show(ShowWords { hex })),
+        _ => None,
+    };
+    match command {
+        Some(command) => Ok(command),
+        None => Err(program.error(ErrorKind::MissingSubcommand, "no command")?),
+    }
+}
+
+/// Writes why the words aren't read on standard error, or on standard output the help or the version that
+/// they ask for.
+pub fn refused<O: Write, E: Write>(error: &Error, output: &mut O, errors: &mut E) -> Status
+    ensures memory { kind_of error.now ≡ ErrorKind.OutOfMemory → result ≡ Faulted }
+    ensures help { kind_of error.now ≡ ErrorKind.DisplayHelp → result ≢ NotUnderstood }
+    ensures version { kind_of error.now ≡ ErrorKind.DisplayVersion → result ≢ NotUnderstood }
+    ensures mistake { kind_of error.now ≢ ErrorKind.OutOfMemory → kind_of error.now ≢ ErrorKind.DisplayHelp
+        → kind_of error.now ≢ ErrorKind.DisplayVersion → result ≡ NotUnderstood }
+{
+    if error.kind() == ErrorKind::OutOfMemory {
+        return Fault::Memory.told(errors);
+    }
+    if error.use_stderr() {
+        let _ = write!(errors, "{error}");
+        return Status::NotUnderstood;
+    }
+    match write!(output, "{error}") {
+        Ok(()) => Status::Done,
+        Err(_) => Fault::Output.told(errors),
+    }
+}
