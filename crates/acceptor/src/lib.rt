@@ -8,4 +8,3 @@ mod records;
 pub use acceptor::{Accepted, Acceptor, Prepared, greatest_used};
 pub use plain::PlainRecords;
 pub use records::{Records, RecordsFault};
-

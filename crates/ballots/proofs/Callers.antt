@@ -128,4 +128,3 @@ module _ {V : Type 0} where
       by_row (inl same) rest = here same
       by_row (inr (inl before)) rest = inr (rest (sym (at_there row.0 row.1 rows p (omega arith)) ∙ is))
       by_row (inr (inr after)) rest = inr (rest (sym (at_there row.0 row.1 rows p (omega arith)) ∙ is))
-

@@ -30,4 +30,3 @@ pub fn quorums_meet()
 pub fn agreement()
     ensures { Agreement }
 {}
-

@@ -1,4 +1,7 @@
-use ballots::{Ballot, Bytes, Cast, LONGEST_VALUE, MOST_PLACES, Members, NodeId, Note, Place, RoundsSpent, Value, Votes, agreement, ballots_differ, least_above, quorums_meet};
+use ballots::{
+    Ballot, Bytes, Cast, LONGEST_VALUE, MOST_PLACES, Members, NodeId, Note, Place, RoundsSpent,
+    Value, Votes, agreement, ballots_differ, least_above, quorums_meet,
+};
 use std::process::Abort;
 use std::test::Fail;
 

@@ -99,9 +99,7 @@ impl Learner {
         if self.learned.contains_key(&place) {
             return Ok(());
         }
-        self.learned
-            .insert(place, value)
-            .map_err(AllocError::from)?;
+        self.learned.insert(place, value).map_err(AllocError::from)?;
         self.counted.remove(&place);
         Ok(())
     }

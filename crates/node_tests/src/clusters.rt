@@ -1,7 +1,7 @@
-use node::{Node, NodeFault, SchedNode};
 use acceptor::PlainRecords;
 use ballots::{Letter, Members, NodeId, Note};
 use grant_machine::Output;
+use node::{Node, NodeFault, SchedNode};
 use std::alloc::Global;
 use std::test::Fail;
 
