@@ -1,4 +1,3 @@
 mod PlanFaults
 mod Printed
 mod Told
-mod AllHold
