@@ -19,7 +19,7 @@ use Rattle.network_script_parts.specs.declared.event.Refusal.TheVariants.{NoMode
 use Rattle.network_script_parts.specs.declared.event.ReleasedOutput.{ReleasedOutput}
 use Rattle.network_script_parts.specs.Receiver.{Receiver}
 use Rattle.network_script_parts.specs.Modems.{HearsOutput, Listens, ComesTo, OfModem}
-use Rattle.network_script_parts.specs.Receiving.{IsReceiver, AreReceivers, IsNew, AreNew, new_receivers, IsBefore}
+use Rattle.network_script_parts.specs.Receiving.{IsReceiver, AreReceivers, IsNew, AreNew, new_receivers}
 
 not_less : (a b : ℕ) → (a < b → ⊥) → b ≤ a
 not_less a b later = omega arith
