@@ -2,7 +2,7 @@
 use Rattle.std.proofs.Common.{◌≡◌, inl, inr, ℕ, ◌≤◌, max, List, [], ◌∷◌, ap, ◌∙◌, arith}
 use Rattle.ballots.specs.declared.letters.Cast.{Cast}
 use Rattle.ballots.specs.Rows.{at, put}
-use Rattle.ballots.proofs.PutRows.{in_order, put_before, put_here, put_after, at_before, at_here, at_after}
+use Rattle.ballots.proofs.Callers.{in_order, put_before, put_here, put_after, at_before, at_here, at_after}
 use Rattle.acceptor.specs.Content.{greatest}
 use Rattle.acceptor.specs.Kept.{ballot_in}
 

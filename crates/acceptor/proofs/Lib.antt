@@ -1,3 +1,4 @@
+pub mod Callers
 pub mod Certain
 pub mod Greatest
 pub mod SoundRows

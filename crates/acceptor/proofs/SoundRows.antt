@@ -3,7 +3,7 @@ use Rattle.std.proofs.Common.{inl, inr, ℕ, ◌+◌, ◌≤◌, List, [], ◌�
 use Rattle.ballots.specs.Limits.{most_places}
 use Rattle.ballots.specs.declared.letters.Cast.{Cast}
 use Rattle.ballots.specs.Rows.{put}
-use Rattle.ballots.proofs.PutRows.{in_order, put_before, put_here, put_after}
+use Rattle.ballots.proofs.Callers.{in_order, put_before, put_here, put_after}
 use Rattle.acceptor.specs.Content.{AreRowsFrom}
 
 -- they stay so where a vote is put

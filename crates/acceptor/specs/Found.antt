@@ -8,9 +8,9 @@ use Rattle.acceptor.specs.declared.records.RecordsFault.TheVariants.{Refused, Br
 abbrev pub Findable : Type 1
 Findable = Content → Type 0
 
--- the records hold this content: a reopen finds it, and no other
+-- the records hold this content: a reopen may find it, and no other
 abbrev pub Holds : Findable → Content → Type 0
-Holds found c = found c × ((d : Content) → found d → d ≡ c)
+Holds found c = ∥ found c ∥₁ × ((d : Content) → found d → d ≡ c)
 
 -- a reopen finds no other than the two
 abbrev pub HoldsEither : Findable → Content → Content → Type 0
@@ -38,3 +38,7 @@ HasMade old new write = (c : Content) → Holds old c → Holds new (after_write
 -- the records hold the content with this write or without it
 abbrev pub MayHaveMade : Findable → Findable → Write → Type 0
 MayHaveMade old new write = (c : Content) → Holds old c → HoldsEither new c (after_write c (Some write))
+
+-- whatever may be found was to be found before, or is that with this write
+abbrev pub AddsOnly : Findable → Findable → Write → Type 0
+AddsOnly old new write = (d : Content) → new d → ∥ (old d ⊎ ((c : Content) × old c × (d ≡ after_write c (Some write)))) ∥₁

@@ -1,13 +1,14 @@
 //! Promises and votes: each is written before it is answered (Lamport, Paxos Made Simple).
 
-ghost use Rattle.std.specs.Prelude.{◌≡◌, ◌<◌, ◌≤◌, IsTrue, Option, Some, IfSome, IfNone, IfOk, IfErr, OnOk, OnErr};
+ghost use Rattle.std.specs.Prelude.{◌≡◌, ◌<◌, ◌≤◌, max, IsTrue, Option, Some, IfSome, IfNone, IfOk, IfErr, OnOk, OnErr};
 ghost use Rattle.ballots.specs.Ballots.{number_of};
 ghost use Rattle.ballots.specs.declared.letters.Cast.{Cast as Ballotted};
 ghost use Rattle.acceptor.specs.Answers.{IsOfBallot};
 ghost use Rattle.acceptor.specs.Content.{Content, Write, promised, after_write};
 ghost use Rattle.acceptor.specs.Content.Write.{Promises, Votes as Casts};
 ghost use Rattle.acceptor.specs.Found.{FindsSame, HasMade, Holds, Keeps, MayHaveMade};
-ghost use Rattle.acceptor.specs.Faults.{CountsFaults, IsHarmless};
+ghost use Rattle.acceptor.specs.declared.records.RecordsFault.TheVariants.{OutOfMemory};
+ghost use Rattle.acceptor.specs.Faults.{BreaksBy, CountsFaults, IsHarmless};
 
 use crate::records::{Records, RecordsFault};
 use ballots::{Ballot, Bytes, Cast, Place, Value, Votes};
@@ -81,21 +82,22 @@ fn number(ballot: Option<Ballot>) -> u64
     }
 }
 
-impl<R: Records> Acceptor<R> {
-    ghost use Rattle.std.specs.Prelude.{max};
-    ghost use Rattle.acceptor.specs.Answers.{Prepares, Accepts, MayHavePromised, MayHaveVoted};
+/// The greatest of the ballots that a node tried, promised or voted in, and 0 where there is none.
+pub fn greatest_used<R: Records>(records: &mut R) -> Result<u64, RecordsFault>
+    ensures value { IsTrue (R.is_honest records.new) → IfOk result (λ b. (c : Content) → Holds (R.may_find records.old) c → b ≡ max c.tried (promised c)) }
+    ensures memory { IfErr result (λ e. e ≡ OutOfMemory → (mid : R) × R.finds_no_memory mid records.new) }
+    ensures kept { IsTrue (R.is_honest records.new) → Keeps result (R.may_find records.old) (R.may_find records.new) }
+    ensures honest { IsTrue (R.is_honest records.new) → IsTrue (R.is_honest records.old) }
+    ensures count { CountsFaults result (R.count_of records.old) (R.count_of records.new) }
+    ensures broken { BreaksBy result (R.is_broken records.old) (R.is_broken records.new) }
+{
+    let tried = records.tried()?;
+    let promised = records.promised()?;
+    Ok(number(tried).max(number(promised)))
+}
 
-    /// The greatest of the ballots that it tried, promised or voted in, and 0 where there is none.
-    pub fn greatest_used(&mut self) -> Result<u64, RecordsFault>
-        ensures value { IsTrue (R.is_honest self.new.records) → IfOk result (λ b. (c : Content) → Holds (R.may_find self.old.records) c → b ≡ max c.tried (promised c)) }
-        ensures kept { IsTrue (R.is_honest self.new.records) → Keeps result (R.may_find self.old.records) (R.may_find self.new.records) }
-        ensures honest { IsTrue (R.is_honest self.new.records) → IsTrue (R.is_honest self.old.records) }
-        ensures count { CountsFaults result (R.count_of self.old.records) (R.count_of self.new.records) }
-    {
-        let tried = self.records.tried()?;
-        let promised = self.records.promised()?;
-        Ok(number(tried).max(number(promised)))
-    }
+impl<R: Records> Acceptor<R> {
+    ghost use Rattle.acceptor.specs.Answers.{Prepares, Accepts, MayHavePromised, MayHaveVoted};
 
     /// Promises to take part in no lower ballot, where the ballot is above the promise. The promise is written before it is answered.
     pub fn prepare(&mut self, ballot: Ballot, place: Place) -> Result<Prepared, RecordsFault>
@@ -105,6 +107,7 @@ impl<R: Records> Acceptor<R> {
         ensures doubt { IsTrue (R.is_honest self.new.records) → OnErr result ((c : Content) → Holds (R.may_find self.old.records) c → MayHavePromised c ballot (R.may_find self.new.records)) }
         ensures honest { IsTrue (R.is_honest self.new.records) → IsTrue (R.is_honest self.old.records) }
         ensures count { CountsFaults result (R.count_of self.old.records) (R.count_of self.new.records) }
+        ensures broken { BreaksBy result (R.is_broken self.old.records) (R.is_broken self.new.records) }
     {
         let promised = self.records.promised()?;
         if let Some(other) = at_least(promised, ballot) {
@@ -128,6 +131,7 @@ impl<R: Records> Acceptor<R> {
         ensures doubt { IsTrue (R.is_honest self.new.records) → OnErr result ((c : Content) → Holds (R.may_find self.old.records) c → MayHaveVoted c ballot place value (R.may_find self.new.records)) }
         ensures honest { IsTrue (R.is_honest self.new.records) → IsTrue (R.is_honest self.old.records) }
         ensures count { CountsFaults result (R.count_of self.old.records) (R.count_of self.new.records) }
+        ensures broken { BreaksBy result (R.is_broken self.old.records) (R.is_broken self.new.records) }
     {
         let promised = self.records.promised()?;
         if let Some(other) = above(promised, ballot) {
@@ -153,6 +157,7 @@ impl<R: Records> Acceptor<R> {
         ensures doubt { IsTrue (R.is_honest self.new.records) → MayHaveMade (R.may_find self.old.records) (R.may_find self.new.records) (Casts place record { ballot = ballot; value = value }) }
         ensures honest { IsTrue (R.is_honest self.new.records) → IsTrue (R.is_honest self.old.records) }
         ensures count { CountsFaults result (R.count_of self.old.records) (R.count_of self.new.records) }
+        ensures broken { BreaksBy result (R.is_broken self.old.records) (R.is_broken self.new.records) }
     {
         self.records.put_vote(place, ballot, &value)?;
         Ok(value.into_bytes())

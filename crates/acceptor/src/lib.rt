@@ -5,9 +5,6 @@ mod acceptor;
 mod plain;
 mod records;
 
-pub use acceptor::{Accepted, Acceptor, Prepared};
+pub use acceptor::{Accepted, Acceptor, Prepared, greatest_used};
 pub use plain::PlainRecords;
 pub use records::{Records, RecordsFault};
-
-#[cfg(test)]
-mod tests;

@@ -1,6 +1,6 @@
 //! Records in memory.
 
-ghost use Rattle.std.specs.Prelude.{◌≡◌, ℕ, max, List, Option, Some, None, IfOk, IfSome, IsTrue, OnOk, OnErr, ◌↔◌, true};
+ghost use Rattle.std.specs.Prelude.{◌≡◌, ℕ, max, List, Option, Some, None, IfOk, IfSome, IsTrue, OnOk, OnErr, ◌↔◌, true, false};
 ghost use Rattle.ballots.specs.Limits.{IsPlace};
 ghost use Rattle.ballots.specs.Rows.{at, put, rows_from};
 ghost use Rattle.ballots.specs.Ballots.{number_of};
@@ -166,6 +166,12 @@ impl Records for PlainRecords {
     ghost is_honest = { λ _. true };
 
     ghost count_of = { λ _. 0 };
+
+    ghost is_broken = { λ _. false };
+
+    ghost finds_no_memory = { λ _ _. Unit {0} };
+
+    ghost reopens = { λ old new. new ≡ old };
 
     fn failures(&self) -> u64 {
         0

@@ -1,4 +1,4 @@
-pub mod OneValue
-pub mod PutRows
-pub mod Quorums
-pub mod Safety
+pub mod Callers
+mod OneValue
+mod Quorums
+mod Safety

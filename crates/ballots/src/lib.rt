@@ -30,6 +30,3 @@ pub fn quorums_meet()
 pub fn agreement()
     ensures { Agreement }
 {}
-
-#[cfg(test)]
-mod tests;

@@ -11,7 +11,10 @@ use Rattle.acceptor.specs.Content.{Content, Write, promised, after_write, record
 use Rattle.ballots.specs.Rows.{at, rows_from}
 use Rattle.acceptor.specs.Content.Write.{Promises, Votes}
 use Rattle.proposer.specs.declared.role.Role.{Role}
-use Rattle.learner.specs.declared.Heard.{Heard}
+use Rattle.learner.specs.Tally.{IsVoteCounted}
+use Rattle.learner.proofs.Callers.{counted_less}
+use Rattle.std.specs.BTreeMap.{is_at}
+use Rattle.std.specs.Ordering.{nat_cmp}
 use Rattle.node.specs.View.{View, Standing}
 use Rattle.node.specs.View.Standing.{Running}
 use Rattle.node.specs.Step.{nothing, sends, writes, letter, to_all, known_letters, prepare, vote_at, accept}
@@ -131,7 +134,7 @@ module _ (members : ℕ) (h : List Entry) (sent : List Letter) (states : List St
       (λ no. vote_at_sound b p v (at view.content.votes p) refl (ltb-false b (promised view.content) no) proposed)
 
   -- a view that differs in what it counted and learned
-  pub learns_sound : (new : View) → new.content ≡ view.content → new.role ≡ view.role → ((x : Heard) → IsIn new.tally.counted x → IsIn h (Vote x.node x.ballot x.place x.value)) → ((p : ℕ) (v : List ℕ) → IsIn new.tally.learned (p, v) → IsChosen members h p v)
+  pub learns_sound : (new : View) → new.content ≡ view.content → new.role ≡ view.role → ((n b q : ℕ) (w : List ℕ) → IsVoteCounted new.tally.counted n b q w → IsIn h (Vote n b q w)) → ((p : ℕ) (v : List ℕ) → IsIn new.tally.learned (p, v) → IsChosen members h p v)
       → Sound members h sent k view (nothing new)
   learns_sound new content role counted learned = record {
     write = tt;
@@ -145,7 +148,7 @@ module _ (members : ℕ) (h : List Entry) (sent : List Letter) (states : List St
   }
 
   pub learn_sound : (p : ℕ) (v : List ℕ) → IsChosen members h p v → Sound members h sent k view (nothing (record view { tally = learn view.tally p v }))
-  learn_sound p v chosen = learns_sound (record view { tally = learn view.tally p v }) refl refl (λ x there. was.counted x (in_filter (λ heard. not (heard.place == p)) view.tally.counted x there).0) (λ q w there. by_row q w (in_put view.tally.learned p v q w there))
+  learn_sound p v chosen = learns_sound (record view { tally = learn view.tally p v }) refl refl (λ n b q w there. was.counted n b q w (counted_less (is_at (nat_cmp p)) view.tally.counted n b q w there)) (λ q w there. by_row q w (in_put view.tally.learned p v q w there))
     where
       by_row : (q : ℕ) (w : List ℕ) → ((q ≡ p) × (w ≡ v)) ⊎ IsIn view.tally.learned (q, w) → IsChosen members h q w
       by_row q w (inl is) = subst (λ (x : List ℕ). IsChosen members h q x) (sym is.1) (subst (λ (r : ℕ). IsChosen members h r v) (sym is.0) chosen)

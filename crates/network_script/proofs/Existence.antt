@@ -5,7 +5,7 @@ use Rattle.std.proofs.lemmas.Slice.Eq.{bytes_eq-Decides}
 use Rattle.std.specs.List.{list_any}
 use Rattle.ballots.specs.Voting.{Entry, IsIn, IsChosen, count_below}
 use Rattle.ballots.specs.Voting.Entry.{Promised, Vote}
-use Rattle.ballots.proofs.Quorums.{quorums_meet}
+use Rattle.ballots.proofs.Callers.{quorums_meet}
 use Rattle.network_script.specs.Headline.{IsSchedule}
 use Rattle.learner.specs.Tally.{is_majority}
 use Rattle.network_script.proofs.Lists.{any_in}

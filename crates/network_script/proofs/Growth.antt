@@ -7,7 +7,7 @@ use Rattle.ballots.specs.declared.letters.Letter.{Letter}
 use Rattle.ballots.specs.declared.letters.Note.TheVariants.{Prepare, Promise, Accept, Voted, Higher, Known}
 use Rattle.ballots.specs.Voting.{Entry, node_of, IsIn, Quorum, IsOf, NoneBelow, HighestBelow, IsSafe, IsChosen, MayFollow}
 use Rattle.ballots.specs.Voting.Entry.{Promised, Vote}
-use Rattle.ballots.proofs.Safety.{old_vote}
+use Rattle.ballots.proofs.Callers.{old_vote}
 use Rattle.acceptor.specs.Content.{Content, Write}
 use Rattle.acceptor.specs.Content.Write.{Tries, Promises, Votes}
 use Rattle.proposer.specs.declared.role.Role.{Role}
@@ -106,7 +106,7 @@ module _ (members k : ℕ) (old new : List Entry) (grows : Grows k old new) wher
     content = content_grows j view.content other ok.content;
     own = λ b p v is node. ok.own b p v (mine b p v is node) node;
     role = role_grows j view.content.tried view.role ok.role;
-    counted = λ x here. grows.keeps (Vote x.node x.ballot x.place x.value) (ok.counted x here);
+    counted = λ n b p v here. grows.keeps (Vote n b p v) (ok.counted n b p v here);
     learned = λ p v here. chosen_grows p v (ok.learned p v here);
   }
   node_grows sent more j (Stopped c doubt) other mine ok = record {

@@ -12,7 +12,7 @@ use Rattle.acceptor.specs.Content.{Content, Write, promised}
 use Rattle.ballots.specs.Rows.{at}
 use Rattle.acceptor.specs.Content.Write.{Tries, Promises, Votes}
 use Rattle.proposer.specs.declared.role.Role.{Role}
-use Rattle.learner.specs.declared.Heard.{Heard}
+use Rattle.learner.specs.Tally.{IsVoteCounted}
 use Rattle.node.specs.View.{View, Standing}
 use Rattle.proposer.specs.declared.role.Role.TheVariants.{Idle, Preparing, Leading}
 use Rattle.node.specs.View.Standing.{Running, Stopped}
@@ -81,7 +81,7 @@ pub record UpOk (members : ℕ) (h : List Entry) (sent : List Letter) (k : ℕ) 
   pub content : ContentOk h k view.content
   pub own : OwnOk sent k view.content.tried view.role
   pub role : RoleOk members h k view.content.tried view.role
-  pub counted : (x : Heard) → IsIn view.tally.counted x → IsIn h (Vote x.node x.ballot x.place x.value)
+  pub counted : (n b p : ℕ) (v : List ℕ) → IsVoteCounted view.tally.counted n b p v → IsIn h (Vote n b p v)
   pub learned : (p : ℕ) (v : List ℕ) → IsIn view.tally.learned (p, v) → IsChosen members h p v
 
 -- a node that is down

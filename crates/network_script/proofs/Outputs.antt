@@ -3,7 +3,7 @@ use Rattle.std.proofs.Common.{◌≡◌, ◌⊎◌, inl, inr, ⊎_elim, ℕ, zer
 use Rattle.std.proofs.lemmas.Bool.{eqb-true}
 use Rattle.std.proofs.lemmas.Option.{slice_get_within}
 use Rattle.ballots.specs.Voting.{Entry, IsIn, IsLegal, IsChosen}
-use Rattle.ballots.proofs.OneValue.{agreement}
+use Rattle.ballots.proofs.Callers.{agreement}
 use Rattle.acceptor.specs.Content.{Write, record_write}
 use Rattle.acceptor.specs.Content.Write.{Tries, Promises, Votes}
 use Rattle.grant_machine.specs.declared.output.Output.{Output}

@@ -58,7 +58,7 @@ opening_fine members ids = record {
       content = record { bound = λ e here node. absurd here; kept = λ p cast here. absurd here; last = λ b p v vote. absurd vote };
       own = λ b p v is node. absurd is.1;
       role = tt;
-      counted = λ x here. absurd here;
+      counted = λ n b p v here. absurd here.1;
       learned = λ p v here. absurd here;
     };
   };

@@ -7,7 +7,7 @@ use Rattle.ballots.specs.Voting.{Entry, IsIn, IsChosen}
 use Rattle.ballots.specs.Voting.Entry.{Vote}
 use Rattle.acceptor.specs.Content.{Content, Write, after_write, record_write}
 use Rattle.proposer.specs.declared.role.Role.{Role}
-use Rattle.learner.specs.declared.Heard.{Heard}
+use Rattle.learner.specs.Tally.{IsVoteCounted}
 use Rattle.node.specs.View.{View, Standing, started}
 use Rattle.node.specs.View.Standing.{Running, Stopped}
 use Rattle.node.specs.Step.{Outcome}
@@ -23,7 +23,7 @@ pub record Sound (members : ℕ) (h : List Entry) (sent : List Letter) (k : ℕ)
   pub letters : NewLetters members (record_write k o.write h) sent o.letters k
   pub role : RoleOk members h k o.view.content.tried o.view.role
   pub own : OwnOk (sent ++ o.letters) k o.view.content.tried o.view.role
-  pub counted : (x : Heard) → IsIn o.view.tally.counted x → IsIn h (Vote x.node x.ballot x.place x.value)
+  pub counted : (n b p : ℕ) (v : List ℕ) → IsVoteCounted o.view.tally.counted n b p v → IsIn h (Vote n b p v)
   pub learned : (p : ℕ) (v : List ℕ) → IsIn o.view.tally.learned (p, v) → IsChosen members h p v
 
 -- a letter that proposes nothing
@@ -61,7 +61,7 @@ module _ (members : ℕ) (h : List Entry) (sent : List Letter) (states : List St
     content = subst (λ (c : Content). ContentOk (record_write k o.write h) k c) (sym sound.content) (write_content members h sent states k view.content inv was.content o.write sound.write);
     own = sound.own;
     role = role_grows members k h (record_write k o.write h) grows k o.view.content.tried o.view.role sound.role;
-    counted = λ x there. grows.keeps (Vote x.node x.ballot x.place x.value) (sound.counted x there);
+    counted = λ n b p v there. grows.keeps (Vote n b p v) (sound.counted n b p v there);
     learned = λ p v there. chosen_grows members k h (record_write k o.write h) grows p v (sound.learned p v there);
   }
     where
@@ -94,6 +94,6 @@ restarted_kept members h sent states k c doubt w inv here fine =
       content = write_content members h sent states k c inv ok.content w fine;
       own = λ b p v is node. (let le : b ≤ c.tried = (ok.own b p v is node).0 in omega (arith, write_tried sent c w fine), tt);
       role = tt;
-      counted = λ x there. absurd there;
+      counted = λ n b p v there. absurd there.1;
       learned = λ p v there. absurd there;
     }

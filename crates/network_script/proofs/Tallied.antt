@@ -1,5 +1,5 @@
 -- The counts of failures, at the seats.
-use Rattle.std.proofs.Common.{◌≡◌, ◌<◌, ◌≤◌, ◌+◌, ◌++◌, ℕ, zero, suc, List, [], ◌∷◌, Some, Result, Ok, Err, true, false, map, length, take, get_or, slice_get, slice_set, refl, ap, subst, Vec}
+use Rattle.std.proofs.Common.{◌≡◌, ◌<◌, ◌≤◌, ◌+◌, ◌++◌, ℕ, zero, suc, List, [], ◌∷◌, Some, Result, Ok, Err, true, false, map, length, take, get_or, slice_get, slice_set, refl, ap, subst, Vec, ⊎_elim, sym, ◌∙◌}
 use Rattle.std.proofs.lemmas.List.{map-set, map-append, take_more}
 use Rattle.std.specs.declared.alloc.Global.{Global}
 use Rattle.node.specs.declared.node.Node.{Ghosts}
@@ -27,8 +27,8 @@ false_true e = cc
 
 -- a fault of the store of a node that was up comes only where its count rose
 err_rose : (T : Type 0) (old new : Who) (fault : NodeFault) → old.down ≡ false → Kept {T = T} old (Err fault) new → is_store_fault (Fault fault) ≡ true → HasRisen old.failures new.failures
-err_rose T old new StoreRefused up kept loud = kept.3 tt
-err_rose T old new Down up kept loud = kept.3 up
+err_rose T old new StoreRefused up kept loud = kept.3.0
+err_rose T old new Down up kept loud = ⊎_elim (λ failed. failed.0) (λ was. absurd (false_true (sym up ∙ was.0))) kept.3
 err_rose T old new NotLeading up kept loud = absurd (false_true loud)
 err_rose T old new LogFull up kept loud = absurd (false_true loud)
 err_rose T old new RoundsSpent up kept loud = absurd (false_true loud)
@@ -37,8 +37,8 @@ err_rose T old new OutOfMemory up kept loud = absurd (false_true loud)
 
 -- and one of a restart
 pub restart_rose : (T : Type 0) (old new : Who) (fault : NodeFault) → KeptByRestart {T = T} old (Err fault) new → is_store_fault (Fault fault) ≡ true → HasRisen old.failures new.failures
-restart_rose T old new StoreRefused kept loud = kept.3 tt
-restart_rose T old new Down kept loud = kept.3 refl
+restart_rose T old new StoreRefused kept loud = kept.3.0
+restart_rose T old new Down kept loud = kept.3.0
 restart_rose T old new NotLeading kept loud = absurd (false_true loud)
 restart_rose T old new LogFull kept loud = absurd (false_true loud)
 restart_rose T old new RoundsSpent kept loud = absurd (false_true loud)

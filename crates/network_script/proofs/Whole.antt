@@ -1,5 +1,5 @@
 -- The headline, from its parts.
-use Rattle.ballots.proofs.OneValue.{agreement}
+use Rattle.ballots.proofs.Callers.{agreement}
 use Rattle.command_log.specs.Values.{Owner}
 use Rattle.grant_machine.proofs.Callers.{maps_are_disjoint}
 use Rattle.grant_machine.proofs.Callers as schedules

@@ -31,7 +31,7 @@ none_first {N} who honest stands members nodes none =
     subst (λ (ns : List N). AreFirst who honest stands members 0 ns) (sym none) record { fresh = All-nil F; up = All-nil U; count = refl; numbered = refl }
 
 -- one more
-pub more_first : {N : Type 0} (who : N → Who) (honest : N → Bool) (stands : N → Standing → Type 0) (members n id : ℕ) (nodes more : List N) (node : N) → AreFirst who honest stands members n nodes → id ≡ n → who node ≡ record { id = id; members = members; failures = 0; down = false } → (IsTrue (honest node) → stands node (Running (started no_content))) → more ≡ nodes ++ node ∷ [] → AreFirst who honest stands members (n + 1) more
+pub more_first : {N : Type 0} (who : N → Who) (honest : N → Bool) (stands : N → Standing → Type 0) (members n id : ℕ) (nodes more : List N) (node : N) → AreFirst who honest stands members n nodes → id ≡ n → who node ≡ record { id = id; members = members; failures = 0; broken = false; down = false } → (IsTrue (honest node) → stands node (Running (started no_content))) → more ≡ nodes ++ node ∷ [] → AreFirst who honest stands members (n + 1) more
 more_first {N} who honest stands members n id nodes more node are is_n is at_start pushed =
     let F = λ (x : N). IsTrue (honest x) → stands x (Running (started no_content)) in
     let U = λ (x : N). (who x).down ≡ false in

@@ -20,7 +20,7 @@ pub type PlainNode = SchedNode<PlainRecords>;
 /// A fresh node, with a member's number.
 fn plain_node(alloc: Global, number: u8, members: Members) -> PlainNode
     requires { number < member_count members }
-    ensures who { ⟦<SchedNode<PlainRecords> as Node>⟧.who result ≡ record { id = number; members = member_count members; failures = 0; down = false } }
+    ensures who { ⟦<SchedNode<PlainRecords> as Node>⟧.who result ≡ record { id = number; members = member_count members; failures = 0; broken = false; down = false } }
     ensures honest { IsTrue (⟦<SchedNode<PlainRecords> as Node>⟧.honest result) }
     ensures fresh { ⟦<SchedNode<PlainRecords> as Node>⟧.stands result (Running (started no_content)) }
 {

@@ -4,6 +4,7 @@ use Rattle.ballots.specs.declared.letters.Letter.{Letter}
 use Rattle.acceptor.specs.Content.{Content, after_write}
 use Rattle.acceptor.specs.Found.{Findable, Holds, HoldsEither, AddsNothing, FindsSame}
 use Rattle.acceptor.specs.Faults.{IsHarmless}
+pub use Rattle.acceptor.proofs.Callers.{still_holds}
 use Rattle.acceptor.specs.declared.acceptor.Acceptor.{Acceptor}
 use Rattle.acceptor.specs.declared.records.RecordsFault.{RecordsFault}
 use Rattle.acceptor.specs.declared.records.RecordsFault.TheVariants.{Refused, Broken, OutOfMemory}
@@ -21,10 +22,6 @@ use Rattle.node.specs.declared.parts.Parts.{Parts}
 
 pub either_same : (found : Content → Type 0) (c : Content) → Holds found c → HoldsEither found c c
 either_same found c h d is = inl (h.1 d is)
-
--- the same content is held where the same may be found
-pub still_holds : (old new : Findable) (c : Content) → FindsSame old new → Holds old c → Holds new c
-still_holds old new c same holds = ((same c).0 holds.0, λ d found. holds.1 d ((same d).1 found))
 
 module _ {R : Type 0} (may_find : R → Content → Type 0) (old : Parts R) (up : old.is_down ≡ false) (content : Content) (holds : Holds (may_find old.acceptor.records) content) (IsCourse : Result Outcome Fault → Type 0) where
   -- the call ends so

@@ -1,6 +1,9 @@
 -- Whether a node is fresh.
-use Rattle.std.proofs.Common.{◌≡◌, inl, ◌↔◌, ℕ, ◌+◌, ◌≤◌, max, Bool, true, false, IsTrue, cond, List, [], ◌∷◌, refl, sym, ap, subst, ◌∙◌, arith, rules, Ok, Err, None}
+use Rattle.std.proofs.Common.{length, ◌≡◌, inl, ◌↔◌, ℕ, ◌+◌, ◌≤◌, max, Bool, true, false, IsTrue, cond, List, [], ◌∷◌, refl, sym, ap, subst, ◌∙◌, arith, rules, Result, Ok, Err, IfOk, None}
 use Rattle.std.proofs.lemmas.Bool.{le-leb}
+use Rattle.std.proofs.lemmas.List.{nil_from_length}
+use Rattle.std.proofs.Math.Logic.{∥∥₁_elim, ∥∥₁_prop}
+use Rattle.std.proofs.Math.Nat.{ℕ_set}
 use Rattle.ballots.specs.Rows.{rows_from}
 use Rattle.ballots.specs.declared.letters.Cast.{Cast}
 use Rattle.acceptor.specs.Content.{Content, IsSound, AreRowsFrom, no_content, promised, greatest}
@@ -11,7 +14,7 @@ use Rattle.acceptor.specs.declared.acceptor.Acceptor.{Acceptor}
 use Rattle.proposer.specs.declared.fault.NodeFault.{NodeFault as Fault}
 use Rattle.node.specs.View.{View, Standing, started}
 use Rattle.node.specs.View.Standing.{Running, Stopped}
-use Rattle.node.specs.Calls.{TellsFresh}
+use Rattle.node.specs.Calls.{TellsFresh, down_after}
 use Rattle.node.specs.Learned.{Learned}
 use Rattle.node.specs.Sched.{Stands, Fails, IsUntouched, view_over}
 use Rattle.node.specs.declared.parts.Parts.{Parts}
@@ -77,9 +80,39 @@ module _ {R : Type 0} (may_find : R → Content → Type 0) (old : Parts R) (up 
 pub same_found : (found : Findable) → FindsSame found found
 same_found found d = (λ is. is, λ is. is)
 
-pub both_same : (old mid new : Findable) → FindsSame old mid → FindsSame mid new → FindsSame old new
-both_same old mid new first next d = (λ is. (next d).0 ((first d).0 is), λ is. (first d).1 ((next d).1 is))
-
 -- it isn't fresh
 pub no_tell : (P : Type 0) → (P → ⊥) → IsTrue false ↔ P
 no_tell P none = (λ no. absurd (search rules), λ is. absurd (none is))
+
+-- a node that told that it is fresh stands as one that starts over nothing
+module _ {R : Type 0} (may_find : R → Content → Type 0) (old new : Parts R) (somewhere : ∥ ((s : Standing) × Stands may_find old s) ∥₁)
+    (done : (s : Standing) → Stands may_find old s → (t : Standing) × TellsFresh s (Ok true) t × Stands may_find new t) where
+  it_holds : (s : Standing) × Stands may_find old s → Holds (may_find new.acceptor.records) no_content
+  it_holds (Running view, stands) =
+      let told = done (Running view) stands in
+      let empty : view.content ≡ no_content = ap (λ (v : View). v.content) (told.1.0.0 (search rules)) in
+      let after : Stands may_find new (Running view) = subst (Stands may_find new) told.1.1 told.2 in
+      subst (Holds (may_find new.acceptor.records)) empty after.2
+  it_holds (Stopped c doubt, stands) = let told = done (Stopped c doubt) stands in absurd (cc (told.1.0))
+
+  is_empty : (d : Content) → (Holds (may_find new.acceptor.records) no_content → d ≡ no_content) → d ≡ no_content
+  is_empty d same =
+      let tried : d.tried ≡ 0 = ∥∥₁_elim somewhere (ℕ_set d.tried 0) (λ s. ap (λ (c : Content). c.tried) (same (it_holds s))) in
+      let row : d.row ≡ 0 = ∥∥₁_elim somewhere (ℕ_set d.row 0) (λ s. ap (λ (c : Content). c.row) (same (it_holds s))) in
+      let count : length d.votes ≡ 0 = ∥∥₁_elim somewhere (ℕ_set (length d.votes) 0) (λ s. ap (λ (c : Content). length c.votes) (same (it_holds s))) in
+      let votes : d.votes ≡ [] = nil_from_length d.votes count in
+      (λ i. record { tried = tried i; row = row i; votes = votes i })
+
+  pub stands_fresh : new.is_down ≡ false → IsUntouched new → Stands may_find new (Running (started no_content))
+  stands_fresh up untouched = (
+    up,
+    (λ i. record { content = no_content; role = sym untouched.0 i; hint = sym untouched.1 i; tally = ap (λ (l : Learned). l.tally) (sym untouched.2) i; cursor = ap (λ (l : Learned). l.cursor) (sym untouched.2) i }),
+    (∥∥₁_elim somewhere ∥∥₁_prop (λ s. (it_holds s).0), λ d found. is_empty d (λ holds. holds.1 d found)),
+  )
+
+pub fresh_if_ok : {R : Type 0} (may_find : R → Content → Type 0) (old new : Parts R) → old.is_down ≡ false → (result : Result Bool Fault) → ∥ ((s : Standing) × Stands may_find old s) ∥₁
+    → ((s : Standing) → Stands may_find old s → (t : Standing) × TellsFresh s result t × Stands may_find new t) → new.is_down ≡ down_after result old.is_down → IfOk result (λ fresh. IsTrue fresh → IsUntouched new)
+    → IfOk result (λ fresh. IsTrue fresh → Stands may_find new (Running (started no_content)))
+fresh_if_ok may_find old new up (Ok true) somewhere done down untouched = λ is. stands_fresh may_find old new somewhere done (down ∙ up) (untouched is)
+fresh_if_ok may_find old new up (Ok false) somewhere done down untouched = λ is. absurd (search rules)
+fresh_if_ok may_find old new up (Err fault) somewhere done down untouched = tt

@@ -1,7 +1,7 @@
 -- What a node has learned after one more vote or Known.
 use Rattle.std.proofs.Common.{◌≡◌, ◌⊎◌, inl, inr, ℕ, ◌≤◌, Bool, true, false, cond, List, Option, Some, None, refl, sym, ap, subst, ◌∙◌}
 use Rattle.ballots.specs.Rows.{at, put}
-use Rattle.learner.specs.Tally.{Tally, known, voted, learn, count_vote, is_majority, voters}
+use Rattle.learner.specs.Tally.{Tally, known, voted, learn, put_voters, with_voter, is_majority, is_voter}
 use Rattle.command_log.specs.Values.{Rows, outputs_of_values, gapless, values_from}
 use Rattle.command_log.specs.View.{AreRows, IsLog, LogView, last_place}
 use Rattle.command_log.proofs.Callers.{are_rows_put, outputs_first}
@@ -20,9 +20,9 @@ known_one tally (Some w) p v some = inl refl
 
 voted_one : (members : ℕ) (tally : Tally) (o : Option (List ℕ)) (b p : ℕ) (v : List ℕ) (n : ℕ) → at tally.learned p ≡ o → LearnsOne tally (voted members tally o b p v n).learned p v
 voted_one members tally (Some w) b p v n some = inl refl
-voted_one members tally None b p v n none = by_test (is_majority members (voters (count_vote tally.counted n b p v) b p v))
+voted_one members tally None b p v n none = by_test (is_majority members (is_voter (with_voter tally.counted n b p v)))
   where
-    by_test : (x : Bool) → LearnsOne tally (cond x (learn tally p v) record { counted = count_vote tally.counted n b p v; learned = tally.learned }).learned p v
+    by_test : (x : Bool) → LearnsOne tally (cond x (learn tally p v) record { counted = put_voters tally.counted b p v (with_voter tally.counted n b p v); learned = tally.learned }).learned p v
     by_test true = inr (none, refl)
     by_test false = inl refl
 

@@ -1,5 +1,6 @@
 -- A node that is asked to lead.
-use Rattle.std.proofs.Common.{◌≡◌, ◌⊎◌, inl, inr, ℕ, Bool, IsTrue, ◌+◌, ◌≤◌, ◌<◌, length, List, refl, sym, ap, subst, ◌∙◌, Result, Ok, Err, Some, None, true, false}
+use Rattle.std.proofs.Common.{IfErr, Vec, ◌≡◌, ◌⊎◌, inl, inr, ℕ, Bool, IsTrue, ◌+◌, ◌≤◌, ◌<◌, length, List, refl, sym, ap, subst, ◌∙◌, Result, Ok, Err, Some, None, true, false}
+use Rattle.std.specs.declared.alloc.Global.{Global}
 use Rattle.ballots.specs.Members.{member_count}
 use Rattle.ballots.specs.Ballots.{IsLeastAbove}
 use Rattle.ballots.specs.declared.letters.Letter.{Letter}
@@ -81,3 +82,14 @@ module _ {R : Type 0} (may_find : R → Content → Type 0) (old : Parts R) (up 
       let o = lead_with members me view b in
       let same : o.view ≡ view_over new now = (λ i. record (view_over new now) { role = (turned i).role; hint = hint i }) in
       (Running o.view, (o, leads_so b below (next content holds), sym (ap (λ (t : Turn). t.letters) turned), refl), subst (λ v. Stands may_find new (Running v)) (sym same) (up, refl, made content holds))
+
+-- where want of memory comes from, in each view that the node stands for
+pub memory_in_each : {R : Type 0} (may_find : R → Content → Type 0) (n : Parts R) (Lacks : Type 0) (result : Result (Vec Letter Global) Fault)
+    → IfErr result (λ fault. fault ≡ Fault.OutOfMemory → Lacks ⊎ ((b : ℕ) × IsNextBallot (may_find n.acceptor.records) n.proposer.hint n.proposer.id b))
+    → (view : View) → Stands may_find n (Running view) → IfErr result (λ fault. fault ≡ Fault.OutOfMemory → Lacks ⊎ ((b : ℕ) × IsLeastAbove (limit view) n.proposer.id b))
+memory_in_each may_find n Lacks (Ok letters) memory view stands = tt
+memory_in_each may_find n Lacks (Err fault) memory view stands = λ is. by_case (memory is)
+  where
+    by_case : Lacks ⊎ ((b : ℕ) × IsNextBallot (may_find n.acceptor.records) n.proposer.hint n.proposer.id b) → Lacks ⊎ ((b : ℕ) × IsLeastAbove (limit view) n.proposer.id b)
+    by_case (inl lacks) = inl lacks
+    by_case (inr next) = inr (next.0, subst (λ (v : View). IsLeastAbove (limit v) n.proposer.id next.0) (sym stands.1) (next.1 view.content stands.2))

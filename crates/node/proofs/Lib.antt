@@ -10,3 +10,4 @@ pub mod Prefixes
 pub mod Knowing
 pub mod Releasing
 pub mod Orders
+pub mod Telling

@@ -1,5 +1,5 @@
 -- An offer is the case of the node's table.
-use Rattle.std.proofs.Common.{◌≡◌, ◌⊎◌, inl, inr, List, ℕ, refl, sym, ap, subst, ◌∙◌, Result, Ok, Err, Vec, IfOk, IfErr, OnErr, IsTrue, is_ok, false}
+use Rattle.std.proofs.Common.{◌≡◌, ◌⊎◌, inl, inr, List, ℕ, refl, sym, ap, subst, ◌∙◌, Result, Ok, Err, Vec, IfOk, IfErr, OnErr, IsTrue, is_ok, false, rules}
 use Rattle.std.specs.declared.alloc.Global.{Global}
 use Rattle.ballots.specs.Members.{member_count}
 use Rattle.ballots.specs.declared.letters.Letter.{Letter}
@@ -12,7 +12,8 @@ use Rattle.proposer.specs.declared.proposer.Proposer.{Proposer}
 use Rattle.node.specs.View.{View}
 use Rattle.node.specs.View.Standing.{Running}
 use Rattle.node.specs.Step.{offer, Outcome}
-use Rattle.node.specs.Calls.{Ends, answer}
+use Rattle.proposer.specs.declared.role.Role.{Role}
+use Rattle.node.specs.Calls.{Ends, TakesTurn, answer}
 use Rattle.node.specs.Sched.{view_over}
 use Rattle.node.specs.declared.parts.Parts.{Parts}
 use Rattle.node.proofs.Endings.{EndsSo, turns}
@@ -57,3 +58,13 @@ module _ {R : Type 0} (may_find : R → Content → Type 0) (old : Parts R) (up 
   offer_ends (Err fault) ok (inl is) unchanged = subst (λ (p : Proposer). EndsSo may_find old up content holds IsCourse (Err fault) record old { proposer = p }) (sym unchanged) (Running view, declines fault is, (up, refl, holds))
   offer_ends (Err fault) ok (inr wants) unchanged =
       subst (λ f. EndsSo may_find old up content holds IsCourse (Err f) later) (sym wants.0) (subst (λ (p : Proposer). EndsSo may_find old up content holds IsCourse (Err Fault.OutOfMemory) record old { proposer = p }) (sym unchanged) (Running view, refl, (up, refl, holds)))
+
+-- an offer takes the proposer's turn
+pub takes_turn : (t : Result Turn Fault) (role : Role) (result : Result (Vec Letter Global) Fault) → IfOk result (λ letters. t ≡ Ok record { role = role; letters = letters.items })
+    → IfErr result (λ fault. (t ≡ Err fault) ⊎ ((fault ≡ Fault.OutOfMemory) × IsTrue (is_ok t))) → TakesTurn t (answer result)
+takes_turn (Ok turn) role (Ok letters) ok declined = cc (ok)
+takes_turn (Ok turn) role (Err fault) ok (inl is) = absurd (cc (is))
+takes_turn (Ok turn) role (Err fault) ok (inr wants) = wants.0
+takes_turn (Err other) role (Ok letters) ok declined = absurd (cc (ok))
+takes_turn (Err other) role (Err fault) ok (inl is) = cc (is)
+takes_turn (Err other) role (Err fault) ok (inr wants) = absurd (search rules)

@@ -1,20 +1,22 @@
 -- How the calls of a node end.
-use Rattle.std.specs.Prelude.{◌≡◌, ◌⊎◌, ◌↔◌, ℕ, ◌≤◌, Bool, true, false, IsTrue, List, None, Result, Ok, Err, is_ok, Vec, IfErr, ◌<◌, length}
+use Rattle.std.specs.Prelude.{◌≡◌, ◌⊎◌, ◌↔◌, ℕ, ◌≤◌, Bool, true, false, IsTrue, List, None, Result, Ok, Err, is_ok, Vec, ◌<◌, length}
 use Rattle.std.specs.declared.alloc.Global.{Global}
 use Rattle.ballots.specs.declared.letters.Letter.{Letter}
 use Rattle.acceptor.specs.Content.{no_content, after_write}
 use Rattle.acceptor.specs.Faults.{HasRisen}
 use Rattle.node.specs.View.{View, Standing, started, gapless}
 use Rattle.node.specs.View.Standing.{Running, Stopped}
+use Rattle.proposer.specs.Turns.{Turn}
 use Rattle.proposer.specs.declared.fault.NodeFault.{NodeFault as Fault}
 use Rattle.proposer.specs.declared.fault.NodeFault.TheVariants.{OutOfMemory, StoreRefused, Down}
 use Rattle.node.specs.Step.{Outcome, receive, offer, Leads, last_place}
 
--- a node by its number, the number of members, how often its store failed, and whether it waits for a restart
+-- a node by its number, the number of members, how often its store failed, whether that is broken, and whether the node waits for a restart
 pub record Who : Type 0 where
   pub id : ℕ
   pub members : ℕ
   pub failures : ℕ
+  pub broken : Bool
   pub down : Bool
 
 -- what a node is asked
@@ -85,11 +87,26 @@ TellsFresh (Running view) (Ok fresh) new = (IsTrue fresh ↔ (view ≡ started n
 TellsFresh (Running view) (Err fault) new = StoreFails view fault new
 TellsFresh (Stopped c doubt) result new = (result ≡ Err Down) × (new ≡ Stopped c doubt)
 
--- a fault that comes only where the store failed, of a node that was down or not
-abbrev pub NeedsCause : Bool → Fault → Type 0
-NeedsCause was_down StoreRefused = Unit {0}
-NeedsCause was_down Down = was_down ≡ false
-NeedsCause was_down other = ⊥
+-- the store failed in a call
+abbrev pub StoreFailed : Who → Who → Type 0
+StoreFailed old new = HasRisen old.failures new.failures
+
+-- the store didn't fail
+abbrev pub StoreServed : Who → Who → Type 0
+StoreServed old new = (new.failures ≡ old.failures) × (new.broken ≡ old.broken)
+
+-- StoreRefused comes exactly where the store failed and isn't broken, Down where it is broken now or where the node was down, and anything else where it didn't fail
+abbrev pub TellsStore : {T : Type 0} → Who → Result T Fault → Who → Type 0
+TellsStore old (Err StoreRefused) new = StoreFailed old new × (new.broken ≡ false)
+TellsStore old (Err Down) new = (StoreFailed old new × (new.broken ≡ true)) ⊎ ((old.down ≡ true) × StoreServed old new)
+TellsStore old other new = StoreServed old new
+
+-- the same of a restart, which mends a broken store where it is Ok
+abbrev pub TellsStoreOfRestart : {T : Type 0} → Who → Result T Fault → Who → Type 0
+TellsStoreOfRestart old (Ok _) new = (new.failures ≡ old.failures) × (new.broken ≡ false)
+TellsStoreOfRestart old (Err StoreRefused) new = StoreFailed old new × (new.broken ≡ old.broken)
+TellsStoreOfRestart old (Err Down) new = StoreFailed old new × (new.broken ≡ true)
+TellsStoreOfRestart old (Err other) new = StoreServed old new
 
 -- a node is down after the fault Down, and else as it was
 abbrev pub down_after : {T : Type 0} → Result T Fault → Bool → Bool
@@ -103,16 +120,20 @@ down_after_restart (Ok _) was = false
 down_after_restart (Err Down) was = true
 down_after_restart (Err other) was = was
 
--- what each call owes whatever its store does: who it is stays, and the store's faults come only where their count rose
+-- what each call owes whatever its store does: who it is stays, and its answer tells what the store did
 abbrev pub Kept : {T : Type 0} → Who → Result T Fault → Who → Type 0
 Kept old result new =
     (new.id ≡ old.id) × (new.members ≡ old.members) × (old.failures ≤ new.failures)
-    × IfErr result (λ fault. NeedsCause old.down fault → HasRisen old.failures new.failures)
-    × (new.down ≡ down_after result old.down)
+    × TellsStore old result new × (new.down ≡ down_after result old.down)
 
--- the same of a restart, which is Down only where its store broke
+-- the same of a restart
 abbrev pub KeptByRestart : {T : Type 0} → Who → Result T Fault → Who → Type 0
 KeptByRestart old result new =
     (new.id ≡ old.id) × (new.members ≡ old.members) × (old.failures ≤ new.failures)
-    × IfErr result (λ fault. NeedsCause false fault → HasRisen old.failures new.failures)
-    × (new.down ≡ down_after_restart result old.down)
+    × TellsStoreOfRestart old result new × (new.down ≡ down_after_restart result old.down)
+
+-- an offer to a node that is up is answered by its proposer's turn. Only want of memory comes beside what the turn says
+abbrev pub TakesTurn : Result Turn Fault → Result (List Letter) Fault → Type 0
+TakesTurn (Ok turn) (Ok letters) = letters ≡ turn.letters
+TakesTurn (Ok turn) (Err fault) = fault ≡ OutOfMemory
+TakesTurn (Err declined) result = result ≡ Err declined

@@ -1,13 +1,12 @@
 -- What a node's knowledge stands for, and what is always true of it.
-use Rattle.learner.specs.Kept.{tally}
 use Rattle.command_log.specs.View.{AreRows}
 use Rattle.node.specs.Learned.{Learned, IsPart}
 use Rattle.node.specs.declared.knowledge.Knowledge.TheInside.{Inside}
 
 abbrev pub learned_of : Inside → Learned
-learned_of k = record { tally = tally k.learner; cursor = k.release }
+learned_of k = record { tally = k.learner; cursor = k.release }
 
 -- values stand at places of the log, and the log has none but these
 pub record IsKept (k : Inside) : Type 0 where
-  pub rows : AreRows 1 k.learner.learned.entries
-  pub part : IsPart k.log.learned k.learner.learned.entries
+  pub rows : AreRows 1 k.learner.learned
+  pub part : IsPart k.log.learned k.learner.learned

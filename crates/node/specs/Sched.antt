@@ -1,5 +1,5 @@
 -- Where a node over its records stands.
-use Rattle.std.specs.Prelude.{◌≡◌, ℕ, true, false, Result, Vec}
+use Rattle.std.specs.Prelude.{◌≡◌, ℕ, Bool, true, false, Result, Vec}
 use Rattle.std.specs.declared.alloc.Global.{Global}
 use Rattle.ballots.specs.Members.{member_count}
 use Rattle.ballots.specs.declared.letters.Letter.{Letter}
@@ -20,8 +20,8 @@ use Rattle.acceptor.specs.declared.records.RecordsFault.TheVariants.{Refused, Br
 abbrev pub view_over : {R : Type 0} → Parts R → Content → View
 view_over n c = record { content = c; role = n.proposer.role; hint = n.proposer.hint; tally = n.knowledge.tally; cursor = n.knowledge.cursor }
 
-abbrev pub who_of : {R : Type 0} → (R → ℕ) → Parts R → Who
-who_of count_of n = record { id = n.proposer.id; members = member_count n.proposer.members; failures = count_of n.acceptor.records; down = n.is_down }
+abbrev pub who_of : {R : Type 0} → (R → ℕ) → (R → Bool) → Parts R → Who
+who_of count_of is_broken n = record { id = n.proposer.id; members = member_count n.proposer.members; failures = count_of n.acceptor.records; broken = is_broken n.acceptor.records; down = n.is_down }
 
 -- a node that is up stands for its view over what its records hold, and one that is down for contents of which they hold one
 abbrev pub Stands : {R : Type 0} → (R → Content → Type 0) → Parts R → Standing → Type 0

@@ -93,7 +93,7 @@ impl Knowledge {
     pub(crate) fn values(&self) -> &BTreeMap<u64, Bytes>
         ensures { result.now.entries ≡ self.now.tally.learned }
     {
-        &self.learner.learned
+        self.learner.values()
     }
 
     pub(crate) fn known(&mut self, place: Place, value: Bytes) -> Result<(), AllocError>
@@ -126,7 +126,7 @@ impl Knowledge {
         ensures ok { OnOk result (self.new ≡ record self.old { cursor = length (values_from 1 self.old.tally.learned) }) }
         ensures err { OnErr result (self.new ≡ self.old) }
     {
-        apply(&mut self.log, &self.learner.learned)?;
+        apply(&mut self.log, self.learner.values())?;
         self.release.next(alloc, &self.log, now)
     }
 }

@@ -11,6 +11,3 @@ mod sched;
 pub use node::Node;
 pub use proposer::NodeFault;
 pub use sched::SchedNode;
-
-#[cfg(test)]
-mod tests;

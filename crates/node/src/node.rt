@@ -1,11 +1,16 @@
 //! A node, by what its calls do.
 
-ghost use Rattle.std.specs.Prelude.{◌≡◌, ℕ, Bool, IsTrue, List, Option, option_copied};
+ghost use Rattle.std.specs.Prelude.{◌≡◌, ◌⊎◌, ℕ, Bool, false, IfErr, IfOk, IsTrue, List, OnOk, Option, option_copied};
+ghost use Rattle.acceptor.specs.Content.{no_content};
+ghost use Rattle.ballots.specs.Ballots.{IsLeastAbove};
 ghost use Rattle.ballots.specs.Members.{member_count};
 ghost use Rattle.ballots.specs.Rows.{at};
-ghost use Rattle.node.specs.View.{View, Standing};
+ghost use Rattle.proposer.specs.Turns.{offer};
+ghost use Rattle.proposer.specs.declared.role.Role.{Role};
+ghost use Rattle.node.specs.Step.{limit};
+ghost use Rattle.node.specs.View.{View, Standing, started};
 ghost use Rattle.node.specs.View.Standing.{Running};
-ghost use Rattle.node.specs.Calls.{Who, Called, Kept, KeptByRestart, Restarts, StopsLast, TellsFresh, answer};
+ghost use Rattle.node.specs.Calls.{Who, Called, Kept, KeptByRestart, Restarts, StopsLast, TakesTurn, TellsFresh, answer};
 ghost use Rattle.node.specs.Releases.{Releases, outputs};
 ghost use Rattle.node.specs.Calls.Cause.{Receive, Lead, Offer};
 
@@ -15,7 +20,7 @@ use proposer::NodeFault;
 
 /// A node of a run. What is said of where it stands holds where its records are honest after the call.
 pub trait Node: Drop {
-    // Its number, its members, its count of failures, and whether it is down.
+    // Its number, its members, its count of failures, whether its store is broken, and whether it is down.
     ghost who: { Self → Who };
 
     // Its records have returned what was committed so far.
@@ -24,9 +29,19 @@ pub trait Node: Drop {
     // Where it may stand.
     ghost stands: { Self → Standing → Type 0 };
 
+    // Its role as a proposer, which nothing in its records decides.
+    ghost role: { Self → Role };
+
+    // The last read of its records may have found no memory.
+    ghost found_no_memory: { Self → Type 0 };
+
+    // A reopen of its records that was Ok leads from the first to the second.
+    ghost reopens: { Self → Self → Type 0 };
+
     fn id(&self) -> NodeId
         ensures id { result ≡ (who self.now).id }
-        ensures somewhere { IsTrue (honest self.now) → ∥ ((s : Standing) × stands self.now s) ∥₁ };
+        ensures somewhere { IsTrue (honest self.now) → ∥ ((s : Standing) × stands self.now s) ∥₁ }
+        ensures role { (view : View) → stands self.now (Running view) → view.role ≡ role self.now };
 
     fn members(&self) -> Members
         ensures { member_count result ≡ (who self.now).members };
@@ -52,7 +67,9 @@ pub trait Node: Drop {
         ensures done { IsTrue (honest self.new) → (s : Standing) → stands self.old s
             → (t : Standing) × Called (who self.old).members (who self.old).id s Lead (answer result) t × stands self.new t }
         ensures order { IsTrue (honest self.new) → (view : View) → stands self.old (Running view)
-            → StopsLast (who self.old).members (who self.old).id view Lead (answer result) };
+            → StopsLast (who self.old).members (who self.old).id view Lead (answer result) }
+        ensures memory { IsTrue (honest self.new) → (view : View) → stands self.old (Running view)
+            → IfErr result (λ fault. fault ≡ NodeFault.OutOfMemory → found_no_memory self.new ⊎ ((b : ℕ) × IsLeastAbove (limit view) (who self.old).id b)) };
 
     /// A value is offered.
     fn offer(&mut self, value: &[u8]) -> Result<Vec<Letter>, NodeFault>
@@ -61,7 +78,8 @@ pub trait Node: Drop {
         ensures done { IsTrue (honest self.new) → (s : Standing) → stands self.old s
             → (t : Standing) × Called (who self.old).members (who self.old).id s (Offer value.now) (answer result) t × stands self.new t }
         ensures order { IsTrue (honest self.new) → (view : View) → stands self.old (Running view)
-            → StopsLast (who self.old).members (who self.old).id view (Offer value.now) (answer result) };
+            → StopsLast (who self.old).members (who self.old).id view (Offer value.now) (answer result) }
+        ensures turn { (who self.old).down ≡ false → TakesTurn (offer (who self.old).members (who self.old).id (role self.old) value.now) (answer result) };
 
     /// The outputs of its gapless learned values behind those that it released before, in order, without the MAPs that end at `now` (in minislots) or before.
     fn release(&mut self, now: u64) -> Result<Vec<Numbered>, NodeFault>
@@ -75,12 +93,14 @@ pub trait Node: Drop {
         ensures honesty { IsTrue (honest self.new) → IsTrue (honest self.old) }
         ensures kept { KeptByRestart (who self.old) result (who self.new) }
         ensures done { IsTrue (honest self.new) → (s : Standing) → stands self.old s
-            → (t : Standing) × Restarts s result t × stands self.new t };
+            → (t : Standing) × Restarts s result t × stands self.new t }
+        ensures reopened { OnOk result (reopens self.old self.new) };
 
     /// Whether its records are empty and it has heard nothing.
     fn is_fresh(&mut self) -> Result<bool, NodeFault>
         ensures honesty { IsTrue (honest self.new) → IsTrue (honest self.old) }
         ensures kept { Kept (who self.old) result (who self.new) }
         ensures done { IsTrue (honest self.new) → (s : Standing) → stands self.old s
-            → (t : Standing) × TellsFresh s result t × stands self.new t };
+            → (t : Standing) × TellsFresh s result t × stands self.new t }
+        ensures fresh { IsTrue (honest self.new) → IfOk result (λ fresh. IsTrue fresh → stands self.new (Running (started no_content))) };
 }

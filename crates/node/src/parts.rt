@@ -1,6 +1,6 @@
 //! What a node is made of, and what its parts do with letters.
 
-ghost use Rattle.std.specs.Prelude.{◌≡◌, ◌++◌, ◌∷◌, [], ◌<◌, ◌≤◌, ◌↔◌, Ok, true, false, IsTrue, IfOk, OnErr, take};
+ghost use Rattle.std.specs.Prelude.{◌≡◌, ◌++◌, ◌∷◌, [], ◌<◌, ◌≤◌, ◌↔◌, Ok, true, false, IsTrue, IfErr, IfOk, OnErr, OnOk, ℕ, ◌⊎◌, take};
 ghost use Rattle.ballots.specs.Limits.{IsPlace, IsValue};
 ghost use Rattle.ballots.specs.Members.{member_count};
 ghost use Rattle.ballots.specs.Rows.{at, rows_from};
@@ -8,15 +8,17 @@ ghost use Rattle.ballots.specs.declared.letters.Note.TheVariants.{Higher as High
 ghost use Rattle.learner.specs.Tally.{voted, known};
 ghost use Rattle.node.specs.Answers.{accepted_letters, WroteNothing};
 ghost use Rattle.acceptor.specs.Content.{Content};
-ghost use Rattle.node.specs.Calls.{Kept, KeptByRestart, Restarts, StopsLast, TellsFresh, answer};
+ghost use Rattle.node.specs.Calls.{Kept, KeptByRestart, Restarts, StopsLast, TakesTurn, TellsFresh, answer};
 ghost use Rattle.node.specs.Calls.Cause.{Lead, Offer};
 ghost use Rattle.node.specs.Releases.{Releases, outputs};
 ghost use Rattle.node.specs.View.{Standing};
+ghost use Rattle.proposer.specs.Turns as turn;
+ghost use Rattle.proposer.specs.Turns.{IsNextBallot};
 ghost use Rattle.node.specs.Step.{Leads, accept, after_higher, are_votes, heed, is_sound, known_letters, letter, nothing, offer, prepare, promise, to_all};
 
 use crate::knowledge::Knowledge;
 use crate::letters::{known_letters, one_letter, prefix_len, prepared_note, replace_last};
-use acceptor::{Accepted, Acceptor, Records, RecordsFault};
+use acceptor::{Accepted, Acceptor, Records, RecordsFault, greatest_used};
 use ballots::{Ballot, Bytes, Letter, NodeId, Note, Place, Value, Votes};
 use map_release::Numbered;
 use proposer::{NodeFault, Proposer, Role, to_all};
@@ -56,14 +58,7 @@ impl<R: Records> Parts<R> {
         ensures fails { Fails self.old fault result self.new }
         ensures acceptor { self.new.acceptor ≡ self.old.acceptor }
     {
-        match fault {
-            RecordsFault::Refused => NodeFault::StoreRefused,
-            RecordsFault::OutOfMemory => NodeFault::OutOfMemory,
-            RecordsFault::Broken => {
-                self.is_down = true;
-                NodeFault::Down
-            }
-        }
+        self.stop(NodeFault::from(fault))
     }
 
     /// A fault came, which may be that the store is broken.
@@ -106,7 +101,7 @@ impl<R: Records> Parts<R> {
     ) -> Result<Vec<Letter>, NodeFault>
         requires { self.old.is_down ≡ false }
         ensures honesty { IsTrue (R.is_honest self.new.acceptor.records) → IsTrue (R.is_honest self.old.acceptor.records) }
-        ensures kept { Kept (who_of R.count_of self.old) result (who_of R.count_of self.new) }
+        ensures kept { Kept (who_of R.count_of R.is_broken self.old) result (who_of R.count_of R.is_broken self.new) }
         ensures done { IsTrue (R.is_honest self.new.acceptor.records)
             → Does R.may_find self.old (λ view course. course ≡ Ok (prepare self.old.proposer.id view ballot place from)) result self.new }
     {
@@ -135,7 +130,7 @@ impl<R: Records> Parts<R> {
         requires up { self.old.is_down ≡ false }
         requires sound { are_votes ballot place votes.now ≡ true }
         ensures honesty { IsTrue (R.is_honest self.new.acceptor.records) → IsTrue (R.is_honest self.old.acceptor.records) }
-        ensures kept { Kept (who_of R.count_of self.old) result (who_of R.count_of self.new) }
+        ensures kept { Kept (who_of R.count_of R.is_broken self.old) result (who_of R.count_of R.is_broken self.new) }
         ensures done { IsTrue (R.is_honest self.new.acceptor.records)
             → Does R.may_find self.old (λ view course. course ≡ Ok (promise (member_count self.old.proposer.members) self.old.proposer.id view view.role ballot place votes.now from)) result self.new }
     {
@@ -203,7 +198,7 @@ impl<R: Records> Parts<R> {
         requires up { self.old.is_down ≡ false }
         requires short { IsValue value.now }
         ensures honesty { IsTrue (R.is_honest self.new.acceptor.records) → IsTrue (R.is_honest self.old.acceptor.records) }
-        ensures kept { Kept (who_of R.count_of self.old) result (who_of R.count_of self.new) }
+        ensures kept { Kept (who_of R.count_of R.is_broken self.old) result (who_of R.count_of R.is_broken self.new) }
         ensures done { IsTrue (R.is_honest self.new.acceptor.records)
             → Does R.may_find self.old (λ view course. course ≡ Ok (accept (member_count self.old.proposer.members) self.old.proposer.id view ballot place value.now from)) result self.new }
     {
@@ -225,7 +220,7 @@ impl<R: Records> Parts<R> {
     ) -> Result<Vec<Letter>, NodeFault>
         requires { self.old.is_down ≡ false }
         ensures honesty { IsTrue (R.is_honest self.new.acceptor.records) → IsTrue (R.is_honest self.old.acceptor.records) }
-        ensures kept { Kept (who_of R.count_of self.old) result (who_of R.count_of self.new) }
+        ensures kept { Kept (who_of R.count_of R.is_broken self.old) result (who_of R.count_of R.is_broken self.new) }
         ensures done { IsTrue (R.is_honest self.new.acceptor.records)
             → Does R.may_find self.old (λ view course. course ≡ Ok (nothing record view { tally = voted (member_count self.old.proposer.members) view.tally (at view.tally.learned place) ballot place value.now from })) result self.new }
     {
@@ -239,7 +234,7 @@ impl<R: Records> Parts<R> {
     fn take_known(&mut self, place: Place, value: &Bytes) -> Result<Vec<Letter>, NodeFault>
         requires { self.old.is_down ≡ false }
         ensures honesty { IsTrue (R.is_honest self.new.acceptor.records) → IsTrue (R.is_honest self.old.acceptor.records) }
-        ensures kept { Kept (who_of R.count_of self.old) result (who_of R.count_of self.new) }
+        ensures kept { Kept (who_of R.count_of R.is_broken self.old) result (who_of R.count_of R.is_broken self.new) }
         ensures done { IsTrue (R.is_honest self.new.acceptor.records)
             → Does R.may_find self.old (λ view course. course ≡ Ok (nothing record view { tally = known view.tally (at view.tally.learned place) place value.now })) result self.new }
     {
@@ -252,7 +247,7 @@ impl<R: Records> Parts<R> {
     fn take_higher(&mut self, ballot: Ballot) -> Result<Vec<Letter>, NodeFault>
         requires { self.old.is_down ≡ false }
         ensures honesty { IsTrue (R.is_honest self.new.acceptor.records) → IsTrue (R.is_honest self.old.acceptor.records) }
-        ensures kept { Kept (who_of R.count_of self.old) result (who_of R.count_of self.new) }
+        ensures kept { Kept (who_of R.count_of R.is_broken self.old) result (who_of R.count_of R.is_broken self.new) }
         ensures done { IsTrue (R.is_honest self.new.acceptor.records)
             → Does R.may_find self.old (λ view course. course ≡ Ok (nothing (after_higher view ballot))) result self.new }
     {
@@ -264,10 +259,11 @@ impl<R: Records> Parts<R> {
     pub(crate) fn propose(&mut self, value: &[u8]) -> Result<Vec<Letter>, NodeFault>
         requires { self.old.is_down ≡ false }
         ensures honesty { IsTrue (R.is_honest self.new.acceptor.records) → IsTrue (R.is_honest self.old.acceptor.records) }
-        ensures kept { Kept (who_of R.count_of self.old) result (who_of R.count_of self.new) }
+        ensures kept { Kept (who_of R.count_of R.is_broken self.old) result (who_of R.count_of R.is_broken self.new) }
         ensures done { IsTrue (R.is_honest self.new.acceptor.records)
             → Does R.may_find self.old (λ view course. course ≡ offer (member_count self.old.proposer.members) self.old.proposer.id view view.role value.now) result self.new }
         ensures order { (c : Content) → StopsLast (member_count self.old.proposer.members) self.old.proposer.id (view_over self.old c) (Offer value.now) (answer result) }
+        ensures turn { TakesTurn (turn.offer (member_count self.old.proposer.members) self.old.proposer.id self.old.proposer.role value.now) (answer result) }
     {
         self.proposer.offer(value)
     }
@@ -276,11 +272,13 @@ impl<R: Records> Parts<R> {
     pub(crate) fn lead_up(&mut self) -> Result<Vec<Letter>, NodeFault>
         requires { self.old.is_down ≡ false }
         ensures honesty { IsTrue (R.is_honest self.new.acceptor.records) → IsTrue (R.is_honest self.old.acceptor.records) }
-        ensures kept { Kept (who_of R.count_of self.old) result (who_of R.count_of self.new) }
+        ensures kept { Kept (who_of R.count_of R.is_broken self.old) result (who_of R.count_of R.is_broken self.new) }
         ensures done { IsTrue (R.is_honest self.new.acceptor.records)
             → Does R.may_find self.old (λ view course. Leads (member_count self.old.proposer.members) self.old.proposer.id view course) result self.new }
         ensures order { IsTrue (R.is_honest self.new.acceptor.records)
             → (c : Content) → StopsLast (member_count self.old.proposer.members) self.old.proposer.id (view_over self.old c) Lead (answer result) }
+        ensures memory { IsTrue (R.is_honest self.new.acceptor.records) → IfErr result (λ fault. fault ≡ NodeFault.OutOfMemory
+            → ((mid : R) × R.finds_no_memory mid self.new.acceptor.records) ⊎ ((b : ℕ) × IsNextBallot (R.may_find self.old.acceptor.records) self.old.proposer.hint self.old.proposer.id b)) }
     {
         let prefix = prefix_len(self.knowledge.values());
         match self.proposer.lead(&mut self.acceptor.records, prefix) {
@@ -294,7 +292,7 @@ impl<R: Records> Parts<R> {
         requires up { self.old.is_down ≡ false }
         requires sound { is_sound letter.now letter.now.note ≡ true }
         ensures honesty { IsTrue (R.is_honest self.new.acceptor.records) → IsTrue (R.is_honest self.old.acceptor.records) }
-        ensures kept { Kept (who_of R.count_of self.old) result (who_of R.count_of self.new) }
+        ensures kept { Kept (who_of R.count_of R.is_broken self.old) result (who_of R.count_of R.is_broken self.new) }
         ensures done { IsTrue (R.is_honest self.new.acceptor.records)
             → Does R.may_find self.old (λ view course. course ≡ Ok (heed (member_count self.old.proposer.members) self.old.proposer.id view letter.now.from letter.now.note)) result self.new }
     {
@@ -326,7 +324,7 @@ impl<R: Records> Parts<R> {
     pub(crate) fn release_up(&mut self, now: u64) -> Result<Vec<Numbered>, NodeFault>
         requires { self.old.is_down ≡ false }
         ensures honesty { IsTrue (R.is_honest self.new.acceptor.records) → IsTrue (R.is_honest self.old.acceptor.records) }
-        ensures kept { Kept (who_of R.count_of self.old) result (who_of R.count_of self.new) }
+        ensures kept { Kept (who_of R.count_of R.is_broken self.old) result (who_of R.count_of R.is_broken self.new) }
         ensures done { IsTrue (R.is_honest self.new.acceptor.records) → (s : Standing) → Stands R.may_find self.old s
             → (t : Standing) × Releases s now (outputs result) t × Stands R.may_find self.new t }
     {
@@ -336,9 +334,10 @@ impl<R: Records> Parts<R> {
     /// Starts over its records.
     pub(crate) fn start_over(&mut self) -> Result<(), NodeFault>
         ensures honesty { IsTrue (R.is_honest self.new.acceptor.records) → IsTrue (R.is_honest self.old.acceptor.records) }
-        ensures kept { KeptByRestart (who_of R.count_of self.old) result (who_of R.count_of self.new) }
+        ensures kept { KeptByRestart (who_of R.count_of R.is_broken self.old) result (who_of R.count_of R.is_broken self.new) }
         ensures done { IsTrue (R.is_honest self.new.acceptor.records) → (s : Standing) → Stands R.may_find self.old s
             → (t : Standing) × Restarts s result t × Stands R.may_find self.new t }
+        ensures reopened { OnOk result (R.reopens self.old.acceptor.records self.new.acceptor.records) }
     {
         if let Err(fault) = self.acceptor.records.reopen() {
             return Err(self.fail(fault));
@@ -367,11 +366,12 @@ impl<R: Records> Parts<R> {
     pub(crate) fn tells_fresh(&mut self) -> Result<bool, NodeFault>
         requires { self.old.is_down ≡ false }
         ensures honesty { IsTrue (R.is_honest self.new.acceptor.records) → IsTrue (R.is_honest self.old.acceptor.records) }
-        ensures kept { Kept (who_of R.count_of self.old) result (who_of R.count_of self.new) }
+        ensures kept { Kept (who_of R.count_of R.is_broken self.old) result (who_of R.count_of R.is_broken self.new) }
         ensures done { IsTrue (R.is_honest self.new.acceptor.records) → (s : Standing) → Stands R.may_find self.old s
             → (t : Standing) × TellsFresh s result t × Stands R.may_find self.new t }
+        ensures untouched { IfOk result (λ fresh. IsTrue fresh → IsUntouched self.new) }
     {
-        let used = match self.acceptor.greatest_used() {
+        let used = match greatest_used(&mut self.acceptor.records) {
             Ok(used) => used,
             Err(fault) => return Err(self.fail(fault)),
         };

@@ -26,11 +26,11 @@ pub struct SchedNode<R: Records> {
 }
 
 impl<R: Records> SchedNode<R> {
-    /// A node that starts over these records, with a member's number. They aren't in doubt of a write.
+    /// A node that starts over these records, with a member's number. Where they are honest they hold some content, and so aren't in doubt of a write.
     pub fn new(alloc: Global, id: NodeId, members: Members, records: R) -> SchedNode<R>
         requires member { id < member_count members }
-        requires certain { IsTrue (R.is_honest records) → (c : Content) × Holds (R.may_find records) c }
-        ensures who { who_of R.count_of result.parts ≡ record { id = id; members = member_count members; failures = R.count_of records; down = false } }
+        requires certain { IsTrue (R.is_honest records) → ∥ ((c : Content) × Holds (R.may_find records) c) ∥₁ }
+        ensures who { who_of R.count_of R.is_broken result.parts ≡ record { id = id; members = member_count members; failures = R.count_of records; broken = R.is_broken records; down = false } }
         ensures honest { R.is_honest result.parts.acceptor.records ≡ R.is_honest records }
         ensures stands { (c : Content) → Holds (R.may_find records) c → Stands R.may_find result.parts (Running (started c)) }
     {
@@ -49,11 +49,17 @@ impl<R: Records> SchedNode<R> {
 impl<R: Records + Drop> Node for SchedNode<R> {
     ghost use Rattle.std.specs.Prelude.{Option};
 
-    ghost who = { λ n. who_of R.count_of n.parts };
+    ghost who = { λ n. who_of R.count_of R.is_broken n.parts };
 
     ghost honest = { λ n. R.is_honest n.parts.acceptor.records };
 
     ghost stands = { λ n s. Stands R.may_find n.parts s };
+
+    ghost role = { λ n. n.parts.proposer.role };
+
+    ghost found_no_memory = { λ n. (mid : R) × R.finds_no_memory mid n.parts.acceptor.records };
+
+    ghost reopens = { λ old new. R.reopens old.parts.acceptor.records new.parts.acceptor.records };
 
     fn id(&self) -> NodeId {
         self.parts.proposer.id

@@ -1,6 +1,7 @@
 -- Steps of a proposer's turn.
 use Rattle.std.proofs.Common.{◌≡◌, ◌⊎◌, inl, inr, ℕ, zero, suc, ◌+◌, ◌-◌, ◌*◌, ◌≤◌, ◌<◌, max, Bool, true, false, cond, ◌&&◌, not, ◌==◌, nat_eq, nat_lt, List, [], ◌∷◌, ◌++◌, refl, sym, ap, subst, ◌∙◌, arith, Result, Ok, Err, OnErr, Some}
 use Rattle.std.specs.List.{list_any}
+use Rattle.acceptor.proofs.Callers.{still_holds}
 use Rattle.std.proofs.lemmas.Bool.{lt-ltb, le-ltb, eq-eqb, ne_eqb}
 use Rattle.ballots.specs.Ballots.{IsLeastAbove}
 use Rattle.ballots.specs.Rows.{at}
@@ -37,9 +38,6 @@ pub next_ballot : (found : Findable) (hint me b used above : ℕ) → ((c : Cont
 next_ballot found hint me b used above is top least = λ c holds.
     let so : used ≡ max c.tried (promised c) = is c holds in
     subst (λ u. IsLeastAbove u me b) (omega (arith, so, top)) least
-
-pub still_holds : (old new : Findable) (c : Content) → FindsSame old new → Holds old c → Holds new c
-still_holds old new c same holds = ((same c).0 holds.0, λ d found. holds.1 d ((same d).1 found))
 
 pub may_have_tried : (old mid new : Findable) (hint me b : ℕ) → IsNextBallot old hint me b → FindsSame old mid → MayHaveMade mid new (Tries b) → MayHaveTried old new hint me
 may_have_tried old mid new hint me b next same made = λ c holds. inr (b, next c holds, made c (still_holds old mid c same holds))

@@ -1,5 +1,5 @@
 -- How a node tells what its store did.
-use Rattle.std.specs.Prelude.{ℕ, ◌≤◌, Result, IfErr}
+use Rattle.std.specs.Prelude.{◌≡◌, ℕ, ◌≤◌, Bool, true, false, Result, Ok, Err, IfErr}
 use Rattle.acceptor.specs.Faults.{HasRisen}
 use Rattle.acceptor.specs.declared.records.RecordsFault.{RecordsFault}
 use Rattle.acceptor.specs.declared.records.RecordsFault.TheVariants.{Refused, Broken, OutOfMemory}
@@ -22,6 +22,19 @@ abbrev pub IsHarmlessStop : Fault → Type 0
 IsHarmlessStop Fault.Down = ⊥
 IsHarmlessStop other = Unit {0}
 
--- the count never falls, and it rises where the store failed
+-- the store didn't fail
+abbrev pub IsQuietStop : {T : Type 0} → Result T Fault → Type 0
+IsQuietStop (Ok _) = Unit {0}
+IsQuietStop (Err Fault.StoreRefused) = ⊥
+IsQuietStop (Err Fault.Down) = ⊥
+IsQuietStop (Err other) = Unit {0}
+
+-- the count rises where the store failed, and else stays
 abbrev pub CountsStops : {T : Type 0} → Result T Fault → ℕ → ℕ → Type 0
-CountsStops result old new = (old ≤ new) × IfErr result (λ fault. IsStoreStop fault → HasRisen old new)
+CountsStops result old new = (old ≤ new) × IfErr result (λ fault. IsStoreStop fault → HasRisen old new) × (IsQuietStop result → new ≡ old)
+
+-- Down is told of a store that broke, and StoreRefused of one that did not
+abbrev pub BreaksByStop : {T : Type 0} → Result T Fault → Bool → Bool → Type 0
+BreaksByStop (Err Fault.Down) old new = new ≡ true
+BreaksByStop (Err Fault.StoreRefused) old new = (old ≡ false) × (new ≡ false)
+BreaksByStop other old new = new ≡ old

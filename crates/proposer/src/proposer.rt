@@ -7,9 +7,8 @@ ghost use Rattle.ballots.specs.Ballots.{IsLeastAbove, number_of};
 ghost use Rattle.acceptor.specs.Content.{Content, promised};
 ghost use Rattle.acceptor.specs.Content.Write.{Tries};
 ghost use Rattle.acceptor.specs.Found.{Holds, FindsSame, HasMade, Keeps};
-ghost use Rattle.acceptor.specs.Faults.{CountsFaults};
 ghost use Rattle.proposer.specs.Bounds.{in_log};
-ghost use Rattle.proposer.specs.Faults.{CountsStops, IsHarmlessStop};
+ghost use Rattle.proposer.specs.Faults.{BreaksByStop, CountsStops, IsHarmlessStop};
 ghost use Rattle.proposer.specs.Letters.{proposals};
 ghost use Rattle.proposer.specs.Roles.{role_after};
 ghost use Rattle.proposer.specs.Turns.{Turn, promise, after_promise, stays, offer, tries, limit, IsNextBallot, DeclinesToLead, MayHaveTried};
@@ -19,7 +18,7 @@ use crate::fault::NodeFault;
 use crate::letters::to_all;
 use crate::promises::{Joined, Nodes};
 use crate::role::{Role, higher};
-use acceptor::{Records, RecordsFault};
+use acceptor::{Records, greatest_used};
 use ballots::{
     Ballot, Bytes, Cast, LONGEST_VALUE, Letter, MOST_PLACES, Members, NodeId, Note, least_above,
 };
@@ -34,27 +33,6 @@ pub struct Proposer {
     pub members: Members,
     pub role: Role,
     pub hint: u64,
-}
-
-fn number(ballot: Option<Ballot>) -> u64
-    ensures { result ≡ number_of ballot }
-{
-    match ballot {
-        Some(ballot) => ballot.number(),
-        None => 0,
-    }
-}
-
-/// The greatest of the ballots that a node tried, promised or voted in, and 0 where there is none.
-fn greatest_used<R: Records>(records: &mut R) -> Result<u64, RecordsFault>
-    ensures value { IsTrue (R.is_honest records.new) → IfOk result (λ b. (c : Content) → Holds (R.may_find records.old) c → b ≡ max c.tried (promised c)) }
-    ensures kept { IsTrue (R.is_honest records.new) → Keeps result (R.may_find records.old) (R.may_find records.new) }
-    ensures honest { IsTrue (R.is_honest records.new) → IsTrue (R.is_honest records.old) }
-    ensures count { CountsFaults result (R.count_of records.old) (R.count_of records.new) }
-{
-    let tried = records.tried()?;
-    let promised = records.promised()?;
-    Ok(number(tried).max(number(promised)))
 }
 
 impl Proposer {
@@ -209,7 +187,10 @@ impl Proposer {
         ensures harmless { IsTrue (R.is_honest records.new) → IfErr result (λ fault. IsHarmlessStop fault → FindsSame (R.may_find records.old) (R.may_find records.new)) }
         ensures doubt { IsTrue (R.is_honest records.new) → OnErr result (MayHaveTried (R.may_find records.old) (R.may_find records.new) self.old.hint self.old.id) }
         ensures honest { IsTrue (R.is_honest records.new) → IsTrue (R.is_honest records.old) }
+        ensures memory { IsTrue (R.is_honest records.new) → IfErr result (λ fault. fault ≡ NodeFault.OutOfMemory
+            → ((mid : R) × R.finds_no_memory mid records.new) ⊎ ((b : ℕ) × IsNextBallot (R.may_find records.old) self.old.hint self.old.id b)) }
         ensures count { CountsStops result (R.count_of records.old) (R.count_of records.new) }
+        ensures broken { BreaksByStop result (R.is_broken records.old) (R.is_broken records.new) }
         ensures unchanged { OnErr result (self.new ≡ self.old) }
         ensures rest { self.new ≡ record self.old { role = self.new.role } }
     {

@@ -1,4 +1,4 @@
-use Rattle.std.proofs.Common.{◌≤◌, inl, inr, refl, sym, ◌∙◌, Some, None}
+use Rattle.std.proofs.Common.{arith, ◌≤◌, inl, inr, refl, sym, ◌∙◌, Some, None}
 use Rattle.ballots.specs.Rows.{at}
 use Rattle.acceptor.specs.Answers.{IsOfBallot, MayHaveVoted}
 use Rattle.acceptor.specs.Content.{Content, promised}
@@ -6,6 +6,12 @@ use Rattle.acceptor.specs.Content.Write.{Votes}
 use Rattle.acceptor.specs.Found.{Holds}
 use Rattle.acceptor.proofs.Certain.{still_holds, on_err}
 use Rattle.acceptor.proofs.acceptor.Acceptor.accept.Goals as goal
+
+pub returns-in-Some-clause-ok : goal.returns-in-Some-clause-ok
+returns-in-Some-clause-ok g c honest d holds =
+    let read = c.in_ok-promised.ensures.value honest d holds in
+    let some = c.in-Some.ensures.some in
+    (None, (omega (arith, some.0, some.1, read), some.1 ∙ read, refl), still_holds _ _ d (c.in_ok-promised.ensures.kept honest) holds)
 
 pub returns-in-Some-value_for-clause-ok : goal.returns-in-Some-value_for-clause-ok
 returns-in-Some-value_for-clause-ok g c honest d holds =

@@ -1,4 +1,4 @@
-use Rattle.std.proofs.Common.{◌≡◌, ◌<◌, inr, refl, sym, subst, rules, Some, Err, IfErr}
+use Rattle.std.proofs.Common.{arith, ◌≡◌, ◌<◌, inr, refl, sym, subst, rules, ◌∙◌, Some, None, Err, IfErr}
 use Rattle.acceptor.specs.Answers.{MayHavePromised}
 use Rattle.acceptor.specs.Content.{Content, promised}
 use Rattle.acceptor.specs.Content.Write.{Promises}
@@ -6,6 +6,12 @@ use Rattle.acceptor.specs.Found.{Holds, FindsSame}
 use Rattle.acceptor.specs.Faults.{IsHarmless}
 use Rattle.acceptor.proofs.Certain.{same_then, still_holds, on_err}
 use Rattle.acceptor.proofs.acceptor.Acceptor.prepare.Goals as goal
+
+pub returns-in-Some-clause-ok : goal.returns-in-Some-clause-ok
+returns-in-Some-clause-ok g c honest d holds =
+    let read = c.in_ok-promised.ensures.value honest d holds in
+    let some = c.in-Some.ensures.some in
+    (None, (omega (arith, some.0, some.1, read), some.1 ∙ read, refl), still_holds _ _ d (c.in_ok-promised.ensures.kept honest) holds)
 
 pub returns-in_err-put_promised-clause-doubt : goal.returns-in_err-put_promised-clause-doubt
 returns-in_err-put_promised-clause-doubt g c honest =

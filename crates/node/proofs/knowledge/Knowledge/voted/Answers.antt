@@ -1,9 +1,8 @@
 use Rattle.ballots.specs.Members.{member_count}
-use Rattle.learner.specs.Kept.{tally}
 use Rattle.node.proofs.Knowing.{voted_keeps}
 use Rattle.node.proofs.knowledge.Knowledge.voted.Goals as goal
 
 pub invariant_of-self-2 : goal.invariant_of-self-2
 invariant_of-self-2 c =
-    let kept = voted_keeps (tally c.self.inside.learner) c.number.result c.args.value c.self.inside.log.learned c.number.ensures.fits.0 c.number.ensures.fits.1 c.self.invariant.rows c.self.invariant.part (member_count c.args.members) c.args.ballot c.args.from (tally c.voted.new.self) c.in_ok-voted.ensures.ok in
+    let kept = voted_keeps c.self.inside.learner c.number.result c.args.value c.self.inside.log.learned c.number.ensures.fits.0 c.number.ensures.fits.1 c.self.invariant.rows c.self.invariant.part (member_count c.args.members) c.args.ballot c.args.from c.voted.new.self c.in_ok-voted.ensures.ok in
     record { rows = kept.0; part = kept.1 }

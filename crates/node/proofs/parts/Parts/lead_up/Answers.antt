@@ -1,4 +1,4 @@
-use Rattle.std.proofs.Common.{◌≡◌, ◌<◌, ◌≤◌, length, sym, subst, Err}
+use Rattle.std.proofs.Common.{◌≡◌, ◌⊎◌, ℕ, ◌<◌, ◌≤◌, ◌∙◌, length, sym, subst, Err}
 use Rattle.node.specs.Step.{last_place}
 use Rattle.node.specs.View.{values_from}
 use Rattle.proposer.specs.declared.proposer.Proposer.{Proposer}
@@ -8,6 +8,13 @@ use Rattle.node.specs.Calls.Cause.{Lead}
 use Rattle.ballots.specs.Members.{member_count}
 use Rattle.node.proofs.Orders.{lead_last}
 use Rattle.node.proofs.Leading.{Ended, lead_fails, lead_ends, honest_before}
+use Rattle.acceptor.specs.declared.acceptor.Acceptor.{Acceptor}
+use Rattle.proposer.specs.Turns.{IsNextBallot}
+use Rattle.proposer.specs.declared.fault.NodeFault.{NodeFault as Fault}
+use Rattle.node.specs.declared.parts.Parts.{Parts}
+use Rattle.node.specs.Calls.{Kept}
+use Rattle.node.specs.Sched.{who_of}
+use Rattle.node.proofs.Telling.{stopped}
 use Rattle.node.proofs.parts.Parts.lead_up.Goals as goal
 
 pub returns-in-Err-clause-done : goal.returns-in-Err-clause-done
@@ -37,3 +44,19 @@ returns-in-Err-clause-order g c honest content =
     let before = honest_before g.R.Records.is_honest record old { acceptor = record { records = c.lead.new.records }; proposer = c.lead.new.self } c.in-Err.fault c.stop.new.self c.stop.ensures.stops honest in
     subst (λ f. StopsLast (member_count old.proposer.members) old.proposer.id (view_over old content) Lead (Err f)) (sym c.stop.ensures.same)
     (lead_last (member_count old.proposer.members) old.proposer.id (view_over old content) (g.R.Records.may_find old.acceptor.records) old.proposer.hint c.prefix_len-prefix.result below c.in-Err.fault (c.in-Err.ensures.declined before))
+
+pub returns-in-Err-clause-memory : goal.returns-in-Err-clause-memory
+returns-in-Err-clause-memory g c honest is =
+    let old = c.args.self.now in
+    let out : c.in-Err.fault ≡ Fault.OutOfMemory = sym c.stop.ensures.same ∙ is in
+    let before = honest_before g.R.Records.is_honest record old { acceptor = record { records = c.lead.new.records }; proposer = c.lead.new.self } c.in-Err.fault c.stop.new.self c.stop.ensures.stops honest in
+    let stops : Stops record old { acceptor = record { records = c.lead.new.records }; proposer = c.lead.new.self } Fault.OutOfMemory c.stop.new.self = subst (λ f. Stops record old { acceptor = record { records = c.lead.new.records }; proposer = c.lead.new.self } f c.stop.new.self) out c.stop.ensures.stops in
+    subst (λ (n : Parts g.row.R.Denot). ((mid : g.row.R.Denot) × g.R.Records.finds_no_memory mid n.acceptor.records) ⊎ ((b : ℕ) × IsNextBallot (g.R.Records.may_find old.acceptor.records) old.proposer.hint old.proposer.id b)) (sym stops) (c.in-Err.ensures.memory before out)
+
+pub returns-in-Err-clause-kept : goal.returns-in-Err-clause-kept
+returns-in-Err-clause-kept g c =
+    let old = c.args.self.now in
+    let later : Acceptor g.row.R.Denot = record { records = c.lead.new.records } in
+    let stops : Stops record old { acceptor = later } c.in-Err.fault c.stop.new.self = subst (λ (p : Proposer). Stops record old { acceptor = later; proposer = p } c.in-Err.fault c.stop.new.self) c.in-Err.ensures.unchanged c.stop.ensures.stops in
+    subst (λ f. Kept {T = Unit {0}} (who_of g.R.Records.count_of g.R.Records.is_broken old) (Err f) (who_of g.R.Records.count_of g.R.Records.is_broken c.stop.new.self)) (sym c.stop.ensures.same)
+    (stopped g.R.Records.count_of g.R.Records.is_broken old later c.requires c.in-Err.fault c.stop.new.self stops c.in-Err.ensures.count c.in-Err.ensures.broken)

@@ -11,6 +11,7 @@ use Rattle.node.specs.Sched.{view_over}
 use Rattle.proposer.specs.declared.fault.NodeFault.{NodeFault as Fault}
 use Rattle.node.proofs.Acceptances.{answered, accepts_so, votes_so, wrote_nothing}
 use Rattle.node.proofs.Endings.{unchanged, ends, kept, fails}
+use Rattle.node.proofs.Telling.{failed}
 use Rattle.node.proofs.parts.Parts.take_accept.Goals as goal
 
 pub returns-in_err-letters-clause-done : goal.returns-in_err-letters-clause-done
@@ -52,3 +53,6 @@ returns-clause-done g c honest content holds =
     ends g.R.Records.may_find c.args.self.now c.requires.up content holds (λ course. course ≡ Ok (accept members me view c.args.ballot c.args.place c.args.value.now c.args.from)) c.accept.new.self
     (answered members me c.args.from view c.args.ballot c.args.place c.args.value.now c.in-Ok.answer wrote.0) c.in_ok-after_vote.field-0.items (after_write content wrote.0)
     (ap Ok (sym so)) c.in_ok-after_vote.ensures.ok refl wrote.2
+
+pub returns-in-Err-clause-kept : goal.returns-in-Err-clause-kept
+returns-in-Err-clause-kept g c = failed g.R.Records.count_of g.R.Records.is_broken c.args.self.now c.accept.new.self c.in-Err.fault c.fail.result c.fail.new.self c.requires.up c.fail.ensures.fails c.in-Err.ensures.count c.in-Err.ensures.broken

@@ -11,6 +11,7 @@ use Rattle.node.specs.Answers.{prepared_note}
 use Rattle.proposer.specs.declared.fault.NodeFault.{NodeFault as Fault}
 use Rattle.node.proofs.Preparations.{first_letters, prepared, prepares_so, promises_so, set_last}
 use Rattle.node.proofs.Endings.{unchanged, ends, fails}
+use Rattle.node.proofs.Telling.{failed}
 use Rattle.node.proofs.parts.Parts.take_prepare.Goals as goal
 
 pub returns-in_err-letters-clause-done : goal.returns-in_err-letters-clause-done
@@ -42,3 +43,6 @@ returns-clause-done g c honest content holds =
     ends g.R.Records.may_find c.args.self.now c.requires content holds (λ course. course ≡ Ok (prepare me view c.args.ballot c.args.place c.args.from)) c.prepare.new.self
     (prepared me c.args.from view c.args.ballot c.args.place c.in-Ok.answer wrote.0) c.replace_last.new.letters.items (after_write content wrote.0)
     (ap Ok (sym so)) sent refl wrote.2
+
+pub returns-in-Err-clause-kept : goal.returns-in-Err-clause-kept
+returns-in-Err-clause-kept g c = failed g.R.Records.count_of g.R.Records.is_broken c.args.self.now c.prepare.new.self c.in-Err.fault c.fail.result c.fail.new.self c.requires c.fail.ensures.fails c.in-Err.ensures.count c.in-Err.ensures.broken

@@ -4,6 +4,7 @@ use Rattle.node.specs.Calls.{answer}
 use Rattle.node.specs.Calls.Cause.{Lead}
 use Rattle.node.proofs.Orders.{in_no_view, in_each_view}
 use Rattle.node.proofs.Somewhere.{does_on}
+use Rattle.node.proofs.Leading.{memory_in_each}
 use Rattle.node.proofs.sched.SchedNodeNode.lead.Goals as goal
 
 pub invariant_of-self : goal.invariant_of-self
@@ -17,3 +18,9 @@ returns-then-self-clause-order g c honest view stands = absurd (in_no_view g.R.R
 
 pub returns-clause-order : goal.returns-clause-order
 returns-clause-order g c honest view stands = in_each_view g.R.Records.may_find c.args.self.now.parts Lead (answer c.lead_up.result) (c.lead_up.ensures.order honest) view stands
+
+pub returns-then-self-clause-memory : goal.returns-then-self-clause-memory
+returns-then-self-clause-memory g c honest view stands = absurd (in_no_view g.R.Records.may_find c.args.self.now.parts c.if-self.true view stands)
+
+pub returns-clause-memory : goal.returns-clause-memory
+returns-clause-memory g c honest view stands = memory_in_each g.R.Records.may_find c.args.self.now.parts ((mid : g.row.R.Denot) × g.R.Records.finds_no_memory mid c.lead_up.new.self.acceptor.records) c.lead_up.result (c.lead_up.ensures.memory honest) view stands

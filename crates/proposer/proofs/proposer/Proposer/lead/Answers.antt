@@ -1,7 +1,8 @@
 use Rattle.std.proofs.Common.{◌≡◌, ◌+◌, sym}
 use Rattle.proposer.specs.declared.role.Role.TheVariants.{Preparing}
 use Rattle.proposer.specs.Turns.{IsNextBallot, MayHaveTried}
-use Rattle.proposer.proofs.Turning.{on_err, next_ballot, may_have_tried, still_holds}
+use Rattle.proposer.proofs.Turning.{on_err, next_ballot, may_have_tried}
+use Rattle.acceptor.proofs.Callers.{still_holds}
 use Rattle.proposer.proofs.proposer.Proposer.lead.Goals as goal
 
 pub returns-in_err-put_tried-clause-doubt : goal.returns-in_err-put_tried-clause-doubt

@@ -1,0 +1,129 @@
+//! A member as a learner.
+
+ghost use Rattle.std.specs.Prelude.{◌≡◌, ◌↔◌, IsTrue, OnOk, OnErr, option_copied};
+ghost use Rattle.ballots.specs.Members.{member_count};
+ghost use Rattle.ballots.specs.Rows.{at};
+ghost use Rattle.learner.specs.Proposals.{proposal_of};
+ghost use Rattle.learner.specs.Tally.{groups_at, known, learn, no_tally, put_voters, voted, voters_in};
+
+use crate::groups::{Groups, Proposal, Voters};
+use ballots::{Ballot, Bytes, Members, NodeId};
+use std::alloc::{AllocError, Global};
+use std::collections::BTreeMap;
+use std::marker::Model;
+
+/// Votes heard at places that aren't learned, and values learned.
+#[derive(Drop)]
+pub struct Learner {
+    alloc: Global,
+    counted: BTreeMap<u64, Groups>,
+    learned: BTreeMap<u64, Bytes>,
+}
+
+impl Model for Learner {
+    ghost use Rattle.learner.specs.Tally.{Tally};
+
+    ghost Value = { Tally };
+
+    ghost view = { λ l. record { counted = l.counted.entries; learned = l.learned.entries } };
+}
+
+/// The voters for a proposal at a place.
+fn voters_at(counted: &BTreeMap<u64, Groups>, place: u64, proposal: &Proposal) -> Voters
+    ensures { result ≡ voters_in (groups_at counted.now.entries place) proposal.now.ballot proposal.now.value }
+{
+    match counted.get(&place) {
+        Some(groups) => groups.voters(proposal),
+        None => Voters::none(),
+    }
+}
+
+/// Puts the voters for a proposal at a place in place of those that it had.
+fn put_voters(
+    alloc: Global,
+    counted: &mut BTreeMap<u64, Groups>,
+    place: u64,
+    proposal: Proposal,
+    voters: Voters,
+) -> Result<(), AllocError>
+    ensures ok { OnOk result (counted.new.entries ≡ put_voters counted.old.entries proposal.ballot place proposal.value voters) }
+    ensures err { OnErr result (counted.new.entries ≡ counted.old.entries) }
+{
+    if let Some(groups) = counted.get_mut(&place) {
+        return groups.put(proposal, voters);
+    }
+    let mut groups = Groups::new(alloc);
+    groups.put(proposal, voters)?;
+    counted.insert(place, groups).map_err(AllocError::from)?;
+    Ok(())
+}
+
+impl Learner {
+    /// Nothing was heard.
+    pub fn new(alloc: Global) -> Learner
+        ensures { result ≡ no_tally }
+    {
+        Learner {
+            alloc,
+            counted: BTreeMap::new(alloc),
+            learned: BTreeMap::new(alloc),
+        }
+    }
+
+    /// Whether nothing is counted and nothing learned.
+    pub fn is_empty(&self) -> bool
+        ensures { IsTrue result ↔ (self.now ≡ no_tally) }
+    {
+        self.counted.is_empty() && self.learned.is_empty()
+    }
+
+    /// The value that is learned at a place.
+    pub fn learned(&self, place: u64) -> Option<&Bytes>
+        ensures { option_copied result ≡ at self.now.learned place }
+    {
+        self.learned.get(&place)
+    }
+
+    /// The learned values by place.
+    pub fn values(&self) -> &BTreeMap<u64, Bytes>
+        ensures { result.now.entries ≡ self.now.learned }
+    {
+        &self.learned
+    }
+
+    /// A value is known to be chosen at a place. The first one stays.
+    pub fn known(&mut self, place: u64, value: Bytes) -> Result<(), AllocError>
+        ensures ok { OnOk result (self.new ≡ known self.old (at self.old.learned place) place value) }
+        ensures err { OnErr result (self.new ≡ self.old) }
+    {
+        if self.learned.contains_key(&place) {
+            return Ok(());
+        }
+        self.learned.insert(place, value).map_err(AllocError::from)?;
+        self.counted.remove(&place);
+        Ok(())
+    }
+
+    /// A vote of a node was heard. It counts once for its ballot and value, and a majority of the members teaches the value (Lamport, Paxos Made Simple, section 2.3).
+    pub fn voted(
+        &mut self,
+        members: Members,
+        ballot: Ballot,
+        place: u64,
+        value: Bytes,
+        from: NodeId,
+    ) -> Result<(), AllocError>
+        ensures ok { OnOk result (self.new ≡ voted (member_count members) self.old (at self.old.learned place) ballot place value from) }
+        ensures err { OnErr result (self.new ≡ self.old) }
+    {
+        if self.learned.contains_key(&place) {
+            return Ok(());
+        }
+        let proposal = Proposal { ballot, value };
+        let voters = voters_at(&self.counted, place, &proposal).with(from);
+        if 2 * voters.count(members) > members.count() {
+            return self.known(place, proposal.value);
+        }
+        put_voters(self.alloc, &mut self.counted, place, proposal, voters)
+    }
+}

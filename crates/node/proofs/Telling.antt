@@ -1,0 +1,73 @@
+-- What a node's answer tells of its store.
+use Rattle.std.proofs.Common.{◌≡◌, ◌⊎◌, inl, inr, ℕ, ◌≤◌, Bool, true, false, refl, sym, subst, ◌∙◌, arith, Result, Ok, Err}
+use Rattle.acceptor.specs.Faults.{CountsFaults, BreaksBy, BreaksByReopen, HasRisen}
+use Rattle.acceptor.specs.declared.acceptor.Acceptor.{Acceptor}
+use Rattle.acceptor.specs.declared.records.RecordsFault.{RecordsFault}
+use Rattle.acceptor.specs.declared.records.RecordsFault.TheVariants.{Refused, Broken, OutOfMemory}
+use Rattle.proposer.specs.Faults.{CountsStops, BreaksByStop, told}
+use Rattle.proposer.specs.declared.fault.NodeFault.{NodeFault as Fault}
+use Rattle.node.specs.Calls.{Kept, KeptByRestart, TellsStore}
+use Rattle.node.specs.Sched.{Fails, Stops, who_of}
+use Rattle.node.specs.declared.parts.Parts.{Parts}
+
+-- a store's fault, told as the node's, leaves it so
+pub fails_so : {R : Type 0} (old : Parts R) (fault : RecordsFault) (first answer : Fault) (new : Parts R) → first ≡ told fault → answer ≡ first → Stops old first new → Fails old fault answer new
+fails_so old Refused first answer new is same stops = (same ∙ is, subst (λ f. Stops old f new) is stops)
+fails_so old OutOfMemory first answer new is same stops = (same ∙ is, subst (λ f. Stops old f new) is stops)
+fails_so old Broken first answer new is same stops = (same ∙ is, subst (λ f. Stops old f new) is stops)
+
+module _ {R : Type 0} (count_of : R → ℕ) (is_broken : R → Bool) (old : Parts R) (a : Acceptor R) where
+  abbrev later : Parts R
+  later = record old { acceptor = a }
+
+  -- a call in which the store failed
+  pub failed : (fault : RecordsFault) (answer : Fault) (new : Parts R) → old.is_down ≡ false → Fails later fault answer new
+      → CountsFaults {T = Unit {0}} (Err fault) (count_of old.acceptor.records) (count_of a.records) → BreaksBy {T = Unit {0}} (Err fault) (is_broken old.acceptor.records) (is_broken a.records)
+      → Kept {T = Unit {0}} (who_of count_of is_broken old) (Err answer) (who_of count_of is_broken new)
+  failed Refused answer new up so counts breaks =
+      subst (λ n. Kept {T = Unit {0}} (who_of count_of is_broken old) (Err answer) (who_of count_of is_broken n)) (sym so.1)
+      (subst (λ f. Kept {T = Unit {0}} (who_of count_of is_broken old) (Err f) (who_of count_of is_broken later)) (sym so.0) (refl, refl, counts.0, (counts.1 tt, breaks.1), refl))
+  failed OutOfMemory answer new up so counts breaks =
+      subst (λ n. Kept {T = Unit {0}} (who_of count_of is_broken old) (Err answer) (who_of count_of is_broken n)) (sym so.1)
+      (subst (λ f. Kept {T = Unit {0}} (who_of count_of is_broken old) (Err f) (who_of count_of is_broken later)) (sym so.0) (refl, refl, counts.0, (counts.2 tt, breaks.1 ∙ sym breaks.0), refl))
+  failed Broken answer new up so counts breaks =
+      subst (λ n. Kept {T = Unit {0}} (who_of count_of is_broken old) (Err answer) (who_of count_of is_broken n)) (sym so.1)
+      (subst (λ f. Kept {T = Unit {0}} (who_of count_of is_broken old) (Err f) (who_of count_of is_broken record later { is_down = true })) (sym so.0) (refl, refl, counts.0, inl (counts.1 tt, breaks), refl))
+
+  -- a restart in which the store failed
+  pub restart_failed : (fault : RecordsFault) (answer : Fault) (new : Parts R) → Fails later fault answer new
+      → CountsFaults {T = Unit {0}} (Err fault) (count_of old.acceptor.records) (count_of a.records) → BreaksByReopen {T = Unit {0}} (Err fault) (is_broken old.acceptor.records) (is_broken a.records)
+      → KeptByRestart {T = Unit {0}} (who_of count_of is_broken old) (Err answer) (who_of count_of is_broken new)
+  restart_failed Refused answer new so counts breaks =
+      subst (λ n. KeptByRestart {T = Unit {0}} (who_of count_of is_broken old) (Err answer) (who_of count_of is_broken n)) (sym so.1)
+      (subst (λ f. KeptByRestart {T = Unit {0}} (who_of count_of is_broken old) (Err f) (who_of count_of is_broken later)) (sym so.0) (refl, refl, counts.0, (counts.1 tt, breaks), refl))
+  restart_failed OutOfMemory answer new so counts breaks =
+      subst (λ n. KeptByRestart {T = Unit {0}} (who_of count_of is_broken old) (Err answer) (who_of count_of is_broken n)) (sym so.1)
+      (subst (λ f. KeptByRestart {T = Unit {0}} (who_of count_of is_broken old) (Err f) (who_of count_of is_broken later)) (sym so.0) (refl, refl, counts.0, (counts.2 tt, breaks), refl))
+  restart_failed Broken answer new so counts breaks =
+      subst (λ n. KeptByRestart {T = Unit {0}} (who_of count_of is_broken old) (Err answer) (who_of count_of is_broken n)) (sym so.1)
+      (subst (λ f. KeptByRestart {T = Unit {0}} (who_of count_of is_broken old) (Err f) (who_of count_of is_broken record later { is_down = true })) (sym so.0) (refl, refl, counts.0, (counts.1 tt, breaks), refl))
+
+-- what a second call of the store tells, after a first that was Ok
+pub counts_then : (first mid last : ℕ) (fault : RecordsFault) → mid ≡ first → CountsFaults {T = Unit {0}} (Err fault) mid last → CountsFaults {T = Unit {0}} (Err fault) first last
+counts_then first mid last fault is counts = subst (λ n. CountsFaults {T = Unit {0}} (Err fault) n last) is counts
+
+pub breaks_then : (first mid last : Bool) (fault : RecordsFault) → first ≡ false → BreaksBy {T = Unit {0}} (Err fault) mid last → BreaksBy {T = Unit {0}} (Err fault) first last
+breaks_then first mid last Refused is breaks = (is, breaks.1)
+breaks_then first mid last OutOfMemory is breaks = (is, breaks.1)
+breaks_then first mid last Broken is breaks = breaks
+
+-- what a proposer's answer tells
+module _ {R : Type 0} (count_of : R → ℕ) (is_broken : R → Bool) (old : Parts R) (a : Acceptor R) (up : old.is_down ≡ false) where
+  abbrev stopped_at : Parts R
+  stopped_at = record old { acceptor = a }
+
+  pub stopped : (fault : Fault) (new : Parts R) → Stops stopped_at fault new → CountsStops {T = Unit {0}} (Err fault) (count_of old.acceptor.records) (count_of a.records) → BreaksByStop {T = Unit {0}} (Err fault) (is_broken old.acceptor.records) (is_broken a.records)
+      → Kept {T = Unit {0}} (who_of count_of is_broken old) (Err fault) (who_of count_of is_broken new)
+  stopped Fault.Down new is counts breaks = subst (λ n. Kept {T = Unit {0}} (who_of count_of is_broken old) (Err Fault.Down) (who_of count_of is_broken n)) (sym is) (refl, refl, counts.0, inl (counts.1 tt, breaks), refl)
+  stopped Fault.StoreRefused new is counts breaks = subst (λ n. Kept {T = Unit {0}} (who_of count_of is_broken old) (Err Fault.StoreRefused) (who_of count_of is_broken n)) (sym is) (refl, refl, counts.0, (counts.1 tt, breaks.1), refl)
+  stopped Fault.OutOfMemory new is counts breaks = subst (λ n. Kept {T = Unit {0}} (who_of count_of is_broken old) (Err Fault.OutOfMemory) (who_of count_of is_broken n)) (sym is) (refl, refl, counts.0, (counts.2 tt, breaks), refl)
+  stopped Fault.LogFull new is counts breaks = subst (λ n. Kept {T = Unit {0}} (who_of count_of is_broken old) (Err Fault.LogFull) (who_of count_of is_broken n)) (sym is) (refl, refl, counts.0, (counts.2 tt, breaks), refl)
+  stopped Fault.RoundsSpent new is counts breaks = subst (λ n. Kept {T = Unit {0}} (who_of count_of is_broken old) (Err Fault.RoundsSpent) (who_of count_of is_broken n)) (sym is) (refl, refl, counts.0, (counts.2 tt, breaks), refl)
+  stopped Fault.NotLeading new is counts breaks = subst (λ n. Kept {T = Unit {0}} (who_of count_of is_broken old) (Err Fault.NotLeading) (who_of count_of is_broken n)) (sym is) (refl, refl, counts.0, (counts.2 tt, breaks), refl)
+  stopped Fault.ValueTooLong new is counts breaks = subst (λ n. Kept {T = Unit {0}} (who_of count_of is_broken old) (Err Fault.ValueTooLong) (who_of count_of is_broken n)) (sym is) (refl, refl, counts.0, (counts.2 tt, breaks), refl)
