@@ -3,7 +3,6 @@ use Rattle.std.proofs.Common.{◌≡◌, ◌⊎◌, ℕ, Bool, true, false, cond
 use Rattle.std.specs.List.{find, list_any}
 use Rattle.std.specs.Prelude.{unwrap_or}
 use Rattle.flow_state.specs.declared.flow.FlowKind.{FlowKind}
-use Rattle.flow_state.specs.declared.refusal.Refusal.{Refusal}
 use Rattle.flow_state.specs.declared.refusal.Refusal.TheVariants.{BadValue, SidsSpent}
 use Rattle.flow_state.specs.Limits.{is_good_kind}
 use Rattle.flow_state.specs.Rows.{Table, Assignment, assignment_of, unicast_sids, free_sid}
