@@ -1,0 +1,141 @@
+-- What a call on the records does, by what its statement did.
+use Rattle.std.proofs.Common.{◌≡◌, ◌⊎◌, inl, inr, ℕ, ◌≤◌, Bool, true, false, ◌&&◌, Some, None, Option, Result, Ok, Err, IsTrue, IfSome, refl, sym, ap, subst, ◌∙◌, arith}
+use Rattle.sqlite_trees.specs.View.{doubt}
+use Rattle.sqlite_trees.proofs.Doubt.{no_doubt, clean_of}
+use Rattle.sqlite.specs.Store.{Ghosts}
+use Rattle.sqlite.specs.Tree.{Trees}
+use Rattle.sqlite.specs.State.{State, HasCleanDisk, Survives}
+use Rattle.sqlite.specs.Held.{Held, state}
+use Rattle.ballots.specs.declared.letters.Cast.{Cast}
+use Rattle.ballots.specs.Ballots.{number_of}
+use Rattle.acceptor.proofs.Greatest.{greatest_apart, replaced}
+use Rattle.acceptor.specs.Content.{Content, Write, after_write, promised}
+use Rattle.acceptor.specs.Content.Write.{Promises, Votes}
+use Rattle.acceptor.specs.Faults.{IsHarmless}
+use Rattle.acceptor.specs.Found.{Findable, Holds, AddsNothing, AddsOnly, FindsSame, Keeps, HasMade, MayHaveMade}
+use Rattle.acceptor.specs.declared.records.RecordsFault.{RecordsFault}
+use Rattle.acceptor_store_parts.specs.Serves.{Serves, StillServes, HasWritten, MayHaveWritten}
+use Rattle.acceptor_store.specs.Linked.{Linked, MayFind, MayFindIn, IsHonest, IsLinked, Knows}
+use Rattle.acceptor_store.proofs.Found.{served, now_holds, may_hold, only_adds, same_found, no_more, keeps_err}
+
+pub parts : (a b : Bool) → IsTrue (a && b) → IsTrue a × IsTrue b
+parts true b h = (refl, h)
+parts false b h = absurd (cc)
+
+pub both : (a b : Bool) → IsTrue a → IsTrue b → IsTrue (a && b)
+both true b x y = y
+both false b x y = absurd (cc)
+
+-- the records have this connection, and what is known of it
+pub record Entered {S : Type 0} (g : Ghosts S) (self : Linked S) (old : Held S) (is_sure : Bool) : Type 0 where
+  pub at : self.held ≡ Some old
+  pub sure : self.is_sure ≡ is_sure
+  pub known : IsTrue is_sure → HasCleanDisk (state g old) → Knows g old self.highest
+
+pub entered : {S : Type 0} (g : Ghosts S) (self inside : Linked S) (old : Held S) → inside ≡ self → inside.held ≡ Some old → IsLinked g inside.held inside.is_up inside.is_sure inside.highest → inside.is_up ≡ true
+    → Entered g self old inside.is_sure
+entered g self inside old view some linked up = record {
+  at = sym (ap (λ (r : Linked _). r.held) view) ∙ some;
+  sure = sym (ap (λ (r : Linked _). r.is_sure) view);
+  known = λ sure clean. subst (λ (r : Linked _). Knows g old r.highest) view (((subst (λ h. IsLinked g h inside.is_up inside.is_sure inside.highest) some linked sure clean).1 up));
+}
+
+module _ {S : Type 0} (g : Ghosts S) (settled : (s : S) (db : Trees) → IsTrue (g.view s).is_open → g.recovers s db → db ≡ (g.view s).committed)
+    (stays : (s : S) → IsTrue (g.view s).is_open → g.recovers s (g.view s).committed) (self : Linked S) (old new : Held S) (is_sure : Bool) (it : Entered g self old is_sure)
+    (Commits : Trees → Type 0) (survives : Survives (state g old) (state g new) Commits) where
+  clean_now : IsTrue (is_sure && (state g new).is_clean) → HasCleanDisk (state g new)
+  clean_now h = no_doubt _ (parts is_sure _ h).1
+
+  clean_then : IsTrue (is_sure && (state g new).is_clean) → HasCleanDisk (state g old)
+  clean_then h = omega (arith, survives.clean, clean_now h)
+
+  from_self : (P : Findable → Type 0) → P (MayFindIn g old) → P (MayFind g self.held)
+  from_self P p = subst (λ h. P (MayFind g h)) (sym it.at) p
+
+  to_old : (P : Findable → Type 0) → P (MayFind g self.held) → P (MayFindIn g old)
+  to_old P p = subst (λ h. P (MayFind g h)) it.at p
+
+  pub honest : IsTrue (is_sure && (state g new).is_clean) → IsHonest g self
+  honest h =
+      let sure : IsTrue self.is_sure = subst IsTrue (sym it.sure) (parts is_sure _ h).0 in
+      let clean : IsTrue (state g old).is_clean = clean_of _ (clean_then h) in
+      subst (λ (held : Option (Held S)). IsHonest g (record self { held = held })) (sym it.at) (both _ _ sure clean)
+
+  pub value : (V : Content → Type 0) → (HasCleanDisk (state g new) → (c : Content) → Serves (state g old) c → V c) → IsTrue (is_sure && (state g new).is_clean)
+      → (c : Content) → Holds (MayFind g self.held) c → V c
+  value V read h c holds =
+      let was = it.known (parts is_sure _ h).0 (clean_then h) in
+      subst V (served g settled stays old new was.0 was.1 c (to_old (λ f. Holds f c) holds)) (read (clean_now h) was.0 was.1)
+
+  pub same : (HasCleanDisk (state g new) → StillServes (state g old) (state g new)) → IsTrue (is_sure && (state g new).is_clean) → FindsSame (MayFind g self.held) (MayFindIn g new)
+  same still h =
+      let was = it.known (parts is_sure _ h).0 (clean_then h) in
+      from_self (λ f. FindsSame f (MayFindIn g new)) (same_found g settled stays old new was.0 was.1 (still (clean_now h) was.0 was.1))
+
+  pub kept : (T : Type 0) (e : RecordsFault) → (IsHarmless e → HasCleanDisk (state g new) → StillServes (state g old) (state g new)) → ((c : Content) (db : Trees) → Serves (state g old) c → Commits db → ⊥)
+      → IsTrue (is_sure && (state g new).is_clean) → Keeps {T = T} (Err e) (MayFind g self.held) (MayFindIn g new)
+  kept T e still none h =
+      let was = it.known (parts is_sure _ h).0 (clean_then h) in
+      keeps_err T e (MayFind g self.held) (MayFindIn g new) (λ harmless. same (still harmless) h)
+      (from_self (λ f. AddsNothing f (MayFindIn g new)) (no_more g old new Commits (λ db. none was.0 db was.1) (clean_now h) survives))
+
+  pub made : (w : Write) → (HasCleanDisk (state g new) → HasWritten (state g old) (state g new) w) → IsTrue (is_sure && (state g new).is_clean) → HasMade (MayFind g self.held) (MayFindIn g new) w
+  made w written h =
+      let was = it.known (parts is_sure _ h).0 (clean_then h) in
+      from_self (λ f. HasMade f (MayFindIn g new) w) (now_holds g settled stays old new was.0 was.1 w (written (clean_now h) was.0 was.1))
+
+module _ {S : Type 0} (g : Ghosts S) (settled : (s : S) (db : Trees) → IsTrue (g.view s).is_open → g.recovers s db → db ≡ (g.view s).committed)
+    (stays : (s : S) → IsTrue (g.view s).is_open → g.recovers s (g.view s).committed) (self : Linked S) (old new : Held S) (is_sure : Bool) (it : Entered g self old is_sure)
+    (w : Write) (survives : Survives (state g old) (state g new) (MayHaveWritten (state g old) w)) where
+  pub in_doubt : IsTrue (is_sure && (state g new).is_clean) → MayHaveMade (MayFind g self.held) (MayFindIn g new) w
+  in_doubt h =
+      let clean : HasCleanDisk (state g new) = no_doubt _ (parts is_sure _ h).1 in
+      let before : HasCleanDisk (state g old) = omega (arith, survives.clean, clean) in
+      let was = it.known (parts is_sure _ h).0 before in
+      subst (λ held. MayHaveMade (MayFind g held) (MayFindIn g new) w) (sym it.at) (may_hold g settled stays old new was.0 was.1 w clean survives)
+
+  pub adds_only : IsTrue (is_sure && (state g new).is_clean) → AddsOnly (MayFind g self.held) (MayFindIn g new) w
+  adds_only h =
+      let clean : HasCleanDisk (state g new) = no_doubt _ (parts is_sure _ h).1 in
+      let before : HasCleanDisk (state g old) = omega (arith, survives.clean, clean) in
+      let was = it.known (parts is_sure _ h).0 before in
+      subst (λ held. AddsOnly (MayFind g held) (MayFindIn g new) w) (sym it.at) (only_adds g settled stays old new was.0 was.1 w clean survives)
+
+-- what stays true of the fields where a write was made
+pub linked_made : {S : Type 0} (g : Ghosts S) (held : Option (Held S)) (old new : Held S) (is_up is_sure : Bool) (hi hi′ : Option (Option ℕ)) (w : Write) → held ≡ Some old → IsLinked g held is_up is_sure hi → is_up ≡ true
+    → Survives (state g old) (state g new) (MayHaveWritten (state g old) w) → (HasCleanDisk (state g new) → HasWritten (state g old) (state g new) w)
+    → ((c : Content) → IfSome hi (λ b. number_of b ≡ promised c) → IfSome hi′ (λ b. number_of b ≡ promised (after_write c (Some w))))
+    → IsLinked g (Some new) is_up is_sure hi′
+linked_made g held old new is_up is_sure hi hi′ w some linked up survives written higher sure clean =
+    let before : HasCleanDisk (state g old) = omega (arith, survives.clean, clean) in
+    let it = subst (λ h. IsLinked g h is_up is_sure hi) some linked sure before in
+    let was = it.1 up in (
+      λ db may. elim (survives.crash clean db may) [ inl stood ↦ it.0 db stood | inr wrote ↦ ∣ (after_write was.0 (Some w), wrote was.0 was.1) ∣₁ ],
+      λ _. (after_write was.0 (Some w), written clean was.0 was.1, higher was.0 was.2),
+    )
+
+abbrev pub IsRaised : Option (Option ℕ) → ℕ → Option (Option ℕ) → Type 0
+IsRaised hi ballot hi′ = IfSome hi′ (λ b. (b ≡ Some ballot) × ((n : ℕ) → IfSome hi (λ was. number_of was ≡ n) → n ≤ ballot))
+
+pub raised_row : (ballot : ℕ) (c : Content) (hi hi′ : Option (Option ℕ)) → IsRaised hi ballot hi′ → IfSome hi (λ b. number_of b ≡ promised c) → IfSome hi′ (λ b. number_of b ≡ promised (after_write c (Some (Promises ballot))))
+raised_row ballot c hi None raised known = tt
+raised_row ballot c hi (Some b) raised known =
+    let low : promised c ≤ ballot = raised.1 (promised c) known in
+    ap number_of raised.0 ∙ omega (arith, low, greatest_apart c.row c.votes, greatest_apart ballot c.votes)
+
+pub raised_vote : (ballot place : ℕ) (cast : Cast) (c : Content) (hi hi′ : Option (Option ℕ)) → cast.ballot ≡ ballot → IsRaised hi ballot hi′ → IfSome hi (λ b. number_of b ≡ promised c)
+    → IfSome hi′ (λ b. number_of b ≡ promised (after_write c (Some (Votes place cast))))
+raised_vote ballot place cast c hi None same raised known = tt
+raised_vote ballot place cast c hi (Some b) same raised known =
+    let low : promised c ≤ ballot = raised.1 (promised c) known in
+    let it = replaced c.row c.votes place cast in
+    ap number_of raised.0 ∙ omega (arith, low, it.1, it.2, same)
+
+-- the promised ballot, where it is known
+pub value_known : {S : Type 0} (g : Ghosts S) (settled : (s : S) (db : Trees) → IsTrue (g.view s).is_open → g.recovers s db → db ≡ (g.view s).committed)
+    (stays : (s : S) → IsTrue (g.view s).is_open → g.recovers s (g.view s).committed) (self : Linked S) (old : Held S) (is_sure : Bool) → Entered g self old is_sure → (highest : Option ℕ) → self.highest ≡ Some highest
+    → IsTrue (is_sure && (state g old).is_clean) → (c : Content) → Holds (MayFind g self.held) c → number_of highest ≡ promised c
+value_known g settled stays self old is_sure it highest is h c holds =
+    let was = it.known (parts is_sure _ h).0 (no_doubt _ (parts is_sure _ h).1) in
+    let known = subst (λ hi. IfSome hi (λ b. number_of b ≡ promised was.0)) is was.2 in
+    known ∙ ap promised (served g settled stays old old was.0 was.1 c (subst (λ held. Holds (MayFind g held) c) it.at holds))

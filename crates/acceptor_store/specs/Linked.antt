@@ -1,0 +1,106 @@
+-- Records over a connection.
+use Rattle.std.specs.Prelude.{◌≡◌, ℕ, Bool, true, false, ◌&&◌, Option, Some, None, ◌⊎◌, IfSome, IsTrue, refl}
+use Rattle.std.specs.Coded.{Coded, code_by, coded×, coded_bool, coded_ℕ, coded_option}
+use Rattle.ballots.specs.Ballots.{number_of}
+use Rattle.sqlite_disk.specs.declared.Disk as disk
+use Rattle.sqlite_disk.specs.declared.Files.{Files}
+use Rattle.sqlite.specs.Files.{HoldsDatabase, image_of}
+use Rattle.sqlite.specs.Store.{Ghosts}
+use Rattle.sqlite.specs.Tree.{Trees}
+use Rattle.sqlite.specs.State.{HasCleanDisk}
+use Rattle.sqlite.specs.Effect.{IsDatabase}
+use Rattle.sqlite.specs.Held.{Held, held_code, state}
+use Rattle.acceptor.specs.Content.{Content, no_content, promised}
+use Rattle.acceptor.specs.Found.{Holds, AddsNothing}
+use Rattle.acceptor_store_parts.specs.Tables.{store_schema, blank_schema}
+use Rattle.acceptor_store_parts.specs.Rowids.{IsReread}
+use Rattle.acceptor_store_parts.specs.Stored.{AreTables}
+use Rattle.acceptor_store_parts.specs.Serves.{Serves}
+
+-- records as their contracts see them
+pub record Linked (S : Type 0) : Type 0 where
+  -- none once a reopen has failed
+  pub held : Option (Held S)
+  -- no statement has failed since the tables were tested
+  pub is_up : Bool
+  -- no reopen has failed so far
+  pub is_sure : Bool
+  -- the promised ballot, where it is known
+  pub highest : Option (Option ℕ)
+  pub failures : ℕ
+
+-- they are stored as the tuple of their fields
+abbrev pub linked_code : {S : Type 0} → Coded S → Coded (Linked S)
+linked_code {S} store =
+    code_by (Option (Held S) × (Bool × (Bool × (Option (Option ℕ) × ℕ)))) (coded× (coded_option (held_code store)) (coded× coded_bool (coded× coded_bool (coded× (coded_option (coded_option coded_ℕ)) coded_ℕ))))
+    (λ r. (r.held, (r.is_up, (r.is_sure, (r.highest, r.failures)))))
+    (λ p. record { held = p.0; is_up = p.1.0; is_sure = p.1.1.0; highest = p.1.1.1.0; failures = p.1.1.1.1 })
+    (λ _. refl)
+
+-- what an open after a crash at this moment may find
+abbrev pub MayFindIn : {S : Type 0} → Ghosts S → Held S → Content → Type 0
+MayFindIn g h c = ∥ ((db : Trees) × (state g h).may_leave db × AreTables db c) ∥₁
+
+-- and with no connection anything
+abbrev pub MayFind : {S : Type 0} → Ghosts S → Option (Held S) → Content → Type 0
+MayFind g None c = Unit {0}
+MayFind g (Some h) c = MayFindIn g h c
+
+-- the library has the disk clean
+abbrev pub is_clean_in : {S : Type 0} → Ghosts S → Option (Held S) → Bool
+is_clean_in g None = false
+is_clean_in g (Some h) = (state g h).is_clean
+
+-- no reopen has failed, and the disk is clean
+abbrev pub is_honest : {S : Type 0} → Ghosts S → Linked S → Bool
+is_honest g r = r.is_sure && is_clean_in g r.held
+
+-- the records are honest
+abbrev pub IsHonest : {S : Type 0} → Ghosts S → Linked S → Type 0
+IsHonest g r = IsTrue (is_honest g r)
+
+-- it serves some content, whose promised ballot is this one where it is known
+abbrev pub Knows : {S : Type 0} → Ghosts S → Held S → Option (Option ℕ) → Type 0
+Knows g h highest = (c : Content) × Serves (state g h) c × IfSome highest (λ b. number_of b ≡ promised c)
+
+-- whatever a crash leaves holds some content
+abbrev pub Stands : {S : Type 0} → Ghosts S → Held S → Type 0
+Stands g h = (db : Trees) → (state g h).may_leave db → ∥ ((c : Content) × AreTables db c) ∥₁
+
+-- an honest connection stands, and while it is up it serves some content
+abbrev pub IsLinked : {S : Type 0} → Ghosts S → Option (Held S) → Bool → Bool → Option (Option ℕ) → Type 0
+IsLinked g None is_up is_sure highest = Unit {0}
+IsLinked g (Some h) is_up is_sure highest = IsTrue is_sure → HasCleanDisk (state g h) → Stands g h × (is_up ≡ true → Knows g h highest)
+
+-- a connection that was tested serves this content, and a crash leaves that
+abbrev pub IsTested : {S : Type 0} → Ghosts S → Held S → Held S → Option ℕ → Content → Type 0
+IsTested g old new highest c =
+    Serves (state g new) c × (number_of highest ≡ promised c) × Stands g new × Holds (MayFindIn g new) c × ((db : Trees) → (state g new).may_leave db → db ≡ (state g old).committed.trees)
+
+-- what tests of the tables told
+abbrev pub Tells : {S : Type 0} → Ghosts S → Held S → Held S → Option ℕ → Type 0
+Tells g old new highest = ((state g old).now.schema ≡ store_schema) × ((k : Content) × ((c : Content) → Serves (state g old) c → (c ≡ k) × IsTested g old new highest c))
+
+-- a connection opened anew serves what the old one may have left
+pub record Reopens {S : Type 0} (g : Ghosts S) (old new : Held S) (highest : Option ℕ) : Type 0 where
+  pub was_clean : HasCleanDisk (state g old)
+  pub knows : Stands g old → Knows g new (Some highest)
+  pub stands : Stands g old → Stands g new
+  pub holds : (before : Stands g old) → Holds (MayFindIn g new) (knows before).0
+  pub adds_nothing : Stands g old → AddsNothing (MayFindIn g old) (MayFindIn g new)
+
+-- it serves what its tables hold
+abbrev pub Examines : {S : Type 0} → Ghosts S → Held S → Held S → Option ℕ → Type 0
+Examines g old new highest = IsReread (state g old) → (c : Content) × AreTables (state g old).now.trees c × Serves (state g new) c × (number_of highest ≡ promised c)
+
+-- the last commit holds the content, or has no tables at all
+abbrev pub Had : {S : Type 0} → Ghosts S → Held S → Content → Type 0
+Had g conn c = (((state g conn).now.schema ≡ blank_schema) × (c ≡ no_content)) ⊎ AreTables (state g conn).committed.trees c
+
+-- it serves what the older one had, and this is the promised ballot
+abbrev pub Prepares : {S : Type 0} → Ghosts S → Held S → Held S → Option ℕ → Type 0
+Prepares g old new highest = (c : Content) × Had g old c × Serves (state g new) c × (number_of highest ≡ promised c)
+
+-- a database that the files hold has the content, or it has no tables and the content is none
+abbrev pub IsIn : {D : Type 0} → disk.Ghosts D → Files D → Content → Type 0
+IsIn g files c = (db : Trees) → HoldsDatabase (image_of g files) db → AreTables db c ⊎ (IsDatabase (record { schema = blank_schema; trees = db }) × (c ≡ no_content))

@@ -1,0 +1,520 @@
+//! Records in SQL tables.
+#![tactic(auto)]
+
+ghost use Rattle.std.specs.Prelude.{◌≡◌, ◌≤◌, false, not, if◌then◌else◌, pos, IfOk, IfErr, IfSome, OnOk, Some, max, IsTrue};
+ghost use Rattle.ballots.specs.Ballots.{number_of};
+ghost use Rattle.acceptor.specs.Faults.{BreaksBy, CountsFaults, HasRisen, IsHarmless, IsStoreFault};
+ghost use Rattle.acceptor.specs.declared.records.RecordsFault.TheVariants.{OutOfMemory};
+ghost use Rattle.acceptor.specs.Content.{Content, IsSound, promised, greatest, no_content};
+ghost use Rattle.ballots.specs.Rows.{at, rows_from};
+ghost use Rattle.acceptor.specs.Content.Write.{Tries, Promises, Votes as Casts};
+ghost use Rattle.acceptor.specs.Found.{Holds, HoldsEither, AddsNothing, AddsOnly, FindsSame, HasMade, Keeps, MayHaveMade};
+ghost use Rattle.sqlite.specs.Files.{over_files, file_state};
+ghost use Rattle.sqlite.specs.State.{HasCleanDisk, Survives};
+ghost use Rattle.sqlite.specs.Held.{state};
+ghost use Rattle.sqlite_trees.specs.View.{doubt};
+ghost use Rattle.acceptor_store_parts.specs.Serves.{Serves, StillServes, DoesNotServe, StaysOpen};
+ghost use Rattle.acceptor_store_parts.specs.Stops.{LeavesOpen, leaves_open};
+ghost use Rattle.acceptor_store.specs.Linked.{MayFind, IsHonest, is_honest, Tells, Reopens, Examines, Had, IsIn, Prepares};
+
+use acceptor::{Records, RecordsFault};
+use acceptor_store_parts::{Stop, Unread};
+use ballots::{Ballot, Cast, Place, Value, Votes};
+use sqlite::{Alter, Connection, Error as SqlError, ErrorCode, FileStore, Files, Options};
+use sqlite_disk::Disk;
+use std::alloc::Global;
+use std::marker::Model;
+use thiserror::Error;
+
+/// Records in two tables, which this connection alone writes.
+#[derive(Drop)]
+pub struct SqlRecords<S: Alter> {
+    alloc: Global,
+    conn: Option<Connection<S>>,
+    is_up: bool,
+    is_sure: bool,
+    highest: Option<Option<Ballot>>,
+    failures: u64,
+}
+
+impl<S: Alter> Model for SqlRecords<S> {
+    ghost use Rattle.acceptor_store.specs.Linked.{Linked, linked_code, IsLinked};
+
+    ghost Value = { Linked S };
+
+    ghost coded = { linked_code S.code };
+
+    ghost view = { λ r. record { held = r.conn; is_up = r.is_up; is_sure = r.is_sure; highest = r.highest; failures = r.failures } };
+
+    ghost invariant = { λ r. IsLinked S.Store r.conn r.is_up r.is_sure r.highest };
+}
+
+/// The count after one more failure. At the top it stays.
+fn risen(failures: u64) -> u64
+    ensures risen { HasRisen failures result }
+    ensures counts { failures ≤ result }
+{
+    failures.saturating_add(1)
+}
+
+/// Notes how a call ended that failed.
+fn end(is_up: &mut bool, failures: &mut u64, stop: Stop) -> RecordsFault
+    ensures up { is_up.new ≡ (if leaves_open stop then is_up.old else false) }
+    ensures harmless { IsHarmless result → LeavesOpen stop }
+    ensures open { LeavesOpen stop → IsHarmless result }
+    ensures count { (failures.old ≤ failures.new) × (IsStoreFault result → HasRisen failures.old failures.new) × (result ≡ OutOfMemory → failures.new ≡ failures.old) }
+{
+    match stop {
+        Stop::Memory => RecordsFault::OutOfMemory,
+        Stop::Refused => {
+            *failures = risen(*failures);
+            RecordsFault::Refused
+        }
+        Stop::Down => {
+            *failures = risen(*failures);
+            *is_up = false;
+            RecordsFault::Broken
+        }
+    }
+}
+
+fn tried_in<S: Alter>(conn: &mut Connection<S>) -> Result<Option<Ballot>, Stop>
+    ensures value { HasCleanDisk (state S.Store conn.new) → IfOk result (λ b. (c : Content) → Serves (state S.Store conn.old) c → number_of b ≡ c.tried) }
+    ensures stays { HasCleanDisk (state S.Store conn.new) → StaysOpen result → StillServes (state S.Store conn.old) (state S.Store conn.new) }
+    ensures survives { Survives (state S.Store conn.old) (state S.Store conn.new) (λ _. DoesNotServe (state S.Store conn.old)) }
+{
+    let number = acceptor_store_parts::tried(conn)?;
+    acceptor_store_parts::ballot_of(number)
+}
+
+/// The greatest ballot after `ballot` took the place of another, where that is known.
+fn raised(highest: Option<Option<Ballot>>, ballot: Ballot) -> Option<Option<Ballot>>
+    ensures { IfSome result (λ b. (b ≡ Some ballot) × ((n : _) → IfSome highest (λ was. number_of was ≡ n) → n ≤ ballot)) }
+{
+    match highest? {
+        Some(was) if ballot.number() < was.number() => None,
+        _ => Some(Some(ballot)),
+    }
+}
+
+fn higher(ballot: Option<Ballot>, other: Ballot) -> Option<Ballot>
+    ensures { number_of result ≡ max (number_of ballot) other }
+{
+    match ballot {
+        Some(b) if b.number() >= other.number() => ballot,
+        _ => Some(other),
+    }
+}
+
+/// The greatest of a ballot and those of the votes.
+#[tactic(auto, using(acceptor::proofs::Greatest::greatest_max))]
+fn greatest_of(ballot: Option<Ballot>, votes: &[(u64, Cast)]) -> Option<Ballot>
+    ensures { number_of result ≡ greatest (number_of ballot) votes.now }
+{
+    let mut most = ballot;
+    for vote in votes {
+        most = higher(most, vote.1.ballot);
+    }
+    most
+}
+
+/// The promised ballot, as the tables have it.
+fn promised_in<S: Alter>(alloc: Global, conn: &mut Connection<S>) -> Result<Option<Ballot>, Stop>
+    ensures value { HasCleanDisk (state S.Store conn.new) → IfOk result (λ b. (c : Content) → Serves (state S.Store conn.old) c → number_of b ≡ promised c) }
+    ensures stays { HasCleanDisk (state S.Store conn.new) → StaysOpen result → StillServes (state S.Store conn.old) (state S.Store conn.new) }
+    ensures survives { Survives (state S.Store conn.old) (state S.Store conn.new) (λ _. DoesNotServe (state S.Store conn.old)) }
+{
+    let Some(numbers) = acceptor_store_parts::read_numbers(conn)? else {
+        return Err(Stop::Down);
+    };
+    let Some(first) = Place::new(1) else {
+        return Err(Stop::Down);
+    };
+    let votes = acceptor_store_parts::votes_from(alloc, conn, first)?;
+    Ok(greatest_of(numbers.1, votes.rows()))
+}
+
+/// Tests the tables of a connection that was opened, and gives the promised ballot. None where they are none of the records, or can't be read.
+fn tested<S: Alter>(alloc: Global, conn: &mut Connection<S>) -> Option<Option<Ballot>>
+    ensures tells { HasCleanDisk (state S.Store conn.new) → IfSome result (Tells S.Store conn.old conn.new) }
+    ensures clean { doubt (state S.Store conn.old).is_clean ≤ doubt (state S.Store conn.new).is_clean }
+{
+    match acceptor_store_parts::is_store(alloc, conn.schema()) {
+        Ok(true) => {}
+        _ => return None,
+    }
+    let Ok(numbers) = acceptor_store_parts::read_numbers(conn) else {
+        return None;
+    };
+    let numbers = numbers?;
+    let first = Place::new(1)?;
+    let Ok(votes) = acceptor_store_parts::votes_from(alloc, conn, first) else {
+        return None;
+    };
+    Some(greatest_of(numbers.1, votes.rows()))
+}
+
+// The salts of a log need no secret here.
+const SEED: u64 = 0x5eed;
+
+/// Opens the files of the connection anew, and tests the tables again.
+fn opened_anew<D: Disk + Drop>(
+    alloc: Global,
+    conn: Connection<FileStore<D>>,
+) -> Option<(Connection<FileStore<D>>, Option<Ballot>)>
+    ensures { IfSome result (λ r. HasCleanDisk (file_state r.0) → Reopens over_files conn r.0 r.1) }
+{
+    let Ok(mut fresh) = acceptor_store_parts::reopened(alloc, conn, Options::new(SEED)) else {
+        return None;
+    };
+    let highest = tested(alloc, &mut fresh)?;
+    Some((fresh, highest))
+}
+
+/// Why records weren't opened.
+#[derive(Clone, Copy, Debug, PartialEq, Eq, Error)]
+pub enum OpenFault {
+    /// The store failed, or the files hold no database.
+    #[error("Refused")]
+    Refused,
+    /// The store is shut, or its files can't be used.
+    #[error("Broken")]
+    Broken,
+    /// Memory was refused.
+    #[error("OutOfMemory")]
+    OutOfMemory,
+    /// The tables are there, and are none of the records.
+    #[error("Foreign")]
+    Foreign,
+}
+
+fn stopped(stop: Stop) -> OpenFault {
+    match stop {
+        Stop::Memory => OpenFault::OutOfMemory,
+        Stop::Refused => OpenFault::Refused,
+        Stop::Down => OpenFault::Broken,
+    }
+}
+
+/// Tests tables that are there.
+fn examined<S: Alter>(alloc: Global, conn: &mut Connection<S>) -> Result<Option<Ballot>, OpenFault>
+    ensures tables { HasCleanDisk (state S.Store conn.new) → IfOk result (Examines S.Store conn.old conn.new) }
+    ensures clean { doubt (state S.Store conn.old).is_clean ≤ doubt (state S.Store conn.new).is_clean }
+{
+    match acceptor_store_parts::is_store(alloc, conn.schema()) {
+        Ok(true) => {}
+        Ok(false) => return Err(OpenFault::Foreign),
+        Err(_) => return Err(OpenFault::OutOfMemory),
+    }
+    let shown = match acceptor_store_parts::query_numbers(conn) {
+        Ok(shown) => shown,
+        Err(error) => return Err(stopped(acceptor_store_parts::stop_for(conn, error))),
+    };
+    let Some(numbers) = acceptor_store_parts::both_numbers(shown.as_slice()) else {
+        return Err(OpenFault::Foreign);
+    };
+    let rows = match acceptor_store_parts::query_all_votes(conn) {
+        Ok(rows) => rows,
+        Err(error) => return Err(stopped(acceptor_store_parts::stop_for(conn, error))),
+    };
+    let votes = match acceptor_store_parts::read_votes(alloc, rows.as_slice()) {
+        Ok(votes) => votes,
+        Err(Unread::Memory) => return Err(OpenFault::OutOfMemory),
+        Err(Unread::Wrong) => return Err(OpenFault::Foreign),
+    };
+    if !acceptor_store_parts::are_in_order(votes.rows()) {
+        return Err(OpenFault::Foreign);
+    }
+    Ok(greatest_of(numbers.1, votes.rows()))
+}
+
+/// The connection with its tables tested or made, and the promised ballot.
+fn prepared<S: Alter + Drop>(
+    alloc: Global,
+    mut conn: Connection<S>,
+) -> Result<(Connection<S>, Option<Ballot>), OpenFault>
+    ensures tables { IfOk result (λ r. HasCleanDisk (state S.Store r.0) → Prepares S.Store conn r.0 r.1) }
+    ensures clean { IfOk result (λ r. doubt (state S.Store conn).is_clean ≤ doubt (state S.Store r.0).is_clean) }
+{
+    if acceptor_store_parts::is_blank(conn.schema()) {
+        return match acceptor_store_parts::make_tables(&mut conn) {
+            Ok(()) => Ok((conn, None)),
+            Err(stop) => Err(stopped(stop)),
+        };
+    }
+    // Over the store the rows stand by rowid, which no other call tells.
+    let mut again = match acceptor_store_parts::reread(alloc, conn) {
+        Ok(Some(again)) => again,
+        Ok(None) => return Err(OpenFault::Foreign),
+        Err(stop) => return Err(stopped(stop)),
+    };
+    let highest = examined(alloc, &mut again)?;
+    Ok((again, highest))
+}
+
+impl<S: Alter + Drop> SqlRecords<S> {
+    /// Records over the connection. Tables that aren't there are made, and what is not committed is rolled back.
+    pub fn open(alloc: Global, conn: Connection<S>) -> Result<SqlRecords<S>, OpenFault>
+        ensures holds { IfOk result (λ r. IsHonest S.Store r → (c : Content) × Had S.Store conn c × Holds (MayFind S.Store r.held) c) }
+        ensures clean { IfOk result (λ r. IsHonest S.Store r → HasCleanDisk (state S.Store conn)) }
+    {
+        let found = prepared(alloc, conn)?;
+        Ok(SqlRecords {
+            alloc,
+            conn: Some(found.0),
+            is_up: true,
+            is_sure: true,
+            highest: Some(found.1),
+            failures: 0,
+        })
+    }
+}
+
+fn unopened(error: SqlError) -> OpenFault {
+    match error {
+        SqlError::SqliteFailure(ErrorCode::OutOfMemory) => OpenFault::OutOfMemory,
+        _ => OpenFault::Refused,
+    }
+}
+
+/// Records over the files, whatever was left of them by a crash.
+pub fn open_files<D: Disk + Drop>(
+    alloc: Global,
+    files: Files<D>,
+) -> Result<SqlRecords<FileStore<D>>, OpenFault>
+    ensures { IfOk result (λ r. IsHonest over_files r → (c : Content) × Holds (MayFind over_files r.held) c × IsIn D.Disk files c) }
+{
+    if !files.may_be_used() {
+        return Err(OpenFault::Broken);
+    }
+    match Connection::open_files(alloc, files, Options::new(SEED)) {
+        Ok(conn) => SqlRecords::open(alloc, conn),
+        Err((error, left)) => {
+            let _files = left.into_files();
+            Err(unopened(error))
+        }
+    }
+}
+
+impl<S: Alter> SqlRecords<S> {
+    fn find_tried(&mut self) -> Result<Option<Ballot>, RecordsFault>
+        ensures value { IsHonest S.Store self.new → IfOk result (λ b. (c : Content) → Holds (MayFind S.Store self.old.held) c → number_of b ≡ c.tried) }
+        ensures kept { IsHonest S.Store self.new → Keeps result (MayFind S.Store self.old.held) (MayFind S.Store self.new.held) }
+        ensures honest { IsHonest S.Store self.new → IsHonest S.Store self.old }
+        ensures count { CountsFaults result self.old.failures self.new.failures }
+        ensures broken { BreaksBy result (not self.old.is_up) (not self.new.is_up) }
+    {
+        if !self.is_up {
+            return Err(end(&mut self.is_up, &mut self.failures, Stop::Down));
+        }
+        let Some(conn) = &mut self.conn else {
+            return Err(end(&mut self.is_up, &mut self.failures, Stop::Down));
+        };
+        match tried_in(conn) {
+            Ok(found) => Ok(found),
+            Err(stop) => Err(end(&mut self.is_up, &mut self.failures, stop)),
+        }
+    }
+
+    fn find_vote(&mut self, place: Place) -> Result<Option<Cast>, RecordsFault>
+        ensures value { IsHonest S.Store self.new → IfOk result (λ v. (c : Content) → Holds (MayFind S.Store self.old.held) c → v ≡ at c.votes place) }
+        ensures kept { IsHonest S.Store self.new → Keeps result (MayFind S.Store self.old.held) (MayFind S.Store self.new.held) }
+        ensures honest { IsHonest S.Store self.new → IsHonest S.Store self.old }
+        ensures count { CountsFaults result self.old.failures self.new.failures }
+        ensures broken { BreaksBy result (not self.old.is_up) (not self.new.is_up) }
+    {
+        let alloc = self.alloc;
+        if !self.is_up {
+            return Err(end(&mut self.is_up, &mut self.failures, Stop::Down));
+        }
+        let Some(conn) = &mut self.conn else {
+            return Err(end(&mut self.is_up, &mut self.failures, Stop::Down));
+        };
+        match acceptor_store_parts::vote(alloc, conn, place) {
+            Ok(found) => Ok(found),
+            Err(stop) => Err(end(&mut self.is_up, &mut self.failures, stop)),
+        }
+    }
+
+    fn find_votes_from(&mut self, place: Place) -> Result<Votes, RecordsFault>
+        ensures value { IsHonest S.Store self.new → IfOk result (λ votes. (c : Content) → Holds (MayFind S.Store self.old.held) c → votes ≡ rows_from c.votes place) }
+        ensures sound { IsHonest S.Store self.new → OnOk result ((c : Content) → Holds (MayFind S.Store self.old.held) c → IsSound c) }
+        ensures kept { IsHonest S.Store self.new → Keeps result (MayFind S.Store self.old.held) (MayFind S.Store self.new.held) }
+        ensures honest { IsHonest S.Store self.new → IsHonest S.Store self.old }
+        ensures count { CountsFaults result self.old.failures self.new.failures }
+        ensures broken { BreaksBy result (not self.old.is_up) (not self.new.is_up) }
+    {
+        let alloc = self.alloc;
+        if !self.is_up {
+            return Err(end(&mut self.is_up, &mut self.failures, Stop::Down));
+        }
+        let Some(conn) = &mut self.conn else {
+            return Err(end(&mut self.is_up, &mut self.failures, Stop::Down));
+        };
+        match acceptor_store_parts::votes_from(alloc, conn, place) {
+            Ok(found) => Ok(found),
+            Err(stop) => Err(end(&mut self.is_up, &mut self.failures, stop)),
+        }
+    }
+
+    fn find_promised(&mut self) -> Result<Option<Ballot>, RecordsFault>
+        ensures value { IsHonest S.Store self.new → IfOk result (λ b. (c : Content) → Holds (MayFind S.Store self.old.held) c → number_of b ≡ promised c) }
+        ensures kept { IsHonest S.Store self.new → Keeps result (MayFind S.Store self.old.held) (MayFind S.Store self.new.held) }
+        ensures honest { IsHonest S.Store self.new → IsHonest S.Store self.old }
+        ensures count { CountsFaults result self.old.failures self.new.failures }
+        ensures broken { BreaksBy result (not self.old.is_up) (not self.new.is_up) }
+    {
+        let alloc = self.alloc;
+        if !self.is_up {
+            return Err(end(&mut self.is_up, &mut self.failures, Stop::Down));
+        }
+        let Some(conn) = &mut self.conn else {
+            return Err(end(&mut self.is_up, &mut self.failures, Stop::Down));
+        };
+        if let Some(highest) = self.highest {
+            return Ok(highest);
+        }
+        match promised_in(alloc, conn) {
+            Ok(found) => Ok(found),
+            Err(stop) => Err(end(&mut self.is_up, &mut self.failures, stop)),
+        }
+    }
+
+    fn set_tried(&mut self, ballot: Ballot) -> Result<(), RecordsFault>
+        ensures ok { IsHonest S.Store self.new → OnOk result (HasMade (MayFind S.Store self.old.held) (MayFind S.Store self.new.held) (Tries ballot)) }
+        ensures harmless { IsHonest S.Store self.new → IfErr result (λ e. IsHarmless e → FindsSame (MayFind S.Store self.old.held) (MayFind S.Store self.new.held)) }
+        ensures doubt { IsHonest S.Store self.new → MayHaveMade (MayFind S.Store self.old.held) (MayFind S.Store self.new.held) (Tries ballot) }
+        ensures only { IsHonest S.Store self.new → AddsOnly (MayFind S.Store self.old.held) (MayFind S.Store self.new.held) (Tries ballot) }
+        ensures honest { IsHonest S.Store self.new → IsHonest S.Store self.old }
+        ensures count { CountsFaults result self.old.failures self.new.failures }
+        ensures broken { BreaksBy result (not self.old.is_up) (not self.new.is_up) }
+    {
+        if !self.is_up {
+            return Err(end(&mut self.is_up, &mut self.failures, Stop::Down));
+        }
+        let Some(conn) = &mut self.conn else {
+            return Err(end(&mut self.is_up, &mut self.failures, Stop::Down));
+        };
+        match acceptor_store_parts::put_tried(conn, ballot) {
+            Ok(()) => Ok(()),
+            Err(stop) => Err(end(&mut self.is_up, &mut self.failures, stop)),
+        }
+    }
+
+    fn set_promised(&mut self, ballot: Ballot) -> Result<(), RecordsFault>
+        ensures ok { IsHonest S.Store self.new → OnOk result (HasMade (MayFind S.Store self.old.held) (MayFind S.Store self.new.held) (Promises ballot)) }
+        ensures harmless { IsHonest S.Store self.new → IfErr result (λ e. IsHarmless e → FindsSame (MayFind S.Store self.old.held) (MayFind S.Store self.new.held)) }
+        ensures doubt { IsHonest S.Store self.new → MayHaveMade (MayFind S.Store self.old.held) (MayFind S.Store self.new.held) (Promises ballot) }
+        ensures only { IsHonest S.Store self.new → AddsOnly (MayFind S.Store self.old.held) (MayFind S.Store self.new.held) (Promises ballot) }
+        ensures honest { IsHonest S.Store self.new → IsHonest S.Store self.old }
+        ensures count { CountsFaults result self.old.failures self.new.failures }
+        ensures broken { BreaksBy result (not self.old.is_up) (not self.new.is_up) }
+    {
+        if !self.is_up {
+            return Err(end(&mut self.is_up, &mut self.failures, Stop::Down));
+        }
+        let Some(conn) = &mut self.conn else {
+            return Err(end(&mut self.is_up, &mut self.failures, Stop::Down));
+        };
+        match acceptor_store_parts::put_promised(conn, ballot) {
+            Ok(()) => {
+                self.highest = raised(self.highest, ballot);
+                Ok(())
+            }
+            Err(stop) => Err(end(&mut self.is_up, &mut self.failures, stop)),
+        }
+    }
+
+    fn set_vote(&mut self, place: Place, ballot: Ballot, value: &Value) -> Result<(), RecordsFault>
+        ensures ok { IsHonest S.Store self.new → OnOk result (HasMade (MayFind S.Store self.old.held) (MayFind S.Store self.new.held) (Casts place record { ballot = ballot; value = value.now })) }
+        ensures harmless { IsHonest S.Store self.new → IfErr result (λ e. IsHarmless e → FindsSame (MayFind S.Store self.old.held) (MayFind S.Store self.new.held)) }
+        ensures doubt { IsHonest S.Store self.new → MayHaveMade (MayFind S.Store self.old.held) (MayFind S.Store self.new.held) (Casts place record { ballot = ballot; value = value.now }) }
+        ensures only { IsHonest S.Store self.new → AddsOnly (MayFind S.Store self.old.held) (MayFind S.Store self.new.held) (Casts place record { ballot = ballot; value = value.now }) }
+        ensures honest { IsHonest S.Store self.new → IsHonest S.Store self.old }
+        ensures count { CountsFaults result self.old.failures self.new.failures }
+        ensures broken { BreaksBy result (not self.old.is_up) (not self.new.is_up) }
+    {
+        if !self.is_up {
+            return Err(end(&mut self.is_up, &mut self.failures, Stop::Down));
+        }
+        let Some(conn) = &mut self.conn else {
+            return Err(end(&mut self.is_up, &mut self.failures, Stop::Down));
+        };
+        match acceptor_store_parts::put_vote(conn, place, ballot, value) {
+            Ok(()) => {
+                self.highest = raised(self.highest, ballot);
+                Ok(())
+            }
+            Err(stop) => Err(end(&mut self.is_up, &mut self.failures, stop)),
+        }
+    }
+}
+
+impl<D: Disk + Drop> Records for SqlRecords<FileStore<D>> {
+    ghost may_find = { λ r. MayFind over_files r.held };
+
+    ghost is_honest = { λ r. is_honest over_files r };
+
+    ghost count_of = { λ r. r.failures };
+
+    ghost is_broken = { λ r. not r.is_up };
+
+    ghost finds_no_memory = { λ _ _. Unit {0} };
+
+    ghost reopens = { λ old new. IsHonest over_files new → AddsNothing (MayFind over_files old.held) (MayFind over_files new.held) };
+
+    fn failures(&self) -> u64 {
+        self.failures
+    }
+
+    fn tried(&mut self) -> Result<Option<Ballot>, RecordsFault> {
+        self.find_tried()
+    }
+
+    fn promised(&mut self) -> Result<Option<Ballot>, RecordsFault> {
+        self.find_promised()
+    }
+
+    fn vote(&mut self, place: Place) -> Result<Option<Cast>, RecordsFault> {
+        self.find_vote(place)
+    }
+
+    fn votes_from(&mut self, place: Place) -> Result<Votes, RecordsFault> {
+        self.find_votes_from(place)
+    }
+
+    fn put_tried(&mut self, ballot: Ballot) -> Result<(), RecordsFault> {
+        self.set_tried(ballot)
+    }
+
+    fn put_promised(&mut self, ballot: Ballot) -> Result<(), RecordsFault> {
+        self.set_promised(ballot)
+    }
+
+    fn put_vote(
+        &mut self,
+        place: Place,
+        ballot: Ballot,
+        value: &Value,
+    ) -> Result<(), RecordsFault> {
+        self.set_vote(place, ballot, value)
+    }
+
+    fn reopen(&mut self) -> Result<(), RecordsFault> {
+        let Some(conn) = self.conn.take() else {
+            self.is_up = false;
+            self.failures = risen(self.failures);
+            return Err(RecordsFault::Broken);
+        };
+        let Some((fresh, highest)) = opened_anew(self.alloc, conn) else {
+            self.is_sure = false;
+            self.is_up = false;
+            self.failures = risen(self.failures);
+            return Err(RecordsFault::Broken);
+        };
+        self.conn = Some(fresh);
+        self.is_up = true;
+        self.highest = Some(highest);
+        Ok(())
+    }
+}

@@ -1,0 +1,143 @@
+-- What a call leaves that read, or failed.
+use Rattle.std.proofs.Common.{◌≡◌, ◌⊎◌, inl, inr, ℕ, List, [], false, Some, None, Option, Ok, Err, Result, IsTrue, OnOk, OnErr, IfOk, IfErr, sym, ap, subst, ◌∙◌}
+use Rattle.std.proofs.lemmas.Bool.{cases_Bool}
+use Rattle.acceptor.specs.Content.{Content}
+use Rattle.sqlite_schema.specs.declared.command.Returning.{Returning}
+use Rattle.sqlite.specs.declared.error.Error.{Error}
+use Rattle.sqlite.specs.Order.{Row}
+use Rattle.sqlite.specs.Effect.{Database}
+use Rattle.sqlite.specs.Schema.{Schema}
+use Rattle.sqlite.specs.Listing.{understood}
+use Rattle.sqlite_resolve.specs.declared.compiled.Compiled.{Compiled}
+use Rattle.sqlite.specs.State.{State, Executes, ExecutesIn, QueriesRow, FailsToQuery, IsNotRun, RunsCommand, shows_rows, Shown, ShowsRows, IsUnchanged, IsRolledBack}
+use Rattle.sqlite.proofs.Callers.{IsPlain}
+use Rattle.acceptor_store_parts.specs.Tables.{store_schema}
+use Rattle.acceptor_store_parts.specs.Stored.{AreTables}
+use Rattle.acceptor_store_parts.specs.Serves.{Serves, StillServes, Stays}
+
+-- as it was, or back at the last commit
+abbrev pub Keeps : State → State → Type 0
+Keeps old new = IsUnchanged old new ⊎ IsRolledBack old new
+
+not_run : (old new : State) (sql : List ℕ) (params : Row) (e : Error) → IsNotRun old new sql params e → Keeps old new
+unfolding IsNotRun
+not_run old new sql params e (inl h) = inl h.1
+not_run old new sql params e (inr h) = inr h.3
+
+not_done : (old new : State) (sql : List ℕ) (c : Compiled) (params : Row) (e : Error) → RunsCommand old new sql c params (Err e) → Keeps old new
+not_done old new sql c params e (inl h) = inl h.1
+not_done old new sql c params e (inr h) = inr h.3
+
+pub failed_keeps : (sql : List ℕ) (params : Row) (old new : State) (e : Error) → Executes sql params old new (Err e) → Keeps old new
+unfolding ExecutesIn
+failed_keeps sql params old new e (inl h) = not_run old new sql params e h
+failed_keeps sql params old new e (inr h) = elim (cases_Bool (shows_rows false h.0)) [
+  | inl shows ↦ inl (rw shows at h.2).1
+  | inr runs ↦ not_done old new sql h.0 _ e (rw runs at h.2)
+]
+
+module _ (old new : State) (c : Content) (was : Serves old c) where
+  pub still_serves : Keeps old new → IsTrue new.is_open → Serves new c
+  still_serves (inl h) opened = record {
+    is_open = opened;
+    autocommit = h.0.mode ∙ was.autocommit;
+    settled = h.0.now_is ∙ was.settled ∙ sym h.0.committed_is;
+    schema = ap (λ (d : Database). d.schema) h.0.now_is ∙ was.schema;
+    tables = subst (λ (d : Database). AreTables d.trees c) (sym h.0.now_is) was.tables;
+  }
+  still_serves (inr h) opened =
+      let now = (h.undone opened).0 ∙ sym was.settled in
+      record {
+        is_open = opened;
+        autocommit = h.autocommit;
+        settled = (h.undone opened).0 ∙ sym (h.undone opened).1;
+        schema = ap (λ (d : Database). d.schema) now ∙ was.schema;
+        tables = subst (λ (d : Database). AreTables d.trees c) (sym now) was.tables;
+      }
+
+module _ (sql : List ℕ) (params : Row) (old new : State) (schema : Schema) (has : old.now.schema ≡ schema) (plain : IsPlain (understood schema sql)) where
+  shown_keeps : (rows : List Row) → Shown sql params old new rows → Keeps old new
+  unfolding Shown
+  shown_keeps rows h =
+      let known = sym h.1.is ∙ ap (λ s. understood s sql) has in
+      let bare = subst IsPlain (sym known) plain in
+      inl (rw bare.0 at h.2).3
+
+  fails_keeps : (e : Error) → FailsToQuery sql params old new e → Keeps old new
+  unfolding FailsToQuery
+  fails_keeps e (inl h) = not_run old new sql params e h
+  fails_keeps e (inr h) =
+      let known = sym h.1.is ∙ ap (λ s. understood s sql) has in
+      let bare = subst IsPlain (sym known) plain in
+      inl (rw bare.0 at h.2).3
+
+  pub query_keeps : (r : Result Row Error) → QueriesRow sql params old new r → Keeps old new
+  unfolding QueriesRow
+  query_keeps (Ok row) (inl h) = inl h.1
+  query_keeps (Ok row) (inr h) = shown_keeps h.0 h.1
+  query_keeps (Err e) (inl h) = fails_keeps e h
+  query_keeps (Err e) (inr h) = shown_keeps [] h.1
+
+  pub query_stays : (row : Row) → QueriesRow sql params old new (Ok row) → IsUnchanged old new
+  unfolding QueriesRow Shown
+  query_stays row (inl h) = h.1
+  query_stays row (inr h) =
+      let it = h.1 in
+      let known = sym it.1.is ∙ ap (λ s. understood s sql) has in
+      let bare = subst IsPlain (sym known) plain in
+      (rw bare.0 at it.2).3
+
+shown_open : (sql : List ℕ) (params : Row) (old new : State) (rows : List Row) (c : Compiled) (returning : Option Returning) → ShowsRows old new sql c params rows returning → IsTrue old.is_open
+shown_open sql params old new rows c None h = h.3.0.was_open
+shown_open sql params old new rows c (Some what) h = h.1.shown.was_open
+
+query_was_open : (sql : List ℕ) (params : Row) (old new : State) (row : Row) → QueriesRow sql params old new (Ok row) → IsTrue old.is_open
+unfolding QueriesRow Shown
+query_was_open sql params old new row (inl h) = h.1.0.was_open
+query_was_open sql params old new row (inr h) = shown_open sql _ old new h.0 h.1.0 h.1.0.returning h.1.2
+
+pub query_ok : (sql : List ℕ) (params : Row) (old new : State) → IsPlain (understood store_schema sql) → (r : Result Row Error) → QueriesRow sql params old new r → OnOk r (Stays old new)
+query_ok sql params old new plain (Err e) h = tt
+query_ok sql params old new plain (Ok row) h = (
+  query_was_open sql params old new row h,
+  λ c was.
+      let same = query_stays sql params old new store_schema was.schema plain row h in
+      still_serves old new c was (inl same) same.0.is_open,
+)
+
+pub failed_serves : (sql : List ℕ) (params : Row) (old new : State) (r : Result ℕ Error) → Executes sql params old new r → OnErr r (IsTrue new.is_open → StillServes old new)
+failed_serves sql params old new (Ok count) h = tt
+failed_serves sql params old new (Err e) h = λ opened c was. still_serves old new c was (failed_keeps sql params old new e h) opened
+
+pub all_ok : (sql : List ℕ) (params : Row) (old new : State) → IsPlain (understood store_schema sql) → (rows : List Row) → Shown sql params old new rows → Stays old new
+unfolding Shown
+all_ok sql params old new plain rows h = (
+  shown_open sql _ old new rows h.0 h.0.returning h.2,
+  λ c was.
+      let known = sym h.1.is ∙ ap (λ s. understood s sql) was.schema in
+      let bare = subst IsPlain (sym known) plain in
+      let same = (rw bare.0 at h.2).3 in
+      still_serves old new c was (inl same) same.0.is_open,
+)
+
+pub all_err : (sql : List ℕ) (params : Row) (old new : State) → IsPlain (understood store_schema sql) → (e : Error) → FailsToQuery sql params old new e → IsTrue new.is_open → StillServes old new
+all_err sql params old new plain e h opened c was = still_serves old new c was (fails_keeps sql params old new store_schema was.schema plain e h) opened
+
+pub all_result : (sql : List ℕ) (params : Row) (old new : State) → IsPlain (understood store_schema sql) → {X : Type 0} (r : Result X Error) (rows : X → List Row) → IfOk r (λ x. Shown sql params old new (rows x)) → OnOk r (Stays old new)
+all_result sql params old new plain (Ok x) rows h = all_ok sql params old new plain (rows x) h
+all_result sql params old new plain (Err e) rows h = tt
+
+pub all_failed : (sql : List ℕ) (params : Row) (old new : State) → IsPlain (understood store_schema sql) → {X : Type 0} (r : Result X Error) (rows : X → List Row) → IfOk r (λ x. Shown sql params old new (rows x)) → IfErr r (FailsToQuery sql params old new)
+    → IsTrue new.is_open → StillServes old new
+all_failed sql params old new plain (Ok x) rows h g opened = (all_ok sql params old new plain (rows x) h).1
+all_failed sql params old new plain (Err e) rows h g opened = all_err sql params old new plain e g opened
+
+-- what was read changed nothing
+pub all_same : (sql : List ℕ) (params : Row) (old new : State) → old.now.schema ≡ store_schema → IsPlain (understood store_schema sql) → {X : Type 0} (r : Result X Error) (rows : X → List Row) → IfOk r (λ x. Shown sql params old new (rows x))
+    → OnOk r (IsUnchanged old new)
+unfolding Shown
+all_same sql params old new has plain (Err e) rows h = tt
+all_same sql params old new has plain (Ok x) rows h =
+    let known = sym h.1.is ∙ ap (λ s. understood s sql) has in
+    let bare = subst IsPlain (sym known) plain in
+    (rw bare.0 at h.2).3

@@ -1,0 +1,27 @@
+use Rattle.std.proofs.Common.{◌≡◌, false, refl, sym, subst, ◌∙◌, arith}
+use Rattle.sqlite_trees.specs.Tree.{Trees, IsTable}
+use Rattle.sqlite_trees.specs.View.{IsShaped, IsClean}
+use Rattle.sqlite_trees.specs.declared.store.Shape.TheVariants.{Table}
+use Rattle.sqlite.proofs.StreamLemmas.{is_open_now}
+use Rattle.acceptor_store_parts.proofs.rereading.reread.Goals as goal
+
+pub returns-in-Ok-clause-committed : goal.returns-in-Ok-clause-committed
+returns-in-Ok-clause-committed g c clean =
+    let store = c.into_store-store.result in
+    let v = g.S.Store.view store in
+    let sure : IsClean v = omega (arith, c.in-Ok.ensures.clean, clean) in
+    let unbroken : v.is_broken ≡ false = sym (c.is_broken.ensures sure) ∙ c.if-is_broken.false in
+    let opened = is_open_now g.S.Store store (g.met.S.Store.broken_if_shut store) unbroken in
+    let ordered = g.met.S.Store.ordered store unbroken in
+    let trees = c.in-Ok.ensures.trees clean in
+    let opening = c.in-Ok.ensures.opens clean in
+    let first : v.shape 0 ≡ Table = c.if-not-are_tables.ensures.numbers refl in
+    let second : v.shape 1 ≡ Table = c.if-not-are_tables.ensures.votes refl in (
+      record {
+        opens = opening.0;
+        live = opening.1;
+        numbers = subst (λ (t : Trees). IsTable (t 0)) (sym trees) (subst (λ s. IsShaped s (v.trees 0)) first (ordered 0)).0;
+        votes = subst (λ (t : Trees). IsTable (t 1)) (sym trees) (subst (λ s. IsShaped s (v.trees 1)) second (ordered 1)).0;
+      },
+      trees ∙ (c.into_store-store.ensures.undone.undone opened).0,
+    )

@@ -1,0 +1,220 @@
+//! The two tables of a node's records, by one statement a call.
+#![tactic(auto)]
+
+mod declared;
+mod making;
+mod opening;
+mod reads;
+mod reopening;
+mod rereading;
+
+ghost use Rattle.std.specs.Prelude.{◌≡◌, ℕ, pos, List, [], ◌∷◌, IsTrue, IfOk, IfErr, OnOk, OnErr};
+ghost use Rattle.std.specs.Prelude.{Some};
+ghost use Rattle.acceptor.specs.Content.{Content, Write, after_write};
+ghost use Rattle.acceptor.specs.Content.Write.{Tries, Promises, Votes as Casts};
+ghost use Rattle.sqlite.specs.State.{HasCleanDisk, Survives, IsUnchanged};
+ghost use Rattle.sqlite.specs.Held.{state};
+ghost use Rattle.sqlite.specs.declared.types.Value.TheVariants.{Int};
+ghost use Rattle.ballots.specs.Limits.{IsPlace};
+ghost use Rattle.ballots.specs.Ballots.{number_of};
+ghost use Rattle.acceptor_store_parts.specs.Serves.{Serves, StillServes, HasWritten, MayHaveWritten, Stays, DoesNotServe};
+ghost use Rattle.acceptor_store_parts.specs.Stops.{LeavesOpen};
+
+use ballots::{Ballot, Place, Value};
+pub use declared::is_column;
+pub use making::{is_blank, make_tables};
+pub use opening::{both_numbers, is_store, read_numbers};
+pub use reads::{
+    Unread, query_all_votes, query_numbers, query_votes, read_votes, vote, votes_from,
+};
+pub use reopening::{open_again, reopened};
+pub use rereading::{are_in_order, reread};
+use sqlite::types::ValueRef;
+use sqlite::{Alter, Connection, Error, ErrorCode, Row};
+
+fn signed(ballot: Ballot) -> i64
+    ensures { result ≡ pos ballot }
+{
+    ballot.number() as i64
+}
+
+fn signed_place(place: Place) -> i64
+    ensures value { result ≡ pos place }
+    ensures fits { IsPlace place }
+{
+    place.number() as i64
+}
+
+fn find_tried<S: Alter>(conn: &mut Connection<S>) -> Result<Row, Error>
+    ensures value { HasCleanDisk (state S.Store conn.new) → IfOk result (λ row. (c : Content) → Serves (state S.Store conn.old) c → row ≡ Int (pos c.tried) ∷ []) }
+    ensures ok { HasCleanDisk (state S.Store conn.new) → OnOk result (Stays (state S.Store conn.old) (state S.Store conn.new)) }
+    ensures err { HasCleanDisk (state S.Store conn.new) → IsTrue (state S.Store conn.new).is_open → StillServes (state S.Store conn.old) (state S.Store conn.new) }
+    ensures survives { Survives (state S.Store conn.old) (state S.Store conn.new) (λ _. DoesNotServe (state S.Store conn.old)) }
+{
+    conn.query_row("SELECT number FROM ballot WHERE id = 0", &[])
+}
+
+fn number_in(row: &Row) -> Result<i64, Error>
+    ensures { IfOk result (λ n. (t : ℕ) → row.now ≡ Int (pos t) ∷ [] → n ≡ pos t) }
+{
+    row.get(0)
+}
+
+/// The number of the last ballot tried.
+fn read_tried<S: Alter>(conn: &mut Connection<S>) -> Result<i64, Error>
+    ensures value { HasCleanDisk (state S.Store conn.new) → IfOk result (λ n. (c : Content) → Serves (state S.Store conn.old) c → n ≡ pos c.tried) }
+    ensures ok { HasCleanDisk (state S.Store conn.new) → OnOk result (Stays (state S.Store conn.old) (state S.Store conn.new)) }
+    ensures err { HasCleanDisk (state S.Store conn.new) → IsTrue (state S.Store conn.new).is_open → StillServes (state S.Store conn.old) (state S.Store conn.new) }
+    ensures survives { Survives (state S.Store conn.old) (state S.Store conn.new) (λ _. DoesNotServe (state S.Store conn.old)) }
+{
+    let row = find_tried(conn)?;
+    number_in(&row)
+}
+
+/// Whether the connection is open. It runs no statement.
+fn is_up<S: Alter>(conn: &mut Connection<S>) -> bool
+    ensures up { HasCleanDisk (state S.Store conn.new) → IsTrue result → IsUnchanged (state S.Store conn.old) (state S.Store conn.new) }
+    ensures survives { Survives (state S.Store conn.old) (state S.Store conn.new) (λ _. ⊥) }
+{
+    conn.prepare("SELECT number FROM ballot WHERE id = 0")
+        .is_ok()
+}
+
+/// How a call ended that failed.
+#[derive(Clone, Copy, Debug)]
+pub enum Stop {
+    /// Memory was refused, and the connection serves what it did.
+    Memory,
+    /// The store failed, and the connection serves what it did.
+    Refused,
+    /// The connection is shut.
+    Down,
+}
+
+/// How the call ended that gave this error.
+pub fn stop_for<S: Alter>(conn: &mut Connection<S>, error: Error) -> Stop
+    ensures up { HasCleanDisk (state S.Store conn.new) → LeavesOpen result → IsUnchanged (state S.Store conn.old) (state S.Store conn.new) }
+    ensures survives { Survives (state S.Store conn.old) (state S.Store conn.new) (λ _. ⊥) }
+{
+    if !is_up(conn) {
+        return Stop::Down;
+    }
+    match error {
+        Error::SqliteFailure(ErrorCode::OutOfMemory) => Stop::Memory,
+        _ => Stop::Refused,
+    }
+}
+
+/// The number of the last ballot tried, or how the call ended.
+pub fn tried<S: Alter>(conn: &mut Connection<S>) -> Result<i64, Stop>
+    ensures value { HasCleanDisk (state S.Store conn.new) → IfOk result (λ n. (c : Content) → Serves (state S.Store conn.old) c → n ≡ pos c.tried) }
+    ensures ok { HasCleanDisk (state S.Store conn.new) → OnOk result (StillServes (state S.Store conn.old) (state S.Store conn.new)) }
+    ensures err { HasCleanDisk (state S.Store conn.new) → IfErr result (λ e. LeavesOpen e → StillServes (state S.Store conn.old) (state S.Store conn.new)) }
+    ensures survives { Survives (state S.Store conn.old) (state S.Store conn.new) (λ _. DoesNotServe (state S.Store conn.old)) }
+{
+    match read_tried(conn) {
+        Ok(number) => Ok(number),
+        Err(error) => Err(stop_for(conn, error)),
+    }
+}
+
+fn run_put_tried<S: Alter>(conn: &mut Connection<S>, ballot: Ballot) -> Result<usize, Error>
+    ensures ok { HasCleanDisk (state S.Store conn.new) → OnOk result (HasWritten (state S.Store conn.old) (state S.Store conn.new) (Tries ballot)) }
+    ensures err { HasCleanDisk (state S.Store conn.new) → OnErr result (IsTrue (state S.Store conn.new).is_open → StillServes (state S.Store conn.old) (state S.Store conn.new)) }
+    ensures survives { Survives (state S.Store conn.old) (state S.Store conn.new) (MayHaveWritten (state S.Store conn.old) (Tries ballot)) }
+{
+    let number = ValueRef::Int(signed(ballot));
+    conn.execute(
+        "INSERT OR REPLACE INTO ballot (id, number) VALUES (0, ?1)",
+        &[number],
+    )
+}
+
+/// The ballot of a number of the table, where 0 stands for none.
+pub fn ballot_of(number: i64) -> Result<Option<Ballot>, Stop>
+    ensures value { IfOk result (λ b. number ≡ pos (number_of b)) }
+    ensures err { IfErr result (λ e. e ≡ Stop.Down) }
+{
+    if number == 0 {
+        return Ok(None);
+    }
+    if number < 0 {
+        return Err(Stop::Down);
+    }
+    match Ballot::new(number as u64) {
+        Some(ballot) => Ok(Some(ballot)),
+        None => Err(Stop::Down),
+    }
+}
+
+/// Writes the last ballot tried.
+pub fn put_tried<S: Alter>(conn: &mut Connection<S>, ballot: Ballot) -> Result<(), Stop>
+    ensures ok { HasCleanDisk (state S.Store conn.new) → OnOk result (HasWritten (state S.Store conn.old) (state S.Store conn.new) (Tries ballot)) }
+    ensures err { HasCleanDisk (state S.Store conn.new) → IfErr result (λ e. LeavesOpen e → StillServes (state S.Store conn.old) (state S.Store conn.new)) }
+    ensures survives { Survives (state S.Store conn.old) (state S.Store conn.new) (MayHaveWritten (state S.Store conn.old) (Tries ballot)) }
+{
+    match run_put_tried(conn, ballot) {
+        Ok(_) => Ok(()),
+        Err(error) => Err(stop_for(conn, error)),
+    }
+}
+
+fn run_put_promised<S: Alter>(conn: &mut Connection<S>, ballot: Ballot) -> Result<usize, Error>
+    ensures ok { HasCleanDisk (state S.Store conn.new) → OnOk result (HasWritten (state S.Store conn.old) (state S.Store conn.new) (Promises ballot)) }
+    ensures err { HasCleanDisk (state S.Store conn.new) → OnErr result (IsTrue (state S.Store conn.new).is_open → StillServes (state S.Store conn.old) (state S.Store conn.new)) }
+    ensures survives { Survives (state S.Store conn.old) (state S.Store conn.new) (MayHaveWritten (state S.Store conn.old) (Promises ballot)) }
+{
+    let number = ValueRef::Int(signed(ballot));
+    conn.execute(
+        "INSERT OR REPLACE INTO ballot (id, number) VALUES (1, ?1)",
+        &[number],
+    )
+}
+
+/// Writes the promised row.
+pub fn put_promised<S: Alter>(conn: &mut Connection<S>, ballot: Ballot) -> Result<(), Stop>
+    ensures ok { HasCleanDisk (state S.Store conn.new) → OnOk result (HasWritten (state S.Store conn.old) (state S.Store conn.new) (Promises ballot)) }
+    ensures err { HasCleanDisk (state S.Store conn.new) → IfErr result (λ e. LeavesOpen e → StillServes (state S.Store conn.old) (state S.Store conn.new)) }
+    ensures survives { Survives (state S.Store conn.old) (state S.Store conn.new) (MayHaveWritten (state S.Store conn.old) (Promises ballot)) }
+{
+    match run_put_promised(conn, ballot) {
+        Ok(_) => Ok(()),
+        Err(error) => Err(stop_for(conn, error)),
+    }
+}
+
+fn run_put_vote<S: Alter>(
+    conn: &mut Connection<S>,
+    place: Place,
+    ballot: Ballot,
+    value: &Value,
+) -> Result<usize, Error>
+    ensures ok { HasCleanDisk (state S.Store conn.new) → OnOk result (HasWritten (state S.Store conn.old) (state S.Store conn.new) (Casts place record { ballot = ballot; value = value.now })) }
+    ensures err { HasCleanDisk (state S.Store conn.new) → OnErr result (IsTrue (state S.Store conn.new).is_open → StillServes (state S.Store conn.old) (state S.Store conn.new)) }
+    ensures survives { Survives (state S.Store conn.old) (state S.Store conn.new) (MayHaveWritten (state S.Store conn.old) (Casts place record { ballot = ballot; value = value.now })) }
+{
+    let at = ValueRef::Int(signed_place(place));
+    let number = ValueRef::Int(signed(ballot));
+    let bytes = ValueRef::Blob(value.as_slice());
+    conn.execute(
+        "INSERT OR REPLACE INTO vote (place, ballot, value) VALUES (?1, ?2, ?3)",
+        &[at, number, bytes],
+    )
+}
+
+/// Writes the vote at its place.
+pub fn put_vote<S: Alter>(
+    conn: &mut Connection<S>,
+    place: Place,
+    ballot: Ballot,
+    value: &Value,
+) -> Result<(), Stop>
+    ensures ok { HasCleanDisk (state S.Store conn.new) → OnOk result (HasWritten (state S.Store conn.old) (state S.Store conn.new) (Casts place record { ballot = ballot; value = value.now })) }
+    ensures err { HasCleanDisk (state S.Store conn.new) → IfErr result (λ e. LeavesOpen e → StillServes (state S.Store conn.old) (state S.Store conn.new)) }
+    ensures survives { Survives (state S.Store conn.old) (state S.Store conn.new) (MayHaveWritten (state S.Store conn.old) (Casts place record { ballot = ballot; value = value.now })) }
+{
+    match run_put_vote(conn, place, ballot, value) {
+        Ok(_) => Ok(()),
+        Err(error) => Err(stop_for(conn, error)),
+    }
+}
