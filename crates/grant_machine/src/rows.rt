@@ -1,14 +1,14 @@
 //! What a cut reads of the rows, and writes back.
 
-ghost use Rattle.std.specs.Prelude.{◌≡◌, IfOk};
-ghost use Rattle.std.specs.List.{AllByRecursion};
+ghost use Rattle.std.specs.Prelude.{◌≡◌, map, IfOk};
+ghost use Rattle.std.specs.List.{AllByRecursion, filter};
 ghost use Rattle.flow_state.specs.Limits.{due_time, due_index};
 ghost use Rattle.flow_state.specs.Rows.{table_of};
 ghost use Rattle.grant_machine_parts.specs.Lent.{IsLent};
-ghost use Rattle.grant_machine.specs.CutRows.{flows_on, requests_on, due_times_set, requests_taken, IsOfKind};
+ghost use Rattle.grant_machine.specs.CutRows.{is_timed, flows_on, requests_on, ranked_on, due_times_set, requests_taken, IsOfKind};
 
-use flow_state::{Flow, Flows, Waiting};
-use grant_machine_parts::{Placement, is_granted};
+use flow_state::{Flow, FlowKind, Flows, Waiting};
+use grant_machine_parts::{Placement, Ranked, is_granted, kind_priority};
 use std::alloc::{AllocError, Global};
 
 /// The flows of a channel, by SID.
@@ -22,6 +22,24 @@ pub fn copy_flows(alloc: Global, flows: &Flows, ch: u8) -> Result<Vec<Flow>, All
     Ok(copied)
 }
 
+/// Does something come by itself for a flow of this kind?
+fn is_timed(kind: FlowKind) -> bool
+    ensures { result ≡ is_timed kind }
+{
+    match kind {
+        FlowKind::BestEffort(_) => false,
+        FlowKind::Ugs { .. } => true,
+        FlowKind::Poll { .. } => true,
+    }
+}
+
+/// Lets go of the best-effort flows.
+pub fn keep_timed(flows: &mut Vec<Flow>)
+    ensures { flows.new.items ≡ filter (λ f. is_timed f.kind) flows.old.items }
+{
+    flows.retain(|flow| is_timed(flow.kind));
+}
+
 /// The waiting requests of a channel, by arrival.
 pub fn copy_requests(alloc: Global, flows: &Flows, ch: u8) -> Result<Vec<Waiting>, AllocError>
     ensures { IfOk result (λ copied. copied.items ≡ requests_on (table_of flows.now ch)) }
@@ -31,6 +49,29 @@ pub fn copy_requests(alloc: Global, flows: &Flows, ch: u8) -> Result<Vec<Waiting
         copied.push(*request)?;
     }
     Ok(copied)
+}
+
+/// The requests with the priorities of their flows.
+pub fn rank_requests(
+    alloc: Global,
+    flows: &Flows,
+    ch: u8,
+    waiting: &[Waiting],
+) -> Result<Vec<Ranked>, AllocError>
+    ensures { IfOk result (λ ranked. ranked.items ≡ map (ranked_on flows.now ch) waiting.now) }
+{
+    let mut ranked = Vec::with_capacity(alloc, waiting.len())?;
+    for request in waiting {
+        let priority = match flows.kind_of(ch, request.sid) {
+            Some(kind) => kind_priority(kind),
+            None => 0,
+        };
+        ranked.push(Ranked {
+            priority,
+            request: *request,
+        })?;
+    }
+    Ok(ranked)
 }
 
 /// Sets the next due times of a channel's flows.
