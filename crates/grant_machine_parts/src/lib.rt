@@ -1,9 +1,9 @@
 //! The parts of a cut: a MAP's minislots, what is placed in them, and the body that tells of it.
 #![tactic(auto)]
 
-mod cells;
 pub mod drawing;
 mod due_times;
+mod gaps;
 mod placing;
 mod services;
 mod waiting;
