@@ -3,7 +3,6 @@ use Rattle.std.proofs.Common.{inl, inr, ◌⊎◌, ◌≡◌, ◌≢◌, ℕ, ze
 use Rattle.std.proofs.lemmas.List.{append-nil, length-set, length-replicate}
 use Rattle.std.proofs.lemmas.Option.{slice_get_within, get_or_from_slice_get, slice_get-get_or}
 use Rattle.std.proofs.lemmas.List.{get_or-replicate}
-use Rattle.std.proofs.lemmas.Grind.{flat_map-append}
 use Rattle.ballots.specs.declared.letters.Letter.{Letter}
 use Rattle.flow_state.proofs.Callers.{contains_at}
 use Rattle.modem.specs.State.{State}
@@ -18,7 +17,6 @@ use Rattle.network_script.proofs.Callers.{headline, modems_are_named}
 use Rattle.command_log.specs.Values.{Owner}
 use Rattle.network_script.proofs.Callers.{in_right}
 use Rattle.ballots.specs.Voting.{IsIn}
-use Rattle.modem.specs.Held.{unicast_sid}
 use Rattle.network_script.specs.World.{Written, released_by, opening as opening_world}
 use Rattle.network_script_parts.specs.Receiver.{Receiver, new_receiver}
 use Rattle.network_script_parts.specs.Modems.{sent_at, ModemNext}
@@ -29,12 +27,12 @@ use Rattle.node_worker.specs.declared.entry.Cause.{Cause}
 use Rattle.node_worker.specs.declared.entry.Cause.TheVariants.{Ask as Asked, Letter as Came}
 use Rattle.node_worker.specs.declared.entry.Done.{Done}
 use Rattle.node_worker.specs.Entries.{EntryView}
-use Rattle.node_worker.specs.Replays.{EntryStep, Replays, opening}
+use Rattle.node_worker.specs.Replays.{EntryStep, Replays, answer_of, opening}
 use Rattle.node_worker.specs.Legal.{entries_of, letters_of, outputs_of, Comes, IsSound}
-use Rattle.node_worker.specs.Runs.{IsEvent, answer_of, ReadAs, Listens, sent_by, IsOfModem, IsSilent, Listened, HaveListened, SoundIsRun, SoundIsLegal, IsLegal, SendsAsOwner}
+use Rattle.node_worker.specs.Runs.{IsEvent, ReadAs, Listens, sent_by, IsOfModem, IsSilent, Listened, HaveListened, SoundIsRun, SoundIsLegal, IsLegal, SendsAsOwner}
 use Rattle.node_worker.proofs.Plants.{entries_of-append, entries_of_one}
 use Rattle.node_worker.proofs.Wholes.{at_below, at_one}
-use Rattle.node_worker.proofs.Moving.{Left, entry_moves}
+use Rattle.node_worker.proofs.Moving.{entry_moves}
 use Rattle.node_worker.proofs.Listening.{listened_on}
 
 pub set_same : {A : Type 0} (xs : List A) (i : ℕ) (y : A) → i < length xs → slice_get (slice_set xs i y) i ≡ Some y

@@ -17,6 +17,12 @@ ended_of StoreRefused = FailedBefore
 ended_of Down = FailedEither
 ended_of declined = Fault declined
 
+-- how a restart ended
+abbrev pub restart_ended : Result (Unit {0}) NodeFault → Ended
+restart_ended (Ok done) = Whole
+restart_ended (Err Down) = FailedEither
+restart_ended (Err fault) = FailedBefore
+
 -- where that leaves a node: it crashes for want of room
 abbrev pub left : Ended → Standing → Standing
 left Lost s = crashed s

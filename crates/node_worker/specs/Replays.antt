@@ -1,16 +1,16 @@
 -- Where a node stands after its entries.
-use Rattle.std.specs.Prelude.{◌≡◌, ◌≢◌, ◌⊎◌, ℕ, List, [], ◌∷◌, true, Option, None, Result, Ok, Err}
+use Rattle.std.specs.Prelude.{◌≡◌, ℕ, List, [], ◌∷◌, true, length}
 use Rattle.ballots.specs.declared.letters.Letter.{Letter}
-use Rattle.acceptor.specs.Content.{Content, Write, no_content, after_write}
+use Rattle.acceptor.specs.Content.{no_content}
 use Rattle.map_release.specs.declared.numbered.Numbered.{Numbered}
-use Rattle.proposer.specs.declared.fault.NodeFault.{NodeFault}
-use Rattle.node.specs.View.{View, Standing, started}
-use Rattle.node.specs.View.Standing.{Running, Stopped}
-use Rattle.node.specs.Step.{Outcome}
-use Rattle.node.specs.Calls.{Cause as Call, Course, MayGoOn}
+use Rattle.proposer.specs.declared.fault.NodeFault.TheVariants.{OutOfMemory, Down}
+use Rattle.node.specs.View.{Standing, started}
+use Rattle.node.specs.View.Standing.{Running}
 use Rattle.node.specs.Calls.Cause.{Lead as AskedToLead, Offer as Offered, Receive as Received}
-use Rattle.network_script_parts.specs.declared.event.Refusal.TheVariants.{NodeDown, NodeUp}
-use Rattle.network_script.specs.Release.{released, released_all}
+use Rattle.network_script_parts.specs.declared.event.Answer.{Answer}
+use Rattle.network_script_parts.specs.declared.event.Answer.TheVariants as answer
+use Rattle.network_script_parts.specs.Moves.{Ask, Move, Moves}
+use Rattle.network_script_parts.specs.Moves.Ask.{Call as IsCalled, Release as ReleaseAt, Crash as CrashNow, Restart as StartAgain}
 use Rattle.network_script_parts.specs.Seat.{survives}
 use Rattle.node_worker.specs.declared.entry.Ask.TheVariants.{Lead, Offer, Release, Crash, Restart}
 use Rattle.node_worker.specs.declared.entry.Cause.{Cause}
@@ -19,68 +19,44 @@ use Rattle.node_worker.specs.declared.entry.Ended.{Ended}
 use Rattle.node_worker.specs.declared.entry.Ended.TheVariants.{Whole, Fault, Refused, FailedBefore, FailedEither, Lost}
 use Rattle.node_worker.specs.Entries.{EntryView}
 
--- a call of a node that runs with this view ended so, sent these letters, and left it there
-abbrev pub Calls : View → (Result Outcome NodeFault → Type 0) → Ended → List Letter → Standing → Type 0
-Calls view IsCourse Whole letters t = (o : Outcome) × IsCourse (Ok o) × (letters ≡ o.letters) × (t ≡ Running o.view)
-Calls view IsCourse (Fault fault) letters t = (survives fault ≡ true) × IsCourse (Err fault) × (letters ≡ []) × (t ≡ Running view)
-Calls view IsCourse FailedBefore letters t = (letters ≡ []) × (t ≡ Stopped view.content None)
-Calls view IsCourse FailedEither letters t =
-    (letters ≡ []) × ((t ≡ Stopped view.content None) ⊎ ((o : Outcome) × IsCourse (Ok o) × (t ≡ Stopped view.content o.write)))
-Calls view IsCourse Lost letters t = (o : Outcome) × IsCourse (Ok o) × (o.letters ≢ []) × (letters ≡ []) × (t ≡ Stopped o.view.content None)
-Calls view IsCourse (Refused refusal) letters t = ⊥
+-- what a cause asks of a node
+abbrev pub ask_of : Cause → Ask
+ask_of (Asked Lead) = IsCalled AskedToLead
+ask_of (Asked (Offer value)) = IsCalled (Offered value)
+ask_of (Asked (Release now)) = ReleaseAt now
+ask_of (Asked Crash) = CrashNow
+ask_of (Asked Restart) = StartAgain
+ask_of (Came l) = IsCalled (Received l)
 
--- want of memory and a store that fails come last: only where nothing that node k knows without its records declines the call
-abbrev pub ComesLast : ℕ → ℕ → View → Call → Ended → Type 0
-ComesLast members k view call FailedBefore = MayGoOn members k view call
-ComesLast members k view call FailedEither = MayGoOn members k view call
-ComesLast members k view call ended = Unit {0}
+-- the answer to a cause that ended whole
+abbrev pub whole_answer : Cause → List Letter → List Numbered → Answer
+whole_answer (Asked Lead) letters outputs = answer.Sent (length letters)
+whole_answer (Asked (Offer value)) letters outputs = answer.Sent (length letters)
+whole_answer (Asked (Release now)) letters outputs = answer.Released (length outputs)
+whole_answer (Asked Crash) letters outputs = answer.Finished
+whole_answer (Asked Restart) letters outputs = answer.Finished
+whole_answer (Came l) letters outputs = answer.Sent (length letters)
 
--- a release ended so, gave these outputs, and left the node there
-abbrev pub Releases : View → ℕ → Ended → List Numbered → Standing → Type 0
-Releases view now Whole outputs t = (outputs ≡ released view now) × (t ≡ Running (released_all view))
-Releases view now FailedBefore outputs t = (outputs ≡ []) × (t ≡ Stopped view.content None)
-Releases view now FailedEither outputs t = (outputs ≡ []) × (t ≡ Stopped view.content None)
-Releases view now Lost outputs t = (released view now ≢ []) × (outputs ≡ []) × (t ≡ Stopped view.content None)
-Releases view now (Fault fault) outputs t = ⊥
-Releases view now (Refused refusal) outputs t = ⊥
+-- how a cause ended, read as an answer: a crash before the write as want of memory, one with the write in doubt as a broken store
+abbrev pub answer_of : Cause → Ended → List Letter → List Numbered → Answer
+answer_of cause Whole letters outputs = whole_answer cause letters outputs
+answer_of cause (Fault fault) letters outputs = answer.Fault fault
+answer_of cause (Refused refusal) letters outputs = answer.Refused refusal
+answer_of cause FailedBefore letters outputs = answer.Fault OutOfMemory
+answer_of cause FailedEither letters outputs = answer.Fault Down
+answer_of cause Lost letters outputs = answer.Crashed
 
--- node k of so many members, which runs
-abbrev pub WhenUp : ℕ → ℕ → View → Cause → Ended → List Letter → List Numbered → Standing → Type 0
-WhenUp members k view (Asked Lead) ended letters outputs t =
-    (outputs ≡ []) × ComesLast members k view AskedToLead ended × Calls view (Course members k view AskedToLead) ended letters t
-WhenUp members k view (Asked (Offer value)) ended letters outputs t =
-    (outputs ≡ []) × ComesLast members k view (Offered value) ended × Calls view (Course members k view (Offered value)) ended letters t
-WhenUp members k view (Asked (Release now)) ended letters outputs t = (letters ≡ []) × Releases view now ended outputs t
-WhenUp members k view (Asked Crash) ended letters outputs t = (letters ≡ []) × (outputs ≡ []) × (ended ≡ Whole) × (t ≡ Stopped view.content None)
-WhenUp members k view (Asked Restart) ended letters outputs t = (letters ≡ []) × (outputs ≡ []) × (ended ≡ Refused NodeUp) × (t ≡ Running view)
-WhenUp members k view (Came l) ended letters outputs t = (outputs ≡ []) × Calls view (Course members k view (Received l)) ended letters t
+-- a fault that is told as one is one that the node survives
+abbrev pub IsSurvived : Ended → Type 0
+IsSurvived (Fault fault) = survives fault ≡ true
+IsSurvived ended = Unit {0}
 
--- a restart, by how it ended: it starts over the content, a write in doubt made or not. One that fails leaves the node down as it was
-abbrev pub Rises : Content → Option Write → Ended → Standing → Type 0
-Rises c doubt Whole t = (t ≡ Running (started c)) ⊎ (t ≡ Running (started (after_write c doubt)))
-Rises c doubt FailedBefore t = t ≡ Stopped c doubt
-Rises c doubt FailedEither t = t ≡ Stopped c doubt
-Rises c doubt (Fault fault) t = ⊥
-Rises c doubt (Refused refusal) t = ⊥
-Rises c doubt Lost t = ⊥
-
--- it is refused, since the node is down, and nothing changes
-abbrev pub StaysDown : Content → Option Write → Ended → Standing → Type 0
-StaysDown c doubt ended t = (ended ≡ Refused NodeDown) × (t ≡ Stopped c doubt)
-
--- a node that has stopped
-abbrev pub WhenDown : Content → Option Write → Cause → Ended → Standing → Type 0
-WhenDown c doubt (Asked Restart) ended t = Rises c doubt ended t
-WhenDown c doubt (Asked Lead) ended t = StaysDown c doubt ended t
-WhenDown c doubt (Asked (Offer value)) ended t = StaysDown c doubt ended t
-WhenDown c doubt (Asked (Release now)) ended t = StaysDown c doubt ended t
-WhenDown c doubt (Asked Crash) ended t = StaysDown c doubt ended t
-WhenDown c doubt (Came l) ended t = StaysDown c doubt ended t
-
--- one entry brings node k of so many members from s to t
+-- one entry brings node k of so many members from s to t: what its cause asks is answered so, and the node moves so
 abbrev pub EntryStep : ℕ → ℕ → Standing → EntryView → Standing → Type 0
-EntryStep members k (Running view) e t = WhenUp members k view e.cause e.ended e.letters e.outputs t
-EntryStep members k (Stopped c doubt) e t = (e.letters ≡ []) × (e.outputs ≡ []) × WhenDown c doubt e.cause e.ended t
+EntryStep members k s e t =
+    IsSurvived e.ended
+    × (m : Move) × Moves members k s (ask_of e.cause) (answer_of e.cause e.ended e.letters e.outputs) m
+    × (m.standing ≡ t) × (m.letters ≡ e.letters) × (m.outputs ≡ e.outputs)
 
 -- a node as it begins
 abbrev pub opening : Standing

@@ -1,10 +1,8 @@
 -- Records and modems, read as a run of the written world.
-use Rattle.std.specs.Prelude.{◌≡◌, ◌≢◌, ℕ, ◌<◌, List, [], ◌∷◌, ◌++◌, length, map, slice_get, Some, None}
+use Rattle.std.specs.Prelude.{◌≡◌, ℕ, ◌<◌, List, [], ◌∷◌, ◌++◌, length, map, slice_get, Some}
 use Rattle.ballots.specs.declared.letters.Letter.{Letter}
-use Rattle.map_release.specs.declared.numbered.Numbered.{Numbered}
 use Rattle.grant_machine.specs.declared.output.Output.{Output}
 use Rattle.modem.specs.State.{State}
-use Rattle.proposer.specs.declared.fault.NodeFault.TheVariants.{OutOfMemory, Down}
 use Rattle.network_script_parts.specs.declared.event.Event.{Event}
 use Rattle.network_script_parts.specs.declared.event.Event.TheVariants as event
 use Rattle.network_script_parts.specs.declared.event.Answer.{Answer}
@@ -22,12 +20,10 @@ use Rattle.network_script.specs.Headline.{FollowsOneSchedule}
 use Rattle.node_worker.specs.declared.entry.Ask.TheVariants.{Lead, Offer, Release, Crash, Restart}
 use Rattle.node_worker.specs.declared.entry.Cause.{Cause}
 use Rattle.node_worker.specs.declared.entry.Cause.TheVariants.{Ask as Asked, Letter as Came}
-use Rattle.node_worker.specs.declared.entry.Ended.{Ended}
-use Rattle.node_worker.specs.declared.entry.Ended.TheVariants.{Whole, Fault, Refused, FailedBefore, FailedEither, Lost}
 use Rattle.node_worker.specs.declared.entry.Done.{Done}
 use Rattle.node_worker.specs.Legal.{IsSound, entries_of, letters_of, outputs_of}
 use Rattle.node.specs.View.{Standing}
-use Rattle.node_worker.specs.Replays.{ReplaysTo}
+use Rattle.node_worker.specs.Replays.{ReplaysTo, answer_of}
 
 -- a cause at node k is this event, after these letters were sent: a letter that comes is one of them that is to the node
 abbrev pub IsEvent : List Letter → ℕ → Cause → Event → Type 0
@@ -37,24 +33,6 @@ IsEvent sent k (Asked (Release now)) e = e ≡ event.Release k now
 IsEvent sent k (Asked Crash) e = e ≡ event.Crash k
 IsEvent sent k (Asked Restart) e = e ≡ event.Restart k
 IsEvent sent k (Came l) e = (i : ℕ) × (slice_get sent i ≡ Some l) × (l.to ≡ k) × (e ≡ event.Deliver i)
-
--- the answer to a cause that ended whole
-abbrev pub whole_answer : Cause → List Letter → List Numbered → Answer
-whole_answer (Asked Lead) letters outputs = answer.Sent (length letters)
-whole_answer (Asked (Offer value)) letters outputs = answer.Sent (length letters)
-whole_answer (Asked (Release now)) letters outputs = answer.Released (length outputs)
-whole_answer (Asked Crash) letters outputs = answer.Finished
-whole_answer (Asked Restart) letters outputs = answer.Finished
-whole_answer (Came l) letters outputs = answer.Sent (length letters)
-
--- how a cause ended, read as an answer: a crash before the write as want of memory, one with the write in doubt as a broken store
-abbrev pub answer_of : Cause → Ended → List Letter → List Numbered → Answer
-answer_of cause Whole letters outputs = whole_answer cause letters outputs
-answer_of cause (Fault fault) letters outputs = answer.Fault fault
-answer_of cause (Refused refusal) letters outputs = answer.Refused refusal
-answer_of cause FailedBefore letters outputs = answer.Fault OutOfMemory
-answer_of cause FailedEither letters outputs = answer.Fault Down
-answer_of cause Lost letters outputs = answer.Crashed
 
 -- the events of nodes among these are the records, in their order
 abbrev pub ReadAs : List Letter → List Done → List Event → List Answer → Type 0

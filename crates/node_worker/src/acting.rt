@@ -1,6 +1,6 @@
 //! What comes of a cause at a node.
 
-ghost use Rattle.std.specs.Prelude.{◌≡◌, [], true, false};
+ghost use Rattle.std.specs.Prelude.{◌≡◌, ◌↔◌, [], true, false, IsTrue};
 ghost use Rattle.acceptor.specs.Faults.{HasRisen};
 ghost use Rattle.node.specs.Calls.{answer};
 ghost use Rattle.node.specs.Releases.{outputs as outputs_of};
@@ -9,7 +9,7 @@ ghost use Rattle.network_script_parts.specs.Seat.{SameMember};
 ghost use Rattle.network_script_parts.specs.Occupant.{Stands, IsHonest, is_up, node_of, who_of};
 ghost use Rattle.node_worker.specs.Entries.{entry};
 ghost use Rattle.node_worker.specs.Replays.{Carries};
-ghost use Rattle.node_worker.specs.Ends.{Posted, Kept, left, ended_of, SameOutcome};
+ghost use Rattle.node_worker.specs.Ends.{Posted, Kept, left, ended_of, restart_ended, SameOutcome};
 ghost use Rattle.node_worker.specs.declared.entry.Ask.TheVariants as ask;
 ghost use Rattle.node_worker.specs.declared.entry.Cause.TheVariants as cause;
 ghost use Rattle.node_worker.specs.declared.entry.Ended.TheVariants.{FailedEither};
@@ -79,6 +79,24 @@ fn ended_by(fault: NodeFault) -> Ended
         NodeFault::Down => Ended::FailedEither,
         declined => Ended::Fault(declined),
     }
+}
+
+// How a restart ended.
+fn ended_restart(given: Result<(), NodeFault>) -> Ended
+    ensures { result ≡ restart_ended given }
+{
+    match given {
+        Ok(()) => Ended::Whole,
+        Err(NodeFault::Down) => Ended::FailedEither,
+        Err(_) => Ended::FailedBefore,
+    }
+}
+
+// Whether a cause is a restart.
+fn is_restart(asked: &Cause) -> bool
+    ensures { IsTrue result ↔ (asked.now ≡ cause.Ask ask.Restart) }
+{
+    matches!(asked, Cause::Ask(Ask::Restart))
 }
 
 // The letters that a node gave, twice. Where there is no room for the second they are lost, and the node crashes.
@@ -237,11 +255,8 @@ fn restart<N: Node>(alloc: Global, seat: &mut Seat<N>) -> (Outcome, Outcome)
     ensures rose { result.0.ended ≡ FailedEither → HasRisen (who_of seat.old).failures (who_of seat.new).failures }
     ensures same { SameOutcome result.0 result.1 }
 {
-    match seat.restart() {
-        Ok(()) => silent(alloc, Ended::Whole),
-        Err(NodeFault::Down) => silent(alloc, Ended::FailedEither),
-        Err(_) => silent(alloc, Ended::FailedBefore),
-    }
+    let ended = ended_restart(seat.restart());
+    silent(alloc, ended)
 }
 
 // The node, which is up, does one thing.
@@ -272,10 +287,10 @@ fn act_down<N: Node>(alloc: Global, seat: &mut Seat<N>, cause: &Cause) -> (Outco
     ensures rose { result.0.ended ≡ FailedEither → HasRisen (who_of seat.old).failures (who_of seat.new).failures }
     ensures same { SameOutcome result.0 result.1 }
 {
-    match cause {
-        Cause::Ask(Ask::Restart) => restart(alloc, seat),
-        _ => silent(alloc, Ended::Refused(Refusal::NodeDown)),
+    if !is_restart(cause) {
+        return silent(alloc, Ended::Refused(Refusal::NodeDown));
     }
+    restart(alloc, seat)
 }
 
 /// A node does one thing, which is told twice. Where it lacks memory or its store fails it crashes.

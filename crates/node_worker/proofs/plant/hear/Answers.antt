@@ -1,4 +1,4 @@
-use Rattle.std.proofs.Common.{◌≡◌, arith, subst, sym, Option, slice_get, inr, Some}
+use Rattle.std.proofs.Common.{arith, subst, sym, Option, slice_get, inr}
 use Rattle.std.proofs.lemmas.Option.{slice_get_within}
 use Rattle.grant_machine.specs.declared.output.Output.{Output}
 use Rattle.network_script_parts.specs.declared.event.ReleasedOutput.{ReleasedOutput}

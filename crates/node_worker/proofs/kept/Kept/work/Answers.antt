@@ -1,5 +1,4 @@
-use Rattle.std.proofs.Common.{◌≡◌, ◌∙◌, ◌++◌, ◌∷◌, [], ap, arith, subst, List}
-use Rattle.node.specs.View.{Standing}
+use Rattle.std.proofs.Common.{◌≡◌, ◌∙◌, ◌++◌, ◌∷◌, [], ap, arith, subst}
 use Rattle.network_script_parts.specs.Occupant.{Stands}
 use Rattle.node_worker.specs.Entries.{EntryView, entry}
 use Rattle.node_worker.specs.KeptView.{KeptView, IsStepOf}

@@ -1,4 +1,4 @@
-use Rattle.std.proofs.Common.{sym, subst, List, ap, ◌≡◌}
+use Rattle.std.proofs.Common.{subst, List}
 use Rattle.ballots.specs.Members.{member_count}
 use Rattle.network_script_parts.specs.Receiver.{Receiver}
 use Rattle.network_script_parts.specs.Modems.{ModemNext}
@@ -10,10 +10,12 @@ use Rattle.node_worker.proofs.plant.Plant.modem_step.Goals as goal
 
 -- the modems listened on
 pub invariant_of-self : goal.invariant_of-self
-invariant_of-self g c =
-    (c.self.invariant.0, c.self.invariant.1,
-    modem_listens c.self.inside.records.items c.as_slice.result.now c.self.inside.modems.items c.go_on.new.modems.items c.args.event.now c.go_on.result
-    c.as_slice.ensures.value c.self.invariant.2 c.go_on.ensures.next c.go_on.ensures.within)
+invariant_of-self g c = (
+  c.self.invariant.0,
+  c.self.invariant.1,
+  modem_listens c.self.inside.records.items c.as_slice.result.now c.self.inside.modems.items c.go_on.new.modems.items c.args.event.now c.go_on.result
+      c.as_slice.ensures.value c.self.invariant.2 c.go_on.ensures.next c.go_on.ensures.within,
+)
 
 pub returns-clause-next : goal.returns-clause-next
 returns-clause-next g c = λ rs hold.

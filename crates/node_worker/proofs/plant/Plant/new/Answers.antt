@@ -1,4 +1,4 @@
-use Rattle.std.proofs.Common.{◌≡◌, List, [], map, sym, subst, refl, arith}
+use Rattle.std.proofs.Common.{List, [], map, sym, subst, refl, arith}
 use Rattle.ballots.specs.Members.{member_count}
 use Rattle.modem.specs.State.{State}
 use Rattle.network_script_parts.proofs.Callers.{new_are}

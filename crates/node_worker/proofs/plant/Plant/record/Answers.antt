@@ -1,4 +1,4 @@
-use Rattle.std.proofs.Common.{◌∙◌, List, ◌++◌, ◌∷◌, [], sym, subst, arith, refl, ap}
+use Rattle.std.proofs.Common.{◌∙◌, List, ◌∷◌, [], sym, subst, arith, refl}
 use Rattle.ballots.specs.Members.{member_count}
 use Rattle.node_worker.specs.PlantView.{PlantView}
 use Rattle.node_worker.specs.Legal.{IsSound, MayRecord, outputs_of}
