@@ -6,3 +6,4 @@ pub mod Gaps
 pub mod Filling
 pub mod Kept
 pub mod Lent
+pub mod Ranks
