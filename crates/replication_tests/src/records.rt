@@ -1,4 +1,4 @@
-use acceptor::{Accepted, Acceptor, PlainRecords, Prepared, Records, greatest_used};
+use acceptor::{Accepted, Acceptor, PlainRecords, Prepared, Records, RecordsFault, greatest_used};
 use ballots::{Ballot, Bytes, Place, Value};
 use std::alloc::Global;
 use std::process::Abort;
@@ -76,15 +76,6 @@ fn promises_and_votes(rt: HostRuntime) -> Result<(), Fail> {
     Ok(())
 }
 
-fn write<R: Records>(rt: &impl Abort, alloc: Global, records: &mut R) -> Result<(), Fail> {
-    let place = Place::new(2).expect(rt, "a place");
-    let value = value(rt, alloc, b'D')?;
-    records.put_tried(ballot(rt, 16))?;
-    records.put_vote(place, ballot(rt, 9), &value)?;
-    records.put_promised(ballot(rt, 8))?;
-    Ok(records.reopen()?)
-}
-
 fn number(ballot: Option<Ballot>) -> u64 {
     match ballot {
         Some(ballot) => ballot.number(),
@@ -92,14 +83,35 @@ fn number(ballot: Option<Ballot>) -> u64 {
     }
 }
 
+/// The ballots that were tried and promised last.
+fn ballots<R: Records>(records: &mut R) -> Result<(u64, u64), RecordsFault> {
+    let tried = number(records.tried()?);
+    let promised = number(records.promised()?);
+    Ok((tried, promised))
+}
+
+/// The ballot of the vote at a place, and how many votes stand from there on.
+fn votes<R: Records>(records: &mut R, place: Place) -> Result<(u64, usize), RecordsFault> {
+    let vote = number(records.vote(place)?.map(|cast| cast.ballot));
+    let count = records.votes_from(place)?.rows().len();
+    Ok((vote, count))
+}
+
+/// Ballot 16 is tried and 8 promised.
+fn write<R: Records>(rt: &impl Abort, records: &mut R) -> Result<(), RecordsFault> {
+    records.put_tried(ballot(rt, 16))?;
+    records.put_promised(ballot(rt, 8))?;
+    records.reopen()
+}
+
 #[test]
 fn records_keep_their_rows(rt: HostRuntime) -> Result<(), Fail> {
     let place = Place::new(2).expect(&rt, "a place");
+    let value = value(&rt, rt.alloc(), b'D')?;
     let mut records = PlainRecords::new(rt.alloc());
-    write(&rt, rt.alloc(), &mut records)?;
-    assert_eq!(rt; number(records.tried()?), 16);
-    assert_eq!(rt; number(records.promised()?), 9);
-    assert_eq!(rt; number(records.vote(place)?.map(|cast| cast.ballot)), 9);
-    assert_eq!(rt; records.votes_from(place)?.rows().len(), 1);
+    records.put_vote(place, ballot(&rt, 9), &value)?;
+    write(&rt, &mut records)?;
+    assert_eq!(rt; ballots(&mut records)?, (16, 9));
+    assert_eq!(rt; votes(&mut records, place)?, (9, 1));
     Ok(())
 }
