@@ -1,0 +1,11 @@
+use Rattle.network_script.specs.Worlds.{AreHonest}
+use Rattle.upsched_parts.proofs.Told.{no_script_read, world_printed}
+use Rattle.upsched_parts.proofs.stored_run.run_stored.Goals as goal
+
+pub returns-clause-printed : goal.returns-clause-printed
+returns-clause-printed g c =
+    world_printed c.print_script.result AreHonest (g.F.Read.remaining c.args.script.now) _ _ _ c.in_ok-script.script.members c.in_ok-script.script.modems.items c.in_ok-script.script.events.items c.in_ok-nodes.ensures.count c.in_ok-script.ensures c.print_script.ensures
+
+pub returns-clause-no_script : goal.returns-clause-no_script
+returns-clause-no_script g c = λ none.
+    absurd (no_script_read (g.F.Read.remaining c.args.script.now) c.in_ok-script.script.members c.in_ok-script.script.modems.items c.in_ok-script.script.events.items none c.in_ok-script.ensures)
