@@ -1,5 +1,5 @@
 -- Nodes that are fresh, numbered one after another.
-use Rattle.std.proofs.Common.{◌≡◌, ◌++◌, ◌+◌, ◌<◌, ℕ, Bool, List, [], ◌∷◌, map, length, refl, sym, ap, ◌∙◌, subst, false, arith, length-append, IsTrue}
+use Rattle.std.proofs.Common.{◌≡◌, ◌++◌, ◌+◌, ◌<◌, ◌≤◌, ℕ, Bool, List, [], ◌∷◌, map, length, refl, sym, ap, ◌∙◌, subst, false, arith, length-append, IsTrue}
 use Rattle.std.specs.Prelude.{All}
 use Rattle.std.specs.List.{range_with_len}
 use Rattle.std.proofs.lemmas.List.{map_push}
@@ -40,6 +40,16 @@ more_first {N} who honest stands members n nodes more node are id of up at_start
       count = omega (arith, length-append nodes (node ∷ []), are.count);
       numbered = map_push member nodes node ∙ (ap (λ (l : List (ℕ × ℕ)). l ++ member node ∷ []) are.numbered ∙ (ap (λ (x : ℕ × ℕ). map number (range_with_len 0 n) ++ x ∷ []) here ∙ sym (map-range_with_len_more number 0 n n (omega arith))));
     })
+
+pub none_below : (m : ℕ) → 0 ≤ m
+none_below m = omega arith
+
+pub more_below : (n m end : ℕ) → n < end → end ≡ m → n + 1 ≤ m
+more_below n m end below is = omega arith
+
+-- a count that came to the end is the whole
+pub reached : (n m end : ℕ) → n ≤ m → end ≤ n → end ≡ m → n ≡ m
+reached n m end below past is = omega arith
 
 -- all of them
 pub all_first : {N : Type 0} (who : N → Who) (honest : N → Bool) (stands : N → Standing → Type 0) (members n : ℕ) (nodes : List N) → AreFirst who honest stands members n nodes → n ≡ members → AreFresh who honest stands nodes

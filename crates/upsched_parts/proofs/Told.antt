@@ -94,9 +94,3 @@ pub plain_printed : {T E : Type 0} (r : Result T E) (known old new : Option (Lis
     → OnOk r (PrintsEvents (member_count count) ids events old new) → OnOk r (PrintsScript known old new)
 plain_printed (Err e) known old new count ids events read prints = tt
 plain_printed (Ok x) known old new count ids events read prints = script_printed known old new count ids events read prints
-
--- the same of a run whose world is given back, where that is honest
-pub world_printed : {T E : Type 0} (r : Result T E) (Honest : T → Type 0) (known old new : Option (List ℕ)) (nodes : ℕ) (count : Members) (ids : List ℕ) (events : List Event) → nodes ≡ member_count count
-    → IfSome known (λ text. IsScript text count ids events) → IfOk r (λ world. Honest world → PrintsEvents nodes ids events old new) → IfOk r (λ world. Honest world → PrintsScript known old new)
-world_printed (Err e) Honest known old new nodes count ids events all read prints = tt
-world_printed (Ok world) Honest known old new nodes count ids events all read prints = λ honest. script_printed known old new count ids events read (rw all at (prints honest))

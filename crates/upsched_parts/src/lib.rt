@@ -26,5 +26,5 @@ pub use program::{run, run_words};
 pub use script_run::{print_script, run_script, script_of};
 pub use status::Status;
 pub use stored::{StoredNode, stored_nodes};
-pub use stored_run::{run_stored, run_stored_script};
+pub use stored_run::run_stored_script;
 pub use words::{MapsWords, RunWords, ShowWords, Words, read_words, refused};

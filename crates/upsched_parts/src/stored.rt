@@ -121,9 +121,9 @@ pub fn stored_nodes<'a, D: Disk + Drop>(
             return Err(Fault::Store);
         };
         let node = stored_node(alloc, number, members, pair)?;
-        if nodes.push(node).is_err() {
+        let Ok(()) = nodes.push(node) else {
             return Err(Fault::Memory);
-        }
+        };
     }
     Ok(nodes)
 }
