@@ -29,7 +29,7 @@ impl Model for Flows {
 
 impl Flows {
     ghost use Rattle.std.specs.Prelude.{◌≡◌, [], Some, is_some, IsTrue, IsOk, OnOk, IfOk, IfErr, IfSome, ◌<◌, ◌≤◌};
-    ghost use Rattle.std.specs.Option.{option_copied};
+    ghost use Rattle.std.specs.Option.{option_copied, option_map};
     ghost use Rattle.flow_state.specs.Limits.{IsDueTime, is_good_kind, last_sid, most_waiting};
     ghost use Rattle.flow_state.specs.Sound.{IsSound};
     ghost use Rattle.flow_state.specs.Rows.{FlowRow, table_of, channel_at, flow_at, waiting_at};
@@ -106,6 +106,16 @@ impl Flows {
     {
         match self.tables.get(&ch) {
             Some(table) => table.flow(k),
+            None => None,
+        }
+    }
+
+    /// The kind of the channel's flow that has the SID.
+    pub fn kind_of(&self, ch: u8, sid: u16) -> Option<FlowKind>
+        ensures { result ≡ option_map (λ f. f.kind) (flow_row self.now ch sid) }
+    {
+        match self.tables.get(&ch) {
+            Some(table) => table.kind_of(sid),
             None => None,
         }
     }

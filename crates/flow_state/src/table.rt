@@ -76,6 +76,16 @@ impl ChannelTable {
         }
     }
 
+    /// The kind of the flow that has the SID.
+    pub(crate) fn kind_of(&self, sid: u16) -> Option<FlowKind>
+        ensures { result ≡ option_map (λ f. f.kind) (flow_of self.now sid) }
+    {
+        match self.flows.get(&sid) {
+            Some(flow) => Some(flow.kind),
+            None => None,
+        }
+    }
+
     /// Waiting request number k, by arrival.
     pub(crate) fn waiting(&self, k: usize) -> Option<&Waiting>
         ensures row { option_copied result ≡ slice_get self.now.waiting k }

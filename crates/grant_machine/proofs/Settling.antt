@@ -1,6 +1,7 @@
 -- What a filled MAP is made of, and its flows as they are lent.
-use Rattle.std.proofs.Common.{◌≡◌, ℕ, ◌≤◌, true, List, [], ◌∷◌, map, filter, eqb, Option, Some, None, refl, sym, ap, subst, ◌∙◌}
-use Rattle.std.specs.List.{AllByRecursion, flat_map, find}
+use Rattle.std.proofs.Common.{◌≡◌, ℕ, ◌≤◌, true, false, cond, List, [], ◌∷◌, map, filter, eqb, Option, Some, None, refl, sym, ap, subst, ◌∙◌}
+use Rattle.std.specs.List.{AllByRecursion, flat_map}
+use Rattle.std.specs.Option.{option_and_then}
 use Rattle.minislot_time.specs.Extent.{Extent}
 use Rattle.flow_state.specs.declared.channel.Channel.{Channel}
 use Rattle.flow_state.specs.declared.flow.Flow.{Flow}
@@ -8,14 +9,16 @@ use Rattle.flow_state.specs.declared.flow.FlowKind.{FlowKind}
 use Rattle.flow_state.specs.declared.flow.FlowKind.TheVariants.{BestEffort, Ugs, Poll}
 use Rattle.flow_state.specs.declared.flow.Waiting.{Waiting}
 use Rattle.flow_state.specs.Limits.{last_sid, is_good_kind, due_time, due_index}
-use Rattle.flow_state.specs.Rows.{Rows, Table, FlowRow, table_of, lent_flow, is_flow}
+use Rattle.flow_state.specs.Rows.{Rows, Table, FlowRow, table_of, lent_flow, flow_of}
 use Rattle.grant_machine_parts.specs.declared.services.Service.TheVariants.{Grants, Polls}
 use Rattle.grant_machine_parts.specs.declared.placing.Placement.{Placement}
-use Rattle.grant_machine_parts.specs.Cutting.{flow_priority, Passed, pass, in_order, place_requests, fill_span, fill_polls, grants_of_flow, polls_of_flow}
+use Rattle.grant_machine_parts.specs.Cutting.{flow_priority, priority_of, Passed, pass, in_order, place_requests, fill_span, fill_polls, grants_of_flow, polls_of_flow}
 use Rattle.grant_machine.specs.Runs.{IsReached}
 use Rattle.grant_machine_parts.specs.Filling.{PartMap}
-use Rattle.grant_machine_parts.specs.Lent.{row_of, IsLent, IsUnicast, given_to, by_priority}
-use Rattle.grant_machine.specs.CutRows.{IsOfTable, flows_on, requests_on}
+use Rattle.grant_machine_parts.specs.Lent.{row_of, IsLent, IsUnicast, given_to}
+use Rattle.grant_machine_parts.specs.Ranks.{of_priority, by_priority}
+use Rattle.grant_machine_parts.specs.declared.waiting.Ranked.{Ranked}
+use Rattle.grant_machine.specs.CutRows.{IsOfTable, flows_on, requests_on, ranked_on}
 use Rattle.flow_state.proofs.Callers.{all_has}
 use Rattle.flow_state.proofs.Callers.{IsWell, IsWellFlow, both}
 use Rattle.grant_machine.proofs.Reached.{reached_is_well}
@@ -63,25 +66,37 @@ flows_lent rows ch r = by (table_of rows ch) refl
 pub flows_back : (rows : Rows) (ch : ℕ) (t : Table) → IsReached rows → table_of rows ch ≡ Some t → map row_of (flows_on (table_of rows ch)) ≡ t.flows
 flows_back rows ch t r e = ap (λ o. map row_of (flows_on o)) e ∙ rows_back t.flows (well_flows rows ch t r e) (reached_idle rows r ch t e)
 
--- the requests by the priority of these flows
-abbrev in_priority : List FlowRow → List Waiting → List Waiting
-in_priority fs ws = flat_map (λ priority. filter (λ w. eqb (flow_priority (find (is_flow w.sid) fs)) priority) ws) (7 ∷ 6 ∷ 5 ∷ 4 ∷ 3 ∷ 2 ∷ 1 ∷ 0 ∷ [])
+-- the requests by the priority of their flows
+of_number : (t : Table) (n : ℕ) (rank : Waiting → Ranked) → ((w : Waiting) → rank w ≡ record { priority = priority_of t w; request = w }) → (ws : List Waiting)
+    → map (λ r. r.request) (filter (λ r. eqb r.priority n) (map rank ws)) ≡ filter (λ w. eqb (priority_of t w) n) ws
+of_number t n rank is [] = refl
+of_number t n rank is (w ∷ ws) =
+    ap (λ (r : Ranked). map (λ x. x.request) (cond (eqb r.priority n) (r ∷ filter (λ x. eqb x.priority n) (map rank ws)) (filter (λ x. eqb x.priority n) (map rank ws)))) (is w)
+    ∙ elim (eqb (priority_of t w) n) as (λ b. map (λ (x : Ranked). x.request) (cond b (record { priority = priority_of t w; request = w } ∷ filter (λ x. eqb x.priority n) (map rank ws)) (filter (λ x. eqb x.priority n) (map rank ws))) ≡ cond b (w ∷ filter (λ u. eqb (priority_of t u) n) ws) (filter (λ u. eqb (priority_of t u) n) ws)) [
+      | true ↦ ap (λ (us : List Waiting). w ∷ us) (of_number t n rank is ws)
+      | false ↦ of_number t n rank is ws
+    ]
 
-pub ordered : (rows : Rows) (ch : ℕ) (t : Table) → IsReached rows → table_of rows ch ≡ Some t → by_priority (flows_on (table_of rows ch)) (requests_on (table_of rows ch)) ≡ in_order t t.waiting
-ordered rows ch t r e =
-    ap (λ o. in_priority (map row_of (flows_on o)) (requests_on o)) e
-    ∙ ap (λ (fs : List FlowRow). in_priority fs t.waiting) (rows_back t.flows (well_flows rows ch t r e) (reached_idle rows r ch t e))
+of_numbers : (t : Table) (rank : Waiting → Ranked) → ((w : Waiting) → rank w ≡ record { priority = priority_of t w; request = w }) → (ws : List Waiting) (ns : List ℕ)
+    → flat_map (of_priority (map rank ws)) ns ≡ flat_map (λ n. filter (λ w. eqb (priority_of t w) n) ws) ns
+of_numbers t rank is ws [] = refl
+of_numbers t rank is ws (n ∷ ns) = rw (of_number t n rank is ws, of_numbers t rank is ws ns) refl
+
+pub ordered : (rows : Rows) (ch : ℕ) (t : Table) → table_of rows ch ≡ Some t → by_priority (map (ranked_on rows ch) (requests_on (table_of rows ch))) ≡ in_order t t.waiting
+ordered rows ch t e =
+    ap (λ o. by_priority (map (ranked_on rows ch) (requests_on o))) e
+    ∙ of_numbers t (ranked_on rows ch) (λ w. ap (λ o. record { priority = flow_priority (option_and_then (λ u. flow_of u w.sid) o); request = w }) e) t.waiting (7 ∷ 6 ∷ 5 ∷ 4 ∷ 3 ∷ 2 ∷ 1 ∷ 0 ∷ [])
 
 pub unicast : (t : Table) → IsWell t → AllByRecursion IsUnicast (in_order t t.waiting)
 unicast t w = all_has IsUnicast (in_order t t.waiting) (λ x h.
     let asked = w.requests x (in_order_has t t.waiting x h) in
     subst (λ n. n ≤ last_sid) asked.sid (w.flows asked.flow asked.there).last)
 
-pub requests_unicast : (rows : Rows) (ch : ℕ) → IsReached rows → AllByRecursion IsUnicast (by_priority (flows_on (table_of rows ch)) (requests_on (table_of rows ch)))
+pub requests_unicast : (rows : Rows) (ch : ℕ) → IsReached rows → AllByRecursion IsUnicast (by_priority (map (ranked_on rows ch) (requests_on (table_of rows ch))))
 requests_unicast rows ch r = by (table_of rows ch) refl
   where
-    by : (o : Option Table) → table_of rows ch ≡ o → AllByRecursion IsUnicast (by_priority (flows_on (table_of rows ch)) (requests_on (table_of rows ch)))
-    by (Some t) e = subst (AllByRecursion IsUnicast) (sym (ordered rows ch t r e)) (unicast t (reached_is_well rows r ch t e))
+    by : (o : Option Table) → table_of rows ch ≡ o → AllByRecursion IsUnicast (by_priority (map (ranked_on rows ch) (requests_on (table_of rows ch))))
+    by (Some t) e = subst (AllByRecursion IsUnicast) (sym (ordered rows ch t e)) (unicast t (reached_is_well rows r ch t e))
     by None e = rw e tt
 
 -- two services and then the requests fill a MAP

@@ -6,7 +6,8 @@ use Rattle.flow_state.specs.declared.flow.Flow.{Flow}
 use Rattle.flow_state.specs.declared.flow.Waiting.{Waiting}
 use Rattle.flow_state.specs.Rows.{Rows, Table, FlowRow, lent_flow}
 use Rattle.flow_state.specs.Changes.{with_due, without_waiting, flow_row}
-use Rattle.grant_machine_parts.specs.Cutting.{is_grant_of, in_order}
+use Rattle.grant_machine_parts.specs.Cutting.{flow_priority, is_grant_of, in_order}
+use Rattle.grant_machine_parts.specs.declared.waiting.Ranked.{Ranked}
 use Rattle.grant_machine_parts.specs.declared.placing.Placement.{Placement}
 use Rattle.grant_machine_parts.specs.Lent.{row_of}
 
@@ -18,6 +19,10 @@ flows_on None = []
 abbrev pub requests_on : Option Table → List Waiting
 requests_on (Some t) = t.waiting
 requests_on None = []
+
+-- a request with the priority of its flow
+abbrev pub ranked_on : Rows → ℕ → Waiting → Ranked
+ranked_on rows ch w = record { priority = flow_priority (flow_row rows ch w.sid); request = w }
 
 -- the rows after the due times of flows are set, one after another
 abbrev pub due_times_set : Rows → ℕ → List Flow → Rows

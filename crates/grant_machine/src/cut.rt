@@ -18,7 +18,7 @@ ghost use Rattle.grant_machine.specs.CutRows.{IsOfTable, IsOfKind, due_times_set
 ghost use Rattle.grant_machine.specs.Plans.{IsFilledBy, elements_in};
 
 use crate::output::{MapBytes, Output};
-use crate::rows::{copy_flows, copy_requests, set_due_times, take_granted};
+use crate::rows::{copy_flows, copy_requests, rank_requests, set_due_times, take_granted};
 use flow_state::{Channel, ChannelRow, Flow, Flows, LAST_TIME, MOST_MINISLOTS, Refusal, Waiting};
 use grant_machine_parts::{Filling, Service, by_priority, drawing, place_requests, serve};
 use minislot_time::Slot;
@@ -85,7 +85,8 @@ fn fill(
 {
     let mut served = copy_flows(alloc, flows, ch)?;
     let waiting = copy_requests(alloc, flows, ch)?;
-    let requests = by_priority(alloc, &served, &waiting)?;
+    let ranked = rank_requests(alloc, flows, ch, &waiting)?;
+    let requests = by_priority(alloc, &ranked)?;
     let mut filling = Filling::new(alloc, start, len)?;
     place_all(channel, &mut filling, &mut served, &requests)?;
     Ok(Filled {

@@ -1,14 +1,14 @@
 //! What a cut reads of the rows, and writes back.
 
-ghost use Rattle.std.specs.Prelude.{◌≡◌, IfOk};
+ghost use Rattle.std.specs.Prelude.{◌≡◌, map, IfOk};
 ghost use Rattle.std.specs.List.{AllByRecursion};
 ghost use Rattle.flow_state.specs.Limits.{due_time, due_index};
 ghost use Rattle.flow_state.specs.Rows.{table_of};
 ghost use Rattle.grant_machine_parts.specs.Lent.{IsLent};
-ghost use Rattle.grant_machine.specs.CutRows.{flows_on, requests_on, due_times_set, requests_taken, IsOfKind};
+ghost use Rattle.grant_machine.specs.CutRows.{flows_on, requests_on, ranked_on, due_times_set, requests_taken, IsOfKind};
 
 use flow_state::{Flow, Flows, Waiting};
-use grant_machine_parts::{Placement, is_granted};
+use grant_machine_parts::{Placement, Ranked, is_granted, kind_priority};
 use std::alloc::{AllocError, Global};
 
 /// The flows of a channel, by SID.
@@ -31,6 +31,29 @@ pub fn copy_requests(alloc: Global, flows: &Flows, ch: u8) -> Result<Vec<Waiting
         copied.push(*request)?;
     }
     Ok(copied)
+}
+
+/// The requests with the priorities of their flows.
+pub fn rank_requests(
+    alloc: Global,
+    flows: &Flows,
+    ch: u8,
+    waiting: &[Waiting],
+) -> Result<Vec<Ranked>, AllocError>
+    ensures { IfOk result (λ ranked. ranked.items ≡ map (ranked_on flows.now ch) waiting.now) }
+{
+    let mut ranked = Vec::with_capacity(alloc, waiting.len())?;
+    for request in waiting {
+        let priority = match flows.kind_of(ch, request.sid) {
+            Some(kind) => kind_priority(kind),
+            None => 0,
+        };
+        ranked.push(Ranked {
+            priority,
+            request: *request,
+        })?;
+    }
+    Ok(ranked)
 }
 
 /// Sets the next due times of a channel's flows.

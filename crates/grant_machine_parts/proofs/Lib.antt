@@ -1,7 +1,6 @@
-pub mod Fits
+pub mod Carved
 pub mod Windows
-pub mod Holding
-pub mod Ranges
+pub mod Edges
 pub mod Passing
 pub mod Giving
 pub mod Served

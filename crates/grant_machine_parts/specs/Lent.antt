@@ -1,15 +1,14 @@
--- Flows as they are lent and what is kept of them, which service gives them something, and their requests by priority.
-use Rattle.std.specs.Prelude.{◌≡◌, ℕ, ◌≤◌, ◌==◌, true, List, [], ◌∷◌, map, Option}
-use Rattle.std.specs.List.{find, filter, flat_map}
+-- Flows as they are lent and what is kept of them, and which service gives them something.
+use Rattle.std.specs.Prelude.{◌≡◌, ℕ, ◌≤◌, true, Option}
 use Rattle.flow_state.specs.declared.channel.Channel.{Channel}
 use Rattle.flow_state.specs.declared.flow.Flow.{Flow}
 use Rattle.flow_state.specs.declared.flow.FlowKind.{FlowKind}
 use Rattle.flow_state.specs.declared.flow.Waiting.{Waiting}
 use Rattle.flow_state.specs.Limits.{last_sid, is_good_kind, due_time, due_index}
-use Rattle.flow_state.specs.Rows.{FlowRow, is_flow}
+use Rattle.flow_state.specs.Rows.{FlowRow}
 use Rattle.grant_machine_parts.specs.declared.services.Service.{Service}
 use Rattle.grant_machine_parts.specs.declared.services.Service.TheVariants.{Grants, Polls}
-use Rattle.grant_machine_parts.specs.Cutting.{Periodic, grants_of_kind, polls_of_kind, flow_priority}
+use Rattle.grant_machine_parts.specs.Cutting.{Periodic, grants_of_kind, polls_of_kind}
 use Rattle.grant_machine_parts.specs.Filling.{last_due}
 
 -- the flow's row: with the number of the next due time in place of the time
@@ -30,16 +29,6 @@ given Polls c sid kind = polls_of_kind c sid kind
 
 abbrev pub given_to : Service → Channel → FlowRow → Option Periodic
 given_to service c f = given service c f.sid f.kind
-
--- a request's priority, and the requests by priority, greater first, and then by arrival
-abbrev pub request_priority : List Flow → Waiting → ℕ
-request_priority flows w = flow_priority (find (is_flow w.sid) (map row_of flows))
-
-abbrev pub of_priority : List Flow → List Waiting → ℕ → List Waiting
-of_priority flows ws priority = filter (λ w. request_priority flows w == priority) ws
-
-abbrev pub by_priority : List Flow → List Waiting → List Waiting
-by_priority flows ws = flat_map (of_priority flows ws) (7 ∷ 6 ∷ 5 ∷ 4 ∷ 3 ∷ 2 ∷ 1 ∷ 0 ∷ [])
 
 -- a request of a unicast SID
 abbrev pub IsUnicast : Waiting → Type 0

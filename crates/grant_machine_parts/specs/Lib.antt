@@ -1,7 +1,9 @@
 pub mod Placing
 pub mod Cutting
 pub mod Drawing
-pub mod Cells
+pub mod Edges
+pub mod Gaps
 pub mod Filling
 pub mod Kept
 pub mod Lent
+pub mod Ranks

@@ -9,6 +9,7 @@ ghost use Rattle.std.specs.List.{AllByRecursion};
 ghost use Rattle.grant_machine_parts.specs.Placing.{holds, holder};
 ghost use Rattle.grant_machine_parts.specs.Cutting.{still_waiting};
 ghost use Rattle.grant_machine_parts.specs.Drawing.{free_element, null_element, pending_element, begins_at, head_of};
+ghost use Rattle.grant_machine_parts.specs.Edges.{nearer, next_edge};
 ghost use Rattle.grant_machine_parts.specs.Lent.{IsUnicast};
 
 use crate::placing::{Filling, Placement};
@@ -77,7 +78,32 @@ fn begins_at(placements: &[Placement], x: u16) -> Option<Element>
     }
 }
 
-/// Adds an element for each placement and each longest free run, by offset.
+/// The edge, where it lies behind x and before the next one so far.
+fn nearer(x: u16, edge: u32, next: u16) -> u16
+    ensures { result ≡ nearer x edge next }
+{
+    if u32::from(x) < edge && edge < u32::from(next) {
+        edge as u16
+    } else {
+        next
+    }
+}
+
+/// The first offset behind x where a placement begins or ends, and at most len.
+fn next_edge(placements: &[Placement], x: u16, len: u16) -> u16
+    ensures { result ≡ next_edge placements.now x len }
+{
+    let mut next = len;
+    for placement in placements {
+        let from = u32::from(placement.offset.get());
+        let to = from + u32::from(placement.size);
+        next = nearer(x, to, nearer(x, from, next));
+    }
+    next
+}
+
+/// Adds an element for each placement and each longest free run, by offset. Between two edges no
+/// element begins.
 fn put_intervals(
     elements: &mut Vec<Element>,
     placements: &[Placement],
@@ -86,10 +112,12 @@ fn put_intervals(
     requires { len ≤ most_minislots }
     ensures { OnOk result (elements.new.items ≡ elements.old.items ++ filter_map (begins_at placements.now) (range_with_len 0 len)) }
 {
-    for x in 0..len {
+    let mut x = 0;
+    while x < len {
         if let Some(element) = begins_at(placements, x) {
             elements.push(element)?;
         }
+        x = next_edge(placements, x, len);
     }
     Ok(())
 }

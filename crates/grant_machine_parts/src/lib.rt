@@ -1,13 +1,13 @@
 //! The parts of a cut: a MAP's minislots, what is placed in them, and the body that tells of it.
 #![tactic(auto)]
 
-mod cells;
 pub mod drawing;
 mod due_times;
+mod gaps;
 mod placing;
 mod services;
 mod waiting;
 
 pub use placing::{Cause, Filling, Placement};
 pub use services::{Service, serve};
-pub use waiting::{by_priority, is_granted, place_requests};
+pub use waiting::{Ranked, by_priority, is_granted, kind_priority, place_requests};

@@ -1,19 +1,23 @@
 //! A MAP while it is filled.
 
-ghost use Rattle.std.specs.Prelude.{◌≡◌, ℕ, ◌+◌, ◌<◌, ◌≤◌, Bool, not, ◌&&◌, ◌||◌, nat_lt, nat_le, [], ◌∷◌, ◌++◌, length, slice_index_or, IfOk, OnOk, IfSome};
+ghost use Rattle.std.specs.Prelude.{◌≡◌, ℕ, ◌+◌, ◌<◌, ◌≤◌, not, nat_lt, [], ◌∷◌, ◌++◌, length, IfOk, OnOk, IfSome};
 ghost use Rattle.std.specs.List.{AllByRecursion};
 ghost use Rattle.flow_state.specs.Limits.{last_time, most_minislots};
 ghost use Rattle.grant_machine_parts.specs.Placing.{most_placements, first_fit};
 ghost use Rattle.grant_machine_parts.specs.Cutting.{end_of};
 ghost use Rattle.grant_machine_parts.specs.Filling.{has_use};
 
-use crate::cells;
+use crate::gaps::{self, Gap};
 use map_body::{Iuc, Offset, Sid};
 use std::alloc::{AllocError, Global};
 use std::marker::Model;
+use std::mem;
 
 /// As many placements may a MAP have.
 const MOST_PLACEMENTS: usize = 60;
+
+/// As many gaps may be between them, before the first and behind the last.
+const MOST_GAPS: usize = 61;
 
 /// What a placement serves: the due time of this number, or the request that was sent at this time.
 #[derive(Clone, Copy, Debug)]
@@ -32,23 +36,25 @@ pub struct Placement {
     pub cause: Cause,
 }
 
-/// A MAP's minislots, each free or held, and the placements that hold them.
+/// A MAP's minislots: the placements that hold some of them, and the gaps between these. Room for all that it may have is
+/// taken when it is made, and the gaps after a placement are put beside those before it.
 #[derive(Drop)]
 pub struct Filling {
     start: u64,
-    held: Vec<bool>,
+    len: u16,
+    gaps: Vec<Gap>,
+    next_gaps: Vec<Gap>,
     placements: Vec<Placement>,
 }
 
 impl Model for Filling {
-    ghost use Rattle.std.specs.Prelude.{length};
     ghost use Rattle.grant_machine_parts.specs.Filling.{PartMap};
 
     ghost Value = { PartMap };
 
     ghost use Rattle.grant_machine_parts.specs.Kept.{IsKept};
 
-    ghost view = { λ a. record { span = record { start = a.start; len = length a.held.items }; placements = a.placements.items } };
+    ghost view = { λ a. record { span = record { start = a.start; len = a.len }; placements = a.placements.items } };
 
     ghost invariant = { IsKept };
 }
@@ -60,10 +66,14 @@ impl Filling {
         requires early { start + len ≤ last_time }
         ensures { IfOk result (λ f. f ≡ record { span = record { start = start; len = len }; placements = [] }) }
     {
+        let mut gaps = Vec::with_capacity(alloc, MOST_GAPS)?;
+        gaps.push(Gap { from: 0, to: len })?;
         Ok(Filling {
             start,
-            held: vec![in alloc; false; usize::from(len)]?,
-            placements: Vec::new(alloc),
+            len,
+            gaps,
+            next_gaps: Vec::with_capacity(alloc, MOST_GAPS)?,
+            placements: Vec::with_capacity(alloc, MOST_PLACEMENTS)?,
         })
     }
 
@@ -79,7 +89,7 @@ impl Filling {
         ensures same { result ≡ self.now.span.len }
         ensures short { result ≤ most_minislots }
     {
-        self.held.len() as u16
+        self.len
     }
 
     /// The minislot behind its last.
@@ -87,7 +97,7 @@ impl Filling {
         ensures same { result ≡ end_of self.now.span }
         ensures early { result ≤ last_time }
     {
-        self.start + self.held.len() as u64
+        self.start + u64::from(self.len)
     }
 
     /// Nothing fits any more.
@@ -115,7 +125,7 @@ impl Filling {
         if self.is_full() {
             return None;
         }
-        cells::first_fit(&self.held, self.start, usize::from(n), lo, hi)
+        gaps::first_fit(&self.gaps, self.start, self.len, n, lo, hi)
     }
 
     /// Gives minislots to a SID.
@@ -126,22 +136,10 @@ impl Filling {
         ensures span { self.new.span ≡ self.old.span }
         ensures placed { OnOk result (self.new.placements ≡ self.old.placements ++ placement ∷ []) }
     {
-        let from = usize::from(placement.offset.get());
-        let to = from + usize::from(placement.size);
+        let from = placement.offset.get();
+        gaps::carve(&mut self.next_gaps, &self.gaps, from, from + placement.size)?;
         self.placements.push(placement)?;
-        hold(&mut self.held, from, to);
+        mem::swap(&mut self.gaps, &mut self.next_gaps);
         Ok(())
-    }
-}
-
-/// Holds the minislots from an offset to another.
-fn hold(held: &mut Vec<bool>, from: usize, to: usize)
-    requires rising { from ≤ to }
-    requires within { to ≤ length held.old.items }
-    ensures len { length held.new.items ≡ length held.old.items }
-    ensures cells { (k : ℕ) (d : Bool) → k < length held.old.items → slice_index_or held.new.items k d ≡ (slice_index_or held.old.items k d || (nat_le from k && nat_lt k to)) }
-{
-    for x in from..to {
-        held[x] = true;
     }
 }

@@ -1,19 +1,26 @@
 //! Requests that wait, by priority.
 
-ghost use Rattle.std.specs.Prelude.{◌≡◌, ◌++◌, find, map, IfOk, OnOk};
+ghost use Rattle.std.specs.Prelude.{◌≡◌, ◌++◌, IfOk, OnOk};
 ghost use Rattle.std.specs.List.{list_any, AllByRecursion};
-ghost use Rattle.flow_state.specs.Rows.{is_flow};
-ghost use Rattle.grant_machine_parts.specs.Cutting.{kind_priority, flow_priority, is_cause_sent, is_grant_of, place_requests};
-ghost use Rattle.grant_machine_parts.specs.Lent.{row_of, request_priority, of_priority, by_priority, IsUnicast};
+ghost use Rattle.grant_machine_parts.specs.Cutting.{kind_priority, is_cause_sent, is_grant_of, place_requests};
+ghost use Rattle.grant_machine_parts.specs.Lent.{IsUnicast};
+ghost use Rattle.grant_machine_parts.specs.Ranks.{of_priority, by_priority};
 
 use crate::placing::{Cause, Filling, Placement};
 use crate::services::grant_iuc;
-use flow_state::{Channel, Flow, FlowKind, Waiting};
+use flow_state::{Channel, FlowKind, Waiting};
 use map_body::{Offset, Sid};
 use std::alloc::{AllocError, Global};
 
+/// A request with its priority.
+#[derive(Clone, Copy, Debug)]
+pub struct Ranked {
+    pub priority: u8,
+    pub request: Waiting,
+}
+
 /// The priority of a flow's requests. A polled flow's come first.
-fn kind_priority(kind: FlowKind) -> u8
+pub fn kind_priority(kind: FlowKind) -> u8
     ensures { result ≡ kind_priority kind }
 {
     match kind {
@@ -23,46 +30,29 @@ fn kind_priority(kind: FlowKind) -> u8
     }
 }
 
-/// The priority of a request: its flow's.
-fn request_priority(flows: &[Flow], request: &Waiting) -> u8
-    ensures { result ≡ request_priority flows.now request.now }
-{
-    for flow in flows {
-        if flow.sid == request.sid {
-            return kind_priority(flow.kind);
-        }
-    }
-    0
-}
-
 /// Adds the requests of one priority, by arrival.
 fn add_priority(
     ordered: &mut Vec<Waiting>,
-    flows: &[Flow],
-    waiting: &[Waiting],
+    ranked: &[Ranked],
     priority: u8,
 ) -> Result<(), AllocError>
-    ensures { OnOk result (ordered.new.items ≡ ordered.old.items ++ of_priority flows.now waiting.now priority) }
+    ensures { OnOk result (ordered.new.items ≡ ordered.old.items ++ of_priority ranked.now priority) }
 {
-    for request in waiting {
-        if request_priority(flows, request) == priority {
-            ordered.push(*request)?;
+    for one in ranked {
+        if one.priority == priority {
+            ordered.push(one.request)?;
         }
     }
     Ok(())
 }
 
 /// The waiting requests by priority, greater first, and then by arrival.
-pub fn by_priority(
-    alloc: Global,
-    flows: &[Flow],
-    waiting: &[Waiting],
-) -> Result<Vec<Waiting>, AllocError>
-    ensures { IfOk result (λ ordered. ordered.items ≡ by_priority flows.now waiting.now) }
+pub fn by_priority(alloc: Global, ranked: &[Ranked]) -> Result<Vec<Waiting>, AllocError>
+    ensures { IfOk result (λ ordered. ordered.items ≡ by_priority ranked.now) }
 {
     let mut ordered = Vec::new(alloc);
     for priority in [7, 6, 5, 4, 3, 2, 1, 0] {
-        add_priority(&mut ordered, flows, waiting, priority)?;
+        add_priority(&mut ordered, ranked, priority)?;
     }
     Ok(ordered)
 }

@@ -1,6 +1,7 @@
-use command_log::Log;
+use command_log::{Log, LogFault};
 use grant_machine::Output;
 use map_release::Release;
+use std::alloc::Global;
 use std::test::Fail;
 
 const CHANNEL: [u8; 17] = [
@@ -14,42 +15,58 @@ const CUT: [u8; 20] = [
     0x00, 0x00, 0x00, 0x00,
 ];
 
+/// The cut is learned at place 2, and place 1 is a gap.
+fn with_a_gap(alloc: Global) -> Result<Log, LogFault> {
+    let mut log = Log::new(alloc);
+    log.learn(2, &CUT)?;
+    Ok(log)
+}
+
+/// The channel and the cut have outputs.
+fn close_gap(log: &mut Log) -> Result<(), LogFault> {
+    log.learn(1, &CHANNEL)?;
+    log.advance()?;
+    log.advance()?;
+    Ok(())
+}
+
+/// How many outputs are released, and whether each is the one of its place.
+fn released(
+    alloc: Global,
+    release: &mut Release,
+    log: &Log,
+    now: u64,
+) -> Result<(usize, bool), Fail> {
+    let outputs = release.next(alloc, log, now)?;
+    let mut are_right = true;
+    for numbered in &outputs {
+        are_right &= match &numbered.output {
+            Output::ChannelSet { ch: 1, ucd: 7 } => numbered.place == 1,
+            Output::Map { ch: 1, len: 10, .. } => numbered.place == 2,
+            _ => false,
+        };
+    }
+    Ok((outputs.len(), are_right))
+}
+
 #[test]
 fn nothing_behind_a_gap_is_released(rt: HostRuntime) -> Result<(), Fail> {
-    let alloc = rt.alloc();
-    let mut log = Log::new(alloc);
+    let mut log = with_a_gap(rt.alloc())?;
     let mut release = Release::new();
-    log.learn(2, &CUT)?;
-    assert!(rt; !log.advance()?);
-    let outputs = release.next(alloc, &log, 0)?;
-    assert_eq!(rt; outputs.len(), 0);
-    log.learn(1, &CHANNEL)?;
-    assert!(rt; log.advance()?);
-    assert!(rt; log.advance()?);
-    let outputs = release.next(alloc, &log, 1009)?;
-    assert_eq!(rt; outputs.len(), 2);
-    assert_eq!(rt; outputs[0].place, 1);
-    assert!(rt; matches!(outputs[0].output, Output::ChannelSet { ch: 1, ucd: 7 }));
-    assert_eq!(rt; outputs[1].place, 2);
-    assert!(rt; matches!(outputs[1].output, Output::Map { ch: 1, len: 10, .. }));
+    assert_eq!(rt; released(rt.alloc(), &mut release, &log, 0)?, (0, true));
+    close_gap(&mut log)?;
+    assert_eq!(rt; released(rt.alloc(), &mut release, &log, 1009)?, (2, true));
     assert_eq!(rt; release.cursor(), 2);
-    let outputs = release.next(alloc, &log, 1009)?;
-    assert_eq!(rt; outputs.len(), 0);
+    assert_eq!(rt; released(rt.alloc(), &mut release, &log, 1009)?, (0, true));
     Ok(())
 }
 
 #[test]
 fn a_map_that_has_ended_is_left_out(rt: HostRuntime) -> Result<(), Fail> {
-    let alloc = rt.alloc();
-    let mut log = Log::new(alloc);
-    log.learn(1, &CHANNEL)?;
-    log.learn(2, &CUT)?;
-    assert!(rt; log.advance()?);
-    assert!(rt; log.advance()?);
+    let mut log = with_a_gap(rt.alloc())?;
+    close_gap(&mut log)?;
     let mut release = Release::new();
-    let outputs = release.next(alloc, &log, 1010)?;
-    assert_eq!(rt; outputs.len(), 1);
-    assert_eq!(rt; outputs[0].place, 1);
+    assert_eq!(rt; released(rt.alloc(), &mut release, &log, 1010)?, (1, true));
     assert_eq!(rt; release.cursor(), 2);
     Ok(())
 }

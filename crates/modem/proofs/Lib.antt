@@ -3,8 +3,8 @@ mod Times
 mod CellList
 mod Parts
 mod Least
-mod AtCell
-mod Made
+mod AtKept
+mod Order
 mod Clocks
 mod Stands
 mod Given

@@ -1,5 +1,5 @@
 pub mod State
-pub mod Cells
+pub mod KeptIntervals
 pub mod Wants
 pub mod Intervals
 pub mod Held

@@ -1,6 +1,7 @@
 //! The intervals of a map that is heard.
 
 ghost use Rattle.std.specs.Prelude.{◌≡◌, ℕ, ◌+◌, ◌<◌, ◌^◌, ◌==◌, ◌&&◌, filter, IfOk, IfSome, IfNone};
+ghost use Rattle.map_body.specs.Intervals.{intervals};
 ghost use Rattle.map_body.specs.Iucs as iucs;
 ghost use Rattle.map_body.specs.Sids.{everybody};
 ghost use Rattle.modem.specs.State.{is_own};
@@ -11,6 +12,13 @@ use crate::types::OwnSid;
 use map_body::{Interval, Iuc, MapBody, Sid};
 use minislot_time::{Slot, extend};
 use std::alloc::{AllocError, Global};
+
+/// Those that a map gives: before its Null.
+pub(crate) fn given(alloc: Global, map: &MapBody) -> Result<Vec<Interval>, AllocError>
+    ensures { IfOk result (λ v. v.items ≡ intervals map.now.elements) }
+{
+    map.intervals(alloc)
+}
 
 /// Those whose SID is the modem's.
 pub(crate) fn own(

@@ -1,9 +1,9 @@
 //! A cable modem's part in upstream bandwidth allocation: it hears MAPs, keeps what they give it, and says what it sends at each minislot.
 #![tactic(auto)]
 
-mod cells;
 mod channels;
 mod intervals;
+mod kept;
 mod modem;
 mod owner;
 pub mod types;

@@ -1,4 +1,4 @@
-//! The modem core, which keeps what it heard as a plain list of cells.
+//! The modem core, which keeps one interval for each element that it was given, and lets go of those that have ended.
 
 ghost use Rattle.std.specs.Prelude.{◌≡◌, ℕ, ◌<◌, ◌≤◌, None, Some, Ok, Err, OnOk, OnErr, IfOk, IfErr, IfSome, IfNone, IsOkAnd, IsErr, List, true, false, ◌∷◌, ◌++◌, [], ◌⊎◌, ◌==◌, ◌↔◌, MatchBool};
 ghost use Rattle.map_body.specs.declared.fault.MapFault.TheVariants.{OutOfMemory};
@@ -12,7 +12,7 @@ ghost use Rattle.modem.specs.Hears.{Hears, HearsMap, MayGrow, Takes};
 ghost use Rattle.modem.specs.Wants.{want_refusal, new_want};
 ghost use Rattle.modem.specs.Ticks.{Ticks};
 
-use crate::cells::{self, Cell};
+use crate::kept::{self, KeptInterval};
 use crate::types::{Channel, Heard, OwnSid, Progress, Sending, TimeBack, Want, WantFault};
 use crate::{channels, intervals, wants};
 use grant_machine::Output;
@@ -51,19 +51,21 @@ pub struct Modem {
     id: u32,
     channels: Vec<Channel>,
     sids: Vec<OwnSid>,
-    grants: Vec<Cell>,
-    open_to_all: Vec<Cell>,
+    grants: Vec<KeptInterval>,
+    open_to_all: Vec<KeptInterval>,
     wants: Vec<Want>,
 }
 
 impl Model for Modem {
     ghost use Rattle.std.specs.Prelude.{map};
     ghost use Rattle.modem.specs.State.{State};
-    ghost use Rattle.modem.specs.Cells.{kept_cell};
+    ghost use Rattle.modem.specs.KeptIntervals.{kept_interval, AreKept};
 
     ghost Value = { State };
 
-    ghost view = { λ m. record { id = m.id; channels = m.channels.items; sids = m.sids.items; grants = map kept_cell m.grants.items; open_to_all = map kept_cell m.open_to_all.items; wants = m.wants.items } };
+    ghost view = { λ m. record { id = m.id; channels = m.channels.items; sids = m.sids.items; grants = map kept_interval m.grants.items; open_to_all = map kept_interval m.open_to_all.items; wants = m.wants.items } };
+
+    ghost invariant = { λ m. AreKept m.grants.items × AreKept m.open_to_all.items };
 }
 
 impl Modem {
@@ -124,7 +126,8 @@ impl Modem {
 
     /// What the modem sends at a minislot of a channel: by a grant of its own, else at a poll, else a request
     /// where all may send one (truncated binary exponential back-off; CM-SP-MULPIv3.1, upstream bandwidth
-    /// allocation). It takes no memory.
+    /// allocation). It takes no memory. It costs the modem's wants, the logarithm of the intervals that it keeps,
+    /// and what of them begins less than 2^14 minislots before.
     pub fn tick(&mut self, ch: u8, slot: Slot, random: u64) -> Result<Option<Sending>, TimeBack>
         ensures unknown { channel_of self.old.channels ch ≡ None → (result ≡ Ok None) × (self.new ≡ self.old) }
         ensures back { IfSome (channel_of self.old.channels ch) (λ c. slot < c.clock → IsErr result × (self.new ≡ self.old)) }
@@ -139,8 +142,8 @@ impl Modem {
         if at < channel.clock {
             return Err(TimeBack);
         }
-        let counted = cells::counted(self.grants.as_slice(), channel.id, at);
-        let open = cells::is_open(self.open_to_all.as_slice(), channel.id, at);
+        let counted = kept::counted(self.grants.as_slice(), channel.id, at);
+        let open = kept::is_open(self.open_to_all.as_slice(), channel.id, at);
         let sending = wants::send(&mut self.wants, channel, at, random, counted, open);
         channels::set(
             &mut self.channels,
@@ -154,7 +157,8 @@ impl Modem {
 
     /// Hears an output near a time. Of a Map only the bytes are looked at. It takes memory only for a channel
     /// that wasn't known, for a new SID of its own, and for a map's bytes, if they have the length that their
-    /// count tells.
+    /// count tells. It costs the map's elements times the modem's SIDs and wants, and for each element that is
+    /// kept the logarithm of what is kept, whatever was heard before.
     pub fn hear(&mut self, output: &Output, near: Slot) -> Result<Heard, AllocError>
         ensures ok { IfOk result (λ answer. Hears self.old output.now near answer self.new) }
         ensures err { OnErr result (self.new ≡ self.old) }
@@ -240,7 +244,8 @@ impl Modem {
         Ok(Heard::Taken)
     }
 
-    // Keeps what a map gives, and lets it decide wants. All that takes memory comes first.
+    // Keeps what a map gives, lets go of what has ended, and lets the map decide wants. All that takes memory
+    // comes first.
     fn take(
         &mut self,
         map: &MapBody,
@@ -248,35 +253,26 @@ impl Modem {
         channel: Channel,
         near: Slot,
     ) -> Result<(), AllocError>
+        requires { channel_of self.old.channels map.now.head.channel ≡ Some channel }
         ensures ok { OnOk result (Takes self.old channel near map.now start self.new) }
         ensures err { OnErr result (self.new ≡ self.old) }
     {
         let alloc = *self.wants.allocator();
         let head = *map.head();
-        let heard = map.intervals(alloc)?;
+        let heard = intervals::given(alloc, map)?;
         let own = intervals::own(alloc, heard.as_slice(), self.sids.as_slice(), head.channel)?;
         let open = intervals::open_to_all(alloc, heard.as_slice())?;
-        let first = start.get();
-        let grants = cells::with_cells(
-            alloc,
-            self.grants.as_slice(),
-            head.channel,
-            first,
-            own.as_slice(),
-        )?;
-        let open_to_all = cells::with_cells(
-            alloc,
-            self.open_to_all.as_slice(),
-            head.channel,
-            first,
-            open.as_slice(),
-        )?;
         let ack = intervals::ack_time(head.ack, start);
         let wants = wants::decided(alloc, self.wants.as_slice(), map, heard.as_slice(), ack)?;
-        self.grants = grants;
-        self.open_to_all = open_to_all;
-        self.wants = wants;
+        self.grants.reserve(own.len())?;
+        self.open_to_all.reserve(open.len())?;
+        let first = start.get();
         let clock = channel.clock.max(near.get());
+        kept::let_go(&mut self.grants, head.channel, clock);
+        kept::let_go(&mut self.open_to_all, head.channel, clock);
+        kept::add_all(&mut self.grants, head.channel, first, own.as_slice());
+        kept::add_all(&mut self.open_to_all, head.channel, first, open.as_slice());
+        self.wants = wants;
         channels::set(
             &mut self.channels,
             Channel {

@@ -1,12 +1,12 @@
 -- What a call of a node does to the written world.
-use Rattle.std.proofs.Common.{◌≡◌, ◌<◌, ◌≤◌, ◌++◌, inl, inr, ℕ, zero, suc, List, [], ◌∷◌, Option, Some, None, Result, Ok, Err, Bool, true, false, IsTrue, length, get_or, slice_get, slice_set, refl, sym, ap, ◌∙◌, subst, arith, append_assoc}
+use Rattle.std.proofs.Common.{◌≡◌, ◌<◌, ◌≤◌, ◌++◌, inl, inr, ℕ, zero, suc, List, [], ◌∷◌, Option, Some, None, Result, Ok, Err, Bool, true, false, IsTrue, length, get_or, slice_get, slice_set, refl, sym, ap, ◌∙◌, subst, arith, append_assoc, append-nil}
 use Rattle.std.proofs.lemmas.Option.{slice_get_read}
 use Rattle.ballots.specs.declared.letters.Letter.{Letter}
 use Rattle.ballots.specs.Voting.{Entry}
-use Rattle.acceptor.specs.Content.{Content, Write, record_write}
+use Rattle.acceptor.specs.Content.{Content, Write, after_write, record_write}
 use Rattle.map_release.specs.declared.numbered.Numbered.{Numbered}
 use Rattle.node.specs.declared.node.Node.{Ghosts}
-use Rattle.node.specs.View.{View, Standing}
+use Rattle.node.specs.View.{View, Standing, started}
 use Rattle.node.specs.View.Standing.{Running, Stopped}
 use Rattle.node.specs.Calls.{Cause, Course, Ends as NodeEnds, IsStop, MayGoOn, StopsLast, StoreFails}
 use Rattle.node.specs.Calls.Cause.{Receive}
@@ -23,9 +23,11 @@ use Rattle.network_script_parts.specs.declared.seat.Seat.{Seat}
 use Rattle.network_script_parts.specs.Seat.{CalledIn, ReleasedIn, RestartsWith, Shown, shown, stays_up, survives, crashed}
 use Rattle.network_script.specs.Seats.{Each, AreStandings, IsNumbered, AllHonest, IsUpAt, IsMissed}
 use Rattle.network_script_parts.specs.Occupant.{Stands, member, IsHonest}
-use Rattle.network_script.specs.Release.{released_all}
+use Rattle.network_script_parts.specs.Release.{released_all}
 use Rattle.network_script.specs.World.{Written, released_by}
-use Rattle.network_script.specs.Next.{Asks, Comes, Ends, EndsInCrash, Fails, IsToldLast, Releases, Starts, Restarts as WorldRestarts}
+use Rattle.network_script_parts.specs.Moves.{Ask, Move, quiet, whole, lost, gives, Ends, EndsInCrash, Fails, IsToldLast, Releases, Starts, Moves}
+use Rattle.network_script.specs.Next.{OfNode, Comes, after}
+use Rattle.network_script.proofs.After.{set_got, after_same}
 use Rattle.network_script.specs.Worlds.{Posted, Lost, Keeps, left}
 use Rattle.network_script.proofs.Places.{who_at, honest_at, each_length, each_at, each_set}
 
@@ -69,11 +71,6 @@ pub moves : {N : Type 0} {g : Ghosts N} (seats : List (Seat N g)) (nodes : List 
 moves {N} {g} seats nodes k new s each stands =
     let R : Seat N g → Standing → Type 0 = Stands in
     each_set R seats nodes k new s each stands
-
-set_got : {A : Type 0} (xs : List A) (k : ℕ) (x : A) → slice_get xs k ≡ Some x → slice_set xs k x ≡ xs
-set_got [] k x at = refl
-set_got {A} (y ∷ xs) zero x at = let same : y ≡ x = cc in ap (λ (z : A). z ∷ xs) (sym same)
-set_got {A} (y ∷ xs) (suc k) x at = ap (λ (zs : List A). y ∷ zs) (set_got xs k x at)
 
 -- the node at seat k stands where it stood
 pub unmoved : {N : Type 0} {g : Ghosts N} (seats : List (Seat N g)) (nodes : List Standing) (k : ℕ) (new : Seat N g) (s : Standing) → AreStandings seats nodes → slice_get nodes k ≡ Some s → Stands new s → AreStandings (slice_set seats k new) nodes
@@ -150,105 +147,124 @@ released_at {N} {g} nodes seats k seat mid new now given each up is called node 
     let call = called honest r.0 r.2 in
     record { view = r.0; at = r.1; after = call.0; ends = call.1; stands = call.2 }
 
--- two calls leave the same world where their parts are the same
-same_call : (w : Written) (k : ℕ) (s s' : Standing) (letters letters' : List Letter) (outputs outputs' : List ReleasedOutput) (history : List Entry) → s ≡ s' → letters ≡ letters' → outputs ≡ outputs'
-    → record w { nodes = slice_set w.nodes k s; letters = letters; outputs = outputs; history = history } ≡ record w { nodes = slice_set w.nodes k s'; letters = letters'; outputs = outputs'; history = history }
-same_call w k s s' letters letters' outputs outputs' history standing sent out = λ i. record w { nodes = slice_set w.nodes k (standing i); letters = sent i; outputs = out i; history = history }
+-- the world after a move has these parts
+same_move : (w : Written) (k : ℕ) (s : Standing) (letters : List Letter) (outputs : List ReleasedOutput) (m : Move) → s ≡ m.standing → letters ≡ w.letters ++ m.letters → outputs ≡ w.outputs ++ released_by k m.outputs
+    → record w { nodes = slice_set w.nodes k s; letters = letters; outputs = outputs; history = record_write k m.write w.history } ≡ after w k m
+same_move w k s letters outputs m standing sent out = λ i. record w { nodes = slice_set w.nodes k (standing i); letters = sent i; outputs = out i; history = record_write k m.write w.history }
 
--- a call that changed nothing
-same_still : (w : Written) (k : ℕ) (s s' : Standing) (letters : List Letter) → slice_get w.nodes k ≡ Some s' → s ≡ s' → letters ≡ w.letters → record w { nodes = slice_set w.nodes k s; letters = letters } ≡ w
-same_still w k s s' letters at same sent =
-    let nodes : slice_set w.nodes k s ≡ w.nodes = ap (λ (x : Standing). slice_set w.nodes k x) same ∙ set_got w.nodes k s' at in
-    λ i. record w { nodes = nodes i; letters = sent i }
+-- nothing was added
+none_more : {A : Type 0} (xs ys : List A) → xs ≡ ys → xs ≡ ys ++ []
+none_more {A} xs ys same = same ∙ sym (append-nil ys)
+
+-- the same where nothing was sent, released or written
+same_quiet : (w : Written) (k : ℕ) (s t : Standing) (letters : List Letter) (outputs : List ReleasedOutput) → s ≡ t → letters ≡ w.letters → outputs ≡ w.outputs
+    → record w { nodes = slice_set w.nodes k s; letters = letters; outputs = outputs } ≡ after w k (quiet t)
+same_quiet w k s t letters outputs standing sent out = same_move w k s letters outputs (quiet t) standing (none_more letters w.letters sent) (none_more outputs w.outputs out)
+
+-- node k was asked so, and the world has its parts afterwards: where it stands, the letters and the outputs
+abbrev pub MovedTo : (Answer → Move → Type 0) → Written → ℕ → Answer → Standing → List Letter → List ReleasedOutput → Type 0
+MovedTo May w k answer s letters outputs =
+    (m : Move) × May answer m × (record w { nodes = slice_set w.nodes k s; letters = letters; outputs = outputs; history = record_write k m.write w.history } ≡ after w k m)
 
 -- the world after a fault of node k
 fails : (w : Written) (k : ℕ) (view : View) (IsCourse : Result Outcome NodeFault → Type 0) (told : NodeFault) (t : Standing) (letters : List Letter)
-    → slice_get w.nodes k ≡ Some (Running view) → NodeEnds IsCourse view (Err told) t → letters ≡ w.letters
-    → Fails w k view IsCourse told (record w { nodes = slice_set w.nodes k (shown (survives told) t); letters = letters })
-fails w k view IsCourse fault.OutOfMemory t letters at ends sent = same_call w k _ _ letters _ _ _ _ (ap crashed ends) sent refl
-fails w k view IsCourse fault.StoreRefused t letters at ends sent = same_call w k _ _ letters _ _ _ _ (ap crashed ends) sent refl
-fails w k view IsCourse fault.Down t letters at (inl stopped) sent = inl (same_call w k _ _ letters _ _ _ _ (ap crashed stopped) sent refl)
-fails w k view IsCourse fault.Down t letters at (inr (o, course, stopped)) sent = inr (o, course, same_call w k _ _ letters _ _ _ _ (ap crashed stopped) sent refl)
-fails w k view IsCourse declined t letters at ends sent = (ends.0, same_still w k _ _ letters at ends.1 sent)
+    → NodeEnds IsCourse view (Err told) t → letters ≡ w.letters
+    → MovedTo (λ answer. Fails view IsCourse told) w k (Fault told) (shown (survives told) t) letters w.outputs
+fails w k view IsCourse fault.OutOfMemory t letters ends sent = (quiet (Stopped view.content None), refl, same_quiet w k _ (Stopped view.content None) letters w.outputs (ap crashed ends) sent refl)
+fails w k view IsCourse fault.StoreRefused t letters ends sent = (quiet (Stopped view.content None), refl, same_quiet w k _ (Stopped view.content None) letters w.outputs (ap crashed ends) sent refl)
+fails w k view IsCourse fault.Down t letters (inl stopped) sent =
+    (quiet (Stopped view.content None), inl refl, same_quiet w k _ (Stopped view.content None) letters w.outputs (ap crashed stopped) sent refl)
+fails w k view IsCourse fault.Down t letters (inr (o, course, stopped)) sent =
+    (quiet (Stopped view.content o.write), inr (o, course, refl), same_quiet w k _ (Stopped view.content o.write) letters w.outputs (ap crashed stopped) sent refl)
+fails w k view IsCourse declined t letters ends sent =
+    (quiet (Running view), (ends.0, refl), same_quiet w k _ (Running view) letters w.outputs ends.1 sent refl)
 
 -- a call whose letters are to be sent
 pub sends : (w : Written) (k : ℕ) (view : View) (IsCourse : Result Outcome NodeFault → Type 0) (given : Result (List Letter) NodeFault) (t : Standing) (letters : List Letter) (answer : Answer)
-    → slice_get w.nodes k ≡ Some (Running view) → NodeEnds IsCourse view given t → Posted given w.letters answer letters
-    → (history : List Entry) × Ends w k view IsCourse answer (record w { nodes = slice_set w.nodes k (left answer (shown (stays_up given) t)); letters = letters; history = history })
-sends w k view IsCourse (Ok given) t letters (Sent n) at (o, course, is, runs) posted =
-    (record_write k o.write w.history, (o, course, posted.0 ∙ ap length is, same_call w k _ _ _ _ _ _ _ runs (posted.1 ∙ ap (λ (ls : List Letter). w.letters ++ ls) is) refl))
-sends w k view IsCourse (Ok given) t letters Crashed at (o, course, is, runs) posted =
-    (record_write k o.write w.history, (o, course, (λ none. posted.0 (is ∙ none)), same_call w k _ _ _ _ _ _ _ (ap crashed runs) posted.1 refl))
-sends w k view IsCourse (Err told) t letters (Fault shown_fault) at ends posted =
-    (w.history, subst (λ (f : NodeFault). Fails w k view IsCourse f (record w { nodes = slice_set w.nodes k (shown (survives told) t); letters = letters })) (sym posted.0) (fails w k view IsCourse told t letters at ends posted.1))
-sends w k view IsCourse given t letters answer at ends posted = absurd posted
+    → NodeEnds IsCourse view given t → Posted given w.letters answer letters
+    → MovedTo (Ends view IsCourse) w k answer (left answer (shown (stays_up given) t)) letters w.outputs
+sends w k view IsCourse (Ok given) t letters (Sent n) (o, course, is, runs) posted =
+    (whole o, (o, course, posted.0 ∙ ap length is, refl), same_move w k _ letters w.outputs (whole o) runs (posted.1 ∙ ap (λ (ls : List Letter). w.letters ++ ls) is) (none_more w.outputs w.outputs refl))
+sends w k view IsCourse (Ok given) t letters Crashed (o, course, is, runs) posted =
+    (lost o, (o, course, (λ none. posted.0 (is ∙ none)), refl), same_move w k _ letters w.outputs (lost o) (ap crashed runs) (none_more letters w.letters posted.1) (none_more w.outputs w.outputs refl))
+sends w k view IsCourse (Err told) t letters (Fault shown_fault) ends posted =
+    let made = fails w k view IsCourse told t letters ends posted.1 in
+    (made.0, subst (λ (f : NodeFault). Fails view IsCourse f made.0) (sym posted.0) made.1, made.2)
+sends w k view IsCourse given t letters answer ends posted = absurd posted
 
 -- a call whose letters are thrown away
 pub loses : (w : Written) (k : ℕ) (view : View) (IsCourse : Result Outcome NodeFault → Type 0) (given : Result (List Letter) NodeFault) (t : Standing) (answer : Answer)
-    → slice_get w.nodes k ≡ Some (Running view) → NodeEnds IsCourse view given t → Lost given answer
-    → (history : List Entry) × EndsInCrash w k view IsCourse answer (record w { nodes = slice_set w.nodes k (left answer (shown (stays_up given) t)); history = history })
-loses w k view IsCourse (Ok given) t Finished at (o, course, is, runs) lost =
-    (record_write k o.write w.history, (o, course, same_call w k _ _ _ _ _ _ _ (ap crashed runs) refl refl))
-loses w k view IsCourse (Err told) t (Fault shown_fault) at ends lost =
-    (w.history, subst (λ (f : NodeFault). Fails w k view IsCourse f (record w { nodes = slice_set w.nodes k (shown (survives told) t) })) (sym lost) (fails w k view IsCourse told t w.letters at ends refl))
-loses w k view IsCourse given t answer at ends lost = absurd lost
+    → NodeEnds IsCourse view given t → Lost given answer
+    → MovedTo (EndsInCrash view IsCourse) w k answer (left answer (shown (stays_up given) t)) w.letters w.outputs
+loses w k view IsCourse (Ok given) t Finished (o, course, is, runs) thrown =
+    (lost o, (o, course, refl), same_move w k _ w.letters w.outputs (lost o) (ap crashed runs) (none_more w.letters w.letters refl) (none_more w.outputs w.outputs refl))
+loses w k view IsCourse (Err told) t (Fault shown_fault) ends thrown =
+    let made = fails w k view IsCourse told t w.letters ends refl in
+    (made.0, subst (λ (f : NodeFault). Fails view IsCourse f made.0) (sym thrown) made.1, made.2)
+loses w k view IsCourse given t answer ends thrown = absurd thrown
 
 -- a release that failed, having written nothing
 release_fails : (w : Written) (k : ℕ) (view : View) (IsCourse : Result Outcome NodeFault → Type 0) (told : NodeFault) (t : Standing) (outputs : List ReleasedOutput)
     → StoreFails view told t → outputs ≡ w.outputs
-    → Fails w k view IsCourse told (record w { nodes = slice_set w.nodes k (shown (survives told) t); outputs = outputs })
-release_fails w k view IsCourse fault.OutOfMemory t outputs ends kept = same_call w k _ _ _ _ outputs _ _ (ap crashed ends) refl kept
-release_fails w k view IsCourse fault.StoreRefused t outputs ends kept = same_call w k _ _ _ _ outputs _ _ (ap crashed ends) refl kept
-release_fails w k view IsCourse fault.Down t outputs ends kept = inl (same_call w k _ _ _ _ outputs _ _ (ap crashed ends) refl kept)
+    → MovedTo (λ answer. Fails view IsCourse told) w k (Fault told) (shown (survives told) t) w.letters outputs
+release_fails w k view IsCourse fault.OutOfMemory t outputs ends kept = (quiet (Stopped view.content None), refl, same_quiet w k _ (Stopped view.content None) w.letters outputs (ap crashed ends) refl kept)
+release_fails w k view IsCourse fault.StoreRefused t outputs ends kept = (quiet (Stopped view.content None), refl, same_quiet w k _ (Stopped view.content None) w.letters outputs (ap crashed ends) refl kept)
+release_fails w k view IsCourse fault.Down t outputs ends kept = (quiet (Stopped view.content None), inl refl, same_quiet w k _ (Stopped view.content None) w.letters outputs (ap crashed ends) refl kept)
 release_fails w k view IsCourse declined t outputs ends kept = absurd ends
 
 -- a call that is to release outputs
 pub releases : (w : Written) (k now : ℕ) (view : View) (given : Result (List Numbered) NodeFault) (t : Standing) (outputs : List ReleasedOutput) (answer : Answer)
     → NodeReleases (Running view) now given t → Keeps given k w.outputs answer outputs
-    → Releases w k now view answer (record w { nodes = slice_set w.nodes k (left answer (shown (stays_up given) t)); outputs = outputs })
+    → MovedTo (Releases view now) w k answer (left answer (shown (stays_up given) t)) w.letters outputs
 releases w k now view (Ok given) t outputs (Released n) (is, runs) kept =
-    (kept.0 ∙ ap length is, same_call w k _ _ _ _ outputs _ _ runs refl (kept.1 ∙ ap (λ (xs : List Numbered). w.outputs ++ released_by k xs) is))
+    (gives view now, (kept.0 ∙ ap length is, refl), same_move w k _ w.letters outputs (gives view now) runs (none_more w.letters w.letters refl) (kept.1 ∙ ap (λ (xs : List Numbered). w.outputs ++ released_by k xs) is))
 releases w k now view (Ok given) t outputs Crashed (is, runs) kept =
-    ((λ none. kept.0 (is ∙ none)), same_call w k _ _ _ _ outputs _ _ (ap crashed runs) refl kept.1)
+    (quiet (Stopped view.content None), ((λ none. kept.0 (is ∙ none)), refl), same_quiet w k _ (Stopped view.content None) w.letters outputs (ap crashed runs) refl kept.1)
 releases w k now view (Err told) t outputs (Fault shown_fault) ends kept =
-    let course : Result Outcome NodeFault → Type 0 = λ whole. whole ≡ Ok (nothing (released_all view)) in
-    subst (λ (f : NodeFault). Fails w k view course f (record w { nodes = slice_set w.nodes k (shown (survives told) t); outputs = outputs })) (sym kept.0) (release_fails w k view course told t outputs ends kept.1)
+    let course : Result Outcome NodeFault → Type 0 = λ made. made ≡ Ok (nothing (released_all view)) in
+    let made = release_fails w k view course told t outputs ends kept.1 in
+    (made.0, subst (λ (f : NodeFault). Fails view course f made.0) (sym kept.0) made.1, made.2)
 releases w k now view given t outputs answer ends kept = absurd kept
 
 -- a restart over what a crash left
 pub starts : (w : Written) (k : ℕ) (c : Content) (doubt : Option Write) (t : Standing) → RestartsWith (Stopped c doubt) (Ok tt) t
-    → (history : List Entry) × Starts w k c doubt Finished (record w { nodes = slice_set w.nodes k t; history = history })
-starts w k c doubt t (inl as_it_was) = (w.history, inl (same_call w k _ _ _ _ _ _ _ as_it_was refl refl))
-starts w k c doubt t (inr made) = (record_write k doubt w.history, inr (same_call w k _ _ _ _ _ _ _ made refl refl))
+    → MovedTo (Starts c doubt) w k Finished t w.letters w.outputs
+starts w k c doubt t (inl as_it_was) = (quiet (Running (started c)), inl refl, same_quiet w k _ (Running (started c)) w.letters w.outputs as_it_was refl refl)
+starts w k c doubt t (inr made) =
+    let m : Move = record { standing = Running (started (after_write c doubt)); letters = []; outputs = []; write = doubt } in
+    (m, inr refl, same_move w k _ w.letters w.outputs m made (none_more w.letters w.letters refl) (none_more w.outputs w.outputs refl))
 
--- a node that is up goes on
-pub asks : (w w' : Written) (k : ℕ) (view : View) (Goes : View → Answer → Written → Type 0) (answer : Answer) → slice_get w.nodes k ≡ Some (Running view) → Goes view answer w' → Asks w (slice_get w.nodes k) Goes answer w'
-asks w w' k view Goes answer at goes = subst (λ (s : Option Standing). Asks w s Goes answer w') (sym at) goes
+-- node k, which stands so, is asked
+pub asks : (members : ℕ) (w w' : Written) (k : ℕ) (s : Standing) (asked : Ask) (answer : Answer) → slice_get w.nodes k ≡ Some s → (m : Move) → Moves members k s asked answer m → w' ≡ after w k m
+    → OfNode members w k (slice_get w.nodes k) asked answer w'
+asks members w w' k s asked answer at m moved is = subst (λ (x : Option Standing). OfNode members w k x asked answer w') (sym at) (m, moved, is)
 
--- a node that can't be called
-pub misses : (w : Written) (k : ℕ) (Goes : View → Answer → Written → Type 0) (refusal : Refusal) → IsMissed w.nodes k refusal → Asks w (slice_get w.nodes k) Goes (Refused refusal) w
-misses w k Goes NoNode missed = subst (λ (s : Option Standing). Asks w s Goes (Refused NoNode) w) (sym (get_none w.nodes k missed)) (refl, refl)
-misses w k Goes NodeDown (c, doubt, at) = subst (λ (s : Option Standing). Asks w s Goes (Refused NodeDown) w) (sym at) (refl, refl)
-misses w k Goes other missed = absurd missed
+-- node k, which stands so, is asked, and stays as it is
+pub stays : (members : ℕ) (w : Written) (k : ℕ) (s : Standing) (asked : Ask) (answer : Answer) → slice_get w.nodes k ≡ Some s → Moves members k s asked answer (quiet s)
+    → OfNode members w k (slice_get w.nodes k) asked answer w
+stays members w k s asked answer at moved = asks members w w k s asked answer at (quiet s) moved (sym (after_same w k s at))
+
+-- there is no node k
+pub no_node : (members : ℕ) (w : Written) (k : ℕ) (asked : Ask) → length w.nodes ≤ k → OfNode members w k (slice_get w.nodes k) asked (Refused NoNode) w
+no_node members w k asked le = subst (λ (s : Option Standing). OfNode members w k s asked (Refused NoNode) w) (sym (get_none w.nodes k le)) (refl, refl)
+
+-- a node that can't be called, whatever it is asked but a restart
+pub misses : (members : ℕ) (w : Written) (k : ℕ) (asked : Ask) (refusal : Refusal) → ((c : Content) (doubt : Option Write) → Moves members k (Stopped c doubt) asked (Refused NodeDown) (quiet (Stopped c doubt)))
+    → IsMissed w.nodes k refusal → OfNode members w k (slice_get w.nodes k) asked (Refused refusal) w
+misses members w k asked NoNode down missed = no_node members w k asked missed
+misses members w k asked NodeDown down (c, doubt, at) = stays members w k (Stopped c doubt) asked (Refused NodeDown) at (down c doubt)
+misses members w k asked other down missed = absurd missed
 
 -- a letter comes to a node
-pub comes : (w w' : Written) (i : ℕ) (letter : Letter) (k : ℕ) (Takes : ℕ → Letter → View → Answer → Written → Type 0) (answer : Answer) → i < length w.letters → letter ≡ get_or w.letters i letter → k ≡ letter.to
-    → Asks w (slice_get w.nodes k) (Takes k letter) answer w' → Comes w (slice_get w.letters i) (λ l. Takes l.to l) answer w'
-comes w w' i letter k Takes answer lt is to goes =
-    subst (λ (l : Option Letter). Comes w l (λ (x : Letter). Takes x.to x) answer w') (sym (slice_get_read w.letters (length w.letters) i letter refl lt is))
-    (subst (λ (n : ℕ). Asks w (slice_get w.nodes n) (Takes n letter) answer w') to goes)
+pub comes : (members : ℕ) (w w' : Written) (i : ℕ) (letter : Letter) (k : ℕ) (takes : Letter → Ask) (answer : Answer) → i < length w.letters → letter ≡ get_or w.letters i letter → k ≡ letter.to
+    → OfNode members w k (slice_get w.nodes k) (takes letter) answer w' → Comes members w (slice_get w.letters i) takes answer w'
+comes members w w' i letter k takes answer lt is to goes =
+    subst (λ (l : Option Letter). Comes members w l takes answer w') (sym (slice_get_read w.letters (length w.letters) i letter refl lt is))
+    (subst (λ (n : ℕ). OfNode members w n (slice_get w.nodes n) (takes letter) answer w') to goes)
 
 -- there is no such letter
-pub no_letter : (w : Written) (i : ℕ) (Takes : Letter → View → Answer → Written → Type 0) → length w.letters ≤ i → Comes w (slice_get w.letters i) Takes (Refused NoLetter) w
-no_letter w i Takes le = subst (λ (l : Option Letter). Comes w l Takes (Refused NoLetter) w) (sym (get_none w.letters i le)) (refl, refl)
-
--- a restart of a node that crashed
-pub restarts : (w w' : Written) (k : ℕ) (s : Standing) (answer : Answer) → slice_get w.nodes k ≡ Some s → WorldRestarts w k (Some s) answer w' → WorldRestarts w k (slice_get w.nodes k) answer w'
-restarts w w' k s answer at goes = subst (λ (x : Option Standing). WorldRestarts w k x answer w') (sym at) goes
-
--- there is no such node to restart
-pub restarts_none : (w : Written) (k : ℕ) → length w.nodes ≤ k → WorldRestarts w k (slice_get w.nodes k) (Refused NoNode) w
-restarts_none w k le = subst (λ (x : Option Standing). WorldRestarts w k x (Refused NoNode) w) (sym (get_none w.nodes k le)) (refl, refl)
+pub no_letter : (members : ℕ) (w : Written) (i : ℕ) (takes : Letter → Ask) → length w.letters ≤ i → Comes members w (slice_get w.letters i) takes (Refused NoLetter) w
+no_letter members w i takes le = subst (λ (l : Option Letter). Comes members w l takes (Refused NoLetter) w) (sym (get_none w.letters i le)) (refl, refl)
 
 -- one more output is numbered, and one less is left
 pub numbered_more : (outputs new : List ReleasedOutput) (k : ℕ) (x : Numbered) (rest left : List Numbered) (all : List ReleasedOutput) → new ≡ outputs ++ record { node = k; numbered = x } ∷ [] → rest ≡ x ∷ left

@@ -4,11 +4,12 @@ use Rattle.std.proofs.lemmas.Bool.{cond_both, ltb-true, ltb-false, leb-true, leb
 use Rattle.std.proofs.lemmas.Option.{slice_get_within}
 use Rattle.ballots.specs.Ballots.{IsBallotOf, IsLeastAbove, NoneAbove}
 use Rattle.ballots.specs.declared.letters.Letter.{Letter}
-use Rattle.node.specs.View.{View, Standing, gapless}
+use Rattle.acceptor.specs.Content.{Content, Write}
+use Rattle.node.specs.View.{View, Standing, gapless, started}
 use Rattle.node.specs.View.Standing.{Running, Stopped}
 use Rattle.proposer.specs.declared.fault.NodeFault.{NodeFault as Fault}
 use Rattle.proposer.specs.declared.fault.NodeFault.TheVariants as fault
-use Rattle.node.specs.Calls.Cause.{Lead as AskedToLead, Offer as Offered}
+use Rattle.node.specs.Calls.Cause.{Lead as AskedToLead, Offer as Offered, Receive as Received}
 use Rattle.ballots.specs.Limits.{longest_value}
 use Rattle.node.specs.Step.{Outcome, receive, offer, limit, last_place, sends, to_all, Leads}
 use Rattle.proposer.specs.declared.role.Role.{Role}
@@ -22,7 +23,10 @@ use Rattle.network_script_parts.specs.declared.event.Transmission.{Transmission}
 use Rattle.network_script.specs.World.{Written}
 use Rattle.network_script_parts.specs.Receiver.{Receiver}
 use Rattle.network_script_parts.specs.Modems.{OfModem}
-use Rattle.network_script.specs.Next.{Fails, Ends, Asks, IsToldLast, Restarts, Next}
+use Rattle.network_script_parts.specs.Moves.{Ask, Move, quiet, whole, lost, gives, Fails, Ends, IsToldLast, MovesUp, MovesDown, Moves}
+use Rattle.network_script_parts.specs.Moves.Ask.{Call, TakeThenCrash, Release as ReleaseAt, Crash, Restart}
+use Rattle.network_script.specs.Next.{OfNode, after, Next}
+use Rattle.network_script.proofs.After.{after_same}
 use Rattle.network_script.specs.Plain as plain
 use Rattle.network_script.specs.Plain.{least_ballot, lead_at, lead, act, EachIsAnswered}
 
@@ -63,38 +67,51 @@ lead_leads members k view small =
     cond_both (nat_le last_place (length (gapless view))) (Err fault.LogFull) (lead_at members k view (least_ballot (limit view) k)) (λ course. Leads members k view course) (λ full. inl (refl, leb-true last_place (length (gapless view)) full))
     (λ room. leads_so members k view (least_ballot (limit view) k) (leb-false last_place (length (gapless view)) room) (least_ballot_tells (limit view) k small))
 
-fails_so : (w : Written) (k : ℕ) (view : View) (IsCourse : Result Outcome Fault → Type 0) (f : Fault) → IsCourse (Err f) → Fails w k view IsCourse f (plain.after_fault w k view f)
-fails_so w k view IsCourse fault.OutOfMemory is = refl
-fails_so w k view IsCourse fault.StoreRefused is = refl
-fails_so w k view IsCourse fault.Down is = inl refl
-fails_so w k view IsCourse fault.NotLeading is = (is, refl)
-fails_so w k view IsCourse fault.LogFull is = (is, refl)
-fails_so w k view IsCourse fault.RoundsSpent is = (is, refl)
-fails_so w k view IsCourse fault.ValueTooLong is = (is, refl)
+-- node k may move so, and the world is then this one
+abbrev Comes : (Answer → Move → Type 0) → Written → ℕ → Answer → Written → Type 0
+Comes May w k told w' = (m : Move) × May told m × (w' ≡ after w k m)
 
-ends_so : (w : Written) (k : ℕ) (view : View) (IsCourse : Result Outcome Fault → Type 0) (course : Result Outcome Fault) → IsCourse course → Ends w k view IsCourse (plain.ends w k view course).0 (plain.ends w k view course).1
-ends_so w k view IsCourse (Ok o) is = (o, is, refl, refl)
-ends_so w k view IsCourse (Err f) is = fails_so w k view IsCourse f is
+module _ (w : Written) (k : ℕ) (view : View) (here : slice_get w.nodes k ≡ Some (Running view)) where
+  stays_so : w ≡ after w k (quiet (Running view))
+  stays_so = sym (after_same w k (Running view) here)
 
-asks_so : (w : Written) (Goes : View → Answer → Written → Type 0) (go : View → Answer × Written) (there : Option Standing) → ((view : View) → there ≡ Some (Running view) → Goes view (go view).0 (go view).1)
-    → Asks w there Goes (plain.asks w there go).0 (plain.asks w there go).1
-asks_so w Goes go None each = (refl, refl)
-asks_so w Goes go (Some (Stopped c doubt)) each = (refl, refl)
-asks_so w Goes go (Some (Running view)) each = each view refl
+  fails_so : (IsCourse : Result Outcome Fault → Type 0) (f : Fault) → IsCourse (Err f) → Comes (λ told. Fails view IsCourse f) w k (answer.Fault f) (plain.after_fault w k view f)
+  fails_so IsCourse fault.OutOfMemory is = (quiet (Stopped view.content None), refl, refl)
+  fails_so IsCourse fault.StoreRefused is = (quiet (Stopped view.content None), refl, refl)
+  fails_so IsCourse fault.Down is = (quiet (Stopped view.content None), inl refl, refl)
+  fails_so IsCourse fault.NotLeading is = (quiet (Running view), (is, refl), stays_so)
+  fails_so IsCourse fault.LogFull is = (quiet (Running view), (is, refl), stays_so)
+  fails_so IsCourse fault.RoundsSpent is = (quiet (Running view), (is, refl), stays_so)
+  fails_so IsCourse fault.ValueTooLong is = (quiet (Running view), (is, refl), stays_so)
 
-restarts_so : (w : Written) (k : ℕ) (there : Option Standing) → Restarts w k there (plain.restarts w k there).0 (plain.restarts w k there).1
-restarts_so w k None = (refl, refl)
-restarts_so w k (Some (Running view)) = (refl, refl)
-restarts_so w k (Some (Stopped c doubt)) = inl refl
+  ends_so : (IsCourse : Result Outcome Fault → Type 0) (course : Result Outcome Fault) → IsCourse course → Comes (Ends view IsCourse) w k (plain.ends w k view course).0 (plain.ends w k view course).1
+  ends_so IsCourse (Ok o) is = (whole o, (o, is, refl, refl), refl)
+  ends_so IsCourse (Err f) is = fails_so IsCourse f is
+
+asks_so : (members : ℕ) (w : Written) (k : ℕ) (asked : Ask) (go : View → Answer × Written) (there : Option Standing) → slice_get w.nodes k ≡ there
+    → ((c : Content) (doubt : Option Write) → Moves members k (Stopped c doubt) asked (answer.Refused refusal.NodeDown) (quiet (Stopped c doubt)))
+    → ((view : View) → slice_get w.nodes k ≡ Some (Running view) → Comes (MovesUp members k view asked) w k (go view).0 (go view).1)
+    → OfNode members w k there asked (plain.asks w there go).0 (plain.asks w there go).1
+asks_so members w k asked go None at down up = (refl, refl)
+asks_so members w k asked go (Some (Stopped c doubt)) at down up = (quiet (Stopped c doubt), down c doubt, sym (after_same w k (Stopped c doubt) at))
+asks_so members w k asked go (Some (Running view)) at down up = up view at
+
+restarts_so : (members : ℕ) (w : Written) (k : ℕ) (there : Option Standing) → slice_get w.nodes k ≡ there → OfNode members w k there Restart (plain.restarts w k there).0 (plain.restarts w k there).1
+restarts_so members w k None at = (refl, refl)
+restarts_so members w k (Some (Running view)) at = (quiet (Running view), (refl, refl), sym (after_same w k (Running view) at))
+restarts_so members w k (Some (Stopped c doubt)) at = (quiet (Running (started c)), inl refl, refl)
 
 module _ (members : ℕ) (w : Written) where
   takes_so : (i : ℕ) (letter : Option Letter) → slice_get w.letters i ≡ letter → Next members w (event.Deliver i) (act members w (event.Deliver i)).0 (act members w (event.Deliver i)).1
   takes_so i None is = rw is (refl, refl)
-  takes_so i (Some l) is = rw is (asks_so w _ _ (slice_get w.nodes l.to) (λ view here. ends_so w l.to view (λ course. course ≡ Ok (receive members l.to view l)) (Ok (receive members l.to view l)) refl))
+  takes_so i (Some l) is = rw is (asks_so members w l.to (Call (Received l)) _ (slice_get w.nodes l.to) refl (λ c doubt. (refl, refl)) (λ view here.
+      let made = ends_so w l.to view here (λ course. course ≡ Ok (receive members l.to view l)) (Ok (receive members l.to view l)) refl in
+      (made.0, (tt, made.1), made.2)))
 
   takes_then_crashes_so : (i : ℕ) (letter : Option Letter) → slice_get w.letters i ≡ letter → Next members w (event.DeliverThenCrash i) (act members w (event.DeliverThenCrash i)).0 (act members w (event.DeliverThenCrash i)).1
   takes_then_crashes_so i None is = rw is (refl, refl)
-  takes_then_crashes_so i (Some l) is = rw is (asks_so w _ _ (slice_get w.nodes l.to) (λ view here. (receive members l.to view l, refl, refl)))
+  takes_then_crashes_so i (Some l) is = rw is (asks_so members w l.to (TakeThenCrash l) _ (slice_get w.nodes l.to) refl (λ c doubt. (refl, refl)) (λ view here.
+      (lost (receive members l.to view l), (receive members l.to view l, refl, refl), refl)))
 
 no_modems_so : (modems : List Receiver) (m : ℕ) (Does : Receiver → Answer → Receiver → Type 0) → modems ≡ [] → OfModem modems m (slice_get modems m) Does (answer.Refused refusal.NoModem) modems
 no_modems_so modems m Does none = rw none (refl, refl)
@@ -129,15 +146,21 @@ offer_told w k view (Leading b next) value is =
 
 pub each_is_answered : EachIsAnswered
 each_is_answered w (event.Lead k) few none =
-    asks_so w _ _ (slice_get w.nodes k) (λ view here.
-    (lead_told w k view, ends_so w k view (Leads (length w.nodes) k view) (lead (length w.nodes) k view) (lead_leads (length w.nodes) k view (let within : k < length w.nodes = slice_get_within w.nodes k (Running view) here in omega arith))))
+    asks_so (length w.nodes) w k (Call AskedToLead) _ (slice_get w.nodes k) refl (λ c doubt. (refl, refl)) (λ view here.
+    let small : k < 8 = (let within : k < length w.nodes = slice_get_within w.nodes k (Running view) here in omega arith) in
+    let made = ends_so w k view here (Leads (length w.nodes) k view) (lead (length w.nodes) k view) (lead_leads (length w.nodes) k view small) in
+    (made.0, (lead_told w k view, made.1), made.2))
 each_is_answered w (event.Offer k value) few none =
-    asks_so w _ _ (slice_get w.nodes k) (λ view here. (offer_told w k view view.role value refl, ends_so w k view (λ course. course ≡ offer (length w.nodes) k view view.role value) (offer (length w.nodes) k view view.role value) refl))
+    asks_so (length w.nodes) w k (Call (Offered value)) _ (slice_get w.nodes k) refl (λ c doubt. (refl, refl)) (λ view here.
+    let made = ends_so w k view here (λ course. course ≡ offer (length w.nodes) k view view.role value) (offer (length w.nodes) k view view.role value) refl in
+    (made.0, (offer_told w k view view.role value refl, made.1), made.2))
 each_is_answered w (event.Deliver i) few none = takes_so (length w.nodes) w i (slice_get w.letters i) refl
 each_is_answered w (event.DeliverThenCrash i) few none = takes_then_crashes_so (length w.nodes) w i (slice_get w.letters i) refl
-each_is_answered w (event.Crash k) few none = asks_so w _ _ (slice_get w.nodes k) (λ view here. (refl, refl))
-each_is_answered w (event.Restart k) few none = restarts_so w k (slice_get w.nodes k)
-each_is_answered w (event.Release k now) few none = asks_so w _ _ (slice_get w.nodes k) (λ view here. (refl, refl))
+each_is_answered w (event.Crash k) few none =
+    asks_so (length w.nodes) w k Crash _ (slice_get w.nodes k) refl (λ c doubt. (refl, refl)) (λ view here. (quiet (Stopped view.content None), (refl, refl), refl))
+each_is_answered w (event.Restart k) few none = restarts_so (length w.nodes) w k (slice_get w.nodes k) refl
+each_is_answered w (event.Release k now) few none =
+    asks_so (length w.nodes) w k (ReleaseAt now) _ (slice_get w.nodes k) refl (λ c doubt. (refl, refl)) (λ view here. (gives view now, (refl, refl), refl))
 each_is_answered w (event.Hear m i near) few none = (w.modems, no_modems_so w.modems m _ none, same_world w [] refl)
 each_is_answered w (event.Want m ch sid n) few none = (w.modems, no_modems_so w.modems m _ none, same_world w [] refl)
 each_is_answered w (event.Tick m ch slot random) few none = (w.modems, no_modems_so w.modems m _ none, same_world w [] refl)

@@ -11,6 +11,7 @@ mod Acceptors
 mod Learners
 mod Proposers
 mod Outputs
+mod After
 mod Moves
 pub mod Runs
 mod Existence

@@ -1,14 +1,15 @@
 -- Each event of a run keeps the invariant, and moves the world in one of few ways.
-use Rattle.std.proofs.Common.{◌≡◌, ◌⊎◌, inl, inr, ⊎_elim, ℕ, ◌<◌, max, not, ◌&&◌, nat_lt, ◌==◌, List, ◌++◌, drop, refl, sym, subst, Option, Some, None, Result, Ok, Err, slice_get, slice_set}
+use Rattle.std.proofs.Common.{◌∙◌, ap, ◌≡◌, ◌⊎◌, inl, inr, ⊎_elim, ℕ, ◌<◌, max, not, ◌&&◌, nat_lt, ◌==◌, List, ◌++◌, drop, refl, sym, subst, Option, Some, None, Result, Ok, Err, slice_get, slice_set}
 use Rattle.std.proofs.lemmas.Bool.{cond_both, and_parts, ltb-true}
 use Rattle.ballots.specs.declared.letters.Note.{Note}
 use Rattle.ballots.specs.declared.letters.Letter.{Letter}
 use Rattle.ballots.specs.declared.letters.Note.TheVariants.{Prepare, Promise, Accept, Voted, Higher, Known}
 use Rattle.ballots.specs.Voting.{Entry, IsIn}
 use Rattle.ballots.specs.Rows.{at}
-use Rattle.acceptor.specs.Content.{Content, Write, record_write}
+use Rattle.acceptor.specs.Content.{Content, Write, after_write, record_write}
 use Rattle.command_log.specs.Values.{outputs_of_values}
-use Rattle.node.specs.View.{View, Standing, gapless}
+use Rattle.node.specs.View.{View, Standing, gapless, started}
+use Rattle.node.specs.Calls.Cause.{Lead as AskedToLead, Offer as Offered, Receive as Received}
 use Rattle.node.specs.View.Standing.{Running, Stopped}
 use Rattle.proposer.specs.declared.fault.NodeFault.{NodeFault as Fault}
 use Rattle.proposer.specs.declared.fault.NodeFault.TheVariants as fault
@@ -19,10 +20,13 @@ use Rattle.network_script_parts.specs.declared.event.Answer.{Answer}
 use Rattle.network_script_parts.specs.declared.event.Answer.TheVariants as answer
 use Rattle.network_script_parts.specs.declared.event.ReleasedOutput.{ReleasedOutput}
 use Rattle.map_release.specs.Released.{numbered, has_ended}
-use Rattle.network_script.specs.Release.{released, released_all}
+use Rattle.network_script_parts.specs.Release.{released, released_all}
 use Rattle.network_script.specs.World.{Written, released_by}
 use Rattle.network_script_parts.specs.Modems.{ModemNext, sent_at}
-use Rattle.network_script.specs.Next.{Fails, Ends, EndsInCrash, Releases, Asks, Starts, Restarts, Comes, OnModems, Next}
+use Rattle.network_script_parts.specs.Moves.{Ask, Move, quiet, whole, lost, Fails, Ends, EndsInCrash, Releases, Starts, MovesUp, MovesDown, Moves as NodeMoves}
+use Rattle.network_script_parts.specs.Moves.Ask.{Call, TakeThenCrash, Release as ReleaseAt, Crash as CrashNow, Restart as StartAgain}
+use Rattle.network_script.specs.Next.{after, OfNode, Comes, OnModems, Next}
+use Rattle.network_script.proofs.After.{after_quiet, after_same, after_write_alone, after_lost, after_whole, after_gives}
 use Rattle.network_script.proofs.Invariant.{IsProposed, WriteOk, UpOk, DownOk, LetterOk, Invariant}
 use Rattle.network_script.proofs.Lists.{in_left, in_append, in_filter, get_in}
 use Rattle.network_script.proofs.Kept.{goes_quietly}
@@ -31,6 +35,12 @@ use Rattle.network_script.proofs.Acceptors.{nothing_sound, prepare_sound, accept
 use Rattle.network_script.proofs.Learners.{voted_sound, higher_sound}
 use Rattle.network_script.proofs.Proposers.{promise_sound, SoundIfOk, offer_sound, lead_sound}
 use Rattle.network_script.proofs.Outputs.{FromChosen, learned_chosen, in_drop, in_numbered, in_released_by, written_keeps}
+
+-- the letter that is taken, if one is
+abbrev taken : Ask → Option Letter
+taken (Call (Received l)) = Some l
+taken (TakeThenCrash l) = Some l
+taken other = None
 
 module _ (members : ℕ) (h : List Entry) (sent : List Letter) (states : List Standing) (k : ℕ) (view : View) (inv : Invariant members h sent states) (here : slice_get states k ≡ Some (Running view)) where
   was : UpOk members h sent k view
@@ -96,37 +106,51 @@ module _ (members : ℕ) (w : Written) (inv : Invariant members w.history w.lett
         → w' ≡ record w { nodes = slice_set w.nodes k (Running o.view); letters = w.letters ++ o.letters; history = record_write k o.write w.history } → Moves told w'
     whole_moves told o sound w' is = subst (Moves told) (sym is) (on_nodes told _ (w.letters ++ o.letters) k o.write (whole_kept members w.history w.letters w.nodes k view inv here o sound))
 
-    fails : (IsCourse : Result Outcome Fault → Type 0) → AreSound IsCourse → (told : Answer) (f : Fault) (w' : Written) → Fails w k view IsCourse f w' → Moves told w'
-    fails IsCourse sound told fault.OutOfMemory w' is = broken told None tt w' is
-    fails IsCourse sound told fault.StoreRefused w' is = broken told None tt w' is
-    fails IsCourse sound told fault.Down w' (inl is) = broken told None tt w' is
-    fails IsCourse sound told fault.Down w' (inr is) = broken told is.0.write (sound is.0 is.1).write w' is.2
-    fails IsCourse sound told fault.NotLeading w' is = same told w' is.1
-    fails IsCourse sound told fault.LogFull w' is = same told w' is.1
-    fails IsCourse sound told fault.RoundsSpent w' is = same told w' is.1
-    fails IsCourse sound told fault.ValueTooLong w' is = same told w' is.1
+    -- the node moved so
+    abbrev Made : Answer → Move → Type 0
+    Made told m = Moves told (after w k m)
 
-    ends : (IsCourse : Result Outcome Fault → Type 0) → AreSound IsCourse → (told : Answer) (w' : Written) → Ends w k view IsCourse told w' → Moves told w'
-    ends IsCourse sound (answer.Sent n) w' is = whole_moves _ is.0 (sound is.0 is.1) w' is.3
-    ends IsCourse sound answer.Crashed w' is = lost_moves _ is.0 (sound is.0 is.1) w' is.3
-    ends IsCourse sound (answer.Fault f) w' is = fails IsCourse sound (answer.Fault f) f w' is
-    ends IsCourse sound answer.Finished w' is = absurd is
-    ends IsCourse sound (answer.Released n) w' is = absurd is
-    ends IsCourse sound (answer.Heard h) w' is = absurd is
-    ends IsCourse sound (answer.Ticked s) w' is = absurd is
-    ends IsCourse sound (answer.WantRefused f) w' is = absurd is
-    ends IsCourse sound (answer.Refused r) w' is = absurd is
+    crashes : (told : Answer) (m : Move) → m ≡ quiet (Stopped view.content None) → Made told m
+    crashes told m is = broken told None tt (after w k m) (ap (after w k) is ∙ after_quiet w k (Stopped view.content None))
 
-    ends_in_crash : (IsCourse : Result Outcome Fault → Type 0) → AreSound IsCourse → (told : Answer) (w' : Written) → EndsInCrash w k view IsCourse told w' → Moves told w'
-    ends_in_crash IsCourse sound answer.Finished w' is = lost_moves _ is.0 (sound is.0 is.1) w' is.2
-    ends_in_crash IsCourse sound (answer.Fault f) w' is = fails IsCourse sound (answer.Fault f) f w' is
-    ends_in_crash IsCourse sound (answer.Sent n) w' is = absurd is
-    ends_in_crash IsCourse sound answer.Crashed w' is = absurd is
-    ends_in_crash IsCourse sound (answer.Released n) w' is = absurd is
-    ends_in_crash IsCourse sound (answer.Heard h) w' is = absurd is
-    ends_in_crash IsCourse sound (answer.Ticked s) w' is = absurd is
-    ends_in_crash IsCourse sound (answer.WantRefused f) w' is = absurd is
-    ends_in_crash IsCourse sound (answer.Refused r) w' is = absurd is
+    stays : (told : Answer) (m : Move) → m ≡ quiet (Running view) → Made told m
+    stays told m is = same told (after w k m) (ap (after w k) is ∙ after_same w k (Running view) here)
+
+    loses : (told : Answer) (o : Outcome) → Sound members w.history w.letters k view o → (m : Move) → m ≡ lost o → Made told m
+    loses told o sound m is = lost_moves told o sound (after w k m) (ap (after w k) is ∙ after_lost w k o)
+
+    fails : (IsCourse : Result Outcome Fault → Type 0) → AreSound IsCourse → (told : Answer) (f : Fault) (m : Move) → Fails view IsCourse f m → Made told m
+    fails IsCourse sound told fault.OutOfMemory m is = crashes told m is
+    fails IsCourse sound told fault.StoreRefused m is = crashes told m is
+    fails IsCourse sound told fault.Down m (inl is) = crashes told m is
+    fails IsCourse sound told fault.Down m (inr is) =
+        broken told is.0.write (sound is.0 is.1).write (after w k m) (ap (after w k) is.2 ∙ after_quiet w k (Stopped view.content is.0.write))
+    fails IsCourse sound told fault.NotLeading m is = stays told m is.1
+    fails IsCourse sound told fault.LogFull m is = stays told m is.1
+    fails IsCourse sound told fault.RoundsSpent m is = stays told m is.1
+    fails IsCourse sound told fault.ValueTooLong m is = stays told m is.1
+
+    ends : (IsCourse : Result Outcome Fault → Type 0) → AreSound IsCourse → (told : Answer) (m : Move) → Ends view IsCourse told m → Made told m
+    ends IsCourse sound (answer.Sent n) m is = whole_moves _ is.0 (sound is.0 is.1) (after w k m) (ap (after w k) is.3 ∙ after_whole w k is.0)
+    ends IsCourse sound answer.Crashed m is = loses _ is.0 (sound is.0 is.1) m is.3
+    ends IsCourse sound (answer.Fault f) m is = fails IsCourse sound (answer.Fault f) f m is
+    ends IsCourse sound answer.Finished m is = absurd is
+    ends IsCourse sound (answer.Released n) m is = absurd is
+    ends IsCourse sound (answer.Heard h) m is = absurd is
+    ends IsCourse sound (answer.Ticked s) m is = absurd is
+    ends IsCourse sound (answer.WantRefused f) m is = absurd is
+    ends IsCourse sound (answer.Refused r) m is = absurd is
+
+    ends_in_crash : (IsCourse : Result Outcome Fault → Type 0) → AreSound IsCourse → (told : Answer) (m : Move) → EndsInCrash view IsCourse told m → Made told m
+    ends_in_crash IsCourse sound answer.Finished m is = loses _ is.0 (sound is.0 is.1) m is.2
+    ends_in_crash IsCourse sound (answer.Fault f) m is = fails IsCourse sound (answer.Fault f) f m is
+    ends_in_crash IsCourse sound (answer.Sent n) m is = absurd is
+    ends_in_crash IsCourse sound answer.Crashed m is = absurd is
+    ends_in_crash IsCourse sound (answer.Released n) m is = absurd is
+    ends_in_crash IsCourse sound (answer.Heard h) m is = absurd is
+    ends_in_crash IsCourse sound (answer.Ticked s) m is = absurd is
+    ends_in_crash IsCourse sound (answer.WantRefused f) m is = absurd is
+    ends_in_crash IsCourse sound (answer.Refused r) m is = absurd is
 
     view_was : UpOk members w.history w.letters k view
     view_was = inv.nodes k (Running view) here
@@ -153,17 +177,17 @@ module _ (members : ℕ) (w : Written) (inv : Invariant members w.history w.lett
       modems = inl (refl, refl);
     }
 
-    releases : (now : ℕ) (told : Answer) (w' : Written) → Releases w k now view told w' → Moves told w'
-    releases now (answer.Released n) w' is = gives now _ w' is.1
-    releases now answer.Crashed w' is = broken _ None tt w' is.1
-    releases now (answer.Fault f) w' is =
-        fails (λ course. course ≡ Ok (nothing (released_all view))) (λ o course. let e : o ≡ nothing (released_all view) = cc (course) in subst (λ (x : Outcome). Sound members w.history w.letters k view x) (sym e) releases_sound) (answer.Fault f) f w' is
-    releases now (answer.Sent n) w' is = absurd is
-    releases now answer.Finished w' is = absurd is
-    releases now (answer.Heard h) w' is = absurd is
-    releases now (answer.Ticked s) w' is = absurd is
-    releases now (answer.WantRefused f) w' is = absurd is
-    releases now (answer.Refused r) w' is = absurd is
+    releases : (now : ℕ) (told : Answer) (m : Move) → Releases view now told m → Made told m
+    releases now (answer.Released n) m is = gives now _ (after w k m) (ap (after w k) is.1 ∙ after_gives w k view now)
+    releases now answer.Crashed m is = crashes _ m is.1
+    releases now (answer.Fault f) m is =
+        fails (λ course. course ≡ Ok (nothing (released_all view))) (λ o course. let e : o ≡ nothing (released_all view) = cc (course) in subst (λ (x : Outcome). Sound members w.history w.letters k view x) (sym e) releases_sound) (answer.Fault f) f m is
+    releases now (answer.Sent n) m is = absurd is
+    releases now answer.Finished m is = absurd is
+    releases now (answer.Heard h) m is = absurd is
+    releases now (answer.Ticked s) m is = absurd is
+    releases now (answer.WantRefused f) m is = absurd is
+    releases now (answer.Refused r) m is = absurd is
 
     receives : (l : Letter) → IsIn w.letters l → AreSound (λ course. course ≡ Ok (receive members k view l))
     receives l sent_it o course =
@@ -178,55 +202,69 @@ module _ (members : ℕ) (w : Written) (inv : Invariant members w.history w.lett
     leads : AreSound (Leads members k view)
     leads o course = leads_sound members w.history w.letters w.nodes k view inv here (Ok o) course
 
-  asks : (k : ℕ) (Does : View → Answer → Written → Type 0) (told : Answer) (w' : Written) → ((view : View) → slice_get w.nodes k ≡ Some (Running view) → Does view told w' → Moves told w')
-      → (there : Option Standing) → slice_get w.nodes k ≡ there → Asks w there Does told w' → Moves told w'
-  asks k Does told w' moves None is unmoved = same told w' unmoved.1
-  asks k Does told w' moves (Some (Stopped c doubt)) is unmoved = same told w' unmoved.1
-  asks k Does told w' moves (Some (Running view)) is goes = moves view is goes
+    -- whatever it is asked, where a letter that it takes was sent
+    moves_up : (asked : Ask) → ((l : Letter) → taken asked ≡ Some l → IsIn w.letters l) → (told : Answer) (m : Move) → MovesUp members k view asked told m → Made told m
+    moves_up (Call AskedToLead) sent_it told m is = ends (Leads members k view) leads told m is.1
+    moves_up (Call (Offered value)) sent_it told m is = ends (λ course. course ≡ offer members k view view.role value) (offers value) told m is.1
+    moves_up (Call (Received l)) sent_it told m is = ends (λ course. course ≡ Ok (receive members k view l)) (receives l (sent_it l refl)) told m is.1
+    moves_up (TakeThenCrash l) sent_it told m is = ends_in_crash (λ course. course ≡ Ok (receive members k view l)) (receives l (sent_it l refl)) told m is
+    moves_up (ReleaseAt now) sent_it told m is = releases now told m is
+    moves_up CrashNow sent_it told m is = crashes told m is.1
+    moves_up StartAgain sent_it told m is = stays told m is.1
 
-  starts : (k : ℕ) (c : Content) (doubt : Option Write) → slice_get w.nodes k ≡ Some (Stopped c doubt) → (told : Answer) (w' : Written) → Starts w k c doubt told w' → Moves told w'
-  starts k c doubt is answer.Finished w' (inl without) = subst (Moves _) (sym without) (on_nodes _ _ w.letters k None (restarted_kept members w.history w.letters w.nodes k c doubt None inv is tt))
-  starts k c doubt is answer.Finished w' (inr with_it) =
-      let ok : DownOk w.history w.letters k c doubt = inv.nodes k (Stopped c doubt) is in
-      subst (Moves _) (sym with_it) (on_nodes _ _ w.letters k doubt (restarted_kept members w.history w.letters w.nodes k c doubt doubt inv is ok.doubt))
-  starts k c doubt is (answer.Fault f) w' failed = same _ w' failed.1
-  starts k c doubt is (answer.Sent n) w' none = absurd none
-  starts k c doubt is (answer.Released n) w' none = absurd none
-  starts k c doubt is (answer.Heard h) w' none = absurd none
-  starts k c doubt is (answer.Ticked s) w' none = absurd none
-  starts k c doubt is (answer.WantRefused f) w' none = absurd none
-  starts k c doubt is (answer.Refused r) w' none = absurd none
-  starts k c doubt is answer.Crashed w' none = absurd none
+  module _ (k : ℕ) (c : Content) (doubt : Option Write) (here : slice_get w.nodes k ≡ Some (Stopped c doubt)) where
+    stays_down : (told : Answer) (m : Move) → m ≡ quiet (Stopped c doubt) → Moves told (after w k m)
+    stays_down told m is = same told (after w k m) (ap (after w k) is ∙ after_same w k (Stopped c doubt) here)
 
-  restarts : (k : ℕ) (told : Answer) (w' : Written) (there : Option Standing) → slice_get w.nodes k ≡ there → Restarts w k there told w' → Moves told w'
-  restarts k told w' None is unmoved = same told w' unmoved.1
-  restarts k told w' (Some (Running view)) is unmoved = same told w' unmoved.1
-  restarts k told w' (Some (Stopped c doubt)) is goes = starts k c doubt is told w' goes
+    starts : (told : Answer) (m : Move) → Starts c doubt told m → Moves told (after w k m)
+    starts answer.Finished m (inl without) =
+        subst (Moves _) (sym (ap (after w k) without ∙ after_quiet w k (Running (started c))))
+        (on_nodes _ _ w.letters k None (restarted_kept members w.history w.letters w.nodes k c doubt None inv here tt))
+    starts answer.Finished m (inr with_it) =
+        let ok : DownOk w.history w.letters k c doubt = inv.nodes k (Stopped c doubt) here in
+        subst (Moves _) (sym (ap (after w k) with_it ∙ after_write_alone w k (Running (started (after_write c doubt))) doubt))
+        (on_nodes _ _ w.letters k doubt (restarted_kept members w.history w.letters w.nodes k c doubt doubt inv here ok.doubt))
+    starts (answer.Fault f) m failed = stays_down _ m failed.1
+    starts (answer.Sent n) m none = absurd none
+    starts (answer.Released n) m none = absurd none
+    starts (answer.Heard h) m none = absurd none
+    starts (answer.Ticked s) m none = absurd none
+    starts (answer.WantRefused f) m none = absurd none
+    starts (answer.Refused r) m none = absurd none
+    starts answer.Crashed m none = absurd none
 
-  comes : (i : ℕ) (Takes : Letter → View → Answer → Written → Type 0) (told : Answer) (w' : Written)
-      → ((l : Letter) (view : View) → IsIn w.letters l → slice_get w.nodes l.to ≡ Some (Running view) → Takes l view told w' → Moves told w')
-      → (letter : Option Letter) → slice_get w.letters i ≡ letter → Comes w letter Takes told w' → Moves told w'
-  comes i Takes told w' moves None is unmoved = same told w' unmoved.1
-  comes i Takes told w' moves (Some l) is goes = asks l.to (Takes l) told w' (λ view here does. moves l view (get_in w.letters i l is) here does) (slice_get w.nodes l.to) refl goes
+    moves_down : (asked : Ask) (told : Answer) (m : Move) → MovesDown c doubt asked told m → Moves told (after w k m)
+    moves_down StartAgain told m is = starts told m is
+    moves_down (Call cause) told m is = stays_down told m is.1
+    moves_down (TakeThenCrash l) told m is = stays_down told m is.1
+    moves_down (ReleaseAt now) told m is = stays_down told m is.1
+    moves_down CrashNow told m is = stays_down told m is.1
+
+  of_node : (k : ℕ) (asked : Ask) → ((l : Letter) → taken asked ≡ Some l → IsIn w.letters l) → (told : Answer) (w' : Written)
+      → (there : Option Standing) → slice_get w.nodes k ≡ there → OfNode members w k there asked told w' → Moves told w'
+  of_node k asked sent_it told w' None is unmoved = same told w' unmoved.1
+  of_node k asked sent_it told w' (Some (Stopped c doubt)) is moved = subst (Moves told) (sym moved.2) (moves_down k c doubt is asked told moved.0 moved.1)
+  of_node k asked sent_it told w' (Some (Running view)) is moved = subst (Moves told) (sym moved.2) (moves_up k view is asked sent_it told moved.0 moved.1)
+
+  comes : (i : ℕ) (takes : Letter → Ask) → ((l x : Letter) → taken (takes l) ≡ Some x → x ≡ l) → (told : Answer) (w' : Written)
+      → (letter : Option Letter) → slice_get w.letters i ≡ letter → Comes members w letter takes told w' → Moves told w'
+  comes i takes its told w' None is unmoved = same told w' unmoved.1
+  comes i takes its told w' (Some l) is goes =
+      of_node l.to (takes l) (λ x is_taken. subst (IsIn w.letters) (sym (its l x is_taken)) (get_in w.letters i l is)) told w' (slice_get w.nodes l.to) refl goes
 
   on_modems : (told : Answer) (w' : Written) → OnModems w happens told w' → Moves told w'
   on_modems told w' is = subst (Moves told) (sym is.2) record { fine = inv; keeps = λ e here. here; stays = λ x here. here; fresh = λ x here. inl here; modems = inr (is.1, refl) }
 
 pub next_moves : (members : ℕ) (w : Written) → Invariant members w.history w.letters w.nodes → (happens : Event) (told : Answer) (w' : Written) → Next members w happens told w' → Moved members w happens told w'
-next_moves members w inv (event.Lead k) told w' goes =
-    asks members w inv (event.Lead k) k _ told w' (λ view here call. ends members w inv (event.Lead k) k view here (Leads members k view) (leads members w inv (event.Lead k) k view here) told w' call.1) (slice_get w.nodes k) refl goes
-next_moves members w inv (event.Offer k value) told w' goes =
-    asks members w inv (event.Offer k value) k _ told w' (λ view here call. ends members w inv (event.Offer k value) k view here (λ course. course ≡ offer members k view view.role value) (offers members w inv (event.Offer k value) k view here value) told w' call.1) (slice_get w.nodes k) refl goes
+next_moves members w inv (event.Lead k) told w' goes = of_node members w inv (event.Lead k) k _ (λ l is. absurd (cc (is))) told w' (slice_get w.nodes k) refl goes
+next_moves members w inv (event.Offer k value) told w' goes = of_node members w inv (event.Offer k value) k _ (λ l is. absurd (cc (is))) told w' (slice_get w.nodes k) refl goes
 next_moves members w inv (event.Deliver i) told w' goes =
-    comes members w inv (event.Deliver i) i _ told w' (λ l view sent_it here call. ends members w inv (event.Deliver i) l.to view here (λ course. course ≡ Ok (receive members l.to view l)) (receives members w inv (event.Deliver i) l.to view here l sent_it) told w' call) (slice_get w.letters i) refl goes
+    comes members w inv (event.Deliver i) i _ (λ l x is. cc (is)) told w' (slice_get w.letters i) refl goes
 next_moves members w inv (event.DeliverThenCrash i) told w' goes =
-    comes members w inv (event.DeliverThenCrash i) i _ told w'
-    (λ l view sent_it here call. ends_in_crash members w inv (event.DeliverThenCrash i) l.to view here (λ course. course ≡ Ok (receive members l.to view l)) (receives members w inv (event.DeliverThenCrash i) l.to view here l sent_it) told w' call) (slice_get w.letters i) refl goes
-next_moves members w inv (event.Crash k) told w' goes =
-    asks members w inv (event.Crash k) k _ told w' (λ view here is. broken members w inv (event.Crash k) k view here told None tt w' is.1) (slice_get w.nodes k) refl goes
-next_moves members w inv (event.Restart k) told w' goes = restarts members w inv (event.Restart k) k told w' (slice_get w.nodes k) refl goes
-next_moves members w inv (event.Release k now) told w' goes =
-    asks members w inv (event.Release k now) k _ told w' (λ view here call. releases members w inv (event.Release k now) k view here now told w' call) (slice_get w.nodes k) refl goes
+    comes members w inv (event.DeliverThenCrash i) i _ (λ l x is. cc (is)) told w' (slice_get w.letters i) refl goes
+next_moves members w inv (event.Crash k) told w' goes = of_node members w inv (event.Crash k) k _ (λ l is. absurd (cc (is))) told w' (slice_get w.nodes k) refl goes
+next_moves members w inv (event.Restart k) told w' goes = of_node members w inv (event.Restart k) k _ (λ l is. absurd (cc (is))) told w' (slice_get w.nodes k) refl goes
+next_moves members w inv (event.Release k now) told w' goes = of_node members w inv (event.Release k now) k _ (λ l is. absurd (cc (is))) told w' (slice_get w.nodes k) refl goes
 next_moves members w inv (event.Hear m i near) told w' goes = on_modems members w inv (event.Hear m i near) told w' goes
 next_moves members w inv (event.Want m ch sid n) told w' goes = on_modems members w inv (event.Want m ch sid n) told w' goes
 next_moves members w inv (event.Tick m ch slot random) told w' goes = on_modems members w inv (event.Tick m ch slot random) told w' goes

@@ -1,4 +1,3 @@
-pub mod Release
 pub mod World
 pub mod Next
 pub mod Seats

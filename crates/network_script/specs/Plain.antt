@@ -11,9 +11,10 @@ use Rattle.network_script_parts.specs.declared.event.Event.TheVariants.{Lead, Of
 use Rattle.network_script_parts.specs.declared.event.Answer.{Answer}
 use Rattle.network_script_parts.specs.declared.event.Answer.TheVariants as answer
 use Rattle.network_script_parts.specs.declared.event.Refusal.TheVariants.{NoLetter, NodeDown, NodeUp, NoNode, NoModem}
-use Rattle.network_script.specs.Release.{released, released_all}
-use Rattle.network_script.specs.World.{Written, with_node, whole, lost, released_by}
-use Rattle.network_script.specs.Next.{Next}
+use Rattle.network_script_parts.specs.Release.{released, released_all}
+use Rattle.network_script_parts.specs.Moves.{Move, quiet, whole, lost, gives}
+use Rattle.network_script.specs.World.{Written}
+use Rattle.network_script.specs.Next.{Next, after}
 
 -- the least ballot of the node above the limit
 abbrev pub least_ballot : ℕ → ℕ → Option ℕ
@@ -34,17 +35,17 @@ Told = Answer × Written
 
 -- the world after a fault of node k
 abbrev pub after_fault : Written → ℕ → View → Fault → Written
-after_fault w k view fault.OutOfMemory = with_node w k (Stopped view.content None)
-after_fault w k view fault.StoreRefused = with_node w k (Stopped view.content None)
-after_fault w k view fault.Down = with_node w k (Stopped view.content None)
+after_fault w k view fault.OutOfMemory = after w k (quiet (Stopped view.content None))
+after_fault w k view fault.StoreRefused = after w k (quiet (Stopped view.content None))
+after_fault w k view fault.Down = after w k (quiet (Stopped view.content None))
 after_fault w k view declined = w
 
 abbrev pub ends : Written → ℕ → View → Result Outcome Fault → Told
-ends w k view (Ok o) = (answer.Sent (length o.letters), whole w k o)
+ends w k view (Ok o) = (answer.Sent (length o.letters), after w k (whole o))
 ends w k view (Err f) = (answer.Fault f, after_fault w k view f)
 
 abbrev pub ends_in_crash : Written → ℕ → Outcome → Told
-ends_in_crash w k o = (answer.Finished, lost w k o)
+ends_in_crash w k o = (answer.Finished, after w k (lost o))
 
 abbrev pub asks : Written → Option Standing → (View → Told) → Told
 asks w None goes = (answer.Refused NoNode, w)
@@ -54,17 +55,14 @@ asks w (Some (Running view)) goes = goes view
 abbrev pub restarts : Written → ℕ → Option Standing → Told
 restarts w k None = (answer.Refused NoNode, w)
 restarts w k (Some (Running view)) = (answer.Refused NodeUp, w)
-restarts w k (Some (Stopped c doubt)) = (answer.Finished, with_node w k (Running (started c)))
+restarts w k (Some (Stopped c doubt)) = (answer.Finished, after w k (quiet (Running (started c))))
 
 abbrev pub comes : Written → Option Letter → (Letter → View → Told) → Told
 comes w None takes = (answer.Refused NoLetter, w)
 comes w (Some l) takes = asks w (slice_get w.nodes l.to) (takes l)
 
 abbrev pub releases : Written → ℕ → ℕ → View → Told
-releases w k now view = (
-  answer.Released (length (released view now)),
-  record w { nodes = slice_set w.nodes k (Running (released_all view)); outputs = w.outputs ++ released_by k (released view now) },
-)
+releases w k now view = (answer.Released (length (released view now)), after w k (gives view now))
 
 -- the answer of an event in which nothing fails, and the world after it, where there are no modems
 abbrev pub act : ℕ → Written → Event → Told
@@ -72,7 +70,7 @@ act members w (Lead k) = asks w (slice_get w.nodes k) (λ view. ends w k view (l
 act members w (Offer k value) = asks w (slice_get w.nodes k) (λ view. ends w k view (offer members k view view.role value))
 act members w (Deliver i) = comes w (slice_get w.letters i) (λ l view. ends w l.to view (Ok (receive members l.to view l)))
 act members w (DeliverThenCrash i) = comes w (slice_get w.letters i) (λ l view. ends_in_crash w l.to (receive members l.to view l))
-act members w (Crash k) = asks w (slice_get w.nodes k) (λ view. (answer.Finished, with_node w k (Stopped view.content None)))
+act members w (Crash k) = asks w (slice_get w.nodes k) (λ view. (answer.Finished, after w k (quiet (Stopped view.content None))))
 act members w (Restart k) = restarts w k (slice_get w.nodes k)
 act members w (Release k now) = asks w (slice_get w.nodes k) (releases w k now)
 act members w of_modem = (answer.Refused NoModem, w)

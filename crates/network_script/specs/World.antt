@@ -1,11 +1,10 @@
 -- The written world: nodes, letters, outputs, modems and the voting history of a run.
-use Rattle.std.specs.Prelude.{ℕ, List, [], ◌∷◌, ◌++◌, map, replicate, slice_set, None}
+use Rattle.std.specs.Prelude.{ℕ, List, [], ◌∷◌, map, replicate}
 use Rattle.ballots.specs.declared.letters.Letter.{Letter}
 use Rattle.ballots.specs.Voting.{Entry}
-use Rattle.acceptor.specs.Content.{no_content, record_write}
+use Rattle.acceptor.specs.Content.{no_content}
 use Rattle.node.specs.View.{Standing, started}
-use Rattle.node.specs.View.Standing.{Running, Stopped}
-use Rattle.node.specs.Step.{Outcome}
+use Rattle.node.specs.View.Standing.{Running}
 use Rattle.map_release.specs.declared.numbered.Numbered.{Numbered}
 use Rattle.network_script_parts.specs.declared.event.ReleasedOutput.{ReleasedOutput}
 use Rattle.network_script_parts.specs.declared.event.Transmission.{Transmission}
@@ -24,18 +23,6 @@ pub record Written : Type 0 where
   pub transmissions : List Transmission
   -- every promise and vote that a node committed, the newest first
   pub history : List Entry
-
--- node k stands so
-abbrev pub with_node : Written → ℕ → Standing → Written
-with_node w k s = record w { nodes = slice_set w.nodes k s }
-
--- node k made a whole call
-abbrev pub whole : Written → ℕ → Outcome → Written
-whole w k o = record w { nodes = slice_set w.nodes k (Running o.view); letters = w.letters ++ o.letters; history = record_write k o.write w.history }
-
--- node k made a whole call, its letters are lost, and then it crashed
-abbrev pub lost : Written → ℕ → Outcome → Written
-lost w k o = record w { nodes = slice_set w.nodes k (Stopped o.view.content None); history = record_write k o.write w.history }
 
 -- these outputs, released by node k
 abbrev pub released_by : ℕ → List Numbered → List ReleasedOutput

@@ -5,6 +5,8 @@ pub mod Seat
 pub mod Occupant
 pub mod Fresh
 pub mod StoreFaults
+pub mod Release
+pub mod Moves
 pub mod Fields
 pub mod Items
 pub mod CommandTable

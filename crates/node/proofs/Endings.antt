@@ -2,7 +2,7 @@
 use Rattle.std.proofs.Common.{◌≡◌, ◌⊎◌, inl, inr, refl, sym, ap, subst, true, false, List, None, Result, Ok, Err, Vec, ℕ, [], cond}
 use Rattle.ballots.specs.declared.letters.Letter.{Letter}
 use Rattle.acceptor.specs.Content.{Content, after_write}
-use Rattle.acceptor.specs.Found.{Findable, Holds, HoldsEither, AddsNothing, FindsSame}
+use Rattle.acceptor.specs.Found.{Holds, HoldsEither, AddsNothing, FindsSame}
 use Rattle.acceptor.specs.Faults.{IsHarmless}
 pub use Rattle.acceptor.proofs.Callers.{still_holds}
 use Rattle.acceptor.specs.declared.acceptor.Acceptor.{Acceptor}

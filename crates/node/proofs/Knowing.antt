@@ -7,7 +7,7 @@ use Rattle.command_log.specs.View.{AreRows, IsLog, LogView, last_place}
 use Rattle.command_log.proofs.Callers.{are_rows_put, outputs_first}
 use Rattle.std.proofs.Common.{length, take, ◌+◌, arith, length-take}
 use Rattle.map_release.specs.Released.{applied_outputs}
-use Rattle.node.specs.Learned.{IsPart}
+use Rattle.node.specs.Learned.{IsPart, AreLearned}
 use Rattle.node.proofs.Prefixes.{part_grows, front}
 
 -- nothing is learned, or one value at a place that had none
@@ -36,6 +36,14 @@ module _ (tally : Tally) (p : ℕ) (v : List ℕ) (log : Rows) (lo : 1 ≤ p) (h
 
   pub voted_keeps : (members b n : ℕ) (new : Tally) → new ≡ voted members tally (at tally.learned p) b p v n → AreRows 1 new.learned × IsPart log new.learned
   voted_keeps members b n new is = keeps new.learned (subst (λ (t : Tally). LearnsOne tally t.learned p v) (sym is) (voted_one members tally (at tally.learned p) b p v n refl))
+
+-- places that are learned stay so
+pub are_learned : (first second : Rows) (n : ℕ) → IsPart first second → AreLearned first n → AreLearned second n
+are_learned first second n part are p lo hi none = by_value (at first p) refl
+  where
+    by_value : (o : Option (List ℕ)) → at first p ≡ o → ⊥
+    by_value None is = are p lo hi is
+    by_value (Some v) is = let there : at second p ≡ Some v = part p v is in cc (none, there)
 
 -- a log to which all of these are applied
 module _ (log : LogView) (learned : Rows) (is_log : IsLog log) (are : AreRows 1 learned) (part : IsPart log.learned learned) (end : at learned (log.applied + 1) ≡ None) where

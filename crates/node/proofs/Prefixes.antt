@@ -1,5 +1,5 @@
 -- Rows by place, and the values that they have without a gap.
-use Rattle.std.proofs.Common.{◌≡◌, ◌≢◌, ◌⊎◌, inl, inr, ℕ, zero, suc, ◌+◌, ◌<◌, ◌≤◌, cond, List, [], ◌∷◌, ◌++◌, length, take, Option, Some, None, slice_get, refl, sym, ap, subst, ◌∙◌, arith, length-append}
+use Rattle.std.proofs.Common.{◌≡◌, ◌≢◌, ◌⊎◌, inl, inr, ℕ, zero, suc, ◌+◌, ◌<◌, ◌≤◌, cond, List, [], ◌∷◌, ◌++◌, length, take, Option, Some, None, slice_get, refl, sym, ap, subst, ◌∙◌, arith, length-append, length-take}
 use Rattle.std.proofs.lemmas.Bool.{cases_order, cases_eq, eq-eqb, ne_eqb}
 use Rattle.std.proofs.lemmas.Bool.Decides.{nat_tests}
 use Rattle.std.proofs.lemmas.Option.{slice_get_past}
@@ -7,7 +7,7 @@ use Rattle.ballots.specs.Rows.{at, put}
 use Rattle.command_log.specs.Values.{Rows, values_from, gapless}
 use Rattle.command_log.specs.View.{AreRows, last_place}
 use Rattle.command_log.proofs.Callers.{none_below, are_rows_put, put_same, values_grow, value_is_at}
-use Rattle.node.specs.Learned.{IsPart}
+use Rattle.node.specs.Learned.{IsPart, AreLearned}
 
 put_equal : (row : ℕ × List ℕ) (rows : Rows) (p : ℕ) (v : List ℕ) → p ≡ row.0 → put (row ∷ rows) p v ≡ (row.0, v) ∷ rows
 put_equal row rows p v is = grind (arith, nat_tests)
@@ -136,3 +136,32 @@ one_more rows n v are few within same = by_value (at rows (n + 1)) refl
         let value : other ≡ v = same other found in
         let unchanged : put rows (n + 1) v ≡ rows = put_same 1 (n + 1) v rows are (found ∙ ap Some value) in
         (later, reaches (subst (λ r. n ≤ length (gapless r)) (sym unchanged) few))
+
+-- where something stands at each place, so many places have no gap
+without_gap : (p n : ℕ) (rows : Rows) → AreRows p rows → ((q : ℕ) → p ≤ q → q < p + n → at rows q ≢ None) → n ≤ length (values_from p rows)
+without_gap p zero rows are there = omega arith
+without_gap p (suc n) [] are there = absurd (there p (omega arith) (omega arith) refl)
+without_gap p (suc n) (row ∷ rows) are there = elim (cases_eq row.0 p) [
+  | inl is ↦
+      let later : AreRows (p + 1) rows = subst (λ k. AreRows (k + 1) rows) is are.2 in
+      let rest : n ≤ length (values_from (p + 1) rows) = without_gap (p + 1) n rows later (λ q lo hi none. there q (omega arith) (omega arith) (at_there row rows q (λ same. omega arith) ∙ none)) in
+      omega (arith, rest, ap length (values_here p row rows is))
+  | inr other ↦ absurd (there p (omega arith) (omega arith) (none_below p row.0 (row ∷ rows) (omega (arith, are.0)) (omega arith, are.1, are.2)))
+]
+
+pub learned_without_gap : (n : ℕ) (rows : Rows) → AreRows 1 rows → AreLearned rows n → n ≤ length (values_from 1 rows)
+learned_without_gap n rows are there = without_gap 1 n rows are (λ q lo hi. there q lo (omega arith))
+
+-- and no more where nothing stands at the next
+pub prefix_ends : (n : ℕ) (rows : Rows) → AreRows 1 rows → AreLearned rows n → at rows (n + 1) ≡ None → n ≡ length (values_from 1 rows)
+prefix_ends n rows are there none =
+    let place : 1 + n ≡ n + 1 = omega arith in
+    let few : n ≤ length (values_from 1 rows) = learned_without_gap n rows are there in
+    let all : take n (values_from 1 rows) ≡ values_from 1 rows = front 1 n rows rows are are (λ p v is. is) few (ap (at rows) place ∙ none) in
+    omega (arith, few, ap length all, length-take n (values_from 1 rows))
+
+pub one_learned : (n : ℕ) (rows : Rows) → AreLearned rows n → at rows (n + 1) ≢ None → AreLearned rows (n + 1)
+one_learned n rows are here p lo hi none = elim (cases_eq p (n + 1)) [
+  | inl is ↦ here (ap (at rows) (sym is) ∙ none)
+  | inr other ↦ are p lo (omega arith) none
+]

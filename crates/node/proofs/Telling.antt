@@ -1,12 +1,12 @@
 -- What a node's answer tells of its store.
-use Rattle.std.proofs.Common.{◌≡◌, ◌⊎◌, inl, inr, ℕ, ◌≤◌, Bool, true, false, refl, sym, subst, ◌∙◌, arith, Result, Ok, Err}
-use Rattle.acceptor.specs.Faults.{CountsFaults, BreaksBy, BreaksByReopen, HasRisen}
+use Rattle.std.proofs.Common.{◌≡◌, inl, ℕ, Bool, true, false, refl, sym, subst, ◌∙◌, Err}
+use Rattle.acceptor.specs.Faults.{CountsFaults, BreaksBy, BreaksByReopen}
 use Rattle.acceptor.specs.declared.acceptor.Acceptor.{Acceptor}
 use Rattle.acceptor.specs.declared.records.RecordsFault.{RecordsFault}
 use Rattle.acceptor.specs.declared.records.RecordsFault.TheVariants.{Refused, Broken, OutOfMemory}
 use Rattle.proposer.specs.Faults.{CountsStops, BreaksByStop, told}
 use Rattle.proposer.specs.declared.fault.NodeFault.{NodeFault as Fault}
-use Rattle.node.specs.Calls.{Kept, KeptByRestart, TellsStore}
+use Rattle.node.specs.Calls.{Kept, KeptByRestart}
 use Rattle.node.specs.Sched.{Fails, Stops, who_of}
 use Rattle.node.specs.declared.parts.Parts.{Parts}
 

@@ -1,15 +1,16 @@
 //! What a node has learned, and what it releases of it.
 
-ghost use Rattle.std.specs.Prelude.{◌≡◌, ◌+◌, ◌≤◌, ◌↔◌, IfOk, IsTrue, None, OnOk, OnErr, option_copied, length};
+ghost use Rattle.std.specs.Prelude.{◌≡◌, ◌+◌, ◌<◌, ◌≤◌, ◌↔◌, IfOk, IsTrue, None, OnOk, OnErr, option_copied, length};
 ghost use Rattle.ballots.specs.Limits.{IsPlace};
 ghost use Rattle.ballots.specs.Members.{member_count};
 ghost use Rattle.ballots.specs.Rows.{at};
 ghost use Rattle.learner.specs.Tally.{no_tally, known, voted};
 ghost use Rattle.command_log.specs.Values.{outputs_of_values, values_from};
-ghost use Rattle.command_log.specs.View.{AreRows, IsLog};
+ghost use Rattle.command_log.specs.View.{AreRows, IsLog, last_place};
 ghost use Rattle.map_release.specs.Released.{released};
 ghost use Rattle.node.specs.Learned.{IsPart};
 
+use crate::letters::prefix_len;
 use ballots::{Ballot, Bytes, MOST_PLACES, Members, NodeId, Place};
 use command_log::{Log, LogFault};
 use learner::Learner;
@@ -18,12 +19,14 @@ use std::alloc::{AllocError, Global};
 use std::collections::BTreeMap;
 use std::marker::Model;
 
-/// What a node counted and learned, the log to which it applies that, and how far it released.
+/// What a node counted and learned, the log to which it applies that, how far it released, and of how many places from the
+/// first on it told that they are learned.
 #[derive(Drop)]
 pub(crate) struct Knowledge {
     learner: Learner,
     log: Log,
     release: Release,
+    prefix: u64,
 }
 
 impl Model for Knowledge {
@@ -70,6 +73,7 @@ impl Knowledge {
             learner: Learner::new(alloc),
             log: Log::new(alloc),
             release: Release::new(),
+            prefix: 0,
         }
     }
 
@@ -94,6 +98,17 @@ impl Knowledge {
         ensures { result.now.entries ≡ self.now.tally.learned }
     {
         self.learner.values()
+    }
+
+    /// How many places from the first on are learned without a gap, as far as the last place. Those that it told of before
+    /// aren't looked at again.
+    pub(crate) fn prefix_len(&mut self) -> u64
+        ensures same { self.new ≡ self.old }
+        ensures below { result < last_place → result ≡ length (values_from 1 self.old.tally.learned) }
+        ensures full { last_place ≤ result → last_place ≤ length (values_from 1 self.old.tally.learned) }
+    {
+        self.prefix = prefix_len(self.learner.values(), self.prefix);
+        self.prefix
     }
 
     pub(crate) fn known(&mut self, place: Place, value: Bytes) -> Result<(), AllocError>

@@ -3,7 +3,9 @@
 ghost use Rattle.std.specs.Prelude.{◌≡◌, ◌-◌, ◌≤◌, ◌<◌, [], ◌∷◌, IfOk, length, set, take};
 ghost use Rattle.ballots.specs.Rows.{rows_from};
 ghost use Rattle.ballots.specs.declared.letters.Note.TheVariants.{Higher as HigherNote};
+ghost use Rattle.command_log.specs.View.{AreRows};
 ghost use Rattle.node.specs.Answers.{prepared_note};
+ghost use Rattle.node.specs.Learned.{AreLearned};
 ghost use Rattle.node.specs.Step.{known_letters, last_place, letter};
 ghost use Rattle.node.specs.View.{values_from};
 
@@ -41,31 +43,32 @@ pub(crate) fn known_letters(
     ensures { IfOk result (λ letters. letters.items ≡ known_letters from to (take 64 (rows_from learned.now.entries place))) }
 {
     let mut letters = Vec::new(alloc);
-    for (at, value) in learned {
-        if letters.len() < 64 && place <= *at {
-            let note = Note::Known {
-                place: *at,
-                value: value.copy(alloc)?,
-            };
-            letters.push(Letter { from, to, note })?;
+    for (at, value) in learned.range(place..) {
+        if letters.len() >= 64 {
+            return Ok(letters);
         }
+        let note = Note::Known {
+            place: *at,
+            value: value.copy(alloc)?,
+        };
+        letters.push(Letter { from, to, note })?;
     }
     Ok(letters)
 }
 
-/// How many places from the first on are learned without a gap, as far as the last place.
-pub(crate) fn prefix_len(learned: &BTreeMap<u64, Bytes>) -> u64
+/// How many places from the first on are learned without a gap, as far as the last place. So many are, and aren't looked at.
+pub(crate) fn prefix_len(learned: &BTreeMap<u64, Bytes>, known: u64) -> u64
+    requires rows { AreRows 1 learned.now.entries }
+    requires known { AreLearned learned.now.entries known }
     ensures below { result < last_place → result ≡ length (values_from 1 learned.now.entries) }
     ensures full { last_place ≤ result → last_place ≤ length (values_from 1 learned.now.entries) }
+    ensures learned { AreLearned learned.now.entries result }
 {
-    let mut next = 1;
-    for (at, _value) in learned {
-        if *at != next || next > MOST_PLACES {
-            break;
-        }
-        next += 1;
+    let mut len = known;
+    while len < MOST_PLACES && learned.contains_key(&(len + 1)) {
+        len += 1;
     }
-    next - 1
+    len
 }
 
 /// What an acceptor's answer to a Prepare says.

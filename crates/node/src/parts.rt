@@ -17,7 +17,7 @@ ghost use Rattle.proposer.specs.Turns.{IsNextBallot};
 ghost use Rattle.node.specs.Step.{Leads, accept, after_higher, are_votes, heed, is_sound, known_letters, letter, nothing, offer, prepare, promise, to_all};
 
 use crate::knowledge::Knowledge;
-use crate::letters::{known_letters, one_letter, prefix_len, prepared_note, replace_last};
+use crate::letters::{known_letters, one_letter, prepared_note, replace_last};
 use acceptor::{Accepted, Acceptor, Records, RecordsFault, greatest_used};
 use ballots::{Ballot, Bytes, Letter, NodeId, Note, Place, Value, Votes};
 use map_release::Numbered;
@@ -280,7 +280,7 @@ impl<R: Records> Parts<R> {
         ensures memory { IsTrue (R.is_honest self.new.acceptor.records) → IfErr result (λ fault. fault ≡ NodeFault.OutOfMemory
             → ((mid : R) × R.finds_no_memory mid self.new.acceptor.records) ⊎ ((b : ℕ) × IsNextBallot (R.may_find self.old.acceptor.records) self.old.proposer.hint self.old.proposer.id b)) }
     {
-        let prefix = prefix_len(self.knowledge.values());
+        let prefix = self.knowledge.prefix_len();
         match self.proposer.lead(&mut self.acceptor.records, prefix) {
             Ok(letters) => Ok(letters),
             Err(fault) => Err(self.stop(fault)),

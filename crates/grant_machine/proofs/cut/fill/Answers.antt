@@ -1,24 +1,25 @@
-use Rattle.std.proofs.Common.{◌≡◌, List, map, sym, ap, subst, ◌∙◌, arith}
+use Rattle.std.proofs.Common.{◌≡◌, ℕ, List, map, sym, ap, subst, ◌∙◌, arith}
 use Rattle.std.specs.List.{AllByRecursion}
 use Rattle.std.specs.Vec.{with_items}
 use Rattle.std.proofs.lemmas.List.{with_items_is}
 use Rattle.minislot_time.specs.Extent.{Extent}
-use Rattle.flow_state.specs.declared.flow.Flow.{Flow}
 use Rattle.flow_state.specs.declared.flow.Waiting.{Waiting}
-use Rattle.flow_state.specs.Rows.{table_of}
+use Rattle.flow_state.specs.Rows.{Rows, table_of}
 use Rattle.grant_machine_parts.specs.Filling.{PartMap}
 use Rattle.grant_machine_parts.specs.Cutting.{fill_span}
-use Rattle.grant_machine_parts.specs.Lent.{row_of, IsLent, IsUnicast, by_priority}
-use Rattle.grant_machine.specs.CutRows.{IsOfTable, flows_on, requests_on}
+use Rattle.grant_machine_parts.specs.Lent.{row_of, IsLent, IsUnicast}
+use Rattle.grant_machine_parts.specs.Ranks.{by_priority}
+use Rattle.grant_machine_parts.specs.declared.waiting.Ranked.{Ranked}
+use Rattle.grant_machine.specs.CutRows.{IsOfTable, flows_on, requests_on, ranked_on}
 use Rattle.grant_machine.proofs.Settling.{flows_lent, flows_back, ordered, requests_unicast}
 use Rattle.grant_machine.proofs.cut.fill.Goals as goal
 
 -- what was copied, and put in order
-asked : (fs gs : List Flow) (ws xs rs : List Waiting) (f : List Flow) (w : List Waiting) → rs ≡ by_priority gs xs → gs ≡ fs → fs ≡ f → xs ≡ ws → ws ≡ w → rs ≡ by_priority f w
-asked fs gs ws xs rs f w is a b c d = is ∙ ap (λ (g : List Flow). by_priority g xs) (a ∙ b) ∙ ap (λ (x : List Waiting). by_priority f x) (c ∙ d)
+asked : (rows : Rows) (ch : ℕ) (ws xs w : List Waiting) (ks rs : List Ranked) (us : List Waiting) → us ≡ by_priority rs → rs ≡ ks → ks ≡ map (ranked_on rows ch) xs → xs ≡ ws → ws ≡ w → us ≡ by_priority (map (ranked_on rows ch) w)
+asked rows ch ws xs w ks rs us is a b c d = is ∙ ap by_priority (a ∙ b) ∙ ap (λ (x : List Waiting). by_priority (map (ranked_on rows ch) x)) (c ∙ d)
 
-requests : (c : goal.After-deref-3) → c.deref-3.result.now ≡ by_priority (flows_on (table_of c.args.flows.now c.args.ch)) (requests_on (table_of c.args.flows.now c.args.ch))
-requests c = c.deref-3.ensures.value ∙ asked _ _ _ _ _ _ _ c.in_ok-requests.ensures c.deref.ensures.value c.in_ok-served.ensures c.deref-2.ensures.value c.in_ok-waiting.ensures
+requests : (c : goal.After-deref-3) → c.deref-3.result.now ≡ by_priority (map (ranked_on c.args.flows.now c.args.ch) (requests_on (table_of c.args.flows.now c.args.ch)))
+requests c = c.deref-3.ensures.value ∙ asked c.args.flows.now c.args.ch _ _ _ _ _ _ c.in_ok-requests.ensures c.deref-2.ensures.value c.in_ok-ranked.ensures c.deref.ensures.value c.in_ok-waiting.ensures
 
 served : (c : goal.After-deref-3) → c.deref_mut.result.now ≡ flows_on (table_of c.args.flows.now c.args.ch)
 served c = c.deref_mut.ensures.value ∙ c.in_ok-served.ensures
@@ -37,7 +38,7 @@ returns c = λ t found.
     let of : IsOfTable t c.args.channel.now c.deref_mut.result.now c.deref-3.result.now = record {
       channel = c.requires.channel t found;
       flows_are = ap (map row_of) (c.deref_mut.ensures.value ∙ c.in_ok-served.ensures) ∙ flows_back c.args.flows.now c.args.ch t c.requires.reached found;
-      requests_are = c.deref-3.ensures.value ∙ asked _ _ _ _ _ _ _ c.in_ok-requests.ensures c.deref.ensures.value c.in_ok-served.ensures c.deref-2.ensures.value c.in_ok-waiting.ensures ∙ ordered c.args.flows.now c.args.ch t c.requires.reached found;
+      requests_are = c.deref-3.ensures.value ∙ asked c.args.flows.now c.args.ch _ _ _ _ _ _ c.in_ok-requests.ensures c.deref-2.ensures.value c.in_ok-ranked.ensures c.deref.ensures.value c.in_ok-waiting.ensures ∙ ordered c.args.flows.now c.args.ch t found;
     } in
     let flows_is : (with_items c.in_ok-served.served c.place_all.new.flows).items ≡ c.place_all.new.flows = with_items_is c.in_ok-served.served c.place_all.new.flows (omega arith) in
     record {

@@ -1,6 +1,11 @@
-use Rattle.std.proofs.Common.{◌≡◌, ◌≤◌, ◌+◌, length}
-use Rattle.node.specs.View.{values_from}
+use Rattle.std.proofs.Common.{◌-◌}
+use Rattle.command_log.specs.View.{last_place}
+use Rattle.node.specs.Learned.{AreLearned}
 use Rattle.node.proofs.letters.prefix_len.Given as goal
 
-abbrev pub invariant-loop-at : goal.invariant-loop-at
-invariant-loop-at l = (1 + length (values_from 1 l.fn.learned.entries) ≡ l.next + length (values_from l.next l.at-iterator)) × (1 ≤ l.next) × (l.next ≤ 1000001)
+-- something stands at each place so far
+abbrev pub invariant-loop-len : goal.invariant-loop-len
+invariant-loop-len l = AreLearned l.learned.entries l.len
+
+abbrev pub decreases-loop-len : goal.decreases-loop-len
+decreases-loop-len l = last_place - l.len

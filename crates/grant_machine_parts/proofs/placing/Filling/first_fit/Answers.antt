@@ -1,16 +1,25 @@
-use Rattle.std.proofs.Common.{◌≡◌, ◌≤◌, Bool, false, not, List, Option, ℕ, length, nat_lt, IfSome, Some, None, sym, ap, subst, ◌∙◌}
-use Rattle.grant_machine_parts.specs.Placing.{most_placements, first_fit}
+use Rattle.std.proofs.Common.{◌≡◌, ◌≤◌, Bool, true, false, cond, not, nat_lt, Option, ℕ, length, IfSome, Some, None, refl, sym, ap, subst, ◌∙◌}
+use Rattle.std.specs.List.{find, range_with_len}
+use Rattle.grant_machine_parts.specs.Placing.{most_placements, is_free, fits_at, first_fit}
 use Rattle.grant_machine_parts.specs.Filling.{PartMap}
-use Rattle.grant_machine_parts.specs.Cells.{fit_in}
-use Rattle.grant_machine_parts.proofs.Holding.{first_fit_kept, fit_ends}
+use Rattle.grant_machine_parts.specs.Gaps.{AreGaps}
+use Rattle.grant_machine_parts.proofs.Carved.{fit_ends}
 use Rattle.grant_machine_parts.proofs.placing.Filling.first_fit.Goals as goal
+
+not_false : (b : Bool) → not b ≡ false → b ≡ true
+not_false true e = refl
+not_false false e = absurd cc
+
+-- what is found among the minislots is the first fit, while placements may be added
+fit_found : (v : PartMap) (n lo hi : ℕ) → not (nat_lt (length v.placements) most_placements) ≡ false → find (fits_at v.span v.placements n lo hi) (range_with_len 0 v.span.len) ≡ first_fit v.span v.placements n lo hi
+fit_found v n lo hi room = sym (ap (λ b. cond b (find (fits_at v.span v.placements n lo hi) (range_with_len 0 v.span.len)) None) (not_false (nat_lt (length v.placements) most_placements) room))
 
 found : (c : goal.After-first_fit) → c.first_fit.result ≡ first_fit c.args.self.now.span c.args.self.now.placements c.args.n c.args.lo c.args.hi
 found c =
     let full : not (nat_lt (length c.args.self.now.placements) most_placements) ≡ false = sym c.is_full.ensures ∙ c.if-is_full.false in
-    c.first_fit.ensures
-    ∙ ap (λ (xs : List Bool). fit_in xs c.self.inside.start c.from.result c.args.lo c.args.hi) c.deref.ensures.value
-    ∙ first_fit_kept c.self.inside.held.items c.self.inside.start c.from.result c.args.n c.args.lo c.args.hi c.self.inside.placements.items c.args.self.now c.self.invariant.cells c.self.view_is c.from.ensures full
+    c.first_fit.ensures c.self.inside.placements.items (subst (AreGaps (is_free c.self.inside.placements.items) 0 c.self.inside.len) (sym c.deref.ensures.value) c.self.invariant.gaps)
+    ∙ ap (λ (v : PartMap). find (fits_at v.span v.placements c.args.n c.args.lo c.args.hi) (range_with_len 0 v.span.len)) c.self.view_is
+    ∙ fit_found c.args.self.now c.args.n c.args.lo c.args.hi full
 
 pub returns-clause-same : goal.returns-clause-same
 returns-clause-same c = found c

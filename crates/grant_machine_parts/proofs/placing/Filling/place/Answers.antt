@@ -1,12 +1,23 @@
-use Rattle.std.proofs.Common.{◌≡◌, ◌+◌, ◌<◌, length, refl, sym, subst, arith}
+use Rattle.std.proofs.Common.{◌≡◌, ◌+◌, ◌<◌, length, sym, ap, subst, ◌∙◌, arith}
+use Rattle.std.proofs.lemmas.List.{length_push}
 use Rattle.grant_machine_parts.specs.Placing.{most_placements}
 use Rattle.grant_machine_parts.specs.Filling.{PartMap}
-use Rattle.grant_machine_parts.proofs.Holding.{kept_added}
+use Rattle.grant_machine_parts.specs.Gaps.{carved}
+use Rattle.grant_machine_parts.proofs.Carved.{gaps_added, all_push}
 use Rattle.grant_machine_parts.proofs.placing.Filling.place.Goals as goal
 
 pub invariant_of-self-2 : goal.invariant_of-self-2
 invariant_of-self-2 c =
     let few : length c.self.inside.placements.items < most_placements = subst (λ (w : PartMap). length w.placements < most_placements) (sym c.self.view_is) c.requires.room in
-    let from : c.from-from.result ≡ c.args.placement.offset = omega arith in
-    let to : c.from-from.result + c.from.result ≡ c.args.placement.offset + c.args.placement.size = omega arith in
-    kept_added c.self.inside (record { start = c.self.inside.start; held = c.hold.new.held; placements = c.push.new.self }) c.args.placement _ _ c.self.invariant refl c.in_ok-push.ensures.items c.hold.ensures.len from to few c.requires.use_of c.hold.ensures.cells
+    let ps = c.self.inside.placements.items in
+    let p = c.args.placement in
+    let from : c.get-from.result ≡ p.offset = c.get-from.ensures.same in
+    let to : c.get-from.result + p.size ≡ p.offset + p.size = ap (λ n. n + p.size) from in
+    let left : c.swap.new.x.items ≡ carved c.get-from.result (c.get-from.result + p.size) c.self.inside.gaps.items = ap (λ v. v.items) c.swap.ensures.x_after ∙ c.in_ok-carve.ensures ∙ ap (carved c.get-from.result (c.get-from.result + p.size)) c.deref.ensures.value in
+    record {
+      gaps = rw (c.in_ok-push.ensures.items, left) (gaps_added ps p c.self.inside.len c.get-from.result (c.get-from.result + p.size) c.self.inside.gaps.items from to c.self.invariant.gaps);
+      short = c.self.invariant.short;
+      early = c.self.invariant.early;
+      few = rw (c.in_ok-push.ensures.items, length_push ps p) (omega arith);
+      uses = rw c.in_ok-push.ensures.items (all_push ps p c.self.invariant.uses c.requires.use_of);
+    }

@@ -1,9 +1,11 @@
-use Rattle.std.proofs.Common.{false, refl, slice_set, arith}
+use Rattle.std.proofs.Common.{false, refl, sym, length, slice_set, arith}
 use Rattle.node.specs.View.Standing.{Running}
 use Rattle.network_script_parts.specs.declared.event.Answer.TheVariants.{Finished}
 use Rattle.network_script_parts.specs.Seat.{crashed}
 use Rattle.network_script.specs.Worlds.{written}
-use Rattle.network_script.specs.Next.{Crashes}
+use Rattle.network_script_parts.specs.Moves.{quiet}
+use Rattle.network_script_parts.specs.Moves.Ask.{Crash}
+use Rattle.network_script.proofs.After.{after_quiet}
 use Rattle.network_script.proofs.Acts.{seen_up, moves, asks, misses}
 use Rattle.network_script_parts.specs.declared.event.Event.TheVariants as event
 use Rattle.network_script.proofs.Counted.{count_still}
@@ -15,7 +17,7 @@ use Rattle.network_script.proofs.world.World.crash.Goals as goal
 pub returns-in-Some-clause-next : goal.returns-in-Some-clause-next
 returns-in-Some-clause-next g c = λ all nodes modems history each hold.
     let w = written c.args.self.now nodes modems history in
-    (nodes, modems, history, each, hold, misses w c.args.k (Crashes w c.args.k) c.in-Some.refusal (c.in-Some.ensures.missed nodes each))
+    (nodes, modems, history, each, hold, misses (length nodes) w c.args.k Crash c.in-Some.refusal (λ content doubt. (refl, refl)) (c.in-Some.ensures.missed nodes each))
 
 pub returns-clause-next : goal.returns-clause-next
 returns-clause-next g c = λ all nodes modems history each hold.
@@ -30,7 +32,7 @@ returns-clause-next g c = λ all nodes modems history each hold.
       history,
       moves seats nodes c.args.k c.crash.new.self s each (c.crash.ensures.stands (Running up.0) up.2),
       hold,
-      asks w _ c.args.k up.0 (Crashes w c.args.k) Finished up.1 (refl, refl),
+      asks (length nodes) w _ c.args.k (Running up.0) Crash Finished up.1 (quiet s) (refl, refl) (sym (after_quiet w c.args.k s)),
     )
 
 pub returns-in-Some-clause-counted : goal.returns-in-Some-clause-counted

@@ -6,8 +6,10 @@ use Rattle.node.specs.Calls.Cause.{Receive}
 use Rattle.network_script_parts.specs.declared.event.Answer.TheVariants.{Refused}
 use Rattle.network_script_parts.specs.Seat.{shown, stays_up}
 use Rattle.network_script.specs.Worlds.{written, left}
-use Rattle.network_script.specs.Next.{Ends}
-use Rattle.network_script.proofs.Acts.{called_at, receives_last, moves, sends, asks, misses, comes, no_letter}
+use Rattle.network_script_parts.specs.Moves.Ask.{Call}
+use Rattle.acceptor.specs.Content.{record_write}
+use Rattle.node.specs.View.Standing.{Running}
+use Rattle.network_script.proofs.Acts.{called_at, receives_last, moves, sends, asks, misses, comes, no_letter, told_last}
 use Rattle.network_script_parts.specs.declared.event.Event.TheVariants as event
 use Rattle.network_script.proofs.Places.{seen_at}
 use Rattle.network_script.proofs.Counted.{count_still}
@@ -20,15 +22,14 @@ use Rattle.network_script.proofs.world.World.deliver.Goals as goal
 pub returns-then-i-len-clause-next : goal.returns-then-i-len-clause-next
 returns-then-i-len-clause-next g c = λ all nodes modems history each hold.
     let w = written c.args.self.now nodes modems history in
-    (nodes, modems, history, each, hold, no_letter w c.args.i (λ l view. Ends w l.to view (Course (length nodes) l.to view (Receive l))) (search rules))
+    (nodes, modems, history, each, hold, no_letter (length nodes) w c.args.i (λ (l : Letter). Call (Receive l)) (search rules))
 
 pub returns-in-Some-clause-next : goal.returns-in-Some-clause-next
 returns-in-Some-clause-next g c = λ all nodes modems history each hold.
     let w = written c.args.self.now nodes modems history in
     let letter = c.index-letter.result.now in
-    let takes = λ (n : ℕ) (l : Letter) (view : View). Ends w n view (Course (length nodes) n view (Receive l)) in
-    let gone = misses w c.from-k.result (takes c.from-k.result letter) c.in-Some.refusal (c.in-Some.ensures.missed nodes each) in
-    (nodes, modems, history, each, hold, comes w w c.args.i letter c.from-k.result takes (Refused c.in-Some.refusal) (search rules) c.index-letter.ensures (c.from-k.ensures ∙ c.number.ensures.same) gone)
+    let gone = misses (length nodes) w c.from-k.result (Call (Receive letter)) c.in-Some.refusal (λ content doubt. (refl, refl)) (c.in-Some.ensures.missed nodes each) in
+    (nodes, modems, history, each, hold, comes (length nodes) w w c.args.i letter c.from-k.result (λ (l : Letter). Call (Receive l)) (Refused c.in-Some.refusal) (search rules) c.index-letter.ensures (c.from-k.ensures ∙ c.number.ensures.same) gone)
 
 pub returns-clause-next : goal.returns-clause-next
 returns-clause-next g c = λ all nodes modems history each hold.
@@ -41,14 +42,13 @@ returns-clause-next g c = λ all nodes modems history each hold.
     let call = called_at nodes seats k c.index_mut-seat.result.now c.receive-given.new.self c.post.new.seat (Receive letter) given
     each c.args.self.now.numbered c.in_default.ensures.up c.index_mut-seat.ensures.value c.receive-given.ensures.called (λ honest view stands. receives_last (g.N.Node.who c.index_mut-seat.result.now.node).members (g.N.Node.who c.index_mut-seat.result.now.node).id view letter given) c.post.ensures.node all in
     let s = shown (stays_up given) call.after in
-    let takes = λ (n : ℕ) (l : Letter) (view : View). Ends w n view (Course (length nodes) n view (Receive l)) in
-    let made = sends w k call.view (Course (length nodes) k call.view (Receive letter)) given call.after c.post.new.letters.items c.post.result call.at call.ends c.post.ensures.posted in (
+    let made = sends w k call.view (Course (length nodes) k call.view (Receive letter)) given call.after c.post.new.letters.items c.post.result call.ends c.post.ensures.posted in (
       slice_set nodes k (left c.post.result s),
       modems,
-      made.0,
+      record_write k made.0.write history,
       moves seats nodes k c.post.new.seat (left c.post.result s) each (c.post.ensures.stands s call.stands),
       hold,
-      comes w _ c.args.i letter k takes c.post.result lt c.index-letter.ensures (c.from-k.ensures ∙ c.number.ensures.same) (asks w _ k call.view (takes k letter) c.post.result call.at made.1),
+      comes (length nodes) w _ c.args.i letter k (λ (l : Letter). Call (Receive l)) c.post.result lt c.index-letter.ensures (c.from-k.ensures ∙ c.number.ensures.same) (asks (length nodes) w _ k (Running call.view) (Call (Receive letter)) c.post.result call.at made.0 (told_last (length nodes) k call.view (Receive letter) given _ _ c.post.result c.post.ensures.posted call.order, made.1) made.2),
     )
 
 pub returns-then-i-len-clause-counted : goal.returns-then-i-len-clause-counted

@@ -4,7 +4,9 @@ use Rattle.node.specs.Calls.{Course, answer}
 use Rattle.node.specs.Calls.Cause.{Lead}
 use Rattle.network_script_parts.specs.Seat.{shown, stays_up}
 use Rattle.network_script.specs.Worlds.{written, left}
-use Rattle.network_script.specs.Next.{Calls}
+use Rattle.network_script_parts.specs.Moves.Ask.{Call}
+use Rattle.acceptor.specs.Content.{record_write}
+use Rattle.node.specs.View.Standing.{Running}
 use Rattle.network_script.proofs.Acts.{called_at, moves, sends, asks, misses, told_last}
 use Rattle.network_script_parts.specs.declared.event.Event.TheVariants as event
 use Rattle.network_script.proofs.Counted.{count_still}
@@ -17,7 +19,7 @@ use Rattle.network_script.proofs.world.World.lead.Goals as goal
 pub returns-in-Some-clause-next : goal.returns-in-Some-clause-next
 returns-in-Some-clause-next g c = λ all nodes modems history each hold.
     let w = written c.args.self.now nodes modems history in
-    (nodes, modems, history, each, hold, misses w c.args.k (Calls (length nodes) w c.args.k (Lead)) c.in-Some.refusal (c.in-Some.ensures.missed nodes each))
+    (nodes, modems, history, each, hold, misses (length nodes) w c.args.k (Call (Lead)) c.in-Some.refusal (λ content doubt. (refl, refl)) (c.in-Some.ensures.missed nodes each))
 
 pub returns-clause-next : goal.returns-clause-next
 returns-clause-next g c = λ all nodes modems history each hold.
@@ -28,13 +30,13 @@ returns-clause-next g c = λ all nodes modems history each hold.
     each c.args.self.now.numbered c.in_default.ensures.up c.index_mut-seat.ensures.value c.lead-given.ensures.called c.lead-given.ensures.order c.post.ensures.node all in
     let s = shown (stays_up given) call.after in
     let course = λ (view : View). Course (length nodes) c.args.k view (Lead) in
-    let made = sends w c.args.k call.view (course call.view) given call.after c.post.new.letters.items c.post.result call.at call.ends c.post.ensures.posted in (
+    let made = sends w c.args.k call.view (course call.view) given call.after c.post.new.letters.items c.post.result call.ends c.post.ensures.posted in (
       slice_set nodes c.args.k (left c.post.result s),
       modems,
-      made.0,
+      record_write c.args.k made.0.write history,
       moves seats nodes c.args.k c.post.new.seat (left c.post.result s) each (c.post.ensures.stands s call.stands),
       hold,
-      asks w _ c.args.k call.view (Calls (length nodes) w c.args.k (Lead)) c.post.result call.at (told_last (length nodes) c.args.k call.view (Lead) given _ _ c.post.result c.post.ensures.posted call.order, made.1),
+      asks (length nodes) w _ c.args.k (Running call.view) (Call (Lead)) c.post.result call.at made.0 (told_last (length nodes) c.args.k call.view (Lead) given _ _ c.post.result c.post.ensures.posted call.order, made.1) made.2,
     )
 
 pub returns-in-Some-clause-counted : goal.returns-in-Some-clause-counted

@@ -1,8 +1,10 @@
-use Rattle.std.proofs.Common.{◌∙◌, ap, slice_set, refl}
+use Rattle.std.proofs.Common.{length, ◌∙◌, ap, slice_set, refl}
 use Rattle.node.specs.Releases.{outputs}
 use Rattle.network_script_parts.specs.Seat.{shown, stays_up}
 use Rattle.network_script.specs.Worlds.{written, left}
-use Rattle.network_script.specs.Next.{Releases}
+use Rattle.network_script_parts.specs.Moves.Ask.{Release}
+use Rattle.acceptor.specs.Content.{record_write}
+use Rattle.node.specs.View.Standing.{Running}
 use Rattle.network_script.proofs.Acts.{released_at, moves, releases, asks, misses}
 use Rattle.network_script_parts.specs.declared.event.Event.TheVariants as event
 use Rattle.network_script.proofs.Counted.{count_still}
@@ -15,7 +17,7 @@ use Rattle.network_script.proofs.world.World.release.Goals as goal
 pub returns-in-Some-clause-next : goal.returns-in-Some-clause-next
 returns-in-Some-clause-next g c = λ all nodes modems history each hold.
     let w = written c.args.self.now nodes modems history in
-    (nodes, modems, history, each, hold, misses w c.args.k (Releases w c.args.k c.args.now) c.in-Some.refusal (c.in-Some.ensures.missed nodes each))
+    (nodes, modems, history, each, hold, misses (length nodes) w c.args.k (Release c.args.now) c.in-Some.refusal (λ content doubt. (refl, refl)) (c.in-Some.ensures.missed nodes each))
 
 pub returns-clause-next : goal.returns-clause-next
 returns-clause-next g c = λ all nodes modems history each hold.
@@ -28,10 +30,10 @@ returns-clause-next g c = λ all nodes modems history each hold.
     let made = releases w c.args.k c.args.now call.view given call.after c.keep.new.outputs.items c.keep.result call.ends c.keep.ensures.keeps in (
       slice_set nodes c.args.k (left c.keep.result s),
       modems,
-      history,
+      record_write c.args.k made.0.write history,
       moves seats nodes c.args.k c.keep.new.seat (left c.keep.result s) each (c.keep.ensures.stands s call.stands),
       hold,
-      asks w _ c.args.k call.view (Releases w c.args.k c.args.now) c.keep.result call.at made,
+      asks (length nodes) w _ c.args.k (Running call.view) (Release c.args.now) c.keep.result call.at made.0 made.1 made.2,
     )
 
 pub returns-in-Some-clause-counted : goal.returns-in-Some-clause-counted

@@ -5,7 +5,9 @@ use Rattle.network_script_parts.specs.declared.event.Refusal.TheVariants.{NoNode
 use Rattle.network_script_parts.specs.Occupant.{is_up}
 use Rattle.network_script.specs.Worlds.{written}
 use Rattle.network_script.proofs.Places.{honest_at}
-use Rattle.network_script.proofs.Acts.{seen_none, seen_up, seen_down, same_at, moves, unmoved, starts, restarts, restarts_none}
+use Rattle.network_script.proofs.Acts.{seen_none, seen_up, seen_down, same_at, moves, unmoved, starts, asks, stays, no_node}
+use Rattle.network_script_parts.specs.Moves.Ask.{Restart}
+use Rattle.acceptor.specs.Content.{record_write}
 use Rattle.network_script_parts.specs.declared.event.Event.TheVariants as event
 use Rattle.network_script.proofs.Counted.{count_still}
 use Rattle.network_script.proofs.Tallied.{counted_seat, restart_rose, false_true}
@@ -16,13 +18,13 @@ use Rattle.network_script.proofs.world.World.restart.Goals as goal
 pub returns-then-k-len-clause-next : goal.returns-then-k-len-clause-next
 returns-then-k-len-clause-next g c = λ all nodes modems history each hold.
     let w = written c.args.self.now nodes modems history in
-    (nodes, modems, history, each, hold, restarts_none w c.args.k (seen_none c.args.self.now.seats.items nodes c.args.k each (search rules)))
+    (nodes, modems, history, each, hold, no_node (length nodes) w c.args.k Restart (seen_none c.args.self.now.seats.items nodes c.args.k each (search rules)))
 
 pub returns-then-is_up-clause-next : goal.returns-then-is_up-clause-next
 returns-then-is_up-clause-next g c = λ all nodes modems history each hold.
     let w = written c.args.self.now nodes modems history in
     let r = seen_up c.args.self.now.seats.items nodes c.args.k c.index.result.now each (search rules) c.index.ensures (sym c.is_up.ensures ∙ c.if-is_up.true) in
-    (nodes, modems, history, each, hold, restarts w w c.args.k (Running r.0) (Refused NodeUp) r.1 (refl, refl))
+    (nodes, modems, history, each, hold, stays (length nodes) w c.args.k (Running r.0) Restart (Refused NodeUp) r.1 (refl, refl))
 
 pub returns-in-Ok-clause-next : goal.returns-in-Ok-clause-next
 returns-in-Ok-clause-next g c = λ all nodes modems history each hold.
@@ -36,10 +38,10 @@ returns-in-Ok-clause-next g c = λ all nodes modems history each hold.
     let made = starts w c.args.k r.0 r.1 found.0 found.1 in (
       slice_set nodes c.args.k found.0,
       modems,
-      made.0,
+      record_write c.args.k made.0.write history,
       moves seats nodes c.args.k c.restart.new.self found.0 each found.2,
       hold,
-      restarts w (record w { nodes = slice_set nodes c.args.k found.0; history = made.0 }) c.args.k (Stopped r.0 r.1) Finished r.2 made.1,
+      asks (length nodes) w _ c.args.k (Stopped r.0 r.1) Restart Finished r.2 made.0 made.1 made.2,
     )
 
 pub returns-in-Err-clause-next : goal.returns-in-Err-clause-next
@@ -56,7 +58,7 @@ returns-in-Err-clause-next g c = λ all nodes modems history each hold.
       history,
       unmoved seats nodes c.args.k c.restart.new.self (Stopped r.0 r.1) each r.2 (rw (← found.1.1) found.2),
       hold,
-      restarts w w c.args.k (Stopped r.0 r.1) (Fault c.in-Err.fault) r.2 (found.1.0, refl),
+      stays (length nodes) w c.args.k (Stopped r.0 r.1) Restart (Fault c.in-Err.fault) r.2 (found.1.0, refl),
     )
 
 pub returns-then-k-len-clause-counted : goal.returns-then-k-len-clause-counted

@@ -1,0 +1,312 @@
+-- The gaps between placements: which are left once minislots are held, and the first that is wide enough.
+use Rattle.std.proofs.Common.{◌≡◌, ◌⊎◌, ℕ, zero, suc, ◌+◌, ◌-◌, ◌<◌, ◌≤◌, Bool, true, false, cond, not, ◌&&◌, ◌^◌, min, max, List, [], ◌∷◌, ◌++◌, Option, Some, None, is_none, IfSome, ⊎_elim, inl, inr, refl, sym, ap, subst, ◌∙◌, arith, leb, ltb, append_assoc}
+use Rattle.std.specs.List.{find, list_all, range_with_len, AllByRecursion}
+use Rattle.std.proofs.lemmas.Bool.{cases_lt, ltb-true, ltb-false, leb-true, leb-false, lt-ltb, lt-leb, le-leb, le-ltb}
+use Rattle.minislot_time.specs.Extent.{Extent}
+use Rattle.grant_machine_parts.specs.Placing.{Placement, holds, holder, is_free, fits_at, first_fit}
+use Rattle.grant_machine_parts.specs.Filling.{PartMap, has_use}
+use Rattle.grant_machine_parts.specs.Gaps.{Gap, IsGap, AreGaps, left_of, right_of, carved, gap_in}
+use Rattle.grant_machine_parts.proofs.Windows.{first_fit_tells}
+
+-- ---- carving
+
+-- gaps from b on are gaps from a on, where all between is held
+sooner : (f : ℕ → Bool) (a b len : ℕ) (gs : List Gap) → a ≤ b → ((x : ℕ) → a ≤ x → x < b → f x ≡ false) → AreGaps f b len gs → AreGaps f a len gs
+sooner f a b len [] le held none = λ x ge lt. ⊎_elim (λ (below : x < b). held x ge below) (λ (from : b ≤ x). none x from lt) (cases_lt x b)
+sooner f a b len (g ∷ gs) le held are =
+    let first = are.0 in (
+      record {
+        from = let from = first.from in omega arith;
+        to = first.to;
+        within = first.within;
+        before = λ x ge lt. ⊎_elim (λ (below : x < b). held x ge below) (λ (from : b ≤ x). first.before x from lt) (cases_lt x b);
+        inside = first.inside;
+        behind = first.behind;
+      },
+      are.1,
+    )
+
+-- f', what is free once the minislots between two offsets are held, where f was
+module _ (f f' : ℕ → Bool) (from to len : ℕ) (now : (x : ℕ) → from ≤ x → x < to → f' x ≡ false) (else : (x : ℕ) → (x < from) ⊎ (to ≤ x) → f' x ≡ f x) where
+  off : (x : ℕ) → f x ≡ false → f' x ≡ false
+  off x e = ⊎_elim
+      (λ (before : x < from). else x (inl before) ∙ e)
+      (λ (ge : from ≤ x). ⊎_elim (λ (lt : x < to). now x ge lt) (λ (behind : to ≤ x). else x (inr behind) ∙ e) (cases_lt x to))
+      (cases_lt x from)
+
+  -- a gap that is not carved
+  whole : (a : ℕ) (g : Gap) → IsGap f a len g → (to ≤ g.from) ⊎ ((g.to ≤ from) ⊎ (to ≤ from)) → IsGap f' a len g
+  whole a g is apart = record {
+    from = is.from;
+    to = is.to;
+    within = is.within;
+    before = λ x ge lt. off x (is.before x ge lt);
+    inside = λ x ge lt. else x (beside x ge lt apart) ∙ is.inside x ge lt;
+    behind = λ lt. off g.to (is.behind lt);
+  }
+    where
+      beside : (x : ℕ) → g.from ≤ x → x < g.to → (to ≤ g.from) ⊎ ((g.to ≤ from) ⊎ (to ≤ from)) → (x < from) ⊎ (to ≤ x)
+      beside x ge lt (inl h) = inr (omega arith)
+      beside x ge lt (inr (inl h)) = inl (omega arith)
+      beside x ge lt (inr (inr h)) = elim (cases_lt x from) [ inl below ↦ inl below | inr above ↦ inr (omega arith) ]
+
+  -- what is left at the right of a gap, and the gaps behind it
+  right_are : (a c : ℕ) (g : Gap) (gs : List Gap) → IsGap f a len g → g.from < to → from < g.to → c ≤ to → c ≤ g.to → ((x : ℕ) → c ≤ x → x < to → x < g.to → f' x ≡ false) → AreGaps f' g.to len gs → AreGaps f' c len (right_of from to g ++ gs)
+  right_are a c g gs is meets before le end held rest = by (ltb to g.to) refl
+    where
+      by : (b : Bool) → ltb to g.to ≡ b → AreGaps f' c len (cond b (record { from = to; to = g.to } ∷ []) [] ++ gs)
+      by true e =
+          let lt : to < g.to = ltb-true to g.to e in (
+            record {
+              from = le;
+              to = omega arith;
+              within = is.within;
+              before = λ x ge below. held x ge below (omega arith);
+              inside = λ x ge below. else x (inr ge) ∙ is.inside x (omega arith) below;
+              behind = λ below. off g.to (is.behind below);
+            },
+            rest,
+          )
+      by false e =
+          let all : g.to ≤ to = ltb-false to g.to e in
+          sooner f' c g.to len gs end (λ x ge lt. held x ge (omega arith) lt) rest
+
+  left_are : (a : ℕ) (g : Gap) (gs : List Gap) → IsGap f a len g → g.from < to → from < g.to → from < to → AreGaps f' g.to len gs → AreGaps f' a len (left_of from to g ++ (right_of from to g ++ gs))
+  left_are a g gs is meets before rises rest = by (ltb g.from from) refl
+    where
+      by : (b : Bool) → ltb g.from from ≡ b → AreGaps f' a len (cond b (record { from = g.from; to = from } ∷ []) [] ++ (right_of from to g ++ gs))
+      by true e =
+          let lt : g.from < from = ltb-true g.from from e in (
+            record {
+              from = is.from;
+              to = omega arith;
+              within = let within = is.within in omega arith;
+              before = λ x ge below. off x (is.before x ge below);
+              inside = λ x ge below. else x (inl below) ∙ is.inside x ge (omega arith);
+              behind = λ below. now from (omega arith) rises;
+            },
+            right_are a from g gs is meets before (omega arith) (omega arith) (λ x ge below end. now x ge below) rest,
+          )
+      by false e =
+          let le : from ≤ g.from = ltb-false g.from from e in
+          let start = is.from in
+          right_are a a g gs is meets before (omega arith) (omega arith)
+          (λ x ge below end. ⊎_elim (λ (early : x < g.from). off x (is.before x ge early)) (λ (late : g.from ≤ x). now x (omega arith) below) (cases_lt x g.from))
+          rest
+
+  pub carved_are : (a : ℕ) (gs : List Gap) → AreGaps f a len gs → AreGaps f' a len (carved from to gs)
+  carved_are a [] none = λ x ge lt. off x (none x ge lt)
+  carved_are a (g ∷ gs) are = by (carved_are g.to gs are.1) (ltb g.from to) (ltb from g.to) (ltb from to) refl refl refl
+    where
+      assoc : (xs ys zs : List Gap) → AreGaps f' a len (xs ++ (ys ++ zs)) → AreGaps f' a len ((xs ++ ys) ++ zs)
+      assoc xs ys zs h = subst (AreGaps f' a len) (sym (append_assoc xs ys zs)) h
+
+      by : AreGaps f' g.to len (carved from to gs) → (b c d : Bool) → ltb g.from to ≡ b → ltb from g.to ≡ c → ltb from to ≡ d → AreGaps f' a len (cond (b && c && d) (left_of from to g ++ right_of from to g) (g ∷ []) ++ carved from to gs)
+      by rest true true true p q r = assoc (left_of from to g) (right_of from to g) (carved from to gs) (left_are a g (carved from to gs) are.0 (ltb-true g.from to p) (ltb-true from g.to q) (ltb-true from to r) rest)
+      by rest true true false p q r = (whole a g are.0 (inr (inr (ltb-false from to r))), rest)
+      by rest true false d p q r = (whole a g are.0 (inr (inl (ltb-false from g.to q))), rest)
+      by rest false c d p q r = (whole a g are.0 (inl (ltb-false g.from to p)), rest)
+
+-- a minislot is free after one more placement where it was, and that doesn't hold it
+free_added : (ps : List Placement) (p : Placement) (x : ℕ) → is_free (ps ++ p ∷ []) x ≡ (is_free ps x && not (holds x p))
+free_added [] p x = elim (holds x p) as (λ b. is_none (cond b (Some p) None) ≡ (true && not b)) [ true ↦ refl | false ↦ refl ]
+free_added (q ∷ ps) p x = elim (holds x q) as (λ b. is_none (cond b (Some q) (holder (ps ++ p ∷ []) x)) ≡ (is_none (cond b (Some q) (holder ps x)) && not (holds x p))) [ true ↦ refl | false ↦ free_added ps p x ]
+
+-- the gaps after one more placement
+pub gaps_added : (ps : List Placement) (p : Placement) (len from to : ℕ) (gs : List Gap) → from ≡ p.offset → to ≡ p.offset + p.size → AreGaps (is_free ps) 0 len gs → AreGaps (is_free (ps ++ p ∷ [])) 0 len (carved from to gs)
+gaps_added ps p len from to gs at ends are = carved_are (is_free ps) (is_free (ps ++ p ∷ [])) from to len now else 0 gs are
+  where
+    and_false : (b : Bool) → (b && false) ≡ false
+    and_false true = refl
+    and_false false = refl
+
+    and_true : (b : Bool) → (b && true) ≡ b
+    and_true true = refl
+    and_true false = refl
+
+    held : (x : ℕ) → from ≤ x → x < to → holds x p ≡ true
+    held x ge lt = rw (le-leb p.offset x (omega arith), lt-ltb x (p.offset + p.size) (omega arith)) refl
+
+    now : (x : ℕ) → from ≤ x → x < to → is_free (ps ++ p ∷ []) x ≡ false
+    now x ge lt = free_added ps p x ∙ ap (λ b. is_free ps x && not b) (held x ge lt) ∙ and_false (is_free ps x)
+
+    beside : (x : ℕ) → (x < from) ⊎ (to ≤ x) → holds x p ≡ false
+    beside x (inl before) = ap (λ b. b && ltb x (p.offset + p.size)) (lt-leb p.offset x (omega arith))
+    beside x (inr behind) = ap (λ b. leb p.offset x && b) (le-ltb x (p.offset + p.size) (omega arith)) ∙ and_false (leb p.offset x)
+
+    else : (x : ℕ) → (x < from) ⊎ (to ≤ x) → is_free (ps ++ p ∷ []) x ≡ is_free ps x
+    else x out = free_added ps p x ∙ ap (λ b. is_free ps x && not b) (beside x out) ∙ and_true (is_free ps x)
+
+-- one gap is all of the minislots where nothing is placed
+pub all_free : (len : ℕ) → AreGaps (is_free []) 0 len (record { from = 0; to = len } ∷ [])
+all_free len = (
+  record { from = omega arith; to = omega arith; within = omega arith; before = λ x ge lt. absurd (omega arith); inside = λ x ge lt. refl; behind = λ lt. absurd (omega arith) },
+  λ x ge lt. absurd (omega arith),
+)
+
+-- ---- tests of runs
+
+all_in : (f : ℕ → Bool) (x n : ℕ) → ((z : ℕ) → x ≤ z → z < x + n → f z ≡ true) → list_all f (range_with_len x n) ≡ true
+all_in f x zero each = refl
+all_in f x (suc n) each = rw (each x (omega arith) (omega arith)) (all_in f (x + 1) n (λ z le lt. each z (omega arith) (omega arith)))
+
+not_all_in : (f : ℕ → Bool) (x n z : ℕ) → x ≤ z → z < x + n → f z ≡ false → list_all f (range_with_len x n) ≡ false
+not_all_in f x zero z le lt off = absurd (omega arith)
+not_all_in f x (suc n) z le lt off = ⊎_elim
+    (λ (more : x < z). ap (λ b. f x && b) (not_all_in f (x + 1) n z (omega arith) (omega arith) off) ∙ and_false (f x))
+    (λ (at : z ≤ x). let same : z ≡ x = omega arith in ap (λ b. b && list_all f (range_with_len (x + 1) n)) (ap f (sym same) ∙ off))
+    (cases_lt x z)
+  where
+    and_false : (b : Bool) → (b && false) ≡ false
+    and_false true = refl
+    and_false false = refl
+
+module _ (span : Extent) (ps : List Placement) (n lo hi : ℕ) where
+  pub run_fits : (x : ℕ) → lo ≤ span.start + x → span.start + x ≤ hi → x + n ≤ span.len → ((z : ℕ) → x ≤ z → z < x + n → is_free ps z ≡ true) → fits_at span ps n lo hi x ≡ true
+  run_fits x not_early not_late within free = rw (le-leb lo (span.start + x) not_early, le-leb (span.start + x) hi not_late, le-leb (x + n) span.len within) (all_in (is_free ps) x n free)
+
+  three : (a b c : Bool) → (a && b && c && false) ≡ false
+  three true true true = refl
+  three true true false = refl
+  three true false c = refl
+  three false b c = refl
+
+  held_unfit : (x z : ℕ) → x ≤ z → z < x + n → is_free ps z ≡ false → fits_at span ps n lo hi x ≡ false
+  held_unfit x z from below held =
+      ap (λ b. leb lo (span.start + x) && leb (span.start + x) hi && leb (x + n) span.len && b) (not_all_in (is_free ps) x n z from below held)
+      ∙ three (leb lo (span.start + x)) (leb (span.start + x) hi) (leb (x + n) span.len)
+
+  early_unfit : (x : ℕ) → span.start + x < lo → fits_at span ps n lo hi x ≡ false
+  early_unfit x lt = rw (lt-leb lo (span.start + x) lt) refl
+
+  late_unfit : (x : ℕ) → hi < span.start + x → fits_at span ps n lo hi x ≡ false
+  late_unfit x lt = ap (λ b. leb lo (span.start + x) && b && leb (x + n) span.len && list_all (is_free ps) (range_with_len x n)) (lt-leb (span.start + x) hi lt) ∙ by (leb lo (span.start + x)) _ _
+    where
+      by : (a c d : Bool) → (a && false && c && d) ≡ false
+      by true c d = refl
+      by false c d = refl
+
+  long_unfit : (x : ℕ) → span.len < x + n → fits_at span ps n lo hi x ≡ false
+  long_unfit x lt = ap (λ b. leb lo (span.start + x) && leb (span.start + x) hi && b && list_all (is_free ps) (range_with_len x n)) (lt-leb (x + n) span.len lt) ∙ by (leb lo (span.start + x)) (leb (span.start + x) hi) _
+    where
+      by : (a b d : Bool) → (a && b && false && d) ≡ false
+      by true true d = refl
+      by true false d = refl
+      by false b d = refl
+
+-- ---- the search
+
+-- offsets that don't pass are passed over
+skip : (f : ℕ → Bool) (len k a : ℕ) → ((y : ℕ) → a ≤ y → y < a + k → f y ≡ false) → find f (range_with_len a (len - a)) ≡ find f (range_with_len (a + k) (len - (a + k)))
+skip f len zero a off = let same : a ≡ a + 0 = omega arith in ap (λ b. find f (range_with_len b (len - b))) same
+skip f len (suc k) a off =
+    let next : a + 1 + k ≡ a + suc k = omega arith in
+    one ∙ skip f len k (a + 1) (λ y le lt. off y (omega arith) (omega arith)) ∙ ap (λ b. find f (range_with_len b (len - b))) next
+  where
+    one : find f (range_with_len a (len - a)) ≡ find f (range_with_len (a + 1) (len - (a + 1)))
+    one = ⊎_elim
+        (λ (lt : a < len). let m : len - a ≡ suc (len - (a + 1)) = omega arith in rw (m, off a (omega arith) (omega arith)) refl)
+        (λ (le : len ≤ a). let none : len - a ≡ 0 = omega arith in let none_later : len - (a + 1) ≡ 0 = omega arith in rw (none, none_later) refl)
+        (cases_lt a len)
+
+skip_to : (f : ℕ → Bool) (len a b : ℕ) → a ≤ b → ((y : ℕ) → a ≤ y → y < b → f y ≡ false) → find f (range_with_len a (len - a)) ≡ find f (range_with_len b (len - b))
+skip_to f len a b le off = let same : a + (b - a) ≡ b = omega arith in skip f len (b - a) a (λ y ge lt. off y ge (omega arith)) ∙ ap (λ c. find f (range_with_len c (len - c))) same
+
+none_from : (f : ℕ → Bool) (n a : ℕ) → ((y : ℕ) → a ≤ y → y < a + n → f y ≡ false) → find f (range_with_len a n) ≡ None
+none_from f zero a off = refl
+none_from f (suc n) a off = rw (off a (omega arith) (omega arith)) (none_from f n (a + 1) (λ y le lt. off y (omega arith) (omega arith)))
+
+module _ (start len : ℕ) (ps : List Placement) (n lo hi : ℕ) where
+  abbrev span : Extent
+  span = record { start = start; len = len }
+
+  -- what is found from x on, and in the whole MAP
+  abbrev pub found_from : ℕ → Option ℕ
+  found_from x = find (fits_at (record { start = start; len = len }) ps n lo hi) (range_with_len x (len - x))
+
+  abbrev pub found : Option ℕ
+  found = find (fits_at (record { start = start; len = len }) ps n lo hi) (range_with_len 0 len)
+
+  -- the offsets that are neither early nor late
+  pub record AreInTime (first behind : ℕ) : Type 0 where
+    pub from : first ≤ len
+    pub early : first ≤ lo - start
+    pub not_early : (y : ℕ) → first ≤ y → y < len → lo ≤ start + y
+    pub most : behind ≤ len
+    pub not_late : (y : ℕ) → y < behind → start + y ≤ hi
+    pub late : (y : ℕ) → behind ≤ y → y < len → hi < start + y
+
+  module _ (first behind : ℕ) (timely : AreInTime first behind) where
+    from_first : found ≡ found_from first
+    from_first =
+        let all : len ≡ len - 0 = omega arith in
+        let le = timely.early in
+        ap (λ k. find (fits_at span ps n lo hi) (range_with_len 0 k)) all ∙ skip_to (fits_at span ps n lo hi) len 0 first (omega arith) (λ y ge lt. early_unfit span ps n lo hi y (omega arith))
+
+    found_here : (x : ℕ) → first ≤ x → x < behind → x + n ≤ len → ((z : ℕ) → x ≤ z → z < x + n → is_free ps z ≡ true) → found_from x ≡ Some x
+    found_here x ge lt within free =
+        let most = timely.most in
+        let k : len - x ≡ suc (len - (x + 1)) = omega arith in
+        rw (k, run_fits span ps n lo hi x (timely.not_early x ge (omega arith)) (timely.not_late x lt) within free) refl
+
+    found_late : (x : ℕ) → behind ≤ x → found_from x ≡ None
+    found_late x ge = none_from (fits_at span ps n lo hi) (len - x) x (λ y more below. late_unfit span ps n lo hi y (timely.late y (omega arith) (omega arith)))
+
+    -- what fits is what a gap has
+    gap_found : 1 ≤ n → (a : ℕ) (gs : List Gap) → AreGaps (is_free ps) a len gs → gap_in gs n first behind ≡ found_from (max a first)
+    gap_found some a [] none = sym (none_from (fits_at span ps n lo hi) (len - max a first) (max a first) (λ y ge lt. held_unfit span ps n lo hi y y (omega arith) (omega arith) (none y (omega arith) (omega arith))))
+    gap_found some a (g ∷ gs) are = sym (before ∙ by (gap_found some g.to gs are.1) (leb behind (max g.from first)) (leb (max g.from first + n) g.to) refl refl)
+      where
+        before : found_from (max a first) ≡ found_from (max g.from first)
+        before = let from = are.0.from in skip_to (fits_at span ps n lo hi) len (max a first) (max g.from first) (omega arith) (λ y ge lt. held_unfit span ps n lo hi y y (omega arith) (omega arith) (are.0.before y (omega arith) (omega arith)))
+
+        beyond : g.to < max g.from first + n → found_from (max g.from first) ≡ found_from (max g.to first)
+        beyond short = let to = are.0.to in let within = are.0.within in skip_to (fits_at span ps n lo hi) len (max g.from first) (max g.to first) (omega arith) (λ y ge lt. ⊎_elim
+            (λ (inside : g.to < len). held_unfit span ps n lo hi y g.to (omega arith) (omega arith) (are.0.behind inside))
+            (λ (end : len ≤ g.to). long_unfit span ps n lo hi y (omega arith))
+            (cases_lt g.to len))
+
+        by : gap_in gs n first behind ≡ found_from (max g.to first) → (b c : Bool) → leb behind (max g.from first) ≡ b → leb (max g.from first + n) g.to ≡ c → found_from (max g.from first) ≡ cond b None (cond c (Some (max g.from first)) (gap_in gs n first behind))
+        by rest true c p q = found_late (max g.from first) (leb-true behind (max g.from first) p)
+        by rest false true p q =
+            let below : max g.from first < behind = leb-false behind (max g.from first) p in
+            let ends : max g.from first + n ≤ g.to = leb-true (max g.from first + n) g.to q in
+            let within = are.0.within in
+            found_here (max g.from first) (omega arith) below (omega arith) (λ z ge lt. are.0.inside z (omega arith) (omega arith))
+        by rest false false p q = beyond (leb-false (max g.from first + n) g.to q) ∙ sym rest
+
+    pub fit_found : 1 ≤ n → (gs : List Gap) → AreGaps (is_free ps) 0 len gs → gap_in gs n first behind ≡ found
+    fit_found some gs are = gap_found some 0 gs are ∙ (let same : max 0 first ≡ first = omega arith in ap found_from same) ∙ sym from_first
+
+    -- no minislots fit anywhere in time
+    pub none_found : n ≡ 0 → found ≡ cond (ltb first behind) (Some first) None
+    none_found none = from_first ∙ by (ltb first behind) refl
+      where
+        by : (b : Bool) → ltb first behind ≡ b → found_from first ≡ cond b (Some first) None
+        by true e = let lt : first < behind = ltb-true first behind e in let most = timely.most in found_here first (omega arith) lt (omega arith) (λ z ge below. absurd (omega arith))
+        by false e = found_late first (ltb-false first behind e)
+
+-- ---- a filling
+
+pub all_push : (ps : List Placement) (p : Placement) → AllByRecursion has_use ps → has_use p → AllByRecursion has_use (ps ++ p ∷ [])
+all_push [] p a h = (h, tt)
+all_push (q ∷ ps) p a h = (a.0, all_push ps p a.1 h)
+
+fit_within : (extent : Extent) (ps : List Placement) (n lo hi : ℕ) (o : Option ℕ) → first_fit extent ps n lo hi ≡ o → IfSome o (λ x. x + n ≤ extent.len)
+fit_within extent ps n lo hi (Some x) e = (first_fit_tells extent ps n lo hi x e).within
+fit_within extent ps n lo hi None e = tt
+
+-- a first fit ends within the MAP
+pub fit_ends : (v : PartMap) (n lo hi : ℕ) (o : Option ℕ) → o ≡ first_fit v.span v.placements n lo hi → IfSome o (λ x. x + n ≤ v.span.len)
+fit_ends v n lo hi o e = fit_within v.span v.placements n lo hi o (sym e)
+
+-- the offsets that the program looks at
+pub in_time : (start len : ℕ) (ps : List Placement) (n lo hi first behind next : ℕ) → start + len < 2 ^ 63 → lo < 2 ^ 64 → hi < 2 ^ 64 → first ≡ min (lo - start) len → next ≡ min (hi + 1) (2 ^ 64 - 1) → behind ≡ min (next - start) len → AreInTime start len ps n lo hi first behind
+in_time start len ps n lo hi first behind next short lo_fits hi_fits low after high = record {
+  from = omega arith;
+  early = omega arith;
+  not_early = λ y ge lt. omega arith;
+  most = omega arith;
+  not_late = λ y lt. omega arith;
+  late = λ y ge lt. omega arith;
+}

@@ -1,0 +1,35 @@
+-- What a list of kept intervals stands for, and its order.
+use Rattle.std.specs.Prelude.{ℕ, ◌+◌, ◌*◌, ◌^◌, ◌<◌, Bool, not, ◌==◌, ◌||◌, nat_lt, List, All}
+use Rattle.std.specs.List.Sorted.{IsNonDecreasingBy}
+use Rattle.map_body.specs.declared.interval.Interval.{Interval}
+use Rattle.modem.specs.declared.kept.KeptInterval.{KeptInterval}
+use Rattle.modem.specs.State.{Kept}
+
+-- a kept interval is itself
+abbrev pub kept_interval : KeptInterval → Kept
+kept_interval k = record { channel = k.channel; sid = k.sid; iuc = k.iuc; start = k.start; «end» = k.stop }
+
+-- an interval of a map that starts there
+abbrev pub interval_of : ℕ → ℕ → Interval → KeptInterval
+interval_of ch start i = record { channel = ch; sid = i.sid; iuc = i.iuc; start = start + i.from; stop = start + i.to }
+
+-- a minislot of a channel in the order: by channel, then by minislot
+abbrev pub place : ℕ → ℕ → ℕ
+place ch m = ch * 2 ^ 64 + m
+
+-- an interval stands where it begins
+abbrev pub place_of : KeptInterval → ℕ
+place_of k = place k.channel k.start
+
+-- fewer than 2^14 minislots
+abbrev pub IsShort : KeptInterval → Type 0
+IsShort k = k.stop < k.start + 2 ^ 14
+
+-- intervals as a modem keeps them: in order, each of them short
+pub record AreKept (ks : List KeptInterval) : Type 0 where
+  pub ordered : IsNonDecreasingBy place_of ks
+  pub short : All IsShort ks
+
+-- it is of another channel or ends after the clock
+abbrev pub is_live : ℕ → ℕ → KeptInterval → Bool
+is_live ch clock k = not (k.channel == ch) || nat_lt clock k.stop

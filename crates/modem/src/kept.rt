@@ -1,0 +1,195 @@
+//! Intervals that a modem keeps: one for each element that a map gave, in the order of their channels and,
+//! of one channel, of their starts.
+
+ghost use Rattle.std.specs.Prelude.{◌≡◌, ℕ, ◌+◌, ◌<◌, ◌≤◌, ◌^◌, ◌↔◌, ◌⊎◌, ◌++◌, map, take, drop, true, false, length, vec_len, vec_capacity};
+ghost use Rattle.std.specs.List.{list_any, AllWithin};
+ghost use Rattle.map_body.specs.Iucs as iucs;
+ghost use Rattle.map_body.specs.Sids.{everybody};
+ghost use Rattle.modem.specs.State.{HasAt, IsAt};
+ghost use Rattle.modem.specs.KeptIntervals.{kept_interval, interval_of, place, place_of, AreKept, IsShort, is_live};
+ghost use Rattle.modem.specs.Steps.{first_at, is_at};
+ghost use Rattle.modem.specs.Ticks.{Counts};
+
+use map_body::{Interval, Iuc, Sid};
+
+/// An element's minislots of a channel, from `start` up to `stop`.
+#[derive(Clone, Copy, Debug, PartialEq, Eq)]
+pub(crate) struct KeptInterval {
+    pub channel: u8,
+    pub sid: u16,
+    pub iuc: Iuc,
+    pub start: u64,
+    pub stop: u64,
+}
+
+fn place(ch: u8, at: u64) -> u128
+    ensures { result ≡ place ch at }
+{
+    u128::from(ch) * 0x1_0000_0000_0000_0000 + u128::from(at)
+}
+
+fn place_of(interval: &KeptInterval) -> u128
+    ensures { result ≡ place_of interval.now }
+{
+    place(interval.channel, interval.start)
+}
+
+// Those that may cover a minislot of a channel: they begin there, or less than 2^14 before.
+fn around(kept: &[KeptInterval], ch: u8, at: u64) -> &[KeptInterval]
+    requires { AreKept kept.now }
+    ensures { (sid iuc : ℕ) → HasAt (map kept_interval result.now) ch at sid iuc ↔ HasAt (map kept_interval kept.now) ch at sid iuc }
+{
+    let first = place(ch, at.saturating_sub(0x3FFF));
+    let last = place(ch, at);
+    let before = kept.partition_point(|k| place_of(k) < first);
+    let rest = &kept[before..];
+    let count = rest.partition_point(|k| place_of(k) <= last);
+    &rest[..count]
+}
+
+fn first_at(
+    ch: u8,
+    at: u64,
+    first: Option<(u16, Iuc)>,
+    interval: KeptInterval,
+) -> Option<(u16, Iuc)>
+    ensures { result ≡ first_at ch at first (kept_interval interval) }
+{
+    let covers = interval.channel == ch && (interval.start <= at && at < interval.stop);
+    if !covers {
+        return first;
+    }
+    let Some(best) = first else {
+        return Some((interval.sid, interval.iuc));
+    };
+    if interval.sid < best.0 || interval.sid == best.0 && interval.iuc.get() < best.1.get() {
+        Some((interval.sid, interval.iuc))
+    } else {
+        Some(best)
+    }
+}
+
+fn counted_of(kept: &[KeptInterval], ch: u8, at: u64) -> Option<(u16, Iuc)>
+    ensures { Counts (map kept_interval kept.now) ch at result }
+{
+    let mut counted: Option<(u16, Iuc)> = None;
+    for interval in kept {
+        counted = first_at(ch, at, counted, *interval);
+    }
+    counted
+}
+
+/// Of the intervals that cover a minislot, the SID and IUC that count. It costs the logarithm of what is
+/// kept, and what begins less than 2^14 minislots before.
+pub(crate) fn counted(kept: &[KeptInterval], ch: u8, at: u64) -> Option<(u16, Iuc)>
+    requires { AreKept kept.now }
+    ensures { Counts (map kept_interval kept.now) ch at result }
+{
+    counted_of(around(kept, ch, at), ch, at)
+}
+
+fn has_at(kept: &[KeptInterval], ch: u8, at: u64, sid: Sid, iuc: Iuc) -> bool
+    ensures { result ≡ list_any (λ k. is_at ch at sid iuc (kept_interval k)) kept.now }
+{
+    kept.iter().any(|k| (k.channel == ch && (k.start <= at && at < k.stop))
+        && (k.sid == sid.get() && k.iuc == iuc))
+}
+
+/// Whether a minislot is a request minislot that is open to all, at the same cost.
+pub(crate) fn is_open(kept: &[KeptInterval], ch: u8, at: u64) -> bool
+    requires { AreKept kept.now }
+    ensures { (result ≡ true) ↔ HasAt (map kept_interval kept.now) ch at everybody iucs.request }
+{
+    has_at(around(kept, ch, at), ch, at, Sid::EVERYBODY, Iuc::REQUEST)
+}
+
+fn is_live(interval: &KeptInterval, ch: u8, clock: u64) -> bool
+    ensures { result ≡ is_live ch clock interval.now }
+{
+    !(interval.channel == ch) || clock < interval.stop
+}
+
+// How many at the front are of the channel and end at or before the clock.
+fn ended(kept: &[KeptInterval], ch: u8, clock: u64) -> usize
+    ensures bound { result ≤ length kept.now }
+    ensures ended { AllWithin (λ k. is_live ch clock k ≡ false) kept.now 0 result }
+{
+    for (i, interval) in kept.iter().enumerate() {
+        if is_live(interval, ch, clock) {
+            return i;
+        }
+    }
+    kept.len()
+}
+
+fn cut(kept: &mut Vec<KeptInterval>, from: usize, to: usize)
+    requires order { from ≤ to }
+    requires within { to ≤ vec_len kept.old }
+    ensures items { kept.new.items ≡ take from kept.old.items ++ drop to kept.old.items }
+    ensures fewer { vec_len kept.new ≤ vec_len kept.old }
+    ensures room { vec_capacity kept.new ≡ vec_capacity kept.old }
+{
+    kept.drain(from..to);
+}
+
+/// Lets go of the channel's intervals that end at or before the clock, up to the first that doesn't.
+pub(crate) fn let_go(kept: &mut Vec<KeptInterval>, ch: u8, clock: u64)
+    requires { AreKept kept.old.items }
+    ensures kept { AreKept kept.new.items }
+    ensures held { (at_ch m sid iuc : ℕ) → (ch ≡ at_ch → clock ≤ m) → HasAt (map kept_interval kept.new.items) at_ch m sid iuc ↔ HasAt (map kept_interval kept.old.items) at_ch m sid iuc }
+    ensures fewer { vec_len kept.new ≤ vec_len kept.old }
+    ensures room { vec_capacity kept.new ≡ vec_capacity kept.old }
+{
+    let first = place(ch, 0);
+    let before = kept.partition_point(|k| place_of(k) < first);
+    let count = ended(&kept[before..], ch, clock);
+    cut(kept, before, before + count);
+}
+
+fn interval_of(ch: u8, start: u64, interval: Interval) -> KeptInterval
+    requires { start < 2 ^ 63 }
+    ensures same { result ≡ interval_of ch start interval }
+    ensures short { IsShort result }
+{
+    KeptInterval {
+        channel: ch,
+        sid: interval.sid.get(),
+        iuc: interval.iuc,
+        start: start + u64::from(interval.from.get()),
+        stop: start + u64::from(interval.to.get()),
+    }
+}
+
+// Adds one at its place, unless it has no minislot or stands there, as where a map is heard again.
+fn add(kept: &mut Vec<KeptInterval>, interval: KeptInterval)
+    requires kept { AreKept kept.old.items }
+    requires short { IsShort interval }
+    requires room { vec_len kept.old < vec_capacity kept.old }
+    ensures kept { AreKept kept.new.items }
+    ensures held { (ch m sid iuc : ℕ) → HasAt (map kept_interval kept.new.items) ch m sid iuc ↔ (HasAt (map kept_interval kept.old.items) ch m sid iuc ⊎ IsAt (kept_interval interval) ch m sid iuc) }
+    ensures more { vec_len kept.new ≤ vec_len kept.old + 1 }
+    ensures room { vec_capacity kept.old ≤ vec_capacity kept.new }
+{
+    if interval.stop <= interval.start {
+        return;
+    }
+    let wanted = place_of(&interval);
+    let before = kept.partition_point(|k| place_of(k) <= wanted);
+    if before > 0 && kept[before - 1] == interval {
+        return;
+    }
+    let _added = kept.insert(before, interval);
+}
+
+/// Adds the intervals of a map that starts there, for which there is room.
+pub(crate) fn add_all(kept: &mut Vec<KeptInterval>, ch: u8, start: u64, intervals: &[Interval])
+    requires start { start < 2 ^ 63 }
+    requires kept { AreKept kept.old.items }
+    requires room { vec_len kept.old + length intervals.now ≤ vec_capacity kept.old }
+    ensures kept { AreKept kept.new.items }
+    ensures held { (at_ch m sid iuc : ℕ) → HasAt (map kept_interval kept.new.items) at_ch m sid iuc ↔ (HasAt (map kept_interval kept.old.items) at_ch m sid iuc ⊎ HasAt (map kept_interval (map (interval_of ch start) intervals.now)) at_ch m sid iuc) }
+{
+    for interval in intervals {
+        add(kept, interval_of(ch, start, *interval));
+    }
+}
