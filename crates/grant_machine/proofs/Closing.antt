@@ -16,6 +16,7 @@ use Rattle.flow_state.specs.declared.channel.Channel.{Channel}
 use Rattle.flow_state.specs.declared.channel.ChannelRow.{ChannelRow}
 use Rattle.flow_state.specs.declared.flow.Flow.{Flow}
 use Rattle.flow_state.specs.declared.flow.FlowKind.{FlowKind}
+use Rattle.flow_state.specs.declared.flow.FlowKind.TheVariants.{BestEffort, Ugs, Poll}
 use Rattle.flow_state.specs.declared.flow.Waiting.{Waiting}
 use Rattle.flow_state.specs.Limits.{last_time, due_index}
 use Rattle.flow_state.specs.Rows.{Rows, Table, FlowRow, is_table, table_of, change_table, is_flow, is_of, flow_of, without_request, channel_at}
@@ -26,16 +27,16 @@ use Rattle.grant_machine_parts.specs.Cutting.{Filled as FilledMap, fill, fill_sp
 use Rattle.grant_machine_parts.specs.Drawing.{begins_at, null_element, pending_element, elements_of, head_of, bytes_of}
 use Rattle.grant_machine.specs.Runs.{IsReached}
 use Rattle.grant_machine_parts.specs.Lent.{row_of, IsUnicast}
-use Rattle.grant_machine.specs.CutRows.{IsOfKind, due_times_set, requests_taken, without_if}
+use Rattle.grant_machine.specs.CutRows.{IsOfKind, is_timed, timed, due_times_set, requests_taken, without_if}
 use Rattle.grant_machine.specs.Plans.{IsFilledBy, elements_in}
 use Rattle.flow_state.proofs.Callers.{changed, some_is, same_id, KeepsId}
 use Rattle.flow_state.proofs.Callers.{eqb_same}
 use Rattle.flow_state.proofs.Callers.{filter_append}
-use Rattle.flow_state.proofs.Callers.{Has, map_has, all_has, found_has, filter_has, any_has, has_any}
+use Rattle.flow_state.proofs.Callers.{Has, map_has, all_has, found_has, filter_has, has_filter, any_has, has_any}
 use Rattle.flow_state.proofs.Callers.{IsWell, RisingFrom, one_flow, both}
 use Rattle.grant_machine_parts.proofs.Callers.{Moves, fill_moves, flow_from, is_cut}
 use Rattle.grant_machine.proofs.Reached.{reached_is_well}
-use Rattle.grant_machine.proofs.Standing.{Apart, reached_apart}
+use Rattle.grant_machine.proofs.Standing.{Apart, IsIdle, idle, fill_idle, reached_apart, reached_idle}
 use Rattle.grant_machine.proofs.Lending.{due_set}
 use Rattle.grant_machine.proofs.Settling.{unicast}
 use Rattle.grant_machine_parts.proofs.Callers.{cut_elements, cut_few}
@@ -120,11 +121,44 @@ above_weaker low more (s ∷ ss) le a = (omega (arith, a.0), above_weaker low mo
 moved_sid : (f : FlowRow) (s : Flow) → IsMoved f (row_of s) → s.sid ≡ f.sid
 moved_sid f s m = ap (λ (g : FlowRow). g.sid) m.1
 
-above : (low : ℕ) (fs : List FlowRow) (ss : List Flow) → RisingFrom low fs → AllZip IsMoved fs (map row_of ss) → AreAbove low ss
-above low [] [] r z = tt
-above low [] (s ∷ ss) r z = absurd z
-above low (f ∷ fs) [] r z = absurd z
-above low (f ∷ fs) (s ∷ ss) r z = let same = moved_sid f s z.0 in (omega (arith, r.0), above_weaker low (f.sid + 1) ss (omega (arith, r.0)) (above (f.sid + 1) fs ss r.1 z.1))
+-- the timed flows of those that moved, one by one
+untimed : (g : FlowRow) (gs : List FlowRow) → is_timed g.kind ≡ false → timed (g ∷ gs) ≡ timed gs
+untimed g gs e = ap (λ b. cond b (g ∷ timed gs) (timed gs)) e
+
+first_timed : (g : FlowRow) (gs : List FlowRow) → is_timed g.kind ≡ true → timed (g ∷ gs) ≡ g ∷ timed gs
+first_timed g gs e = ap (λ b. cond b (g ∷ timed gs) (timed gs)) e
+
+above : (low : ℕ) (fs gs : List FlowRow) (ss : List Flow) → RisingFrom low fs → AllZip IsMoved fs gs → timed gs ≡ map row_of ss → AreAbove low ss
+above low [] [] [] r z e = tt
+above low [] [] (s ∷ ss) r z e = absurd cc
+above low [] (g ∷ gs) ss r z e = absurd z
+above low (f ∷ fs) [] ss r z e = absurd z
+above low (f ∷ fs) (g ∷ gs) ss r z e = by (λ us h. above (f.sid + 1) fs gs us r.1 z.1 h) (is_timed g.kind) refl ss e
+  where
+    by : ((us : List Flow) → timed gs ≡ map row_of us → AreAbove (f.sid + 1) us) → (b : Bool) → is_timed g.kind ≡ b → (us : List Flow) → timed (g ∷ gs) ≡ map row_of us → AreAbove low us
+    by rest false k us h = above_weaker low (f.sid + 1) us (omega (arith, r.0)) (rest us (sym (untimed g gs k) ∙ h))
+    by rest true k [] h = absurd (let there : g ∷ timed gs ≡ [] = sym (first_timed g gs k) ∙ h in cc)
+    by rest true k (u ∷ us) h =
+        let there : g ∷ timed gs ≡ row_of u ∷ map row_of us = sym (first_timed g gs k) ∙ h in
+        let first : g ≡ row_of u = cc in
+        let others : timed gs ≡ map row_of us = cc in
+        let same : u.sid ≡ f.sid = ap (λ (x : FlowRow). x.sid) (sym first) ∙ ap (λ (x : FlowRow). x.sid) z.0.1 in
+        (omega (arith, r.0, same), above_weaker low (f.sid + 1) us (omega (arith, r.0)) (rest us others))
+
+-- a best-effort flow stays as it is
+stays_idle : (f g : FlowRow) → IsMoved f g → IsIdle f → IsIdle g → is_timed g.kind ≡ false → g ≡ f
+stays_idle f g m from to e =
+    let kind : g.kind ≡ f.kind = ap (λ (x : FlowRow). x.kind) m.1 in
+    let index : g.index ≡ m.0 = ap (λ (x : FlowRow). x.index) m.1 in
+    let now : g.index ≡ 0 = idle_is g.kind g.index e to in
+    let before : f.index ≡ 0 = idle_is f.kind f.index (ap is_timed (sym kind) ∙ e) from in
+    let same : m.0 ≡ f.index = omega arith in
+    m.1 ∙ ap (λ i. record f { index = i }) same
+  where
+    idle_is : (kind : FlowKind) (i : ℕ) → is_timed kind ≡ false → idle kind i → i ≡ 0
+    idle_is (BestEffort priority) i e h = h
+    idle_is (Ugs size interval jitter base) i e h = absurd cc
+    idle_is (Poll interval jitter base) i e h = absurd cc
 
 -- the first flow stays, where all others are above it
 head_stays : (g : FlowRow) (ss : List Flow) (fs : List FlowRow) → AreAbove (g.sid + 1) ss → set_flows ss (g ∷ fs) ≡ g ∷ set_flows ss fs
@@ -146,16 +180,30 @@ is_set f s m =
     ∙ ap (λ i. record f { index = i }) index
     ∙ sym m.1
 
-all_set : (low : ℕ) (fs : List FlowRow) (ss : List Flow) → RisingFrom low fs → AllZip IsMoved fs (map row_of ss) → set_flows ss fs ≡ map row_of ss
-all_set low [] [] r z = refl
-all_set low [] (s ∷ ss) r z = absurd z
-all_set low (f ∷ fs) [] r z = absurd z
-all_set low (f ∷ fs) (s ∷ ss) r z =
-    let same = moved_sid f s z.0 in
-    ap (λ (g : FlowRow). set_flows ss (g ∷ map (due_set s.sid s.due) fs)) (is_set f s z.0)
-    ∙ ap (λ (gs : List FlowRow). set_flows ss (row_of s ∷ gs)) (unset s.sid s.due (f.sid + 1) fs r.1 (omega arith))
-    ∙ head_stays (row_of s) ss fs (above_weaker (s.sid + 1) (f.sid + 1) ss (omega arith) (above (f.sid + 1) fs ss r.1 z.1))
-    ∙ ap (λ (gs : List FlowRow). row_of s ∷ gs) (all_set (f.sid + 1) fs ss r.1 z.1)
+all_set : (low : ℕ) (fs gs : List FlowRow) (ss : List Flow) → RisingFrom low fs → AllZip IsMoved fs gs → AllByRecursion IsIdle fs → AllByRecursion IsIdle gs → timed gs ≡ map row_of ss → set_flows ss fs ≡ gs
+all_set low [] [] [] r z from to e = refl
+all_set low [] [] (s ∷ ss) r z from to e = absurd cc
+all_set low [] (g ∷ gs) ss r z from to e = absurd z
+all_set low (f ∷ fs) [] ss r z from to e = absurd z
+all_set low (f ∷ fs) (g ∷ gs) ss r z from to e = by (λ us h. all_set (f.sid + 1) fs gs us r.1 z.1 from.1 to.1 h) (is_timed g.kind) refl ss e
+  where
+    by : ((us : List Flow) → timed gs ≡ map row_of us → set_flows us fs ≡ gs) → (b : Bool) → is_timed g.kind ≡ b → (us : List Flow) → timed (g ∷ gs) ≡ map row_of us → set_flows us (f ∷ fs) ≡ g ∷ gs
+    by rest false k us h =
+        let others : timed gs ≡ map row_of us = sym (untimed g gs k) ∙ h in
+        let same : g ≡ f = stays_idle f g z.0 from.0 to.0 k in
+        head_stays f us fs (above (f.sid + 1) fs gs us r.1 z.1 others) ∙ ap (λ (hs : List FlowRow). f ∷ hs) (rest us others) ∙ ap (λ (x : FlowRow). x ∷ gs) (sym same)
+    by rest true k [] h = absurd (let there : g ∷ timed gs ≡ [] = sym (first_timed g gs k) ∙ h in cc)
+    by rest true k (u ∷ us) h =
+        let there : g ∷ timed gs ≡ row_of u ∷ map row_of us = sym (first_timed g gs k) ∙ h in
+        let first : g ≡ row_of u = cc in
+        let others : timed gs ≡ map row_of us = cc in
+        let moved : IsMoved f (row_of u) = subst (IsMoved f) first z.0 in
+        let same = moved_sid f u moved in
+        ap (λ (x : FlowRow). set_flows us (x ∷ map (due_set u.sid u.due) fs)) (is_set f u moved)
+        ∙ ap (λ (xs : List FlowRow). set_flows us (row_of u ∷ xs)) (unset u.sid u.due (f.sid + 1) fs r.1 (omega arith))
+        ∙ head_stays (row_of u) us fs (above_weaker (u.sid + 1) (f.sid + 1) us (omega arith) (above (f.sid + 1) fs gs us r.1 z.1 others))
+        ∙ ap (λ (xs : List FlowRow). row_of u ∷ xs) (rest us others)
+        ∙ ap (λ (x : FlowRow). x ∷ gs) (sym first)
 
 -- ---- requests
 
@@ -294,11 +342,13 @@ module _ (rows : Rows) (ch : ℕ) (t : Table) (len not_before ack : ℕ) (x : Fi
   placed : x.filling.placements ≡ filled.placements
   placed = by.placements filled.ack
 
-  flows_are : map row_of x.flows.items ≡ filled.flows
+  flows_are : map row_of x.flows.items ≡ timed filled.flows
   flows_are = by.flows filled.ack
 
   rows_set : set_flows x.flows.items t.flows ≡ filled.flows
-  rows_set = all_set 1 t.flows x.flows.items well.rising (subst (AllZip IsMoved t.flows) (sym flows_are) (moved_rows t (span_of t.row len not_before) filled.ack ended)) ∙ flows_are
+  rows_set =
+      let idle_before = reached_idle rows reached ch t found in
+      all_set 1 t.flows filled.flows x.flows.items well.rising (moved_rows t (span_of t.row len not_before) filled.ack ended) idle_before (fill_idle t (span_of t.row len not_before) filled.ack idle_before) (sym flows_are)
 
   requests_left : take_all x.filling.placements x.waiting.items t.waiting ≡ filled.waiting
   requests_left =
@@ -329,7 +379,8 @@ module _ (rows : Rows) (ch : ℕ) (t : Table) (len not_before ack : ℕ) (x : Fi
   -- the flows' kinds are those of the rows
   pub kinds_are : AllByRecursion (IsOfKind rows ch) x.flows.items
   kinds_are = all_has (IsOfKind rows ch) x.flows.items (λ f h row e.
-      let there : Has filled.flows (row_of f) = subst (λ (gs : List FlowRow). Has gs (row_of f)) flows_are (map_has row_of x.flows.items f h) in
+      let kept : Has (timed filled.flows) (row_of f) = subst (λ (gs : List FlowRow). Has gs (row_of f)) flows_are (map_has row_of x.flows.items f h) in
+      let there : Has filled.flows (row_of f) = (has_filter (λ g. is_timed g.kind) filled.flows (row_of f) kept).0 in
       let from = flow_from t filled.flows (row_of f) (fill_moves t (span_of t.row len not_before) filled.ack ended) there in
       let at : flow_of t f.sid ≡ Some row = sym (ap (λ o. option_and_then (λ u. flow_of u f.sid) o) found) ∙ e in
       let has = found_has (is_flow f.sid) t.flows row at in

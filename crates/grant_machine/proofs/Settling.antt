@@ -1,5 +1,5 @@
 -- What a filled MAP is made of, and its flows as they are lent.
-use Rattle.std.proofs.Common.{◌≡◌, ℕ, ◌≤◌, true, false, cond, List, [], ◌∷◌, map, filter, eqb, Option, Some, None, refl, sym, ap, subst, ◌∙◌}
+use Rattle.std.proofs.Common.{◌≡◌, ℕ, ◌≤◌, Bool, true, false, cond, List, [], ◌∷◌, map, filter, eqb, Option, Some, None, refl, sym, ap, subst, ◌∙◌}
 use Rattle.std.specs.List.{AllByRecursion, flat_map}
 use Rattle.std.specs.Option.{option_and_then}
 use Rattle.minislot_time.specs.Extent.{Extent}
@@ -12,13 +12,14 @@ use Rattle.flow_state.specs.Limits.{last_sid, is_good_kind, due_time, due_index}
 use Rattle.flow_state.specs.Rows.{Rows, Table, FlowRow, table_of, lent_flow, flow_of}
 use Rattle.grant_machine_parts.specs.declared.services.Service.TheVariants.{Grants, Polls}
 use Rattle.grant_machine_parts.specs.declared.placing.Placement.{Placement}
-use Rattle.grant_machine_parts.specs.Cutting.{flow_priority, priority_of, Passed, pass, in_order, place_requests, fill_span, fill_polls, grants_of_flow, polls_of_flow}
+use Rattle.grant_machine_parts.specs.Cutting.{flow_priority, priority_of, Passed, pass, in_order, place_requests, fill_span, fill_polls, grants_of_flow, polls_of_flow, grants_of_kind, polls_of_kind, run_flow, with_first}
+use Rattle.grant_machine_parts.specs.declared.due_times.Periodic.{Periodic}
 use Rattle.grant_machine.specs.Runs.{IsReached}
 use Rattle.grant_machine_parts.specs.Filling.{PartMap}
 use Rattle.grant_machine_parts.specs.Lent.{row_of, IsLent, IsUnicast, given_to}
 use Rattle.grant_machine_parts.specs.Ranks.{of_priority, by_priority}
 use Rattle.grant_machine_parts.specs.declared.waiting.Ranked.{Ranked}
-use Rattle.grant_machine.specs.CutRows.{IsOfTable, flows_on, requests_on, ranked_on}
+use Rattle.grant_machine.specs.CutRows.{IsOfTable, is_timed, timed, flows_on, requests_on, ranked_on}
 use Rattle.flow_state.proofs.Callers.{all_has}
 use Rattle.flow_state.proofs.Callers.{IsWell, IsWellFlow, both}
 use Rattle.grant_machine.proofs.Reached.{reached_is_well}
@@ -99,20 +100,71 @@ requests_unicast rows ch r = by (table_of rows ch) refl
     by (Some t) e = subst (AllByRecursion IsUnicast) (sym (ordered rows ch t e)) (unicast t (reached_is_well rows r ch t e))
     by None e = rw e tt
 
+-- the timed flows of a pass, and what a pass over them alone gives
+abbrev of_timed : Passed → Passed
+of_timed p = record { flows = timed p.flows; placements = p.placements }
+
+pass_timed : (span : Extent) (what : FlowRow → Option Periodic) → ((f : FlowRow) → is_timed f.kind ≡ false → what f ≡ None) → (fs : List FlowRow) (ps : List Placement)
+    → pass span what (timed fs) ps ≡ of_timed (pass span what fs ps)
+pass_timed span what none [] ps = refl
+pass_timed span what none (f ∷ fs) ps = by (pass_timed span what none fs) (is_timed f.kind) refl
+  where
+    by : ((qs : List Placement) → pass span what (timed fs) qs ≡ of_timed (pass span what fs qs)) → (b : Bool) → is_timed f.kind ≡ b → pass span what (cond b (f ∷ timed fs) (timed fs)) ps
+        ≡ record {
+          flows = cond b (record f { index = (run_flow span (what f) f.index ps).index } ∷ timed (pass span what fs (run_flow span (what f) f.index ps).placements).flows) (timed (pass span what fs (run_flow span (what f) f.index ps).placements).flows);
+          placements = (pass span what fs (run_flow span (what f) f.index ps).placements).placements;
+        }
+    by rest true e = ap (with_first (record f { index = (run_flow span (what f) f.index ps).index })) (rest (run_flow span (what f) f.index ps).placements)
+    by rest false e = rest ps ∙ ap (λ (o : Option Periodic). of_timed (pass span what fs (run_flow span o f.index ps).placements)) (sym (none f e))
+
+no_grants : (c : Channel) (f : FlowRow) → is_timed f.kind ≡ false → grants_of_flow c f ≡ None
+no_grants c f e = by f.kind e
+  where
+    by : (kind : FlowKind) → is_timed kind ≡ false → grants_of_kind c f.sid kind ≡ None
+    by (BestEffort priority) e = refl
+    by (Ugs size interval jitter base) e = absurd cc
+    by (Poll interval jitter base) e = absurd cc
+
+no_polls : (c : Channel) (f : FlowRow) → is_timed f.kind ≡ false → polls_of_flow c f ≡ None
+no_polls c f e = by f.kind e
+  where
+    by : (kind : FlowKind) → is_timed kind ≡ false → polls_of_kind c f.sid kind ≡ None
+    by (BestEffort priority) e = refl
+    by (Ugs size interval jitter base) e = absurd cc
+    by (Poll interval jitter base) e = absurd cc
+
+-- the rows of timed flows as they are lent
+pub timed_rows : (fs : List Flow) → map row_of (filter (λ f. is_timed f.kind) fs) ≡ timed (map row_of fs)
+timed_rows [] = refl
+timed_rows (f ∷ fs) = elim (is_timed f.kind) as (λ b. map row_of (cond b (f ∷ filter (λ g. is_timed g.kind) fs) (filter (λ g. is_timed g.kind) fs)) ≡ cond b (row_of f ∷ timed (map row_of fs)) (timed (map row_of fs))) [
+  | true ↦ ap (λ (rs : List FlowRow). row_of f ∷ rs) (timed_rows fs)
+  | false ↦ timed_rows fs
+]
+
+pub timed_lent : (fs : List Flow) → AllByRecursion IsLent fs → AllByRecursion IsLent (filter (λ f. is_timed f.kind) fs)
+timed_lent [] all = tt
+timed_lent (f ∷ fs) all = elim (is_timed f.kind) as (λ b. AllByRecursion IsLent (cond b (f ∷ filter (λ g. is_timed g.kind) fs) (filter (λ g. is_timed g.kind) fs))) [
+  | true ↦ (all.0, timed_lent fs all.1)
+  | false ↦ timed_lent fs all.1
+]
+
 -- two services and then the requests fill a MAP
-pub served_filled : (t : Table) (span : Extent) (ack : ℕ) (c : Channel) (f0 f1 f2 : List Flow) (rs : List Waiting) (p1 p2 p3 : List Placement) → t.row.channel ≡ c → map row_of f0 ≡ t.flows
+pub served_filled : (t : Table) (span : Extent) (ack : ℕ) (c : Channel) (f0 f1 f2 : List Flow) (rs : List Waiting) (p1 p2 p3 : List Placement) → t.row.channel ≡ c → map row_of f0 ≡ timed t.flows
     → p1 ≡ (pass span (given_to Grants c) (map row_of f0) []).placements → map row_of f1 ≡ (pass span (given_to Grants c) (map row_of f0) []).flows
     → p2 ≡ (pass span (given_to Polls c) (map row_of f1) p1).placements → map row_of f2 ≡ (pass span (given_to Polls c) (map row_of f1) p1).flows
     → rs ≡ in_order t t.waiting → p3 ≡ place_requests span c rs p2
-    → (p3 ≡ (fill_span t span ack).placements) × (map row_of f2 ≡ (fill_span t span ack).flows)
+    → (p3 ≡ (fill_span t span ack).placements) × (map row_of f2 ≡ timed (fill_span t span ack).flows)
 served_filled t span ack c f0 f1 f2 rs p1 p2 p3 row start placed1 flows1 placed2 flows2 order placed3 =
     let first : Passed = pass span (grants_of_flow t.row.channel) t.flows [] in
-    let one : pass span (given_to Grants c) (map row_of f0) [] ≡ first = ap (λ d. pass span (grants_of_flow d) (map row_of f0) []) (sym row) ∙ ap (λ (fs : List FlowRow). pass span (grants_of_flow t.row.channel) fs []) start in
+    let one : pass span (given_to Grants c) (map row_of f0) [] ≡ of_timed first =
+    ap (λ d. pass span (grants_of_flow d) (map row_of f0) []) (sym row) ∙ ap (λ (fs : List FlowRow). pass span (grants_of_flow t.row.channel) fs []) start
+    ∙ pass_timed span (grants_of_flow t.row.channel) (no_grants t.row.channel) t.flows [] in
     let p1_is : p1 ≡ first.placements = placed1 ∙ ap (λ (p : Passed). p.placements) one in
-    let f1_is : map row_of f1 ≡ first.flows = flows1 ∙ ap (λ (p : Passed). p.flows) one in
-    let two : pass span (given_to Polls c) (map row_of f1) p1 ≡ fill_polls t span first =
+    let f1_is : map row_of f1 ≡ timed first.flows = flows1 ∙ ap (λ (p : Passed). p.flows) one in
+    let two : pass span (given_to Polls c) (map row_of f1) p1 ≡ of_timed (fill_polls t span first) =
     ap (λ d. pass span (polls_of_flow d) (map row_of f1) p1) (sym row) ∙ ap (λ (fs : List FlowRow). pass span (polls_of_flow t.row.channel) fs p1) f1_is
-    ∙ ap (λ (ps : List Placement). pass span (polls_of_flow t.row.channel) first.flows ps) p1_is in
+    ∙ ap (λ (ps : List Placement). pass span (polls_of_flow t.row.channel) (timed first.flows) ps) p1_is
+    ∙ pass_timed span (polls_of_flow t.row.channel) (no_polls t.row.channel) first.flows first.placements in
     let p2_is : p2 ≡ (fill_polls t span first).placements = placed2 ∙ ap (λ (p : Passed). p.placements) two in (
       placed3 ∙ ap (λ d. place_requests span d rs p2) (sym row) ∙ ap (λ (ws : List Waiting). place_requests span t.row.channel ws p2) order
           ∙ ap (λ (ps : List Placement). place_requests span t.row.channel (in_order t t.waiting) ps) p2_is,
@@ -124,7 +176,7 @@ pub parts_filled : (t : Table) (ack : ℕ) (c : Channel) (a b d e : PartMap) (f0
     → b.placements ≡ (pass a.span (given_to Grants c) (map row_of f0) a.placements).placements → map row_of f1 ≡ (pass a.span (given_to Grants c) (map row_of f0) a.placements).flows
     → d.placements ≡ (pass b.span (given_to Polls c) (map row_of f1) b.placements).placements → map row_of f2 ≡ (pass b.span (given_to Polls c) (map row_of f1) b.placements).flows
     → e.placements ≡ place_requests d.span c rs d.placements
-    → (e.placements ≡ (fill_span t a.span ack).placements) × (map row_of f2 ≡ (fill_span t a.span ack).flows)
+    → (e.placements ≡ (fill_span t a.span ack).placements) × (map row_of f2 ≡ timed (fill_span t a.span ack).flows)
 parts_filled t ack c a b d e f0 f1 f2 rs of empty same1 same2 placed1 flows1 placed2 flows2 placed3 =
     let grants : pass a.span (given_to Grants c) (map row_of f0) a.placements ≡ pass a.span (given_to Grants c) (map row_of f0) [] = ap (λ (ps : List Placement). pass a.span (given_to Grants c) (map row_of f0) ps) empty in
     let polls : pass b.span (given_to Polls c) (map row_of f1) b.placements ≡ pass a.span (given_to Polls c) (map row_of f1) b.placements = ap (λ (s : Extent). pass s (given_to Polls c) (map row_of f1) b.placements) same1 in

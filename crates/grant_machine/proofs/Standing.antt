@@ -15,7 +15,7 @@ use Rattle.grant_machine.specs.declared.command.Command.{Command}
 use Rattle.grant_machine.specs.declared.command.Command.TheVariants as commands
 use Rattle.grant_machine_parts.specs.declared.placing.Placement.{Placement}
 use Rattle.grant_machine_parts.specs.declared.due_times.Periodic.{Periodic}
-use Rattle.grant_machine_parts.specs.Cutting.{grants_of_kind, polls_of_kind, grants_of_flow, polls_of_flow, run_flow, pass, fill, table_after, span_of}
+use Rattle.grant_machine_parts.specs.Cutting.{grants_of_kind, polls_of_kind, grants_of_flow, polls_of_flow, run_flow, pass, fill, fill_span, table_after, span_of}
 use Rattle.grant_machine.specs.Steps.{step, step_on, refusal_of, accepted, cut_on}
 use Rattle.grant_machine.specs.Runs.{rows_from, IsReached}
 use Rattle.flow_state.proofs.Callers.{changed, same_id, KeepsId}
@@ -82,6 +82,11 @@ polls_idle c f span ps h = by f.kind h
 pass_idle : (span : Extent) (what : FlowRow → Option Periodic) (fs : List FlowRow) (ps : List Placement) → AsksIdle what → AllByRecursion IsIdle fs → AllByRecursion IsIdle (pass span what fs ps).flows
 pass_idle span what [] ps asks all = tt
 pass_idle span what (f ∷ fs) ps asks all = (asks f span ps all.0, pass_idle span what fs (run_flow span (what f) f.index ps).placements asks all.1)
+
+pub fill_idle : (t : Table) (span : Extent) (ack : ℕ) → AreIdle t → AllByRecursion IsIdle (fill_span t span ack).flows
+fill_idle t span ack all =
+    let first = pass span (grants_of_flow t.row.channel) t.flows [] in
+    pass_idle span (polls_of_flow t.row.channel) first.flows first.placements (polls_idle t.row.channel) (pass_idle span (grants_of_flow t.row.channel) t.flows [] (grants_idle t.row.channel) all)
 
 idle_kept : Kept AreIdle
 idle_kept = record {

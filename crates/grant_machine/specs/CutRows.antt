@@ -1,8 +1,10 @@
 -- What a cut reads of the rows and writes back.
-use Rattle.std.specs.Prelude.{◌≡◌, ℕ, Bool, if◌then◌else◌, List, [], ◌∷◌, map, Option, Some, None}
-use Rattle.std.specs.List.{list_any}
+use Rattle.std.specs.Prelude.{◌≡◌, ℕ, Bool, true, false, if◌then◌else◌, List, [], ◌∷◌, map, Option, Some, None}
+use Rattle.std.specs.List.{list_any, filter}
 use Rattle.flow_state.specs.declared.channel.Channel.{Channel}
 use Rattle.flow_state.specs.declared.flow.Flow.{Flow}
+use Rattle.flow_state.specs.declared.flow.FlowKind.{FlowKind}
+use Rattle.flow_state.specs.declared.flow.FlowKind.TheVariants.{BestEffort, Ugs, Poll}
 use Rattle.flow_state.specs.declared.flow.Waiting.{Waiting}
 use Rattle.flow_state.specs.Rows.{Rows, Table, FlowRow, lent_flow}
 use Rattle.flow_state.specs.Changes.{with_due, without_waiting, flow_row}
@@ -10,6 +12,15 @@ use Rattle.grant_machine_parts.specs.Cutting.{flow_priority, is_grant_of, in_ord
 use Rattle.grant_machine_parts.specs.declared.waiting.Ranked.{Ranked}
 use Rattle.grant_machine_parts.specs.declared.placing.Placement.{Placement}
 use Rattle.grant_machine_parts.specs.Lent.{row_of}
+
+-- something comes by itself for a flow of this kind
+abbrev pub is_timed : FlowKind → Bool
+is_timed (BestEffort priority) = false
+is_timed (Ugs size interval jitter base) = true
+is_timed (Poll interval jitter base) = true
+
+abbrev pub timed : List FlowRow → List FlowRow
+timed fs = filter (λ f. is_timed f.kind) fs
 
 -- a channel's flows as they are lent, and its waiting requests
 abbrev pub flows_on : Option Table → List Flow
@@ -41,8 +52,8 @@ requests_taken rows ch ps (w ∷ ws) = requests_taken (without_if (list_any (is_
 abbrev pub IsOfKind : Rows → ℕ → Flow → Type 0
 IsOfKind rows ch f = (row : FlowRow) → flow_row rows ch f.sid ≡ Some row → row.kind ≡ f.kind
 
--- the channel, its flows as they are lent and its requests by priority are the table's
+-- the channel, its timed flows as they are lent and its requests by priority are the table's
 pub record IsOfTable (t : Table) (c : Channel) (flows : List Flow) (requests : List Waiting) : Type 0 where
   pub channel : t.row.channel ≡ c
-  pub flows_are : map row_of flows ≡ t.flows
+  pub flows_are : map row_of flows ≡ timed t.flows
   pub requests_are : requests ≡ in_order t t.waiting

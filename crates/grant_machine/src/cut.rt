@@ -14,17 +14,19 @@ ghost use Rattle.grant_machine.specs.Steps.{step, refusal_of};
 ghost use Rattle.grant_machine.specs.Fits.{FitsCommand};
 ghost use Rattle.grant_machine.specs.Runs.{IsReached};
 ghost use Rattle.grant_machine_parts.specs.Lent.{row_of, IsLent, IsUnicast};
-ghost use Rattle.grant_machine.specs.CutRows.{IsOfTable, IsOfKind, due_times_set, requests_taken};
+ghost use Rattle.grant_machine.specs.CutRows.{IsOfTable, IsOfKind, timed, due_times_set, requests_taken};
 ghost use Rattle.grant_machine.specs.Plans.{IsFilledBy, elements_in};
 
 use crate::output::{MapBytes, Output};
-use crate::rows::{copy_flows, copy_requests, rank_requests, set_due_times, take_granted};
+use crate::rows::{
+    copy_flows, copy_requests, keep_timed, rank_requests, set_due_times, take_granted,
+};
 use flow_state::{Channel, ChannelRow, Flow, Flows, LAST_TIME, MOST_MINISLOTS, Refusal, Waiting};
 use grant_machine_parts::{Filling, Service, by_priority, drawing, place_requests, serve};
 use minislot_time::Slot;
 use std::alloc::{AllocError, Global};
 
-/// A channel's next MAP, filled; its flows with their next due times; its requests by arrival, and
+/// A channel's next MAP, filled; its timed flows with their next due times; its requests by arrival, and
 /// by priority.
 #[derive(Drop)]
 pub struct Filled {
@@ -59,7 +61,7 @@ fn place_all(
     requires unicast { AllByRecursion IsUnicast requests.now }
     ensures span { filling.new.span ≡ filling.old.span }
     ensures placed { OnOk result ((t : Table) (ack : ℕ) → IsOfTable t channel.now flows.old requests.now → filling.new.placements ≡ (fill_span t filling.old.span ack).placements) }
-    ensures flows { OnOk result ((t : Table) (ack : ℕ) → IsOfTable t channel.now flows.old requests.now → map row_of flows.new ≡ (fill_span t filling.old.span ack).flows) }
+    ensures flows { OnOk result ((t : Table) (ack : ℕ) → IsOfTable t channel.now flows.old requests.now → map row_of flows.new ≡ timed (fill_span t filling.old.span ack).flows) }
     ensures lent { OnOk result (AllByRecursion IsLent flows.new) }
 {
     serve(Service::Grants, channel, filling, flows)?;
@@ -84,6 +86,7 @@ fn fill(
     ensures { IfOk result (λ filled. (t : Table) → table_of flows.now ch ≡ Some t → IsFilledBy t (record { start = start; len = len }) filled) }
 {
     let mut served = copy_flows(alloc, flows, ch)?;
+    keep_timed(&mut served);
     let waiting = copy_requests(alloc, flows, ch)?;
     let ranked = rank_requests(alloc, flows, ch, &waiting)?;
     let requests = by_priority(alloc, &ranked)?;

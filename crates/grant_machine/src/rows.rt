@@ -1,13 +1,13 @@
 //! What a cut reads of the rows, and writes back.
 
 ghost use Rattle.std.specs.Prelude.{◌≡◌, map, IfOk};
-ghost use Rattle.std.specs.List.{AllByRecursion};
+ghost use Rattle.std.specs.List.{AllByRecursion, filter};
 ghost use Rattle.flow_state.specs.Limits.{due_time, due_index};
 ghost use Rattle.flow_state.specs.Rows.{table_of};
 ghost use Rattle.grant_machine_parts.specs.Lent.{IsLent};
-ghost use Rattle.grant_machine.specs.CutRows.{flows_on, requests_on, ranked_on, due_times_set, requests_taken, IsOfKind};
+ghost use Rattle.grant_machine.specs.CutRows.{is_timed, flows_on, requests_on, ranked_on, due_times_set, requests_taken, IsOfKind};
 
-use flow_state::{Flow, Flows, Waiting};
+use flow_state::{Flow, FlowKind, Flows, Waiting};
 use grant_machine_parts::{Placement, Ranked, is_granted, kind_priority};
 use std::alloc::{AllocError, Global};
 
@@ -20,6 +20,24 @@ pub fn copy_flows(alloc: Global, flows: &Flows, ch: u8) -> Result<Vec<Flow>, All
         copied.push(*flow)?;
     }
     Ok(copied)
+}
+
+/// Does something come by itself for a flow of this kind?
+fn is_timed(kind: FlowKind) -> bool
+    ensures { result ≡ is_timed kind }
+{
+    match kind {
+        FlowKind::BestEffort(_) => false,
+        FlowKind::Ugs { .. } => true,
+        FlowKind::Poll { .. } => true,
+    }
+}
+
+/// Lets go of the best-effort flows.
+pub fn keep_timed(flows: &mut Vec<Flow>)
+    ensures { flows.new.items ≡ filter (λ f. is_timed f.kind) flows.old.items }
+{
+    flows.retain(|flow| is_timed(flow.kind));
 }
 
 /// The waiting requests of a channel, by arrival.
