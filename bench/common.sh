@@ -31,21 +31,16 @@ closure() {
         END { count = split(tops, top, " "); for (k = 1; k <= count; k++) add(top[k]) }' "$root/crates.txt"
 }
 
-# run_over NAME DEP.. [-- WORD..]: proves and runs bench/NAME/main.rt.in over these crates and libraries, in a workspace of
-# its own, with these words.
+# run_over NAME DEP..: proves and runs bench/NAME/main.rt.in over these crates and libraries, in a workspace of its own.
 run_over() {
-    local bench=${1}_bench source=$root/bench/$1/main.rt.in crate deps=()
+    local bench=${1}_bench source=$root/bench/$1/main.rt.in crate
     shift
-    while [ $# -gt 0 ] && [ "$1" != -- ]; do
-        deps+=("$1")
-        shift
-    done
     mkdir -p "$made/crates/$bench/src"
     cp "$source" "$made/crates/$bench/src/main.rt"
-    for crate in $(closure "${deps[@]}"); do
+    for crate in $(closure "$@"); do
         cp -r "$root/crates/$crate" "$made/crates"
         grep -E "^$crate:" "$root/crates.txt" >>"$made/crates.txt"
     done
-    echo "$bench: ${deps[*]}" >>"$made/crates.txt"
-    (cd "$made/crates/$bench" && rt run --jobs 1 "$@")
+    echo "$bench: $*" >>"$made/crates.txt"
+    (cd "$made/crates/$bench" && rt run --jobs 1)
 }
