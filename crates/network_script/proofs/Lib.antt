@@ -1,3 +1,4 @@
+pub mod Callers
 mod Lists
 mod Rows
 mod Invariant

@@ -51,6 +51,13 @@ impl<N: Node> Seat<N> {
         self.up
     }
 
+    /// The node.
+    pub fn node(&self) -> &N
+        ensures { result.now ≡ node_of self.now }
+    {
+        &self.node
+    }
+
     /// The node is asked to lead. It crashes where it lacks memory or its store fails.
     pub fn lead(&mut self) -> Result<Vec<Letter>, NodeFault>
         requires { is_up self.old ≡ true }

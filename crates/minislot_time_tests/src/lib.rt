@@ -1,5 +1,0 @@
-//! Tests of times and of stretches of minislots, by their public calls.
-#![tactic(auto)]
-
-#[cfg(test)]
-mod times;

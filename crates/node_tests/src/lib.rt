@@ -1,5 +1,0 @@
-//! Tests of nodes over records in memory, by their public calls.
-#![tactic(auto)]
-
-#[cfg(test)]
-mod clusters;

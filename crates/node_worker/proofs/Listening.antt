@@ -1,0 +1,111 @@
+-- What modems have listened to stays so where more was released.
+use Rattle.std.proofs.Common.{◌≡◌, ℕ, zero, suc, ◌<◌, ◌+◌, Some, get_or, take, drop, List, [], ◌∷◌, ◌++◌, length, length-append, map, Option, refl, sym, ap, subst, ◌∙◌, arith, slice_get}
+use Rattle.modem.specs.State.{State}
+use Rattle.network_script_parts.specs.declared.event.Event.{Event}
+use Rattle.network_script_parts.specs.declared.event.Event.TheVariants as event
+use Rattle.network_script_parts.specs.declared.event.Answer.{Answer}
+use Rattle.network_script_parts.specs.declared.event.ReleasedOutput.{ReleasedOutput}
+use Rattle.network_script_parts.specs.declared.event.Transmission.{Transmission}
+use Rattle.network_script.specs.World.{released_by}
+use Rattle.network_script_parts.specs.Receiver.{Receiver, new_receiver}
+use Rattle.network_script_parts.specs.Modems.{ModemNext, OfModem, Listens as ListensTo}
+use Rattle.network_script_parts.specs.Receiving.{AreReceivers}
+use Rattle.node_worker.specs.Legal.{outputs_of}
+use Rattle.node_worker.specs.Runs.{IsOfModem, IsOutputAt, Listens, HaveListened, sent_by}
+use Rattle.node_worker.specs.declared.entry.Done.{Done}
+use Rattle.std.proofs.lemmas.Grind.{flat_map-append}
+use Rattle.std.proofs.lemmas.List.{append-nil, take_more}
+use Rattle.std.proofs.Math.Seq.{split_at}
+use Rattle.map_release.specs.declared.numbered.Numbered.{Numbered}
+
+slice_get_front : {A : Type 0} (ys zs : List A) (k : ℕ) → k < length ys → slice_get (ys ++ zs) k ≡ slice_get ys k
+slice_get_front [] zs k within = absurd (omega arith)
+slice_get_front (y ∷ ys) zs zero within = refl
+slice_get_front (y ∷ ys) zs (suc k) within = slice_get_front ys zs k (omega arith)
+
+-- a modem's event is the same where more was released
+step_more : (xs ys : List ReleasedOutput) (rs mid : List Receiver) (e : Event) (told : Answer) → IsOfModem (length xs) e → ModemNext rs xs e told mid → IsOfModem (length (xs ++ ys)) e × ModemNext rs (xs ++ ys) e told mid
+step_more xs ys rs mid (event.Hear m i near) told within next =
+    (omega (arith, within, length-append xs ys), subst (λ (o : Option ReleasedOutput). OfModem rs m (slice_get rs m) (λ r. ListensTo r o near) told mid) (sym (slice_get_front xs ys i within)) next)
+step_more xs ys rs mid (event.Want m ch sid n) told within next = (tt, next)
+step_more xs ys rs mid (event.Tick m ch slot random) told within next = (tt, next)
+step_more xs ys rs mid other told never next = absurd never
+
+listens_more : (xs ys : List ReleasedOutput) (rs rs' : List Receiver) (events : List Event) (answers : List Answer) → Listens xs rs events answers rs' → Listens (xs ++ ys) rs events answers rs'
+listens_more xs ys rs rs' [] [] same = same
+listens_more xs ys rs rs' (e ∷ events) (told ∷ answers) (within, mid, next, rest) =
+    let step = step_more xs ys rs mid e told within next in
+    (step.0, mid, step.1, listens_more xs ys mid rs' events answers rest)
+listens_more xs ys rs rs' [] (told ∷ answers) never = absurd never
+listens_more xs ys rs rs' (e ∷ events) [] never = absurd never
+
+pub listened_more : (ids : List ℕ) (records more : List Done) (modems : List State) (sent : List Transmission) → HaveListened ids (outputs_of records) modems sent → HaveListened ids (outputs_of (records ++ more)) modems sent
+listened_more ids records more modems sent told = record {
+  events = told.events;
+  answers = told.answers;
+  receivers = told.receivers;
+  listened = subst (λ (xs : List ReleasedOutput). Listens xs (map new_receiver ids) told.events told.answers told.receivers) (sym (flat_map-append _ records more)) (listens_more (outputs_of records) (outputs_of more) (map new_receiver ids) told.receivers told.events told.answers told.listened);
+  hold = told.hold;
+  sends = told.sends;
+}
+
+listens_on : (xs : List ReleasedOutput) (rs mid rs' : List Receiver) (events : List Event) (answers : List Answer) (e : Event) (told : Answer)
+    → Listens xs rs events answers mid → IsOfModem (length xs) e → ModemNext mid xs e told rs' → Listens xs rs (events ++ e ∷ []) (answers ++ told ∷ []) rs'
+listens_on xs rs mid rs' [] [] e told same within next = (within, rs', subst (λ (r : List Receiver). ModemNext r xs e told rs') same next, refl)
+listens_on xs rs mid rs' (f ∷ events) (answer ∷ answers) e told (first, there, step, rest) within next = (first, there, step, listens_on xs there mid rs' events answers e told rest within next)
+listens_on xs rs mid rs' [] (answer ∷ answers) e told never within next = absurd never
+listens_on xs rs mid rs' (f ∷ events) [] e told never within next = absurd never
+
+-- one more event of a modem
+pub listened_on : (ids : List ℕ) (xs : List ReleasedOutput) (old new : List State) (sent : List Transmission) (e : Event) (told : Answer) → (was : HaveListened ids xs old sent) → IsOfModem (length xs) e
+    → ((rs : List Receiver) → AreReceivers old rs → (after : List Receiver) × ModemNext rs xs e told after × AreReceivers new after)
+    → HaveListened ids xs new (sent_by (was.events ++ e ∷ []) (was.answers ++ told ∷ []))
+listened_on ids xs old new sent e told was within goes =
+    let next = goes was.receivers was.hold in
+    record { events = was.events ++ e ∷ []; answers = was.answers ++ told ∷ []; receivers = next.0; listened = listens_on xs (map new_receiver ids) was.receivers next.0 was.events was.answers e told was.listened within next.1; hold = next.2; sends = refl }
+
+length-released_by : (k : ℕ) (xs : List Numbered) → length (released_by k xs) ≡ length xs
+length-released_by k [] = refl
+length-released_by k (x ∷ xs) = ap suc (length-released_by k xs)
+
+released_at : (k : ℕ) (xs : List Numbered) (i : ℕ) (x : Numbered) → i < length xs → x ≡ get_or xs i x → slice_get (released_by k xs) i ≡ Some (record { node = k; numbered = x })
+released_at k [] i x within is = absurd (omega arith)
+released_at k (y ∷ xs) zero x within is = ap (λ z. Some (record { node = k; numbered = z })) (sym is)
+released_at k (y ∷ xs) (suc i) x within is = released_at k xs i x (omega arith) is
+
+slice_get_from : {A : Type 0} (xs ys : List A) (k i : ℕ) → length xs + k ≡ i → slice_get (xs ++ ys) i ≡ slice_get ys k
+slice_get_from [] ys k i e = ap (slice_get ys) (omega arith)
+slice_get_from (x ∷ xs) ys k zero e = absurd (omega arith)
+slice_get_from (x ∷ xs) ys k (suc i) e = slice_get_from xs ys k i (omega arith)
+
+outputs_of-append : (xs ys : List Done) → outputs_of (xs ++ ys) ≡ outputs_of xs ++ outputs_of ys
+outputs_of-append xs ys = flat_map-append (λ (d : Done). released_by d.node d.entry.outputs) xs ys
+
+-- output number i of all is the one at this place of record j
+pub output_of :
+    (records : List Done) (j left i : ℕ) (r : Done) (x : Numbered)
+    → j < length records → r ≡ get_or records j r → length (outputs_of (take j records)) + left ≡ i → left < length r.entry.outputs → x ≡ get_or r.entry.outputs left x
+    → IsOutputAt records i x.output
+output_of records j left i r x within at counted short is =
+    let P : Done → Type 0 = λ d. records ≡ take j records ++ d ∷ drop (suc j) records in
+    let cut : records ≡ take j records ++ r ∷ drop (suc j) records = subst P (sym at) (split_at records j r within) in
+    let mine : List ReleasedOutput = released_by r.node r.entry.outputs in
+    let later : List ReleasedOutput = outputs_of (drop (suc j) records) in
+    let parts : outputs_of records ≡ outputs_of (take j records) ++ (mine ++ later) =
+    ap outputs_of cut ∙ outputs_of-append (take j records) (r ∷ drop (suc j) records) in (
+      record { node = r.node; numbered = x },
+      ap (λ xs. slice_get xs i) parts
+          ∙ (slice_get_from (outputs_of (take j records)) (mine ++ later) left i counted
+          ∙ (slice_get_front mine later left (omega (arith, length-released_by r.node r.entry.outputs))
+          ∙ released_at r.node r.entry.outputs left x short is)),
+      refl,
+    )
+
+-- one record more
+pub outputs_more : (records : List Done) (j : ℕ) (r : Done) → j < length records → r ≡ get_or records j r → length (outputs_of (take (j + 1) records)) ≡ length (outputs_of (take j records)) + length r.entry.outputs
+outputs_more records j r within at =
+    let mine : List ReleasedOutput = released_by r.node r.entry.outputs in
+    let P : Done → Type 0 = λ d. take (j + 1) records ≡ take j records ++ d ∷ [] in
+    let parts : outputs_of (take (j + 1) records) ≡ outputs_of (take j records) ++ (mine ++ []) =
+    ap outputs_of (subst P (sym at) (take_more records j r within)) ∙ outputs_of-append (take j records) (r ∷ []) in
+    ap length parts ∙ (length-append (outputs_of (take j records)) (mine ++ []) ∙ ap (λ n. length (outputs_of (take j records)) + n) (ap length (append-nil mine) ∙ length-released_by r.node r.entry.outputs))

@@ -1,0 +1,11 @@
+use Rattle.std.proofs.Common.{subst}
+use Rattle.ballots.specs.Members.{member_count}
+use Rattle.node_worker.specs.PlantView.{PlantView}
+use Rattle.node_worker.specs.Runs.{IsLegal}
+use Rattle.node_worker.proofs.Played.{sound_is_legal}
+use Rattle.node_worker.proofs.plant.Plant.records.Goals as goal
+
+pub returns-clause-legal : goal.returns-clause-legal
+returns-clause-legal g c = λ trusted.
+    let P : PlantView → Type 0 = λ p. IsLegal p.members p.records p.modems in
+    subst P c.self.view_is (sound_is_legal (member_count c.self.inside.members) c.self.inside.records.items c.self.inside.modems.items (c.self.invariant.1 trusted) c.self.invariant.2)

@@ -1,0 +1,126 @@
+//! A node with all that it did.
+
+ghost use Rattle.std.specs.Prelude.{◌≡◌, ◌↔◌, [], ◌∷◌, ◌++◌, length, IsTrue, IfOk, IfErr, OnErr, IsOk, true, ◌≤◌, ◌<◌, false};
+ghost use Rattle.acceptor.specs.Faults.{HasRisen};
+ghost use Rattle.ballots.specs.Members.{member_count};
+ghost use Rattle.network_script_parts.specs.Seat.{Shown};
+ghost use Rattle.node_worker.specs.declared.entry.Ended.TheVariants.{FailedEither};
+ghost use Rattle.node_worker.specs.KeptView.{AreTrusted, IsReplay, IsStepOf, SameNode};
+ghost use Rattle.node_worker.specs.Replays.{IsKept, opening};
+
+use crate::acting::act;
+use crate::entry::{Cause, Done, Entry};
+use ballots::{Members, NodeId};
+use network_script_parts::{OutOfMemory, Seat};
+use node::Node;
+use std::alloc::Global;
+use std::marker::Model;
+
+/// Why no work was done.
+#[derive(Clone, Copy, Debug, PartialEq, Eq)]
+pub enum WorkFault {
+    /// There are as many entries as the quota.
+    Full = 1,
+    OutOfMemory = 2,
+}
+
+/// A node and its entries, at most its quota.
+#[derive(Drop)]
+pub struct Kept<N: Node> {
+    alloc: Global,
+    seat: Seat<N>,
+    quota: usize,
+    entries: Vec<Entry>,
+}
+
+impl<N: Node> Model for Kept<N> {
+    ghost use Rattle.node_worker.specs.KeptView.{KeptView};
+
+    ghost Value = { KeptView };
+
+    ghost use Rattle.std.specs.Prelude.{IsTrue, ◌≤◌, vec_len};
+    ghost use Rattle.network_script_parts.specs.Occupant.{Stands, IsHonest, is_up, node_of, who_of};
+    ghost use Rattle.node_worker.specs.Replays.{IsKept};
+
+    ghost view = { λ k. record { node = (who_of k.seat).id; members = (who_of k.seat).members; quota = k.quota; entries = k.entries.items; up = is_up k.seat; failures = (who_of k.seat).failures; honest = N.honest (node_of k.seat) } };
+
+    ghost invariant = { λ k. (vec_len k.entries ≤ k.quota) × (IsHonest k.seat → IsKept (who_of k.seat).members (who_of k.seat).id (Stands k.seat) k.entries.items) };
+}
+
+impl<N: Node> Kept<N> {
+    /// A fresh node, with nothing done, that may do `quota` things.
+    pub fn new(alloc: Global, node: N, quota: usize) -> Result<Kept<N>, OutOfMemory>
+        requires fresh { IsTrue (N.honest node) → N.stands node opening }
+        requires up { (N.who node).down ≡ false }
+        ensures { IfOk result (λ k. k ≡ record { node = (N.who node).id; members = (N.who node).members; quota = quota; entries = []; up = true; failures = (N.who node).failures; honest = N.honest node }) }
+    {
+        let entries = Vec::with_capacity(alloc, quota)?;
+        Ok(Kept {
+            alloc,
+            seat: Seat::new(node),
+            quota,
+            entries,
+        })
+    }
+
+    /// The node's number.
+    pub fn id(&self) -> NodeId
+        ensures { result ≡ self.now.node }
+    {
+        self.seat.node().id()
+    }
+
+    /// The node. It stands where its entries bring a fresh one, one that is down with its content alone.
+    pub fn node(&self) -> &N
+        ensures { IsTrue (N.honest result.now) → IsKept (N.who result.now).members (N.who result.now).id (Shown self.now.up (N.stands result.now)) self.now.entries }
+    {
+        self.seat.node()
+    }
+
+    /// The members.
+    pub fn members(&self) -> Members
+        ensures { member_count result ≡ self.now.members }
+    {
+        self.seat.node().members()
+    }
+
+    /// What was done so far, in order.
+    pub fn entries(&self) -> &[Entry]
+        ensures entries { result.now ≡ self.now.entries }
+        ensures replay { IsReplay self.now }
+        ensures quota { length self.now.entries ≤ self.now.quota }
+        ensures trusted { AreTrusted N.honest → IsTrue self.now.honest }
+    {
+        self.entries.as_slice()
+    }
+
+    /// Has the node do one thing, and keeps what came of it. Nothing is done where there is no room, or no memory
+    /// to tell of it.
+    pub fn work(&mut self, cause: Cause) -> Result<Done, WorkFault>
+        ensures same { SameNode self.old self.new }
+        ensures honest { IsTrue self.new.honest → IsTrue self.old.honest }
+        ensures done { IfOk result (λ d. (d.node ≡ self.old.node) × (d.entry.cause ≡ cause) × (self.new.entries ≡ self.old.entries ++ d.entry ∷ [])) }
+        ensures step { IfOk result (λ d. IsTrue self.new.honest → IsStepOf self.old d.entry) }
+        ensures rose { IfOk result (λ d. d.entry.ended ≡ FailedEither → HasRisen self.old.failures self.new.failures) }
+        ensures full { IfErr result (λ e. e ≡ WorkFault.Full ↔ length self.old.entries ≡ self.old.quota) }
+        ensures room { IsOk result → length self.old.entries < self.old.quota }
+        ensures err { OnErr result (self.new ≡ self.old) }
+    {
+        if self.entries.len() >= self.quota {
+            return Err(WorkFault::Full);
+        }
+        let Ok(copy) = cause.copy(self.alloc) else {
+            return Err(WorkFault::OutOfMemory);
+        };
+        if self.entries.reserve(1).is_err() {
+            return Err(WorkFault::OutOfMemory);
+        }
+        let (kept, told) = act(self.alloc, &mut self.seat, &cause);
+        let node = self.seat.node().id();
+        self.entries.push_reserved(kept.with(cause));
+        Ok(Done {
+            node,
+            entry: told.with(copy),
+        })
+    }
+}

@@ -1,0 +1,12 @@
+//! Tests of ballots and letters, of records, of nodes and of worlds, by the public calls of `ballots`, `acceptor`,
+//! `node`, `network_script_parts` and `network_script`. What scripts print stands as data in examples/.
+#![tactic(auto)]
+
+#[cfg(test)]
+mod clusters;
+#[cfg(test)]
+mod letters;
+#[cfg(test)]
+mod records;
+#[cfg(test)]
+mod worlds;
