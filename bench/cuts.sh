@@ -1,5 +1,5 @@
 #!/usr/bin/env bash
-# Times the proved program on made plans of cuts: commands a second of processor time and peak memory of each, and how
+# Times the proved program on made plans of cuts: commands a second and peak memory of each, and how
 # much longer a command takes in the longest plan than in the shortest (at most 1.5 is wanted).
 #
 # Kinds of plans (bench/plans.py says what each holds), of 1,000, 10,000 and 100,000 commands:

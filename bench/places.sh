@@ -1,5 +1,5 @@
 #!/usr/bin/env bash
-# Times the proved program on made scripts over many places of the log: events a second of processor time and peak memory
+# Times the proved program on made scripts over many places of the log: events a second and peak memory
 # of each, and how much longer an event takes in the longest script than in the shortest (at most 1.5 is wanted).
 #
 # Kinds of scripts (bench/scripts.py says what each holds), of about 1,000, 10,000 and 100,000 events:

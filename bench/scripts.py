@@ -58,7 +58,7 @@ def leads(count):
 
 
 def prepares(count):
-    """Values that node 0 learns, then Prepares from place 1 on: each is answered with Known of 64 places."""
+    """Values that node 2 learns and never voted for, then Prepares from place 1 on: each is answered with Known of 64 places."""
     script = Script()
     script.lead(0)
     learned = count // 6
@@ -66,10 +66,10 @@ def prepares(count):
         accepts = script.offer(0)
         votes = [script.event("deliver", 3, letter=accepts + to) for to in (0, 1)]
         for letter in votes:
-            script.event("deliver", 0, letter=letter)
+            script.event("deliver", 0, letter=letter + 2)
     for _ in range(count // 60):
         letters = script.event("lead", 3, node=1)
-        script.event("deliver", min(64, learned) + 1, letter=letters)
+        script.event("deliver", min(64, learned) + 1, letter=letters + 2)
 
 
 def takeover(count):

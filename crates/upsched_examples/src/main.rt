@@ -1,8 +1,8 @@
 //! Runs each example of the folders below as the program would, and tells which prints anything
-//! but what stands beside it: `NAME.stdout` where all goes well, `NAME.stderr` where it faults.
+//! but what stands beside it: `NAME.stdout` where all goes well, `NAME.stderr` where it faults. Scripts
+//! run a second time with `--store`.
 #![tactic(auto)]
 
-use log::Log;
 use std::io::Write;
 use std::path::AsPath;
 use std::process::ExitCode;
@@ -69,12 +69,16 @@ fn last_word<R: Files + AllocGlobal>(rt: &R, command: &str, path: &str) -> io::R
     Ok(String::from_str(rt.alloc(), digits.trim_end())?)
 }
 
-/// What the program does with an example.
-fn run_of<R: Files + Log + AllocGlobal>(rt: &R, command: &str, path: &str) -> io::Result<Run> {
+/// What the program does with an example, and with a folder for the records of its nodes where one is named.
+fn run_of(rt: &HostRuntime, command: &str, path: &str, store: Option<&str>) -> io::Result<Run> {
     let mut words = Vec::new(rt.alloc());
     words.push(String::from_str(rt.alloc(), "upsched")?)?;
     words.push(String::from_str(rt.alloc(), command)?)?;
     words.push(last_word(rt, command, path)?)?;
+    if let Some(folder) = store {
+        words.push(String::from_str(rt.alloc(), "--store")?)?;
+        words.push(String::from_str(rt.alloc(), folder)?)?;
+    }
     let mut output = Vec::new(rt.alloc());
     let mut errors = Vec::new(rt.alloc());
     let status = run_words(rt, words.as_slice(), &mut output, &mut errors);
@@ -111,14 +115,14 @@ fn are_same(run: &Run, wanted: &Run) -> bool {
 
 /// Whether the example of this path without its ending prints what stands beside it. It is told
 /// where it doesn't.
-fn agrees<R: Files + Log + AllocGlobal, O: Write>(
-    rt: &R,
+fn agrees<O: Write>(
+    rt: &HostRuntime,
     command: &str,
     path: &str,
     stem: &str,
     output: &mut O,
 ) -> io::Result<bool> {
-    let run = run_of(rt, command, path)?;
+    let run = run_of(rt, command, path, None)?;
     if are_same(&run, &wanted(rt, stem)?) {
         return Ok(true);
     }
@@ -126,12 +130,79 @@ fn agrees<R: Files + Log + AllocGlobal, O: Write>(
     Ok(false)
 }
 
-/// Whether a folder has examples and all of them agree.
-fn run_folder<R: Files + Log + AllocGlobal + Clone + Drop, O: Write>(
-    rt: &R,
-    folder: Folder,
+/// Whether a script prints the same where its nodes keep their records in a new folder.
+fn agrees_stored<O: Write>(
+    rt: &HostRuntime,
+    path: &str,
+    stem: &str,
     output: &mut O,
 ) -> io::Result<bool> {
+    let folder = format!(in rt.alloc(); "{stem}.store")?;
+    fs::create_dir(rt, folder.as_str())?;
+    let run = run_of(rt, "run", path, Some(folder.as_str()))?;
+    if are_same(&run, &wanted(rt, stem)?) {
+        return Ok(true);
+    }
+    writeln!(output, "{path} with --store prints something else: {run:?}")?;
+    Ok(false)
+}
+
+/// Whether the one script is refused so with this folder.
+fn is_refused<O: Write>(
+    rt: &HostRuntime,
+    folder: &str,
+    line: &str,
+    output: &mut O,
+) -> io::Result<bool> {
+    let run = run_of(rt, "run", "scripts/one_leader.toml", Some(folder))?;
+    if run.status == Status::Faulted
+        && run.output.is_empty()
+        && run.errors.as_slice() == line.as_bytes()
+    {
+        return Ok(true);
+    }
+    writeln!(output, "--store {folder} prints something else: {run:?}")?;
+    Ok(false)
+}
+
+/// A folder with a file that is no database.
+fn make_strange_folder(rt: &HostRuntime, folder: &str) -> io::Result<()> {
+    fs::create_dir(rt, folder)?;
+    let path = format!(in rt.alloc(); "{folder}/node-1.db")?;
+    fs::write(rt, path.as_str(), b"no database")
+}
+
+/// Whether a folder has so many names.
+fn has_so_many(rt: &HostRuntime, folder: &str, count: usize) -> io::Result<bool> {
+    let mut found = 0usize;
+    for entry in fs::read_dir(rt, folder)? {
+        let _entry = entry?;
+        found = found.saturating_add(1);
+    }
+    Ok(found == count)
+}
+
+/// Whether folders that can't be used are refused, and left as they were.
+fn refusals_agree<O: Write>(rt: &HostRuntime, output: &mut O) -> io::Result<bool> {
+    let mut agree = is_refused(
+        rt,
+        "scripts/one_leader.store",
+        "upsched: store not fresh\n",
+        output,
+    )?;
+    agree &= is_refused(rt, "no_folder", "upsched: store\n", output)?;
+    agree &= is_refused(rt, "scripts/one_leader.toml", "upsched: store\n", output)?;
+    make_strange_folder(rt, "strange.store")?;
+    agree &= is_refused(rt, "strange.store", "upsched: store\n", output)?;
+    if !has_so_many(rt, "strange.store", 1)? {
+        writeln!(output, "a refused run left files in strange.store")?;
+        agree = false;
+    }
+    Ok(agree)
+}
+
+/// Whether a folder has examples and all of them agree.
+fn run_folder<O: Write>(rt: &HostRuntime, folder: Folder, output: &mut O) -> io::Result<bool> {
     let mut has_examples = false;
     let mut all_agree = true;
     for entry in fs::read_dir(rt, folder.path)? {
@@ -141,6 +212,9 @@ fn run_folder<R: Files + Log + AllocGlobal + Clone + Drop, O: Write>(
         if let Some(stem) = path.strip_suffix(folder.ending) {
             has_examples = true;
             all_agree &= agrees(rt, folder.command, path, stem, output)?;
+            if folder.path == "scripts" {
+                all_agree &= agrees_stored(rt, path, stem, output)?;
+            }
         }
     }
     if !has_examples {
@@ -149,14 +223,12 @@ fn run_folder<R: Files + Log + AllocGlobal + Clone + Drop, O: Write>(
     Ok(has_examples && all_agree)
 }
 
-fn run_all<R: Files + Log + AllocGlobal + Clone + Drop, O: Write>(
-    rt: &R,
-    output: &mut O,
-) -> io::Result<bool> {
+fn run_all<O: Write>(rt: &HostRuntime, output: &mut O) -> io::Result<bool> {
     let mut all_agree = true;
     for folder in FOLDERS {
         all_agree &= run_folder(rt, folder, output)?;
     }
+    all_agree &= refusals_agree(rt, output)?;
     Ok(all_agree)
 }
 

@@ -1,3 +1,4 @@
+mod FreshNodes
 mod PlanFaults
 mod Printed
 mod Told

@@ -1,5 +1,5 @@
 -- What is printed of a run, one answer after another.
-use Rattle.std.proofs.Common.{◌≡◌, ℕ, ◌+◌, ◌<◌, ◌≤◌, List, [], ◌++◌, length, get_or, take, drop, Option, Some, None, IfSome, ap, subst, ◌∙◌, sym, refl, append_assoc, append-nil, add-one}
+use Rattle.std.proofs.Common.{◌≡◌, ℕ, ◌+◌, ◌<◌, ◌≤◌, List, [], ◌++◌, length, get_or, take, drop, Option, Some, None, IfSome, Result, Ok, Err, IfOk, OnOk, ap, subst, ◌∙◌, sym, refl, append_assoc, append-nil, add-one}
 use Rattle.std.proofs.lemmas.List.{drop_all, length-replicate}
 use Rattle.std.proofs.Math.Seq.{drop-cons}
 use Rattle.std.specs.Io.KnownBytes.{Appends}
@@ -16,7 +16,8 @@ use Rattle.network_script.specs.Next.{Goes, Run}
 use Rattle.network_script_parts.specs.Script.{IsScript}
 use Rattle.network_script.specs.World.{Written, opening}
 use Rattle.upsched_parts.specs.RunLines.{answer_line, answer_lines, place_lines, released_count, counts_line}
-use Rattle.upsched_parts.specs.Run.{PrintsEvents, NoScript}
+use Rattle.ballots.specs.Members.{member_count}
+use Rattle.upsched_parts.specs.Run.{PrintsEvents, PrintsScript, NoScript}
 use Rattle.upsched_parts.proofs.Printed.{appends_none, appends_both}
 
 -- some text was printed, and what is left joined to it is the whole
@@ -71,7 +72,25 @@ run_told members ids events report answers w letters outputs counted sent old mi
     let counts : Appends mid new (counts_line (length w.letters) (length w.outputs) (length w.transmissions)) = rw (is_letters, is_counted, is_sent) at last in
     (report, w, run, appends_both old mid new _ _ told counts)
 
--- a text that is read as a script isn't known to be none
-pub no_script_read : (known : Option (List ℕ)) (text read : List ℕ) (count : Members) (ids : List ℕ) (events : List Event) → NoScript known → IfSome known (λ bytes. text ≡ bytes) → read ≡ text → IsScript read count ids events → ⊥
-no_script_read None text read count ids events none same whole script = none
-no_script_read (Some bytes) text read count ids events none same whole script = none count ids events (rw (whole ∙ same) at script)
+-- lines of a run of a script that is read off a text are what the text prints
+pub script_printed : (known old new : Option (List ℕ)) (count : Members) (ids : List ℕ) (events : List Event) → IfSome known (λ text. IsScript text count ids events)
+    → PrintsEvents (member_count count) ids events old new → PrintsScript known old new
+script_printed None old new count ids events read prints = tt
+script_printed (Some text) old new count ids events read prints = (count, ids, events, read, prints)
+
+-- a text that is known to be no script is read as none
+pub no_script_read : (known : Option (List ℕ)) (count : Members) (ids : List ℕ) (events : List Event) → NoScript known → IfSome known (λ text. IsScript text count ids events) → ⊥
+no_script_read None count ids events none read = none
+no_script_read (Some text) count ids events none read = none count ids events read
+
+-- a text that is read as a script is known to be one, where it is known
+pub script_known : (known : Option (List ℕ)) (text read : List ℕ) (count : Members) (ids : List ℕ) (events : List Event) → IfSome known (λ bytes. text ≡ bytes) → read ≡ text → IsScript read count ids events
+    → IfSome known (λ bytes. IsScript bytes count ids events)
+script_known None text read count ids events same whole script = tt
+script_known (Some bytes) text read count ids events same whole script = rw (whole ∙ same) at script
+
+-- where a run went well, its script was printed
+pub plain_printed : {T E : Type 0} (r : Result T E) (known old new : Option (List ℕ)) (count : Members) (ids : List ℕ) (events : List Event) → IfSome known (λ text. IsScript text count ids events)
+    → OnOk r (PrintsEvents (member_count count) ids events old new) → OnOk r (PrintsScript known old new)
+plain_printed (Err e) known old new count ids events read prints = tt
+plain_printed (Ok x) known old new count ids events read prints = script_printed known old new count ids events read prints

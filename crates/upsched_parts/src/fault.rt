@@ -22,6 +22,12 @@ pub enum Fault<'a> {
     Body { number: u8, fault: MapFault },
     #[error("hex")]
     Hex,
+    /// The records of a node that are there aren't those of a fresh one.
+    #[error("store not fresh")]
+    StoreNotFresh,
+    /// The folder or a file of a node's records can't be used.
+    #[error("store")]
+    Store,
     #[error("memory")]
     Memory,
     #[error("output")]

@@ -5,8 +5,8 @@ use crate::fault::Fault;
 use crate::plan_run::maps;
 use crate::script_run::run_script;
 use crate::status::Status;
+use crate::stored_run::run_stored_script;
 use crate::words::{MapsWords, RunWords, Words, read_words, refused};
-use log::Log;
 use std::io::{ErrorKind, Write};
 use std::rt::{Env, Files};
 use std::{env, fs};
@@ -24,15 +24,18 @@ fn run_maps<R: Files + AllocGlobal, O: Write, E: Write>(
     }
 }
 
-/// Opens the script and ends as `run_script` does.
-fn run_run<R: Files + Log + AllocGlobal, O: Write, E: Write>(
-    rt: &R,
+/// Opens the script and ends as `run_script` does, or as `run_stored_script` where the words name a folder.
+fn run_run<O: Write, E: Write>(
+    rt: &HostRuntime,
     words: &RunWords<'_>,
     output: &mut O,
     errors: &mut E,
 ) -> Status {
     match fs::open(rt, words.script) {
-        Ok(mut script) => run_script(rt, &mut script, words, output, errors),
+        Ok(mut script) => match words.store {
+            None => run_script(rt, &mut script, words, output, errors),
+            Some(folder) => run_stored_script(rt, &mut script, words, folder, output, errors),
+        },
         Err(error) => Fault::of_reading(&error, words.script).told(errors),
     }
 }
@@ -56,8 +59,8 @@ fn given_words<R: Env + AllocGlobal, E: Write>(
 }
 
 /// Reads the words, the program's own name first, and ends as the command does that they name.
-pub fn run_words<R: Files + Log + AllocGlobal, O: Write, E: Write>(
-    rt: &R,
+pub fn run_words<O: Write, E: Write>(
+    rt: &HostRuntime,
     given: &[String],
     output: &mut O,
     errors: &mut E,
@@ -71,11 +74,7 @@ pub fn run_words<R: Files + Log + AllocGlobal, O: Write, E: Write>(
 }
 
 /// Ends as the words of the command line say.
-pub fn run<R: Env + Files + Log + AllocGlobal, O: Write, E: Write>(
-    rt: &R,
-    output: &mut O,
-    errors: &mut E,
-) -> Status {
+pub fn run<O: Write, E: Write>(rt: &HostRuntime, output: &mut O, errors: &mut E) -> Status {
     match given_words(rt, errors) {
         Ok(given) => run_words(rt, given.as_slice(), output, errors),
         Err(status) => status,

@@ -1,9 +1,10 @@
 //! `upsched run SCRIPT`: what happens to nodes and modems.
 
-ghost use Rattle.std.specs.Prelude.{◌≡◌, ◌≢◌, IfOk, OnOk, length, map};
+ghost use Rattle.std.specs.Prelude.{◌≡◌, ◌≢◌, IfOk, IfSome, OnOk, length, map};
 ghost use Rattle.ballots.specs.Members.{member_count};
 ghost use Rattle.network_script_parts.specs.Receiving.{AreNew};
 ghost use Rattle.network_script_parts.specs.Fresh.{AreFresh};
+ghost use Rattle.network_script_parts.specs.Script.{IsScript};
 ghost use Rattle.network_script.specs.Worlds.{AreHonest};
 ghost use Rattle.upsched_parts.specs.declared.status.Status.TheVariants.{Done, NotUnderstood};
 ghost use Rattle.upsched_parts.specs.Run.{NoScript, PrintsEvents, PrintsScript};
@@ -19,6 +20,7 @@ use modem::Modem;
 use network_script::World;
 use network_script_parts::{Answer, Event, Script, new_modems, plain_nodes, read_script};
 use node::Node;
+use std::alloc::Global;
 use std::io::{Read, Write};
 
 /// Logs each answer that is a node's fault or a crash.
@@ -66,8 +68,41 @@ fn print_events<'a, R: Log + AllocGlobal, N: Node, O: Write>(
     Ok(world)
 }
 
-/// What a script does is printed.
-fn print_script<'a, R: Log + AllocGlobal, O: Write>(
+/// What a script does to these fresh nodes is printed, as the lines of a run. The world is given back.
+pub fn print_script<'a, R: Log + AllocGlobal, N: Node, O: Write>(
+    rt: &R,
+    nodes: Vec<N>,
+    script: &Script,
+    verbose: bool,
+    output: &mut O,
+) -> Result<World<N>, Fault<'a>>
+    requires { AreFresh N.who N.honest N.stands nodes.items }
+    ensures { IfOk result (λ world. AreHonest world → PrintsEvents (length nodes.items) script.now.modems.items script.now.events.items
+        (O.contents output.old) (O.contents output.new)) }
+{
+    let Ok(modems) = new_modems(rt.alloc(), script.modems.as_slice()) else {
+        return Err(Fault::Memory);
+    };
+    print_events(rt, nodes, modems, script.events.as_slice(), verbose, output)
+}
+
+/// The script that a text is.
+pub fn script_of<'a, F: Read>(
+    alloc: Global,
+    text: &mut F,
+    path: &'a str,
+) -> Result<Script, Fault<'a>>
+    ensures { IfOk result (λ script. IfSome (F.remaining text.old) (λ bytes. IsScript bytes script.members script.modems.items script.events.items)) }
+{
+    let text = text_of(alloc, text, path)?;
+    match read_script(alloc, text.as_str()) {
+        Ok(script) => Ok(script),
+        Err(fault) => Err(Fault::Script(fault)),
+    }
+}
+
+/// What a script does to nodes with records in memory is printed.
+fn print_plain<'a, R: Log + AllocGlobal, O: Write>(
     rt: &R,
     script: &Script,
     verbose: bool,
@@ -79,10 +114,7 @@ fn print_script<'a, R: Log + AllocGlobal, O: Write>(
     let Ok(nodes) = plain_nodes(rt.alloc(), script.members) else {
         return Err(Fault::Memory);
     };
-    let Ok(modems) = new_modems(rt.alloc(), script.modems.as_slice()) else {
-        return Err(Fault::Memory);
-    };
-    print_events(rt, nodes, modems, script.events.as_slice(), verbose, output)?;
+    print_script(rt, nodes, script, verbose, output)?;
     Ok(())
 }
 
@@ -95,11 +127,8 @@ fn print_text<'a, R: Log + AllocGlobal, F: Read, O: Write>(
     ensures printed { OnOk result (PrintsScript (F.remaining script.old) (O.contents output.old) (O.contents output.new)) }
     ensures no_script { NoScript (F.remaining script.old) → output.new ≡ output.old }
 {
-    let text = text_of(rt.alloc(), script, words.script)?;
-    match read_script(rt.alloc(), text.as_str()) {
-        Ok(script) => print_script(rt, &script, words.verbose, output),
-        Err(fault) => Err(Fault::Script(fault)),
-    }
+    let script = script_of(rt.alloc(), script, words.script)?;
+    print_plain(rt, &script, words.verbose, output)
 }
 
 /// Runs a script over nodes with records in memory, and prints for each event its number and its

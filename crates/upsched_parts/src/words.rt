@@ -25,6 +25,8 @@ pub struct RunWords<'a> {
     pub script: &'a str,
     /// Whether the faults of nodes are logged too.
     pub verbose: bool,
+    /// The path of the folder in which the nodes keep their records, if that isn't memory.
+    pub store: Option<&'a str>,
 }
 
 /// What `show` is told.
@@ -72,9 +74,16 @@ fn run_command<'a>(alloc: Global) -> Result<Command<'a>, Error> {
         .help(
             "Also logs each fault and each crash of a node on standard error; what is printed stays the same",
         );
+    let store = Arg::new(alloc, "store")
+        .long("store")
+        .value_name("DIR")
+        .help(
+            "Keeps the records of node K in DIR/node-K.db, a SQLite database that is made if it isn't there",
+        );
     let run = Command::new(alloc, "run")
         .about("Runs a script over three or five nodes and their modems and prints its answers")
         .arg(script)?
+        .arg(store)?
         .arg(verbose)?;
     Ok(run)
 }
@@ -112,9 +121,15 @@ pub fn read_words<'a>(alloc: Global, words: &'a [String]) -> Result<Words<'a>, E
             .map(|plan| Words::Maps(MapsWords { plan })),
         Some(("run", words)) => {
             let verbose = words.get_flag("verbose");
-            words
-                .get_str("SCRIPT")
-                .map(|script| Words::Run(RunWords { script, verbose }))
+            let store = words.get_str("store");
+            match words.get_str("SCRIPT") {
+                Some(script) => Some(Words::Run(RunWords {
+                    script,
+                    verbose,
+                    store,
+                })),
+                None => None,
+            }
         }
         Some(("show", words)) => words
             .get_str("HEX")

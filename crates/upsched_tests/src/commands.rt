@@ -52,14 +52,19 @@ fn words_of_commands(rt: HostRuntime) -> Result<(), Fail> {
         matches!(read_words(alloc, given.as_slice()), Ok(Words::Show(words)) if words.hex == "00fF")
     );
     let cases = [
-        (["run", "script.toml"].as_slice(), false),
-        (["run", "script.toml", "--verbose"].as_slice(), true),
-        (["run", "--verbose", "script.toml"].as_slice(), true),
+        (["run", "script.toml"].as_slice(), false, None),
+        (["run", "script.toml", "--verbose"].as_slice(), true, None),
+        (["run", "--verbose", "script.toml"].as_slice(), true, None),
+        (
+            ["run", "script.toml", "--store", "a folder"].as_slice(),
+            false,
+            Some("a folder"),
+        ),
     ];
-    for (words, verbose) in cases {
+    for (words, verbose, store) in cases {
         let given = listed(alloc, words)?;
         assert!(rt;
-            matches!(read_words(alloc, given.as_slice()), Ok(Words::Run(words)) if words.script == "script.toml" && words.verbose == verbose)
+            matches!(read_words(alloc, given.as_slice()), Ok(Words::Run(words)) if words.script == "script.toml" && words.verbose == verbose && words.store == store)
         );
     }
     Ok(())
@@ -79,7 +84,7 @@ fn words_of_no_command(rt: HostRuntime) -> Result<(), Fail> {
             Status::NotUnderstood,
         ),
         (
-            ["run", "script.toml", "--store", "folder"].as_slice(),
+            ["run", "script.toml", "--store"].as_slice(),
             Status::NotUnderstood,
         ),
         (["live", "plan.toml"].as_slice(), Status::NotUnderstood),
@@ -130,6 +135,7 @@ fn faults_are_logged(rt: HostRuntime) {
         let words = RunWords {
             script: "script.toml",
             verbose,
+            store: None,
         };
         let mut output = Vec::new(rt.alloc());
         let mut errors = Vec::new(rt.alloc());

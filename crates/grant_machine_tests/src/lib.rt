@@ -1,5 +1,0 @@
-//! Tests of the scheduler, by its public calls.
-#![tactic(auto)]
-
-#[cfg(test)]
-mod commands;
