@@ -1,0 +1,170 @@
+use acceptor::{Accepted, Acceptor, Prepared, Records};
+use acceptor_store::{OpenFault, SqlRecords, open_files};
+use ballots::{Ballot, Bytes, Place, Value};
+use sqlite::{FileStore, Files};
+use sqlite_disk::Memory;
+use std::alloc::Global;
+use std::process::Abort;
+use std::test::Fail;
+
+fn no_files(alloc: Global) -> Files<Memory> {
+    Files {
+        log: Memory::new(alloc),
+        db: Memory::new(alloc),
+    }
+}
+
+fn fresh(alloc: Global) -> Result<SqlRecords<FileStore<Memory>>, OpenFault> {
+    open_files(alloc, no_files(alloc))
+}
+
+fn value(rt: &impl Abort, alloc: Global, byte: u8) -> Result<Value, Fail> {
+    let bytes = Vec::from_slice(alloc, &[byte])?;
+    Ok(Value::new(Bytes::new(bytes)).expect(rt, "a value"))
+}
+
+fn ballot(rt: &impl Abort, number: u64) -> Ballot {
+    Ballot::new(number).expect(rt, "a ballot")
+}
+
+fn prepare<R: Records>(
+    rt: &impl Abort,
+    alloc: Global,
+    acceptor: &mut Acceptor<R>,
+    number: u64,
+) -> Result<String, Fail> {
+    let place = Place::new(1).expect(rt, "a place");
+    let votes = match acceptor.prepare(ballot(rt, number), place)? {
+        Prepared::Higher(other) => return Ok(format!(in alloc; "higher {}", other.number())?),
+        Prepared::Promised(votes) => votes,
+    };
+    match votes.rows() {
+        [] => Ok(format!(in alloc; "promised")?),
+        [(place, cast), ..] => Ok(format!(in alloc;
+            "promised {place} {} {:?}",
+            cast.ballot.number(),
+            cast.value.as_slice()
+        )?),
+    }
+}
+
+fn accept<R: Records>(
+    rt: &impl Abort,
+    alloc: Global,
+    acceptor: &mut Acceptor<R>,
+    number: u64,
+    byte: u8,
+) -> Result<String, Fail> {
+    let place = Place::new(1).expect(rt, "a place");
+    match acceptor.accept(ballot(rt, number), place, value(rt, alloc, byte)?)? {
+        Accepted::Higher(other) => Ok(format!(in alloc; "higher {}", other.number())?),
+        Accepted::Voted(bytes) => Ok(format!(in alloc; "voted {:?}", bytes.as_slice())?),
+    }
+}
+
+fn is_answered<R: Records>(
+    rt: &impl Abort,
+    alloc: Global,
+    acceptor: &mut Acceptor<R>,
+    case: (u64, Option<u8>, &str),
+) -> Result<bool, Fail> {
+    let answer = match case.1 {
+        None => prepare(rt, alloc, acceptor, case.0)?,
+        Some(byte) => accept(rt, alloc, acceptor, case.0, byte)?,
+    };
+    Ok(answer.as_str() == case.2)
+}
+
+#[test]
+fn promises_and_votes(rt: HostRuntime) -> Result<(), Fail> {
+    let mut acceptor = Acceptor {
+        records: fresh(rt.alloc())?,
+    };
+    for case in [
+        (9, None, "promised"),
+        (9, None, "higher 9"),
+        (8, Some(b'A'), "higher 9"),
+        (17, Some(b'A'), "voted [65]"),
+        (16, None, "higher 17"),
+        (18, None, "promised 1 17 [65]"),
+        (17, Some(b'B'), "higher 18"),
+        (18, Some(b'B'), "voted [66]"),
+        (18, Some(b'C'), "voted [66]"),
+    ] {
+        assert!(rt; is_answered(&rt, rt.alloc(), &mut acceptor, case)?);
+    }
+    assert_eq!(rt; acceptor.records.failures(), 0);
+    Ok(())
+}
+
+fn number(ballot: Option<Ballot>) -> u64 {
+    match ballot {
+        Some(ballot) => ballot.number(),
+        None => 0,
+    }
+}
+
+fn write<R: Records>(rt: &impl Abort, alloc: Global, records: &mut R) -> Result<(), Fail> {
+    let value = value(rt, alloc, b'D')?;
+    records.put_tried(ballot(rt, 16))?;
+    records.put_vote(Place::new(2).expect(rt, "a place"), ballot(rt, 9), &value)?;
+    records.put_vote(Place::new(1).expect(rt, "a place"), ballot(rt, 17), &value)?;
+    Ok(records.put_promised(ballot(rt, 8))?)
+}
+
+/// Whether these are the tried and the promised ballot, the ballot of the vote at place 2, and how many
+/// votes there are.
+fn holds<R: Records>(
+    rt: &impl Abort,
+    records: &mut R,
+    want: (u64, u64, u64, usize),
+) -> Result<bool, Fail> {
+    let tried = number(records.tried()?);
+    let promised = number(records.promised()?);
+    let second = records.vote(Place::new(2).expect(rt, "a place"))?;
+    let votes = records.votes_from(Place::new(1).expect(rt, "a place"))?;
+    let found = (
+        tried,
+        promised,
+        number(second.map(|cast| cast.ballot)),
+        votes.rows().len(),
+    );
+    Ok(found == want)
+}
+
+/// The same once they are reopened.
+fn keeps<R: Records>(
+    rt: &impl Abort,
+    records: &mut R,
+    want: (u64, u64, u64, usize),
+) -> Result<bool, Fail> {
+    records.reopen()?;
+    holds(rt, records, want)
+}
+
+/// Each row is kept over a reopen.
+#[test]
+fn records_keep_their_rows(rt: HostRuntime) -> Result<(), Fail> {
+    let mut records = fresh(rt.alloc())?;
+    assert!(rt; holds(&rt, &mut records, (0, 0, 0, 0))?);
+    write(&rt, rt.alloc(), &mut records)?;
+    assert!(rt; holds(&rt, &mut records, (16, 17, 9, 2))?);
+    assert!(rt; keeps(&rt, &mut records, (16, 17, 9, 2))?);
+    Ok(())
+}
+
+/// A vote takes the place of the one at its place, and of no other.
+#[test]
+fn a_vote_over_another(rt: HostRuntime) -> Result<(), Fail> {
+    let mut records = fresh(rt.alloc())?;
+    write(&rt, rt.alloc(), &mut records)?;
+    let value = value(&rt, rt.alloc(), b'E')?;
+    records.put_vote(
+        Place::new(2).expect(&rt, "a place"),
+        ballot(&rt, 24),
+        &value,
+    )?;
+    assert!(rt; keeps(&rt, &mut records, (16, 24, 24, 2))?);
+    assert_eq!(rt; records.failures(), 0);
+    Ok(())
+}

@@ -1,0 +1,7 @@
+//! Tests of records in SQL tables over files in memory, by their public calls.
+#![tactic(auto)]
+
+#[cfg(test)]
+mod acceptor_rows;
+#[cfg(test)]
+mod tables;
