@@ -1,3 +1,4 @@
+pub mod Lined
 pub mod Received
 pub mod Rounds
 pub mod Moving

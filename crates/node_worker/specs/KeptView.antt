@@ -15,6 +15,10 @@ pub record KeptView : Type 0 where
   pub failures : ℕ
   pub honest : Bool
 
+-- its number, and of how many
+abbrev pub member_of : KeptView → ℕ × ℕ
+member_of k = (k.node, k.members)
+
 -- each node of a type has returned what its store committed
 abbrev pub AreTrusted : {N : Type 0} → (N → Bool) → Type 0
 AreTrusted {N} honest = (n : N) → IsTrue (honest n)

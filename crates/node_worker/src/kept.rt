@@ -1,11 +1,13 @@
 //! A node with all that it did.
 
-ghost use Rattle.std.specs.Prelude.{◌≡◌, ◌↔◌, [], ◌∷◌, ◌++◌, length, IsTrue, IfOk, IfErr, OnErr, IsOk, true, ◌≤◌, ◌<◌, false};
+ghost use Rattle.std.specs.Prelude.{◌≡◌, ◌↔◌, [], ◌∷◌, ◌++◌, length, IsTrue, IfOk, IfErr, OnErr, IsOk, true, ◌≤◌, ◌<◌, false, All, map};
+ghost use Rattle.std.specs.List.{range_with_len};
+ghost use Rattle.network_script_parts.specs.Fresh.{AreFresh};
 ghost use Rattle.acceptor.specs.Faults.{HasRisen};
 ghost use Rattle.ballots.specs.Members.{member_count};
 ghost use Rattle.network_script_parts.specs.Seat.{Shown};
 ghost use Rattle.node_worker.specs.declared.entry.Ended.TheVariants.{FailedEither};
-ghost use Rattle.node_worker.specs.KeptView.{AreTrusted, IsReplay, IsStepOf, SameNode};
+ghost use Rattle.node_worker.specs.KeptView.{AreTrusted, IsReplay, IsStepOf, SameNode, member_of};
 ghost use Rattle.node_worker.specs.Replays.{IsKept, opening};
 
 use crate::acting::act;
@@ -123,4 +125,21 @@ impl<N: Node> Kept<N> {
             entry: told.with(copy),
         })
     }
+}
+
+/// The nodes, in order, each with nothing done, that may each do `quota` things.
+pub fn keep_all<N: Node>(
+    alloc: Global,
+    nodes: Vec<N>,
+    quota: usize,
+) -> Result<Vec<Kept<N>>, OutOfMemory>
+    requires { AreFresh N.who N.honest N.stands nodes.items }
+    ensures members { IfOk result (λ kepts. map member_of kepts.items ≡ map (λ k. (k, length nodes.items)) (range_with_len 0 (length nodes.items))) }
+    ensures nothing { IfOk result (λ kepts. All (λ k. (k.entries ≡ []) × (k.quota ≡ quota)) kepts.items) }
+{
+    let mut kepts = Vec::new(alloc);
+    for node in nodes {
+        kepts.push(Kept::new(alloc, node, quota)?)?;
+    }
+    Ok(kepts)
 }

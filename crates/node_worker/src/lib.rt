@@ -12,6 +12,6 @@ mod plant;
 pub use audits::{Torn, audit};
 pub use compare::copy_letter;
 pub use entry::{Ask, Cause, Done, Ended, Entry, Record};
-pub use kept::{Kept, WorkFault};
+pub use kept::{Kept, WorkFault, keep_all};
 pub use laws::sound_is_legal;
 pub use plant::{Plant, step};

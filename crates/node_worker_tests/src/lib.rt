@@ -1,0 +1,7 @@
+//! Tests of what may be recorded, by public calls.
+#![tactic(auto)]
+
+#[cfg(test)]
+mod fixtures;
+#[cfg(test)]
+mod records;
