@@ -3,7 +3,8 @@
 
 use std::io::BufWriter;
 use std::process::ExitCode;
-use upsched_parts::{Fault, run};
+use upsched_parts::Fault;
+use upsched_store_parts::run;
 
 fn main(rt: HostRuntime) -> ExitCode {
     let mut errors = rt.stderr();

@@ -78,11 +78,6 @@ pub script_printed : (known old new : Option (List ℕ)) (count : Members) (ids 
 script_printed None old new count ids events read prints = tt
 script_printed (Some text) old new count ids events read prints = (count, ids, events, read, prints)
 
--- a text that is known to be no script is read as none
-pub no_script_read : (known : Option (List ℕ)) (count : Members) (ids : List ℕ) (events : List Event) → NoScript known → IfSome known (λ text. IsScript text count ids events) → ⊥
-no_script_read None count ids events none read = none
-no_script_read (Some text) count ids events none read = none count ids events read
-
 -- a text that is read as a script is known to be one, where it is known
 pub script_known : (known : Option (List ℕ)) (text read : List ℕ) (count : Members) (ids : List ℕ) (events : List Event) → IfSome known (λ bytes. text ≡ bytes) → read ≡ text → IsScript read count ids events
     → IfSome known (λ bytes. IsScript bytes count ids events)
