@@ -1,4 +1,4 @@
-//! The program: `upsched_parts` does what its words say.
+//! The program: `upsched_store_parts` does what its words say.
 #![tactic(auto)]
 
 use std::io::BufWriter;
