@@ -100,8 +100,9 @@ impl Modem {
 
     /// What the modem sends at a minislot of a channel: by a grant of its own, else at a poll, else a request
     /// where all may send one (truncated binary exponential back-off; CM-SP-MULPIv3.1, upstream bandwidth
-    /// allocation). It takes no memory. It costs the modem's wants, the logarithm of the intervals that it keeps,
-    /// and what of them begins less than 2^14 minislots before.
+    /// allocation). It takes no memory. It costs the modem's channels and wants, the logarithm of the intervals that
+    /// it keeps, and what of them begins less than 2^14 minislots before; and, once for each interval that has
+    /// ended, a constant for each channel.
     pub fn tick(&mut self, ch: u8, slot: Slot, random: u64) -> Result<Option<Sending>, TimeBack>
         ensures unknown { channel_of self.old.channels ch ≡ None → (result ≡ Ok None) × (self.new ≡ self.old) }
         ensures back { IfSome (channel_of self.old.channels ch) (λ c. slot < c.clock → IsErr result × (self.new ≡ self.old)) }
@@ -119,13 +120,11 @@ impl Modem {
         let counted = kept::counted(self.grants.as_slice(), channel.id, at);
         let open = kept::is_open(self.open_to_all.as_slice(), channel.id, at);
         let sending = wants::send(&mut self.wants, channel, at, random, counted, open);
-        channels::set(
-            &mut self.channels,
-            Channel {
-                clock: at + 1,
-                ..channel
-            },
-        );
+        let clock = at + 1;
+        let count = self.channels.len();
+        kept::let_go_of_many(&mut self.grants, channel.id, clock, count);
+        kept::let_go_of_many(&mut self.open_to_all, channel.id, clock, count);
+        channels::set(&mut self.channels, Channel { clock, ..channel });
         Ok(sending)
     }
 
