@@ -17,7 +17,7 @@ use Rattle.network_script_parts.specs.Script.{IsScript}
 use Rattle.network_script.specs.World.{Written, opening}
 use Rattle.upsched_parts.specs.RunLines.{answer_line, answer_lines, place_lines, released_count, counts_line}
 use Rattle.ballots.specs.Members.{member_count}
-use Rattle.upsched_parts.specs.Run.{PrintsEvents, PrintsScript, NoScript}
+use Rattle.upsched_parts.specs.Run.{PrintsEvents, PrintsScript}
 use Rattle.upsched_parts.proofs.Printed.{appends_none, appends_both}
 
 -- some text was printed, and what is left joined to it is the whole

@@ -4,7 +4,9 @@ use crate::stored_run::run_stored_script;
 use std::io::{ErrorKind, Write};
 use std::rt::{Env, Files};
 use std::{env, fs};
-use upsched_parts::{Fault, MapsWords, RunWords, Status, Words, maps, read_words, refused, run_script, show};
+use upsched_parts::{
+    Fault, MapsWords, RunWords, Status, Words, maps, read_words, refused, run_script, show,
+};
 
 /// Opens the plan and ends as `maps` does.
 fn run_maps<R: Files + AllocGlobal, O: Write, E: Write>(
