@@ -14,7 +14,8 @@ use Rattle.acceptor.specs.Content.{Content, no_content, promised}
 use Rattle.acceptor.specs.Found.{Holds, AddsNothing}
 use Rattle.acceptor_store_parts.specs.Tables.{store_schema, blank_schema}
 use Rattle.acceptor_store_parts.specs.Rowids.{IsReread}
-use Rattle.acceptor_store_parts.specs.Stored.{AreTables}
+use Rattle.acceptor_store_parts.specs.Stored.{AreTables, IsOfNode}
+use Rattle.acceptor_store_parts.specs.Foreign.{IsForeign}
 use Rattle.acceptor_store_parts.specs.Serves.{Serves}
 
 -- records as their contracts see them
@@ -89,13 +90,19 @@ pub record Reopens {S : Type 0} (g : Ghosts S) (old new : Held S) (highest : Opt
   pub holds : (before : Stands g old) → Holds (MayFindIn g new) (knows before).0
   pub adds_nothing : Stands g old → AddsNothing (MayFindIn g old) (MayFindIn g new)
 
--- it serves what its tables hold
+-- it serves what its tables hold, which a node wrote
 abbrev pub Examines : {S : Type 0} → Ghosts S → Held S → Held S → Option ℕ → Type 0
-Examines g old new highest = IsReread (state g old) → (c : Content) × AreTables (state g old).now.trees c × Serves (state g new) c × (number_of highest ≡ promised c)
+Examines g old new highest = IsReread (state g old) → (c : Content) × AreTables (state g old).now.trees c × IsOfNode c × Serves (state g new) c × (number_of highest ≡ promised c)
 
--- the last commit holds the content, or has no tables at all
+-- the last commit holds the content, which a node wrote, or has no tables at all
 abbrev pub Had : {S : Type 0} → Ghosts S → Held S → Content → Type 0
-Had g conn c = (((state g conn).now.schema ≡ blank_schema) × (c ≡ no_content)) ⊎ AreTables (state g conn).committed.trees c
+Had g conn c =
+    (((state g conn).now.schema ≡ blank_schema) × (c ≡ no_content))
+    ⊎ (((state g conn).now.schema ≡ store_schema) × AreTables (state g conn).committed.trees c × IsOfNode c)
+
+-- no node wrote the database that the connection sees
+abbrev pub SeesForeign : {S : Type 0} → Ghosts S → Held S → Type 0
+SeesForeign g conn = IsForeign (state g conn).now.schema (state g conn).committed.trees
 
 -- it serves what the older one had, and this is the promised ballot
 abbrev pub Prepares : {S : Type 0} → Ghosts S → Held S → Held S → Option ℕ → Type 0
