@@ -1,7 +1,9 @@
 -- What holds of records whose content is certain.
-use Rattle.std.proofs.Common.{◌≡◌, ◌⊎◌, inl, inr, refl, sym, ap, ◌∙◌, Result, Ok, Err, OnErr}
+use Rattle.std.proofs.Common.{◌≡◌, ◌⊎◌, inl, inr, refl, sym, ap, ◌∙◌, Result, Ok, Err, IfErr, OnErr}
 use Rattle.std.proofs.Math.Logic.{∥∥₁_map}
 use Rattle.acceptor.specs.Content.{Content}
+use Rattle.acceptor.specs.declared.records.RecordsFault.{RecordsFault}
+use Rattle.acceptor.specs.declared.records.RecordsFault.TheVariants.{OutOfMemory}
 use Rattle.acceptor.specs.Found.{Findable, Holds, HoldsEither, AddsNothing, FindsSame}
 
 -- the content that alone may be found is the one that they hold
@@ -28,6 +30,11 @@ no_other old new c adds h d found = inl (h.1 d (adds d found))
 pub on_err : {T E : Type 0} {P : Type 0} (r : Result T E) → P → OnErr r P
 on_err (Ok x) p = tt
 on_err (Err e) p = p
+
+-- what holds anyway holds where memory wants
+pub at_want : {T : Type 0} (A B : Type 0) (r : Result T RecordsFault) → B → IfErr r (λ e. e ≡ OutOfMemory → A ⊎ B)
+at_want A B (Ok x) b = tt
+at_want A B (Err e) b = λ _. inr b
 
 -- a write's content was to be found before, with the write
 pub added : (old new : Content) (f : Content → Content) → new ≡ f old → (d : Content) → d ≡ new → ∥ ((d ≡ old) ⊎ ((c : Content) × (c ≡ old) × (d ≡ f c))) ∥₁

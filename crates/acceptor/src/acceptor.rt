@@ -1,6 +1,6 @@
 //! Promises and votes: each is written before it is answered (Lamport, Paxos Made Simple).
 
-ghost use Rattle.std.specs.Prelude.{◌≡◌, ◌<◌, ◌≤◌, max, IsTrue, Option, Some, IfSome, IfNone, IfOk, IfErr, OnOk, OnErr};
+ghost use Rattle.std.specs.Prelude.{◌≡◌, ◌<◌, ◌≤◌, ◌⊎◌, max, IsTrue, Option, Some, IfSome, IfNone, IfOk, IfErr, OnOk, OnErr};
 ghost use Rattle.ballots.specs.Ballots.{number_of};
 ghost use Rattle.ballots.specs.declared.letters.Cast.{Cast as Ballotted};
 ghost use Rattle.acceptor.specs.Answers.{IsOfBallot};
@@ -97,7 +97,7 @@ pub fn greatest_used<R: Records>(records: &mut R) -> Result<u64, RecordsFault>
 }
 
 impl<R: Records> Acceptor<R> {
-    ghost use Rattle.acceptor.specs.Answers.{Prepares, Accepts, MayHavePromised, MayHaveVoted};
+    ghost use Rattle.acceptor.specs.Answers.{Prepares, Accepts, IsNewVote, MayHavePromised, MayHaveVoted};
 
     /// Promises to take part in no lower ballot, where the ballot is above the promise. The promise is written before it is answered.
     pub fn prepare(&mut self, ballot: Ballot, place: Place) -> Result<Prepared, RecordsFault>
@@ -105,6 +105,8 @@ impl<R: Records> Acceptor<R> {
             → (write : Option Write) × Prepares c ballot place answer write × Holds (R.may_find self.new.records) (after_write c write)) }
         ensures harmless { IsTrue (R.is_honest self.new.records) → IfErr result (λ e. IsHarmless e → FindsSame (R.may_find self.old.records) (R.may_find self.new.records)) }
         ensures doubt { IsTrue (R.is_honest self.new.records) → OnErr result ((c : Content) → Holds (R.may_find self.old.records) c → MayHavePromised c ballot (R.may_find self.new.records)) }
+        ensures memory { IsTrue (R.is_honest self.new.records) → IfErr result (λ e. e ≡ OutOfMemory → ((mid : R) × R.finds_no_memory mid self.new.records)
+            ⊎ ((c : Content) → Holds (R.may_find self.old.records) c → promised c < ballot)) }
         ensures honest { IsTrue (R.is_honest self.new.records) → IsTrue (R.is_honest self.old.records) }
         ensures count { CountsFaults result (R.count_of self.old.records) (R.count_of self.new.records) }
         ensures broken { BreaksBy result (R.is_broken self.old.records) (R.is_broken self.new.records) }
@@ -129,6 +131,8 @@ impl<R: Records> Acceptor<R> {
             → (write : Option Write) × Accepts c ballot place value answer write × Holds (R.may_find self.new.records) (after_write c write)) }
         ensures harmless { IsTrue (R.is_honest self.new.records) → IfErr result (λ e. IsHarmless e → FindsSame (R.may_find self.old.records) (R.may_find self.new.records)) }
         ensures doubt { IsTrue (R.is_honest self.new.records) → OnErr result ((c : Content) → Holds (R.may_find self.old.records) c → MayHaveVoted c ballot place value (R.may_find self.new.records)) }
+        ensures memory { IsTrue (R.is_honest self.new.records) → IfErr result (λ e. e ≡ OutOfMemory → ((mid : R) × R.finds_no_memory mid self.new.records)
+            ⊎ ((c : Content) → Holds (R.may_find self.old.records) c → IsNewVote c ballot place)) }
         ensures honest { IsTrue (R.is_honest self.new.records) → IsTrue (R.is_honest self.old.records) }
         ensures count { CountsFaults result (R.count_of self.old.records) (R.count_of self.new.records) }
         ensures broken { BreaksBy result (R.is_broken self.old.records) (R.is_broken self.new.records) }

@@ -1,6 +1,6 @@
 //! A member as a learner.
 
-ghost use Rattle.std.specs.Prelude.{◌≡◌, ◌↔◌, IsTrue, OnOk, OnErr, option_copied};
+ghost use Rattle.std.specs.Prelude.{◌≡◌, ◌≢◌, ◌↔◌, IsTrue, IsOk, None, OnOk, OnErr, option_copied};
 ghost use Rattle.ballots.specs.Members.{member_count};
 ghost use Rattle.ballots.specs.Rows.{at};
 ghost use Rattle.learner.specs.Proposals.{proposal_of};
@@ -91,9 +91,10 @@ impl Learner {
         &self.learned
     }
 
-    /// A value is known to be chosen at a place. The first one stays.
+    /// A value is known to be chosen at a place. The first one stays, and a further one takes no memory.
     pub fn known(&mut self, place: u64, value: Bytes) -> Result<(), AllocError>
         ensures ok { OnOk result (self.new ≡ known self.old (at self.old.learned place) place value) }
+        ensures again { at self.old.learned place ≢ None → IsOk result }
         ensures err { OnErr result (self.new ≡ self.old) }
     {
         if self.learned.contains_key(&place) {
@@ -114,6 +115,7 @@ impl Learner {
         from: NodeId,
     ) -> Result<(), AllocError>
         ensures ok { OnOk result (self.new ≡ voted (member_count members) self.old (at self.old.learned place) ballot place value from) }
+        ensures again { at self.old.learned place ≢ None → IsOk result }
         ensures err { OnErr result (self.new ≡ self.old) }
     {
         if self.learned.contains_key(&place) {

@@ -1,13 +1,13 @@
 //! A node, by what its calls do.
 
-ghost use Rattle.std.specs.Prelude.{◌≡◌, ◌⊎◌, ℕ, Bool, false, IfErr, IfOk, IsTrue, List, OnOk, Option, option_copied};
+ghost use Rattle.std.specs.Prelude.{◌≡◌, ◌⊎◌, ℕ, Bool, false, [], IfErr, IfOk, IsOkAnd, IsTrue, List, OnOk, Option, option_copied};
 ghost use Rattle.acceptor.specs.Content.{no_content};
 ghost use Rattle.ballots.specs.Ballots.{IsLeastAbove};
 ghost use Rattle.ballots.specs.Members.{member_count};
 ghost use Rattle.ballots.specs.Rows.{at};
 ghost use Rattle.proposer.specs.Turns.{offer};
 ghost use Rattle.proposer.specs.declared.role.Role.{Role};
-ghost use Rattle.node.specs.Step.{limit};
+ghost use Rattle.node.specs.Step.{is_heeded, limit};
 ghost use Rattle.node.specs.View.{View, Standing, started};
 ghost use Rattle.node.specs.View.Standing.{Running};
 ghost use Rattle.node.specs.Calls.{Who, Called, Kept, KeptByRestart, Restarts, StopsLast, TakesTurn, TellsFresh, answer};
@@ -53,10 +53,11 @@ pub trait Node: Drop {
     fn learned(&self, place: u64) -> Option<&Bytes>
         ensures { (view : View) → stands self.now (Running view) → option_copied result ≡ at view.tally.learned place };
 
-    /// A letter comes.
+    /// A letter comes. One that isn't from a member to this one, or says what no member may say, is passed over, without memory and whatever the records do.
     fn receive(&mut self, letter: &Letter) -> Result<Vec<Letter>, NodeFault>
         ensures honesty { IsTrue (honest self.new) → IsTrue (honest self.old) }
         ensures kept { Kept (who self.old) result (who self.new) }
+        ensures passed_over { (who self.old).down ≡ false → is_heeded (who self.old).members (who self.old).id letter.now ≡ false → IsOkAnd result (λ letters. letters.items ≡ []) }
         ensures done { IsTrue (honest self.new) → (s : Standing) → stands self.old s
             → (t : Standing) × Called (who self.old).members (who self.old).id s (Receive letter.now) (answer result) t × stands self.new t };
 

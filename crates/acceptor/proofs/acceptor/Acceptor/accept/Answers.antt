@@ -1,10 +1,10 @@
 use Rattle.std.proofs.Common.{arith, ◌≤◌, inl, inr, refl, sym, ◌∙◌, Some, None}
 use Rattle.ballots.specs.Rows.{at}
-use Rattle.acceptor.specs.Answers.{IsOfBallot, MayHaveVoted}
+use Rattle.acceptor.specs.Answers.{IsNewVote, IsOfBallot, MayHaveVoted}
 use Rattle.acceptor.specs.Content.{Content, promised}
 use Rattle.acceptor.specs.Content.Write.{Votes}
 use Rattle.acceptor.specs.Found.{Holds}
-use Rattle.acceptor.proofs.Certain.{still_holds, on_err}
+use Rattle.acceptor.proofs.Certain.{still_holds, at_want, on_err}
 use Rattle.acceptor.proofs.acceptor.Acceptor.accept.Goals as goal
 
 pub returns-in-Some-clause-ok : goal.returns-in-Some-clause-ok
@@ -47,3 +47,15 @@ returns-clause-ok g c honest d holds =
     let none : IsOfBallot (at d.votes c.args.place) c.args.ballot → ⊥ = λ voted. c.in_default-value_for.ensures.none (rw found voted) in
     let later = still_holds _ _ d (c.in_ok-vote.ensures.kept before) mid in
     (Some (Votes c.args.place record { ballot = c.args.ballot; value = c.args.value }), inr ((low, none), c.in_ok-vote_now.ensures.told, refl), c.in_ok-vote_now.ensures.ok honest d later)
+
+pub returns-in_err-vote_now-clause-memory : goal.returns-in_err-vote_now-clause-memory
+returns-in_err-vote_now-clause-memory g c honest =
+    let all : (d : Content) → Holds (g.R.Records.may_find c.args.self.now.records) d → IsNewVote d c.args.ballot c.args.place = λ d holds.
+    let before = c.vote_now.ensures.honest honest in
+    let first = c.vote.ensures.honest before in
+    let read = c.in_ok-promised.ensures.value first d holds in
+    let low : promised d ≤ c.args.ballot = rw read at c.in_default.ensures.none in
+    let mid = still_holds _ _ d (c.in_ok-promised.ensures.kept first) holds in
+    let found = c.in_ok-vote.ensures.value before d mid in
+    (low, λ voted. c.in_default-value_for.ensures.none (rw found voted)) in
+    at_want _ _ _ all
