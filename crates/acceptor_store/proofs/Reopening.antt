@@ -1,5 +1,5 @@
 -- What is known of a connection that was opened anew.
-use Rattle.std.proofs.Common.{◌≡◌, ◌⊎◌, inl, inr, ℕ, Bool, true, false, ◌&&◌, List, [], ◌∷◌, map, slice_get, Some, None, Option, Ok, Err, Result, IfErr, IfOk, IsTrue, refl, sym, ap, subst, subst₂, ◌∙◌, arith}
+use Rattle.std.proofs.Common.{◌≡◌, ◌⊎◌, inl, inr, ℕ, true, false, ◌&&◌, List, [], ◌∷◌, map, slice_get, Some, None, Option, Ok, Err, Result, IfErr, IfOk, IsTrue, sym, ap, subst, subst₂, ◌∙◌, arith}
 use Rattle.std.proofs.Math.Logic.{∥∥₁_map, ∥∥₁_elim, ∥∥₁_prop}
 use Rattle.std.specs.Coded.{coded_ℕ}
 use base.Stored.{Coded-set}
@@ -34,11 +34,10 @@ use Rattle.acceptor_store_parts.specs.Tables.{store_schema, blank_schema, ballot
 use Rattle.acceptor_store_parts.specs.Stored.{AreTables, IsNumber, IsCast, number_shown, vote_shown}
 use Rattle.acceptor_store_parts.specs.Serves.{Serves, StillServes, DoesNotServe}
 use Rattle.acceptor_store_parts.proofs.Callers.{tables_prop}
-use Rattle.acceptor_store.specs.Linked.{Linked, MayFind, MayFindIn, IsHonest, IsLinked, Stands, Knows, IsTested, Tells, Reopens, Examines, Had, IsIn, Prepares, SeesForeign}
+use Rattle.acceptor_store.specs.Linked.{Linked, MayFind, MayFindIn, IsHonest, IsLinked, Stands, IsTested, Tells, Reopens, Examines, Had, IsIn, Prepares, SeesForeign}
 use Rattle.acceptor_store.proofs.Calls.{parts, both}
 use Rattle.sqlite_trees.proofs.Doubt.{no_doubt, clean_of}
 use Rattle.acceptor_store.proofs.Found.{found_is, found_it, certain}
-use Rattle.acceptor_store.proofs.Same.{which}
 
 schema_set : IsSet Schema
 schema_set = Coded-set schema_row.the_row.coded

@@ -1,4 +1,4 @@
-use Rattle.std.proofs.Common.{◌≡◌, inl, Result, Err, sym, ap, subst, ◌∙◌}
+use Rattle.std.proofs.Common.{inl, Err, sym, ap, subst, ◌∙◌}
 use Rattle.acceptor_store_parts.specs.Foreign.{IsForeignSchema}
 use Rattle.acceptor_store.proofs.Reopening.{told_rows}
 use Rattle.acceptor_store.proofs.prepared.Goals as goal
