@@ -14,7 +14,8 @@ use Rattle.sqlite_schema.specs.declared.schema.Schema.{Schema}
 use Rattle.sqlite_disk.specs.declared.Disk as disk
 use Rattle.sqlite_disk.specs.declared.Files.{Files}
 use Rattle.sqlite_store.specs.declared.store.FileStore.{FileStore}
-use Rattle.sqlite.specs.Files.{over_files, file_state, IsOpened, Finds}
+use Rattle.sqlite.specs.Files.{over_files, file_state, image_of, IsOpened, Finds}
+use Rattle.sqlite.proofs.Theorems.{opens_again}
 use Rattle.sqlite.specs.Store.{Ghosts}
 use Rattle.sqlite.specs.Tree.{Trees}
 use Rattle.sqlite.specs.Effect.{Database, IsDatabase}
@@ -34,7 +35,7 @@ use Rattle.acceptor_store_parts.specs.Tables.{store_schema, blank_schema, ballot
 use Rattle.acceptor_store_parts.specs.Stored.{AreTables, IsNumber, IsCast, number_shown, vote_shown}
 use Rattle.acceptor_store_parts.specs.Serves.{Serves, StillServes, DoesNotServe}
 use Rattle.acceptor_store_parts.proofs.Callers.{tables_prop}
-use Rattle.acceptor_store.specs.Linked.{Linked, MayFind, MayFindIn, IsHonest, IsLinked, Stands, IsTested, Tells, Reopens, Examines, Had, IsIn, Prepares, SeesForeign}
+use Rattle.acceptor_store.specs.Linked.{Linked, MayFind, MayFindIn, IsHonest, IsLinked, Stands, IsTested, Tells, Reopens, Examines, Had, IsIn, IsLeftBy, MightLeave, Prepares, SeesForeign}
 use Rattle.acceptor_store.proofs.Calls.{parts, both}
 use Rattle.sqlite_trees.proofs.Doubt.{no_doubt, clean_of}
 use Rattle.acceptor_store.proofs.Found.{found_is, found_it, certain}
@@ -259,3 +260,10 @@ found_in {g = g} files conn (Ok x) opened finds holds clean = λ honest.
     let now = holds honest in
     let sure = clean honest in
     (now.0, now.2, is_in {g = g} files conn now.0 (opened sure) (finds sure) now.1)
+
+-- and where the files are what a store might have left, it is in one of the databases that the store allows
+pub left_by : {D : Type 0} {g : disk.Ghosts D} (files : Files D) (r : Linked (FileStore D g)) → (IsHonest over_files r → (c : Content) × Holds (MayFind over_files r.held) c × IsIn g files c)
+    → IsHonest over_files r → (it : FileStore D g) → MightLeave it (image_of g files) → (c : Content) × Holds (MayFind over_files r.held) c × IsLeftBy it c
+left_by {g = g} files r found honest it might =
+    let now = found honest in
+    (now.0, now.1, ∥∥₁_map (opens_again it might.numbered might.sound (image_of g files) might.left) (λ db. (db.0, db.1, now.2 db.0 db.2)))

@@ -9,7 +9,10 @@ use Rattle.sqlite.specs.Store.{Ghosts}
 use Rattle.sqlite.specs.Tree.{Trees}
 use Rattle.sqlite.specs.State.{HasCleanDisk}
 use Rattle.sqlite.specs.Effect.{IsDatabase}
-use Rattle.sqlite.specs.Held.{Held, held_code, state}
+use Rattle.sqlite.specs.Held.{AreDatabases, Held, held_code, state}
+use Rattle.sqlite_store.specs.declared.store.FileStore.{FileStore}
+use Rattle.sqlite_store.specs.FileStore.{recovers, view, state as store_state}
+use Rattle.sqlite_wal.specs.Recovery.{Image}
 use Rattle.acceptor.specs.Content.{Content, no_content, promised}
 use Rattle.acceptor.specs.Found.{Holds, AddsNothing}
 use Rattle.acceptor_store_parts.specs.Tables.{store_schema, blank_schema}
@@ -108,6 +111,20 @@ SeesForeign g conn = IsForeign (state g conn).now.schema (state g conn).committe
 abbrev pub Prepares : {S : Type 0} → Ghosts S → Held S → Held S → Option ℕ → Type 0
 Prepares g old new highest = (c : Content) × Had g old c × Serves (state g new) c × (number_of highest ≡ promised c)
 
+-- the trees are those of the content, or of a database without tables, and the content is none
+abbrev pub IsKeptIn : Trees → Content → Type 0
+IsKeptIn db c = AreTables db c ⊎ (IsDatabase (record { schema = blank_schema; trees = db }) × (c ≡ no_content))
+
 -- a database that the files hold has the content, or it has no tables and the content is none
 abbrev pub IsIn : {D : Type 0} → disk.Ghosts D → Files D → Content → Type 0
-IsIn g files c = (db : Trees) → HoldsDatabase (image_of g files) db → AreTables db c ⊎ (IsDatabase (record { schema = blank_schema; trees = db }) × (c ≡ no_content))
+IsIn g files c = (db : Trees) → HoldsDatabase (image_of g files) db → IsKeptIn db c
+
+-- what a crash may leave of a store that a connection gave back
+pub record MightLeave {D : Type 0} {g : disk.Ghosts D} (it : FileStore D g) (image : Image) : Type 0 where
+  pub numbered : IsTrue (view it).is_numbered
+  pub sound : AreDatabases (recovers it)
+  pub left : (store_state it).may_leave image
+
+-- the content is in one of the databases that the store might leave
+abbrev pub IsLeftBy : {D : Type 0} {g : disk.Ghosts D} → FileStore D g → Content → Type 0
+IsLeftBy it c = ∥ ((db : Trees) × recovers it db × IsKeptIn db c) ∥₁

@@ -1,7 +1,7 @@
 //! Records in SQL tables.
 #![tactic(auto)]
 
-ghost use Rattle.std.specs.Prelude.{◌≡◌, ◌≢◌, ◌≤◌, Err, false, not, if◌then◌else◌, pos, IfOk, IfErr, IfSome, OnOk, Some, max, IsTrue};
+ghost use Rattle.std.specs.Prelude.{◌≡◌, ◌≢◌, ◌≤◌, Err, false, not, if◌then◌else◌, pos, IfOk, IfErr, IfSome, IsSome, IsSomeAnd, OnOk, Some, max, IsTrue, ◌↔◌};
 ghost use Rattle.ballots.specs.Ballots.{number_of};
 ghost use Rattle.acceptor.specs.Faults.{BreaksBy, CountsFaults, HasRisen, IsHarmless, IsStoreFault};
 ghost use Rattle.acceptor.specs.declared.records.RecordsFault.TheVariants.{OutOfMemory};
@@ -9,16 +9,18 @@ ghost use Rattle.acceptor.specs.Content.{Content, IsSound, promised, greatest, n
 ghost use Rattle.ballots.specs.Rows.{at, rows_from};
 ghost use Rattle.acceptor.specs.Content.Write.{Tries, Promises, Votes as Casts};
 ghost use Rattle.acceptor.specs.Found.{Holds, HoldsEither, AddsNothing, AddsOnly, FindsSame, HasMade, Keeps, MayHaveMade};
-ghost use Rattle.sqlite.specs.Files.{over_files, file_state};
+ghost use Rattle.sqlite.specs.Files.{over_files, file_state, image_of};
+ghost use Rattle.sqlite.specs.Tree.{Trees};
+ghost use Rattle.sqlite_store.specs.declared.store.FileStore.{FileStore};
 ghost use Rattle.sqlite.specs.State.{HasCleanDisk, Survives};
-ghost use Rattle.sqlite.specs.Held.{state};
+ghost use Rattle.sqlite.specs.Held.{AreDatabases, state};
 ghost use Rattle.sqlite_trees.specs.View.{IsClean, doubt};
 ghost use Rattle.acceptor_store_parts.specs.Foreign.{HoldsNone, IsForeignSchema};
 ghost use Rattle.acceptor_store_parts.specs.Rowids.{IsReread};
 ghost use Rattle.acceptor_store_parts.specs.Tables.{store_schema};
 ghost use Rattle.acceptor_store_parts.specs.Serves.{Serves, StillServes, DoesNotServe, StaysOpen};
 ghost use Rattle.acceptor_store_parts.specs.Stops.{LeavesOpen, leaves_open};
-ghost use Rattle.acceptor_store.specs.Linked.{MayFind, IsHonest, is_honest, Tells, Reopens, Examines, Had, IsIn, Prepares, SeesForeign};
+ghost use Rattle.acceptor_store.specs.Linked.{MayFind, IsHonest, is_honest, Tells, Reopens, Examines, Had, IsIn, IsLeftBy, MightLeave, Prepares, SeesForeign};
 
 use acceptor::{Records, RecordsFault};
 use acceptor_store_parts::{Stop, Unread};
@@ -317,6 +319,29 @@ impl<S: Alter + Drop> SqlRecords<S> {
     }
 }
 
+impl<S: Alter + Drop> SqlRecords<S> {
+    /// The store of the records, and none after a reopen that failed. What isn't committed is rolled back, and a crash leaves nothing that it couldn't leave before.
+    pub fn into_store(self) -> Option<S>
+        ensures some { IsSome result ↔ IsSome self.held }
+        ensures numbered { IfSome result (λ s. IsClean (S.Store.view s) → IsTrue (S.Store.view s).is_numbered) }
+        ensures sound { IfSome result (λ s. IsClean (S.Store.view s) → AreDatabases (S.Store.recovers s)) }
+        ensures left { IfSome result (λ s. (db : Trees) → S.Store.recovers s db → IsSomeAnd self.held (λ h. (state S.Store h).may_leave db)) }
+    {
+        let SqlRecords {
+            alloc: _,
+            conn,
+            is_up: _,
+            is_sure: _,
+            highest: _,
+            failures: _,
+        } = self;
+        match conn {
+            Some(conn) => Some(conn.into_store()),
+            None => None,
+        }
+    }
+}
+
 fn unopened(error: SqlError) -> OpenFault {
     match error {
         SqlError::SqliteFailure(ErrorCode::OutOfMemory) => OpenFault::OutOfMemory,
@@ -324,12 +349,13 @@ fn unopened(error: SqlError) -> OpenFault {
     }
 }
 
-/// Records over the files, whatever was left of them by a crash.
+/// Records over the files, whatever was left of them by a crash. They hold what the files hold: one of the contents that the store of the records before might have left.
 pub fn open_files<D: Disk + Drop>(
     alloc: Global,
     files: Files<D>,
 ) -> Result<SqlRecords<FileStore<D>>, OpenFault>
-    ensures { IfOk result (λ r. IsHonest over_files r → (c : Content) × Holds (MayFind over_files r.held) c × IsIn D.Disk files c) }
+    ensures files { IfOk result (λ r. IsHonest over_files r → (c : Content) × Holds (MayFind over_files r.held) c × IsIn D.Disk files c) }
+    ensures left { IfOk result (λ r. IsHonest over_files r → (it : FileStore D D.Disk) → MightLeave it (image_of D.Disk files) → (c : Content) × Holds (MayFind over_files r.held) c × IsLeftBy it c) }
 {
     if !files.may_be_used() {
         return Err(OpenFault::Broken);
