@@ -146,7 +146,7 @@ module _ (hears_stand : (old new : State) (o : Output) (near : ℕ) (h : Heard) 
     held = λ n ch m sid held. subst (λ (hs : List Hearing). Held n hs ch m sid) (sym is.2) (held.0, inr held.1);
   }
   hears_follow outputs r r' x near (answer.Refused refusal.TooOld) there is = follows_same outputs r r' is.1
-  hears_follow outputs r r' x near (answer.Refused refusal.OutOfMemory) there is = follows_same outputs r r' is.1
+  hears_follow outputs r r' x near (answer.Refused refusal.OutOfMemory) there is = follows_same outputs r r' is.2
   hears_follow outputs r r' x near told there none = absurd none
 
   listens_follow : (outputs : List ReleasedOutput) (r r' : Receiver) (i near : ℕ) (told : Answer) (there : Option ReleasedOutput) → slice_get outputs i ≡ there → Listens r there near told r' → Follows outputs r r'

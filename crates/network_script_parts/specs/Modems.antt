@@ -3,7 +3,7 @@ use Rattle.std.specs.Prelude.{◌≡◌, ℕ, ◌<◌, ◌≤◌, List, [], ◌�
 use Rattle.grant_machine.specs.declared.output.Output.{Output}
 use Rattle.modem.specs.declared.types.Channel.{Channel}
 use Rattle.modem.specs.State.{channel_of}
-use Rattle.modem.specs.Hears.{Hears}
+use Rattle.modem.specs.Hears.{Hears, MayGrow}
 use Rattle.modem.specs.Wants.{want_refusal, new_want}
 use Rattle.modem.specs.Ticks.{Ticks}
 use Rattle.modem.specs.Owner.{IsTimely}
@@ -21,7 +21,7 @@ abbrev pub HearsOutput : Receiver → Output → ℕ → Answer → Receiver →
 HearsOutput r output near (Heard h) r' =
     IsTimely output near × Hears r.state output near h r'.state × (r'.heard ≡ record { output = output; near = near; answer = h } ∷ r.heard)
 HearsOutput r output near (Refused TooOld) r' = (¬ IsTimely output near) × (r' ≡ r)
-HearsOutput r output near (Refused OutOfMemory) r' = IsTimely output near × (r' ≡ r)
+HearsOutput r output near (Refused OutOfMemory) r' = IsTimely output near × MayGrow r.state output near × (r' ≡ r)
 HearsOutput r output near answer r' = ⊥
 
 -- the output that it is to hear, if there is one
