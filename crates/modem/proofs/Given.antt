@@ -8,8 +8,8 @@ use Rattle.map_body.specs.Intervals.{intervals, is_null}
 use Rattle.map_body.specs.Sids.{everybody}
 use Rattle.modem.proofs.CellList.{Cell, Covers, cell_in, cell_of}
 use Rattle.map_body.specs.declared.interval.Interval.{Interval}
-use Rattle.modem.specs.declared.types.Channel.{Channel}
-use Rattle.modem.specs.declared.types.OwnSid.{OwnSid}
+use Rattle.modem.specs.declared.known.Channel.{Channel}
+use Rattle.modem.specs.declared.known.OwnSid.{OwnSid}
 use Rattle.modem.specs.State.{State, Kept, HasAt, is_own, channel_of, clock_of, with_channel}
 use Rattle.modem.specs.KeptIntervals.{kept_interval, interval_of}
 use Rattle.modem.specs.Intervals.{decided}

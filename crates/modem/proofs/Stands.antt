@@ -1,9 +1,9 @@
 -- What a modem stands for is kept.
 use Rattle.std.proofs.Common.{◌≡◌, ℕ, ◌+◌, ◌≤◌, List, ◌∷◌, Option, Some, Bool, true, ◌⊎◌, inl, inr, refl, sym, subst, ap, ◌∙◌, max, arith, ◌==◌, ◌&&◌, if◌then◌else◌, false, [], ◌++◌, Result, Ok, Err, IfOk, MatchBool, ◌↔◌}
-use Rattle.modem.specs.declared.types.Channel.{Channel}
-use Rattle.modem.specs.declared.types.OwnSid.{OwnSid}
+use Rattle.modem.specs.declared.known.Channel.{Channel}
+use Rattle.modem.specs.declared.known.OwnSid.{OwnSid}
 use Rattle.modem.specs.declared.types.Sending.{Sending}
-use Rattle.modem.specs.declared.types.Want.{Want}
+use Rattle.modem.specs.declared.known.Want.{Want}
 use Rattle.map_body.specs.Sids.{everybody}
 use Rattle.modem.specs.State.{State, Kept, HasAt, is_own, with_sid, channel_of, clock_of, with_channel}
 use Rattle.modem.specs.Ticks.{Ticks, Counts, SendsBy}

@@ -9,7 +9,7 @@ use Rattle.map_body.specs.Body.{Body}
 use Rattle.map_body.specs.Layout.{IsBody}
 use Rattle.grant_machine.specs.declared.output.Output.{Output}
 use Rattle.grant_machine.specs.declared.output.Output.TheVariants.{Nothing, ChannelSet, Assigned, Map as MapOutput, Refused}
-use Rattle.modem.specs.declared.types.Channel.{Channel}
+use Rattle.modem.specs.declared.known.Channel.{Channel}
 use Rattle.modem.specs.declared.types.Heard.{Heard}
 use Rattle.modem.specs.declared.types.Heard.TheVariants.{Taken, NotMine, OtherUcd, Past, Unreadable}
 use Rattle.modem.specs.State.{State, HasAt, is_own, with_sid, with_ucd, with_channel, channel_of, clock_of}

@@ -10,7 +10,7 @@ ghost use Rattle.minislot_time.specs.Wire.{IsNear};
 ghost use Rattle.modem.specs.Hears.{Reads, IsAckTime};
 
 use crate::channels;
-use crate::types::OwnSid;
+use crate::known::OwnSid;
 use map_body::{Head, Interval, Iuc, MapBody, Outline, Sid, judge};
 use minislot_time::{Slot, extend};
 use std::alloc::{AllocError, Global};

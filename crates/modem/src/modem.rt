@@ -2,8 +2,7 @@
 
 ghost use Rattle.std.specs.Prelude.{◌≡◌, ℕ, ◌<◌, ◌≤◌, None, Some, Ok, Err, OnOk, OnErr, IfOk, IfErr, IfSome, IfNone, IsOkAnd, IsErr, List, true, false, ◌∷◌, ◌++◌, [], ◌⊎◌, ◌==◌, ◌↔◌, MatchBool};
 ghost use Rattle.std.specs.Option.{option_map};
-ghost use Rattle.modem.specs.declared.types.Channel.{Channel};
-ghost use Rattle.modem.specs.State.{new_modem, channel_of, is_own, with_ucd, with_sid};
+ghost use Rattle.modem.specs.State.{new_modem, channel_clock, channel_of, is_own, with_ucd, with_sid};
 ghost use Rattle.modem.specs.Held.{StandsFor, Hearing, Held, unicast_sid};
 ghost use Rattle.modem.specs.Hears.{Hears, HearsMap, IsDue, MayGrow, Takes};
 ghost use Rattle.modem.specs.Wants.{want_refusal, new_want};
@@ -11,7 +10,8 @@ ghost use Rattle.modem.specs.Ticks.{Ticks};
 
 use crate::intervals::HeardMap;
 use crate::kept::{self, KeptInterval};
-use crate::types::{Channel, Heard, OwnSid, Progress, Sending, TimeBack, Want, WantFault};
+use crate::known::{Channel, OwnSid, Progress, Want};
+use crate::types::{Heard, Sending, TimeBack, WantFault};
 use crate::{channels, intervals, wants};
 use grant_machine::Output;
 use map_body::{MapBody, decode};
@@ -60,7 +60,7 @@ impl Modem {
 
     /// The modem's clock on a channel that it knows: no tick before this minislot is taken.
     pub fn clock(&self, ch: u8) -> Option<u64>
-        ensures { result ≡ option_map (λ (c : Channel). c.clock) (channel_of self.now.channels ch) }
+        ensures { result ≡ option_map channel_clock (channel_of self.now.channels ch) }
     {
         match channels::find(self.channels.as_slice(), ch) {
             Some(channel) => Some(channel.clock),
@@ -105,8 +105,8 @@ impl Modem {
     /// ended, a constant for each channel.
     pub fn tick(&mut self, ch: u8, slot: Slot, random: u64) -> Result<Option<Sending>, TimeBack>
         ensures unknown { channel_of self.old.channels ch ≡ None → (result ≡ Ok None) × (self.new ≡ self.old) }
-        ensures back { IfSome (channel_of self.old.channels ch) (λ c. slot < c.clock → IsErr result × (self.new ≡ self.old)) }
-        ensures ticks { IfSome (channel_of self.old.channels ch) (λ c. c.clock ≤ slot → IsOkAnd result (λ sending. Ticks self.old c slot random sending self.new)) }
+        ensures back { IfSome (channel_of self.old.channels ch) (λ c. slot < channel_clock c → IsErr result × (self.new ≡ self.old)) }
+        ensures ticks { IfSome (channel_of self.old.channels ch) (λ c. channel_clock c ≤ slot → IsOkAnd result (λ sending. Ticks self.old c slot random sending self.new)) }
         ensures held { IfOk result (λ sending. (hearings : List Hearing) (sid : ℕ) → StandsFor self.old hearings → unicast_sid sending ≡ Some sid → Held self.old.id hearings ch slot sid) }
         ensures stands { (hearings : List Hearing) → StandsFor self.old hearings → StandsFor self.new hearings }
     {
