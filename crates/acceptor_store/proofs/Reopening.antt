@@ -35,7 +35,7 @@ use Rattle.acceptor_store_parts.specs.Tables.{store_schema, blank_schema, ballot
 use Rattle.acceptor_store_parts.specs.Stored.{AreTables, IsNumber, IsCast, number_shown, vote_shown}
 use Rattle.acceptor_store_parts.specs.Serves.{Serves, StillServes, DoesNotServe}
 use Rattle.acceptor_store_parts.proofs.Callers.{tables_prop}
-use Rattle.acceptor_store.specs.Linked.{Linked, MayFind, MayFindIn, IsHonest, IsLinked, Stands, IsTested, Tells, Reopens, Examines, Had, IsIn, IsLeftBy, MightLeave, Prepares, SeesForeign}
+use Rattle.acceptor_store.specs.Linked.{Linked, MayFind, MayFindIn, IsHonest, IsLinked, Stands, IsTested, Tells, Reopens, Examines, Had, IsIn, IsFoundIn, Prepares, SeesForeign}
 use Rattle.acceptor_store.proofs.Calls.{parts, both}
 use Rattle.sqlite_trees.proofs.Doubt.{no_doubt, clean_of}
 use Rattle.acceptor_store.proofs.Found.{found_is, found_it, certain}
@@ -252,18 +252,15 @@ is_in {g = g} files conn c opened finds had db holds =
       | inr tables ↦ inl (subst (λ t. AreTables t c) is tables.1)
     ]
 
+-- and where the files are what a store might have left, it is in one of the databases that the store allows
+found_also : {D : Type 0} {g : disk.Ghosts D} (files : Files D) (c : Content) → IsIn g files c → IsFoundIn g files c
+found_also {g = g} files c is = (is, λ it might. ∥∥₁_map (opens_again it might.numbered might.sound (image_of g files) might.left) (λ db. (db.0, db.1, is db.0 db.2)))
+
 pub found_in : {D : Type 0} {g : disk.Ghosts D} (files : Files D) (conn : Held (FileStore D g)) {E : Type 0} (r : Result (Linked (FileStore D g)) E) → (HasCleanDisk (file_state conn) → IsOpened conn) → (HasCleanDisk (file_state conn) → Finds files conn)
     → IfOk r (λ x. IsHonest over_files x → (c : Content) × Had over_files conn c × Holds (MayFind over_files x.held) c) → IfOk r (λ x. IsHonest over_files x → HasCleanDisk (file_state conn))
-    → IfOk r (λ x. IsHonest over_files x → (c : Content) × Holds (MayFind over_files x.held) c × IsIn g files c)
+    → IfOk r (λ x. IsHonest over_files x → (c : Content) × Holds (MayFind over_files x.held) c × IsFoundIn g files c)
 found_in files conn (Err e) opened finds holds clean = tt
 found_in {g = g} files conn (Ok x) opened finds holds clean = λ honest.
     let now = holds honest in
     let sure = clean honest in
-    (now.0, now.2, is_in {g = g} files conn now.0 (opened sure) (finds sure) now.1)
-
--- and where the files are what a store might have left, it is in one of the databases that the store allows
-pub left_by : {D : Type 0} {g : disk.Ghosts D} (files : Files D) (r : Linked (FileStore D g)) → (IsHonest over_files r → (c : Content) × Holds (MayFind over_files r.held) c × IsIn g files c)
-    → IsHonest over_files r → (it : FileStore D g) → MightLeave it (image_of g files) → (c : Content) × Holds (MayFind over_files r.held) c × IsLeftBy it c
-left_by {g = g} files r found honest it might =
-    let now = found honest in
-    (now.0, now.1, ∥∥₁_map (opens_again it might.numbered might.sound (image_of g files) might.left) (λ db. (db.0, db.1, now.2 db.0 db.2)))
+    (now.0, now.2, found_also {g = g} files now.0 (is_in {g = g} files conn now.0 (opened sure) (finds sure) now.1))

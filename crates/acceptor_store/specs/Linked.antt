@@ -128,3 +128,7 @@ pub record MightLeave {D : Type 0} {g : disk.Ghosts D} (it : FileStore D g) (ima
 -- the content is in one of the databases that the store might leave
 abbrev pub IsLeftBy : {D : Type 0} {g : disk.Ghosts D} → FileStore D g → Content → Type 0
 IsLeftBy it c = ∥ ((db : Trees) × recovers it db × IsKeptIn db c) ∥₁
+
+-- the content is in the files, and where a store might have left them, it is one of those that this store might leave
+abbrev pub IsFoundIn : {D : Type 0} → (g : disk.Ghosts D) → Files D → Content → Type 0
+IsFoundIn {D} g files c = IsIn g files c × ((it : FileStore D g) → MightLeave it (image_of g files) → IsLeftBy it c)

@@ -9,9 +9,8 @@ ghost use Rattle.acceptor.specs.Content.{Content, IsSound, promised, greatest, n
 ghost use Rattle.ballots.specs.Rows.{at, rows_from};
 ghost use Rattle.acceptor.specs.Content.Write.{Tries, Promises, Votes as Casts};
 ghost use Rattle.acceptor.specs.Found.{Holds, HoldsEither, AddsNothing, AddsOnly, FindsSame, HasMade, Keeps, MayHaveMade};
-ghost use Rattle.sqlite.specs.Files.{over_files, file_state, image_of};
+ghost use Rattle.sqlite.specs.Files.{over_files, file_state};
 ghost use Rattle.sqlite.specs.Tree.{Trees};
-ghost use Rattle.sqlite_store.specs.declared.store.FileStore.{FileStore};
 ghost use Rattle.sqlite.specs.State.{HasCleanDisk, Survives};
 ghost use Rattle.sqlite.specs.Held.{AreDatabases, state};
 ghost use Rattle.sqlite_trees.specs.View.{IsClean, doubt};
@@ -20,7 +19,7 @@ ghost use Rattle.acceptor_store_parts.specs.Rowids.{IsReread};
 ghost use Rattle.acceptor_store_parts.specs.Tables.{store_schema};
 ghost use Rattle.acceptor_store_parts.specs.Serves.{Serves, StillServes, DoesNotServe, StaysOpen};
 ghost use Rattle.acceptor_store_parts.specs.Stops.{LeavesOpen, leaves_open};
-ghost use Rattle.acceptor_store.specs.Linked.{MayFind, IsHonest, is_honest, Tells, Reopens, Examines, Had, IsIn, IsLeftBy, MightLeave, Prepares, SeesForeign};
+ghost use Rattle.acceptor_store.specs.Linked.{MayFind, IsHonest, is_honest, Tells, Reopens, Examines, Had, IsFoundIn, Prepares, SeesForeign};
 
 use acceptor::{Records, RecordsFault};
 use acceptor_store_parts::{Stop, Unread};
@@ -354,8 +353,7 @@ pub fn open_files<D: Disk + Drop>(
     alloc: Global,
     files: Files<D>,
 ) -> Result<SqlRecords<FileStore<D>>, OpenFault>
-    ensures files { IfOk result (λ r. IsHonest over_files r → (c : Content) × Holds (MayFind over_files r.held) c × IsIn D.Disk files c) }
-    ensures left { IfOk result (λ r. IsHonest over_files r → (it : FileStore D D.Disk) → MightLeave it (image_of D.Disk files) → (c : Content) × Holds (MayFind over_files r.held) c × IsLeftBy it c) }
+    ensures { IfOk result (λ r. IsHonest over_files r → (c : Content) × Holds (MayFind over_files r.held) c × IsFoundIn D.Disk files c) }
 {
     if !files.may_be_used() {
         return Err(OpenFault::Broken);

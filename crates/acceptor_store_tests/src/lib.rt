@@ -4,6 +4,4 @@
 #[cfg(test)]
 mod acceptor_rows;
 #[cfg(test)]
-mod stops;
-#[cfg(test)]
 mod tables;
