@@ -1,2 +1,2 @@
 -- What the crates above cite of this crate's proofs.
-pub use Rattle.map_body.proofs.Readings.{one_body, is_sized}
+pub use Rattle.map_body.proofs.Readings.{one_body, body_no_fault}

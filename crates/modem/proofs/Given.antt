@@ -8,15 +8,15 @@ use Rattle.map_body.specs.Intervals.{intervals, is_null}
 use Rattle.map_body.specs.Sids.{everybody}
 use Rattle.modem.proofs.CellList.{Cell, Covers, cell_in, cell_of}
 use Rattle.map_body.specs.declared.interval.Interval.{Interval}
-use Rattle.modem.specs.declared.types.Channel.{Channel}
-use Rattle.modem.specs.declared.types.OwnSid.{OwnSid}
+use Rattle.modem.specs.declared.known.Channel.{Channel}
+use Rattle.modem.specs.declared.known.OwnSid.{OwnSid}
 use Rattle.modem.specs.State.{State, Kept, HasAt, is_own, channel_of, clock_of, with_channel}
 use Rattle.modem.specs.KeptIntervals.{kept_interval, interval_of}
 use Rattle.modem.specs.Intervals.{decided}
 use Rattle.modem.specs.Hears.{Takes, IsAckTime}
 use Rattle.modem.specs.Held.{GivesCell}
-use Rattle.modem.proofs.Parts.{no_true, number_same}
-use Rattle.modem.proofs.Clocks.{channel_of-with_channel, found_id, replaced}
+use Rattle.modem.proofs.Parts.{no_true}
+use Rattle.modem.proofs.Clocks.{clock_of-placed}
 
 -- the interval of a map of this channel and start covers minislot m
 pub record IsIn (ch start : ℕ) (i : Interval) (at_ch m sid iuc : ℕ) : Type 0 where
@@ -95,14 +95,6 @@ pub own_at : (sids : List OwnSid) (map₀ : Body) (start ch m sid iuc : ℕ) →
 own_at sids map₀ start ch m sid iuc =
     let P : ℕ → Type 0 = λ n. is_own sids n sid ≡ true in
     (λ (own, g). (subst P g.channel own, g), λ (own, g). (subst P (sym g.channel) own, g))
-
--- the clock of the channel that was put in place
-clock_of-placed : (c : Channel) (clock : ℕ) (backoff : ℕ × ℕ) (channels : List Channel) (ch : ℕ) → channel_of channels ch ≡ Some c → clock_of (with_channel (record { id = c.id; ucd = c.ucd; clock = clock; backoff = backoff }) channels) ch ≡ clock
-clock_of-placed c clock backoff channels ch found =
-    let row : Channel = record { id = c.id; ucd = c.ucd; clock = clock; backoff = backoff } in
-    let here : (c.id == ch) ≡ true = number_same c.id ch (found_id channels ch c found) in
-    let F : Option Channel → ℕ = λ o. option_map_or (λ (d : Channel). d.clock) o 0 in
-    ap F (channel_of-with_channel row channels ch) ∙ ap (λ o. F (replaced row ch o)) found ∙ ap (λ b. (cond b row c).clock) here
 
 -- what is kept after a map: from the clock on what was kept, and the map's
 abbrev pub KeepsWith : List Kept → ℕ → ℕ → List Interval → ℕ → List Kept → Type 0

@@ -1,11 +1,11 @@
 -- What a modem stands for is kept.
 use Rattle.std.proofs.Common.{◌≡◌, ℕ, ◌+◌, ◌≤◌, List, ◌∷◌, Option, Some, Bool, true, ◌⊎◌, inl, inr, refl, sym, subst, ap, ◌∙◌, max, arith, ◌==◌, ◌&&◌, if◌then◌else◌, false, [], ◌++◌, Result, Ok, Err, IfOk, MatchBool, ◌↔◌}
-use Rattle.modem.specs.declared.types.Channel.{Channel}
-use Rattle.modem.specs.declared.types.OwnSid.{OwnSid}
+use Rattle.modem.specs.declared.known.Channel.{Channel}
+use Rattle.modem.specs.declared.known.OwnSid.{OwnSid}
 use Rattle.modem.specs.declared.types.Sending.{Sending}
-use Rattle.modem.specs.declared.types.Want.{Want}
+use Rattle.modem.specs.declared.known.Want.{Want}
 use Rattle.map_body.specs.Sids.{everybody}
-use Rattle.modem.specs.State.{State, HasAt, is_own, with_sid, channel_of, clock_of, with_channel}
+use Rattle.modem.specs.State.{State, Kept, HasAt, is_own, with_sid, channel_of, clock_of, with_channel}
 use Rattle.modem.specs.Ticks.{Ticks, Counts, SendsBy}
 use Rattle.minislot_time.specs.Wire.{IsNear}
 use Rattle.modem.proofs.Times.{near_once}
@@ -13,7 +13,7 @@ use Rattle.map_body.specs.Body.{Body}
 use Rattle.map_body.proofs.Callers.{one_body}
 use Rattle.std.proofs.lemmas.List.Folds.{list_any-append}
 use Rattle.modem.proofs.Parts.{no_true, both, one_of, left_true, right_true, and_intro, same_number, number_same}
-use Rattle.modem.proofs.Clocks.{clock_of-row, clock_of-with_ucd}
+use Rattle.modem.proofs.Clocks.{clock_of-row, clock_of-placed, clock_of-with_ucd, found_id}
 use Rattle.grant_machine.specs.declared.output.Output.{Output}
 use Rattle.grant_machine.specs.declared.output.Output.TheVariants.{Nothing, ChannelSet, Assigned, Map as MapOutput, Refused}
 use Rattle.modem.specs.declared.types.Heard.{Heard}
@@ -70,15 +70,28 @@ StandsFor-taken old new hearings ch₀ start₀ len₀ bytes near c map start st
         let one_start : begin ≡ start = near_once map.head.start near begin start extension reads.extent.extension in
         subst (λ (s : ℕ). GivesCell map s ch m sid iuc) one_start (subst (λ (o : Body). GivesCell o begin ch m sid iuc) one_map cell)
 
--- a tick at a state whose grants stay
-pub Ticks-made : (old new : State) (c : Channel) (slot random : ℕ) (sending : Option Sending) (counted : Option (ℕ × ℕ)) (is_open : Bool) → new.id ≡ old.id → new.sids ≡ old.sids → new.grants ≡ old.grants → new.open_to_all ≡ old.open_to_all → new.channels ≡ with_channel (record c { clock = slot + 1 }) old.channels → Counts old.grants c.id slot counted → ((is_open ≡ true) ↔ HasAt old.open_to_all c.id slot everybody 1) → SendsBy old.wants c slot random is_open sending new.wants counted → Ticks old c slot random sending new
-Ticks-made old new c slot random sending counted is_open same_id same_sids same_grants same_open made counts opens sends = record {
+-- of a channel's intervals those stay that cover a minislot from a clock on
+abbrev pub KeepsFrom : List Kept → ℕ → ℕ → List Kept → Type 0
+KeepsFrom was ch clock now = (at_ch m sid iuc : ℕ) → (ch ≡ at_ch → clock ≤ m) → HasAt now at_ch m sid iuc ↔ HasAt was at_ch m sid iuc
+
+-- a tick at a state from which what has ended may go
+pub Ticks-made : (old new : State) (c : Channel) (ch slot random : ℕ) (sending : Option Sending) (counted : Option (ℕ × ℕ)) (is_open : Bool) → channel_of old.channels ch ≡ Some c → new.id ≡ old.id → new.sids ≡ old.sids → KeepsFrom old.grants c.id (slot + 1) new.grants → KeepsFrom old.open_to_all c.id (slot + 1) new.open_to_all → new.channels ≡ with_channel (record c { clock = slot + 1 }) old.channels → Counts old.grants c.id slot counted → ((is_open ≡ true) ↔ HasAt old.open_to_all c.id slot everybody 1) → SendsBy old.wants c slot random is_open sending new.wants counted → Ticks old c slot random sending new
+Ticks-made old new c ch slot random sending counted is_open found same_id same_sids grants open_to_all made counts opens sends = record {
   id = same_id;
   channels = made;
   sids = same_sids;
-  held = record { grants = λ ch m sid iuc _. rw same_grants (λ h. h, λ h. h); open_to_all = λ ch m _. rw same_open (λ h. h, λ h. h) };
+  held = record { grants = λ at_ch m sid iuc late. grants at_ch m sid iuc (later at_ch m late); open_to_all = λ at_ch m late. open_to_all at_ch m everybody 1 (later at_ch m late) };
   sends = (counted, counts, is_open, opens, sends);
 }
+  where
+    here : channel_of old.channels c.id ≡ Some c
+    here = ap (channel_of old.channels) (found_id old.channels ch c found) ∙ found
+
+    later : (at_ch m : ℕ) → clock_of new.channels at_ch ≤ m → c.id ≡ at_ch → slot + 1 ≤ m
+    later at_ch m late same =
+        let placed : clock_of new.channels c.id ≡ slot + 1 = rw made (clock_of-placed c (slot + 1) c.backoff old.channels c.id here) in
+        let moved : clock_of new.channels c.id ≤ m = rw same late in
+        omega arith
 
 same_output : (a b c x y z : ℕ) → a ≡ x → b ≡ y → c ≡ z → Assigned a b c ≡ Assigned x y z
 same_output a b c x y z p q r = cc

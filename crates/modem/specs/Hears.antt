@@ -6,10 +6,10 @@ use Rattle.map_body.specs.Intervals.{null_offset}
 use Rattle.map_body.specs.Iucs as iucs
 use Rattle.map_body.specs.Sids.{everybody}
 use Rattle.map_body.specs.Body.{Body}
-use Rattle.map_body.specs.Layout.{IsBody, IsSized}
+use Rattle.map_body.specs.Layout.{IsBody}
 use Rattle.grant_machine.specs.declared.output.Output.{Output}
 use Rattle.grant_machine.specs.declared.output.Output.TheVariants.{Nothing, ChannelSet, Assigned, Map as MapOutput, Refused}
-use Rattle.modem.specs.declared.types.Channel.{Channel}
+use Rattle.modem.specs.declared.known.Channel.{Channel}
 use Rattle.modem.specs.declared.types.Heard.{Heard}
 use Rattle.modem.specs.declared.types.Heard.TheVariants.{Taken, NotMine, OtherUcd, Past, Unreadable}
 use Rattle.modem.specs.State.{State, HasAt, is_own, with_sid, with_ucd, with_channel, channel_of, clock_of}
@@ -54,13 +54,17 @@ pub record Takes (old : State) (c : Channel) (near : ℕ) (map : Body) (start : 
   pub open_to_all : (ch m : ℕ) → clock_of new.channels ch ≤ m → HasAt new.open_to_all ch m everybody iucs.request ↔ (HasAt old.open_to_all ch m everybody iucs.request ⊎ GivesCell map start ch m everybody iucs.request)
   pub wants : (ack : Option ℕ) × IsAckTime map.head.ack start ack × (new.wants ≡ filter_map (decided map.elements map.head.channel ack) old.wants)
 
--- what hearing an output may take memory for: a channel that isn't known, a SID that becomes the modem's, or bytes of a map's length
-abbrev pub MayGrow : State → Output → Type 0
-MayGrow old Nothing = ⊥
-MayGrow old (Refused _) = ⊥
-MayGrow old (ChannelSet ch ucd) = channel_of old.channels ch ≡ None
-MayGrow old (Assigned modem ch sid) = (modem ≡ old.id) × (is_own old.sids ch sid ≡ false)
-MayGrow old (MapOutput _ _ _ bytes) = IsSized bytes
+-- the bytes, read near a time, are a map of a known channel and its UCD Count that has not ended: it is to be taken
+abbrev pub IsDue : State → List ℕ → ℕ → Type 0
+IsDue old bytes near = (map : Body) × (start : ℕ) × («end» : ℕ) × Reads bytes near map start «end» × (c : Channel) × (channel_of old.channels map.head.channel ≡ Some c) × (c.ucd ≡ map.head.ucd) × (max c.clock near < «end»)
+
+-- what hearing an output near a time may take memory for: a channel that isn't known, a SID that becomes the modem's, a map that is to be taken
+abbrev pub MayGrow : State → Output → ℕ → Type 0
+MayGrow old Nothing near = ⊥
+MayGrow old (Refused _) near = ⊥
+MayGrow old (ChannelSet ch ucd) near = channel_of old.channels ch ≡ None
+MayGrow old (Assigned modem ch sid) near = (modem ≡ old.id) × (is_own old.sids ch sid ≡ false)
+MayGrow old (MapOutput _ _ _ bytes) near = IsDue old bytes near
 
 -- a modem that hears the bytes of a map near a time gives this answer and becomes new
 abbrev pub HearsMap : State → List ℕ → ℕ → Heard → State → Type 0

@@ -4,9 +4,9 @@ use Rattle.std.specs.List.{list_any}
 use Rattle.map_body.specs.declared.element.Element.{Element}
 use Rattle.map_body.specs.Intervals.{intervals, after_null}
 use Rattle.map_body.specs.Iucs as iucs
-use Rattle.modem.specs.declared.types.Progress.{Progress}
-use Rattle.modem.specs.declared.types.Progress.TheVariants.{Unsent, Sent}
-use Rattle.modem.specs.declared.types.Want.{Want}
+use Rattle.modem.specs.declared.known.Progress.{Progress}
+use Rattle.modem.specs.declared.known.Progress.TheVariants.{Unsent, Sent}
+use Rattle.modem.specs.declared.known.Want.{Want}
 
 -- a grant of some length to the SID, before the Null
 abbrev pub is_granted : List Element → ℕ → Bool

@@ -1,9 +1,9 @@
 -- A modem's wants: at most one request of a SID, sent or not yet.
 use Rattle.std.specs.Prelude.{◌≡◌, ◌≢◌, ℕ, ◌≤◌, Bool, true, false, ◌==◌, ◌&&◌, ◌||◌, not, nat_lt, if◌then◌else◌, List, map, find, Option, Some, None}
 use Rattle.std.specs.List.{list_any}
-use Rattle.modem.specs.declared.types.Progress.{Progress}
-use Rattle.modem.specs.declared.types.Progress.TheVariants.{Unsent, Sent}
-use Rattle.modem.specs.declared.types.Want.{Want}
+use Rattle.modem.specs.declared.known.Progress.{Progress}
+use Rattle.modem.specs.declared.known.Progress.TheVariants.{Unsent, Sent}
+use Rattle.modem.specs.declared.known.Want.{Want}
 use Rattle.modem.specs.declared.types.WantFault.{WantFault}
 use Rattle.modem.specs.declared.types.WantFault.TheVariants.{NotMine, Waiting, BadSize, OutOfMemory}
 use Rattle.modem.specs.State.{State, is_own}

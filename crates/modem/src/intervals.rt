@@ -1,15 +1,17 @@
 //! The intervals of a map that is heard.
 
-ghost use Rattle.std.specs.Prelude.{◌≡◌, ℕ, ◌+◌, ◌<◌, ◌^◌, ◌==◌, ◌&&◌, filter, IfOk, IfSome, IfNone};
+ghost use Rattle.std.specs.Prelude.{◌≡◌, ℕ, ◌+◌, ◌<◌, ◌≤◌, ◌^◌, ◌==◌, ◌&&◌, filter, IfOk, IfSome, IfNone};
 ghost use Rattle.map_body.specs.Intervals.{intervals};
 ghost use Rattle.map_body.specs.Iucs as iucs;
 ghost use Rattle.map_body.specs.Sids.{everybody};
 ghost use Rattle.modem.specs.State.{is_own};
-ghost use Rattle.modem.specs.Hears.{IsExtent, IsAckTime};
+ghost use Rattle.map_body.specs.Body.{Body};
+ghost use Rattle.minislot_time.specs.Wire.{IsNear};
+ghost use Rattle.modem.specs.Hears.{Reads, IsAckTime};
 
 use crate::channels;
-use crate::types::OwnSid;
-use map_body::{Interval, Iuc, MapBody, Sid};
+use crate::known::OwnSid;
+use map_body::{Head, Interval, Iuc, MapBody, Outline, Sid, judge};
 use minislot_time::{Slot, extend};
 use std::alloc::{AllocError, Global};
 
@@ -52,17 +54,36 @@ pub(crate) fn open_to_all(
     Ok(open)
 }
 
-/// The start of a map near a time, and its end, where these are times.
-pub(crate) fn extent(map: &MapBody, near: Slot) -> Option<(Slot, u64)>
-    ensures found { IfSome result (λ p. IsExtent near map.now p.0 p.1) }
-    ensures none { IfNone result ((start stop : ℕ) → ¬ IsExtent near map.now start stop) }
+/// A map as it is heard near a time: its head, and where it starts and stops in 64-bit minislots.
+#[derive(Clone, Copy)]
+pub(crate) struct HeardMap {
+    pub head: Head,
+    pub start: Slot,
+    pub stop: u64,
+}
+
+fn extended(outline: Outline, near: Slot) -> Option<HeardMap>
+    ensures found { IfSome result (λ heard. (heard.head ≡ outline.head) × IsNear outline.head.start near heard.start × (heard.stop ≡ heard.start + outline.len) × (heard.stop < 2 ^ 63)) }
+    ensures none { IfNone result ((start : ℕ) → IsNear outline.head.start near start → 2 ^ 63 ≤ start + outline.len) }
 {
-    let start = extend(map.head().start, near)?;
-    let end = start.get() + u64::from(map.len().get());
-    if end < 0x8000_0000_0000_0000 {
-        Some((start, end))
+    let Outline { head, len } = outline;
+    let start = extend(head.start, near)?;
+    let stop = start.get() + u64::from(len.get());
+    if stop < 0x8000_0000_0000_0000 {
+        Some(HeardMap { head, start, stop })
     } else {
         None
+    }
+}
+
+/// The map that bytes are, heard near a time, where they can be read then. It takes no memory.
+pub(crate) fn heard_near(bytes: &[u8], near: Slot) -> Option<HeardMap>
+    ensures found { IfSome result (λ heard. (map : Body) × Reads bytes.now near map heard.start heard.stop × (map.head ≡ heard.head)) }
+    ensures none { IfNone result ((map : Body) (start stop : ℕ) → ¬ Reads bytes.now near map start stop) }
+{
+    match judge(bytes) {
+        Ok(outline) => extended(outline, near),
+        Err(_) => None,
     }
 }
 

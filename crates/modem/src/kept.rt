@@ -1,7 +1,7 @@
 //! Intervals that a modem keeps: one for each element that a map gave, in the order of their channels and,
 //! of one channel, of their starts.
 
-ghost use Rattle.std.specs.Prelude.{◌≡◌, ℕ, ◌+◌, ◌<◌, ◌≤◌, ◌^◌, ◌↔◌, ◌⊎◌, ◌++◌, map, take, drop, true, false, length, vec_len, vec_capacity};
+ghost use Rattle.std.specs.Prelude.{◌≡◌, ℕ, ◌+◌, ◌<◌, ◌≤◌, ◌^◌, ◌↔◌, ◌⊎◌, ◌++◌, map, take, drop, true, false, length, vec_len, vec_capacity, ltb, leb};
 ghost use Rattle.std.specs.List.{list_any, AllWithin};
 ghost use Rattle.map_body.specs.Iucs as iucs;
 ghost use Rattle.map_body.specs.Sids.{everybody};
@@ -22,16 +22,20 @@ pub(crate) struct KeptInterval {
     pub stop: u64,
 }
 
-fn place(ch: u8, at: u64) -> u128
-    ensures { result ≡ place ch at }
+// Does it stand before a minislot of a channel, by channel and then by start?
+fn begins_before(interval: &KeptInterval, ch: u8, at: u64) -> bool
+    ensures { result ≡ ltb (place_of interval.now) (place ch at) }
 {
-    u128::from(ch) * 0x1_0000_0000_0000_0000 + u128::from(at)
+    let start = interval.start;
+    interval.channel < ch || interval.channel == ch && start < at
 }
 
-fn place_of(interval: &KeptInterval) -> u128
-    ensures { result ≡ place_of interval.now }
+// The same, or at it.
+fn begins_by(interval: &KeptInterval, ch: u8, at: u64) -> bool
+    ensures { result ≡ leb (place_of interval.now) (place ch at) }
 {
-    place(interval.channel, interval.start)
+    let start = interval.start;
+    interval.channel < ch || interval.channel == ch && start <= at
 }
 
 // Those that may cover a minislot of a channel: they begin there, or less than 2^14 before.
@@ -39,11 +43,10 @@ fn around(kept: &[KeptInterval], ch: u8, at: u64) -> &[KeptInterval]
     requires { AreKept kept.now }
     ensures { (sid iuc : ℕ) → HasAt (map kept_interval result.now) ch at sid iuc ↔ HasAt (map kept_interval kept.now) ch at sid iuc }
 {
-    let first = place(ch, at.saturating_sub(0x3FFF));
-    let last = place(ch, at);
-    let before = kept.partition_point(|k| place_of(k) < first);
+    let first = at.saturating_sub(0x3FFF);
+    let before = kept.partition_point(|k| begins_before(k, ch, first));
     let rest = &kept[before..];
-    let count = rest.partition_point(|k| place_of(k) <= last);
+    let count = rest.partition_point(|k| begins_by(k, ch, at));
     &rest[..count]
 }
 
@@ -140,10 +143,31 @@ pub(crate) fn let_go(kept: &mut Vec<KeptInterval>, ch: u8, clock: u64)
     ensures fewer { vec_len kept.new ≤ vec_len kept.old }
     ensures room { vec_capacity kept.new ≡ vec_capacity kept.old }
 {
-    let first = place(ch, 0);
-    let before = kept.partition_point(|k| place_of(k) < first);
+    let before = kept.partition_point(|k| begins_before(k, ch, 0));
     let count = ended(&kept[before..], ch, clock);
     cut(kept, before, before + count);
+}
+
+// Whether a channel's intervals that began 2^14 minislots before the clock, and so have ended, are many: of so
+// many channels, one's share of half of what is kept. It costs the logarithm of what is kept, and a list in
+// which no channel has many is at most twice what hasn't ended or began since.
+fn has_many_old(kept: &[KeptInterval], ch: u8, clock: u64, channels: usize) -> bool {
+    let first = clock.saturating_sub(0x3FFF);
+    let before = kept.partition_point(|k| begins_before(k, ch, 0));
+    let old = kept[before..].partition_point(|k| begins_before(k, ch, first));
+    old > 0 && kept.len() / old / 2 <= channels
+}
+
+/// Lets go of the channel's ended intervals where they are many, so that what it costs over time is constant for
+/// each interval and channel.
+pub(crate) fn let_go_of_many(kept: &mut Vec<KeptInterval>, ch: u8, clock: u64, channels: usize)
+    requires { AreKept kept.old.items }
+    ensures kept { AreKept kept.new.items }
+    ensures held { (at_ch m sid iuc : ℕ) → (ch ≡ at_ch → clock ≤ m) → HasAt (map kept_interval kept.new.items) at_ch m sid iuc ↔ HasAt (map kept_interval kept.old.items) at_ch m sid iuc }
+{
+    if has_many_old(kept.as_slice(), ch, clock, channels) {
+        let_go(kept, ch, clock);
+    }
 }
 
 fn interval_of(ch: u8, start: u64, interval: Interval) -> KeptInterval
@@ -173,8 +197,7 @@ fn add(kept: &mut Vec<KeptInterval>, interval: KeptInterval)
     if interval.stop <= interval.start {
         return;
     }
-    let wanted = place_of(&interval);
-    let before = kept.partition_point(|k| place_of(k) <= wanted);
+    let before = kept.partition_point(|k| begins_by(k, interval.channel, interval.start));
     if before > 0 && kept[before - 1] == interval {
         return;
     }

@@ -4,9 +4,10 @@
 mod channels;
 mod intervals;
 mod kept;
+mod known;
 mod modem;
 mod owner;
-pub mod types;
+mod types;
 mod wants;
 
 pub use modem::Modem;

@@ -1,49 +1,23 @@
 //! The modem core, which keeps one interval for each element that it was given, and lets go of those that have ended.
 
 ghost use Rattle.std.specs.Prelude.{◌≡◌, ℕ, ◌<◌, ◌≤◌, None, Some, Ok, Err, OnOk, OnErr, IfOk, IfErr, IfSome, IfNone, IsOkAnd, IsErr, List, true, false, ◌∷◌, ◌++◌, [], ◌⊎◌, ◌==◌, ◌↔◌, MatchBool};
-ghost use Rattle.map_body.specs.declared.fault.MapFault.TheVariants.{OutOfMemory};
-ghost use Rattle.map_body.specs.Body.{Body};
-ghost use Rattle.map_body.specs.Layout.{IsBody, IsSized};
 ghost use Rattle.std.specs.Option.{option_map};
-ghost use Rattle.modem.specs.declared.types.Channel.{Channel};
-ghost use Rattle.modem.specs.State.{new_modem, channel_of, is_own, with_ucd, with_sid};
+ghost use Rattle.modem.specs.State.{new_modem, channel_clock, channel_of, is_own, with_ucd, with_sid};
 ghost use Rattle.modem.specs.Held.{StandsFor, Hearing, Held, unicast_sid};
-ghost use Rattle.modem.specs.Hears.{Hears, HearsMap, MayGrow, Takes};
+ghost use Rattle.modem.specs.Hears.{Hears, HearsMap, IsDue, MayGrow, Takes};
 ghost use Rattle.modem.specs.Wants.{want_refusal, new_want};
 ghost use Rattle.modem.specs.Ticks.{Ticks};
 
+use crate::intervals::HeardMap;
 use crate::kept::{self, KeptInterval};
-use crate::types::{Channel, Heard, OwnSid, Progress, Sending, TimeBack, Want, WantFault};
+use crate::known::{Channel, OwnSid, Progress, Want};
+use crate::types::{Heard, Sending, TimeBack, WantFault};
 use crate::{channels, intervals, wants};
 use grant_machine::Output;
-use map_body::{MapBody, MapFault, decode};
+use map_body::{MapBody, decode};
 use minislot_time::Slot;
 use std::alloc::{AllocError, Global};
 use std::marker::Model;
-
-fn is_memory(fault: MapFault) -> bool
-    ensures { (result ≡ true) ↔ (fault ≡ OutOfMemory) }
-{
-    matches!(fault, MapFault::OutOfMemory)
-}
-
-// The map that bytes are, if they are one.
-fn read(alloc: Global, bytes: &[u8]) -> Result<Option<MapBody>, AllocError>
-    ensures memory { IsErr result → IsSized bytes.now }
-    ensures read { IfOk result (λ found. IfSome found (IsBody bytes.now)) }
-    ensures unreadable { IfOk result (λ found. IfNone found ((map : Body) → ¬ IsBody bytes.now map)) }
-{
-    match decode(alloc, bytes) {
-        Ok(map) => Ok(Some(map)),
-        Err(fault) => {
-            if is_memory(fault) {
-                Err(AllocError)
-            } else {
-                Ok(None)
-            }
-        }
-    }
-}
 
 /// A modem: it hears outputs, takes wants, and answers each tick with what it sends.
 #[derive(Drop)]
@@ -86,7 +60,7 @@ impl Modem {
 
     /// The modem's clock on a channel that it knows: no tick before this minislot is taken.
     pub fn clock(&self, ch: u8) -> Option<u64>
-        ensures { result ≡ option_map (λ (c : Channel). c.clock) (channel_of self.now.channels ch) }
+        ensures { result ≡ option_map channel_clock (channel_of self.now.channels ch) }
     {
         match channels::find(self.channels.as_slice(), ch) {
             Some(channel) => Some(channel.clock),
@@ -126,12 +100,13 @@ impl Modem {
 
     /// What the modem sends at a minislot of a channel: by a grant of its own, else at a poll, else a request
     /// where all may send one (truncated binary exponential back-off; CM-SP-MULPIv3.1, upstream bandwidth
-    /// allocation). It takes no memory. It costs the modem's wants, the logarithm of the intervals that it keeps,
-    /// and what of them begins less than 2^14 minislots before.
+    /// allocation). It takes no memory. It costs the modem's channels and wants, the logarithm of the intervals that
+    /// it keeps, and what of them begins less than 2^14 minislots before; and, once for each interval that has
+    /// ended, a constant for each channel.
     pub fn tick(&mut self, ch: u8, slot: Slot, random: u64) -> Result<Option<Sending>, TimeBack>
         ensures unknown { channel_of self.old.channels ch ≡ None → (result ≡ Ok None) × (self.new ≡ self.old) }
-        ensures back { IfSome (channel_of self.old.channels ch) (λ c. slot < c.clock → IsErr result × (self.new ≡ self.old)) }
-        ensures ticks { IfSome (channel_of self.old.channels ch) (λ c. c.clock ≤ slot → IsOkAnd result (λ sending. Ticks self.old c slot random sending self.new)) }
+        ensures back { IfSome (channel_of self.old.channels ch) (λ c. slot < channel_clock c → IsErr result × (self.new ≡ self.old)) }
+        ensures ticks { IfSome (channel_of self.old.channels ch) (λ c. channel_clock c ≤ slot → IsOkAnd result (λ sending. Ticks self.old c slot random sending self.new)) }
         ensures held { IfOk result (λ sending. (hearings : List Hearing) (sid : ℕ) → StandsFor self.old hearings → unicast_sid sending ≡ Some sid → Held self.old.id hearings ch slot sid) }
         ensures stands { (hearings : List Hearing) → StandsFor self.old hearings → StandsFor self.new hearings }
     {
@@ -145,24 +120,22 @@ impl Modem {
         let counted = kept::counted(self.grants.as_slice(), channel.id, at);
         let open = kept::is_open(self.open_to_all.as_slice(), channel.id, at);
         let sending = wants::send(&mut self.wants, channel, at, random, counted, open);
-        channels::set(
-            &mut self.channels,
-            Channel {
-                clock: at + 1,
-                ..channel
-            },
-        );
+        let clock = at + 1;
+        let count = self.channels.len();
+        kept::let_go_of_many(&mut self.grants, channel.id, clock, count);
+        kept::let_go_of_many(&mut self.open_to_all, channel.id, clock, count);
+        channels::set(&mut self.channels, Channel { clock, ..channel });
         Ok(sending)
     }
 
     /// Hears an output near a time. Of a Map only the bytes are looked at. It takes memory only for a channel
-    /// that wasn't known, for a new SID of its own, and for a map's bytes, if they have the length that their
-    /// count tells. It costs the map's elements times the modem's SIDs and wants, and for each element that is
+    /// that wasn't known, for a new SID of its own, and for a map that is taken; every other answer is given
+    /// however little there is. It costs the map's elements times the modem's SIDs and wants, and for each element that is
     /// kept the logarithm of what is kept, whatever was heard before.
     pub fn hear(&mut self, output: &Output, near: Slot) -> Result<Heard, AllocError>
         ensures ok { IfOk result (λ answer. Hears self.old output.now near answer self.new) }
         ensures err { OnErr result (self.new ≡ self.old) }
-        ensures memory { IsErr result → MayGrow self.old output.now }
+        ensures memory { IsErr result → MayGrow self.old output.now near }
         ensures stands { IfOk result (λ answer. (hearings : List Hearing) → StandsFor self.old hearings → StandsFor self.new (record { output = output.now; near = near; answer = answer } ∷ hearings)) }
     {
         match output {
@@ -216,19 +189,16 @@ impl Modem {
         Ok(Heard::Taken)
     }
 
+    // Nothing is read into memory but a map that is taken.
     fn hear_map(&mut self, bytes: &[u8], near: Slot) -> Result<Heard, AllocError>
         ensures ok { IfOk result (λ answer. HearsMap self.old bytes.now near answer self.new) }
         ensures err { OnErr result (self.new ≡ self.old) }
-        ensures memory { IsErr result → IsSized bytes.now }
+        ensures memory { IsErr result → IsDue self.old bytes.now near }
     {
-        let alloc = *self.wants.allocator();
-        let Some(map) = read(alloc, bytes)? else {
+        let Some(heard) = intervals::heard_near(bytes, near) else {
             return Ok(Heard::Unreadable);
         };
-        let Some((start, end)) = intervals::extent(&map, near) else {
-            return Ok(Heard::Unreadable);
-        };
-        let head = *map.head();
+        let HeardMap { head, start, stop } = heard;
         let Some(channel) = channels::find(self.channels.as_slice(), head.channel) else {
             return Ok(Heard::OtherUcd);
         };
@@ -236,10 +206,14 @@ impl Modem {
             return Ok(Heard::OtherUcd);
         }
         let clock = channel.clock.max(near.get());
-        if end <= clock {
+        if stop <= clock {
             channels::set(&mut self.channels, Channel { clock, ..channel });
             return Ok(Heard::Past);
         }
+        let alloc = *self.wants.allocator();
+        let Ok(map) = decode(alloc, bytes) else {
+            return Err(AllocError);
+        };
         self.take(&map, start, channel, near)?;
         Ok(Heard::Taken)
     }

@@ -5,42 +5,6 @@ ghost use Rattle.modem.specs.Wants.{number_of_fault};
 
 use thiserror::Error;
 
-/// A channel that the modem knows: its UCD Count, its clock (a minislot) and the latest data back-offs, start
-/// and end.
-#[derive(Clone, Copy, Debug, PartialEq, Eq)]
-pub struct Channel {
-    pub id: u8,
-    pub ucd: u8,
-    pub clock: u64,
-    pub backoff: (u8, u8),
-}
-
-/// A SID of the modem's on a channel.
-#[derive(Clone, Copy, Debug, PartialEq, Eq)]
-pub struct OwnSid {
-    pub channel: u8,
-    pub sid: u16,
-}
-
-/// How far a want has come.
-#[derive(Clone, Copy, Debug, PartialEq, Eq)]
-pub enum Progress {
-    /// Not sent; the request minislots that it still lets pass, once drawn.
-    Unsent(Option<u16>),
-    /// Sent at this minislot.
-    Sent(u64),
-}
-
-/// A request that the modem wants to send, or has sent.
-#[derive(Clone, Copy, Debug, PartialEq, Eq)]
-pub struct Want {
-    pub channel: u8,
-    pub sid: u16,
-    pub n: u16,
-    pub tries: u8,
-    pub progress: Progress,
-}
-
 /// The answer to an output that is heard: it is taken; it is for another modem; it is a MAP of a channel
 /// that isn't known or of another UCD Count, one that has ended, or one that can't be read near that time.
 #[derive(Clone, Copy, Debug, PartialEq, Eq)]

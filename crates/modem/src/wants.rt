@@ -2,14 +2,15 @@
 
 ghost use Rattle.std.specs.Prelude.{◌≡◌, ℕ, ◌+◌, ◌-◌, ◌<◌, ◌≤◌, ◌==◌, ◌&&◌, if◌then◌else◌, IfOk, Option, Some, None};
 ghost use Rattle.std.specs.List.{filter_map, list_any};
-ghost use Rattle.modem.specs.declared.types.Want.{Want};
+ghost use Rattle.modem.specs.declared.known.Want.{Want};
 ghost use Rattle.modem.specs.Wants.{is_want, is_unsent, unsent_of, with_want, IsLeastUnsent};
 ghost use Rattle.map_body.specs.Intervals.{intervals};
 ghost use Rattle.modem.specs.Intervals.{is_granted, is_pending, is_acknowledged, lost, decided};
 ghost use Rattle.modem.specs.Steps.{lesser};
 ghost use Rattle.modem.specs.Ticks.{number_of, sent_at, Polls, Contends, SendsBy, Shares};
 
-use crate::types::{Channel, Progress, Sending, Want};
+use crate::known::{Channel, Progress, Want};
+use crate::types::Sending;
 use map_body::{Interval, Iuc, MapBody};
 use std::alloc::{AllocError, Global};
 

@@ -3,11 +3,10 @@ use Rattle.std.proofs.Common.{◌≡◌, ◌≢◌, ◌⊎◌, inl, inr, ⊎_eli
 use Rattle.ballots.specs.Voting.{IsIn}
 use Rattle.grant_machine.specs.declared.output.Output.{Output}
 use Rattle.grant_machine.specs.declared.output.Output.TheVariants as output
-use Rattle.modem.specs.declared.types.Channel.{Channel}
 use Rattle.modem.specs.declared.types.Heard.{Heard}
 use Rattle.modem.specs.declared.types.Heard.TheVariants as heard
 use Rattle.modem.specs.declared.types.Sending.{Sending}
-use Rattle.modem.specs.State.{State, channel_of, with_sid}
+use Rattle.modem.specs.State.{KnownChannel, channel_clock, State, channel_of, with_sid}
 use Rattle.modem.specs.Held.{Hearing, Held, StandsFor, unicast_sid}
 use Rattle.modem.specs.Hears.{Hears}
 use Rattle.modem.specs.Ticks.{Ticks}
@@ -136,8 +135,8 @@ wants_follow outputs r r' ch sid n told none = absurd none
 
 -- what is proved of the modem's relations: what a modem stands for is kept by what it hears and by its ticks, and what it sends it holds
 module _ (hears_stand : (old new : State) (o : Output) (near : ℕ) (h : Heard) (hearings : List Hearing) → Hears old o near h new → StandsFor old hearings → StandsFor new (record { output = o; near = near; answer = h } ∷ hearings))
-    (ticks_stand : (old new : State) (c : Channel) (ch slot random : ℕ) (sending : Option Sending) (hearings : List Hearing) → channel_of old.channels ch ≡ Some c → c.clock ≤ slot → Ticks old c slot random sending new → StandsFor old hearings → StandsFor new hearings)
-    (ticks_held : (old new : State) (c : Channel) (ch slot random : ℕ) (sending : Option Sending) (hearings : List Hearing) (sid : ℕ) → channel_of old.channels ch ≡ Some c → c.clock ≤ slot → Ticks old c slot random sending new → StandsFor old hearings → unicast_sid sending ≡ Some sid → Held old.id hearings ch slot sid) where
+    (ticks_stand : (old new : State) (c : KnownChannel) (ch slot random : ℕ) (sending : Option Sending) (hearings : List Hearing) → channel_of old.channels ch ≡ Some c → channel_clock c ≤ slot → Ticks old c slot random sending new → StandsFor old hearings → StandsFor new hearings)
+    (ticks_held : (old new : State) (c : KnownChannel) (ch slot random : ℕ) (sending : Option Sending) (hearings : List Hearing) (sid : ℕ) → channel_of old.channels ch ≡ Some c → channel_clock c ≤ slot → Ticks old c slot random sending new → StandsFor old hearings → unicast_sid sending ≡ Some sid → Held old.id hearings ch slot sid) where
   hears_follow : (outputs : List ReleasedOutput) (r r' : Receiver) (x : ReleasedOutput) (near : ℕ) (told : Answer) → IsIn outputs x → HearsOutput r x.numbered.output near told r' → Follows outputs r r'
   hears_follow outputs r r' x near (answer.Heard h) there is = record {
     id = hears_id r.state r'.state x.numbered.output near h is.1;
@@ -146,14 +145,14 @@ module _ (hears_stand : (old new : State) (o : Output) (near : ℕ) (h : Heard) 
     held = λ n ch m sid held. subst (λ (hs : List Hearing). Held n hs ch m sid) (sym is.2) (held.0, inr held.1);
   }
   hears_follow outputs r r' x near (answer.Refused refusal.TooOld) there is = follows_same outputs r r' is.1
-  hears_follow outputs r r' x near (answer.Refused refusal.OutOfMemory) there is = follows_same outputs r r' is.1
+  hears_follow outputs r r' x near (answer.Refused refusal.OutOfMemory) there is = follows_same outputs r r' is.2
   hears_follow outputs r r' x near told there none = absurd none
 
   listens_follow : (outputs : List ReleasedOutput) (r r' : Receiver) (i near : ℕ) (told : Answer) (there : Option ReleasedOutput) → slice_get outputs i ≡ there → Listens r there near told r' → Follows outputs r r'
   listens_follow outputs r r' i near told None is unmoved = follows_same outputs r r' unmoved.1
   listens_follow outputs r r' i near told (Some x) is hears = hears_follow outputs r r' x near told (get_in outputs i x is) hears
 
-  known_follow : (outputs : List ReleasedOutput) (r r' : Receiver) (ch slot random : ℕ) (c : Channel) (told : Answer) → channel_of r.state.channels ch ≡ Some c → ComesToKnown r slot random c told r' → Follows outputs r r'
+  known_follow : (outputs : List ReleasedOutput) (r r' : Receiver) (ch slot random : ℕ) (c : KnownChannel) (told : Answer) → channel_of r.state.channels ch ≡ Some c → ComesToKnown r slot random c told r' → Follows outputs r r'
   known_follow outputs r r' ch slot random c (answer.Ticked sending) found is = record {
     id = is.1.id;
     stands = λ s. subst (λ (hs : List Hearing). StandsFor r'.state hs) (sym is.2) (ticks_stand r.state r'.state c ch slot random sending r.heard found is.0 is.1 s);
@@ -169,18 +168,18 @@ module _ (hears_stand : (old new : State) (o : Output) (near : ℕ) (h : Heard) 
   unknown_follow outputs r r' (answer.Refused refusal.OutOfMemory) is = follows_same outputs r r' is
   unknown_follow outputs r r' told none = absurd none
 
-  comes_follow : (outputs : List ReleasedOutput) (r r' : Receiver) (ch slot random : ℕ) (told : Answer) (known : Option Channel) → channel_of r.state.channels ch ≡ known → ComesTo r slot random known told r' → Follows outputs r r'
+  comes_follow : (outputs : List ReleasedOutput) (r r' : Receiver) (ch slot random : ℕ) (told : Answer) (known : Option KnownChannel) → channel_of r.state.channels ch ≡ known → ComesTo r slot random known told r' → Follows outputs r r'
   comes_follow outputs r r' ch slot random told (Some c) found is = known_follow outputs r r' ch slot random c told found is
   comes_follow outputs r r' ch slot random told None found is = unknown_follow outputs r r' told is
 
   -- a transmission that a tick made is held
-  known_held : (r r' : Receiver) (ch slot random : ℕ) (c : Channel) (sending : Sending) (sid : ℕ) → channel_of r.state.channels ch ≡ Some c → StandsFor r.state r.heard → ComesToKnown r slot random c (answer.Ticked (Some sending)) r' → unicast_sid (Some sending) ≡ Some sid
+  known_held : (r r' : Receiver) (ch slot random : ℕ) (c : KnownChannel) (sending : Sending) (sid : ℕ) → channel_of r.state.channels ch ≡ Some c → StandsFor r.state r.heard → ComesToKnown r slot random c (answer.Ticked (Some sending)) r' → unicast_sid (Some sending) ≡ Some sid
       → Held r'.state.id r'.heard ch slot sid
   known_held r r' ch slot random c sending sid found stands is unicast =
       let held = ticks_held r.state r'.state c ch slot random (Some sending) r.heard sid found is.0 is.1 stands unicast in
       subst (λ (n : ℕ). Held n r'.heard ch slot sid) (sym is.1.id) (subst (λ (hs : List Hearing). Held r.state.id hs ch slot sid) (sym is.2) held)
 
-  tick_held : (r r' : Receiver) (ch slot random : ℕ) (sending : Sending) (sid : ℕ) (known : Option Channel) → channel_of r.state.channels ch ≡ known → StandsFor r.state r.heard → ComesTo r slot random known (answer.Ticked (Some sending)) r' → unicast_sid (Some sending) ≡ Some sid
+  tick_held : (r r' : Receiver) (ch slot random : ℕ) (sending : Sending) (sid : ℕ) (known : Option KnownChannel) → channel_of r.state.channels ch ≡ known → StandsFor r.state r.heard → ComesTo r slot random known (answer.Ticked (Some sending)) r' → unicast_sid (Some sending) ≡ Some sid
       → Held r'.state.id r'.heard ch slot sid
   tick_held r r' ch slot random sending sid (Some c) found stands is unicast = known_held r r' ch slot random c sending sid found stands is unicast
   tick_held r r' ch slot random sending sid None found stands is unicast = absurd (cc (is.0))

@@ -11,10 +11,9 @@ use Rattle.grant_machine.specs.Owner.{Owns}
 use Rattle.grant_machine.specs.Runs.{outputs_of}
 use Rattle.command_log.specs.Reading.{command_of}
 use Rattle.command_log.specs.Values.{outputs_of_values}
-use Rattle.modem.specs.declared.types.Channel.{Channel}
 use Rattle.modem.specs.declared.types.Heard.{Heard}
 use Rattle.modem.specs.declared.types.Sending.{Sending}
-use Rattle.modem.specs.State.{State, new_modem, channel_of}
+use Rattle.modem.specs.State.{KnownChannel, channel_clock, State, new_modem, channel_of}
 use Rattle.modem.specs.Held.{Hearing, Gives, WasAssigned, HeldBy, Held, StandsFor, unicast_sid}
 use Rattle.modem.specs.Hears.{Hears}
 use Rattle.modem.specs.Ticks.{Ticks}
@@ -114,8 +113,8 @@ opening_modems ids = record {
 }
 
 module _ (hears_stand : (old new : State) (o : Output) (near : ℕ) (h : Heard) (hearings : List Hearing) → Hears old o near h new → StandsFor old hearings → StandsFor new (record { output = o; near = near; answer = h } ∷ hearings))
-    (ticks_stand : (old new : State) (c : Channel) (ch slot random : ℕ) (sending : Option Sending) (hearings : List Hearing) → channel_of old.channels ch ≡ Some c → c.clock ≤ slot → Ticks old c slot random sending new → StandsFor old hearings → StandsFor new hearings)
-    (ticks_held : (old new : State) (c : Channel) (ch slot random : ℕ) (sending : Option Sending) (hearings : List Hearing) (sid : ℕ) → channel_of old.channels ch ≡ Some c → c.clock ≤ slot → Ticks old c slot random sending new → StandsFor old hearings → unicast_sid sending ≡ Some sid → Held old.id hearings ch slot sid)
+    (ticks_stand : (old new : State) (c : KnownChannel) (ch slot random : ℕ) (sending : Option Sending) (hearings : List Hearing) → channel_of old.channels ch ≡ Some c → channel_clock c ≤ slot → Ticks old c slot random sending new → StandsFor old hearings → StandsFor new hearings)
+    (ticks_held : (old new : State) (c : KnownChannel) (ch slot random : ℕ) (sending : Option Sending) (hearings : List Hearing) (sid : ℕ) → channel_of old.channels ch ≡ Some c → channel_clock c ≤ slot → Ticks old c slot random sending new → StandsFor old hearings → unicast_sid sending ≡ Some sid → Held old.id hearings ch slot sid)
     (scheduled : (cs : List Command) → AreScheduled (outputs_of cs)) where
   abbrev Fine : List ℕ → Written → Type 0
   Fine ids w = ModemsOk ids w.outputs w.modems w.transmissions

@@ -4,11 +4,10 @@ use Rattle.std.specs.Prelude.{IfSome, IsErr, Result, Ok, Err}
 use Rattle.std.proofs.lemmas.List.Elements.{All-head, All-tail}
 use Rattle.std.proofs.lemmas.Option.{slice_get_past, slice_get_read}
 use Rattle.grant_machine.specs.declared.output.Output.{Output}
-use Rattle.modem.specs.declared.types.Channel.{Channel}
 use Rattle.modem.specs.declared.types.Heard.{Heard}
 use Rattle.modem.specs.declared.types.Sending.{Sending}
 use Rattle.modem.specs.declared.types.TimeBack.{TimeBack}
-use Rattle.modem.specs.State.{State, new_modem, channel_of}
+use Rattle.modem.specs.State.{KnownChannel, channel_clock, State, new_modem, channel_of}
 use Rattle.modem.specs.Held.{Hearing, StandsFor}
 use Rattle.modem.specs.Hears.{Hears}
 use Rattle.modem.specs.Owner.{IsTimely}
@@ -123,22 +122,22 @@ abbrev the_refusal : TimeBack → Result (Option Sending) TimeBack
 the_refusal fault = Err fault
 
 -- a modem that came to a minislot stands for a receiver that did
-pub comes_on : (v v' : State) (slot random : ℕ) (found : Option Channel) (sending : Option Sending) → (found ≡ None → (the_reply sending ≡ Ok None) × (v' ≡ v)) → IfSome found (λ c. slot < c.clock → IsErr (the_reply sending) × (v' ≡ v)) → IfSome found (λ c. c.clock ≤ slot → Ticks v c slot random sending v') → ((hearings : List Hearing) → StandsFor v hearings → StandsFor v' hearings) → (r : Receiver) → IsReceiver v r → (after : Receiver) × ComesTo r slot random found (Ticked sending) after × IsReceiver v' after
+pub comes_on : (v v' : State) (slot random : ℕ) (found : Option KnownChannel) (sending : Option Sending) → (found ≡ None → (the_reply sending ≡ Ok None) × (v' ≡ v)) → IfSome found (λ c. slot < channel_clock c → IsErr (the_reply sending) × (v' ≡ v)) → IfSome found (λ c. channel_clock c ≤ slot → Ticks v c slot random sending v') → ((hearings : List Hearing) → StandsFor v hearings → StandsFor v' hearings) → (r : Receiver) → IsReceiver v r → (after : Receiver) × ComesTo r slot random found (Ticked sending) after × IsReceiver v' after
 comes_on v v' slot random None sending unknown back ticks stands r is =
     let same = unknown refl in
     let silent : sending ≡ None = cc (same.0) in
     (r, (silent, refl), record { state = is.state ∙ sym same.1; heard = stands r.heard is.heard })
 comes_on v v' slot random (Some c) sending unknown back ticks stands r is =
     let T = λ (x : State). Ticks x c slot random sending v' in
-    let late : c.clock ≤ slot = not_less slot c.clock (λ before. let failed = (back before).0 in cc) in
+    let late : channel_clock c ≤ slot = not_less slot (channel_clock c) (λ before. let failed = (back before).0 in cc) in
     let after : Receiver = record { state = v'; heard = r.heard } in
     (after, (late, subst T (sym is.state) (ticks late), refl), record { state = refl; heard = stands r.heard is.heard })
 
 -- a modem that can't go back in time stands for a receiver that can't
-pub comes_back : (v v' : State) (slot random : ℕ) (found : Option Channel) (fault : TimeBack) → (found ≡ None → (the_refusal fault ≡ Ok None) × (v' ≡ v)) → IfSome found (λ c. slot < c.clock → IsErr (the_refusal fault) × (v' ≡ v)) → IfSome found (λ c. c.clock ≤ slot → ⊥) → (r : Receiver) → IsReceiver v r → (after : Receiver) × ComesTo r slot random found (Refused ClockPast) after × IsReceiver v' after
+pub comes_back : (v v' : State) (slot random : ℕ) (found : Option KnownChannel) (fault : TimeBack) → (found ≡ None → (the_refusal fault ≡ Ok None) × (v' ≡ v)) → IfSome found (λ c. slot < channel_clock c → IsErr (the_refusal fault) × (v' ≡ v)) → IfSome found (λ c. channel_clock c ≤ slot → ⊥) → (r : Receiver) → IsReceiver v r → (after : Receiver) × ComesTo r slot random found (Refused ClockPast) after × IsReceiver v' after
 comes_back v v' slot random None fault unknown back ticks r is = cc ((unknown refl).0)
 comes_back v v' slot random (Some c) fault unknown back ticks r is =
-    let before : slot < c.clock = less slot c.clock ticks in
+    let before : slot < channel_clock c = less slot (channel_clock c) ticks in
     (r, (before, refl), subst (λ (x : State). IsReceiver x r) (sym (back before).1) is)
 
 -- the channel is looked for in the receiver's state

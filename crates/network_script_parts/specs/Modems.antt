@@ -1,9 +1,8 @@
 -- What the modems' events do, by cases.
 use Rattle.std.specs.Prelude.{◌≡◌, ℕ, ◌<◌, ◌≤◌, List, [], ◌∷◌, ◌++◌, Option, Some, None, slice_get, slice_set}
 use Rattle.grant_machine.specs.declared.output.Output.{Output}
-use Rattle.modem.specs.declared.types.Channel.{Channel}
-use Rattle.modem.specs.State.{channel_of}
-use Rattle.modem.specs.Hears.{Hears}
+use Rattle.modem.specs.State.{KnownChannel, channel_clock, channel_of}
+use Rattle.modem.specs.Hears.{Hears, MayGrow}
 use Rattle.modem.specs.Wants.{want_refusal, new_want}
 use Rattle.modem.specs.Ticks.{Ticks}
 use Rattle.modem.specs.Owner.{IsTimely}
@@ -21,7 +20,7 @@ abbrev pub HearsOutput : Receiver → Output → ℕ → Answer → Receiver →
 HearsOutput r output near (Heard h) r' =
     IsTimely output near × Hears r.state output near h r'.state × (r'.heard ≡ record { output = output; near = near; answer = h } ∷ r.heard)
 HearsOutput r output near (Refused TooOld) r' = (¬ IsTimely output near) × (r' ≡ r)
-HearsOutput r output near (Refused OutOfMemory) r' = IsTimely output near × (r' ≡ r)
+HearsOutput r output near (Refused OutOfMemory) r' = IsTimely output near × MayGrow r.state output near × (r' ≡ r)
 HearsOutput r output near answer r' = ⊥
 
 -- the output that it is to hear, if there is one
@@ -38,10 +37,10 @@ Wants r ch sid n (Refused OutOfMemory) r' = (want_refusal r.state ch sid n ≡ N
 Wants r ch sid n answer r' = ⊥
 
 -- a modem comes to a minislot of a channel that it knows
-abbrev pub ComesToKnown : Receiver → ℕ → ℕ → Channel → Answer → Receiver → Type 0
-ComesToKnown r slot random c (Ticked sending) r' = (c.clock ≤ slot) × Ticks r.state c slot random sending r'.state × (r'.heard ≡ r.heard)
-ComesToKnown r slot random c (Refused TimeBack) r' = (slot < c.clock) × (r' ≡ r)
-ComesToKnown r slot random c (Refused OutOfMemory) r' = (c.clock ≤ slot) × (r' ≡ r)
+abbrev pub ComesToKnown : Receiver → ℕ → ℕ → KnownChannel → Answer → Receiver → Type 0
+ComesToKnown r slot random c (Ticked sending) r' = (channel_clock c ≤ slot) × Ticks r.state c slot random sending r'.state × (r'.heard ≡ r.heard)
+ComesToKnown r slot random c (Refused TimeBack) r' = (slot < channel_clock c) × (r' ≡ r)
+ComesToKnown r slot random c (Refused OutOfMemory) r' = (channel_clock c ≤ slot) × (r' ≡ r)
 ComesToKnown r slot random c answer r' = ⊥
 
 -- a channel that it doesn't know gives nothing
@@ -50,7 +49,7 @@ ComesToUnknown r (Ticked sending) r' = (sending ≡ None) × (r' ≡ r)
 ComesToUnknown r (Refused OutOfMemory) r' = r' ≡ r
 ComesToUnknown r answer r' = ⊥
 
-abbrev pub ComesTo : Receiver → ℕ → ℕ → Option Channel → Answer → Receiver → Type 0
+abbrev pub ComesTo : Receiver → ℕ → ℕ → Option KnownChannel → Answer → Receiver → Type 0
 ComesTo r slot random (Some c) answer r' = ComesToKnown r slot random c answer r'
 ComesTo r slot random None answer r' = ComesToUnknown r answer r'
 

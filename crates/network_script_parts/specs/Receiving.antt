@@ -1,7 +1,6 @@
 -- How the modems' cores stand for the written receivers.
 use Rattle.std.specs.Prelude.{◌≡◌, ℕ, ◌<◌, List, [], ◌∷◌, map, All, Option, Some, None}
-use Rattle.modem.specs.declared.types.Channel.{Channel}
-use Rattle.modem.specs.State.{State, new_modem}
+use Rattle.modem.specs.State.{State, KnownChannel, channel_clock, new_modem}
 use Rattle.modem.specs.Held.{StandsFor}
 use Rattle.network_script_parts.specs.declared.event.Transmission.{Transmission}
 use Rattle.network_script_parts.specs.Receiver.{Receiver, new_receiver}
@@ -39,6 +38,6 @@ abbrev pub new_receivers : List State → List Receiver
 new_receivers modems = map new_receiver (map (λ (v : State). v.id) modems)
 
 -- a minislot before the clock of a channel that is known
-abbrev pub IsBefore : ℕ → Option Channel → Type 0
+abbrev pub IsBefore : ℕ → Option KnownChannel → Type 0
 IsBefore slot None = ⊥
-IsBefore slot (Some c) = slot < c.clock
+IsBefore slot (Some c) = slot < channel_clock c

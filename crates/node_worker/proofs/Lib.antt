@@ -7,3 +7,4 @@ pub mod Comparisons
 pub mod Wholes
 pub mod Played
 pub mod Listening
+pub mod Clusters

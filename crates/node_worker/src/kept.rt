@@ -107,6 +107,7 @@ impl<N: Node> Kept<N> {
         ensures full { IfErr result (λ e. e ≡ WorkFault.Full ↔ length self.old.entries ≡ self.old.quota) }
         ensures room { IsOk result → length self.old.entries < self.old.quota }
         ensures err { OnErr result (self.new ≡ self.old) }
+        ensures trusted { AreTrusted N.honest → IsTrue self.new.honest }
     {
         if self.entries.len() >= self.quota {
             return Err(WorkFault::Full);
@@ -136,6 +137,7 @@ pub fn keep_all<N: Node>(
     requires { AreFresh N.who N.honest N.stands nodes.items }
     ensures members { IfOk result (λ kepts. map member_of kepts.items ≡ map (λ k. (k, length nodes.items)) (range_with_len 0 (length nodes.items))) }
     ensures nothing { IfOk result (λ kepts. All (λ k. (k.entries ≡ []) × (k.quota ≡ quota)) kepts.items) }
+    ensures trusted { IfOk result (λ kepts. AreTrusted N.honest → All (λ k. IsTrue k.honest) kepts.items) }
 {
     let mut kepts = Vec::new(alloc);
     for node in nodes {

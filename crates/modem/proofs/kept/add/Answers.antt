@@ -19,9 +19,9 @@ pub returns-clause-kept : goal.returns-clause-kept
 returns-clause-kept c =
     let ks = c.args.kept.now.items in
     let before = c.partition_point-before.result in
-    let found = IsPartitionPoint-from_clause (λ (y : KeptInterval). leb (place_of y) c.place_of-wanted.result) c.deref.result.now before c.partition_point-before.ensures.partitioned (rw c.deref.ensures.value (IsPartitionedBy-leb place_of ks c.place_of-wanted.result c.requires.kept.ordered)) (λ a r f' k. search rules) in
-    let low : AllWithin (λ (j : KeptInterval). leb (place_of j) (place_of c.args.interval) ≡ true) ks 0 before = rw (c.deref.ensures.value, c.place_of-wanted.ensures) at found.0 in
-    let high : AllWithin (λ (j : KeptInterval). leb (place_of j) (place_of c.args.interval) ≡ false) ks before (length ks) = rw (c.deref.ensures.value, c.place_of-wanted.ensures) at found.1 in
+    let found = IsPartitionPoint-from_clause (λ (y : KeptInterval). leb (place_of y) (place_of c.args.interval)) c.deref.result.now before c.partition_point-before.ensures.partitioned (rw c.deref.ensures.value (IsPartitionedBy-leb place_of ks (place_of c.args.interval) c.requires.kept.ordered)) (λ a r f' k. search rules) in
+    let low : AllWithin (λ (j : KeptInterval). leb (place_of j) (place_of c.args.interval) ≡ true) ks 0 before = rw c.deref.ensures.value at found.0 in
+    let high : AllWithin (λ (j : KeptInterval). leb (place_of j) (place_of c.args.interval) ≡ false) ks before (length ks) = rw c.deref.ensures.value at found.1 in
     let bound = rw c.deref.ensures.value at c.partition_point-before.ensures.bound in
     rw (inserted c.insert-added.result (insert ks before c.args.interval) ks c.insert-added.new.self.items (c.insert-added.ensures.succeeds c.requires.room) c.insert-added.ensures.items)
     (AreKept-insert ks before c.args.interval c.requires.kept c.requires.short bound low high)

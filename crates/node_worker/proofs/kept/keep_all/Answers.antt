@@ -16,4 +16,6 @@ loop-node-preserved g c =
       All-tail (λ n. (g.N.Node.who n).down ≡ false) c.in-Some.node c.next.new.self.rest.items (subst (λ ns. All (λ n. (g.N.Node.who n).down ≡ false) ns) taken was.2),
       subst (λ (ks : List KeptView). All (λ k. (k.entries ≡ []) × (k.quota ≡ c.args.quota)) ks) (sym c.in_ok-push.ensures.items)
           (All-push (λ k. (k.entries ≡ []) × (k.quota ≡ c.args.quota)) c.loop-node.kepts.items c.in_ok-new.field-0 was.3 (ap (λ (k : KeptView). k.entries) made, ap (λ (k : KeptView). k.quota) made)),
+      (λ trusted. subst (λ (ks : List KeptView). All (λ k. IsTrue k.honest) ks) (sym c.in_ok-push.ensures.items)
+          (All-push (λ k. IsTrue k.honest) c.loop-node.kepts.items c.in_ok-new.field-0 (was.4 trusted) (subst (λ b. IsTrue b) (sym (ap (λ (k : KeptView). k.honest) made)) (trusted c.in-Some.node)))),
     )

@@ -1,5 +1,5 @@
 use Rattle.std.proofs.Common.{◌≡◌, ◌++◌, [], All, IsTrue, false, map}
-use Rattle.node_worker.specs.KeptView.{member_of}
+use Rattle.node_worker.specs.KeptView.{AreTrusted, member_of}
 use Rattle.node_worker.specs.Replays.{opening}
 use Rattle.node_worker.proofs.kept.keep_all.Given as goal
 
@@ -10,3 +10,4 @@ invariant-loop-node g l =
     × All (λ n. IsTrue (g.N.Node.honest n) → g.N.Node.stands n opening) rest
     × All (λ n. (g.N.Node.who n).down ≡ false) rest
     × All (λ k. (k.entries ≡ []) × (k.quota ≡ l.quota)) l.kepts.items
+    × (AreTrusted g.N.Node.honest → All (λ k. IsTrue k.honest) l.kepts.items)

@@ -1,23 +1,16 @@
-use Rattle.std.proofs.Common.{◌≡◌, refl, subst}
+use Rattle.std.proofs.Common.{◌≡◌, Some, sym, subst}
 use Rattle.map_body.specs.Body.{Body}
-use Rattle.map_body.specs.Layout.{IsBody}
-use Rattle.map_body.proofs.Callers.{is_sized, one_body}
-use Rattle.modem.specs.Hears.{IsExtent}
+use Rattle.map_body.proofs.Callers.{one_body}
+use Rattle.modem.specs.State.{channel_of}
+use Rattle.modem.specs.Hears.{Reads}
 use Rattle.modem.proofs.modem.Modem.hear_map.Goals as goal
 
-pub returns-in_default-clause-ok : goal.returns-in_default-clause-ok
-returns-in_default-clause-ok c = (λ map start stop reads. (rw c.in_default.is at c.in_ok-map.ensures.unreadable) map reads.body, refl)
-
-pub returns-in_default-extent-clause-ok : goal.returns-in_default-extent-clause-ok
-returns-in_default-extent-clause-ok c = (
-  λ map start stop reads.
-      let body : IsBody c.args.bytes.now c.in-Some.map = rw c.in-Some.is at c.in_ok-map.ensures.read in
-      let one : map ≡ c.in-Some.map = one_body c.args.bytes.now map c.in-Some.map reads.body body in
-      c.in_default-extent.ensures.none start stop (subst (λ (m : Body). IsExtent c.args.near m start stop) one reads.extent),
-  refl,
-)
-
-pub returns-in_err-take-clause-memory : goal.returns-in_err-take-clause-memory
-returns-in_err-take-clause-memory c = λ want.
-    let body : IsBody c.args.bytes.now c.in-Some.map = rw c.in-Some.is at c.in_ok-map.ensures.read in
-    is_sized c.args.bytes.now c.in-Some.map body
+pub returns-clause-ok : goal.returns-clause-ok
+returns-clause-ok c =
+    let bytes = c.args.bytes.now in
+    let (told, reads, same) = c.in-Some.ensures.found in
+    let one : told ≡ c.in-Ok.map = one_body bytes told c.in-Ok.map reads.body c.in-Ok.ensures.read in
+    let kept : channel_of c.self.inside.channels.items c.in-Ok.map.head.channel ≡ Some c.in-Some-find.channel = rw (c.as_slice.ensures.value, ← same, one) at (sym c.in-Some-find.ensures) in
+    let found : channel_of c.args.self.now.channels c.in-Ok.map.head.channel ≡ Some c.in-Some-find.channel = rw (← c.self.view_is) kept in
+    let same_ucd : c.in-Some-find.channel.ucd ≡ c.in-Ok.map.head.ucd = rw (← same, one) at c.if-channel-head.false in
+    (c.in-Ok.map, c.in-Some.heard.start, c.in-Some.heard.stop, subst (λ (m : Body). Reads bytes c.args.near m c.in-Some.heard.start c.in-Some.heard.stop) one reads, c.in-Some-find.channel, found, same_ucd, rw (c.max-clock.ensures, c.get.ensures.same) at c.if-stop-clock.false, c.in_ok-take.ensures.ok)

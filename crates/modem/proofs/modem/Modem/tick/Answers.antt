@@ -1,9 +1,9 @@
-use Rattle.std.proofs.Common.{◌≡◌, ◌+◌, ◌≤◌, Some, refl, sym, arith}
+use Rattle.std.proofs.Common.{◌≡◌, ◌≤◌, Some, map, refl, sym}
 use Rattle.modem.specs.State.{State, channel_of}
+use Rattle.modem.specs.KeptIntervals.{kept_interval}
 use Rattle.modem.specs.contracts.modem.Modem.{the_view}
 use Rattle.modem.proofs.Transmits.{Ticks-held}
-use Rattle.modem.proofs.Stands.{StandsFor-kept, Ticks-made}
-use Rattle.modem.proofs.Clocks.{clock_of-row}
+use Rattle.modem.proofs.Stands.{Ticks-made, Ticks-stands}
 use Rattle.modem.proofs.modem.Modem.tick.Goals as goal
 
 pub returns-clause-ticks : goal.returns-clause-ticks
@@ -12,14 +12,26 @@ returns-clause-ticks c =
     let counts = rw (c.as_slice-2.ensures.value, c.get-at.ensures.same) at c.counted-counted.ensures in
     let opens = rw (c.as_slice-3.ensures.value, c.get-at.ensures.same) at c.is_open-open.ensures in
     let sends = rw c.get-at.ensures.same at c.send-sending.ensures in
-    rw (← c.self.view_is, found) (λ late. Ticks-made _ _ c.in-Some.channel c.args.slot c.args.random c.send-sending.result c.counted-counted.result c.is_open-open.result refl refl refl refl (rw c.get-at.ensures.same at c.set.ensures) counts opens sends)
+    let grants = rw c.get-at.ensures.same at c.let_go_of_many.ensures.held in
+    let open_to_all = rw c.get-at.ensures.same at c.let_go_of_many-2.ensures.held in
+    let made = rw c.get-at.ensures.same at c.set.ensures in
+    rw (← c.self.view_is, found) (λ late. Ticks-made _ _ c.in-Some.channel c.args.ch c.args.slot c.args.random c.send-sending.result c.counted-counted.result c.is_open-open.result found refl refl grants open_to_all made counts opens sends)
 
 pub returns-clause-stands : goal.returns-clause-stands
 returns-clause-stands c hearings h =
     let found : channel_of c.self.inside.channels.items c.args.ch ≡ Some c.in-Some.channel = rw c.as_slice.ensures.value at (sym c.in-Some.ensures) in
+    let counts = rw (c.as_slice-2.ensures.value, c.get-at.ensures.same) at c.counted-counted.ensures in
+    let opens = rw (c.as_slice-3.ensures.value, c.get-at.ensures.same) at c.is_open-open.ensures in
+    let sends = rw c.get-at.ensures.same at c.send-sending.ensures in
+    let grants = rw c.get-at.ensures.same at c.let_go_of_many.ensures.held in
+    let open_to_all = rw c.get-at.ensures.same at c.let_go_of_many-2.ensures.held in
+    let made = rw c.get-at.ensures.same at c.set.ensures in
+    let late : c.in-Some.channel.clock ≤ c.args.slot = rw c.get-at.ensures.same at c.if-at-channel.false in
     let was = rw (← c.self.view_is) at h in
-    let rises : c.in-Some.channel.clock ≤ c.get-at.result + 1 = omega (arith, c.if-at-channel.false) in
-    StandsFor-kept _ _ hearings refl refl (λ ch. rw c.set.ensures (clock_of-row c.in-Some.channel _ _ c.self.inside.channels.items c.args.ch ch found rises)) (λ ch m sid iuc late. (λ a. a, λ a. a)) was
+    let old = the_view c.self.inside in
+    let new : State = record { id = old.id; channels = c.set.new.channels.items; sids = old.sids; grants = map kept_interval c.let_go_of_many.new.kept.items; open_to_all = map kept_interval c.let_go_of_many-2.new.kept.items; wants = c.send-sending.new.wants.items } in
+    let ticks = Ticks-made old new c.in-Some.channel c.args.ch c.args.slot c.args.random c.send-sending.result c.counted-counted.result c.is_open-open.result found refl refl grants open_to_all made counts opens sends in
+    Ticks-stands old new c.in-Some.channel c.args.ch c.args.slot c.args.random c.send-sending.result hearings found late ticks was
 
 pub returns-clause-held : goal.returns-clause-held
 returns-clause-held c hearings sid h is =
@@ -27,9 +39,12 @@ returns-clause-held c hearings sid h is =
     let counts = rw (c.as_slice-2.ensures.value, c.get-at.ensures.same) at c.counted-counted.ensures in
     let opens = rw (c.as_slice-3.ensures.value, c.get-at.ensures.same) at c.is_open-open.ensures in
     let sends = rw c.get-at.ensures.same at c.send-sending.ensures in
+    let grants = rw c.get-at.ensures.same at c.let_go_of_many.ensures.held in
+    let open_to_all = rw c.get-at.ensures.same at c.let_go_of_many-2.ensures.held in
     let made = rw c.get-at.ensures.same at c.set.ensures in
     let late : c.in-Some.channel.clock ≤ c.args.slot = rw c.get-at.ensures.same at c.if-at-channel.false in
     let was = rw (← c.self.view_is) at h in
     let old = the_view c.self.inside in
-    let new : State = record { id = old.id; channels = c.set.new.channels.items; sids = old.sids; grants = old.grants; open_to_all = old.open_to_all; wants = c.send-sending.new.wants.items } in
-    rw (← c.self.view_is) (Ticks-held old new c.in-Some.channel c.args.ch c.args.slot c.args.random c.send-sending.result hearings sid found late (Ticks-made old new c.in-Some.channel c.args.slot c.args.random c.send-sending.result c.counted-counted.result c.is_open-open.result refl refl refl refl made counts opens sends) was is)
+    let new : State = record { id = old.id; channels = c.set.new.channels.items; sids = old.sids; grants = map kept_interval c.let_go_of_many.new.kept.items; open_to_all = map kept_interval c.let_go_of_many-2.new.kept.items; wants = c.send-sending.new.wants.items } in
+    let ticks = Ticks-made old new c.in-Some.channel c.args.ch c.args.slot c.args.random c.send-sending.result c.counted-counted.result c.is_open-open.result found refl refl grants open_to_all made counts opens sends in
+    rw (← c.self.view_is) (Ticks-held old new c.in-Some.channel c.args.ch c.args.slot c.args.random c.send-sending.result hearings sid found late ticks was is)

@@ -1,0 +1,8 @@
+//! Records in memory whose calls fail where they are told to, for tests of what stands above records.
+#![tactic(auto)]
+
+mod faulty;
+mod nodes;
+
+pub use faulty::{Failure, Faults, FaultyRecords, Trouble};
+pub use nodes::{FaultyNode, faulty_nodes};

@@ -1,0 +1,37 @@
+//! What a modem knows of a channel, its SIDs and its wants. Crates above see them by the functions of `specs/` alone.
+
+/// A channel that the modem knows: its UCD Count, its clock (a minislot) and the latest data back-offs, start
+/// and end.
+#[derive(Clone, Copy, Debug, PartialEq, Eq)]
+pub(crate) struct Channel {
+    pub id: u8,
+    pub ucd: u8,
+    pub clock: u64,
+    pub backoff: (u8, u8),
+}
+
+/// A SID of the modem's on a channel.
+#[derive(Clone, Copy, Debug, PartialEq, Eq)]
+pub(crate) struct OwnSid {
+    pub channel: u8,
+    pub sid: u16,
+}
+
+/// How far a want has come.
+#[derive(Clone, Copy, Debug, PartialEq, Eq)]
+pub(crate) enum Progress {
+    /// Not sent; the request minislots that it still lets pass, once drawn.
+    Unsent(Option<u16>),
+    /// Sent at this minislot.
+    Sent(u64),
+}
+
+/// A request that the modem wants to send, or has sent.
+#[derive(Clone, Copy, Debug, PartialEq, Eq)]
+pub(crate) struct Want {
+    pub channel: u8,
+    pub sid: u16,
+    pub n: u16,
+    pub tries: u8,
+    pub progress: Progress,
+}

@@ -1,0 +1,142 @@
+//! A worker for each node, in a thread of its own.
+
+ghost use Rattle.std.specs.Prelude.{◌≡◌, ◌<◌, ◌+◌, All, IfOk, IsTrue, length, map};
+ghost use Rattle.node_worker.specs.KeptView.{AreTrusted, SameNode, member_of};
+ghost use Rattle.node_worker.specs.Members.{promised};
+
+use crate::carrier::{Carrier, Gate, Point};
+use crate::entry::Cause;
+use crate::kept::Kept;
+use crate::plant::Plant;
+use ballots::{Members, NodeId};
+use network_script_parts::OutOfMemory;
+use node::Node;
+use std::alloc::Global;
+use std::sync::{Mutex, Wait};
+use std::thread;
+use std::thread::{Promise, Threads};
+use std::time::Clock;
+
+// What a worker gives back: the node that it was given, and a carrier with no turn left.
+#[derive(Clone, Copy, Drop)]
+struct Returned {
+    node: NodeId,
+    members: Members,
+}
+
+impl<N: Node, C: Carrier> Promise<(Kept<N>, C)> for Returned {
+    ghost kept_by = { λ p back. (member_of back.0 ≡ promised p) × (AreTrusted N.honest → IsTrue back.0.honest) × (C.left back.1 ≡ 0) };
+}
+
+// Whether the cause may be worked at the node: a letter to another is passed over.
+fn is_for(cause: &Cause, node: NodeId) -> bool {
+    match cause {
+        Cause::Letter(letter) => letter.to == node,
+        Cause::Ask(_) => true,
+    }
+}
+
+// One turn: a cause is picked under the plant's lock, worked without it, and recorded under it.
+fn turn<N: Node, C: Carrier, G: Gate<N>, R: Wait + Clock>(
+    rt: &R,
+    kept: &mut Kept<N>,
+    carrier: &mut C,
+    plant: &Mutex<Plant<N>>,
+    gate: &G,
+)
+    requires left { 0 < C.left carrier.old }
+    ensures left { C.left carrier.new + 1 ≡ C.left carrier.old }
+    ensures same { SameNode kept.old kept.new }
+    ensures trusted { AreTrusted N.honest → IsTrue kept.old.honest → IsTrue kept.new.honest }
+{
+    let node = kept.id();
+    let picked = carrier.pick(plant.lock(rt).records());
+    let Ok(Some(cause)) = picked else {
+        gate.pass(rt, node, Point::Idle, plant);
+        return;
+    };
+    if !is_for(&cause, node) {
+        return;
+    }
+    let Ok(done) = kept.work(cause) else {
+        return;
+    };
+    gate.pass(rt, node, Point::Worked, plant);
+    let _ = plant.lock(rt).record(kept, done);
+    gate.pass(rt, node, Point::Recorded, plant);
+}
+
+// Works until the carrier has no turn left, and gives both back.
+fn work_through<N: Node, C: Carrier, G: Gate<N>, R: Wait + Clock>(
+    rt: &R,
+    mut kept: Kept<N>,
+    mut carrier: C,
+    plant: &Mutex<Plant<N>>,
+    gate: &G,
+) -> (Kept<N>, C)
+    ensures same { member_of result.0 ≡ member_of kept }
+    ensures trusted { AreTrusted N.honest → IsTrue kept.honest → IsTrue result.0.honest }
+    ensures left { C.left result.1 ≡ 0 }
+{
+    while carrier.turns() > 0 {
+        turn(rt, &mut kept, &mut carrier, plant, gate);
+    }
+    (kept, carrier)
+}
+
+/// Runs a worker for each node, each in a scoped thread of its own, and gives all back once they have ended. It
+/// refuses where there is no memory, or no thread to be had.
+pub fn work_in_threads<
+    N: Node + Send,
+    C: Carrier + Send,
+    G: Gate<N> + Sync,
+    R: Threads + Wait + Clock + Sync,
+>(
+    rt: &R,
+    alloc: Global,
+    pairs: Vec<(Kept<N>, C)>,
+    plant: &Mutex<Plant<N>>,
+    gate: &G,
+) -> Result<(Vec<Kept<N>>, Vec<C>), OutOfMemory>
+    requires trusted { AreTrusted N.honest → All (λ p. IsTrue p.0.honest) pairs.items }
+    ensures same { IfOk result (λ back. map member_of back.0.items ≡ map (λ p. member_of p.0) pairs.items) }
+    ensures trusted { IfOk result (λ back. AreTrusted N.honest → All (λ k. IsTrue k.honest) back.0.items) }
+    ensures carriers { IfOk result (λ back. (length back.1.items ≡ length pairs.items) × All (λ c. C.left c ≡ 0) back.1.items) }
+{
+    thread::scope(
+        thread::scope_env(),
+        rt,
+        |scope| -> Result<(Vec<Kept<N>>, Vec<C>), OutOfMemory>
+            requires { AreTrusted N.honest → All (λ p. IsTrue p.0.honest) pairs.items }
+            ensures same { IfOk result (λ back. map member_of back.0.items ≡ map (λ p. member_of p.0) pairs.items) }
+            ensures trusted { IfOk result (λ back. AreTrusted N.honest → All (λ k. IsTrue k.honest) back.0.items) }
+            ensures carriers { IfOk result (λ back. (length back.1.items ≡ length pairs.items) × All (λ c. C.left c ≡ 0) back.1.items) }
+        {
+            let mut kepts = Vec::with_capacity(alloc, pairs.len())?;
+            let mut carriers = Vec::with_capacity(alloc, pairs.len())?;
+            let mut handles = Vec::with_capacity(alloc, pairs.len())?;
+            for (kept, carrier) in pairs {
+                let promise = Returned {
+                    node: kept.id(),
+                    members: kept.members(),
+                };
+                let Ok(handle) = scope.spawn_with(
+                    promise,
+                    move || -> (Kept<N>, C)
+                        requires { AreTrusted N.honest → IsTrue kept.honest }
+                        ensures { (member_of result.0 ≡ member_of kept) × (AreTrusted N.honest → IsTrue result.0.honest) × (C.left result.1 ≡ 0) }
+                    { work_through(rt, kept, carrier, plant, gate) },
+                ) else {
+                    return Err(OutOfMemory);
+                };
+                handles.push(handle)?;
+            }
+            for handle in handles {
+                let (kept, carrier) = handle.join(rt);
+                kepts.push(kept)?;
+                carriers.push(carrier)?;
+            }
+            Ok((kepts, carriers))
+        },
+    )
+}
