@@ -1,9 +1,10 @@
-//! The program: `upsched_parts` does what its words say.
+//! The program: `upsched_store_parts` does what its words say.
 #![tactic(auto)]
 
 use std::io::BufWriter;
 use std::process::ExitCode;
-use upsched_parts::{Fault, run};
+use upsched_parts::Fault;
+use upsched_store_parts::run;
 
 fn main(rt: HostRuntime) -> ExitCode {
     let mut errors = rt.stderr();

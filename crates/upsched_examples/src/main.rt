@@ -8,7 +8,8 @@ use std::path::AsPath;
 use std::process::ExitCode;
 use std::rt::Files;
 use std::{fs, io};
-use upsched_parts::{Status, run_words};
+use upsched_parts::Status;
+use upsched_store_parts::run_words;
 
 /// A folder of examples of one command.
 #[derive(Clone, Copy, Debug)]

@@ -1,4 +1,4 @@
-mod FreshNodes
+pub mod Callers
 mod PlanFaults
 mod Printed
 mod Told

@@ -17,7 +17,7 @@ use Rattle.network_script_parts.specs.Script.{IsScript}
 use Rattle.network_script.specs.World.{Written, opening}
 use Rattle.upsched_parts.specs.RunLines.{answer_line, answer_lines, place_lines, released_count, counts_line}
 use Rattle.ballots.specs.Members.{member_count}
-use Rattle.upsched_parts.specs.Run.{PrintsEvents, PrintsScript, NoScript}
+use Rattle.upsched_parts.specs.Run.{PrintsEvents, PrintsScript}
 use Rattle.upsched_parts.proofs.Printed.{appends_none, appends_both}
 
 -- some text was printed, and what is left joined to it is the whole
@@ -77,11 +77,6 @@ pub script_printed : (known old new : Option (List ℕ)) (count : Members) (ids 
     → PrintsEvents (member_count count) ids events old new → PrintsScript known old new
 script_printed None old new count ids events read prints = tt
 script_printed (Some text) old new count ids events read prints = (count, ids, events, read, prints)
-
--- a text that is known to be no script is read as none
-pub no_script_read : (known : Option (List ℕ)) (count : Members) (ids : List ℕ) (events : List Event) → NoScript known → IfSome known (λ text. IsScript text count ids events) → ⊥
-no_script_read None count ids events none read = none
-no_script_read (Some text) count ids events none read = none count ids events read
 
 -- a text that is read as a script is known to be one, where it is known
 pub script_known : (known : Option (List ℕ)) (text read : List ℕ) (count : Members) (ids : List ℕ) (events : List Event) → IfSome known (λ bytes. text ≡ bytes) → read ≡ text → IsScript read count ids events

@@ -1,5 +1,5 @@
 //! What the program does with its words: it applies plans to the scheduler, runs scripts over its
-//! nodes, and prints MAP bodies.
+//! nodes, and prints MAP bodies. It opens no file.
 #![tactic(auto)]
 
 mod body_show;
@@ -7,14 +7,10 @@ mod fault;
 mod lines;
 mod plan;
 mod plan_run;
-mod program;
 mod report;
 mod run_lines;
 mod script_run;
 mod status;
-mod store_folder;
-mod stored;
-mod stored_run;
 mod text;
 mod words;
 
@@ -22,9 +18,6 @@ pub use body_show::show;
 pub use fault::Fault;
 pub use plan::{PlanFault, read_plan};
 pub use plan_run::maps;
-pub use program::{run, run_words};
 pub use script_run::{print_script, run_script, script_of};
 pub use status::Status;
-pub use stored::{StoredNode, stored_nodes};
-pub use stored_run::run_stored_script;
 pub use words::{MapsWords, RunWords, ShowWords, Words, read_words, refused};

@@ -1,4 +1,5 @@
-use Rattle.upsched_parts.proofs.Told.{no_script_read, plain_printed}
+use Rattle.upsched_parts.proofs.Callers.{no_script_read}
+use Rattle.upsched_parts.proofs.Told.{plain_printed}
 use Rattle.upsched_parts.proofs.script_run.print_text.Goals as goal
 
 pub returns-clause-printed : goal.returns-clause-printed

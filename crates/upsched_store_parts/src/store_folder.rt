@@ -4,7 +4,6 @@ ghost use Rattle.std.specs.Prelude.{◌≡◌, IfOk, length};
 ghost use Rattle.ballots.specs.Members.{member_count};
 ghost use Rattle.network_script_parts.specs.Fresh.{AreFresh};
 
-use crate::fault::Fault;
 use crate::stored::{StoredNode, stored_nodes};
 use acceptor_store::SqlRecords;
 use ballots::Members;
@@ -13,6 +12,7 @@ use sqlite::{File, FileStore, Files, Unknown};
 use sqlite_std_file::OpenError;
 use std::fs;
 use std::io::ErrorKind;
+use upsched_parts::Fault;
 
 /// Notes the path where nothing is there yet. What is there has to be a regular file.
 fn note_missing<'a>(

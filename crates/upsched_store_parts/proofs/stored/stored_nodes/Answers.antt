@@ -1,7 +1,7 @@
 use Rattle.std.proofs.Common.{◌≡◌, ◌≤◌, ◌∙◌, refl}
 use Rattle.ballots.specs.Members.{member_count}
-use Rattle.upsched_parts.proofs.FreshNodes.{none_first, more_first, all_first, reached, none_below, more_below}
-use Rattle.upsched_parts.proofs.stored.stored_nodes.Goals as goal
+use Rattle.upsched_store_parts.proofs.FreshNodes.{none_first, more_first, all_first, reached, none_below, more_below}
+use Rattle.upsched_store_parts.proofs.stored.stored_nodes.Goals as goal
 
 pub loop-number-init : goal.loop-number-init
 loop-number-init g c = (none_below (member_count c.args.members), none_first _ _ _ _ _ c.new-nodes.ensures.items)

@@ -7,7 +7,6 @@ ghost use Rattle.node.specs.View.{started};
 ghost use Rattle.node.specs.View.Standing.{Running};
 ghost use Rattle.network_script_parts.specs.Fresh.{AreFresh};
 
-use crate::fault::Fault;
 use acceptor_store::{OpenFault, SqlRecords, open_files};
 use ballots::{Members, NodeId};
 use node::{Node, NodeFault, SchedNode};
@@ -16,6 +15,7 @@ use sqlite_disk::{Disk, Memory};
 use std::alloc::Global;
 use std::io;
 use std::io::ErrorKind;
+use upsched_parts::Fault;
 
 /// A node whose records stand in two files.
 pub type StoredNode<D> = SchedNode<SqlRecords<FileStore<D>>>;

@@ -5,12 +5,8 @@ ghost use Rattle.network_script_parts.specs.Fresh.{AreFresh};
 ghost use Rattle.upsched_parts.specs.declared.status.Status.TheVariants.{NotUnderstood};
 ghost use Rattle.upsched_parts.specs.Run.{NoScript};
 
-use crate::fault::Fault;
-use crate::script_run::{print_script, script_of};
-use crate::status::Status;
 use crate::store_folder::nodes_in;
 use crate::stored::StoredNode;
-use crate::words::RunWords;
 use acceptor_store::SqlRecords;
 use log::Log;
 use network_script_parts::Script;
@@ -18,6 +14,7 @@ use node::{Node, SchedNode};
 use sqlite::FileStore;
 use sqlite_disk::Disk;
 use std::io::{Read, Write};
+use upsched_parts::{Fault, RunWords, Status, print_script, script_of};
 
 /// What a script does to fresh nodes over files is printed, and their files are closed.
 fn print_stored<'a, R: Log + AllocGlobal, D: Disk + Drop, O: Write>(

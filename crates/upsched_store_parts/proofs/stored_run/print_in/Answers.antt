@@ -1,5 +1,5 @@
-use Rattle.upsched_parts.proofs.Told.{no_script_read}
-use Rattle.upsched_parts.proofs.stored_run.print_in.Goals as goal
+use Rattle.upsched_parts.proofs.Callers.{no_script_read}
+use Rattle.upsched_store_parts.proofs.stored_run.print_in.Goals as goal
 
 pub returns : goal.returns
 returns g c = λ none.

@@ -1,15 +1,12 @@
 //! From the words of the command line to how the program ends.
 
-use crate::body_show::show;
-use crate::fault::Fault;
-use crate::plan_run::maps;
-use crate::script_run::run_script;
-use crate::status::Status;
 use crate::stored_run::run_stored_script;
-use crate::words::{MapsWords, RunWords, Words, read_words, refused};
 use std::io::{ErrorKind, Write};
 use std::rt::{Env, Files};
 use std::{env, fs};
+use upsched_parts::{
+    Fault, MapsWords, RunWords, Status, Words, maps, read_words, refused, run_script, show,
+};
 
 /// Opens the plan and ends as `maps` does.
 fn run_maps<R: Files + AllocGlobal, O: Write, E: Write>(

@@ -3,8 +3,8 @@ use Rattle.ballots.specs.Members.{member_count}
 use Rattle.sqlite.specs.Files.{over_files}
 use Rattle.acceptor_store.specs.Linked.{MayFind, is_honest}
 use Rattle.node.specs.Sched.{Stands, who_of}
-use Rattle.upsched_parts.proofs.FreshNodes.{AreFirst}
-use Rattle.upsched_parts.proofs.stored.stored_nodes.Given as goal
+use Rattle.upsched_store_parts.proofs.FreshNodes.{AreFirst}
+use Rattle.upsched_store_parts.proofs.stored.stored_nodes.Given as goal
 
 abbrev pub invariant-loop-number : goal.invariant-loop-number
 invariant-loop-number g l =
