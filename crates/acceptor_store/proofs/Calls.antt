@@ -1,10 +1,9 @@
 -- What a call on the records does, by what its statement did.
-use Rattle.std.proofs.Common.{◌≡◌, ◌⊎◌, inl, inr, ℕ, ◌≤◌, Bool, true, false, ◌&&◌, Some, None, Option, Result, Ok, Err, IsTrue, IfSome, refl, sym, ap, subst, ◌∙◌, arith}
-use Rattle.sqlite_trees.specs.View.{doubt}
+use Rattle.std.proofs.Common.{◌≡◌, inl, inr, ℕ, ◌≤◌, Bool, true, false, ◌&&◌, Some, None, Option, Err, IsTrue, IfSome, refl, sym, ap, subst, ◌∙◌, arith}
 use Rattle.sqlite_trees.proofs.Doubt.{no_doubt, clean_of}
 use Rattle.sqlite.specs.Store.{Ghosts}
 use Rattle.sqlite.specs.Tree.{Trees}
-use Rattle.sqlite.specs.State.{State, HasCleanDisk, Survives}
+use Rattle.sqlite.specs.State.{HasCleanDisk, Survives}
 use Rattle.sqlite.specs.Held.{Held, state}
 use Rattle.ballots.specs.declared.letters.Cast.{Cast}
 use Rattle.ballots.specs.Ballots.{number_of}

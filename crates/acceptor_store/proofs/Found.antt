@@ -1,15 +1,14 @@
 -- What an open after a crash finds of a connection that serves the records.
-use Rattle.std.proofs.Common.{◌≡◌, ◌⊎◌, inl, inr, ℕ, pos, List, [], ◌∷◌, map, IsTrue, true, Some, None, Result, Ok, Err, refl, sym, ap, subst, ◌∙◌, arith}
+use Rattle.std.proofs.Common.{◌≡◌, inl, inr, IsTrue, Some, Err, sym, ap, subst, ◌∙◌}
 use Rattle.std.proofs.Math.Logic.{∥∥₁_map}
-use Rattle.ballots.specs.declared.letters.Cast.{Cast}
 use Rattle.sqlite.specs.Store.{Ghosts}
 use Rattle.sqlite.specs.Tree.{Trees}
 use Rattle.sqlite.specs.Effect.{Database}
-use Rattle.sqlite.specs.State.{State, HasCleanDisk, Survives}
+use Rattle.sqlite.specs.State.{HasCleanDisk, Survives}
 use Rattle.sqlite.specs.Held.{Held, state}
 use Rattle.acceptor.specs.Content.{Content, Write, after_write}
 use Rattle.acceptor.specs.Faults.{IsHarmless}
-use Rattle.acceptor.specs.Found.{Findable, Holds, HoldsEither, AddsNothing, AddsOnly, FindsSame, Keeps, HasMade, MayHaveMade}
+use Rattle.acceptor.specs.Found.{Findable, Holds, AddsNothing, AddsOnly, FindsSame, Keeps, HasMade, MayHaveMade}
 use Rattle.acceptor.specs.declared.records.RecordsFault.{RecordsFault}
 use Rattle.acceptor.specs.declared.records.RecordsFault.TheVariants.{Refused, Broken, OutOfMemory}
 use Rattle.acceptor_store_parts.specs.Stored.{AreTables}

@@ -1,5 +1,5 @@
 -- What is known of a connection that was opened anew.
-use Rattle.std.proofs.Common.{◌≡◌, ◌⊎◌, inl, inr, ℕ, Bool, true, false, ◌&&◌, List, [], ◌∷◌, map, Some, None, Option, Ok, Err, Result, IfOk, IsTrue, refl, sym, ap, subst, subst₂, ◌∙◌, arith}
+use Rattle.std.proofs.Common.{◌≡◌, ◌⊎◌, inl, inr, ℕ, true, false, ◌&&◌, List, [], ◌∷◌, map, slice_get, Some, None, Option, Ok, Err, Result, IfErr, IfOk, IsTrue, sym, ap, subst, subst₂, ◌∙◌, arith}
 use Rattle.std.proofs.Math.Logic.{∥∥₁_map, ∥∥₁_elim, ∥∥₁_prop}
 use Rattle.std.specs.Coded.{coded_ℕ}
 use base.Stored.{Coded-set}
@@ -14,7 +14,8 @@ use Rattle.sqlite_schema.specs.declared.schema.Schema.{Schema}
 use Rattle.sqlite_disk.specs.declared.Disk as disk
 use Rattle.sqlite_disk.specs.declared.Files.{Files}
 use Rattle.sqlite_store.specs.declared.store.FileStore.{FileStore}
-use Rattle.sqlite.specs.Files.{over_files, file_state, IsOpened, Finds}
+use Rattle.sqlite.specs.Files.{over_files, file_state, image_of, IsOpened, Finds}
+use Rattle.sqlite.proofs.Theorems.{opens_again}
 use Rattle.sqlite.specs.Store.{Ghosts}
 use Rattle.sqlite.specs.Tree.{Trees}
 use Rattle.sqlite.specs.Effect.{Database, IsDatabase}
@@ -23,15 +24,21 @@ use Rattle.sqlite.specs.Order.{Row}
 use Rattle.sqlite_trees.specs.Tree.{IsTable}
 use Rattle.acceptor_store_parts.specs.Rowids.{AreByRowid, ShowsNumbers, ShowsVotes}
 use Rattle.sqlite.specs.Held.{Held, state}
-use Rattle.acceptor_store_parts.specs.Tables.{store_schema}
-use Rattle.acceptor_store_parts.specs.Stored.{AreTables, number_shown, vote_shown}
+use Rattle.sqlite_schema.specs.Names.{same_name}
+use Rattle.std.specs.List.{AllByRecursion}
+use Rattle.acceptor_store_parts.specs.Foreign.{HoldsNone, IsForeignSchema, LacksNumbers, LacksVotes}
+use Rattle.sqlite_trees.specs.View.{IsClean}
+use Rattle.acceptor_store.specs.declared.OpenFault.{OpenFault}
+use Rattle.acceptor_store.specs.declared.OpenFault.TheVariants.{Foreign}
+use Rattle.acceptor_store_parts.specs.Rowids.{IsReread}
+use Rattle.acceptor_store_parts.specs.Tables.{store_schema, blank_schema, ballot_table, vote_table}
+use Rattle.acceptor_store_parts.specs.Stored.{AreTables, IsNumber, IsCast, number_shown, vote_shown}
 use Rattle.acceptor_store_parts.specs.Serves.{Serves, StillServes, DoesNotServe}
 use Rattle.acceptor_store_parts.proofs.Callers.{tables_prop}
-use Rattle.acceptor_store.specs.Linked.{Linked, MayFind, MayFindIn, IsHonest, IsLinked, Stands, Knows, IsTested, Tells, Reopens, Examines, Had, IsIn, Prepares}
+use Rattle.acceptor_store.specs.Linked.{Linked, MayFind, MayFindIn, IsHonest, IsLinked, Stands, IsTested, Tells, Reopens, Examines, Had, IsIn, IsFoundIn, Prepares, SeesForeign}
 use Rattle.acceptor_store.proofs.Calls.{parts, both}
 use Rattle.sqlite_trees.proofs.Doubt.{no_doubt, clean_of}
 use Rattle.acceptor_store.proofs.Found.{found_is, found_it, certain}
-use Rattle.acceptor_store.proofs.Same.{which}
 
 schema_set : IsSet Schema
 schema_set = Coded-set schema_row.the_row.coded
@@ -144,10 +151,10 @@ module _ {S : Type 0} (g : Ghosts S) (self inside : Linked S) (old new : Held S)
 
 -- what a connection whose tables were all read had and serves
 module _ {S : Type 0} (g : Ghosts S) (old mid new : Held S) (tried row highest : Option ℕ) (votes : List (ℕ × Cast)) (shown rows : List Row) where
-  pub examines : (state g old).now.schema ≡ store_schema → ShowsNumbers (state g old) shown → shown ≡ number_shown 0 (number_of tried) ∷ number_shown 1 (number_of row) ∷ []
+  pub examines : IsNumber (number_of tried) × IsNumber (number_of row) → AllByRecursion IsCast votes → (state g old).now.schema ≡ store_schema → ShowsNumbers (state g old) shown → shown ≡ number_shown 0 (number_of tried) ∷ number_shown 1 (number_of row) ∷ []
       → IsUnchanged (state g old) (state g mid) → ShowsVotes (state g mid) rows → rows ≡ map vote_shown votes → AreRowsFrom 1 votes
       → StillServes (state g old) (state g mid) → StillServes (state g mid) (state g new) → number_of highest ≡ greatest (number_of row) votes → Examines g old new highest
-  examines schema shows are same then those sound first second most it =
+  examines numbers casts schema shows are same then those sound first second most it =
       let c : Content = record { tried = number_of tried; row = number_of row; votes = votes } in
       let now = same.0.now_is in
       let sure = (it.live it.opens.is_open).0 in
@@ -164,7 +171,59 @@ module _ {S : Type 0} (g : Ghosts S) (old mid new : Held S) (tried row highest :
         sound = sound;
       } in
       let was : Serves (state g old) c = record { is_open = it.opens.is_open; autocommit = it.opens.autocommit; settled = it.opens.clean; schema = schema; tables = tables } in
-      (c, tables, second c (first c was), most)
+      (c, tables, record { tried = numbers.0; row = numbers.1; casts = casts }, second c (first c was), most)
+
+-- tables that hold a content serve it
+pub serves_tables : {S : Type 0} (g : Ghosts S) (old : Held S) → (state g old).now.schema ≡ store_schema → IsReread (state g old) → (c : Content) → AreTables (state g old).now.trees c → Serves (state g old) c
+serves_tables g old schema it c tables = record { is_open = it.opens.is_open; autocommit = it.opens.autocommit; settled = it.opens.clean; schema = schema; tables = tables }
+
+-- no node wrote a database that has no tables, or one that holds what a node writes
+own_schema : IsForeignSchema store_schema → ⊥
+unfolding same_name
+own_schema h = elim h [
+  | inl half ↦ elim half [ inl votes ↦ absurd (let e : Some 0 ≡ None = votes.0 in cc) | inr numbers ↦ absurd (let e : Some 1 ≡ None = numbers.1 in cc) ]
+  | inr lacks ↦ elim lacks [
+    | inl numbers ↦
+        let at : Some 0 ≡ Some numbers.0 = numbers.2 in
+        let zero : 0 ≡ numbers.0 = cc in
+        let t : Some ballot_table ≡ Some numbers.1 = subst (λ i. slice_get store_schema.tables i ≡ Some numbers.1) (sym zero) numbers.3 in
+        let table : ballot_table ≡ numbers.1 = cc in
+        elim (subst LacksNumbers (sym table) numbers.4) [ inl id ↦ absurd (let e : Some 0 ≡ None = id in cc) | inr number ↦ absurd (let e : Some 1 ≡ None = number in cc) ]
+    | inr votes ↦
+        let at : Some 1 ≡ Some votes.0 = votes.2 in
+        let one : 1 ≡ votes.0 = cc in
+        let t : Some vote_table ≡ Some votes.1 = subst (λ i. slice_get store_schema.tables i ≡ Some votes.1) (sym one) votes.3 in
+        let table : vote_table ≡ votes.1 = cc in
+        elim (subst LacksVotes (sym table) votes.4) [
+          | inl place ↦ absurd (let e : Some 0 ≡ None = place in cc)
+          | inr others ↦ elim others [ inl ballot ↦ absurd (let e : Some 1 ≡ None = ballot in cc) | inr value ↦ absurd (let e : Some 2 ≡ None = value in cc) ]
+        ]
+  ]
+]
+
+blank_schema_is_own : IsForeignSchema blank_schema → ⊥
+blank_schema_is_own h = elim h [
+  | inl half ↦ elim half [ inl votes ↦ absurd (let e : false ≡ true = votes.1 in cc) | inr numbers ↦ absurd (let e : false ≡ true = numbers.0 in cc) ]
+  | inr lacks ↦ elim lacks [ inl numbers ↦ absurd (let e : None ≡ Some numbers.0 = numbers.2 in cc) | inr votes ↦ absurd (let e : None ≡ Some votes.0 = votes.2 in cc) ]
+]
+
+-- rows that no node wrote, in its two tables
+pub told_rows : {S : Type 0} (g : Ghosts S) (conn : Held S) {X : Type 0} (r : Result X (OpenFault × S)) → (state g conn).now.schema ≡ store_schema
+    → IfErr r (λ e. e.0 ≡ Foreign → IsClean (g.view e.1) → HoldsNone (state g conn).committed.trees) → IfErr r (λ e. e.0 ≡ Foreign → IsClean (g.view e.1) → SeesForeign g conn)
+told_rows g conn (Ok x) schema h = tt
+told_rows g conn (Err e) schema h = λ foreign clean. inr (schema, h foreign clean)
+
+pub own : {S : Type 0} (g : Ghosts S) (conn : Held S) (c : Content) → Had g conn c → SeesForeign g conn → ⊥
+own g conn c had foreign = elim had [
+  | inl blank ↦ elim foreign [
+    | inl schema ↦ blank_schema_is_own (subst IsForeignSchema blank.0 schema)
+    | inr rows ↦ absurd (let e : [] ≡ ballot_table ∷ vote_table ∷ [] = ap (λ (s : Schema). s.tables) (sym blank.0 ∙ rows.0) in cc)
+  ]
+  | inr there ↦ elim foreign [
+    | inl schema ↦ own_schema (subst IsForeignSchema there.0 schema)
+    | inr rows ↦ rows.1 c there.1 there.2
+  ]
+]
 
 -- the records over tables that serve a content
 module _ {S : Type 0} (g : Ghosts S) (settled : (s : S) (db : Trees) → IsTrue (g.view s).is_open → g.recovers s db → db ≡ (g.view s).committed)
@@ -190,14 +249,18 @@ is_in {g = g} files conn c opened finds had db holds =
           let trees : (file_state conn).now.trees ≡ db = ap (λ (d : Database). d.trees) opened.0.clean ∙ is in
           let sure = (opened.1 opened.0.is_open).0 in
           inr (subst₂ (λ s t. IsDatabase (record { schema = s; trees = t })) blank.0 trees sure, blank.1)
-      | inr tables ↦ inl (subst (λ t. AreTables t c) is tables)
+      | inr tables ↦ inl (subst (λ t. AreTables t c) is tables.1)
     ]
+
+-- and where the files are what a store might have left, it is in one of the databases that the store allows
+found_also : {D : Type 0} {g : disk.Ghosts D} (files : Files D) (c : Content) → IsIn g files c → IsFoundIn g files c
+found_also {g = g} files c is = (is, λ it might. ∥∥₁_map (opens_again it might.numbered might.sound (image_of g files) might.left) (λ db. (db.0, db.1, is db.0 db.2)))
 
 pub found_in : {D : Type 0} {g : disk.Ghosts D} (files : Files D) (conn : Held (FileStore D g)) {E : Type 0} (r : Result (Linked (FileStore D g)) E) → (HasCleanDisk (file_state conn) → IsOpened conn) → (HasCleanDisk (file_state conn) → Finds files conn)
     → IfOk r (λ x. IsHonest over_files x → (c : Content) × Had over_files conn c × Holds (MayFind over_files x.held) c) → IfOk r (λ x. IsHonest over_files x → HasCleanDisk (file_state conn))
-    → IfOk r (λ x. IsHonest over_files x → (c : Content) × Holds (MayFind over_files x.held) c × IsIn g files c)
+    → IfOk r (λ x. IsHonest over_files x → (c : Content) × Holds (MayFind over_files x.held) c × IsFoundIn g files c)
 found_in files conn (Err e) opened finds holds clean = tt
 found_in {g = g} files conn (Ok x) opened finds holds clean = λ honest.
     let now = holds honest in
     let sure = clean honest in
-    (now.0, now.2, is_in {g = g} files conn now.0 (opened sure) (finds sure) now.1)
+    (now.0, now.2, found_also {g = g} files now.0 (is_in {g = g} files conn now.0 (opened sure) (finds sure) now.1))

@@ -9,12 +9,16 @@ use Rattle.sqlite.specs.Store.{Ghosts}
 use Rattle.sqlite.specs.Tree.{Trees}
 use Rattle.sqlite.specs.State.{HasCleanDisk}
 use Rattle.sqlite.specs.Effect.{IsDatabase}
-use Rattle.sqlite.specs.Held.{Held, held_code, state}
+use Rattle.sqlite.specs.Held.{AreDatabases, Held, held_code, state}
+use Rattle.sqlite_store.specs.declared.store.FileStore.{FileStore}
+use Rattle.sqlite_store.specs.FileStore.{recovers, view, state as store_state}
+use Rattle.sqlite_wal.specs.Recovery.{Image}
 use Rattle.acceptor.specs.Content.{Content, no_content, promised}
 use Rattle.acceptor.specs.Found.{Holds, AddsNothing}
 use Rattle.acceptor_store_parts.specs.Tables.{store_schema, blank_schema}
 use Rattle.acceptor_store_parts.specs.Rowids.{IsReread}
-use Rattle.acceptor_store_parts.specs.Stored.{AreTables}
+use Rattle.acceptor_store_parts.specs.Stored.{AreTables, IsOfNode}
+use Rattle.acceptor_store_parts.specs.Foreign.{IsForeign}
 use Rattle.acceptor_store_parts.specs.Serves.{Serves}
 
 -- records as their contracts see them
@@ -89,18 +93,42 @@ pub record Reopens {S : Type 0} (g : Ghosts S) (old new : Held S) (highest : Opt
   pub holds : (before : Stands g old) → Holds (MayFindIn g new) (knows before).0
   pub adds_nothing : Stands g old → AddsNothing (MayFindIn g old) (MayFindIn g new)
 
--- it serves what its tables hold
+-- it serves what its tables hold, which a node wrote
 abbrev pub Examines : {S : Type 0} → Ghosts S → Held S → Held S → Option ℕ → Type 0
-Examines g old new highest = IsReread (state g old) → (c : Content) × AreTables (state g old).now.trees c × Serves (state g new) c × (number_of highest ≡ promised c)
+Examines g old new highest = IsReread (state g old) → (c : Content) × AreTables (state g old).now.trees c × IsOfNode c × Serves (state g new) c × (number_of highest ≡ promised c)
 
--- the last commit holds the content, or has no tables at all
+-- the last commit holds the content, which a node wrote, or has no tables at all
 abbrev pub Had : {S : Type 0} → Ghosts S → Held S → Content → Type 0
-Had g conn c = (((state g conn).now.schema ≡ blank_schema) × (c ≡ no_content)) ⊎ AreTables (state g conn).committed.trees c
+Had g conn c =
+    (((state g conn).now.schema ≡ blank_schema) × (c ≡ no_content))
+    ⊎ (((state g conn).now.schema ≡ store_schema) × AreTables (state g conn).committed.trees c × IsOfNode c)
+
+-- no node wrote the database that the connection sees
+abbrev pub SeesForeign : {S : Type 0} → Ghosts S → Held S → Type 0
+SeesForeign g conn = IsForeign (state g conn).now.schema (state g conn).committed.trees
 
 -- it serves what the older one had, and this is the promised ballot
 abbrev pub Prepares : {S : Type 0} → Ghosts S → Held S → Held S → Option ℕ → Type 0
 Prepares g old new highest = (c : Content) × Had g old c × Serves (state g new) c × (number_of highest ≡ promised c)
 
+-- the trees are those of the content, or of a database without tables, and the content is none
+abbrev pub IsKeptIn : Trees → Content → Type 0
+IsKeptIn db c = AreTables db c ⊎ (IsDatabase (record { schema = blank_schema; trees = db }) × (c ≡ no_content))
+
 -- a database that the files hold has the content, or it has no tables and the content is none
 abbrev pub IsIn : {D : Type 0} → disk.Ghosts D → Files D → Content → Type 0
-IsIn g files c = (db : Trees) → HoldsDatabase (image_of g files) db → AreTables db c ⊎ (IsDatabase (record { schema = blank_schema; trees = db }) × (c ≡ no_content))
+IsIn g files c = (db : Trees) → HoldsDatabase (image_of g files) db → IsKeptIn db c
+
+-- what a crash may leave of a store that a connection gave back
+pub record MightLeave {D : Type 0} {g : disk.Ghosts D} (it : FileStore D g) (image : Image) : Type 0 where
+  pub numbered : IsTrue (view it).is_numbered
+  pub sound : AreDatabases (recovers it)
+  pub left : (store_state it).may_leave image
+
+-- the content is in one of the databases that the store might leave
+abbrev pub IsLeftBy : {D : Type 0} {g : disk.Ghosts D} → FileStore D g → Content → Type 0
+IsLeftBy it c = ∥ ((db : Trees) × recovers it db × IsKeptIn db c) ∥₁
+
+-- the content is in the files, and where a store might have left them, it is one of those that this store might leave
+abbrev pub IsFoundIn : {D : Type 0} → (g : disk.Ghosts D) → Files D → Content → Type 0
+IsFoundIn {D} g files c = IsIn g files c × ((it : FileStore D g) → MightLeave it (image_of g files) → IsLeftBy it c)

@@ -1,7 +1,7 @@
 //! Records in SQL tables.
 #![tactic(auto)]
 
-ghost use Rattle.std.specs.Prelude.{◌≡◌, ◌≤◌, false, not, if◌then◌else◌, pos, IfOk, IfErr, IfSome, OnOk, Some, max, IsTrue};
+ghost use Rattle.std.specs.Prelude.{◌≡◌, ◌≢◌, ◌≤◌, Err, false, not, if◌then◌else◌, pos, IfOk, IfErr, IfSome, IsSome, IsSomeAnd, OnOk, Some, max, IsTrue, ◌↔◌};
 ghost use Rattle.ballots.specs.Ballots.{number_of};
 ghost use Rattle.acceptor.specs.Faults.{BreaksBy, CountsFaults, HasRisen, IsHarmless, IsStoreFault};
 ghost use Rattle.acceptor.specs.declared.records.RecordsFault.TheVariants.{OutOfMemory};
@@ -10,18 +10,23 @@ ghost use Rattle.ballots.specs.Rows.{at, rows_from};
 ghost use Rattle.acceptor.specs.Content.Write.{Tries, Promises, Votes as Casts};
 ghost use Rattle.acceptor.specs.Found.{Holds, HoldsEither, AddsNothing, AddsOnly, FindsSame, HasMade, Keeps, MayHaveMade};
 ghost use Rattle.sqlite.specs.Files.{over_files, file_state};
+ghost use Rattle.sqlite.specs.Tree.{Trees};
 ghost use Rattle.sqlite.specs.State.{HasCleanDisk, Survives};
-ghost use Rattle.sqlite.specs.Held.{state};
-ghost use Rattle.sqlite_trees.specs.View.{doubt};
+ghost use Rattle.sqlite.specs.Held.{AreDatabases, state};
+ghost use Rattle.sqlite_trees.specs.View.{IsClean, doubt};
+ghost use Rattle.acceptor_store_parts.specs.Foreign.{HoldsNone, IsForeignSchema};
+ghost use Rattle.acceptor_store_parts.specs.Rowids.{IsReread};
+ghost use Rattle.acceptor_store_parts.specs.Tables.{store_schema};
 ghost use Rattle.acceptor_store_parts.specs.Serves.{Serves, StillServes, DoesNotServe, StaysOpen};
 ghost use Rattle.acceptor_store_parts.specs.Stops.{LeavesOpen, leaves_open};
-ghost use Rattle.acceptor_store.specs.Linked.{MayFind, IsHonest, is_honest, Tells, Reopens, Examines, Had, IsIn, Prepares};
+ghost use Rattle.acceptor_store.specs.Linked.{MayFind, IsHonest, is_honest, Tells, Reopens, Examines, Had, IsFoundIn, Prepares, SeesForeign};
 
 use acceptor::{Records, RecordsFault};
 use acceptor_store_parts::{Stop, Unread};
 use ballots::{Ballot, Cast, Place, Value, Votes};
 use sqlite::{Alter, Connection, Error as SqlError, ErrorCode, FileStore, Files, Options};
 use sqlite_disk::Disk;
+use sqlite_schema::schema::Schema;
 use std::alloc::Global;
 use std::marker::Model;
 use thiserror::Error;
@@ -174,7 +179,7 @@ fn opened_anew<D: Disk + Drop>(
 /// Why records weren't opened.
 #[derive(Clone, Copy, Debug, PartialEq, Eq, Error)]
 pub enum OpenFault {
-    /// The store failed, or the files hold no database.
+    /// The store failed, or the files hold no database, or one that is used or declared in another way.
     #[error("Refused")]
     Refused,
     /// The store is shut, or its files can't be used.
@@ -183,12 +188,14 @@ pub enum OpenFault {
     /// Memory was refused.
     #[error("OutOfMemory")]
     OutOfMemory,
-    /// The tables are there, and are none of the records.
+    /// One of the tables is there or both are, and no node wrote them.
     #[error("Foreign")]
     Foreign,
 }
 
-fn stopped(stop: Stop) -> OpenFault {
+fn stopped(stop: Stop) -> OpenFault
+    ensures { result ≢ OpenFault.Foreign }
+{
     match stop {
         Stop::Memory => OpenFault::OutOfMemory,
         Stop::Refused => OpenFault::Refused,
@@ -196,16 +203,27 @@ fn stopped(stop: Stop) -> OpenFault {
     }
 }
 
-/// Tests tables that are there.
+/// Refuses any schema but the one of the two tables.
+fn judged(alloc: Global, schema: &Schema) -> Result<(), OpenFault>
+    ensures own { OnOk result (schema.now ≡ store_schema) }
+    ensures foreign { result ≡ Err OpenFault.Foreign → IsForeignSchema schema.now }
+{
+    if acceptor_store_parts::is_foreign(schema) {
+        return Err(OpenFault::Foreign);
+    }
+    match acceptor_store_parts::is_store(alloc, schema) {
+        Ok(true) => Ok(()),
+        Ok(false) => Err(OpenFault::Refused),
+        Err(_) => Err(OpenFault::OutOfMemory),
+    }
+}
+
+/// Tests the rows of the two tables.
 fn examined<S: Alter>(alloc: Global, conn: &mut Connection<S>) -> Result<Option<Ballot>, OpenFault>
-    ensures tables { HasCleanDisk (state S.Store conn.new) → IfOk result (Examines S.Store conn.old conn.new) }
+    ensures tables { HasCleanDisk (state S.Store conn.new) → (state S.Store conn.old).now.schema ≡ store_schema → IfOk result (Examines S.Store conn.old conn.new) }
+    ensures foreign { HasCleanDisk (state S.Store conn.new) → (state S.Store conn.old).now.schema ≡ store_schema → result ≡ Err OpenFault.Foreign → IsReread (state S.Store conn.old) → HoldsNone (state S.Store conn.old).now.trees }
     ensures clean { doubt (state S.Store conn.old).is_clean ≤ doubt (state S.Store conn.new).is_clean }
 {
-    match acceptor_store_parts::is_store(alloc, conn.schema()) {
-        Ok(true) => {}
-        Ok(false) => return Err(OpenFault::Foreign),
-        Err(_) => return Err(OpenFault::OutOfMemory),
-    }
     let shown = match acceptor_store_parts::query_numbers(conn) {
         Ok(shown) => shown,
         Err(error) => return Err(stopped(acceptor_store_parts::stop_for(conn, error))),
@@ -228,37 +246,67 @@ fn examined<S: Alter>(alloc: Global, conn: &mut Connection<S>) -> Result<Option<
     Ok(greatest_of(numbers.1, votes.rows()))
 }
 
+/// The connection over its own store, with the rows of the two tables tested, and the promised ballot.
+fn reread<S: Alter + Drop>(
+    alloc: Global,
+    conn: Connection<S>,
+) -> Result<(Connection<S>, Option<Ballot>), (OpenFault, S)>
+    ensures tables { IfOk result (λ r. HasCleanDisk (state S.Store r.0) → (state S.Store conn).now.schema ≡ store_schema → Prepares S.Store conn r.0 r.1) }
+    ensures clean { IfOk result (λ r. doubt (state S.Store conn).is_clean ≤ doubt (state S.Store r.0).is_clean) }
+    ensures foreign { IfErr result (λ e. e.0 ≡ OpenFault.Foreign → IsClean (S.Store.view e.1) → HoldsNone (state S.Store conn).committed.trees) }
+{
+    // Over the store the rows stand by rowid, which no other call tells.
+    let mut again = match acceptor_store_parts::reread(alloc, conn) {
+        Ok(again) => again,
+        Err((stop, store)) => return Err((stopped(stop), store)),
+    };
+    match acceptor_store_parts::is_store(alloc, again.schema()) {
+        Ok(true) => {}
+        Ok(false) => return Err((OpenFault::Broken, again.into_store())),
+        Err(_) => return Err((OpenFault::OutOfMemory, again.into_store())),
+    }
+    match examined(alloc, &mut again) {
+        Ok(highest) => Ok((again, highest)),
+        Err(fault) => Err((fault, again.into_store())),
+    }
+}
+
 /// The connection with its tables tested or made, and the promised ballot.
 fn prepared<S: Alter + Drop>(
     alloc: Global,
     mut conn: Connection<S>,
-) -> Result<(Connection<S>, Option<Ballot>), OpenFault>
+) -> Result<(Connection<S>, Option<Ballot>), (OpenFault, S)>
     ensures tables { IfOk result (λ r. HasCleanDisk (state S.Store r.0) → Prepares S.Store conn r.0 r.1) }
     ensures clean { IfOk result (λ r. doubt (state S.Store conn).is_clean ≤ doubt (state S.Store r.0).is_clean) }
+    ensures foreign { IfErr result (λ e. e.0 ≡ OpenFault.Foreign → IsClean (S.Store.view e.1) → SeesForeign S.Store conn) }
 {
+    if !conn.is_autocommit() {
+        return Err((OpenFault::Refused, conn.into_store()));
+    }
     if acceptor_store_parts::is_blank(conn.schema()) {
         return match acceptor_store_parts::make_tables(&mut conn) {
             Ok(()) => Ok((conn, None)),
-            Err(stop) => Err(stopped(stop)),
+            Err(stop) => Err((stopped(stop), conn.into_store())),
         };
     }
-    // Over the store the rows stand by rowid, which no other call tells.
-    let mut again = match acceptor_store_parts::reread(alloc, conn) {
-        Ok(Some(again)) => again,
-        Ok(None) => return Err(OpenFault::Foreign),
-        Err(stop) => return Err(stopped(stop)),
-    };
-    let highest = examined(alloc, &mut again)?;
-    Ok((again, highest))
+    match judged(alloc, conn.schema()) {
+        Ok(()) => reread(alloc, conn),
+        Err(fault) => Err((fault, conn.into_store())),
+    }
 }
 
 impl<S: Alter + Drop> SqlRecords<S> {
-    /// Records over the connection. Tables that aren't there are made, and what is not committed is rolled back.
-    pub fn open(alloc: Global, conn: Connection<S>) -> Result<SqlRecords<S>, OpenFault>
+    /// Records over the connection. In a database without tables they are made. A connection in a transaction is Refused, and so are tables that were declared otherwise and tables, indexes or views beside the two. Foreign comes only where no node wrote the database: first by its schema, then by the numbers, then by the votes. Where it fails the store comes back.
+    pub fn open(alloc: Global, conn: Connection<S>) -> Result<SqlRecords<S>, (OpenFault, S)>
         ensures holds { IfOk result (λ r. IsHonest S.Store r → (c : Content) × Had S.Store conn c × Holds (MayFind S.Store r.held) c) }
         ensures clean { IfOk result (λ r. IsHonest S.Store r → HasCleanDisk (state S.Store conn)) }
+        ensures own { IfOk result (λ r. IsHonest S.Store r → SeesForeign S.Store conn → ⊥) }
+        ensures foreign { IfErr result (λ e. e.0 ≡ OpenFault.Foreign → IsClean (S.Store.view e.1) → SeesForeign S.Store conn) }
     {
-        let found = prepared(alloc, conn)?;
+        let found = match prepared(alloc, conn) {
+            Ok(found) => found,
+            Err(refused) => return Err(refused),
+        };
         Ok(SqlRecords {
             alloc,
             conn: Some(found.0),
@@ -270,6 +318,29 @@ impl<S: Alter + Drop> SqlRecords<S> {
     }
 }
 
+impl<S: Alter + Drop> SqlRecords<S> {
+    /// The store of the records, and none after a reopen that failed. What isn't committed is rolled back, and a crash leaves nothing that it couldn't leave before.
+    pub fn into_store(self) -> Option<S>
+        ensures some { IsSome result ↔ IsSome self.held }
+        ensures numbered { IfSome result (λ s. IsClean (S.Store.view s) → IsTrue (S.Store.view s).is_numbered) }
+        ensures sound { IfSome result (λ s. IsClean (S.Store.view s) → AreDatabases (S.Store.recovers s)) }
+        ensures left { IfSome result (λ s. (db : Trees) → S.Store.recovers s db → IsSomeAnd self.held (λ h. (state S.Store h).may_leave db)) }
+    {
+        let SqlRecords {
+            alloc: _,
+            conn,
+            is_up: _,
+            is_sure: _,
+            highest: _,
+            failures: _,
+        } = self;
+        match conn {
+            Some(conn) => Some(conn.into_store()),
+            None => None,
+        }
+    }
+}
+
 fn unopened(error: SqlError) -> OpenFault {
     match error {
         SqlError::SqliteFailure(ErrorCode::OutOfMemory) => OpenFault::OutOfMemory,
@@ -277,18 +348,21 @@ fn unopened(error: SqlError) -> OpenFault {
     }
 }
 
-/// Records over the files, whatever was left of them by a crash.
+/// Records over the files, whatever was left of them by a crash. They hold what the files hold: one of the contents that the store of the records before might have left.
 pub fn open_files<D: Disk + Drop>(
     alloc: Global,
     files: Files<D>,
 ) -> Result<SqlRecords<FileStore<D>>, OpenFault>
-    ensures { IfOk result (λ r. IsHonest over_files r → (c : Content) × Holds (MayFind over_files r.held) c × IsIn D.Disk files c) }
+    ensures { IfOk result (λ r. IsHonest over_files r → (c : Content) × Holds (MayFind over_files r.held) c × IsFoundIn D.Disk files c) }
 {
     if !files.may_be_used() {
         return Err(OpenFault::Broken);
     }
     match Connection::open_files(alloc, files, Options::new(SEED)) {
-        Ok(conn) => SqlRecords::open(alloc, conn),
+        Ok(conn) => match SqlRecords::open(alloc, conn) {
+            Ok(records) => Ok(records),
+            Err((fault, _store)) => Err(fault),
+        },
         Err((error, left)) => {
             let _files = left.into_files();
             Err(unopened(error))

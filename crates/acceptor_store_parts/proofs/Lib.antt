@@ -20,3 +20,5 @@ pub mod Shapes
 pub mod Makes
 pub mod Held
 pub mod Raw
+pub mod AllVotes
+pub mod Casts

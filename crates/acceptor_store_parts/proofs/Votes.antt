@@ -62,20 +62,20 @@ matched : (q : ℕ) (votes : List (ℕ × Cast)) (db : Trees) → db 1 ≡ map v
 matched q votes db is = rw is (each q votes)
 
 -- what a vote is sorted by, and what is shown of it
-abbrev out : ℕ × Cast → Output
+abbrev pub out : ℕ × Cast → Output
 out v = (Int (pos v.0) ∷ [], vote_shown v)
 
 abbrev place_in : Value → ℕ
 place_in (Int (pos n)) = n
 place_in _ = 0
 
-abbrev key : Output → ℕ
+abbrev pub key : Output → ℕ
 key o = place_in (column o.0 0)
 
-abbrev IsOut : Output → Type 0
+abbrev pub IsOut : Output → Type 0
 IsOut o = (v : ℕ × Cast) × (o ≡ out v)
 
-all_out : (votes : List (ℕ × Cast)) → AllByRecursion IsOut (map out votes)
+pub all_out : (votes : List (ℕ × Cast)) → AllByRecursion IsOut (map out votes)
 all_out [] = tt
 all_out (v ∷ votes) = ((v, refl), all_out votes)
 
@@ -85,7 +85,7 @@ in_order v w e = elim (cases_lt w.0 v.0) [
   | inr from ↦ from
 ]
 
-each_shown : (votes : List (ℕ × Cast)) → map (λ (o : Output). o.1) (map out votes) ≡ map vote_shown votes
+pub each_shown : (votes : List (ℕ × Cast)) → map (λ (o : Output). o.1) (map out votes) ≡ map vote_shown votes
 each_shown [] = refl
 each_shown (v ∷ votes) = ap (λ rs. vote_shown v ∷ rs) (each_shown votes)
 

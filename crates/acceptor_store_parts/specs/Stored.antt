@@ -1,5 +1,8 @@
 -- What the two tables hold, as rows of the store.
-use Rattle.std.specs.Prelude.{◌≡◌, ℕ, pos, List, [], ◌∷◌, map, Option, Some, None}
+use Rattle.std.specs.Prelude.{◌≡◌, ◌⊎◌, ℕ, pos, List, [], ◌∷◌, map, Option, Some, None}
+use Rattle.std.specs.List.{AllByRecursion}
+use Rattle.ballots.specs.Ballots.{IsBallot}
+use Rattle.ballots.specs.Limits.{IsPlace, IsValue}
 use Rattle.ballots.specs.declared.letters.Cast.{Cast}
 use Rattle.acceptor.specs.Content.{Content, IsSound}
 use Rattle.sqlite.specs.declared.types.Value.TheVariants.{Null, Int, Blob}
@@ -32,3 +35,17 @@ pub record AreTables (db : Trees) (c : Content) : Type 0 where
 abbrev pub cast_of : List (ℕ × Cast) → Option Cast
 cast_of [] = None
 cast_of (v ∷ vs) = Some v.1
+
+-- a number that a node keeps: 0, or a ballot
+abbrev pub IsNumber : ℕ → Type 0
+IsNumber n = (n ≡ 0) ⊎ IsBallot n
+
+-- a vote that a node casts: a place of the log, a ballot and a short value
+abbrev pub IsCast : ℕ × Cast → Type 0
+IsCast v = IsPlace v.0 × IsBallot v.1.ballot × IsValue v.1.value
+
+-- content that a node writes
+pub record IsOfNode (c : Content) : Type 0 where
+  pub tried : IsNumber c.tried
+  pub row : IsNumber c.row
+  pub casts : AllByRecursion IsCast c.votes

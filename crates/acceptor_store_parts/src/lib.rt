@@ -2,6 +2,7 @@
 #![tactic(auto)]
 
 mod declared;
+mod foreign;
 mod making;
 mod opening;
 mod reads;
@@ -19,9 +20,11 @@ ghost use Rattle.ballots.specs.Limits.{IsPlace};
 ghost use Rattle.ballots.specs.Ballots.{number_of};
 ghost use Rattle.acceptor_store_parts.specs.Serves.{Serves, StillServes, HasWritten, MayHaveWritten, Stays, DoesNotServe};
 ghost use Rattle.acceptor_store_parts.specs.Stops.{LeavesOpen};
+ghost use Rattle.acceptor_store_parts.specs.Stored.{IsNumber};
 
 use ballots::{Ballot, Place, Value};
 pub use declared::is_column;
+pub use foreign::is_foreign;
 pub use making::{is_blank, make_tables};
 pub use opening::{both_numbers, is_store, read_numbers};
 pub use reads::{
@@ -133,7 +136,9 @@ fn run_put_tried<S: Alter>(conn: &mut Connection<S>, ballot: Ballot) -> Result<u
 /// The ballot of a number of the table, where 0 stands for none.
 pub fn ballot_of(number: i64) -> Result<Option<Ballot>, Stop>
     ensures value { IfOk result (λ b. number ≡ pos (number_of b)) }
+    ensures fits { IfOk result (λ b. IsNumber (number_of b)) }
     ensures err { IfErr result (λ e. e ≡ Stop.Down) }
+    ensures none { OnErr result ((n : ℕ) → IsNumber n → number ≡ pos n → ⊥) }
 {
     if number == 0 {
         return Ok(None);

@@ -12,7 +12,7 @@ fn opened(alloc: Global, before: &str, after: &str) -> Result<Option<OpenFault>,
     conn.execute_batch(after)?;
     match SqlRecords::open(alloc, conn) {
         Ok(_) => Ok(None),
-        Err(fault) => Ok(Some(fault)),
+        Err((fault, _)) => Ok(Some(fault)),
     }
 }
 
@@ -49,5 +49,20 @@ fn no_value(rt: HostRuntime) -> Result<(), Fail> {
         "CREATE TABLE ballot (id INTEGER PRIMARY KEY, number INTEGER NOT NULL) STRICT; INSERT INTO ballot VALUES (0, 0), (1, 0)";
     let votes = "CREATE TABLE vote (place INTEGER PRIMARY KEY, ballot INTEGER NOT NULL) STRICT";
     assert_eq!(rt; opened(rt.alloc(), text, votes)?, Some(OpenFault::Foreign));
+    Ok(())
+}
+
+/// What stands beside the two tables isn't foreign, and is refused.
+#[test]
+fn what_else_is_refused(rt: HostRuntime) -> Result<(), Fail> {
+    for text in [
+        "CREATE TABLE more (id INTEGER PRIMARY KEY) STRICT",
+        "CREATE INDEX by_ballot ON vote (ballot)",
+        "DROP TABLE vote; DROP TABLE ballot; CREATE TABLE more (id INTEGER PRIMARY KEY) STRICT",
+        "BEGIN",
+    ] {
+        let fault = opened(rt.alloc(), TABLES, text)?;
+        assert_eq!(rt; fault, Some(OpenFault::Refused), "{text}");
+    }
     Ok(())
 }

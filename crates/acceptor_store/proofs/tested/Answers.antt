@@ -1,4 +1,4 @@
-use Rattle.std.proofs.Common.{◌≡◌, Some, IfSome, sym, ap, subst, ◌∙◌, arith}
+use Rattle.std.proofs.Common.{◌≡◌, IfSome, sym, ap, subst, ◌∙◌, arith}
 use Rattle.ballots.specs.Ballots.{number_of}
 use Rattle.ballots.specs.Rows.{rows_from}
 use Rattle.acceptor.specs.Content.{Content, greatest}

@@ -1,6 +1,4 @@
-use Rattle.std.proofs.Common.{◌≡◌, ℕ, Option, List, refl}
-use Rattle.acceptor.specs.Content.{Content}
-use Rattle.acceptor.specs.Content.Write.{Tries, Promises, Votes}
+use Rattle.acceptor.specs.Content.Write.{Promises}
 use Rattle.acceptor_store.proofs.Calls.{entered, made, same, in_doubt, adds_only, honest, linked_made, raised_row}
 use Rattle.acceptor_store.proofs.SqlRecords.set_promised.Goals as goal
 

@@ -1,6 +1,4 @@
-use Rattle.std.proofs.Common.{◌≡◌, ℕ, Option, List}
-use Rattle.acceptor.specs.Content.{Content}
-use Rattle.acceptor.specs.Content.Write.{Tries, Promises, Votes}
+use Rattle.acceptor.specs.Content.Write.{Tries}
 use Rattle.acceptor_store.proofs.Calls.{entered, made, same, in_doubt, adds_only, honest}
 use Rattle.acceptor_store.proofs.SqlRecords.set_tried.Goals as goal
 

@@ -1,6 +1,5 @@
-use Rattle.std.proofs.Common.{◌≡◌, ℕ, Option, List, refl}
-use Rattle.acceptor.specs.Content.{Content}
-use Rattle.acceptor.specs.Content.Write.{Tries, Promises, Votes}
+use Rattle.std.proofs.Common.{refl}
+use Rattle.acceptor.specs.Content.Write.{Votes}
 use Rattle.acceptor_store.proofs.Calls.{entered, made, same, in_doubt, adds_only, honest, linked_made, raised_vote}
 use Rattle.acceptor_store.proofs.SqlRecords.set_vote.Goals as goal
 

@@ -1,4 +1,4 @@
-use Rattle.std.proofs.Common.{◌≡◌, sym}
+use Rattle.std.proofs.Common.{sym}
 use Rattle.sqlite.specs.Files.{over_files}
 use Rattle.acceptor_store.proofs.Reopening.{reopen_linked, reopen_ok, reopen_kept, reopen_honest}
 use Rattle.acceptor_store.proofs.SqlRecordsFileStoreRecords.reopen.Goals as goal
