@@ -18,12 +18,13 @@ sed -n 's/^\([a-z_]*\):.*/\1/p' "$root/crates.txt" | while read -r name; do
 done
 mkdir -- "$repository/crates/upsched/out"
 if [ "${1-}" = unproved ]; then
+    mkdir -m 1777 -- "$made/rooms"
     # `rt try` as the launcher calls it: the files of --data lie in the folder that the program runs in
     cat >"$made/bin/rt" <<STUB
 #!/usr/bin/env bash
 [ "\$1" = try ] || exit 99
 shift
-room=\$(mktemp -d '$made/room.XXXXXX')
+room=\$(mktemp -d '$made/rooms/room.XXXXXX')
 while [ "\$1" = --data ]; do
     mkdir -p -- "\$(dirname -- "\$room/\${2%%=*}")"
     cp -- "\${2#*=}" "\$room/\${2%%=*}"
@@ -122,8 +123,7 @@ wants 'standard output full' 1 '' 'upsched: output'
 python3 "$root/bench/plans.py" mixed 20000 >long.toml
 "$upsched" maps long.toml 2>"$made/errors" | head -n 1 >"$made/output"
 ended=${PIPESTATUS[0]}
-[ "$ended" != 141 ] || ended=1
-wants 'a pipe that is closed' 1 "1 *" '?(upsched: output)'
+wants 'a pipe that nobody reads on' 1 '1 *' 'upsched: output'
 if [ "$(id -u)" = 0 ]; then
     chmod -R go+rX -- "$made"
     setpriv --reuid=65534 --regid=65534 --clear-groups "$upsched" run script.toml --store closed_to_all >"$made/output" 2>"$made/errors"
