@@ -115,10 +115,24 @@ fn replay(world: &mut World<PlainNode>, events: &[Event], instead: Instead) -> O
     }
 }
 
+/// Whether an answer tells a want of memory.
+fn wants(answer: Answer) -> bool {
+    matches!(
+        answer,
+        Answer::Refused(Refusal::OutOfMemory)
+            | Answer::Fault(NodeFault::OutOfMemory)
+            | Answer::Crashed
+    )
+}
+
+/// None where memory was wanted now: what the first run did can't be compared then.
 fn run_second(world: &mut World<PlainNode>, events: &[Event], met: &[Met]) -> Option<Verdict> {
     for (number, one) in events.chunks(1).enumerate() {
         let first = *met.get(number)?;
         let answer = replay(world, one, first.instead)?;
+        if wants(answer) {
+            return None;
+        }
         if first.instead == Instead::Itself && answer != first.answer {
             return Some(Verdict::Differs(number));
         }

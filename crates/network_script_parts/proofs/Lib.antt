@@ -5,3 +5,4 @@ mod Channels
 mod Fresh
 mod Pairs
 mod ScriptFaults
+mod Keys

@@ -1,25 +1,10 @@
 -- Faults of a script, along what they are told of.
-use Rattle.std.proofs.Common.{◌≡◌, ℕ, List, Option, Some, Result, Ok, Err, IfOk, IfErr, Vec, Global}
-use Rattle.std.specs.List.{AllZip, list_all}
-use Rattle.toml.specs.Data.{Data, Items, Members}
-use Rattle.toml.specs.View.{items_of}
+use Rattle.std.proofs.Common.{◌≡◌, ℕ, List, Option, Some, Result, Ok, Err, IfOk, IfErr}
+use Rattle.toml.specs.Data.{Members}
 use Rattle.ballots.specs.declared.members.Members.{Members as NodeCount}
-use Rattle.network_script_parts.specs.declared.event.Event.{Event}
 use Rattle.network_script_parts.specs.declared.script.ScriptFault.{ScriptFault}
 use Rattle.network_script_parts.specs.declared.script.ScriptFault.TheVariants.{NotToml, BadEvent, BadMembers, OutOfMemory}
-use Rattle.network_script_parts.specs.Items.{is_table}
-use Rattle.network_script_parts.specs.Script.{IsId, ListsIds, MeanEvents, IsBadPosition, ListsEvents, IsBadList, IsFaultAt, IsNoIds, HasMembers, HasModems, IsBadAt, IsTableFault}
-use Rattle.network_script_parts.proofs.Callers.{list_of-items_of}
-
--- events that are read whole are what a value lists
-pub lists_events : (a : Option Items) (ds : List Data) (r : Result (Vec Event Global) ScriptFault) → Some (items_of ds) ≡ a → IfOk r (λ v. MeanEvents ds v.items) → IfOk r (λ v. ListsEvents a v.items)
-lists_events a ds (Ok v) e h = rw (← e, list_of-items_of ds) h
-lists_events a ds (Err f) e h = tt
-
--- ids that are read whole are what a value lists
-pub lists_ids : (a : Option Items) (ds : List Data) (r : Result (Vec ℕ Global) ScriptFault) → Some (items_of ds) ≡ a → IfOk r (λ v. AllZip IsId ds v.items) → IfOk r (λ v. ListsIds a v.items)
-lists_ids a ds (Ok v) e h = rw (← e, list_of-items_of ds) h
-lists_ids a ds (Err f) e h = tt
+use Rattle.network_script_parts.specs.Script.{IsFaultAt, IsNoIds, HasMembers, HasModems, IsBadAt, IsTableFault}
 
 -- what a reading alone may give, along what it is told of
 pub only_along : {X E : Type 0} (r : Result (Option X) E) (P Q : X → Type 0) → ((x : X) → Q x → P x) → IfOk r (λ found. (x : X) → P x → found ≡ Some x) → IfOk r (λ found. (x : X) → Q x → found ≡ Some x)
@@ -41,14 +26,6 @@ none_along (Err NotToml) P Q along h = absurd h
 none_along (Err (BadEvent i)) P Q along h = absurd h
 none_along (Err BadMembers) P Q along h = λ ids there. h ids (along ids there)
 none_along (Err OutOfMemory) P Q along h = tt
-
--- the bad position of an array is that of the value
-pub bad_in_list : (a : Option Items) (ds : List Data) → Some (items_of ds) ≡ a → (i : ℕ) → IsBadPosition (list_all is_table ds) ds i → IsBadList a i
-bad_in_list a ds e i h = rw (← e, list_of-items_of ds) h
-
--- what a value lists is what the array's items are
-pub ids_in_list : (a : Option Items) (ds : List Data) → Some (items_of ds) ≡ a → (ids : List ℕ) → ListsIds a ids → AllZip IsId ds ids
-ids_in_list a ds e ids h = let listed = rw (← e) at h in rw (list_of-items_of ds) at listed
 
 -- ids that aren't there are a fault of the table
 pub modems_fault : (ms : Members) (f : ScriptFault) → IsNoIds (HasModems ms) f → IsTableFault ms f

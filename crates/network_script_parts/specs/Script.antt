@@ -1,7 +1,6 @@
 -- A script: members, ids of modems, and events, under keys of a TOML text. Events count from 0.
-use Rattle.std.specs.Prelude.{◌≡◌, ℕ, ◌^◌, ◌<◌, Bool, true, false, List, [], Option, Some, None, pos, codes}
-use Rattle.std.specs.List.{AllZip, list_all}
-use Rattle.toml.specs.Data.{Data, integer, Items, Members, get_member, as_array}
+use Rattle.std.specs.Prelude.{◌≡◌, ℕ, ◌^◌, ◌<◌, List, Some, None, pos, codes}
+use Rattle.toml.specs.Data.{Data, integer, Members, get_member}
 use Rattle.toml.specs.Parse.{parse_document}
 use Rattle.ballots.specs.declared.members.Members.{Members as NodeCount}
 use Rattle.ballots.specs.Members.{member_count}
@@ -9,7 +8,7 @@ use Rattle.network_script_parts.specs.declared.event.Event.{Event}
 use Rattle.network_script_parts.specs.declared.script.ScriptFault.{ScriptFault}
 use Rattle.network_script_parts.specs.declared.script.ScriptFault.TheVariants.{NotToml, BadEvent, BadMembers, OutOfMemory}
 use Rattle.network_script_parts.specs.EventTable.{MeansEvent}
-use Rattle.network_script_parts.specs.Items.{list_of, is_table, IsFirstBad}
+use Rattle.network_script_parts.specs.Items.{items_at, tables_at, AllMean, IsBadIndex}
 
 -- ---- members and modems
 
@@ -22,18 +21,9 @@ pub record IsId (d : Data) (id : ℕ) : Type 0 where
   pub held : d ≡ integer (pos id)
   pub fits : id < 2 ^ 32
 
--- an array lists the ids
-abbrev pub ListsIds : Option Items → List ℕ → Type 0
-ListsIds None ids = ⊥
-ListsIds (Some ds) ids = AllZip IsId (list_of ds) ids
-
--- a value, where there is one, lists the ids; no value lists none
-abbrev pub HoldsIds : Option Data → List ℕ → Type 0
-HoldsIds None ids = ids ≡ []
-HoldsIds (Some d) ids = ListsIds (as_array d) ids
-
+-- the ids of a table's modems
 abbrev pub HasModems : Members → List ℕ → Type 0
-HasModems ms ids = HoldsIds (get_member (codes "modems") ms) ids
+HasModems ms ids = AllMean IsId (items_at ms (codes "modems")) ids
 
 -- nothing is listed, told as bad members, or want of memory, which says nothing
 abbrev pub IsNoIds : (List ℕ → Type 0) → ScriptFault → Type 0
@@ -44,40 +34,12 @@ IsNoIds Lists OutOfMemory = Unit {0}
 
 -- ---- events
 
--- the items mean the events, one each
-abbrev pub MeanEvents : List Data → List Event → Type 0
-MeanEvents ds events = AllZip MeansEvent ds events
-
--- the bad position of an array: that of the first item that means no event, but 0 where not all items are tables
-abbrev pub IsBadPosition : Bool → List Data → ℕ → Type 0
-IsBadPosition true ds position = IsFirstBad MeansEvent ds position
-IsBadPosition false ds position = position ≡ 0
-
--- an array lists the events
-abbrev pub ListsEvents : Option Items → List Event → Type 0
-ListsEvents None events = ⊥
-ListsEvents (Some ds) events = MeanEvents (list_of ds) events
-
--- the bad position of a value; 0 where it is no array
-abbrev pub IsBadList : Option Items → ℕ → Type 0
-IsBadList None position = position ≡ 0
-IsBadList (Some ds) position = IsBadPosition (list_all is_table (list_of ds)) (list_of ds) position
-
--- a value, where there is one, lists the events; no value lists none
-abbrev pub HoldsEvents : Option Data → List Event → Type 0
-HoldsEvents None events = events ≡ []
-HoldsEvents (Some d) events = ListsEvents (as_array d) events
-
-abbrev pub HoldsBad : Option Data → ℕ → Type 0
-HoldsBad None position = ⊥
-HoldsBad (Some d) position = IsBadList (as_array d) position
-
 -- the events of a table, and its bad position
 abbrev pub HasEvents : Members → List Event → Type 0
-HasEvents ms events = HoldsEvents (get_member (codes "event") ms) events
+HasEvents ms events = AllMean MeansEvent (items_at ms (codes "event")) events
 
 abbrev pub IsBadAt : Members → ℕ → Type 0
-IsBadAt ms position = HoldsBad (get_member (codes "event") ms) position
+IsBadAt ms position = IsBadIndex MeansEvent (tables_at ms (codes "event")) position
 
 -- a bad event at such a position, or want of memory, which says nothing
 abbrev pub IsFaultAt : (ℕ → Type 0) → ScriptFault → Type 0

@@ -1,9 +1,11 @@
 //! What the keys of a table of TOML hold.
 
-ghost use Rattle.std.specs.Prelude.{◌≡◌, ℕ, Some, IfSome, option_map};
+ghost use Rattle.std.specs.Prelude.{◌≡◌, ℕ, Some, IfSome, map, option_map};
+ghost use Rattle.std.specs.List.{list_all};
 ghost use Rattle.toml.specs.Data.{get_member};
 ghost use Rattle.toml.specs.View.{view, table_view};
 ghost use Rattle.network_script_parts.specs.Fields.{HasNumber};
+ghost use Rattle.network_script_parts.specs.Items.{is_table, items_at, tables_at};
 
 use minislot_time::Slot;
 use toml::{Table, Value};
@@ -13,6 +15,31 @@ pub fn member<'a>(table: &'a Table, key: &str) -> Option<&'a Value>
     ensures { option_map (λ v. view v.now) result ≡ get_member key.now (table_view table.now) }
 {
     table.get(key)
+}
+
+/// The items of the array that the key of the text's table holds, none without the key. Nothing where it holds no array.
+pub fn items_at<'a>(table: &'a Table, key: &str) -> Option<&'a [Value]>
+    ensures { option_map (λ items. map view items.now) result ≡ items_at (table_view table.now) key.now }
+{
+    let Some(value) = member(table, key) else {
+        return Some(&[]);
+    };
+    let items = value.as_array()?;
+    Some(items.as_slice())
+}
+
+fn are_tables(items: &[Value]) -> bool
+    ensures { result ≡ list_all (λ v. is_table (view v)) items.now }
+{
+    items.iter().all(|item| item.is_table())
+}
+
+/// Likewise, and nothing either where an item is no table.
+pub fn tables_at<'a>(table: &'a Table, key: &str) -> Option<&'a [Value]>
+    ensures { option_map (λ items. map view items.now) result ≡ tables_at (table_view table.now) key.now }
+{
+    let items = items_at(table, key)?;
+    if are_tables(items) { Some(items) } else { None }
 }
 
 pub fn u8_at(table: &Value, key: &str) -> Option<u8>

@@ -13,6 +13,7 @@ mod seat;
 pub use command_table::command_of;
 pub use event::{Answer, Event, OutOfMemory, Refusal, ReleasedOutput, Report, Transmission};
 pub use event_table::event_of;
+pub use fields::tables_at;
 pub use opening::{PlainNode, new_modems, plain_nodes};
 pub use receivers::{Receivers, ask, hear_near, tick_at};
 pub use script::{Script, ScriptFault, read_script};

@@ -1,18 +1,17 @@
 //! A script: members, modems and events in TOML.
 
 ghost use Rattle.std.specs.Prelude.{◌≡◌, ℕ, Some, IfSome, IfOk, IfErr, map};
-ghost use Rattle.std.specs.List.{AllZip, list_all};
-ghost use Rattle.toml.specs.Data.{as_array};
+ghost use Rattle.std.specs.List.{AllZip};
 ghost use Rattle.toml.specs.View.{view, table_view};
 ghost use Rattle.ballots.specs.declared.members.Members.{Members};
 ghost use Rattle.network_script_parts.specs.declared.script.ScriptFault.TheVariants.{OutOfMemory};
 ghost use Rattle.network_script_parts.specs.EventTable.{MeansEvent};
-ghost use Rattle.network_script_parts.specs.Items.{is_table, IsFirstBad};
-ghost use Rattle.network_script_parts.specs.Script.{HasMembers, IsId, ListsIds, HasModems, MeanEvents, IsBadPosition, ListsEvents, IsBadList, HasEvents, IsBadAt, IsFaultAt, IsNoIds, IsScriptTable, IsTableFault, IsScript, IsScriptFault};
+ghost use Rattle.network_script_parts.specs.Items.{IsFirstBad};
+ghost use Rattle.network_script_parts.specs.Script.{HasMembers, IsId, HasModems, HasEvents, IsBadAt, IsFaultAt, IsNoIds, IsScriptTable, IsTableFault, IsScript, IsScriptFault};
 
 use crate::event::Event;
 use crate::event_table::event_of;
-use crate::fields::member;
+use crate::fields::{items_at, member, tables_at};
 use ballots::Members;
 use std::alloc::{AllocFailed, Global};
 use thiserror::Error;
@@ -85,28 +84,18 @@ fn read_ids(alloc: Global, items: &[Value]) -> Result<Vec<u32>, ScriptFault>
     Ok(ids)
 }
 
-fn read_id_array(alloc: Global, value: &Value) -> Result<Vec<u32>, ScriptFault>
-    ensures read { IfOk result (λ ids. ListsIds (as_array (view value.now)) ids.items) }
-    ensures fault { IfErr result (IsNoIds (ListsIds (as_array (view value.now)))) }
-{
-    match value.as_array() {
-        Some(items) => read_ids(alloc, items.as_slice()),
-        None => Err(ScriptFault::BadMembers),
-    }
-}
-
 fn read_modems(alloc: Global, table: &Table) -> Result<Vec<u32>, ScriptFault>
     ensures read { IfOk result (λ ids. HasModems (table_view table.now) ids.items) }
     ensures fault { IfErr result (IsNoIds (HasModems (table_view table.now))) }
 {
-    match member(table, "modems") {
-        None => Ok(Vec::new(alloc)),
-        Some(value) => read_id_array(alloc, value),
+    match items_at(table, "modems") {
+        Some(items) => read_ids(alloc, items),
+        None => Err(ScriptFault::BadMembers),
     }
 }
 
 fn read_items(alloc: Global, items: &[Value]) -> Result<Vec<Event>, ScriptFault>
-    ensures read { IfOk result (λ events. MeanEvents (map view items.now) events.items) }
+    ensures read { IfOk result (λ events. AllZip MeansEvent (map view items.now) events.items) }
     ensures fault { IfErr result (IsFaultAt (IsFirstBad MeansEvent (map view items.now))) }
 {
     let mut events = Vec::new(alloc);
@@ -120,40 +109,13 @@ fn read_items(alloc: Global, items: &[Value]) -> Result<Vec<Event>, ScriptFault>
     Ok(events)
 }
 
-fn are_tables(items: &[Value]) -> bool
-    ensures { result ≡ list_all (λ v. is_table (view v)) items.now }
-{
-    items.iter().all(|item| item.is_table())
-}
-
-fn read_array(alloc: Global, items: &[Value]) -> Result<Vec<Event>, ScriptFault>
-    ensures read { IfOk result (λ events. MeanEvents (map view items.now) events.items) }
-    ensures fault { IfErr result (IsFaultAt (IsBadPosition (list_all is_table (map view items.now)) (map view items.now))) }
-{
-    if are_tables(items) {
-        read_items(alloc, items)
-    } else {
-        Err(ScriptFault::BadEvent(0))
-    }
-}
-
-fn read_value(alloc: Global, value: &Value) -> Result<Vec<Event>, ScriptFault>
-    ensures read { IfOk result (λ events. ListsEvents (as_array (view value.now)) events.items) }
-    ensures fault { IfErr result (IsFaultAt (IsBadList (as_array (view value.now)))) }
-{
-    match value.as_array() {
-        Some(items) => read_array(alloc, items.as_slice()),
-        None => Err(ScriptFault::BadEvent(0)),
-    }
-}
-
 fn read_events(alloc: Global, table: &Table) -> Result<Vec<Event>, ScriptFault>
     ensures read { IfOk result (λ events. HasEvents (table_view table.now) events.items) }
     ensures fault { IfErr result (IsFaultAt (IsBadAt (table_view table.now))) }
 {
-    match member(table, "event") {
-        None => Ok(Vec::new(alloc)),
-        Some(value) => read_value(alloc, value),
+    match tables_at(table, "event") {
+        Some(items) => read_items(alloc, items),
+        None => Err(ScriptFault::BadEvent(0)),
     }
 }
 

@@ -1,4 +1,3 @@
 pub mod Callers
-mod PlanFaults
 mod Printed
 mod Told

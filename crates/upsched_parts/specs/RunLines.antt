@@ -5,8 +5,7 @@ use Rattle.modem.specs.declared.types.Heard.{Heard}
 use Rattle.modem.specs.declared.types.Heard.TheVariants as heard
 use Rattle.modem.specs.declared.types.Sending.{Sending}
 use Rattle.modem.specs.declared.types.Sending.TheVariants.{Unicast, Polled, Request}
-use Rattle.modem.specs.declared.types.WantFault.{WantFault}
-use Rattle.modem.specs.declared.types.WantFault.TheVariants as want
+use Rattle.modem.specs.Wants.{number_of_fault}
 use Rattle.proposer.specs.declared.fault.NodeFault.{NodeFault}
 use Rattle.proposer.specs.declared.fault.NodeFault.TheVariants as fault
 use Rattle.network_script_parts.specs.declared.event.Answer.{Answer}
@@ -31,13 +30,6 @@ sending_text None = codes "idle"
 sending_text (Some (Unicast sid)) = codes "unicast " ++ decimal sid
 sending_text (Some (Polled sid n)) = codes "polled " ++ (decimal sid ++ (codes " " ++ decimal n))
 sending_text (Some (Request sid n)) = codes "request " ++ (decimal sid ++ (codes " " ++ decimal n))
-
--- the number of a want's refusal
-abbrev pub want_text : WantFault → List ℕ
-want_text want.NotMine = codes "1"
-want_text want.Waiting = codes "2"
-want_text want.BadSize = codes "3"
-want_text want.OutOfMemory = codes "4"
 
 -- why an event changed nothing
 abbrev pub refusal_text : Refusal → List ℕ
@@ -68,7 +60,7 @@ answer_text Finished = codes "done"
 answer_text (Released n) = codes "released " ++ decimal n
 answer_text (HeardSo heard) = codes "heard " ++ heard_text heard
 answer_text (Ticked sending) = sending_text sending
-answer_text (WantRefused fault) = codes "want-refused " ++ want_text fault
+answer_text (WantRefused fault) = codes "want-refused " ++ decimal (number_of_fault fault)
 answer_text (Refused refusal) = codes "refused " ++ refusal_text refusal
 answer_text (Fault fault) = codes "fault " ++ fault_text fault
 answer_text Crashed = codes "crashed"

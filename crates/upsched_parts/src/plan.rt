@@ -1,15 +1,14 @@
 //! A plan: an array of commands in TOML.
 
-ghost use Rattle.std.specs.Prelude.{◌≡◌, IfOk, IfErr, map};
-ghost use Rattle.std.specs.List.{list_all};
-ghost use Rattle.toml.specs.Data.{as_array};
+ghost use Rattle.std.specs.Prelude.{◌≡◌, Some, IfOk, IfErr, map};
+ghost use Rattle.std.specs.List.{AllZip};
 ghost use Rattle.toml.specs.View.{view, table_view};
 ghost use Rattle.upsched_parts.specs.declared.plan.PlanFault.TheVariants.{OutOfMemory};
-ghost use Rattle.network_script_parts.specs.Items.{is_table};
-ghost use Rattle.upsched_parts.specs.Plan.{SpellCommands, IsBadPosition, IsFirstBadFromOne, ListsCommands, IsBadList, HasCommands, IsBadAt, IsFaultAt, IsPlan, IsPlanFault};
+ghost use Rattle.network_script_parts.specs.CommandTable.{SpellsCommand};
+ghost use Rattle.upsched_parts.specs.Plan.{IsBadFromOne, HasCommands, IsBadAt, IsFaultAt, IsPlan, IsPlanFault};
 
 use grant_machine::Command;
-use network_script_parts::command_of;
+use network_script_parts::{command_of, tables_at};
 use std::alloc::{AllocFailed, Global};
 use thiserror::Error;
 use toml::{Table, Value};
@@ -37,8 +36,8 @@ impl<T: Drop> From<AllocFailed<T>> for PlanFault {
 }
 
 fn read_items(alloc: Global, items: &[Value]) -> Result<Vec<Command>, PlanFault>
-    ensures read { IfOk result (λ commands. SpellCommands (map view items.now) commands.items) }
-    ensures fault { IfErr result (IsFaultAt (IsFirstBadFromOne (map view items.now))) }
+    ensures read { IfOk result (λ commands. AllZip SpellsCommand (map view items.now) commands.items) }
+    ensures fault { IfErr result (IsFaultAt (IsBadFromOne (Some (map view items.now)))) }
 {
     let mut commands = Vec::new(alloc);
     for (i, item) in items.iter().enumerate() {
@@ -50,40 +49,13 @@ fn read_items(alloc: Global, items: &[Value]) -> Result<Vec<Command>, PlanFault>
     Ok(commands)
 }
 
-fn are_tables(items: &[Value]) -> bool
-    ensures { result ≡ list_all (λ v. is_table (view v)) items.now }
-{
-    items.iter().all(|item| item.is_table())
-}
-
-fn read_array(alloc: Global, items: &[Value]) -> Result<Vec<Command>, PlanFault>
-    ensures read { IfOk result (λ commands. SpellCommands (map view items.now) commands.items) }
-    ensures fault { IfErr result (IsFaultAt (IsBadPosition (list_all is_table (map view items.now)) (map view items.now))) }
-{
-    if are_tables(items) {
-        read_items(alloc, items)
-    } else {
-        Err(PlanFault::BadCommand(1))
-    }
-}
-
-fn read_value(alloc: Global, value: &Value) -> Result<Vec<Command>, PlanFault>
-    ensures read { IfOk result (λ commands. ListsCommands (as_array (view value.now)) commands.items) }
-    ensures fault { IfErr result (IsFaultAt (IsBadList (as_array (view value.now)))) }
-{
-    match value.as_array() {
-        Some(items) => read_array(alloc, items.as_slice()),
-        None => Err(PlanFault::BadCommand(1)),
-    }
-}
-
 fn read_table(alloc: Global, table: &Table) -> Result<Vec<Command>, PlanFault>
     ensures read { IfOk result (λ commands. HasCommands (table_view table.now) commands.items) }
     ensures fault { IfErr result (IsFaultAt (IsBadAt (table_view table.now))) }
 {
-    match table.get("command") {
-        None => Ok(Vec::new(alloc)),
-        Some(value) => read_value(alloc, value),
+    match tables_at(table, "command") {
+        Some(items) => read_items(alloc, items),
+        None => Err(PlanFault::BadCommand(1)),
     }
 }
 

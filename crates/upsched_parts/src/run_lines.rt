@@ -1,9 +1,9 @@
 //! The printed lines of a run.
 
 ghost use Rattle.std.specs.Prelude.{◌≡◌, IfOk, string_bytes};
-ghost use Rattle.upsched_parts.specs.RunLines.{heard_text, sending_text, want_text, refusal_text, fault_text, answer_text};
+ghost use Rattle.upsched_parts.specs.RunLines.{heard_text, sending_text, refusal_text, fault_text, answer_text};
 
-use modem::{Heard, Sending, WantFault};
+use modem::{Heard, Sending};
 use network_script_parts::{Answer, Refusal};
 use node::NodeFault;
 use std::alloc::{AllocError, Global};
@@ -28,17 +28,6 @@ fn sending_text(alloc: Global, sending: Option<Sending>) -> Result<String, Alloc
         Some(Sending::Unicast(sid)) => format!(in alloc; "unicast {sid}"),
         Some(Sending::Polled(sid, n)) => format!(in alloc; "polled {sid} {n}"),
         Some(Sending::Request(sid, n)) => format!(in alloc; "request {sid} {n}"),
-    }
-}
-
-fn want_text(fault: WantFault) -> &'static str
-    ensures { result.now ≡ want_text fault }
-{
-    match fault {
-        WantFault::NotMine => "1",
-        WantFault::Waiting => "2",
-        WantFault::BadSize => "3",
-        WantFault::OutOfMemory => "4",
     }
 }
 
@@ -83,7 +72,7 @@ pub fn answer_text(alloc: Global, answer: Answer) -> Result<String, AllocError>
         Answer::Released(count) => format!(in alloc; "released {count}"),
         Answer::Heard(heard) => format!(in alloc; "heard {}", heard_text(heard)),
         Answer::Ticked(sending) => sending_text(alloc, sending),
-        Answer::WantRefused(fault) => format!(in alloc; "want-refused {}", want_text(fault)),
+        Answer::WantRefused(fault) => format!(in alloc; "want-refused {}", fault.number()),
         Answer::Refused(refusal) => format!(in alloc; "refused {}", refusal_text(refusal)),
         Answer::Fault(fault) => format!(in alloc; "fault {}", fault_text(fault)),
         Answer::Crashed => String::from_str(alloc, "crashed"),
