@@ -31,7 +31,8 @@ closure() {
         END { count = split(tops, top, " "); for (k = 1; k <= count; k++) add(top[k]) }' "$root/crates.txt"
 }
 
-# run_over NAME DEP..: proves and runs bench/NAME/main.rt.in over these crates and libraries, in a workspace of its own.
+# run_over NAME DEP..: proves and runs bench/NAME/main.rt.in over these crates and libraries, in a workspace of its own. The
+# program's words are those of the array `arguments`, if there is one.
 run_over() {
     local bench=${1}_bench source=$root/bench/$1/main.rt.in crate
     shift
@@ -42,5 +43,5 @@ run_over() {
         grep -E "^$crate:" "$root/crates.txt" >>"$made/crates.txt"
     done
     echo "$bench: $*" >>"$made/crates.txt"
-    (cd "$made/crates/$bench" && rt run --jobs 1)
+    (cd "$made/crates/$bench" && rt run --jobs 1 ${arguments[@]+-- "${arguments[@]}"})
 }

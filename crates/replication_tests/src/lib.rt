@@ -9,4 +9,6 @@ mod letters;
 #[cfg(test)]
 mod records;
 #[cfg(test)]
+mod strange_letters;
+#[cfg(test)]
 mod worlds;
