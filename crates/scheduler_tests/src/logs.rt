@@ -78,6 +78,21 @@ fn other_bytes_are_no_command(rt: HostRuntime) {
     assert!(rt; !is_no_command(&[0]));
 }
 
+/// Whether the channel's bytes are no command without the last one, with one more, or with another first one.
+fn is_spelled_one_way(alloc: Global) -> Result<bool, AllocError> {
+    let mut longer = Vec::from_slice(alloc, &CHANNEL)?;
+    longer.push(0)?;
+    let mut other = Vec::from_slice(alloc, &CHANNEL)?;
+    other[0] = 0xFF;
+    Ok(is_no_command(&CHANNEL[..16]) && is_no_command(&longer) && is_no_command(&other))
+}
+
+#[test]
+fn a_channel_is_spelled_one_way(rt: HostRuntime) -> Result<(), Fail> {
+    assert!(rt; is_spelled_one_way(rt.alloc())?);
+    Ok(())
+}
+
 /// A log that has learned place 2 alone.
 fn with_a_gap(alloc: Global) -> Result<Log, Fail> {
     let mut log = Log::new(alloc);
