@@ -195,3 +195,31 @@ fn other_answers(rt: HostRuntime) -> Result<(), Fail> {
     );
     Ok(())
 }
+
+/// The body of a MAP of one grant without its last byte.
+fn cut_body(alloc: Global) -> Result<Output, AllocError> {
+    let bytes: [u8; 27] = [
+        0x01, 0x07, 0x03, 0x00, 0x00, 0x00, 0x03, 0xE8, 0x00, 0x00, 0x03, 0xE3, 0x02, 0x05, 0x03,
+        0x08, 0x00, 0x05, 0x80, 0x00, 0xFF, 0xFC, 0x40, 0x14, 0x00, 0x01, 0xC0,
+    ];
+    Ok(Output::Map {
+        ch: 1,
+        start: Slot::new(1000).ok_or(AllocError)?,
+        len: 100,
+        bytes: MapBytes::new(Vec::from_slice(alloc, &bytes)?),
+    })
+}
+
+#[test]
+fn a_cut_body_changes_nothing(rt: HostRuntime) -> Result<(), Fail> {
+    let alloc = rt.alloc();
+    let mut modem = modem_50(alloc)?;
+    let clock = modem.clock(1);
+    assert_eq!(rt;
+        modem.hear(&cut_body(alloc)?, slot(&rt, 1000))?,
+        Heard::Unreadable
+    );
+    assert_eq!(rt; modem.clock(1), clock);
+    assert_eq!(rt; modem.tick(1, slot(&rt, 1000), 0), Ok(None));
+    Ok(())
+}
