@@ -1,0 +1,11 @@
+#!/usr/bin/env bash
+# Reads each MAP body that the examples print by Wireshark (tshark of Debian's package) and compares its fields with the
+# lines of `upsched show`. It ends with status 1 where one differs. It is no test, since the gate has no tshark.
+set -euo pipefail
+. "$(dirname -- "${BASH_SOURCE[0]}")/common.sh"
+needs_program
+command -v tshark >/dev/null || {
+    echo "$0: no tshark: apt-get install tshark" >&2
+    exit 1
+}
+python3 "$root/bench/wireshark.py" "$program" "$made" "$root/examples"
