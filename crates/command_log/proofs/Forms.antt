@@ -3,10 +3,12 @@ use Rattle.std.proofs.Common.{◌≡◌, ℕ, ◌<◌, ◌==◌, ◌&&◌, Bool,
 use Rattle.std.specs.Option.{IfSome, MatchOption}
 use Rattle.std.specs.Int.{w16, w32, w64, to_be_bytes}
 use Rattle.std.proofs.lemmas.Bool.{eqb-true}
+use Rattle.flow_state.specs.declared.channel.Phy.{Phy}
+use Rattle.flow_state.specs.declared.channel.Phy.TheVariants.{Tdma, Advanced}
 use Rattle.flow_state.specs.declared.flow.FlowKind.TheVariants.{BestEffort, Ugs, Poll}
 use Rattle.grant_machine.specs.declared.command.Command.{Command}
 use Rattle.grant_machine.specs.declared.command.Command.TheVariants as commands
-use Rattle.command_log.specs.Spelling.{Spells, SpellsNone}
+use Rattle.command_log.specs.Spelling.{phy_byte, Spells, SpellsNone}
 use Rattle.command_log.specs.Reading.{AreBytes, byte, number, is_form, is_flow_form, channel_in, flow_in, command_in}
 use Rattle.command_log.proofs.Spelled.{read_back}
 use Rattle.command_log.proofs.Fields.{number_fits_2, number_fits_4, number_fits_8, field_1, field_2, field_4, field_8, at_end}
@@ -19,10 +21,10 @@ module _ (bytes : List ℕ) (are : AreBytes bytes) where
   noop_spelled : byte bytes 0 ≡ 0 → length bytes ≡ 1 → Spells bytes commands.Noop
   noop_spelled tag len = (tt, first 0 _ tag (omega arith) (at_end bytes are 1 len))
 
-  channel_spelled : byte bytes 0 ≡ 1 → length bytes ≡ 17 → Spells bytes (commands.Channel (channel_in bytes))
-  channel_spelled tag len = (
+  channel_spelled : (phy : Phy) → byte bytes 0 ≡ phy_byte phy → length bytes ≡ 17 → Spells bytes (commands.Channel (channel_in phy bytes))
+  channel_spelled phy tag len = (
     record { id = are 1; ucd = are 2; short_max = number_fits_2 bytes are 3; ranging_start = are 5; ranging_end = are 6; data_start = are 7; data_end = are 8; base = number_fits_8 bytes are 9 },
-    first 1 _ tag (omega arith) (field_1 bytes are 1 _ (omega arith) (field_1 bytes are 2 _ (omega arith) (field_2 bytes are 3 5 _ refl (omega arith)
+    first (phy_byte phy) _ tag (omega arith) (field_1 bytes are 1 _ (omega arith) (field_1 bytes are 2 _ (omega arith) (field_2 bytes are 3 5 _ refl (omega arith)
         (field_1 bytes are 5 _ (omega arith) (field_1 bytes are 6 _ (omega arith) (field_1 bytes are 7 _ (omega arith) (field_1 bytes are 8 _ (omega arith)
         (field_8 bytes are 9 17 _ refl (omega arith) (at_end bytes are 17 len))))))))),
   )
@@ -97,13 +99,14 @@ by_form bytes false c rest here later = later
 pub reads_spelled : (bytes : List ℕ) → AreBytes bytes → IfSome (command_in bytes) (Spells bytes)
 reads_spelled bytes are =
     by_form bytes (is_form bytes 0 1) _ _ (λ h. let f = form_is bytes 0 1 h in noop_spelled bytes are f.0 f.1)
-    (by_form bytes (is_form bytes 1 17) _ _ (λ h. let f = form_is bytes 1 17 h in channel_spelled bytes are f.0 f.1)
+    (by_form bytes (is_form bytes 1 17) _ _ (λ h. let f = form_is bytes 1 17 h in channel_spelled bytes are Tdma f.0 f.1)
+    (by_form bytes (is_form bytes 6 17) _ _ (λ h. let f = form_is bytes 6 17 h in channel_spelled bytes are Advanced f.0 f.1)
     (by_form bytes (is_form bytes 3 4) _ _ (λ h. let f = form_is bytes 3 4 h in drop_spelled bytes are f.0 f.1)
     (by_form bytes (is_form bytes 4 14) _ _ (λ h. let f = form_is bytes 4 14 h in request_spelled bytes are f.0 f.1)
     (by_form bytes (is_form bytes 5 20) _ _ (λ h. let f = form_is bytes 5 20 h in cut_spelled bytes are f.0 f.1)
     (by_form bytes (is_flow_form bytes 0 12) _ _ (λ h. let f = flow_form_is bytes 0 12 h in best_effort_spelled bytes are f.0 f.1 f.2)
     (by_form bytes (is_flow_form bytes 1 29) _ _ (λ h. let f = flow_form_is bytes 1 29 h in ugs_spelled bytes are f.0 f.1 f.2)
-    (by_form bytes (is_flow_form bytes 2 27) _ None (λ h. let f = flow_form_is bytes 2 27 h in poll_spelled bytes are f.0 f.1 f.2) tt)))))))
+    (by_form bytes (is_flow_form bytes 2 27) _ None (λ h. let f = flow_form_is bytes 2 27 h in poll_spelled bytes are f.0 f.1 f.2) tt))))))))
 
 -- bytes that are read as no command spell none
 pub spells_none : (bytes : List ℕ) → command_in bytes ≡ None → SpellsNone bytes

@@ -1,6 +1,7 @@
 -- Worked examples of the definitions.
 use Rattle.std.proofs.Common.{◌≡◌, ℕ, List, [], ◌∷◌, ◌++◌, Some, None, map, refl}
 use Rattle.flow_state.specs.declared.channel.Channel.{Channel}
+use Rattle.flow_state.specs.declared.channel.Phy.TheVariants.{Tdma, Advanced}
 use Rattle.flow_state.specs.declared.flow.FlowKind.TheVariants.{BestEffort, Ugs, Poll}
 use Rattle.grant_machine.specs.declared.command.Command.TheVariants as commands
 use Rattle.grant_machine.specs.declared.output.Output.TheVariants as outputs
@@ -9,16 +10,32 @@ use Rattle.command_log.specs.Reading.{command_in}
 use Rattle.command_log.specs.Values.{outputs_of_values}
 
 abbrev channel_x : Channel
-channel_x = record { id = 1; ucd = 7; short_max = 16; ranging_backoff = (2, 5); data_backoff = (3, 8); base = 1000 }
+channel_x = record { id = 1; ucd = 7; phy = Tdma; short_max = 16; ranging_backoff = (2, 5); data_backoff = (3, 8); base = 1000 }
+
+abbrev channel_fields : List ℕ
+channel_fields = 0x01 ∷ 0x07 ∷ 0x00 ∷ 0x10 ∷ 0x02 ∷ 0x05 ∷ 0x03 ∷ 0x08 ∷ 0x00 ∷ 0x00 ∷ 0x00 ∷ 0x00 ∷ 0x00 ∷ 0x00 ∷ 0x03 ∷ 0xE8 ∷ []
 
 abbrev channel_bytes : List ℕ
-channel_bytes = 0x01 ∷ 0x01 ∷ 0x07 ∷ 0x00 ∷ 0x10 ∷ 0x02 ∷ 0x05 ∷ 0x03 ∷ 0x08 ∷ 0x00 ∷ 0x00 ∷ 0x00 ∷ 0x00 ∷ 0x00 ∷ 0x00 ∷ 0x03 ∷ 0xE8 ∷ []
+channel_bytes = 0x01 ∷ channel_fields
 
 channel_spelled : spelling (commands.Channel channel_x) ≡ channel_bytes
 channel_spelled = refl
 
 channel_read : command_in channel_bytes ≡ Some (commands.Channel channel_x)
 channel_read = refl
+
+-- the same channel with an Advanced PHY: another first byte, and of the same length
+advanced_spelled : spelling (commands.Channel (record channel_x { phy = Advanced })) ≡ 0x06 ∷ channel_fields
+advanced_spelled = refl
+
+advanced_read : command_in (0x06 ∷ channel_fields) ≡ Some (commands.Channel (record channel_x { phy = Advanced }))
+advanced_read = refl
+
+advanced_short : command_in (0x06 ∷ 0x01 ∷ 0x07 ∷ 0x00 ∷ 0x10 ∷ 0x02 ∷ 0x05 ∷ 0x03 ∷ 0x08 ∷ 0x00 ∷ 0x00 ∷ 0x00 ∷ 0x00 ∷ 0x00 ∷ 0x00 ∷ 0x03 ∷ []) ≡ None
+advanced_short = refl
+
+advanced_long : command_in (0x06 ∷ channel_fields ++ 0x00 ∷ []) ≡ None
+advanced_long = refl
 
 request_spelled : spelling (commands.Request 1 1 20 990) ≡ 0x04 ∷ 0x01 ∷ 0x00 ∷ 0x01 ∷ 0x00 ∷ 0x14 ∷ 0x00 ∷ 0x00 ∷ 0x00 ∷ 0x00 ∷ 0x00 ∷ 0x00 ∷ 0x03 ∷ 0xDE ∷ []
 request_spelled = refl

@@ -2,6 +2,8 @@
 use Rattle.std.specs.Prelude.{ℕ, ◌<◌, ◌^◌, ◌==◌, ◌&&◌, Bool, if◌then◌else◌, List, length, drop, Option, Some, None, slice_index, unwrap_or}
 use Rattle.std.specs.Int.{Width, w16, w32, w64, from_be_bytes}
 use Rattle.flow_state.specs.declared.channel.Channel.{Channel}
+use Rattle.flow_state.specs.declared.channel.Phy.{Phy}
+use Rattle.flow_state.specs.declared.channel.Phy.TheVariants.{Tdma, Advanced}
 use Rattle.flow_state.specs.declared.flow.FlowKind.{FlowKind}
 use Rattle.flow_state.specs.declared.flow.FlowKind.TheVariants.{BestEffort, Ugs, Poll}
 use Rattle.grant_machine.specs.declared.command.Command.{Command}
@@ -25,10 +27,12 @@ is_form bytes first len = (byte bytes 0 == first) && (length bytes == len)
 abbrev pub is_flow_form : List ℕ → (kind len : ℕ) → Bool
 is_flow_form bytes kind len = is_form bytes 2 len && (byte bytes 10 == kind)
 
-abbrev pub channel_in : List ℕ → Channel
-channel_in bytes = record {
+-- a channel of this PHY, which the first byte tells
+abbrev pub channel_in : Phy → List ℕ → Channel
+channel_in phy bytes = record {
   id = byte bytes 1;
   ucd = byte bytes 2;
+  phy = phy;
   short_max = number w16 bytes 3;
   ranging_backoff = (byte bytes 5, byte bytes 6);
   data_backoff = (byte bytes 7, byte bytes 8);
@@ -50,7 +54,8 @@ flow_command_in bytes =
 abbrev pub command_in : List ℕ → Option Command
 command_in bytes =
     if is_form bytes 0 1 then Some commands.Noop
-    else if is_form bytes 1 17 then Some (commands.Channel (channel_in bytes))
+    else if is_form bytes 1 17 then Some (commands.Channel (channel_in Tdma bytes))
+    else if is_form bytes 6 17 then Some (commands.Channel (channel_in Advanced bytes))
     else if is_form bytes 3 4 then Some (commands.Drop (byte bytes 1) (number w16 bytes 2))
     else if is_form bytes 4 14 then Some (commands.Request (byte bytes 1) (number w16 bytes 2) (number w16 bytes 4) (number w64 bytes 6))
     else if is_form bytes 5 20 then Some (commands.Cut (byte bytes 1) (number w16 bytes 2) (number w64 bytes 4) (number w64 bytes 12))

@@ -2,12 +2,20 @@
 use Rattle.std.specs.Prelude.{◌≡◌, ℕ, List, [], ◌∷◌, ◌++◌}
 use Rattle.std.specs.Int.{w16, w32, w64, to_be_bytes}
 use Rattle.flow_state.specs.declared.channel.Channel.{Channel}
+use Rattle.flow_state.specs.declared.channel.Phy.{Phy}
+use Rattle.flow_state.specs.declared.channel.Phy.TheVariants.{Tdma, Advanced}
 use Rattle.flow_state.specs.declared.flow.FlowKind.{FlowKind}
 use Rattle.flow_state.specs.declared.flow.FlowKind.TheVariants.{BestEffort, Ugs, Poll}
 use Rattle.grant_machine.specs.declared.command.Command.{Command}
 use Rattle.grant_machine.specs.declared.command.Command.TheVariants as commands
 use Rattle.grant_machine.specs.Fits.{FitsCommand}
 
+-- the first byte of a channel tells its PHY
+abbrev pub phy_byte : Phy → ℕ
+phy_byte Tdma = 1
+phy_byte Advanced = 6
+
+-- what follows it
 abbrev pub channel_spelling : Channel → List ℕ
 channel_spelling c =
     c.id ∷ c.ucd ∷ to_be_bytes w16 c.short_max
@@ -21,7 +29,7 @@ kind_spelling (Poll interval jitter base) = 2 ∷ to_be_bytes w32 interval ++ to
 -- the bytes of a command
 abbrev pub spelling : Command → List ℕ
 spelling commands.Noop = 0 ∷ []
-spelling (commands.Channel c) = 1 ∷ channel_spelling c
+spelling (commands.Channel c) = phy_byte c.phy ∷ channel_spelling c
 spelling (commands.Flow ch modem tag kind) = 2 ∷ ch ∷ to_be_bytes w32 modem ++ to_be_bytes w32 tag ++ kind_spelling kind
 spelling (commands.Drop ch sid) = 3 ∷ ch ∷ to_be_bytes w16 sid
 spelling (commands.Request ch sid n sent) = 4 ∷ ch ∷ to_be_bytes w16 sid ++ to_be_bytes w16 n ++ to_be_bytes w64 sent

@@ -5,7 +5,7 @@ ghost use Rattle.command_log.specs.Spelling.{Spells, SpellsNone};
 ghost use Rattle.command_log.specs.Reading.{byte, channel_in, command_in, command_of, flow_command_in, number};
 
 use byteorder::{BigEndian, ByteOrder};
-use flow_state::{Channel, FlowKind};
+use flow_state::{Channel, FlowKind, Phy};
 use grant_machine::Command;
 
 fn u16_at(bytes: &[u8], place: usize) -> u16
@@ -29,13 +29,14 @@ fn u64_at(bytes: &[u8], place: usize) -> u64
     BigEndian::read_u64(&bytes[place..])
 }
 
-fn channel_of(bytes: &[u8]) -> Channel
+fn channel_of(bytes: &[u8], phy: Phy) -> Channel
     requires { length bytes.now ≡ 17 }
-    ensures { result ≡ channel_in bytes.now }
+    ensures { result ≡ channel_in phy bytes.now }
 {
     Channel {
         id: bytes[1],
         ucd: bytes[2],
+        phy,
         short_max: u16_at(bytes, 3),
         ranging_backoff: (bytes[5], bytes[6]),
         data_backoff: (bytes[7], bytes[8]),
@@ -79,7 +80,8 @@ fn command_at(bytes: &[u8]) -> Option<Command>
     let first = *bytes.first()?;
     match (first, bytes.len()) {
         (0, 1) => Some(Command::Noop),
-        (1, 17) => Some(Command::Channel(channel_of(bytes))),
+        (1, 17) => Some(Command::Channel(channel_of(bytes, Phy::Tdma))),
+        (6, 17) => Some(Command::Channel(channel_of(bytes, Phy::Advanced))),
         (2, _) => flow_of(bytes),
         (3, 4) => Some(Command::Drop {
             ch: bytes[1],

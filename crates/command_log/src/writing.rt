@@ -1,9 +1,9 @@
 ghost use Rattle.std.specs.Prelude.{◌≡◌, ◌++◌, IfOk, OnOk};
 ghost use Rattle.std.specs.Int.{w16, w32, w64, to_be_bytes};
-ghost use Rattle.command_log.specs.Spelling.{channel_spelling, kind_spelling, spelling};
+ghost use Rattle.command_log.specs.Spelling.{phy_byte, channel_spelling, kind_spelling, spelling};
 
 use byteorder::{BigEndian, ByteOrder};
-use flow_state::{Channel, FlowKind};
+use flow_state::{Channel, FlowKind, Phy};
 use grant_machine::Command;
 use std::alloc::{AllocError, Global};
 
@@ -32,6 +32,16 @@ fn put_u64(out: &mut Vec<u8>, number: u64) -> Result<(), AllocError>
     BigEndian::write_u64(&mut word, number);
     out.extend_from_slice(&word)?;
     Ok(())
+}
+
+/// The first byte of a channel.
+fn phy_byte(phy: Phy) -> u8
+    ensures { result ≡ phy_byte phy }
+{
+    match phy {
+        Phy::Tdma => 1,
+        Phy::Advanced => 6,
+    }
 }
 
 fn put_channel(out: &mut Vec<u8>, channel: Channel) -> Result<(), AllocError>
@@ -89,7 +99,7 @@ pub fn command_bytes(alloc: Global, command: &Command) -> Result<Vec<u8>, AllocE
     match *command {
         Command::Noop => out.extend_from_slice(&[0])?,
         Command::Channel(channel) => {
-            out.extend_from_slice(&[1])?;
+            out.extend_from_slice(&[phy_byte(channel.phy)])?;
             put_channel(&mut out, channel)?;
         }
         Command::Flow {

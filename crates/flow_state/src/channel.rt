@@ -3,12 +3,21 @@ ghost use Rattle.flow_state.specs.Limits.{is_good_channel};
 
 use crate::limits::LAST_TIME;
 
+/// Which bursts an upstream channel has (CM-SP-MULPIv3.1, MAP message: interval usage codes): by it grants
+/// have the codes of data grants, or those of Advanced PHY grants.
+#[derive(Clone, Copy, Debug, PartialEq, Eq)]
+pub enum Phy {
+    Tdma,
+    Advanced,
+}
+
 /// An upstream channel as it is set. Each back-off is its start and its end, as exponents of two,
 /// 0 to 15 (CM-SP-MULPIv3.1, MAP: ranging and data back-off start and end).
 #[derive(Clone, Copy, Debug, PartialEq, Eq)]
 pub struct Channel {
     pub id: u8,
     pub ucd: u8,
+    pub phy: Phy,
     /// Grants of up to so many minislots are short data grants. At least 1.
     pub short_max: u16,
     pub ranging_backoff: (u8, u8),

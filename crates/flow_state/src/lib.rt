@@ -9,7 +9,7 @@ mod limits;
 mod refusal;
 mod table;
 
-pub use channel::{Channel, ChannelRow};
+pub use channel::{Channel, ChannelRow, Phy};
 pub use flow::{Flow, FlowKind, Waiting};
 pub use flows::Flows;
 pub use limits::{LAST_SID, LAST_TIME, MOST_MINISLOTS};

@@ -16,7 +16,7 @@ use Rattle.grant_machine_parts.specs.Filling.{IsUseFor}
 use Rattle.flow_state.proofs.Callers.{Has, has_at, has_either, has_pushed, has_any, has_found, found_has, unfound, all_has}
 use Rattle.flow_state.proofs.Callers.{eqb_same}
 use Rattle.flow_state.proofs.Callers.{IsWell, both}
-use Rattle.grant_machine_parts.proofs.Fillings.{IsFor, MayPlace, fill_keeps}
+use Rattle.grant_machine_parts.proofs.Fillings.{IsUse, plain_request, IsFor, MayPlace, fill_keeps}
 use Rattle.grant_machine_parts.proofs.Offsets.{some_same, InList, begun, StandAt, begun_has, ascending, next_to, in_row, begun_count, at_front, at_end, named_twice}
 
 -- ---- the placements of a filled MAP
@@ -27,7 +27,7 @@ pub record IsPlaced (t : Table) (span : Extent) (q : Placement) : Type 0 where
   pub most : q.size ≤ 255
   pub unicast : 1 ≤ q.sid
   pub last : q.sid ≤ last_sid
-  pub iuc : (q.iuc ≡ 1) ⊎ ((q.iuc ≡ 5) ⊎ (q.iuc ≡ 6))
+  pub iuc : IsUse q.iuc
   pub within : q.offset + q.size ≤ span.len
   pub serves : IsFor t q q.cause
   pub use_is : IsUseFor q.cause q.iuc
@@ -190,15 +190,6 @@ module _ (t : Table) (span : Extent) (ps : List Placement) (a : ArePlaced t span
 
 -- ---- the elements of a body
 
--- uses of elements before the Null, and behind it
-abbrev pub IsUse : ℕ → Type 0
-IsUse iuc = (iuc ≡ 1) ⊎ ((iuc ≡ 5) ⊎ (iuc ≡ 6))
-
-plain_use : (iuc : ℕ) → IsUse iuc → (iuc ≢ 7) × (iuc < 15)
-plain_use iuc (inl e) = (λ n. absurd (omega arith), omega arith)
-plain_use iuc (inr (inl e)) = (λ n. absurd (omega arith), omega arith)
-plain_use iuc (inr (inr e)) = (λ n. absurd (omega arith), omega arith)
-
 module _ (t : Table) (span : Extent) (ps : List Placement) (a : ArePlaced t span ps) (len : ℕ) (len_is : span.len ≡ len) (most : len ≤ 4096) (rest : List Element)
     (plain : (e : Element) → Has rest e → IsUse e.iuc × FitsElement e) where
   -- the elements of the MAP
@@ -220,24 +211,24 @@ module _ (t : Table) (span : Extent) (ps : List Placement) (a : ArePlaced t span
             let iuc_is : p.0.iuc ≡ e.iuc = ap (λ (d : Element). d.iuc) p.3 in
             let use_is : IsUse e.iuc = subst IsUse iuc_is placed.iuc in
             let last = placed.last in
-            let small = (plain_use e.iuc use_is).1 in
+            let small = use_is.1 in
             (use_is, record { sid = omega arith; iuc = omega arith; offset = offset })
         | inr f ↦
             let sid_is : 16383 ≡ e.sid = ap (λ (d : Element). d.sid) f.is in
             let iuc_is : 1 ≡ e.iuc = ap (λ (d : Element). d.iuc) f.is in
-            (inl (sym iuc_is), record { sid = omega arith; iuc = omega arith; offset = offset })
+            (plain_request e.iuc (sym iuc_is), record { sid = omega arith; iuc = omega arith; offset = offset })
       ]
 
   each_element : (e : Element) → Has es e → (e.iuc < 15) × FitsElement e
   each_element e h = elim (has_either (begun (begins_at ps) 0 len) (null_element len ∷ rest) e h) [
-    | inl l ↦ let b = before_null e l in ((plain_use e.iuc b.0).1, b.1)
+    | inl l ↦ let b = before_null e l in (b.0.1, b.1)
     | inr r ↦ elim r [
       | inl same ↦
           let sid_is : 0 ≡ e.sid = ap (λ (d : Element). d.sid) same in
           let iuc_is : 7 ≡ e.iuc = ap (λ (d : Element). d.iuc) same in
           let offset_is : len ≡ e.offset = ap (λ (d : Element). d.offset) same in
           (omega arith, record { sid = omega arith; iuc = omega arith; offset = omega arith })
-      | inr m ↦ let b = plain e m in ((plain_use e.iuc b.0).1, b.1)
+      | inr m ↦ let b = plain e m in (b.0.1, b.1)
     ]
   ]
 
@@ -248,7 +239,7 @@ module _ (t : Table) (span : Extent) (ps : List Placement) (a : ArePlaced t span
   pub none_before : NoNullBefore es count
   none_before k lt n =
       let use_is = (before_null n.0 (at_front (begun (begins_at ps) 0 len) (null_element len ∷ rest) k n.0 n.1 lt)).0 in
-      (plain_use n.0.iuc use_is).0 n.2
+      use_is.0 n.2
 
   pub are_elements : AreElements es
   are_elements = record {

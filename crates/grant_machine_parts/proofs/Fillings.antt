@@ -1,9 +1,11 @@
 -- How a MAP is filled: each placement fits where it is put, and the table after it is well.
-use Rattle.std.proofs.Common.{◌≡◌, ◌⊎◌, ℕ, zero, suc, ◌+◌, ◌*◌, ◌-◌, ◌/◌, ◌<◌, ◌≤◌, Bool, true, false, cond, not, max, List, [], ◌∷◌, ◌++◌, filter, length, Option, Some, None, refl, sym, ap, subst, ◌∙◌, arith, inl, inr, eqb, leb, ltb, is_none, add-mul, one-mul, div-mul-le_self, mul-le-mul_right}
+use Rattle.std.proofs.Common.{◌≡◌, ◌≢◌, ◌⊎◌, ℕ, zero, suc, ◌+◌, ◌*◌, ◌-◌, ◌/◌, ◌<◌, ◌≤◌, Bool, true, false, cond, not, max, List, [], ◌∷◌, ◌++◌, filter, length, Option, Some, None, refl, sym, ap, subst, ◌∙◌, arith, inl, inr, eqb, leb, ltb, is_none, add-mul, one-mul, div-mul-le_self, mul-le-mul_right}
 use Rattle.std.specs.List.{list_any, list_all, find, range_with_len, AllZip}
 use Rattle.std.proofs.lemmas.Bool.{leb-true, ltb-true}
 use Rattle.minislot_time.specs.Extent.{Extent}
 use Rattle.flow_state.specs.declared.channel.Channel.{Channel}
+use Rattle.flow_state.specs.declared.channel.Phy.{Phy}
+use Rattle.flow_state.specs.declared.channel.Phy.TheVariants.{Tdma, Advanced}
 use Rattle.flow_state.specs.declared.flow.FlowKind.{FlowKind}
 use Rattle.flow_state.specs.declared.flow.FlowKind.TheVariants.{BestEffort, Ugs, Poll}
 use Rattle.flow_state.specs.declared.flow.Waiting.{Waiting}
@@ -11,8 +13,8 @@ use Rattle.flow_state.specs.declared.refusal.Refusal.TheVariants.{BadValue}
 use Rattle.flow_state.specs.Limits.{last_time, last_sid, is_good_kind, is_schedule, is_ugs, due_time}
 use Rattle.flow_state.specs.Rows.{Table, FlowRow, is_of}
 use Rattle.grant_machine_parts.specs.Placing.{Cause, Window, Sent, Placement, holder, is_free, fits_at, first_fit, most_placements}
-use Rattle.grant_machine_parts.specs.Cutting.{Periodic, due_at, end_of, Missed, Placed, Kept, verdict, verdict_on, placement_at, Ran, run_due_times, run_flow, due_before, Passed, pass, grants_of_flow, polls_of_flow, grants_of_kind, polls_of_kind, grant_iuc, priority_of, in_order, placement_for, place_requests, is_grant_of, Filled, fill, fill_span, fill_refusal, span_of, ack_of, table_after}
-use Rattle.grant_machine_parts.specs.Filling.{IsUseFor}
+use Rattle.grant_machine_parts.specs.Cutting.{Periodic, due_at, end_of, Missed, Placed, Kept, verdict, verdict_on, placement_at, Ran, run_due_times, run_flow, due_before, Passed, pass, grants_of_flow, polls_of_flow, grants_of_kind, polls_of_kind, sized_iuc, grant_iuc, unsolicited_on, unsolicited_iuc, priority_of, in_order, placement_for, place_requests, is_grant_of, Filled, fill, fill_span, fill_refusal, span_of, ack_of, table_after}
+use Rattle.grant_machine_parts.specs.Filling.{IsRequestedUse, IsDueUse, IsUseFor}
 use Rattle.flow_state.proofs.Callers.{Has, has_filter, has_flat_map}
 use Rattle.grant_machine_parts.proofs.Windows.{first_fit_tells, placed_is}
 use Rattle.flow_state.proofs.Callers.{IsWell, IsWellFlow, RisingFrom, both, filter_fewer, filter_both}
@@ -57,21 +59,54 @@ placed_fit span ps p i x e =
 
 -- ---- due times
 
+-- a use that is neither the Null's nor an expansion element's
+abbrev pub IsUse : ℕ → Type 0
+IsUse iuc = (iuc ≢ 7) × (iuc < 15)
+
+pub plain_request : (iuc : ℕ) → iuc ≡ 1 → IsUse iuc
+plain_request iuc e = (λ n. absurd (omega arith), omega arith)
+
+pub plain_requested : (iuc : ℕ) → IsRequestedUse iuc → IsUse iuc
+plain_requested iuc (inl (inl e)) = (λ n. absurd (omega arith), omega arith)
+plain_requested iuc (inl (inr e)) = (λ n. absurd (omega arith), omega arith)
+plain_requested iuc (inr (inl e)) = (λ n. absurd (omega arith), omega arith)
+plain_requested iuc (inr (inr e)) = (λ n. absurd (omega arith), omega arith)
+
+plain_due : (iuc : ℕ) → IsDueUse iuc → IsUse iuc
+plain_due iuc (inl e) = plain_request iuc e
+plain_due iuc (inr (inl (inl e))) = (λ n. absurd (omega arith), omega arith)
+plain_due iuc (inr (inl (inr e))) = (λ n. absurd (omega arith), omega arith)
+plain_due iuc (inr (inr e)) = (λ n. absurd (omega arith), omega arith)
+
 -- what comes at due times within the limits
 pub record IsWellPeriodic (p : Periodic) : Type 0 where
   pub some : 1 ≤ p.size
   pub most : p.size ≤ 255
   pub unicast : 1 ≤ p.sid
   pub last : p.sid ≤ last_sid
-  pub iuc : (p.iuc ≡ 1) ⊎ ((p.iuc ≡ 5) ⊎ (p.iuc ≡ 6))
+  pub iuc : IsDueUse p.iuc
   pub short : p.interval ≤ 1000000
 
-pub grant_use : (c : Channel) (n : ℕ) → (grant_iuc c n ≡ 5) ⊎ (grant_iuc c n ≡ 6)
-grant_use c n = by (leb n c.short_max)
+pub grant_use : (c : Channel) (n : ℕ) → IsRequestedUse (grant_iuc c n)
+grant_use c n = by c.phy (leb n c.short_max)
   where
-    by : (b : Bool) → (cond {A = ℕ} b 5 6 ≡ 5) ⊎ (cond {A = ℕ} b 5 6 ≡ 6)
-    by true = inl refl
-    by false = inr refl
+    by : (phy : Phy) (b : Bool) → IsRequestedUse (sized_iuc phy b)
+    by Tdma true = inl (inl refl)
+    by Tdma false = inl (inr refl)
+    by Advanced true = inr (inl refl)
+    by Advanced false = inr (inr refl)
+
+unsolicited_use : (c : Channel) (n : ℕ) → IsDueUse (unsolicited_iuc c n)
+unsolicited_use c n = by c.phy refl
+  where
+    sized : (phy : Phy) (b : Bool) → phy ≡ Tdma → IsDueUse (sized_iuc phy b)
+    sized Tdma true e = inr (inl (inl refl))
+    sized Tdma false e = inr (inl (inr refl))
+    sized Advanced b e = absurd (cc (e))
+
+    by : (phy : Phy) → c.phy ≡ phy → IsDueUse (unsolicited_on phy c n)
+    by Tdma e = sized c.phy (leb n c.short_max) e
+    by Advanced e = inr (inr refl)
 
 -- what a flow's kind asks for is at the flow's due times
 pub record IsOfFlow (f : FlowRow) (p : Periodic) : Type 0 where
@@ -93,14 +128,13 @@ grants_of c f p w e = by f.kind refl e
     by (Ugs size interval jitter base) h g =
         let good : is_good_kind (Ugs size interval jitter base) ≡ true = ap is_good_kind (sym h) ∙ w.kind in
         let size_is = both _ _ (both _ _ good).0 in
-        let use_is = grant_use c size in
         subst (IsOfFlow f) (periodic_is _ p g) (record {
           well = record {
             some = leb-true _ _ size_is.0;
             most = leb-true _ _ size_is.1;
             unicast = w.unicast;
             last = w.last;
-            iuc = elim use_is [ inl five ↦ inr (inl five) | inr six ↦ inr (inr six) ];
+            iuc = unsolicited_use c size;
             short = short_interval interval jitter base (both _ _ good).1;
           };
           due = λ i. ap (λ k. due_time k i) h;
@@ -272,12 +306,12 @@ pub record MayPlace (t : Table) (span : Extent) (ps : List Placement) (q : Place
   pub most : q.size ≤ 255
   pub unicast : 1 ≤ q.sid
   pub last : q.sid ≤ last_sid
-  pub iuc : (q.iuc ≡ 1) ⊎ ((q.iuc ≡ 5) ⊎ (q.iuc ≡ 6))
+  pub iuc : IsUse q.iuc
   pub serves : IsFor t q q.cause
   pub use_is : IsUseFor q.cause q.iuc
 
 may_place_due : (t : Table) (span : Extent) (ps : List Placement) (p : Periodic) (i x : ℕ) → IsWellPeriodic p → Fit span ps p.size x → MayPlace t span ps (placement_at p i x)
-may_place_due t span ps p i x w fit = record { fit = fit; some = w.some; most = w.most; unicast = w.unicast; last = w.last; iuc = w.iuc; serves = tt; use_is = w.iuc }
+may_place_due t span ps p i x w fit = record { fit = fit; some = w.some; most = w.most; unicast = w.unicast; last = w.last; iuc = plain_due p.iuc w.iuc; serves = tt; use_is = w.iuc }
 
 may_place_request : (t : Table) (span : Extent) (ps : List Placement) (w : Waiting) (x : ℕ) → IsWell t → Has t.waiting w → Fit span ps w.n x → MayPlace t span ps (placement_for t.row.channel w x)
 may_place_request t span ps w x well h fit =
@@ -289,7 +323,7 @@ may_place_request t span ps w x well h fit =
       most = r.most;
       unicast = subst (λ n. 1 ≤ n) r.sid f.unicast;
       last = subst (λ n. n ≤ last_sid) r.sid f.last;
-      iuc = elim (grant_use t.row.channel w.n) [ inl five ↦ inr (inl five) | inr six ↦ inr (inr six) ];
+      iuc = plain_requested _ (grant_use t.row.channel w.n);
       serves = (w, h, refl, refl, refl);
       use_is = grant_use t.row.channel w.n;
     }

@@ -14,9 +14,9 @@ use Rattle.grant_machine_parts.specs.Drawing.{null_element, pending_element, beg
 use Rattle.flow_state.proofs.Callers.{Has, has_map}
 use Rattle.grant_machine_parts.proofs.Orders.{in_order_length}
 use Rattle.flow_state.proofs.Callers.{IsWell, both, filter_fewer}
-use Rattle.grant_machine_parts.proofs.Fillings.{grant_use, in_order_has, IsCut, is_cut, cut_is_well}
+use Rattle.grant_machine_parts.proofs.Fillings.{IsUse, plain_requested, grant_use, in_order_has, IsCut, is_cut, cut_is_well}
 use Rattle.grant_machine_parts.proofs.Offsets.{begun}
-use Rattle.grant_machine_parts.proofs.Bodies.{ArePlaced, fill_placed, IsUse, count_few, are_elements, elements_fit}
+use Rattle.grant_machine_parts.proofs.Bodies.{ArePlaced, fill_placed, count_few, are_elements, elements_fit}
 
 module _ (t : Table) (len not_before ack : ℕ) (w : IsWell t) (ok : fill_refusal t.row len not_before ack ≡ None) where
   abbrev filled : Filled
@@ -46,13 +46,11 @@ module _ (t : Table) (len not_before ack : ℕ) (w : IsWell t) (ok : fill_refusa
       let flow_is : r.flow.sid ≡ m.0.sid = r.sid in
       let sid_is : m.0.sid ≡ e.sid = ap (λ (d : Element). d.sid) m.2 in
       let offset_is : len ≡ e.offset = ap (λ (d : Element). d.offset) m.2 in
-      let use_is : IsUse e.iuc = subst IsUse (ap (λ (d : Element). d.iuc) m.2) (inr (grant_use t.row.channel m.0.n)) in
-      (use_is, record { sid = omega arith; iuc = small e.iuc use_is; offset = omega arith })
+      let use_is : IsUse e.iuc = subst IsUse (ap (λ (d : Element). d.iuc) m.2) (plain_requested _ (grant_use t.row.channel m.0.n)) in
+      (use_is, record { sid = omega arith; iuc = small e.iuc use_is.1; offset = omega arith })
     where
-      small : (iuc : ℕ) → IsUse iuc → iuc < 2 ^ 4
-      small iuc (inl e) = omega arith
-      small iuc (inr (inl e)) = omega arith
-      small iuc (inr (inr e)) = omega arith
+      small : (iuc : ℕ) → iuc < 15 → iuc < 2 ^ 4
+      small iuc lt = omega arith
 
   -- the elements of a MAP are those of a body
   pub cut_elements : AreElements (elements_of t filled)

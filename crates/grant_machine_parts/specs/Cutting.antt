@@ -5,6 +5,8 @@ use Rattle.minislot_time.specs.Extent.{Extent}
 use Rattle.map_body.specs.Iucs as iucs
 use Rattle.flow_state.specs.declared.channel.Channel.{Channel}
 use Rattle.flow_state.specs.declared.channel.ChannelRow.{ChannelRow}
+use Rattle.flow_state.specs.declared.channel.Phy.{Phy}
+use Rattle.flow_state.specs.declared.channel.Phy.TheVariants.{Tdma, Advanced}
 use Rattle.flow_state.specs.declared.flow.FlowKind.{FlowKind}
 use Rattle.flow_state.specs.declared.flow.FlowKind.TheVariants.{BestEffort, Ugs, Poll}
 use Rattle.flow_state.specs.declared.flow.Waiting.{Waiting}
@@ -16,13 +18,22 @@ use Rattle.grant_machine_parts.specs.Placing.{Cause, Window, Sent, Placement, fi
 -- what comes at each due time of a flow: minislots of this size and use, from the due time to jitter after it
 pub use Rattle.grant_machine_parts.specs.declared.due_times.Periodic.{Periodic}
 
+-- the use of a short grant to a request, and of a long one, on each kind of channel
+abbrev pub sized_iuc : Phy → Bool → ℕ
+sized_iuc Tdma is_short = if is_short then iucs.short_data_grant else iucs.long_data_grant
+sized_iuc Advanced is_short = if is_short then iucs.advanced_short_data_grant else iucs.advanced_long_data_grant
+
 -- the use of a grant to a request: short up to the channel's short_max, else long
 abbrev pub grant_iuc : Channel → ℕ → ℕ
-grant_iuc c n = if nat_le n c.short_max then iucs.short_data_grant else iucs.long_data_grant
+grant_iuc c n = sized_iuc c.phy (nat_le n c.short_max)
 
--- the use of an unsolicited grant, and of a poll
+-- the use of an unsolicited grant: on an Advanced PHY one for every size; and of a poll
+abbrev pub unsolicited_on : Phy → Channel → ℕ → ℕ
+unsolicited_on Tdma c n = grant_iuc c n
+unsolicited_on Advanced c n = iucs.advanced_unsolicited_grant
+
 abbrev pub unsolicited_iuc : Channel → ℕ → ℕ
-unsolicited_iuc c n = grant_iuc c n
+unsolicited_iuc c n = unsolicited_on c.phy c n
 
 abbrev pub poll_iuc : ℕ
 poll_iuc = iucs.request

@@ -37,7 +37,17 @@ placements_on Missed ps p i = ps
 placements_on (Placed x) ps p i = ps ++ placement_at p i x ∷ []
 placements_on Kept ps p i = ps
 
--- the use of what serves a request is a grant's, short or long; at a due time it may be a poll's too
+-- the use of a grant to a request: short or long, of either kind of channel
+abbrev pub IsRequestedUse : ℕ → Type 0
+IsRequestedUse iuc =
+    ((iuc ≡ iucs.short_data_grant) ⊎ (iuc ≡ iucs.long_data_grant))
+    ⊎ ((iuc ≡ iucs.advanced_short_data_grant) ⊎ (iuc ≡ iucs.advanced_long_data_grant))
+
+-- the use of what comes at a due time: a poll's, or an unsolicited grant's of either kind of channel
+abbrev pub IsDueUse : ℕ → Type 0
+IsDueUse iuc = (iuc ≡ iucs.request) ⊎ (((iuc ≡ iucs.short_data_grant) ⊎ (iuc ≡ iucs.long_data_grant)) ⊎ (iuc ≡ iucs.advanced_unsolicited_grant))
+
+-- the use of what serves this
 abbrev pub IsUseFor : Cause → ℕ → Type 0
-IsUseFor (Sent time) iuc = (iuc ≡ iucs.short_data_grant) ⊎ (iuc ≡ iucs.long_data_grant)
-IsUseFor (Window index) iuc = (iuc ≡ iucs.request) ⊎ ((iuc ≡ iucs.short_data_grant) ⊎ (iuc ≡ iucs.long_data_grant))
+IsUseFor (Sent time) iuc = IsRequestedUse iuc
+IsUseFor (Window index) iuc = IsDueUse iuc

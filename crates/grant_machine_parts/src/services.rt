@@ -1,16 +1,16 @@
 //! What comes by itself for the flows of a channel.
 
-ghost use Rattle.std.specs.Prelude.{◌≡◌, ◌≤◌, map, IfOk, OnOk, IfSome};
+ghost use Rattle.std.specs.Prelude.{◌≡◌, ◌<◌, ◌≤◌, map, IfOk, OnOk, IfSome};
 ghost use Rattle.std.specs.List.{AllByRecursion};
 ghost use Rattle.map_body.specs.Iucs as iucs;
 ghost use Rattle.flow_state.specs.Limits.{due_time, due_index};
-ghost use Rattle.grant_machine_parts.specs.Cutting.{grant_iuc, run_flow, pass};
+ghost use Rattle.grant_machine_parts.specs.Cutting.{grant_iuc, unsolicited_iuc, run_flow, pass};
 ghost use Rattle.grant_machine_parts.specs.Filling.{last_due, IsTimely};
 ghost use Rattle.grant_machine_parts.specs.Lent.{row_of, IsLent, given, given_to};
 
 use crate::due_times::Periodic;
 use crate::placing::Filling;
-use flow_state::{Channel, Flow, FlowKind};
+use flow_state::{Channel, Flow, FlowKind, Phy};
 use map_body::{Iuc, Sid};
 use std::alloc::AllocError;
 
@@ -22,15 +22,28 @@ pub enum Service {
     Polls,
 }
 
-/// The use of a grant of n minislots.
+/// The use of a grant of n minislots to a request, and of a request for n that waits.
 pub fn grant_iuc(channel: &Channel, n: u16) -> Iuc
     ensures same { result ≡ grant_iuc channel.now n }
-    ensures used { result ≤ iucs.long_data_grant }
+    ensures used { result < iucs.expansion }
 {
-    if n <= channel.short_max {
-        Iuc::SHORT_DATA_GRANT
-    } else {
-        Iuc::LONG_DATA_GRANT
+    let is_short = n <= channel.short_max;
+    match (channel.phy, is_short) {
+        (Phy::Tdma, true) => Iuc::SHORT_DATA_GRANT,
+        (Phy::Tdma, false) => Iuc::LONG_DATA_GRANT,
+        (Phy::Advanced, true) => Iuc::ADVANCED_SHORT_DATA_GRANT,
+        (Phy::Advanced, false) => Iuc::ADVANCED_LONG_DATA_GRANT,
+    }
+}
+
+/// The use of an unsolicited grant of n minislots.
+fn unsolicited_iuc(channel: &Channel, n: u16) -> Iuc
+    ensures same { result ≡ unsolicited_iuc channel.now n }
+    ensures used { result < iucs.expansion }
+{
+    match channel.phy {
+        Phy::Tdma => grant_iuc(channel, n),
+        Phy::Advanced => Iuc::ADVANCED_UNSOLICITED_GRANT,
     }
 }
 
@@ -38,6 +51,7 @@ pub fn grant_iuc(channel: &Channel, n: u16) -> Iuc
 fn periodic_of(service: Service, channel: &Channel, flow: &Flow) -> Option<Periodic>
     requires { IsLent flow.now }
     ensures same { result ≡ given service channel.now flow.now.sid flow.now.kind }
+    ensures used { IfSome result (λ p. p.iuc < iucs.expansion) }
 {
     let sid = Sid::new(flow.sid).unwrap();
     match (service, flow.kind) {
@@ -51,7 +65,7 @@ fn periodic_of(service: Service, channel: &Channel, flow: &Flow) -> Option<Perio
             },
         ) => Some(Periodic {
             sid,
-            iuc: grant_iuc(channel, size),
+            iuc: unsolicited_iuc(channel, size),
             size,
             interval,
             jitter,

@@ -17,6 +17,18 @@ long_data_grant = 6
 abbrev pub null : ℕ
 null = 7
 
+-- Advanced PHY Short Data Grant
+abbrev pub advanced_short_data_grant : ℕ
+advanced_short_data_grant = 9
+
+-- Advanced PHY Long Data Grant
+abbrev pub advanced_long_data_grant : ℕ
+advanced_long_data_grant = 10
+
+-- Advanced PHY Unsolicited Grant
+abbrev pub advanced_unsolicited_grant : ℕ
+advanced_unsolicited_grant = 11
+
 -- Expansion
 abbrev pub expansion : ℕ
 expansion = 15
@@ -27,8 +39,12 @@ lets_request iuc = iuc == request
 
 -- a modem may send data in an interval of its SID
 abbrev pub lets_transmit : ℕ → Bool
-lets_transmit iuc = (iuc == short_data_grant) || (iuc == long_data_grant)
+lets_transmit iuc =
+    (iuc == short_data_grant) || (iuc == long_data_grant)
+    || (iuc == advanced_short_data_grant) || (iuc == advanced_long_data_grant) || (iuc == advanced_unsolicited_grant)
 
--- an element of the SID answers a request that waits: granted before the Null, pending after it
+-- an element of the SID answers a request that waits: granted before the Null, pending after it; no unsolicited grant does
 abbrev pub answers_request : ℕ → Bool
-answers_request iuc = (iuc == short_data_grant) || (iuc == long_data_grant)
+answers_request iuc =
+    (iuc == short_data_grant) || (iuc == long_data_grant)
+    || (iuc == advanced_short_data_grant) || (iuc == advanced_long_data_grant)

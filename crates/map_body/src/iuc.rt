@@ -37,6 +37,12 @@ impl Iuc {
     pub const LONG_DATA_GRANT: Iuc = Iuc { number: 6 };
     /// Null Information Element: its offset is where the last interval ends.
     pub const NULL: Iuc = Iuc { number: 7 };
+    /// Advanced PHY Short Data Grant.
+    pub const ADVANCED_SHORT_DATA_GRANT: Iuc = Iuc { number: 9 };
+    /// Advanced PHY Long Data Grant.
+    pub const ADVANCED_LONG_DATA_GRANT: Iuc = Iuc { number: 10 };
+    /// Advanced PHY Unsolicited Grant.
+    pub const ADVANCED_UNSOLICITED_GRANT: Iuc = Iuc { number: 11 };
     /// Expansion.
     pub const EXPANSION: Iuc = Iuc { number: 15 };
 
@@ -71,13 +77,27 @@ impl Iuc {
     pub fn lets_transmit(self) -> bool
         ensures { result ≡ iucs.lets_transmit self }
     {
-        matches!(self, Iuc::SHORT_DATA_GRANT | Iuc::LONG_DATA_GRANT)
+        matches!(
+            self,
+            Iuc::SHORT_DATA_GRANT
+                | Iuc::LONG_DATA_GRANT
+                | Iuc::ADVANCED_SHORT_DATA_GRANT
+                | Iuc::ADVANCED_LONG_DATA_GRANT
+                | Iuc::ADVANCED_UNSOLICITED_GRANT
+        )
     }
 
     /// Does an element of the SID answer a request that waits, before the Null as granted, after it as pending?
+    /// An unsolicited grant doesn't: no request asked for it.
     pub fn answers_request(self) -> bool
         ensures { result ≡ iucs.answers_request self }
     {
-        matches!(self, Iuc::SHORT_DATA_GRANT | Iuc::LONG_DATA_GRANT)
+        matches!(
+            self,
+            Iuc::SHORT_DATA_GRANT
+                | Iuc::LONG_DATA_GRANT
+                | Iuc::ADVANCED_SHORT_DATA_GRANT
+                | Iuc::ADVANCED_LONG_DATA_GRANT
+        )
     }
 }

@@ -3,7 +3,7 @@
 use crate::fixtures::{lead, three};
 use ballots::{Bytes, Letter, Members};
 use command_log::command_bytes;
-use flow_state::Channel;
+use flow_state::{Channel, Phy};
 use grant_machine::Command;
 use minislot_time::Slot;
 use modem::{Heard, WantFault};
@@ -91,6 +91,7 @@ fn is_agreed(alloc: Global, site: &mut Site) -> bool {
     let channel = Channel {
         id: 1,
         ucd: 7,
+        phy: Phy::Tdma,
         short_max: 16,
         ranging_backoff: (2, 5),
         data_backoff: (3, 8),

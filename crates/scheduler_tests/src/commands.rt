@@ -1,4 +1,4 @@
-use flow_state::{Channel, FlowKind};
+use flow_state::{Channel, FlowKind, Phy};
 use grant_machine::{Command, Machine, Output, again};
 use std::alloc::{AllocError, Global};
 use std::test::Fail;
@@ -7,6 +7,7 @@ fn channel() -> Command {
     Command::Channel(Channel {
         id: 1,
         ucd: 7,
+        phy: Phy::Tdma,
         short_max: 16,
         ranging_backoff: (2, 5),
         data_backoff: (3, 8),

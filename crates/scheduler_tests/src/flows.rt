@@ -1,4 +1,4 @@
-use flow_state::{Channel, FlowKind, Flows, Refusal};
+use flow_state::{Channel, FlowKind, Flows, Phy, Refusal};
 use std::alloc::Global;
 use std::ops::Range;
 use std::test::Fail;
@@ -7,6 +7,7 @@ fn channel() -> Channel {
     Channel {
         id: 1,
         ucd: 7,
+        phy: Phy::Tdma,
         short_max: 16,
         ranging_backoff: (2, 5),
         data_backoff: (3, 8),

@@ -1,11 +1,17 @@
 use command_log::{Log, LogFault, command_bytes, read_command};
-use flow_state::{Channel, FlowKind};
+use flow_state::{Channel, FlowKind, Phy};
 use grant_machine::{Command, Output};
 use std::alloc::{AllocError, Global};
 use std::test::Fail;
 
 const CHANNEL: [u8; 17] = [
     0x01, 0x01, 0x07, 0x00, 0x10, 0x02, 0x05, 0x03, 0x08, 0x00, 0x00, 0x00, 0x00, 0x00, 0x00, 0x03,
+    0xE8,
+];
+
+/// The same channel with an Advanced PHY.
+const ADVANCED: [u8; 17] = [
+    0x06, 0x01, 0x07, 0x00, 0x10, 0x02, 0x05, 0x03, 0x08, 0x00, 0x00, 0x00, 0x00, 0x00, 0x00, 0x03,
     0xE8,
 ];
 
@@ -18,10 +24,11 @@ const GRANTS: [u8; 29] = [
     0x0A, 0x00, 0x00, 0x00, 0x04, 0x00, 0x00, 0x00, 0x00, 0x00, 0x00, 0x03, 0xE8,
 ];
 
-fn channel() -> Command {
+fn channel(phy: Phy) -> Command {
     Command::Channel(Channel {
         id: 1,
         ucd: 7,
+        phy,
         short_max: 16,
         ranging_backoff: (2, 5),
         data_backoff: (3, 8),
@@ -60,7 +67,8 @@ fn is_written(alloc: Global, command: Command, bytes: &[u8]) -> Result<bool, All
 
 #[test]
 fn commands_to_bytes_and_back(rt: HostRuntime) -> Result<(), Fail> {
-    assert!(rt; is_written(rt.alloc(), channel(), &CHANNEL)?);
+    assert!(rt; is_written(rt.alloc(), channel(Phy::Tdma), &CHANNEL)?);
+    assert!(rt; is_written(rt.alloc(), channel(Phy::Advanced), &ADVANCED)?);
     assert!(rt; is_written(rt.alloc(), request(), &REQUEST)?);
     assert!(rt; is_written(rt.alloc(), unsolicited_grants(), &GRANTS)?);
     Ok(())
@@ -78,18 +86,19 @@ fn other_bytes_are_no_command(rt: HostRuntime) {
     assert!(rt; !is_no_command(&[0]));
 }
 
-/// Whether the channel's bytes are no command without the last one, with one more, or with another first one.
-fn is_spelled_one_way(alloc: Global) -> Result<bool, AllocError> {
-    let mut longer = Vec::from_slice(alloc, &CHANNEL)?;
+/// Whether a channel's bytes are no command without the last one, with one more, or with another first one.
+fn is_spelled_one_way(alloc: Global, channel: &[u8; 17]) -> Result<bool, AllocError> {
+    let mut longer = Vec::from_slice(alloc, channel)?;
     longer.push(0)?;
-    let mut other = Vec::from_slice(alloc, &CHANNEL)?;
+    let mut other = Vec::from_slice(alloc, channel)?;
     other[0] = 0xFF;
-    Ok(is_no_command(&CHANNEL[..16]) && is_no_command(&longer) && is_no_command(&other))
+    Ok(is_no_command(&channel[..16]) && is_no_command(&longer) && is_no_command(&other))
 }
 
 #[test]
 fn a_channel_is_spelled_one_way(rt: HostRuntime) -> Result<(), Fail> {
-    assert!(rt; is_spelled_one_way(rt.alloc())?);
+    assert!(rt; is_spelled_one_way(rt.alloc(), &CHANNEL)?);
+    assert!(rt; is_spelled_one_way(rt.alloc(), &ADVANCED)?);
     Ok(())
 }
 
