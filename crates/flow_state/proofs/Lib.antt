@@ -2,6 +2,7 @@ pub mod Keyed
 pub mod Assigned
 pub mod Soundness
 pub mod DueTimes
+pub mod Timed
 pub mod Stored
 pub mod Requests
 pub mod Adding

@@ -12,7 +12,7 @@ use Rattle.flow_state.specs.declared.flow.Waiting.{Waiting}
 use Rattle.flow_state.specs.declared.table.ChannelTable.TheInside.{Inside}
 use Rattle.flow_state.specs.declared.flow.FlowKind.{FlowKind}
 use Rattle.flow_state.specs.Limits.{is_good_kind, due_time}
-use Rattle.flow_state.specs.Rows.{Table, FlowRow, Assignment, is_flow, insert_flow}
+use Rattle.flow_state.specs.Rows.{Table, FlowRow, Assignment, is_flow, insert_flow, lent_flow}
 use Rattle.flow_state.specs.Changes.{new_flow}
 use Rattle.flow_state.specs.Sound.{Rise, IsSound}
 use Rattle.flow_state.specs.StoredTable.{IsStoredFlow, IsStored}
@@ -20,6 +20,7 @@ use Rattle.flow_state.specs.View.{flow_view, table_view}
 use Rattle.flow_state.proofs.Keyed.{AreKeyed, All-set_value, seen_found, seen_written, seen_absent, seen_removed}
 use Rattle.flow_state.proofs.Soundness.{sids, AreGood, insert_last}
 use Rattle.flow_state.proofs.DueTimes.{due_named, first_index}
+use Rattle.flow_state.proofs.Timed.{timed_sids}
 
 abbrev pub Flows : Type 0
 Flows = List (ℕ × Flow)
@@ -31,8 +32,8 @@ abbrev pub rows : Flows → List FlowRow
 rows es = map (λ e. flow_view e.1) es
 
 -- a stored table by the table that it means
-pub stored_as : (b : Inside) (t : Table) → AreStored b.flows.entries → IsUnique nat_eq b.flows → table_view b ≡ t → IsSound t → IsStored b
-stored_as b t flows unique is sound = record { flows = flows; unique = unique; sound = subst IsSound (sym is) sound }
+pub stored_as : (b : Inside) (t : Table) → AreStored b.flows.entries → IsUnique nat_eq b.flows → b.timed.items ≡ timed_sids t.flows → table_view b ≡ t → IsSound t → IsStored b
+stored_as b t flows unique timed is sound = record { flows = flows; unique = unique; sound = subst IsSound (sym is) sound; timed_are = timed ∙ ap (λ (u : Table). timed_sids u.flows) (sym is) }
 
 pub with_parts : (t : Table) (fs gs : List FlowRow) (vs ws : List Waiting) → fs ≡ gs → vs ≡ ws → record t { flows = fs; waiting = vs } ≡ record t { flows = gs; waiting = ws }
 with_parts t fs gs vs ws f w = cc
@@ -84,6 +85,15 @@ good_found (e ∷ es) sid f all h =
       | true ↦ λ g. let same : e.1 ≡ f = cc in ap (λ (x : Flow). is_good_kind x.kind) (sym same) ∙ all.0
       | false ↦ λ g. good_found es sid f all.1 g
     ] h
+
+-- a flow that is lent is the stored one
+pub lent_found : (es : Flows) (sid : ℕ) → AreStored es → option_map lent_flow (option_map flow_view (lookup (nat_eq sid) es)) ≡ lookup (nat_eq sid) es
+lent_found [] sid all = refl
+lent_found (e ∷ es) sid all =
+    elim (nat_eq sid e.0) as (λ b. option_map lent_flow (option_map flow_view (cond b (Some e.1) (lookup (nat_eq sid) es))) ≡ cond b (Some e.1) (lookup (nat_eq sid) es)) [
+      | true ↦ ap (λ d. Some (record e.1 { due = d })) (sym all.0.due)
+      | false ↦ lent_found es sid all.1
+    ]
 
 apart_above : (a b : ℕ) → b < a → eqb a b ≡ false
 apart_above a b h = grind arith

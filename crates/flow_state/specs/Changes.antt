@@ -1,8 +1,9 @@
 -- The rows after each call that isn't refused.
-use Rattle.std.specs.Prelude.{ℕ, [], ◌∷◌, ◌++◌, filter, not, Bool, false, is_some, unwrap_or, Option, Some, None}
+use Rattle.std.specs.Prelude.{ℕ, List, [], ◌∷◌, ◌++◌, filter, not, Bool, false, is_some, unwrap_or, Option, Some, None}
 use Rattle.std.specs.Option.{option_and_then, option_map_or}
 use Rattle.flow_state.specs.declared.channel.Channel.{Channel}
 use Rattle.flow_state.specs.declared.flow.FlowKind.{FlowKind}
+use Rattle.flow_state.specs.declared.flow.Waiting.{Waiting}
 use Rattle.flow_state.specs.Limits.{due_index}
 use Rattle.flow_state.specs.Rows.{Rows, Table, FlowRow, Assignment, table_of, change_table, flow_of, change_flow, is_flow, assignment_of, free_sid, insert_flow, without_request, waits}
 
@@ -69,6 +70,18 @@ with_request rows ch sid n sent = change_table rows ch (λ t. request_in_table t
 -- a request of the SID waits on the channel
 abbrev pub is_waiting : Rows → ℕ → ℕ → Bool
 is_waiting rows ch sid = option_map_or (λ t. waits t sid) (table_of rows ch) false
+
+-- these requests of the channel's wait and no others
+abbrev pub waiting_in_table : Table → List Waiting → Table
+waiting_in_table t kept = record t { waiting = kept }
+
+abbrev pub with_waiting : Rows → ℕ → List Waiting → Rows
+with_waiting rows ch kept = change_table rows ch (λ t. waiting_in_table t kept)
+
+-- the channel's waiting requests, none where there is no such channel
+abbrev pub waiting_of : Option Table → List Waiting
+waiting_of (Some t) = t.waiting
+waiting_of None = []
 
 abbrev pub without_waiting : Rows → ℕ → ℕ → Rows
 without_waiting rows ch sid = change_table rows ch (λ t. without_request t sid)

@@ -6,7 +6,7 @@ use Rattle.flow_state.specs.declared.channel.ChannelRow.{ChannelRow}
 use Rattle.flow_state.specs.declared.flow.FlowKind.{FlowKind}
 use Rattle.flow_state.specs.declared.flow.Flow.{Flow}
 use Rattle.flow_state.specs.declared.flow.Waiting.{Waiting}
-use Rattle.flow_state.specs.Limits.{due_time, last_sid}
+use Rattle.flow_state.specs.Limits.{due_time, is_timed, last_sid}
 
 -- a SID that was given, and to whom
 pub record Assignment : Type 0 where
@@ -54,6 +54,10 @@ is_flow sid f = f.sid == sid
 abbrev pub flow_of : Table → ℕ → Option FlowRow
 flow_of t sid = find (is_flow sid) t.flows
 
+-- the flows for which something comes by itself
+abbrev pub timed : List FlowRow → List FlowRow
+timed fs = filter (λ f. is_timed f.kind) fs
+
 -- the table with the flow changed
 abbrev pub change_flow : Table → ℕ → (FlowRow → FlowRow) → Table
 change_flow t sid change = record t { flows = map (λ f. if is_flow sid f then change f else f) t.flows }
@@ -94,6 +98,9 @@ channel_at rows ch = option_map (λ t. t.row) (table_of rows ch)
 
 abbrev pub flow_at : Rows → ℕ → ℕ → Option Flow
 flow_at rows ch k = option_map lent_flow (option_and_then (λ t. slice_get t.flows k) (table_of rows ch))
+
+abbrev pub timed_at : Rows → ℕ → ℕ → Option Flow
+timed_at rows ch k = option_map lent_flow (option_and_then (λ t. slice_get (timed t.flows) k) (table_of rows ch))
 
 abbrev pub waiting_at : Rows → ℕ → ℕ → Option Waiting
 waiting_at rows ch k = option_and_then (λ t. slice_get t.waiting k) (table_of rows ch)

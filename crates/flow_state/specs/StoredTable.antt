@@ -1,10 +1,11 @@
 -- What is always true of a stored table.
-use Rattle.std.specs.Prelude.{◌≡◌, ℕ, nat_eq, Some}
+use Rattle.std.specs.Prelude.{◌≡◌, ℕ, nat_eq, map, Some}
 use Rattle.std.specs.List.{AllByRecursion}
 use Rattle.indexmap.specs.IndexMap.{IsUnique}
 use Rattle.flow_state.specs.declared.flow.Flow.{Flow}
 use Rattle.flow_state.specs.declared.table.ChannelTable.TheInside.{Inside}
 use Rattle.flow_state.specs.Limits.{due_time, due_index}
+use Rattle.flow_state.specs.Rows.{timed}
 use Rattle.flow_state.specs.Sound.{IsSound}
 use Rattle.flow_state.specs.View.{table_view}
 
@@ -17,6 +18,7 @@ pub record IsStored (a : Inside) : Type 0 where
   pub flows : AllByRecursion IsStoredFlow a.flows.entries
   pub unique : IsUnique nat_eq a.flows
   pub sound : IsSound (table_view a)
+  pub timed_are : a.timed.items ≡ map (λ f. f.sid) (timed (table_view a).flows)
 
 -- a stored flow whose last accepted request was sent at this time
 abbrev pub with_sent : Flow → ℕ → Flow

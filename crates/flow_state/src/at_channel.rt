@@ -1,6 +1,8 @@
 //! Calls on the table of a channel, found by the channel's id.
 
-ghost use Rattle.std.specs.Prelude.{◌≡◌, [], ◌∷◌, ◌++◌, None, Some, nat_eq, is_some, false, IsOk, OnOk, IfOk, IfErr, IsTrue};
+ghost use Rattle.std.specs.Prelude.{◌≡◌, [], ◌∷◌, ◌++◌, List, None, Some, nat_eq, is_some, false, IsOk, OnOk, IfOk, IfErr, IsTrue};
+ghost use Rattle.std.specs.Fn.{CalledAt};
+ghost use Rattle.std.specs.List.Retain.{IsFiltered};
 ghost use Rattle.std.specs.Map.{lookup};
 ghost use Rattle.std.specs.Option.{option_map_or};
 ghost use Rattle.indexmap.specs.IndexMap.{get, IsUnique};
@@ -8,10 +10,10 @@ ghost use Rattle.flow_state.specs.Entries.{change_entry, on_entry, entry_refusal
 ghost use Rattle.flow_state.specs.Limits.{IsDueTime};
 ghost use Rattle.flow_state.specs.Rows.{Table, FlowRow, flow_of, assignment_of, waits, without_request};
 ghost use Rattle.flow_state.specs.Refusals.{Refuses, table_flow_refusal, table_drop_refusal, table_request_refusal};
-ghost use Rattle.flow_state.specs.Changes.{new_table, sid_on, flow_in_table, drop_in_table, request_in_table, due_in_table, close_table};
+ghost use Rattle.flow_state.specs.Changes.{new_table, sid_on, flow_in_table, drop_in_table, request_in_table, waiting_in_table, waiting_of, due_in_table, close_table};
 
 use crate::channel::Channel;
-use crate::flow::FlowKind;
+use crate::flow::{FlowKind, Waiting};
 use crate::refusal::Refusal;
 use crate::table::ChannelTable;
 use indexmap::IndexMap;
@@ -102,6 +104,21 @@ pub(crate) fn granted(tables: &mut IndexMap<u8, ChannelTable>, ch: u8, sid: u16)
     match tables.get_mut(&ch) {
         Some(table) => table.granted(sid),
         None => false,
+    }
+}
+
+/// Keeps the channel's waiting requests that are accepted.
+pub(crate) fn keep_waiting<F: FnMut(&Waiting) -> bool>(
+    tables: &mut IndexMap<u8, ChannelTable>,
+    ch: u8,
+    keep: F,
+)
+    requires { F.IsAlwaysCallable keep }
+    ensures written { (kept : List Waiting) × IsFiltered (CalledAt F.FnMut) keep (waiting_of (get nat_eq tables.old ch)) kept × (tables.new.entries ≡ change_entry tables.old.entries ch (λ t. waiting_in_table t kept)) }
+    ensures unique { IsUnique nat_eq tables.old → IsUnique nat_eq tables.new }
+{
+    if let Some(table) = tables.get_mut(&ch) {
+        table.keep_waiting(keep);
     }
 }
 

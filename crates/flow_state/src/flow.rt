@@ -1,5 +1,5 @@
 ghost use Rattle.std.specs.Prelude.{◌≡◌, None};
-ghost use Rattle.flow_state.specs.Limits.{is_size as size_fits, is_schedule as schedule_fits, is_good_kind, is_ugs, due_time};
+ghost use Rattle.flow_state.specs.Limits.{is_size as size_fits, is_schedule as schedule_fits, is_good_kind, is_ugs, is_timed, due_time};
 ghost use Rattle.flow_state.specs.Refusals.{is_old, first_refusal};
 ghost use Rattle.flow_state.specs.View.{flow_view};
 
@@ -68,6 +68,16 @@ impl FlowKind {
         ensures { result ≡ is_ugs self }
     {
         matches!(self, FlowKind::Ugs { .. })
+    }
+
+    /// Does something come by itself: unsolicited grants or polls?
+    pub(crate) fn is_timed(self) -> bool
+        ensures { result ≡ is_timed self }
+    {
+        match self {
+            FlowKind::BestEffort(_) => false,
+            FlowKind::Ugs { .. } | FlowKind::Poll { .. } => true,
+        }
     }
 
     /// The first due time, 0 where it has none.

@@ -28,13 +28,15 @@ impl Model for Flows {
 }
 
 impl Flows {
-    ghost use Rattle.std.specs.Prelude.{◌≡◌, [], Some, is_some, IsTrue, IsOk, OnOk, IfOk, IfErr, IfSome, ◌<◌, ◌≤◌};
+    ghost use Rattle.std.specs.Prelude.{◌≡◌, List, [], Some, is_some, IsTrue, IsOk, OnOk, IfOk, IfErr, IfSome, ◌<◌, ◌≤◌};
+    ghost use Rattle.std.specs.Fn.{CalledAt};
+    ghost use Rattle.std.specs.List.Retain.{IsFiltered};
     ghost use Rattle.std.specs.Option.{option_copied, option_map};
     ghost use Rattle.flow_state.specs.Limits.{IsDueTime, is_good_kind, last_sid, most_waiting};
     ghost use Rattle.flow_state.specs.Sound.{IsSound};
-    ghost use Rattle.flow_state.specs.Rows.{FlowRow, table_of, channel_at, flow_at, waiting_at};
+    ghost use Rattle.flow_state.specs.Rows.{FlowRow, table_of, channel_at, flow_at, timed_at, waiting_at};
     ghost use Rattle.flow_state.specs.Refusals.{Refuses, set_channel_refusal, add_flow_refusal, drop_flow_refusal, request_refusal};
-    ghost use Rattle.flow_state.specs.Changes.{with_channel, is_known, sid_of, with_flow, without_flow, with_request, is_waiting, without_waiting, flow_row, with_due, with_cut_closed};
+    ghost use Rattle.flow_state.specs.Changes.{with_channel, is_known, sid_of, with_flow, without_flow, with_request, is_waiting, without_waiting, with_waiting, waiting_of, flow_row, with_due, with_cut_closed};
 
     /// No channel is set.
     pub fn new(alloc: Global) -> Flows
@@ -110,6 +112,16 @@ impl Flows {
         }
     }
 
+    /// The channel's timed flow number k, by SID, from 0: those of unsolicited grants or polls alone.
+    pub fn timed_flow(&self, ch: u8, k: usize) -> Option<&Flow>
+        ensures { option_copied result ≡ timed_at self.now ch k }
+    {
+        match self.tables.get(&ch) {
+            Some(table) => table.timed_flow(k),
+            None => None,
+        }
+    }
+
     /// The kind of the channel's flow that has the SID.
     pub fn kind_of(&self, ch: u8, sid: u16) -> Option<FlowKind>
         ensures { result ≡ option_map (λ f. f.kind) (flow_row self.now ch sid) }
@@ -137,6 +149,15 @@ impl Flows {
         ensures rows { self.new ≡ without_waiting self.old ch sid }
     {
         at_channel::granted(&mut self.tables, ch, sid)
+    }
+
+    /// Keeps those of the channel's waiting requests that are accepted, in one pass by arrival, and
+    /// changes nothing else. It takes no memory.
+    pub fn keep_waiting<F: FnMut(&Waiting) -> bool>(&mut self, ch: u8, keep: F)
+        requires { F.IsAlwaysCallable keep }
+        ensures { (kept : List Waiting) × IsFiltered (CalledAt F.FnMut) keep (waiting_of (table_of self.old ch)) kept × (self.new ≡ with_waiting self.old ch kept) }
+    {
+        at_channel::keep_waiting(&mut self.tables, ch, keep);
     }
 
     /// Sets the flow's next due time, which is one of its due times. False where there is no such

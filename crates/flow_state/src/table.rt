@@ -1,13 +1,15 @@
-ghost use Rattle.std.specs.Prelude.{◌≡◌, ℕ, is_some, slice_get, map, Some, None, IsOk, IsTrue, IsNone, IsSome, OnErr, IfOk, OnOk, IfErr, IfSome, IfNone, nat_eq, ◌<◌, ◌≤◌};
+ghost use Rattle.std.specs.Prelude.{◌≡◌, ℕ, List, [], ◌∷◌, ◌++◌, ◌==◌, not, filter, if◌then◌else◌, vec_len, vec_capacity, is_some, slice_get, map, Some, None, IsOk, IsTrue, IsNone, IsSome, OnErr, IfOk, OnOk, IfErr, IfSome, IfNone, nat_eq, ◌<◌, ◌≤◌};
+ghost use Rattle.std.specs.Fn.{CalledAt};
+ghost use Rattle.std.specs.List.Retain.{IsFiltered};
 ghost use Rattle.std.specs.Map.{set_value};
 ghost use Rattle.std.specs.Option.{option_copied, option_map};
 ghost use Rattle.indexmap.specs.IndexMap.{get, IsUnique};
-ghost use Rattle.flow_state.specs.Limits.{IsDueTime, is_good_kind, last_sid, most_waiting};
+ghost use Rattle.flow_state.specs.Limits.{IsDueTime, is_good_kind, is_timed, last_sid, most_waiting};
 ghost use Rattle.flow_state.specs.Sound.{IsSound};
-ghost use Rattle.flow_state.specs.Rows.{FlowRow, lent_flow, flow_of, waits, without_request, free_sid, change_flow, assignment_of};
+ghost use Rattle.flow_state.specs.Rows.{FlowRow, lent_flow, timed, flow_of, waits, without_request, free_sid, change_flow, assignment_of};
 ghost use Rattle.flow_state.specs.Refusals.{Refuses, table_flow_refusal, table_drop_refusal, table_request_refusal, is_busy};
 ghost use Rattle.flow_state.specs.StoredTable.{with_sent, with_next_due};
-ghost use Rattle.flow_state.specs.Changes.{new_table, sid_for, flow_in_table, add_to_table, drop_in_table, request_in_table, due_in_table, close_table};
+ghost use Rattle.flow_state.specs.Changes.{new_table, sid_for, flow_in_table, add_to_table, drop_in_table, request_in_table, waiting_in_table, due_in_table, close_table};
 
 use crate::channel::{Channel, ChannelRow};
 use crate::flow::{Flow, FlowKind, Waiting};
@@ -17,12 +19,14 @@ use indexmap::IndexMap;
 use std::alloc::{AllocError, Global};
 use std::marker::Model;
 
-/// All that is kept of a channel. Flows are in the order of their SIDs.
+/// All that is kept of a channel. Flows are in the order of their SIDs, and `timed` has the SIDs of
+/// those that have due times.
 #[derive(Drop)]
 pub struct ChannelTable {
     row: ChannelRow,
     assigned: IndexMap<(u32, u32), u16>,
     flows: IndexMap<u16, Flow>,
+    timed: Vec<u16>,
     waiting: Vec<Waiting>,
 }
 
@@ -52,6 +56,7 @@ impl ChannelTable {
             },
             assigned: IndexMap::new(alloc),
             flows: IndexMap::new(alloc),
+            timed: Vec::new(alloc),
             waiting: Vec::new(alloc),
         }
     }
@@ -72,6 +77,16 @@ impl ChannelTable {
     {
         match self.flows.get_index(k) {
             Some((_, flow)) => Some(flow),
+            None => None,
+        }
+    }
+
+    /// Timed flow number k, by SID.
+    pub(crate) fn timed_flow(&self, k: usize) -> Option<&Flow>
+        ensures { option_copied result ≡ option_map lent_flow (slice_get (timed self.now.flows) k) }
+    {
+        match self.timed.get(k) {
+            Some(sid) => self.flows.get(sid),
             None => None,
         }
     }
@@ -106,7 +121,7 @@ impl ChannelTable {
         }
     }
 
-    /// Adds a flow under a free SID. Room is made in both maps before either is written.
+    /// Adds a flow under a free SID. Room is made everywhere before anything is written.
     fn insert_flow(
         &mut self,
         sid: u16,
@@ -121,8 +136,10 @@ impl ChannelTable {
         ensures err { OnErr result (self.new ≡ self.old) }
     {
         self.flows.reserve(1)?;
+        self.timed.reserve(1)?;
         self.assigned.insert((modem, tag), sid)?;
         self.flows.insert(sid, Flow::new(sid, modem, tag, kind))?;
+        note_timed(&mut self.timed, sid, kind);
         Ok(())
     }
 
@@ -162,6 +179,7 @@ impl ChannelTable {
     {
         match self.flows.shift_remove(&sid) {
             Some(_) => {
+                forget_timed(&mut self.timed, sid);
                 self.waiting.retain(|w| w.sid != sid);
                 Ok(())
             }
@@ -225,6 +243,14 @@ impl ChannelTable {
         found
     }
 
+    /// Keeps the waiting requests that are accepted, in one pass.
+    pub(crate) fn keep_waiting<F: FnMut(&Waiting) -> bool>(&mut self, keep: F)
+        requires { F.IsAlwaysCallable keep }
+        ensures { (kept : List Waiting) × IsFiltered (CalledAt F.FnMut) keep self.old.waiting kept × (self.new ≡ waiting_in_table self.old kept) }
+    {
+        self.waiting.retain(keep);
+    }
+
     /// The MAPs reach to end, and this is the Ack Time.
     pub(crate) fn close_cut(&mut self, end: u64, ack: u64)
         ensures { self.new ≡ close_table self.old end ack }
@@ -232,6 +258,23 @@ impl ChannelTable {
         self.row.next_start = end;
         self.row.ack = ack;
     }
+}
+
+/// Notes the SID of an added flow, where it is a timed one. There is room for it.
+fn note_timed(timed: &mut Vec<u16>, sid: u16, kind: FlowKind)
+    requires { vec_len timed.old < vec_capacity timed.old }
+    ensures { timed.new.items ≡ timed.old.items ++ (if is_timed kind then sid ∷ [] else []) }
+{
+    if kind.is_timed() {
+        timed.push_reserved(sid);
+    }
+}
+
+/// Forgets the SID of a dropped flow, where it is a timed one's.
+fn forget_timed(timed: &mut Vec<u16>, sid: u16)
+    ensures { timed.new.items ≡ filter (λ n. not (n == sid)) timed.old.items }
+{
+    timed.retain(|other| *other != sid);
 }
 
 /// Notes that a flow's last accepted request was sent at this time.

@@ -1,5 +1,5 @@
 -- The rows after a MAP is closed, and the elements of its body.
-use Rattle.std.proofs.Common.{◌≡◌, ℕ, ◌+◌, ◌<◌, ◌≤◌, Bool, true, false, cond, not, ◌||◌, ◌&&◌, max, min, List, [], ◌∷◌, ◌++◌, map, filter, length, Option, Some, None, refl, sym, ap, subst, ◌∙◌, arith, inl, inr, eqb, ◌^◌}
+use Rattle.std.proofs.Common.{◌≡◌, ℕ, ◌+◌, ◌<◌, ◌≤◌, Bool, true, false, cond, not, ◌&&◌, max, min, List, [], ◌∷◌, ◌++◌, map, filter, length, Option, Some, None, refl, sym, ap, subst, ◌∙◌, arith, inl, inr, eqb, ◌^◌}
 use Rattle.std.specs.List.{list_any, filter_map, flat_map, range_with_len, AllByRecursion, AllZip}
 use Rattle.std.specs.Option.{option_map, option_and_then, option_map_or}
 use Rattle.std.specs.Prelude.{IfSome}
@@ -18,22 +18,22 @@ use Rattle.flow_state.specs.declared.flow.Flow.{Flow}
 use Rattle.flow_state.specs.declared.flow.FlowKind.{FlowKind}
 use Rattle.flow_state.specs.declared.flow.FlowKind.TheVariants.{BestEffort, Ugs, Poll}
 use Rattle.flow_state.specs.declared.flow.Waiting.{Waiting}
-use Rattle.flow_state.specs.Limits.{last_time, due_index}
-use Rattle.flow_state.specs.Rows.{Rows, Table, FlowRow, is_table, table_of, change_table, is_flow, is_of, flow_of, without_request, channel_at}
-use Rattle.flow_state.specs.Changes.{with_due, without_waiting, with_cut_closed, close_table}
+use Rattle.flow_state.specs.Limits.{last_time, due_index, is_timed}
+use Rattle.flow_state.specs.Rows.{Rows, Table, FlowRow, is_table, table_of, change_table, is_flow, flow_of, timed, channel_at}
+use Rattle.flow_state.specs.Changes.{with_due, waiting_of, waiting_in_table, with_cut_closed, close_table}
 use Rattle.grant_machine.specs.declared.cut.Filled.{Filled}
 use Rattle.grant_machine_parts.specs.declared.placing.Placement.{Placement}
 use Rattle.grant_machine_parts.specs.Cutting.{Filled as FilledMap, fill, fill_span, fill_refusal, span_of, end_of, in_order, priority_of, still_waiting, is_grant_of, table_after}
 use Rattle.grant_machine_parts.specs.Drawing.{begins_at, null_element, pending_element, elements_of, head_of, bytes_of}
 use Rattle.grant_machine.specs.Runs.{IsReached}
 use Rattle.grant_machine_parts.specs.Lent.{row_of, IsUnicast}
-use Rattle.grant_machine.specs.CutRows.{IsOfKind, is_timed, timed, due_times_set, requests_taken, without_if}
+use Rattle.grant_machine.specs.CutRows.{IsOfKind, due_times_set, requests_taken}
 use Rattle.grant_machine.specs.Plans.{IsFilledBy, elements_in}
-use Rattle.flow_state.proofs.Callers.{changed, some_is, same_id, KeepsId}
+use Rattle.flow_state.proofs.Callers.{changed, find_changed, some_is, same_id, KeepsId}
 use Rattle.flow_state.proofs.Callers.{eqb_same}
 use Rattle.flow_state.proofs.Callers.{filter_append}
-use Rattle.flow_state.proofs.Callers.{Has, map_has, all_has, found_has, filter_has, has_filter, any_has, has_any}
-use Rattle.flow_state.proofs.Callers.{IsWell, RisingFrom, one_flow, both}
+use Rattle.flow_state.proofs.Callers.{Has, map_has, all_has, found_has, has_filter}
+use Rattle.flow_state.proofs.Callers.{IsWell, RisingFrom, one_flow}
 use Rattle.grant_machine_parts.proofs.Callers.{Moves, fill_moves, flow_from, is_cut}
 use Rattle.grant_machine.proofs.Reached.{reached_is_well}
 use Rattle.grant_machine.proofs.Standing.{Apart, IsIdle, idle, fill_idle, reached_apart, reached_idle}
@@ -210,18 +210,6 @@ all_set low (f ∷ fs) (g ∷ gs) ss r z from to e = by (λ us h. all_set (f.sid
 abbrev is_granted : List Placement → Waiting → Bool
 is_granted ps w = list_any (is_grant_of w) ps
 
-abbrev take_all : List Placement → List Waiting → List Waiting → List Waiting
-take_all ps [] us = us
-take_all ps (w ∷ ws) us = take_all ps ws (cond (is_granted ps w) (filter (λ u. not (is_of w.sid u)) us) us)
-
-taken_are : (rows : Rows) (ch : ℕ) (ps : List Placement) (ws : List Waiting) → requests_taken rows ch ps ws ≡ change_table rows ch (λ t. record t { waiting = take_all ps ws t.waiting })
-taken_are rows ch ps [] = sym (change_none rows ch)
-taken_are rows ch ps (w ∷ ws) =
-    elim (is_granted ps w) as (λ b. requests_taken (without_if b rows ch w.sid) ch ps ws ≡ change_table rows ch (λ t. record t { waiting = take_all ps ws (cond b (filter (λ u. not (is_of w.sid u)) t.waiting) t.waiting) })) [
-      | true ↦ taken_are (without_waiting rows ch w.sid) ch ps ws ∙ change_twice rows ch (λ t. without_request t w.sid) (λ t. record t { waiting = take_all ps ws t.waiting }) (λ t. refl)
-      | false ↦ taken_are rows ch ps ws
-    ]
-
 filter_twice : (p q : Waiting → Bool) (us : List Waiting) → filter p (filter q us) ≡ filter (λ u. q u && p u) us
 filter_twice p q [] = refl
 filter_twice p q (u ∷ us) = elim (q u) as (λ b. filter p (cond b (u ∷ filter q us) (filter q us)) ≡ cond (b && p u) (u ∷ filter (λ x. q x && p x) us) (filter (λ x. q x && p x) us)) [
@@ -233,58 +221,6 @@ filter_same : (p q : Waiting → Bool) (us : List Waiting) → ((u : Waiting) �
 filter_same p q [] same = refl
 filter_same p q (u ∷ us) same =
     ap (λ b. cond b (u ∷ filter p us) (filter p us)) (same u (inl refl)) ∙ ap (λ (xs : List Waiting). cond (q u) (u ∷ xs) xs) (filter_same p q us (λ x h. same x (inr h)))
-
-all_stay : (us : List Waiting) → filter (λ u. true) us ≡ us
-all_stay [] = refl
-all_stay (u ∷ us) = ap (λ (xs : List Waiting). u ∷ xs) (all_stay us)
-
--- a request of the SID of one that is granted
-abbrev is_taken : List Placement → List Waiting → Waiting → Bool
-is_taken ps ws u = list_any (λ w. is_granted ps w && is_of w.sid u) ws
-
-taken_filter : (ps : List Placement) (ws us : List Waiting) → take_all ps ws us ≡ filter (λ u. not (is_taken ps ws u)) us
-taken_filter ps [] us = sym (all_stay us)
-taken_filter ps (w ∷ ws) us =
-    elim (is_granted ps w) as (λ b. take_all ps ws (cond b (filter (λ u. not (is_of w.sid u)) us) us) ≡ filter (λ u. not ((b && is_of w.sid u) || is_taken ps ws u)) us) [
-      | true ↦ taken_filter ps ws (filter (λ u. not (is_of w.sid u)) us)
-          ∙ filter_twice (λ u. not (is_taken ps ws u)) (λ u. not (is_of w.sid u)) us
-          ∙ filter_same (λ u. not (is_of w.sid u) && not (is_taken ps ws u)) (λ u. not (is_of w.sid u || is_taken ps ws u)) us (λ u h. not_or (is_of w.sid u) (is_taken ps ws u))
-      | false ↦ taken_filter ps ws us
-    ]
-  where
-    not_or : (a b : Bool) → (not a && not b) ≡ not (a || b)
-    not_or true b = refl
-    not_or false b = refl
-
--- of one that passes, at most, two are the same
-one_passes : (xs : List Waiting) (u w : Waiting) → length xs ≤ 1 → Has xs u → Has xs w → u ≡ w
-one_passes [] u w le h k = absurd h
-one_passes (x ∷ []) u w le (inl e) (inl f) = sym e ∙ f
-one_passes (x ∷ []) u w le (inl e) (inr k) = absurd k
-one_passes (x ∷ []) u w le (inr h) k = absurd h
-one_passes (x ∷ (y ∷ xs)) u w le h k = absurd (omega arith)
-
-abbrev AreAlone : List Waiting → Type 0
-AreAlone us = (sid : ℕ) → length (filter (is_of sid) us) ≤ 1
-
-same_request : (us : List Waiting) (u w : Waiting) → AreAlone us → Has us u → Has us w → eqb u.sid w.sid ≡ true → u ≡ w
-same_request us u w alone h k e = one_passes (filter (is_of w.sid) us) u w (alone w.sid) (filter_has (is_of w.sid) us u h e) (filter_has (is_of w.sid) us w k (eqb_same w.sid))
-
-taken_is : (ps : List Placement) (us : List Waiting) (u : Waiting) → AreAlone us → Has us u → is_taken ps us u ≡ is_granted ps u
-taken_is ps us u alone h = by (is_granted ps u) refl (is_taken ps us u) refl
-  where
-    by : (a : Bool) → is_granted ps u ≡ a → (b : Bool) → is_taken ps us u ≡ b → is_taken ps us u ≡ is_granted ps u
-    by true e true f = f ∙ sym e
-    by true e false f = absurd (let on : (is_granted ps u && is_of u.sid u) ≡ true = ap (λ b. b && is_of u.sid u) e ∙ eqb_same u.sid in let any = has_any (λ w. is_granted ps w && is_of w.sid u) us u h on in cc)
-    by false e true f = absurd (
-        let some = any_has (λ w. is_granted ps w && is_of w.sid u) us f in
-        let tests = both (is_granted ps some.0) (is_of some.0.sid u) some.2 in
-        let same : u ≡ some.0 = same_request us u some.0 alone h some.1 tests.1 in
-        let on : is_granted ps u ≡ true = ap (is_granted ps) same ∙ tests.0 in cc)
-    by false e false f = f ∙ sym e
-
-pub taken_all : (ps : List Placement) (us : List Waiting) → AreAlone us → take_all ps us us ≡ still_waiting ps us
-taken_all ps us alone = taken_filter ps us us ∙ filter_same (λ u. not (is_taken ps us u)) (λ u. not (is_granted ps u)) us (λ u h. ap not (taken_is ps us u alone h))
 
 -- ---- a MAP that is closed
 
@@ -350,31 +286,34 @@ module _ (rows : Rows) (ch : ℕ) (t : Table) (len not_before ack : ℕ) (x : Fi
       let idle_before = reached_idle rows reached ch t found in
       all_set 1 t.flows filled.flows x.flows.items well.rising (moved_rows t (span_of t.row len not_before) filled.ack ended) idle_before (fill_idle t (span_of t.row len not_before) filled.ack idle_before) (sym flows_are)
 
-  requests_left : take_all x.filling.placements x.waiting.items t.waiting ≡ filled.waiting
-  requests_left =
-      ap (λ (ps : List Placement). take_all ps x.waiting.items t.waiting) placed
-      ∙ ap (λ (ws : List Waiting). take_all filled.placements ws t.waiting) by.waiting
-      ∙ taken_all filled.placements t.waiting well.alone
-
   abbrev set_all : Table → Table
   set_all u = record u { flows = set_flows x.flows.items u.flows }
 
   abbrev take_granted : Table → Table
-  take_granted u = record u { waiting = take_all x.filling.placements x.waiting.items u.waiting }
+  take_granted u = waiting_in_table u filled.waiting
+
+  -- the due times leave the requests that wait
+  still_there : waiting_of (table_of (due_times_set rows ch x.flows.items) ch) ≡ t.waiting
+  still_there =
+      ap (λ (r : Rows). waiting_of (table_of r ch)) (dues_are rows ch x.flows.items)
+      ∙ ap waiting_of (find_changed rows ch ch set_all t (λ u. refl) found)
+      ∙ elim (is_table ch t) as (λ b. (cond b (set_all t) t).waiting ≡ t.waiting) [ true ↦ refl | false ↦ refl ]
+
+  requests_left : still_waiting x.filling.placements (waiting_of (table_of (due_times_set rows ch x.flows.items) ch)) ≡ filled.waiting
+  requests_left = ap (λ (ws : List Waiting). still_waiting x.filling.placements ws) still_there ∙ ap (λ (ps : List Placement). still_waiting ps t.waiting) placed
 
   pub rows_closed : (a : ℕ) → a ≡ filled.ack
-      → with_cut_closed (requests_taken (due_times_set rows ch x.flows.items) ch x.filling.placements x.waiting.items) ch (end_of x.filling.span) a ≡ change_table rows ch (λ u. table_after u filled)
+      → with_cut_closed (requests_taken (due_times_set rows ch x.flows.items) ch x.filling.placements) ch (end_of x.filling.span) a ≡ change_table rows ch (λ u. table_after u filled)
   rows_closed a same =
       let close : Table → Table = λ u. close_table u (end_of x.filling.span) a in
-      ap (λ (r : Rows). change_table r ch close) (taken_are (due_times_set rows ch x.flows.items) ch x.filling.placements x.waiting.items)
+      ap (λ (ws : List Waiting). change_table (change_table (due_times_set rows ch x.flows.items) ch (λ u. waiting_in_table u ws)) ch close) requests_left
       ∙ ap (λ (r : Rows). change_table (change_table r ch take_granted) ch close) (dues_are rows ch x.flows.items)
       ∙ ap (λ (r : Rows). change_table r ch close) (change_twice rows ch set_all take_granted (λ u. refl))
       ∙ change_twice rows ch (λ u. take_granted (set_all u)) close (λ u. refl)
       ∙ change_at rows ch t (λ u. close (take_granted (set_all u))) (λ u. table_after u filled) (reached_apart rows reached) found
-      (ap (λ (s : Extent). after_of t (end_of s) a (set_flows x.flows.items t.flows) (take_all x.filling.placements x.waiting.items t.waiting)) by.span_is
-      ∙ ap (λ n. after_of t (end_of filled.span) n (set_flows x.flows.items t.flows) (take_all x.filling.placements x.waiting.items t.waiting)) same
-      ∙ ap (λ (fs : List FlowRow). after_of t (end_of filled.span) filled.ack fs (take_all x.filling.placements x.waiting.items t.waiting)) rows_set
-      ∙ ap (λ (ws : List Waiting). after_of t (end_of filled.span) filled.ack filled.flows ws) requests_left)
+      (ap (λ (s : Extent). after_of t (end_of s) a (set_flows x.flows.items t.flows) filled.waiting) by.span_is
+      ∙ ap (λ n. after_of t (end_of filled.span) n (set_flows x.flows.items t.flows) filled.waiting) same
+      ∙ ap (λ (fs : List FlowRow). after_of t (end_of filled.span) filled.ack fs filled.waiting) rows_set)
 
   -- the flows' kinds are those of the rows
   pub kinds_are : AllByRecursion (IsOfKind rows ch) x.flows.items
@@ -479,7 +418,7 @@ module _ (rows : Rows) (ch : ℕ) (row : ChannelRow) (len not_before ack : ℕ) 
       is ∙ ap (λ n. max row.ack (min ack n)) begun ∙ ap (λ (r : ChannelRow). max r.ack (min ack (max r.next_start not_before))) (sym m.row_is)
 
   pub made_rows : (start a : ℕ) → start ≡ max row.next_start not_before → a ≡ max row.ack (min ack start)
-      → with_cut_closed (requests_taken (due_times_set rows ch x.flows.items) ch x.filling.placements x.waiting.items) ch (end_of x.filling.span) a ≡ (step rows (commands.Cut ch len not_before ack)).rows
+      → with_cut_closed (requests_taken (due_times_set rows ch x.flows.items) ch x.filling.placements) ch (end_of x.filling.span) a ≡ (step rows (commands.Cut ch len not_before ack)).rows
   made_rows start a begun is = rows_closed rows ch m.table len not_before ack x reached m.found m.good m.by a (ack_is start a begun is) ∙ ap (λ (s : Step). s.rows) (sym step_is)
 
   pub made_output : (start a : ℕ) (bytes : List ℕ) → start ≡ max row.next_start not_before → a ≡ max row.ack (min ack start) → bytes ≡ layout (head_of row.channel start a) (elements_in row.channel x) 0

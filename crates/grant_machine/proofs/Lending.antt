@@ -5,10 +5,10 @@ use Rattle.std.specs.Option.{option_map}
 use Rattle.std.proofs.lemmas.List.{length_push}
 use Rattle.flow_state.specs.declared.flow.Flow.{Flow}
 use Rattle.flow_state.specs.declared.flow.FlowKind.{FlowKind}
-use Rattle.flow_state.specs.Rows.{Rows, Table, FlowRow, table_of, flow_of, is_flow, lent_flow, flow_at, waiting_at}
-use Rattle.flow_state.specs.Changes.{with_due, flow_row}
+use Rattle.flow_state.specs.Rows.{Rows, Table, FlowRow, table_of, flow_of, is_flow, lent_flow, timed, timed_at, waiting_at}
+use Rattle.flow_state.specs.Changes.{with_due, waiting_of, flow_row}
 use Rattle.flow_state.specs.Limits.{due_index}
-use Rattle.grant_machine.specs.CutRows.{flows_on, requests_on, IsOfKind}
+use Rattle.grant_machine.specs.CutRows.{timed_on, IsOfKind}
 use Rattle.flow_state.proofs.Callers.{found_before}
 use Rattle.flow_state.proofs.Callers.{is_found}
 
@@ -17,17 +17,17 @@ get_map f [] k = refl
 get_map f (x ∷ xs) zero = refl
 get_map f (x ∷ xs) (suc k) = get_map f xs k
 
-pub flow_at_is : (rows : Rows) (ch k : ℕ) → flow_at rows ch k ≡ slice_get (flows_on (table_of rows ch)) k
-flow_at_is rows ch k = by (table_of rows ch) refl
+pub timed_at_is : (rows : Rows) (ch k : ℕ) → timed_at rows ch k ≡ slice_get (timed_on (table_of rows ch)) k
+timed_at_is rows ch k = by (table_of rows ch) refl
   where
-    by : (o : Option Table) → table_of rows ch ≡ o → flow_at rows ch k ≡ slice_get (flows_on (table_of rows ch)) k
-    by (Some t) e = rw e (sym (get_map lent_flow t.flows k))
+    by : (o : Option Table) → table_of rows ch ≡ o → timed_at rows ch k ≡ slice_get (timed_on (table_of rows ch)) k
+    by (Some t) e = rw e (sym (get_map lent_flow (timed t.flows) k))
     by None e = rw e refl
 
-pub waiting_at_is : (rows : Rows) (ch k : ℕ) → waiting_at rows ch k ≡ slice_get (requests_on (table_of rows ch)) k
+pub waiting_at_is : (rows : Rows) (ch k : ℕ) → waiting_at rows ch k ≡ slice_get (waiting_of (table_of rows ch)) k
 waiting_at_is rows ch k = by (table_of rows ch) refl
   where
-    by : (o : Option Table) → table_of rows ch ≡ o → waiting_at rows ch k ≡ slice_get (requests_on (table_of rows ch)) k
+    by : (o : Option Table) → table_of rows ch ≡ o → waiting_at rows ch k ≡ slice_get (waiting_of (table_of rows ch)) k
     by (Some t) e = rw e refl
     by None e = rw e refl
 

@@ -8,8 +8,9 @@ use Rattle.flow_state.specs.declared.flow.Flow.{Flow}
 use Rattle.flow_state.specs.declared.flow.FlowKind.{FlowKind}
 use Rattle.flow_state.specs.declared.flow.FlowKind.TheVariants.{BestEffort, Ugs, Poll}
 use Rattle.flow_state.specs.declared.flow.Waiting.{Waiting}
-use Rattle.flow_state.specs.Limits.{last_sid, is_good_kind, due_time, due_index}
-use Rattle.flow_state.specs.Rows.{Rows, Table, FlowRow, table_of, lent_flow, flow_of}
+use Rattle.flow_state.specs.Limits.{last_sid, is_good_kind, is_timed, due_time, due_index}
+use Rattle.flow_state.specs.Rows.{Rows, Table, FlowRow, table_of, timed, lent_flow, flow_of}
+use Rattle.flow_state.specs.Changes.{waiting_of}
 use Rattle.grant_machine_parts.specs.declared.services.Service.TheVariants.{Grants, Polls}
 use Rattle.grant_machine_parts.specs.declared.placing.Placement.{Placement}
 use Rattle.grant_machine_parts.specs.Cutting.{flow_priority, priority_of, Passed, pass, in_order, place_requests, fill_span, fill_polls, grants_of_flow, polls_of_flow, grants_of_kind, polls_of_kind, run_flow, with_first}
@@ -19,7 +20,7 @@ use Rattle.grant_machine_parts.specs.Filling.{PartMap}
 use Rattle.grant_machine_parts.specs.Lent.{row_of, IsLent, IsUnicast, given_to}
 use Rattle.grant_machine_parts.specs.Ranks.{of_priority, by_priority}
 use Rattle.grant_machine_parts.specs.declared.waiting.Ranked.{Ranked}
-use Rattle.grant_machine.specs.CutRows.{IsOfTable, is_timed, timed, flows_on, requests_on, ranked_on}
+use Rattle.grant_machine.specs.CutRows.{IsOfTable, timed_on, ranked_on}
 use Rattle.flow_state.proofs.Callers.{all_has}
 use Rattle.flow_state.proofs.Callers.{IsWell, IsWellFlow, both}
 use Rattle.grant_machine.proofs.Reached.{reached_is_well}
@@ -56,6 +57,23 @@ lent_all (f ∷ fs) w h = (lent_one f w.0 h.0, lent_all fs w.1 h.1)
 well_flows : (rows : Rows) (ch : ℕ) (t : Table) → IsReached rows → table_of rows ch ≡ Some t → AllByRecursion IsWellFlow t.flows
 well_flows rows ch t r e = all_has IsWellFlow t.flows (reached_is_well rows r ch t e).flows
 
+-- a channel's flows, as they would be lent
+abbrev pub flows_on : Option Table → List Flow
+flows_on (Some t) = map lent_flow t.flows
+flows_on None = []
+
+lent_timed : (fs : List FlowRow) → map lent_flow (timed fs) ≡ filter (λ f. is_timed f.kind) (map lent_flow fs)
+lent_timed [] = refl
+lent_timed (f ∷ fs) = elim (is_timed f.kind) as (λ b. map lent_flow (cond b (f ∷ timed fs) (timed fs)) ≡ cond b (lent_flow f ∷ filter (λ g. is_timed g.kind) (map lent_flow fs)) (filter (λ g. is_timed g.kind) (map lent_flow fs))) [
+  | true ↦ ap (λ (gs : List Flow). lent_flow f ∷ gs) (lent_timed fs)
+  | false ↦ lent_timed fs
+]
+
+-- the timed ones of them are those that are lent
+pub timed_of : (o : Option Table) → timed_on o ≡ filter (λ f. is_timed f.kind) (flows_on o)
+timed_of (Some t) = lent_timed t.flows
+timed_of None = refl
+
 -- what is lent of the channel's flows
 pub flows_lent : (rows : Rows) (ch : ℕ) → IsReached rows → AllByRecursion IsLent (flows_on (table_of rows ch))
 flows_lent rows ch r = by (table_of rows ch) refl
@@ -83,9 +101,9 @@ of_numbers : (t : Table) (rank : Waiting → Ranked) → ((w : Waiting) → rank
 of_numbers t rank is ws [] = refl
 of_numbers t rank is ws (n ∷ ns) = rw (of_number t n rank is ws, of_numbers t rank is ws ns) refl
 
-pub ordered : (rows : Rows) (ch : ℕ) (t : Table) → table_of rows ch ≡ Some t → by_priority (map (ranked_on rows ch) (requests_on (table_of rows ch))) ≡ in_order t t.waiting
+pub ordered : (rows : Rows) (ch : ℕ) (t : Table) → table_of rows ch ≡ Some t → by_priority (map (ranked_on rows ch) (waiting_of (table_of rows ch))) ≡ in_order t t.waiting
 ordered rows ch t e =
-    ap (λ o. by_priority (map (ranked_on rows ch) (requests_on o))) e
+    ap (λ o. by_priority (map (ranked_on rows ch) (waiting_of o))) e
     ∙ of_numbers t (ranked_on rows ch) (λ w. ap (λ o. record { priority = flow_priority (option_and_then (λ u. flow_of u w.sid) o); request = w }) e) t.waiting (7 ∷ 6 ∷ 5 ∷ 4 ∷ 3 ∷ 2 ∷ 1 ∷ 0 ∷ [])
 
 pub unicast : (t : Table) → IsWell t → AllByRecursion IsUnicast (in_order t t.waiting)
@@ -93,10 +111,10 @@ unicast t w = all_has IsUnicast (in_order t t.waiting) (λ x h.
     let asked = w.requests x (in_order_has t t.waiting x h) in
     subst (λ n. n ≤ last_sid) asked.sid (w.flows asked.flow asked.there).last)
 
-pub requests_unicast : (rows : Rows) (ch : ℕ) → IsReached rows → AllByRecursion IsUnicast (by_priority (map (ranked_on rows ch) (requests_on (table_of rows ch))))
+pub requests_unicast : (rows : Rows) (ch : ℕ) → IsReached rows → AllByRecursion IsUnicast (by_priority (map (ranked_on rows ch) (waiting_of (table_of rows ch))))
 requests_unicast rows ch r = by (table_of rows ch) refl
   where
-    by : (o : Option Table) → table_of rows ch ≡ o → AllByRecursion IsUnicast (by_priority (map (ranked_on rows ch) (requests_on (table_of rows ch))))
+    by : (o : Option Table) → table_of rows ch ≡ o → AllByRecursion IsUnicast (by_priority (map (ranked_on rows ch) (waiting_of (table_of rows ch))))
     by (Some t) e = subst (AllByRecursion IsUnicast) (sym (ordered rows ch t e)) (unicast t (reached_is_well rows r ch t e))
     by None e = rw e tt
 

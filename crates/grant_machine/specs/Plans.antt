@@ -4,20 +4,18 @@ use Rattle.std.specs.List.{AllByRecursion, filter_map, range_with_len}
 use Rattle.minislot_time.specs.Extent.{Extent}
 use Rattle.map_body.specs.declared.element.Element.{Element}
 use Rattle.flow_state.specs.declared.channel.Channel.{Channel}
-use Rattle.flow_state.specs.Rows.{Table}
+use Rattle.flow_state.specs.Rows.{Table, timed}
 use Rattle.grant_machine.specs.declared.cut.Filled.{Filled}
 use Rattle.grant_machine_parts.specs.Cutting.{fill_span, in_order, still_waiting}
 use Rattle.grant_machine_parts.specs.Drawing.{begins_at, null_element, pending_element}
 use Rattle.grant_machine_parts.specs.Lent.{row_of, IsLent}
-use Rattle.grant_machine.specs.CutRows.{timed}
 
--- a table's MAP, filled, with its timed flows, its waiting requests and those by priority
+-- a table's MAP, filled, with its timed flows and its waiting requests by priority
 pub record IsFilledBy (t : Table) (span : Extent) (f : Filled) : Type 0 where
   pub span_is : f.filling.span ≡ span
   pub placements : (ack : ℕ) → f.filling.placements ≡ (fill_span t span ack).placements
   pub flows : (ack : ℕ) → map row_of f.flows.items ≡ timed (fill_span t span ack).flows
   pub lent : AllByRecursion IsLent f.flows.items
-  pub waiting : f.waiting.items ≡ t.waiting
   pub requests : f.requests.items ≡ in_order t t.waiting
 
 -- the elements of a filled MAP: those by offset, the Null at its length, then those of the requests that still wait

@@ -5,7 +5,7 @@ ghost use Rattle.std.specs.List.{AllByRecursion};
 ghost use Rattle.map_body.specs.Rules.{AreElements};
 ghost use Rattle.map_body.specs.Layout.{layout};
 ghost use Rattle.flow_state.specs.Limits.{last_time, most_minislots};
-ghost use Rattle.flow_state.specs.Rows.{Table, table_of, channel_at};
+ghost use Rattle.flow_state.specs.Rows.{Table, table_of, timed, channel_at};
 ghost use Rattle.flow_state.specs.Changes.{with_cut_closed};
 ghost use Rattle.grant_machine.specs.declared.command.Command.TheVariants as commands;
 ghost use Rattle.grant_machine_parts.specs.Cutting.{fill_span, fill_refusal, end_of};
@@ -14,25 +14,21 @@ ghost use Rattle.grant_machine.specs.Steps.{step, refusal_of};
 ghost use Rattle.grant_machine.specs.Fits.{FitsCommand};
 ghost use Rattle.grant_machine.specs.Runs.{IsReached};
 ghost use Rattle.grant_machine_parts.specs.Lent.{row_of, IsLent, IsUnicast};
-ghost use Rattle.grant_machine.specs.CutRows.{IsOfTable, IsOfKind, timed, due_times_set, requests_taken};
+ghost use Rattle.grant_machine.specs.CutRows.{IsOfTable, IsOfKind, due_times_set, requests_taken};
 ghost use Rattle.grant_machine.specs.Plans.{IsFilledBy, elements_in};
 
 use crate::output::{MapBytes, Output};
-use crate::rows::{
-    copy_flows, copy_requests, keep_timed, rank_requests, set_due_times, take_granted,
-};
+use crate::rows::{copy_requests, copy_timed, rank_requests, set_due_times, take_granted};
 use flow_state::{Channel, ChannelRow, Flow, Flows, LAST_TIME, MOST_MINISLOTS, Refusal, Waiting};
 use grant_machine_parts::{Filling, Service, by_priority, drawing, place_requests, serve};
 use minislot_time::Slot;
 use std::alloc::{AllocError, Global};
 
-/// A channel's next MAP, filled; its timed flows with their next due times; its requests by arrival, and
-/// by priority.
+/// A channel's next MAP, filled; its timed flows with their next due times; its requests by priority.
 #[derive(Drop)]
 pub struct Filled {
     filling: Filling,
     flows: Vec<Flow>,
-    waiting: Vec<Waiting>,
     requests: Vec<Waiting>,
 }
 
@@ -85,8 +81,7 @@ fn fill(
     requires early { start + len ≤ last_time }
     ensures { IfOk result (λ filled. (t : Table) → table_of flows.now ch ≡ Some t → IsFilledBy t (record { start = start; len = len }) filled) }
 {
-    let mut served = copy_flows(alloc, flows, ch)?;
-    keep_timed(&mut served);
+    let mut served = copy_timed(alloc, flows, ch)?;
     let waiting = copy_requests(alloc, flows, ch)?;
     let ranked = rank_requests(alloc, flows, ch, &waiting)?;
     let requests = by_priority(alloc, &ranked)?;
@@ -95,7 +90,6 @@ fn fill(
     Ok(Filled {
         filling,
         flows: served,
-        waiting,
         requests,
     })
 }
@@ -104,10 +98,10 @@ fn fill(
 fn close(flows: &mut Flows, ch: u8, filled: &Filled, ack: u64)
     requires lent { AllByRecursion IsLent filled.now.flows.items }
     requires kinds { AllByRecursion (IsOfKind flows.old ch) filled.now.flows.items }
-    ensures { flows.new ≡ with_cut_closed (requests_taken (due_times_set flows.old ch filled.now.flows.items) ch filled.now.filling.placements filled.now.waiting.items) ch (end_of filled.now.filling.span) ack }
+    ensures { flows.new ≡ with_cut_closed (requests_taken (due_times_set flows.old ch filled.now.flows.items) ch filled.now.filling.placements) ch (end_of filled.now.filling.span) ack }
 {
     set_due_times(flows, ch, &filled.flows);
-    take_granted(flows, ch, filled.filling.placements(), &filled.waiting);
+    take_granted(flows, ch, filled.filling.placements());
     flows.close_cut(ch, filled.filling.end(), ack);
 }
 

@@ -1,8 +1,8 @@
 use Rattle.std.proofs.Common.{◌≡◌, ℕ, map}
-use Rattle.flow_state.specs.Rows.{Table}
+use Rattle.flow_state.specs.Rows.{Table, timed}
 use Rattle.grant_machine_parts.specs.Cutting.{fill_span}
 use Rattle.grant_machine_parts.specs.Lent.{row_of}
-use Rattle.grant_machine.specs.CutRows.{IsOfTable, timed}
+use Rattle.grant_machine.specs.CutRows.{IsOfTable}
 use Rattle.grant_machine.proofs.Settling.{parts_filled}
 use Rattle.grant_machine.proofs.cut.place_all.Goals as goal
 

@@ -1,10 +1,10 @@
 use Rattle.std.proofs.Common.{◌≡◌, ◌-◌, length, take}
 use Rattle.flow_state.specs.Rows.{table_of}
-use Rattle.grant_machine.specs.CutRows.{requests_on}
+use Rattle.flow_state.specs.Changes.{waiting_of}
 use Rattle.grant_machine.proofs.rows.copy_requests.Given as goal
 
 abbrev pub invariant-loop-request : goal.invariant-loop-request
-invariant-loop-request l = l.copied.items ≡ take (length l.copied.items) (requests_on (table_of l.flows l.ch))
+invariant-loop-request l = l.copied.items ≡ take (length l.copied.items) (waiting_of (table_of l.flows l.ch))
 
 abbrev pub decreases-loop-request : goal.decreases-loop-request
-decreases-loop-request l = length (requests_on (table_of l.flows l.ch)) - length l.copied.items
+decreases-loop-request l = length (waiting_of (table_of l.flows l.ch)) - length l.copied.items

@@ -1,0 +1,92 @@
+-- The flows for which something comes by itself, and their SIDs.
+use Rattle.std.proofs.Common.{◌≡◌, ℕ, ◌<◌, ◌≤◌, Bool, true, false, cond, not, List, [], ◌∷◌, ◌++◌, map, filter, slice_get, Option, Some, None, refl, sym, ap, ◌∙◌, eqb, arith, inl, inr}
+use Rattle.std.specs.List.{find}
+use Rattle.std.specs.Option.{option_map}
+use Rattle.std.proofs.lemmas.List.{map-append}
+use Rattle.std.proofs.lemmas.Option.{slice_get-map}
+use Rattle.flow_state.specs.Limits.{is_timed}
+use Rattle.flow_state.specs.Rows.{FlowRow, is_flow, timed, insert_flow}
+use Rattle.flow_state.specs.Sound.{Rise}
+use Rattle.flow_state.proofs.Assignments.{eqb_same}
+use Rattle.flow_state.proofs.Filters.{filter_append}
+use Rattle.flow_state.proofs.Members.{Has, has_at, has_filter}
+use Rattle.flow_state.proofs.Soundness.{sids, insert_last}
+
+abbrev pub timed_sids : List FlowRow → List ℕ
+timed_sids fs = map (λ f. f.sid) (timed fs)
+
+-- a flow's kind and SID decide
+timed_next : (f g : FlowRow) (fs gs : List FlowRow) → g.sid ≡ f.sid → g.kind ≡ f.kind → timed_sids gs ≡ timed_sids fs → timed_sids (g ∷ gs) ≡ timed_sids (f ∷ fs)
+timed_next f g fs gs sid kind rest =
+    ap (λ k. map (λ (x : FlowRow). x.sid) (cond (is_timed k) (g ∷ timed gs) (timed gs))) kind
+    ∙ elim (is_timed f.kind) as (λ b. map (λ (x : FlowRow). x.sid) (cond b (g ∷ timed gs) (timed gs)) ≡ map (λ (x : FlowRow). x.sid) (cond b (f ∷ timed fs) (timed fs))) [
+      | true ↦ ap (λ n. n ∷ timed_sids gs) sid ∙ ap (λ (ns : List ℕ). f.sid ∷ ns) rest
+      | false ↦ rest
+    ]
+
+-- a change of a flow that keeps these
+pub timed_changed : (fs : List FlowRow) (sid : ℕ) (change : FlowRow → FlowRow) → ((f : FlowRow) → (change f).sid ≡ f.sid) → ((f : FlowRow) → (change f).kind ≡ f.kind)
+    → timed_sids (map (λ f. cond (is_flow sid f) (change f) f) fs) ≡ timed_sids fs
+timed_changed [] sid change same kind = refl
+timed_changed (f ∷ fs) sid change same kind =
+    timed_next f (cond (is_flow sid f) (change f) f) fs (map (λ g. cond (is_flow sid g) (change g) g) fs)
+    (elim (is_flow sid f) as (λ b. (cond b (change f) f).sid ≡ f.sid) [ true ↦ same f | false ↦ refl ])
+    (elim (is_flow sid f) as (λ b. (cond b (change f) f).kind ≡ f.kind) [ true ↦ kind f | false ↦ refl ])
+    (timed_changed fs sid change same kind)
+
+-- a flow that is dropped
+pub timed_dropped : (fs : List FlowRow) (sid : ℕ) → timed_sids (filter (λ f. not (is_flow sid f)) fs) ≡ filter (λ n. not (eqb n sid)) (timed_sids fs)
+timed_dropped [] sid = refl
+timed_dropped (f ∷ fs) sid =
+    let kept : List FlowRow = filter (λ g. not (is_flow sid g)) fs in
+    let left : List ℕ = filter (λ n. not (eqb n sid)) (timed_sids fs) in
+    let rest : timed_sids kept ≡ left = timed_dropped fs sid in
+    elim (eqb f.sid sid) as (λ c. timed_sids (cond (not c) (f ∷ kept) kept) ≡ cond (is_timed f.kind) (cond (not c) (f.sid ∷ left) left) left) [
+      | true ↦ elim (is_timed f.kind) as (λ b. timed_sids kept ≡ cond b left left) [ true ↦ rest | false ↦ rest ]
+      | false ↦ elim (is_timed f.kind) as (λ b. map (λ (x : FlowRow). x.sid) (cond b (f ∷ timed kept) (timed kept)) ≡ cond b (f.sid ∷ left) left) [ true ↦ ap (λ (ns : List ℕ). f.sid ∷ ns) rest | false ↦ rest ]
+    ]
+    ∙ elim (is_timed f.kind) as (λ b. cond b (cond (not (eqb f.sid sid)) (f.sid ∷ left) left) left ≡ filter (λ n. not (eqb n sid)) (map (λ (x : FlowRow). x.sid) (cond b (f ∷ timed fs) (timed fs)))) [ true ↦ refl | false ↦ refl ]
+
+timed_more : (fs : List FlowRow) (f : FlowRow) → timed_sids (fs ++ f ∷ []) ≡ timed_sids fs ++ cond (is_timed f.kind) (f.sid ∷ []) []
+timed_more fs f =
+    ap (λ (gs : List FlowRow). map (λ (x : FlowRow). x.sid) gs) (filter_append (λ (x : FlowRow). is_timed x.kind) fs (f ∷ []))
+    ∙ map-append (λ (x : FlowRow). x.sid) (timed fs) (timed (f ∷ []))
+    ∙ ap (λ (ns : List ℕ). timed_sids fs ++ ns) (elim (is_timed f.kind) as (λ b. map (λ (x : FlowRow). x.sid) (cond b (f ∷ []) []) ≡ cond b (f.sid ∷ []) []) [ true ↦ refl | false ↦ refl ])
+
+-- a flow that is added above all
+pub timed_added : (fs : List FlowRow) (f : FlowRow) (high : ℕ) → Rise 0 (sids fs) high → high ≤ f.sid → timed_sids (insert_flow f fs) ≡ timed_sids fs ++ cond (is_timed f.kind) (f.sid ∷ []) []
+timed_added fs f high rise above = ap timed_sids (insert_last f fs 0 high rise above) ∙ timed_more fs f
+
+rise_has : (fs : List FlowRow) (f : FlowRow) (low high : ℕ) → Rise low (sids fs) high → Has fs f → low < f.sid
+rise_has [] f low high r h = absurd h
+rise_has (g ∷ fs) f low high r (inl e) = let same : g.sid ≡ f.sid = ap (λ (x : FlowRow). x.sid) e in omega (arith, r.0)
+rise_has (g ∷ fs) f low high r (inr h) = let more = rise_has fs f g.sid high r.2 h in omega (arith, r.0)
+
+apart_below : (a b : ℕ) → a < b → eqb a b ≡ false
+apart_below a b h = grind arith
+
+-- a flow is the one of its SID
+found_rising : (fs : List FlowRow) (f : FlowRow) (low high : ℕ) → Rise low (sids fs) high → Has fs f → find (is_flow f.sid) fs ≡ Some f
+found_rising [] f low high r h = absurd h
+found_rising (g ∷ fs) f low high r (inl e) =
+    ap (λ b. cond b (Some g) (find (is_flow f.sid) fs)) (ap (λ (x : FlowRow). eqb x.sid f.sid) e ∙ eqb_same f.sid) ∙ ap (λ (x : FlowRow). Some x) e
+found_rising (g ∷ fs) f low high r (inr h) =
+    ap (λ b. cond b (Some g) (find (is_flow f.sid) fs)) (apart_below g.sid f.sid (rise_has fs f g.sid high r.2 h)) ∙ found_rising fs f g.sid high r.2 h
+
+-- timed flow number k is the one of its SID
+pub timed_found : (fs : List FlowRow) (k sid high : ℕ) → Rise 0 (sids fs) high → slice_get (timed_sids fs) k ≡ Some sid → find (is_flow sid) fs ≡ slice_get (timed fs) k
+timed_found fs k sid high r e = by (slice_get (timed fs) k) refl (sym (slice_get-map (λ (f : FlowRow). f.sid) (timed fs) k) ∙ e)
+  where
+    by : (o : Option FlowRow) → slice_get (timed fs) k ≡ o → option_map (λ (f : FlowRow). f.sid) o ≡ Some sid → find (is_flow sid) fs ≡ slice_get (timed fs) k
+    by (Some f) at is =
+        let same : f.sid ≡ sid = cc in
+        let there : Has fs f = (has_filter (λ (g : FlowRow). is_timed g.kind) fs f (has_at (timed fs) k f at)).0 in
+        ap (λ n. find (is_flow n) fs) (sym same) ∙ found_rising fs f 0 high r there ∙ sym at
+    by None at is = absurd cc
+
+pub timed_absent : (fs : List FlowRow) (k : ℕ) → slice_get (timed_sids fs) k ≡ None → slice_get (timed fs) k ≡ None
+timed_absent fs k e = by (slice_get (timed fs) k) refl (sym (slice_get-map (λ (f : FlowRow). f.sid) (timed fs) k) ∙ e)
+  where
+    by : (o : Option FlowRow) → slice_get (timed fs) k ≡ o → option_map (λ (f : FlowRow). f.sid) o ≡ None → slice_get (timed fs) k ≡ None
+    by (Some f) at is = absurd cc
+    by None at is = at

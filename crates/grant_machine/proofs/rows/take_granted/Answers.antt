@@ -1,0 +1,14 @@
+use Rattle.std.proofs.Common.{rules, ◌≡◌, List, not, ap, ◌∙◌}
+use Rattle.std.specs.List.{list_any}
+use Rattle.std.proofs.lemmas.Fn.{filter_same}
+use Rattle.flow_state.specs.declared.flow.Waiting.{Waiting}
+use Rattle.flow_state.specs.Rows.{table_of}
+use Rattle.flow_state.specs.Changes.{with_waiting, waiting_of}
+use Rattle.grant_machine_parts.specs.Cutting.{is_grant_of, still_waiting}
+use Rattle.grant_machine.proofs.rows.take_granted.Goals as goal
+
+pub returns : goal.returns
+returns c =
+    let kept : c.keep_waiting.ensures.0 ≡ still_waiting c.args.placements.now (waiting_of (table_of c.args.flows.now c.args.ch)) =
+    filter_same _ (λ w. not (list_any (is_grant_of w) c.args.placements.now)) _ (λ x b f k. search rules) _ _ c.keep_waiting.ensures.1 in
+    c.keep_waiting.ensures.2 ∙ ap (λ (ws : List Waiting). with_waiting c.args.flows.now c.args.ch ws) kept
