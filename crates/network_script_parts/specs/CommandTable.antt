@@ -1,7 +1,9 @@
 -- A command as a table of TOML. Further keys don't count.
-use Rattle.std.specs.Prelude.{◌≡◌, ℕ, ◌^◌, ◌<◌, List, Some, pos, codes}
+use Rattle.std.specs.Prelude.{◌≡◌, ℕ, ◌^◌, ◌<◌, ◌⊎◌, List, Some, None, pos, codes}
 use Rattle.toml.specs.Data.{Data, integer, array, item, no_items, get}
 use Rattle.flow_state.specs.declared.channel.Channel.{Channel}
+use Rattle.flow_state.specs.declared.channel.Phy.{Phy}
+use Rattle.flow_state.specs.declared.channel.Phy.TheVariants.{Tdma, Advanced}
 use Rattle.flow_state.specs.declared.flow.FlowKind.{FlowKind}
 use Rattle.flow_state.specs.declared.flow.FlowKind.TheVariants.{BestEffort, Ugs, Poll}
 use Rattle.grant_machine.specs.declared.command.Command.{Command}
@@ -20,10 +22,16 @@ pub record HasPair (d : Data) (key : List ℕ) (p : ℕ × ℕ) : Type 0 where
   pub held : get key d ≡ Some pair
   pub is_pair : IsPair pair p
 
+-- a channel's PHY by name, TDMA where the key isn't there
+abbrev pub HasPhy : Data → Phy → Type 0
+HasPhy d Tdma = HasText d (codes "phy") (codes "tdma") ⊎ (get (codes "phy") d ≡ None)
+HasPhy d Advanced = HasText d (codes "phy") (codes "advanced")
+
 -- the fields of a channel, each under its key
 pub record HasChannel (d : Data) (c : Channel) : Type 0 where
   pub id : HasNumber d (codes "ch") 8 c.id
   pub ucd : HasNumber d (codes "ucd") 8 c.ucd
+  pub phy : HasPhy d c.phy
   pub short_max : HasNumber d (codes "short_max") 16 c.short_max
   pub ranging : HasPair d (codes "ranging") c.ranging_backoff
   pub data_backoff : HasPair d (codes "data") c.data_backoff

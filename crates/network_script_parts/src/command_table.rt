@@ -4,13 +4,14 @@ ghost use Rattle.std.specs.Prelude.{◌≡◌, ℕ, ◌^◌, ◌<◌, Some, IfSo
 ghost use Rattle.toml.specs.Data.{integer, at};
 ghost use Rattle.toml.specs.View.{view};
 ghost use Rattle.flow_state.specs.declared.channel.Channel.{Channel};
+ghost use Rattle.flow_state.specs.declared.channel.Phy.{Phy};
 ghost use Rattle.flow_state.specs.declared.flow.FlowKind.{FlowKind};
 ghost use Rattle.grant_machine.specs.declared.command.Command.{Command};
 ghost use Rattle.network_script_parts.specs.Fields.{HasText};
-ghost use Rattle.network_script_parts.specs.CommandTable.{IsPair, HasPair, HasChannel, HasService, SpellsCommand};
+ghost use Rattle.network_script_parts.specs.CommandTable.{IsPair, HasPair, HasPhy, HasChannel, HasService, SpellsCommand};
 
 use crate::fields::{u8_at, u16_at, u32_at, u64_at};
-use flow_state::{Channel, FlowKind};
+use flow_state::{Channel, FlowKind, Phy};
 use grant_machine::Command;
 use toml::Value;
 
@@ -42,6 +43,21 @@ fn backoff_at(table: &Value, key: &str) -> Option<(u8, u8)>
     backoff_of(table.get(key)?)
 }
 
+/// The PHY that the table names, TDMA where it names none.
+fn phy_of(table: &Value) -> Option<Phy>
+    ensures found { IfSome result (HasPhy (view table.now)) }
+    ensures only { (phy : Phy) → HasPhy (view table.now) phy → result ≡ Some phy }
+{
+    let Some(name) = table.get("phy") else {
+        return Some(Phy::Tdma);
+    };
+    match name.as_str()? {
+        "tdma" => Some(Phy::Tdma),
+        "advanced" => Some(Phy::Advanced),
+        _ => None,
+    }
+}
+
 fn channel_fields(table: &Value) -> Option<Channel>
     ensures found { IfSome result (HasChannel (view table.now)) }
     ensures only { (c : Channel) → HasChannel (view table.now) c → result ≡ Some c }
@@ -49,6 +65,7 @@ fn channel_fields(table: &Value) -> Option<Channel>
     Some(Channel {
         id: u8_at(table, "ch")?,
         ucd: u8_at(table, "ucd")?,
+        phy: phy_of(table)?,
         short_max: u16_at(table, "short_max")?,
         ranging_backoff: backoff_at(table, "ranging")?,
         data_backoff: backoff_at(table, "data")?,
