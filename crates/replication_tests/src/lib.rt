@@ -1,5 +1,5 @@
-//! Tests of ballots and letters, of records, of nodes and of worlds, by the public calls of `ballots`, `acceptor`,
-//! `node`, `network_script_parts` and `network_script`. What scripts print stands as data in examples/.
+//! Tests of ballots and letters, of records, of counted votes, of nodes and of worlds, by the public calls of `ballots`,
+//! `acceptor`, `learner`, `node`, `network_script_parts` and `network_script`. What scripts print stands as data in examples/.
 #![tactic(auto)]
 
 #[cfg(test)]
@@ -10,5 +10,7 @@ mod letters;
 mod records;
 #[cfg(test)]
 mod strange_letters;
+#[cfg(test)]
+mod vote_list;
 #[cfg(test)]
 mod worlds;
