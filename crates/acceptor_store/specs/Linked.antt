@@ -1,5 +1,5 @@
 -- Records over a connection.
-use Rattle.std.specs.Prelude.{◌≡◌, ℕ, Bool, true, false, ◌&&◌, Option, Some, None, ◌⊎◌, IfSome, IsTrue, refl}
+use Rattle.std.specs.Prelude.{◌≡◌, ◌≢◌, ℕ, Bool, true, false, ◌&&◌, Option, Some, None, ◌⊎◌, IfSome, IsTrue, refl}
 use Rattle.std.specs.Coded.{Coded, code_by, coded×, coded_bool, coded_ℕ, coded_option}
 use Rattle.ballots.specs.Ballots.{number_of}
 use Rattle.sqlite_disk.specs.declared.Disk as disk
@@ -7,6 +7,7 @@ use Rattle.sqlite_disk.specs.declared.Files.{Files}
 use Rattle.sqlite.specs.Files.{HoldsDatabase, image_of}
 use Rattle.sqlite.specs.Store.{Ghosts}
 use Rattle.sqlite.specs.Tree.{Trees}
+use Rattle.sqlite.specs.Schema.{Schema}
 use Rattle.sqlite.specs.State.{HasCleanDisk}
 use Rattle.sqlite.specs.Effect.{IsDatabase}
 use Rattle.sqlite.specs.Held.{AreDatabases, Held, held_code, state}
@@ -18,7 +19,7 @@ use Rattle.acceptor.specs.Found.{Holds, AddsNothing}
 use Rattle.acceptor_store_parts.specs.Tables.{store_schema, blank_schema}
 use Rattle.acceptor_store_parts.specs.Rowids.{IsReread}
 use Rattle.acceptor_store_parts.specs.Stored.{AreTables, IsOfNode}
-use Rattle.acceptor_store_parts.specs.Foreign.{IsForeign}
+use Rattle.acceptor_store_parts.specs.Foreign.{IsForeign, IsForeignSchema}
 use Rattle.acceptor_store_parts.specs.Serves.{Serves}
 
 -- records as their contracts see them
@@ -106,6 +107,10 @@ Had g conn c =
 -- no node wrote the database that the connection sees
 abbrev pub SeesForeign : {S : Type 0} → Ghosts S → Held S → Type 0
 SeesForeign g conn = IsForeign (state g conn).now.schema (state g conn).committed.trees
+
+-- tables, indexes or views beside the two tables or without them, or the two declared otherwise, of which a node made none or all
+abbrev pub HasFurther : Schema → Type 0
+HasFurther s = (IsForeignSchema s → ⊥) × (s ≢ store_schema) × (s ≢ blank_schema)
 
 -- it serves what the older one had, and this is the promised ballot
 abbrev pub Prepares : {S : Type 0} → Ghosts S → Held S → Held S → Option ℕ → Type 0

@@ -1,7 +1,7 @@
 //! Records in SQL tables.
 #![tactic(auto)]
 
-ghost use Rattle.std.specs.Prelude.{◌≡◌, ◌≢◌, ◌≤◌, Err, false, not, if◌then◌else◌, pos, IfOk, IfErr, IfSome, IsSome, IsSomeAnd, OnOk, Some, max, IsTrue, ◌↔◌};
+ghost use Rattle.std.specs.Prelude.{◌≡◌, ◌≢◌, ◌≤◌, Err, false, not, if◌then◌else◌, pos, IfOk, IfErr, IfSome, IsErrAnd, IsSome, IsSomeAnd, OnOk, Some, max, IsTrue, ◌↔◌, ◌⊎◌, ◌&&◌};
 ghost use Rattle.ballots.specs.Ballots.{number_of};
 ghost use Rattle.acceptor.specs.Faults.{BreaksBy, CountsFaults, HasRisen, IsHarmless, IsStoreFault};
 ghost use Rattle.acceptor.specs.declared.records.RecordsFault.TheVariants.{OutOfMemory};
@@ -19,7 +19,7 @@ ghost use Rattle.acceptor_store_parts.specs.Rowids.{IsReread};
 ghost use Rattle.acceptor_store_parts.specs.Tables.{store_schema};
 ghost use Rattle.acceptor_store_parts.specs.Serves.{Serves, StillServes, DoesNotServe, StaysOpen};
 ghost use Rattle.acceptor_store_parts.specs.Stops.{LeavesOpen, leaves_open};
-ghost use Rattle.acceptor_store.specs.Linked.{MayFind, IsHonest, is_honest, Tells, Reopens, Examines, Had, IsFoundIn, Prepares, SeesForeign};
+ghost use Rattle.acceptor_store.specs.Linked.{MayFind, IsHonest, is_honest, Tells, Reopens, Examines, Had, HasFurther, IsFoundIn, Prepares, SeesForeign};
 
 use acceptor::{Records, RecordsFault};
 use acceptor_store_parts::{Stop, Unread};
@@ -205,6 +205,8 @@ fn stopped(stop: Stop) -> OpenFault
 
 /// Refuses any schema but the one of the two tables.
 fn judged(alloc: Global, schema: &Schema) -> Result<(), OpenFault>
+    ensures unowned { IsForeignSchema schema.now → IsErrAnd result (λ e. e ≡ OpenFault.Foreign) }
+    ensures further { (IsForeignSchema schema.now → ⊥) → schema.now ≢ store_schema → IsErrAnd result (λ e. (e ≡ OpenFault.Refused) ⊎ (e ≡ OpenFault.OutOfMemory)) }
     ensures own { OnOk result (schema.now ≡ store_schema) }
     ensures foreign { result ≡ Err OpenFault.Foreign → IsForeignSchema schema.now }
 {
@@ -279,6 +281,9 @@ fn prepared<S: Alter + Drop>(
     ensures tables { IfOk result (λ r. HasCleanDisk (state S.Store r.0) → Prepares S.Store conn r.0 r.1) }
     ensures clean { IfOk result (λ r. doubt (state S.Store conn).is_clean ≤ doubt (state S.Store r.0).is_clean) }
     ensures foreign { IfErr result (λ e. e.0 ≡ OpenFault.Foreign → IsClean (S.Store.view e.1) → SeesForeign S.Store conn) }
+    ensures used { IsTrue (state S.Store conn).in_transaction → IsErrAnd result (λ e. e.0 ≡ OpenFault.Refused) }
+    ensures unowned { (state S.Store conn).in_transaction ≡ false → IsForeignSchema (state S.Store conn).now.schema → IsErrAnd result (λ e. e.0 ≡ OpenFault.Foreign) }
+    ensures further { (state S.Store conn).in_transaction ≡ false → HasFurther (state S.Store conn).now.schema → IsErrAnd result (λ e. (e.0 ≡ OpenFault.Refused) ⊎ (e.0 ≡ OpenFault.OutOfMemory)) }
 {
     if !conn.is_autocommit() {
         return Err((OpenFault::Refused, conn.into_store()));
@@ -296,12 +301,15 @@ fn prepared<S: Alter + Drop>(
 }
 
 impl<S: Alter + Drop> SqlRecords<S> {
-    /// Records over the connection. In a database without tables they are made. A connection in a transaction is Refused, and so are tables that were declared otherwise and tables, indexes or views beside the two. Foreign comes only where no node wrote the database: first by its schema, then by the numbers, then by the votes. Where it fails the store comes back.
+    /// Records over the connection. In a database without tables they are made. A connection in a transaction is Refused, before anything else is looked at. Then a schema that no node made is Foreign, and any other than that of the two tables is Refused: tables that were declared otherwise, and tables, indexes or views beside the two or without them. Last, numbers and votes that no node wrote are Foreign. Foreign comes only where no node wrote the database. Want of memory and faults of the store come where they are met. Where it fails the store comes back.
     pub fn open(alloc: Global, conn: Connection<S>) -> Result<SqlRecords<S>, (OpenFault, S)>
         ensures holds { IfOk result (λ r. IsHonest S.Store r → (c : Content) × Had S.Store conn c × Holds (MayFind S.Store r.held) c) }
         ensures clean { IfOk result (λ r. IsHonest S.Store r → HasCleanDisk (state S.Store conn)) }
         ensures own { IfOk result (λ r. IsHonest S.Store r → SeesForeign S.Store conn → ⊥) }
         ensures foreign { IfErr result (λ e. e.0 ≡ OpenFault.Foreign → IsClean (S.Store.view e.1) → SeesForeign S.Store conn) }
+        ensures used { IsTrue (state S.Store conn).in_transaction → IsErrAnd result (λ e. e.0 ≡ OpenFault.Refused) }
+        ensures unowned { (state S.Store conn).in_transaction ≡ false → IsForeignSchema (state S.Store conn).now.schema → IsErrAnd result (λ e. e.0 ≡ OpenFault.Foreign) }
+        ensures further { (state S.Store conn).in_transaction ≡ false → HasFurther (state S.Store conn).now.schema → IsErrAnd result (λ e. (e.0 ≡ OpenFault.Refused) ⊎ (e.0 ≡ OpenFault.OutOfMemory)) }
     {
         let found = match prepared(alloc, conn) {
             Ok(found) => found,
@@ -348,12 +356,13 @@ fn unopened(error: SqlError) -> OpenFault {
     }
 }
 
-/// Records over the files, whatever was left of them by a crash. They hold what the files hold: one of the contents that the store of the records before might have left.
+/// Records over the files, whatever was left of them by a crash. They hold what the files hold: one of the contents that the store of the records before might have left. Files of which a sync has failed are Broken.
 pub fn open_files<D: Disk + Drop>(
     alloc: Global,
     files: Files<D>,
 ) -> Result<SqlRecords<FileStore<D>>, OpenFault>
-    ensures { IfOk result (λ r. IsHonest over_files r → (c : Content) × Holds (MayFind over_files r.held) c × IsFoundIn D.Disk files c) }
+    ensures holds { IfOk result (λ r. IsHonest over_files r → (c : Content) × Holds (MayFind over_files r.held) c × IsFoundIn D.Disk files c) }
+    ensures broken { (D.Disk.is_usable files.log && D.Disk.is_usable files.db) ≡ false → result ≡ Err OpenFault.Broken }
 {
     if !files.may_be_used() {
         return Err(OpenFault::Broken);
