@@ -12,6 +12,7 @@ ghost use Rattle.acceptor.specs.Faults.{BreaksBy, CountsFaults, IsHarmless};
 
 use crate::records::{Records, RecordsFault};
 use ballots::{Ballot, Bytes, Cast, Place, Value, Votes};
+use std::marker::Model;
 
 /// What an acceptor answers to a ballot.
 #[derive(Drop)]
@@ -160,4 +161,67 @@ fn vote_now<R: Records>(
 {
     records.put_vote(place, ballot, &value)?;
     Ok(value.into_bytes())
+}
+
+/// A member as an acceptor: its records, which hold all that it may not forget.
+#[derive(Drop)]
+pub struct Acceptor<R: Records> {
+    records: R,
+}
+
+impl<R: Records> Model for Acceptor<R> {
+    ghost Value = { R };
+
+    ghost view = { λ a. a.records };
+}
+
+impl<R: Records> Acceptor<R> {
+    /// The acceptor over these records.
+    pub fn new(records: R) -> Acceptor<R>
+        ensures { result ≡ records }
+    {
+        Acceptor { records }
+    }
+
+    /// Promises to take part in no lower ballot, as `prepare` does over the records.
+    pub fn prepare(&mut self, ballot: Ballot, place: Place) -> Result<Prepared, RecordsFault>
+        ensures ok { IsTrue (R.is_honest self.new) → IfOk result (λ answer. (c : Content) → Holds (R.may_find self.old) c
+            → (write : Option Write) × Prepares c ballot place answer write × Holds (R.may_find self.new) (after_write c write)) }
+        ensures harmless { IsTrue (R.is_honest self.new) → IfErr result (λ e. IsHarmless e → FindsSame (R.may_find self.old) (R.may_find self.new)) }
+        ensures doubt { IsTrue (R.is_honest self.new) → OnErr result ((c : Content) → Holds (R.may_find self.old) c → MayHavePromised c ballot (R.may_find self.new)) }
+        ensures memory { IsTrue (R.is_honest self.new) → IfErr result (λ e. e ≡ OutOfMemory → ((mid : R) × R.finds_no_memory mid self.new)
+            ⊎ ((c : Content) → Holds (R.may_find self.old) c → promised c < ballot)) }
+        ensures honest { IsTrue (R.is_honest self.new) → IsTrue (R.is_honest self.old) }
+        ensures count { CountsFaults result (R.count_of self.old) (R.count_of self.new) }
+        ensures broken { BreaksBy result (R.is_broken self.old) (R.is_broken self.new) }
+    {
+        prepare(&mut self.records, ballot, place)
+    }
+
+    /// Votes for the value, as `accept` does over the records.
+    pub fn accept(
+        &mut self,
+        ballot: Ballot,
+        place: Place,
+        value: Value,
+    ) -> Result<Accepted, RecordsFault>
+        ensures ok { IsTrue (R.is_honest self.new) → IfOk result (λ answer. (c : Content) → Holds (R.may_find self.old) c
+            → (write : Option Write) × Accepts c ballot place value answer write × Holds (R.may_find self.new) (after_write c write)) }
+        ensures harmless { IsTrue (R.is_honest self.new) → IfErr result (λ e. IsHarmless e → FindsSame (R.may_find self.old) (R.may_find self.new)) }
+        ensures doubt { IsTrue (R.is_honest self.new) → OnErr result ((c : Content) → Holds (R.may_find self.old) c → MayHaveVoted c ballot place value (R.may_find self.new)) }
+        ensures memory { IsTrue (R.is_honest self.new) → IfErr result (λ e. e ≡ OutOfMemory → ((mid : R) × R.finds_no_memory mid self.new)
+            ⊎ ((c : Content) → Holds (R.may_find self.old) c → IsNewVote c ballot place)) }
+        ensures honest { IsTrue (R.is_honest self.new) → IsTrue (R.is_honest self.old) }
+        ensures count { CountsFaults result (R.count_of self.old) (R.count_of self.new) }
+        ensures broken { BreaksBy result (R.is_broken self.old) (R.is_broken self.new) }
+    {
+        accept(&mut self.records, ballot, place, value)
+    }
+
+    /// The records, back from the acceptor.
+    pub fn into_records(self) -> R
+        ensures { result ≡ self }
+    {
+        self.records
+    }
 }
