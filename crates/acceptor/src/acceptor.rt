@@ -3,7 +3,7 @@
 ghost use Rattle.std.specs.Prelude.{◌≡◌, ◌<◌, ◌≤◌, ◌⊎◌, max, IsTrue, Option, Some, IfSome, IfNone, IfOk, IfErr, OnOk, OnErr};
 ghost use Rattle.ballots.specs.Ballots.{number_of};
 ghost use Rattle.ballots.specs.declared.letters.Cast.{Cast as Ballotted};
-ghost use Rattle.acceptor.specs.Answers.{IsOfBallot};
+ghost use Rattle.acceptor.specs.Answers.{Prepares, Accepts, IsNewVote, IsOfBallot, MayHavePromised, MayHaveVoted};
 ghost use Rattle.acceptor.specs.Content.{Content, Write, promised, after_write};
 ghost use Rattle.acceptor.specs.Content.Write.{Promises, Votes as Casts};
 ghost use Rattle.acceptor.specs.Found.{FindsSame, HasMade, Holds, Keeps, MayHaveMade};
@@ -12,6 +12,7 @@ ghost use Rattle.acceptor.specs.Faults.{BreaksBy, CountsFaults, IsHarmless};
 
 use crate::records::{Records, RecordsFault};
 use ballots::{Ballot, Bytes, Cast, Place, Value, Votes};
+use std::marker::Model;
 
 /// What an acceptor answers to a ballot.
 #[derive(Drop)]
@@ -29,12 +30,6 @@ pub enum Accepted {
     Voted(Bytes),
     /// The ballot that it has promised, which is above.
     Higher(Ballot),
-}
-
-/// An acceptor over its records.
-#[derive(Drop)]
-pub struct Acceptor<R> {
-    pub records: R,
 }
 
 /// The first ballot, where it isn't below the other.
@@ -96,74 +91,137 @@ pub fn greatest_used<R: Records>(records: &mut R) -> Result<u64, RecordsFault>
     Ok(number(tried).max(number(promised)))
 }
 
-impl<R: Records> Acceptor<R> {
-    ghost use Rattle.acceptor.specs.Answers.{Prepares, Accepts, IsNewVote, MayHavePromised, MayHaveVoted};
+/// Promises to take part in no lower ballot, where the ballot is above the promise. The promise is written before it is answered.
+pub fn prepare<R: Records>(
+    records: &mut R,
+    ballot: Ballot,
+    place: Place,
+) -> Result<Prepared, RecordsFault>
+    ensures ok { IsTrue (R.is_honest records.new) → IfOk result (λ answer. (c : Content) → Holds (R.may_find records.old) c
+        → (write : Option Write) × Prepares c ballot place answer write × Holds (R.may_find records.new) (after_write c write)) }
+    ensures harmless { IsTrue (R.is_honest records.new) → IfErr result (λ e. IsHarmless e → FindsSame (R.may_find records.old) (R.may_find records.new)) }
+    ensures doubt { IsTrue (R.is_honest records.new) → OnErr result ((c : Content) → Holds (R.may_find records.old) c → MayHavePromised c ballot (R.may_find records.new)) }
+    ensures memory { IsTrue (R.is_honest records.new) → IfErr result (λ e. e ≡ OutOfMemory → ((mid : R) × R.finds_no_memory mid records.new)
+        ⊎ ((c : Content) → Holds (R.may_find records.old) c → promised c < ballot)) }
+    ensures honest { IsTrue (R.is_honest records.new) → IsTrue (R.is_honest records.old) }
+    ensures count { CountsFaults result (R.count_of records.old) (R.count_of records.new) }
+    ensures broken { BreaksBy result (R.is_broken records.old) (R.is_broken records.new) }
+{
+    let promised = records.promised()?;
+    if let Some(other) = at_least(promised, ballot) {
+        return Ok(Prepared::Higher(other));
+    }
+    let votes = records.votes_from(place)?;
+    records.put_promised(ballot)?;
+    Ok(Prepared::Promised(votes))
+}
 
-    /// Promises to take part in no lower ballot, where the ballot is above the promise. The promise is written before it is answered.
-    pub fn prepare(&mut self, ballot: Ballot, place: Place) -> Result<Prepared, RecordsFault>
-        ensures ok { IsTrue (R.is_honest self.new.records) → IfOk result (λ answer. (c : Content) → Holds (R.may_find self.old.records) c
-            → (write : Option Write) × Prepares c ballot place answer write × Holds (R.may_find self.new.records) (after_write c write)) }
-        ensures harmless { IsTrue (R.is_honest self.new.records) → IfErr result (λ e. IsHarmless e → FindsSame (R.may_find self.old.records) (R.may_find self.new.records)) }
-        ensures doubt { IsTrue (R.is_honest self.new.records) → OnErr result ((c : Content) → Holds (R.may_find self.old.records) c → MayHavePromised c ballot (R.may_find self.new.records)) }
-        ensures memory { IsTrue (R.is_honest self.new.records) → IfErr result (λ e. e ≡ OutOfMemory → ((mid : R) × R.finds_no_memory mid self.new.records)
-            ⊎ ((c : Content) → Holds (R.may_find self.old.records) c → promised c < ballot)) }
-        ensures honest { IsTrue (R.is_honest self.new.records) → IsTrue (R.is_honest self.old.records) }
-        ensures count { CountsFaults result (R.count_of self.old.records) (R.count_of self.new.records) }
-        ensures broken { BreaksBy result (R.is_broken self.old.records) (R.is_broken self.new.records) }
+/// Votes for the value, where the ballot isn't below the promise and the place has no vote of the ballot. The vote is written before it is answered. One that is there is answered again, and nothing is written.
+pub fn accept<R: Records>(
+    records: &mut R,
+    ballot: Ballot,
+    place: Place,
+    value: Value,
+) -> Result<Accepted, RecordsFault>
+    ensures ok { IsTrue (R.is_honest records.new) → IfOk result (λ answer. (c : Content) → Holds (R.may_find records.old) c
+        → (write : Option Write) × Accepts c ballot place value answer write × Holds (R.may_find records.new) (after_write c write)) }
+    ensures harmless { IsTrue (R.is_honest records.new) → IfErr result (λ e. IsHarmless e → FindsSame (R.may_find records.old) (R.may_find records.new)) }
+    ensures doubt { IsTrue (R.is_honest records.new) → OnErr result ((c : Content) → Holds (R.may_find records.old) c → MayHaveVoted c ballot place value (R.may_find records.new)) }
+    ensures memory { IsTrue (R.is_honest records.new) → IfErr result (λ e. e ≡ OutOfMemory → ((mid : R) × R.finds_no_memory mid records.new)
+        ⊎ ((c : Content) → Holds (R.may_find records.old) c → IsNewVote c ballot place)) }
+    ensures honest { IsTrue (R.is_honest records.new) → IsTrue (R.is_honest records.old) }
+    ensures count { CountsFaults result (R.count_of records.old) (R.count_of records.new) }
+    ensures broken { BreaksBy result (R.is_broken records.old) (R.is_broken records.new) }
+{
+    let promised = records.promised()?;
+    if let Some(other) = above(promised, ballot) {
+        return Ok(Accepted::Higher(other));
+    }
+    let vote = records.vote(place)?;
+    if let Some(told) = value_for(vote, ballot) {
+        return Ok(Accepted::Voted(told));
+    }
+    Ok(Accepted::Voted(vote_now(records, ballot, place, value)?))
+}
+
+/// Writes the vote, and then gives the value for the answer.
+fn vote_now<R: Records>(
+    records: &mut R,
+    ballot: Ballot,
+    place: Place,
+    value: Value,
+) -> Result<Bytes, RecordsFault>
+    ensures told { IfOk result (λ told. told ≡ value) }
+    ensures ok { IsTrue (R.is_honest records.new) → OnOk result (HasMade (R.may_find records.old) (R.may_find records.new) (Casts place record { ballot = ballot; value = value })) }
+    ensures harmless { IsTrue (R.is_honest records.new) → IfErr result (λ e. IsHarmless e → FindsSame (R.may_find records.old) (R.may_find records.new)) }
+    ensures doubt { IsTrue (R.is_honest records.new) → MayHaveMade (R.may_find records.old) (R.may_find records.new) (Casts place record { ballot = ballot; value = value }) }
+    ensures honest { IsTrue (R.is_honest records.new) → IsTrue (R.is_honest records.old) }
+    ensures count { CountsFaults result (R.count_of records.old) (R.count_of records.new) }
+    ensures broken { BreaksBy result (R.is_broken records.old) (R.is_broken records.new) }
+{
+    records.put_vote(place, ballot, &value)?;
+    Ok(value.into_bytes())
+}
+
+/// A member as an acceptor: its records, which hold all that it may not forget.
+#[derive(Drop)]
+pub struct Acceptor<R: Records> {
+    records: R,
+}
+
+impl<R: Records> Model for Acceptor<R> {
+    ghost Value = { R };
+
+    ghost view = { λ a. a.records };
+}
+
+impl<R: Records> Acceptor<R> {
+    /// The acceptor over these records.
+    pub fn new(records: R) -> Acceptor<R>
+        ensures { result ≡ records }
     {
-        let promised = self.records.promised()?;
-        if let Some(other) = at_least(promised, ballot) {
-            return Ok(Prepared::Higher(other));
-        }
-        let votes = self.records.votes_from(place)?;
-        self.records.put_promised(ballot)?;
-        Ok(Prepared::Promised(votes))
+        Acceptor { records }
     }
 
-    /// Votes for the value, where the ballot isn't below the promise and the place has no vote of the ballot. The vote is written before it is answered. One that is there is answered again, and nothing is written.
+    /// Promises to take part in no lower ballot, as `prepare` does over the records.
+    pub fn prepare(&mut self, ballot: Ballot, place: Place) -> Result<Prepared, RecordsFault>
+        ensures ok { IsTrue (R.is_honest self.new) → IfOk result (λ answer. (c : Content) → Holds (R.may_find self.old) c
+            → (write : Option Write) × Prepares c ballot place answer write × Holds (R.may_find self.new) (after_write c write)) }
+        ensures harmless { IsTrue (R.is_honest self.new) → IfErr result (λ e. IsHarmless e → FindsSame (R.may_find self.old) (R.may_find self.new)) }
+        ensures doubt { IsTrue (R.is_honest self.new) → OnErr result ((c : Content) → Holds (R.may_find self.old) c → MayHavePromised c ballot (R.may_find self.new)) }
+        ensures memory { IsTrue (R.is_honest self.new) → IfErr result (λ e. e ≡ OutOfMemory → ((mid : R) × R.finds_no_memory mid self.new)
+            ⊎ ((c : Content) → Holds (R.may_find self.old) c → promised c < ballot)) }
+        ensures honest { IsTrue (R.is_honest self.new) → IsTrue (R.is_honest self.old) }
+        ensures count { CountsFaults result (R.count_of self.old) (R.count_of self.new) }
+        ensures broken { BreaksBy result (R.is_broken self.old) (R.is_broken self.new) }
+    {
+        prepare(&mut self.records, ballot, place)
+    }
+
+    /// Votes for the value, as `accept` does over the records.
     pub fn accept(
         &mut self,
         ballot: Ballot,
         place: Place,
         value: Value,
     ) -> Result<Accepted, RecordsFault>
-        ensures ok { IsTrue (R.is_honest self.new.records) → IfOk result (λ answer. (c : Content) → Holds (R.may_find self.old.records) c
-            → (write : Option Write) × Accepts c ballot place value answer write × Holds (R.may_find self.new.records) (after_write c write)) }
-        ensures harmless { IsTrue (R.is_honest self.new.records) → IfErr result (λ e. IsHarmless e → FindsSame (R.may_find self.old.records) (R.may_find self.new.records)) }
-        ensures doubt { IsTrue (R.is_honest self.new.records) → OnErr result ((c : Content) → Holds (R.may_find self.old.records) c → MayHaveVoted c ballot place value (R.may_find self.new.records)) }
-        ensures memory { IsTrue (R.is_honest self.new.records) → IfErr result (λ e. e ≡ OutOfMemory → ((mid : R) × R.finds_no_memory mid self.new.records)
-            ⊎ ((c : Content) → Holds (R.may_find self.old.records) c → IsNewVote c ballot place)) }
-        ensures honest { IsTrue (R.is_honest self.new.records) → IsTrue (R.is_honest self.old.records) }
-        ensures count { CountsFaults result (R.count_of self.old.records) (R.count_of self.new.records) }
-        ensures broken { BreaksBy result (R.is_broken self.old.records) (R.is_broken self.new.records) }
+        ensures ok { IsTrue (R.is_honest self.new) → IfOk result (λ answer. (c : Content) → Holds (R.may_find self.old) c
+            → (write : Option Write) × Accepts c ballot place value answer write × Holds (R.may_find self.new) (after_write c write)) }
+        ensures harmless { IsTrue (R.is_honest self.new) → IfErr result (λ e. IsHarmless e → FindsSame (R.may_find self.old) (R.may_find self.new)) }
+        ensures doubt { IsTrue (R.is_honest self.new) → OnErr result ((c : Content) → Holds (R.may_find self.old) c → MayHaveVoted c ballot place value (R.may_find self.new)) }
+        ensures memory { IsTrue (R.is_honest self.new) → IfErr result (λ e. e ≡ OutOfMemory → ((mid : R) × R.finds_no_memory mid self.new)
+            ⊎ ((c : Content) → Holds (R.may_find self.old) c → IsNewVote c ballot place)) }
+        ensures honest { IsTrue (R.is_honest self.new) → IsTrue (R.is_honest self.old) }
+        ensures count { CountsFaults result (R.count_of self.old) (R.count_of self.new) }
+        ensures broken { BreaksBy result (R.is_broken self.old) (R.is_broken self.new) }
     {
-        let promised = self.records.promised()?;
-        if let Some(other) = above(promised, ballot) {
-            return Ok(Accepted::Higher(other));
-        }
-        let vote = self.records.vote(place)?;
-        if let Some(told) = value_for(vote, ballot) {
-            return Ok(Accepted::Voted(told));
-        }
-        Ok(Accepted::Voted(self.vote_now(ballot, place, value)?))
+        accept(&mut self.records, ballot, place, value)
     }
 
-    /// Writes the vote, and then gives the value for the answer.
-    fn vote_now(
-        &mut self,
-        ballot: Ballot,
-        place: Place,
-        value: Value,
-    ) -> Result<Bytes, RecordsFault>
-        ensures told { IfOk result (λ told. told ≡ value) }
-        ensures ok { IsTrue (R.is_honest self.new.records) → OnOk result (HasMade (R.may_find self.old.records) (R.may_find self.new.records) (Casts place record { ballot = ballot; value = value })) }
-        ensures harmless { IsTrue (R.is_honest self.new.records) → IfErr result (λ e. IsHarmless e → FindsSame (R.may_find self.old.records) (R.may_find self.new.records)) }
-        ensures doubt { IsTrue (R.is_honest self.new.records) → MayHaveMade (R.may_find self.old.records) (R.may_find self.new.records) (Casts place record { ballot = ballot; value = value }) }
-        ensures honest { IsTrue (R.is_honest self.new.records) → IsTrue (R.is_honest self.old.records) }
-        ensures count { CountsFaults result (R.count_of self.old.records) (R.count_of self.new.records) }
-        ensures broken { BreaksBy result (R.is_broken self.old.records) (R.is_broken self.new.records) }
+    /// The records, back from the acceptor.
+    pub fn into_records(self) -> R
+        ensures { result ≡ self }
     {
-        self.records.put_vote(place, ballot, &value)?;
-        Ok(value.into_bytes())
+        self.records
     }
 }

@@ -5,6 +5,6 @@ mod acceptor;
 mod plain;
 mod records;
 
-pub use acceptor::{Accepted, Acceptor, Prepared, greatest_used};
+pub use acceptor::{Accepted, Acceptor, Prepared, accept, greatest_used, prepare};
 pub use plain::PlainRecords;
 pub use records::{Records, RecordsFault};

@@ -7,13 +7,14 @@ use Rattle.std.specs.Borrow.{Bor}
 use Rattle.std.proofs.lemmas.Bool.{le-leb, ltb-true, ltb-false}
 use Rattle.std.proofs.lemmas.Option.{slice_get_past, slice_get_within, slice_get_read}
 use Rattle.std.proofs.Common.{get_or}
+use Rattle.ballots.specs.Limits.{most_places}
 use Rattle.flow_state.specs.Rows.{Rows as Tables}
 use Rattle.grant_machine.specs.declared.output.Output.{Output}
 use Rattle.grant_machine.specs.Steps.{step}
 use Rattle.grant_machine.specs.Runs.{rows_after}
 use Rattle.command_log.specs.Reading.{command_of}
 use Rattle.command_log.specs.Values.{Rows, gapless, outputs_of_values}
-use Rattle.command_log.specs.View.{last_place, AreRows, IsLog, LogView, is_place, output_at, value_at, with_learned}
+use Rattle.command_log.specs.View.{AreRows, IsLog, LogView, is_place, output_at, value_at, with_learned}
 use Rattle.command_log.proofs.Rows.{value_is_at, values_grow, are_rows_put, put_same}
 use Rattle.command_log.proofs.Outputs.{output_among}
 use Rattle.command_log.proofs.Runs.{outputs_first, outputs_push, rows_push}
@@ -41,7 +42,7 @@ length_front (suc n) [] ys le = absurd (omega arith)
 length_front (suc n) (x ∷ xs) ys le = omega (arith, length_front n xs ys (omega arith))
 
 -- a value learned at a new place leaves the applied ones
-pub log_put : (rows new : Rows) (n q : ℕ) (v : List ℕ) → IsLog record { learned = rows; applied = n } → 1 ≤ q → q ≤ last_place → value_at rows q ≡ None → new ≡ insert_entry nat_cmp rows q v
+pub log_put : (rows new : Rows) (n q : ℕ) (v : List ℕ) → IsLog record { learned = rows; applied = n } → 1 ≤ q → q ≤ most_places → value_at rows q ≡ None → new ≡ insert_entry nat_cmp rows q v
     → IsLog record { learned = new; applied = n } × (take n (gapless new) ≡ take n (gapless rows))
 log_put rows new n q v log lo hi none is =
     let grown = values_grow 1 q v rows log.rows lo none in
@@ -99,5 +100,5 @@ log_push rows n v log is = record { rows = log.rows; gapless = slice_get_within 
 pub log_same : (v : LogView) (q : ℕ) (value : List ℕ) → AreRows 1 v.learned → value_at v.learned q ≡ Some value → v ≡ with_learned v q value
 log_same v q value are at_q = let same : insert_entry nat_cmp v.learned q value ≡ v.learned = put_same 1 q value v.learned are at_q in λ i. record { learned = sym same i; applied = v.applied }
 
-pub is_a_place : (p : ℕ) → 1 ≤ p → p ≤ last_place → is_place p ≡ true
-is_a_place p lo hi = ap (λ b. b && nat_le p last_place) (le-leb 1 p lo) ∙ le-leb p last_place hi
+pub is_a_place : (p : ℕ) → 1 ≤ p → p ≤ most_places → is_place p ≡ true
+is_a_place p lo hi = ap (λ b. b && nat_le p most_places) (le-leb 1 p lo) ∙ le-leb p most_places hi

@@ -4,8 +4,9 @@ use Rattle.std.proofs.lemmas.Bool.{cases_order, cases_eq, lt-ltb, le-ltb, eq-eqb
 use Rattle.std.specs.Ordering.{nat_cmp, match_ordering, is_eq}
 use Rattle.std.specs.declared.cmp.Ordering.TheVariants.{Less, Equal, Greater}
 use Rattle.std.specs.BTreeMap.{insert_entry}
+use Rattle.ballots.specs.Limits.{most_places}
 use Rattle.command_log.specs.Values.{Rows, values_from}
-use Rattle.command_log.specs.View.{last_place, AreRows, value_at}
+use Rattle.command_log.specs.View.{AreRows, value_at}
 
 less : (p q : ℕ) → p < q → nat_cmp p q ≡ Less
 less p q lt = ap (λ b. cond b Less (cond (p == q) Equal Greater)) (lt-ltb p q lt)
@@ -37,7 +38,7 @@ values_gap : (p : ℕ) (row : ℕ × List ℕ) (rows : Rows) → p < row.0 → v
 values_gap p row rows lt = ap (λ b. cond b (row.1 ∷ values_from (p + 1) rows) []) (ne_eqb row.0 p (λ is. omega arith))
 
 -- a value more
-pub are_rows_put : (p q : ℕ) (v : List ℕ) (rows : Rows) → AreRows p rows → p ≤ q → q ≤ last_place → AreRows p (insert_entry nat_cmp rows q v)
+pub are_rows_put : (p q : ℕ) (v : List ℕ) (rows : Rows) → AreRows p rows → p ≤ q → q ≤ most_places → AreRows p (insert_entry nat_cmp rows q v)
 are_rows_put p q v [] are lo hi = (lo, hi, tt)
 are_rows_put p q v (row ∷ rows) are lo hi = by_order (λ gt. are_rows_put (row.0 + 1) q v rows are.2 gt hi) (cases_order q row.0)
   where
@@ -117,10 +118,10 @@ value_is_at p k (row ∷ rows) are le = by_place (cases_eq row.0 p) (λ j. value
         ∙ sym (ap (λ (vs : List (List ℕ)). slice_get vs k) gap ∙ ap (slice_get []) none)
 
 -- there are no more of them than places
-pub values_fit : (p : ℕ) (rows : Rows) → AreRows p rows → p ≤ last_place + 1 → length (values_from p rows) + p ≤ last_place + 1
+pub values_fit : (p : ℕ) (rows : Rows) → AreRows p rows → p ≤ most_places + 1 → length (values_from p rows) + p ≤ most_places + 1
 values_fit p [] are le = omega arith
 values_fit p (row ∷ rows) are le = by_place (cases_eq row.0 p) (values_fit (row.0 + 1) rows are.2 (omega (arith, are.1)))
   where
-    by_place : (row.0 ≡ p) ⊎ (row.0 ≡ p → ⊥) → length (values_from (row.0 + 1) rows) + (row.0 + 1) ≤ last_place + 1 → length (values_from p (row ∷ rows)) + p ≤ last_place + 1
+    by_place : (row.0 ≡ p) ⊎ (row.0 ≡ p → ⊥) → length (values_from (row.0 + 1) rows) + (row.0 + 1) ≤ most_places + 1 → length (values_from p (row ∷ rows)) + p ≤ most_places + 1
     by_place (inl is) rest = omega (arith, ap length (values_here p row rows is ∙ ap (λ n. row.1 ∷ values_from (n + 1) rows) (sym is)), rest)
     by_place (inr other) rest = omega (arith, ap length (values_gap p row rows (omega (arith, are.0))))

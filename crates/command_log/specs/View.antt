@@ -3,6 +3,7 @@ use Rattle.std.specs.Prelude.{◌≡◌, ◌≢◌, ℕ, ◌+◌, ◌-◌, ◌�
 use Rattle.std.specs.Map.{lookup}
 use Rattle.std.specs.Ordering.{nat_cmp}
 use Rattle.std.specs.BTreeMap.{insert_entry, is_at}
+use Rattle.ballots.specs.Limits.{most_places}
 use Rattle.grant_machine.specs.declared.output.Output.{Output}
 use Rattle.command_log.specs.declared.log.LogFault.{LogFault}
 use Rattle.command_log.specs.declared.log.LogFault.TheVariants.{Contradiction, BeyondLimit, OutOfMemory}
@@ -13,17 +14,14 @@ pub record LogView : Type 0 where
   pub learned : Rows
   pub applied : ℕ
 
--- places are 1 to this
-abbrev pub last_place : ℕ
-last_place = 1000000
-
+-- p is a place of the log
 abbrev pub is_place : ℕ → Bool
-is_place p = nat_le 1 p && nat_le p last_place
+is_place p = nat_le 1 p && nat_le p most_places
 
 -- rows by ascending place, from place p to the last place
 abbrev pub AreRows : ℕ → Rows → Type 0
 AreRows p [] = Unit {0}
-AreRows p (row ∷ rows) = (p ≤ row.0) × (row.0 ≤ last_place) × AreRows (row.0 + 1) rows
+AreRows p (row ∷ rows) = (p ≤ row.0) × (row.0 ≤ most_places) × AreRows (row.0 + 1) rows
 
 -- what is always true of a log
 pub record IsLog (v : LogView) : Type 0 where

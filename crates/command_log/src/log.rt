@@ -1,13 +1,11 @@
+ghost use Rattle.ballots.specs.Limits.{most_places};
 use crate::reading::read_command;
-use ballots::Bytes;
+use ballots::{Bytes, MOST_PLACES};
 use grant_machine::{Machine, Output};
 use std::alloc::{AllocError, Global};
 use std::collections::BTreeMap;
 use std::marker::Model;
 use thiserror::Error;
-
-/// The last place of a log.
-const LAST_PLACE: u64 = 1_000_000;
 
 /// Why a value isn't learned.
 #[derive(Clone, Copy, Debug, PartialEq, Eq, Error)]
@@ -59,7 +57,7 @@ impl Log {
     ghost use Rattle.std.specs.Prelude.{◌≡◌, ◌+◌, ◌<◌, ◌≤◌, ◌↔◌, [], length, Ok, false, IsTrue, OnOk, OnErr, IfOk, IfErr, if◌then◌else◌};
     ghost use Rattle.std.specs.Option.{option_copied};
     ghost use Rattle.command_log.specs.Values.{gapless};
-    ghost use Rattle.command_log.specs.View.{CanLearn, IsLog, LearnFault, last_place, with_learned, output_at};
+    ghost use Rattle.command_log.specs.View.{CanLearn, IsLog, LearnFault, with_learned, output_at};
 
     /// Nothing is learned.
     pub fn new(alloc: Global) -> Log
@@ -79,7 +77,7 @@ impl Log {
         ensures ok { OnOk result (CanLearn self.old place value.now × (self.new ≡ with_learned self.old place value.now)) }
         ensures err { IfErr result (λ fault. LearnFault self.old place value.now fault × (self.new ≡ self.old)) }
     {
-        if place == 0 || LAST_PLACE < place {
+        if place == 0 || MOST_PLACES < place {
             return Err(LogFault::BeyondLimit);
         }
         if let Some(known) = self.learned.get(&place) {
@@ -116,7 +114,7 @@ impl Log {
     /// How many values are applied, which are those of places 1 to so many. It takes constant time.
     pub fn prefix_len(&self) -> u64
         ensures len { result ≡ self.now.applied }
-        ensures within { result ≤ last_place }
+        ensures within { result ≤ most_places }
         ensures kept { IsLog self.now }
     {
         self.outputs.len() as u64

@@ -5,7 +5,6 @@ use Rattle.acceptor.specs.Content.{Content, after_write}
 use Rattle.acceptor.specs.Found.{Holds, HoldsEither, AddsNothing, FindsSame}
 use Rattle.acceptor.specs.Faults.{IsHarmless}
 pub use Rattle.acceptor.proofs.Callers.{still_holds}
-use Rattle.acceptor.specs.declared.acceptor.Acceptor.{Acceptor}
 use Rattle.acceptor.specs.declared.records.RecordsFault.{RecordsFault}
 use Rattle.acceptor.specs.declared.records.RecordsFault.TheVariants.{Refused, Broken, OutOfMemory}
 use Rattle.node.specs.View.{View, Standing, started}
@@ -23,7 +22,7 @@ use Rattle.node.specs.declared.parts.Parts.{Parts}
 pub either_same : (found : Content → Type 0) (c : Content) → Holds found c → HoldsEither found c c
 either_same found c h d is = inl (h.1 d is)
 
-module _ {R : Type 0} (may_find : R → Content → Type 0) (old : Parts R) (up : old.is_down ≡ false) (content : Content) (holds : Holds (may_find old.acceptor.records) content) (IsCourse : Result Outcome Fault → Type 0) where
+module _ {R : Type 0} (may_find : R → Content → Type 0) (old : Parts R) (up : old.is_down ≡ false) (content : Content) (holds : Holds (may_find old.records) content) (IsCourse : Result Outcome Fault → Type 0) where
   -- the call ends so
   abbrev pub EndsSo : Result (List Letter) Fault → Parts R → Type 0
   EndsSo result new = (t : Standing) × Ends IsCourse (view_over old content) result t × Stands may_find new t
@@ -32,32 +31,32 @@ module _ {R : Type 0} (may_find : R → Content → Type 0) (old : Parts R) (up 
   unchanged result is = subst (λ r. EndsSo r old) (sym is) (Running (view_over old content), refl, (up, refl, holds))
 
   -- the same view in other words
-  pub same_view : (new : Parts R) → new.is_down ≡ false → view_over old content ≡ view_over new content → new.acceptor.records ≡ old.acceptor.records
+  pub same_view : (new : Parts R) → new.is_down ≡ false → view_over old content ≡ view_over new content → new.records ≡ old.records
       → (result : Result (List Letter) Fault) → result ≡ Err Fault.OutOfMemory → EndsSo result new
   same_view new still same records result is = subst (λ r. EndsSo r new) (sym is) (Running (view_over old content), refl, (still, same, subst (λ r. Holds (may_find r) content) (sym records) holds))
 
   -- a call that writes nothing
-  pub turns : (new : Parts R) (o : Outcome) (letters : List Letter) → new.is_down ≡ false → view_over new content ≡ o.view → new.acceptor.records ≡ old.acceptor.records
+  pub turns : (new : Parts R) (o : Outcome) (letters : List Letter) → new.is_down ≡ false → view_over new content ≡ o.view → new.records ≡ old.records
       → IsCourse (Ok o) → letters ≡ o.letters → EndsSo (Ok letters) new
   turns new o letters still same records course sent =
       (Running o.view, (o, course, sent, refl), subst (λ v. Stands may_find new (Running v)) same (still, refl, subst (λ r. Holds (may_find r) content) (sym records) holds))
 
-  module _ (a : Acceptor R) where
+  module _ (a : R) where
     abbrev pub later : Parts R
-    later = record old { acceptor = a }
+    later = record old { records = a }
 
-    pub ends : (o : Outcome) (letters : List Letter) (d : Content) → IsCourse (Ok o) → letters ≡ o.letters → o.view ≡ view_over old d → Holds (may_find a.records) d → EndsSo (Ok letters) later
+    pub ends : (o : Outcome) (letters : List Letter) (d : Content) → IsCourse (Ok o) → letters ≡ o.letters → o.view ≡ view_over old d → Holds (may_find a) d → EndsSo (Ok letters) later
     ends o letters d course sent is found = (Running o.view, (o, course, sent, refl), subst (λ v. Stands may_find later (Running v)) (sym is) (up, refl, found))
 
-    pub kept : (result : Result (List Letter) Fault) → result ≡ Err Fault.OutOfMemory → Holds (may_find a.records) content → EndsSo result later
+    pub kept : (result : Result (List Letter) Fault) → result ≡ Err Fault.OutOfMemory → Holds (may_find a) content → EndsSo result later
     kept result is found = subst (λ r. EndsSo r later) (sym is) (Running (view_over old content), refl, (up, refl, found))
 
     pub fails : (fault : RecordsFault) (told : Fault) (new : Parts R) → Fails later fault told new
-        → (IsHarmless fault → FindsSame (may_find old.acceptor.records) (may_find a.records))
-        → (HoldsEither (may_find a.records) content content ⊎ ((o : Outcome) × IsCourse (Ok o) × HoldsEither (may_find a.records) content (after_write content o.write)))
+        → (IsHarmless fault → FindsSame (may_find old.records) (may_find a))
+        → (HoldsEither (may_find a) content content ⊎ ((o : Outcome) × IsCourse (Ok o) × HoldsEither (may_find a) content (after_write content o.write)))
         → EndsSo (Err told) new
-    fails Refused told new so harmless doubt = subst (λ n. EndsSo (Err told) n) (sym so.1) (subst (λ f. EndsSo (Err f) later) (sym so.0) (Running (view_over old content), refl, (up, refl, still_holds (may_find old.acceptor.records) (may_find a.records) content (harmless tt) holds)))
-    fails OutOfMemory told new so harmless doubt = subst (λ n. EndsSo (Err told) n) (sym so.1) (subst (λ f. EndsSo (Err f) later) (sym so.0) (Running (view_over old content), refl, (up, refl, still_holds (may_find old.acceptor.records) (may_find a.records) content (harmless tt) holds)))
+    fails Refused told new so harmless doubt = subst (λ n. EndsSo (Err told) n) (sym so.1) (subst (λ f. EndsSo (Err f) later) (sym so.0) (Running (view_over old content), refl, (up, refl, still_holds (may_find old.records) (may_find a) content (harmless tt) holds)))
+    fails OutOfMemory told new so harmless doubt = subst (λ n. EndsSo (Err told) n) (sym so.1) (subst (λ f. EndsSo (Err f) later) (sym so.0) (Running (view_over old content), refl, (up, refl, still_holds (may_find old.records) (may_find a) content (harmless tt) holds)))
     fails Broken told new so harmless (inl found) = subst (λ n. EndsSo (Err told) n) (sym so.1) (subst (λ f. EndsSo (Err f) record later { is_down = true }) (sym so.0) (Stopped content None, inl refl, (refl, found)))
     fails Broken told new so harmless (inr (o, course, either)) = subst (λ n. EndsSo (Err told) n) (sym so.1) (subst (λ f. EndsSo (Err f) record later { is_down = true }) (sym so.0) (Stopped content o.write, inr (o, course, refl), (refl, either)))
 
@@ -67,30 +66,30 @@ pub for_view : {R : Type 0} (may_find : R → Content → Type 0) (old new : Par
 for_view may_find old new IsCourse result does view stands = subst (λ v. (t : Standing) × Ends (IsCourse v) v (answer result) t × Stands may_find new t) (sym stands.1) (does view.content stands.2)
 
 -- a restart that failed
-module _ {R : Type 0} (may_find : R → Content → Type 0) (old : Parts R) (a : Acceptor R) (adds : AddsNothing (may_find old.acceptor.records) (may_find a.records)) where
+module _ {R : Type 0} (may_find : R → Content → Type 0) (old : Parts R) (a : R) (adds : AddsNothing (may_find old.records) (may_find a)) where
   abbrev pub FailsSo : Standing → Fault → Parts R → Type 0
   FailsSo s told new = (t : Standing) × Restarts s (Err told) t × Stands may_find new t
 
-  pub restart_fails : (fault : RecordsFault) (told : Fault) (new : Parts R) → (IsHarmless fault → FindsSame (may_find old.acceptor.records) (may_find a.records)) → Fails record old { acceptor = a } fault told new → (s : Standing) → Stands may_find old s → FailsSo s told new
-  restart_fails Refused told new harmless so (Running view) stands = subst (λ n. FailsSo (Running view) told n) (sym so.1) (subst (λ f. FailsSo (Running view) f record old { acceptor = a }) (sym so.0) (Running view, refl, (stands.0, stands.1, still_holds (may_find old.acceptor.records) (may_find a.records) view.content (harmless tt) stands.2)))
-  restart_fails OutOfMemory told new harmless so (Running view) stands = subst (λ n. FailsSo (Running view) told n) (sym so.1) (subst (λ f. FailsSo (Running view) f record old { acceptor = a }) (sym so.0) (Running view, refl, (stands.0, stands.1, still_holds (may_find old.acceptor.records) (may_find a.records) view.content (harmless tt) stands.2)))
-  restart_fails Broken told new harmless so (Running view) stands = subst (λ n. FailsSo (Running view) told n) (sym so.1) (subst (λ f. FailsSo (Running view) f record old { acceptor = a; is_down = true }) (sym so.0) (Stopped view.content None, refl, (refl, λ d is. inl (stands.2.1 d (adds d is)))))
+  pub restart_fails : (fault : RecordsFault) (told : Fault) (new : Parts R) → (IsHarmless fault → FindsSame (may_find old.records) (may_find a)) → Fails record old { records = a } fault told new → (s : Standing) → Stands may_find old s → FailsSo s told new
+  restart_fails Refused told new harmless so (Running view) stands = subst (λ n. FailsSo (Running view) told n) (sym so.1) (subst (λ f. FailsSo (Running view) f record old { records = a }) (sym so.0) (Running view, refl, (stands.0, stands.1, still_holds (may_find old.records) (may_find a) view.content (harmless tt) stands.2)))
+  restart_fails OutOfMemory told new harmless so (Running view) stands = subst (λ n. FailsSo (Running view) told n) (sym so.1) (subst (λ f. FailsSo (Running view) f record old { records = a }) (sym so.0) (Running view, refl, (stands.0, stands.1, still_holds (may_find old.records) (may_find a) view.content (harmless tt) stands.2)))
+  restart_fails Broken told new harmless so (Running view) stands = subst (λ n. FailsSo (Running view) told n) (sym so.1) (subst (λ f. FailsSo (Running view) f record old { records = a; is_down = true }) (sym so.0) (Stopped view.content None, refl, (refl, λ d is. inl (stands.2.1 d (adds d is)))))
   restart_fails Refused told new harmless so (Stopped c doubt) stands = subst (λ n. FailsSo (Stopped c doubt) told n) (sym so.1) (Stopped c doubt, (subst IsStop (sym so.0) tt, refl), (stands.0, λ d is. stands.1 d (adds d is)))
   restart_fails OutOfMemory told new harmless so (Stopped c doubt) stands = subst (λ n. FailsSo (Stopped c doubt) told n) (sym so.1) (Stopped c doubt, (subst IsStop (sym so.0) tt, refl), (stands.0, λ d is. stands.1 d (adds d is)))
   restart_fails Broken told new harmless so (Stopped c doubt) stands = subst (λ n. FailsSo (Stopped c doubt) told n) (sym so.1) (Stopped c doubt, (subst IsStop (sym so.0) tt, refl), (refl, λ d is. stands.1 d (adds d is)))
 
 -- a restart that is Ok
 pub restart_ends : {R : Type 0} (may_find : R → Content → Type 0) (old new : Parts R) → new.is_down ≡ false → ((c : Content) → view_over new c ≡ started c)
-    → ((a b : Content) → HoldsEither (may_find old.acceptor.records) a b → Holds (may_find new.acceptor.records) a ⊎ Holds (may_find new.acceptor.records) b)
+    → ((a b : Content) → HoldsEither (may_find old.records) a b → Holds (may_find new.records) a ⊎ Holds (may_find new.records) b)
     → (s : Standing) → Stands may_find old s → (t : Standing) × Restarts s (Ok tt) t × Stands may_find new t
-restart_ends may_find old new up fresh finds (Running view) stands = (Running (started view.content), refl, (up, sym (fresh view.content), same (finds view.content view.content (either_same (may_find old.acceptor.records) view.content stands.2))))
+restart_ends may_find old new up fresh finds (Running view) stands = (Running (started view.content), refl, (up, sym (fresh view.content), same (finds view.content view.content (either_same (may_find old.records) view.content stands.2))))
   where
-    same : Holds (may_find new.acceptor.records) view.content ⊎ Holds (may_find new.acceptor.records) view.content → Holds (may_find new.acceptor.records) view.content
+    same : Holds (may_find new.records) view.content ⊎ Holds (may_find new.records) view.content → Holds (may_find new.records) view.content
     same (inl h) = h
     same (inr h) = h
 restart_ends may_find old new up fresh finds (Stopped c doubt) stands = by_one (finds c (after_write c doubt) stands.1)
   where
-    by_one : Holds (may_find new.acceptor.records) c ⊎ Holds (may_find new.acceptor.records) (after_write c doubt) → (t : Standing) × Restarts (Stopped c doubt) (Ok tt) t × Stands may_find new t
+    by_one : Holds (may_find new.records) c ⊎ Holds (may_find new.records) (after_write c doubt) → (t : Standing) × Restarts (Stopped c doubt) (Ok tt) t × Stands may_find new t
     by_one (inl h) = (Running (started c), inl refl, (up, sym (fresh c), h))
     by_one (inr h) = (Running (started (after_write c doubt)), inr refl, (up, sym (fresh (after_write c doubt)), h))
 

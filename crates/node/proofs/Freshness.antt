@@ -10,7 +10,6 @@ use Rattle.acceptor.specs.Content.{Content, IsSound, AreRowsFrom, no_content, pr
 use Rattle.acceptor.specs.Found.{Findable, Holds, FindsSame, Keeps}
 use Rattle.acceptor.specs.declared.records.RecordsFault.{RecordsFault}
 use Rattle.acceptor.specs.declared.records.RecordsFault.TheVariants.{Refused, Broken, OutOfMemory}
-use Rattle.acceptor.specs.declared.acceptor.Acceptor.{Acceptor}
 use Rattle.proposer.specs.declared.fault.NodeFault.{NodeFault as Fault}
 use Rattle.node.specs.View.{View, Standing, started}
 use Rattle.node.specs.View.Standing.{Running, Stopped}
@@ -54,25 +53,25 @@ module _ {R : Type 0} (may_find : R → Content → Type 0) (old : Parts R) (up 
   pub voted_content : (c : Content) (votes : List (ℕ × Cast)) → votes ≡ rows_from c.votes 1 → (votes ≡ [] → ⊥) → view_over old c ≡ started no_content → ⊥
   voted_content c votes is some same = let empty : c ≡ no_content = ap (λ (v : View). v.content) same in some (is ∙ ap (λ (d : Content). rows_from d.votes 1) empty)
 
-  module _ (a : Acceptor R) where
+  module _ (a : R) where
     abbrev pub later : Parts R
-    later = record old { acceptor = a }
+    later = record old { records = a }
 
-    pub tells : FindsSame (may_find old.acceptor.records) (may_find a.records) → (fresh : Bool) → ((c : Content) → Holds (may_find old.acceptor.records) c → IsTrue fresh ↔ (view_over old c ≡ started no_content))
+    pub tells : FindsSame (may_find old.records) (may_find a) → (fresh : Bool) → ((c : Content) → Holds (may_find old.records) c → IsTrue fresh ↔ (view_over old c ≡ started no_content))
         → (s : Standing) → Stands may_find old s → (t : Standing) × TellsFresh s (Ok fresh) t × Stands may_find later t
     tells same fresh is (Running view) stands =
-        (Running view, (subst (λ v. IsTrue fresh ↔ (v ≡ started no_content)) (sym stands.1) (is view.content stands.2), refl), (up, stands.1, still_holds (may_find old.acceptor.records) (may_find a.records) view.content same stands.2))
+        (Running view, (subst (λ v. IsTrue fresh ↔ (v ≡ started no_content)) (sym stands.1) (is view.content stands.2), refl), (up, stands.1, still_holds (may_find old.records) (may_find a) view.content same stands.2))
     tells same fresh is (Stopped c doubt) stands = absurd (cc (up, stands.0))
 
     abbrev FailsSo : Standing → Fault → Parts R → Type 0
     FailsSo s told new = (t : Standing) × TellsFresh s (Err told) t × Stands may_find new t
 
-    pub tell_fails : (T : Type 0) (mid : Findable) (fault : RecordsFault) (told : Fault) (new : Parts R) → FindsSame (may_find old.acceptor.records) mid → Keeps {T = T} (Err fault) mid (may_find a.records) → Fails later fault told new
+    pub tell_fails : (T : Type 0) (mid : Findable) (fault : RecordsFault) (told : Fault) (new : Parts R) → FindsSame (may_find old.records) mid → Keeps {T = T} (Err fault) mid (may_find a) → Fails later fault told new
         → (s : Standing) → Stands may_find old s → FailsSo s told new
     tell_fails T mid Refused told new same keeps so (Running view) stands =
-        subst (λ n. FailsSo (Running view) told n) (sym so.1) (subst (λ f. FailsSo (Running view) f later) (sym so.0) (Running view, refl, (up, stands.1, still_holds mid (may_find a.records) view.content keeps (still_holds (may_find old.acceptor.records) mid view.content same stands.2))))
+        subst (λ n. FailsSo (Running view) told n) (sym so.1) (subst (λ f. FailsSo (Running view) f later) (sym so.0) (Running view, refl, (up, stands.1, still_holds mid (may_find a) view.content keeps (still_holds (may_find old.records) mid view.content same stands.2))))
     tell_fails T mid OutOfMemory told new same keeps so (Running view) stands =
-        subst (λ n. FailsSo (Running view) told n) (sym so.1) (subst (λ f. FailsSo (Running view) f later) (sym so.0) (Running view, refl, (up, stands.1, still_holds mid (may_find a.records) view.content keeps (still_holds (may_find old.acceptor.records) mid view.content same stands.2))))
+        subst (λ n. FailsSo (Running view) told n) (sym so.1) (subst (λ f. FailsSo (Running view) f later) (sym so.0) (Running view, refl, (up, stands.1, still_holds mid (may_find a) view.content keeps (still_holds (may_find old.records) mid view.content same stands.2))))
     tell_fails T mid Broken told new same keeps so (Running view) stands =
         subst (λ n. FailsSo (Running view) told n) (sym so.1) (subst (λ f. FailsSo (Running view) f record later { is_down = true }) (sym so.0) (Stopped view.content None, refl, (refl, λ d is. inl (stands.2.1 d ((same d).1 (keeps d is))))))
     tell_fails T mid fault told new same keeps so (Stopped c doubt) stands = absurd (cc (up, stands.0))
@@ -87,15 +86,15 @@ no_tell P none = (λ no. absurd (search rules), λ is. absurd (none is))
 -- a node that told that it is fresh stands as one that starts over nothing
 module _ {R : Type 0} (may_find : R → Content → Type 0) (old new : Parts R) (somewhere : ∥ ((s : Standing) × Stands may_find old s) ∥₁)
     (done : (s : Standing) → Stands may_find old s → (t : Standing) × TellsFresh s (Ok true) t × Stands may_find new t) where
-  it_holds : (s : Standing) × Stands may_find old s → Holds (may_find new.acceptor.records) no_content
+  it_holds : (s : Standing) × Stands may_find old s → Holds (may_find new.records) no_content
   it_holds (Running view, stands) =
       let told = done (Running view) stands in
       let empty : view.content ≡ no_content = ap (λ (v : View). v.content) (told.1.0.0 (search rules)) in
       let after : Stands may_find new (Running view) = subst (Stands may_find new) told.1.1 told.2 in
-      subst (Holds (may_find new.acceptor.records)) empty after.2
+      subst (Holds (may_find new.records)) empty after.2
   it_holds (Stopped c doubt, stands) = let told = done (Stopped c doubt) stands in absurd (cc (told.1.0))
 
-  is_empty : (d : Content) → (Holds (may_find new.acceptor.records) no_content → d ≡ no_content) → d ≡ no_content
+  is_empty : (d : Content) → (Holds (may_find new.records) no_content → d ≡ no_content) → d ≡ no_content
   is_empty d same =
       let tried : d.tried ≡ 0 = ∥∥₁_elim somewhere (ℕ_set d.tried 0) (λ s. ap (λ (c : Content). c.tried) (same (it_holds s))) in
       let row : d.row ≡ 0 = ∥∥₁_elim somewhere (ℕ_set d.row 0) (λ s. ap (λ (c : Content). c.row) (same (it_holds s))) in

@@ -3,9 +3,10 @@ use Rattle.std.proofs.Common.{◌≡◌, ◌⊎◌, inl, inr, ℕ, ◌≤◌, Bo
 use Rattle.ballots.specs.Rows.{at, put}
 use Rattle.learner.specs.Tally.{Tally, known, voted, learn, put_voters, with_voter, is_majority, is_voter}
 use Rattle.command_log.specs.Values.{Rows, outputs_of_values, gapless, values_from}
-use Rattle.command_log.specs.View.{AreRows, IsLog, LogView, last_place}
+use Rattle.command_log.specs.View.{AreRows, IsLog, LogView}
 use Rattle.command_log.proofs.Callers.{are_rows_put, outputs_first}
 use Rattle.std.proofs.Common.{length, take, ◌+◌, arith, length-take}
+use Rattle.ballots.specs.Limits.{most_places}
 use Rattle.map_release.specs.Released.{applied_outputs}
 use Rattle.node.specs.Learned.{IsPart, AreLearned}
 use Rattle.node.proofs.Prefixes.{part_grows, front}
@@ -26,7 +27,7 @@ voted_one members tally None b p v n none = by_test (is_majority members (is_vot
     by_test true = inr (none, refl)
     by_test false = inl refl
 
-module _ (tally : Tally) (p : ℕ) (v : List ℕ) (log : Rows) (lo : 1 ≤ p) (hi : p ≤ last_place) (are : AreRows 1 tally.learned) (part : IsPart log tally.learned) where
+module _ (tally : Tally) (p : ℕ) (v : List ℕ) (log : Rows) (lo : 1 ≤ p) (hi : p ≤ most_places) (are : AreRows 1 tally.learned) (part : IsPart log tally.learned) where
   keeps : (new : Rows) → LearnsOne tally new p v → AreRows 1 new × IsPart log new
   keeps new (inl is) = (subst (AreRows 1) (sym is) are, subst (IsPart log) (sym is) part)
   keeps new (inr learns) = (subst (AreRows 1) (sym learns.1) (are_rows_put 1 p v tally.learned are lo hi), subst (IsPart log) (sym learns.1) (part_grows log tally.learned p v part learns.0))

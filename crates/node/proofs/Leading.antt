@@ -1,6 +1,7 @@
 -- A node that is asked to lead.
 use Rattle.std.proofs.Common.{IfErr, Vec, ◌≡◌, ◌⊎◌, inl, inr, ℕ, Bool, IsTrue, ◌+◌, ◌≤◌, ◌<◌, length, List, refl, sym, ap, subst, ◌∙◌, Result, Ok, Err, Some, None, true, false}
 use Rattle.std.specs.declared.alloc.Global.{Global}
+use Rattle.ballots.specs.Limits.{most_places}
 use Rattle.ballots.specs.Members.{member_count}
 use Rattle.ballots.specs.Ballots.{IsLeastAbove}
 use Rattle.ballots.specs.declared.letters.Letter.{Letter}
@@ -14,24 +15,24 @@ use Rattle.proposer.specs.declared.fault.NodeFault.{NodeFault as Fault}
 use Rattle.proposer.specs.declared.proposer.Proposer.{Proposer}
 use Rattle.node.specs.View.{View, values_from, gapless}
 use Rattle.node.specs.View.Standing.{Running, Stopped}
-use Rattle.node.specs.Step.{Leads, lead_with, last_place, limit}
+use Rattle.node.specs.Step.{Leads, lead_with, limit}
 use Rattle.node.specs.Calls.{Ends}
 use Rattle.node.specs.Sched.{Stands, Stops, view_over}
 use Rattle.node.specs.declared.parts.Parts.{Parts}
 use Rattle.node.proofs.Endings.{EndsSo, still_holds}
 
 -- a node's own fault leaves its records
-pub honest_before : {R : Type 0} (is_honest : R → Bool) (old : Parts R) (fault : Fault) (new : Parts R) → Stops old fault new → IsTrue (is_honest new.acceptor.records) → IsTrue (is_honest old.acceptor.records)
-honest_before is_honest old Fault.LogFull new is honest = subst (λ n. IsTrue (is_honest n.acceptor.records)) is honest
-honest_before is_honest old Fault.RoundsSpent new is honest = subst (λ n. IsTrue (is_honest n.acceptor.records)) is honest
-honest_before is_honest old Fault.OutOfMemory new is honest = subst (λ n. IsTrue (is_honest n.acceptor.records)) is honest
-honest_before is_honest old Fault.StoreRefused new is honest = subst (λ n. IsTrue (is_honest n.acceptor.records)) is honest
-honest_before is_honest old Fault.NotLeading new is honest = subst (λ n. IsTrue (is_honest n.acceptor.records)) is honest
-honest_before is_honest old Fault.ValueTooLong new is honest = subst (λ n. IsTrue (is_honest n.acceptor.records)) is honest
-honest_before is_honest old Fault.Down new is honest = subst (λ n. IsTrue (is_honest n.acceptor.records)) is honest
+pub honest_before : {R : Type 0} (is_honest : R → Bool) (old : Parts R) (fault : Fault) (new : Parts R) → Stops old fault new → IsTrue (is_honest new.records) → IsTrue (is_honest old.records)
+honest_before is_honest old Fault.LogFull new is honest = subst (λ n. IsTrue (is_honest n.records)) is honest
+honest_before is_honest old Fault.RoundsSpent new is honest = subst (λ n. IsTrue (is_honest n.records)) is honest
+honest_before is_honest old Fault.OutOfMemory new is honest = subst (λ n. IsTrue (is_honest n.records)) is honest
+honest_before is_honest old Fault.StoreRefused new is honest = subst (λ n. IsTrue (is_honest n.records)) is honest
+honest_before is_honest old Fault.NotLeading new is honest = subst (λ n. IsTrue (is_honest n.records)) is honest
+honest_before is_honest old Fault.ValueTooLong new is honest = subst (λ n. IsTrue (is_honest n.records)) is honest
+honest_before is_honest old Fault.Down new is honest = subst (λ n. IsTrue (is_honest n.records)) is honest
 
-module _ {R : Type 0} (may_find : R → Content → Type 0) (old : Parts R) (up : old.is_down ≡ false) (content : Content) (holds : Holds (may_find old.acceptor.records) content) (prefix : ℕ) (records : R)
-    (short : prefix < last_place → prefix ≡ length (values_from 1 old.knowledge.tally.learned)) (full : last_place ≤ prefix → last_place ≤ length (values_from 1 old.knowledge.tally.learned)) where
+module _ {R : Type 0} (may_find : R → Content → Type 0) (old : Parts R) (up : old.is_down ≡ false) (content : Content) (holds : Holds (may_find old.records) content) (prefix : ℕ) (records : R)
+    (short : prefix < most_places → prefix ≡ length (values_from 1 old.knowledge.tally.learned)) (full : most_places ≤ prefix → most_places ≤ length (values_from 1 old.knowledge.tally.learned)) where
   abbrev view : View
   view = view_over old content
 
@@ -42,24 +43,24 @@ module _ {R : Type 0} (may_find : R → Content → Type 0) (old : Parts R) (up 
   me = old.proposer.id
 
   abbrev later : Parts R
-  later = record old { acceptor = record { records = records } }
+  later = record old { records = records }
 
   abbrev pub Ended : Result (List Letter) Fault → Parts R → Type 0
   Ended = EndsSo may_find old up content holds (Leads members me view)
 
-  stays : (fault : Fault) → Ends (Leads members me view) view (Err fault) (Running view) → FindsSame (may_find old.acceptor.records) (may_find records) → (new : Parts R) → new ≡ later → Ended (Err fault) new
-  stays fault ends same new is = subst (λ n. Ended (Err fault) n) (sym is) (Running view, ends, (up, refl, still_holds (may_find old.acceptor.records) (may_find records) content same holds))
+  stays : (fault : Fault) → Ends (Leads members me view) view (Err fault) (Running view) → FindsSame (may_find old.records) (may_find records) → (new : Parts R) → new ≡ later → Ended (Err fault) new
+  stays fault ends same new is = subst (λ n. Ended (Err fault) n) (sym is) (Running view, ends, (up, refl, still_holds (may_find old.records) (may_find records) content same holds))
 
-  is_full : last_place ≤ prefix → Leads members me view (Err Fault.LogFull)
+  is_full : most_places ≤ prefix → Leads members me view (Err Fault.LogFull)
   is_full at_end = inl (refl, full at_end)
 
-  pub leads_so : (b : ℕ) → prefix < last_place → IsLeastAbove (limit view) me b → Leads members me view (Ok (lead_with members me view b))
-  leads_so b below least = (subst (λ n. n < last_place) (short below) below, (b, least, refl))
+  pub leads_so : (b : ℕ) → prefix < most_places → IsLeastAbove (limit view) me b → Leads members me view (Ok (lead_with members me view b))
+  leads_so b below least = (subst (λ n. n < most_places) (short below) below, (b, least, refl))
 
-  pub lead_fails : (fault : Fault) (new : Parts R) → DeclinesToLead (may_find old.acceptor.records) old.proposer.hint me prefix fault → (IsHarmlessStop fault → FindsSame (may_find old.acceptor.records) (may_find records))
-      → MayHaveTried (may_find old.acceptor.records) (may_find records) old.proposer.hint me → Stops later fault new → Ended (Err fault) new
+  pub lead_fails : (fault : Fault) (new : Parts R) → DeclinesToLead (may_find old.records) old.proposer.hint me prefix fault → (IsHarmlessStop fault → FindsSame (may_find old.records) (may_find records))
+      → MayHaveTried (may_find old.records) (may_find records) old.proposer.hint me → Stops later fault new → Ended (Err fault) new
   lead_fails Fault.LogFull new declines harmless tried is = stays Fault.LogFull (is_full declines, refl) (harmless tt) new is
-  lead_fails Fault.RoundsSpent new declines harmless tried is = stays Fault.RoundsSpent (inr (refl, subst (λ n. n < last_place) (short declines.0) declines.0, declines.1 content holds), refl) (harmless tt) new is
+  lead_fails Fault.RoundsSpent new declines harmless tried is = stays Fault.RoundsSpent (inr (refl, subst (λ n. n < most_places) (short declines.0) declines.0, declines.1 content holds), refl) (harmless tt) new is
   lead_fails Fault.OutOfMemory new declines harmless tried is = stays Fault.OutOfMemory refl (harmless tt) new is
   lead_fails Fault.StoreRefused new declines harmless tried is = stays Fault.StoreRefused refl (harmless tt) new is
   lead_fails Fault.NotLeading new declines harmless tried is = absurd declines
@@ -70,8 +71,8 @@ module _ {R : Type 0} (may_find : R → Content → Type 0) (old : Parts R) (up 
       by_doubt (inl found) = (Stopped content None, inl refl, (refl, found))
       by_doubt (inr (b, least, found)) = (Stopped content (Some (Tries b)), inr (lead_with members me view b, leads_so b declines least, refl), (refl, found))
 
-  pub lead_ends : (proposer : Proposer) (letters : List Letter) (b : ℕ) → prefix < last_place → IsNextBallot (may_find old.acceptor.records) old.proposer.hint me b
-      → turn.tries members me b (prefix + 1) ≡ record { role = proposer.role; letters = letters } → HasMade (may_find old.acceptor.records) (may_find records) (Tries b) → proposer ≡ record old.proposer { role = proposer.role }
+  pub lead_ends : (proposer : Proposer) (letters : List Letter) (b : ℕ) → prefix < most_places → IsNextBallot (may_find old.records) old.proposer.hint me b
+      → turn.tries members me b (prefix + 1) ≡ record { role = proposer.role; letters = letters } → HasMade (may_find old.records) (may_find records) (Tries b) → proposer ≡ record old.proposer { role = proposer.role }
       → Ended (Ok letters) record later { proposer = proposer }
   lead_ends proposer letters b below next tries made rest =
       let new : Parts R = record later { proposer = proposer } in
@@ -85,11 +86,11 @@ module _ {R : Type 0} (may_find : R → Content → Type 0) (old : Parts R) (up 
 
 -- where want of memory comes from, in each view that the node stands for
 pub memory_in_each : {R : Type 0} (may_find : R → Content → Type 0) (n : Parts R) (Lacks : Type 0) (result : Result (Vec Letter Global) Fault)
-    → IfErr result (λ fault. fault ≡ Fault.OutOfMemory → Lacks ⊎ ((b : ℕ) × IsNextBallot (may_find n.acceptor.records) n.proposer.hint n.proposer.id b))
+    → IfErr result (λ fault. fault ≡ Fault.OutOfMemory → Lacks ⊎ ((b : ℕ) × IsNextBallot (may_find n.records) n.proposer.hint n.proposer.id b))
     → (view : View) → Stands may_find n (Running view) → IfErr result (λ fault. fault ≡ Fault.OutOfMemory → Lacks ⊎ ((b : ℕ) × IsLeastAbove (limit view) n.proposer.id b))
 memory_in_each may_find n Lacks (Ok letters) memory view stands = tt
 memory_in_each may_find n Lacks (Err fault) memory view stands = λ is. by_case (memory is)
   where
-    by_case : Lacks ⊎ ((b : ℕ) × IsNextBallot (may_find n.acceptor.records) n.proposer.hint n.proposer.id b) → Lacks ⊎ ((b : ℕ) × IsLeastAbove (limit view) n.proposer.id b)
+    by_case : Lacks ⊎ ((b : ℕ) × IsNextBallot (may_find n.records) n.proposer.hint n.proposer.id b) → Lacks ⊎ ((b : ℕ) × IsLeastAbove (limit view) n.proposer.id b)
     by_case (inl lacks) = inl lacks
     by_case (inr next) = inr (next.0, subst (λ (v : View). IsLeastAbove (limit v) n.proposer.id next.0) (sym stands.1) (next.1 view.content stands.2))

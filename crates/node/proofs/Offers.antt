@@ -19,7 +19,7 @@ use Rattle.node.specs.declared.parts.Parts.{Parts}
 use Rattle.node.proofs.Endings.{EndsSo, turns}
 use Rattle.node.proofs.Turning.{turned, turned_or, offer_so, never_down}
 
-module _ {R : Type 0} (may_find : R → Content → Type 0) (old : Parts R) (up : old.is_down ≡ false) (content : Content) (holds : Holds (may_find old.acceptor.records) content) (v : List ℕ) (proposer : Proposer) (rest : proposer ≡ record old.proposer { role = proposer.role }) where
+module _ {R : Type 0} (may_find : R → Content → Type 0) (old : Parts R) (up : old.is_down ≡ false) (content : Content) (holds : Holds (may_find old.records) content) (v : List ℕ) (proposer : Proposer) (rest : proposer ≡ record old.proposer { role = proposer.role }) where
   abbrev view : View
   view = view_over old content
 

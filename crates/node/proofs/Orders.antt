@@ -14,7 +14,7 @@ use Rattle.proposer.specs.declared.role.Role.TheVariants.{Idle, Preparing, Leadi
 use Rattle.proposer.specs.declared.fault.NodeFault.{NodeFault as Fault}
 use Rattle.node.specs.View.{View, gapless}
 use Rattle.node.specs.View.Standing.{Running}
-use Rattle.node.specs.Step.{last_place, to_all}
+use Rattle.node.specs.Step.{to_all}
 use Rattle.node.specs.Calls.{Cause, IsStop, StopsLast, answer}
 use Rattle.node.specs.Calls.Cause.{Lead, Offer}
 use Rattle.node.specs.Sched.{Stands, view_over}
@@ -51,11 +51,11 @@ module _ (members me : ℕ) (view : View) where
   offer_last v (Err fault) (inr wants) = λ stops. subst (λ r. IsTrue (is_ok r)) (sym (offer_so members me view view.role v)) (is_outcome (turn.offer members me view.role v) wants.1)
 
   -- a ballot is looked for only where the log has room
-  pub lead_last : (found : Findable) (hint prefix : ℕ) → (prefix < last_place → prefix ≡ length (gapless view)) → (fault : Fault)
+  pub lead_last : (found : Findable) (hint prefix : ℕ) → (prefix < most_places → prefix ≡ length (gapless view)) → (fault : Fault)
       → DeclinesToLead found hint me prefix fault → StopsLast members me view Lead (Err fault)
-  lead_last found hint prefix short Fault.OutOfMemory below stops = subst (λ n. n < last_place) (short below) below
-  lead_last found hint prefix short Fault.StoreRefused below stops = subst (λ n. n < last_place) (short below) below
-  lead_last found hint prefix short Fault.Down below stops = subst (λ n. n < last_place) (short below) below
+  lead_last found hint prefix short Fault.OutOfMemory below stops = subst (λ n. n < most_places) (short below) below
+  lead_last found hint prefix short Fault.StoreRefused below stops = subst (λ n. n < most_places) (short below) below
+  lead_last found hint prefix short Fault.Down below stops = subst (λ n. n < most_places) (short below) below
   lead_last found hint prefix short Fault.LogFull declines stops = absurd stops
   lead_last found hint prefix short Fault.RoundsSpent declines stops = absurd stops
   lead_last found hint prefix short Fault.NotLeading declines stops = absurd stops

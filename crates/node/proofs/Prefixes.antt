@@ -3,9 +3,10 @@ use Rattle.std.proofs.Common.{◌≡◌, ◌≢◌, ◌⊎◌, inl, inr, ℕ, ze
 use Rattle.std.proofs.lemmas.Bool.{cases_order, cases_eq, eq-eqb, ne_eqb}
 use Rattle.std.proofs.lemmas.Bool.Decides.{nat_tests}
 use Rattle.std.proofs.lemmas.Option.{slice_get_past}
+use Rattle.ballots.specs.Limits.{most_places}
 use Rattle.ballots.specs.Rows.{at, put}
 use Rattle.command_log.specs.Values.{Rows, values_from, gapless}
-use Rattle.command_log.specs.View.{AreRows, last_place}
+use Rattle.command_log.specs.View.{AreRows}
 use Rattle.command_log.proofs.Callers.{none_below, are_rows_put, put_same, values_grow, value_is_at}
 use Rattle.node.specs.Learned.{IsPart, AreLearned}
 
@@ -62,7 +63,7 @@ part_grows first second p v part none q w is = elim (cases_eq q p) [
 ]
 
 -- nothing stands beyond the log
-pub beyond : (p q : ℕ) (rows : Rows) → AreRows p rows → last_place < q → at rows q ≡ None
+pub beyond : (p q : ℕ) (rows : Rows) → AreRows p rows → most_places < q → at rows q ≡ None
 beyond p q [] are far = refl
 beyond p q (row ∷ rows) are far = at_there row rows q (omega (arith, are.1)) ∙ beyond (row.0 + 1) q rows are.2 far
 
@@ -109,7 +110,7 @@ front p (suc n) (row ∷ rows) second are_first are_second part few none = elim 
     ]
 
 -- the next value that is put makes one more without a gap
-pub one_more : (rows : Rows) (n : ℕ) (v : List ℕ) → AreRows 1 rows → n ≤ length (gapless rows) → n + 1 ≤ last_place → ((other : List ℕ) → at rows (n + 1) ≡ Some other → other ≡ v)
+pub one_more : (rows : Rows) (n : ℕ) (v : List ℕ) → AreRows 1 rows → n ≤ length (gapless rows) → n + 1 ≤ most_places → ((other : List ℕ) → at rows (n + 1) ≡ Some other → other ≡ v)
     → AreRows 1 (put rows (n + 1) v) × (n < length (gapless (put rows (n + 1) v)))
 one_more rows n v are few within same = by_value (at rows (n + 1)) refl
   where

@@ -15,16 +15,16 @@ use Rattle.node.proofs.Endings.{for_view}
 module _ {R : Type 0} (may_find : R → Content → Type 0) (is_honest : R → Bool) where
   -- where its records are honest, the node stands somewhere
   abbrev pub IsSomewhere : Parts R → Type 0
-  IsSomewhere n = IsTrue (is_honest n.acceptor.records) → ∥ ((s : Standing) × Stands may_find n s) ∥₁
+  IsSomewhere n = IsTrue (is_honest n.records) → ∥ ((s : Standing) × Stands may_find n s) ∥₁
 
   -- a call that answers for each standing
-  pub goes_on : (old new : Parts R) → (Ends : Standing → Standing → Type 0) → IsSomewhere old → (IsTrue (is_honest new.acceptor.records) → IsTrue (is_honest old.acceptor.records))
-      → (IsTrue (is_honest new.acceptor.records) → (s : Standing) → Stands may_find old s → (t : Standing) × Ends s t × Stands may_find new t) → IsSomewhere new
+  pub goes_on : (old new : Parts R) → (Ends : Standing → Standing → Type 0) → IsSomewhere old → (IsTrue (is_honest new.records) → IsTrue (is_honest old.records))
+      → (IsTrue (is_honest new.records) → (s : Standing) → Stands may_find old s → (t : Standing) × Ends s t × Stands may_find new t) → IsSomewhere new
   goes_on old new Ends was honesty done honest = ∥∥₁_map (was (honesty honest)) (λ at. let after = done honest at.0 at.1 in (after.0, after.2))
 
   -- a part of a call of a node that is up
   pub does_on : (old new : Parts R) → old.is_down ≡ false → (IsCourse : View → Result Outcome Fault → Type 0) (result : Result (Vec Letter Global) Fault) → IsSomewhere old
-      → (IsTrue (is_honest new.acceptor.records) → IsTrue (is_honest old.acceptor.records)) → (IsTrue (is_honest new.acceptor.records) → Does may_find old IsCourse result new) → IsSomewhere new
+      → (IsTrue (is_honest new.records) → IsTrue (is_honest old.records)) → (IsTrue (is_honest new.records) → Does may_find old IsCourse result new) → IsSomewhere new
   does_on old new up IsCourse result was honesty done honest = ∥∥₁_map (was (honesty honest)) by_standing
     where
       by_standing : (s : Standing) × Stands may_find old s → (t : Standing) × Stands may_find new t

@@ -1,7 +1,6 @@
 -- What a node's answer tells of its store.
 use Rattle.std.proofs.Common.{◌≡◌, inl, ℕ, Bool, true, false, refl, sym, subst, ◌∙◌, Err}
 use Rattle.acceptor.specs.Faults.{CountsFaults, BreaksBy, BreaksByReopen}
-use Rattle.acceptor.specs.declared.acceptor.Acceptor.{Acceptor}
 use Rattle.acceptor.specs.declared.records.RecordsFault.{RecordsFault}
 use Rattle.acceptor.specs.declared.records.RecordsFault.TheVariants.{Refused, Broken, OutOfMemory}
 use Rattle.proposer.specs.Faults.{CountsStops, BreaksByStop, told}
@@ -16,13 +15,13 @@ fails_so old Refused first answer new is same stops = (same ∙ is, subst (λ f.
 fails_so old OutOfMemory first answer new is same stops = (same ∙ is, subst (λ f. Stops old f new) is stops)
 fails_so old Broken first answer new is same stops = (same ∙ is, subst (λ f. Stops old f new) is stops)
 
-module _ {R : Type 0} (count_of : R → ℕ) (is_broken : R → Bool) (old : Parts R) (a : Acceptor R) where
+module _ {R : Type 0} (count_of : R → ℕ) (is_broken : R → Bool) (old : Parts R) (a : R) where
   abbrev later : Parts R
-  later = record old { acceptor = a }
+  later = record old { records = a }
 
   -- a call in which the store failed
   pub failed : (fault : RecordsFault) (answer : Fault) (new : Parts R) → old.is_down ≡ false → Fails later fault answer new
-      → CountsFaults {T = Unit {0}} (Err fault) (count_of old.acceptor.records) (count_of a.records) → BreaksBy {T = Unit {0}} (Err fault) (is_broken old.acceptor.records) (is_broken a.records)
+      → CountsFaults {T = Unit {0}} (Err fault) (count_of old.records) (count_of a) → BreaksBy {T = Unit {0}} (Err fault) (is_broken old.records) (is_broken a)
       → Kept {T = Unit {0}} (who_of count_of is_broken old) (Err answer) (who_of count_of is_broken new)
   failed Refused answer new up so counts breaks =
       subst (λ n. Kept {T = Unit {0}} (who_of count_of is_broken old) (Err answer) (who_of count_of is_broken n)) (sym so.1)
@@ -36,7 +35,7 @@ module _ {R : Type 0} (count_of : R → ℕ) (is_broken : R → Bool) (old : Par
 
   -- a restart in which the store failed
   pub restart_failed : (fault : RecordsFault) (answer : Fault) (new : Parts R) → Fails later fault answer new
-      → CountsFaults {T = Unit {0}} (Err fault) (count_of old.acceptor.records) (count_of a.records) → BreaksByReopen {T = Unit {0}} (Err fault) (is_broken old.acceptor.records) (is_broken a.records)
+      → CountsFaults {T = Unit {0}} (Err fault) (count_of old.records) (count_of a) → BreaksByReopen {T = Unit {0}} (Err fault) (is_broken old.records) (is_broken a)
       → KeptByRestart {T = Unit {0}} (who_of count_of is_broken old) (Err answer) (who_of count_of is_broken new)
   restart_failed Refused answer new so counts breaks =
       subst (λ n. KeptByRestart {T = Unit {0}} (who_of count_of is_broken old) (Err answer) (who_of count_of is_broken n)) (sym so.1)
@@ -58,11 +57,11 @@ breaks_then first mid last OutOfMemory is breaks = (is, breaks.1)
 breaks_then first mid last Broken is breaks = breaks
 
 -- what a proposer's answer tells
-module _ {R : Type 0} (count_of : R → ℕ) (is_broken : R → Bool) (old : Parts R) (a : Acceptor R) (up : old.is_down ≡ false) where
+module _ {R : Type 0} (count_of : R → ℕ) (is_broken : R → Bool) (old : Parts R) (a : R) (up : old.is_down ≡ false) where
   abbrev stopped_at : Parts R
-  stopped_at = record old { acceptor = a }
+  stopped_at = record old { records = a }
 
-  pub stopped : (fault : Fault) (new : Parts R) → Stops stopped_at fault new → CountsStops {T = Unit {0}} (Err fault) (count_of old.acceptor.records) (count_of a.records) → BreaksByStop {T = Unit {0}} (Err fault) (is_broken old.acceptor.records) (is_broken a.records)
+  pub stopped : (fault : Fault) (new : Parts R) → Stops stopped_at fault new → CountsStops {T = Unit {0}} (Err fault) (count_of old.records) (count_of a) → BreaksByStop {T = Unit {0}} (Err fault) (is_broken old.records) (is_broken a)
       → Kept {T = Unit {0}} (who_of count_of is_broken old) (Err fault) (who_of count_of is_broken new)
   stopped Fault.Down new is counts breaks = subst (λ n. Kept {T = Unit {0}} (who_of count_of is_broken old) (Err Fault.Down) (who_of count_of is_broken n)) (sym is) (refl, refl, counts.0, inl (counts.1 tt, breaks), refl)
   stopped Fault.StoreRefused new is counts breaks = subst (λ n. Kept {T = Unit {0}} (who_of count_of is_broken old) (Err Fault.StoreRefused) (who_of count_of is_broken n)) (sym is) (refl, refl, counts.0, (counts.1 tt, breaks.1), refl)

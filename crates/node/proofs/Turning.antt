@@ -15,7 +15,7 @@ use Rattle.proposer.specs.declared.role.Role.{Role}
 use Rattle.proposer.specs.declared.role.Role.TheVariants.{Idle, Preparing, Leading}
 use Rattle.proposer.specs.declared.fault.NodeFault.{NodeFault as Fault}
 use Rattle.node.specs.View.{View}
-use Rattle.node.specs.Step.{Outcome, nothing, sends, promise, after_promise, offer, proposals, are_votes, is_place, is_value, is_sound, is_heeded, last_place, to_all}
+use Rattle.node.specs.Step.{Outcome, nothing, sends, promise, after_promise, offer, proposals, are_votes, is_place, is_value, is_sound, is_heeded, to_all}
 
 -- what a turn leaves of a view
 abbrev pub turned : View → Turn → Outcome
@@ -77,12 +77,12 @@ all_in_log b q (vote ∷ votes) are =
     let three = and_parts (nat_le q vote.0 && is_place vote.0 && is_value vote.1.value) (nat_lt vote.1.ballot b) all.0 in
     let two = and_parts (nat_le q vote.0 && is_place vote.0) (is_value vote.1.value) three.0 in
     let place = and_parts (nat_le q vote.0) (is_place vote.0) two.0 in
-    let within = and_parts (nat_lt 0 vote.0) (nat_le vote.0 last_place) place.1 in
+    let within = and_parts (nat_lt 0 vote.0) (nat_le vote.0 most_places) place.1 in
     ap (λ x. cond x (vote ∷ in_log votes) (in_log votes)) within.1 ∙ ap (λ r. vote ∷ r) (all_in_log b (vote.0 + 1) votes all.1)
 
 -- what soundness of a letter says
 pub place_sound : (p : ℕ) → is_place p ≡ true → IsPlace p
-place_sound p is = let both = and_parts (nat_lt 0 p) (nat_le p last_place) is in (ltb-true 0 p both.0, leb-true p last_place both.1)
+place_sound p is = let both = and_parts (nat_lt 0 p) (nat_le p most_places) is in (ltb-true 0 p both.0, leb-true p most_places both.1)
 
 pub value_sound : (v : List ℕ) → is_value v ≡ true → IsValue v
 value_sound v is = leb-true (length v) longest_value is

@@ -1,6 +1,7 @@
 -- How the calls of a node end.
 use Rattle.std.specs.Prelude.{◌≡◌, ◌⊎◌, ◌↔◌, ℕ, ◌≤◌, Bool, true, false, IsTrue, List, None, Result, Ok, Err, is_ok, Vec, ◌<◌, length}
 use Rattle.std.specs.declared.alloc.Global.{Global}
+use Rattle.ballots.specs.Limits.{most_places}
 use Rattle.ballots.specs.declared.letters.Letter.{Letter}
 use Rattle.acceptor.specs.Content.{no_content, after_write}
 use Rattle.acceptor.specs.Faults.{HasRisen}
@@ -9,7 +10,7 @@ use Rattle.node.specs.View.Standing.{Running, Stopped}
 use Rattle.proposer.specs.Turns.{Turn}
 use Rattle.proposer.specs.declared.fault.NodeFault.{NodeFault as Fault}
 use Rattle.proposer.specs.declared.fault.NodeFault.TheVariants.{OutOfMemory, StoreRefused, Down}
-use Rattle.node.specs.Step.{Outcome, receive, offer, Leads, last_place}
+use Rattle.node.specs.Step.{Outcome, receive, offer, Leads}
 
 -- a node by its number, the number of members, how often its store failed, whether that is broken, and whether the node waits for a restart
 pub record Who : Type 0 where
@@ -66,7 +67,7 @@ IsStop other = ⊥
 -- nothing that node me knows without its records declines the call
 abbrev pub MayGoOn : ℕ → ℕ → View → Cause → Type 0
 MayGoOn members me view (Receive l) = Unit {0}
-MayGoOn members me view Lead = length (gapless view) < last_place
+MayGoOn members me view Lead = length (gapless view) < most_places
 MayGoOn members me view (Offer v) = IsTrue (is_ok (offer members me view view.role v))
 
 -- want of memory and a store that fails come last: only where the call isn't declined

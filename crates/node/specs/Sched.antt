@@ -21,17 +21,17 @@ abbrev pub view_over : {R : Type 0} → Parts R → Content → View
 view_over n c = record { content = c; role = n.proposer.role; hint = n.proposer.hint; tally = n.knowledge.tally; cursor = n.knowledge.cursor }
 
 abbrev pub who_of : {R : Type 0} → (R → ℕ) → (R → Bool) → Parts R → Who
-who_of count_of is_broken n = record { id = n.proposer.id; members = member_count n.proposer.members; failures = count_of n.acceptor.records; broken = is_broken n.acceptor.records; down = n.is_down }
+who_of count_of is_broken n = record { id = n.proposer.id; members = member_count n.proposer.members; failures = count_of n.records; broken = is_broken n.records; down = n.is_down }
 
 -- a node that is up stands for its view over what its records hold, and one that is down for contents of which they hold one
 abbrev pub Stands : {R : Type 0} → (R → Content → Type 0) → Parts R → Standing → Type 0
-Stands may_find n (Running view) = (n.is_down ≡ false) × (view ≡ view_over n view.content) × Holds (may_find n.acceptor.records) view.content
-Stands may_find n (Stopped c doubt) = (n.is_down ≡ true) × HoldsEither (may_find n.acceptor.records) c (after_write c doubt)
+Stands may_find n (Running view) = (n.is_down ≡ false) × (view ≡ view_over n view.content) × Holds (may_find n.records) view.content
+Stands may_find n (Stopped c doubt) = (n.is_down ≡ true) × HoldsEither (may_find n.records) c (after_write c doubt)
 
 -- a part of a call of a node that is up: whatever its records hold, its course over them is this
 abbrev pub Does : {R : Type 0} → (R → Content → Type 0) → Parts R → (View → Result Outcome Fault → Type 0) → Result (Vec Letter Global) Fault → Parts R → Type 0
 Does may_find old IsCourse result new =
-    (c : Content) → Holds (may_find old.acceptor.records) c
+    (c : Content) → Holds (may_find old.records) c
     → (t : Standing) × Ends (IsCourse (view_over old c)) (view_over old c) (answer result) t × Stands may_find new t
 
 -- the node after a store's fault, and what it answers

@@ -37,12 +37,9 @@ sends view letters = record { view = view; write = None; letters = letters }
 abbrev pub writes : View → Write → List Letter → Outcome
 writes view write letters = record { view = record view { content = after_write view.content (Some write) }; write = Some write; letters = letters }
 
--- the log's places are 1 to 1,000,000, and a value has at most 64 bytes
-abbrev pub last_place : ℕ
-last_place = most_places
-
+-- p is a place of the log
 abbrev pub is_place : ℕ → Bool
-is_place p = nat_lt 0 p && nat_le p last_place
+is_place p = nat_lt 0 p && nat_le p most_places
 
 abbrev pub is_value : List ℕ → Bool
 is_value v = nat_le (length v) longest_value
@@ -128,7 +125,7 @@ receive members me view l = if is_heeded members me l then heed members me view 
 abbrev pub offer : ℕ → ℕ → View → Role → List ℕ → Result Outcome Fault
 offer members me view (Leading b next) v =
     if nat_lt longest_value (length v) then Err Fault.ValueTooLong
-    else if nat_lt last_place next then Err Fault.LogFull
+    else if nat_lt most_places next then Err Fault.LogFull
     else Ok (sends (record view { role = Leading b (next + 1) }) (to_all members me (Accept b next v)))
 offer members me view Idle v = Err Fault.NotLeading
 offer members me view (Preparing b q counted joined) v = Err Fault.NotLeading
@@ -145,7 +142,7 @@ lead_with members me view b =
 
 -- the node is asked to lead: it tries its least ballot above the limit
 abbrev pub Leads : ℕ → ℕ → View → Result Outcome Fault → Type 0
-Leads members me view (Ok outcome) = (length (gapless view) < last_place) × ((b : ℕ) × IsLeastAbove (limit view) me b × (outcome ≡ lead_with members me view b))
+Leads members me view (Ok outcome) = (length (gapless view) < most_places) × ((b : ℕ) × IsLeastAbove (limit view) me b × (outcome ≡ lead_with members me view b))
 Leads members me view (Err fault) =
-    ((fault ≡ Fault.LogFull) × (last_place ≤ length (gapless view)))
-    ⊎ ((fault ≡ Fault.RoundsSpent) × (length (gapless view) < last_place) × NoneAbove (limit view) me)
+    ((fault ≡ Fault.LogFull) × (most_places ≤ length (gapless view)))
+    ⊎ ((fault ≡ Fault.RoundsSpent) × (length (gapless view) < most_places) × NoneAbove (limit view) me)

@@ -1,12 +1,12 @@
 //! What a node has learned, and what it releases of it.
 
 ghost use Rattle.std.specs.Prelude.{◌≡◌, ◌+◌, ◌<◌, ◌≤◌, ◌↔◌, IfOk, IsTrue, None, OnOk, OnErr, option_copied, length};
-ghost use Rattle.ballots.specs.Limits.{IsPlace};
+ghost use Rattle.ballots.specs.Limits.{IsPlace, most_places};
 ghost use Rattle.ballots.specs.Members.{member_count};
 ghost use Rattle.ballots.specs.Rows.{at};
 ghost use Rattle.learner.specs.Tally.{no_tally, known, voted};
 ghost use Rattle.command_log.specs.Values.{outputs_of_values, values_from};
-ghost use Rattle.command_log.specs.View.{AreRows, IsLog, last_place};
+ghost use Rattle.command_log.specs.View.{AreRows, IsLog};
 ghost use Rattle.map_release.specs.Released.{released};
 ghost use Rattle.node.specs.Learned.{IsPart};
 
@@ -104,8 +104,8 @@ impl Knowledge {
     /// aren't looked at again.
     pub(crate) fn prefix_len(&mut self) -> u64
         ensures same { self.new ≡ self.old }
-        ensures below { result < last_place → result ≡ length (values_from 1 self.old.tally.learned) }
-        ensures full { last_place ≤ result → last_place ≤ length (values_from 1 self.old.tally.learned) }
+        ensures below { result < most_places → result ≡ length (values_from 1 self.old.tally.learned) }
+        ensures full { most_places ≤ result → most_places ≤ length (values_from 1 self.old.tally.learned) }
     {
         self.prefix = prefix_len(self.learner.values(), self.prefix);
         self.prefix

@@ -1,12 +1,13 @@
 //! The letters of a node's answers.
 
 ghost use Rattle.std.specs.Prelude.{◌≡◌, ◌-◌, ◌≤◌, ◌<◌, [], ◌∷◌, IfOk, length, set, take};
+ghost use Rattle.ballots.specs.Limits.{most_places};
 ghost use Rattle.ballots.specs.Rows.{rows_from};
 ghost use Rattle.ballots.specs.declared.letters.Note.TheVariants.{Higher as HigherNote};
 ghost use Rattle.command_log.specs.View.{AreRows};
 ghost use Rattle.node.specs.Answers.{prepared_note};
 ghost use Rattle.node.specs.Learned.{AreLearned};
-ghost use Rattle.node.specs.Step.{known_letters, last_place, letter};
+ghost use Rattle.node.specs.Step.{known_letters, letter};
 ghost use Rattle.node.specs.View.{values_from};
 
 use acceptor::Prepared;
@@ -60,8 +61,8 @@ pub(crate) fn known_letters(
 pub(crate) fn prefix_len(learned: &BTreeMap<u64, Bytes>, known: u64) -> u64
     requires rows { AreRows 1 learned.now.entries }
     requires known { AreLearned learned.now.entries known }
-    ensures below { result < last_place → result ≡ length (values_from 1 learned.now.entries) }
-    ensures full { last_place ≤ result → last_place ≤ length (values_from 1 learned.now.entries) }
+    ensures below { result < most_places → result ≡ length (values_from 1 learned.now.entries) }
+    ensures full { most_places ≤ result → most_places ≤ length (values_from 1 learned.now.entries) }
     ensures learned { AreLearned learned.now.entries result }
 {
     let mut len = known;

@@ -18,17 +18,17 @@ ghost use Rattle.node.specs.Step.{Leads, accept, after_higher, are_votes, heed, 
 
 use crate::knowledge::Knowledge;
 use crate::letters::{known_letters, one_letter, prepared_note, replace_last};
-use acceptor::{Accepted, Acceptor, Records, RecordsFault, greatest_used};
+use acceptor::{Accepted, Records, RecordsFault, accept, greatest_used, prepare};
 use ballots::{Ballot, Bytes, Letter, NodeId, Note, Place, Value, Votes};
 use map_release::Numbered;
-use proposer::{NodeFault, Proposer, Role, to_all};
+use proposer::{NodeFault, Proposer, to_all};
 use std::alloc::{AllocError, Global};
 
 /// What a node is made of.
 #[derive(Drop)]
 pub(crate) struct Parts<R> {
     pub(crate) alloc: Global,
-    pub(crate) acceptor: Acceptor<R>,
+    pub(crate) records: R,
     pub(crate) proposer: Proposer,
     pub(crate) knowledge: Knowledge,
     pub(crate) is_down: bool,
@@ -56,7 +56,7 @@ impl<R: Records> Parts<R> {
     /// The store failed.
     pub(crate) fn fail(&mut self, fault: RecordsFault) -> NodeFault
         ensures fails { Fails self.old fault result self.new }
-        ensures acceptor { self.new.acceptor ≡ self.old.acceptor }
+        ensures records { self.new.records ≡ self.old.records }
     {
         self.stop(NodeFault::from(fault))
     }
@@ -81,7 +81,7 @@ impl<R: Records> Parts<R> {
     ) -> Result<Vec<Letter>, AllocError>
         ensures { IfOk result (λ letters. letters.items ≡ known_letters self.now.proposer.id from (take 64 (rows_from self.now.knowledge.tally.learned place)) ++ letter self.now.proposer.id from (HigherNote ballot) ∷ []) }
     {
-        let me = self.proposer.id;
+        let me = self.proposer.id();
         let learned = self.knowledge.values();
         let mut letters = known_letters(self.alloc, me, from, place.number(), learned)?;
         letters.push(Letter {
@@ -100,18 +100,18 @@ impl<R: Records> Parts<R> {
         place: Place,
     ) -> Result<Vec<Letter>, NodeFault>
         requires { self.old.is_down ≡ false }
-        ensures honesty { IsTrue (R.is_honest self.new.acceptor.records) → IsTrue (R.is_honest self.old.acceptor.records) }
+        ensures honesty { IsTrue (R.is_honest self.new.records) → IsTrue (R.is_honest self.old.records) }
         ensures kept { Kept (who_of R.count_of R.is_broken self.old) result (who_of R.count_of R.is_broken self.new) }
-        ensures done { IsTrue (R.is_honest self.new.acceptor.records)
+        ensures done { IsTrue (R.is_honest self.new.records)
             → Does R.may_find self.old (λ view course. course ≡ Ok (prepare self.old.proposer.id view ballot place from)) result self.new }
     {
         let mut letters = self.before_promise(from, ballot, place)?;
-        let answer = match self.acceptor.prepare(ballot, place) {
+        let answer = match prepare(&mut self.records, ballot, place) {
             Ok(answer) => answer,
             Err(fault) => return Err(self.fail(fault)),
         };
         let answer = Letter {
-            from: self.proposer.id,
+            from: self.proposer.id(),
             to: from,
             note: prepared_note(answer, ballot, place),
         };
@@ -129,9 +129,9 @@ impl<R: Records> Parts<R> {
     ) -> Result<Vec<Letter>, NodeFault>
         requires up { self.old.is_down ≡ false }
         requires sound { are_votes ballot place votes.now ≡ true }
-        ensures honesty { IsTrue (R.is_honest self.new.acceptor.records) → IsTrue (R.is_honest self.old.acceptor.records) }
+        ensures honesty { IsTrue (R.is_honest self.new.records) → IsTrue (R.is_honest self.old.records) }
         ensures kept { Kept (who_of R.count_of R.is_broken self.old) result (who_of R.count_of R.is_broken self.new) }
-        ensures done { IsTrue (R.is_honest self.new.acceptor.records)
+        ensures done { IsTrue (R.is_honest self.new.records)
             → Does R.may_find self.old (λ view course. course ≡ Ok (promise (member_count self.old.proposer.members) self.old.proposer.id view view.role ballot place votes.now from)) result self.new }
     {
         Ok(self.proposer.promise(from, ballot, place, votes.rows())?)
@@ -153,7 +153,7 @@ impl<R: Records> Parts<R> {
             place: place.number(),
             value: value.copy(self.alloc)?,
         };
-        let letters = to_all(self.alloc, self.proposer.members, self.proposer.id, &note)?;
+        let letters = to_all(self.alloc, self.proposer.members(), self.proposer.id(), &note)?;
         Ok((letters, kept))
     }
 
@@ -181,9 +181,9 @@ impl<R: Records> Parts<R> {
                     place: place.number(),
                     value: told,
                 };
-                to_all(self.alloc, self.proposer.members, self.proposer.id, &note)
+                to_all(self.alloc, self.proposer.members(), self.proposer.id(), &note)
             }
-            Accepted::Higher(other) => one_letter(self.alloc, self.proposer.id, from, other),
+            Accepted::Higher(other) => one_letter(self.alloc, self.proposer.id(), from, other),
         }
     }
 
@@ -197,13 +197,13 @@ impl<R: Records> Parts<R> {
     ) -> Result<Vec<Letter>, NodeFault>
         requires up { self.old.is_down ≡ false }
         requires short { IsValue value.now }
-        ensures honesty { IsTrue (R.is_honest self.new.acceptor.records) → IsTrue (R.is_honest self.old.acceptor.records) }
+        ensures honesty { IsTrue (R.is_honest self.new.records) → IsTrue (R.is_honest self.old.records) }
         ensures kept { Kept (who_of R.count_of R.is_broken self.old) result (who_of R.count_of R.is_broken self.new) }
-        ensures done { IsTrue (R.is_honest self.new.acceptor.records)
+        ensures done { IsTrue (R.is_honest self.new.records)
             → Does R.may_find self.old (λ view course. course ≡ Ok (accept (member_count self.old.proposer.members) self.old.proposer.id view ballot place value.now from)) result self.new }
     {
         let (letters, kept) = self.before_vote(ballot, place, value)?;
-        let answer = match self.acceptor.accept(ballot, place, kept) {
+        let answer = match accept(&mut self.records, ballot, place, kept) {
             Ok(answer) => answer,
             Err(fault) => return Err(self.fail(fault)),
         };
@@ -219,13 +219,13 @@ impl<R: Records> Parts<R> {
         value: &Bytes,
     ) -> Result<Vec<Letter>, NodeFault>
         requires { self.old.is_down ≡ false }
-        ensures honesty { IsTrue (R.is_honest self.new.acceptor.records) → IsTrue (R.is_honest self.old.acceptor.records) }
+        ensures honesty { IsTrue (R.is_honest self.new.records) → IsTrue (R.is_honest self.old.records) }
         ensures kept { Kept (who_of R.count_of R.is_broken self.old) result (who_of R.count_of R.is_broken self.new) }
-        ensures done { IsTrue (R.is_honest self.new.acceptor.records)
+        ensures done { IsTrue (R.is_honest self.new.records)
             → Does R.may_find self.old (λ view course. course ≡ Ok (nothing record view { tally = voted (member_count self.old.proposer.members) view.tally (at view.tally.learned place) ballot place value.now from })) result self.new }
     {
         let value = value.copy(self.alloc)?;
-        let members = self.proposer.members;
+        let members = self.proposer.members();
         self.knowledge.voted(members, ballot, place, value, from)?;
         Ok(Vec::new(self.alloc))
     }
@@ -233,9 +233,9 @@ impl<R: Records> Parts<R> {
     /// A value is known to be chosen.
     fn take_known(&mut self, place: Place, value: &Bytes) -> Result<Vec<Letter>, NodeFault>
         requires { self.old.is_down ≡ false }
-        ensures honesty { IsTrue (R.is_honest self.new.acceptor.records) → IsTrue (R.is_honest self.old.acceptor.records) }
+        ensures honesty { IsTrue (R.is_honest self.new.records) → IsTrue (R.is_honest self.old.records) }
         ensures kept { Kept (who_of R.count_of R.is_broken self.old) result (who_of R.count_of R.is_broken self.new) }
-        ensures done { IsTrue (R.is_honest self.new.acceptor.records)
+        ensures done { IsTrue (R.is_honest self.new.records)
             → Does R.may_find self.old (λ view course. course ≡ Ok (nothing record view { tally = known view.tally (at view.tally.learned place) place value.now })) result self.new }
     {
         let value = value.copy(self.alloc)?;
@@ -246,9 +246,9 @@ impl<R: Records> Parts<R> {
     /// A higher ballot was heard of.
     fn take_higher(&mut self, ballot: Ballot) -> Result<Vec<Letter>, NodeFault>
         requires { self.old.is_down ≡ false }
-        ensures honesty { IsTrue (R.is_honest self.new.acceptor.records) → IsTrue (R.is_honest self.old.acceptor.records) }
+        ensures honesty { IsTrue (R.is_honest self.new.records) → IsTrue (R.is_honest self.old.records) }
         ensures kept { Kept (who_of R.count_of R.is_broken self.old) result (who_of R.count_of R.is_broken self.new) }
-        ensures done { IsTrue (R.is_honest self.new.acceptor.records)
+        ensures done { IsTrue (R.is_honest self.new.records)
             → Does R.may_find self.old (λ view course. course ≡ Ok (nothing (after_higher view ballot))) result self.new }
     {
         self.proposer.higher(ballot);
@@ -258,9 +258,9 @@ impl<R: Records> Parts<R> {
     /// A value is offered to a node that is up.
     pub(crate) fn propose(&mut self, value: &[u8]) -> Result<Vec<Letter>, NodeFault>
         requires { self.old.is_down ≡ false }
-        ensures honesty { IsTrue (R.is_honest self.new.acceptor.records) → IsTrue (R.is_honest self.old.acceptor.records) }
+        ensures honesty { IsTrue (R.is_honest self.new.records) → IsTrue (R.is_honest self.old.records) }
         ensures kept { Kept (who_of R.count_of R.is_broken self.old) result (who_of R.count_of R.is_broken self.new) }
-        ensures done { IsTrue (R.is_honest self.new.acceptor.records)
+        ensures done { IsTrue (R.is_honest self.new.records)
             → Does R.may_find self.old (λ view course. course ≡ offer (member_count self.old.proposer.members) self.old.proposer.id view view.role value.now) result self.new }
         ensures order { (c : Content) → StopsLast (member_count self.old.proposer.members) self.old.proposer.id (view_over self.old c) (Offer value.now) (answer result) }
         ensures turn { TakesTurn (turn.offer (member_count self.old.proposer.members) self.old.proposer.id self.old.proposer.role value.now) (answer result) }
@@ -271,17 +271,17 @@ impl<R: Records> Parts<R> {
     /// A node that is up is asked to lead.
     pub(crate) fn lead_up(&mut self) -> Result<Vec<Letter>, NodeFault>
         requires { self.old.is_down ≡ false }
-        ensures honesty { IsTrue (R.is_honest self.new.acceptor.records) → IsTrue (R.is_honest self.old.acceptor.records) }
+        ensures honesty { IsTrue (R.is_honest self.new.records) → IsTrue (R.is_honest self.old.records) }
         ensures kept { Kept (who_of R.count_of R.is_broken self.old) result (who_of R.count_of R.is_broken self.new) }
-        ensures done { IsTrue (R.is_honest self.new.acceptor.records)
+        ensures done { IsTrue (R.is_honest self.new.records)
             → Does R.may_find self.old (λ view course. Leads (member_count self.old.proposer.members) self.old.proposer.id view course) result self.new }
-        ensures order { IsTrue (R.is_honest self.new.acceptor.records)
+        ensures order { IsTrue (R.is_honest self.new.records)
             → (c : Content) → StopsLast (member_count self.old.proposer.members) self.old.proposer.id (view_over self.old c) Lead (answer result) }
-        ensures memory { IsTrue (R.is_honest self.new.acceptor.records) → IfErr result (λ fault. fault ≡ NodeFault.OutOfMemory
-            → ((mid : R) × R.finds_no_memory mid self.new.acceptor.records) ⊎ ((b : ℕ) × IsNextBallot (R.may_find self.old.acceptor.records) self.old.proposer.hint self.old.proposer.id b)) }
+        ensures memory { IsTrue (R.is_honest self.new.records) → IfErr result (λ fault. fault ≡ NodeFault.OutOfMemory
+            → ((mid : R) × R.finds_no_memory mid self.new.records) ⊎ ((b : ℕ) × IsNextBallot (R.may_find self.old.records) self.old.proposer.hint self.old.proposer.id b)) }
     {
         let prefix = self.knowledge.prefix_len();
-        match self.proposer.lead(&mut self.acceptor.records, prefix) {
+        match self.proposer.lead(&mut self.records, prefix) {
             Ok(letters) => Ok(letters),
             Err(fault) => Err(self.stop(fault)),
         }
@@ -291,9 +291,9 @@ impl<R: Records> Parts<R> {
     pub(crate) fn heed(&mut self, letter: &Letter) -> Result<Vec<Letter>, NodeFault>
         requires up { self.old.is_down ≡ false }
         requires sound { is_sound letter.now letter.now.note ≡ true }
-        ensures honesty { IsTrue (R.is_honest self.new.acceptor.records) → IsTrue (R.is_honest self.old.acceptor.records) }
+        ensures honesty { IsTrue (R.is_honest self.new.records) → IsTrue (R.is_honest self.old.records) }
         ensures kept { Kept (who_of R.count_of R.is_broken self.old) result (who_of R.count_of R.is_broken self.new) }
-        ensures done { IsTrue (R.is_honest self.new.acceptor.records)
+        ensures done { IsTrue (R.is_honest self.new.records)
             → Does R.may_find self.old (λ view course. course ≡ Ok (heed (member_count self.old.proposer.members) self.old.proposer.id view letter.now.from letter.now.note)) result self.new }
     {
         match &letter.note {
@@ -323,9 +323,9 @@ impl<R: Records> Parts<R> {
     /// Outputs are released by a node that is up.
     pub(crate) fn release_up(&mut self, now: u64) -> Result<Vec<Numbered>, NodeFault>
         requires { self.old.is_down ≡ false }
-        ensures honesty { IsTrue (R.is_honest self.new.acceptor.records) → IsTrue (R.is_honest self.old.acceptor.records) }
+        ensures honesty { IsTrue (R.is_honest self.new.records) → IsTrue (R.is_honest self.old.records) }
         ensures kept { Kept (who_of R.count_of R.is_broken self.old) result (who_of R.count_of R.is_broken self.new) }
-        ensures done { IsTrue (R.is_honest self.new.acceptor.records) → (s : Standing) → Stands R.may_find self.old s
+        ensures done { IsTrue (R.is_honest self.new.records) → (s : Standing) → Stands R.may_find self.old s
             → (t : Standing) × Releases s now (outputs result) t × Stands R.may_find self.new t }
     {
         Ok(self.knowledge.release(self.alloc, now)?)
@@ -333,17 +333,16 @@ impl<R: Records> Parts<R> {
 
     /// Starts over its records.
     pub(crate) fn start_over(&mut self) -> Result<(), NodeFault>
-        ensures honesty { IsTrue (R.is_honest self.new.acceptor.records) → IsTrue (R.is_honest self.old.acceptor.records) }
+        ensures honesty { IsTrue (R.is_honest self.new.records) → IsTrue (R.is_honest self.old.records) }
         ensures kept { KeptByRestart (who_of R.count_of R.is_broken self.old) result (who_of R.count_of R.is_broken self.new) }
-        ensures done { IsTrue (R.is_honest self.new.acceptor.records) → (s : Standing) → Stands R.may_find self.old s
+        ensures done { IsTrue (R.is_honest self.new.records) → (s : Standing) → Stands R.may_find self.old s
             → (t : Standing) × Restarts s result t × Stands R.may_find self.new t }
-        ensures reopened { OnOk result (R.reopens self.old.acceptor.records self.new.acceptor.records) }
+        ensures reopened { OnOk result (R.reopens self.old.records self.new.records) }
     {
-        if let Err(fault) = self.acceptor.records.reopen() {
+        if let Err(fault) = self.records.reopen() {
             return Err(self.fail(fault));
         }
-        self.proposer.role = Role::Idle;
-        self.proposer.hint = 0;
+        self.proposer.restart();
         self.knowledge = Knowledge::new(self.alloc);
         self.is_down = false;
         Ok(())
@@ -353,10 +352,7 @@ impl<R: Records> Parts<R> {
     fn is_untouched(&self) -> bool
         ensures { IsTrue result ↔ IsUntouched self.now }
     {
-        let Role::Idle = &self.proposer.role else {
-            return false;
-        };
-        if self.proposer.hint != 0 {
+        if !self.proposer.is_untouched() {
             return false;
         }
         self.knowledge.is_empty()
@@ -365,17 +361,17 @@ impl<R: Records> Parts<R> {
     /// Whether its records are empty and it is untouched.
     pub(crate) fn tells_fresh(&mut self) -> Result<bool, NodeFault>
         requires { self.old.is_down ≡ false }
-        ensures honesty { IsTrue (R.is_honest self.new.acceptor.records) → IsTrue (R.is_honest self.old.acceptor.records) }
+        ensures honesty { IsTrue (R.is_honest self.new.records) → IsTrue (R.is_honest self.old.records) }
         ensures kept { Kept (who_of R.count_of R.is_broken self.old) result (who_of R.count_of R.is_broken self.new) }
-        ensures done { IsTrue (R.is_honest self.new.acceptor.records) → (s : Standing) → Stands R.may_find self.old s
+        ensures done { IsTrue (R.is_honest self.new.records) → (s : Standing) → Stands R.may_find self.old s
             → (t : Standing) × TellsFresh s result t × Stands R.may_find self.new t }
         ensures untouched { IfOk result (λ fresh. IsTrue fresh → IsUntouched self.new) }
     {
-        let used = match greatest_used(&mut self.acceptor.records) {
+        let used = match greatest_used(&mut self.records) {
             Ok(used) => used,
             Err(fault) => return Err(self.fail(fault)),
         };
-        let votes = match self.acceptor.records.votes_from(place_of(1)) {
+        let votes = match self.records.votes_from(place_of(1)) {
             Ok(votes) => votes,
             Err(fault) => return Err(self.fail(fault)),
         };

@@ -12,7 +12,7 @@ use crate::heeded::is_heeded;
 use crate::knowledge::Knowledge;
 use crate::node::Node;
 use crate::parts::Parts;
-use acceptor::{Acceptor, Records};
+use acceptor::Records;
 use ballots::{Bytes, Letter, Members, NodeId};
 use map_release::Numbered;
 use proposer::{NodeFault, Proposer};
@@ -22,7 +22,7 @@ use std::alloc::Global;
 #[derive(Drop)]
 pub struct SchedNode<R: Records> {
     parts: Parts<R>,
-    ghost somewhere: { IsTrue (R.is_honest parts.acceptor.records) → ∥ ((s : Standing) × Stands R.may_find parts s) ∥₁ },
+    ghost somewhere: { IsTrue (R.is_honest parts.records) → ∥ ((s : Standing) × Stands R.may_find parts s) ∥₁ },
 }
 
 impl<R: Records> SchedNode<R> {
@@ -31,13 +31,13 @@ impl<R: Records> SchedNode<R> {
         requires member { id < member_count members }
         requires certain { IsTrue (R.is_honest records) → ∥ ((c : Content) × Holds (R.may_find records) c) ∥₁ }
         ensures who { who_of R.count_of R.is_broken result.parts ≡ record { id = id; members = member_count members; failures = R.count_of records; broken = R.is_broken records; down = false } }
-        ensures honest { R.is_honest result.parts.acceptor.records ≡ R.is_honest records }
+        ensures honest { R.is_honest result.parts.records ≡ R.is_honest records }
         ensures stands { (c : Content) → Holds (R.may_find records) c → Stands R.may_find result.parts (Running (started c)) }
     {
         SchedNode {
             parts: Parts {
                 alloc,
-                acceptor: Acceptor { records },
+                records,
                 proposer: Proposer::new(alloc, id, members),
                 knowledge: Knowledge::new(alloc),
                 is_down: false,
@@ -51,26 +51,26 @@ impl<R: Records + Drop> Node for SchedNode<R> {
 
     ghost who = { λ n. who_of R.count_of R.is_broken n.parts };
 
-    ghost honest = { λ n. R.is_honest n.parts.acceptor.records };
+    ghost honest = { λ n. R.is_honest n.parts.records };
 
     ghost stands = { λ n s. Stands R.may_find n.parts s };
 
     ghost role = { λ n. n.parts.proposer.role };
 
-    ghost found_no_memory = { λ n. (mid : R) × R.finds_no_memory mid n.parts.acceptor.records };
+    ghost found_no_memory = { λ n. (mid : R) × R.finds_no_memory mid n.parts.records };
 
-    ghost reopens = { λ old new. R.reopens old.parts.acceptor.records new.parts.acceptor.records };
+    ghost reopens = { λ old new. R.reopens old.parts.records new.parts.records };
 
     fn id(&self) -> NodeId {
-        self.parts.proposer.id
+        self.parts.proposer.id()
     }
 
     fn members(&self) -> Members {
-        self.parts.proposer.members
+        self.parts.proposer.members()
     }
 
     fn failures(&self) -> u64 {
-        self.parts.acceptor.records.failures()
+        self.parts.records.failures()
     }
 
     fn learned(&self, place: u64) -> Option<&Bytes> {
@@ -81,7 +81,7 @@ impl<R: Records + Drop> Node for SchedNode<R> {
         if self.parts.is_down {
             return Err(NodeFault::Down);
         }
-        if !is_heeded(self.parts.proposer.members, self.parts.proposer.id, letter) {
+        if !is_heeded(self.parts.proposer.members(), self.parts.proposer.id(), letter) {
             return Ok(Vec::new(self.parts.alloc));
         }
         self.parts.heed(letter)

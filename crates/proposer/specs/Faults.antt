@@ -5,6 +5,16 @@ use Rattle.acceptor.specs.declared.records.RecordsFault.{RecordsFault}
 use Rattle.acceptor.specs.declared.records.RecordsFault.TheVariants.{Refused, Broken, OutOfMemory}
 use Rattle.proposer.specs.declared.fault.NodeFault.{NodeFault as Fault}
 
+-- the number that stands for a fault
+abbrev pub number_of : Fault → ℕ
+number_of Fault.NotLeading = 1
+number_of Fault.LogFull = 2
+number_of Fault.RoundsSpent = 3
+number_of Fault.ValueTooLong = 4
+number_of Fault.OutOfMemory = 5
+number_of Fault.StoreRefused = 6
+number_of Fault.Down = 7
+
 -- the fault of a node whose store failed so
 abbrev pub told : RecordsFault → Fault
 told Refused = Fault.StoreRefused

@@ -1,5 +1,8 @@
 //! Why a node didn't do what it was asked.
 
+ghost use Rattle.std.specs.Prelude.{◌≡◌};
+ghost use Rattle.proposer.specs.Faults.{number_of};
+
 use acceptor::RecordsFault;
 use std::alloc::{AllocError, AllocFailed};
 use thiserror::Error;
@@ -29,9 +32,25 @@ pub enum NodeFault {
     Down,
 }
 
+impl NodeFault {
+    /// The number that stands for the fault in reports.
+    pub fn number(self) -> u8
+        ensures { result ≡ number_of self }
+    {
+        match self {
+            NodeFault::NotLeading => 1,
+            NodeFault::LogFull => 2,
+            NodeFault::RoundsSpent => 3,
+            NodeFault::ValueTooLong => 4,
+            NodeFault::OutOfMemory => 5,
+            NodeFault::StoreRefused => 6,
+            NodeFault::Down => 7,
+        }
+    }
+}
+
 impl From<AllocError> for NodeFault {
     ghost use Rattle.proposer.specs.declared.fault.NodeFault.TheVariants.{OutOfMemory};
-    ghost use Rattle.std.specs.Prelude.{◌≡◌};
 
     ghost from_gives = { λ _ e. e ≡ OutOfMemory };
 
@@ -42,7 +61,6 @@ impl From<AllocError> for NodeFault {
 
 impl<T: Drop> From<AllocFailed<T>> for NodeFault {
     ghost use Rattle.proposer.specs.declared.fault.NodeFault.TheVariants.{OutOfMemory};
-    ghost use Rattle.std.specs.Prelude.{◌≡◌};
 
     ghost from_gives = { λ _ e. e ≡ OutOfMemory };
 
@@ -53,7 +71,6 @@ impl<T: Drop> From<AllocFailed<T>> for NodeFault {
 
 impl From<RecordsFault> for NodeFault {
     ghost use Rattle.proposer.specs.Faults.{told};
-    ghost use Rattle.std.specs.Prelude.{◌≡◌};
 
     ghost from_gives = { λ fault e. e ≡ told fault };
 

@@ -1,6 +1,6 @@
 //! What a proposer does in each turn.
 
-ghost use Rattle.std.specs.Prelude.{◌≡◌, ◌⊎◌, ℕ, ◌+◌, ◌-◌, ◌<◌, ◌≤◌, max, IsTrue, List, Some, Ok, Err, IfOk, IfErr, OnOk, OnErr, is_ok, MatchOption};
+ghost use Rattle.std.specs.Prelude.{◌≡◌, ◌⊎◌, ◌↔◌, ℕ, ◌+◌, ◌-◌, ◌<◌, ◌≤◌, max, IsTrue, List, Some, Ok, Err, IfOk, IfErr, OnOk, OnErr, is_ok, MatchOption};
 ghost use Rattle.ballots.specs.Limits.{most_places};
 ghost use Rattle.ballots.specs.Members.{member_count};
 ghost use Rattle.ballots.specs.Ballots.{IsLeastAbove, number_of};
@@ -23,16 +23,25 @@ use ballots::{
     Ballot, Bytes, Cast, LONGEST_VALUE, Letter, MOST_PLACES, Members, NodeId, Note, least_above,
 };
 use std::alloc::{AllocError, Global};
+use std::marker::Model;
 use std::mem;
 
 /// A member as a proposer: its role, and the greatest ballot that it heard of, or 0.
 #[derive(Drop)]
 pub struct Proposer {
-    pub alloc: Global,
-    pub id: NodeId,
-    pub members: Members,
-    pub role: Role,
-    pub hint: u64,
+    alloc: Global,
+    id: NodeId,
+    members: Members,
+    role: Role,
+    hint: u64,
+}
+
+impl Model for Proposer {
+    ghost use Rattle.proposer.specs.Proposing.{Proposing};
+
+    ghost Value = { Proposing };
+
+    ghost view = { λ p. record { id = p.id; members = p.members; role = p.role; hint = p.hint } };
 }
 
 impl Proposer {
@@ -50,6 +59,37 @@ impl Proposer {
             role: Role::Idle,
             hint: 0,
         }
+    }
+
+    /// Its number among the members.
+    pub fn id(&self) -> NodeId
+        ensures { result ≡ self.now.id }
+    {
+        self.id
+    }
+
+    pub fn members(&self) -> Members
+        ensures { result ≡ self.now.members }
+    {
+        self.members
+    }
+
+    /// Whether it prepares and leads nothing, and has heard of nothing.
+    pub fn is_untouched(&self) -> bool
+        ensures { IsTrue result ↔ ((self.now.role ≡ Idle) × (self.now.hint ≡ 0)) }
+    {
+        let Role::Idle = &self.role else {
+            return false;
+        };
+        self.hint == 0
+    }
+
+    /// It starts over, and does nothing yet.
+    pub fn restart(&mut self)
+        ensures { self.new ≡ record self.old { role = Idle; hint = 0 } }
+    {
+        self.role = Role::Idle;
+        self.hint = 0;
     }
 
     /// A ballot was heard of, in an answer that refuses a lower one.

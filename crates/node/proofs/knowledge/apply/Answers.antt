@@ -1,8 +1,9 @@
 use Rattle.std.proofs.Common.{◌≡◌, ◌+◌, ◌<◌, ◌≤◌, true, if◌then◌else◌, length, Some, sym, ap, subst, ◌∙◌, rules, arith}
 use Rattle.std.proofs.lemmas.Grind.{common_steps}
+use Rattle.ballots.specs.Limits.{most_places}
 use Rattle.ballots.specs.Rows.{at, put}
 use Rattle.command_log.specs.Values.{gapless}
-use Rattle.command_log.specs.View.{AreRows, LogView, last_place}
+use Rattle.command_log.specs.View.{AreRows, LogView}
 use Rattle.node.specs.Learned.{IsPart}
 use Rattle.node.proofs.Prefixes.{part_put, one_more, beyond}
 use Rattle.node.proofs.knowledge.apply.Goals as goal
@@ -14,7 +15,7 @@ loop-applied-preserved c =
     let v = c.as_slice.result.now in
     let here : at c.args.learned.now.entries (n + 1) ≡ Some v = first_of (search rules, grind (arith, common_steps)) in
     let few : n ≤ length (gapless old.learned) = omega (arith, c.loop-applied.invariant.0, c.loop-applied.invariant.1.gapless) in
-    let within : n + 1 ≤ last_place = omega (arith, c.loop-applied-test.true) in
+    let within : n + 1 ≤ most_places = omega (arith, c.loop-applied-test.true) in
     let more = one_more old.learned n v c.loop-applied.invariant.1.rows few within c.in-Ok.ensures.ok.0.1 in
     let learned : c.advance.new.self.learned ≡ put old.learned (n + 1) v = c.advance.ensures.learned ∙ ap (λ (l : LogView). l.learned) c.in-Ok.ensures.ok.1 in
     let before : c.learn.new.self.learned ≡ put old.learned (n + 1) v = ap (λ (l : LogView). l.learned) c.in-Ok.ensures.ok.1 in

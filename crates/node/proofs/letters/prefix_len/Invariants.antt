@@ -1,5 +1,5 @@
 use Rattle.std.proofs.Common.{◌-◌}
-use Rattle.command_log.specs.View.{last_place}
+use Rattle.ballots.specs.Limits.{most_places}
 use Rattle.node.specs.Learned.{AreLearned}
 use Rattle.node.proofs.letters.prefix_len.Given as goal
 
@@ -8,4 +8,4 @@ abbrev pub invariant-loop-len : goal.invariant-loop-len
 invariant-loop-len l = AreLearned l.learned.entries l.len
 
 abbrev pub decreases-loop-len : goal.decreases-loop-len
-decreases-loop-len l = last_place - l.len
+decreases-loop-len l = most_places - l.len

@@ -1,6 +1,5 @@
 use Rattle.std.proofs.Common.{◌≡◌, ◌⊎◌, inl, inr, refl, ap, subst, sym, Ok, Err, IsTrue, Result, rules, Some}
 use Rattle.ballots.specs.Members.{member_count}
-use Rattle.acceptor.specs.declared.acceptor.Acceptor.{Acceptor}
 use Rattle.acceptor.specs.Answers.{IsNewVote}
 use Rattle.acceptor.specs.Content.{after_write}
 use Rattle.acceptor.specs.Content.Write.{Votes}
@@ -24,15 +23,15 @@ returns-in_err-letters-clause-done g c honest content holds =
 pub returns-in-Err-clause-done : goal.returns-in-Err-clause-done
 returns-in-Err-clause-done g c honest content holds =
     let view = view_over c.args.self.now content in
-    let before = subst (λ (a : Acceptor g.row.R.Denot). IsTrue (g.R.Records.is_honest a.records)) c.fail.ensures.acceptor honest in
-    let found = g.R.Records.may_find c.accept.new.self.records in
+    let before = subst (λ (a : g.row.R.Denot). IsTrue (g.R.Records.is_honest a)) c.fail.ensures.records honest in
+    let found = g.R.Records.may_find c.accept.new.records in
     let IsCourse : Result Outcome Fault → Type 0 = λ course. course ≡ Ok (accept (member_count c.args.self.now.proposer.members) c.args.self.now.proposer.id view c.args.ballot c.args.place c.args.value.now c.args.from) in
     let doubt : HoldsEither found content content ⊎ (IsNewVote content c.args.ballot c.args.place × HoldsEither found content (after_write content (Some (Votes c.args.place record { ballot = c.args.ballot; value = c.in_ok-letters.kept })))) = c.in-Err.ensures.doubt before content holds in
     let course : HoldsEither found content content ⊎ ((o : Outcome) × IsCourse (Ok o) × HoldsEither found content (after_write content o.write)) = elim doubt [
       | inl h ↦ inl h
       | inr h ↦ inr (_, ap Ok (sym (votes_so (member_count c.args.self.now.proposer.members) c.args.self.now.proposer.id c.args.from view c.args.ballot c.args.place c.args.value.now h.0)), rw c.in_ok-letters.ensures.1 at h.1)
     ] in
-    fails g.R.Records.may_find c.args.self.now c.requires.up content holds IsCourse c.accept.new.self c.in-Err.fault c.fail.result c.fail.new.self c.fail.ensures.fails (c.in-Err.ensures.harmless before) course
+    fails g.R.Records.may_find c.args.self.now c.requires.up content holds IsCourse c.accept.new.records c.in-Err.fault c.fail.result c.fail.new.self c.fail.ensures.fails (c.in-Err.ensures.harmless before) course
 
 pub returns-in_err-after_vote-clause-done : goal.returns-in_err-after_vote-clause-done
 returns-in_err-after_vote-clause-done g c honest content holds =
@@ -41,7 +40,7 @@ returns-in_err-after_vote-clause-done g c honest content holds =
     let told : answer c.from_residual-in_err-after_vote.result ≡ Err Fault.OutOfMemory = ap answer is in
     let wrote = c.in-Ok.ensures.ok honest content holds in
     let none = wrote_nothing (member_count c.args.self.now.proposer.members) c.args.self.now.proposer.id c.args.from view c.args.ballot c.args.place c.args.value.now c.in-Ok.answer wrote.0 (rw c.in_ok-letters.ensures.1 at wrote.1) c.in_err-after_vote.ensures.err in
-    kept g.R.Records.may_find c.args.self.now c.requires.up content holds (λ course. course ≡ Ok (accept (member_count c.args.self.now.proposer.members) c.args.self.now.proposer.id view c.args.ballot c.args.place c.args.value.now c.args.from)) c.accept.new.self (answer c.from_residual-in_err-after_vote.result) told (subst (λ w. Holds (g.R.Records.may_find c.accept.new.self.records) (after_write content w)) none wrote.2)
+    kept g.R.Records.may_find c.args.self.now c.requires.up content holds (λ course. course ≡ Ok (accept (member_count c.args.self.now.proposer.members) c.args.self.now.proposer.id view c.args.ballot c.args.place c.args.value.now c.args.from)) c.accept.new.records (answer c.from_residual-in_err-after_vote.result) told (subst (λ w. Holds (g.R.Records.may_find c.accept.new.records) (after_write content w)) none wrote.2)
 
 pub returns-clause-done : goal.returns-clause-done
 returns-clause-done g c honest content holds =
@@ -50,9 +49,9 @@ returns-clause-done g c honest content holds =
     let me = c.args.self.now.proposer.id in
     let wrote = c.in-Ok.ensures.ok honest content holds in
     let so : accept members me view c.args.ballot c.args.place c.args.value.now c.args.from ≡ answered members me c.args.from view c.args.ballot c.args.place c.args.value.now c.in-Ok.answer wrote.0 = accepts_so members me c.args.from view c.args.ballot c.args.place c.args.value.now c.in-Ok.answer wrote.0 (rw c.in_ok-letters.ensures.1 at wrote.1) in
-    ends g.R.Records.may_find c.args.self.now c.requires.up content holds (λ course. course ≡ Ok (accept members me view c.args.ballot c.args.place c.args.value.now c.args.from)) c.accept.new.self
+    ends g.R.Records.may_find c.args.self.now c.requires.up content holds (λ course. course ≡ Ok (accept members me view c.args.ballot c.args.place c.args.value.now c.args.from)) c.accept.new.records
     (answered members me c.args.from view c.args.ballot c.args.place c.args.value.now c.in-Ok.answer wrote.0) c.in_ok-after_vote.field-0.items (after_write content wrote.0)
     (ap Ok (sym so)) c.in_ok-after_vote.ensures.ok refl wrote.2
 
 pub returns-in-Err-clause-kept : goal.returns-in-Err-clause-kept
-returns-in-Err-clause-kept g c = failed g.R.Records.count_of g.R.Records.is_broken c.args.self.now c.accept.new.self c.in-Err.fault c.fail.result c.fail.new.self c.requires.up c.fail.ensures.fails c.in-Err.ensures.count c.in-Err.ensures.broken
+returns-in-Err-clause-kept g c = failed g.R.Records.count_of g.R.Records.is_broken c.args.self.now c.accept.new.records c.in-Err.fault c.fail.result c.fail.new.self c.requires.up c.fail.ensures.fails c.in-Err.ensures.count c.in-Err.ensures.broken

@@ -1,6 +1,5 @@
 use Rattle.std.proofs.Common.{◌≡◌, ◌⊎◌, ◌<◌, inl, inr, refl, ap, subst, sym, Ok, Err, IsTrue, Result, ◌++◌, ◌∷◌, [], rules, Some}
 use Rattle.ballots.specs.declared.letters.Note.TheVariants.{Higher as HigherNote}
-use Rattle.acceptor.specs.declared.acceptor.Acceptor.{Acceptor}
 use Rattle.acceptor.specs.Content.{after_write, promised}
 use Rattle.acceptor.specs.Content.Write.{Promises}
 use Rattle.acceptor.specs.Found.{HoldsEither}
@@ -21,8 +20,8 @@ returns-in_err-letters-clause-done g c honest content holds =
 
 pub returns-in-Err-clause-done : goal.returns-in-Err-clause-done
 returns-in-Err-clause-done g c honest content holds =
-    let before = subst (λ (a : Acceptor g.row.R.Denot). IsTrue (g.R.Records.is_honest a.records)) c.fail.ensures.acceptor honest in
-    let found = g.R.Records.may_find c.prepare.new.self.records in
+    let before = subst (λ (a : g.row.R.Denot). IsTrue (g.R.Records.is_honest a)) c.fail.ensures.records honest in
+    let found = g.R.Records.may_find c.prepare.new.records in
     let view = view_over c.args.self.now content in
     let IsCourse : Result Outcome Fault → Type 0 = λ course. course ≡ Ok (prepare c.args.self.now.proposer.id view c.args.ballot c.args.place c.args.from) in
     let doubt : HoldsEither found content content ⊎ ((promised content < c.args.ballot) × HoldsEither found content (after_write content (Some (Promises c.args.ballot)))) = c.in-Err.ensures.doubt before content holds in
@@ -30,7 +29,7 @@ returns-in-Err-clause-done g c honest content holds =
       | inl h ↦ inl h
       | inr h ↦ inr (_, ap Ok (sym (promises_so c.args.self.now.proposer.id c.args.from view c.args.ballot c.args.place h.0)), h.1)
     ] in
-    fails g.R.Records.may_find c.args.self.now c.requires content holds IsCourse c.prepare.new.self c.in-Err.fault c.fail.result c.fail.new.self c.fail.ensures.fails (c.in-Err.ensures.harmless before) course
+    fails g.R.Records.may_find c.args.self.now c.requires content holds IsCourse c.prepare.new.records c.in-Err.fault c.fail.result c.fail.new.self c.fail.ensures.fails (c.in-Err.ensures.harmless before) course
 
 pub returns-clause-done : goal.returns-clause-done
 returns-clause-done g c honest content holds =
@@ -39,10 +38,10 @@ returns-clause-done g c honest content holds =
     let wrote = c.in-Ok.ensures.ok honest content holds in
     let so = prepares_so me c.args.from view c.args.ballot c.args.place c.in-Ok.answer wrote.0 wrote.1 in
     let last = set_last (first_letters me c.args.from view c.args.ballot c.args.place) (letter me c.args.from (HigherNote c.args.ballot)) (letter me c.args.from (prepared_note c.args.ballot c.args.place c.in-Ok.answer)) in
-    let sent : c.replace_last.new.letters.items ≡ first_letters me c.args.from view c.args.ballot c.args.place ++ letter me c.args.from (prepared_note c.args.ballot c.args.place c.in-Ok.answer) ∷ [] = rw (c.replace_last.ensures, c.in_ok-letters.ensures, c.prepared_note.ensures) last in
-    ends g.R.Records.may_find c.args.self.now c.requires content holds (λ course. course ≡ Ok (prepare me view c.args.ballot c.args.place c.args.from)) c.prepare.new.self
+    let sent : c.replace_last.new.letters.items ≡ first_letters me c.args.from view c.args.ballot c.args.place ++ letter me c.args.from (prepared_note c.args.ballot c.args.place c.in-Ok.answer) ∷ [] = rw (c.replace_last.ensures, c.in_ok-letters.ensures, c.prepared_note.ensures, c.id.ensures) last in
+    ends g.R.Records.may_find c.args.self.now c.requires content holds (λ course. course ≡ Ok (prepare me view c.args.ballot c.args.place c.args.from)) c.prepare.new.records
     (prepared me c.args.from view c.args.ballot c.args.place c.in-Ok.answer wrote.0) c.replace_last.new.letters.items (after_write content wrote.0)
     (ap Ok (sym so)) sent refl wrote.2
 
 pub returns-in-Err-clause-kept : goal.returns-in-Err-clause-kept
-returns-in-Err-clause-kept g c = failed g.R.Records.count_of g.R.Records.is_broken c.args.self.now c.prepare.new.self c.in-Err.fault c.fail.result c.fail.new.self c.requires c.fail.ensures.fails c.in-Err.ensures.count c.in-Err.ensures.broken
+returns-in-Err-clause-kept g c = failed g.R.Records.count_of g.R.Records.is_broken c.args.self.now c.prepare.new.records c.in-Err.fault c.fail.result c.fail.new.self c.requires c.fail.ensures.fails c.in-Err.ensures.count c.in-Err.ensures.broken

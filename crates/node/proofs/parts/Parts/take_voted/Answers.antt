@@ -26,7 +26,7 @@ returns-in_err-voted-clause-done g c honest content holds =
 pub returns-clause-done : goal.returns-clause-done
 returns-clause-done g c honest content holds =
     let old = c.args.self.now in
-    let is : c.voted.new.self ≡ record old.knowledge { tally = voted (member_count old.proposer.members) old.knowledge.tally (at old.knowledge.tally.learned c.args.place) c.args.ballot c.args.place c.args.value.now c.args.from } = rw c.in_ok-value.ensures at c.in_ok-voted.ensures.ok in
+    let is : c.voted.new.self ≡ record old.knowledge { tally = voted (member_count old.proposer.members) old.knowledge.tally (at old.knowledge.tally.learned c.args.place) c.args.ballot c.args.place c.args.value.now c.args.from } = rw (c.in_ok-value.ensures, c.members-members.ensures) at c.in_ok-voted.ensures.ok in
     turns g.R.Records.may_find old c.requires content holds (λ course. course ≡ Ok (nothing record (view_over old content) { tally = voted (member_count old.proposer.members) old.knowledge.tally (at old.knowledge.tally.learned c.args.place) c.args.ballot c.args.place c.args.value.now c.args.from })) record old { knowledge = c.voted.new.self }
     (nothing record (view_over old content) { tally = voted (member_count old.proposer.members) old.knowledge.tally (at old.knowledge.tally.learned c.args.place) c.args.ballot c.args.place c.args.value.now c.args.from }) c.new.result.items c.requires
     (ap (λ (l : Learned). record (view_over old content) { tally = l.tally; cursor = l.cursor }) is) refl refl c.new.ensures.items

@@ -3,7 +3,6 @@ use Rattle.std.proofs.lemmas.List.{nil_from_length}
 use Rattle.std.proofs.lemmas.Bool.{eq-eqb, eqb-true}
 use Rattle.ballots.specs.Rows.{rows_from}
 use Rattle.ballots.specs.declared.letters.Votes.{Votes}
-use Rattle.acceptor.specs.declared.acceptor.Acceptor.{Acceptor}
 use Rattle.acceptor.proofs.Callers.{still_holds, same_then}
 use Rattle.node.proofs.Freshness.{tells, tell_fails, fresh_so, used_content, voted_content, empty_content, same_found, no_tell}
 use Rattle.node.proofs.Telling.{failed, counts_then, breaks_then}
@@ -11,28 +10,28 @@ use Rattle.node.proofs.parts.Parts.tells_fresh.Goals as goal
 
 pub returns-in-Err-clause-done : goal.returns-in-Err-clause-done
 returns-in-Err-clause-done g c honest =
-    let before = subst (λ (a : Acceptor g.row.R.Denot). IsTrue (g.R.Records.is_honest a.records)) c.fail.ensures.acceptor honest in
-    let found = g.R.Records.may_find c.args.self.now.acceptor.records in
-    tell_fails g.R.Records.may_find c.args.self.now c.requires record { records = c.greatest_used.new.records } ℕ found c.in-Err.fault c.fail.result c.fail.new.self (same_found found) (c.in-Err.ensures.kept before) c.fail.ensures.fails
+    let before = subst (λ (a : g.row.R.Denot). IsTrue (g.R.Records.is_honest a)) c.fail.ensures.records honest in
+    let found = g.R.Records.may_find c.args.self.now.records in
+    tell_fails g.R.Records.may_find c.args.self.now c.requires c.greatest_used.new.records ℕ found c.in-Err.fault c.fail.result c.fail.new.self (same_found found) (c.in-Err.ensures.kept before) c.fail.ensures.fails
 
 pub returns-in-Err-votes_from-clause-done : goal.returns-in-Err-votes_from-clause-done
 returns-in-Err-votes_from-clause-done g c honest =
-    let before = subst (λ (a : Acceptor g.row.R.Denot). IsTrue (g.R.Records.is_honest a.records)) c.fail-in-Err-votes_from.ensures.acceptor honest in
+    let before = subst (λ (a : g.row.R.Denot). IsTrue (g.R.Records.is_honest a)) c.fail-in-Err-votes_from.ensures.records honest in
     let first = c.votes_from.ensures.honest before in
-    tell_fails g.R.Records.may_find c.args.self.now c.requires record { records = c.votes_from.new.self } Votes (g.R.Records.may_find c.greatest_used.new.records) c.in-Err-votes_from.fault c.fail-in-Err-votes_from.result c.fail-in-Err-votes_from.new.self
+    tell_fails g.R.Records.may_find c.args.self.now c.requires c.votes_from.new.self Votes (g.R.Records.may_find c.greatest_used.new.records) c.in-Err-votes_from.fault c.fail-in-Err-votes_from.result c.fail-in-Err-votes_from.new.self
     (c.in-Ok.ensures.kept first) (c.in-Err-votes_from.ensures.kept before) c.fail-in-Err-votes_from.ensures.fails
 
 pub returns-then-used-ne0-clause-done : goal.returns-then-used-ne0-clause-done
 returns-then-used-ne0-clause-done g c honest =
     let first = c.votes_from.ensures.honest honest in
-    tells g.R.Records.may_find c.args.self.now c.requires record { records = c.votes_from.new.self } (same_then _ _ _ (c.in-Ok.ensures.kept first) (c.in-Ok-votes_from.ensures.kept honest)) _
+    tells g.R.Records.may_find c.args.self.now c.requires c.votes_from.new.self (same_then _ _ _ (c.in-Ok.ensures.kept first) (c.in-Ok-votes_from.ensures.kept honest)) _
     (λ content holds. no_tell _ (used_content g.R.Records.may_find c.args.self.now c.requires content c.in-Ok.used (c.in-Ok.ensures.value first content holds) (λ none. absurd (omega (arith, none)))))
 
 pub returns-then-not-is_empty-clause-done : goal.returns-then-not-is_empty-clause-done
 returns-then-not-is_empty-clause-done g c honest =
     let first = c.votes_from.ensures.honest honest in
     let votes : c.in-Ok-votes_from.votes ≡ [] → ⊥ = λ none. absurd (cc (eq-eqb (length c.rows.result.now) 0 (ap length (c.rows.ensures ∙ none)), c.if-not-is_empty.ensures)) in
-    tells g.R.Records.may_find c.args.self.now c.requires record { records = c.votes_from.new.self } (same_then _ _ _ (c.in-Ok.ensures.kept first) (c.in-Ok-votes_from.ensures.kept honest)) _
+    tells g.R.Records.may_find c.args.self.now c.requires c.votes_from.new.self (same_then _ _ _ (c.in-Ok.ensures.kept first) (c.in-Ok-votes_from.ensures.kept honest)) _
     (λ content holds. no_tell _ (voted_content g.R.Records.may_find c.args.self.now c.requires content c.in-Ok-votes_from.votes
     (c.in-Ok-votes_from.ensures.value honest content (still_holds _ _ content (c.in-Ok.ensures.kept first) holds) ∙ ap (rows_from content.votes) c.place_of.ensures) votes))
 
@@ -40,7 +39,7 @@ pub returns-clause-done : goal.returns-clause-done
 returns-clause-done g c honest =
     let first = c.votes_from.ensures.honest honest in
     let votes : c.in-Ok-votes_from.votes ≡ [] = sym c.rows.ensures ∙ nil_from_length c.rows.result.now (eqb-true (length c.rows.result.now) 0 (sym c.if-not-is_empty.ensures)) in
-    tells g.R.Records.may_find c.args.self.now c.requires record { records = c.votes_from.new.self } (same_then _ _ _ (c.in-Ok.ensures.kept first) (c.in-Ok-votes_from.ensures.kept honest)) c.is_untouched.result
+    tells g.R.Records.may_find c.args.self.now c.requires c.votes_from.new.self (same_then _ _ _ (c.in-Ok.ensures.kept first) (c.in-Ok-votes_from.ensures.kept honest)) c.is_untouched.result
     (λ content holds.
     let mid = still_holds _ _ content (c.in-Ok.ensures.kept first) holds in
     let rows : rows_from content.votes 1 ≡ [] = sym (c.in-Ok-votes_from.ensures.value honest content mid ∙ ap (rows_from content.votes) c.place_of.ensures) ∙ votes in
@@ -48,9 +47,9 @@ returns-clause-done g c honest =
 
 pub returns-in-Err-clause-kept : goal.returns-in-Err-clause-kept
 returns-in-Err-clause-kept g c =
-    failed g.R.Records.count_of g.R.Records.is_broken c.args.self.now record { records = c.greatest_used.new.records } c.in-Err.fault c.fail.result c.fail.new.self c.requires c.fail.ensures.fails c.in-Err.ensures.count c.in-Err.ensures.broken
+    failed g.R.Records.count_of g.R.Records.is_broken c.args.self.now c.greatest_used.new.records c.in-Err.fault c.fail.result c.fail.new.self c.requires c.fail.ensures.fails c.in-Err.ensures.count c.in-Err.ensures.broken
 
 pub returns-in-Err-votes_from-clause-kept : goal.returns-in-Err-votes_from-clause-kept
 returns-in-Err-votes_from-clause-kept g c =
-    failed g.R.Records.count_of g.R.Records.is_broken c.args.self.now record { records = c.votes_from.new.self } c.in-Err-votes_from.fault c.fail-in-Err-votes_from.result c.fail-in-Err-votes_from.new.self c.requires c.fail-in-Err-votes_from.ensures.fails
+    failed g.R.Records.count_of g.R.Records.is_broken c.args.self.now c.votes_from.new.self c.in-Err-votes_from.fault c.fail-in-Err-votes_from.result c.fail-in-Err-votes_from.new.self c.requires c.fail-in-Err-votes_from.ensures.fails
     (counts_then _ _ _ c.in-Err-votes_from.fault (c.in-Ok.ensures.count.2 tt) c.in-Err-votes_from.ensures.count) (breaks_then _ _ _ c.in-Err-votes_from.fault c.in-Ok.ensures.broken.0 c.in-Err-votes_from.ensures.broken)

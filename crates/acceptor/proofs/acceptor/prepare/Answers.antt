@@ -5,7 +5,7 @@ use Rattle.acceptor.specs.Content.Write.{Promises}
 use Rattle.acceptor.specs.Found.{Holds, FindsSame}
 use Rattle.acceptor.specs.Faults.{IsHarmless}
 use Rattle.acceptor.proofs.Certain.{same_then, still_holds, on_err}
-use Rattle.acceptor.proofs.acceptor.Acceptor.prepare.Goals as goal
+use Rattle.acceptor.proofs.acceptor.prepare.Goals as goal
 
 pub returns-in-Some-clause-ok : goal.returns-in-Some-clause-ok
 returns-in-Some-clause-ok g c honest d holds =
@@ -16,7 +16,7 @@ returns-in-Some-clause-ok g c honest d holds =
 pub returns-in_err-put_promised-clause-doubt : goal.returns-in_err-put_promised-clause-doubt
 returns-in_err-put_promised-clause-doubt g c honest =
     let found = g.R.Records.may_find c.put_promised.new.self in
-    let all : (d : Content) → Holds (g.R.Records.may_find c.args.self.now.records) d → MayHavePromised d c.args.ballot found = λ d holds.
+    let all : (d : Content) → Holds (g.R.Records.may_find c.args.records.now) d → MayHavePromised d c.args.ballot found = λ d holds.
     let before = c.put_promised.ensures.honest honest in
     let first = c.votes_from.ensures.honest before in
     let read = c.in_ok-promised.ensures.value first d holds in
@@ -31,7 +31,7 @@ returns-in_err-put_promised-clause-harmless g c honest =
     let first = c.votes_from.ensures.honest before in
     let same = same_then _ _ _ (c.in_ok-promised.ensures.kept first) (c.in_ok-votes.ensures.kept before) in
     let is : c.from_residual-in_err-put_promised.result ≡ Err c.in_err-put_promised.field-0.0 = search rules in
-    subst (λ r. IfErr r (λ e. IsHarmless e → FindsSame (g.R.Records.may_find c.args.self.now.records) (g.R.Records.may_find c.put_promised.new.self))) (sym is) (λ e. same_then _ _ _ same (c.in_err-put_promised.ensures.harmless honest e))
+    subst (λ r. IfErr r (λ e. IsHarmless e → FindsSame (g.R.Records.may_find c.args.records.now) (g.R.Records.may_find c.put_promised.new.self))) (sym is) (λ e. same_then _ _ _ same (c.in_err-put_promised.ensures.harmless honest e))
 
 pub returns-clause-ok : goal.returns-clause-ok
 returns-clause-ok g c honest d holds =

@@ -5,7 +5,7 @@ use Rattle.acceptor.specs.Content.{Content, promised}
 use Rattle.acceptor.specs.Content.Write.{Votes}
 use Rattle.acceptor.specs.Found.{Holds}
 use Rattle.acceptor.proofs.Certain.{still_holds, at_want, on_err}
-use Rattle.acceptor.proofs.acceptor.Acceptor.accept.Goals as goal
+use Rattle.acceptor.proofs.acceptor.accept.Goals as goal
 
 pub returns-in-Some-clause-ok : goal.returns-in-Some-clause-ok
 returns-in-Some-clause-ok g c honest d holds =
@@ -24,8 +24,8 @@ returns-in-Some-value_for-clause-ok g c honest d holds =
 
 pub returns-in_err-vote_now-clause-doubt : goal.returns-in_err-vote_now-clause-doubt
 returns-in_err-vote_now-clause-doubt g c honest =
-    let may = g.R.Records.may_find c.vote_now.new.self.records in
-    let all : (d : Content) → Holds (g.R.Records.may_find c.args.self.now.records) d → MayHaveVoted d c.args.ballot c.args.place c.args.value may = λ d holds.
+    let may = g.R.Records.may_find c.vote_now.new.records in
+    let all : (d : Content) → Holds (g.R.Records.may_find c.args.records.now) d → MayHaveVoted d c.args.ballot c.args.place c.args.value may = λ d holds.
     let before = c.vote_now.ensures.honest honest in
     let first = c.vote.ensures.honest before in
     let read = c.in_ok-promised.ensures.value first d holds in
@@ -50,7 +50,7 @@ returns-clause-ok g c honest d holds =
 
 pub returns-in_err-vote_now-clause-memory : goal.returns-in_err-vote_now-clause-memory
 returns-in_err-vote_now-clause-memory g c honest =
-    let all : (d : Content) → Holds (g.R.Records.may_find c.args.self.now.records) d → IsNewVote d c.args.ballot c.args.place = λ d holds.
+    let all : (d : Content) → Holds (g.R.Records.may_find c.args.records.now) d → IsNewVote d c.args.ballot c.args.place = λ d holds.
     let before = c.vote_now.ensures.honest honest in
     let first = c.vote.ensures.honest before in
     let read = c.in_ok-promised.ensures.value first d holds in
