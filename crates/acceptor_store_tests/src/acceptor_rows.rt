@@ -1,4 +1,4 @@
-use acceptor::{Accepted, Acceptor, Prepared, Records};
+use acceptor::{Accepted, Prepared, Records, accept, prepare};
 use acceptor_store::{OpenFault, SqlRecords, open_files};
 use ballots::{Ballot, Bytes, Place, Value};
 use sqlite::{FileStore, Files};
@@ -27,14 +27,15 @@ fn ballot(rt: &impl Abort, number: u64) -> Ballot {
     Ballot::new(number).expect(rt, "a ballot")
 }
 
-fn prepare<R: Records>(
+/// What an acceptor over the records answers to a ballot.
+fn prepared<R: Records>(
     rt: &impl Abort,
     alloc: Global,
-    acceptor: &mut Acceptor<R>,
+    records: &mut R,
     number: u64,
 ) -> Result<String, Fail> {
     let place = Place::new(1).expect(rt, "a place");
-    let votes = match acceptor.prepare(ballot(rt, number), place)? {
+    let votes = match prepare(records, ballot(rt, number), place)? {
         Prepared::Higher(other) => return Ok(format!(in alloc; "higher {}", other.number())?),
         Prepared::Promised(votes) => votes,
     };
@@ -48,15 +49,16 @@ fn prepare<R: Records>(
     }
 }
 
-fn accept<R: Records>(
+/// What it answers to a value.
+fn accepted<R: Records>(
     rt: &impl Abort,
     alloc: Global,
-    acceptor: &mut Acceptor<R>,
+    records: &mut R,
     number: u64,
     byte: u8,
 ) -> Result<String, Fail> {
     let place = Place::new(1).expect(rt, "a place");
-    match acceptor.accept(ballot(rt, number), place, value(rt, alloc, byte)?)? {
+    match accept(records, ballot(rt, number), place, value(rt, alloc, byte)?)? {
         Accepted::Higher(other) => Ok(format!(in alloc; "higher {}", other.number())?),
         Accepted::Voted(bytes) => Ok(format!(in alloc; "voted {:?}", bytes.as_slice())?),
     }
@@ -65,21 +67,19 @@ fn accept<R: Records>(
 fn is_answered<R: Records>(
     rt: &impl Abort,
     alloc: Global,
-    acceptor: &mut Acceptor<R>,
+    records: &mut R,
     case: (u64, Option<u8>, &str),
 ) -> Result<bool, Fail> {
     let answer = match case.1 {
-        None => prepare(rt, alloc, acceptor, case.0)?,
-        Some(byte) => accept(rt, alloc, acceptor, case.0, byte)?,
+        None => prepared(rt, alloc, records, case.0)?,
+        Some(byte) => accepted(rt, alloc, records, case.0, byte)?,
     };
     Ok(answer.as_str() == case.2)
 }
 
 #[test]
 fn promises_and_votes(rt: HostRuntime) -> Result<(), Fail> {
-    let mut acceptor = Acceptor {
-        records: fresh(rt.alloc())?,
-    };
+    let mut records = fresh(rt.alloc())?;
     for case in [
         (9, None, "promised"),
         (9, None, "higher 9"),
@@ -91,9 +91,9 @@ fn promises_and_votes(rt: HostRuntime) -> Result<(), Fail> {
         (18, Some(b'B'), "voted [66]"),
         (18, Some(b'C'), "voted [66]"),
     ] {
-        assert!(rt; is_answered(&rt, rt.alloc(), &mut acceptor, case)?);
+        assert!(rt; is_answered(&rt, rt.alloc(), &mut records, case)?);
     }
-    assert_eq!(rt; acceptor.records.failures(), 0);
+    assert_eq!(rt; records.failures(), 0);
     Ok(())
 }
 

@@ -1,20 +1,19 @@
 //! A vote that is written as the records break.
 
-use acceptor::{Acceptor, Records, RecordsFault};
+use acceptor::{Records, RecordsFault, accept};
 use ballots::{Ballot, Bytes, Place, Value};
 use faulty_records::{Failure, FaultyRecords, Trouble};
 use std::alloc::Global;
 use std::test::Fail;
 
-/// An acceptor whose third call on its records, the write of its first vote, fails.
-fn acceptor(alloc: Global, failure: Failure) -> Acceptor<FaultyRecords> {
+/// Records whose third call, the write of the first vote, fails.
+fn records(alloc: Global, failure: Failure) -> FaultyRecords {
     let trouble = Trouble {
         failure,
         first: 3,
         last: 3,
     };
-    let records = FaultyRecords::new(alloc, trouble);
-    Acceptor { records }
+    FaultyRecords::new(alloc, trouble)
 }
 
 /// A vote of ballot 9 at place 1, for the byte 0A.
@@ -26,23 +25,23 @@ fn vote(alloc: Global) -> Result<(Ballot, Place, Value), Fail> {
     Ok((ballot, place, value))
 }
 
-/// Whether the acceptor can't tell a vote.
-fn fails(alloc: Global, acceptor: &mut Acceptor<FaultyRecords>) -> Result<bool, Fail> {
+/// Whether an acceptor over the records can't tell a vote.
+fn fails(alloc: Global, records: &mut FaultyRecords) -> Result<bool, Fail> {
     let (ballot, place, value) = vote(alloc)?;
-    Ok(acceptor.accept(ballot, place, value).is_err())
+    Ok(accept(records, ballot, place, value).is_err())
 }
 
 /// How many calls came on the records until the vote was told, after it failed once and the records were opened again.
 fn calls_until_told(alloc: Global, failure: Failure) -> Result<u64, Fail> {
-    let mut acceptor = acceptor(alloc, failure);
-    if !fails(alloc, &mut acceptor)? {
+    let mut records = records(alloc, failure);
+    if !fails(alloc, &mut records)? {
         return Ok(0);
     }
-    acceptor.records.reopen()?;
-    if fails(alloc, &mut acceptor)? {
+    records.reopen()?;
+    if fails(alloc, &mut records)? {
         return Ok(0);
     }
-    Ok(acceptor.records.faults.calls)
+    Ok(records.faults.calls)
 }
 
 #[test]
@@ -55,9 +54,9 @@ fn a_vote_that_was_kept_is_told_without_a_write(rt: HostRuntime) -> Result<(), F
 
 #[test]
 fn broken_records_answer_nothing(rt: HostRuntime) -> Result<(), Fail> {
-    let mut acceptor = acceptor(rt.alloc(), Failure::BrokenUnwritten);
-    assert!(rt; fails(rt.alloc(), &mut acceptor)?);
-    assert_eq!(rt; acceptor.records.promised(), Err(RecordsFault::Broken));
-    assert_eq!(rt; acceptor.records.failures(), 2);
+    let mut records = records(rt.alloc(), Failure::BrokenUnwritten);
+    assert!(rt; fails(rt.alloc(), &mut records)?);
+    assert_eq!(rt; records.promised(), Err(RecordsFault::Broken));
+    assert_eq!(rt; records.failures(), 2);
     Ok(())
 }

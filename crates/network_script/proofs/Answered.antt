@@ -10,8 +10,8 @@ use Rattle.node.specs.View.Standing.{Running, Stopped}
 use Rattle.proposer.specs.declared.fault.NodeFault.{NodeFault as Fault}
 use Rattle.proposer.specs.declared.fault.NodeFault.TheVariants as fault
 use Rattle.node.specs.Calls.Cause.{Lead as AskedToLead, Offer as Offered, Receive as Received}
-use Rattle.ballots.specs.Limits.{longest_value}
-use Rattle.node.specs.Step.{Outcome, receive, offer, limit, last_place, sends, to_all, Leads}
+use Rattle.ballots.specs.Limits.{longest_value, most_places}
+use Rattle.node.specs.Step.{Outcome, receive, offer, limit, sends, to_all, Leads}
 use Rattle.proposer.specs.declared.role.Role.{Role}
 use Rattle.proposer.specs.declared.role.Role.TheVariants.{Idle, Preparing, Leading}
 use Rattle.ballots.specs.declared.letters.Note.TheVariants.{Accept}
@@ -58,14 +58,14 @@ least_ballot_tells above node small =
     none c of_node high (inl le) = le
     none c of_node high (inr higher) = let least : round * 8 + node ≤ c = least_least above node round c small refl of_node.0 of_node.2 higher in absurd (omega (arith, of_node.1))
 
-leads_so : (members k : ℕ) (view : View) (o : Option ℕ) → length (gapless view) < last_place → IsToldLeast (limit view) k o → Leads members k view (lead_at members k view o)
+leads_so : (members k : ℕ) (view : View) (o : Option ℕ) → length (gapless view) < most_places → IsToldLeast (limit view) k o → Leads members k view (lead_at members k view o)
 leads_so members k view None room told = inr (refl, room, told)
 leads_so members k view (Some b) room told = (room, (b, told, refl))
 
 lead_leads : (members k : ℕ) (view : View) → k < 8 → Leads members k view (lead members k view)
 lead_leads members k view small =
-    cond_both (nat_le last_place (length (gapless view))) (Err fault.LogFull) (lead_at members k view (least_ballot (limit view) k)) (λ course. Leads members k view course) (λ full. inl (refl, leb-true last_place (length (gapless view)) full))
-    (λ room. leads_so members k view (least_ballot (limit view) k) (leb-false last_place (length (gapless view)) room) (least_ballot_tells (limit view) k small))
+    cond_both (nat_le most_places (length (gapless view))) (Err fault.LogFull) (lead_at members k view (least_ballot (limit view) k)) (λ course. Leads members k view course) (λ full. inl (refl, leb-true most_places (length (gapless view)) full))
+    (λ room. leads_so members k view (least_ballot (limit view) k) (leb-false most_places (length (gapless view)) room) (least_ballot_tells (limit view) k small))
 
 -- node k may move so, and the world is then this one
 abbrev Comes : (Answer → Move → Type 0) → Written → ℕ → Answer → Written → Type 0
@@ -122,7 +122,7 @@ same_world w more none = λ i. record w { transmissions = (sym (append-nil w.tra
 -- a call that is computed isn't told to lack memory or a store
 lead_told : (w : Written) (k : ℕ) (view : View) → IsToldLast (length w.nodes) k view AskedToLead (plain.ends w k view (lead (length w.nodes) k view)).0
 lead_told w k view =
-    cond_both (nat_le last_place (length (gapless view))) (Err fault.LogFull) (lead_at (length w.nodes) k view (least_ballot (limit view) k))
+    cond_both (nat_le most_places (length (gapless view))) (Err fault.LogFull) (lead_at (length w.nodes) k view (least_ballot (limit view) k))
     (λ course. IsToldLast (length w.nodes) k view AskedToLead (plain.ends w k view course).0)
     (λ full stop. absurd stop) (λ room. tries (least_ballot (limit view) k))
   where
@@ -134,9 +134,9 @@ offer_told : (w : Written) (k : ℕ) (view : View) (role : Role) (value : List �
 offer_told w k view Idle value is = λ stop. absurd stop
 offer_told w k view (Preparing b q counted joined) value is = λ stop. absurd stop
 offer_told w k view (Leading b next) value is =
-    cond_both (nat_lt longest_value (length value)) (Err fault.ValueTooLong) (if nat_lt last_place next then Err fault.LogFull else Ok whole) Told
+    cond_both (nat_lt longest_value (length value)) (Err fault.ValueTooLong) (if nat_lt most_places next then Err fault.LogFull else Ok whole) Told
     (λ long stop. absurd stop)
-    (λ short. cond_both (nat_lt last_place next) (Err fault.LogFull) (Ok whole) Told (λ full stop. absurd stop) (λ room. tt))
+    (λ short. cond_both (nat_lt most_places next) (Err fault.LogFull) (Ok whole) Told (λ full stop. absurd stop) (λ room. tt))
   where
     whole : Outcome
     whole = sends (record view { role = Leading b (next + 1) }) (to_all (length w.nodes) k (Accept b next value))

@@ -3,6 +3,7 @@ use Rattle.std.proofs.Common.{◌≡◌, ◌⊎◌, inl, inr, ⊎_elim, ℕ, ◌
 use Rattle.std.specs.List.{list_any}
 use Rattle.std.proofs.lemmas.Bool.{cond_both, and_parts, or_cases, ltb-true, eqb-true}
 use Rattle.std.proofs.lemmas.Bool.Decides.{nat_tests}
+use Rattle.ballots.specs.Limits.{most_places}
 use Rattle.ballots.specs.Ballots.{ballot_node, IsLeastAbove}
 use Rattle.ballots.specs.declared.letters.Cast.{Cast}
 use Rattle.ballots.specs.declared.letters.Note.{Note}
@@ -16,7 +17,7 @@ use Rattle.node.specs.View.{View, Standing, gapless}
 use Rattle.proposer.specs.declared.role.Role.TheVariants.{Idle, Preparing, Leading}
 use Rattle.node.specs.View.Standing.{Running}
 use Rattle.proposer.specs.declared.fault.NodeFault.{NodeFault as Fault}
-use Rattle.node.specs.Step.{Outcome, nothing, sends, to_all, proposals, after_promise, promise, offer, limit, lead_with, last_place}
+use Rattle.node.specs.Step.{Outcome, nothing, sends, to_all, proposals, after_promise, promise, offer, limit, lead_with}
 use Rattle.learner.specs.Tally.{is_majority}
 use Rattle.proposer.specs.Joining.{join, place_after, proposal}
 use Rattle.network_script.proofs.Invariant.{IsProposed, PromiseOk, IsCounted, CountedOk, LeadsOk, OwnOk, RoleOk, UpOk, LetterOk, Invariant}
@@ -199,8 +200,8 @@ module _ (members : ℕ) (h : List Entry) (sent : List Letter) (states : List St
   offer_sound Idle v role own = tt
   offer_sound (Preparing b q counted joined) v role own = tt
   offer_sound (Leading b next) v role own =
-      cond_both (nat_lt 64 (length v)) (Err Fault.ValueTooLong) (cond (nat_lt last_place next) (Err Fault.LogFull) (Ok (sends (record view { role = Leading b (next + 1) }) (to_all members k (Accept b next v))))) SoundIfOk (λ long. tt)
-      (λ short. cond_both (nat_lt last_place next) (Err Fault.LogFull) (Ok (sends (record view { role = Leading b (next + 1) }) (to_all members k (Accept b next v)))) SoundIfOk (λ full. tt) (λ room. offers b next v role own))
+      cond_both (nat_lt 64 (length v)) (Err Fault.ValueTooLong) (cond (nat_lt most_places next) (Err Fault.LogFull) (Ok (sends (record view { role = Leading b (next + 1) }) (to_all members k (Accept b next v))))) SoundIfOk (λ long. tt)
+      (λ short. cond_both (nat_lt most_places next) (Err Fault.LogFull) (Ok (sends (record view { role = Leading b (next + 1) }) (to_all members k (Accept b next v)))) SoundIfOk (λ full. tt) (λ room. offers b next v role own))
 
   -- a node that tries a ballot above all that it tried before
   pub lead_sound : (b : ℕ) → IsLeastAbove (limit view) k b → Sound members h sent k view (lead_with members k view b)

@@ -1,11 +1,12 @@
 -- A run in which nothing fails, computed: the plain program of the written world, for scripts without modems.
 use Rattle.std.specs.Prelude.{◌≡◌, ◌≤◌, ℕ, ◌+◌, ◌-◌, ◌*◌, ◌/◌, ◌^◌, max, nat_lt, nat_le, if◌then◌else◌, List, [], ◌∷◌, ◌++◌, length, Option, Some, None, Result, Ok, Err, slice_get, slice_set}
+use Rattle.ballots.specs.Limits.{most_places}
 use Rattle.ballots.specs.declared.letters.Letter.{Letter}
 use Rattle.node.specs.View.{View, Standing, started, gapless}
 use Rattle.node.specs.View.Standing.{Running, Stopped}
 use Rattle.proposer.specs.declared.fault.NodeFault.{NodeFault as Fault}
 use Rattle.proposer.specs.declared.fault.NodeFault.TheVariants as fault
-use Rattle.node.specs.Step.{Outcome, receive, offer, limit, lead_with, last_place}
+use Rattle.node.specs.Step.{Outcome, receive, offer, limit, lead_with}
 use Rattle.network_script_parts.specs.declared.event.Event.{Event}
 use Rattle.network_script_parts.specs.declared.event.Event.TheVariants.{Lead, Offer, Deliver, DeliverThenCrash, Crash, Restart, Release}
 use Rattle.network_script_parts.specs.declared.event.Answer.{Answer}
@@ -27,7 +28,7 @@ lead_at members me view None = Err fault.RoundsSpent
 lead_at members me view (Some b) = Ok (lead_with members me view b)
 
 abbrev pub lead : ℕ → ℕ → View → Result Outcome Fault
-lead members me view = if nat_le last_place (length (gapless view)) then Err fault.LogFull else lead_at members me view (least_ballot (limit view) me)
+lead members me view = if nat_le most_places (length (gapless view)) then Err fault.LogFull else lead_at members me view (least_ballot (limit view) me)
 
 -- an answer, and the world after it
 abbrev pub Told : Type 0

@@ -13,10 +13,6 @@ use Rattle.node.specs.Calls.{Who}
 use Rattle.network_script_parts.specs.Fresh.{AreFresh}
 use Rattle.network_script_parts.specs.Receiving.{AreNew, IsNew}
 
--- a node's number, and of how many
-abbrev pub member_of : Who → ℕ × ℕ
-member_of w = (w.id, w.members)
-
 -- the first n of so many fresh nodes
 pub record AreFirst {N : Type 0} (who : N → Who) (honest : N → Bool) (stands : N → Standing → Type 0) (members n : ℕ) (nodes : List N) : Type 0 where
   pub fresh : All (λ node. IsTrue (honest node) → stands node (Running (started no_content))) nodes
@@ -30,21 +26,27 @@ none_first {N} who honest stands members nodes none =
     let U = λ (node : N). (who node).down ≡ false in
     subst (λ (ns : List N). AreFirst who honest stands members 0 ns) (sym none) record { fresh = All-nil F; up = All-nil U; count = refl; numbered = refl }
 
--- one more
-pub more_first : {N : Type 0} (who : N → Who) (honest : N → Bool) (stands : N → Standing → Type 0) (members n id : ℕ) (nodes more : List N) (node : N) → AreFirst who honest stands members n nodes → id ≡ n → who node ≡ record { id = id; members = members; failures = 0; broken = false; down = false } → (IsTrue (honest node) → stands node (Running (started no_content))) → more ≡ nodes ++ node ∷ [] → AreFirst who honest stands members (n + 1) more
-more_first {N} who honest stands members n id nodes more node are is_n is at_start pushed =
+-- one more, by what is known of it
+pub next_first : {N : Type 0} (who : N → Who) (honest : N → Bool) (stands : N → Standing → Type 0) (members n : ℕ) (nodes more : List N) (node : N) → AreFirst who honest stands members n nodes
+    → (who node).id ≡ n → (who node).members ≡ members → (who node).down ≡ false → (IsTrue (honest node) → stands node (Running (started no_content))) → more ≡ nodes ++ node ∷ [] → AreFirst who honest stands members (n + 1) more
+next_first {N} who honest stands members n nodes more node are id of up at_start pushed =
     let F = λ (x : N). IsTrue (honest x) → stands x (Running (started no_content)) in
     let U = λ (x : N). (who x).down ≡ false in
     let member : N → ℕ × ℕ = λ x. ((who x).id, (who x).members) in
     let number : ℕ → ℕ × ℕ = λ k. (k, members) in
-    let here : member node ≡ number n = ap member_of is ∙ ap number is_n in
+    let here : member node ≡ number n = λ i. (id i, of i) in
     subst (λ (ns : List N). AreFirst who honest stands members (n + 1) ns) (sym pushed)
     (record {
       fresh = All-push F nodes node are.fresh at_start;
-      up = All-push U nodes node are.up (ap (λ (w : Who). w.down) is);
+      up = All-push U nodes node are.up up;
       count = omega (arith, length-append nodes (node ∷ []), are.count);
       numbered = map_push member nodes node ∙ (ap (λ (l : List (ℕ × ℕ)). l ++ member node ∷ []) are.numbered ∙ (ap (λ (x : ℕ × ℕ). map number (range_with_len 0 n) ++ x ∷ []) here ∙ sym (map-range_with_len_more number 0 n n (omega arith))));
     })
+
+-- one more that has failed in nothing
+pub more_first : {N : Type 0} (who : N → Who) (honest : N → Bool) (stands : N → Standing → Type 0) (members n id : ℕ) (nodes more : List N) (node : N) → AreFirst who honest stands members n nodes → id ≡ n → who node ≡ record { id = id; members = members; failures = 0; broken = false; down = false } → (IsTrue (honest node) → stands node (Running (started no_content))) → more ≡ nodes ++ node ∷ [] → AreFirst who honest stands members (n + 1) more
+more_first who honest stands members n id nodes more node are is_n is at_start pushed =
+    next_first who honest stands members n nodes more node are (ap (λ (w : Who). w.id) is ∙ is_n) (ap (λ (w : Who). w.members) is) (ap (λ (w : Who). w.down) is) at_start pushed
 
 -- all of them
 pub all_first : {N : Type 0} (who : N → Who) (honest : N → Bool) (stands : N → Standing → Type 0) (members n : ℕ) (nodes : List N) → AreFirst who honest stands members n nodes → n ≡ members → AreFresh who honest stands nodes

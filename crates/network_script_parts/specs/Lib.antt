@@ -5,6 +5,7 @@ pub mod Seat
 pub mod Occupant
 pub mod Fresh
 pub mod StoreFaults
+pub mod Refusals
 pub mod Release
 pub mod Moves
 pub mod Fields

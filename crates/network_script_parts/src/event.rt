@@ -38,19 +38,41 @@ pub enum Event {
 /// Why an event changed nothing.
 #[derive(Clone, Copy, Debug, PartialEq, Eq)]
 pub enum Refusal {
-    NoLetter = 1,
+    NoLetter,
     /// The node has crashed.
-    NodeDown = 2,
+    NodeDown,
     /// A restart of a node that is up.
-    NodeUp = 3,
-    NoOutput = 4,
+    NodeUp,
+    NoOutput,
     /// A MAP that is heard 2^31 minislots or more from its start.
-    TooOld = 5,
-    NoModem = 6,
+    TooOld,
+    NoModem,
     /// A minislot before the modem's clock.
-    TimeBack = 7,
-    NoNode = 8,
-    OutOfMemory = 9,
+    TimeBack,
+    NoNode,
+    OutOfMemory,
+}
+
+impl Refusal {
+    ghost use Rattle.std.specs.Prelude.{◌≡◌};
+    ghost use Rattle.network_script_parts.specs.Refusals.{number_of};
+
+    /// The number that stands for the refusal in reports.
+    pub fn number(self) -> u8
+        ensures { result ≡ number_of self }
+    {
+        match self {
+            Refusal::NoLetter => 1,
+            Refusal::NodeDown => 2,
+            Refusal::NodeUp => 3,
+            Refusal::NoOutput => 4,
+            Refusal::TooOld => 5,
+            Refusal::NoModem => 6,
+            Refusal::TimeBack => 7,
+            Refusal::NoNode => 8,
+            Refusal::OutOfMemory => 9,
+        }
+    }
 }
 
 /// The answer to an event.

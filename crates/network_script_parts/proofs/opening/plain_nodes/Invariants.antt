@@ -8,5 +8,5 @@ use Rattle.network_script_parts.proofs.opening.plain_nodes.Given as goal
 
 abbrev pub invariant-loop-number : goal.invariant-loop-number
 invariant-loop-number l =
-    AreFirst {N = SchedNode PlainRecords ghosts} (λ n. who_of ghosts.count_of ghosts.is_broken n.parts) (λ n. ghosts.is_honest n.parts.acceptor.records) (λ n s. Stands ghosts.may_find n.parts s)
+    AreFirst {N = SchedNode PlainRecords ghosts} (λ n. who_of ghosts.count_of ghosts.is_broken n.parts) (λ n. ghosts.is_honest n.parts.records) (λ n s. Stands ghosts.may_find n.parts s)
     (member_count l.members) l.number l.nodes.items
