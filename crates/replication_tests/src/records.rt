@@ -1,6 +1,4 @@
-use acceptor::{
-    Accepted, PlainRecords, Prepared, Records, RecordsFault, accept, greatest_used, prepare,
-};
+use acceptor::{Accepted, Acceptor, PlainRecords, Prepared, Records, RecordsFault, greatest_used};
 use ballots::{Ballot, Bytes, Place, Value};
 use std::alloc::Global;
 use std::process::Abort;
@@ -15,15 +13,15 @@ fn ballot(rt: &impl Abort, number: u64) -> Ballot {
     Ballot::new(number).expect(rt, "a ballot")
 }
 
-/// What an acceptor over the records answers to a ballot.
-fn prepared<R: Records>(
+/// What an acceptor answers to a ballot.
+fn prepare<R: Records>(
     rt: &impl Abort,
     alloc: Global,
-    records: &mut R,
+    acceptor: &mut Acceptor<R>,
     number: u64,
 ) -> Result<String, Fail> {
     let place = Place::new(1).expect(rt, "a place");
-    let votes = match prepare(records, ballot(rt, number), place)? {
+    let votes = match acceptor.prepare(ballot(rt, number), place)? {
         Prepared::Higher(other) => return Ok(format!(in alloc; "higher {}", other.number())?),
         Prepared::Promised(votes) => votes,
     };
@@ -38,15 +36,15 @@ fn prepared<R: Records>(
 }
 
 /// What it answers to a value.
-fn accepted<R: Records>(
+fn accept<R: Records>(
     rt: &impl Abort,
     alloc: Global,
-    records: &mut R,
+    acceptor: &mut Acceptor<R>,
     number: u64,
     byte: u8,
 ) -> Result<String, Fail> {
     let place = Place::new(1).expect(rt, "a place");
-    match accept(records, ballot(rt, number), place, value(rt, alloc, byte)?)? {
+    match acceptor.accept(ballot(rt, number), place, value(rt, alloc, byte)?)? {
         Accepted::Higher(other) => Ok(format!(in alloc; "higher {}", other.number())?),
         Accepted::Voted(bytes) => Ok(format!(in alloc; "voted {:?}", bytes.as_slice())?),
     }
@@ -54,7 +52,7 @@ fn accepted<R: Records>(
 
 #[test]
 fn promises_and_votes(rt: HostRuntime) -> Result<(), Fail> {
-    let mut records = PlainRecords::new(rt.alloc());
+    let mut acceptor = Acceptor::new(PlainRecords::new(rt.alloc()));
     for (number, byte, want) in [
         (9, None, "promised"),
         (9, None, "higher 9"),
@@ -68,11 +66,12 @@ fn promises_and_votes(rt: HostRuntime) -> Result<(), Fail> {
         (24, None, "promised 1 18 [66]"),
     ] {
         let answer = match byte {
-            None => prepared(&rt, rt.alloc(), &mut records, number)?,
-            Some(byte) => accepted(&rt, rt.alloc(), &mut records, number, byte)?,
+            None => prepare(&rt, rt.alloc(), &mut acceptor, number)?,
+            Some(byte) => accept(&rt, rt.alloc(), &mut acceptor, number, byte)?,
         };
         assert_eq!(rt; answer.as_str(), want);
     }
+    let mut records = acceptor.into_records();
     assert_eq!(rt; greatest_used(&mut records)?, 24);
     assert_eq!(rt; records.failures(), 0);
     Ok(())
