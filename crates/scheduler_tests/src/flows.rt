@@ -3,7 +3,7 @@ use std::alloc::Global;
 use std::ops::Range;
 use std::test::Fail;
 
-fn channel() -> Channel {
+pub fn channel() -> Channel {
     Channel {
         id: 1,
         ucd: 7,
