@@ -10,6 +10,7 @@ use Rattle.flow_state.specs.declared.channel.Channel.{Channel}
 use Rattle.flow_state.specs.declared.flow.FlowKind.{FlowKind}
 use Rattle.flow_state.specs.declared.flow.FlowKind.TheVariants.{Ugs}
 use Rattle.flow_state.specs.declared.refusal.Refusal.{Refusal}
+use Rattle.flow_state.specs.Limits.{last_time}
 use Rattle.flow_state.specs.Rows.{Rows, Table, FlowRow, Assignment, is_flow, is_of, is_table, table_of, change_table, assignment_of, is_assignment, free_sid, insert_flow}
 use Rattle.flow_state.specs.Refusals.{on_table, table_flow_refusal, table_request_refusal, request_refusal_on}
 use Rattle.flow_state.specs.Changes.{new_table, new_flow, flow_among, flow_in_table, drop_in_table, request_in_table, sid_among, sid_for, sid_on}
@@ -126,7 +127,7 @@ find_pushed (r ∷ rows) ch n t e =
 
 -- the output gives the SID to nobody
 abbrev GivesNot : Output → ℕ → ℕ → Type 0
-GivesNot out ch sid = (m : ℕ) → ¬ (out ≡ outputs.Assigned m ch sid)
+GivesNot out ch sid = (m since until : ℕ) → ¬ (out ≡ outputs.Assigned m ch sid since until)
 
 cut_untouched : (o : Option Table) (rows : Rows) (at len not_before ack ch sid : ℕ) → table_of rows at ≡ o → Untouched rows ch sid → StaysUntouched (cut_on o rows at len not_before ack).rows (grants_on o at len not_before ack) ch sid
 cut_untouched None rows at len not_before ack ch sid e u = record { after = u; none = refl }
@@ -166,7 +167,7 @@ accepted_untouched rows (commands.Flow at modem tag kind) ch sid ok no_sid u = r
     by : (t : Table) → ch ≡ at → table_of rows at ≡ Some t → (b : Bool) → eqb (sid_for t modem tag) sid ≡ b → eqb (sid_for t modem tag) sid ≡ false
     by t same found true h =
         let sid_is : sid_on (table_of rows at) modem tag ≡ sid = ap (λ o. sid_on o modem tag) found ∙ eqb-true _ _ h in
-        absurd (no_sid modem (ap (λ k. outputs.Assigned modem k (sid_on (table_of rows at) modem tag)) (sym same) ∙ ap (outputs.Assigned modem ch) sid_is))
+        absurd (no_sid modem 0 last_time (ap (λ k. outputs.Assigned modem k (sid_on (table_of rows at) modem tag) 0 last_time) (sym same) ∙ ap (λ n. outputs.Assigned modem ch n 0 last_time) sid_is))
     by t same found false h = h
 accepted_untouched rows (commands.Drop at other) ch sid ok no_sid u = record { after = untouched_change rows at _ ch sid (λ t. refl) (λ t same found b. blank_drop t other sid b) u; none = refl }
 accepted_untouched rows (commands.Request at other m sent) ch sid ok no_sid u = record {
@@ -231,14 +232,14 @@ flow_serves rows ch modem tag sid size interval jitter base ok sid_is u =
       serving = blank_serves (assignment_of t modem tag) t modem tag sid size interval jitter base refl (ap (λ n. eqb n sid) own ∙ eqb_same sid) (u t here.1);
     }
 
-step_adds : (rows : Rows) (ch modem tag sid size interval jitter base : ℕ) → (step rows (commands.Flow ch modem tag (Ugs size interval jitter base))).output ≡ outputs.Assigned modem ch sid → Untouched rows ch sid
+step_adds : (rows : Rows) (ch modem tag sid size interval jitter base since until : ℕ) → (step rows (commands.Flow ch modem tag (Ugs size interval jitter base))).output ≡ outputs.Assigned modem ch sid since until → Untouched rows ch sid
     → Serves (step rows (commands.Flow ch modem tag (Ugs size interval jitter base))).rows ch sid size interval jitter base 0 × (step_grants rows (commands.Flow ch modem tag (Ugs size interval jitter base)) ≡ [])
-step_adds rows ch modem tag sid size interval jitter base e u = by (refusal_of rows (commands.Flow ch modem tag (Ugs size interval jitter base))) refl e
+step_adds rows ch modem tag sid size interval jitter base since until e u = by (refusal_of rows (commands.Flow ch modem tag (Ugs size interval jitter base))) refl e
   where
-    by : (o : Option Refusal) → refusal_of rows (commands.Flow ch modem tag (Ugs size interval jitter base)) ≡ o → (step_on o rows (commands.Flow ch modem tag (Ugs size interval jitter base))).output ≡ outputs.Assigned modem ch sid
+    by : (o : Option Refusal) → refusal_of rows (commands.Flow ch modem tag (Ugs size interval jitter base)) ≡ o → (step_on o rows (commands.Flow ch modem tag (Ugs size interval jitter base))).output ≡ outputs.Assigned modem ch sid since until
         → Serves (step_on o rows (commands.Flow ch modem tag (Ugs size interval jitter base))).rows ch sid size interval jitter base 0 × (step_grants_on o rows (commands.Flow ch modem tag (Ugs size interval jitter base)) ≡ [])
     by (Some r) h f = absurd cc
-    by None h f = (flow_serves rows ch modem tag sid size interval jitter base h (assigned_fields modem ch _ modem ch sid f).2 u, refl)
+    by None h f = (flow_serves rows ch modem tag sid size interval jitter base h (assigned_fields modem ch _ 0 last_time modem ch sid since until f).2 u, refl)
 
 -- ---- over a list of commands
 
@@ -248,23 +249,23 @@ out_is o outs = refl
 pub command_is : (c d : Command) → Some c ≡ Some d → c ≡ d
 command_is c d e = cc
 
-from_rows : (rows : Rows) (cs : List Command) (k ch modem tag sid size interval jitter base : ℕ) → Untouched rows ch sid
-    → slice_get cs k ≡ Some (commands.Flow ch modem tag (Ugs size interval jitter base)) → slice_get (outputs_from rows cs) k ≡ Some (outputs.Assigned modem ch sid)
-    → ((j other : ℕ) → j < k → ¬ (slice_get (outputs_from rows cs) j ≡ Some (outputs.Assigned other ch sid)))
+from_rows : (rows : Rows) (cs : List Command) (k ch modem tag sid size interval jitter base since until : ℕ) → Untouched rows ch sid
+    → slice_get cs k ≡ Some (commands.Flow ch modem tag (Ugs size interval jitter base)) → slice_get (outputs_from rows cs) k ≡ Some (outputs.Assigned modem ch sid since until)
+    → ((j other a b : ℕ) → j < k → ¬ (slice_get (outputs_from rows cs) j ≡ Some (outputs.Assigned other ch sid a b)))
     → AreDue (filter (is_grant_to ch sid) (grants_from rows cs)) size interval jitter base 0
-from_rows rows [] k ch modem tag sid size interval jitter base u c_is o_is first = absurd cc
-from_rows rows (c ∷ cs) zero ch modem tag sid size interval jitter base u c_is o_is first =
+from_rows rows [] k ch modem tag sid size interval jitter base since until u c_is o_is first = absurd cc
+from_rows rows (c ∷ cs) zero ch modem tag sid size interval jitter base since until u c_is o_is first =
     let kind : FlowKind = Ugs size interval jitter base in
     let flow : Command = commands.Flow ch modem tag kind in
     let same : c ≡ flow = command_is c flow c_is in
-    let gives : (step rows flow).output ≡ outputs.Assigned modem ch sid = ap (λ (d : Command). (step rows d).output) (sym same) ∙ output_is _ _ o_is in
-    let adds = step_adds rows ch modem tag sid size interval jitter base gives u in
+    let gives : (step rows flow).output ≡ outputs.Assigned modem ch sid since until = ap (λ (d : Command). (step rows d).output) (sym same) ∙ output_is _ _ o_is in
+    let adds = step_adds rows ch modem tag sid size interval jitter base since until gives u in
     let rest = due_from (step rows flow).rows cs ch sid size interval jitter base 0 adds.0 in
     subst (λ (d : Command). AreDue (filter (is_grant_to ch sid) (grants_from rows (d ∷ cs))) size interval jitter base 0) (sym same)
     (subst (λ (gs : List Grant). AreDue (filter (is_grant_to ch sid) (gs ++ grants_from (step rows flow).rows cs)) size interval jitter base 0) (sym adds.1) rest)
-from_rows rows (c ∷ cs) (suc k) ch modem tag sid size interval jitter base u c_is o_is first =
-    let stays = step_untouched rows c ch sid (λ m e. first 0 m (omega arith) (ap (λ (o : Output). Some o) e)) u in
-    let rest = from_rows (step rows c).rows cs k ch modem tag sid size interval jitter base stays.after c_is o_is (λ j other lt e. first (suc j) other (omega arith) e) in
+from_rows rows (c ∷ cs) (suc k) ch modem tag sid size interval jitter base since until u c_is o_is first =
+    let stays = step_untouched rows c ch sid (λ m a b e. first 0 m a b (omega arith) (ap (λ (o : Output). Some o) e)) u in
+    let rest = from_rows (step rows c).rows cs k ch modem tag sid size interval jitter base since until stays.after c_is o_is (λ j other a b lt e. first (suc j) other a b (omega arith) e) in
     subst (λ (gs : List Grant). AreDue gs size interval jitter base 0)
     (sym (filter_append (is_grant_to ch sid) (step_grants rows c) (grants_from (step rows c).rows cs) ∙ ap (λ (gs : List Grant). gs ++ filter (is_grant_to ch sid) (grants_from (step rows c).rows cs)) stays.none)) rest
 
@@ -280,5 +281,5 @@ increasing first is end r k lt = let next : k + 1 ≡ suc k = omega arith in rw 
 -- the grants of an unsolicited grant flow, in order, begin within the jitter of due times whose numbers rise
 pub unsolicited_grants_are_due : UnsolicitedGrantsAreDue
 unsolicited_grants_are_due cs k ch sid size interval jitter base a =
-    let due = from_rows [] cs k ch a.modem a.tag sid size interval jitter base (λ t e. absurd cc) a.asked a.added a.first in
+    let due = from_rows [] cs k ch a.modem a.tag sid size interval jitter base a.added.0 a.added.1 (λ t e. absurd cc) a.asked a.added.2 (λ j other first last lt e. a.first j other lt (first, last, e)) in
     (due.numbers, increasing 0 due.numbers due.next due.rising, due.due)

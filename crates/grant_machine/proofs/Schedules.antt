@@ -197,35 +197,35 @@ sid_unicast None t modem tag kind e ok g =
     let free = some_sid t modem tag kind e ok in
     subst (λ n. (1 ≤ n) × (n ≤ last_sid)) (sym (unwrap_some (free_sid t) free.0 free.1)) (free_unicast t free.0 free.1)
 
-assigned_unicast : (rows : Rows) (c : Command) (m ch sid : ℕ) → ((at : ℕ) → At GivesUnicast rows at) → (step rows c).output ≡ outputs.Assigned m ch sid → (1 ≤ sid) × (sid ≤ last_sid)
-assigned_unicast rows c m ch sid g e = by (refusal_of rows c) refl e
+assigned_unicast : (rows : Rows) (c : Command) (m ch sid since until : ℕ) → ((at : ℕ) → At GivesUnicast rows at) → (step rows c).output ≡ outputs.Assigned m ch sid since until → (1 ≤ sid) × (sid ≤ last_sid)
+assigned_unicast rows c m ch sid since until g e = by (refusal_of rows c) refl e
   where
-    cut_not : (o : Option Table) (at len not_before ack : ℕ) → (cut_on o rows at len not_before ack).output ≡ outputs.Assigned m ch sid → ⊥
+    cut_not : (o : Option Table) (at len not_before ack : ℕ) → (cut_on o rows at len not_before ack).output ≡ outputs.Assigned m ch sid since until → ⊥
     cut_not (Some t) at len not_before ack f = cc
     cut_not None at len not_before ack f = cc
 
-    on : (d : Command) → refusal_of rows d ≡ None → (accepted rows d).output ≡ outputs.Assigned m ch sid → (1 ≤ sid) × (sid ≤ last_sid)
+    on : (d : Command) → refusal_of rows d ≡ None → (accepted rows d).output ≡ outputs.Assigned m ch sid since until → (1 ≤ sid) × (sid ≤ last_sid)
     on commands.Noop ok f = absurd cc
     on (commands.Channel n) ok f = absurd cc
     on (commands.Flow at modem tag kind) ok f =
         let here = there (table_of rows at) (λ t. table_flow_refusal t modem tag kind) ok in
         let t : Table = here.0 in
         let range = sid_unicast (assignment_of t modem tag) t modem tag kind refl (refusal_there rows at t (λ u. table_flow_refusal u modem tag kind) here.1 ok) (g at t here.1) in
-        let sid_is : sid_on (table_of rows at) modem tag ≡ sid = (assigned_fields modem at (sid_on (table_of rows at) modem tag) m ch sid f).2 in
+        let sid_is : sid_on (table_of rows at) modem tag ≡ sid = (assigned_fields modem at (sid_on (table_of rows at) modem tag) 0 last_time m ch sid since until f).2 in
         subst (λ n. (1 ≤ n) × (n ≤ last_sid)) (ap (λ o. sid_on o modem tag) (sym here.1) ∙ sid_is) range
     on (commands.Drop at s) ok f = absurd cc
     on (commands.Request at s n sent) ok f = absurd cc
     on (commands.Cut at len not_before ack) ok f = absurd (cut_not (table_of rows at) at len not_before ack f)
 
-    by : (o : Option Refusal) → refusal_of rows c ≡ o → (step_on o rows c).output ≡ outputs.Assigned m ch sid → (1 ≤ sid) × (sid ≤ last_sid)
+    by : (o : Option Refusal) → refusal_of rows c ≡ o → (step_on o rows c).output ≡ outputs.Assigned m ch sid since until → (1 ≤ sid) × (sid ≤ last_sid)
     by (Some r) h f = absurd cc
     by None h f = on c h f
 
 pub sids_are_unicast : SidsAreUnicast
-sids_are_unicast cs m ch sid contains =
-    let here = contains_at (outputs_of cs) (outputs.Assigned m ch sid) contains in
-    let s = step_at [] cs here.0 (outputs.Assigned m ch sid) here.1 in
-    assigned_unicast (rows_from [] s.front) s.command m ch sid (unicast_rows [] s.front (λ at t e. absurd cc)) s.gives
+sids_are_unicast cs m ch sid since until contains =
+    let here = contains_at (outputs_of cs) (outputs.Assigned m ch sid since until) contains in
+    let s = step_at [] cs here.0 (outputs.Assigned m ch sid since until) here.1 in
+    assigned_unicast (rows_from [] s.front) s.command m ch sid since until (unicast_rows [] s.front (λ at t e. absurd cc)) s.gives
 
 -- ---- owners
 
@@ -266,6 +266,8 @@ owners_are_one cs ch m a b p q =
     let d = drawn_at cs j.0 ch u.start u.len u.bytes j.1 in
     let drawn = drawn_body d.table u.len d.not_before d.ack u.bytes u.map d.well d.ok d.bytes_is u.body in
     let sid : p.element.sid ≡ q.element.sid = same_sid d.table u.len d.not_before d.ack (m - u.start) u.map p.element q.element d.well d.ok drawn u.cell cell p.unicast.1 q.unicast.1 in
-    let x = contains_at (outputs_of cs) (outputs.Assigned a ch p.element.sid) p.assigned in
-    let y = contains_at (outputs_of cs) (outputs.Assigned b ch q.element.sid) q.assigned in
-    sids_are_for_good cs x.0 y.0 a b ch p.element.sid x.1 (subst (λ n. slice_get (outputs_of cs) y.0 ≡ Some (outputs.Assigned b ch n)) (sym sid) y.1)
+    let r = p.assigned in
+    let s = q.assigned in
+    let x = contains_at (outputs_of cs) (outputs.Assigned a ch p.element.sid r.first r.last) r.assigned in
+    let y = contains_at (outputs_of cs) (outputs.Assigned b ch q.element.sid s.first s.last) s.assigned in
+    sids_are_for_good cs x.0 y.0 a b ch p.element.sid (r.first, r.last, x.1) (s.first, s.last, subst (λ n. slice_get (outputs_of cs) y.0 ≡ Some (outputs.Assigned b ch n s.first s.last)) (sym sid) y.1)

@@ -4,6 +4,7 @@ use Rattle.std.specs.List.{find, list_any}
 use Rattle.std.specs.Prelude.{unwrap_or}
 use Rattle.flow_state.specs.declared.flow.FlowKind.{FlowKind}
 use Rattle.flow_state.specs.declared.refusal.Refusal.{Refusal}
+use Rattle.flow_state.specs.Limits.{last_time}
 use Rattle.flow_state.specs.Rows.{Rows, Table, Assignment, is_table, table_of, change_table, is_assignment, assignment_of, free_sid}
 use Rattle.flow_state.specs.Refusals.{table_flow_refusal, on_table}
 use Rattle.flow_state.specs.Changes.{new_table, flow_among, flow_in_table, sid_among, sid_for, sid_on}
@@ -172,8 +173,8 @@ step_keeps rows c good = by (refusal_of rows c) refl
     by (Some r) e = record { back = good; owned = λ ch sid modem o. o }
     by None e = accepted_keeps rows c good e
 
-pub assigned_fields : (modem at s m ch sid : ℕ) → outputs.Assigned modem at s ≡ outputs.Assigned m ch sid → (modem ≡ m) × (at ≡ ch) × (s ≡ sid)
-assigned_fields modem at s m ch sid e = (cc, cc, cc)
+pub assigned_fields : (modem at s since' until' m ch sid since until : ℕ) → outputs.Assigned modem at s since' until' ≡ outputs.Assigned m ch sid since until → (modem ≡ m) × (at ≡ ch) × (s ≡ sid)
+assigned_fields modem at s since' until' m ch sid since until e = (cc, cc, cc)
 
 flow_owned : (rows : Rows) (at modem tag : ℕ) (kind : FlowKind) → AllLeadBack rows → on_table rows at (λ t. table_flow_refusal t modem tag kind) ≡ None
     → IsOwned (change_table rows at (λ t. flow_in_table t modem tag kind)) at (sid_on (table_of rows at) modem tag) modem
@@ -192,18 +193,18 @@ flow_owned rows at modem tag kind good ok =
     } in
     subst (λ (o : Option Table). IsOwned (change_table rows at change) at (sid_on o modem tag) modem) (sym here.1) owned
 
-pub step_gives : (rows : Rows) (c : Command) (m ch sid : ℕ) → AllLeadBack rows → (step rows c).output ≡ outputs.Assigned m ch sid → IsOwned (step rows c).rows ch sid m
-step_gives rows c m ch sid good e = by (refusal_of rows c) refl e
+pub step_gives : (rows : Rows) (c : Command) (m ch sid since until : ℕ) → AllLeadBack rows → (step rows c).output ≡ outputs.Assigned m ch sid since until → IsOwned (step rows c).rows ch sid m
+step_gives rows c m ch sid since until good e = by (refusal_of rows c) refl e
   where
-    cut_not : (o : Option Table) (at len not_before ack : ℕ) → (cut_on o rows at len not_before ack).output ≡ outputs.Assigned m ch sid → ⊥
+    cut_not : (o : Option Table) (at len not_before ack : ℕ) → (cut_on o rows at len not_before ack).output ≡ outputs.Assigned m ch sid since until → ⊥
     cut_not (Some t) at len not_before ack f = cc
     cut_not None at len not_before ack f = cc
 
-    on : (c : Command) → refusal_of rows c ≡ None → (accepted rows c).output ≡ outputs.Assigned m ch sid → IsOwned (accepted rows c).rows ch sid m
+    on : (c : Command) → refusal_of rows c ≡ None → (accepted rows c).output ≡ outputs.Assigned m ch sid since until → IsOwned (accepted rows c).rows ch sid m
     on commands.Noop ok f = absurd cc
     on (commands.Channel n) ok f = absurd cc
     on (commands.Flow at modem tag kind) ok f =
-        let same = assigned_fields modem at (sid_on (table_of rows at) modem tag) m ch sid f in
+        let same = assigned_fields modem at (sid_on (table_of rows at) modem tag) 0 last_time m ch sid since until f in
         let owned = flow_owned rows at modem tag kind good ok in
         let after : Rows = change_table rows at (λ t. flow_in_table t modem tag kind) in
         subst (λ (n : ℕ). IsOwned after ch sid n) same.0
@@ -213,7 +214,7 @@ step_gives rows c m ch sid good e = by (refusal_of rows c) refl e
     on (commands.Request at s n sent) ok f = absurd cc
     on (commands.Cut at len not_before ack) ok f = absurd (cut_not (table_of rows at) at len not_before ack f)
 
-    by : (o : Option Refusal) → refusal_of rows c ≡ o → (step_on o rows c).output ≡ outputs.Assigned m ch sid → IsOwned (step_on o rows c).rows ch sid m
+    by : (o : Option Refusal) → refusal_of rows c ≡ o → (step_on o rows c).output ≡ outputs.Assigned m ch sid since until → IsOwned (step_on o rows c).rows ch sid m
     by (Some r) h f = absurd cc
     by None h f = on c h f
 
@@ -229,24 +230,24 @@ one_owner rows ch sid m n p q =
 
 -- ---- over a list of commands
 
-later_same : (rows : Rows) (cs : List Command) (k ch sid m n : ℕ) → AllLeadBack rows → IsOwned rows ch sid m → slice_get (outputs_from rows cs) k ≡ Some (outputs.Assigned n ch sid) → m ≡ n
-later_same rows [] k ch sid m n good o e = absurd cc
-later_same rows (c ∷ cs) zero ch sid m n good o e =
-    one_owner (step rows c).rows ch sid m n ((step_keeps rows c good).owned ch sid m o) (step_gives rows c n ch sid good (output_is _ _ e))
-later_same rows (c ∷ cs) (suc k) ch sid m n good o e =
-    later_same (step rows c).rows cs k ch sid m n (step_keeps rows c good).back ((step_keeps rows c good).owned ch sid m o) e
+later_same : (rows : Rows) (cs : List Command) (k ch sid m n since until : ℕ) → AllLeadBack rows → IsOwned rows ch sid m → slice_get (outputs_from rows cs) k ≡ Some (outputs.Assigned n ch sid since until) → m ≡ n
+later_same rows [] k ch sid m n since until good o e = absurd cc
+later_same rows (c ∷ cs) zero ch sid m n since until good o e =
+    one_owner (step rows c).rows ch sid m n ((step_keeps rows c good).owned ch sid m o) (step_gives rows c n ch sid since until good (output_is _ _ e))
+later_same rows (c ∷ cs) (suc k) ch sid m n since until good o e =
+    later_same (step rows c).rows cs k ch sid m n since until (step_keeps rows c good).back ((step_keeps rows c good).owned ch sid m o) e
 
-one_modem : (rows : Rows) (cs : List Command) (j k m n ch sid : ℕ) → AllLeadBack rows → slice_get (outputs_from rows cs) j ≡ Some (outputs.Assigned m ch sid) → slice_get (outputs_from rows cs) k ≡ Some (outputs.Assigned n ch sid) → m ≡ n
-one_modem rows [] j k m n ch sid good d e = absurd cc
-one_modem rows (c ∷ cs) zero zero m n ch sid good d e =
-    one_owner (step rows c).rows ch sid m n (step_gives rows c m ch sid good (output_is _ _ d)) (step_gives rows c n ch sid good (output_is _ _ e))
-one_modem rows (c ∷ cs) zero (suc k) m n ch sid good d e =
-    later_same (step rows c).rows cs k ch sid m n (step_keeps rows c good).back (step_gives rows c m ch sid good (output_is _ _ d)) e
-one_modem rows (c ∷ cs) (suc j) zero m n ch sid good d e =
-    sym (later_same (step rows c).rows cs j ch sid n m (step_keeps rows c good).back (step_gives rows c n ch sid good (output_is _ _ e)) d)
-one_modem rows (c ∷ cs) (suc j) (suc k) m n ch sid good d e =
-    one_modem (step rows c).rows cs j k m n ch sid (step_keeps rows c good).back d e
+one_modem : (rows : Rows) (cs : List Command) (j k m n ch sid a b a' b' : ℕ) → AllLeadBack rows → slice_get (outputs_from rows cs) j ≡ Some (outputs.Assigned m ch sid a b) → slice_get (outputs_from rows cs) k ≡ Some (outputs.Assigned n ch sid a' b') → m ≡ n
+one_modem rows [] j k m n ch sid a b a' b' good d e = absurd cc
+one_modem rows (c ∷ cs) zero zero m n ch sid a b a' b' good d e =
+    one_owner (step rows c).rows ch sid m n (step_gives rows c m ch sid a b good (output_is _ _ d)) (step_gives rows c n ch sid a' b' good (output_is _ _ e))
+one_modem rows (c ∷ cs) zero (suc k) m n ch sid a b a' b' good d e =
+    later_same (step rows c).rows cs k ch sid m n a' b' (step_keeps rows c good).back (step_gives rows c m ch sid a b good (output_is _ _ d)) e
+one_modem rows (c ∷ cs) (suc j) zero m n ch sid a b a' b' good d e =
+    sym (later_same (step rows c).rows cs j ch sid n m a b (step_keeps rows c good).back (step_gives rows c n ch sid a' b' good (output_is _ _ e)) d)
+one_modem rows (c ∷ cs) (suc j) (suc k) m n ch sid a b a' b' good d e =
+    one_modem (step rows c).rows cs j k m n ch sid a b a' b' (step_keeps rows c good).back d e
 
 -- a SID of a channel is one modem's for good
 pub sids_are_for_good : SidsAreForGood
-sids_are_for_good cs j k modem modem' ch sid d e = one_modem [] cs j k modem modem' ch sid (λ c t f. absurd cc) d e
+sids_are_for_good cs j k modem modem' ch sid d e = one_modem [] cs j k modem modem' ch sid d.0 d.1 e.0 e.1 (λ c t f. absurd cc) d.2 e.2

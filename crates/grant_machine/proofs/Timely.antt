@@ -194,7 +194,7 @@ pub record Adds (rows : Rows) (c : Command) (ch sid : ℕ) (kind : FlowKind) : T
   pub modem : ℕ
   pub tag : ℕ
   pub asked : c ≡ commands.Flow ch modem tag kind
-  pub gives : (accepted rows c).output ≡ outputs.Assigned modem ch sid
+  pub gives : (accepted rows c).output ≡ outputs.Assigned modem ch sid 0 last_time
   pub fresh : At (IsFresh sid) rows ch
 
 same_flow : (rows : Rows) (ch : ℕ) (t : Table) (f : FlowRow) (sid : ℕ) (kind : FlowKind) → table_of rows ch ≡ Some t → Has t.flows f → f.sid ≡ sid → f.kind ≡ kind → IsFlowOf rows ch sid kind
@@ -220,7 +220,7 @@ flow_added None rows t ch modem tag kind f found e ok h =
         modem = modem;
         tag = tag;
         asked = refl;
-        gives = ap (λ n. outputs.Assigned modem ch n) (ap (λ o. sid_on o modem tag) found ∙ ap (λ o. sid_among o t) e);
+        gives = ap (λ n. outputs.Assigned modem ch n 0 last_time) (ap (λ o. sid_on o modem tag) found ∙ ap (λ o. sid_among o t) e);
         fresh = λ u there. subst (IsFresh sid) (some_is t u (sym found ∙ there)) (ap (λ n. list_any (has n) t.assigned) sid_is ∙ free_is_free t free.0 free.1);
       }))
     ]
@@ -269,8 +269,8 @@ pub record AddedLater (rows : Rows) (cs : List Command) (ch sid : ℕ) (kind : F
   pub modem : ℕ
   pub tag : ℕ
   pub asked : slice_get cs place ≡ Some (commands.Flow ch modem tag kind)
-  pub added : slice_get (outputs_from rows cs) place ≡ Some (outputs.Assigned modem ch sid)
-  pub first : (j other : ℕ) → j < place → ¬ (slice_get (outputs_from rows cs) j ≡ Some (outputs.Assigned other ch sid))
+  pub added : slice_get (outputs_from rows cs) place ≡ Some (outputs.Assigned modem ch sid 0 last_time)
+  pub first : (j other since until : ℕ) → j < place → ¬ (slice_get (outputs_from rows cs) j ≡ Some (outputs.Assigned other ch sid since until))
   pub fresh : At (IsFresh sid) rows ch
 
 -- a SID that is given isn't fresh
@@ -300,13 +300,13 @@ added_back rows c cs ch sid kind good a = record {
   tag = a.tag;
   asked = a.asked;
   added = a.added;
-  first = λ j other lt e. by j other lt e;
+  first = λ j other since until lt e. by j other since until lt e;
   fresh = fresh_before rows c ch sid good a.fresh;
 }
   where
-    by : (j other : ℕ) → j < suc a.place → slice_get (outputs_from rows (c ∷ cs)) j ≡ Some (outputs.Assigned other ch sid) → ⊥
-    by zero other lt e = not_fresh (step rows c).rows ch sid other (step_gives rows c other ch sid good (output_is _ _ e)) a.fresh
-    by (suc j) other lt e = a.first j other (omega arith) e
+    by : (j other since until : ℕ) → j < suc a.place → slice_get (outputs_from rows (c ∷ cs)) j ≡ Some (outputs.Assigned other ch sid since until) → ⊥
+    by zero other since until lt e = not_fresh (step rows c).rows ch sid other (step_gives rows c other ch sid since until good (output_is _ _ e)) a.fresh
+    by (suc j) other since until lt e = a.first j other since until (omega arith) e
 
 -- a flow after a step was there before, or the step adds it
 flow_step : (rows : Rows) (c : Command) (cs : List Command) (ch sid : ℕ) (kind : FlowKind) → IsFlowOf (step rows c).rows ch sid kind → IsFlowOf rows ch sid kind ⊎ AddedLater rows (c ∷ cs) ch sid kind
@@ -324,7 +324,7 @@ flow_step rows c cs ch sid kind f =
         tag = adds.tag;
         asked = ap (λ (d : Command). Some d) adds.asked;
         added = ap (λ (o : Option Refusal). Some (step_on o rows c).output) e ∙ ap (λ (o : Output). Some o) adds.gives;
-        first = λ j other lt. absurd (omega arith);
+        first = λ j other since until lt. absurd (omega arith);
         fresh = adds.fresh;
       })
     ]
@@ -357,5 +357,5 @@ other_grants_are_due cs k i g at cause =
     let s = served_from [] cs g i (λ ch t e. absurd cc) (has_at (grants_from [] cs) k g at) cause in
     elim s.flow [
       | inl flow ↦ absurd (let found = flow.found in cc)
-      | inr a ↦ record { place = a.place; kind = s.kind; added = record { modem = a.modem; tag = a.tag; asked = a.asked; added = a.added; first = a.first }; served = s.served }
+      | inr a ↦ record { place = a.place; kind = s.kind; added = record { modem = a.modem; tag = a.tag; asked = a.asked; added = (0, last_time, a.added); first = λ j other lt given. a.first j other given.0 given.1 lt given.2 }; served = s.served }
     ]

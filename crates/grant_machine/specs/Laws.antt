@@ -35,9 +35,9 @@ MapsAreDisjoint =
     → IsMapAt cs j ch start len bytes → IsMapAt cs k ch start' len' bytes'
     → InMap start len m → InMap start' len' m → j ≡ k
 
--- output number k gives the modem this SID
+-- output number k gives the modem this SID, for some lease
 abbrev pub IsAssignedAt : List Command → ℕ → (modem ch sid : ℕ) → Type 0
-IsAssignedAt cs k modem ch sid = slice_get (outputs_of cs) k ≡ Some (outputs.Assigned modem ch sid)
+IsAssignedAt cs k modem ch sid = (first : ℕ) × (last : ℕ) × (slice_get (outputs_of cs) k ≡ Some (outputs.Assigned modem ch sid first last))
 
 -- a SID of a channel is one modem's for good
 abbrev pub SidsAreForGood : Type 0
@@ -169,7 +169,7 @@ SharedMapsAreOne =
 
 -- SIDs that are given are unicast ones
 abbrev pub SidsAreUnicast : Type 0
-SidsAreUnicast = (cs : List Command) (modem ch sid : ℕ) → Contains (outputs_of cs) (outputs.Assigned modem ch sid) → (1 ≤ sid) × (sid ≤ last_sid)
+SidsAreUnicast = (cs : List Command) (modem ch sid first last : ℕ) → Contains (outputs_of cs) (outputs.Assigned modem ch sid first last) → (1 ≤ sid) × (sid ≤ last_sid)
 
 -- a minislot has one owner at most
 abbrev pub OwnersAreOne : Type 0

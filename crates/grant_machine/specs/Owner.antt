@@ -23,12 +23,20 @@ pub record IsGiven (outs : List Output) (ch m : ℕ) (e : Element) : Type 0 wher
   pub begun : start ≤ m
   pub cell : IsCell map (m - start) e
 
--- some MAP gives minislot m of the channel to a unicast SID that the outputs assigned to this modem
+-- the outputs assigned the SID to this modem for a lease, first to last, in which minislot m lies
+pub record IsLeased (outs : List Output) (modem ch sid m : ℕ) : Type 0 where
+  pub first : ℕ
+  pub last : ℕ
+  pub assigned : Contains outs (outputs.Assigned modem ch sid first last)
+  pub begun : first ≤ m
+  pub not_ended : m ≤ last
+
+-- some MAP gives minislot m of the channel to a unicast SID that is leased to this modem there
 pub record Owns (outs : List Output) (ch m modem : ℕ) : Type 0 where
   pub element : Element
   pub given : IsGiven outs ch m element
   pub unicast : (1 ≤ element.sid) × (element.sid ≤ last_sid)
-  pub assigned : Contains outs (outputs.Assigned modem ch element.sid)
+  pub assigned : IsLeased outs modem ch element.sid m
 
 -- the first Null stands at this offset (CM-SP-MULPIv3.1, MAP message: where the MAP ends)
 pub record IsNullAt (map : Body) (offset : ℕ) : Type 0 where

@@ -1,6 +1,7 @@
 -- One step of the scheduler: a command's output, and the rows after it.
 use Rattle.std.specs.Prelude.{ℕ, IsTrue, Option, Some, None}
 use Rattle.flow_state.specs.declared.refusal.Refusal.{Refusal}
+use Rattle.flow_state.specs.Limits.{last_time}
 use Rattle.flow_state.specs.Rows.{Rows, Table, table_of, change_table}
 use Rattle.flow_state.specs.Refusals.{on_table, set_channel_refusal, add_flow_refusal, drop_flow_refusal, request_refusal, number_of}
 use Rattle.flow_state.specs.Changes.{is_known, with_channel, with_flow, sid_of, without_flow, with_request}
@@ -36,11 +37,11 @@ abbrev pub cut_on : Option Table → Rows → (ch len not_before ack : ℕ) → 
 cut_on (Some t) rows ch len not_before ack = cut_step rows ch t (fill t len not_before ack)
 cut_on None rows ch len not_before ack = record { output = outputs.Nothing; rows = rows }
 
--- a command that isn't refused
+-- a command that isn't refused; a flow's lease of its SID is of every minislot, up to the last time that a command may have
 abbrev pub accepted : Rows → Command → Step
 accepted rows commands.Noop = record { output = outputs.Nothing; rows = rows }
 accepted rows (commands.Channel c) = record { output = outputs.ChannelSet c.id c.ucd; rows = with_channel rows c }
-accepted rows (commands.Flow ch modem tag kind) = record { output = outputs.Assigned modem ch (sid_of rows ch modem tag); rows = with_flow rows ch modem tag kind }
+accepted rows (commands.Flow ch modem tag kind) = record { output = outputs.Assigned modem ch (sid_of rows ch modem tag) 0 last_time; rows = with_flow rows ch modem tag kind }
 accepted rows (commands.Drop ch sid) = record { output = outputs.Nothing; rows = without_flow rows ch sid }
 accepted rows (commands.Request ch sid n sent) = record { output = outputs.Nothing; rows = with_request rows ch sid n sent }
 accepted rows (commands.Cut ch len not_before ack) = cut_on (table_of rows ch) rows ch len not_before ack

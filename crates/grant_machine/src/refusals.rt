@@ -10,7 +10,7 @@ ghost use Rattle.grant_machine.specs.Steps.{step, refusal_of};
 ghost use Rattle.grant_machine.specs.Fits.{FitsCommand};
 
 use crate::output::Output;
-use flow_state::{Channel, FlowKind, Flows, Refusal};
+use flow_state::{Channel, FlowKind, Flows, LAST_TIME, Refusal};
 use std::alloc::AllocError;
 
 /// A refusal as an output. Want of memory has none.
@@ -42,7 +42,7 @@ pub fn set_channel(flows: &mut Flows, channel: Channel) -> Result<Output, AllocE
     }
 }
 
-/// Adds a flow of a modem, under a tag of its own.
+/// Adds a flow of a modem, under a tag of its own. The lease of its SID has no end: it is of every minislot up to `LAST_TIME`.
 pub fn add_flow(
     flows: &mut Flows,
     ch: u8,
@@ -58,7 +58,13 @@ pub fn add_flow(
     ensures known { IsTrue (is_known flows.old ch modem tag) → IsOk result }
 {
     match flows.add_flow(ch, modem, tag, kind) {
-        Ok(sid) => Ok(Output::Assigned { modem, ch, sid }),
+        Ok(sid) => Ok(Output::Assigned {
+            modem,
+            ch,
+            sid,
+            first: 0,
+            last: LAST_TIME,
+        }),
         Err(refusal) => refused(refusal),
     }
 }

@@ -15,7 +15,7 @@ numbered p (o ∷ os) = record { place = p; output = o } ∷ numbered (p + 1) os
 abbrev pub has_ended : ℕ → Output → Bool
 has_ended now Nothing = false
 has_ended now (ChannelSet ch ucd) = false
-has_ended now (Assigned modem ch sid) = false
+has_ended now (Assigned modem ch sid first last) = false
 has_ended now (Map ch start len bytes) = nat_le (start + len) now
 has_ended now (Refused n) = false
 

@@ -9,9 +9,11 @@ use Rattle.map_body.specs.Sids.{everybody}
 use Rattle.modem.proofs.CellList.{Cell, Covers, cell_in, cell_of}
 use Rattle.map_body.specs.declared.interval.Interval.{Interval}
 use Rattle.modem.specs.declared.known.Channel.{Channel}
-use Rattle.modem.specs.declared.known.OwnSid.{OwnSid}
-use Rattle.modem.specs.State.{State, Kept, HasAt, is_own, channel_of, clock_of, with_channel}
-use Rattle.modem.specs.KeptIntervals.{kept_interval, interval_of}
+use Rattle.modem.specs.declared.kept.KeptInterval.{KeptInterval}
+use Rattle.modem.specs.State.{State, Kept, HasAt, is_own_at, channel_of, clock_of, with_channel}
+use Rattle.modem.specs.KeptIntervals.{kept_interval, interval_of, covered}
+use Rattle.modem.specs.Wants.{lasting}
+use Rattle.modem.proofs.Pieces.{HasAt-covered}
 use Rattle.modem.specs.Intervals.{decided}
 use Rattle.modem.specs.Hears.{Takes, IsAckTime}
 use Rattle.modem.specs.Held.{GivesCell}
@@ -90,34 +92,42 @@ HasAt-given q map₀ start at_ch m sid iuc =
       λ h. some.1 (passed.1 (h.0, given.1 (h.1.channel, h.1.from, cell_of map₀.head map₀.elements (m - start) sid iuc h.1.cell))),
     )
 
--- what is the modem's at the map's channel is so at the cell's
-pub own_at : (sids : List OwnSid) (map₀ : Body) (start ch m sid iuc : ℕ) → ((is_own sids map₀.head.channel sid ≡ true) × GivesCell map₀ start ch m sid iuc) ↔ ((is_own sids ch sid ≡ true) × GivesCell map₀ start ch m sid iuc)
-own_at sids map₀ start ch m sid iuc =
-    let P : ℕ → Type 0 = λ n. is_own sids n sid ≡ true in
-    (λ (own, g). (subst P g.channel own, g), λ (own, g). (subst P (sym g.channel) own, g))
+-- the intervals of a map have what it gives
+HasAt-all : (map₀ : Body) (start at_ch m sid iuc : ℕ) → HasAt (map kept_interval (map (interval_of map₀.head.channel start) (intervals map₀.elements))) at_ch m sid iuc ↔ GivesCell map₀ start at_ch m sid iuc
+HasAt-all map₀ start at_ch m sid iuc =
+    let ch = map₀.head.channel in
+    let some = HasAt-new ch start (intervals map₀.elements) at_ch m sid iuc in
+    let given = SomeIn-intervals ch start map₀.elements at_ch m sid iuc in (
+      λ h. let g = given.0 (some.0 h) in record { channel = g.0; from = g.1; cell = cell_in map₀.head map₀.elements (m - start) sid iuc g.2 },
+      λ h. some.1 (given.1 (h.channel, h.from, cell_of map₀.head map₀.elements (m - start) sid iuc h.cell)),
+    )
 
 -- what is kept after a map: from the clock on what was kept, and the map's
-abbrev pub KeepsWith : List Kept → ℕ → ℕ → List Interval → ℕ → List Kept → Type 0
-KeepsWith was ch clock is start now = (at_ch m sid iuc : ℕ) → (ch ≡ at_ch → clock ≤ m) → HasAt now at_ch m sid iuc ↔ (HasAt was at_ch m sid iuc ⊎ HasAt (map kept_interval (map (interval_of ch start) is)) at_ch m sid iuc)
+abbrev pub KeepsWith : List Kept → ℕ → ℕ → List KeptInterval → List Kept → Type 0
+KeepsWith was ch clock given now = (at_ch m sid iuc : ℕ) → (ch ≡ at_ch → clock ≤ m) → HasAt now at_ch m sid iuc ↔ (HasAt was at_ch m sid iuc ⊎ HasAt (map kept_interval given) at_ch m sid iuc)
+
+-- a map's intervals in 64-bit minislots
+abbrev pub of_map : Body → ℕ → List Interval → List KeptInterval
+of_map map₀ start is = map (interval_of map₀.head.channel start) is
 
 -- intervals that make a state take a map
-pub Takes-made : (old new : State) (c : Channel) (near : ℕ) (map₀ : Body) (start : ℕ) (ack : Option ℕ) → channel_of old.channels map₀.head.channel ≡ Some c → new.id ≡ old.id → new.channels ≡ with_channel (record c { clock = max c.clock near; backoff = map₀.head.data_backoff }) old.channels → new.sids ≡ old.sids → KeepsWith old.grants map₀.head.channel (max c.clock near) (filter (λ i. is_own old.sids map₀.head.channel i.sid) (intervals map₀.elements)) start new.grants → KeepsWith old.open_to_all map₀.head.channel (max c.clock near) (filter (λ i. (i.sid == everybody) && (i.iuc == 1)) (intervals map₀.elements)) start new.open_to_all → IsAckTime map₀.head.ack start ack → new.wants ≡ filter_map (decided map₀.elements map₀.head.channel ack) old.wants → Takes old c near map₀ start new
-Takes-made old new c near map₀ start ack found same_id made same_sids grants opens ack_time wants = record {
+pub Takes-made : (old new : State) (c : Channel) (near : ℕ) (map₀ : Body) (start : ℕ) (ack : Option ℕ) → channel_of old.channels map₀.head.channel ≡ Some c → new.id ≡ old.id → new.channels ≡ with_channel (record c { clock = max c.clock near; backoff = map₀.head.data_backoff }) old.channels → new.leases ≡ old.leases → KeepsWith old.grants map₀.head.channel (max c.clock near) (covered old.leases (of_map map₀ start (intervals map₀.elements))) new.grants → KeepsWith old.open_to_all map₀.head.channel (max c.clock near) (of_map map₀ start (filter (λ i. (i.sid == everybody) && (i.iuc == 1)) (intervals map₀.elements))) new.open_to_all → IsAckTime map₀.head.ack start ack → new.wants ≡ lasting old.leases c.id (max c.clock near) (filter_map (decided old.leases map₀ start ack) old.wants) → Takes old c near map₀ start new
+Takes-made old new c near map₀ start ack found same_id made same_leases grants opens ack_time wants = record {
   id = same_id;
   channels = made;
-  sids = same_sids;
+  leases = same_leases;
   grants = λ ch m sid iuc late.
       let kept = grants ch m sid iuc (later ch m late) in
-      let given = HasAt-given (λ (n : ℕ) (_ : ℕ). is_own old.sids map₀.head.channel n) map₀ start ch m sid iuc in
-      let own = own_at old.sids map₀ start ch m sid iuc in (
-        λ h. elim (kept.0 h) [ inl a ↦ inl a | inr b ↦ inr (own.0 (given.0 b)) ],
-        λ h. kept.1 (elim h as (λ _. HasAt old.grants ch m sid iuc ⊎ HasAt (map kept_interval (map (interval_of map₀.head.channel start) (filter (λ (i : Interval). is_own old.sids map₀.head.channel i.sid) (intervals map₀.elements)))) ch m sid iuc) [ inl a ↦ inl a | inr b ↦ inr (given.1 (own.1 b)) ]),
+      let own = HasAt-covered old.leases (of_map map₀ start (intervals map₀.elements)) ch m sid iuc in
+      let given = HasAt-all map₀ start ch m sid iuc in (
+        λ h. elim (kept.0 h) [ inl a ↦ inl a | inr b ↦ let o = own.0 b in inr (o.0, given.0 o.1) ],
+        λ h. kept.1 (elim h as (λ _. HasAt old.grants ch m sid iuc ⊎ HasAt (map kept_interval (covered old.leases (of_map map₀ start (intervals map₀.elements)))) ch m sid iuc) [ inl a ↦ inl a | inr b ↦ inr (own.1 (b.0, given.1 b.1)) ]),
       );
   open_to_all = λ ch m late.
       let kept = opens ch m everybody 1 (later ch m late) in
       let given = HasAt-given (λ (n : ℕ) (u : ℕ). (n == everybody) && (u == 1)) map₀ start ch m everybody 1 in (
         λ h. elim (kept.0 h) [ inl a ↦ inl a | inr b ↦ inr (given.0 b).1 ],
-        λ h. kept.1 (elim h as (λ _. HasAt old.open_to_all ch m everybody 1 ⊎ HasAt (map kept_interval (map (interval_of map₀.head.channel start) (filter (λ (i : Interval). (i.sid == everybody) && (i.iuc == 1)) (intervals map₀.elements)))) ch m everybody 1) [ inl a ↦ inl a | inr b ↦ inr (given.1 (refl, b)) ]),
+        λ h. kept.1 (elim h as (λ _. HasAt old.open_to_all ch m everybody 1 ⊎ HasAt (map kept_interval (of_map map₀ start (filter (λ (i : Interval). (i.sid == everybody) && (i.iuc == 1)) (intervals map₀.elements)))) ch m everybody 1) [ inl a ↦ inl a | inr b ↦ inr (given.1 (refl, b)) ]),
       );
   wants = (ack, ack_time, wants);
 }
@@ -129,8 +139,8 @@ Takes-made old new c near map₀ start ack found same_id made same_sids grants o
         omega arith
 
 -- what is let go of and added makes what is kept
-pub KeepsWith-made : (was mid now : List Kept) (ch clock : ℕ) (is : List Interval) (start : ℕ) → ((at_ch m sid iuc : ℕ) → (ch ≡ at_ch → clock ≤ m) → HasAt mid at_ch m sid iuc ↔ HasAt was at_ch m sid iuc) → ((at_ch m sid iuc : ℕ) → HasAt now at_ch m sid iuc ↔ (HasAt mid at_ch m sid iuc ⊎ HasAt (map kept_interval (map (interval_of ch start) is)) at_ch m sid iuc)) → KeepsWith was ch clock is start now
-KeepsWith-made was mid now ch clock is start left added = λ at_ch m sid iuc late.
+pub KeepsWith-made : (was mid now : List Kept) (ch clock : ℕ) (given : List KeptInterval) → ((at_ch m sid iuc : ℕ) → (ch ≡ at_ch → clock ≤ m) → HasAt mid at_ch m sid iuc ↔ HasAt was at_ch m sid iuc) → ((at_ch m sid iuc : ℕ) → HasAt now at_ch m sid iuc ↔ (HasAt mid at_ch m sid iuc ⊎ HasAt (map kept_interval given) at_ch m sid iuc)) → KeepsWith was ch clock given now
+KeepsWith-made was mid now ch clock given left added = λ at_ch m sid iuc late.
     let go = left at_ch m sid iuc late in
     let come = added at_ch m sid iuc in (
       λ h. elim (come.0 h) [ inl a ↦ inl (go.0 a) | inr b ↦ inr b ],

@@ -5,6 +5,7 @@ mod Parts
 mod Least
 mod AtKept
 mod Order
+mod Pieces
 mod Clocks
 mod Stands
 mod Given

@@ -7,22 +7,22 @@ use Rattle.map_body.specs.Cell.{IsCell}
 use Rattle.map_body.proofs.Callers.{one_body}
 use Rattle.grant_machine.specs.declared.output.Output.{Output}
 use Rattle.grant_machine.specs.declared.output.Output.TheVariants.{Nothing, ChannelSet, Assigned, Map as MapOutput, Refused}
-use Rattle.grant_machine.specs.Owner.{Owns}
-use Rattle.modem.specs.Held.{Hearing, Held, HeldBy, Gives, WasAssigned}
+use Rattle.grant_machine.specs.Owner.{Owns, IsLeased}
+use Rattle.modem.specs.Held.{Hearing, Held, HeldBy, Gives, WasLeased}
 use Rattle.modem.specs.Owner.{IsSchedule, IsMapOf, IsTimely, HeardFrom}
 
--- what was heard to be assigned was assigned
-assigned_of : (outputs : List Output) (id : ℕ) (hearings : List Hearing) (ch sid : ℕ) → HeardFrom outputs hearings → WasAssigned id hearings ch sid → Contains outputs (Assigned id ch sid)
-assigned_of outputs id [] ch sid heard was = absurd was
-assigned_of outputs id (h ∷ earlier) ch sid heard was =
-    elim was [ inl e ↦ subst (λ (o : Output). Contains outputs o) e heard.0 | inr before ↦ assigned_of outputs id earlier ch sid heard.2 before ]
+-- what was heard to be leased was leased
+leased_of : (outputs : List Output) (id : ℕ) (hearings : List Hearing) (ch sid m : ℕ) → HeardFrom outputs hearings → WasLeased id hearings ch sid m → IsLeased outputs id ch sid m
+leased_of outputs id [] ch sid m heard was = absurd was
+leased_of outputs id (h ∷ earlier) ch sid m heard was =
+    elim was [ inl l ↦ record { first = l.first; last = l.last; assigned = subst (λ (o : Output). Contains outputs o) l.assigned heard.0; begun = l.begun; not_ended = l.not_ended } | inr before ↦ leased_of outputs id earlier ch sid m heard.2 before ]
 
 -- a Map that gives a cell near its start owns it
-owner_of : (outputs : List Output) (id : ℕ) (o : Output) (near ch m sid iuc : ℕ) → IsSchedule outputs → Contains outputs o → IsTimely o near → Gives o near ch m sid iuc → Contains outputs (Assigned id ch sid) → Owns outputs ch m id
+owner_of : (outputs : List Output) (id : ℕ) (o : Output) (near ch m sid iuc : ℕ) → IsSchedule outputs → Contains outputs o → IsTimely o near → Gives o near ch m sid iuc → IsLeased outputs id ch sid m → Owns outputs ch m id
 owner_of outputs id Nothing near ch m sid iuc schedule is_output timely gives assigned = absurd gives
 owner_of outputs id (Refused n) near ch m sid iuc schedule is_output timely gives assigned = absurd gives
 owner_of outputs id (ChannelSet c u) near ch m sid iuc schedule is_output timely gives assigned = absurd gives
-owner_of outputs id (Assigned a c s) near ch m sid iuc schedule is_output timely gives assigned = absurd gives
+owner_of outputs id (Assigned a c s f l) near ch m sid iuc schedule is_output timely gives assigned = absurd gives
 owner_of outputs id (MapOutput c start len bytes) near ch m sid iuc schedule is_output timely (map, begin, starts, given) assigned =
     let facts = schedule.maps c start len bytes is_output in
     let one : facts.0 ≡ map = one_body bytes facts.0 map facts.1.body starts.body in
@@ -35,12 +35,12 @@ owner_of outputs id (MapOutput c start len bytes) near ch m sid iuc schedule is_
     let B : ℕ → Type 0 = λ n. n ≤ m in
     let C : ℕ → Type 0 = λ n. IsCell map (m - n) given.cell.0 in
     let same_sid : given.cell.0.sid ≡ sid = given.cell.2 in
-    let A : ℕ → Type 0 = λ n. Contains outputs (Assigned id ch n) in
+    let A : ℕ → Type 0 = λ n. IsLeased outputs id ch n m in
     let U : ℕ → Type 0 = λ n. (1 ≤ n) × (n ≤ 8191) in
     record {
       element = given.cell.0;
       given = record { start = start; len = len; bytes = bytes; map = map; told = subst O channel is_output; body = starts.body; begun = subst B same given.from; cell = subst C same given.cell.1 };
-      unicast = subst U (sym same_sid) (schedule.unicast id ch sid assigned);
+      unicast = subst U (sym same_sid) (schedule.unicast id ch sid assigned.first assigned.last assigned.assigned);
       assigned = subst A (sym same_sid) assigned;
     }
 
@@ -48,7 +48,7 @@ owner_of outputs id (MapOutput c start len bytes) near ch m sid iuc schedule is_
 pub held_is_owned : (outputs : List Output) (id : ℕ) (hearings : List Hearing) (ch m sid iuc : ℕ) → IsSchedule outputs → HeardFrom outputs hearings → HeldBy id hearings ch m sid iuc → Owns outputs ch m id
 held_is_owned outputs id [] ch m sid iuc schedule heard held = absurd held
 held_is_owned outputs id (h ∷ earlier) ch m sid iuc schedule heard held =
-    elim held [ inl now ↦ owner_of outputs id h.output h.near ch m sid iuc schedule heard.0 heard.1 now.1 (assigned_of outputs id earlier ch sid heard.2 now.2) | inr before ↦ held_is_owned outputs id earlier ch m sid iuc schedule heard.2 before ]
+    elim held [ inl now ↦ owner_of outputs id h.output h.near ch m sid iuc schedule heard.0 heard.1 now.1 (leased_of outputs id earlier ch sid m heard.2 now.2) | inr before ↦ held_is_owned outputs id earlier ch m sid iuc schedule heard.2 before ]
 
 pub all_held_is_owned : (outputs : List Output) (hearings : List Hearing) (id ch m sid : ℕ) → IsSchedule outputs → HeardFrom outputs hearings → Held id hearings ch m sid → Owns outputs ch m id
 all_held_is_owned outputs hearings id ch m sid schedule heard held = held_is_owned outputs id hearings ch m sid held.0 schedule heard held.1

@@ -1,11 +1,13 @@
 -- What a modem stands for is kept.
-use Rattle.std.proofs.Common.{◌≡◌, ℕ, ◌+◌, ◌≤◌, List, ◌∷◌, Option, Some, Bool, true, ◌⊎◌, inl, inr, refl, sym, subst, ap, ◌∙◌, max, arith, ◌==◌, ◌&&◌, if◌then◌else◌, false, [], ◌++◌, Result, Ok, Err, IfOk, MatchBool, ◌↔◌}
+use Rattle.std.proofs.Common.{◌≡◌, ℕ, ◌+◌, ◌≤◌, List, ◌∷◌, Option, Some, Bool, true, ◌⊎◌, inl, inr, refl, sym, subst, ap, ◌∙◌, max, arith, ◌==◌, ◌&&◌, nat_le, if◌then◌else◌, false, [], ◌++◌, Result, Ok, Err, IfOk, MatchBool, ◌↔◌}
 use Rattle.modem.specs.declared.known.Channel.{Channel}
-use Rattle.modem.specs.declared.known.OwnSid.{OwnSid}
+use Rattle.modem.specs.declared.known.Lease.{Lease}
 use Rattle.modem.specs.declared.types.Sending.{Sending}
 use Rattle.modem.specs.declared.known.Want.{Want}
 use Rattle.map_body.specs.Sids.{everybody}
-use Rattle.modem.specs.State.{State, Kept, HasAt, is_own, with_sid, channel_of, clock_of, with_channel}
+use Rattle.modem.specs.State.{State, Kept, HasAt, covers, is_own_at, is_lease, has_lease, with_lease, lease_of, is_of, channel_of, clock_of, with_channel}
+use Rattle.modem.specs.Wants.{lasting}
+use Rattle.std.proofs.lemmas.Bool.Decides.{nat_tests}
 use Rattle.modem.specs.Ticks.{Ticks, Counts, SendsBy}
 use Rattle.minislot_time.specs.Wire.{IsNear}
 use Rattle.modem.proofs.Times.{near_once}
@@ -18,13 +20,13 @@ use Rattle.grant_machine.specs.declared.output.Output.{Output}
 use Rattle.grant_machine.specs.declared.output.Output.TheVariants.{Nothing, ChannelSet, Assigned, Map as MapOutput, Refused}
 use Rattle.modem.specs.declared.types.Heard.{Heard}
 use Rattle.modem.specs.declared.types.Heard.TheVariants.{Taken, NotMine, OtherUcd, Past, Unreadable}
-use Rattle.modem.specs.Held.{StandsFor, Hearing, Gives, GivesCell, WasAssigned, HeldBy}
+use Rattle.modem.specs.Held.{StandsFor, Hearing, Gives, GivesCell, Leases, WasLeased, HeldBy}
 use Rattle.modem.specs.Hears.{Hears, Reads, Takes}
 
--- a state with the same id and SIDs, no lower clock and what was held from there on stands for the same hearings
-pub StandsFor-kept : (old new : State) (hearings : List Hearing) → new.id ≡ old.id → new.sids ≡ old.sids → ((ch : ℕ) → clock_of old.channels ch ≤ clock_of new.channels ch) → ((ch m sid iuc : ℕ) → clock_of new.channels ch ≤ m → HasAt new.grants ch m sid iuc ↔ HasAt old.grants ch m sid iuc) → StandsFor old hearings → StandsFor new hearings
-StandsFor-kept old new hearings same_id same_sids rises held h = record {
-  sids = λ ch sid. rw (same_sids, same_id) (h.sids ch sid);
+-- a state with the same id and leases, no lower clock and what was held from there on stands for the same hearings
+pub StandsFor-kept : (old new : State) (hearings : List Hearing) → new.id ≡ old.id → new.leases ≡ old.leases → ((ch : ℕ) → clock_of old.channels ch ≤ clock_of new.channels ch) → ((ch m sid iuc : ℕ) → clock_of new.channels ch ≤ m → HasAt new.grants ch m sid iuc ↔ HasAt old.grants ch m sid iuc) → StandsFor old hearings → StandsFor new hearings
+StandsFor-kept old new hearings same_id same_leases rises held h = record {
+  leases = λ ch sid m. rw (same_leases, same_id) (h.leases ch sid m);
   holds = λ ch m sid iuc late.
       let was = h.holds ch m sid iuc (omega (arith, rises ch)) in
       let is = held ch m sid iuc late in
@@ -32,32 +34,32 @@ StandsFor-kept old new hearings same_id same_sids rises held h = record {
 }
 
 -- one more hearing that assigns nothing to the modem and gives nothing
-StandsFor-quiet : (v : State) (h : Hearing) (hearings : List Hearing) → ((ch sid : ℕ) → h.output ≡ Assigned v.id ch sid → ⊥) → ((ch m sid iuc : ℕ) → h.answer ≡ Taken → Gives h.output h.near ch m sid iuc → ⊥) → StandsFor v hearings → StandsFor v (h ∷ hearings)
-StandsFor-quiet v h hearings not_assigned gives_none was = record {
-  sids = λ ch sid. (λ own. inr ((was.sids ch sid).0 own), λ heard. elim heard [ inl e ↦ absurd (not_assigned ch sid e) | inr e ↦ (was.sids ch sid).1 e ]);
+StandsFor-quiet : (v : State) (h : Hearing) (hearings : List Hearing) → ((ch sid m : ℕ) → Leases v.id h.output ch sid m → ⊥) → ((ch m sid iuc : ℕ) → h.answer ≡ Taken → Gives h.output h.near ch m sid iuc → ⊥) → StandsFor v hearings → StandsFor v (h ∷ hearings)
+StandsFor-quiet v h hearings none_leased gives_none was = record {
+  leases = λ ch sid m. (λ own. inr ((was.leases ch sid m).0 own), λ heard. elim heard [ inl e ↦ absurd (none_leased ch sid m e) | inr e ↦ (was.leases ch sid m).1 e ]);
   holds = λ ch m sid iuc late. (λ has. inr ((was.holds ch m sid iuc late).0 has), λ held. elim held [ inl now ↦ absurd (gives_none ch m sid iuc now.0 now.1) | inr before ↦ (was.holds ch m sid iuc late).1 before ]);
 }
 
 -- a map that is taken
 StandsFor-taken : (old new : State) (hearings : List Hearing) (ch₀ start₀ len₀ : ℕ) (bytes : List ℕ) (near : ℕ) (c : Channel) (map : Body) (start stop : ℕ) → Reads bytes near map start stop → channel_of old.channels map.head.channel ≡ Some c → Takes old c near map start new → StandsFor old hearings → StandsFor new (record { output = MapOutput ch₀ start₀ len₀ bytes; near = near; answer = Taken } ∷ hearings)
 StandsFor-taken old new hearings ch₀ start₀ len₀ bytes near c map start stop reads found takes was = record {
-  sids = λ ch sid.
-      let P : ℕ → Type 0 = λ id. (is_own new.sids ch sid ≡ true) ↔ WasAssigned id (here ∷ hearings) ch sid in
-      subst P (sym takes.id) (rw takes.sids (λ own. inr ((was.sids ch sid).0 own), λ heard. elim heard [ inl e ↦ absurd (not_map e) | inr e ↦ (was.sids ch sid).1 e ]));
+  leases = λ ch sid m.
+      let P : ℕ → Type 0 = λ id. (is_own_at new.leases ch sid m ≡ true) ↔ WasLeased id (here ∷ hearings) ch sid m in
+      subst P (sym takes.id) (rw takes.leases (λ own. inr ((was.leases ch sid m).0 own), λ heard. elim heard [ inl e ↦ absurd (not_map e.assigned) | inr e ↦ (was.leases ch sid m).1 e ]));
   holds = λ ch m sid iuc late.
       let before = was.holds ch m sid iuc (omega (arith, rises ch)) in
       let now = takes.grants ch m sid iuc late in
       let P : ℕ → Type 0 = λ id. HasAt new.grants ch m sid iuc ↔ HeldBy id (here ∷ hearings) ch m sid iuc in
       subst P (sym takes.id) (
-        λ has. elim (now.0 has) [ inl a ↦ inr (before.0 a) | inr b ↦ inl (refl, (map, start, record { body = reads.body; extension = reads.extent.extension }, b.1), (was.sids ch sid).0 b.0) ],
-        λ held. elim held [ inl h ↦ now.1 (inr ((was.sids ch sid).1 h.2, gave ch m sid iuc h.1)) | inr b ↦ now.1 (inl (before.1 b)) ],
+        λ has. elim (now.0 has) [ inl a ↦ inr (before.0 a) | inr b ↦ inl (refl, (map, start, record { body = reads.body; extension = reads.extent.extension }, b.1), (was.leases ch sid m).0 b.0) ],
+        λ held. elim held [ inl h ↦ now.1 (inr ((was.leases ch sid m).1 h.2, gave ch m sid iuc h.1)) | inr b ↦ now.1 (inl (before.1 b)) ],
       );
 }
   where
     here : Hearing
     here = record { output = MapOutput ch₀ start₀ len₀ bytes; near = near; answer = Taken }
 
-    not_map : {modem ch sid : ℕ} → MapOutput ch₀ start₀ len₀ bytes ≡ Assigned modem ch sid → ⊥
+    not_map : {modem ch sid first last : ℕ} → MapOutput ch₀ start₀ len₀ bytes ≡ Assigned modem ch sid first last → ⊥
     not_map e = cc
 
     rises : (ch : ℕ) → clock_of old.channels ch ≤ clock_of new.channels ch
@@ -75,13 +77,13 @@ abbrev pub KeepsFrom : List Kept → ℕ → ℕ → List Kept → Type 0
 KeepsFrom was ch clock now = (at_ch m sid iuc : ℕ) → (ch ≡ at_ch → clock ≤ m) → HasAt now at_ch m sid iuc ↔ HasAt was at_ch m sid iuc
 
 -- a tick at a state from which what has ended may go
-pub Ticks-made : (old new : State) (c : Channel) (ch slot random : ℕ) (sending : Option Sending) (counted : Option (ℕ × ℕ)) (is_open : Bool) → channel_of old.channels ch ≡ Some c → new.id ≡ old.id → new.sids ≡ old.sids → KeepsFrom old.grants c.id (slot + 1) new.grants → KeepsFrom old.open_to_all c.id (slot + 1) new.open_to_all → new.channels ≡ with_channel (record c { clock = slot + 1 }) old.channels → Counts old.grants c.id slot counted → ((is_open ≡ true) ↔ HasAt old.open_to_all c.id slot everybody 1) → SendsBy old.wants c slot random is_open sending new.wants counted → Ticks old c slot random sending new
-Ticks-made old new c ch slot random sending counted is_open found same_id same_sids grants open_to_all made counts opens sends = record {
+pub Ticks-made : (old new : State) (c : Channel) (ch slot random : ℕ) (sending : Option Sending) (counted : Option (ℕ × ℕ)) (is_open : Bool) (wants : List Want) → channel_of old.channels ch ≡ Some c → new.id ≡ old.id → new.leases ≡ old.leases → KeepsFrom old.grants c.id (slot + 1) new.grants → KeepsFrom old.open_to_all c.id (slot + 1) new.open_to_all → new.channels ≡ with_channel (record c { clock = slot + 1 }) old.channels → Counts old.grants c.id slot counted → ((is_open ≡ true) ↔ HasAt old.open_to_all c.id slot everybody 1) → SendsBy old.leases old.wants c slot random is_open sending wants counted → new.wants ≡ lasting old.leases c.id (slot + 1) wants → Ticks old c slot random sending new
+Ticks-made old new c ch slot random sending counted is_open wants found same_id same_leases grants open_to_all made counts opens sends lasts = record {
   id = same_id;
   channels = made;
-  sids = same_sids;
+  leases = same_leases;
   held = record { grants = λ at_ch m sid iuc late. grants at_ch m sid iuc (later at_ch m late); open_to_all = λ at_ch m late. open_to_all at_ch m everybody 1 (later at_ch m late) };
-  sends = (counted, counts, is_open, opens, sends);
+  sends = (counted, counts, is_open, opens, wants, sends, lasts);
 }
   where
     here : channel_of old.channels c.id ≡ Some c
@@ -93,73 +95,105 @@ Ticks-made old new c ch slot random sending counted is_open found same_id same_s
         let moved : clock_of new.channels c.id ≤ m = rw same late in
         omega arith
 
-same_output : (a b c x y z : ℕ) → a ≡ x → b ≡ y → c ≡ z → Assigned a b c ≡ Assigned x y z
-same_output a b c x y z p q r = cc
+same_output : (a b c x y z first last : ℕ) → a ≡ x → b ≡ y → c ≡ z → Assigned a b c first last ≡ Assigned x y z first last
+same_output a b c x y z first last p q r = cc
 
-same_parts : (a b c x y z : ℕ) → Assigned a b c ≡ Assigned x y z → (b ≡ y) × (c ≡ z)
-same_parts a b c x y z e = (cc, cc)
+same_parts : (a b c d e x y z u v : ℕ) → Assigned a b c d e ≡ Assigned x y z u v → (a ≡ x) × (b ≡ y) × (c ≡ z) × (d ≡ u) × (e ≡ v)
+same_parts a b c d e x y z u v same = (cc, cc, cc, cc, cc)
 
--- the SIDs with one more
-own_with : (sids : List OwnSid) (ch sid other_ch other_sid : ℕ) → (is_own (with_sid sids ch sid) other_ch other_sid ≡ true) ↔ (((ch ≡ other_ch) × (sid ≡ other_sid)) ⊎ (is_own sids other_ch other_sid ≡ true))
-own_with sids ch sid other_ch other_sid = go (is_own sids ch sid) refl
+-- an equal lease covers the same
+same_covers : (l lease : Lease) (ch sid m : ℕ) → is_lease lease l ≡ true → covers ch sid m lease ≡ true → covers ch sid m l ≡ true
+same_covers l lease ch sid m same c =
+    let parts = both _ _ same in
+    let name = both _ _ parts.0 in
+    let range = both _ _ parts.1 in
+    let test : ℕ → ℕ → ℕ → ℕ → Bool = λ a b f t. ((a == ch) && (b == sid)) && (nat_le f m && nat_le m t) in
+    ap (λ a. test a l.sid l.first l.last) (same_number _ _ name.0)
+    ∙ ap (λ b. test lease.channel b l.first l.last) (same_number _ _ name.1)
+    ∙ ap (λ f. test lease.channel lease.sid f l.last) (same_number _ _ range.0)
+    ∙ ap (λ t. test lease.channel lease.sid lease.first t) (same_number _ _ range.1)
+    ∙ c
+
+-- what a lease covers that is one of them is covered already
+covered_before : (leases : List Lease) (lease : Lease) (ch sid m : ℕ) → has_lease leases lease ≡ true → covers ch sid m lease ≡ true → is_own_at leases ch sid m ≡ true
+covered_before [] lease ch sid m there c = no_true there
+covered_before (l ∷ ls) lease ch sid m there c =
+    elim (one_of _ _ there) [ inl this ↦ left_true _ _ (same_covers l lease ch sid m this c) | inr more ↦ right_true _ _ (covered_before ls lease ch sid m more c) ]
+
+-- the leases with one more
+own_with : (leases : List Lease) (lease : Lease) (ch sid m : ℕ) → (is_own_at (with_lease leases lease) ch sid m ≡ true) ↔ ((covers ch sid m lease ≡ true) ⊎ (is_own_at leases ch sid m ≡ true))
+own_with leases lease ch sid m = go (has_lease leases lease) refl
   where
-    added : OwnSid
-    added = record { channel = ch; sid = sid }
-
-    test : OwnSid → Bool
-    test = λ (s : OwnSid). (s.channel == other_ch) && (s.sid == other_sid)
-
-    go : (b : Bool) → is_own sids ch sid ≡ b → (is_own (if b then sids else sids ++ record { channel = ch; sid = sid } ∷ []) other_ch other_sid ≡ true) ↔ (((ch ≡ other_ch) × (sid ≡ other_sid)) ⊎ (is_own sids other_ch other_sid ≡ true))
-    go true e = (λ own. inr own, λ h. elim h [ inl same ↦ rw (← same.0, ← same.1) e | inr own ↦ own ])
+    go : (b : Bool) → has_lease leases lease ≡ b → (is_own_at (if b then leases else leases ++ lease ∷ []) ch sid m ≡ true) ↔ ((covers ch sid m lease ≡ true) ⊎ (is_own_at leases ch sid m ≡ true))
+    go true there = (λ own. inr own, λ h. elim h [ inl c ↦ covered_before leases lease ch sid m there c | inr own ↦ own ])
     go false e =
-        let joined = list_any-append (λ (s : OwnSid). (s.channel == other_ch) && (s.sid == other_sid)) sids (record { channel = ch; sid = sid } ∷ []) in (
-          λ own. elim (one_of _ _ (sym joined ∙ own)) [ inl was ↦ inr was | inr new ↦ elim (one_of _ _ new) [ inl this ↦ let parts = both _ _ this in inl (same_number _ _ parts.0, same_number _ _ parts.1) | inr none ↦ no_true none ] ],
-          λ h. joined ∙ elim h [ inl same ↦ right_true _ _ (left_true _ _ (and_intro _ _ (number_same _ _ same.0) (number_same _ _ same.1))) | inr own ↦ left_true _ _ own ],
+        let joined = list_any-append (covers ch sid m) leases (lease ∷ []) in (
+          λ own. elim (one_of _ _ (sym joined ∙ own)) [ inl was ↦ inr was | inr new ↦ elim (one_of _ _ new) [ inl this ↦ inl this | inr none ↦ no_true none ] ],
+          λ h. joined ∙ elim h [ inl this ↦ right_true _ _ (left_true _ _ this) | inr own ↦ left_true _ _ own ],
         )
 
+-- the lease of an Assigned covers what it leases
+leased : (modem id ch sid first last at_ch at_sid m : ℕ) → modem ≡ id → covers at_ch at_sid m (lease_of ch sid first last) ≡ true → Leases id (Assigned modem ch sid first last) at_ch at_sid m
+leased modem id ch sid first last at_ch at_sid m mine c =
+    let parts : (((ch == at_ch) && (sid == at_sid)) ≡ true) × ((nat_le first m && nat_le m last) ≡ true) = both _ _ c in
+    let name : ((ch == at_ch) ≡ true) × ((sid == at_sid) ≡ true) = both _ _ parts.0 in
+    let range : (nat_le first m ≡ true) × (nat_le m last ≡ true) = both _ _ parts.1 in
+    let low : nat_le first m ≡ true = range.0 in
+    let high : nat_le m last ≡ true = range.1 in
+    record { first = first; last = last; assigned = same_output _ _ _ _ _ _ _ _ mine (same_number _ _ name.0) (same_number _ _ name.1); begun = grind (arith, nat_tests); not_ended = grind (arith, nat_tests) }
+
+covering : (modem id ch sid first last at_ch at_sid m : ℕ) → Leases id (Assigned modem ch sid first last) at_ch at_sid m → covers at_ch at_sid m (lease_of ch sid first last) ≡ true
+covering modem id ch sid first last at_ch at_sid m l =
+    let (_, same_ch, same_sid, same_first, same_last) = same_parts modem ch sid first last id at_ch at_sid l.first l.last l.assigned in
+    let from : l.first ≤ m = l.begun in
+    let to : m ≤ l.last = l.not_ended in
+    let low : nat_le first m ≡ true = grind (arith, nat_tests) in
+    let high : nat_le m last ≡ true = grind (arith, nat_tests) in
+    and_intro _ _ (and_intro _ _ (number_same _ _ same_ch) (number_same _ _ same_sid)) (and_intro _ _ low high)
+
 -- an Assigned that is heard
-Assigned-stands : (old new : State) (modem ch sid near : ℕ) (answer : Heard) (hearings : List Hearing) (mine : Bool) → (modem == old.id) ≡ mine → MatchBool mine ((answer ≡ Taken) × (new ≡ record old { sids = with_sid old.sids ch sid })) ((answer ≡ NotMine) × (new ≡ old)) → StandsFor old hearings → StandsFor new (record { output = Assigned modem ch sid; near = near; answer = answer } ∷ hearings)
-Assigned-stands old new modem ch sid near answer hearings true mine h was = rw h.1 (record {
-  sids = λ ch' sid'.
-      let own = own_with old.sids ch sid ch' sid' in
-      let known = was.sids ch' sid' in (
-        λ is. elim (own.0 is) [ inl same ↦ inl (same_output _ _ _ _ _ _ (same_number _ _ mine) same.0 same.1) | inr before ↦ inr (known.0 before) ],
-        λ heard. own.1 (elim heard [ inl e ↦ inl (same_parts _ _ _ _ _ _ e) | inr before ↦ inr (known.1 before) ]),
+Assigned-stands : (old new : State) (modem ch sid first last near : ℕ) (answer : Heard) (hearings : List Hearing) (mine : Bool) → (modem == old.id) ≡ mine → MatchBool mine ((answer ≡ Taken) × (new ≡ record old { leases = with_lease old.leases (lease_of ch sid first last) })) ((answer ≡ NotMine) × (new ≡ old)) → StandsFor old hearings → StandsFor new (record { output = Assigned modem ch sid first last; near = near; answer = answer } ∷ hearings)
+Assigned-stands old new modem ch sid first last near answer hearings true mine h was = rw h.1 (record {
+  leases = λ ch' sid' m.
+      let own = own_with old.leases (lease_of ch sid first last) ch' sid' m in
+      let known = was.leases ch' sid' m in (
+        λ is. elim (own.0 is) [ inl c ↦ inl (leased modem old.id ch sid first last ch' sid' m (same_number _ _ mine) c) | inr before ↦ inr (known.0 before) ],
+        λ heard. own.1 (elim heard [ inl l ↦ inl (covering modem old.id ch sid first last ch' sid' m l) | inr before ↦ inr (known.1 before) ]),
       );
   holds = λ ch m sid iuc late.
       let before = was.holds ch m sid iuc late in
       (λ has. inr (before.0 has), λ held. elim held [ inl now ↦ absurd now.1 | inr b ↦ before.1 b ]);
 })
-Assigned-stands old new modem ch sid near answer hearings false other h was =
-    StandsFor-quiet new _ hearings (λ ch' sid' e. stranger ch' sid' e) (λ ch m sid iuc _ gives. gives) (rw h.1 was)
+Assigned-stands old new modem ch sid first last near answer hearings false other h was =
+    StandsFor-quiet new _ hearings (λ ch' sid' m l. stranger ch' sid' l.first l.last l.assigned) (λ ch m sid iuc _ gives. gives) (rw h.1 was)
   where
-    stranger : (ch' sid' : ℕ) → Assigned modem ch sid ≡ Assigned new.id ch' sid' → ⊥
-    stranger ch' sid' e =
-        let one : modem ≡ new.id = cc in
+    stranger : (ch' sid' first' last' : ℕ) → Assigned modem ch sid first last ≡ Assigned new.id ch' sid' first' last' → ⊥
+    stranger ch' sid' first' last' e =
+        let one : modem ≡ new.id = (same_parts _ _ _ _ _ _ _ _ _ _ e).0 in
         let same : new.id ≡ old.id = ap (λ (v : State). v.id) h.1 in
         no_true (sym other ∙ number_same _ _ (one ∙ same))
 
 -- what hearing an output makes a modem stand for: the hearing is added
 pub Hears-stands : (old new : State) (output : Output) (near : ℕ) (answer : Heard) (hearings : List Hearing) → Hears old output near answer new → StandsFor old hearings → StandsFor new (record { output = output; near = near; answer = answer } ∷ hearings)
 Hears-stands old new Nothing near answer hearings h was =
-    StandsFor-quiet new _ hearings (λ ch sid e. cc) (λ ch m sid iuc _ gives. gives) (rw h.1 was)
+    StandsFor-quiet new _ hearings (λ ch sid m l. let e = l.assigned in cc) (λ ch m sid iuc _ gives. gives) (rw h.1 was)
 Hears-stands old new (Refused n) near answer hearings h was =
-    StandsFor-quiet new _ hearings (λ ch sid e. cc) (λ ch m sid iuc _ gives. gives) (rw h.1 was)
+    StandsFor-quiet new _ hearings (λ ch sid m l. let e = l.assigned in cc) (λ ch m sid iuc _ gives. gives) (rw h.1 was)
 Hears-stands old new (ChannelSet ch ucd) near answer hearings h was =
-    StandsFor-quiet new _ hearings (λ ch sid e. cc) (λ ch m sid iuc _ gives. gives)
+    StandsFor-quiet new _ hearings (λ ch sid m l. let e = l.assigned in cc) (λ ch m sid iuc _ gives. gives)
     (rw h.1 (StandsFor-kept old _ hearings refl refl (λ other. clock_of-with_ucd old.channels ch ucd other) (λ ch m sid iuc _. (λ a. a, λ a. a)) was))
-Hears-stands old new (Assigned modem ch sid) near answer hearings h was =
-    Assigned-stands old new modem ch sid near answer hearings (modem == old.id) refl h was
+Hears-stands old new (Assigned modem ch sid first last) near answer hearings h was =
+    Assigned-stands old new modem ch sid first last near answer hearings (modem == old.id) refl h was
 Hears-stands old new (MapOutput ch₀ start₀ len₀ bytes) near Taken hearings (map, start, stop, reads, c, found, same_ucd, late, takes) was =
     StandsFor-taken old new hearings ch₀ start₀ len₀ bytes near c map start stop reads found takes was
 Hears-stands old new (MapOutput ch₀ start₀ len₀ bytes) near NotMine hearings h was = absurd h
 Hears-stands old new (MapOutput ch₀ start₀ len₀ bytes) near OtherUcd hearings (map, start, stop, reads, other, same) was =
-    StandsFor-quiet new _ hearings (λ ch sid e. cc) (λ ch m sid iuc e gives. cc) (rw same was)
+    StandsFor-quiet new _ hearings (λ ch sid m l. let e = l.assigned in cc) (λ ch m sid iuc e gives. cc) (rw same was)
 Hears-stands old new (MapOutput ch₀ start₀ len₀ bytes) near Past hearings (map, start, stop, reads, c, found, same_ucd, late, passes) was =
-    StandsFor-quiet new _ hearings (λ ch sid e. cc) (λ ch m sid iuc e gives. cc)
-    (StandsFor-kept old new hearings passes.id passes.sids (λ ch. rw passes.channels (clock_of-row c (max c.clock near) c.backoff old.channels map.head.channel ch found (omega arith))) passes.held.grants was)
+    StandsFor-quiet new _ hearings (λ ch sid m l. let e = l.assigned in cc) (λ ch m sid iuc e gives. cc)
+    (StandsFor-kept old new hearings passes.id passes.leases (λ ch. rw passes.channels (clock_of-row c (max c.clock near) c.backoff old.channels map.head.channel ch found (omega arith))) passes.held.grants was)
 Hears-stands old new (MapOutput ch₀ start₀ len₀ bytes) near Unreadable hearings h was =
-    StandsFor-quiet new _ hearings (λ ch sid e. cc) (λ ch m sid iuc e gives. cc) (rw h.1 was)
+    StandsFor-quiet new _ hearings (λ ch sid m l. let e = l.assigned in cc) (λ ch m sid iuc e gives. cc) (rw h.1 was)
 
 -- the same where the answer may be want of memory
 pub stands_if_ok : {E : Type 0} (r : Result Heard E) (old new : State) (output : Output) (near : ℕ) → IfOk r (λ answer. Hears old output near answer new) → IfOk r (λ answer. (hearings : List Hearing) → StandsFor old hearings → StandsFor new (record { output = output; near = near; answer = answer } ∷ hearings))
@@ -169,8 +203,8 @@ stands_if_ok (Err e) old new output near h = tt
 -- a tick keeps what a modem stands for
 pub Ticks-stands : (old new : State) (c : Channel) (ch slot random : ℕ) (sending : Option Sending) (hearings : List Hearing) → channel_of old.channels ch ≡ Some c → c.clock ≤ slot → Ticks old c slot random sending new → StandsFor old hearings → StandsFor new hearings
 Ticks-stands old new c ch slot random sending hearings found late ticks was =
-    StandsFor-kept old new hearings ticks.id ticks.sids (λ other. rw ticks.channels (clock_of-row c (slot + 1) c.backoff old.channels ch other found (omega arith))) ticks.held.grants was
+    StandsFor-kept old new hearings ticks.id ticks.leases (λ other. rw ticks.channels (clock_of-row c (slot + 1) c.backoff old.channels ch other found (omega arith))) ticks.held.grants was
 
 -- a change of the wants alone keeps it
 pub wants_stand : (old : State) (wants : List Want) (hearings : List Hearing) → StandsFor old hearings → StandsFor (record old { wants = wants }) hearings
-wants_stand old wants hearings was = record { sids = was.sids; holds = was.holds }
+wants_stand old wants hearings was = record { leases = was.leases; holds = was.holds }

@@ -11,7 +11,7 @@ use Rattle.modem.specs.declared.types.Heard.{Heard}
 use Rattle.modem.specs.declared.types.Heard.TheVariants.{Taken}
 use Rattle.modem.specs.declared.types.Sending.{Sending}
 use Rattle.modem.specs.declared.types.Sending.TheVariants.{Unicast, Polled, Request}
-use Rattle.modem.specs.State.{State, HasAt, is_own, clock_of}
+use Rattle.modem.specs.State.{State, HasAt, is_own_at, clock_of}
 
 -- an output that was heard near a time, and what the modem answered to it
 pub record Hearing : Type 0 where
@@ -39,26 +39,34 @@ abbrev pub Gives : Output → ℕ → ℕ → ℕ → ℕ → ℕ → Type 0
 Gives (MapOutput _ _ _ bytes) near ch m sid iuc = (map : Body) × (start : ℕ) × StartsAt bytes near map start × GivesCell map start ch m sid iuc
 Gives Nothing near ch m sid iuc = ⊥
 Gives (ChannelSet _ _) near ch m sid iuc = ⊥
-Gives (Assigned _ _ _) near ch m sid iuc = ⊥
+Gives (Assigned _ _ _ _ _) near ch m sid iuc = ⊥
 Gives (Refused _) near ch m sid iuc = ⊥
 
--- the hearings, the newest first, have an Assigned of the SID to the modem
-abbrev pub WasAssigned : ℕ → List Hearing → ℕ → ℕ → Type 0
-WasAssigned id [] ch sid = ⊥
-WasAssigned id (h ∷ earlier) ch sid = (h.output ≡ Assigned id ch sid) ⊎ WasAssigned id earlier ch sid
+-- the output assigns the SID to the modem for a lease in which minislot m lies
+pub record Leases (id : ℕ) (output : Output) (ch sid m : ℕ) : Type 0 where
+  pub first : ℕ
+  pub last : ℕ
+  pub assigned : output ≡ Assigned id ch sid first last
+  pub begun : first ≤ m
+  pub not_ended : m ≤ last
 
--- some map that the modem heard as Taken gives the SID minislot m, and the SID was the modem's as it heard it; the newest hearing first
+-- the hearings, the newest first, have a lease of the SID to the modem in which minislot m lies
+abbrev pub WasLeased : ℕ → List Hearing → ℕ → ℕ → ℕ → Type 0
+WasLeased id [] ch sid m = ⊥
+WasLeased id (h ∷ earlier) ch sid m = Leases id h.output ch sid m ⊎ WasLeased id earlier ch sid m
+
+-- some map that the modem heard as Taken gives the SID minislot m, and a lease that it had heard before covers it; the newest hearing first
 abbrev pub HeldBy : ℕ → List Hearing → ℕ → ℕ → ℕ → ℕ → Type 0
 HeldBy id [] ch m sid iuc = ⊥
-HeldBy id (h ∷ earlier) ch m sid iuc = ((h.answer ≡ Taken) × Gives h.output h.near ch m sid iuc × WasAssigned id earlier ch sid) ⊎ HeldBy id earlier ch m sid iuc
+HeldBy id (h ∷ earlier) ch m sid iuc = ((h.answer ≡ Taken) × Gives h.output h.near ch m sid iuc × WasLeased id earlier ch sid m) ⊎ HeldBy id earlier ch m sid iuc
 
 -- the same, whatever the IUC
 abbrev pub Held : ℕ → List Hearing → ℕ → ℕ → ℕ → Type 0
 Held id hearings ch m sid = (iuc : ℕ) × HeldBy id hearings ch m sid iuc
 
--- a modem in this state may have heard just this, the newest first: its SIDs are those assigned to it, and from its clock on what it holds is exactly what was held
+-- a modem in this state may have heard just this, the newest first: its leases cover what was leased to it, and from its clock on what it holds is exactly what was held
 pub record StandsFor (v : State) (hearings : List Hearing) : Type 0 where
-  pub sids : (ch sid : ℕ) → (is_own v.sids ch sid ≡ true) ↔ WasAssigned v.id hearings ch sid
+  pub leases : (ch sid m : ℕ) → (is_own_at v.leases ch sid m ≡ true) ↔ WasLeased v.id hearings ch sid m
   pub holds : (ch m sid iuc : ℕ) → clock_of v.channels ch ≤ m → HasAt v.grants ch m sid iuc ↔ HeldBy v.id hearings ch m sid iuc
 
 -- the SID of a unicast transmission

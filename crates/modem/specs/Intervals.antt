@@ -4,6 +4,9 @@ use Rattle.std.specs.List.{list_any}
 use Rattle.map_body.specs.declared.element.Element.{Element}
 use Rattle.map_body.specs.Intervals.{intervals, after_null}
 use Rattle.map_body.specs.Iucs as iucs
+use Rattle.map_body.specs.Body.{Body}
+use Rattle.modem.specs.declared.known.Lease.{Lease}
+use Rattle.modem.specs.State.{is_own_at}
 use Rattle.modem.specs.declared.known.Progress.{Progress}
 use Rattle.modem.specs.declared.known.Progress.TheVariants.{Unsent, Sent}
 use Rattle.modem.specs.declared.known.Want.{Want}
@@ -26,9 +29,9 @@ is_acknowledged ch (Some ack) w (Sent «at») = (w.channel == ch) && nat_lt «at
 abbrev pub lost : Want → Option Want
 lost w = if nat_le 16 (w.tries + 1) then None else Some (record w { tries = w.tries + 1; progress = Unsent None })
 
--- what a map of a channel makes of a want: granted it is gone, pending it stays, else it is lost
-abbrev pub decided : List Element → ℕ → Option ℕ → Want → Option Want
-decided es ch ack w =
-    if is_acknowledged ch ack w w.progress
-    then (if is_granted es w.sid then None else (if is_pending es w.sid then Some w else lost w))
+-- what a map of this start makes of a want whose SID is the modem's where it starts: granted it is gone, pending it stays, else it is lost
+abbrev pub decided : List Lease → Body → ℕ → Option ℕ → Want → Option Want
+decided leases map start ack w =
+    if is_acknowledged map.head.channel ack w w.progress && is_own_at leases map.head.channel w.sid start
+    then (if is_granted map.elements w.sid then None else (if is_pending map.elements w.sid then Some w else lost w))
     else Some w

@@ -1,9 +1,11 @@
 -- What a list of kept intervals stands for, and its order.
-use Rattle.std.specs.Prelude.{ℕ, ◌+◌, ◌*◌, ◌^◌, ◌<◌, Bool, not, ◌==◌, ◌||◌, nat_lt, List, All}
+use Rattle.std.specs.Prelude.{ℕ, ◌+◌, ◌*◌, ◌^◌, ◌<◌, Bool, not, ◌==◌, ◌||◌, nat_lt, if◌then◌else◌, min, max, List, All, Option, Some, None}
+use Rattle.std.specs.List.{flat_map, filter_map}
 use Rattle.std.specs.List.Sorted.{IsNonDecreasingBy}
 use Rattle.map_body.specs.declared.interval.Interval.{Interval}
 use Rattle.modem.specs.declared.kept.KeptInterval.{KeptInterval}
-use Rattle.modem.specs.State.{Kept}
+use Rattle.modem.specs.declared.known.Lease.{Lease}
+use Rattle.modem.specs.State.{Kept, is_of}
 
 -- a kept interval is itself
 abbrev pub kept_interval : KeptInterval → Kept
@@ -29,6 +31,14 @@ IsShort k = k.stop < k.start + 2 ^ 14
 pub record AreKept (ks : List KeptInterval) : Type 0 where
   pub ordered : IsNonDecreasingBy place_of ks
   pub short : All IsShort ks
+
+-- the part of an interval that a lease of its SID covers
+abbrev pub piece : KeptInterval → Lease → Option KeptInterval
+piece k lease = if is_of k.channel k.sid lease then Some (record k { start = max k.start lease.first; stop = min k.stop (lease.last + 1) }) else None
+
+-- the parts of intervals that leases of their SIDs cover
+abbrev pub covered : List Lease → List KeptInterval → List KeptInterval
+covered leases ks = flat_map (λ k. filter_map (piece k) leases) ks
 
 -- it is of another channel or ends after the clock
 abbrev pub is_live : ℕ → ℕ → KeptInterval → Bool

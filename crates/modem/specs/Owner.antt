@@ -18,7 +18,7 @@ pub record IsMapOf (ch start : ℕ) (bytes : List ℕ) (map : Body) : Type 0 whe
 -- a schedule: each Map's bytes are its map, the SIDs that are assigned are unicast ones, and a minislot has one owner
 pub record IsSchedule (outputs : List Output) : Type 0 where
   pub maps : (ch start len : ℕ) (bytes : List ℕ) → Contains outputs (MapOutput ch start len bytes) → (map : Body) × IsMapOf ch start bytes map
-  pub unicast : (modem ch sid : ℕ) → Contains outputs (Assigned modem ch sid) → (1 ≤ sid) × (sid ≤ 8191)
+  pub unicast : (modem ch sid first last : ℕ) → Contains outputs (Assigned modem ch sid first last) → (1 ≤ sid) × (sid ≤ 8191)
   pub one_owner : (ch m modem other : ℕ) → Owns outputs ch m modem → Owns outputs ch m other → modem ≡ other
 
 -- a Map is heard near its start: less than 2^31 minislots before or after it
@@ -26,7 +26,7 @@ abbrev pub IsTimely : Output → ℕ → Type 0
 IsTimely (MapOutput ch start len bytes) near = (near < start + 2 ^ 31) × (start < near + 2 ^ 31)
 IsTimely Nothing near = Unit {0}
 IsTimely (ChannelSet ch ucd) near = Unit {0}
-IsTimely (Assigned modem ch sid) near = Unit {0}
+IsTimely (Assigned modem ch sid first last) near = Unit {0}
 IsTimely (Refused n) near = Unit {0}
 
 -- all that was heard are outputs of the list, in any order, any of them again or never

@@ -4,13 +4,10 @@ ghost use Rattle.std.specs.Prelude.{◌≡◌, ℕ, ◌+◌, ◌<◌, ◌≤◌,
 ghost use Rattle.map_body.specs.Intervals.{intervals};
 ghost use Rattle.map_body.specs.Iucs as iucs;
 ghost use Rattle.map_body.specs.Sids.{everybody};
-ghost use Rattle.modem.specs.State.{is_own};
 ghost use Rattle.map_body.specs.Body.{Body};
 ghost use Rattle.minislot_time.specs.Wire.{IsNear};
 ghost use Rattle.modem.specs.Hears.{Reads, IsAckTime};
 
-use crate::channels;
-use crate::known::OwnSid;
 use map_body::{Head, Interval, Iuc, MapBody, Outline, Sid, judge};
 use minislot_time::{Slot, extend};
 use std::alloc::{AllocError, Global};
@@ -20,23 +17,6 @@ pub(crate) fn given(alloc: Global, map: &MapBody) -> Result<Vec<Interval>, Alloc
     ensures { IfOk result (λ v. v.items ≡ intervals map.now.elements) }
 {
     map.intervals(alloc)
-}
-
-/// Those whose SID is the modem's.
-pub(crate) fn own(
-    alloc: Global,
-    intervals: &[Interval],
-    sids: &[OwnSid],
-    ch: u8,
-) -> Result<Vec<Interval>, AllocError>
-    ensures { IfOk result (λ v. v.items ≡ filter (λ i. is_own sids.now ch i.sid) intervals.now) }
-{
-    let own = intervals
-        .iter()
-        .copied()
-        .filter(|i| channels::is_own(sids, ch, i.sid.get()))
-        .collect(alloc)?;
-    Ok(own)
 }
 
 /// Those in which every modem may send a request.

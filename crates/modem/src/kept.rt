@@ -2,15 +2,19 @@
 //! of one channel, of their starts.
 
 ghost use Rattle.std.specs.Prelude.{◌≡◌, ℕ, ◌+◌, ◌<◌, ◌≤◌, ◌^◌, ◌↔◌, ◌⊎◌, ◌++◌, map, take, drop, true, false, length, vec_len, vec_capacity, ltb, leb};
-ghost use Rattle.std.specs.List.{list_any, AllWithin};
+ghost use Rattle.std.specs.Prelude.{IfOk, OnOk};
+ghost use Rattle.std.specs.List.{All, list_any, filter_map, AllWithin};
 ghost use Rattle.map_body.specs.Iucs as iucs;
 ghost use Rattle.map_body.specs.Sids.{everybody};
 ghost use Rattle.modem.specs.State.{HasAt, IsAt};
-ghost use Rattle.modem.specs.KeptIntervals.{kept_interval, interval_of, place, place_of, AreKept, IsShort, is_live};
+ghost use Rattle.modem.specs.KeptIntervals.{kept_interval, interval_of, place, place_of, AreKept, IsShort, is_live, piece, covered};
 ghost use Rattle.modem.specs.Steps.{first_at, is_at};
 ghost use Rattle.modem.specs.Ticks.{Counts};
 
+use crate::known::Lease;
+use crate::leases::is_of;
 use map_body::{Interval, Iuc, Sid};
+use std::alloc::{AllocError, Global};
 
 /// An element's minislots of a channel, from `start` up to `stop`.
 #[derive(Clone, Copy, Debug, PartialEq, Eq)]
@@ -204,15 +208,105 @@ fn add(kept: &mut Vec<KeptInterval>, interval: KeptInterval)
     let _added = kept.insert(before, interval);
 }
 
-/// Adds the intervals of a map that starts there, for which there is room.
-pub(crate) fn add_all(kept: &mut Vec<KeptInterval>, ch: u8, start: u64, intervals: &[Interval])
-    requires start { start < 2 ^ 63 }
+/// Adds intervals, for which there is room.
+pub(crate) fn add_all(kept: &mut Vec<KeptInterval>, intervals: &[KeptInterval])
     requires kept { AreKept kept.old.items }
+    requires short { All IsShort intervals.now }
     requires room { vec_len kept.old + length intervals.now ≤ vec_capacity kept.old }
     ensures kept { AreKept kept.new.items }
-    ensures held { (at_ch m sid iuc : ℕ) → HasAt (map kept_interval kept.new.items) at_ch m sid iuc ↔ (HasAt (map kept_interval kept.old.items) at_ch m sid iuc ⊎ HasAt (map kept_interval (map (interval_of ch start) intervals.now)) at_ch m sid iuc) }
+    ensures held { (at_ch m sid iuc : ℕ) → HasAt (map kept_interval kept.new.items) at_ch m sid iuc ↔ (HasAt (map kept_interval kept.old.items) at_ch m sid iuc ⊎ HasAt (map kept_interval intervals.now) at_ch m sid iuc) }
 {
     for interval in intervals {
-        add(kept, interval_of(ch, start, *interval));
+        add(kept, *interval);
     }
+}
+
+/// The intervals of a map that starts there, in 64-bit minislots.
+pub(crate) fn of_map(
+    alloc: Global,
+    ch: u8,
+    start: u64,
+    intervals: &[Interval],
+) -> Result<Vec<KeptInterval>, AllocError>
+    requires { start < 2 ^ 63 }
+    ensures items { IfOk result (λ v. v.items ≡ map (interval_of ch start) intervals.now) }
+    ensures short { IfOk result (λ v. All IsShort v.items) }
+{
+    let mut kept = Vec::new(alloc);
+    for interval in intervals {
+        kept.push(interval_of(ch, start, *interval))?;
+    }
+    Ok(kept)
+}
+
+// The part of an interval that a lease of its SID covers.
+fn piece(lease: Lease, interval: KeptInterval) -> Option<KeptInterval>
+    ensures { result ≡ piece interval lease }
+{
+    if !is_of(&lease, interval.channel, interval.sid) {
+        return None;
+    }
+    Some(KeptInterval {
+        start: interval.start.max(lease.first),
+        stop: interval.stop.min(lease.last.saturating_add(1)),
+        ..interval
+    })
+}
+
+fn pieces(
+    alloc: Global,
+    interval: KeptInterval,
+    leases: &[Lease],
+) -> Result<Vec<KeptInterval>, AllocError>
+    ensures { IfOk result (λ v. v.items ≡ filter_map (piece interval) leases.now) }
+{
+    let pieces = leases
+        .iter()
+        .filter_map(|l| piece(*l, interval))
+        .collect(alloc)?;
+    Ok(pieces)
+}
+
+fn add_pieces(
+    covered: &mut Vec<KeptInterval>,
+    interval: KeptInterval,
+    leases: &[Lease],
+) -> Result<(), AllocError>
+    ensures { OnOk result (covered.new.items ≡ covered.old.items ++ filter_map (piece interval) leases.now) }
+{
+    let pieces = pieces(*covered.allocator(), interval, leases)?;
+    covered.extend_from_slice(pieces.as_slice())?;
+    Ok(())
+}
+
+// The parts of intervals that leases of their SIDs cover.
+fn covered(
+    alloc: Global,
+    intervals: &[KeptInterval],
+    leases: &[Lease],
+) -> Result<Vec<KeptInterval>, AllocError>
+    ensures { IfOk result (λ v. v.items ≡ covered leases.now intervals.now) }
+{
+    let mut covered = Vec::new(alloc);
+    for interval in intervals {
+        add_pieces(&mut covered, *interval, leases)?;
+    }
+    Ok(covered)
+}
+
+/// Of the intervals of a map that starts there the parts that leases of their SIDs cover.
+pub(crate) fn own(
+    alloc: Global,
+    ch: u8,
+    start: u64,
+    intervals: &[Interval],
+    leases: &[Lease],
+) -> Result<Vec<KeptInterval>, AllocError>
+    requires { start < 2 ^ 63 }
+    ensures items { IfOk result (λ v. v.items ≡ covered leases.now (map (interval_of ch start) intervals.now)) }
+    ensures short { IfOk result (λ v. All IsShort v.items) }
+{
+    let given = of_map(alloc, ch, start, intervals)?;
+    let own = covered(alloc, given.as_slice(), leases)?;
+    Ok(own)
 }

@@ -1,4 +1,4 @@
-//! What a modem knows of a channel, its SIDs and its wants. Crates above see them by the functions of `specs/` alone.
+//! What a modem knows of a channel, the leases of its SIDs and its wants. Crates above see them by the functions of `specs/` alone.
 
 /// A channel that the modem knows: its UCD Count, its clock (a minislot) and the latest data back-offs, start
 /// and end.
@@ -10,11 +10,13 @@ pub(crate) struct Channel {
     pub backoff: (u8, u8),
 }
 
-/// A SID of the modem's on a channel.
+/// A lease: a SID of a channel is the modem's from the minislot `first` to the minislot `last`.
 #[derive(Clone, Copy, Debug, PartialEq, Eq)]
-pub(crate) struct OwnSid {
+pub(crate) struct Lease {
     pub channel: u8,
     pub sid: u16,
+    pub first: u64,
+    pub last: u64,
 }
 
 /// How far a want has come.

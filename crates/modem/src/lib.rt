@@ -5,6 +5,7 @@ mod channels;
 mod intervals;
 mod kept;
 mod known;
+mod leases;
 mod modem;
 mod owner;
 mod types;

@@ -2,17 +2,17 @@
 
 ghost use Rattle.std.specs.Prelude.{◌≡◌, ℕ, ◌<◌, ◌≤◌, None, Some, Ok, Err, OnOk, OnErr, IfOk, IfErr, IfSome, IfNone, IsOkAnd, IsErr, List, true, false, ◌∷◌, ◌++◌, [], ◌⊎◌, ◌==◌, ◌↔◌, MatchBool};
 ghost use Rattle.std.specs.Option.{option_map};
-ghost use Rattle.modem.specs.State.{new_modem, channel_clock, channel_of, is_own, with_ucd, with_sid};
+ghost use Rattle.modem.specs.State.{new_modem, channel_clock, channel_of, has_lease, with_ucd, with_lease};
 ghost use Rattle.modem.specs.Held.{StandsFor, Hearing, Held, unicast_sid};
 ghost use Rattle.modem.specs.Hears.{Hears, HearsMap, IsDue, MayGrow, Takes};
-ghost use Rattle.modem.specs.Wants.{want_refusal, new_want};
+ghost use Rattle.modem.specs.Wants.{is_own_now, want_refusal, new_want};
 ghost use Rattle.modem.specs.Ticks.{Ticks};
 
 use crate::intervals::HeardMap;
 use crate::kept::{self, KeptInterval};
-use crate::known::{Channel, OwnSid, Progress, Want};
+use crate::known::{Channel, Lease, Progress, Want};
 use crate::types::{Heard, Sending, TimeBack, WantFault};
-use crate::{channels, intervals, wants};
+use crate::{channels, intervals, leases, wants};
 use grant_machine::Output;
 use map_body::{MapBody, decode};
 use minislot_time::Slot;
@@ -24,7 +24,7 @@ use std::marker::Model;
 pub struct Modem {
     id: u32,
     channels: Vec<Channel>,
-    sids: Vec<OwnSid>,
+    leases: Vec<Lease>,
     grants: Vec<KeptInterval>,
     open_to_all: Vec<KeptInterval>,
     wants: Vec<Want>,
@@ -37,7 +37,7 @@ impl Model for Modem {
 
     ghost Value = { State };
 
-    ghost view = { λ m. record { id = m.id; channels = m.channels.items; sids = m.sids.items; grants = map kept_interval m.grants.items; open_to_all = map kept_interval m.open_to_all.items; wants = m.wants.items } };
+    ghost view = { λ m. record { id = m.id; channels = m.channels.items; leases = m.leases.items; grants = map kept_interval m.grants.items; open_to_all = map kept_interval m.open_to_all.items; wants = m.wants.items } };
 
     ghost invariant = { λ m. AreKept m.grants.items × AreKept m.open_to_all.items };
 }
@@ -51,7 +51,7 @@ impl Modem {
         Modem {
             id,
             channels: Vec::new(alloc),
-            sids: Vec::new(alloc),
+            leases: Vec::new(alloc),
             grants: Vec::new(alloc),
             open_to_all: Vec::new(alloc),
             wants: Vec::new(alloc),
@@ -68,15 +68,15 @@ impl Modem {
         }
     }
 
-    /// Takes a request of n minislots, 1 to 255, for a SID of the modem's. Want of memory never comes in
-    /// place of another refusal.
+    /// Takes a request of n minislots, 1 to 255, for a SID of which a lease ends at the channel's clock or later.
+    /// Want of memory never comes in place of another refusal.
     pub fn want(&mut self, ch: u8, sid: u16, n: u16) -> Result<(), WantFault>
         ensures ok { OnOk result ((want_refusal self.old ch sid n ≡ None) × (self.new ≡ record self.old { wants = self.old.wants ++ new_want ch sid n ∷ [] })) }
         ensures declined { IfSome (want_refusal self.old ch sid n) (λ fault. result ≡ Err fault) }
         ensures err { IfErr result (λ e. (self.new ≡ self.old) × ((want_refusal self.old ch sid n ≡ Some e) ⊎ ((want_refusal self.old ch sid n ≡ None) × (e ≡ WantFault.OutOfMemory)))) }
         ensures stands { (hearings : List Hearing) → StandsFor self.old hearings → StandsFor self.new hearings }
     {
-        if !channels::is_own(self.sids.as_slice(), ch, sid) {
+        if !self.is_own_now(ch, sid) {
             return Err(WantFault::NotMine);
         }
         if n < 1 || 255 < n {
@@ -96,6 +96,14 @@ impl Modem {
             Ok(()) => Ok(()),
             Err(_) => Err(WantFault::OutOfMemory),
         }
+    }
+
+    // Whether a lease of the SID ends at the channel's clock or later.
+    fn is_own_now(&self, ch: u8, sid: u16) -> bool
+        ensures { result ≡ is_own_now self.now ch sid }
+    {
+        let clock = channels::clock_of(self.channels.as_slice(), ch);
+        leases::is_own_from(self.leases.as_slice(), ch, sid, clock)
     }
 
     /// What the modem sends at a minislot of a channel: by a grant of its own, else at a poll, else a request
@@ -119,8 +127,10 @@ impl Modem {
         }
         let counted = kept::counted(self.grants.as_slice(), channel.id, at);
         let open = kept::is_open(self.open_to_all.as_slice(), channel.id, at);
-        let sending = wants::send(&mut self.wants, channel, at, random, counted, open);
+        let leases = self.leases.as_slice();
+        let sending = wants::send(&mut self.wants, leases, channel, at, random, counted, open);
         let clock = at + 1;
+        wants::keep_lasting(&mut self.wants, leases, channel.id, clock);
         let count = self.channels.len();
         kept::let_go_of_many(&mut self.grants, channel.id, clock, count);
         kept::let_go_of_many(&mut self.open_to_all, channel.id, clock, count);
@@ -142,7 +152,21 @@ impl Modem {
             Output::Nothing => Ok(Heard::NotMine),
             Output::Refused(_) => Ok(Heard::NotMine),
             Output::ChannelSet { ch, ucd } => self.hear_channel(*ch, *ucd),
-            Output::Assigned { modem, ch, sid } => self.hear_assigned(*modem, *ch, *sid),
+            Output::Assigned {
+                modem,
+                ch,
+                sid,
+                first,
+                last,
+            } => {
+                let lease = Lease {
+                    channel: *ch,
+                    sid: *sid,
+                    first: *first,
+                    last: *last,
+                };
+                self.hear_assigned(*modem, lease)
+            }
             Output::Map {
                 ch: _,
                 start: _,
@@ -174,18 +198,18 @@ impl Modem {
         }
     }
 
-    fn hear_assigned(&mut self, modem: u32, ch: u8, sid: u16) -> Result<Heard, AllocError>
-        ensures ok { IfOk result (λ answer. MatchBool (modem == self.old.id) ((answer ≡ Heard.Taken) × (self.new ≡ record self.old { sids = with_sid self.old.sids ch sid })) ((answer ≡ Heard.NotMine) × (self.new ≡ self.old))) }
+    fn hear_assigned(&mut self, modem: u32, lease: Lease) -> Result<Heard, AllocError>
+        ensures ok { IfOk result (λ answer. MatchBool (modem == self.old.id) ((answer ≡ Heard.Taken) × (self.new ≡ record self.old { leases = with_lease self.old.leases lease })) ((answer ≡ Heard.NotMine) × (self.new ≡ self.old))) }
         ensures err { OnErr result (self.new ≡ self.old) }
-        ensures memory { IsErr result → (modem ≡ self.old.id) × (is_own self.old.sids ch sid ≡ false) }
+        ensures memory { IsErr result → (modem ≡ self.old.id) × (has_lease self.old.leases lease ≡ false) }
     {
         if modem != self.id {
             return Ok(Heard::NotMine);
         }
-        if channels::is_own(self.sids.as_slice(), ch, sid) {
+        if leases::has_lease(self.leases.as_slice(), lease) {
             return Ok(Heard::Taken);
         }
-        self.sids.push(OwnSid { channel: ch, sid })?;
+        self.leases.push(lease)?;
         Ok(Heard::Taken)
     }
 
@@ -207,6 +231,7 @@ impl Modem {
         }
         let clock = channel.clock.max(near.get());
         if stop <= clock {
+            wants::keep_lasting(&mut self.wants, self.leases.as_slice(), channel.id, clock);
             channels::set(&mut self.channels, Channel { clock, ..channel });
             return Ok(Heard::Past);
         }
@@ -233,20 +258,24 @@ impl Modem {
     {
         let alloc = *self.wants.allocator();
         let head = *map.head();
-        let heard = intervals::given(alloc, map)?;
-        let own = intervals::own(alloc, heard.as_slice(), self.sids.as_slice(), head.channel)?;
-        let open = intervals::open_to_all(alloc, heard.as_slice())?;
+        let leases = self.leases.as_slice();
+        let given = intervals::given(alloc, map)?;
+        let heard = given.as_slice();
+        let first = start.get();
+        let own = kept::own(alloc, head.channel, first, heard, leases)?;
+        let shared = intervals::open_to_all(alloc, heard)?;
+        let open = kept::of_map(alloc, head.channel, first, shared.as_slice())?;
         let ack = intervals::ack_time(head.ack, start);
-        let wants = wants::decided(alloc, self.wants.as_slice(), map, heard.as_slice(), ack)?;
+        let wants = wants::decided(alloc, self.wants.as_slice(), map, first, heard, ack, leases)?;
         self.grants.reserve(own.len())?;
         self.open_to_all.reserve(open.len())?;
-        let first = start.get();
         let clock = channel.clock.max(near.get());
         kept::let_go(&mut self.grants, head.channel, clock);
         kept::let_go(&mut self.open_to_all, head.channel, clock);
-        kept::add_all(&mut self.grants, head.channel, first, own.as_slice());
-        kept::add_all(&mut self.open_to_all, head.channel, first, open.as_slice());
+        kept::add_all(&mut self.grants, own.as_slice());
+        kept::add_all(&mut self.open_to_all, open.as_slice());
         self.wants = wants;
+        wants::keep_lasting(&mut self.wants, leases, channel.id, clock);
         channels::set(
             &mut self.channels,
             Channel {

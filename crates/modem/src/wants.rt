@@ -3,13 +3,15 @@
 ghost use Rattle.std.specs.Prelude.{◌≡◌, ℕ, ◌+◌, ◌-◌, ◌<◌, ◌≤◌, ◌==◌, ◌&&◌, if◌then◌else◌, IfOk, Option, Some, None};
 ghost use Rattle.std.specs.List.{filter_map, list_any};
 ghost use Rattle.modem.specs.declared.known.Want.{Want};
-ghost use Rattle.modem.specs.Wants.{is_want, is_unsent, unsent_of, with_want, IsLeastUnsent};
+ghost use Rattle.modem.specs.State.{is_own_at};
+ghost use Rattle.modem.specs.Wants.{is_want, is_unsent, unsent_of, with_want, IsLeastUnsent, own_wants, is_lasting, lasting};
 ghost use Rattle.map_body.specs.Intervals.{intervals};
 ghost use Rattle.modem.specs.Intervals.{is_granted, is_pending, is_acknowledged, lost, decided};
 ghost use Rattle.modem.specs.Steps.{lesser};
 ghost use Rattle.modem.specs.Ticks.{number_of, sent_at, Polls, Contends, SendsBy, Shares};
 
-use crate::known::{Channel, Progress, Want};
+use crate::known::{Channel, Lease, Progress, Want};
+use crate::leases::{is_own_at, is_own_from};
 use crate::types::Sending;
 use map_body::{Interval, Iuc, MapBody};
 use std::alloc::{AllocError, Global};
@@ -62,12 +64,23 @@ fn lesser(ch: u8, least: Option<Want>, want: Want) -> Option<Want>
     }
 }
 
-fn least_unsent(wants: &[Want], ch: u8) -> Option<Want>
-    ensures { IsLeastUnsent wants.now ch result }
+// The least so far with one more want, which counts only where its SID is the modem's.
+fn lesser_own(leases: &[Lease], ch: u8, at: u64, least: Option<Want>, want: Want) -> Option<Want>
+    ensures { result ≡ (if is_own_at leases.now ch want.sid at then lesser ch least want else least) }
+{
+    if is_own_at(leases, ch, want.sid, at) {
+        lesser(ch, least, want)
+    } else {
+        least
+    }
+}
+
+fn least_unsent(wants: &[Want], leases: &[Lease], ch: u8, at: u64) -> Option<Want>
+    ensures { IsLeastUnsent (own_wants leases.now ch at wants.now) ch result }
 {
     let mut least: Option<Want> = None;
     for want in wants {
-        least = lesser(ch, least, *want);
+        least = lesser_own(leases, ch, at, least, *want);
     }
     least
 }
@@ -121,11 +134,17 @@ fn wait(wants: &mut [Want], want: Want, number: u16)
     set(wants, Want { progress, ..want });
 }
 
-// The unsent want of the least SID takes part in a request minislot.
-fn share(wants: &mut [Want], channel: Channel, at: u64, random: u64) -> Option<Sending>
-    ensures { (least : Option Want) × IsLeastUnsent wants.old channel.id least × Contends wants.old channel at random result wants.new least }
+// The unsent want of the least SID that is the modem's there takes part in a request minislot.
+fn share(
+    wants: &mut [Want],
+    leases: &[Lease],
+    channel: Channel,
+    at: u64,
+    random: u64,
+) -> Option<Sending>
+    ensures { (least : Option Want) × IsLeastUnsent (own_wants leases.now channel.id at wants.old) channel.id least × Contends wants.old channel at random result wants.new least }
 {
-    let want = least_unsent(wants, channel.id)?;
+    let want = least_unsent(wants, leases, channel.id, at)?;
     let number = number_of(channel, want, random);
     if number == 0 {
         send_now(wants, want, at);
@@ -147,43 +166,54 @@ fn poll(wants: &mut [Want], channel: Channel, sid: u16, at: u64) -> Option<Sendi
 /// What is sent at a minislot by the SID and IUC that count there, or in a request minislot.
 pub(crate) fn send(
     wants: &mut Vec<Want>,
+    leases: &[Lease],
     channel: Channel,
     at: u64,
     random: u64,
     counted: Option<(u16, Iuc)>,
     is_open: bool,
 ) -> Option<Sending>
-    ensures { SendsBy wants.old.items channel at random is_open result wants.new.items counted }
+    ensures { SendsBy leases.now wants.old.items channel at random is_open result wants.new.items counted }
 {
-    send_of(wants.as_mut_slice(), channel, at, random, counted, is_open)
+    send_of(
+        wants.as_mut_slice(),
+        leases,
+        channel,
+        at,
+        random,
+        counted,
+        is_open,
+    )
 }
 
 fn send_of(
     wants: &mut [Want],
+    leases: &[Lease],
     channel: Channel,
     at: u64,
     random: u64,
     counted: Option<(u16, Iuc)>,
     is_open: bool,
 ) -> Option<Sending>
-    ensures { SendsBy wants.old channel at random is_open result wants.new counted }
+    ensures { SendsBy leases.now wants.old channel at random is_open result wants.new counted }
 {
     match counted {
-        Some(interval) => send_by(wants, channel, at, random, interval, is_open),
-        None => send_shared(wants, channel, at, random, is_open),
+        Some(interval) => send_by(wants, leases, channel, at, random, interval, is_open),
+        None => send_shared(wants, leases, channel, at, random, is_open),
     }
 }
 
 // By an interval of the modem's: its SID and IUC.
 fn send_by(
     wants: &mut [Want],
+    leases: &[Lease],
     channel: Channel,
     at: u64,
     random: u64,
     interval: (u16, Iuc),
     is_open: bool,
 ) -> Option<Sending>
-    ensures { SendsBy wants.old channel at random is_open result wants.new (Some interval) }
+    ensures { SendsBy leases.now wants.old channel at random is_open result wants.new (Some interval) }
 {
     let (sid, iuc) = interval;
     if iuc.lets_transmit() {
@@ -191,21 +221,22 @@ fn send_by(
     } else if iuc.lets_request() {
         poll(wants, channel, sid, at)
     } else {
-        send_shared(wants, channel, at, random, is_open)
+        send_shared(wants, leases, channel, at, random, is_open)
     }
 }
 
 fn send_shared(
     wants: &mut [Want],
+    leases: &[Lease],
     channel: Channel,
     at: u64,
     random: u64,
     is_open: bool,
 ) -> Option<Sending>
-    ensures { Shares wants.old channel at random is_open result wants.new }
+    ensures { Shares leases.now wants.old channel at random is_open result wants.new }
 {
     if is_open {
-        share(wants, channel, at, random)
+        share(wants, leases, channel, at, random)
     } else {
         None
     }
@@ -254,11 +285,19 @@ fn lost(want: Want) -> Option<Want>
     })
 }
 
-fn decide(want: Want, map: &MapBody, heard: &[Interval], ack: Option<u64>) -> Option<Want>
+fn decide(
+    want: Want,
+    map: &MapBody,
+    start: u64,
+    heard: &[Interval],
+    ack: Option<u64>,
+    leases: &[Lease],
+) -> Option<Want>
     requires { heard.now ≡ intervals map.now.elements }
-    ensures { result ≡ decided map.now.elements map.now.head.channel ack want }
+    ensures { result ≡ decided leases.now map.now start ack want }
 {
-    if !is_acknowledged(&want, map.head().channel, ack) {
+    let ch = map.head().channel;
+    if !is_acknowledged(&want, ch, ack) || !is_own_at(leases, ch, want.sid, start) {
         Some(want)
     } else if is_granted(map, heard, want.sid) {
         None
@@ -269,20 +308,35 @@ fn decide(want: Want, map: &MapBody, heard: &[Interval], ack: Option<u64>) -> Op
     }
 }
 
-/// The wants after a map has decided them.
+/// The wants after a map that starts there has decided them.
 pub(crate) fn decided(
     alloc: Global,
     wants: &[Want],
     map: &MapBody,
+    start: u64,
     heard: &[Interval],
     ack: Option<u64>,
+    leases: &[Lease],
 ) -> Result<Vec<Want>, AllocError>
     requires { heard.now ≡ intervals map.now.elements }
-    ensures { IfOk result (λ v. v.items ≡ filter_map (decided map.now.elements map.now.head.channel ack) wants.now) }
+    ensures { IfOk result (λ v. v.items ≡ filter_map (decided leases.now map.now start ack) wants.now) }
 {
     let left = wants
         .iter()
-        .filter_map(|w| decide(*w, map, heard, ack))
+        .filter_map(|w| decide(*w, map, start, heard, ack, leases))
         .collect(alloc)?;
     Ok(left)
+}
+
+fn is_lasting(want: &Want, leases: &[Lease], ch: u8, clock: u64) -> bool
+    ensures { result ≡ is_lasting leases.now ch clock want.now }
+{
+    !(want.channel == ch) || is_own_from(leases, ch, want.sid, clock)
+}
+
+/// Lets go of the channel's wants whose leases have all ended before the clock.
+pub(crate) fn keep_lasting(wants: &mut Vec<Want>, leases: &[Lease], ch: u8, clock: u64)
+    ensures { wants.new.items ≡ lasting leases.now ch clock wants.old.items }
+{
+    wants.retain(|w| is_lasting(w, leases, ch, clock));
 }

@@ -2,4 +2,6 @@
 #![tactic(auto)]
 
 #[cfg(test)]
+mod leases;
+#[cfg(test)]
 mod modems;

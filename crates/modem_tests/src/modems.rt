@@ -30,6 +30,9 @@ fn slot(rt: &impl Abort, number: u64) -> Slot {
     Slot::new(number).expect(rt, "a slot")
 }
 
+// The last minislot of a lease without an end.
+const LAST: u64 = 1 << 62;
+
 // Modem 50 that has heard ChannelSet and its Assigned of SID 1.
 fn modem_50(alloc: Global) -> Result<Modem, AllocError> {
     let mut modem = Modem::new(alloc, 50);
@@ -39,6 +42,8 @@ fn modem_50(alloc: Global) -> Result<Modem, AllocError> {
             modem: 50,
             ch: 1,
             sid: 1,
+            first: 0,
+            last: LAST,
         },
         Slot::new(0).unwrap(),
     )?;
@@ -175,7 +180,9 @@ fn other_answers(rt: HostRuntime) -> Result<(), Fail> {
             &Output::Assigned {
                 modem: 51,
                 ch: 1,
-                sid: 2
+                sid: 2,
+                first: 0,
+                last: LAST
             },
             near
         )?,

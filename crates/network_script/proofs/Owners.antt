@@ -7,14 +7,14 @@ use Rattle.ballots.specs.Voting.{IsIn}
 use Rattle.grant_machine.specs.declared.command.Command.{Command}
 use Rattle.grant_machine.specs.declared.output.Output.{Output}
 use Rattle.grant_machine.specs.declared.output.Output.TheVariants as outputs
-use Rattle.grant_machine.specs.Owner.{Owns}
+use Rattle.grant_machine.specs.Owner.{Owns, IsLeased}
 use Rattle.grant_machine.specs.Runs.{outputs_of}
 use Rattle.command_log.specs.Reading.{command_of}
 use Rattle.command_log.specs.Values.{outputs_of_values}
 use Rattle.modem.specs.declared.types.Heard.{Heard}
 use Rattle.modem.specs.declared.types.Sending.{Sending}
 use Rattle.modem.specs.State.{KnownChannel, channel_clock, State, new_modem, channel_of}
-use Rattle.modem.specs.Held.{Hearing, Gives, WasAssigned, HeldBy, Held, StandsFor, unicast_sid}
+use Rattle.modem.specs.Held.{Hearing, Gives, WasLeased, HeldBy, Held, StandsFor, unicast_sid}
 use Rattle.modem.specs.Hears.{Hears}
 use Rattle.modem.specs.Ticks.{Ticks}
 use Rattle.modem.specs.Owner.{IsTimely}
@@ -36,7 +36,7 @@ use Rattle.network_script.proofs.Hearings.{AreReleased, ModemsOk, ok_outputs, mo
 -- ---- what the scheduler promises of the outputs of every list of commands
 
 pub record AreScheduled (outs : List Output) : Type 0 where
-  pub unicast : (modem ch sid : ℕ) → Contains outs (outputs.Assigned modem ch sid) → (1 ≤ sid) × (sid ≤ last_sid)
+  pub unicast : (modem ch sid first last : ℕ) → Contains outs (outputs.Assigned modem ch sid first last) → (1 ≤ sid) × (sid ≤ last_sid)
   pub one_owner : (ch m modem other : ℕ) → Owns outs ch m modem → Owns outs ch m other → modem ≡ other
 
 -- ---- what is heard stands in the outputs of the chosen values
@@ -46,12 +46,13 @@ contains_at [] k x is = absurd (cc (is))
 contains_at (y ∷ xs) zero x is = (zero, omega arith, (let e : Some y ≡ Some x = is in cc (e)))
 contains_at (y ∷ xs) (suc k) x is = let r = contains_at xs k x is in (suc r.0, omega (arith, r.1), r.2)
 
--- what was heard to be assigned was assigned
-assigned_of : (outs : List Output) (released : List ReleasedOutput) → ((x : ReleasedOutput) → IsIn released x → Contains outs x.numbered.output) → (id : ℕ) (hearings : List Hearing) (ch sid : ℕ) → AreReleased released hearings → WasAssigned id hearings ch sid
-    → Contains outs (outputs.Assigned id ch sid)
-assigned_of outs released stand id [] ch sid all was = absurd was
-assigned_of outs released stand id (h ∷ earlier) ch sid all (inl is) = subst (λ (o : Output). Contains outs o) (all.0.2 ∙ is) (stand all.0.0 all.0.1)
-assigned_of outs released stand id (h ∷ earlier) ch sid all (inr before) = assigned_of outs released stand id earlier ch sid all.2 before
+-- what was heard to be leased was leased
+leased_of : (outs : List Output) (released : List ReleasedOutput) → ((x : ReleasedOutput) → IsIn released x → Contains outs x.numbered.output) → (id : ℕ) (hearings : List Hearing) (ch sid m : ℕ) → AreReleased released hearings → WasLeased id hearings ch sid m
+    → IsLeased outs id ch sid m
+leased_of outs released stand id [] ch sid m all was = absurd was
+leased_of outs released stand id (h ∷ earlier) ch sid m all (inl is) =
+    record { first = is.first; last = is.last; assigned = subst (λ (o : Output). Contains outs o) (all.0.2 ∙ is.assigned) (stand all.0.0 all.0.1); begun = is.begun; not_ended = is.not_ended }
+leased_of outs released stand id (h ∷ earlier) ch sid m all (inr before) = leased_of outs released stand id earlier ch sid m all.2 before
 
 -- one time near a reference has these low bits
 near_once : (bits near t u : ℕ) → IsNear bits near t → IsNear bits near u → t ≡ u
@@ -60,11 +61,11 @@ near_once bits near t u a b =
     omega (arith, a.not_earlier, a.earlier, b.not_earlier, b.earlier)
 
 -- a MAP that was heard near its start gives what it holds
-gives_owned : (cs : List Command) (o : Output) (near ch m sid iuc id : ℕ) → AreScheduled (outputs_of cs) → Contains (outputs_of cs) o → IsTimely o near → Gives o near ch m sid iuc → Contains (outputs_of cs) (outputs.Assigned id ch sid) → Owns (outputs_of cs) ch m id
+gives_owned : (cs : List Command) (o : Output) (near ch m sid iuc id : ℕ) → AreScheduled (outputs_of cs) → Contains (outputs_of cs) o → IsTimely o near → Gives o near ch m sid iuc → IsLeased (outputs_of cs) id ch sid m → Owns (outputs_of cs) ch m id
 gives_owned cs outputs.Nothing near ch m sid iuc id all there timely gives assigned = absurd gives
 gives_owned cs (outputs.Refused n) near ch m sid iuc id all there timely gives assigned = absurd gives
 gives_owned cs (outputs.ChannelSet c u) near ch m sid iuc id all there timely gives assigned = absurd gives
-gives_owned cs (outputs.Assigned a c s) near ch m sid iuc id all there timely gives assigned = absurd gives
+gives_owned cs (outputs.Assigned a c s f l) near ch m sid iuc id all there timely gives assigned = absurd gives
 gives_owned cs (outputs.Map c start len bytes) near ch m sid iuc id all there timely (map, begin, starts, gives) assigned =
     let drawn = is_drawn cs c start len bytes map there starts.body in
     let near_start : IsNear map.head.start near start = record { low = drawn.start_is; not_earlier = omega (arith, timely.0); earlier = timely.1; fits = drawn.bound } in
@@ -83,15 +84,15 @@ gives_owned cs (outputs.Map c start len bytes) near ch m sid iuc id all there ti
         begun = subst (λ (n : ℕ). n ≤ m) begins gives.from;
         cell = subst (λ (n : ℕ). IsCell map (m - n) gives.cell.0) begins gives.cell.1;
       };
-      unicast = subst (λ (n : ℕ). (1 ≤ n) × (n ≤ last_sid)) sid_is (all.unicast id ch sid assigned);
-      assigned = subst (λ (n : ℕ). Contains (outputs_of cs) (outputs.Assigned id ch n)) sid_is assigned;
+      unicast = subst (λ (n : ℕ). (1 ≤ n) × (n ≤ last_sid)) sid_is (all.unicast id ch sid assigned.first assigned.last assigned.assigned);
+      assigned = subst (λ (n : ℕ). IsLeased (outputs_of cs) id ch n m) sid_is assigned;
     }
 
 held_owned : (cs : List Command) (released : List ReleasedOutput) → ((x : ReleasedOutput) → IsIn released x → Contains (outputs_of cs) x.numbered.output) → AreScheduled (outputs_of cs) → (id : ℕ) (hearings : List Hearing) (ch m sid iuc : ℕ) → AreReleased released hearings
     → HeldBy id hearings ch m sid iuc → Owns (outputs_of cs) ch m id
 held_owned cs released stand all id [] ch m sid iuc heard held = absurd held
 held_owned cs released stand all id (h ∷ earlier) ch m sid iuc heard (inl now) =
-    gives_owned cs h.output h.near ch m sid iuc id all (subst (λ (o : Output). Contains (outputs_of cs) o) heard.0.2 (stand heard.0.0 heard.0.1)) heard.1 now.1 (assigned_of (outputs_of cs) released stand id earlier ch sid heard.2 now.2)
+    gives_owned cs h.output h.near ch m sid iuc id all (subst (λ (o : Output). Contains (outputs_of cs) o) heard.0.2 (stand heard.0.0 heard.0.1)) heard.1 now.1 (leased_of (outputs_of cs) released stand id earlier ch sid m heard.2 now.2)
 held_owned cs released stand all id (h ∷ earlier) ch m sid iuc heard (inr before) = held_owned cs released stand all id earlier ch m sid iuc heard.2 before
 
 -- ---- modems over runs
@@ -102,7 +103,7 @@ opening_receiver (id ∷ ids) zero r is = (id, refl, (let e : Some (new_receiver
 opening_receiver (id ∷ ids) (suc j) r is = opening_receiver ids j r is
 
 new_stands : (id : ℕ) → StandsFor (new_modem id) []
-new_stands id = record { sids = λ ch sid. (λ own. absurd (cc (own)), λ was. absurd was); holds = λ ch m sid iuc late. (λ has. absurd has, λ held. absurd held) }
+new_stands id = record { leases = λ ch sid m. (λ own. absurd (cc (own)), λ was. absurd was); holds = λ ch m sid iuc late. (λ has. absurd has, λ held. absurd held) }
 
 opening_modems : (ids : List ℕ) → ModemsOk ids [] (map new_receiver ids) []
 opening_modems ids = record {

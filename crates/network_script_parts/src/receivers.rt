@@ -40,6 +40,8 @@ fn is_timely(output: &Output, near: Slot) -> bool
             modem: _,
             ch: _,
             sid: _,
+            first: _,
+            last: _,
         } => true,
     }
 }

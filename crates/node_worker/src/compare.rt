@@ -188,13 +188,21 @@ fn is_same_output(a: &Output, b: &Output) -> bool
             *ch == *c && *ucd == *u
         }
         (
-            Output::Assigned { modem, ch, sid },
+            Output::Assigned {
+                modem,
+                ch,
+                sid,
+                first,
+                last,
+            },
             Output::Assigned {
                 modem: m,
                 ch: c,
                 sid: s,
+                first: f,
+                last: l,
             },
-        ) => *modem == *m && *ch == *c && *sid == *s,
+        ) => *modem == *m && *ch == *c && *sid == *s && *first == *f && *last == *l,
         (
             Output::Map {
                 ch,

@@ -1,11 +1,22 @@
 //! The printed lines.
 
 ghost use Rattle.std.specs.Prelude.{◌≡◌, IfOk, string_bytes};
-ghost use Rattle.upsched_parts.specs.Lines.{output_text, backoffs_text, head_text, element_text};
+ghost use Rattle.upsched_parts.specs.Lines.{lease_text, output_text, backoffs_text, head_text, element_text};
 
+use flow_state::LAST_TIME;
 use grant_machine::Output;
 use map_body::{Element, Head};
 use std::alloc::{AllocError, Global};
+
+// A lease behind its SID: nothing where it is of every minislot up to the last time.
+fn lease_text(alloc: Global, first: u64, last: u64) -> Result<String, AllocError>
+    ensures { IfOk result (λ text. string_bytes text ≡ lease_text first last) }
+{
+    if first == 0 && last == LAST_TIME {
+        return String::from_str(alloc, "");
+    }
+    format!(in alloc; " first {first} last {last}")
+}
 
 /// An output, without its line's end.
 pub fn output_text(alloc: Global, output: &Output) -> Result<String, AllocError>
@@ -14,8 +25,15 @@ pub fn output_text(alloc: Global, output: &Output) -> Result<String, AllocError>
     match output {
         Output::Nothing => String::from_str(alloc, "nothing"),
         Output::ChannelSet { ch, ucd } => format!(in alloc; "channel {ch} ucd {ucd}"),
-        Output::Assigned { modem, ch, sid } => {
-            format!(in alloc; "assigned modem {modem} channel {ch} sid {sid}")
+        Output::Assigned {
+            modem,
+            ch,
+            sid,
+            first,
+            last,
+        } => {
+            let lease = lease_text(alloc, *first, *last)?;
+            format!(in alloc; "assigned modem {modem} channel {ch} sid {sid}{lease}")
         }
         Output::Map {
             ch,

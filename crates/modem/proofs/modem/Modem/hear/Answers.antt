@@ -1,10 +1,14 @@
-use Rattle.grant_machine.specs.declared.output.Output.TheVariants.{ChannelSet, Map as MapOutput}
+use Rattle.grant_machine.specs.declared.output.Output.TheVariants.{Assigned, ChannelSet, Map as MapOutput}
 use Rattle.modem.proofs.Stands.{stands_if_ok}
 use Rattle.modem.proofs.modem.Modem.hear.Goals as goal
 
 pub returns-in-ChannelSet-clause-stands : goal.returns-in-ChannelSet-clause-stands
 returns-in-ChannelSet-clause-stands c =
     rw c.in-ChannelSet.is (stands_if_ok c.hear_channel.result c.args.self.now c.hear_channel.new.self (ChannelSet c.in-ChannelSet.ch c.in-ChannelSet.ucd) c.args.near c.hear_channel.ensures.ok)
+
+pub returns-in-Assigned-clause-stands : goal.returns-in-Assigned-clause-stands
+returns-in-Assigned-clause-stands c =
+    rw c.in-Assigned.is (stands_if_ok c.hear_assigned.result c.args.self.now c.hear_assigned.new.self (Assigned c.in-Assigned.modem c.in-Assigned.ch c.in-Assigned.sid c.in-Assigned.first c.in-Assigned.last) c.args.near c.hear_assigned.ensures.ok)
 
 pub returns-in-Map-clause-stands : goal.returns-in-Map-clause-stands
 returns-in-Map-clause-stands c =

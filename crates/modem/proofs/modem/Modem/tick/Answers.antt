@@ -11,26 +11,28 @@ returns-clause-ticks c =
     let found : channel_of c.self.inside.channels.items c.args.ch ≡ Some c.in-Some.channel = rw c.as_slice.ensures.value at (sym c.in-Some.ensures) in
     let counts = rw (c.as_slice-2.ensures.value, c.get-at.ensures.same) at c.counted-counted.ensures in
     let opens = rw (c.as_slice-3.ensures.value, c.get-at.ensures.same) at c.is_open-open.ensures in
-    let sends = rw c.get-at.ensures.same at c.send-sending.ensures in
+    let sends = rw (c.as_slice-leases.ensures.value, c.get-at.ensures.same) at c.send-sending.ensures in
+    let lasts = rw (c.as_slice-leases.ensures.value, c.get-at.ensures.same) at c.keep_lasting.ensures in
     let grants = rw c.get-at.ensures.same at c.let_go_of_many.ensures.held in
     let open_to_all = rw c.get-at.ensures.same at c.let_go_of_many-2.ensures.held in
     let made = rw c.get-at.ensures.same at c.set.ensures in
-    rw (← c.self.view_is, found) (λ late. Ticks-made _ _ c.in-Some.channel c.args.ch c.args.slot c.args.random c.send-sending.result c.counted-counted.result c.is_open-open.result found refl refl grants open_to_all made counts opens sends)
+    rw (← c.self.view_is, found) (λ late. Ticks-made _ _ c.in-Some.channel c.args.ch c.args.slot c.args.random c.send-sending.result c.counted-counted.result c.is_open-open.result c.send-sending.new.wants.items found refl refl grants open_to_all made counts opens sends lasts)
 
 pub returns-clause-stands : goal.returns-clause-stands
 returns-clause-stands c hearings h =
     let found : channel_of c.self.inside.channels.items c.args.ch ≡ Some c.in-Some.channel = rw c.as_slice.ensures.value at (sym c.in-Some.ensures) in
     let counts = rw (c.as_slice-2.ensures.value, c.get-at.ensures.same) at c.counted-counted.ensures in
     let opens = rw (c.as_slice-3.ensures.value, c.get-at.ensures.same) at c.is_open-open.ensures in
-    let sends = rw c.get-at.ensures.same at c.send-sending.ensures in
+    let sends = rw (c.as_slice-leases.ensures.value, c.get-at.ensures.same) at c.send-sending.ensures in
+    let lasts = rw (c.as_slice-leases.ensures.value, c.get-at.ensures.same) at c.keep_lasting.ensures in
     let grants = rw c.get-at.ensures.same at c.let_go_of_many.ensures.held in
     let open_to_all = rw c.get-at.ensures.same at c.let_go_of_many-2.ensures.held in
     let made = rw c.get-at.ensures.same at c.set.ensures in
     let late : c.in-Some.channel.clock ≤ c.args.slot = rw c.get-at.ensures.same at c.if-at-channel.false in
     let was = rw (← c.self.view_is) at h in
     let old = the_view c.self.inside in
-    let new : State = record { id = old.id; channels = c.set.new.channels.items; sids = old.sids; grants = map kept_interval c.let_go_of_many.new.kept.items; open_to_all = map kept_interval c.let_go_of_many-2.new.kept.items; wants = c.send-sending.new.wants.items } in
-    let ticks = Ticks-made old new c.in-Some.channel c.args.ch c.args.slot c.args.random c.send-sending.result c.counted-counted.result c.is_open-open.result found refl refl grants open_to_all made counts opens sends in
+    let new : State = record { id = old.id; channels = c.set.new.channels.items; leases = old.leases; grants = map kept_interval c.let_go_of_many.new.kept.items; open_to_all = map kept_interval c.let_go_of_many-2.new.kept.items; wants = c.keep_lasting.new.wants.items } in
+    let ticks = Ticks-made old new c.in-Some.channel c.args.ch c.args.slot c.args.random c.send-sending.result c.counted-counted.result c.is_open-open.result c.send-sending.new.wants.items found refl refl grants open_to_all made counts opens sends lasts in
     Ticks-stands old new c.in-Some.channel c.args.ch c.args.slot c.args.random c.send-sending.result hearings found late ticks was
 
 pub returns-clause-held : goal.returns-clause-held
@@ -38,13 +40,14 @@ returns-clause-held c hearings sid h is =
     let found : channel_of c.self.inside.channels.items c.args.ch ≡ Some c.in-Some.channel = rw c.as_slice.ensures.value at (sym c.in-Some.ensures) in
     let counts = rw (c.as_slice-2.ensures.value, c.get-at.ensures.same) at c.counted-counted.ensures in
     let opens = rw (c.as_slice-3.ensures.value, c.get-at.ensures.same) at c.is_open-open.ensures in
-    let sends = rw c.get-at.ensures.same at c.send-sending.ensures in
+    let sends = rw (c.as_slice-leases.ensures.value, c.get-at.ensures.same) at c.send-sending.ensures in
+    let lasts = rw (c.as_slice-leases.ensures.value, c.get-at.ensures.same) at c.keep_lasting.ensures in
     let grants = rw c.get-at.ensures.same at c.let_go_of_many.ensures.held in
     let open_to_all = rw c.get-at.ensures.same at c.let_go_of_many-2.ensures.held in
     let made = rw c.get-at.ensures.same at c.set.ensures in
     let late : c.in-Some.channel.clock ≤ c.args.slot = rw c.get-at.ensures.same at c.if-at-channel.false in
     let was = rw (← c.self.view_is) at h in
     let old = the_view c.self.inside in
-    let new : State = record { id = old.id; channels = c.set.new.channels.items; sids = old.sids; grants = map kept_interval c.let_go_of_many.new.kept.items; open_to_all = map kept_interval c.let_go_of_many-2.new.kept.items; wants = c.send-sending.new.wants.items } in
-    let ticks = Ticks-made old new c.in-Some.channel c.args.ch c.args.slot c.args.random c.send-sending.result c.counted-counted.result c.is_open-open.result found refl refl grants open_to_all made counts opens sends in
+    let new : State = record { id = old.id; channels = c.set.new.channels.items; leases = old.leases; grants = map kept_interval c.let_go_of_many.new.kept.items; open_to_all = map kept_interval c.let_go_of_many-2.new.kept.items; wants = c.keep_lasting.new.wants.items } in
+    let ticks = Ticks-made old new c.in-Some.channel c.args.ch c.args.slot c.args.random c.send-sending.result c.counted-counted.result c.is_open-open.result c.send-sending.new.wants.items found refl refl grants open_to_all made counts opens sends lasts in
     rw (← c.self.view_is) (Ticks-held old new c.in-Some.channel c.args.ch c.args.slot c.args.random c.send-sending.result hearings sid found late ticks was is)

@@ -1,0 +1,94 @@
+-- The parts of intervals that leases cover have what the intervals have where a lease covers it.
+use Rattle.std.proofs.Common.{◌≡◌, ℕ, suc, ◌+◌, ◌<◌, ◌≤◌, ◌^◌, Bool, true, false, ◌==◌, ◌&&◌, nat_le, if◌then◌else◌, min, max, List, [], ◌∷◌, ◌++◌, map, Option, Some, None, refl, sym, ◌∙◌, ap, subst, arith, ◌⊎◌, inl, inr, ◌↔◌}
+use Rattle.std.specs.List.{All, filter_map, cons_option}
+use Rattle.std.proofs.lemmas.Bool.Decides.{nat_tests}
+use Rattle.std.proofs.lemmas.List.Elements.{All-nil, All-cons, All-append}
+use Rattle.modem.proofs.Parts.{no_true, both, one_of, left_true, right_true, and_intro, same_number, number_same}
+use Rattle.modem.proofs.Order.{HasAt-joined}
+use Rattle.modem.specs.declared.kept.KeptInterval.{KeptInterval}
+use Rattle.modem.specs.declared.known.Lease.{Lease}
+use Rattle.modem.specs.State.{IsAt, HasAt, is_of, covers, is_own_at}
+use Rattle.modem.specs.KeptIntervals.{kept_interval, IsShort, piece, covered}
+
+-- the part of an interval that a lease covers
+abbrev cut_to : KeptInterval → Lease → KeptInterval
+cut_to k l = record k { start = max k.start l.first; stop = min k.stop (l.last + 1) }
+
+at_most : (a b : ℕ) → nat_le a b ≡ true → a ≤ b
+at_most a b h = grind (arith, nat_tests)
+
+is_at_most : (a b : ℕ) → a ≤ b → nat_le a b ≡ true
+is_at_most a b h = grind (arith, nat_tests)
+
+-- a lease of the interval's SID: its part has what the interval has in the lease
+cut_in : (k : KeptInterval) (l : Lease) (ch m sid iuc : ℕ) → is_of k.channel k.sid l ≡ true → IsAt (kept_interval (cut_to k l)) ch m sid iuc → (covers ch sid m l ≡ true) × IsAt (kept_interval k) ch m sid iuc
+cut_in k l ch m sid iuc of x =
+    let parts : ((l.channel == k.channel) ≡ true) × ((l.sid == k.sid) ≡ true) = both _ _ of in
+    let from : max k.start l.first ≤ m = x.from in
+    let to : m < min k.stop (l.last + 1) = x.to in
+    let first : l.first ≤ m = omega arith in
+    let last : m ≤ l.last = omega arith in (
+      and_intro _ _
+          (and_intro _ _ (number_same _ _ (same_number _ _ parts.0 ∙ x.same_channel)) (number_same _ _ (same_number _ _ parts.1 ∙ x.same_sid)))
+          (and_intro _ _ (is_at_most l.first m first) (is_at_most m l.last last)),
+      record { same_channel = x.same_channel; same_sid = x.same_sid; same_iuc = x.same_iuc; from = omega arith; to = omega arith },
+    )
+
+cut_out : (k : KeptInterval) (l : Lease) (ch m sid iuc : ℕ) → covers ch sid m l ≡ true → IsAt (kept_interval k) ch m sid iuc → IsAt (kept_interval (cut_to k l)) ch m sid iuc
+cut_out k l ch m sid iuc c x =
+    let parts : (is_of ch sid l ≡ true) × ((nat_le l.first m && nat_le m l.last) ≡ true) = both _ _ c in
+    let range : (nat_le l.first m ≡ true) × (nat_le m l.last ≡ true) = both _ _ parts.1 in
+    let first : l.first ≤ m = at_most l.first m range.0 in
+    let last : m ≤ l.last = at_most m l.last range.1 in
+    let from : k.start ≤ m = x.from in
+    let to : m < k.stop = x.to in
+    record { same_channel = x.same_channel; same_sid = x.same_sid; same_iuc = x.same_iuc; from = omega arith; to = omega arith }
+
+-- a lease of another SID covers nothing of the interval
+not_of : (k : KeptInterval) (l : Lease) (ch m sid iuc : ℕ) → is_of k.channel k.sid l ≡ false → covers ch sid m l ≡ true → IsAt (kept_interval k) ch m sid iuc → ⊥
+not_of k l ch m sid iuc off c x =
+    let parts : (is_of ch sid l ≡ true) × ((nat_le l.first m && nat_le m l.last) ≡ true) = both _ _ c in
+    let of : ((l.channel == ch) ≡ true) × ((l.sid == sid) ≡ true) = both _ _ parts.0 in
+    no_true (sym off ∙ and_intro _ _ (number_same _ _ (same_number _ _ of.0 ∙ sym x.same_channel)) (number_same _ _ (same_number _ _ of.1 ∙ sym x.same_sid)))
+
+-- the parts of one interval
+HasAt-pieces : (leases : List Lease) (k : KeptInterval) (ch m sid iuc : ℕ) → HasAt (map kept_interval (filter_map (piece k) leases)) ch m sid iuc ↔ ((is_own_at leases ch sid m ≡ true) × IsAt (kept_interval k) ch m sid iuc)
+HasAt-pieces [] k ch m sid iuc = (λ h. absurd h, λ h. no_true h.0)
+HasAt-pieces (l ∷ ls) k ch m sid iuc = go (HasAt-pieces ls k ch m sid iuc) (is_of k.channel k.sid l) refl
+  where
+    go : (HasAt (map kept_interval (filter_map (piece k) ls)) ch m sid iuc ↔ ((is_own_at ls ch sid m ≡ true) × IsAt (kept_interval k) ch m sid iuc)) → (b : Bool) → is_of k.channel k.sid l ≡ b → HasAt (map kept_interval (cons_option (if b then Some (cut_to k l) else None) (filter_map (piece k) ls))) ch m sid iuc ↔ ((is_own_at (l ∷ ls) ch sid m ≡ true) × IsAt (kept_interval k) ch m sid iuc)
+    go rest true of = (
+      λ h. elim h [ inl x ↦ let c = cut_in k l ch m sid iuc of x in (left_true _ _ c.0, c.1) | inr y ↦ let r = rest.0 y in (right_true _ _ r.0, r.1) ],
+      λ h. elim (one_of _ _ h.0) [ inl c ↦ inl (cut_out k l ch m sid iuc c h.1) | inr own ↦ inr (rest.1 (own, h.1)) ],
+    )
+    go rest false off = (
+      λ h. let r = rest.0 h in (right_true _ _ r.0, r.1),
+      λ h. elim (one_of _ _ h.0) [ inl c ↦ absurd (not_of k l ch m sid iuc off c h.1) | inr own ↦ rest.1 (own, h.1) ],
+    )
+
+-- the parts of all of them
+pub HasAt-covered : (leases : List Lease) (ks : List KeptInterval) (ch m sid iuc : ℕ) → HasAt (map kept_interval (covered leases ks)) ch m sid iuc ↔ ((is_own_at leases ch sid m ≡ true) × HasAt (map kept_interval ks) ch m sid iuc)
+HasAt-covered leases [] ch m sid iuc = (λ h. absurd h, λ h. absurd h.1)
+HasAt-covered leases (k ∷ ks) ch m sid iuc =
+    let this = HasAt-pieces leases k ch m sid iuc in
+    let rest = HasAt-covered leases ks ch m sid iuc in
+    let joined = HasAt-joined (filter_map (piece k) leases) (covered leases ks) ch m sid iuc in (
+      λ h. elim (joined.0 h) [ inl a ↦ let p = this.0 a in (p.0, inl p.1) | inr b ↦ let r = rest.0 b in (r.0, inr r.1) ],
+      λ h. elim h.1 [ inl x ↦ joined.1 (inl (this.1 (h.0, x))) | inr y ↦ joined.1 (inr (rest.1 (h.0, y))) ],
+    )
+
+short_cut : (k : KeptInterval) (l : Lease) → IsShort k → IsShort (cut_to k l)
+short_cut k l h = let short : k.stop < k.start + 2 ^ 14 = h in omega arith
+
+All-pieces : (leases : List Lease) (k : KeptInterval) → IsShort k → All IsShort (filter_map (piece k) leases)
+All-pieces [] k short = All-nil IsShort
+All-pieces (l ∷ ls) k short = go (All-pieces ls k short) (is_of k.channel k.sid l)
+  where
+    go : All IsShort (filter_map (piece k) ls) → (b : Bool) → All IsShort (cons_option (if b then Some (cut_to k l) else None) (filter_map (piece k) ls))
+    go rest true = All-cons IsShort (cut_to k l) (filter_map (piece k) ls) (short_cut k l short) rest
+    go rest false = rest
+
+-- parts of short intervals are short
+pub All-covered : (leases : List Lease) (ks : List KeptInterval) → All IsShort ks → All IsShort (covered leases ks)
+All-covered leases [] all = All-nil IsShort
+All-covered leases (k ∷ ks) all = All-append IsShort (filter_map (piece k) leases) (covered leases ks) (All-pieces leases k (all 0 k (omega arith))) (All-covered leases ks (λ i d lt. all (suc i) d (omega (arith, lt))))

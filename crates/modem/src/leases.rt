@@ -1,0 +1,47 @@
+//! The leases of a modem's SIDs, over slices.
+
+ghost use Rattle.std.specs.Prelude.{◌≡◌};
+ghost use Rattle.modem.specs.State.{is_of, is_lease, covers, has_lease, is_own_at, is_own_from};
+
+use crate::known::Lease;
+
+/// A lease of this SID of a channel.
+pub(crate) fn is_of(lease: &Lease, ch: u8, sid: u16) -> bool
+    ensures { result ≡ is_of ch sid lease.now }
+{
+    lease.channel == ch && lease.sid == sid
+}
+
+fn is_lease(lease: &Lease, other: Lease) -> bool
+    ensures { result ≡ is_lease other lease.now }
+{
+    is_of(lease, other.channel, other.sid)
+        && (lease.first == other.first && lease.last == other.last)
+}
+
+/// Whether the lease is one of them.
+pub(crate) fn has_lease(leases: &[Lease], lease: Lease) -> bool
+    ensures { result ≡ has_lease leases.now lease }
+{
+    leases.iter().any(|l| is_lease(l, lease))
+}
+
+fn covers(lease: &Lease, ch: u8, sid: u16, at: u64) -> bool
+    ensures { result ≡ covers ch sid at lease.now }
+{
+    is_of(lease, ch, sid) && (lease.first <= at && at <= lease.last)
+}
+
+/// Whether the SID is the modem's at a minislot.
+pub(crate) fn is_own_at(leases: &[Lease], ch: u8, sid: u16, at: u64) -> bool
+    ensures { result ≡ is_own_at leases.now ch sid at }
+{
+    leases.iter().any(|l| covers(l, ch, sid, at))
+}
+
+/// Whether a lease of the SID ends at a minislot or later.
+pub(crate) fn is_own_from(leases: &[Lease], ch: u8, sid: u16, clock: u64) -> bool
+    ensures { result ≡ is_own_from leases.now ch sid clock }
+{
+    leases.iter().any(|l| is_of(l, ch, sid) && clock <= l.last)
+}
