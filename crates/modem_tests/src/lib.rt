@@ -2,4 +2,6 @@
 #![tactic(auto)]
 
 #[cfg(test)]
+mod heard_cells;
+#[cfg(test)]
 mod modems;
