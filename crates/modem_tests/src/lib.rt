@@ -2,6 +2,8 @@
 #![tactic(auto)]
 
 #[cfg(test)]
+mod heard_cells;
+#[cfg(test)]
 mod leases;
 #[cfg(test)]
 mod modems;

@@ -34,7 +34,7 @@ fn slot(rt: &impl Abort, number: u64) -> Slot {
 const LAST: u64 = 1 << 62;
 
 // Modem 50 that has heard ChannelSet and its Assigned of SID 1.
-fn modem_50(alloc: Global) -> Result<Modem, AllocError> {
+pub fn modem_50(alloc: Global) -> Result<Modem, AllocError> {
     let mut modem = Modem::new(alloc, 50);
     modem.hear(&Output::ChannelSet { ch: 1, ucd: 7 }, Slot::new(0).unwrap())?;
     modem.hear(
