@@ -6,10 +6,12 @@ use Rattle.modem.specs.declared.types.Heard.TheVariants as heard
 use Rattle.modem.specs.declared.types.Sending.{Sending}
 use Rattle.modem.specs.declared.types.Sending.TheVariants.{Unicast, Polled, Request}
 use Rattle.modem.specs.Wants.{number_of_fault}
+use Rattle.proposer.specs.Faults.{number_of as number_of_node_fault}
 use Rattle.proposer.specs.declared.fault.NodeFault.{NodeFault}
 use Rattle.proposer.specs.declared.fault.NodeFault.TheVariants as fault
 use Rattle.network_script_parts.specs.declared.event.Answer.{Answer}
 use Rattle.network_script_parts.specs.declared.event.Answer.TheVariants.{Sent, Finished, Released, Heard as HeardSo, Ticked, WantRefused, Refused, Fault, Crashed}
+use Rattle.network_script_parts.specs.Refusals.{number_of as number_of_refusal}
 use Rattle.network_script_parts.specs.declared.event.Refusal.{Refusal}
 use Rattle.network_script_parts.specs.declared.event.Refusal.TheVariants as refusal
 use Rattle.network_script_parts.specs.declared.event.ReleasedOutput.{ReleasedOutput}
@@ -31,27 +33,27 @@ sending_text (Some (Unicast sid)) = codes "unicast " ++ decimal sid
 sending_text (Some (Polled sid n)) = codes "polled " ++ (decimal sid ++ (codes " " ++ decimal n))
 sending_text (Some (Request sid n)) = codes "request " ++ (decimal sid ++ (codes " " ++ decimal n))
 
--- why an event changed nothing
-abbrev pub refusal_text : Refusal → List ℕ
-refusal_text refusal.NoLetter = codes "1 NoLetter"
-refusal_text refusal.NodeDown = codes "2 NodeDown"
-refusal_text refusal.NodeUp = codes "3 NodeUp"
-refusal_text refusal.NoOutput = codes "4 NoOutput"
-refusal_text refusal.TooOld = codes "5 TooOld"
-refusal_text refusal.NoModem = codes "6 NoModem"
-refusal_text refusal.TimeBack = codes "7 TimeBack"
-refusal_text refusal.NoNode = codes "8 NoNode"
-refusal_text refusal.OutOfMemory = codes "9 OutOfMemory"
+-- the name of why an event changed nothing
+abbrev pub refusal_name : Refusal → List ℕ
+refusal_name refusal.NoLetter = codes "NoLetter"
+refusal_name refusal.NodeDown = codes "NodeDown"
+refusal_name refusal.NodeUp = codes "NodeUp"
+refusal_name refusal.NoOutput = codes "NoOutput"
+refusal_name refusal.TooOld = codes "TooOld"
+refusal_name refusal.NoModem = codes "NoModem"
+refusal_name refusal.TimeBack = codes "TimeBack"
+refusal_name refusal.NoNode = codes "NoNode"
+refusal_name refusal.OutOfMemory = codes "OutOfMemory"
 
--- a node's fault
-abbrev pub fault_text : NodeFault → List ℕ
-fault_text fault.NotLeading = codes "1 NotLeading"
-fault_text fault.LogFull = codes "2 LogFull"
-fault_text fault.RoundsSpent = codes "3 RoundsSpent"
-fault_text fault.ValueTooLong = codes "4 ValueTooLong"
-fault_text fault.OutOfMemory = codes "5 OutOfMemory"
-fault_text fault.StoreRefused = codes "6 StoreRefused"
-fault_text fault.Down = codes "7 Down"
+-- the name of a node's fault
+abbrev pub fault_name : NodeFault → List ℕ
+fault_name fault.NotLeading = codes "NotLeading"
+fault_name fault.LogFull = codes "LogFull"
+fault_name fault.RoundsSpent = codes "RoundsSpent"
+fault_name fault.ValueTooLong = codes "ValueTooLong"
+fault_name fault.OutOfMemory = codes "OutOfMemory"
+fault_name fault.StoreRefused = codes "StoreRefused"
+fault_name fault.Down = codes "Down"
 
 -- an answer
 abbrev pub answer_text : Answer → List ℕ
@@ -61,8 +63,8 @@ answer_text (Released n) = codes "released " ++ decimal n
 answer_text (HeardSo heard) = codes "heard " ++ heard_text heard
 answer_text (Ticked sending) = sending_text sending
 answer_text (WantRefused fault) = codes "want-refused " ++ decimal (number_of_fault fault)
-answer_text (Refused refusal) = codes "refused " ++ refusal_text refusal
-answer_text (Fault fault) = codes "fault " ++ fault_text fault
+answer_text (Refused refusal) = codes "refused " ++ (decimal (number_of_refusal refusal) ++ (codes " " ++ refusal_name refusal))
+answer_text (Fault fault) = codes "fault " ++ (decimal (number_of_node_fault fault) ++ (codes " " ++ fault_name fault))
 answer_text Crashed = codes "crashed"
 
 -- the line of an answer with its event's number

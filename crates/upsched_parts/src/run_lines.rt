@@ -1,7 +1,7 @@
 //! The printed lines of a run.
 
 ghost use Rattle.std.specs.Prelude.{◌≡◌, IfOk, string_bytes};
-ghost use Rattle.upsched_parts.specs.RunLines.{heard_text, sending_text, refusal_text, fault_text, answer_text};
+ghost use Rattle.upsched_parts.specs.RunLines.{heard_text, sending_text, refusal_name, fault_name, answer_text};
 
 use modem::{Heard, Sending};
 use network_script_parts::{Answer, Refusal};
@@ -31,34 +31,34 @@ fn sending_text(alloc: Global, sending: Option<Sending>) -> Result<String, Alloc
     }
 }
 
-fn refusal_text(refusal: Refusal) -> &'static str
-    ensures { result.now ≡ refusal_text refusal }
+fn refusal_name(refusal: Refusal) -> &'static str
+    ensures { result.now ≡ refusal_name refusal }
 {
     match refusal {
-        Refusal::NoLetter => "1 NoLetter",
-        Refusal::NodeDown => "2 NodeDown",
-        Refusal::NodeUp => "3 NodeUp",
-        Refusal::NoOutput => "4 NoOutput",
-        Refusal::TooOld => "5 TooOld",
-        Refusal::NoModem => "6 NoModem",
-        Refusal::TimeBack => "7 TimeBack",
-        Refusal::NoNode => "8 NoNode",
-        Refusal::OutOfMemory => "9 OutOfMemory",
+        Refusal::NoLetter => "NoLetter",
+        Refusal::NodeDown => "NodeDown",
+        Refusal::NodeUp => "NodeUp",
+        Refusal::NoOutput => "NoOutput",
+        Refusal::TooOld => "TooOld",
+        Refusal::NoModem => "NoModem",
+        Refusal::TimeBack => "TimeBack",
+        Refusal::NoNode => "NoNode",
+        Refusal::OutOfMemory => "OutOfMemory",
     }
 }
 
-/// A node's fault, by its number and its name.
-pub fn fault_text(fault: NodeFault) -> &'static str
-    ensures { result.now ≡ fault_text fault }
+/// The name of a node's fault.
+pub fn fault_name(fault: NodeFault) -> &'static str
+    ensures { result.now ≡ fault_name fault }
 {
     match fault {
-        NodeFault::NotLeading => "1 NotLeading",
-        NodeFault::LogFull => "2 LogFull",
-        NodeFault::RoundsSpent => "3 RoundsSpent",
-        NodeFault::ValueTooLong => "4 ValueTooLong",
-        NodeFault::OutOfMemory => "5 OutOfMemory",
-        NodeFault::StoreRefused => "6 StoreRefused",
-        NodeFault::Down => "7 Down",
+        NodeFault::NotLeading => "NotLeading",
+        NodeFault::LogFull => "LogFull",
+        NodeFault::RoundsSpent => "RoundsSpent",
+        NodeFault::ValueTooLong => "ValueTooLong",
+        NodeFault::OutOfMemory => "OutOfMemory",
+        NodeFault::StoreRefused => "StoreRefused",
+        NodeFault::Down => "Down",
     }
 }
 
@@ -73,8 +73,12 @@ pub fn answer_text(alloc: Global, answer: Answer) -> Result<String, AllocError>
         Answer::Heard(heard) => format!(in alloc; "heard {}", heard_text(heard)),
         Answer::Ticked(sending) => sending_text(alloc, sending),
         Answer::WantRefused(fault) => format!(in alloc; "want-refused {}", fault.number()),
-        Answer::Refused(refusal) => format!(in alloc; "refused {}", refusal_text(refusal)),
-        Answer::Fault(fault) => format!(in alloc; "fault {}", fault_text(fault)),
+        Answer::Refused(refusal) => {
+            format!(in alloc; "refused {} {}", refusal.number(), refusal_name(refusal))
+        }
+        Answer::Fault(fault) => {
+            format!(in alloc; "fault {} {}", fault.number(), fault_name(fault))
+        }
         Answer::Crashed => String::from_str(alloc, "crashed"),
     }
 }

@@ -11,7 +11,7 @@ ghost use Rattle.upsched_parts.specs.Run.{NoScript, PrintsEvents, PrintsScript};
 
 use crate::fault::Fault;
 use crate::report::{print_answers, print_counts};
-use crate::run_lines::fault_text;
+use crate::run_lines::fault_name;
 use crate::status::Status;
 use crate::text::text_of;
 use crate::words::RunWords;
@@ -28,7 +28,11 @@ fn warn_of<R: Log>(rt: &R, answers: &[Answer]) {
     for (number, answer) in answers.iter().enumerate() {
         match answer {
             Answer::Fault(fault) => {
-                warn!(rt; "event {number}: the node answers with fault {}", fault_text(*fault));
+                warn!(rt;
+                    "event {number}: the node answers with fault {} {}",
+                    fault.number(),
+                    fault_name(*fault)
+                );
             }
             Answer::Crashed =>
                 warn!(rt; "event {number}: no room for what the node sent, so it crashed"),
