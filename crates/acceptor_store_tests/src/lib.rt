@@ -4,4 +4,6 @@
 #[cfg(test)]
 mod acceptor_rows;
 #[cfg(test)]
+mod stops;
+#[cfg(test)]
 mod tables;
