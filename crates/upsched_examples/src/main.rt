@@ -1,12 +1,15 @@
 //! Runs each example of the folders below as the program would, and tells which prints anything
 //! but what stands beside it: `NAME.stdout` where all goes well, `NAME.stderr` where it faults. Scripts
-//! run a second time with `--store`.
+//! run a second time with `--store`, plans of `live` with fewer turns and `--verbose`, and plans with a fault by `live` too.
 #![tactic(auto)]
 
 use std::io::Write;
 use std::path::AsPath;
 use std::process::ExitCode;
 use std::rt::Files;
+use std::sync::Wait;
+use std::thread::Threads;
+use std::time::Clock;
 use std::{fs, io};
 use upsched_parts::Status;
 use upsched_store_parts::run_words;
@@ -20,7 +23,7 @@ struct Folder {
     ending: &'static str,
 }
 
-const FOLDERS: [Folder; 6] = [
+const FOLDERS: [Folder; 8] = [
     Folder {
         path: "plans",
         command: "maps",
@@ -39,6 +42,16 @@ const FOLDERS: [Folder; 6] = [
     Folder {
         path: "faults/plans",
         command: "maps",
+        ending: ".toml",
+    },
+    Folder {
+        path: "live",
+        command: "live",
+        ending: ".toml",
+    },
+    Folder {
+        path: "faults/plans",
+        command: "live",
         ending: ".toml",
     },
     Folder {
@@ -70,26 +83,6 @@ fn last_word<R: Files + AllocGlobal>(rt: &R, command: &str, path: &str) -> io::R
     Ok(String::from_str(rt.alloc(), digits.trim_end())?)
 }
 
-/// What the program does with an example, and with a folder for the records of its nodes where one is named.
-fn run_of(rt: &HostRuntime, command: &str, path: &str, store: Option<&str>) -> io::Result<Run> {
-    let mut words = Vec::new(rt.alloc());
-    words.push(String::from_str(rt.alloc(), "upsched")?)?;
-    words.push(String::from_str(rt.alloc(), command)?)?;
-    words.push(last_word(rt, command, path)?)?;
-    if let Some(folder) = store {
-        words.push(String::from_str(rt.alloc(), "--store")?)?;
-        words.push(String::from_str(rt.alloc(), folder)?)?;
-    }
-    let mut output = Vec::new(rt.alloc());
-    let mut errors = Vec::new(rt.alloc());
-    let status = run_words(rt, words.as_slice(), &mut output, &mut errors);
-    Ok(Run {
-        status,
-        output,
-        errors,
-    })
-}
-
 /// What stands beside an example of this path without its ending.
 fn wanted<R: Files + AllocGlobal>(rt: &R, stem: &str) -> io::Result<Run> {
     let output = format!(in rt.alloc(); "{stem}.stdout")?;
@@ -114,58 +107,6 @@ fn are_same(run: &Run, wanted: &Run) -> bool {
         && run.errors.as_slice() == wanted.errors.as_slice()
 }
 
-/// Whether the example of this path without its ending prints what stands beside it. It is told
-/// where it doesn't.
-fn agrees<O: Write>(
-    rt: &HostRuntime,
-    command: &str,
-    path: &str,
-    stem: &str,
-    output: &mut O,
-) -> io::Result<bool> {
-    let run = run_of(rt, command, path, None)?;
-    if are_same(&run, &wanted(rt, stem)?) {
-        return Ok(true);
-    }
-    writeln!(output, "{path} prints something else: {run:?}")?;
-    Ok(false)
-}
-
-/// Whether a script prints the same where its nodes keep their records in a new folder.
-fn agrees_stored<O: Write>(
-    rt: &HostRuntime,
-    path: &str,
-    stem: &str,
-    output: &mut O,
-) -> io::Result<bool> {
-    let folder = format!(in rt.alloc(); "{stem}.store")?;
-    fs::create_dir(rt, folder.as_str())?;
-    let run = run_of(rt, "run", path, Some(folder.as_str()))?;
-    if are_same(&run, &wanted(rt, stem)?) {
-        return Ok(true);
-    }
-    writeln!(output, "{path} with --store prints something else: {run:?}")?;
-    Ok(false)
-}
-
-/// Whether the one script is refused so with this folder.
-fn is_refused<O: Write>(
-    rt: &HostRuntime,
-    folder: &str,
-    line: &str,
-    output: &mut O,
-) -> io::Result<bool> {
-    let run = run_of(rt, "run", "scripts/one_leader.toml", Some(folder))?;
-    if run.status == Status::Faulted
-        && run.output.is_empty()
-        && run.errors.as_slice() == line.as_bytes()
-    {
-        return Ok(true);
-    }
-    writeln!(output, "--store {folder} prints something else: {run:?}")?;
-    Ok(false)
-}
-
 /// A folder with a file that is no database.
 fn make_strange_folder(rt: &HostRuntime, folder: &str) -> io::Result<()> {
     fs::create_dir(rt, folder)?;
@@ -183,59 +124,156 @@ fn has_so_many(rt: &HostRuntime, folder: &str, count: usize) -> io::Result<bool>
     Ok(found == count)
 }
 
-/// Whether folders that can't be used are refused, and left as they were.
-fn refusals_agree<O: Write>(rt: &HostRuntime, output: &mut O) -> io::Result<bool> {
-    let mut agree = is_refused(
-        rt,
-        "scripts/one_leader.store",
-        "upsched: store not fresh\n",
-        output,
-    )?;
-    agree &= is_refused(rt, "no_folder", "upsched: store\n", output)?;
-    agree &= is_refused(rt, "scripts/one_leader.toml", "upsched: store\n", output)?;
-    make_strange_folder(rt, "strange.store")?;
-    agree &= is_refused(rt, "strange.store", "upsched: store\n", output)?;
-    if !has_so_many(rt, "strange.store", 1)? {
-        writeln!(output, "a refused run left files in strange.store")?;
-        agree = false;
-    }
-    Ok(agree)
+/// What the program runs on: its files, and what makes its threads.
+#[derive(Clone, Copy)]
+struct Host<'a, T> {
+    rt: &'a HostRuntime,
+    threads: &'a T,
 }
 
-/// Whether a folder has examples and all of them agree.
-fn run_folder<O: Write>(rt: &HostRuntime, folder: Folder, output: &mut O) -> io::Result<bool> {
-    let mut has_examples = false;
-    let mut all_agree = true;
-    for entry in fs::read_dir(rt, folder.path)? {
-        let entry = entry?;
-        let path = entry.path();
-        let path = path.path_text();
-        if let Some(stem) = path.strip_suffix(folder.ending) {
-            has_examples = true;
-            all_agree &= agrees(rt, folder.command, path, stem, output)?;
-            if folder.path == "scripts" {
-                all_agree &= agrees_stored(rt, path, stem, output)?;
+impl<T: Threads + Wait + Clock + Sync + AllocGlobal> Host<'_, T> {
+    /// What the program does with an example, and with more words behind its path.
+    fn run_of(&self, command: &str, path: &str, more: &[&str]) -> io::Result<Run> {
+        let alloc = self.rt.alloc();
+        let mut words = Vec::new(alloc);
+        words.push(String::from_str(alloc, "upsched")?)?;
+        words.push(String::from_str(alloc, command)?)?;
+        words.push(last_word(self.rt, command, path)?)?;
+        for word in more {
+            words.push(String::from_str(alloc, word)?)?;
+        }
+        let mut output = Vec::new(alloc);
+        let mut errors = Vec::new(alloc);
+        let status = run_words(
+            self.rt,
+            self.threads,
+            words.as_slice(),
+            &mut output,
+            &mut errors,
+        );
+        Ok(Run {
+            status,
+            output,
+            errors,
+        })
+    }
+
+    /// Whether the example of this path without its ending prints what stands beside it, with these words behind its
+    /// path. It is told where it doesn't.
+    fn agrees<O: Write>(
+        &self,
+        command: &str,
+        path: &str,
+        stem: &str,
+        more: &[&str],
+        output: &mut O,
+    ) -> io::Result<bool> {
+        let run = self.run_of(command, path, more)?;
+        if are_same(&run, &wanted(self.rt, stem)?) {
+            return Ok(true);
+        }
+        writeln!(
+            output,
+            "{path} with {more:?} prints something else: {run:?}"
+        )?;
+        Ok(false)
+    }
+
+    /// Whether a script prints the same where its nodes keep their records in a new folder.
+    fn agrees_stored<O: Write>(&self, path: &str, stem: &str, output: &mut O) -> io::Result<bool> {
+        let folder = format!(in self.rt.alloc(); "{stem}.store")?;
+        fs::create_dir(self.rt, folder.as_str())?;
+        let words = ["--store", folder.as_str()];
+        self.agrees("run", path, stem, words.as_slice(), output)
+    }
+
+    /// Whether the one script is refused so with this folder.
+    fn is_refused<O: Write>(&self, folder: &str, line: &str, output: &mut O) -> io::Result<bool> {
+        let words = ["--store", folder];
+        let run = self.run_of("run", "scripts/one_leader.toml", words.as_slice())?;
+        if run.status == Status::Faulted
+            && run.output.is_empty()
+            && run.errors.as_slice() == line.as_bytes()
+        {
+            return Ok(true);
+        }
+        writeln!(output, "--store {folder} prints something else: {run:?}")?;
+        Ok(false)
+    }
+
+    /// Whether folders that can't be used are refused, and left as they were.
+    fn refusals_agree<O: Write>(&self, output: &mut O) -> io::Result<bool> {
+        let mut agree = self.is_refused(
+            "scripts/one_leader.store",
+            "upsched: store not fresh\n",
+            output,
+        )?;
+        agree &= self.is_refused("no_folder", "upsched: store\n", output)?;
+        agree &= self.is_refused("scripts/one_leader.toml", "upsched: store\n", output)?;
+        make_strange_folder(self.rt, "strange.store")?;
+        agree &= self.is_refused("strange.store", "upsched: store\n", output)?;
+        if !has_so_many(self.rt, "strange.store", 1)? {
+            writeln!(output, "a refused run left files in strange.store")?;
+            agree = false;
+        }
+        Ok(agree)
+    }
+
+    /// Whether an example agrees in each way in which its folder is run.
+    fn agrees_in_all<O: Write>(
+        &self,
+        folder: Folder,
+        path: &str,
+        stem: &str,
+        output: &mut O,
+    ) -> io::Result<bool> {
+        let mut agree = self.agrees(folder.command, path, stem, &[], output)?;
+        if folder.path == "scripts" {
+            agree &= self.agrees_stored(path, stem, output)?;
+        }
+        if folder.path == "live" {
+            let words = ["--turns", "200", "--verbose"];
+            agree &= self.agrees("live", path, stem, words.as_slice(), output)?;
+        }
+        Ok(agree)
+    }
+
+    /// Whether a folder has examples and all of them agree.
+    fn run_folder<O: Write>(&self, folder: Folder, output: &mut O) -> io::Result<bool> {
+        let mut has_examples = false;
+        let mut all_agree = true;
+        for entry in fs::read_dir(self.rt, folder.path)? {
+            let entry = entry?;
+            let path = entry.path();
+            let path = path.path_text();
+            if let Some(stem) = path.strip_suffix(folder.ending) {
+                has_examples = true;
+                all_agree &= self.agrees_in_all(folder, path, stem, output)?;
             }
         }
+        if !has_examples {
+            writeln!(output, "{} has no example", folder.path)?;
+        }
+        Ok(has_examples && all_agree)
     }
-    if !has_examples {
-        writeln!(output, "{} has no example", folder.path)?;
-    }
-    Ok(has_examples && all_agree)
-}
 
-fn run_all<O: Write>(rt: &HostRuntime, output: &mut O) -> io::Result<bool> {
-    let mut all_agree = true;
-    for folder in FOLDERS {
-        all_agree &= run_folder(rt, folder, output)?;
+    fn run_all<O: Write>(&self, output: &mut O) -> io::Result<bool> {
+        let mut all_agree = true;
+        for folder in FOLDERS {
+            all_agree &= self.run_folder(folder, output)?;
+        }
+        all_agree &= self.refusals_agree(output)?;
+        Ok(all_agree)
     }
-    all_agree &= refusals_agree(rt, output)?;
-    Ok(all_agree)
 }
 
 fn main(rt: HostRuntime) -> ExitCode {
     let mut output = rt.stdout();
-    match run_all(&rt, &mut output) {
+    let host = Host {
+        rt: &rt,
+        threads: &rt,
+    };
+    match host.run_all(&mut output) {
         Ok(true) => {
             let _ = writeln!(output, "each example prints what stands beside it");
             ExitCode::SUCCESS

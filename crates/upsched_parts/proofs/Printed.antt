@@ -1,5 +1,5 @@
 -- What is printed of a list of commands, one command after another.
-use Rattle.std.proofs.Common.{◌≡◌, ℕ, ◌+◌, ◌<◌, ◌≤◌, List, [], ◌∷◌, ◌++◌, length, take, get_or, Option, Some, None, IfSome, ap, ◌∙◌, sym, refl, append_assoc, append-nil, add-zero, arith}
+use Rattle.std.proofs.Common.{◌≡◌, ℕ, ◌+◌, ◌<◌, ◌≤◌, List, [], ◌∷◌, ◌++◌, length, take, get_or, Option, Some, None, IfSome, Result, Ok, Err, OnOk, ap, ◌∙◌, sym, refl, append_assoc, append-nil, add-zero, arith}
 use Rattle.std.proofs.lemmas.List.{take_more, take_all, length-take-le}
 use Rattle.std.specs.Io.KnownBytes.{Appends, Keeps}
 use Rattle.flow_state.specs.Rows.{Rows}
@@ -7,7 +7,7 @@ use Rattle.grant_machine.specs.declared.command.Command.{Command}
 use Rattle.grant_machine.specs.Steps.{step}
 use Rattle.grant_machine.specs.Runs.{outputs_from, rows_from, outputs_of, rows_after}
 use Rattle.upsched_parts.specs.Lines.{output_line, output_lines}
-use Rattle.upsched_parts.specs.Plan.{IsPlan, NoPlan}
+use Rattle.upsched_parts.specs.Plan.{IsPlan, PrintsPlan}
 
 -- known bytes that stay grow by nothing
 pub appends_none : (known : Option (List ℕ)) → Appends known known []
@@ -64,7 +64,14 @@ pub all_lines : (cs : List Command) (i : ℕ) (old mid new : Option (List ℕ)) 
     → Appends old mid (output_lines 1 (outputs_of (take i cs))) → Keeps mid new → Appends old new (output_lines 1 (outputs_of cs))
 all_lines cs i old mid new end grown kept = appends_kept old mid new _ (rw (take_all i cs end) at grown) kept
 
--- a text that is read as a plan isn't known to be none
-pub no_plan_read : (known : Option (List ℕ)) (text read : List ℕ) (cs : List Command) → NoPlan known → IfSome known (λ bytes. text ≡ bytes) → read ≡ text → IsPlan read cs → ⊥
-no_plan_read None text read cs none same whole plan = none
-no_plan_read (Some bytes) text read cs none same whole plan = none cs (rw (whole ∙ same) at plan)
+-- a text that is read as a plan is known to be one, where it is known
+pub plan_known : (known : Option (List ℕ)) (text read : List ℕ) (cs : List Command) → IfSome known (λ bytes. text ≡ bytes) → read ≡ text → IsPlan read cs → IfSome known (λ bytes. IsPlan bytes cs)
+plan_known None text read cs same whole plan = tt
+plan_known (Some bytes) text read cs same whole plan = rw (whole ∙ same) at plan
+
+-- where the outputs of a plan's commands were printed, the plan was
+pub plan_printed : {T E : Type 0} (r : Result T E) (known old new : Option (List ℕ)) (cs : List Command) → IfSome known (λ text. IsPlan text cs)
+    → OnOk r (Appends old new (output_lines 1 (outputs_of cs))) → OnOk r (PrintsPlan known old new)
+plan_printed (Err e) known old new cs plan prints = tt
+plan_printed (Ok x) None old new cs plan prints = tt
+plan_printed (Ok x) (Some text) old new cs plan prints = (cs, plan, prints)

@@ -1,6 +1,6 @@
 //! `upsched maps PLAN`: from a plan to outputs.
 
-ghost use Rattle.std.specs.Prelude.{◌≡◌, ◌≢◌, OnOk};
+ghost use Rattle.std.specs.Prelude.{◌≡◌, ◌≢◌, IfOk, IfSome, OnOk};
 ghost use Rattle.std.specs.Io.KnownBytes.{Appends};
 ghost use Rattle.grant_machine.specs.declared.command.Command.{Command};
 ghost use Rattle.grant_machine.specs.Steps.{step};
@@ -62,6 +62,21 @@ fn print_outputs<'a, O: Write>(
     }
 }
 
+/// The commands of the plan that a text is.
+pub fn plan_of<'a, R: Read>(
+    alloc: Global,
+    plan: &mut R,
+    path: &'a str,
+) -> Result<Vec<Command>, Fault<'a>>
+    ensures { IfOk result (λ commands. IfSome (R.remaining plan.old) (λ bytes. IsPlan bytes commands.items)) }
+{
+    let text = text_of(alloc, plan, path)?;
+    match read_plan(alloc, text.as_str()) {
+        Ok(commands) => Ok(commands),
+        Err(fault) => Err(Fault::Plan(fault)),
+    }
+}
+
 fn print_plan<'a, R: Read, O: Write>(
     alloc: Global,
     plan: &mut R,
@@ -71,11 +86,8 @@ fn print_plan<'a, R: Read, O: Write>(
     ensures printed { OnOk result (PrintsPlan (R.remaining plan.old) (O.contents output.old) (O.contents output.new)) }
     ensures no_plan { NoPlan (R.remaining plan.old) → output.new ≡ output.old }
 {
-    let text = text_of(alloc, plan, path)?;
-    match read_plan(alloc, text.as_str()) {
-        Ok(commands) => print_outputs(alloc, commands.as_slice(), output),
-        Err(fault) => Err(Fault::Plan(fault)),
-    }
+    let commands = plan_of(alloc, plan, path)?;
+    print_outputs(alloc, commands.as_slice(), output)
 }
 
 /// Applies a plan's commands to one scheduler and prints for each its number and its output. A

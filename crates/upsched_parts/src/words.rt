@@ -7,7 +7,7 @@ ghost use Rattle.upsched_parts.specs.declared.status.Status.TheVariants.{Faulted
 use crate::fault::Fault;
 use crate::status::Status;
 use clap::error::ErrorKind;
-use clap::{Arg, ArgAction, Command, Error};
+use clap::{Arg, ArgAction, ArgMatches, Command, Error, value_parser};
 use std::alloc::Global;
 use std::io::Write;
 
@@ -36,6 +36,17 @@ pub struct ShowWords<'a> {
     pub hex: &'a str,
 }
 
+/// What `live` is told.
+#[derive(Clone, Copy, Debug)]
+pub struct LiveWords<'a> {
+    /// The path of the plan.
+    pub plan: &'a str,
+    /// How many turns each node has, at most 1,000,000.
+    pub turns: u32,
+    /// Whether what each node did is counted in the log too.
+    pub verbose: bool,
+}
+
 /// A command of the program.
 #[derive(Clone, Copy, Debug)]
 pub enum Words<'a> {
@@ -45,10 +56,15 @@ pub enum Words<'a> {
     Run(RunWords<'a>),
     /// Prints a MAP body.
     Show(ShowWords<'a>),
+    /// Works on a plan with a thread for each node, and prints whether the records agree.
+    Live(LiveWords<'a>),
 }
 
 /// The version that `--version` tells.
 const VERSION: &str = "0.1.0";
+
+/// How many turns each node of `live` has where the words don't say.
+const TURNS_NOT_GIVEN: &str = "2000";
 
 /// What the help ends with.
 const WHERE_TO_READ_ON: &str = "docs/RULES.md tells how plans and scripts are written and what is \
@@ -98,6 +114,34 @@ fn show_command<'a>(alloc: Global) -> Result<Command<'a>, Error> {
     Ok(show)
 }
 
+fn live_command<'a>(alloc: Global) -> Result<Command<'a>, Error> {
+    let plan = Arg::new(alloc, "PLAN")
+        .required(true)
+        .help("A file of commands in TOML (docs/RULES.md, \"Plans\")");
+    let turns = Arg::new(alloc, "turns")
+        .long("turns")
+        .value_name("T")
+        .value_parser(value_parser!(u32).range(0..=1_000_000))
+        .default_value(TURNS_NOT_GIVEN)
+        .help(
+            "How many turns each node has, 0 to 1000000; one that finds nothing to do sleeps a millisecond",
+        );
+    let verbose = Arg::new(alloc, "verbose")
+        .long("verbose")
+        .action(ArgAction::SetTrue)
+        .help(
+            "Also logs on standard error what each node recorded and learned; what is printed stays the same",
+        );
+    let live = Command::new(alloc, "live")
+        .about(
+            "Has three nodes, each in a thread, work on a plan's commands and audits their records",
+        )
+        .arg(plan)?
+        .arg(turns)?
+        .arg(verbose)?;
+    Ok(live)
+}
+
 fn program<'a>(alloc: Global) -> Result<Command<'a>, Error> {
     let program = Command::new(alloc, "upsched")
         .version(VERSION)
@@ -106,8 +150,21 @@ fn program<'a>(alloc: Global) -> Result<Command<'a>, Error> {
         .subcommand_required(true)
         .subcommand(maps_command(alloc)?)?
         .subcommand(run_command(alloc)?)?
-        .subcommand(show_command(alloc)?)?;
+        .subcommand(show_command(alloc)?)?
+        .subcommand(live_command(alloc)?)?;
     Ok(program)
+}
+
+/// What `live` is told.
+fn live_words<'a>(words: &ArgMatches<'a>) -> Option<LiveWords<'a>> {
+    let plan = words.get_str("PLAN")?;
+    let turns = words.get_one::<u32>("turns")?;
+    let verbose = words.get_flag("verbose");
+    Some(LiveWords {
+        plan,
+        turns,
+        verbose,
+    })
 }
 
 /// Reads the words, the program's own name first. What it doesn't understand, and what asks for help or
@@ -134,6 +191,7 @@ pub fn read_words<'a>(alloc: Global, words: &'a [String]) -> Result<Words<'a>, E
         Some(("show", words)) => words
             .get_str("HEX")
             .map(|hex| Words::Show(ShowWords { hex })),
+        Some(("live", words)) => live_words(words).map(|words| Words::Live(words)),
         _ => None,
     };
     match command {

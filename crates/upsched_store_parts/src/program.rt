@@ -1,11 +1,17 @@
 //! From the words of the command line to how the program ends.
 
 use crate::stored_run::run_stored_script;
+use log::Log;
 use std::io::{ErrorKind, Write};
 use std::rt::{Env, Files};
+use std::sync::Wait;
+use std::thread::Threads;
+use std::time::Clock;
 use std::{env, fs};
+use upsched_live_parts::live;
 use upsched_parts::{
-    Fault, MapsWords, RunWords, Status, Words, maps, read_words, refused, run_script, show,
+    Fault, LiveWords, MapsWords, RunWords, Status, Words, maps, read_words, refused, run_script,
+    show,
 };
 
 /// Opens the plan and ends as `maps` does.
@@ -37,6 +43,20 @@ fn run_run<O: Write, E: Write>(
     }
 }
 
+/// Opens the plan and ends as `live` does.
+fn run_live<R: Files + Log, T: Threads + Wait + Clock + Sync + AllocGlobal, O: Write, E: Write>(
+    rt: &R,
+    threads: &T,
+    words: &LiveWords<'_>,
+    output: &mut O,
+    errors: &mut E,
+) -> Status {
+    match fs::open(rt, words.plan) {
+        Ok(mut plan) => live(rt, threads, &mut plan, words, output, errors),
+        Err(error) => Fault::of_reading(&error, words.plan).told(errors),
+    }
+}
+
 /// The words of the command line, or how the program ends without them.
 fn given_words<R: Env + AllocGlobal, E: Write>(
     rt: &R,
@@ -55,9 +75,11 @@ fn given_words<R: Env + AllocGlobal, E: Write>(
     }
 }
 
-/// Reads the words, the program's own name first, and ends as the command does that they name.
-pub fn run_words<O: Write, E: Write>(
+/// Reads the words, the program's own name first, and ends as the command does that they name. Threads are made, and
+/// waited for, by `threads`.
+pub fn run_words<T: Threads + Wait + Clock + Sync + AllocGlobal, O: Write, E: Write>(
     rt: &HostRuntime,
+    threads: &T,
     given: &[String],
     output: &mut O,
     errors: &mut E,
@@ -66,14 +88,20 @@ pub fn run_words<O: Write, E: Write>(
         Ok(Words::Maps(words)) => run_maps(rt, &words, output, errors),
         Ok(Words::Run(words)) => run_run(rt, &words, output, errors),
         Ok(Words::Show(words)) => show(rt.alloc(), &words, output, errors),
+        Ok(Words::Live(words)) => run_live(rt, threads, &words, output, errors),
         Err(error) => refused(&error, output, errors),
     }
 }
 
-/// Ends as the words of the command line say.
-pub fn run<O: Write, E: Write>(rt: &HostRuntime, output: &mut O, errors: &mut E) -> Status {
+/// Ends as the words of the command line say. Threads are made, and waited for, by `threads`.
+pub fn run<T: Threads + Wait + Clock + Sync + AllocGlobal, O: Write, E: Write>(
+    rt: &HostRuntime,
+    threads: &T,
+    output: &mut O,
+    errors: &mut E,
+) -> Status {
     match given_words(rt, errors) {
-        Ok(given) => run_words(rt, given.as_slice(), output, errors),
+        Ok(given) => run_words(rt, threads, given.as_slice(), output, errors),
         Err(status) => status,
     }
 }

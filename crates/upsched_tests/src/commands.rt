@@ -70,6 +70,29 @@ fn words_of_commands(rt: HostRuntime) -> Result<(), Fail> {
     Ok(())
 }
 
+/// The words of `live`, with the turns that they give.
+#[test]
+fn words_of_live(rt: HostRuntime) -> Result<(), Fail> {
+    let alloc = rt.alloc();
+    let cases = [
+        (["live", "plan.toml"].as_slice(), 2000, false),
+        (["live", "plan.toml", "--verbose"].as_slice(), 2000, true),
+        (["live", "--turns", "0", "plan.toml"].as_slice(), 0, false),
+        (
+            ["live", "plan.toml", "--turns=1000000"].as_slice(),
+            1_000_000,
+            false,
+        ),
+    ];
+    for (words, turns, verbose) in cases {
+        let given = listed(alloc, words)?;
+        assert!(rt;
+            matches!(read_words(alloc, given.as_slice()), Ok(Words::Live(words)) if words.plan == "plan.toml" && words.turns == turns && words.verbose == verbose)
+        );
+    }
+    Ok(())
+}
+
 /// Words that name no command, and how the program ends.
 #[test]
 fn words_of_no_command(rt: HostRuntime) -> Result<(), Fail> {
@@ -87,7 +110,23 @@ fn words_of_no_command(rt: HostRuntime) -> Result<(), Fail> {
             ["run", "script.toml", "--store"].as_slice(),
             Status::NotUnderstood,
         ),
-        (["live", "plan.toml"].as_slice(), Status::NotUnderstood),
+        (["live"].as_slice(), Status::NotUnderstood),
+        (
+            ["live", "plan.toml", "--turns"].as_slice(),
+            Status::NotUnderstood,
+        ),
+        (
+            ["live", "plan.toml", "--turns", "many"].as_slice(),
+            Status::NotUnderstood,
+        ),
+        (
+            ["live", "plan.toml", "--turns=-1"].as_slice(),
+            Status::NotUnderstood,
+        ),
+        (
+            ["live", "plan.toml", "--turns", "1000001"].as_slice(),
+            Status::NotUnderstood,
+        ),
         (["--help"].as_slice(), Status::Done),
         (["run", "--help"].as_slice(), Status::Done),
         (["--version"].as_slice(), Status::Done),
