@@ -1,15 +1,18 @@
 //! Runs each example of the folders below as the program would, and tells which prints anything
 //! but what stands beside it: `NAME.stdout` where all goes well, `NAME.stderr` where it faults. Scripts
-//! run a second time with `--store`.
+//! run a second time with `--store`, and a third time over files in memory.
 #![tactic(auto)]
 
-use std::io::Write;
+use sqlite::Files as Pair;
+use sqlite_disk::Memory;
+use std::alloc::{AllocError, Global};
+use std::io::{Read, Write};
 use std::path::AsPath;
 use std::process::ExitCode;
 use std::rt::Files;
 use std::{fs, io};
-use upsched_parts::Status;
-use upsched_store_parts::run_words;
+use upsched_parts::{Fault, Status, script_of};
+use upsched_store_parts::{print_over, run_words};
 
 /// A folder of examples of one command.
 #[derive(Clone, Copy, Debug)]
@@ -148,6 +151,61 @@ fn agrees_stored<O: Write>(
     Ok(false)
 }
 
+/// An empty database and its log in memory, so many times.
+fn pairs_in_memory(alloc: Global, count: u8) -> Result<Vec<Pair<Memory>>, AllocError> {
+    let mut pairs = Vec::new(alloc);
+    for _ in 0..count {
+        pairs.push(Pair {
+            log: Memory::new(alloc),
+            db: Memory::new(alloc),
+        })?;
+    }
+    Ok(pairs)
+}
+
+/// Prints what a script does to nodes that keep their records in tables in memory.
+fn print_in_memory<'a, F: Read, O: Write>(
+    rt: &HostRuntime,
+    script: &mut F,
+    path: &'a str,
+    output: &mut O,
+) -> Result<(), Fault<'a>> {
+    let script = script_of(rt.alloc(), script, path)?;
+    let Ok(pairs) = pairs_in_memory(rt.alloc(), script.members.count()) else {
+        return Err(Fault::Memory);
+    };
+    print_over(rt, pairs, &script, false, output)
+}
+
+/// Whether a script prints the same where its nodes keep their records in tables in memory.
+fn agrees_in_memory<O: Write>(
+    rt: &HostRuntime,
+    path: &str,
+    stem: &str,
+    output: &mut O,
+) -> io::Result<bool> {
+    let mut script = fs::open(rt, path)?;
+    let mut printed = Vec::new(rt.alloc());
+    let mut errors = Vec::new(rt.alloc());
+    let status = match print_in_memory(rt, &mut script, path, &mut printed) {
+        Ok(()) => Status::Done,
+        Err(fault) => fault.told(&mut errors),
+    };
+    let run = Run {
+        status,
+        output: printed,
+        errors,
+    };
+    if are_same(&run, &wanted(rt, stem)?) {
+        return Ok(true);
+    }
+    writeln!(
+        output,
+        "{path} over tables in memory prints something else: {run:?}"
+    )?;
+    Ok(false)
+}
+
 /// Whether the one script is refused so with this folder.
 fn is_refused<O: Write>(
     rt: &HostRuntime,
@@ -215,6 +273,7 @@ fn run_folder<O: Write>(rt: &HostRuntime, folder: Folder, output: &mut O) -> io:
             all_agree &= agrees(rt, folder.command, path, stem, output)?;
             if folder.path == "scripts" {
                 all_agree &= agrees_stored(rt, path, stem, output)?;
+                all_agree &= agrees_in_memory(rt, path, stem, output)?;
             }
         }
     }
