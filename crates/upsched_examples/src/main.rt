@@ -1,9 +1,12 @@
 //! Runs each example of the folders below as the program would, and tells which prints anything
 //! but what stands beside it: `NAME.stdout` where all goes well, `NAME.stderr` where it faults. Scripts
-//! run a second time with `--store`, plans of `live` with fewer turns and `--verbose`, and plans with a fault by `live` too.
+//! run a second time with `--store` and a third time over files in memory, plans of `live` with fewer turns and `--verbose`, and plans with a fault by `live` too.
 #![tactic(auto)]
 
-use std::io::Write;
+use sqlite::Files as Pair;
+use sqlite_disk::Memory;
+use std::alloc::{AllocError, Global};
+use std::io::{Read, Write};
 use std::path::AsPath;
 use std::process::ExitCode;
 use std::rt::Files;
@@ -11,8 +14,8 @@ use std::sync::Wait;
 use std::thread::Threads;
 use std::time::Clock;
 use std::{fs, io};
-use upsched_parts::Status;
-use upsched_store_parts::run_words;
+use upsched_parts::{Fault, Status, script_of};
+use upsched_store_parts::{print_over, run_words};
 
 /// A folder of examples of one command.
 #[derive(Clone, Copy, Debug)]
@@ -107,6 +110,32 @@ fn are_same(run: &Run, wanted: &Run) -> bool {
         && run.errors.as_slice() == wanted.errors.as_slice()
 }
 
+/// An empty database and its log in memory, so many times.
+fn pairs_in_memory(alloc: Global, count: u8) -> Result<Vec<Pair<Memory>>, AllocError> {
+    let mut pairs = Vec::new(alloc);
+    for _ in 0..count {
+        pairs.push(Pair {
+            log: Memory::new(alloc),
+            db: Memory::new(alloc),
+        })?;
+    }
+    Ok(pairs)
+}
+
+/// Prints what a script does to nodes that keep their records in tables in memory.
+fn print_in_memory<'a, F: Read, O: Write>(
+    rt: &HostRuntime,
+    script: &mut F,
+    path: &'a str,
+    output: &mut O,
+) -> Result<(), Fault<'a>> {
+    let script = script_of(rt.alloc(), script, path)?;
+    let Ok(pairs) = pairs_in_memory(rt.alloc(), script.members.count()) else {
+        return Err(Fault::Memory);
+    };
+    print_over(rt, pairs, &script, false, output)
+}
+
 /// A folder with a file that is no database.
 fn make_strange_folder(rt: &HostRuntime, folder: &str) -> io::Result<()> {
     fs::create_dir(rt, folder)?;
@@ -187,6 +216,35 @@ impl<T: Threads + Wait + Clock + Sync + AllocGlobal> Host<'_, T> {
         self.agrees("run", path, stem, words.as_slice(), output)
     }
 
+    /// Whether a script prints the same where its nodes keep their records in tables in memory.
+    fn agrees_in_memory<O: Write>(
+        &self,
+        path: &str,
+        stem: &str,
+        output: &mut O,
+    ) -> io::Result<bool> {
+        let mut script = fs::open(self.rt, path)?;
+        let mut printed = Vec::new(self.rt.alloc());
+        let mut errors = Vec::new(self.rt.alloc());
+        let status = match print_in_memory(self.rt, &mut script, path, &mut printed) {
+            Ok(()) => Status::Done,
+            Err(fault) => fault.told(&mut errors),
+        };
+        let run = Run {
+            status,
+            output: printed,
+            errors,
+        };
+        if are_same(&run, &wanted(self.rt, stem)?) {
+            return Ok(true);
+        }
+        writeln!(
+            output,
+            "{path} over tables in memory prints something else: {run:?}"
+        )?;
+        Ok(false)
+    }
+
     /// Whether the one script is refused so with this folder.
     fn is_refused<O: Write>(&self, folder: &str, line: &str, output: &mut O) -> io::Result<bool> {
         let words = ["--store", folder];
@@ -230,6 +288,7 @@ impl<T: Threads + Wait + Clock + Sync + AllocGlobal> Host<'_, T> {
         let mut agree = self.agrees(folder.command, path, stem, &[], output)?;
         if folder.path == "scripts" {
             agree &= self.agrees_stored(path, stem, output)?;
+            agree &= self.agrees_in_memory(path, stem, output)?;
         }
         if folder.path == "live" {
             let words = ["--turns", "200", "--verbose"];

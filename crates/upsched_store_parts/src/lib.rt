@@ -9,4 +9,4 @@ mod stored_run;
 
 pub use program::{run, run_words};
 pub use stored::{StoredNode, stored_nodes};
-pub use stored_run::run_stored_script;
+pub use stored_run::{print_over, run_stored_script};

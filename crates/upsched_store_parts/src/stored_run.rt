@@ -6,12 +6,12 @@ ghost use Rattle.upsched_parts.specs.declared.status.Status.TheVariants.{NotUnde
 ghost use Rattle.upsched_parts.specs.Run.{NoScript};
 
 use crate::store_folder::nodes_in;
-use crate::stored::StoredNode;
+use crate::stored::{StoredNode, stored_nodes};
 use acceptor_store::SqlRecords;
 use log::Log;
 use network_script_parts::Script;
 use node::{Node, SchedNode};
-use sqlite::FileStore;
+use sqlite::{FileStore, Files};
 use sqlite_disk::Disk;
 use std::io::{Read, Write};
 use upsched_parts::{Fault, RunWords, Status, print_script, script_of};
@@ -29,6 +29,18 @@ fn print_stored<'a, R: Log + AllocGlobal, D: Disk + Drop, O: Write>(
 {
     let _world = print_script(rt, nodes, script, verbose, output)?;
     Ok(())
+}
+
+/// What a script does to fresh nodes over a pair of files for each member is printed.
+pub fn print_over<'a, R: Log + AllocGlobal, D: Disk + Drop, O: Write>(
+    rt: &R,
+    files: Vec<Files<D>>,
+    script: &Script,
+    verbose: bool,
+    output: &mut O,
+) -> Result<(), Fault<'a>> {
+    let nodes = stored_nodes(rt.alloc(), script.members, files)?;
+    print_stored(rt, nodes, script, verbose, output)
 }
 
 fn print_in<'a, F: Read, O: Write>(
