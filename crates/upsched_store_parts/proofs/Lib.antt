@@ -1,1 +1,1 @@
-mod FreshNodes
+mod Counts

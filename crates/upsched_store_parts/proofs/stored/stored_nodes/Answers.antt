@@ -1,6 +1,7 @@
 use Rattle.std.proofs.Common.{◌≡◌, ◌≤◌, ◌∙◌, refl}
 use Rattle.ballots.specs.Members.{member_count}
-use Rattle.upsched_store_parts.proofs.FreshNodes.{none_first, more_first, all_first, reached, none_below, more_below}
+use Rattle.network_script_parts.proofs.Callers.{none_first, next_first, all_first}
+use Rattle.upsched_store_parts.proofs.Counts.{reached, none_below, more_below}
 use Rattle.upsched_store_parts.proofs.stored.stored_nodes.Goals as goal
 
 pub loop-number-init : goal.loop-number-init
@@ -9,7 +10,7 @@ loop-number-init g c = (none_below (member_count c.args.members), none_first _ _
 pub loop-number-preserved : goal.loop-number-preserved
 loop-number-preserved g c = (
   more_below c.loop-number.number _ _ c.loop-number-test.true c.count-number-end.ensures,
-  more_first _ _ _ _ c.loop-number.number _ _ c.in_ok-node.node c.loop-number.invariant.1 c.in_ok-node.ensures.id c.in_ok-node.ensures.members c.in_ok-node.ensures.up (λ honest. c.in_ok-node.ensures.fresh honest) c.in-Ok.ensures.items,
+  next_first _ _ _ _ c.loop-number.number _ _ c.in_ok-node.node c.loop-number.invariant.1 c.in_ok-node.ensures.id c.in_ok-node.ensures.members c.in_ok-node.ensures.up (λ honest. c.in_ok-node.ensures.fresh honest) c.in-Ok.ensures.items,
 )
 
 pub returns-clause-fresh : goal.returns-clause-fresh
