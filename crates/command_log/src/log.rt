@@ -1,4 +1,5 @@
 ghost use Rattle.ballots.specs.Limits.{most_places};
+
 use crate::reading::read_command;
 use ballots::{Bytes, MOST_PLACES};
 use grant_machine::{Machine, Output};

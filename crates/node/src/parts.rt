@@ -153,7 +153,12 @@ impl<R: Records> Parts<R> {
             place: place.number(),
             value: value.copy(self.alloc)?,
         };
-        let letters = to_all(self.alloc, self.proposer.members(), self.proposer.id(), &note)?;
+        let letters = to_all(
+            self.alloc,
+            self.proposer.members(),
+            self.proposer.id(),
+            &note,
+        )?;
         Ok((letters, kept))
     }
 
@@ -181,7 +186,12 @@ impl<R: Records> Parts<R> {
                     place: place.number(),
                     value: told,
                 };
-                to_all(self.alloc, self.proposer.members(), self.proposer.id(), &note)
+                to_all(
+                    self.alloc,
+                    self.proposer.members(),
+                    self.proposer.id(),
+                    &note,
+                )
             }
             Accepted::Higher(other) => one_letter(self.alloc, self.proposer.id(), from, other),
         }

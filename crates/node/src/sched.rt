@@ -81,7 +81,11 @@ impl<R: Records + Drop> Node for SchedNode<R> {
         if self.parts.is_down {
             return Err(NodeFault::Down);
         }
-        if !is_heeded(self.parts.proposer.members(), self.parts.proposer.id(), letter) {
+        if !is_heeded(
+            self.parts.proposer.members(),
+            self.parts.proposer.id(),
+            letter,
+        ) {
             return Ok(Vec::new(self.parts.alloc));
         }
         self.parts.heed(letter)
