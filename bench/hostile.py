@@ -185,6 +185,8 @@ def command(rng):
     if kind == "channel":
         pair = lambda: "[%d, %d]" % (rng.randint(0, 17), rng.randint(0, 17))
         keys.update(ucd=rng.randint(0, 255), short_max=number(rng, 65535), ranging=pair(), data=pair(), base=number(rng, 2**63 - 1))
+        if rng.random() < 0.5:
+            keys.update(phy=rng.choice(["'tdma'", "'advanced'", "'advanced'", "'Advanced'", "''", "1"]))
     elif kind == "flow":
         keys.update(modem=rng.randint(0, 5), tag=rng.randint(0, 5), service="'%s'" % rng.choice(["best_effort", "ugs", "poll"]))
         keys.update(priority=rng.randint(0, 9), size=number(rng, 65535), interval=number(rng, 2**32 - 1), jitter=number(rng, 2**32 - 1), base=number(rng, 2**63 - 1))
@@ -206,7 +208,7 @@ def inline(keys):
 
 
 CHANNEL = {"kind": "'channel'", "ch": 1, "ucd": 7, "short_max": 16, "ranging": "[2, 5]", "data": "[3, 8]", "base": 1000}
-SPELLED = ["00", "01010700100205030800000000000003e8", "020100000032000000010003", "03010001", "0401000100140000000000000" + "3de", "050100640000000000000000000000000000000a"]
+SPELLED = ["00", "01010700100205030800000000000003e8", "06010700100205030800000000000003e8", "020100000032000000010003", "03010001", "0401000100140000000000000" + "3de", "050100640000000000000000000000000000000a"]
 
 
 def made_plan(rng):
@@ -295,13 +297,17 @@ def text_of(rng, changeable, made, array):
     return changed(rng, text) if rng.random() < 0.7 else text
 
 
+# The words that take a plan. Turns that find nothing to do take a millisecond each, so there are few.
+PLANNED = {"maps": ["maps"], "live": ["live", "--turns", "12"]}
+
+
 def case_of(seed, k):
     rng = random.Random("%d %d" % (seed, k))
-    how = rng.choice(["maps", "maps", "show", "run", "run", "run --store"])
+    how = rng.choice(["maps", "maps", "maps", "live", "show", "run", "run", "run", "run --store"])
     if how == "show":
         return Case(how, ["show", "--"], hex_text(rng).replace(b"\0", b"0")[:LONGEST_WORD])
-    if how == "maps":
-        return Case(how, ["maps"], text_of(rng, PLANS, made_plan, b"command"))
+    if how in PLANNED:
+        return Case(how, PLANNED[how], text_of(rng, PLANS, made_plan, b"command"))
     words = ["run"] + (["--verbose"] if rng.random() < 0.5 else [])
     return Case(how, words, text_of(rng, SCRIPTS, made_script, b"event"))
 
@@ -347,7 +353,7 @@ def good_text(how, size):
     """A good text of about this length."""
     if how == "show":
         return read(os.path.join(HERE, "examples/bodies/first_grant.hex")).strip()
-    table = b"[[command]]\nkind = 'noop'\n" if how == "maps" else b"[[event]]\nkind = 'tick'\nmodem = 0\nch = 1\nslot = 0\nrandom = 0\n"
+    table = b"[[command]]\nkind = 'noop'\n" if how in PLANNED else b"[[event]]\nkind = 'tick'\nmodem = 0\nch = 1\nslot = 0\nrandom = 0\n"
     return b"members = 3\nmodems = [1]\n" + table * (size // len(table))
 
 
@@ -359,7 +365,7 @@ class Pace:
 
     def taken(self, how, size):
         if (how, size) not in self.known:
-            case = Case(how, {"show": ["show", "--"], "maps": ["maps"]}.get(how, ["run"]), good_text(how, size))
+            case = Case(how, {"show": ["show", "--"], **PLANNED}.get(how, ["run"]), good_text(how, size))
             runs = [self.runner.run(case) for _ in range(3)]
             if any(run.status != 0 for run in runs):
                 sys.exit("bench/hostile.py: a good text ended with status %d" % runs[0].status)
