@@ -5,53 +5,60 @@ use Rattle.flow_state.specs.declared.channel.Channel.{Channel}
 use Rattle.flow_state.specs.declared.flow.FlowKind.{FlowKind}
 use Rattle.flow_state.specs.declared.flow.Waiting.{Waiting}
 use Rattle.flow_state.specs.Limits.{due_index}
-use Rattle.flow_state.specs.Rows.{Rows, Table, FlowRow, Assignment, table_of, change_table, flow_of, change_flow, is_flow, assignment_of, free_sid, insert_flow, without_request, waits}
+use Rattle.flow_state.specs.Rows.{Rows, Table, FlowRow, Lease, table_of, change_table, flow_of, change_flow, is_flow, lease_of, free_sid, first_of, put_lease, insert_flow, is_ended, has_ended, without_request, waits}
 
 -- a channel as it is set: nothing given, its first MAP begins at its base
 abbrev pub new_table : Channel → Table
-new_table c = record { row = record { channel = c; next_start = c.base; ack = 0 }; assigned = []; flows = []; waiting = [] }
+new_table c = record { row = record { channel = c; next_start = c.base; ack = 0 }; leases = []; flows = []; waiting = [] }
 
 abbrev pub with_channel : Rows → Channel → Rows
 with_channel rows c = rows ++ new_table c ∷ []
 
--- a flow as it is added, its first due time next
-abbrev pub new_flow : ℕ → ℕ → ℕ → FlowKind → FlowRow
-new_flow sid modem tag kind = record { sid = sid; modem = modem; tag = tag; kind = kind; index = 0; last_sent = None }
+-- a flow as it is added under its lease, its first due time next
+abbrev pub new_flow : Lease → FlowKind → FlowRow
+new_flow l kind = record { sid = l.sid; modem = l.modem; tag = l.tag; first = l.first; last = l.last; kind = kind; index = 0; last_sent = None }
 
-abbrev pub add_to_table : Table → ℕ → ℕ → FlowKind → ℕ → Table
-add_to_table t modem tag kind sid = record t { assigned = t.assigned ++ record { modem = modem; tag = tag; sid = sid } ∷ []; flows = insert_flow (new_flow sid modem tag kind) t.flows }
+abbrev pub add_to_table : Table → Lease → FlowKind → Table
+add_to_table t l kind = record t { leases = put_lease l t.leases; flows = insert_flow (new_flow l kind) t.flows }
 
--- the SID of modem and tag: the one that they were given before, else the least that was never given
-abbrev pub sid_among : Option Assignment → Table → ℕ
-sid_among (Some a) t = a.sid
-sid_among None t = unwrap_or (free_sid t) 0
+-- a new lease of the SID up to a last minislot
+abbrev pub new_lease : Table → (modem tag last sid : ℕ) → Lease
+new_lease t modem tag last sid = record { sid = sid; modem = modem; tag = tag; first = first_of t sid; last = last }
 
-abbrev pub sid_for : Table → ℕ → ℕ → ℕ
-sid_for t modem tag = sid_among (assignment_of t modem tag) t
+-- the lease of modem and tag: theirs that isn't over, else a new one of the least SID that is free
+abbrev pub lease_among : Option Lease → Table → (modem tag last : ℕ) → Lease
+lease_among (Some l) t modem tag last = l
+lease_among None t modem tag last = new_lease t modem tag last (unwrap_or (free_sid t) 0)
 
--- where they were given one there is no change, whatever the kind
-abbrev pub flow_among : Option Assignment → Table → ℕ → ℕ → FlowKind → Table
-flow_among (Some a) t modem tag kind = t
-flow_among None t modem tag kind = add_to_table t modem tag kind (unwrap_or (free_sid t) 0)
+abbrev pub lease_for : Table → (modem tag last : ℕ) → Lease
+lease_for t modem tag last = lease_among (lease_of t modem tag) t modem tag last
 
-abbrev pub flow_in_table : Table → ℕ → ℕ → FlowKind → Table
-flow_in_table t modem tag kind = flow_among (assignment_of t modem tag) t modem tag kind
+-- where they have one that isn't over there is no change, whatever the kind and the last minislot
+abbrev pub flow_among : Option Lease → Table → (modem tag last : ℕ) → FlowKind → Table
+flow_among (Some l) t modem tag last kind = t
+flow_among None t modem tag last kind = add_to_table t (new_lease t modem tag last (unwrap_or (free_sid t) 0)) kind
 
-abbrev pub sid_on : Option Table → ℕ → ℕ → ℕ
-sid_on (Some t) modem tag = sid_for t modem tag
-sid_on None modem tag = 0
+abbrev pub flow_in_table : Table → (modem tag last : ℕ) → FlowKind → Table
+flow_in_table t modem tag last kind = flow_among (lease_of t modem tag) t modem tag last kind
 
-abbrev pub sid_of : Rows → ℕ → ℕ → ℕ → ℕ
-sid_of rows ch modem tag = sid_on (table_of rows ch) modem tag
+abbrev pub no_lease : Lease
+no_lease = record { sid = 0; modem = 0; tag = 0; first = 0; last = 0 }
 
--- modem and tag were given a SID of the channel before
-abbrev pub is_known : Rows → ℕ → ℕ → ℕ → Bool
-is_known rows ch modem tag = option_map_or (λ t. is_some (assignment_of t modem tag)) (table_of rows ch) false
+abbrev pub lease_on : Option Table → (modem tag last : ℕ) → Lease
+lease_on (Some t) modem tag last = lease_for t modem tag last
+lease_on None modem tag last = no_lease
 
-abbrev pub with_flow : Rows → ℕ → ℕ → ℕ → FlowKind → Rows
-with_flow rows ch modem tag kind = change_table rows ch (λ t. flow_in_table t modem tag kind)
+abbrev pub lease_given : Rows → (ch modem tag last : ℕ) → Lease
+lease_given rows ch modem tag last = lease_on (table_of rows ch) modem tag last
 
--- the flow and its waiting request are gone; the SID stays given
+-- modem and tag have a lease of a SID of the channel that isn't over
+abbrev pub is_known : Rows → (ch modem tag : ℕ) → Bool
+is_known rows ch modem tag = option_map_or (λ t. is_some (lease_of t modem tag)) (table_of rows ch) false
+
+abbrev pub with_flow : Rows → (ch modem tag last : ℕ) → FlowKind → Rows
+with_flow rows ch modem tag last kind = change_table rows ch (λ t. flow_in_table t modem tag last kind)
+
+-- the flow and its waiting request are gone; the lease of its SID stays
 abbrev pub drop_in_table : Table → ℕ → Table
 drop_in_table t sid = without_request (record t { flows = filter (λ f. not (is_flow sid f)) t.flows }) sid
 
@@ -97,9 +104,14 @@ due_in_table t sid due = change_flow t sid (λ f. record f { index = due_index f
 abbrev pub with_due : Rows → ℕ → ℕ → ℕ → Rows
 with_due rows ch sid due = change_table rows ch (λ t. due_in_table t sid due)
 
--- the channel's MAPs reach to end, and this is its Ack Time
-abbrev pub close_table : Table → ℕ → ℕ → Table
-close_table t end ack = record t { row = record t.row { next_start = end; ack = ack } }
+-- the channel's MAPs reach to end, and this is its Ack Time; the flows whose leases end before are gone, with their waiting requests
+abbrev pub close_table : Table → (end ack : ℕ) → Table
+close_table t end ack = record {
+  row = record t.row { next_start = end; ack = ack };
+  leases = t.leases;
+  flows = filter (λ f. not (is_ended end f)) t.flows;
+  waiting = filter (λ w. not (has_ended t end w)) t.waiting;
+}
 
 abbrev pub with_cut_closed : Rows → ℕ → ℕ → ℕ → Rows
 with_cut_closed rows ch end ack = change_table rows ch (λ t. close_table t end ack)

@@ -1,12 +1,12 @@
 -- The first refusal of each call that applies, in order.
-use Rattle.std.specs.Prelude.{◌≡◌, ℕ, Bool, false, not, ◌||◌, nat_le, is_some, is_none, if◌then◌else◌, length, Option, Some, None}
+use Rattle.std.specs.Prelude.{◌≡◌, ℕ, Bool, false, not, ◌&&◌, ◌||◌, nat_le, nat_lt, is_some, is_none, if◌then◌else◌, length, Option, Some, None}
 use Rattle.std.specs.Option.{option_map_or}
 use Rattle.flow_state.specs.declared.channel.Channel.{Channel}
 use Rattle.flow_state.specs.declared.flow.FlowKind.{FlowKind}
 use Rattle.flow_state.specs.declared.refusal.Refusal.{Refusal}
 use Rattle.flow_state.specs.declared.refusal.Refusal.TheVariants.{NoChannel, ChannelThere, NoFlow, SidsSpent, Busy, OldRequest, BadValue, OutOfMemory}
 use Rattle.flow_state.specs.Limits.{is_good_channel, is_good_kind, is_size, is_ugs, last_time, most_waiting}
-use Rattle.flow_state.specs.Rows.{Rows, Table, FlowRow, table_of, flow_of, assignment_of, free_sid, waits}
+use Rattle.flow_state.specs.Rows.{Rows, Table, FlowRow, table_of, flow_of, lease_of, free_sid, waits}
 
 abbrev pub set_channel_refusal : Rows → Channel → Option Refusal
 set_channel_refusal rows c =
@@ -14,27 +14,34 @@ set_channel_refusal rows c =
     else if is_some (table_of rows c.id) then Some ChannelThere
     else None
 
--- where modem and tag were there before, there is no refusal, whatever the kind
-abbrev pub table_flow_refusal : Table → ℕ → ℕ → FlowKind → Option Refusal
-table_flow_refusal t modem tag kind =
-    if is_some (assignment_of t modem tag) then None
-    else if not (is_good_kind kind) then Some BadValue
+-- a new lease ends no later than any command's time, and not before the channel's next MAP
+abbrev pub is_good_last : Table → ℕ → Bool
+is_good_last t last = nat_le last last_time && nat_le t.row.next_start last
+
+-- where modem and tag have a lease that isn't over, there is no refusal, whatever the kind and the last minislot
+abbrev pub table_flow_refusal : Table → (modem tag last : ℕ) → FlowKind → Option Refusal
+table_flow_refusal t modem tag last kind =
+    if is_some (lease_of t modem tag) then None
+    else if not (is_good_kind kind && is_good_last t last) then Some BadValue
     else if is_none (free_sid t) then Some SidsSpent
     else None
 
 abbrev pub table_drop_refusal : Table → ℕ → Option Refusal
 table_drop_refusal t sid = if is_none (flow_of t sid) then Some NoFlow else None
 
--- a request was sent not later than the last accepted one of its flow
-abbrev pub is_old : Option ℕ → ℕ → Bool
-is_old None sent = false
-is_old (Some last) sent = nat_le sent last
+-- a request was sent not later than the last accepted one of its flow, or before the flow's lease
+abbrev pub is_repeated : Option ℕ → ℕ → Bool
+is_repeated None sent = false
+is_repeated (Some last) sent = nat_le sent last
+
+abbrev pub is_old : FlowRow → ℕ → Bool
+is_old f sent = nat_lt sent f.first || is_repeated f.last_sent sent
 
 -- the refusal of a request of a flow, where it is busy or isn't
 abbrev pub first_refusal : FlowRow → ℕ → ℕ → Bool → Option Refusal
 first_refusal f n sent busy =
-    if not (is_size n) || not (nat_le sent last_time) || is_ugs f.kind then Some BadValue
-    else if is_old f.last_sent sent then Some OldRequest
+    if not (is_size n) || not (nat_le sent last_time) || nat_lt f.last sent || is_ugs f.kind then Some BadValue
+    else if is_old f sent then Some OldRequest
     else if busy then Some Busy
     else None
 
@@ -56,8 +63,8 @@ table_request_refusal t sid n sent = request_refusal_on (flow_of t sid) t n sent
 abbrev pub on_table : Rows → ℕ → (Table → Option Refusal) → Option Refusal
 on_table rows ch refusal = option_map_or refusal (table_of rows ch) (Some NoChannel)
 
-abbrev pub add_flow_refusal : Rows → ℕ → ℕ → ℕ → FlowKind → Option Refusal
-add_flow_refusal rows ch modem tag kind = on_table rows ch (λ t. table_flow_refusal t modem tag kind)
+abbrev pub add_flow_refusal : Rows → (ch modem tag last : ℕ) → FlowKind → Option Refusal
+add_flow_refusal rows ch modem tag last kind = on_table rows ch (λ t. table_flow_refusal t modem tag last kind)
 
 abbrev pub drop_flow_refusal : Rows → ℕ → ℕ → Option Refusal
 drop_flow_refusal rows ch sid = on_table rows ch (λ t. table_drop_refusal t sid)

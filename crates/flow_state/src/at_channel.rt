@@ -8,12 +8,12 @@ ghost use Rattle.std.specs.Option.{option_map_or};
 ghost use Rattle.indexmap.specs.IndexMap.{get, IsUnique};
 ghost use Rattle.flow_state.specs.Entries.{change_entry, on_entry, entry_refusal};
 ghost use Rattle.flow_state.specs.Limits.{IsDueTime};
-ghost use Rattle.flow_state.specs.Rows.{Table, FlowRow, flow_of, assignment_of, waits, without_request};
+ghost use Rattle.flow_state.specs.Rows.{Table, FlowRow, flow_of, lease_of, waits, without_request};
 ghost use Rattle.flow_state.specs.Refusals.{Refuses, table_flow_refusal, table_drop_refusal, table_request_refusal};
-ghost use Rattle.flow_state.specs.Changes.{new_table, sid_on, flow_in_table, drop_in_table, request_in_table, waiting_in_table, waiting_of, due_in_table, close_table};
+ghost use Rattle.flow_state.specs.Changes.{new_table, lease_on, flow_in_table, drop_in_table, request_in_table, waiting_in_table, waiting_of, due_in_table, close_table};
 
 use crate::channel::Channel;
-use crate::flow::{FlowKind, Waiting};
+use crate::flow::{FlowKind, Lease, Waiting};
 use crate::refusal::Refusal;
 use crate::table::ChannelTable;
 use indexmap::IndexMap;
@@ -45,16 +45,17 @@ pub(crate) fn add_flow(
     ch: u8,
     modem: u32,
     tag: u32,
+    last: u64,
     kind: FlowKind,
-) -> Result<u16, Refusal>
-    ensures ok { OnOk result ((on_entry tables.old.entries ch (λ t. table_flow_refusal t modem tag kind) ≡ None) × (tables.new.entries ≡ change_entry tables.old.entries ch (λ t. flow_in_table t modem tag kind))) }
-    ensures sid { IfOk result (λ sid. sid ≡ sid_on (get nat_eq tables.old ch) modem tag) }
-    ensures known { IsTrue (option_map_or (λ t. is_some (assignment_of t modem tag)) (get nat_eq tables.old ch) false) → IsOk result }
-    ensures err { IfErr result (λ refusal. Refuses (on_entry tables.old.entries ch (λ t. table_flow_refusal t modem tag kind)) refusal × (tables.new.entries ≡ tables.old.entries)) }
+) -> Result<Lease, Refusal>
+    ensures ok { OnOk result ((on_entry tables.old.entries ch (λ t. table_flow_refusal t modem tag last kind) ≡ None) × (tables.new.entries ≡ change_entry tables.old.entries ch (λ t. flow_in_table t modem tag last kind))) }
+    ensures lease { IfOk result (λ lease. lease ≡ lease_on (get nat_eq tables.old ch) modem tag last) }
+    ensures known { IsTrue (option_map_or (λ t. is_some (lease_of t modem tag)) (get nat_eq tables.old ch) false) → IsOk result }
+    ensures err { IfErr result (λ refusal. Refuses (on_entry tables.old.entries ch (λ t. table_flow_refusal t modem tag last kind)) refusal × (tables.new.entries ≡ tables.old.entries)) }
     ensures unique { IsUnique nat_eq tables.old → IsUnique nat_eq tables.new }
 {
     match tables.get_mut(&ch) {
-        Some(table) => table.add_flow(modem, tag, kind),
+        Some(table) => table.add_flow(modem, tag, last, kind),
         None => Err(Refusal::NoChannel),
     }
 }

@@ -1,6 +1,6 @@
 ghost use Rattle.std.specs.Prelude.{◌≡◌, None};
 ghost use Rattle.flow_state.specs.Limits.{is_size as size_fits, is_schedule as schedule_fits, is_good_kind, is_ugs, is_timed, due_time};
-ghost use Rattle.flow_state.specs.Refusals.{is_old, first_refusal};
+ghost use Rattle.flow_state.specs.Refusals.{is_repeated, is_old, first_refusal};
 ghost use Rattle.flow_state.specs.View.{flow_view};
 
 use crate::limits::LAST_TIME;
@@ -91,27 +91,42 @@ impl FlowKind {
     }
 }
 
-/// A flow, with the minislot time at which it is due next (0 where it is never due) and the one at
-/// which its last accepted request was sent.
+/// A SID of a channel as it is a modem's, for a flow under a tag of its own: from the first minislot
+/// of the lease to the last one.
+#[derive(Clone, Copy, Debug, PartialEq, Eq)]
+pub struct Lease {
+    pub sid: u16,
+    pub modem: u32,
+    pub tag: u32,
+    pub first: u64,
+    pub last: u64,
+}
+
+/// A flow, with the first and the last minislot of its lease, the minislot time at which it is due
+/// next (0 where it is never due) and the one at which its last accepted request was sent.
 #[derive(Clone, Copy, Debug, PartialEq, Eq)]
 pub struct Flow {
     pub sid: u16,
     pub modem: u32,
     pub tag: u32,
+    pub first: u64,
+    pub last: u64,
     pub kind: FlowKind,
     pub due: u64,
     pub last_sent: Option<u64>,
 }
 
 impl Flow {
-    /// A flow as it is added.
-    pub(crate) fn new(sid: u16, modem: u32, tag: u32, kind: FlowKind) -> Flow
-        ensures { result ≡ record { sid = sid; modem = modem; tag = tag; kind = kind; due = due_time kind 0; last_sent = None } }
+    /// A flow as it is added under its lease.
+    pub(crate) fn new(lease: Lease, kind: FlowKind) -> Flow
+        ensures { result ≡ record { sid = lease.sid; modem = lease.modem; tag = lease.tag; first = lease.first; last = lease.last; kind = kind; due = due_time kind 0; last_sent = None } }
     {
         Flow {
-            sid,
-            modem,
-            tag,
+            sid: lease.sid,
+            modem: lease.modem,
+            tag: lease.tag,
+            first: lease.first,
+            last: lease.last,
             kind,
             due: kind.first_due(),
             last_sent: None,
@@ -123,7 +138,7 @@ impl Flow {
     pub(crate) fn request_refusal(&self, n: u16, sent: u64, busy: bool) -> Option<Refusal>
         ensures { result ≡ first_refusal (flow_view self.now) n sent busy }
     {
-        if !is_size(n) || sent > LAST_TIME || self.kind.is_ugs() {
+        if !is_size(n) || sent > LAST_TIME || self.last < sent || self.kind.is_ugs() {
             Some(Refusal::BadValue)
         } else if self.is_old(sent) {
             Some(Refusal::OldRequest)
@@ -134,9 +149,16 @@ impl Flow {
         }
     }
 
-    /// Was a request sent no later than the last accepted one?
+    /// Was a request sent before the lease, or no later than the last accepted one?
     fn is_old(&self, sent: u64) -> bool
-        ensures { result ≡ is_old self.now.last_sent sent }
+        ensures { result ≡ is_old (flow_view self.now) sent }
+    {
+        sent < self.first || self.is_repeated(sent)
+    }
+
+    /// Was a request sent no later than the last accepted one?
+    fn is_repeated(&self, sent: u64) -> bool
+        ensures { result ≡ is_repeated self.now.last_sent sent }
     {
         match self.last_sent {
             Some(last) => sent <= last,

@@ -1,6 +1,6 @@
 use crate::at_channel;
 use crate::channel::{Channel, ChannelRow};
-use crate::flow::{Flow, FlowKind, Waiting};
+use crate::flow::{Flow, FlowKind, Lease, Waiting};
 use crate::refusal::Refusal;
 use crate::table::ChannelTable;
 use indexmap::IndexMap;
@@ -34,9 +34,9 @@ impl Flows {
     ghost use Rattle.std.specs.Option.{option_copied, option_map};
     ghost use Rattle.flow_state.specs.Limits.{IsDueTime, is_good_kind, last_sid, most_waiting};
     ghost use Rattle.flow_state.specs.Sound.{IsSound};
-    ghost use Rattle.flow_state.specs.Rows.{FlowRow, table_of, channel_at, flow_at, timed_at, waiting_at};
+    ghost use Rattle.flow_state.specs.Rows.{FlowRow, table_of, lent_flow, channel_at, flow_at, timed_at, waiting_at};
     ghost use Rattle.flow_state.specs.Refusals.{Refuses, set_channel_refusal, add_flow_refusal, drop_flow_refusal, request_refusal};
-    ghost use Rattle.flow_state.specs.Changes.{with_channel, is_known, sid_of, with_flow, without_flow, with_request, is_waiting, without_waiting, with_waiting, waiting_of, flow_row, with_due, with_cut_closed};
+    ghost use Rattle.flow_state.specs.Changes.{with_channel, is_known, lease_given, with_flow, without_flow, with_request, is_waiting, without_waiting, with_waiting, waiting_of, flow_row, with_due, with_cut_closed};
 
     /// No channel is set.
     pub fn new(alloc: Global) -> Flows
@@ -56,19 +56,29 @@ impl Flows {
         at_channel::set_channel(&mut self.tables, channel)
     }
 
-    /// Adds a flow, and answers its SID: the least never given, or the one that modem and tag were
-    /// given before, which changes nothing and takes no memory. Refused are a channel that isn't
-    /// set, then values outside the limits, then a channel whose SIDs are spent.
-    pub fn add_flow(&mut self, ch: u8, modem: u32, tag: u32, kind: FlowKind) -> Result<u16, Refusal>
-        ensures ok { OnOk result ((add_flow_refusal self.old ch modem tag kind ≡ None) × (self.new ≡ with_flow self.old ch modem tag kind)) }
-        ensures sid { IfOk result (λ sid. sid ≡ sid_of self.old ch modem tag) }
+    /// Adds a flow, and answers the lease of its SID, which ends with the last minislot that is asked
+    /// for: that of the least SID which was never given or whose latest lease is over, from minislot 0
+    /// on where it was never given, and else from that of the channel's next MAP on. Where modem and tag
+    /// have a lease that isn't over, it is answered again, which changes nothing and takes no memory.
+    /// Refused are a channel that isn't set, then values outside the limits (a last minislot above 2^62
+    /// or before the next MAP too), then a channel whose SIDs are all leased.
+    pub fn add_flow(
+        &mut self,
+        ch: u8,
+        modem: u32,
+        tag: u32,
+        last: u64,
+        kind: FlowKind,
+    ) -> Result<Lease, Refusal>
+        ensures ok { OnOk result ((add_flow_refusal self.old ch modem tag last kind ≡ None) × (self.new ≡ with_flow self.old ch modem tag last kind)) }
+        ensures lease { IfOk result (λ lease. lease ≡ lease_given self.old ch modem tag last) }
         ensures known { IsTrue (is_known self.old ch modem tag) → IsOk result }
-        ensures err { IfErr result (λ refusal. Refuses (add_flow_refusal self.old ch modem tag kind) refusal × (self.new ≡ self.old)) }
+        ensures err { IfErr result (λ refusal. Refuses (add_flow_refusal self.old ch modem tag last kind) refusal × (self.new ≡ self.old)) }
     {
-        at_channel::add_flow(&mut self.tables, ch, modem, tag, kind)
+        at_channel::add_flow(&mut self.tables, ch, modem, tag, last, kind)
     }
 
-    /// Drops a flow and its waiting request. Its SID isn't given again. It takes no memory, and
+    /// Drops a flow and its waiting request. The lease of its SID goes on to its end. It takes no memory, and
     /// takes time for the channel's flows above it, which move down by one place.
     pub fn drop_flow(&mut self, ch: u8, sid: u16) -> Result<(), Refusal>
         ensures ok { OnOk result ((drop_flow_refusal self.old ch sid ≡ None) × (self.new ≡ without_flow self.old ch sid)) }
@@ -77,11 +87,11 @@ impl Flows {
         at_channel::drop_flow(&mut self.tables, ch, sid)
     }
 
-    /// Accepts a request for n minislots, 1 to 255, that was sent at a minislot time, 2^62 at most
+    /// Accepts a request for n minislots, 1 to 255, that was sent at a minislot time within the flow's lease
     /// (CM-SP-MULPIv3.1, Request). Refused are, in this order, a channel that isn't set, a SID
-    /// without a flow, values outside the limits or an unsolicited grant flow, a request sent no
-    /// later than the last accepted one of the SID, and a SID of which one waits or a channel on
-    /// which 118 wait.
+    /// without a flow, values outside the limits (a time behind the lease too) or an unsolicited grant
+    /// flow, a request sent before the lease or no later than the last accepted one of it, and a SID of
+    /// which one waits or a channel on which 118 wait.
     pub fn request(&mut self, ch: u8, sid: u16, n: u16, sent: u64) -> Result<(), Refusal>
         ensures ok { OnOk result ((request_refusal self.old ch sid n sent ≡ None) × (self.new ≡ with_request self.old ch sid n sent)) }
         ensures err { IfErr result (λ refusal. Refuses (request_refusal self.old ch sid n sent) refusal × (self.new ≡ self.old)) }
@@ -122,12 +132,12 @@ impl Flows {
         }
     }
 
-    /// The kind of the channel's flow that has the SID.
-    pub fn kind_of(&self, ch: u8, sid: u16) -> Option<FlowKind>
-        ensures { result ≡ option_map (λ f. f.kind) (flow_row self.now ch sid) }
+    /// The channel's flow that has the SID.
+    pub fn flow_of(&self, ch: u8, sid: u16) -> Option<&Flow>
+        ensures { option_copied result ≡ option_map lent_flow (flow_row self.now ch sid) }
     {
         match self.tables.get(&ch) {
-            Some(table) => table.kind_of(sid),
+            Some(table) => table.flow_of(sid),
             None => None,
         }
     }
@@ -170,8 +180,9 @@ impl Flows {
         at_channel::set_due(&mut self.tables, ch, sid, due)
     }
 
-    /// Sets the start of the channel's next MAP and its Ack Time. False where there is no such
-    /// channel. It takes no memory.
+    /// Sets the start of the channel's next MAP and its Ack Time. The flows whose leases end before that
+    /// start are gone, with their waiting requests. False where there is no such channel. It takes no
+    /// memory.
     pub fn close_cut(&mut self, ch: u8, end: u64, ack: u64) -> bool
         ensures found { result ≡ is_some (table_of self.old ch) }
         ensures rows { self.new ≡ with_cut_closed self.old ch end ack }

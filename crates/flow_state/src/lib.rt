@@ -10,7 +10,7 @@ mod refusal;
 mod table;
 
 pub use channel::{Channel, ChannelRow, Phy};
-pub use flow::{Flow, FlowKind, Waiting};
+pub use flow::{Flow, FlowKind, Lease, Waiting};
 pub use flows::Flows;
 pub use limits::{LAST_SID, LAST_TIME, MOST_MINISLOTS};
 pub use refusal::Refusal;

@@ -6,14 +6,14 @@ ghost use Rattle.std.specs.Option.{option_copied, option_map};
 ghost use Rattle.indexmap.specs.IndexMap.{get, IsUnique};
 ghost use Rattle.flow_state.specs.Limits.{IsDueTime, is_good_kind, is_timed, last_sid, most_waiting};
 ghost use Rattle.flow_state.specs.Sound.{IsSound};
-ghost use Rattle.flow_state.specs.Rows.{FlowRow, lent_flow, timed, flow_of, waits, without_request, free_sid, change_flow, assignment_of};
-ghost use Rattle.flow_state.specs.Refusals.{Refuses, table_flow_refusal, table_drop_refusal, table_request_refusal, is_busy};
+ghost use Rattle.flow_state.specs.Rows.{FlowRow, lent_flow, timed, flow_of, waits, without_request, free_sid, first_of, lease_of, change_flow};
+ghost use Rattle.flow_state.specs.Refusals.{Refuses, is_good_last, table_flow_refusal, table_drop_refusal, table_request_refusal, is_busy};
 ghost use Rattle.flow_state.specs.StoredTable.{with_sent, with_next_due};
-ghost use Rattle.flow_state.specs.Changes.{new_table, sid_for, flow_in_table, add_to_table, drop_in_table, request_in_table, waiting_in_table, due_in_table, close_table};
+ghost use Rattle.flow_state.specs.Changes.{new_table, lease_for, new_lease, flow_in_table, add_to_table, drop_in_table, request_in_table, waiting_in_table, due_in_table, close_table};
 
 use crate::channel::{Channel, ChannelRow};
-use crate::flow::{Flow, FlowKind, Waiting};
-use crate::limits::{LAST_SID, MOST_WAITING};
+use crate::flow::{Flow, FlowKind, Lease, Waiting};
+use crate::limits::{LAST_SID, LAST_TIME, MOST_WAITING};
 use crate::refusal::Refusal;
 use indexmap::IndexMap;
 use std::alloc::{AllocError, Global};
@@ -24,7 +24,7 @@ use std::marker::Model;
 #[derive(Drop)]
 pub struct ChannelTable {
     row: ChannelRow,
-    assigned: IndexMap<(u32, u32), u16>,
+    leases: Vec<Lease>,
     flows: IndexMap<u16, Flow>,
     timed: Vec<u16>,
     waiting: Vec<Waiting>,
@@ -54,7 +54,7 @@ impl ChannelTable {
                 next_start: channel.base,
                 ack: 0,
             },
-            assigned: IndexMap::new(alloc),
+            leases: Vec::new(alloc),
             flows: IndexMap::new(alloc),
             timed: Vec::new(alloc),
             waiting: Vec::new(alloc),
@@ -91,14 +91,11 @@ impl ChannelTable {
         }
     }
 
-    /// The kind of the flow that has the SID.
-    pub(crate) fn kind_of(&self, sid: u16) -> Option<FlowKind>
-        ensures { result ≡ option_map (λ f. f.kind) (flow_of self.now sid) }
+    /// The flow that has the SID.
+    pub(crate) fn flow_of(&self, sid: u16) -> Option<&Flow>
+        ensures { option_copied result ≡ option_map lent_flow (flow_of self.now sid) }
     {
-        match self.flows.get(&sid) {
-            Some(flow) => Some(flow.kind),
-            None => None,
-        }
+        self.flows.get(&sid)
     }
 
     /// Waiting request number k, by arrival.
@@ -109,67 +106,99 @@ impl ChannelTable {
         self.waiting.get(k)
     }
 
-    /// The SID that no modem was given yet, the least one. None where all are given.
+    /// The least SID that was never given or whose latest lease is over. None where all are leased.
     fn free_sid(&self) -> Option<u16>
         ensures { result ≡ free_sid self.now }
     {
-        let given = self.assigned.len();
-        if given < usize::from(LAST_SID) {
-            Some(given as u16 + 1)
+        let next_start = self.row.next_start;
+        let place = match self.leases.iter().position(|lease| lease.last < next_start) {
+            Some(place) => place,
+            None => self.leases.len(),
+        };
+        if place < usize::from(LAST_SID) {
+            Some(place as u16 + 1)
         } else {
             None
         }
     }
 
-    /// Adds a flow under a free SID. Room is made everywhere before anything is written.
-    fn insert_flow(
-        &mut self,
-        sid: u16,
-        modem: u32,
-        tag: u32,
-        kind: FlowKind,
-    ) -> Result<(), AllocError>
-        requires free { free_sid self.old ≡ Some sid }
+    /// The first minislot of a new lease of the SID.
+    fn first_of(&self, sid: u16) -> u64
+        ensures { result ≡ first_of self.now sid }
+    {
+        if usize::from(sid) <= self.leases.len() {
+            self.row.next_start
+        } else {
+            0
+        }
+    }
+
+    /// Adds a flow under a lease of a free SID. Room is made everywhere before anything is written.
+    fn insert_flow(&mut self, lease: Lease, kind: FlowKind) -> Result<(), AllocError>
+        requires free { free_sid self.old ≡ Some lease.sid }
         requires good { IsTrue (is_good_kind kind) }
-        requires unknown { assignment_of self.old modem tag ≡ None }
-        ensures ok { OnOk result (self.new ≡ add_to_table self.old modem tag kind sid) }
+        ensures ok { OnOk result (self.new ≡ add_to_table self.old lease kind) }
         ensures err { OnErr result (self.new ≡ self.old) }
     {
         self.flows.reserve(1)?;
         self.timed.reserve(1)?;
-        self.assigned.insert((modem, tag), sid)?;
-        self.flows.insert(sid, Flow::new(sid, modem, tag, kind))?;
-        note_timed(&mut self.timed, sid, kind);
+        self.leases.reserve(1)?;
+        self.flows.insert_sorted(lease.sid, Flow::new(lease, kind))?;
+        note_timed(&mut self.timed, lease.sid, kind);
         Ok(())
     }
 
-    /// Adds a flow, and answers its SID, or the one that modem and tag were given before.
-    pub(crate) fn add_flow(&mut self, modem: u32, tag: u32, kind: FlowKind) -> Result<u16, Refusal>
-        ensures ok { OnOk result ((table_flow_refusal self.old modem tag kind ≡ None) × (self.new ≡ flow_in_table self.old modem tag kind)) }
-        ensures sid { IfOk result (λ sid. sid ≡ sid_for self.old modem tag) }
-        ensures known { IsSome (assignment_of self.old modem tag) → IsOk result }
-        ensures err { IfErr result (λ refusal. Refuses (table_flow_refusal self.old modem tag kind) refusal × (self.new ≡ self.old)) }
+    /// May a new lease end so?
+    fn is_good_last(&self, last: u64) -> bool
+        ensures { result ≡ is_good_last self.now last }
     {
-        if let Some(sid) = self.given_sid(modem, tag) {
-            return Ok(sid);
+        last <= LAST_TIME && self.row.next_start <= last
+    }
+
+    /// Adds a flow, and answers the lease of its SID, or the one of modem and tag that isn't over.
+    pub(crate) fn add_flow(
+        &mut self,
+        modem: u32,
+        tag: u32,
+        last: u64,
+        kind: FlowKind,
+    ) -> Result<Lease, Refusal>
+        ensures ok { OnOk result ((table_flow_refusal self.old modem tag last kind ≡ None) × (self.new ≡ flow_in_table self.old modem tag last kind)) }
+        ensures lease { IfOk result (λ lease. lease ≡ lease_for self.old modem tag last) }
+        ensures known { IsSome (lease_of self.old modem tag) → IsOk result }
+        ensures err { IfErr result (λ refusal. Refuses (table_flow_refusal self.old modem tag last kind) refusal × (self.new ≡ self.old)) }
+    {
+        if let Some(lease) = self.lease_of(modem, tag) {
+            return Ok(lease);
         }
-        if !kind.is_good() {
+        if !(kind.is_good() && self.is_good_last(last)) {
             return Err(Refusal::BadValue);
         }
         match self.free_sid() {
             Some(sid) => {
-                self.insert_flow(sid, modem, tag, kind)?;
-                Ok(sid)
+                let lease = Lease {
+                    sid,
+                    modem,
+                    tag,
+                    first: self.first_of(sid),
+                    last,
+                };
+                self.insert_flow(lease, kind)?;
+                Ok(lease)
             }
             None => Err(Refusal::SidsSpent),
         }
     }
 
-    /// The SID that modem and tag were given before.
-    fn given_sid(&self, modem: u32, tag: u32) -> Option<u16>
-        ensures { result ≡ option_map (λ a. a.sid) (assignment_of self.now modem tag) }
+    /// The lease of modem and tag that isn't over.
+    fn lease_of(&self, modem: u32, tag: u32) -> Option<Lease>
+        ensures { result ≡ lease_of self.now modem tag }
     {
-        self.assigned.get(&(modem, tag)).copied()
+        let next_start = self.row.next_start;
+        self.leases
+            .iter()
+            .find(|lease| lease.modem == modem && lease.tag == tag && lease.last >= next_start)
+            .copied()
     }
 
     /// Drops a flow and its waiting request. The flows above it move down by one place.
@@ -251,7 +280,8 @@ impl ChannelTable {
         self.waiting.retain(keep);
     }
 
-    /// The MAPs reach to end, and this is the Ack Time.
+    /// The MAPs reach to end, and this is the Ack Time. The flows whose leases end before are gone, with
+    /// their waiting requests.
     pub(crate) fn close_cut(&mut self, end: u64, ack: u64)
         ensures { self.new ≡ close_table self.old end ack }
     {

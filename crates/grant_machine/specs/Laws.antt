@@ -1,5 +1,5 @@
 -- What holds of every list of commands.
-use Rattle.std.specs.Prelude.{◌≡◌, ◌≢◌, ℕ, ◌+◌, ◌-◌, ◌<◌, ◌≤◌, ◌==◌, ◌&&◌, Bool, List, ◌++◌, length, Some, slice_get}
+use Rattle.std.specs.Prelude.{◌≡◌, ◌≢◌, ℕ, ◌+◌, ◌-◌, ◌<◌, ◌≤◌, ◌==◌, ◌&&◌, nat_le, Bool, List, ◌++◌, length, Some, slice_get}
 use Rattle.std.specs.List.{filter, AllZip, AllByRecursion, Contains}
 use Rattle.std.specs.List.Sorted.{IsStrictlyIncreasing}
 use Rattle.flow_state.specs.declared.flow.FlowKind.{FlowKind}
@@ -35,15 +35,20 @@ MapsAreDisjoint =
     → IsMapAt cs j ch start len bytes → IsMapAt cs k ch start' len' bytes'
     → InMap start len m → InMap start' len' m → j ≡ k
 
--- output number k gives the modem this SID, for some lease
-abbrev pub IsAssignedAt : List Command → ℕ → (modem ch sid : ℕ) → Type 0
-IsAssignedAt cs k modem ch sid = (first : ℕ) × (last : ℕ) × (slice_get (outputs_of cs) k ≡ Some (outputs.Assigned modem ch sid first last))
+-- output number k tells the modem a lease of this SID, from its first minislot to its last one
+abbrev pub IsLeasedAt : List Command → ℕ → (modem ch sid first last : ℕ) → Type 0
+IsLeasedAt cs k modem ch sid first last = slice_get (outputs_of cs) k ≡ Some (outputs.Assigned modem ch sid first last)
 
--- a SID of a channel is one modem's for good
-abbrev pub SidsAreForGood : Type 0
-SidsAreForGood =
-    (cs : List Command) (j k modem modem' ch sid : ℕ)
-    → IsAssignedAt cs j modem ch sid → IsAssignedAt cs k modem' ch sid → modem ≡ modem'
+-- minislot m lies in a lease of these bounds
+abbrev pub InLease : (first last m : ℕ) → Type 0
+InLease first last m = (first ≤ m) × (m ≤ last)
+
+-- the leases of one SID share no minislot: those that do are the same lease of the same modem
+abbrev pub LeasesAreApart : Type 0
+LeasesAreApart =
+    (cs : List Command) (j k modem modem' ch sid first last first' last' m : ℕ)
+    → IsLeasedAt cs j modem ch sid first last → IsLeasedAt cs k modem' ch sid first' last'
+    → InLease first last m → InLease first' last' m → (modem ≡ modem') × (first ≡ first') × (last ≡ last')
 
 -- command number k is a request that was accepted
 pub record IsAcceptedAt (cs : List Command) (k ch sid n sent : ℕ) : Type 0 where
@@ -66,20 +71,41 @@ pub record RequestsAreGrantedOnce : Type 0 where
   pub whole : (cs : List Command) (k ch sid sent : ℕ) (g : Grant)
       → IsGrantedAt cs k g ch sid sent → (j : ℕ) × IsAcceptedAt cs j ch sid g.size sent
 
--- command number k added a flow of this kind, and no earlier one gave its SID
-pub record IsAddedAt (cs : List Command) (k ch sid : ℕ) (kind : FlowKind) : Type 0 where
+-- a SID of a channel, leased from its first minislot to its last one
+pub record LeasedSid : Type 0 where
+  pub channel : ℕ
+  pub sid : ℕ
+  pub first : ℕ
+  pub last : ℕ
+
+-- command number k added a flow of this kind under this lease, and no earlier one told the lease
+pub record IsAddedAt (cs : List Command) (k : ℕ) (lease : LeasedSid) (kind : FlowKind) : Type 0 where
   pub modem : ℕ
   pub tag : ℕ
-  pub asked : slice_get cs k ≡ Some (commands.Flow ch modem tag kind)
-  pub added : IsAssignedAt cs k modem ch sid
-  pub first : (j other : ℕ) → j < k → ¬ IsAssignedAt cs j other ch sid
+  pub asked : slice_get cs k ≡ Some (commands.Flow lease.channel modem tag lease.last kind)
+  pub added : IsLeasedAt cs k modem lease.channel lease.sid lease.first lease.last
+  pub new : (j other : ℕ) → j < k → ¬ IsLeasedAt cs j other lease.channel lease.sid lease.first lease.last
 
-abbrev pub is_grant_to : ℕ → ℕ → Grant → Bool
-is_grant_to ch sid g = (g.channel == ch) && (g.sid == sid)
+-- the grant is to the SID, and begins within the lease
+abbrev pub is_grant_to : LeasedSid → Grant → Bool
+is_grant_to lease g = (g.channel == lease.channel) && (g.sid == lease.sid) && nat_le lease.first g.start && nat_le g.start lease.last
 
--- the grants of a SID in order
-abbrev pub grants_to : List Command → ℕ → ℕ → List Grant
-grants_to cs ch sid = filter (is_grant_to ch sid) (grants_of cs)
+-- the grants under a lease in order
+abbrev pub grants_to : List Command → LeasedSid → List Grant
+grants_to cs lease = filter (is_grant_to lease) (grants_of cs)
+
+-- the whole grant lies within the lease
+pub record IsWithin (lease : LeasedSid) (g : Grant) : Type 0 where
+  pub channel : g.channel ≡ lease.channel
+  pub sid_is : g.sid ≡ lease.sid
+  pub begun : lease.first ≤ g.start
+  pub ended : g.start + g.size ≤ lease.last + 1
+
+-- each grant lies whole within a lease of its SID that was told
+abbrev pub GrantsAreLeased : Type 0
+GrantsAreLeased =
+    (cs : List Command) (k : ℕ) (g : Grant) → slice_get (grants_of cs) k ≡ Some g
+    → (lease : LeasedSid) × (modem : ℕ) × IsWithin lease g × Contains (outputs_of cs) (outputs.Assigned modem lease.channel lease.sid lease.first lease.last)
 
 -- the grant is of this size, and begins from due time number i to jitter after it
 pub record IsDueGrant (kind : FlowKind) (size jitter : ℕ) (g : Grant) (i : ℕ) : Type 0 where
@@ -87,13 +113,13 @@ pub record IsDueGrant (kind : FlowKind) (size jitter : ℕ) (g : Grant) (i : ℕ
   pub not_early : due_time kind i ≤ g.start
   pub not_late : g.start ≤ due_time kind i + jitter
 
--- the grants of an unsolicited grant flow, in order, begin within the jitter of due times whose numbers rise
+-- the grants of an unsolicited grant flow under its lease, in order, begin within the jitter of due times whose numbers rise
 abbrev pub UnsolicitedGrantsAreDue : Type 0
 UnsolicitedGrantsAreDue =
-    (cs : List Command) (k ch sid size interval jitter base : ℕ)
-    → IsAddedAt cs k ch sid (Ugs size interval jitter base)
+    (cs : List Command) (k : ℕ) (lease : LeasedSid) (size interval jitter base : ℕ)
+    → IsAddedAt cs k lease (Ugs size interval jitter base)
     → (numbers : List ℕ) × IsStrictlyIncreasing numbers
-    × AllZip (IsDueGrant (Ugs size interval jitter base) size jitter) (grants_to cs ch sid) numbers
+    × AllZip (IsDueGrant (Ugs size interval jitter base) size jitter) (grants_to cs lease) numbers
 
 -- the grant is at due time number i of a flow of this kind: an unsolicited grant, or a poll of one minislot
 abbrev pub IsServedAt : FlowKind → Grant → ℕ → Type 0
@@ -101,11 +127,13 @@ IsServedAt (BestEffort priority) g i = ⊥
 IsServedAt (Ugs size interval jitter base) g i = IsDueGrant (Ugs size interval jitter base) size jitter g i
 IsServedAt (Poll interval jitter base) g i = IsDueGrant (Poll interval jitter base) 1 jitter g i
 
--- the grant is at due time number i of a flow that was added under its SID
+-- the grant is at due time number i of a flow that was added under a lease in which it lies
 pub record IsOfFlow (cs : List Command) (g : Grant) (i : ℕ) : Type 0 where
   pub place : ℕ
+  pub lease : LeasedSid
   pub kind : FlowKind
-  pub added : IsAddedAt cs place g.channel g.sid kind
+  pub added : IsAddedAt cs place lease kind
+  pub within : IsWithin lease g
   pub served : IsServedAt kind g i
 
 -- what isn't granted to a request is granted at a due time of an unsolicited grant flow or of a polled one

@@ -1,10 +1,9 @@
 -- One step of the scheduler: a command's output, and the rows after it.
 use Rattle.std.specs.Prelude.{ℕ, IsTrue, Option, Some, None}
 use Rattle.flow_state.specs.declared.refusal.Refusal.{Refusal}
-use Rattle.flow_state.specs.Limits.{last_time}
-use Rattle.flow_state.specs.Rows.{Rows, Table, table_of, change_table}
+use Rattle.flow_state.specs.Rows.{Rows, Table, Lease, table_of, change_table}
 use Rattle.flow_state.specs.Refusals.{on_table, set_channel_refusal, add_flow_refusal, drop_flow_refusal, request_refusal, number_of}
-use Rattle.flow_state.specs.Changes.{is_known, with_channel, with_flow, sid_of, without_flow, with_request}
+use Rattle.flow_state.specs.Changes.{is_known, with_channel, with_flow, lease_given, without_flow, with_request}
 use Rattle.grant_machine.specs.declared.command.Command.{Command}
 use Rattle.grant_machine.specs.declared.command.Command.TheVariants as commands
 use Rattle.grant_machine.specs.declared.output.Output.{Output}
@@ -21,7 +20,7 @@ pub record Step : Type 0 where
 abbrev pub refusal_of : Rows → Command → Option Refusal
 refusal_of rows commands.Noop = None
 refusal_of rows (commands.Channel c) = set_channel_refusal rows c
-refusal_of rows (commands.Flow ch modem tag kind) = add_flow_refusal rows ch modem tag kind
+refusal_of rows (commands.Flow ch modem tag last kind) = add_flow_refusal rows ch modem tag last kind
 refusal_of rows (commands.Drop ch sid) = drop_flow_refusal rows ch sid
 refusal_of rows (commands.Request ch sid n sent) = request_refusal rows ch sid n sent
 refusal_of rows (commands.Cut ch len not_before ack) = on_table rows ch (λ t. fill_refusal t.row len not_before ack)
@@ -37,11 +36,15 @@ abbrev pub cut_on : Option Table → Rows → (ch len not_before ack : ℕ) → 
 cut_on (Some t) rows ch len not_before ack = cut_step rows ch t (fill t len not_before ack)
 cut_on None rows ch len not_before ack = record { output = outputs.Nothing; rows = rows }
 
--- a command that isn't refused; a flow's lease of its SID is of every minislot, up to the last time that a command may have
+-- a lease as it is told to a modem
+abbrev pub lease_output : (modem ch : ℕ) → Lease → Output
+lease_output modem ch l = outputs.Assigned modem ch l.sid l.first l.last
+
+-- a command that isn't refused
 abbrev pub accepted : Rows → Command → Step
 accepted rows commands.Noop = record { output = outputs.Nothing; rows = rows }
 accepted rows (commands.Channel c) = record { output = outputs.ChannelSet c.id c.ucd; rows = with_channel rows c }
-accepted rows (commands.Flow ch modem tag kind) = record { output = outputs.Assigned modem ch (sid_of rows ch modem tag) 0 last_time; rows = with_flow rows ch modem tag kind }
+accepted rows (commands.Flow ch modem tag last kind) = record { output = lease_output modem ch (lease_given rows ch modem tag last); rows = with_flow rows ch modem tag last kind }
 accepted rows (commands.Drop ch sid) = record { output = outputs.Nothing; rows = without_flow rows ch sid }
 accepted rows (commands.Request ch sid n sent) = record { output = outputs.Nothing; rows = with_request rows ch sid n sent }
 accepted rows (commands.Cut ch len not_before ack) = cut_on (table_of rows ch) rows ch len not_before ack
@@ -54,11 +57,11 @@ step_on None rows command = accepted rows command
 abbrev pub step : Rows → Command → Step
 step rows command = step_on (refusal_of rows command) rows command
 
--- what takes no memory: nothing to do, a flow dropped, a flow of a modem and tag that were there before
+-- what takes no memory: nothing to do, a flow dropped, a flow of a modem and tag whose lease isn't over
 abbrev pub TakesNoMemory : Rows → Command → Type 0
 TakesNoMemory rows commands.Noop = Unit {0}
 TakesNoMemory rows (commands.Channel c) = ⊥
-TakesNoMemory rows (commands.Flow ch modem tag kind) = IsTrue (is_known rows ch modem tag)
+TakesNoMemory rows (commands.Flow ch modem tag last kind) = IsTrue (is_known rows ch modem tag)
 TakesNoMemory rows (commands.Drop ch sid) = Unit {0}
 TakesNoMemory rows (commands.Request ch sid n sent) = ⊥
 TakesNoMemory rows (commands.Cut ch len not_before ack) = ⊥

@@ -1,6 +1,6 @@
 //! What holds of every list of commands.
 
-ghost use Rattle.grant_machine.specs.Laws.{MapsAreDisjoint, SidsAreForGood, UnsolicitedGrantsAreDue, RequestsAreGrantedOnce, OtherGrantsAreDue, GrantsAreTold, CellsAreGranted};
+ghost use Rattle.grant_machine.specs.Laws.{MapsAreDisjoint, LeasesAreApart, GrantsAreLeased, UnsolicitedGrantsAreDue, RequestsAreGrantedOnce, OtherGrantsAreDue, GrantsAreTold, CellsAreGranted};
 ghost use Rattle.grant_machine.specs.Laws.{OutputsGoOn, MapsAreBodies, SharedMapsAreOne, SidsAreUnicast, OwnersAreOne};
 
 /// A minislot of a channel lies in one MAP at most.
@@ -8,9 +8,14 @@ pub fn maps_are_disjoint()
     ensures { MapsAreDisjoint }
 {}
 
-/// A SID of a channel is one modem's for good.
-pub fn sids_are_for_good()
-    ensures { SidsAreForGood }
+/// The leases of one SID of a channel share no minislot.
+pub fn leases_are_apart()
+    ensures { LeasesAreApart }
+{}
+
+/// Each grant lies whole within a lease of its SID that was told.
+pub fn grants_are_leased()
+    ensures { GrantsAreLeased }
 {}
 
 /// The grants of an unsolicited grant flow, in order, begin within the jitter of due times whose

@@ -58,8 +58,9 @@ impl Machine {
                 ch,
                 modem,
                 tag,
+                last,
                 kind,
-            } => add_flow(flows, ch, modem, tag, kind),
+            } => add_flow(flows, ch, modem, tag, last, kind),
             Command::Drop { ch, sid } => drop_flow(flows, ch, sid),
             Command::Request { ch, sid, n, sent } => request(flows, ch, sid, n, sent),
             Command::Cut {

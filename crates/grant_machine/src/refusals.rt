@@ -10,7 +10,7 @@ ghost use Rattle.grant_machine.specs.Steps.{step, refusal_of};
 ghost use Rattle.grant_machine.specs.Fits.{FitsCommand};
 
 use crate::output::Output;
-use flow_state::{Channel, FlowKind, Flows, LAST_TIME, Refusal};
+use flow_state::{Channel, FlowKind, Flows, Refusal};
 use std::alloc::AllocError;
 
 /// A refusal as an output. Want of memory has none.
@@ -42,28 +42,29 @@ pub fn set_channel(flows: &mut Flows, channel: Channel) -> Result<Output, AllocE
     }
 }
 
-/// Adds a flow of a modem, under a tag of its own. The lease of its SID has no end: it is of every minislot up to `LAST_TIME`.
+/// Adds a flow of a modem, under a tag of its own, and tells the lease of its SID.
 pub fn add_flow(
     flows: &mut Flows,
     ch: u8,
     modem: u32,
     tag: u32,
+    last: u64,
     kind: FlowKind,
 ) -> Result<Output, AllocError>
-    ensures output { IfOk result (λ output. output ≡ (step flows.old (commands.Flow ch modem tag kind)).output) }
-    ensures declined { IsSome (refusal_of flows.old (commands.Flow ch modem tag kind)) → IsOk result }
-    ensures fits { FitsCommand (commands.Flow ch modem tag kind) }
-    ensures rows { OnOk result (flows.new ≡ (step flows.old (commands.Flow ch modem tag kind)).rows) }
+    ensures output { IfOk result (λ output. output ≡ (step flows.old (commands.Flow ch modem tag last kind)).output) }
+    ensures declined { IsSome (refusal_of flows.old (commands.Flow ch modem tag last kind)) → IsOk result }
+    ensures fits { FitsCommand (commands.Flow ch modem tag last kind) }
+    ensures rows { OnOk result (flows.new ≡ (step flows.old (commands.Flow ch modem tag last kind)).rows) }
     ensures err { OnErr result (flows.new ≡ flows.old) }
     ensures known { IsTrue (is_known flows.old ch modem tag) → IsOk result }
 {
-    match flows.add_flow(ch, modem, tag, kind) {
-        Ok(sid) => Ok(Output::Assigned {
+    match flows.add_flow(ch, modem, tag, last, kind) {
+        Ok(lease) => Ok(Output::Assigned {
             modem,
             ch,
-            sid,
-            first: 0,
-            last: LAST_TIME,
+            sid: lease.sid,
+            first: lease.first,
+            last: lease.last,
         }),
         Err(refusal) => refused(refusal),
     }

@@ -13,9 +13,9 @@ use Rattle.flow_state.specs.declared.flow.Waiting.{Waiting}
 use Rattle.flow_state.specs.declared.refusal.Refusal.{Refusal}
 use Rattle.flow_state.specs.declared.refusal.Refusal.TheVariants.{BadValue}
 use Rattle.flow_state.specs.Limits.{last_time, most_minislots}
-use Rattle.flow_state.specs.Rows.{Table, FlowRow, flow_of}
+use Rattle.flow_state.specs.Rows.{Table, FlowRow, flow_of, last_of, is_ended, has_ended}
 use Rattle.grant_machine_parts.specs.Placing.{Cause, Window, Sent, Placement, first_fit}
--- what comes at each due time of a flow: minislots of this size and use, from the due time to jitter after it
+-- what comes at each due time of a flow: minislots of this size and use, from the due time to jitter after it, up to the last one of its lease
 pub use Rattle.grant_machine_parts.specs.declared.due_times.Periodic.{Periodic}
 
 -- the use of a short grant to a request, and of a long one, on each kind of channel
@@ -39,22 +39,22 @@ abbrev pub poll_iuc : ℕ
 poll_iuc = iucs.request
 
 -- the unsolicited grants of a flow, if it has any
-abbrev pub grants_of_kind : Channel → ℕ → FlowKind → Option Periodic
-grants_of_kind c sid (BestEffort priority) = None
-grants_of_kind c sid (Ugs size interval jitter base) = Some (record { sid = sid; iuc = unsolicited_iuc c size; size = size; interval = interval; jitter = jitter; base = base })
-grants_of_kind c sid (Poll interval jitter base) = None
+abbrev pub grants_of_kind : Channel → (sid last : ℕ) → FlowKind → Option Periodic
+grants_of_kind c sid last (BestEffort priority) = None
+grants_of_kind c sid last (Ugs size interval jitter base) = Some (record { sid = sid; iuc = unsolicited_iuc c size; size = size; interval = interval; jitter = jitter; base = base; last = last })
+grants_of_kind c sid last (Poll interval jitter base) = None
 
 -- the polls of a flow, if it has any: one minislot each
-abbrev pub polls_of_kind : Channel → ℕ → FlowKind → Option Periodic
-polls_of_kind c sid (BestEffort priority) = None
-polls_of_kind c sid (Ugs size interval jitter base) = None
-polls_of_kind c sid (Poll interval jitter base) = Some (record { sid = sid; iuc = poll_iuc; size = 1; interval = interval; jitter = jitter; base = base })
+abbrev pub polls_of_kind : Channel → (sid last : ℕ) → FlowKind → Option Periodic
+polls_of_kind c sid last (BestEffort priority) = None
+polls_of_kind c sid last (Ugs size interval jitter base) = None
+polls_of_kind c sid last (Poll interval jitter base) = Some (record { sid = sid; iuc = poll_iuc; size = 1; interval = interval; jitter = jitter; base = base; last = last })
 
 abbrev pub grants_of_flow : Channel → FlowRow → Option Periodic
-grants_of_flow c f = grants_of_kind c f.sid f.kind
+grants_of_flow c f = grants_of_kind c f.sid f.last f.kind
 
 abbrev pub polls_of_flow : Channel → FlowRow → Option Periodic
-polls_of_flow c f = polls_of_kind c f.sid f.kind
+polls_of_flow c f = polls_of_kind c f.sid f.last f.kind
 
 abbrev pub due_at : Periodic → ℕ → ℕ
 due_at p i = p.base + i * p.interval
@@ -79,7 +79,7 @@ verdict_on span None last_start = unplaced span last_start
 abbrev pub verdict : Extent → List Placement → Periodic → ℕ → Verdict
 verdict span ps p i =
     if nat_lt (due_at p i + p.jitter) span.start then Missed
-    else verdict_on span (first_fit span ps p.size (max (due_at p i) span.start) (due_at p i + p.jitter)) (due_at p i + p.jitter)
+    else verdict_on span (first_fit span ps p.size (max (due_at p i) span.start) (due_at p i + p.jitter) p.last) (due_at p i + p.jitter)
 
 abbrev pub placement_at : Periodic → ℕ → ℕ → Placement
 placement_at p i x = record { sid = p.sid; iuc = p.iuc; offset = x; size = p.size; cause = Window i }
@@ -142,13 +142,13 @@ in_order t ws = flat_map (λ priority. filter (λ w. priority_of t w == priority
 abbrev pub placement_for : Channel → Waiting → ℕ → Placement
 placement_for c w x = record { sid = w.sid; iuc = grant_iuc c w.n; offset = x; size = w.n; cause = Sent w.sent }
 
--- each request whole at its first fit, where there is one
-abbrev pub place_requests : Extent → Channel → List Waiting → List Placement → List Placement
-place_requests span c [] ps = ps
-place_requests span c (w ∷ ws) ps =
-    elim (first_fit span ps w.n span.start (end_of span - w.n)) [
-      | Some x ↦ place_requests span c ws (ps ++ placement_for c w x ∷ [])
-      | None ↦ place_requests span c ws ps
+-- each request whole at its first fit, where there is one, by the last minislots of the leases of SIDs
+abbrev pub place_requests : Extent → Channel → (ℕ → ℕ) → List Waiting → List Placement → List Placement
+place_requests span c last [] ps = ps
+place_requests span c last (w ∷ ws) ps =
+    elim (first_fit span ps w.n span.start (end_of span - w.n) (last w.sid)) [
+      | Some x ↦ place_requests span c last ws (ps ++ placement_for c w x ∷ [])
+      | None ↦ place_requests span c last ws ps
     ]
 
 abbrev pub is_cause_sent : Cause → ℕ → Bool
@@ -185,10 +185,17 @@ fill_refusal row len not_before ack =
 abbrev pub ack_of : ChannelRow → (ack start : ℕ) → ℕ
 ack_of row ack start = max row.ack (min ack start)
 
+-- what goes on after the MAP: the flows whose leases don't end before its end, and the requests of these
+abbrev pub flows_left : Extent → List FlowRow → List FlowRow
+flows_left span fs = filter (λ f. not (is_ended (end_of span) f)) fs
+
+abbrev pub requests_left : Table → Extent → List Waiting → List Waiting
+requests_left t span ws = filter (λ w. not (has_ended t (end_of span) w)) ws
+
 abbrev pub fill_requests : Table → Extent → ℕ → Passed → Filled
 fill_requests t span ack passed =
-    let ps = place_requests span t.row.channel (in_order t t.waiting) passed.placements in
-    record { span = span; ack = ack; placements = ps; flows = passed.flows; waiting = still_waiting ps t.waiting }
+    let ps = place_requests span t.row.channel (last_of t) (in_order t t.waiting) passed.placements in
+    record { span = span; ack = ack; placements = ps; flows = flows_left span passed.flows; waiting = requests_left t span (still_waiting ps t.waiting) }
 
 abbrev pub fill_polls : Table → Extent → Passed → Passed
 fill_polls t span granted = pass span (polls_of_flow t.row.channel) granted.flows granted.placements
@@ -203,4 +210,4 @@ fill t len not_before ack =
 
 -- the channel's table after the MAP: the next one begins at its end
 abbrev pub table_after : Table → Filled → Table
-table_after t f = record { row = record t.row { next_start = end_of f.span; ack = f.ack }; assigned = t.assigned; flows = f.flows; waiting = f.waiting }
+table_after t f = record { row = record t.row { next_start = end_of f.span; ack = f.ack }; leases = t.leases; flows = f.flows; waiting = f.waiting }

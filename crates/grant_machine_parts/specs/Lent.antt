@@ -13,7 +13,7 @@ use Rattle.grant_machine_parts.specs.Filling.{last_due}
 
 -- the flow's row: with the number of the next due time in place of the time
 abbrev pub row_of : Flow → FlowRow
-row_of f = record { sid = f.sid; modem = f.modem; tag = f.tag; kind = f.kind; index = due_index f.kind f.due; last_sent = f.last_sent }
+row_of f = record { sid = f.sid; modem = f.modem; tag = f.tag; first = f.first; last = f.last; kind = f.kind; index = due_index f.kind f.due; last_sent = f.last_sent }
 
 -- a flow within the limits, at one of its due times
 pub record IsLent (f : Flow) : Type 0 where
@@ -23,12 +23,12 @@ pub record IsLent (f : Flow) : Type 0 where
   pub early : f.due ≤ last_due
 
 -- what a service gives a flow of this kind, if anything
-abbrev pub given : Service → Channel → ℕ → FlowKind → Option Periodic
-given Grants c sid kind = grants_of_kind c sid kind
-given Polls c sid kind = polls_of_kind c sid kind
+abbrev pub given : Service → Channel → (sid last : ℕ) → FlowKind → Option Periodic
+given Grants c sid last kind = grants_of_kind c sid last kind
+given Polls c sid last kind = polls_of_kind c sid last kind
 
 abbrev pub given_to : Service → Channel → FlowRow → Option Periodic
-given_to service c f = given service c f.sid f.kind
+given_to service c f = given service c f.sid f.last f.kind
 
 -- a request of a unicast SID
 abbrev pub IsUnicast : Waiting → Type 0

@@ -22,17 +22,17 @@ is_free ps x = is_none (holder ps x)
 abbrev pub cells : Extent → List Placement → List (Option Placement)
 cells span ps = map (holder ps) (range_with_len 0 span.len)
 
--- n minislots from offset x on are free and end within the MAP, and the first of them lies from lo to hi
-abbrev pub fits_at : Extent → List Placement → (n lo hi x : ℕ) → Bool
-fits_at span ps n lo hi x =
-    nat_le lo (span.start + x) && nat_le (span.start + x) hi && nat_le (x + n) span.len
+-- n minislots from offset x on are free and end within the MAP and by a last one, and the first of them lies from lo to hi
+abbrev pub fits_at : Extent → List Placement → (n lo hi last x : ℕ) → Bool
+fits_at span ps n lo hi last x =
+    nat_le lo (span.start + x) && nat_le (span.start + x) hi && nat_le (span.start + x + n) (last + 1) && nat_le (x + n) span.len
     && list_all (is_free ps) (range_with_len x n)
 
 -- a MAP has at most so many placements
 abbrev pub most_placements : ℕ
 most_placements = 60
 
--- the least offset where n minislots fit that begin from lo to hi; none once there are 60 placements
-abbrev pub first_fit : Extent → List Placement → (n lo hi : ℕ) → Option ℕ
-first_fit span ps n lo hi =
-    if nat_lt (length ps) most_placements then find (fits_at span ps n lo hi) (range_with_len 0 span.len) else None
+-- the least offset where n minislots fit that begin from lo to hi and end by the last one; none once there are 60 placements
+abbrev pub first_fit : Extent → List Placement → (n lo hi last : ℕ) → Option ℕ
+first_fit span ps n lo hi last =
+    if nat_lt (length ps) most_placements then find (fits_at span ps n lo hi last) (range_with_len 0 span.len) else None
