@@ -13,7 +13,7 @@ are_take (suc n) [] are i = omega arith
 are_take (suc n) (x ∷ xs) are zero = are 0
 are_take (suc n) (x ∷ xs) are (suc i) = are_take n xs (λ j. are (suc j)) i
 
-are_drop : (n : ℕ) (xs : List ℕ) → AreBytes xs → AreBytes (drop n xs)
+pub are_drop : (n : ℕ) (xs : List ℕ) → AreBytes xs → AreBytes (drop n xs)
 are_drop n xs are i = subst (λ b. b < 2 ^ 8) (sym (get_or-drop n xs i 0)) (are (n + i))
 
 front_2 : (xs : List ℕ) → AreBytes xs → 2 ≤ length xs → xs ≡ to_be_bytes w16 (from_be_bytes w16 xs) ++ drop 2 xs

@@ -1,17 +1,20 @@
 -- Bytes that have the form of a command spell it, and other bytes spell none.
-use Rattle.std.proofs.Common.{◌≡◌, ℕ, ◌<◌, ◌==◌, ◌&&◌, Bool, true, false, cond, List, ◌∷◌, ◌++◌, length, drop, Option, Some, None, refl, ap, ◌∙◌, arith}
-use Rattle.std.specs.Option.{IfSome, MatchOption}
+use Rattle.std.proofs.Common.{◌≡◌, ℕ, ◌<◌, ◌==◌, ◌&&◌, Bool, true, false, cond, List, ◌∷◌, ◌++◌, length, drop, Option, Some, None, refl, sym, ap, ◌∙◌, arith}
+use Rattle.std.specs.Option.{IfSome, MatchOption, option_map}
 use Rattle.std.specs.Int.{w16, w32, w64, to_be_bytes}
 use Rattle.std.proofs.lemmas.Bool.{eqb-true}
 use Rattle.flow_state.specs.declared.channel.Phy.{Phy}
 use Rattle.flow_state.specs.declared.channel.Phy.TheVariants.{Tdma, Advanced}
+use Rattle.std.proofs.lemmas.List.{length-drop}
+use Rattle.flow_state.specs.declared.flow.FlowKind.{FlowKind}
 use Rattle.flow_state.specs.declared.flow.FlowKind.TheVariants.{BestEffort, Ugs, Poll}
-use Rattle.grant_machine.specs.declared.command.Command.{Command}
+use Rattle.flow_state.specs.Limits.{last_time}
 use Rattle.grant_machine.specs.declared.command.Command.TheVariants as commands
-use Rattle.command_log.specs.Spelling.{phy_byte, Spells, SpellsNone}
-use Rattle.command_log.specs.Reading.{AreBytes, byte, number, is_form, is_flow_form, channel_in, flow_in, command_in}
+use Rattle.grant_machine.specs.Fits.{FitsKind}
+use Rattle.command_log.specs.Spelling.{phy_byte, flow_spelling, kind_spelling, Spells, SpellsNone}
+use Rattle.command_log.specs.Reading.{AreBytes, byte, number, is_form, channel_in, kind_in, flow_in, flow_command_in, leased_flow_in, command_in}
 use Rattle.command_log.proofs.Spelled.{read_back}
-use Rattle.command_log.proofs.Fields.{number_fits_2, number_fits_4, number_fits_8, field_1, field_2, field_4, field_8, at_end}
+use Rattle.command_log.proofs.Fields.{are_drop, number_fits_2, number_fits_4, number_fits_8, field_1, field_2, field_4, field_8, at_end}
 
 module _ (bytes : List ℕ) (are : AreBytes bytes) where
   -- the first byte, which is known, and the rest
@@ -49,31 +52,26 @@ module _ (bytes : List ℕ) (are : AreBytes bytes) where
         (field_8 bytes are 12 20 _ refl (omega arith) (at_end bytes are 20 len))))),
   )
 
-  -- a flow whose kind's byte is known, with the fields behind that
-  flow_fields : (kind : ℕ) (rest : List ℕ) → byte bytes 0 ≡ 2 → byte bytes 10 ≡ kind → 10 < length bytes → drop 11 bytes ≡ rest
-      → bytes ≡ 2 ∷ byte bytes 1 ∷ to_be_bytes w32 (number w32 bytes 2) ++ to_be_bytes w32 (number w32 bytes 6) ++ kind ∷ rest
-  flow_fields kind rest tag is lt then =
-      first 2 _ tag (omega arith) (field_1 bytes are 1 _ (omega arith) (field_4 bytes are 2 6 _ refl (omega arith) (field_4 bytes are 6 10 _ refl (omega arith)
-      (field_1 bytes are 10 rest lt then ∙ ap (λ (b : ℕ). b ∷ rest) is))))
+-- bytes that have the form of a kind spell it
+abbrev AreKind : List ℕ → FlowKind → Type 0
+AreKind bytes kind = FitsKind kind × (bytes ≡ kind_spelling kind)
 
-  best_effort_spelled : byte bytes 0 ≡ 2 → byte bytes 10 ≡ 0 → length bytes ≡ 12 → Spells bytes (flow_in bytes (BestEffort (byte bytes 11)))
-  best_effort_spelled tag kind len = (
-    (are 1, number_fits_4 bytes are 2, number_fits_4 bytes are 6, are 11),
-    flow_fields 0 _ tag kind (omega arith) (field_1 bytes are 11 _ (omega arith) (at_end bytes are 12 len)),
+module _ (bytes : List ℕ) (are : AreBytes bytes) where
+  best_effort_spelled : byte bytes 0 ≡ 0 → length bytes ≡ 2 → AreKind bytes (BestEffort (byte bytes 1))
+  best_effort_spelled tag len = (are 1, first bytes are 0 _ tag (omega arith) (field_1 bytes are 1 _ (omega arith) (at_end bytes are 2 len)))
+
+  ugs_spelled : byte bytes 0 ≡ 1 → length bytes ≡ 19 → AreKind bytes (Ugs (number w16 bytes 1) (number w32 bytes 3) (number w32 bytes 7) (number w64 bytes 11))
+  ugs_spelled tag len = (
+    (number_fits_2 bytes are 1, number_fits_4 bytes are 3, number_fits_4 bytes are 7, number_fits_8 bytes are 11),
+    first bytes are 1 _ tag (omega arith) (field_2 bytes are 1 3 _ refl (omega arith) (field_4 bytes are 3 7 _ refl (omega arith) (field_4 bytes are 7 11 _ refl (omega arith)
+        (field_8 bytes are 11 19 _ refl (omega arith) (at_end bytes are 19 len))))),
   )
 
-  ugs_spelled : byte bytes 0 ≡ 2 → byte bytes 10 ≡ 1 → length bytes ≡ 29 → Spells bytes (flow_in bytes (Ugs (number w16 bytes 11) (number w32 bytes 13) (number w32 bytes 17) (number w64 bytes 21)))
-  ugs_spelled tag kind len = (
-    (are 1, number_fits_4 bytes are 2, number_fits_4 bytes are 6, (number_fits_2 bytes are 11, number_fits_4 bytes are 13, number_fits_4 bytes are 17, number_fits_8 bytes are 21)),
-    flow_fields 1 _ tag kind (omega arith) (field_2 bytes are 11 13 _ refl (omega arith) (field_4 bytes are 13 17 _ refl (omega arith) (field_4 bytes are 17 21 _ refl (omega arith)
-        (field_8 bytes are 21 29 _ refl (omega arith) (at_end bytes are 29 len))))),
-  )
-
-  poll_spelled : byte bytes 0 ≡ 2 → byte bytes 10 ≡ 2 → length bytes ≡ 27 → Spells bytes (flow_in bytes (Poll (number w32 bytes 11) (number w32 bytes 15) (number w64 bytes 19)))
-  poll_spelled tag kind len = (
-    (are 1, number_fits_4 bytes are 2, number_fits_4 bytes are 6, (number_fits_4 bytes are 11, number_fits_4 bytes are 15, number_fits_8 bytes are 19)),
-    flow_fields 2 _ tag kind (omega arith) (field_4 bytes are 11 15 _ refl (omega arith) (field_4 bytes are 15 19 _ refl (omega arith)
-        (field_8 bytes are 19 27 _ refl (omega arith) (at_end bytes are 27 len)))),
+  poll_spelled : byte bytes 0 ≡ 2 → length bytes ≡ 17 → AreKind bytes (Poll (number w32 bytes 1) (number w32 bytes 5) (number w64 bytes 9))
+  poll_spelled tag len = (
+    (number_fits_4 bytes are 1, number_fits_4 bytes are 5, number_fits_8 bytes are 9),
+    first bytes are 2 _ tag (omega arith) (field_4 bytes are 1 5 _ refl (omega arith) (field_4 bytes are 5 9 _ refl (omega arith)
+        (field_8 bytes are 9 17 _ refl (omega arith) (at_end bytes are 17 len)))),
   )
 
 both_true : (a b : Bool) → (a && b) ≡ true → (a ≡ true) × (b ≡ true)
@@ -85,28 +83,72 @@ form_is bytes tag len h =
     let both = both_true (byte bytes 0 == tag) (length bytes == len) h in
     (eqb-true (byte bytes 0) tag both.0, eqb-true (length bytes) len both.1)
 
-flow_form_is : (bytes : List ℕ) (kind len : ℕ) → is_flow_form bytes kind len ≡ true → (byte bytes 0 ≡ 2) × (byte bytes 10 ≡ kind) × (length bytes ≡ len)
-flow_form_is bytes kind len h =
-    let both = both_true (is_form bytes 2 len) (byte bytes 10 == kind) h in
-    let form = form_is bytes 2 len both.0 in
-    (form.0, eqb-true (byte bytes 10) kind both.1, form.1)
-
 -- one form after another
-by_form : (bytes : List ℕ) (b : Bool) (c : Command) (rest : Option Command) → (b ≡ true → Spells bytes c) → IfSome rest (Spells bytes) → IfSome (cond b (Some c) rest) (Spells bytes)
-by_form bytes true c rest here later = here refl
-by_form bytes false c rest here later = later
+by_form : {A : Type 0} (P : A → Type 0) (b : Bool) (o rest : Option A) → (b ≡ true → IfSome o P) → IfSome rest P → IfSome (cond b o rest) P
+by_form P true o rest here later = here refl
+by_form P false o rest here later = later
+
+kind_spelled : (bytes : List ℕ) → AreBytes bytes → IfSome (kind_in bytes) (AreKind bytes)
+kind_spelled bytes are =
+    by_form (AreKind bytes) (is_form bytes 0 2) _ _ (λ h. let f = form_is bytes 0 2 h in best_effort_spelled bytes are f.0 f.1)
+    (by_form (AreKind bytes) (is_form bytes 1 19) _ _ (λ h. let f = form_is bytes 1 19 h in ugs_spelled bytes are f.0 f.1)
+    (by_form (AreKind bytes) (is_form bytes 2 17) _ None (λ h. let f = form_is bytes 2 17 h in poll_spelled bytes are f.0 f.1) tt))
+
+kind_is_some : (kind : FlowKind) → 0 < length (kind_spelling kind)
+kind_is_some (BestEffort priority) = omega arith
+kind_is_some (Ugs size interval jitter base) = omega arith
+kind_is_some (Poll interval jitter base) = omega arith
+
+-- a kind that is read stands before the end
+kind_within : (bytes : List ℕ) (place : ℕ) (kind : FlowKind) → drop place bytes ≡ kind_spelling kind → place < length bytes
+kind_within bytes place kind is = omega (arith, ap length is, length-drop place bytes, kind_is_some kind)
+
+-- what a kind that is read from a place on makes
+with_kind : (bytes : List ℕ) (last place : ℕ) → AreBytes bytes → ((kind : FlowKind) → AreKind (drop place bytes) kind → Spells bytes (flow_in bytes last kind)) → IfSome (flow_command_in bytes last place) (Spells bytes)
+with_kind bytes last place are spelled =
+    elim (kind_in (drop place bytes)) as (λ o. IfSome o (AreKind (drop place bytes)) → IfSome (option_map (flow_in bytes last) o) (Spells bytes)) [
+      | None ↦ λ _. tt
+      | Some kind ↦ λ is. spelled kind is
+    ] (kind_spelled (drop place bytes) (are_drop place bytes are))
+
+module _ (bytes : List ℕ) (are : AreBytes bytes) where
+  -- the first byte is known, and what stands behind the channel, the modem and the tag
+  flow_fields : (n : ℕ) (rest : List ℕ) → byte bytes 0 ≡ n → 10 < length bytes → drop 10 bytes ≡ rest → bytes ≡ n ∷ flow_spelling (byte bytes 1) (number w32 bytes 2) (number w32 bytes 6) ++ rest
+  flow_fields n rest tag lt then =
+      first bytes are n _ tag (omega arith) (field_1 bytes are 1 _ (omega arith) (field_4 bytes are 2 6 _ refl (omega arith) (field_4 bytes are 6 10 rest refl (omega arith) then)))
+
+  endless_spelled : byte bytes 0 ≡ 2 → IfSome (flow_command_in bytes last_time 10) (Spells bytes)
+  endless_spelled tag = with_kind bytes last_time 10 are (λ kind is. (
+    (are 1, number_fits_4 bytes are 2, number_fits_4 bytes are 6, omega arith, is.0),
+    flow_fields 2 (kind_spelling kind) tag (kind_within bytes 10 kind is.1) is.1,
+  ))
+
+  leased_spelled : byte bytes 0 ≡ 7 → IfSome (leased_flow_in bytes) (Spells bytes)
+  leased_spelled tag = by (last == last_time) refl
+    where
+      last : ℕ
+      last = number w64 bytes 10
+
+      by : (b : Bool) → (last == last_time) ≡ b → IfSome (cond b None (flow_command_in bytes last 18)) (Spells bytes)
+      by true same = tt
+      by false other = with_kind bytes last 18 are (λ kind is.
+          let head : List ℕ = flow_spelling (byte bytes 1) (number w32 bytes 2) (number w32 bytes 6) in
+          let far : 18 < length bytes = kind_within bytes 18 kind is.1 in
+          let whole : bytes ≡ 7 ∷ head ++ to_be_bytes w64 last ++ kind_spelling kind = flow_fields 7 _ tag (omega arith) (field_8 bytes are 10 18 _ refl (omega arith) is.1) in (
+            (are 1, number_fits_4 bytes are 2, number_fits_4 bytes are 6, number_fits_8 bytes are 10, is.0),
+            whole ∙ ap (λ (b : Bool). cond b (2 ∷ head ++ kind_spelling kind) (7 ∷ head ++ to_be_bytes w64 last ++ kind_spelling kind)) (sym other),
+          ))
 
 pub reads_spelled : (bytes : List ℕ) → AreBytes bytes → IfSome (command_in bytes) (Spells bytes)
 reads_spelled bytes are =
-    by_form bytes (is_form bytes 0 1) _ _ (λ h. let f = form_is bytes 0 1 h in noop_spelled bytes are f.0 f.1)
-    (by_form bytes (is_form bytes 1 17) _ _ (λ h. let f = form_is bytes 1 17 h in channel_spelled bytes are Tdma f.0 f.1)
-    (by_form bytes (is_form bytes 6 17) _ _ (λ h. let f = form_is bytes 6 17 h in channel_spelled bytes are Advanced f.0 f.1)
-    (by_form bytes (is_form bytes 3 4) _ _ (λ h. let f = form_is bytes 3 4 h in drop_spelled bytes are f.0 f.1)
-    (by_form bytes (is_form bytes 4 14) _ _ (λ h. let f = form_is bytes 4 14 h in request_spelled bytes are f.0 f.1)
-    (by_form bytes (is_form bytes 5 20) _ _ (λ h. let f = form_is bytes 5 20 h in cut_spelled bytes are f.0 f.1)
-    (by_form bytes (is_flow_form bytes 0 12) _ _ (λ h. let f = flow_form_is bytes 0 12 h in best_effort_spelled bytes are f.0 f.1 f.2)
-    (by_form bytes (is_flow_form bytes 1 29) _ _ (λ h. let f = flow_form_is bytes 1 29 h in ugs_spelled bytes are f.0 f.1 f.2)
-    (by_form bytes (is_flow_form bytes 2 27) _ None (λ h. let f = flow_form_is bytes 2 27 h in poll_spelled bytes are f.0 f.1 f.2) tt))))))))
+    by_form (Spells bytes) (is_form bytes 0 1) _ _ (λ h. let f = form_is bytes 0 1 h in noop_spelled bytes are f.0 f.1)
+    (by_form (Spells bytes) (is_form bytes 1 17) _ _ (λ h. let f = form_is bytes 1 17 h in channel_spelled bytes are Tdma f.0 f.1)
+    (by_form (Spells bytes) (is_form bytes 6 17) _ _ (λ h. let f = form_is bytes 6 17 h in channel_spelled bytes are Advanced f.0 f.1)
+    (by_form (Spells bytes) (is_form bytes 3 4) _ _ (λ h. let f = form_is bytes 3 4 h in drop_spelled bytes are f.0 f.1)
+    (by_form (Spells bytes) (is_form bytes 4 14) _ _ (λ h. let f = form_is bytes 4 14 h in request_spelled bytes are f.0 f.1)
+    (by_form (Spells bytes) (is_form bytes 5 20) _ _ (λ h. let f = form_is bytes 5 20 h in cut_spelled bytes are f.0 f.1)
+    (by_form (Spells bytes) (byte bytes 0 == 2) _ _ (λ h. endless_spelled bytes are (eqb-true (byte bytes 0) 2 h))
+    (by_form (Spells bytes) (byte bytes 0 == 7) _ None (λ h. leased_spelled bytes are (eqb-true (byte bytes 0) 7 h)) tt)))))))
 
 -- bytes that are read as no command spell none
 pub spells_none : (bytes : List ℕ) → command_in bytes ≡ None → SpellsNone bytes

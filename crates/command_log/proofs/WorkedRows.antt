@@ -3,6 +3,7 @@ use Rattle.std.proofs.Common.{◌≡◌, ℕ, List, [], ◌∷◌, ◌++◌, Som
 use Rattle.flow_state.specs.declared.channel.Channel.{Channel}
 use Rattle.flow_state.specs.declared.channel.Phy.TheVariants.{Tdma, Advanced}
 use Rattle.flow_state.specs.declared.flow.FlowKind.TheVariants.{BestEffort, Ugs, Poll}
+use Rattle.flow_state.specs.Limits.{last_time}
 use Rattle.grant_machine.specs.declared.command.Command.TheVariants as commands
 use Rattle.grant_machine.specs.declared.output.Output.TheVariants as outputs
 use Rattle.command_log.specs.Spelling.{spelling}
@@ -51,9 +52,22 @@ other_first : command_in (0xFF ∷ 0x01 ∷ 0x07 ∷ 0x00 ∷ 0x10 ∷ 0x02 ∷ 
 other_first = refl
 
 -- each form is read back
-kinds_read : map (λ c. command_in (spelling c)) (commands.Noop ∷ commands.Flow 1 50 1 (BestEffort 3) ∷ commands.Flow 1 50 70000 (Ugs 4 40 8 1000) ∷ commands.Flow 2 51 2 (Poll 50 0 1000) ∷ commands.Drop 1 258 ∷ commands.Request 1 1 20 990 ∷ commands.Cut 1 4096 5 6 ∷ [])
-    ≡ map Some (commands.Noop ∷ commands.Flow 1 50 1 (BestEffort 3) ∷ commands.Flow 1 50 70000 (Ugs 4 40 8 1000) ∷ commands.Flow 2 51 2 (Poll 50 0 1000) ∷ commands.Drop 1 258 ∷ commands.Request 1 1 20 990 ∷ commands.Cut 1 4096 5 6 ∷ [])
+kinds_read : map (λ c. command_in (spelling c)) (commands.Noop ∷ commands.Flow 1 50 1 last_time (BestEffort 3) ∷ commands.Flow 1 50 70000 last_time (Ugs 4 40 8 1000) ∷ commands.Flow 2 51 2 last_time (Poll 50 0 1000) ∷ commands.Drop 1 258 ∷ commands.Request 1 1 20 990 ∷ commands.Cut 1 4096 5 6 ∷ [])
+    ≡ map Some (commands.Noop ∷ commands.Flow 1 50 1 last_time (BestEffort 3) ∷ commands.Flow 1 50 70000 last_time (Ugs 4 40 8 1000) ∷ commands.Flow 2 51 2 last_time (Poll 50 0 1000) ∷ commands.Drop 1 258 ∷ commands.Request 1 1 20 990 ∷ commands.Cut 1 4096 5 6 ∷ [])
 kinds_read = refl
+
+-- a lease that ends is written, and one that doesn't is not: with its last minislot written it's no command
+leased_flow : spelling (commands.Flow 1 50 1 1049 (BestEffort 3)) ≡ 0x07 ∷ 0x01 ∷ 0x00 ∷ 0x00 ∷ 0x00 ∷ 0x32 ∷ 0x00 ∷ 0x00 ∷ 0x00 ∷ 0x01 ∷ 0x00 ∷ 0x00 ∷ 0x00 ∷ 0x00 ∷ 0x00 ∷ 0x00 ∷ 0x04 ∷ 0x19 ∷ 0x00 ∷ 0x03 ∷ []
+leased_flow = refl
+
+leased_read : command_in (spelling (commands.Flow 1 50 1 1049 (BestEffort 3))) ≡ Some (commands.Flow 1 50 1 1049 (BestEffort 3))
+leased_read = refl
+
+endless_flow : spelling (commands.Flow 1 50 1 last_time (BestEffort 3)) ≡ 0x02 ∷ 0x01 ∷ 0x00 ∷ 0x00 ∷ 0x00 ∷ 0x32 ∷ 0x00 ∷ 0x00 ∷ 0x00 ∷ 0x01 ∷ 0x00 ∷ 0x03 ∷ []
+endless_flow = refl
+
+endless_leased : command_in (0x07 ∷ 0x01 ∷ 0x00 ∷ 0x00 ∷ 0x00 ∷ 0x32 ∷ 0x00 ∷ 0x00 ∷ 0x00 ∷ 0x01 ∷ 0x40 ∷ 0x00 ∷ 0x00 ∷ 0x00 ∷ 0x00 ∷ 0x00 ∷ 0x00 ∷ 0x00 ∷ 0x00 ∷ 0x03 ∷ []) ≡ None
+endless_leased = refl
 
 -- values that are no command do nothing
 outputs_in_order : outputs_of_values (channel_bytes ∷ (0xFF ∷ []) ∷ spelling (commands.Cut 1 1 0 0) ∷ []) ≡ outputs.ChannelSet 1 7 ∷ outputs.Nothing ∷ outputs.Map 1 1000 1

@@ -1,11 +1,12 @@
 -- Commands as bytes: most significant byte first, of fixed lengths, one spelling a command (this project's format).
-use Rattle.std.specs.Prelude.{◌≡◌, ℕ, List, [], ◌∷◌, ◌++◌}
+use Rattle.std.specs.Prelude.{◌≡◌, ℕ, ◌==◌, if◌then◌else◌, List, [], ◌∷◌, ◌++◌}
 use Rattle.std.specs.Int.{w16, w32, w64, to_be_bytes}
 use Rattle.flow_state.specs.declared.channel.Channel.{Channel}
 use Rattle.flow_state.specs.declared.channel.Phy.{Phy}
 use Rattle.flow_state.specs.declared.channel.Phy.TheVariants.{Tdma, Advanced}
 use Rattle.flow_state.specs.declared.flow.FlowKind.{FlowKind}
 use Rattle.flow_state.specs.declared.flow.FlowKind.TheVariants.{BestEffort, Ugs, Poll}
+use Rattle.flow_state.specs.Limits.{last_time}
 use Rattle.grant_machine.specs.declared.command.Command.{Command}
 use Rattle.grant_machine.specs.declared.command.Command.TheVariants as commands
 use Rattle.grant_machine.specs.Fits.{FitsCommand}
@@ -26,11 +27,17 @@ kind_spelling (BestEffort priority) = 0 ∷ priority ∷ []
 kind_spelling (Ugs size interval jitter base) = 1 ∷ to_be_bytes w16 size ++ to_be_bytes w32 interval ++ to_be_bytes w32 jitter ++ to_be_bytes w64 base
 kind_spelling (Poll interval jitter base) = 2 ∷ to_be_bytes w32 interval ++ to_be_bytes w32 jitter ++ to_be_bytes w64 base
 
--- the bytes of a command
+-- what follows the first byte of a flow, up to its kind
+abbrev pub flow_spelling : (ch modem tag : ℕ) → List ℕ
+flow_spelling ch modem tag = ch ∷ to_be_bytes w32 modem ++ to_be_bytes w32 tag
+
+-- the bytes of a command; the last minislot of a flow's lease is written where it isn't the last time of all
 abbrev pub spelling : Command → List ℕ
 spelling commands.Noop = 0 ∷ []
 spelling (commands.Channel c) = phy_byte c.phy ∷ channel_spelling c
-spelling (commands.Flow ch modem tag kind) = 2 ∷ ch ∷ to_be_bytes w32 modem ++ to_be_bytes w32 tag ++ kind_spelling kind
+spelling (commands.Flow ch modem tag last kind) =
+    if last == last_time then 2 ∷ flow_spelling ch modem tag ++ kind_spelling kind
+    else 7 ∷ flow_spelling ch modem tag ++ to_be_bytes w64 last ++ kind_spelling kind
 spelling (commands.Drop ch sid) = 3 ∷ ch ∷ to_be_bytes w16 sid
 spelling (commands.Request ch sid n sent) = 4 ∷ ch ∷ to_be_bytes w16 sid ++ to_be_bytes w16 n ++ to_be_bytes w64 sent
 spelling (commands.Cut ch len not_before ack) = 5 ∷ ch ∷ to_be_bytes w16 len ++ to_be_bytes w64 not_before ++ to_be_bytes w64 ack

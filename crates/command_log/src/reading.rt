@@ -2,10 +2,10 @@ ghost use Rattle.std.specs.Prelude.{◌≡◌, ◌+◌, ◌≤◌, IsTrue, IsFal
 ghost use Rattle.std.specs.Int.{w16, w32, w64};
 ghost use Rattle.grant_machine.specs.declared.command.Command.TheVariants as commands;
 ghost use Rattle.command_log.specs.Spelling.{Spells, SpellsNone};
-ghost use Rattle.command_log.specs.Reading.{byte, channel_in, command_in, command_of, flow_command_in, number};
+ghost use Rattle.command_log.specs.Reading.{channel_in, command_in, command_of, flow_command_in, kind_in, leased_flow_in, number};
 
 use byteorder::{BigEndian, ByteOrder};
-use flow_state::{Channel, FlowKind, Phy};
+use flow_state::{Channel, FlowKind, LAST_TIME, Phy};
 use grant_machine::Command;
 
 fn u16_at(bytes: &[u8], place: usize) -> u16
@@ -44,33 +44,58 @@ fn channel_of(bytes: &[u8], phy: Phy) -> Channel
     }
 }
 
-/// The flow with the kind that its byte and the length tell.
-fn flow_of(bytes: &[u8]) -> Option<Command>
-    requires { byte bytes.now 0 ≡ 2 }
-    ensures { result ≡ flow_command_in bytes.now }
+/// A flow's kind, which its first byte and the length tell.
+fn kind_of(bytes: &[u8]) -> Option<FlowKind>
+    ensures { result ≡ kind_in bytes.now }
 {
-    let kind_byte = *bytes.get(10)?;
-    let kind = match (kind_byte, bytes.len()) {
-        (0, 12) => FlowKind::BestEffort(bytes[11]),
-        (1, 29) => FlowKind::Ugs {
-            size: u16_at(bytes, 11),
-            interval: u32_at(bytes, 13),
-            jitter: u32_at(bytes, 17),
-            base: u64_at(bytes, 21),
-        },
-        (2, 27) => FlowKind::Poll {
-            interval: u32_at(bytes, 11),
-            jitter: u32_at(bytes, 15),
-            base: u64_at(bytes, 19),
-        },
-        _ => return None,
-    };
+    let first = *bytes.first()?;
+    match (first, bytes.len()) {
+        (0, 2) => Some(FlowKind::BestEffort(bytes[1])),
+        (1, 19) => Some(FlowKind::Ugs {
+            size: u16_at(bytes, 1),
+            interval: u32_at(bytes, 3),
+            jitter: u32_at(bytes, 7),
+            base: u64_at(bytes, 11),
+        }),
+        (2, 17) => Some(FlowKind::Poll {
+            interval: u32_at(bytes, 1),
+            jitter: u32_at(bytes, 5),
+            base: u64_at(bytes, 9),
+        }),
+        _ => None,
+    }
+}
+
+/// The flow whose lease has this last minislot, with its kind from a place on.
+fn flow_of(bytes: &[u8], last: u64, place: usize) -> Option<Command>
+    requires { 10 ≤ place }
+    ensures { result ≡ flow_command_in bytes.now last place }
+{
+    if bytes.len() < place {
+        return None;
+    }
+    let kind = kind_of(&bytes[place..])?;
     Some(Command::Flow {
         ch: bytes[1],
         modem: u32_at(bytes, 2),
         tag: u32_at(bytes, 6),
+        last,
         kind,
     })
+}
+
+/// The flow whose last minislot is written. The last time of all isn't written.
+fn leased_flow_of(bytes: &[u8]) -> Option<Command>
+    ensures { result ≡ leased_flow_in bytes.now }
+{
+    if bytes.len() < 18 {
+        return None;
+    }
+    let last = u64_at(bytes, 10);
+    if last == LAST_TIME {
+        return None;
+    }
+    flow_of(bytes, last, 18)
 }
 
 /// The command that bytes spell, by the first byte and the length.
@@ -82,7 +107,8 @@ fn command_at(bytes: &[u8]) -> Option<Command>
         (0, 1) => Some(Command::Noop),
         (1, 17) => Some(Command::Channel(channel_of(bytes, Phy::Tdma))),
         (6, 17) => Some(Command::Channel(channel_of(bytes, Phy::Advanced))),
-        (2, _) => flow_of(bytes),
+        (2, _) => flow_of(bytes, LAST_TIME, 10),
+        (7, _) => leased_flow_of(bytes),
         (3, 4) => Some(Command::Drop {
             ch: bytes[1],
             sid: u16_at(bytes, 2),

@@ -1,9 +1,10 @@
 ghost use Rattle.std.specs.Prelude.{◌≡◌, ◌++◌, IfOk, OnOk};
 ghost use Rattle.std.specs.Int.{w16, w32, w64, to_be_bytes};
-ghost use Rattle.command_log.specs.Spelling.{phy_byte, channel_spelling, kind_spelling, spelling};
+ghost use Rattle.grant_machine.specs.declared.command.Command.TheVariants as commands;
+ghost use Rattle.command_log.specs.Spelling.{phy_byte, channel_spelling, flow_spelling, kind_spelling, spelling};
 
 use byteorder::{BigEndian, ByteOrder};
-use flow_state::{Channel, FlowKind, Phy};
+use flow_state::{Channel, FlowKind, LAST_TIME, Phy};
 use grant_machine::Command;
 use std::alloc::{AllocError, Global};
 
@@ -90,6 +91,36 @@ fn put_kind(out: &mut Vec<u8>, kind: FlowKind) -> Result<(), AllocError>
     }
 }
 
+fn put_flow_head(out: &mut Vec<u8>, ch: u8, modem: u32, tag: u32) -> Result<(), AllocError>
+    ensures { OnOk result (out.new.items ≡ out.old.items ++ flow_spelling ch modem tag) }
+{
+    out.extend_from_slice(&[ch])?;
+    put_u32(out, modem)?;
+    put_u32(out, tag)
+}
+
+/// A flow. The last minislot of its lease is written where it isn't the last time of all.
+fn put_flow(
+    out: &mut Vec<u8>,
+    ch: u8,
+    modem: u32,
+    tag: u32,
+    last: u64,
+    kind: FlowKind,
+) -> Result<(), AllocError>
+    ensures { OnOk result (out.new.items ≡ out.old.items ++ spelling (commands.Flow ch modem tag last kind)) }
+{
+    if last == LAST_TIME {
+        out.extend_from_slice(&[2])?;
+        put_flow_head(out, ch, modem, tag)?;
+        return put_kind(out, kind);
+    }
+    out.extend_from_slice(&[7])?;
+    put_flow_head(out, ch, modem, tag)?;
+    put_u64(out, last)?;
+    put_kind(out, kind)
+}
+
 /// The bytes of a command: most significant byte first, of a length that its first byte tells, and of
 /// a flow its kind's byte too.
 pub fn command_bytes(alloc: Global, command: &Command) -> Result<Vec<u8>, AllocError>
@@ -106,13 +137,9 @@ pub fn command_bytes(alloc: Global, command: &Command) -> Result<Vec<u8>, AllocE
             ch,
             modem,
             tag,
+            last,
             kind,
-        } => {
-            out.extend_from_slice(&[2, ch])?;
-            put_u32(&mut out, modem)?;
-            put_u32(&mut out, tag)?;
-            put_kind(&mut out, kind)?;
-        }
+        } => put_flow(&mut out, ch, modem, tag, last, kind)?,
         Command::Drop { ch, sid } => {
             out.extend_from_slice(&[3, ch])?;
             put_u16(&mut out, sid)?;
