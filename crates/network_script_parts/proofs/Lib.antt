@@ -2,6 +2,7 @@ pub mod Callers
 mod AtModem
 mod Calling
 mod Channels
+mod Flows
 mod Fresh
 mod Pairs
 mod ScriptFaults

@@ -6,6 +6,7 @@ use Rattle.flow_state.specs.declared.channel.Phy.{Phy}
 use Rattle.flow_state.specs.declared.channel.Phy.TheVariants.{Tdma, Advanced}
 use Rattle.flow_state.specs.declared.flow.FlowKind.{FlowKind}
 use Rattle.flow_state.specs.declared.flow.FlowKind.TheVariants.{BestEffort, Ugs, Poll}
+use Rattle.flow_state.specs.Limits.{last_time}
 use Rattle.grant_machine.specs.declared.command.Command.{Command}
 use Rattle.grant_machine.specs.declared.command.Command.TheVariants as commands
 use Rattle.network_script_parts.specs.Fields.{HasText, HasNumber}
@@ -47,13 +48,17 @@ HasService d (Poll interval jitter base) =
     HasText d (codes "service") (codes "poll") × HasNumber d (codes "interval") 32 interval
     × HasNumber d (codes "jitter") 32 jitter × HasNumber d (codes "base") 64 base
 
+-- the last minislot of a flow's lease, the last time of all where the key isn't there
+abbrev pub HasLast : Data → ℕ → Type 0
+HasLast d last = HasNumber d (codes "last") 64 last ⊎ ((get (codes "last") d ≡ None) × (last ≡ last_time))
+
 -- the table spells the command
 abbrev pub SpellsCommand : Data → Command → Type 0
 SpellsCommand d commands.Noop = HasText d (codes "kind") (codes "noop")
 SpellsCommand d (commands.Channel c) = HasText d (codes "kind") (codes "channel") × HasChannel d c
-SpellsCommand d (commands.Flow ch modem tag kind) =
+SpellsCommand d (commands.Flow ch modem tag last kind) =
     HasText d (codes "kind") (codes "flow") × HasNumber d (codes "ch") 8 ch × HasNumber d (codes "modem") 32 modem
-    × HasNumber d (codes "tag") 32 tag × HasService d kind
+    × HasNumber d (codes "tag") 32 tag × HasLast d last × HasService d kind
 SpellsCommand d (commands.Drop ch sid) =
     HasText d (codes "kind") (codes "drop") × HasNumber d (codes "ch") 8 ch × HasNumber d (codes "sid") 16 sid
 SpellsCommand d (commands.Request ch sid n sent) =

@@ -8,10 +8,10 @@ ghost use Rattle.flow_state.specs.declared.channel.Phy.{Phy};
 ghost use Rattle.flow_state.specs.declared.flow.FlowKind.{FlowKind};
 ghost use Rattle.grant_machine.specs.declared.command.Command.{Command};
 ghost use Rattle.network_script_parts.specs.Fields.{HasText};
-ghost use Rattle.network_script_parts.specs.CommandTable.{IsPair, HasPair, HasPhy, HasChannel, HasService, SpellsCommand};
+ghost use Rattle.network_script_parts.specs.CommandTable.{IsPair, HasPair, HasPhy, HasChannel, HasService, HasLast, SpellsCommand};
 
 use crate::fields::{u8_at, u16_at, u32_at, u64_at};
-use flow_state::{Channel, FlowKind, Phy};
+use flow_state::{Channel, FlowKind, LAST_TIME, Phy};
 use grant_machine::Command;
 use toml::Value;
 
@@ -102,6 +102,17 @@ fn service_of(table: &Value) -> Option<FlowKind>
     }
 }
 
+/// The last minislot of a flow's lease, the last time of all where the table names none.
+fn last_of(table: &Value) -> Option<u64>
+    ensures found { IfSome result (HasLast (view table.now)) }
+    ensures only { (last : ℕ) → HasLast (view table.now) last → result ≡ Some last }
+{
+    match table.get("last") {
+        Some(_) => u64_at(table, "last"),
+        None => Some(LAST_TIME),
+    }
+}
+
 fn flow_of(table: &Value) -> Option<Command>
     requires { HasText (view table.now) (codes "kind") (codes "flow") }
     ensures found { IfSome result (SpellsCommand (view table.now)) }
@@ -111,6 +122,7 @@ fn flow_of(table: &Value) -> Option<Command>
         ch: u8_at(table, "ch")?,
         modem: u32_at(table, "modem")?,
         tag: u32_at(table, "tag")?,
+        last: last_of(table)?,
         kind: service_of(table)?,
     })
 }
