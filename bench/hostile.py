@@ -190,6 +190,8 @@ def command(rng):
     elif kind == "flow":
         keys.update(modem=rng.randint(0, 5), tag=rng.randint(0, 5), service="'%s'" % rng.choice(["best_effort", "ugs", "poll"]))
         keys.update(priority=rng.randint(0, 9), size=number(rng, 65535), interval=number(rng, 2**32 - 1), jitter=number(rng, 2**32 - 1), base=number(rng, 2**63 - 1))
+        if rng.random() < 0.5:
+            keys.update(last=number(rng, 2**63 - 1))
     elif kind == "drop":
         keys.update(sid=number(rng, 65535))
     elif kind == "request":
@@ -208,7 +210,7 @@ def inline(keys):
 
 
 CHANNEL = {"kind": "'channel'", "ch": 1, "ucd": 7, "short_max": 16, "ranging": "[2, 5]", "data": "[3, 8]", "base": 1000}
-SPELLED = ["00", "01010700100205030800000000000003e8", "06010700100205030800000000000003e8", "020100000032000000010003", "03010001", "0401000100140000000000000" + "3de", "050100640000000000000000000000000000000a"]
+SPELLED = ["00", "01010700100205030800000000000003e8", "06010700100205030800000000000003e8", "020100000032000000010003", "0701000000320000000100000000000004190003", "0701000000320000000140000000000000000003", "03010001", "0401000100140000000000000" + "3de", "050100640000000000000000000000000000000a"]
 
 
 def made_plan(rng):

@@ -80,7 +80,7 @@ step_drawn rows c ch start n bytes map is body = by (refusal_of rows c) refl is
     on : (d : Command) → refusal_of rows d ≡ None → (accepted rows d).output ≡ outputs.Map ch start n bytes → IsDrawn ch start map
     on commands.Noop ok made = absurd (cc (made))
     on (commands.Channel x) ok made = absurd (cc (made))
-    on (commands.Flow x modem tag kind) ok made = absurd (cc (made))
+    on (commands.Flow x modem tag last kind) ok made = absurd (cc (made))
     on (commands.Drop x sid) ok made = absurd (cc (made))
     on (commands.Request x sid k sent) ok made = absurd (cc (made))
     on (commands.Cut at len not_before ack) ok made = cut at len not_before ack (table_of rows at) refl ok made

@@ -1,7 +1,7 @@
 //! The first body of a cut, in which each minislot is a cell of a plain list, beside the machine's.
 
 use crate::flows;
-use flow_state::FlowKind;
+use flow_state::{FlowKind, LAST_TIME};
 use grant_machine::{Command, Machine, Output};
 use map_body::decode;
 use std::alloc::{AllocError, Global};
@@ -369,6 +369,7 @@ fn flow(tag: u32, kind: FlowKind) -> Command {
         ch: 1,
         modem: 50,
         tag,
+        last: LAST_TIME,
         kind,
     }
 }

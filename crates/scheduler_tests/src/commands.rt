@@ -1,4 +1,4 @@
-use flow_state::{Channel, FlowKind, Phy};
+use flow_state::{Channel, FlowKind, LAST_TIME, Phy};
 use grant_machine::{Command, Machine, Output, again};
 use std::alloc::{AllocError, Global};
 use std::test::Fail;
@@ -20,6 +20,7 @@ fn flow(kind: FlowKind) -> Command {
         ch: 1,
         modem: 50,
         tag: 1,
+        last: LAST_TIME,
         kind,
     }
 }

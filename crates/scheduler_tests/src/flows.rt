@@ -1,4 +1,4 @@
-use flow_state::{Channel, FlowKind, Flows, Phy, Refusal};
+use flow_state::{Channel, FlowKind, Flows, LAST_TIME, Phy, Refusal};
 use std::alloc::Global;
 use std::ops::Range;
 use std::test::Fail;
@@ -32,7 +32,8 @@ fn with_channel(alloc: Global) -> Result<Flows, Refusal> {
 
 /// Adds a best-effort flow of a modem and gives its SID.
 fn flow(flows: &mut Flows, modem: u32, tag: u32) -> Result<u16, Refusal> {
-    flows.add_flow(1, modem, tag, FlowKind::BestEffort(0))
+    let lease = flows.add_flow(1, modem, tag, LAST_TIME, FlowKind::BestEffort(0))?;
+    Ok(lease.sid)
 }
 
 /// Flow 1 asks for 20 minislots, sent at 990.
@@ -115,7 +116,7 @@ fn ask_for_each(flows: &mut Flows, tags: Range<u32>) -> Result<(), Refusal> {
 /// Flow 1 has unsolicited grants, flows 2 to 119 wait, and flow 120 has no request.
 fn crowded(alloc: Global) -> Result<Flows, Refusal> {
     let mut flows = with_channel(alloc)?;
-    flows.add_flow(1, 50, 0, unsolicited())?;
+    flows.add_flow(1, 50, 0, LAST_TIME, unsolicited())?;
     ask_for_each(&mut flows, 1..119)?;
     flow(&mut flows, 50, 119)?;
     Ok(flows)

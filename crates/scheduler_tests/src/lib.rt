@@ -9,6 +9,8 @@ mod commands;
 #[cfg(test)]
 mod flows;
 #[cfg(test)]
+mod leases;
+#[cfg(test)]
 mod logs;
 #[cfg(test)]
 mod releases;

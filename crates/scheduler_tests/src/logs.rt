@@ -1,5 +1,5 @@
 use command_log::{Log, LogFault, command_bytes, read_command};
-use flow_state::{Channel, FlowKind, Phy};
+use flow_state::{Channel, FlowKind, LAST_TIME, Phy};
 use grant_machine::{Command, Output};
 use std::alloc::{AllocError, Global};
 use std::test::Fail;
@@ -45,11 +45,34 @@ fn request() -> Command {
     }
 }
 
+const LEASED: [u8; 20] = [
+    0x07, 0x01, 0x00, 0x00, 0x00, 0x32, 0x00, 0x00, 0x00, 0x01, 0x00, 0x00, 0x00, 0x00, 0x00, 0x00,
+    0x04, 0x19, 0x00, 0x03,
+];
+
+/// The same flow with a lease up to the last time of all, which isn't written.
+const ENDLESS: [u8; 20] = [
+    0x07, 0x01, 0x00, 0x00, 0x00, 0x32, 0x00, 0x00, 0x00, 0x01, 0x40, 0x00, 0x00, 0x00, 0x00, 0x00,
+    0x00, 0x00, 0x00, 0x03,
+];
+
+/// A flow whose lease ends with minislot 1049.
+fn leased() -> Command {
+    Command::Flow {
+        ch: 1,
+        modem: 50,
+        tag: 1,
+        last: 1049,
+        kind: FlowKind::BestEffort(3),
+    }
+}
+
 fn unsolicited_grants() -> Command {
     Command::Flow {
         ch: 1,
         modem: 50,
         tag: 70000,
+        last: LAST_TIME,
         kind: FlowKind::Ugs {
             size: 4,
             interval: 10,
@@ -129,6 +152,13 @@ fn a_gap_is_waited_for(rt: HostRuntime) -> Result<(), Fail> {
     assert!(rt; !log.advance()?);
     assert_eq!(rt; log.prefix_len(), 0);
     assert!(rt; log.output(1).is_none());
+    Ok(())
+}
+
+#[test]
+fn a_last_minislot_is_written_where_it_is_not_the_last_time(rt: HostRuntime) -> Result<(), Fail> {
+    assert!(rt; is_written(rt.alloc(), leased(), &LEASED)?);
+    assert!(rt; is_no_command(&ENDLESS));
     Ok(())
 }
 
