@@ -369,13 +369,13 @@ fill_keeps K t span ack w le none more =
     let moves = pass_moves span (grants_of_flow c) t.flows [] le (grants_ask_well c) in
     let granted : K first.placements = pass_keeps K span (grants_of_flow c) t.flows
     (λ f h p e ps i x k fit.
-        let of = grants_ask_well c f p (w.flows f h) e in
-        more ps (placement_at p i x) k (may_place_due t span ps p i x of.well f h (sym of.sid) (sym of.last) fit)) [] none in
+    let of = grants_ask_well c f p (w.flows f h) e in
+    more ps (placement_at p i x) k (may_place_due t span ps p i x of.well f h (sym of.sid) (sym of.last) fit)) [] none in
     let polled : K second.placements = pass_keeps K span (polls_of_flow c) first.flows
     (λ g h p e ps i x k fit.
-        let m = moved_from t.flows first.flows g moves h in
-        let of = polls_ask_well c g p (m.2.well (w.flows m.0 m.1)) e in
-        more ps (placement_at p i x) k (may_place_due t span ps p i x of.well m.0 m.1 (ap (λ (f : FlowRow). f.sid) (sym m.2.is) ∙ sym of.sid) (ap (λ (f : FlowRow). f.last) (sym m.2.is) ∙ sym of.last) fit)) first.placements granted in
+    let m = moved_from t.flows first.flows g moves h in
+    let of = polls_ask_well c g p (m.2.well (w.flows m.0 m.1)) e in
+    more ps (placement_at p i x) k (may_place_due t span ps p i x of.well m.0 m.1 (ap (λ (f : FlowRow). f.sid) (sym m.2.is) ∙ sym of.sid) (ap (λ (f : FlowRow). f.last) (sym m.2.is) ∙ sym of.last) fit)) first.placements granted in
     requests_keep K span c (last_of t) (in_order t t.waiting) (λ r h ps x k fit. more ps (placement_for c r x) k (may_place_request t span ps r x w (in_order_has t t.waiting r h) fit)) second.placements polled
 
 -- ---- the table after a MAP

@@ -274,7 +274,7 @@ fills_for t span ack sid size interval jitter base n s =
     let ps : List Placement = place_requests span c (last_of t) (in_order t t.waiting) second.placements in
     let asked : filter (is_to sid) ps ≡ filter (is_to sid) second.placements = requests_none span c (last_of t) sid (in_order t t.waiting) second.placements (in_order_none t sid t.waiting s.waiting) in
     let waits : filter (is_of sid) (requests_left t span (still_waiting ps t.waiting)) ≡ [] = filter_sub (is_of sid) (λ w. not (has_ended t (end_of span) w)) (still_waiting ps t.waiting)
-        (filter_sub (is_of sid) (λ w. not (list_any (is_grant_of w) ps)) t.waiting s.waiting) in
+    (filter_sub (is_of sid) (λ w. not (list_any (is_grant_of w) ps)) t.waiting s.waiting) in
     elim s.flows [
       | inl none ↦
           let granted = pass_none span (grants_of_flow c) sid t.flows [] (grants_keep c) none in

@@ -1,5 +1,5 @@
 -- The bytes of a MAP that isn't refused are a body as it is written.
-use Rattle.std.proofs.Common.{◌≡◌, ℕ, ◌<◌, ◌≤◌, ◌^◌, true, not, List, ◌∷◌, map, length, None, refl, ap, subst, arith, inl, inr, leb, length-append, mod-lt}
+use Rattle.std.proofs.Common.{◌≡◌, ℕ, ◌<◌, ◌≤◌, ◌^◌, true, not, List, ◌∷◌, map, length, None, refl, ap, subst, arith, leb, length-append, mod-lt}
 use Rattle.std.specs.List.{list_any, AllByRecursion}
 use Rattle.std.proofs.lemmas.Bool.{leb-true}
 use Rattle.std.proofs.lemmas.List.{length-map}

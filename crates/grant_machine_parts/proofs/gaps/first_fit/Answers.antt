@@ -11,7 +11,7 @@ returns-then-first-behind c = λ ps are.
     let b = c.min-first.ensures in
     let most = c.behind_latest-behind.ensures.most in
     let timely : AreInTime c.args.start c.args.len ps c.args.n c.args.lo c.args.hi c.args.last c.min-first.result c.behind_latest-behind.result =
-        in_time c.args.start c.args.len ps c.args.n c.args.lo c.args.hi c.args.last c.min-first.result c.behind_latest-behind.result (omega arith) (omega arith) c.behind_latest-behind.ensures.in_time (λ y ge lt. c.behind_latest-behind.ensures.late y ge (omega arith)) in
+    in_time c.args.start c.args.len ps c.args.n c.args.lo c.args.hi c.args.last c.min-first.result c.behind_latest-behind.result (omega arith) (omega arith) c.behind_latest-behind.ensures.in_time (λ y ge lt. c.behind_latest-behind.ensures.late y ge (omega arith)) in
     let none : c.args.n ≡ 0 = omega arith in
     let lt : c.min-first.result < c.behind_latest-behind.result = omega arith in
     sym (none_found c.args.start c.args.len ps c.args.n c.args.lo c.args.hi c.args.last c.min-first.result c.behind_latest-behind.result timely none ∙ ap (λ b. cond b (Some c.min-first.result) None) (lt-ltb c.min-first.result c.behind_latest-behind.result lt))
@@ -23,7 +23,7 @@ returns-else-first-behind c = λ ps are.
     let b = c.min-first.ensures in
     let most = c.behind_latest-behind.ensures.most in
     let timely : AreInTime c.args.start c.args.len ps c.args.n c.args.lo c.args.hi c.args.last c.min-first.result c.behind_latest-behind.result =
-        in_time c.args.start c.args.len ps c.args.n c.args.lo c.args.hi c.args.last c.min-first.result c.behind_latest-behind.result (omega arith) (omega arith) c.behind_latest-behind.ensures.in_time (λ y ge lt. c.behind_latest-behind.ensures.late y ge (omega arith)) in
+    in_time c.args.start c.args.len ps c.args.n c.args.lo c.args.hi c.args.last c.min-first.result c.behind_latest-behind.result (omega arith) (omega arith) c.behind_latest-behind.ensures.in_time (λ y ge lt. c.behind_latest-behind.ensures.late y ge (omega arith)) in
     let none : c.args.n ≡ 0 = omega arith in
     let le : c.behind_latest-behind.result ≤ c.min-first.result = omega arith in
     sym (none_found c.args.start c.args.len ps c.args.n c.args.lo c.args.hi c.args.last c.min-first.result c.behind_latest-behind.result timely none ∙ ap (λ b. cond b (Some c.min-first.result) None) (le-ltb c.min-first.result c.behind_latest-behind.result le))
@@ -35,7 +35,7 @@ returns-in-Some c = λ ps are.
     let b = c.min-first.ensures in
     let most = c.behind_latest-behind.ensures.most in
     let timely : AreInTime c.args.start c.args.len ps c.args.n c.args.lo c.args.hi c.args.last c.min-first.result c.behind_latest-behind.result =
-        in_time c.args.start c.args.len ps c.args.n c.args.lo c.args.hi c.args.last c.min-first.result c.behind_latest-behind.result (omega arith) (omega arith) c.behind_latest-behind.ensures.in_time (λ y ge lt. c.behind_latest-behind.ensures.late y ge (omega arith)) in
+    in_time c.args.start c.args.len ps c.args.n c.args.lo c.args.hi c.args.last c.min-first.result c.behind_latest-behind.result (omega arith) (omega arith) c.behind_latest-behind.ensures.in_time (λ y ge lt. c.behind_latest-behind.ensures.late y ge (omega arith)) in
     let some : 1 ≤ c.args.n = omega arith in
     c.in-Some.ensures ∙ ap (λ m. gap_in c.args.gaps.now m c.min-first.result c.behind_latest-behind.result) c.from.ensures ∙ fit_found c.args.start c.args.len ps c.args.n c.args.lo c.args.hi c.args.last c.min-first.result c.behind_latest-behind.result timely some c.args.gaps.now are
 
@@ -46,6 +46,6 @@ returns-in-None c = λ ps are.
     let b = c.min-first.ensures in
     let most = c.behind_latest-behind.ensures.most in
     let timely : AreInTime c.args.start c.args.len ps c.args.n c.args.lo c.args.hi c.args.last c.min-first.result c.behind_latest-behind.result =
-        in_time c.args.start c.args.len ps c.args.n c.args.lo c.args.hi c.args.last c.min-first.result c.behind_latest-behind.result (omega arith) (omega arith) c.behind_latest-behind.ensures.in_time (λ y ge lt. c.behind_latest-behind.ensures.late y ge (omega arith)) in
+    in_time c.args.start c.args.len ps c.args.n c.args.lo c.args.hi c.args.last c.min-first.result c.behind_latest-behind.result (omega arith) (omega arith) c.behind_latest-behind.ensures.in_time (λ y ge lt. c.behind_latest-behind.ensures.late y ge (omega arith)) in
     let some : 1 ≤ c.args.n = omega arith in
     c.in-None.ensures ∙ ap (λ m. gap_in c.args.gaps.now m c.min-first.result c.behind_latest-behind.result) c.from.ensures ∙ fit_found c.args.start c.args.len ps c.args.n c.args.lo c.args.hi c.args.last c.min-first.result c.behind_latest-behind.result timely some c.args.gaps.now are
