@@ -1,15 +1,14 @@
--- SIDs that were given, and the one that a flow that isn't refused is given.
-use Rattle.std.proofs.Common.{◌≡◌, ◌⊎◌, ℕ, Bool, true, false, cond, not, ◌||◌, List, [], ◌∷◌, ◌++◌, Option, Some, None, refl, sym, ap, ◌∙◌, arith, eqb, inl, inr, is_some, is_none}
+-- Leases of SIDs, and the one that a flow that isn't refused is given.
+use Rattle.std.proofs.Common.{◌≡◌, ◌⊎◌, ℕ, ◌<◌, ◌≤◌, Bool, true, false, cond, not, ◌||◌, ◌&&◌, List, [], ◌∷◌, ◌++◌, filter, Option, Some, None, refl, sym, ap, ◌∙◌, arith, eqb, leb, ltb, inl, inr, is_some, is_none}
 use Rattle.std.specs.List.{find, list_any}
 use Rattle.std.specs.Prelude.{unwrap_or}
+use Rattle.std.proofs.lemmas.Bool.{eqb-true, leb-true, leb-false}
 use Rattle.flow_state.specs.declared.flow.FlowKind.{FlowKind}
 use Rattle.flow_state.specs.declared.refusal.Refusal.TheVariants.{BadValue, SidsSpent}
-use Rattle.flow_state.specs.Limits.{is_good_kind}
-use Rattle.flow_state.specs.Rows.{Table, Assignment, assignment_of, unicast_sids, free_sid}
-use Rattle.flow_state.specs.Refusals.{table_flow_refusal}
-
-abbrev pub has : ℕ → Assignment → Bool
-has sid a = eqb a.sid sid
+use Rattle.flow_state.specs.Limits.{is_good_kind, last_time}
+use Rattle.flow_state.specs.Rows.{Table, Lease, is_over, is_lease_of, lease_of, is_of_sid, is_given, is_leased, unicast_sids, free_sid, first_of, put_lease}
+use Rattle.flow_state.specs.Refusals.{is_good_last, table_flow_refusal}
+use Rattle.flow_state.proofs.Members.{Has, has_any, any_has, none_has, found_has, has_found, has_either, has_filter}
 
 module _ {X : Type 0} (p : X → Bool) where
   pub find_kept : (xs : List X) (a b : X) → find p xs ≡ Some a → find p (xs ++ b ∷ []) ≡ Some a
@@ -38,22 +37,165 @@ module _ {X : Type 0} (p : X → Bool) where
 pub eqb_same : (n : ℕ) → eqb n n ≡ true
 eqb_same n = grind arith
 
-pub free_is_free : (t : Table) (sid : ℕ) → free_sid t ≡ Some sid → list_any (has sid) t.assigned ≡ false
-free_is_free t sid e = not_true (list_any (has sid) t.assigned) (find_passes (λ s. not (list_any (has s) t.assigned)) unicast_sids sid e)
-  where
-    not_true : (b : Bool) → not b ≡ true → b ≡ false
-    not_true true h = absurd cc
-    not_true false h = refl
+-- ---- tests
 
--- a flow that isn't refused has a SID
-pub some_sid : (t : Table) (modem tag : ℕ) (kind : FlowKind) → assignment_of t modem tag ≡ None → table_flow_refusal t modem tag kind ≡ None → (sid : ℕ) × (free_sid t ≡ Some sid)
-some_sid t modem tag kind none e =
-    by (is_good_kind kind) (free_sid t) refl (ap (λ (o : Option Assignment). cond (is_some o) None (cond (not (is_good_kind kind)) (Some BadValue) (cond (is_none (free_sid t)) (Some SidsSpent) None))) (sym none) ∙ e)
+not_true : (b : Bool) → not b ≡ true → b ≡ false
+not_true true h = absurd cc
+not_true false h = refl
+
+both : (a b : Bool) → (a && b) ≡ true → (a ≡ true) × (b ≡ true)
+both true b e = (refl, e)
+both false b e = absurd cc
+
+not_below : (m n : ℕ) → not (ltb m n) ≡ true → n ≤ m
+not_below m n e = grind (arith, e)
+
+-- ---- the lease of modem and tag
+
+-- the lease that is found is one of the table's, is theirs, and isn't over
+pub lease_is : (t : Table) (modem tag : ℕ) (l : Lease) → lease_of t modem tag ≡ Some l → Has t.leases l × (l.modem ≡ modem) × (l.tag ≡ tag) × (t.row.next_start ≤ l.last)
+lease_is t modem tag l e =
+    let found = found_has (is_lease_of t modem tag) t.leases l e in
+    let tests = both _ _ found.1 in
+    let names = both _ _ tests.0 in
+    (found.0, eqb-true _ _ names.0, eqb-true _ _ names.1, not_below l.last t.row.next_start tests.1)
+
+-- ---- free SIDs
+
+pub free_is_free : (t : Table) (sid : ℕ) → free_sid t ≡ Some sid → is_leased t sid ≡ false
+free_is_free t sid e = not_true (is_leased t sid) (find_passes (λ s. not (is_leased t s)) unicast_sids sid e)
+
+-- a lease that isn't over keeps its SID from being free
+pub leased : (t : Table) (l : Lease) → Has t.leases l → t.row.next_start ≤ l.last → is_leased t l.sid ≡ true
+leased t l h goes_on = has_any (λ o. is_of_sid l.sid o && not (is_over t o)) t.leases l h (
+  ap (λ b. b && not (is_over t l)) (eqb_same l.sid) ∙ not_over l.last t.row.next_start goes_on
+)
   where
-    by : (good : Bool) (o : Option ℕ) → free_sid t ≡ o → cond (not good) (Some BadValue) (cond (is_none o) (Some SidsSpent) None) ≡ None → (sid : ℕ) × (free_sid t ≡ Some sid)
-    by false o f h = absurd cc
-    by true None f h = absurd cc
-    by true (Some sid) f h = (sid, f)
+    not_over : (m n : ℕ) → n ≤ m → not (ltb m n) ≡ true
+    not_over m n le = grind (arith, le)
+
+-- a SID that is free was given before by a lease that is over, if it was; the new one begins with the next MAP
+pub over_before : (t : Table) (sid : ℕ) (l : Lease) → free_sid t ≡ Some sid → Has t.leases l → l.sid ≡ sid → (l.last < t.row.next_start) × (first_of t sid ≡ t.row.next_start)
+over_before t sid l free h same =
+    let test : is_of_sid sid l ≡ true = ap (λ n. eqb n sid) same ∙ eqb_same sid in
+    let off = none_has (λ o. is_of_sid sid o && not (is_over t o)) t.leases l (free_is_free t sid free) h in
+    let over : not (is_over t l) ≡ false = sym (ap (λ b. b && not (is_over t l)) test) ∙ off in
+    let given : is_given t sid ≡ true = has_any (is_of_sid sid) t.leases l h test in
+    (below l.last t.row.next_start over, ap (λ b. cond b t.row.next_start 0) given)
+  where
+    below : (m n : ℕ) → not (ltb m n) ≡ false → m < n
+    below m n e = grind (arith, e)
+
+-- a new lease begins with the next MAP at the latest
+pub first_early : (t : Table) (sid : ℕ) → first_of t sid ≤ t.row.next_start
+first_early t sid = elim (is_given t sid) as (λ b. cond b t.row.next_start 0 ≤ t.row.next_start) [ true ↦ omega arith | false ↦ omega arith ]
+
+-- ---- a lease in its place
+
+pub has_put : (l : Lease) (ls : List Lease) (x : Lease) → Has (put_lease l ls) x → Has ls x ⊎ (l ≡ x)
+has_put l ls x h = elim (has_either (filter (λ o. ltb o.sid l.sid) ls) (l ∷ filter (λ o. ltb l.sid o.sid) ls) x h) [
+  | inl front ↦ inl (has_filter (λ o. ltb o.sid l.sid) ls x front).0
+  | inr back ↦ elim back [ inl e ↦ inr e | inr more ↦ inl (has_filter (λ o. ltb l.sid o.sid) ls x more).0 ]
+]
+
+-- the latest lease of the SID is the one that was put
+pub put_found : (l : Lease) (ls : List Lease) → find (is_of_sid l.sid) (put_lease l ls) ≡ Some l
+put_found l ls = by ls
+  where
+    back : List Lease
+    back = filter (λ o. ltb l.sid o.sid) ls
+
+    apart : (m n : ℕ) → ltb m n ≡ true → eqb m n ≡ false
+    apart m n e = grind (arith, e)
+
+    by : (os : List Lease) → find (is_of_sid l.sid) (filter (λ o. ltb o.sid l.sid) os ++ l ∷ back) ≡ Some l
+    by [] = ap (λ b. cond b (Some l) (find (is_of_sid l.sid) back)) (eqb_same l.sid)
+    by (o ∷ os) = elim (ltb o.sid l.sid) as (λ b. ltb o.sid l.sid ≡ b → find (is_of_sid l.sid) (cond b (o ∷ filter (λ o. ltb o.sid l.sid) os) (filter (λ o. ltb o.sid l.sid) os) ++ l ∷ back) ≡ Some l) [
+      | true ↦ λ e. ap (λ b. cond b (Some o) (find (is_of_sid l.sid) (filter (λ o. ltb o.sid l.sid) os ++ l ∷ back))) (apart o.sid l.sid e) ∙ by os
+      | false ↦ λ e. by os
+    ] refl
+
+-- the latest leases of the others stay
+pub put_others : (l : Lease) (ls : List Lease) (sid : ℕ) → eqb l.sid sid ≡ false → find (is_of_sid sid) (put_lease l ls) ≡ find (is_of_sid sid) ls
+put_others l ls sid off = split (filter (λ o. ltb o.sid l.sid) ls) ∙ parts ls
+  where
+    or_else : Option Lease → Option Lease → Option Lease
+    or_else (Some x) o = Some x
+    or_else None o = o
+
+    split : (xs : List Lease) → find (is_of_sid sid) (xs ++ l ∷ filter (λ o. ltb l.sid o.sid) ls) ≡ or_else (find (is_of_sid sid) xs) (find (is_of_sid sid) (filter (λ o. ltb l.sid o.sid) ls))
+    split [] = ap (λ b. cond b (Some l) (find (is_of_sid sid) (filter (λ o. ltb l.sid o.sid) ls))) off
+    split (x ∷ xs) = elim (is_of_sid sid x) as (λ b. cond b (Some x) (find (is_of_sid sid) (xs ++ l ∷ filter (λ o. ltb l.sid o.sid) ls)) ≡ or_else (cond b (Some x) (find (is_of_sid sid) xs)) (find (is_of_sid sid) (filter (λ o. ltb l.sid o.sid) ls))) [ true ↦ refl | false ↦ split xs ]
+
+    same : (m n : ℕ) → eqb m n ≡ true → m ≡ n
+    same m n e = eqb-true m n e
+
+    absent : (p : Lease → Bool) → ((x : Lease) → x.sid ≡ sid → p x ≡ false) → (xs : List Lease) → find (is_of_sid sid) (filter p xs) ≡ None
+    absent p none [] = refl
+    absent p none (x ∷ xs) = elim (p x) as (λ b. p x ≡ b → find (is_of_sid sid) (cond b (x ∷ filter p xs) (filter p xs)) ≡ None) [
+      | true ↦ λ on. elim (is_of_sid sid x) as (λ c. is_of_sid sid x ≡ c → cond c (Some x) (find (is_of_sid sid) (filter p xs)) ≡ None) [
+        | true ↦ λ e. absurd (let none' = none x (eqb-true x.sid sid e) in cc)
+        | false ↦ λ e. absent p none xs
+      ] refl
+      | false ↦ λ e. absent p none xs
+    ] refl
+
+    present : (p : Lease → Bool) → ((x : Lease) → x.sid ≡ sid → p x ≡ true) → (xs : List Lease) → find (is_of_sid sid) (filter p xs) ≡ find (is_of_sid sid) xs
+    present p all [] = refl
+    present p all (x ∷ xs) = elim (p x) as (λ b. p x ≡ b → find (is_of_sid sid) (cond b (x ∷ filter p xs) (filter p xs)) ≡ cond (is_of_sid sid x) (Some x) (find (is_of_sid sid) xs)) [
+      | true ↦ λ on. ap (λ o. cond (is_of_sid sid x) (Some x) o) (present p all xs)
+      | false ↦ λ e. present p all xs ∙ elim (is_of_sid sid x) as (λ c. is_of_sid sid x ≡ c → find (is_of_sid sid) xs ≡ cond c (Some x) (find (is_of_sid sid) xs)) [
+        | true ↦ λ i. absurd (let on = all x (eqb-true x.sid sid i) in cc)
+        | false ↦ λ i. refl
+      ] refl
+    ] refl
+
+    less : (m n : ℕ) → m ≡ sid → eqb n sid ≡ false → ltb sid n ≡ true → ltb m n ≡ true
+    less m n e o lt = ap (λ k. ltb k n) e ∙ lt
+
+    parts : (ls : List Lease) → or_else (find (is_of_sid sid) (filter (λ o. ltb o.sid l.sid) ls)) (find (is_of_sid sid) (filter (λ o. ltb l.sid o.sid) ls)) ≡ find (is_of_sid sid) ls
+    parts ls = by (ltb sid l.sid) refl
+      where
+        after : (n : ℕ) → ltb sid n ≡ false → eqb n sid ≡ false → ltb n sid ≡ true
+        after n e o = grind (arith, e, o)
+
+        not_before : (n : ℕ) → ltb sid n ≡ true → ltb n sid ≡ false
+        not_before n e = grind (arith, e)
+
+        by : (b : Bool) → ltb sid l.sid ≡ b → or_else (find (is_of_sid sid) (filter (λ o. ltb o.sid l.sid) ls)) (find (is_of_sid sid) (filter (λ o. ltb l.sid o.sid) ls)) ≡ find (is_of_sid sid) ls
+        by true e = ap (or_else (find (is_of_sid sid) (filter (λ o. ltb o.sid l.sid) ls))) (absent (λ o. ltb l.sid o.sid) (λ x s. ap (ltb l.sid) s ∙ not_before l.sid e) ls)
+            ∙ or_none (find (is_of_sid sid) (filter (λ o. ltb o.sid l.sid) ls)) ∙ present (λ o. ltb o.sid l.sid) (λ x s. ap (λ k. ltb k l.sid) s ∙ e) ls
+          where
+            or_none : (o : Option Lease) → or_else o None ≡ o
+            or_none (Some x) = refl
+            or_none None = refl
+        by false e = ap (λ o. or_else o (find (is_of_sid sid) (filter (λ o. ltb l.sid o.sid) ls))) (absent (λ o. ltb o.sid l.sid) (λ x s. ap (λ k. ltb k l.sid) s ∙ e) ls)
+            ∙ present (λ o. ltb l.sid o.sid) (λ x s. ap (ltb l.sid) s ∙ after l.sid e off) ls
+
+-- ---- a flow that isn't refused
+
+-- it has a kind within the limits, an end that may be, and a SID
+pub record IsAdded (t : Table) (last : ℕ) (kind : FlowKind) : Type 0 where
+  pub kind_good : is_good_kind kind ≡ true
+  pub most : last ≤ last_time
+  pub goes_on : t.row.next_start ≤ last
+  pub sid : ℕ
+  pub free : free_sid t ≡ Some sid
+
+pub is_added : (t : Table) (modem tag last : ℕ) (kind : FlowKind) → lease_of t modem tag ≡ None → table_flow_refusal t modem tag last kind ≡ None → IsAdded t last kind
+is_added t modem tag last kind none e =
+    by (is_good_kind kind && is_good_last t last) (free_sid t) refl refl (ap (λ (o : Option Lease). cond (is_some o) None (cond (not (is_good_kind kind && is_good_last t last)) (Some BadValue) (cond (is_none (free_sid t)) (Some SidsSpent) None))) (sym none) ∙ e)
+  where
+    by : (good : Bool) (o : Option ℕ) → (is_good_kind kind && is_good_last t last) ≡ good → free_sid t ≡ o → cond (not good) (Some BadValue) (cond (is_none o) (Some SidsSpent) None) ≡ None → IsAdded t last kind
+    by false o g f h = absurd cc
+    by true None g f h = absurd cc
+    by true (Some sid) g f h =
+        let values = both _ _ g in
+        let times = both _ _ values.1 in
+        record { kind_good = values.0; most = leb-true _ _ times.0; goes_on = leb-true _ _ times.1; sid = sid; free = f }
+
+pub some_sid : (t : Table) (modem tag last : ℕ) (kind : FlowKind) → lease_of t modem tag ≡ None → table_flow_refusal t modem tag last kind ≡ None → (sid : ℕ) × (free_sid t ≡ Some sid)
+some_sid t modem tag last kind none e = let added = is_added t modem tag last kind none e in (added.sid, added.free)
 
 pub unwrap_some : (o : Option ℕ) (n : ℕ) → o ≡ Some n → unwrap_or o 0 ≡ n
 unwrap_some o n e = ap (λ (p : Option ℕ). unwrap_or p 0) e

@@ -5,7 +5,7 @@ use Rattle.std.specs.Option.{option_map_or}
 use Rattle.flow_state.specs.declared.flow.FlowKind.{FlowKind}
 use Rattle.flow_state.specs.declared.refusal.Refusal.{Refusal}
 use Rattle.flow_state.specs.declared.refusal.Refusal.TheVariants.{NoChannel}
-use Rattle.flow_state.specs.Rows.{Rows, Table, Assignment, is_table, table_of, change_table}
+use Rattle.flow_state.specs.Rows.{Rows, Table, Lease, is_table, table_of, change_table}
 use Rattle.flow_state.specs.Refusals.{on_table}
 use Rattle.flow_state.specs.Changes.{flow_among}
 
@@ -74,9 +74,9 @@ at_same rows ch at t found here = sym (eqb-true _ _ (is_found rows ch t found)) 
 pub refusal_there : (rows : Rows) (ch : ℕ) (t : Table) (refusal : Table → Option Refusal) → table_of rows ch ≡ Some t → on_table rows ch refusal ≡ None → refusal t ≡ None
 refusal_there rows ch t refusal found e = sym (ap (λ (o : Option Table). option_map_or refusal o (Some NoChannel)) found) ∙ e
 
-pub flow_keeps_id : (o : Option Assignment) (t : Table) (modem tag : ℕ) (kind : FlowKind) → (flow_among o t modem tag kind).row.channel.id ≡ t.row.channel.id
-flow_keeps_id (Some a) t modem tag kind = refl
-flow_keeps_id None t modem tag kind = refl
+pub flow_keeps_id : (o : Option Lease) (t : Table) (modem tag last : ℕ) (kind : FlowKind) → (flow_among o t modem tag last kind).row.channel.id ≡ t.row.channel.id
+flow_keeps_id (Some l) t modem tag last kind = refl
+flow_keeps_id None t modem tag last kind = refl
 
 -- the table of a call that isn't refused is there
 pub there : (o : Option Table) (refusal : Table → Option Refusal) → option_map_or refusal o (Some NoChannel) ≡ None → (t : Table) × (o ≡ Some t)

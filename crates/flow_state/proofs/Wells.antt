@@ -1,6 +1,6 @@
 -- What is true of each table that commands reach: times, sizes and SIDs within their limits, flows by SID, and a flow for each waiting request.
 use Rattle.std.proofs.Common.{◌≡◌, ◌⊎◌, ℕ, suc, ◌+◌, ◌*◌, ◌<◌, ◌≤◌, Bool, true, false, cond, not, ◌||◌, ◌&&◌, List, [], ◌∷◌, ◌++◌, map, filter, length, Option, Some, None, refl, sym, ap, subst, ◌∙◌, arith, inl, inr, eqb, leb, ltb, is_some, is_none, length-append}
-use Rattle.std.specs.List.{list_any}
+use Rattle.std.specs.Option.{option_map_or}
 use Rattle.std.specs.Prelude.{unwrap_or}
 use Rattle.std.proofs.lemmas.Bool.{eqb-true, leb-true}
 use Rattle.flow_state.specs.declared.channel.Channel.{Channel}
@@ -10,13 +10,13 @@ use Rattle.flow_state.specs.declared.flow.Waiting.{Waiting}
 use Rattle.flow_state.specs.declared.refusal.Refusal.{Refusal}
 use Rattle.flow_state.specs.declared.refusal.Refusal.TheVariants.{BadValue, SidsSpent, OldRequest, Busy}
 use Rattle.flow_state.specs.Limits.{last_time, last_sid, most_waiting, is_good_channel, is_good_kind, is_size, is_schedule, is_ugs, due_time}
-use Rattle.flow_state.specs.Rows.{Table, FlowRow, Assignment, is_flow, is_of, flow_of, assignment_of, unicast_sids, free_sid, insert_flow, waits}
-use Rattle.flow_state.specs.Refusals.{table_flow_refusal, table_request_refusal, request_refusal_on, is_old}
-use Rattle.flow_state.specs.Changes.{new_table, new_flow, add_to_table, flow_among, drop_in_table, request_in_table}
-use Rattle.flow_state.proofs.Members.{Has, has_left, has_right, has_either, has_pushed, has_map, map_has, has_filter, filter_has, any_has, has_any, none_has, found_has, range_has, filter_empty}
+use Rattle.flow_state.specs.Rows.{Table, FlowRow, Lease, is_flow, is_of, flow_of, lease_of, is_of_sid, is_leased, unicast_sids, free_sid, first_of, put_lease, insert_flow, waits, is_ended, has_ended}
+use Rattle.flow_state.specs.Sound.{lease_in, IsLeasedFlow}
+use Rattle.flow_state.specs.Refusals.{table_flow_refusal, table_request_refusal, request_refusal_on, is_old, is_repeated}
+use Rattle.flow_state.specs.Changes.{new_table, new_flow, new_lease, add_to_table, flow_among, drop_in_table, request_in_table, close_table}
+use Rattle.flow_state.proofs.Members.{Has, has_left, has_right, has_either, has_pushed, has_map, map_has, has_filter, filter_has, none_has, found_has, has_found, range_has, filter_empty}
 use Rattle.flow_state.proofs.Filters.{filter_append}
-use Rattle.flow_state.proofs.Assignments.{eqb_same, some_sid, unwrap_some, free_is_free}
-use Rattle.flow_state.proofs.Assignments.{has}
+use Rattle.flow_state.proofs.Assignments.{eqb_same, unwrap_some, free_is_free, leased, first_early, has_put, put_found, put_others, is_added, IsAdded}
 
 -- a flow within the limits; its next due time is at most an interval behind the last time
 pub record IsWellFlow (f : FlowRow) : Type 0 where
@@ -25,7 +25,15 @@ pub record IsWellFlow (f : FlowRow) : Type 0 where
   pub kind : is_good_kind f.kind ≡ true
   pub due : due_time f.kind f.index ≤ last_time + 1000000
 
--- a waiting request within the limits, and the flow that it is of
+-- a lease of a unicast SID that has begun when the channel's next MAP begins
+pub record IsWellLease (start : ℕ) (l : Lease) : Type 0 where
+  pub unicast : 1 ≤ l.sid
+  pub last : l.sid ≤ last_sid
+  pub begun : l.first ≤ start
+  pub whole : l.first ≤ l.last
+  pub ended : l.last ≤ last_time
+
+-- a waiting request within the limits and its lease, and the flow that it is of
 pub record IsWellRequest (fs : List FlowRow) (w : Waiting) : Type 0 where
   pub some : 1 ≤ w.n
   pub most : w.n ≤ 255
@@ -34,6 +42,8 @@ pub record IsWellRequest (fs : List FlowRow) (w : Waiting) : Type 0 where
   pub there : Has fs flow
   pub sid : flow.sid ≡ w.sid
   pub last : flow.last_sent ≡ Some w.sent
+  pub after : flow.first ≤ w.sent
+  pub before : w.sent ≤ flow.last
   pub asks : is_ugs flow.kind ≡ false
 
 -- flows in strict order of their SIDs, from this one on
@@ -48,7 +58,8 @@ pub record IsWell (t : Table) : Type 0 where
   pub ack : t.row.ack ≤ t.row.next_start
   pub flows : (f : FlowRow) → Has t.flows f → IsWellFlow f
   pub rising : RisingFrom 1 t.flows
-  pub given : (f : FlowRow) → Has t.flows f → list_any (has f.sid) t.assigned ≡ true
+  pub given : (f : FlowRow) → Has t.flows f → IsLeasedFlow t f
+  pub leases : (l : Lease) → Has t.leases l → IsWellLease t.row.next_start l
   pub requests : (w : Waiting) → Has t.waiting w → IsWellRequest t.flows w
   pub alone : (sid : ℕ) → length (filter (is_of sid) t.waiting) ≤ 1
   pub few : length t.waiting ≤ most_waiting
@@ -73,6 +84,9 @@ not_true false e = refl
 
 pub not_le : (m n : ℕ) → leb m n ≡ false → n < m
 not_le m n e = grind (arith, e)
+
+pub not_less : (m n : ℕ) → ltb m n ≡ false → n ≤ m
+not_less m n e = grind (arith, e)
 
 -- no refusal at a test: the test fails, and what comes after it doesn't refuse
 pub passes_on : (b : Bool) (r : Refusal) (o : Option Refusal) → cond b (Some r) o ≡ None → (b ≡ false) × (o ≡ None)
@@ -178,18 +192,13 @@ new_is_well c good = record {
   flows = λ f h. absurd h;
   rising = tt;
   given = λ f h. absurd h;
+  leases = λ l h. absurd h;
   requests = λ w h. absurd h;
   alone = λ sid. omega arith;
   few = omega arith;
 }
 
 -- ---- a flow as it is added
-
--- a flow that isn't refused has a good kind
-pub kind_of_added : (t : Table) (modem tag : ℕ) (kind : FlowKind) → assignment_of t modem tag ≡ None → table_flow_refusal t modem tag kind ≡ None → is_good_kind kind ≡ true
-kind_of_added t modem tag kind none e =
-    not_false _ (passes_on (not (is_good_kind kind)) BadValue (cond (is_none (free_sid t)) (Some SidsSpent) None)
-    (ap (λ (o : Option Assignment). cond (is_some o) None (cond (not (is_good_kind kind)) (Some BadValue) (cond (is_none (free_sid t)) (Some SidsSpent) None))) (sym none) ∙ e)).0
 
 scheduled : (interval jitter base : ℕ) → is_schedule interval jitter base ≡ true → base + 0 * interval ≤ last_time
 scheduled interval jitter base e = let at_most : base ≤ last_time = leb-true base last_time (both (leb 1 interval && leb interval 1000000 && ltb jitter interval) (leb base last_time) e).1 in omega arith
@@ -201,7 +210,7 @@ first_due (Ugs size interval jitter base) e = let schedule = both (is_size size)
 first_due (Poll interval jitter base) e = scheduled interval jitter base e
 
 request_more : (fs gs : List FlowRow) (w : Waiting) → ((f : FlowRow) → Has fs f → Has gs f) → IsWellRequest fs w → IsWellRequest gs w
-request_more fs gs w more r = record { some = r.some; most = r.most; time = r.time; flow = r.flow; there = more r.flow r.there; sid = r.sid; last = r.last; asks = r.asks }
+request_more fs gs w more r = record { some = r.some; most = r.most; time = r.time; flow = r.flow; there = more r.flow r.there; sid = r.sid; last = r.last; after = r.after; before = r.before; asks = r.asks }
 
 listed : (n : ℕ) → Has unicast_sids n → (1 ≤ n) × (n < 1 + last_sid)
 unfolding unicast_sids
@@ -209,34 +218,52 @@ listed n h = range_has 1 last_sid n h
 
 -- a SID that is free is a unicast one
 pub free_range : (t : Table) (sid : ℕ) → free_sid t ≡ Some sid → (1 ≤ sid) × (sid < 1 + last_sid)
-free_range t sid e = listed sid (found_has (λ s. not (list_any (λ a. eqb a.sid s) t.assigned)) unicast_sids sid e).0
+free_range t sid e = listed sid (found_has (λ s. not (is_leased t s)) unicast_sids sid e).0
 
-pub flow_is_well : (o : Option Assignment) (t : Table) (modem tag : ℕ) (kind : FlowKind) → assignment_of t modem tag ≡ o → table_flow_refusal t modem tag kind ≡ None → IsWell t → IsWell (flow_among o t modem tag kind)
-flow_is_well (Some a) t modem tag kind e ok w = w
-flow_is_well None t modem tag kind e ok w =
-    let free = some_sid t modem tag kind e ok in
-    let sid : ℕ = unwrap_or (free_sid t) 0 in
-    let sid_is : sid ≡ free.0 = unwrap_some (free_sid t) free.0 free.1 in
-    let good = kind_of_added t modem tag kind e ok in
-    by sid sid_is (free_range t free.0 free.1) (free_is_free t free.0 free.1) good
+-- a flow stands under a lease of the table
+pub flow_lease : (t : Table) (f : FlowRow) → IsLeasedFlow t f → Has t.leases (lease_in f)
+flow_lease t f l = (found_has (is_of_sid f.sid) t.leases (lease_in f) l.lease).0
+
+-- a SID that is free isn't a flow's
+pub free_apart : (t : Table) (sid : ℕ) (f : FlowRow) → free_sid t ≡ Some sid → IsLeasedFlow t f → eqb sid f.sid ≡ false
+free_apart t sid f free l = by (eqb sid f.sid) refl
   where
-    by : (sid : ℕ) {free : ℕ} → sid ≡ free → (1 ≤ free) × (free < 1 + last_sid) → list_any (has free) t.assigned ≡ false → is_good_kind kind ≡ true → IsWell (add_to_table t modem tag kind sid)
-    by sid {free} same range fresh good =
-        let new : FlowRow = new_flow sid modem tag kind in
-        let given : Assignment = record { modem = modem; tag = tag; sid = sid } in
-        let due = first_due kind good in
-        let one : 1 ≤ sid = omega (arith, range.0) in
-        let well : IsWellFlow new = record { unicast = one; last = omega (arith, range.1); kind = good; due = omega arith } in
+    by : (b : Bool) → eqb sid f.sid ≡ b → b ≡ false
+    by true e = absurd (
+      let on : is_leased t f.sid ≡ true = leased t (lease_in f) (flow_lease t f l) l.goes_on in
+      let off : is_leased t sid ≡ false = free_is_free t sid free in
+      let same : is_leased t sid ≡ is_leased t f.sid = ap (is_leased t) (eqb-true sid f.sid e) in cc
+    )
+    by false e = refl
+
+pub flow_is_well : (o : Option Lease) (t : Table) (modem tag last : ℕ) (kind : FlowKind) → lease_of t modem tag ≡ o → table_flow_refusal t modem tag last kind ≡ None → IsWell t → IsWell (flow_among o t modem tag last kind)
+flow_is_well (Some a) t modem tag last kind e ok w = w
+flow_is_well None t modem tag last kind e ok w =
+    let a = is_added t modem tag last kind e ok in
+    by (unwrap_or (free_sid t) 0) a (a.free ∙ ap (λ (n : ℕ). Some n) (sym (unwrap_some (free_sid t) a.sid a.free)))
+  where
+    by : (sid : ℕ) → IsAdded t last kind → free_sid t ≡ Some sid → IsWell (add_to_table t (new_lease t modem tag last sid) kind)
+    by sid a free =
+        let lease : Lease = new_lease t modem tag last sid in
+        let new : FlowRow = new_flow lease kind in
+        let due = first_due kind a.kind_good in
+        let range = free_range t sid free in
+        let early = first_early t sid in
+        let goes_on = a.goes_on in
+        let well : IsWellFlow new = record { unicast = range.0; last = omega (arith, range.1); kind = a.kind_good; due = omega arith } in
         record {
           channel = w.channel;
           next = w.next;
           ack = w.ack;
           flows = λ f h. elim (has_inserted new t.flows f h) [ inl old ↦ w.flows f old | inr is ↦ subst IsWellFlow is well ];
-          rising = rising_inserted new t.flows one (λ g h is. absurd (let old : list_any (has g.sid) t.assigned ≡ true = w.given g h in
-              let at : list_any (has g.sid) t.assigned ≡ list_any (has free) t.assigned = ap (λ n. list_any (has n) t.assigned) (is ∙ same) in cc)) w.rising;
+          rising = rising_inserted new t.flows range.0 (λ g h is. absurd (let apart = free_apart t sid g free (w.given g h) in let same = ap (eqb sid) is ∙ eqb_same sid in cc)) w.rising;
           given = λ f h. elim (has_inserted new t.flows f h) [
-            | inl old ↦ let a = any_has (has f.sid) t.assigned (w.given f old) in has_any (has f.sid) (t.assigned ++ given ∷ []) a.0 (has_left t.assigned (given ∷ []) a.0 a.1) a.2
-            | inr is ↦ has_any (has f.sid) (t.assigned ++ given ∷ []) given (has_right t.assigned (given ∷ []) given (inl refl)) (ap (λ (g : FlowRow). eqb sid g.sid) (sym is) ∙ eqb_same sid)
+            | inl old ↦ let g = w.given f old in record { lease = put_others lease t.leases f.sid (free_apart t sid f free g) ∙ g.lease; goes_on = g.goes_on }
+            | inr is ↦ subst (IsLeasedFlow (add_to_table t lease kind)) is (record { lease = put_found lease t.leases; goes_on = goes_on })
+          ];
+          leases = λ l h. elim (has_put lease t.leases l h) [
+            | inl old ↦ w.leases l old
+            | inr is ↦ subst (IsWellLease t.row.next_start) is (record { unicast = range.0; last = omega (arith, range.1); begun = early; whole = omega arith; ended = a.most })
           ];
           requests = λ r h. request_more t.flows (insert_flow new t.flows) r (λ f k. inserted_has new t.flows f k) (w.requests r h);
           alone = w.alone;
@@ -252,7 +279,8 @@ drop_is_well t at w = record {
   ack = w.ack;
   flows = λ f h. w.flows f (has_filter (λ g. not (is_flow at g)) t.flows f h).0;
   rising = rising_filter (λ g. not (is_flow at g)) 1 t.flows w.rising;
-  given = λ f h. w.given f (has_filter (λ g. not (is_flow at g)) t.flows f h).0;
+  given = λ f h. let g = w.given f (has_filter (λ g. not (is_flow at g)) t.flows f h).0 in record { lease = g.lease; goes_on = g.goes_on };
+  leases = w.leases;
   requests = λ r h. by r (has_filter (λ v. not (is_of at v)) t.waiting r h);
   alone = λ sid. let less = filter_both (is_of sid) (λ v. not (is_of at v)) t.waiting in let one = w.alone sid in omega arith;
   few = let less = filter_fewer (λ v. not (is_of at v)) t.waiting in let most = w.few in omega arith;
@@ -269,6 +297,8 @@ drop_is_well t at w = record {
           there = filter_has (λ g. not (is_flow at g)) t.flows old.flow old.there (ap (λ n. not (eqb n at)) old.sid ∙ h.1);
           sid = old.sid;
           last = old.last;
+          after = old.after;
+          before = old.before;
           asks = old.asks;
         }
 
@@ -283,8 +313,10 @@ pub record IsAsked (t : Table) (sid n sent : ℕ) : Type 0 where
   pub some : 1 ≤ n
   pub most : n ≤ 255
   pub time : sent ≤ last_time
+  pub after : flow.first ≤ sent
+  pub before : sent ≤ flow.last
   pub asks : is_ugs flow.kind ≡ false
-  pub new : is_old flow.last_sent sent ≡ false
+  pub new : is_repeated flow.last_sent sent ≡ false
   pub idle : waits t sid ≡ false
   pub room : length t.waiting < most_waiting
 
@@ -296,11 +328,13 @@ is_asked t sid n sent e = by (flow_of t sid) refl e
     by (Some flow) f g =
         let found = found_has (is_flow sid) t.flows flow f in
         let same : flow.sid ≡ sid = eqb-true _ _ found.1 in
-        let first = passes_on (not (is_size n) || not (leb sent last_time) || is_ugs flow.kind) BadValue _ g in
-        let second = passes_on (is_old flow.last_sent sent) OldRequest _ first.1 in
+        let first = passes_on (not (is_size n) || not (leb sent last_time) || ltb flow.last sent || is_ugs flow.kind) BadValue _ g in
+        let second = passes_on (is_old flow sent) OldRequest _ first.1 in
+        let old = neither (ltb sent flow.first) (is_repeated flow.last_sent sent) second.0 in
         let third = passes_on (waits t flow.sid || leb most_waiting (length t.waiting)) Busy None second.1 in
-        let values = neither (not (is_size n) || not (leb sent last_time)) (is_ugs flow.kind) first.0 in
-        let parts = neither (not (is_size n)) (not (leb sent last_time)) values.0 in
+        let values = neither (not (is_size n) || not (leb sent last_time) || ltb flow.last sent) (is_ugs flow.kind) first.0 in
+        let times = neither (not (is_size n) || not (leb sent last_time)) (ltb flow.last sent) values.0 in
+        let parts = neither (not (is_size n)) (not (leb sent last_time)) times.0 in
         let size = both _ _ (not_false (is_size n) parts.0) in
         let busy = neither (waits t flow.sid) (leb most_waiting (length t.waiting)) third.0 in
         record {
@@ -311,8 +345,10 @@ is_asked t sid n sent e = by (flow_of t sid) refl e
           some = leb-true _ _ size.0;
           most = leb-true _ _ size.1;
           time = leb-true _ _ (not_false _ parts.1);
+          after = not_less sent flow.first old.0;
+          before = not_less flow.last sent times.1;
           asks = values.1;
-          new = second.0;
+          new = old.1;
           idle = ap (waits t) (sym same) ∙ busy.0;
           room = not_le most_waiting (length t.waiting) busy.1;
         }
@@ -341,7 +377,8 @@ request_is_well t sid n sent ok w =
       flows = λ f h. let m = has_map (asked sid sent) t.flows f h in subst IsWellFlow m.2 (asked_well sid sent m.0 (w.flows m.0 m.1));
       rising = rising_map (asked sid sent) (asked_same sid sent) 1 t.flows w.rising;
       given = λ f h. let m = has_map (asked sid sent) t.flows f h in
-          subst (λ k. list_any (has k) t.assigned ≡ true) (sym (asked_same sid sent m.0) ∙ ap (λ (g : FlowRow). g.sid) m.2) (w.given m.0 m.1);
+          subst (IsLeasedFlow (request_in_table t sid n sent)) m.2 (asked_leased m.0 (w.given m.0 m.1));
+      leases = w.leases;
       requests = λ r h. elim (has_pushed t.waiting new r h) [
         | inl old ↦ kept a r old
         | inr is ↦ subst (IsWellRequest (map (asked sid sent) t.flows)) is (record {
@@ -352,6 +389,8 @@ request_is_well t sid n sent ok w =
           there = subst (Has (map (asked sid sent) t.flows)) (ap (λ b. cond b (record a.flow { last_sent = Some sent }) a.flow) (on a)) (map_has (asked sid sent) t.flows a.flow a.there);
           sid = a.sid_is;
           last = refl;
+          after = a.after;
+          before = a.before;
           asks = a.asks;
         })
       ];
@@ -359,6 +398,12 @@ request_is_well t sid n sent ok w =
       few = let room = a.room in let len = length-append t.waiting (new ∷ []) in omega arith;
     }
   where
+    asked_leased : (f : FlowRow) → IsLeasedFlow t f → IsLeasedFlow (request_in_table t sid n sent) (asked sid sent f)
+    asked_leased f l = elim (is_flow sid f) as (λ b. IsLeasedFlow (request_in_table t sid n sent) (cond b (record f { last_sent = Some sent }) f)) [
+      | true ↦ record { lease = l.lease; goes_on = l.goes_on }
+      | false ↦ record { lease = l.lease; goes_on = l.goes_on }
+    ]
+
     on : (a : IsAsked t sid n sent) → is_flow sid a.flow ≡ true
     on a = ap (λ m. eqb m sid) a.sid_is ∙ eqb_same sid
 
@@ -374,6 +419,8 @@ request_is_well t sid n sent ok w =
           there = subst (Has (map (asked sid sent) t.flows)) (ap (λ b. cond b (record old.flow { last_sent = Some sent }) old.flow) other) (map_has (asked sid sent) t.flows old.flow old.there);
           sid = old.sid;
           last = old.last;
+          after = old.after;
+          before = old.before;
           asks = old.asks;
         }
 
@@ -391,3 +438,47 @@ request_is_well t sid n sent ok w =
             let empty : filter (is_of s) t.waiting ≡ [] = subst (λ m. filter (is_of m) t.waiting ≡ []) (eqb-true _ _ f) (none a) in
             subst (λ (ws : List Waiting). length (ws ++ record { sid = sid; n = n; sent = sent } ∷ []) ≤ 1) (sym empty) (omega arith)
         few_of false f = let less = w.alone s in let len = length-append (filter (is_of s) t.waiting) [] in omega arith
+
+-- ---- a MAP is closed
+
+-- a flow of the table is the one that its SID finds
+pub flow_found : (t : Table) (f : FlowRow) → RisingFrom 1 t.flows → Has t.flows f → flow_of t f.sid ≡ Some f
+flow_found t f r h =
+    let found = has_found (is_flow f.sid) t.flows f h (eqb_same f.sid) in
+    let first = found_has (is_flow f.sid) t.flows found.0 found.1 in
+    found.1 ∙ ap (λ (g : FlowRow). Some g) (one_flow 1 t.flows found.0 f r first.0 h (eqb-true _ _ first.1))
+
+-- a request has ended with its flow
+pub ended_with : (t : Table) (end : ℕ) (w : Waiting) (f : FlowRow) → RisingFrom 1 t.flows → Has t.flows f → f.sid ≡ w.sid → has_ended t end w ≡ is_ended end f
+ended_with t end w f r h same = ap (λ (o : Option FlowRow). option_map_or (is_ended end) o false) (ap (flow_of t) (sym same) ∙ flow_found t f r h)
+
+-- the next MAP is later, and no later than any command's time
+pub close_is_well : (t : Table) (end ack : ℕ) → t.row.next_start ≤ end → end ≤ last_time → ack ≤ end → IsWell t → IsWell (close_table t end ack)
+close_is_well t end ack later le acked w = record {
+  channel = w.channel;
+  next = le;
+  ack = acked;
+  flows = λ f h. w.flows f (has_filter (λ g. not (is_ended end g)) t.flows f h).0;
+  rising = rising_filter (λ g. not (is_ended end g)) 1 t.flows w.rising;
+  given = λ f h. let kept = has_filter (λ g. not (is_ended end g)) t.flows f h in let g = w.given f kept.0 in record { lease = g.lease; goes_on = not_less f.last end (not_true (is_ended end f) kept.1) };
+  leases = λ l h. let old = w.leases l h in let begun = old.begun in record { unicast = old.unicast; last = old.last; begun = omega arith; whole = old.whole; ended = old.ended };
+  requests = λ r h. by r (has_filter (λ v. not (has_ended t end v)) t.waiting r h);
+  alone = λ sid. let less = filter_both (is_of sid) (λ v. not (has_ended t end v)) t.waiting in let one = w.alone sid in omega arith;
+  few = let less = filter_fewer (λ v. not (has_ended t end v)) t.waiting in let most = w.few in omega arith;
+}
+  where
+    by : (r : Waiting) → Has t.waiting r × (not (has_ended t end r) ≡ true) → IsWellRequest (filter (λ g. not (is_ended end g)) t.flows) r
+    by r h =
+        let old = w.requests r h.0 in
+        record {
+          some = old.some;
+          most = old.most;
+          time = old.time;
+          flow = old.flow;
+          there = filter_has (λ g. not (is_ended end g)) t.flows old.flow old.there (ap not (sym (ended_with t end r old.flow w.rising old.there old.sid)) ∙ h.1);
+          sid = old.sid;
+          last = old.last;
+          after = old.after;
+          before = old.before;
+          asks = old.asks;
+        }
