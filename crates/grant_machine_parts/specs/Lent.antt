@@ -3,13 +3,13 @@ use Rattle.std.specs.Prelude.{◌≡◌, ℕ, ◌≤◌, true, Option}
 use Rattle.flow_state.specs.declared.channel.Channel.{Channel}
 use Rattle.flow_state.specs.declared.flow.Flow.{Flow}
 use Rattle.flow_state.specs.declared.flow.FlowKind.{FlowKind}
-use Rattle.flow_state.specs.declared.flow.Waiting.{Waiting}
 use Rattle.flow_state.specs.Limits.{last_sid, is_good_kind, due_time, due_index}
 use Rattle.flow_state.specs.Rows.{FlowRow}
 use Rattle.grant_machine_parts.specs.declared.services.Service.{Service}
 use Rattle.grant_machine_parts.specs.declared.services.Service.TheVariants.{Grants, Polls}
 use Rattle.grant_machine_parts.specs.Cutting.{Periodic, grants_of_kind, polls_of_kind}
 use Rattle.grant_machine_parts.specs.Filling.{last_due}
+use Rattle.grant_machine_parts.specs.Ranks.{Ranked}
 
 -- the flow's row: with the number of the next due time in place of the time
 abbrev pub row_of : Flow → FlowRow
@@ -31,5 +31,5 @@ abbrev pub given_to : Service → Channel → FlowRow → Option Periodic
 given_to service c f = given service c f.sid f.last f.kind
 
 -- a request of a unicast SID
-abbrev pub IsUnicast : Waiting → Type 0
-IsUnicast w = w.sid ≤ last_sid
+abbrev pub IsUnicast : Ranked → Type 0
+IsUnicast r = r.request.sid ≤ last_sid

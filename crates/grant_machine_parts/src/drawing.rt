@@ -11,11 +11,13 @@ ghost use Rattle.grant_machine_parts.specs.Cutting.{still_waiting};
 ghost use Rattle.grant_machine_parts.specs.Drawing.{free_element, null_element, pending_element, begins_at, head_of};
 ghost use Rattle.grant_machine_parts.specs.Edges.{nearer, next_edge};
 ghost use Rattle.grant_machine_parts.specs.Lent.{IsUnicast};
+ghost use Rattle.grant_machine_parts.specs.Ranks.{requests_in, going_on};
+ghost use Rattle.grant_machine_parts.specs.Cutting.{end_of};
 
 use crate::placing::{Filling, Placement};
 use crate::services::grant_iuc;
-use crate::waiting::is_granted;
-use flow_state::{Channel, Waiting};
+use crate::waiting::{Ranked, is_granted};
+use flow_state::Channel;
 use map_body::{Element, Head, Iuc, MapBody, Offset, Sid, encode};
 use minislot_time::{Slot, wire};
 use std::alloc::{AllocError, Global};
@@ -122,23 +124,24 @@ fn put_intervals(
     Ok(())
 }
 
-/// Adds an element for each request that is not granted.
+/// Adds an element for each request that is not granted and whose lease goes on to the MAP's end.
 fn put_pending(
     elements: &mut Vec<Element>,
     channel: &Channel,
-    placements: &[Placement],
-    requests: &[Waiting],
-    len: u16,
+    filling: &Filling,
+    ranked: &[Ranked],
 ) -> Result<(), AllocError>
-    requires short { len ≤ most_minislots }
-    requires unicast { AllByRecursion IsUnicast requests.now }
-    ensures { OnOk result (elements.new.items ≡ elements.old.items ++ map (pending_element channel.now len) (still_waiting placements.now requests.now)) }
+    requires { AllByRecursion IsUnicast ranked.now }
+    ensures { OnOk result (elements.new.items ≡ elements.old.items ++ map (pending_element channel.now filling.now.span.len) (still_waiting filling.now.placements (requests_in (going_on (end_of filling.now.span) ranked.now)))) }
 {
-    for request in requests {
-        if !is_granted(placements, request) {
+    let placements = filling.placements();
+    let len = filling.len();
+    let end = filling.end();
+    for one in ranked {
+        if end <= one.last && !is_granted(placements, &one.request) {
             elements.push(Element {
-                sid: Sid::new(request.sid).unwrap(),
-                iuc: grant_iuc(channel, request.n),
+                sid: Sid::new(one.request.sid).unwrap(),
+                iuc: grant_iuc(channel, one.request.n),
                 offset: Offset::new(len).unwrap(),
             })?;
         }
@@ -147,26 +150,25 @@ fn put_pending(
 }
 
 /// The elements of a filled MAP: those by offset, the Null at its length, then those of the
-/// requests that still wait.
+/// requests that still wait and whose leases go on to the MAP's end.
 pub fn elements_of(
     alloc: Global,
     channel: &Channel,
     filling: &Filling,
-    requests: &[Waiting],
+    ranked: &[Ranked],
 ) -> Result<Vec<Element>, AllocError>
-    requires { AllByRecursion IsUnicast requests.now }
-    ensures { IfOk result (λ elements. elements.items ≡ filter_map (begins_at filling.now.placements) (range_with_len 0 filling.now.span.len) ++ null_element filling.now.span.len ∷ map (pending_element channel.now filling.now.span.len) (still_waiting filling.now.placements requests.now)) }
+    requires { AllByRecursion IsUnicast ranked.now }
+    ensures { IfOk result (λ elements. elements.items ≡ filter_map (begins_at filling.now.placements) (range_with_len 0 filling.now.span.len) ++ null_element filling.now.span.len ∷ map (pending_element channel.now filling.now.span.len) (still_waiting filling.now.placements (requests_in (going_on (end_of filling.now.span) ranked.now)))) }
 {
-    let placements = filling.placements();
     let len = filling.len();
     let mut elements = Vec::new(alloc);
-    put_intervals(&mut elements, placements, len)?;
+    put_intervals(&mut elements, filling.placements(), len)?;
     elements.push(Element {
         sid: Sid::NOBODY,
         iuc: Iuc::NULL,
         offset: Offset::new(len).unwrap(),
     })?;
-    put_pending(&mut elements, channel, placements, requests, len)?;
+    put_pending(&mut elements, channel, filling, ranked)?;
     Ok(elements)
 }
 

@@ -10,8 +10,8 @@ use crate::placing::{Cause, Filling, Placement};
 use map_body::{Iuc, Offset, Sid};
 use std::alloc::AllocError;
 
-/// What comes at each due time of a flow: minislots of this size and use, from the due time to
-/// jitter after it.
+/// What comes at each due time of a flow: minislots of this size and use that begin from the due
+/// time to jitter after it, up to the last minislot of the flow's lease.
 #[derive(Clone, Copy, Debug)]
 pub struct Periodic {
     pub sid: Sid,
@@ -20,6 +20,7 @@ pub struct Periodic {
     pub interval: u32,
     pub jitter: u32,
     pub base: u64,
+    pub last: u64,
 }
 
 impl Periodic {
@@ -61,7 +62,7 @@ impl Periodic {
         let due = self.due_at(i);
         let last_start = due + u64::from(self.jitter);
         let lo = due.max(filling.start());
-        match filling.first_fit(self.size, lo, last_start) {
+        match filling.first_fit(self.size, lo, last_start, self.last) {
             Some(x) => {
                 filling.place(Placement {
                     sid: self.sid,

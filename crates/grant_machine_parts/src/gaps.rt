@@ -1,6 +1,6 @@
 //! The free minislots of a MAP: the gaps between its placements.
 
-ghost use Rattle.std.specs.Prelude.{◌≡◌, ℕ, ◌+◌, ◌^◌, ◌<◌, ◌++◌, List, OnOk};
+ghost use Rattle.std.specs.Prelude.{◌≡◌, ◌⊎◌, ℕ, ◌+◌, ◌^◌, ◌<◌, ◌≤◌, ◌++◌, List, OnOk};
 ghost use Rattle.std.specs.List.{find, range_with_len};
 ghost use Rattle.grant_machine_parts.specs.Placing.{Placement, is_free, fits_at};
 ghost use Rattle.grant_machine_parts.specs.Gaps.{AreGaps, carved_gap, carved, gap_in};
@@ -66,14 +66,34 @@ fn gap_in(gaps: &[Gap], n: u64, first: u64, behind: u64) -> Option<u64>
     None
 }
 
-/// The least offset where n minislots fit that begin from lo to hi.
-pub fn first_fit(gaps: &[Gap], start: u64, len: u16, n: u16, lo: u64, hi: u64) -> Option<usize>
+/// The offset behind the last one at which n minislots begin no later than hi and end by a last one.
+fn behind_latest(start: u64, len: u64, n: u16, hi: u64, last: u64) -> u64
     requires { start + len < 2 ^ 63 }
-    ensures { (ps : List Placement) → AreGaps (is_free ps) 0 len gaps.now → result ≡ find (fits_at (record { start = start; len = len }) ps n lo hi) (range_with_len 0 len) }
+    ensures most { result ≤ len }
+    ensures in_time { (x : ℕ) → x < result → (start + x ≤ hi) × (start + x + n ≤ last + 1) }
+    ensures late { (x : ℕ) → result ≤ x → x < len → (hi < start + x) ⊎ (last + 1 < start + x + n) }
+{
+    let behind_hi = hi.saturating_add(1);
+    let behind_last = last.saturating_add(2).saturating_sub(u64::from(n));
+    behind_hi.min(behind_last).saturating_sub(start).min(len)
+}
+
+/// The least offset where n minislots fit that begin from lo to hi and end by a last one.
+pub fn first_fit(
+    gaps: &[Gap],
+    start: u64,
+    len: u16,
+    n: u16,
+    lo: u64,
+    hi: u64,
+    last: u64,
+) -> Option<usize>
+    requires { start + len < 2 ^ 63 }
+    ensures { (ps : List Placement) → AreGaps (is_free ps) 0 len gaps.now → result ≡ find (fits_at (record { start = start; len = len }) ps n lo hi last) (range_with_len 0 len) }
 {
     let len = u64::from(len);
     let first = lo.saturating_sub(start).min(len);
-    let behind = hi.saturating_add(1).saturating_sub(start).min(len);
+    let behind = behind_latest(start, len, n, hi, last);
     if n == 0 {
         return if first < behind {
             Some(first as usize)

@@ -116,16 +116,16 @@ impl Filling {
         &self.placements
     }
 
-    /// The least offset where n minislots fit that begin from lo to hi.
-    pub fn first_fit(&self, n: u16, lo: u64, hi: u64) -> Option<usize>
-        ensures same { result ≡ first_fit self.now.span self.now.placements n lo hi }
+    /// The least offset where n minislots fit that begin from lo to hi and end by a last one.
+    pub fn first_fit(&self, n: u16, lo: u64, hi: u64, last: u64) -> Option<usize>
+        ensures same { result ≡ first_fit self.now.span self.now.placements n lo hi last }
         ensures within { IfSome result (λ x. x + n ≤ self.now.span.len) }
         ensures short { IfSome result (λ x. self.now.span.len ≤ most_minislots) }
     {
         if self.is_full() {
             return None;
         }
-        gaps::first_fit(&self.gaps, self.start, self.len, n, lo, hi)
+        gaps::first_fit(&self.gaps, self.start, self.len, n, lo, hi, last)
     }
 
     /// Gives minislots to a SID.

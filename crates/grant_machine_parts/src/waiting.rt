@@ -1,10 +1,10 @@
 //! Requests that wait, by priority.
 
-ghost use Rattle.std.specs.Prelude.{◌≡◌, ◌++◌, IfOk, OnOk};
+ghost use Rattle.std.specs.Prelude.{◌≡◌, ℕ, ◌++◌, IfOk, OnOk};
 ghost use Rattle.std.specs.List.{list_any, AllByRecursion};
 ghost use Rattle.grant_machine_parts.specs.Cutting.{kind_priority, is_cause_sent, is_grant_of, place_requests};
 ghost use Rattle.grant_machine_parts.specs.Lent.{IsUnicast};
-ghost use Rattle.grant_machine_parts.specs.Ranks.{of_priority, by_priority};
+ghost use Rattle.grant_machine_parts.specs.Ranks.{of_priority, by_priority, requests_in, IsOfLast};
 
 use crate::placing::{Cause, Filling, Placement};
 use crate::services::grant_iuc;
@@ -12,10 +12,11 @@ use flow_state::{Channel, FlowKind, Waiting};
 use map_body::{Offset, Sid};
 use std::alloc::{AllocError, Global};
 
-/// A request with its priority.
+/// A request with its flow's priority and the last minislot of its flow's lease.
 #[derive(Clone, Copy, Debug)]
 pub struct Ranked {
     pub priority: u8,
+    pub last: u64,
     pub request: Waiting,
 }
 
@@ -32,7 +33,7 @@ pub fn kind_priority(kind: FlowKind) -> u8
 
 /// Adds the requests of one priority, by arrival.
 fn add_priority(
-    ordered: &mut Vec<Waiting>,
+    ordered: &mut Vec<Ranked>,
     ranked: &[Ranked],
     priority: u8,
 ) -> Result<(), AllocError>
@@ -40,14 +41,14 @@ fn add_priority(
 {
     for one in ranked {
         if one.priority == priority {
-            ordered.push(one.request)?;
+            ordered.push(*one)?;
         }
     }
     Ok(())
 }
 
 /// The waiting requests by priority, greater first, and then by arrival.
-pub fn by_priority(alloc: Global, ranked: &[Ranked]) -> Result<Vec<Waiting>, AllocError>
+pub fn by_priority(alloc: Global, ranked: &[Ranked]) -> Result<Vec<Ranked>, AllocError>
     ensures { IfOk result (λ ordered. ordered.items ≡ by_priority ranked.now) }
 {
     let mut ordered = Vec::new(alloc);
@@ -57,20 +58,20 @@ pub fn by_priority(alloc: Global, ranked: &[Ranked]) -> Result<Vec<Waiting>, All
     Ok(ordered)
 }
 
-/// Places each request whole at its first fit, where there is one.
+/// Places each request whole at its first fit within its lease, where there is one.
 pub fn place_requests(
     filling: &mut Filling,
     channel: &Channel,
-    requests: &[Waiting],
+    ranked: &[Ranked],
 ) -> Result<(), AllocError>
-    requires { AllByRecursion IsUnicast requests.now }
+    requires { AllByRecursion IsUnicast ranked.now }
     ensures span { filling.new.span ≡ filling.old.span }
-    ensures placed { OnOk result (filling.new.placements ≡ place_requests filling.old.span channel.now requests.now filling.old.placements) }
+    ensures placed { OnOk result ((last : ℕ → ℕ) → AllByRecursion (IsOfLast last) ranked.now → filling.new.placements ≡ place_requests filling.old.span channel.now last (requests_in ranked.now) filling.old.placements) }
 {
     let start = filling.start();
     let end = filling.end();
-    for request in requests {
-        place_request(filling, channel, request, start, end)?;
+    for one in ranked {
+        place_request(filling, channel, one, start, end)?;
     }
     Ok(())
 }
@@ -78,22 +79,24 @@ pub fn place_requests(
 ghost use Rattle.std.specs.Prelude.{◌-◌, ◌∷◌, []};
 ghost use Rattle.grant_machine_parts.specs.Cutting.{end_of};
 
-/// Places a request whole at its first fit, where there is one.
+/// Places a request whole at its first fit within its lease, where there is one.
 fn place_request(
     filling: &mut Filling,
     channel: &Channel,
-    request: &Waiting,
+    ranked: &Ranked,
     start: u64,
     end: u64,
 ) -> Result<(), AllocError>
-    requires unicast { IsUnicast request.now }
+    requires unicast { IsUnicast ranked.now }
     requires begun { start ≡ filling.old.span.start }
     requires ended { end ≡ end_of filling.old.span }
     ensures span { filling.new.span ≡ filling.old.span }
-    ensures placed { OnOk result (filling.new.placements ≡ place_requests filling.old.span channel.now (request.now ∷ []) filling.old.placements) }
+    ensures placed { OnOk result ((last : ℕ → ℕ) → IsOfLast last ranked.now → filling.new.placements ≡ place_requests filling.old.span channel.now last (ranked.now.request ∷ []) filling.old.placements) }
 {
+    let request = ranked.request;
     let n = request.n;
-    if let Some(x) = filling.first_fit(n, start, end.saturating_sub(u64::from(n))) {
+    let hi = end.saturating_sub(u64::from(n));
+    if let Some(x) = filling.first_fit(n, start, hi, ranked.last) {
         filling.place(Placement {
             sid: Sid::new(request.sid).unwrap(),
             iuc: grant_iuc(channel, n),
