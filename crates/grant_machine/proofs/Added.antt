@@ -11,7 +11,8 @@ use Rattle.flow_state.specs.declared.flow.FlowKind.{FlowKind}
 use Rattle.flow_state.specs.declared.flow.FlowKind.TheVariants.{Ugs}
 use Rattle.flow_state.specs.declared.refusal.Refusal.{Refusal}
 use Rattle.flow_state.specs.Limits.{last_time}
-use Rattle.flow_state.specs.Rows.{Rows, Table, FlowRow, Lease, is_flow, is_of, is_table, table_of, change_table, lease_of, is_assignment, free_sid, insert_flow}
+use Rattle.flow_state.specs.declared.flow.Lease.{Lease}
+use Rattle.flow_state.specs.Rows.{Rows, Table, FlowRow, is_flow, is_of, is_table, table_of, change_table, lease_of, is_assignment, free_sid, insert_flow}
 use Rattle.flow_state.specs.Refusals.{on_table, table_flow_refusal, table_request_refusal, request_refusal_on}
 use Rattle.flow_state.specs.Changes.{new_table, new_flow, flow_among, flow_in_table, drop_in_table, request_in_table, sid_among, sid_for, sid_on}
 use Rattle.grant_machine.specs.declared.command.Command.{Command}

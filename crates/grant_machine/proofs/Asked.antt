@@ -5,7 +5,8 @@ use Rattle.std.specs.Prelude.{unwrap_or}
 use Rattle.std.proofs.lemmas.Bool.{eqb-true, eqb-false}
 use Rattle.flow_state.specs.declared.flow.FlowKind.{FlowKind}
 use Rattle.flow_state.specs.declared.flow.Waiting.{Waiting}
-use Rattle.flow_state.specs.Rows.{Table, FlowRow, Lease, is_of, is_of_sid, is_flow, lease_of, free_sid, first_of, put_lease, has_ended}
+use Rattle.flow_state.specs.declared.flow.Lease.{Lease}
+use Rattle.flow_state.specs.Rows.{Table, FlowRow, is_of, is_of_sid, is_flow, lease_of, free_sid, first_of, put_lease, has_ended}
 use Rattle.flow_state.specs.Refusals.{is_repeated, table_flow_refusal, table_request_refusal}
 use Rattle.flow_state.specs.Sound.{lease_in}
 use Rattle.flow_state.specs.Changes.{new_flow, new_lease, flow_among, drop_in_table, request_in_table}
@@ -14,7 +15,7 @@ use Rattle.grant_machine_parts.specs.Cutting.{is_grant_of, still_waiting, fill, 
 use Rattle.flow_state.proofs.Callers.{Has, has_pushed, has_map, has_filter, found_has}
 use Rattle.flow_state.proofs.Callers.{eqb_same, put_found, put_others}
 use Rattle.flow_state.proofs.Callers.{IsWell, has_inserted, flow_is_well, drop_is_well, request_is_well, is_asked, asked, asked_same, not_le}
-use Rattle.grant_machine_parts.proofs.Callers.{is_cut, fill_moves, flow_from, cut_is_well}
+use Rattle.grant_machine_parts.proofs.Callers.{is_cut, flow_from, cut_is_well}
 use Rattle.grant_machine.proofs.Reached.{Kept}
 use Rattle.grant_machine.proofs.Leases.{IsNew, is_new}
 
@@ -137,7 +138,7 @@ asked_cut t len not_before ack sid sent ok w = record {
   before = w.before;
   later = λ f h same.
       let span = span_of t.row len not_before in
-      let m = flow_from t (fill t len not_before ack).flows f (fill_moves t span (ack_of t.row ack span.start) (is_cut t len not_before ack ok).end) h in
+      let m = flow_from t span (ack_of t.row ack span.start) f (is_cut t len not_before ack ok).end h in
       sent_same m.0 f sent m.2.first m.2.last_sent (w.later m.0 m.1 (sym m.2.sid ∙ same));
 }
 

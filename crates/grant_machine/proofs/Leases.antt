@@ -5,7 +5,8 @@ use Rattle.std.specs.Prelude.{unwrap_or}
 use Rattle.std.proofs.lemmas.Bool.{eqb-true}
 use Rattle.flow_state.specs.declared.flow.FlowKind.{FlowKind}
 use Rattle.flow_state.specs.declared.refusal.Refusal.{Refusal}
-use Rattle.flow_state.specs.Rows.{Rows, Table, Lease, is_table, table_of, change_table, lease_of, is_of_sid, free_sid, first_of, put_lease}
+use Rattle.flow_state.specs.declared.flow.Lease.{Lease}
+use Rattle.flow_state.specs.Rows.{Rows, Table, is_table, table_of, change_table, lease_of, is_of_sid, free_sid, first_of, put_lease}
 use Rattle.flow_state.specs.Refusals.{table_flow_refusal, on_table}
 use Rattle.flow_state.specs.Changes.{new_table, new_lease, add_to_table, flow_among, flow_in_table, lease_among, lease_for, lease_on, lease_given}
 use Rattle.flow_state.proofs.Callers.{Has, has_either, has_filter, found_has, lease_is, put_found, put_others, has_put, over_before, is_added, unwrap_some}

@@ -6,7 +6,8 @@ use Rattle.flow_state.specs.declared.flow.FlowKind.{FlowKind}
 use Rattle.flow_state.specs.declared.refusal.Refusal.{Refusal}
 use Rattle.flow_state.specs.declared.refusal.Refusal.TheVariants.{BadValue, ChannelThere}
 use Rattle.flow_state.specs.Limits.{is_good_channel}
-use Rattle.flow_state.specs.Rows.{Rows, Table, Lease, is_table, table_of, change_table, lease_of}
+use Rattle.flow_state.specs.declared.flow.Lease.{Lease}
+use Rattle.flow_state.specs.Rows.{Rows, Table, is_table, table_of, change_table, lease_of}
 use Rattle.flow_state.specs.Refusals.{table_flow_refusal, table_request_refusal, on_table}
 use Rattle.flow_state.specs.Changes.{new_table, flow_among, flow_in_table, drop_in_table, request_in_table}
 use Rattle.grant_machine.specs.declared.command.Command.{Command}

@@ -7,7 +7,8 @@ use Rattle.flow_state.specs.declared.channel.Channel.{Channel}
 use Rattle.flow_state.specs.declared.flow.FlowKind.{FlowKind}
 use Rattle.flow_state.specs.declared.flow.Waiting.{Waiting}
 use Rattle.flow_state.specs.declared.refusal.Refusal.{Refusal}
-use Rattle.flow_state.specs.Rows.{Rows, Table, FlowRow, Lease, is_of, is_of_sid, is_table, table_of, change_table, lease_of, last_of, has_ended}
+use Rattle.flow_state.specs.declared.flow.Lease.{Lease}
+use Rattle.flow_state.specs.Rows.{Rows, Table, FlowRow, is_of, is_of_sid, is_table, table_of, change_table, lease_of, last_of, has_ended}
 use Rattle.flow_state.specs.Refusals.{table_request_refusal, request_refusal}
 use Rattle.flow_state.specs.Sound.{lease_in}
 use Rattle.flow_state.specs.Changes.{new_table, flow_among, flow_in_table, drop_in_table, request_in_table}
@@ -31,7 +32,7 @@ use Rattle.flow_state.proofs.Callers.{is_found, some_is, find_changed, changed, 
 use Rattle.flow_state.proofs.Callers.{eqb_same, refusal_there, there, found_before, at_same, flow_keeps_id}
 use Rattle.grant_machine_parts.proofs.Callers.{in_order_fewer}
 use Rattle.flow_state.proofs.Callers.{IsWell, one_flow, both, is_asked}
-use Rattle.grant_machine_parts.proofs.Callers.{pass_keeps, IsFor, is_cut, fill_moves, flow_from, cut_is_well}
+use Rattle.grant_machine_parts.proofs.Callers.{pass_keeps, IsFor, is_cut, flow_from, cut_is_well}
 use Rattle.grant_machine_parts.proofs.Callers.{fill_placed}
 use Rattle.grant_machine.proofs.Reached.{Stands, stands_step, AllWell, none_well, well_step}
 use Rattle.grant_machine.proofs.Cuts.{IsCutStep, cut_of_grant}
@@ -271,7 +272,6 @@ gone_table t len not_before ack sid sent p r well ok placed to cause waiting of 
     let f : Filled = fill t len not_before ack in
     let request = well.requests r waiting in
     let span = span_of t.row len not_before in
-    let moves = fill_moves t span (ack_of t.row ack span.start) (is_cut t len not_before ack ok).end in
     let given = well.given request.flow request.there in
     let own : request.flow.sid ≡ sid = request.sid ∙ of in
     record {
@@ -281,7 +281,7 @@ gone_table t len not_before ack sid sent p r well ok placed to cause waiting of 
         found = ap (λ n. find (is_of_sid n) t.leases) (sym own) ∙ given.lease;
         before = subst (λ n. n ≤ request.flow.last) then request.before;
         later = λ v k same.
-            let from = flow_from t f.flows v moves k in
+            let from = flow_from t span (ack_of t.row ack span.start) v (is_cut t len not_before ack ok).end k in
             let one : from.0 ≡ request.flow = one_flow 1 t.flows from.0 request.flow well.rising from.1 request.there (sym from.2.sid ∙ same ∙ sym of ∙ sym request.sid) in
             sent_after v sent sent (from.2.last_sent ∙ ap (λ (x : FlowRow). x.last_sent) one ∙ request.last ∙ ap (λ (n : ℕ). Some n) then) (omega arith);
       };

@@ -12,7 +12,8 @@ use Rattle.map_body.proofs.Callers.{one_body}
 use Rattle.flow_state.specs.declared.flow.FlowKind.{FlowKind}
 use Rattle.flow_state.specs.declared.refusal.Refusal.{Refusal}
 use Rattle.flow_state.specs.Limits.{last_time, last_sid}
-use Rattle.flow_state.specs.Rows.{Rows, Table, Lease, table_of, is_assignment, lease_of, free_sid}
+use Rattle.flow_state.specs.declared.flow.Lease.{Lease}
+use Rattle.flow_state.specs.Rows.{Rows, Table, table_of, is_assignment, lease_of, free_sid}
 use Rattle.flow_state.specs.Refusals.{table_flow_refusal}
 use Rattle.flow_state.specs.Changes.{flow_among, sid_among, sid_on}
 use Rattle.grant_machine.specs.declared.command.Command.{Command}

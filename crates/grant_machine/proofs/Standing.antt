@@ -9,7 +9,8 @@ use Rattle.flow_state.specs.declared.flow.FlowKind.TheVariants.{BestEffort, Ugs,
 use Rattle.flow_state.specs.declared.refusal.Refusal.{Refusal}
 use Rattle.flow_state.specs.declared.refusal.Refusal.TheVariants.{BadValue, ChannelThere}
 use Rattle.flow_state.specs.Limits.{is_good_channel}
-use Rattle.flow_state.specs.Rows.{Rows, Table, FlowRow, Lease, is_table, table_of, change_table, lease_of, is_flow, free_sid, insert_flow}
+use Rattle.flow_state.specs.declared.flow.Lease.{Lease}
+use Rattle.flow_state.specs.Rows.{Rows, Table, FlowRow, is_table, table_of, change_table, lease_of, is_flow, free_sid, insert_flow}
 use Rattle.flow_state.specs.Changes.{new_table, new_flow, flow_among, drop_in_table, request_in_table}
 use Rattle.grant_machine.specs.declared.command.Command.{Command}
 use Rattle.grant_machine.specs.declared.command.Command.TheVariants as commands

@@ -8,7 +8,8 @@ use Rattle.flow_state.specs.declared.flow.FlowKind.{FlowKind}
 use Rattle.flow_state.specs.declared.flow.FlowKind.TheVariants.{BestEffort, Ugs, Poll}
 use Rattle.flow_state.specs.declared.refusal.Refusal.{Refusal}
 use Rattle.flow_state.specs.Limits.{last_time}
-use Rattle.flow_state.specs.Rows.{Rows, Table, FlowRow, Lease, is_flow, is_table, table_of, change_table, lease_of, free_sid}
+use Rattle.flow_state.specs.declared.flow.Lease.{Lease}
+use Rattle.flow_state.specs.Rows.{Rows, Table, FlowRow, is_flow, is_table, table_of, change_table, lease_of, free_sid}
 use Rattle.flow_state.specs.Refusals.{table_flow_refusal}
 use Rattle.flow_state.specs.Changes.{new_table, new_flow, sid_among, sid_on, flow_among, flow_in_table, drop_in_table, request_in_table}
 use Rattle.grant_machine.specs.declared.command.Command.{Command}
