@@ -11,7 +11,8 @@ use Rattle.flow_state.specs.declared.flow.FlowKind.{FlowKind}
 use Rattle.flow_state.specs.declared.flow.FlowKind.TheVariants.{Ugs}
 use Rattle.flow_state.specs.declared.refusal.Refusal.{Refusal}
 use Rattle.flow_state.specs.Limits.{last_time}
-use Rattle.flow_state.specs.Rows.{Rows, Table, FlowRow, Assignment, is_flow, is_of, is_table, table_of, change_table, assignment_of, is_assignment, free_sid, insert_flow}
+use Rattle.flow_state.specs.declared.flow.Lease.{Lease}
+use Rattle.flow_state.specs.Rows.{Rows, Table, FlowRow, is_flow, is_of, is_table, table_of, change_table, lease_of, is_assignment, free_sid, insert_flow}
 use Rattle.flow_state.specs.Refusals.{on_table, table_flow_refusal, table_request_refusal, request_refusal_on}
 use Rattle.flow_state.specs.Changes.{new_table, new_flow, flow_among, flow_in_table, drop_in_table, request_in_table, sid_among, sid_for, sid_on}
 use Rattle.grant_machine.specs.declared.command.Command.{Command}
@@ -42,16 +43,16 @@ pub record Blank (t : Table) (sid : ℕ) : Type 0 where
 abbrev Untouched : Rows → ℕ → ℕ → Type 0
 Untouched rows ch sid = (t : Table) → table_of rows ch ≡ Some t → Blank t sid
 
-none_more : (sid : ℕ) (xs : List Assignment) (a : Assignment) → list_any (has sid) xs ≡ false → eqb a.sid sid ≡ false → list_any (has sid) (xs ++ a ∷ []) ≡ false
+none_more : (sid : ℕ) (xs : List Lease) (a : Lease) → list_any (has sid) xs ≡ false → eqb a.sid sid ≡ false → list_any (has sid) (xs ++ a ∷ []) ≡ false
 none_more sid [] a e off = ap (λ b. b || false) off
 none_more sid (x ∷ xs) a e off =
     elim (eqb x.sid sid) as (λ b. (b || list_any (has sid) xs) ≡ false → (b || list_any (has sid) (xs ++ a ∷ [])) ≡ false) [ true ↦ λ f. absurd cc | false ↦ λ f. none_more sid xs a f off ] e
 
 -- a flow is added under another SID
-blank_flow : (o : Option Assignment) (t : Table) (modem tag : ℕ) (kind : FlowKind) (sid : ℕ) → eqb (sid_among o t) sid ≡ false → Blank t sid → Blank (flow_among o t modem tag kind) sid
-blank_flow (Some a) t modem tag kind sid off b = b
-blank_flow None t modem tag kind sid off b = record {
-  flows = insert_same sid (new_flow (unwrap_or (free_sid t) 0) modem tag kind) t.flows off ∙ b.flows;
+blank_flow : (o : Option Lease) (t : Table) (modem tag last : ℕ) (kind : FlowKind) (sid : ℕ) → eqb (sid_among o t) sid ≡ false → Blank t sid → Blank (flow_among o t modem tag last kind) sid
+blank_flow (Some a) t modem tag last kind sid off b = b
+blank_flow None t modem tag last kind sid off b = record {
+  flows = insert_same sid (new_flow (unwrap_or (free_sid t) 0) modem tag last kind) t.flows off ∙ b.flows;
   waiting = b.waiting;
   free = none_more sid t.assigned _ b.free off;
 }
@@ -120,11 +121,6 @@ untouched_change rows at change ch sid ids keeps u v e =
           | false ↦ λ h. u t found
         ] refl
 
-pub find_pushed : (rows : Rows) (ch : ℕ) (n t : Table) → table_of (rows ++ n ∷ []) ch ≡ Some t → (table_of rows ch ≡ Some t) ⊎ (n ≡ t)
-find_pushed [] ch n t e = elim (is_table ch n) as (λ c. cond c (Some n) None ≡ Some t → (None ≡ Some t) ⊎ (n ≡ t)) [ true ↦ λ f. inr cc | false ↦ λ f. inl f ] e
-find_pushed (r ∷ rows) ch n t e =
-    elim (is_table ch r) as (λ c. cond c (Some r) (table_of (rows ++ n ∷ []) ch) ≡ Some t → (cond c (Some r) (table_of rows ch) ≡ Some t) ⊎ (n ≡ t)) [ true ↦ λ f. inl f | false ↦ λ f. find_pushed rows ch n t f ] e
-
 -- the output gives the SID to nobody
 abbrev GivesNot : Output → ℕ → ℕ → Type 0
 GivesNot out ch sid = (m since until : ℕ) → ¬ (out ≡ outputs.Assigned m ch sid since until)
@@ -159,8 +155,8 @@ accepted_untouched rows (commands.Channel c) ch sid ok no_sid u = record {
   ];
   none = refl;
 }
-accepted_untouched rows (commands.Flow at modem tag kind) ch sid ok no_sid u = record {
-  after = untouched_change rows at _ ch sid (λ t. flow_keeps_id (assignment_of t modem tag) t modem tag kind) (λ t same found b. blank_flow (assignment_of t modem tag) t modem tag kind sid (by t same found (eqb (sid_for t modem tag) sid) refl) b) u;
+accepted_untouched rows (commands.Flow at modem tag last kind) ch sid ok no_sid u = record {
+  after = untouched_change rows at _ ch sid (λ t. flow_keeps_id (lease_of t modem tag) t modem tag last kind) (λ t same found b. blank_flow (lease_of t modem tag) t modem tag last kind sid (by t same found (eqb (sid_for t modem tag) sid) refl) b) u;
   none = refl;
 }
   where
@@ -185,7 +181,7 @@ step_untouched rows c ch sid no_sid u = by (refusal_of rows c) refl no_sid
 
 -- ---- the flow is added
 
-any_last : (sid : ℕ) (xs : List Assignment) (a : Assignment) → eqb a.sid sid ≡ true → list_any (has sid) (xs ++ a ∷ []) ≡ true
+any_last : (sid : ℕ) (xs : List Lease) (a : Lease) → eqb a.sid sid ≡ true → list_any (has sid) (xs ++ a ∷ []) ≡ true
 any_last sid [] a e = ap (λ b. b || false) e
 any_last sid (x ∷ xs) a e = elim (eqb x.sid sid) as (λ b. (b || list_any (has sid) (xs ++ a ∷ [])) ≡ true) [ true ↦ refl | false ↦ any_last sid xs a e ]
 
@@ -197,14 +193,14 @@ insert_own sid f fs here none =
     ∙ ap (λ b. cond b (f ∷ filter (is_flow sid) (filter (λ g. not (nat_le g.sid f.sid)) fs)) (filter (is_flow sid) (filter (λ g. not (nat_le g.sid f.sid)) fs))) here
     ∙ ap (λ (xs : List FlowRow). f ∷ xs) (filter_sub (is_flow sid) (λ g. not (nat_le g.sid f.sid)) fs none)
 
-blank_serves : (o : Option Assignment) (t : Table) (modem tag sid size interval jitter base : ℕ) → assignment_of t modem tag ≡ o → eqb (sid_among o t) sid ≡ true → Blank t sid → Serving (flow_among o t modem tag (Ugs size interval jitter base)) sid size interval jitter base 0
+blank_serves : (o : Option Lease) (t : Table) (modem tag sid size interval jitter base : ℕ) → lease_of t modem tag ≡ o → eqb (sid_among o t) sid ≡ true → Blank t sid → Serving (flow_among o t modem tag (Ugs size interval jitter base)) sid size interval jitter base 0
 blank_serves (Some a) t modem tag sid size interval jitter base e here b = absurd (given_not a t.assigned e here b.free)
   where
-    given_not : (a : Assignment) (xs : List Assignment) → find (is_assignment modem tag) xs ≡ Some a → eqb a.sid sid ≡ true → list_any (has sid) xs ≡ false → ⊥
+    given_not : (a : Lease) (xs : List Lease) → find (is_assignment modem tag) xs ≡ Some a → eqb a.sid sid ≡ true → list_any (has sid) xs ≡ false → ⊥
     given_not a [] f h n = cc
     given_not a (x ∷ xs) f h n =
         elim (is_assignment modem tag x) as (λ c. cond c (Some x) (find (is_assignment modem tag) xs) ≡ Some a → ⊥) [
-          | true ↦ λ g. let same : x ≡ a = cc in let on : eqb x.sid sid ≡ true = ap (λ (y : Assignment). eqb y.sid sid) same ∙ h in
+          | true ↦ λ g. let same : x ≡ a = cc in let on : eqb x.sid sid ≡ true = ap (λ (y : Lease). eqb y.sid sid) same ∙ h in
               let off : (true || list_any (has sid) xs) ≡ false = ap (λ b. b || list_any (has sid) xs) (sym on) ∙ n in cc
           | false ↦ λ g. given_not a xs g h (rest_off (eqb x.sid sid) (list_any (has sid) xs) n)
         ] f
@@ -222,14 +218,14 @@ flow_serves : (rows : Rows) (ch modem tag sid size interval jitter base : ℕ) �
     → sid_on (table_of rows ch) modem tag ≡ sid → Untouched rows ch sid → Serves (change_table rows ch (λ t. flow_in_table t modem tag (Ugs size interval jitter base))) ch sid size interval jitter base 0
 flow_serves rows ch modem tag sid size interval jitter base ok sid_is u =
     let kind : FlowKind = Ugs size interval jitter base in
-    let change : Table → Table = λ t. flow_in_table t modem tag kind in
-    let here = there (table_of rows ch) (λ t. table_flow_refusal t modem tag kind) ok in
+    let change : Table → Table = λ t. flow_in_table t modem tag last kind in
+    let here = there (table_of rows ch) (λ t. table_flow_refusal t modem tag last kind) ok in
     let t : Table = here.0 in
     let own : sid_for t modem tag ≡ sid = ap (λ o. sid_on o modem tag) (sym here.1) ∙ sid_is in
     record {
       table = change t;
-      found = find_changed rows ch ch change t (λ v. flow_keeps_id (assignment_of v modem tag) v modem tag kind) here.1 ∙ ap (λ b. Some (cond b (change t) t)) (is_found rows ch t here.1);
-      serving = blank_serves (assignment_of t modem tag) t modem tag sid size interval jitter base refl (ap (λ n. eqb n sid) own ∙ eqb_same sid) (u t here.1);
+      found = find_changed rows ch ch change t (λ v. flow_keeps_id (lease_of v modem tag) v modem tag last kind) here.1 ∙ ap (λ b. Some (cond b (change t) t)) (is_found rows ch t here.1);
+      serving = blank_serves (lease_of t modem tag) t modem tag sid size interval jitter base refl (ap (λ n. eqb n sid) own ∙ eqb_same sid) (u t here.1);
     }
 
 step_adds : (rows : Rows) (ch modem tag sid size interval jitter base since until : ℕ) → (step rows (commands.Flow ch modem tag (Ugs size interval jitter base))).output ≡ outputs.Assigned modem ch sid since until → Untouched rows ch sid
@@ -246,9 +242,6 @@ step_adds rows ch modem tag sid size interval jitter base since until e u = by (
 out_is : (o : Output) (outs : List Output) → slice_get (o ∷ outs) 0 ≡ Some o
 out_is o outs = refl
 
-pub command_is : (c d : Command) → Some c ≡ Some d → c ≡ d
-command_is c d e = cc
-
 from_rows : (rows : Rows) (cs : List Command) (k ch modem tag sid size interval jitter base since until : ℕ) → Untouched rows ch sid
     → slice_get cs k ≡ Some (commands.Flow ch modem tag (Ugs size interval jitter base)) → slice_get (outputs_from rows cs) k ≡ Some (outputs.Assigned modem ch sid since until)
     → ((j other a b : ℕ) → j < k → ¬ (slice_get (outputs_from rows cs) j ≡ Some (outputs.Assigned other ch sid a b)))
@@ -256,7 +249,7 @@ from_rows : (rows : Rows) (cs : List Command) (k ch modem tag sid size interval 
 from_rows rows [] k ch modem tag sid size interval jitter base since until u c_is o_is first = absurd cc
 from_rows rows (c ∷ cs) zero ch modem tag sid size interval jitter base since until u c_is o_is first =
     let kind : FlowKind = Ugs size interval jitter base in
-    let flow : Command = commands.Flow ch modem tag kind in
+    let flow : Command = commands.Flow ch modem tag last kind in
     let same : c ≡ flow = command_is c flow c_is in
     let gives : (step rows flow).output ≡ outputs.Assigned modem ch sid since until = ap (λ (d : Command). (step rows d).output) (sym same) ∙ output_is _ _ o_is in
     let adds = step_adds rows ch modem tag sid size interval jitter base since until gives u in

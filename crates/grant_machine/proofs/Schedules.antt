@@ -12,7 +12,8 @@ use Rattle.map_body.proofs.Callers.{one_body}
 use Rattle.flow_state.specs.declared.flow.FlowKind.{FlowKind}
 use Rattle.flow_state.specs.declared.refusal.Refusal.{Refusal}
 use Rattle.flow_state.specs.Limits.{last_time, last_sid}
-use Rattle.flow_state.specs.Rows.{Rows, Table, Assignment, table_of, is_assignment, assignment_of, free_sid}
+use Rattle.flow_state.specs.declared.flow.Lease.{Lease}
+use Rattle.flow_state.specs.Rows.{Rows, Table, table_of, is_assignment, lease_of, free_sid}
 use Rattle.flow_state.specs.Refusals.{table_flow_refusal}
 use Rattle.flow_state.specs.Changes.{flow_among, sid_among, sid_on}
 use Rattle.grant_machine.specs.declared.command.Command.{Command}
@@ -161,27 +162,27 @@ shared_maps_are_one cs ch m start len start' len' bytes bytes' a b p q =
 
 -- each SID that was given is a unicast one
 abbrev GivesUnicast : Table → Type 0
-GivesUnicast t = (a : Assignment) → Has t.assigned a → (1 ≤ a.sid) × (a.sid ≤ last_sid)
+GivesUnicast t = (a : Lease) → Has t.assigned a → (1 ≤ a.sid) × (a.sid ≤ last_sid)
 
 free_unicast : (t : Table) (sid : ℕ) → free_sid t ≡ Some sid → (1 ≤ sid) × (sid ≤ last_sid)
 free_unicast t sid e =
     let range = free_range t sid e in
     (range.0, omega (arith, range.1))
 
-unicast_flow : (o : Option Assignment) (t : Table) (modem tag : ℕ) (kind : FlowKind) → assignment_of t modem tag ≡ o → table_flow_refusal t modem tag kind ≡ None → GivesUnicast t → GivesUnicast (flow_among o t modem tag kind)
-unicast_flow (Some a) t modem tag kind e ok g = g
-unicast_flow None t modem tag kind e ok g =
-    let free = some_sid t modem tag kind e ok in
+unicast_flow : (o : Option Lease) (t : Table) (modem tag last : ℕ) (kind : FlowKind) → lease_of t modem tag ≡ o → table_flow_refusal t modem tag last kind ≡ None → GivesUnicast t → GivesUnicast (flow_among o t modem tag last kind)
+unicast_flow (Some a) t modem tag last kind e ok g = g
+unicast_flow None t modem tag last kind e ok g =
+    let free = some_sid t modem tag last kind e ok in
     let range = free_unicast t free.0 free.1 in
     let sid_is : unwrap_or (free_sid t) 0 ≡ free.0 = unwrap_some (free_sid t) free.0 free.1 in
     λ a h. elim (has_pushed t.assigned (record { modem = modem; tag = tag; sid = unwrap_or (free_sid t) 0 }) a h) [
       | inl old ↦ g a old
-      | inr new ↦ subst (λ n. (1 ≤ n) × (n ≤ last_sid)) (sym sid_is ∙ ap (λ (b : Assignment). b.sid) new) range
+      | inr new ↦ subst (λ n. (1 ≤ n) × (n ≤ last_sid)) (sym sid_is ∙ ap (λ (b : Lease). b.sid) new) range
     ]
 
 unicast_kept : Kept GivesUnicast
 unicast_kept = record {
-  flow = λ t modem tag kind ok g. unicast_flow (assignment_of t modem tag) t modem tag kind refl ok g;
+  flow = λ t modem tag last kind ok g. unicast_flow (lease_of t modem tag) t modem tag last kind refl ok g;
   drop = λ t sid g. g;
   request = λ t sid n sent ok g. g;
   cut = λ t len not_before ack ok g. g;
@@ -191,10 +192,10 @@ unicast_rows : (rows : Rows) (cs : List Command) → ((ch : ℕ) → At GivesUni
 unicast_rows rows [] g ch = g ch
 unicast_rows rows (c ∷ cs) g ch = unicast_rows (step rows c).rows cs (λ at. at_step GivesUnicast unicast_kept rows c at (λ n is good a h. absurd h) (g at)) ch
 
-sid_unicast : (o : Option Assignment) (t : Table) (modem tag : ℕ) (kind : FlowKind) → assignment_of t modem tag ≡ o → table_flow_refusal t modem tag kind ≡ None → GivesUnicast t → (1 ≤ sid_among o t) × (sid_among o t ≤ last_sid)
-sid_unicast (Some a) t modem tag kind e ok g = g a (found_has (is_assignment modem tag) t.assigned a e).0
-sid_unicast None t modem tag kind e ok g =
-    let free = some_sid t modem tag kind e ok in
+sid_unicast : (o : Option Lease) (t : Table) (modem tag last : ℕ) (kind : FlowKind) → lease_of t modem tag ≡ o → table_flow_refusal t modem tag last kind ≡ None → GivesUnicast t → (1 ≤ sid_among o t) × (sid_among o t ≤ last_sid)
+sid_unicast (Some a) t modem tag last kind e ok g = g a (found_has (is_assignment modem tag) t.assigned a e).0
+sid_unicast None t modem tag last kind e ok g =
+    let free = some_sid t modem tag last kind e ok in
     subst (λ n. (1 ≤ n) × (n ≤ last_sid)) (sym (unwrap_some (free_sid t) free.0 free.1)) (free_unicast t free.0 free.1)
 
 assigned_unicast : (rows : Rows) (c : Command) (m ch sid since until : ℕ) → ((at : ℕ) → At GivesUnicast rows at) → (step rows c).output ≡ outputs.Assigned m ch sid since until → (1 ≤ sid) × (sid ≤ last_sid)
@@ -207,10 +208,10 @@ assigned_unicast rows c m ch sid since until g e = by (refusal_of rows c) refl e
     on : (d : Command) → refusal_of rows d ≡ None → (accepted rows d).output ≡ outputs.Assigned m ch sid since until → (1 ≤ sid) × (sid ≤ last_sid)
     on commands.Noop ok f = absurd cc
     on (commands.Channel n) ok f = absurd cc
-    on (commands.Flow at modem tag kind) ok f =
-        let here = there (table_of rows at) (λ t. table_flow_refusal t modem tag kind) ok in
+    on (commands.Flow at modem tag last kind) ok f =
+        let here = there (table_of rows at) (λ t. table_flow_refusal t modem tag last kind) ok in
         let t : Table = here.0 in
-        let range = sid_unicast (assignment_of t modem tag) t modem tag kind refl (refusal_there rows at t (λ u. table_flow_refusal u modem tag kind) here.1 ok) (g at t here.1) in
+        let range = sid_unicast (lease_of t modem tag) t modem tag last kind refl (refusal_there rows at t (λ u. table_flow_refusal u modem tag last kind) here.1 ok) (g at t here.1) in
         let sid_is : sid_on (table_of rows at) modem tag ≡ sid = (assigned_fields modem at (sid_on (table_of rows at) modem tag) 0 last_time m ch sid since until f).2 in
         subst (λ n. (1 ≤ n) × (n ≤ last_sid)) (ap (λ o. sid_on o modem tag) (sym here.1) ∙ sid_is) range
     on (commands.Drop at s) ok f = absurd cc

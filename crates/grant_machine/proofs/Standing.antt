@@ -9,7 +9,8 @@ use Rattle.flow_state.specs.declared.flow.FlowKind.TheVariants.{BestEffort, Ugs,
 use Rattle.flow_state.specs.declared.refusal.Refusal.{Refusal}
 use Rattle.flow_state.specs.declared.refusal.Refusal.TheVariants.{BadValue, ChannelThere}
 use Rattle.flow_state.specs.Limits.{is_good_channel}
-use Rattle.flow_state.specs.Rows.{Rows, Table, FlowRow, Assignment, is_table, table_of, change_table, assignment_of, is_flow, free_sid, insert_flow}
+use Rattle.flow_state.specs.declared.flow.Lease.{Lease}
+use Rattle.flow_state.specs.Rows.{Rows, Table, FlowRow, is_table, table_of, change_table, lease_of, is_flow, free_sid, insert_flow}
 use Rattle.flow_state.specs.Changes.{new_table, new_flow, flow_among, drop_in_table, request_in_table}
 use Rattle.grant_machine.specs.declared.command.Command.{Command}
 use Rattle.grant_machine.specs.declared.command.Command.TheVariants as commands
@@ -48,9 +49,9 @@ idle_insert f fs new all = all_has IsIdle (insert_flow f fs) (λ g h. elim (has_
   | inr r ↦ elim r [ inl e ↦ subst IsIdle e new | inr m ↦ has_all IsIdle fs g all (has_filter (λ x. not (leb x.sid f.sid)) fs g m).0 ]
 ])
 
-idle_flow : (o : Option Assignment) (t : Table) (modem tag : ℕ) (kind : FlowKind) → AreIdle t → AreIdle (flow_among o t modem tag kind)
-idle_flow (Some a) t modem tag kind all = all
-idle_flow None t modem tag kind all = idle_insert (new_flow (unwrap_or (free_sid t) 0) modem tag kind) t.flows (idle_start kind) all
+idle_flow : (o : Option Lease) (t : Table) (modem tag last : ℕ) (kind : FlowKind) → AreIdle t → AreIdle (flow_among o t modem tag last kind)
+idle_flow (Some a) t modem tag last kind all = all
+idle_flow None t modem tag last kind all = idle_insert (new_flow (unwrap_or (free_sid t) 0) modem tag last kind) t.flows (idle_start kind) all
 
 idle_filter : (q : FlowRow → Bool) (fs : List FlowRow) → AllByRecursion IsIdle fs → AllByRecursion IsIdle (filter q fs)
 idle_filter q fs all = all_has IsIdle (filter q fs) (λ f h. has_all IsIdle fs f all (has_filter q fs f h).0)
@@ -90,7 +91,7 @@ fill_idle t span ack all =
 
 idle_kept : Kept AreIdle
 idle_kept = record {
-  flow = λ t modem tag kind ok all. idle_flow (assignment_of t modem tag) t modem tag kind all;
+  flow = λ t modem tag last kind ok all. idle_flow (lease_of t modem tag) t modem tag last kind all;
   drop = λ t sid all. idle_filter (λ f. not (is_flow sid f)) t.flows all;
   request = λ t sid n sent ok all. idle_request sid sent t.flows all;
   cut = λ t len not_before ack ok all.
@@ -158,7 +159,7 @@ apart_cut (Some t) rows at len not_before ack a = apart_changed rows at (λ u. t
 apart_accepted : (rows : Rows) (c : Command) → refusal_of rows c ≡ None → Apart rows → Apart (accepted rows c).rows
 apart_accepted rows commands.Noop ok a = a
 apart_accepted rows (commands.Channel c) ok a = apart_added rows (new_table c) (channel_new rows c ok) a
-apart_accepted rows (commands.Flow at modem tag kind) ok a = apart_changed rows at _ (λ t. flow_keeps_id (assignment_of t modem tag) t modem tag kind) a
+apart_accepted rows (commands.Flow at modem tag last kind) ok a = apart_changed rows at _ (λ t. flow_keeps_id (lease_of t modem tag) t modem tag last kind) a
 apart_accepted rows (commands.Drop at sid) ok a = apart_changed rows at (λ t. drop_in_table t sid) (λ t. refl) a
 apart_accepted rows (commands.Request at sid n sent) ok a = apart_changed rows at (λ t. request_in_table t sid n sent) (λ t. refl) a
 apart_accepted rows (commands.Cut at len not_before ack) ok a = apart_cut (table_of rows at) rows at len not_before ack a

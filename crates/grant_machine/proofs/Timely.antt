@@ -8,7 +8,8 @@ use Rattle.flow_state.specs.declared.flow.FlowKind.{FlowKind}
 use Rattle.flow_state.specs.declared.flow.FlowKind.TheVariants.{BestEffort, Ugs, Poll}
 use Rattle.flow_state.specs.declared.refusal.Refusal.{Refusal}
 use Rattle.flow_state.specs.Limits.{last_time}
-use Rattle.flow_state.specs.Rows.{Rows, Table, FlowRow, Assignment, is_flow, is_table, table_of, change_table, assignment_of, free_sid}
+use Rattle.flow_state.specs.declared.flow.Lease.{Lease}
+use Rattle.flow_state.specs.Rows.{Rows, Table, FlowRow, is_flow, is_table, table_of, change_table, lease_of, free_sid}
 use Rattle.flow_state.specs.Refusals.{table_flow_refusal}
 use Rattle.flow_state.specs.Changes.{new_table, new_flow, sid_among, sid_on, flow_among, flow_in_table, drop_in_table, request_in_table}
 use Rattle.grant_machine.specs.declared.command.Command.{Command}
@@ -29,7 +30,7 @@ use Rattle.grant_machine.proofs.Maps.{output_is}
 use Rattle.flow_state.proofs.Callers.{some_is, changed, KeepsId}
 use Rattle.grant_machine.proofs.Sids.{AllLeadBack, IsOwned, step_keeps, step_gives}
 use Rattle.flow_state.proofs.Callers.{found_before, at_same, flow_keeps_id, there, refusal_there, some_sid, unwrap_some, free_is_free}
-use Rattle.grant_machine.proofs.Added.{find_pushed}
+use Rattle.grant_machine.proofs.Maps.{find_pushed}
 use Rattle.flow_state.proofs.Callers.{has}
 use Rattle.flow_state.proofs.Callers.{has_inserted, asked}
 use Rattle.grant_machine_parts.proofs.Callers.{requests_keep, grants_ask_well, pass_moves, moved_from, is_cut, fill_moves, flow_from}
@@ -193,7 +194,7 @@ IsFresh sid t = list_any (has sid) t.assigned ≡ false
 pub record Adds (rows : Rows) (c : Command) (ch sid : ℕ) (kind : FlowKind) : Type 0 where
   pub modem : ℕ
   pub tag : ℕ
-  pub asked : c ≡ commands.Flow ch modem tag kind
+  pub asked : c ≡ commands.Flow ch modem tag last kind
   pub gives : (accepted rows c).output ≡ outputs.Assigned modem ch sid 0 last_time
   pub fresh : At (IsFresh sid) rows ch
 
@@ -207,16 +208,16 @@ asked_same_kind at next f = by (is_flow at f)
     by true = (refl, refl)
     by false = (refl, refl)
 
-flow_added : (o : Option Assignment) (rows : Rows) (t : Table) (ch modem tag : ℕ) (kind : FlowKind) (f : FlowRow) → table_of rows ch ≡ Some t → assignment_of t modem tag ≡ o → table_flow_refusal t modem tag kind ≡ None
-    → Has (flow_among o t modem tag kind).flows f → IsFlowOf rows ch f.sid f.kind ⊎ Adds rows (commands.Flow ch modem tag kind) ch f.sid f.kind
-flow_added (Some a) rows t ch modem tag kind f found e ok h = inl (same_flow rows ch t f f.sid f.kind found h refl refl)
-flow_added None rows t ch modem tag kind f found e ok h =
-    let free = some_sid t modem tag kind e ok in
+flow_added : (o : Option Lease) (rows : Rows) (t : Table) (ch modem tag last : ℕ) (kind : FlowKind) (f : FlowRow) → table_of rows ch ≡ Some t → lease_of t modem tag ≡ o → table_flow_refusal t modem tag last kind ≡ None
+    → Has (flow_among o t modem tag last kind).flows f → IsFlowOf rows ch f.sid f.kind ⊎ Adds rows (commands.Flow ch modem tag last kind) ch f.sid f.kind
+flow_added (Some a) rows t ch modem tag last kind f found e ok h = inl (same_flow rows ch t f f.sid f.kind found h refl refl)
+flow_added None rows t ch modem tag last kind f found e ok h =
+    let free = some_sid t modem tag last kind e ok in
     let sid : ℕ = unwrap_or (free_sid t) 0 in
     let sid_is : sid ≡ free.0 = unwrap_some (free_sid t) free.0 free.1 in
-    elim (has_inserted (new_flow sid modem tag kind) t.flows f h) [
+    elim (has_inserted (new_flow sid modem tag last kind) t.flows f h) [
       | inl old ↦ inl (same_flow rows ch t f f.sid f.kind found old refl refl)
-      | inr new ↦ inr (subst (λ (g : FlowRow). Adds rows (commands.Flow ch modem tag kind) ch g.sid g.kind) new (record {
+      | inr new ↦ inr (subst (λ (g : FlowRow). Adds rows (commands.Flow ch modem tag last kind) ch g.sid g.kind) new (record {
         modem = modem;
         tag = tag;
         asked = refl;
@@ -231,11 +232,11 @@ flow_comes rows (commands.Channel c) ch u f ok e h = elim (find_pushed rows ch (
   | inl old ↦ inl (same_flow rows ch u f f.sid f.kind old h refl refl)
   | inr new ↦ absurd (subst (λ (v : Table). Has v.flows f) (sym new) h)
 ]
-flow_comes rows (commands.Flow at modem tag kind) ch u f ok e h =
-    changed_table _ rows ch at (λ t. flow_in_table t modem tag kind) u (λ t. flow_keeps_id (assignment_of t modem tag) t modem tag kind) e
+flow_comes rows (commands.Flow at modem tag last kind) ch u f ok e h =
+    changed_table _ rows ch at (λ t. flow_in_table t modem tag last kind) u (λ t. flow_keeps_id (lease_of t modem tag) t modem tag last kind) e
     (λ t found same. inl (same_flow rows ch t f f.sid f.kind found (subst (λ (v : Table). Has v.flows f) same h) refl refl))
-    (λ t found here is. subst (λ n. IsFlowOf rows ch f.sid f.kind ⊎ Adds rows (commands.Flow n modem tag kind) ch f.sid f.kind) (sym here)
-    (flow_added (assignment_of t modem tag) rows t ch modem tag kind f found refl (refusal_there rows at t (λ v. table_flow_refusal v modem tag kind) (subst (λ n. table_of rows n ≡ Some t) (sym here) found) ok)
+    (λ t found here is. subst (λ n. IsFlowOf rows ch f.sid f.kind ⊎ Adds rows (commands.Flow n modem tag last kind) ch f.sid f.kind) (sym here)
+    (flow_added (lease_of t modem tag) rows t ch modem tag last kind f found refl (refusal_there rows at t (λ v. table_flow_refusal v modem tag last kind) (subst (λ n. table_of rows n ≡ Some t) (sym here) found) ok)
     (subst (λ (v : Table). Has v.flows f) is h)))
 flow_comes rows (commands.Drop at sid) ch u f ok e h =
     changed_table _ rows ch at (λ t. drop_in_table t sid) u (λ t. refl) e
@@ -268,7 +269,7 @@ pub record AddedLater (rows : Rows) (cs : List Command) (ch sid : ℕ) (kind : F
   pub place : ℕ
   pub modem : ℕ
   pub tag : ℕ
-  pub asked : slice_get cs place ≡ Some (commands.Flow ch modem tag kind)
+  pub asked : slice_get cs place ≡ Some (commands.Flow ch modem tag last kind)
   pub added : slice_get (outputs_from rows cs) place ≡ Some (outputs.Assigned modem ch sid 0 last_time)
   pub first : (j other since until : ℕ) → j < place → ¬ (slice_get (outputs_from rows cs) j ≡ Some (outputs.Assigned other ch sid since until))
   pub fresh : At (IsFresh sid) rows ch
