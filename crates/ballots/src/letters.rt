@@ -1,6 +1,6 @@
 //! The letters that nodes send to one another (Lamport, Paxos Made Simple, section 2.2). They say what their sender put in: a node has to test it.
 
-ghost use Rattle.std.specs.Prelude.{◌≡◌, IfOk};
+ghost use Rattle.std.specs.Prelude.{◌≡◌, ◌↔◌, IfOk, IsTrue};
 
 use crate::ballot::{Ballot, NodeId};
 use crate::values::Bytes;
@@ -12,6 +12,40 @@ use std::marker::Model;
 pub struct Cast {
     pub ballot: Ballot,
     pub value: Bytes,
+}
+
+impl Cast {
+    /// The same vote again.
+    pub fn copy(&self, alloc: Global) -> Result<Cast, AllocError>
+        ensures { IfOk result (λ copy. copy ≡ self.now) }
+    {
+        Ok(Cast {
+            ballot: self.ballot,
+            value: self.value.copy(alloc)?,
+        })
+    }
+
+    /// Whether it is the same vote.
+    pub fn is_same(&self, other: &Cast) -> bool
+        ensures { IsTrue result ↔ (self.now ≡ other.now) }
+    {
+        self.ballot == other.ballot && self.value.as_slice() == other.value.as_slice()
+    }
+}
+
+/// Whether the places and votes are the same, in the same order.
+fn are_same_rows(a: &[(u64, Cast)], b: &[(u64, Cast)]) -> bool
+    ensures { IsTrue result ↔ (a.now ≡ b.now) }
+{
+    if a.len() != b.len() {
+        return false;
+    }
+    for i in 0..a.len() {
+        if a[i].0 != b[i].0 || !a[i].1.is_same(&b[i].1) {
+            return false;
+        }
+    }
+    true
 }
 
 /// Votes with their places. A store gives its own by ascending place.
@@ -43,13 +77,16 @@ impl Votes {
     {
         let mut rows = Vec::new(alloc);
         for row in self.rows() {
-            let cast = Cast {
-                ballot: row.1.ballot,
-                value: row.1.value.copy(alloc)?,
-            };
-            rows.push((row.0, cast))?;
+            rows.push((row.0, row.1.copy(alloc)?))?;
         }
         Ok(Votes::new(rows))
+    }
+
+    /// Whether they are the same, in the same order.
+    pub fn is_same(&self, other: &Votes) -> bool
+        ensures { IsTrue result ↔ (self.now ≡ other.now) }
+    {
+        are_same_rows(self.rows(), other.rows())
     }
 
     /// The place and the vote of each.
@@ -141,6 +178,81 @@ impl Note {
             }),
         }
     }
+
+    /// Whether it says the same.
+    pub fn is_same(&self, other: &Note) -> bool
+        ensures { IsTrue result ↔ (self.now ≡ other.now) }
+    {
+        match (self, other) {
+            (
+                Note::Prepare { ballot, place },
+                Note::Prepare {
+                    ballot: other_ballot,
+                    place: other_place,
+                },
+            ) => *ballot == *other_ballot && *place == *other_place,
+            (
+                Note::Promise {
+                    ballot,
+                    place,
+                    votes,
+                },
+                Note::Promise {
+                    ballot: other_ballot,
+                    place: other_place,
+                    votes: other_votes,
+                },
+            ) => {
+                *ballot == *other_ballot && *place == *other_place && votes.is_same(other_votes)
+            }
+            (
+                Note::Accept {
+                    ballot,
+                    place,
+                    value,
+                },
+                Note::Accept {
+                    ballot: other_ballot,
+                    place: other_place,
+                    value: other_value,
+                },
+            ) => {
+                *ballot == *other_ballot
+                    && *place == *other_place
+                    && value.as_slice() == other_value.as_slice()
+            }
+            (
+                Note::Voted {
+                    ballot,
+                    place,
+                    value,
+                },
+                Note::Voted {
+                    ballot: other_ballot,
+                    place: other_place,
+                    value: other_value,
+                },
+            ) => {
+                *ballot == *other_ballot
+                    && *place == *other_place
+                    && value.as_slice() == other_value.as_slice()
+            }
+            (
+                Note::Higher { ballot },
+                Note::Higher {
+                    ballot: other_ballot,
+                },
+            ) => *ballot == *other_ballot,
+            (
+                Note::Known { place, value },
+                Note::Known {
+                    place: other_place,
+                    value: other_value,
+                },
+            ) => *place == *other_place && value.as_slice() == other_value.as_slice(),
+            _ => false,
+        }
+    }
 }
 
 /// What a node tells another, or itself.
@@ -149,4 +261,24 @@ pub struct Letter {
     pub from: NodeId,
     pub to: NodeId,
     pub note: Note,
+}
+
+impl Letter {
+    /// The same letter again.
+    pub fn copy(&self, alloc: Global) -> Result<Letter, AllocError>
+        ensures { IfOk result (λ copy. copy ≡ self.now) }
+    {
+        Ok(Letter {
+            from: self.from,
+            to: self.to,
+            note: self.note.copy(alloc)?,
+        })
+    }
+
+    /// Whether it is the same letter.
+    pub fn is_same(&self, other: &Letter) -> bool
+        ensures { IsTrue result ↔ (self.now ≡ other.now) }
+    {
+        self.from == other.from && self.to == other.to && self.note.is_same(&other.note)
+    }
 }

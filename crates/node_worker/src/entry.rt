@@ -2,7 +2,7 @@
 
 ghost use Rattle.std.specs.Prelude.{◌≡◌, IfOk, IsTrue, ◌↔◌};
 
-use crate::compare::{are_same_letters, are_same_outputs, copy_letter, is_same_letter};
+use crate::compare::{are_same_letters, are_same_outputs};
 use ballots::{Bytes, Letter, NodeId};
 use map_release::Numbered;
 use network_script_parts::Refusal;
@@ -110,7 +110,7 @@ impl Cause {
     {
         match self {
             Cause::Ask(ask) => Ok(Cause::Ask(ask.copy(alloc)?)),
-            Cause::Letter(letter) => Ok(Cause::Letter(copy_letter(alloc, letter)?)),
+            Cause::Letter(letter) => Ok(Cause::Letter(letter.copy(alloc)?)),
         }
     }
 
@@ -120,7 +120,7 @@ impl Cause {
     {
         match (self, other) {
             (Cause::Ask(a), Cause::Ask(b)) => a.is_same(b),
-            (Cause::Letter(a), Cause::Letter(b)) => is_same_letter(a, b),
+            (Cause::Letter(a), Cause::Letter(b)) => a.is_same(b),
             _ => false,
         }
     }

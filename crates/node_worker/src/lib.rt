@@ -15,7 +15,6 @@ mod worker;
 pub use audits::{Torn, audit};
 pub use carrier::{Carrier, Gate, Point};
 pub use cluster::run_cluster;
-pub use compare::copy_letter;
 pub use entry::{Ask, Cause, Done, Ended, Entry, Record};
 pub use kept::{Kept, WorkFault, keep_all};
 pub use laws::sound_is_legal;

@@ -3,7 +3,7 @@
 use crate::fixtures::{does, lead, three};
 use ballots::{Bytes, Members};
 use network_script_parts::{OutOfMemory, PlainNode, plain_nodes};
-use node_worker::{Ask, Cause, Done, Kept, Plant, copy_letter, keep_all};
+use node_worker::{Ask, Cause, Done, Kept, Plant, keep_all};
 use std::alloc::Global;
 use std::test::*;
 
@@ -33,7 +33,7 @@ fn given_back(plant: &mut Plant<PlainNode>, kepts: &Kepts, k: usize, done: Done)
 // Node 1 receives letter number i of what node 0 did.
 fn answer_to(alloc: Global, kepts: &mut Kepts, done: &Done, i: usize) -> Option<Done> {
     let letter = done.entry.letters().get(i)?;
-    let copy = copy_letter(alloc, letter).ok()?;
+    let copy = letter.copy(alloc).ok()?;
     does(kepts, 1, Cause::Letter(copy))
 }
 

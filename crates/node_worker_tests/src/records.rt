@@ -2,7 +2,7 @@
 
 use crate::fixtures::{does, is_whole_lead, lead, three};
 use network_script_parts::PlainNode;
-use node_worker::{Cause, Done, Kept, Torn, WorkFault, audit, copy_letter};
+use node_worker::{Cause, Done, Kept, Torn, WorkFault, audit};
 use std::alloc::Global;
 use std::test::*;
 
@@ -18,7 +18,7 @@ fn two_done(
     let Some(letter) = asked.entry.letters().get(i) else {
         return Err("letter".into());
     };
-    let copy = copy_letter(alloc, letter)?;
+    let copy = letter.copy(alloc)?;
     match does(kepts, 1, Cause::Letter(copy)) {
         Some(answered) => Ok((asked, answered)),
         None => Err("receive".into()),

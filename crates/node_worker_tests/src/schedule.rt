@@ -8,7 +8,7 @@ use grant_machine::Command;
 use minislot_time::Slot;
 use modem::{Heard, WantFault};
 use network_script_parts::{Answer, Event, OutOfMemory, PlainNode, Refusal, new_modems};
-use node_worker::{Ask, Cause, Kept, Plant, Record, copy_letter, step};
+use node_worker::{Ask, Cause, Kept, Plant, Record, step};
 use std::alloc::Global;
 use std::test::*;
 
@@ -53,7 +53,7 @@ fn is_delivered(alloc: Global, site: &mut Site, i: usize) -> bool {
     let Some(letter) = letter_at(site.plant.records(), i) else {
         return false;
     };
-    let Ok(copy) = copy_letter(alloc, letter) else {
+    let Ok(copy) = letter.copy(alloc) else {
         return false;
     };
     let k = usize::from(copy.to.number());

@@ -7,7 +7,7 @@ use crate::inbox::Inbox;
 use ballots::{Bytes, Members, NodeId};
 use network_script_parts::OutOfMemory;
 use node::Node;
-use node_worker::{Ask, Carrier, Cause, Gate, Plant, Point, Record, copy_letter};
+use node_worker::{Ask, Carrier, Cause, Gate, Plant, Point, Record};
 use std::alloc::Global;
 use std::sync::{Mutex, Wait};
 use std::thread;
@@ -116,7 +116,7 @@ impl Carrier for LiveCarrier {
             return Ok(Some(Cause::Ask(ask)));
         }
         if let Some(letter) = self.inbox.next(records) {
-            return Ok(Some(Cause::Letter(copy_letter(self.alloc, letter)?)));
+            return Ok(Some(Cause::Letter(letter.copy(self.alloc)?)));
         }
         match self.next_ask(records) {
             Some(ask) => Ok(Some(Cause::Ask(ask))),

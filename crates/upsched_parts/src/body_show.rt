@@ -5,31 +5,16 @@ ghost use Rattle.std.specs.Io.KnownBytes.{Appends};
 ghost use Rattle.map_body.specs.Body.{Body};
 ghost use Rattle.upsched_parts.specs.declared.status.Status.TheVariants.{Done, NotUnderstood};
 ghost use Rattle.upsched_parts.specs.Lines.{element_line, element_lines, body_lines};
-ghost use Rattle.upsched_parts.specs.Show.{fault_number, IsHexBody};
+ghost use Rattle.upsched_parts.specs.Show.{IsHexBody};
 
 use crate::fault::Fault;
 use crate::lines::{element_text, head_text};
 use crate::status::Status;
 use crate::words::ShowWords;
 use hex::FromHexError;
-use map_body::{Element, MapBody, MapFault};
+use map_body::{Element, MapBody};
 use std::alloc::Global;
 use std::io::Write;
-
-/// The number that stands for the fault of a body.
-fn number_of(fault: MapFault) -> u8
-    ensures { result ≡ fault_number fault }
-{
-    match fault {
-        MapFault::Short => 1,
-        MapFault::Trailing => 2,
-        MapFault::Expansion(_) => 3,
-        MapFault::OutOfOrder(_) => 4,
-        MapFault::NoNull => 5,
-        MapFault::OutOfMemory => 6,
-        MapFault::TooMany => 7,
-    }
-}
 
 /// The body that hexadecimal digits give.
 fn body_of<'a>(alloc: Global, hex: &str) -> Result<MapBody, Fault<'a>>
@@ -43,7 +28,7 @@ fn body_of<'a>(alloc: Global, hex: &str) -> Result<MapBody, Fault<'a>>
     match map_body::decode(alloc, bytes.as_slice()) {
         Ok(map) => Ok(map),
         Err(fault) => Err(Fault::Body {
-            number: number_of(fault),
+            number: fault.number(),
             fault,
         }),
     }
