@@ -16,12 +16,12 @@ use Rattle.grant_machine_parts.specs.Filling.{IsUseFor}
 use Rattle.flow_state.proofs.Callers.{Has, has_at, has_either, has_pushed, has_any, has_found, found_has, unfound, all_has}
 use Rattle.flow_state.proofs.Callers.{eqb_same}
 use Rattle.flow_state.proofs.Callers.{IsWell, both}
-use Rattle.grant_machine_parts.proofs.Fillings.{IsUse, plain_request, IsFor, MayPlace, fill_keeps}
+use Rattle.grant_machine_parts.proofs.Fillings.{IsUse, plain_request, IsFor, IsLeased, MayPlace, fill_keeps}
 use Rattle.grant_machine_parts.proofs.Offsets.{some_same, InList, begun, StandAt, begun_has, ascending, next_to, in_row, begun_count, at_front, at_end, named_twice}
 
 -- ---- the placements of a filled MAP
 
--- a placement of a MAP: some minislots within it, to a unicast SID, for what it serves
+-- a placement of a MAP: some minislots within it and its lease, to a unicast SID, for what it serves
 pub record IsPlaced (t : Table) (span : Extent) (q : Placement) : Type 0 where
   pub some : 1 ≤ q.size
   pub most : q.size ≤ 255
@@ -30,6 +30,7 @@ pub record IsPlaced (t : Table) (span : Extent) (q : Placement) : Type 0 where
   pub iuc : IsUse q.iuc
   pub within : q.offset + q.size ≤ span.len
   pub serves : IsFor t q q.cause
+  pub leased : IsLeased t span q
   pub use_is : IsUseFor q.cause q.iuc
 
 -- sixty placements at most, and no minislot in two
@@ -56,7 +57,7 @@ placed_more : (t : Table) (span : Extent) (ps : List Placement) (q : Placement) 
 placed_more t span ps q a m = record {
   each = λ p h. elim (has_pushed ps q p h) [
     | inl old ↦ a.each p old
-    | inr same ↦ subst (IsPlaced t span) same (record { some = m.some; most = m.most; unicast = m.unicast; last = m.last; iuc = m.iuc; within = m.fit.within; serves = m.serves; use_is = m.use_is })
+    | inr same ↦ subst (IsPlaced t span) same (record { some = m.some; most = m.most; unicast = m.unicast; last = m.last; iuc = m.iuc; within = m.fit.within; serves = m.serves; leased = m.leased; use_is = m.use_is })
   ];
   apart = λ x p r h k d e. by x p r (has_pushed ps q p h) (has_pushed ps q r k) d e;
   few = let room = m.fit.few in let len = length-append ps (q ∷ []) in omega arith;

@@ -1,5 +1,5 @@
 -- The gaps between placements: which are left once minislots are held, and the first that is wide enough.
-use Rattle.std.proofs.Common.{◌≡◌, ◌⊎◌, ℕ, zero, suc, ◌+◌, ◌-◌, ◌<◌, ◌≤◌, Bool, true, false, cond, not, ◌&&◌, ◌^◌, min, max, List, [], ◌∷◌, ◌++◌, Option, Some, None, is_none, IfSome, ⊎_elim, inl, inr, refl, sym, ap, subst, ◌∙◌, arith, leb, ltb, append_assoc}
+use Rattle.std.proofs.Common.{◌≡◌, ◌⊎◌, ℕ, zero, suc, ◌+◌, ◌-◌, ◌<◌, ◌≤◌, Bool, true, false, cond, not, ◌&&◌, min, max, List, [], ◌∷◌, ◌++◌, Option, Some, None, is_none, IfSome, ⊎_elim, inl, inr, refl, sym, ap, subst, ◌∙◌, arith, leb, ltb, append_assoc}
 use Rattle.std.specs.List.{find, list_all, range_with_len, AllByRecursion}
 use Rattle.std.proofs.lemmas.Bool.{cases_lt, ltb-true, ltb-false, leb-true, leb-false, lt-ltb, lt-leb, le-leb, le-ltb}
 use Rattle.minislot_time.specs.Extent.{Extent}
@@ -161,38 +161,48 @@ not_all_in f x (suc n) z le lt off = ⊎_elim
     and_false true = refl
     and_false false = refl
 
-module _ (span : Extent) (ps : List Placement) (n lo hi : ℕ) where
-  pub run_fits : (x : ℕ) → lo ≤ span.start + x → span.start + x ≤ hi → x + n ≤ span.len → ((z : ℕ) → x ≤ z → z < x + n → is_free ps z ≡ true) → fits_at span ps n lo hi x ≡ true
-  run_fits x not_early not_late within free = rw (le-leb lo (span.start + x) not_early, le-leb (span.start + x) hi not_late, le-leb (x + n) span.len within) (all_in (is_free ps) x n free)
+module _ (span : Extent) (ps : List Placement) (n lo hi last : ℕ) where
+  pub run_fits : (x : ℕ) → lo ≤ span.start + x → span.start + x ≤ hi → span.start + x + n ≤ last + 1 → x + n ≤ span.len → ((z : ℕ) → x ≤ z → z < x + n → is_free ps z ≡ true) → fits_at span ps n lo hi last x ≡ true
+  run_fits x not_early not_late in_lease within free = rw (le-leb lo (span.start + x) not_early, le-leb (span.start + x) hi not_late, le-leb (span.start + x + n) (last + 1) in_lease, le-leb (x + n) span.len within) (all_in (is_free ps) x n free)
 
-  three : (a b c : Bool) → (a && b && c && false) ≡ false
-  three true true true = refl
-  three true true false = refl
-  three true false c = refl
-  three false b c = refl
+  four : (a b c d : Bool) → (a && b && c && d && false) ≡ false
+  four true true true true = refl
+  four true true true false = refl
+  four true true false d = refl
+  four true false c d = refl
+  four false b c d = refl
 
-  held_unfit : (x z : ℕ) → x ≤ z → z < x + n → is_free ps z ≡ false → fits_at span ps n lo hi x ≡ false
+  held_unfit : (x z : ℕ) → x ≤ z → z < x + n → is_free ps z ≡ false → fits_at span ps n lo hi last x ≡ false
   held_unfit x z from below held =
-      ap (λ b. leb lo (span.start + x) && leb (span.start + x) hi && leb (x + n) span.len && b) (not_all_in (is_free ps) x n z from below held)
-      ∙ three (leb lo (span.start + x)) (leb (span.start + x) hi) (leb (x + n) span.len)
+      ap (λ b. leb lo (span.start + x) && leb (span.start + x) hi && leb (span.start + x + n) (last + 1) && leb (x + n) span.len && b) (not_all_in (is_free ps) x n z from below held)
+      ∙ four (leb lo (span.start + x)) (leb (span.start + x) hi) (leb (span.start + x + n) (last + 1)) (leb (x + n) span.len)
 
-  early_unfit : (x : ℕ) → span.start + x < lo → fits_at span ps n lo hi x ≡ false
+  early_unfit : (x : ℕ) → span.start + x < lo → fits_at span ps n lo hi last x ≡ false
   early_unfit x lt = rw (lt-leb lo (span.start + x) lt) refl
 
-  late_unfit : (x : ℕ) → hi < span.start + x → fits_at span ps n lo hi x ≡ false
-  late_unfit x lt = ap (λ b. leb lo (span.start + x) && b && leb (x + n) span.len && list_all (is_free ps) (range_with_len x n)) (lt-leb (span.start + x) hi lt) ∙ by (leb lo (span.start + x)) _ _
+  late_unfit : (x : ℕ) → hi < span.start + x → fits_at span ps n lo hi last x ≡ false
+  late_unfit x lt = ap (λ b. leb lo (span.start + x) && b && leb (span.start + x + n) (last + 1) && leb (x + n) span.len && list_all (is_free ps) (range_with_len x n)) (lt-leb (span.start + x) hi lt) ∙ by (leb lo (span.start + x)) _ _ _
     where
-      by : (a c d : Bool) → (a && false && c && d) ≡ false
-      by true c d = refl
-      by false c d = refl
+      by : (a b c d : Bool) → (a && false && b && c && d) ≡ false
+      by true b c d = refl
+      by false b c d = refl
 
-  long_unfit : (x : ℕ) → span.len < x + n → fits_at span ps n lo hi x ≡ false
-  long_unfit x lt = ap (λ b. leb lo (span.start + x) && leb (span.start + x) hi && b && list_all (is_free ps) (range_with_len x n)) (lt-leb (x + n) span.len lt) ∙ by (leb lo (span.start + x)) (leb (span.start + x) hi) _
+  over_unfit : (x : ℕ) → last + 1 < span.start + x + n → fits_at span ps n lo hi last x ≡ false
+  over_unfit x lt = ap (λ b. leb lo (span.start + x) && leb (span.start + x) hi && b && leb (x + n) span.len && list_all (is_free ps) (range_with_len x n)) (lt-leb (span.start + x + n) (last + 1) lt) ∙ by (leb lo (span.start + x)) (leb (span.start + x) hi) _ _
     where
-      by : (a b d : Bool) → (a && b && false && d) ≡ false
-      by true true d = refl
-      by true false d = refl
-      by false b d = refl
+      by : (a b c d : Bool) → (a && b && false && c && d) ≡ false
+      by true true c d = refl
+      by true false c d = refl
+      by false b c d = refl
+
+  long_unfit : (x : ℕ) → span.len < x + n → fits_at span ps n lo hi last x ≡ false
+  long_unfit x lt = ap (λ b. leb lo (span.start + x) && leb (span.start + x) hi && leb (span.start + x + n) (last + 1) && b && list_all (is_free ps) (range_with_len x n)) (lt-leb (x + n) span.len lt) ∙ by (leb lo (span.start + x)) (leb (span.start + x) hi) (leb (span.start + x + n) (last + 1)) _
+    where
+      by : (a b c d : Bool) → (a && b && c && false && d) ≡ false
+      by true true true d = refl
+      by true true false d = refl
+      by true false c d = refl
+      by false b c d = refl
 
 -- ---- the search
 
@@ -216,54 +226,54 @@ none_from : (f : ℕ → Bool) (n a : ℕ) → ((y : ℕ) → a ≤ y → y < a 
 none_from f zero a off = refl
 none_from f (suc n) a off = rw (off a (omega arith) (omega arith)) (none_from f n (a + 1) (λ y le lt. off y (omega arith) (omega arith)))
 
-module _ (start len : ℕ) (ps : List Placement) (n lo hi : ℕ) where
+module _ (start len : ℕ) (ps : List Placement) (n lo hi last : ℕ) where
   abbrev span : Extent
   span = record { start = start; len = len }
 
   -- what is found from x on, and in the whole MAP
   abbrev pub found_from : ℕ → Option ℕ
-  found_from x = find (fits_at (record { start = start; len = len }) ps n lo hi) (range_with_len x (len - x))
+  found_from x = find (fits_at (record { start = start; len = len }) ps n lo hi last) (range_with_len x (len - x))
 
   abbrev pub found : Option ℕ
-  found = find (fits_at (record { start = start; len = len }) ps n lo hi) (range_with_len 0 len)
+  found = find (fits_at (record { start = start; len = len }) ps n lo hi last) (range_with_len 0 len)
 
-  -- the offsets that are neither early nor late
+  -- the offsets that are neither early, nor late, nor too late for the lease
   pub record AreInTime (first behind : ℕ) : Type 0 where
     pub from : first ≤ len
     pub early : first ≤ lo - start
     pub not_early : (y : ℕ) → first ≤ y → y < len → lo ≤ start + y
     pub most : behind ≤ len
-    pub not_late : (y : ℕ) → y < behind → start + y ≤ hi
-    pub late : (y : ℕ) → behind ≤ y → y < len → hi < start + y
+    pub not_late : (y : ℕ) → y < behind → (start + y ≤ hi) × (start + y + n ≤ last + 1)
+    pub late : (y : ℕ) → behind ≤ y → y < len → (hi < start + y) ⊎ (last + 1 < start + y + n)
 
   module _ (first behind : ℕ) (timely : AreInTime first behind) where
     from_first : found ≡ found_from first
     from_first =
         let all : len ≡ len - 0 = omega arith in
         let le = timely.early in
-        ap (λ k. find (fits_at span ps n lo hi) (range_with_len 0 k)) all ∙ skip_to (fits_at span ps n lo hi) len 0 first (omega arith) (λ y ge lt. early_unfit span ps n lo hi y (omega arith))
+        ap (λ k. find (fits_at span ps n lo hi last) (range_with_len 0 k)) all ∙ skip_to (fits_at span ps n lo hi last) len 0 first (omega arith) (λ y ge lt. early_unfit span ps n lo hi last y (omega arith))
 
     found_here : (x : ℕ) → first ≤ x → x < behind → x + n ≤ len → ((z : ℕ) → x ≤ z → z < x + n → is_free ps z ≡ true) → found_from x ≡ Some x
     found_here x ge lt within free =
         let most = timely.most in
         let k : len - x ≡ suc (len - (x + 1)) = omega arith in
-        rw (k, run_fits span ps n lo hi x (timely.not_early x ge (omega arith)) (timely.not_late x lt) within free) refl
+        rw (k, run_fits span ps n lo hi last x (timely.not_early x ge (omega arith)) (timely.not_late x lt).0 (timely.not_late x lt).1 within free) refl
 
     found_late : (x : ℕ) → behind ≤ x → found_from x ≡ None
-    found_late x ge = none_from (fits_at span ps n lo hi) (len - x) x (λ y more below. late_unfit span ps n lo hi y (timely.late y (omega arith) (omega arith)))
+    found_late x ge = none_from (fits_at span ps n lo hi last) (len - x) x (λ y more below. elim (timely.late y (omega arith) (omega arith)) [ inl late ↦ late_unfit span ps n lo hi last y late | inr over ↦ over_unfit span ps n lo hi last y over ])
 
     -- what fits is what a gap has
     gap_found : 1 ≤ n → (a : ℕ) (gs : List Gap) → AreGaps (is_free ps) a len gs → gap_in gs n first behind ≡ found_from (max a first)
-    gap_found some a [] none = sym (none_from (fits_at span ps n lo hi) (len - max a first) (max a first) (λ y ge lt. held_unfit span ps n lo hi y y (omega arith) (omega arith) (none y (omega arith) (omega arith))))
+    gap_found some a [] none = sym (none_from (fits_at span ps n lo hi last) (len - max a first) (max a first) (λ y ge lt. held_unfit span ps n lo hi last y y (omega arith) (omega arith) (none y (omega arith) (omega arith))))
     gap_found some a (g ∷ gs) are = sym (before ∙ by (gap_found some g.to gs are.1) (leb behind (max g.from first)) (leb (max g.from first + n) g.to) refl refl)
       where
         before : found_from (max a first) ≡ found_from (max g.from first)
-        before = let from = are.0.from in skip_to (fits_at span ps n lo hi) len (max a first) (max g.from first) (omega arith) (λ y ge lt. held_unfit span ps n lo hi y y (omega arith) (omega arith) (are.0.before y (omega arith) (omega arith)))
+        before = let from = are.0.from in skip_to (fits_at span ps n lo hi last) len (max a first) (max g.from first) (omega arith) (λ y ge lt. held_unfit span ps n lo hi last y y (omega arith) (omega arith) (are.0.before y (omega arith) (omega arith)))
 
         beyond : g.to < max g.from first + n → found_from (max g.from first) ≡ found_from (max g.to first)
-        beyond short = let to = are.0.to in let within = are.0.within in skip_to (fits_at span ps n lo hi) len (max g.from first) (max g.to first) (omega arith) (λ y ge lt. ⊎_elim
-            (λ (inside : g.to < len). held_unfit span ps n lo hi y g.to (omega arith) (omega arith) (are.0.behind inside))
-            (λ (end : len ≤ g.to). long_unfit span ps n lo hi y (omega arith))
+        beyond short = let to = are.0.to in let within = are.0.within in skip_to (fits_at span ps n lo hi last) len (max g.from first) (max g.to first) (omega arith) (λ y ge lt. ⊎_elim
+            (λ (inside : g.to < len). held_unfit span ps n lo hi last y g.to (omega arith) (omega arith) (are.0.behind inside))
+            (λ (end : len ≤ g.to). long_unfit span ps n lo hi last y (omega arith))
             (cases_lt g.to len))
 
         by : gap_in gs n first behind ≡ found_from (max g.to first) → (b c : Bool) → leb behind (max g.from first) ≡ b → leb (max g.from first + n) g.to ≡ c → found_from (max g.from first) ≡ cond b None (cond c (Some (max g.from first)) (gap_in gs n first behind))
@@ -292,21 +302,23 @@ pub all_push : (ps : List Placement) (p : Placement) → AllByRecursion has_use 
 all_push [] p a h = (h, tt)
 all_push (q ∷ ps) p a h = (a.0, all_push ps p a.1 h)
 
-fit_within : (extent : Extent) (ps : List Placement) (n lo hi : ℕ) (o : Option ℕ) → first_fit extent ps n lo hi ≡ o → IfSome o (λ x. x + n ≤ extent.len)
-fit_within extent ps n lo hi (Some x) e = (first_fit_tells extent ps n lo hi x e).within
-fit_within extent ps n lo hi None e = tt
+fit_within : (extent : Extent) (ps : List Placement) (n lo hi last : ℕ) (o : Option ℕ) → first_fit extent ps n lo hi last ≡ o → IfSome o (λ x. x + n ≤ extent.len)
+fit_within extent ps n lo hi last (Some x) e = (first_fit_tells extent ps n lo hi last x e).within
+fit_within extent ps n lo hi last None e = tt
 
 -- a first fit ends within the MAP
-pub fit_ends : (v : PartMap) (n lo hi : ℕ) (o : Option ℕ) → o ≡ first_fit v.span v.placements n lo hi → IfSome o (λ x. x + n ≤ v.span.len)
-fit_ends v n lo hi o e = fit_within v.span v.placements n lo hi o (sym e)
+pub fit_ends : (v : PartMap) (n lo hi last : ℕ) (o : Option ℕ) → o ≡ first_fit v.span v.placements n lo hi last → IfSome o (λ x. x + n ≤ v.span.len)
+fit_ends v n lo hi last o e = fit_within v.span v.placements n lo hi last o (sym e)
 
 -- the offsets that the program looks at
-pub in_time : (start len : ℕ) (ps : List Placement) (n lo hi first behind next : ℕ) → start + len < 2 ^ 63 → lo < 2 ^ 64 → hi < 2 ^ 64 → first ≡ min (lo - start) len → next ≡ min (hi + 1) (2 ^ 64 - 1) → behind ≡ min (next - start) len → AreInTime start len ps n lo hi first behind
-in_time start len ps n lo hi first behind next short lo_fits hi_fits low after high = record {
+pub in_time : (start len : ℕ) (ps : List Placement) (n lo hi last first behind : ℕ) → first ≡ min (lo - start) len → behind ≤ len
+    → ((y : ℕ) → y < behind → (start + y ≤ hi) × (start + y + n ≤ last + 1)) → ((y : ℕ) → behind ≤ y → y < len → (hi < start + y) ⊎ (last + 1 < start + y + n))
+    → AreInTime start len ps n lo hi last first behind
+in_time start len ps n lo hi last first behind low most not_late late = record {
   from = omega arith;
   early = omega arith;
   not_early = λ y ge lt. omega arith;
-  most = omega arith;
-  not_late = λ y lt. omega arith;
-  late = λ y ge lt. omega arith;
+  most = most;
+  not_late = not_late;
+  late = late;
 }

@@ -8,23 +8,26 @@ use Rattle.flow_state.specs.declared.channel.Phy.{Phy}
 use Rattle.flow_state.specs.declared.channel.Phy.TheVariants.{Tdma, Advanced}
 use Rattle.flow_state.specs.declared.flow.FlowKind.{FlowKind}
 use Rattle.flow_state.specs.declared.flow.FlowKind.TheVariants.{BestEffort, Ugs, Poll}
+use Rattle.flow_state.specs.declared.flow.Lease.{Lease}
 use Rattle.flow_state.specs.declared.flow.Waiting.{Waiting}
 use Rattle.flow_state.specs.declared.refusal.Refusal.TheVariants.{BadValue}
 use Rattle.flow_state.specs.Limits.{last_time, last_sid, is_good_kind, is_schedule, is_ugs, due_time}
-use Rattle.flow_state.specs.Rows.{Table, FlowRow, is_of}
+use Rattle.flow_state.specs.Rows.{Table, FlowRow, is_of, is_of_sid, flow_of, last_in, last_of, is_ended, has_ended}
+use Rattle.flow_state.specs.Sound.{lease_in}
 use Rattle.grant_machine_parts.specs.Placing.{Cause, Window, Sent, Placement, holder, is_free, fits_at, first_fit, most_placements}
-use Rattle.grant_machine_parts.specs.Cutting.{Periodic, due_at, end_of, Missed, Placed, Kept, verdict, verdict_on, placement_at, Ran, run_due_times, run_flow, due_before, Passed, pass, grants_of_flow, polls_of_flow, grants_of_kind, polls_of_kind, sized_iuc, grant_iuc, unsolicited_on, unsolicited_iuc, priority_of, in_order, placement_for, place_requests, is_grant_of, Filled, fill, fill_span, fill_refusal, span_of, ack_of, table_after}
+use Rattle.grant_machine_parts.specs.Cutting.{Periodic, due_at, end_of, Missed, Placed, Kept, verdict, verdict_on, placement_at, Ran, run_due_times, run_flow, due_before, Passed, pass, grants_of_flow, polls_of_flow, grants_of_kind, polls_of_kind, sized_iuc, grant_iuc, unsolicited_on, unsolicited_iuc, priority_of, in_order, placement_for, place_requests, is_grant_of, Filled, fill, fill_polls, fill_span, fill_refusal, span_of, ack_of, table_after}
 use Rattle.grant_machine_parts.specs.Filling.{IsRequestedUse, IsDueUse, IsUseFor}
-use Rattle.flow_state.proofs.Callers.{Has, has_filter, has_flat_map}
+use Rattle.flow_state.proofs.Callers.{Has, has_filter, filter_has, has_flat_map}
 use Rattle.grant_machine_parts.proofs.Windows.{first_fit_tells, placed_is}
-use Rattle.flow_state.proofs.Callers.{IsWell, IsWellFlow, RisingFrom, both, filter_fewer, filter_both}
+use Rattle.flow_state.proofs.Callers.{IsWell, IsWellFlow, RisingFrom, both, filter_fewer, filter_both, flow_found, ended_with, not_less, not_true}
 
 -- ---- where a placement may go
 
--- there is room for a placement, and n free minislots of the MAP begin at x
-pub record Fit (span : Extent) (ps : List Placement) (n x : ℕ) : Type 0 where
+-- there is room for a placement, and n free minislots of the MAP begin at x and end by the last one
+pub record Fit (span : Extent) (ps : List Placement) (n last x : ℕ) : Type 0 where
   pub few : length ps < most_placements
   pub within : x + n ≤ span.len
+  pub in_lease : span.start + x + n ≤ last + 1
   pub free : (y : ℕ) → x ≤ y → y < x + n → holder ps y ≡ None
 
 none_is : {X : Type 0} (o : Option X) → is_none o ≡ true → o ≡ None
@@ -41,20 +44,20 @@ all_free ps a (suc n) y e ge lt = elim (first a y ge) [
     first : (a x : ℕ) → a ≤ x → (a ≡ x) ⊎ (a + 1 ≤ x)
     first a x le = grind arith
 
-pub fit_tells : (span : Extent) (ps : List Placement) (n lo hi x : ℕ) → first_fit span ps n lo hi ≡ Some x → Fit span ps n x
-fit_tells span ps n lo hi x e =
-    let t = first_fit_tells span ps n lo hi x e in
-    record { few = by (ltb (length ps) most_placements) refl e; within = t.within; free = λ y ge lt. all_free ps x n y t.free ge lt }
+pub fit_tells : (span : Extent) (ps : List Placement) (n lo hi last x : ℕ) → first_fit span ps n lo hi last ≡ Some x → Fit span ps n last x
+fit_tells span ps n lo hi last x e =
+    let t = first_fit_tells span ps n lo hi last x e in
+    record { few = by (ltb (length ps) most_placements) refl e; within = t.within; in_lease = t.in_lease; free = λ y ge lt. all_free ps x n y t.free ge lt }
   where
-    by : (b : Bool) → ltb (length ps) most_placements ≡ b → cond b (find (fits_at span ps n lo hi) (range_with_len 0 span.len)) None ≡ Some x → length ps < most_placements
+    by : (b : Bool) → ltb (length ps) most_placements ≡ b → cond b (find (fits_at span ps n lo hi last) (range_with_len 0 span.len)) None ≡ Some x → length ps < most_placements
     by true h f = ltb-true _ _ h
     by false h f = absurd cc
 
-pub placed_fit : (span : Extent) (ps : List Placement) (p : Periodic) (i x : ℕ) → verdict span ps p i ≡ Placed x → Fit span ps p.size x
+pub placed_fit : (span : Extent) (ps : List Placement) (p : Periodic) (i x : ℕ) → verdict span ps p i ≡ Placed x → Fit span ps p.size p.last x
 placed_fit span ps p i x e =
-    elim (ltb (due_at p i + p.jitter) span.start) as (λ b. cond b Missed (verdict_on span (first_fit span ps p.size (max (due_at p i) span.start) (due_at p i + p.jitter)) (due_at p i + p.jitter)) ≡ Placed x → Fit span ps p.size x) [
+    elim (ltb (due_at p i + p.jitter) span.start) as (λ b. cond b Missed (verdict_on span (first_fit span ps p.size (max (due_at p i) span.start) (due_at p i + p.jitter) p.last) (due_at p i + p.jitter)) ≡ Placed x → Fit span ps p.size p.last x) [
       | true ↦ λ f. absurd cc
-      | false ↦ λ f. fit_tells span ps p.size _ _ x (placed_is span _ _ x f)
+      | false ↦ λ f. fit_tells span ps p.size _ _ _ x (placed_is span _ _ x f)
     ] e
 
 -- ---- due times
@@ -111,6 +114,8 @@ unsolicited_use c n = by c.phy refl
 -- what a flow's kind asks for is at the flow's due times
 pub record IsOfFlow (f : FlowRow) (p : Periodic) : Type 0 where
   pub well : IsWellPeriodic p
+  pub sid : p.sid ≡ f.sid
+  pub last : p.last ≡ f.last
   pub due : (i : ℕ) → due_time f.kind i ≡ due_at p i
 
 short_interval : (interval jitter base : ℕ) → is_schedule interval jitter base ≡ true → interval ≤ 1000000
@@ -119,10 +124,10 @@ short_interval interval jitter base e = leb-true _ _ (both _ _ (both _ _ (both _
 periodic_is : (q p : Periodic) → Some q ≡ Some p → q ≡ p
 periodic_is q p e = cc
 
-pub grants_of : (c : Channel) (f : FlowRow) (p : Periodic) → IsWellFlow f → grants_of_kind c f.sid f.kind ≡ Some p → IsOfFlow f p
+pub grants_of : (c : Channel) (f : FlowRow) (p : Periodic) → IsWellFlow f → grants_of_kind c f.sid f.last f.kind ≡ Some p → IsOfFlow f p
 grants_of c f p w e = by f.kind refl e
   where
-    by : (k : FlowKind) → f.kind ≡ k → grants_of_kind c f.sid k ≡ Some p → IsOfFlow f p
+    by : (k : FlowKind) → f.kind ≡ k → grants_of_kind c f.sid f.last k ≡ Some p → IsOfFlow f p
     by (BestEffort priority) h g = absurd cc
     by (Poll interval jitter base) h g = absurd cc
     by (Ugs size interval jitter base) h g =
@@ -137,19 +142,23 @@ grants_of c f p w e = by f.kind refl e
             iuc = unsolicited_use c size;
             short = short_interval interval jitter base (both _ _ good).1;
           };
+          sid = refl;
+          last = refl;
           due = λ i. ap (λ k. due_time k i) h;
         })
 
-pub polls_of : (c : Channel) (f : FlowRow) (p : Periodic) → IsWellFlow f → polls_of_kind c f.sid f.kind ≡ Some p → IsOfFlow f p
+pub polls_of : (c : Channel) (f : FlowRow) (p : Periodic) → IsWellFlow f → polls_of_kind c f.sid f.last f.kind ≡ Some p → IsOfFlow f p
 polls_of c f p w e = by f.kind refl e
   where
-    by : (k : FlowKind) → f.kind ≡ k → polls_of_kind c f.sid k ≡ Some p → IsOfFlow f p
+    by : (k : FlowKind) → f.kind ≡ k → polls_of_kind c f.sid f.last k ≡ Some p → IsOfFlow f p
     by (BestEffort priority) h g = absurd cc
     by (Ugs size interval jitter base) h g = absurd cc
     by (Poll interval jitter base) h g =
         let good : is_good_kind (Poll interval jitter base) ≡ true = ap is_good_kind (sym h) ∙ w.kind in
         subst (IsOfFlow f) (periodic_is _ p g) (record {
           well = record { some = omega arith; most = omega arith; unicast = w.unicast; last = w.last; iuc = inl refl; short = short_interval interval jitter base good };
+          sid = refl;
+          last = refl;
           due = λ i. ap (λ k. due_time k i) h;
         })
 
@@ -249,6 +258,18 @@ rising_moved low (x ∷ fs) (y ∷ gs) z r =
     let same : y.sid ≡ x.sid = ap (λ (v : FlowRow). v.sid) z.0.is in
     (omega (arith, r.0), subst (λ n. RisingFrom (n + 1) gs) (sym same) (rising_moved (x.sid + 1) fs gs z.1 r.1))
 
+rising_weaker : (low more : ℕ) (fs : List FlowRow) → low ≤ more → RisingFrom more fs → RisingFrom low fs
+rising_weaker low more [] le r = tt
+rising_weaker low more (f ∷ fs) le r = (omega (arith, r.0), r.1)
+
+rising_filter : (q : FlowRow → Bool) (low : ℕ) (fs : List FlowRow) → RisingFrom low fs → RisingFrom low (filter q fs)
+rising_filter q low [] r = tt
+rising_filter q low (f ∷ fs) r =
+    elim (q f) as (λ b. RisingFrom low (cond b (f ∷ filter q fs) (filter q fs))) [
+      | true ↦ (r.0, rising_filter q (f.sid + 1) fs r.1)
+      | false ↦ rising_weaker low (f.sid + 1) (filter q fs) (omega (arith, r.0)) (rising_filter q (f.sid + 1) fs r.1)
+    ]
+
 pub moved_well : (fs gs : List FlowRow) → AllZip Moves fs gs → ((f : FlowRow) → Has fs f → IsWellFlow f) → (g : FlowRow) → Has gs g → IsWellFlow g
 moved_well fs gs z each g h = let m = moved_from fs gs g z h in m.2.well (each m.0 m.1)
 
@@ -258,7 +279,7 @@ module _ (K : List Placement → Type 0) where
   abbrev KeptIn : Ran → Type 0
   KeptIn ran = K ran.placements
 
-  run_keeps : (span : Extent) (p : Periodic) → ((ps : List Placement) (i x : ℕ) → K ps → Fit span ps p.size x → K (ps ++ placement_at p i x ∷ [])) → (k i : ℕ) (ps : List Placement) → K ps → K (run_due_times span p k i ps).placements
+  run_keeps : (span : Extent) (p : Periodic) → ((ps : List Placement) (i x : ℕ) → K ps → Fit span ps p.size p.last x → K (ps ++ placement_at p i x ∷ [])) → (k i : ℕ) (ps : List Placement) → K ps → K (run_due_times span p k i ps).placements
   run_keeps span p more zero i ps h = h
   run_keeps span p more (suc k) i ps h =
       elim (verdict span ps p i) as (λ v. verdict span ps p i ≡ v → KeptIn (elim v [ Missed ↦ run_due_times span p k (i + 1) ps | Placed x ↦ run_due_times span p k (i + 1) (ps ++ placement_at p i x ∷ []) | Kept ↦ record { placements = ps; index = i } ])) [
@@ -267,25 +288,25 @@ module _ (K : List Placement → Type 0) where
         | Kept ↦ λ e. h
       ] refl
 
-  flow_keeps : (span : Extent) (o : Option Periodic) (i : ℕ) → ((p : Periodic) → o ≡ Some p → (ps : List Placement) (j x : ℕ) → K ps → Fit span ps p.size x → K (ps ++ placement_at p j x ∷ [])) → (ps : List Placement) → K ps → K (run_flow span o i ps).placements
+  flow_keeps : (span : Extent) (o : Option Periodic) (i : ℕ) → ((p : Periodic) → o ≡ Some p → (ps : List Placement) (j x : ℕ) → K ps → Fit span ps p.size p.last x → K (ps ++ placement_at p j x ∷ [])) → (ps : List Placement) → K ps → K (run_flow span o i ps).placements
   flow_keeps span None i more ps h = h
   flow_keeps span (Some p) i more ps h = run_keeps span p (more p refl) (due_before p i (end_of span)) i ps h
 
   pub pass_keeps : (span : Extent) (what : FlowRow → Option Periodic) (fs : List FlowRow)
-      → ((f : FlowRow) → Has fs f → (p : Periodic) → what f ≡ Some p → (ps : List Placement) (j x : ℕ) → K ps → Fit span ps p.size x → K (ps ++ placement_at p j x ∷ []))
+      → ((f : FlowRow) → Has fs f → (p : Periodic) → what f ≡ Some p → (ps : List Placement) (j x : ℕ) → K ps → Fit span ps p.size p.last x → K (ps ++ placement_at p j x ∷ []))
       → (ps : List Placement) → K ps → K (pass span what fs ps).placements
   pass_keeps span what [] more ps h = h
   pass_keeps span what (f ∷ fs) more ps h =
       pass_keeps span what fs (λ g k. more g (inr k)) (run_flow span (what f) f.index ps).placements (flow_keeps span (what f) f.index (more f (inl refl)) ps h)
 
-  pub requests_keep : (span : Extent) (c : Channel) (ws : List Waiting)
-      → ((w : Waiting) → Has ws w → (ps : List Placement) (x : ℕ) → K ps → Fit span ps w.n x → K (ps ++ placement_for c w x ∷ []))
-      → (ps : List Placement) → K ps → K (place_requests span c ws ps)
-  requests_keep span c [] more ps h = h
-  requests_keep span c (w ∷ ws) more ps h =
-      elim (first_fit span ps w.n span.start (end_of span - w.n)) as (λ o. first_fit span ps w.n span.start (end_of span - w.n) ≡ o → K (elim o [ Some x ↦ place_requests span c ws (ps ++ placement_for c w x ∷ []) | None ↦ place_requests span c ws ps ])) [
-        | Some x ↦ λ e. requests_keep span c ws (λ v k. more v (inr k)) (ps ++ placement_for c w x ∷ []) (more w (inl refl) ps x h (fit_tells span ps w.n span.start (end_of span - w.n) x e))
-        | None ↦ λ e. requests_keep span c ws (λ v k. more v (inr k)) ps h
+  pub requests_keep : (span : Extent) (c : Channel) (last : ℕ → ℕ) (ws : List Waiting)
+      → ((w : Waiting) → Has ws w → (ps : List Placement) (x : ℕ) → K ps → Fit span ps w.n (last w.sid) x → K (ps ++ placement_for c w x ∷ []))
+      → (ps : List Placement) → K ps → K (place_requests span c last ws ps)
+  requests_keep span c last [] more ps h = h
+  requests_keep span c last (w ∷ ws) more ps h =
+      elim (first_fit span ps w.n span.start (end_of span - w.n) (last w.sid)) as (λ o. first_fit span ps w.n span.start (end_of span - w.n) (last w.sid) ≡ o → K (elim o [ Some x ↦ place_requests span c last ws (ps ++ placement_for c w x ∷ []) | None ↦ place_requests span c last ws ps ])) [
+        | Some x ↦ λ e. requests_keep span c last ws (λ v k. more v (inr k)) (ps ++ placement_for c w x ∷ []) (more w (inl refl) ps x h (fit_tells span ps w.n span.start (end_of span - w.n) (last w.sid) x e))
+        | None ↦ λ e. requests_keep span c last ws (λ v k. more v (inr k)) ps h
       ] refl
 
 -- the requests in order are those that wait
@@ -299,25 +320,34 @@ abbrev pub IsFor : Table → Placement → Cause → Type 0
 IsFor t q (Window i) = Unit {0}
 IsFor t q (Sent s) = (w : Waiting) × Has t.waiting w × (w.sid ≡ q.sid) × (w.n ≡ q.size) × (w.sent ≡ s)
 
+-- the placement ends within the lease of its SID's flow
+abbrev pub IsLeased : Table → Extent → Placement → Type 0
+IsLeased t span q = (f : FlowRow) × Has t.flows f × (f.sid ≡ q.sid) × (span.start + q.offset + q.size ≤ f.last + 1)
+
 -- a placement that may be added to these
 pub record MayPlace (t : Table) (span : Extent) (ps : List Placement) (q : Placement) : Type 0 where
-  pub fit : Fit span ps q.size q.offset
+  pub lease_end : ℕ
+  pub fit : Fit span ps q.size lease_end q.offset
   pub some : 1 ≤ q.size
   pub most : q.size ≤ 255
   pub unicast : 1 ≤ q.sid
   pub last : q.sid ≤ last_sid
   pub iuc : IsUse q.iuc
   pub serves : IsFor t q q.cause
+  pub leased : IsLeased t span q
   pub use_is : IsUseFor q.cause q.iuc
 
-may_place_due : (t : Table) (span : Extent) (ps : List Placement) (p : Periodic) (i x : ℕ) → IsWellPeriodic p → Fit span ps p.size x → MayPlace t span ps (placement_at p i x)
-may_place_due t span ps p i x w fit = record { fit = fit; some = w.some; most = w.most; unicast = w.unicast; last = w.last; iuc = plain_due p.iuc w.iuc; serves = tt; use_is = w.iuc }
+may_place_due : (t : Table) (span : Extent) (ps : List Placement) (p : Periodic) (i x : ℕ) → IsWellPeriodic p → (f : FlowRow) → Has t.flows f → f.sid ≡ p.sid → f.last ≡ p.last → Fit span ps p.size p.last x → MayPlace t span ps (placement_at p i x)
+may_place_due t span ps p i x w f h same ends fit = record { lease_end = p.last; fit = fit; some = w.some; most = w.most; unicast = w.unicast; last = w.last; iuc = plain_due p.iuc w.iuc; serves = tt; leased = (f, h, same, let in_lease = fit.in_lease in omega arith); use_is = w.iuc }
 
-may_place_request : (t : Table) (span : Extent) (ps : List Placement) (w : Waiting) (x : ℕ) → IsWell t → Has t.waiting w → Fit span ps w.n x → MayPlace t span ps (placement_for t.row.channel w x)
+may_place_request : (t : Table) (span : Extent) (ps : List Placement) (w : Waiting) (x : ℕ) → IsWell t → Has t.waiting w → Fit span ps w.n (last_of t w.sid) x → MayPlace t span ps (placement_for t.row.channel w x)
 may_place_request t span ps w x well h fit =
     let r = well.requests w h in
     let f = well.flows r.flow r.there in
+    let found : flow_of t w.sid ≡ Some r.flow = ap (flow_of t) (sym r.sid) ∙ flow_found t r.flow well.rising r.there in
+    let ends : last_of t w.sid ≡ r.flow.last = ap last_in found in
     record {
+      lease_end = last_of t w.sid;
       fit = fit;
       some = r.some;
       most = r.most;
@@ -325,6 +355,7 @@ may_place_request t span ps w x well h fit =
       last = subst (λ n. n ≤ last_sid) r.sid f.last;
       iuc = plain_requested _ (grant_use t.row.channel w.n);
       serves = (w, h, refl, refl, refl);
+      leased = (r.flow, r.there, r.sid, let in_lease = fit.in_lease in omega arith);
       use_is = grant_use t.row.channel w.n;
     }
 
@@ -335,12 +366,17 @@ fill_keeps K t span ack w le none more =
     let c : Channel = t.row.channel in
     let first : Passed = pass span (grants_of_flow c) t.flows [] in
     let second : Passed = pass span (polls_of_flow c) first.flows first.placements in
-    let moved = moved_well t.flows first.flows (pass_moves span (grants_of_flow c) t.flows [] le (grants_ask_well c)) w.flows in
+    let moves = pass_moves span (grants_of_flow c) t.flows [] le (grants_ask_well c) in
     let granted : K first.placements = pass_keeps K span (grants_of_flow c) t.flows
-    (λ f h p e ps i x k fit. more ps (placement_at p i x) k (may_place_due t span ps p i x (grants_ask_well c f p (w.flows f h) e).well fit)) [] none in
+    (λ f h p e ps i x k fit.
+    let of = grants_ask_well c f p (w.flows f h) e in
+    more ps (placement_at p i x) k (may_place_due t span ps p i x of.well f h (sym of.sid) (sym of.last) fit)) [] none in
     let polled : K second.placements = pass_keeps K span (polls_of_flow c) first.flows
-    (λ f h p e ps i x k fit. more ps (placement_at p i x) k (may_place_due t span ps p i x (polls_ask_well c f p (moved f h) e).well fit)) first.placements granted in
-    requests_keep K span c (in_order t t.waiting) (λ r h ps x k fit. more ps (placement_for c r x) k (may_place_request t span ps r x w (in_order_has t t.waiting r h) fit)) second.placements polled
+    (λ g h p e ps i x k fit.
+    let m = moved_from t.flows first.flows g moves h in
+    let of = polls_ask_well c g p (m.2.well (w.flows m.0 m.1)) e in
+    more ps (placement_at p i x) k (may_place_due t span ps p i x of.well m.0 m.1 (ap (λ (f : FlowRow). f.sid) (sym m.2.is) ∙ sym of.sid) (ap (λ (f : FlowRow). f.last) (sym m.2.is) ∙ sym of.last) fit)) first.placements granted in
+    requests_keep K span c (last_of t) (in_order t t.waiting) (λ r h ps x k fit. more ps (placement_for c r x) k (may_place_request t span ps r x w (in_order_has t t.waiting r h) fit)) second.placements polled
 
 -- ---- the table after a MAP
 
@@ -369,8 +405,12 @@ pub record MovesTwice (t : Table) (flows : List FlowRow) : Type 0 where
   pub first : AllZip Moves t.flows between
   pub second : AllZip Moves between flows
 
-pub fill_moves : (t : Table) (span : Extent) (ack : ℕ) → end_of span ≤ last_time → MovesTwice t (fill_span t span ack).flows
-fill_moves t span ack le =
+-- the flows as both passes leave them
+abbrev pub served_flows : Table → Extent → List FlowRow
+served_flows t span = (fill_polls t span (pass span (grants_of_flow t.row.channel) t.flows [])).flows
+
+pub fill_moves : (t : Table) (span : Extent) → end_of span ≤ last_time → MovesTwice t (served_flows t span)
+fill_moves t span le =
     let c : Channel = t.row.channel in
     let first : Passed = pass span (grants_of_flow c) t.flows [] in
     record {
@@ -382,46 +422,93 @@ fill_moves t span ack le =
 -- what a flow before becomes, but for its due time
 pub record Becomes (f g : FlowRow) : Type 0 where
   pub sid : g.sid ≡ f.sid
+  pub first : g.first ≡ f.first
+  pub last : g.last ≡ f.last
+  pub lease : lease_in g ≡ lease_in f
   pub kind : g.kind ≡ f.kind
   pub last_sent : g.last_sent ≡ f.last_sent
 
 pub becomes : (f g h : FlowRow) → Moves f g → Moves g h → Becomes f h
 becomes f g h m n = record {
   sid = ap (λ (x : FlowRow). x.sid) n.is ∙ ap (λ (x : FlowRow). x.sid) m.is;
+  first = ap (λ (x : FlowRow). x.first) n.is ∙ ap (λ (x : FlowRow). x.first) m.is;
+  last = ap (λ (x : FlowRow). x.last) n.is ∙ ap (λ (x : FlowRow). x.last) m.is;
+  lease = ap (λ (x : FlowRow). lease_in x) n.is ∙ ap (λ (x : FlowRow). lease_in x) m.is;
   kind = ap (λ (x : FlowRow). x.kind) n.is ∙ ap (λ (x : FlowRow). x.kind) m.is;
   last_sent = ap (λ (x : FlowRow). x.last_sent) n.is ∙ ap (λ (x : FlowRow). x.last_sent) m.is;
 }
 
-pub flow_from : (t : Table) (flows : List FlowRow) (h : FlowRow) → MovesTwice t flows → Has flows h → (f : FlowRow) × Has t.flows f × Becomes f h
-flow_from t flows h m at =
+pub served_from : (t : Table) (flows : List FlowRow) (h : FlowRow) → MovesTwice t flows → Has flows h → (f : FlowRow) × Has t.flows f × Becomes f h
+served_from t flows h m at =
     let back = moved_from m.between flows h m.second at in
     let first = moved_from t.flows m.between back.0 m.first back.1 in
     (first.0, first.1, becomes first.0 back.0 h first.2 back.2)
 
-pub flow_to : (t : Table) (flows : List FlowRow) (f : FlowRow) → MovesTwice t flows → Has t.flows f → (h : FlowRow) × Has flows h × Becomes f h
-flow_to t flows f m at =
+pub served_to : (t : Table) (flows : List FlowRow) (f : FlowRow) → MovesTwice t flows → Has t.flows f → (h : FlowRow) × Has flows h × Becomes f h
+served_to t flows f m at =
     let on = moved_to t.flows m.between f m.first at in
     let last = moved_to m.between flows on.0 m.second on.1 in
     (last.0, last.1, becomes f on.0 last.0 on.2 last.2)
 
+stays : (end : ℕ) (f : FlowRow) → not (is_ended end f) ≡ true → end ≤ f.last
+stays end f e = not_less f.last end (not_true (is_ended end f) e)
+
+-- the flow that a flow after the MAP was before it; its lease goes on to the MAP's end
+pub flow_from : (t : Table) (span : Extent) (ack : ℕ) (h : FlowRow) → end_of span ≤ last_time → Has (fill_span t span ack).flows h → (f : FlowRow) × Has t.flows f × Becomes f h × (end_of span ≤ h.last)
+flow_from t span ack h le at =
+    let left = has_filter (λ g. not (is_ended (end_of span) g)) (served_flows t span) h at in
+    let from = served_from t (served_flows t span) h (fill_moves t span le) left.0 in
+    (from.0, from.1, from.2, stays (end_of span) h left.1)
+
 fill_is_well : (t : Table) (span : Extent) (ack : ℕ) → IsWell t → t.row.next_start ≤ span.start → end_of span ≤ last_time → IsWell (table_after t (fill_span t span (ack_of t.row ack span.start)))
 fill_is_well t span ack w later le =
     let f : Filled = fill_span t span (ack_of t.row ack span.start) in
-    let m = fill_moves t span (ack_of t.row ack span.start) le in
+    let goes_on : FlowRow → Bool = λ g. not (is_ended (end_of span) g) in
+    let waits_on : Waiting → Bool = λ v. not (has_ended t (end_of span) v) in
+    let waits : Waiting → Bool = λ v. not (list_any (is_grant_of v) f.placements) in
+    let m = fill_moves t span le in
     let old_ack = w.ack in
+    let served = served_flows t span in
     record {
       channel = w.channel;
       next = le;
       ack = omega arith;
-      flows = moved_well m.between f.flows m.second (moved_well t.flows m.between m.first w.flows);
-      rising = rising_moved 1 m.between f.flows m.second (rising_moved 1 t.flows m.between m.first w.rising);
-      given = λ g h. let from = flow_from t f.flows g m h in subst (λ n. list_any (λ a. eqb a.sid n) t.assigned ≡ true) (sym from.2.sid) (w.given from.0 from.1);
+      flows = λ g h. moved_well m.between served m.second (moved_well t.flows m.between m.first w.flows) g (has_filter goes_on served g h).0;
+      rising = rising_filter goes_on 1 served (rising_moved 1 m.between served m.second (rising_moved 1 t.flows m.between m.first w.rising));
+      given = λ g h.
+          let from = flow_from t span (ack_of t.row ack span.start) g le h in
+          record {
+            lease = ap (λ n. find (is_of_sid n) t.leases) from.2.sid ∙ (w.given from.0 from.1).lease ∙ ap (λ (l : Lease). Some l) (sym from.2.lease);
+            goes_on = from.3;
+          };
+      leases = λ l h. let old = w.leases l h in let begun = old.begun in record { unicast = old.unicast; last = old.last; begun = omega arith; whole = old.whole; ended = old.ended };
       requests = λ r h.
-          let old = w.requests r (has_filter (λ v. not (list_any (is_grant_of v) f.placements)) t.waiting r h).0 in
-          let to = flow_to t f.flows old.flow m old.there in
-          record { some = old.some; most = old.most; time = old.time; flow = to.0; there = to.1; sid = to.2.sid ∙ old.sid; last = to.2.last_sent ∙ old.last; asks = ap is_ugs to.2.kind ∙ old.asks };
-      alone = λ sid. let less = filter_both (is_of sid) (λ v. not (list_any (is_grant_of v) f.placements)) t.waiting in let one = w.alone sid in omega arith;
-      few = let less = filter_fewer (λ v. not (list_any (is_grant_of v) f.placements)) t.waiting in let most = w.few in omega arith;
+          let left = has_filter waits_on (filter waits t.waiting) r h in
+          let old = w.requests r (has_filter waits t.waiting r left.0).0 in
+          let to = served_to t served old.flow m old.there in
+          let on : goes_on to.0 ≡ true = ap (λ n. not (ltb n (end_of span))) to.2.last ∙ ap not (sym (ended_with t (end_of span) r old.flow w.rising old.there old.sid)) ∙ left.1 in
+          record {
+            some = old.some;
+            most = old.most;
+            time = old.time;
+            flow = to.0;
+            there = filter_has goes_on served to.0 to.1 on;
+            sid = to.2.sid ∙ old.sid;
+            last = to.2.last_sent ∙ old.last;
+            after = subst (λ n. n ≤ r.sent) (sym to.2.first) old.after;
+            before = subst (λ n. r.sent ≤ n) (sym to.2.last) old.before;
+            asks = ap is_ugs to.2.kind ∙ old.asks;
+          };
+      alone = λ sid.
+          let left = filter_both (is_of sid) waits_on (filter waits t.waiting) in
+          let less = filter_both (is_of sid) waits t.waiting in
+          let one = w.alone sid in
+          omega arith;
+      few =
+          let left = filter_fewer waits_on (filter waits t.waiting) in
+          let less = filter_fewer waits t.waiting in
+          let most = w.few in
+          omega arith;
     }
 
 pub cut_is_well : (t : Table) (len not_before ack : ℕ) → fill_refusal t.row len not_before ack ≡ None → IsWell t → IsWell (table_after t (fill t len not_before ack))

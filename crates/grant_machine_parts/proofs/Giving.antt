@@ -24,13 +24,13 @@ schedule_pos interval jitter base e = leb-true _ _ (both _ _ (both _ _ (both _ _
 it_is : (p q : Periodic) → Some p ≡ Some q → p ≡ q
 it_is p q e = cc
 
-pub given_due : (service : Service) (c : Channel) (sid : ℕ) (kind : FlowKind) (p : Periodic) → given service c sid kind ≡ Some p → is_good_kind kind ≡ true → GivenDue kind p
-given_due Grants c sid (BestEffort priority) p e good = absurd cc
-given_due Grants c sid (Ugs size interval jitter base) p e good = subst (GivenDue (Ugs size interval jitter base)) (it_is _ p e) (record { pos = schedule_pos interval jitter base (both _ _ good).1; index = λ d. refl; time = λ i. refl })
-given_due Grants c sid (Poll interval jitter base) p e good = absurd cc
-given_due Polls c sid (BestEffort priority) p e good = absurd cc
-given_due Polls c sid (Ugs size interval jitter base) p e good = absurd cc
-given_due Polls c sid (Poll interval jitter base) p e good = subst (GivenDue (Poll interval jitter base)) (it_is _ p e) (record { pos = schedule_pos interval jitter base good; index = λ d. refl; time = λ i. refl })
+pub given_due : (service : Service) (c : Channel) (sid last : ℕ) (kind : FlowKind) (p : Periodic) → given service c sid last kind ≡ Some p → is_good_kind kind ≡ true → GivenDue kind p
+given_due Grants c sid last (BestEffort priority) p e good = absurd cc
+given_due Grants c sid last (Ugs size interval jitter base) p e good = subst (GivenDue (Ugs size interval jitter base)) (it_is _ p e) (record { pos = schedule_pos interval jitter base (both _ _ good).1; index = λ d. refl; time = λ i. refl })
+given_due Grants c sid last (Poll interval jitter base) p e good = absurd cc
+given_due Polls c sid last (BestEffort priority) p e good = absurd cc
+given_due Polls c sid last (Ugs size interval jitter base) p e good = absurd cc
+given_due Polls c sid last (Poll interval jitter base) p e good = subst (GivenDue (Poll interval jitter base)) (it_is _ p e) (record { pos = schedule_pos interval jitter base good; index = λ d. refl; time = λ i. refl })
 
 -- the number of due time number i is i
 pub round : (kind : FlowKind) (p : Periodic) (i : ℕ) → GivenDue kind p → due_index kind (due_at p i) ≡ i

@@ -92,14 +92,14 @@ passed_to span p ps i r pos le passed =
 
 -- a window that ended before the MAP is missed
 pub ended_passed : (span : Extent) (ps : List Placement) (p : Periodic) (i : ℕ) → due_at p i + p.jitter < span.start → IsPassed span ps p i
-ended_passed span ps p i lt = (omega arith, ap (λ b. cond b Missed (verdict_on span (first_fit span ps p.size (max (due_at p i) span.start) (due_at p i + p.jitter)) (due_at p i + p.jitter))) (lt-ltb _ _ lt))
+ended_passed span ps p i lt = (omega arith, ap (λ b. cond b Missed (verdict_on span (first_fit span ps p.size (max (due_at p i) span.start) (due_at p i + p.jitter) p.last) (due_at p i + p.jitter))) (lt-ltb _ _ lt))
 
 -- where nothing fits any more, a due time is missed or kept
-full_none : (span : Extent) (ps : List Placement) (n lo hi : ℕ) → ltb (length ps) most_placements ≡ false → first_fit span ps n lo hi ≡ None
-full_none span ps n lo hi full = rw full refl
+full_none : (span : Extent) (ps : List Placement) (n lo hi last : ℕ) → ltb (length ps) most_placements ≡ false → first_fit span ps n lo hi last ≡ None
+full_none span ps n lo hi last full = rw full refl
 
 full_verdict : (span : Extent) (ps : List Placement) (p : Periodic) (i : ℕ) → ltb (length ps) most_placements ≡ false → verdict span ps p i ≡ cond (ltb (due_at p i + p.jitter) span.start) Missed (unplaced span (due_at p i + p.jitter))
-full_verdict span ps p i full = ap (λ o. cond (ltb (due_at p i + p.jitter) span.start) Missed (verdict_on span o (due_at p i + p.jitter))) (full_none span ps p.size _ _ full)
+full_verdict span ps p i full = ap (λ o. cond (ltb (due_at p i + p.jitter) span.start) Missed (verdict_on span o (due_at p i + p.jitter))) (full_none span ps p.size _ _ _ full)
 
 pub full_passed : (span : Extent) (ps : List Placement) (p : Periodic) (i : ℕ) → ltb (length ps) most_placements ≡ false → due_at p i + p.jitter < end_of span → IsPassed span ps p i
 full_passed span ps p i full lt = (omega arith, full_verdict span ps p i full ∙ by (ltb (due_at p i + p.jitter) span.start))

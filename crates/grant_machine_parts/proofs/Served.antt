@@ -8,10 +8,10 @@ use Rattle.flow_state.specs.declared.channel.Channel.{Channel}
 use Rattle.flow_state.specs.declared.flow.FlowKind.{FlowKind}
 use Rattle.flow_state.specs.declared.flow.FlowKind.TheVariants.{BestEffort, Ugs, Poll}
 use Rattle.flow_state.specs.declared.flow.Waiting.{Waiting}
-use Rattle.flow_state.specs.Rows.{Table, FlowRow, is_flow, is_of}
+use Rattle.flow_state.specs.Rows.{Table, FlowRow, is_flow, is_of, last_of, is_ended, has_ended}
 use Rattle.grant_machine_parts.specs.Placing.{Placement, first_fit}
-use Rattle.grant_machine_parts.specs.Cutting.{Periodic, end_of, Ran, run_due_times, run_flow, due_before, Passed, pass, grants_of_flow, polls_of_flow, grants_of_kind, polls_of_kind, place_requests, placement_for, in_order, priority_of, Filled, fill_span, still_waiting, is_grant_of, table_after, unsolicited_iuc}
-use Rattle.flow_state.proofs.Callers.{filter_append, has}
+use Rattle.grant_machine_parts.specs.Cutting.{Periodic, end_of, Ran, run_due_times, run_flow, due_before, Passed, pass, grants_of_flow, polls_of_flow, grants_of_kind, polls_of_kind, place_requests, placement_for, in_order, priority_of, Filled, fill_span, still_waiting, requests_left, is_grant_of, table_after, unsolicited_iuc}
+use Rattle.flow_state.proofs.Callers.{filter_append}
 use Rattle.grant_machine_parts.proofs.Windows.{InWindow, Rising, rising_later, run_adds}
 
 abbrev pub is_to : ℕ → Placement → Bool
@@ -156,20 +156,20 @@ pass_idle span what sid f (g ∷ fs) ps keeps is e =
 
 -- ---- requests of other SIDs
 
-pub requests_none : (span : Extent) (c : Channel) (sid : ℕ) (ws : List Waiting) (ps : List Placement) → filter (is_of sid) ws ≡ [] → filter (is_to sid) (place_requests span c ws ps) ≡ filter (is_to sid) ps
-requests_none span c sid [] ps none = refl
-requests_none span c sid (w ∷ ws) ps none =
-    by (eqb w.sid sid) refl none (λ qs e. requests_none span c sid ws qs e)
+pub requests_none : (span : Extent) (c : Channel) (last : ℕ → ℕ) (sid : ℕ) (ws : List Waiting) (ps : List Placement) → filter (is_of sid) ws ≡ [] → filter (is_to sid) (place_requests span c last ws ps) ≡ filter (is_to sid) ps
+requests_none span c last sid [] ps none = refl
+requests_none span c last sid (w ∷ ws) ps none =
+    by (eqb w.sid sid) refl none (λ qs e. requests_none span c last sid ws qs e)
   where
     placed : (b : Bool) → eqb w.sid sid ≡ b → b ≡ false → (x : ℕ) → filter (is_to sid) (ps ++ placement_for c w x ∷ []) ≡ filter (is_to sid) ps
     placed b h off x = filter_append (is_to sid) ps (placement_for c w x ∷ []) ∙ ap (λ t. filter (is_to sid) ps ++ cond t (placement_for c w x ∷ []) []) (h ∙ off) ∙ append-nil (filter (is_to sid) ps)
 
     by : (b : Bool) → eqb w.sid sid ≡ b → cond b (w ∷ filter (is_of sid) ws) (filter (is_of sid) ws) ≡ []
-        → ((qs : List Placement) → filter (is_of sid) ws ≡ [] → filter (is_to sid) (place_requests span c ws qs) ≡ filter (is_to sid) qs)
-        → filter (is_to sid) (place_requests span c (w ∷ ws) ps) ≡ filter (is_to sid) ps
+        → ((qs : List Placement) → filter (is_of sid) ws ≡ [] → filter (is_to sid) (place_requests span c last ws qs) ≡ filter (is_to sid) qs)
+        → filter (is_to sid) (place_requests span c last (w ∷ ws) ps) ≡ filter (is_to sid) ps
     by true h e later = absurd cc
     by false h e later =
-        elim (first_fit span ps w.n span.start (end_of span - w.n)) as (λ o. filter (is_to sid) (elim o [ Some x ↦ place_requests span c ws (ps ++ placement_for c w x ∷ []) | None ↦ place_requests span c ws ps ]) ≡ filter (is_to sid) ps) [
+        elim (first_fit span ps w.n span.start (end_of span - w.n) (last w.sid)) as (λ o. filter (is_to sid) (elim o [ Some x ↦ place_requests span c last ws (ps ++ placement_for c w x ∷ []) | None ↦ place_requests span c last ws ps ]) ≡ filter (is_to sid) ps) [
           | Some x ↦ later (ps ++ placement_for c w x ∷ []) e ∙ placed false h refl x
           | None ↦ later ps e
         ]
@@ -200,12 +200,11 @@ in_order_none t sid ws none = flat_none (is_of sid) (λ priority. filter (λ w. 
 pub record Serving (t : Table) (sid size interval jitter base n : ℕ) : Type 0 where
   pub flows : (filter (is_flow sid) t.flows ≡ []) ⊎ ((f : FlowRow) × (filter (is_flow sid) t.flows ≡ f ∷ []) × (f.kind ≡ Ugs size interval jitter base) × (n ≤ f.index))
   pub waiting : filter (is_of sid) t.waiting ≡ []
-  pub given : list_any (has sid) t.assigned ≡ true
 
 pub grants_keep : (c : Channel) → KeepsSid (grants_of_flow c)
 grants_keep c f p e = by f.kind p e
   where
-    by : (k : FlowKind) (p : Periodic) → grants_of_kind c f.sid k ≡ Some p → p.sid ≡ f.sid
+    by : (k : FlowKind) (p : Periodic) → grants_of_kind c f.sid f.last k ≡ Some p → p.sid ≡ f.sid
     by (BestEffort priority) p h = absurd cc
     by (Ugs size interval jitter base) p h = sid_is _ p h
       where
@@ -216,7 +215,7 @@ grants_keep c f p e = by f.kind p e
 pub polls_keep : (c : Channel) → KeepsSid (polls_of_flow c)
 polls_keep c f p e = by f.kind p e
   where
-    by : (k : FlowKind) (p : Periodic) → polls_of_kind c f.sid k ≡ Some p → p.sid ≡ f.sid
+    by : (k : FlowKind) (p : Periodic) → polls_of_kind c f.sid f.last k ≡ Some p → p.sid ≡ f.sid
     by (BestEffort priority) p h = absurd cc
     by (Ugs size interval jitter base) p h = absurd cc
     by (Poll interval jitter base) p h = sid_is _ p h
@@ -230,8 +229,9 @@ pub record FilledFor (t : Table) (f : Filled) (sid size interval jitter base n :
   pub more : List Placement
   pub numbers : List ℕ
   pub iuc : ℕ
+  pub last : ℕ
   pub own : filter (is_to sid) f.placements ≡ more
-  pub each : AllZip (InWindow f.span (record { sid = sid; iuc = iuc; size = size; interval = interval; jitter = jitter; base = base })) more numbers
+  pub each : AllZip (InWindow f.span (record { sid = sid; iuc = iuc; size = size; interval = interval; jitter = jitter; base = base; last = last })) more numbers
   pub rising : Rising n numbers next
   pub after : Serving (table_after t f) sid size interval jitter base next
 
@@ -247,14 +247,34 @@ filter_test {X} p (y ∷ ys) x e =
     by true h e later = ap p (sym (head_is y x (filter p ys) e)) ∙ h
     by false h e later = later e
 
+-- of one that passes a test, one or none passes another test too
+filter_one : {X : Type 0} (p q : X → Bool) (xs : List X) (x : X) → filter p xs ≡ x ∷ [] → (filter p (filter q xs) ≡ []) ⊎ (filter p (filter q xs) ≡ x ∷ [])
+filter_one p q [] x e = absurd cc
+filter_one {X} p q (y ∷ ys) x e =
+    by (p y) (q y) refl refl e (filter_one p q ys x)
+  where
+    rest_is : (y x : X) (ys : List X) → y ∷ ys ≡ x ∷ [] → (y ≡ x) × (ys ≡ [])
+    rest_is y x ys e = (cc, cc)
+
+    by : (b c : Bool) → p y ≡ b → q y ≡ c → cond b (y ∷ filter p ys) (filter p ys) ≡ x ∷ [] → (filter p ys ≡ x ∷ [] → (filter p (filter q ys) ≡ []) ⊎ (filter p (filter q ys) ≡ x ∷ []))
+        → (filter p (cond (q y) (y ∷ filter q ys) (filter q ys)) ≡ []) ⊎ (filter p (cond (q y) (y ∷ filter q ys) (filter q ys)) ≡ x ∷ [])
+    by true true h g e later =
+        let parts = rest_is y x (filter p ys) e in
+        inr (rw (g, h) (ap (λ (zs : List X). y ∷ zs) (filter_sub p q ys parts.1) ∙ ap (λ (z : X). z ∷ []) parts.0))
+    by true false h g e later = inl (rw g (filter_sub p q ys (rest_is y x (filter p ys) e).1))
+    by false true h g e later = rw (g, h) (later e)
+    by false false h g e later = rw g (later e)
+
 pub fills_for : (t : Table) (span : Extent) (ack sid size interval jitter base n : ℕ) → Serving t sid size interval jitter base n → FilledFor t (fill_span t span ack) sid size interval jitter base n
 fills_for t span ack sid size interval jitter base n s =
     let c : Channel = t.row.channel in
     let first : Passed = pass span (grants_of_flow c) t.flows [] in
     let second : Passed = pass span (polls_of_flow c) first.flows first.placements in
-    let ps : List Placement = place_requests span c (in_order t t.waiting) second.placements in
-    let asked : filter (is_to sid) ps ≡ filter (is_to sid) second.placements = requests_none span c sid (in_order t t.waiting) second.placements (in_order_none t sid t.waiting s.waiting) in
-    let waits : filter (is_of sid) (still_waiting ps t.waiting) ≡ [] = filter_sub (is_of sid) (λ w. not (list_any (is_grant_of w) ps)) t.waiting s.waiting in
+    let goes_on : FlowRow → Bool = λ f. not (is_ended (end_of span) f) in
+    let ps : List Placement = place_requests span c (last_of t) (in_order t t.waiting) second.placements in
+    let asked : filter (is_to sid) ps ≡ filter (is_to sid) second.placements = requests_none span c (last_of t) sid (in_order t t.waiting) second.placements (in_order_none t sid t.waiting s.waiting) in
+    let waits : filter (is_of sid) (requests_left t span (still_waiting ps t.waiting)) ≡ [] = filter_sub (is_of sid) (λ w. not (has_ended t (end_of span) w)) (still_waiting ps t.waiting)
+    (filter_sub (is_of sid) (λ w. not (list_any (is_grant_of w) ps)) t.waiting s.waiting) in
     elim s.flows [
       | inl none ↦
           let granted = pass_none span (grants_of_flow c) sid t.flows [] (grants_keep c) none in
@@ -264,29 +284,37 @@ fills_for t span ack sid size interval jitter base n s =
             more = [];
             numbers = [];
             iuc = 0;
+            last = 0;
             own = asked ∙ polled.1 ∙ granted.1;
             each = tt;
             rising = omega arith;
-            after = record { flows = inl polled.0; waiting = waits; given = s.given };
+            after = record { flows = inl (filter_sub (is_flow sid) goes_on second.flows polled.0); waiting = waits };
           }
       | inr one ↦
           let f : FlowRow = one.0 in
           let here : f.sid ≡ sid = eqb-true _ _ (filter_test (is_flow sid) t.flows f one.1) in
           let iuc : ℕ = unsolicited_iuc c size in
-          let asks : grants_of_flow c f ≡ Some (record { sid = sid; iuc = iuc; size = size; interval = interval; jitter = jitter; base = base }) =
-          ap (grants_of_kind c f.sid) one.2 ∙ ap (λ (m : ℕ). grants_of_kind c m (Ugs size interval jitter base)) here in
+          let asks : grants_of_flow c f ≡ Some (record { sid = sid; iuc = iuc; size = size; interval = interval; jitter = jitter; base = base; last = f.last }) =
+          ap (grants_of_kind c f.sid f.last) one.2 ∙ ap (λ (m : ℕ). grants_of_kind c m f.last (Ugs size interval jitter base)) here in
           let served = pass_own span (grants_of_flow c) sid _ f t.flows [] (grants_keep c) asks one.1 in
           let g : FlowRow = record f { index = served.index } in
-          let idle : polls_of_flow c g ≡ None = ap (polls_of_kind c f.sid) one.2 in
+          let idle : polls_of_flow c g ≡ None = ap (polls_of_kind c f.sid f.last) one.2 in
           let polled = pass_idle span (polls_of_flow c) sid g first.flows first.placements (polls_keep c) idle served.flow in
           record {
             next = served.index;
             more = served.more;
             numbers = served.numbers;
             iuc = iuc;
+            last = f.last;
             own = asked ∙ polled.1 ∙ served.added;
             each = served.each;
             rising = rising_later n f.index served.numbers served.index one.3 served.rising;
-            after = record { flows = inr (g, polled.0, one.2, omega arith); waiting = waits; given = s.given };
+            after = record {
+              flows = elim (filter_one (is_flow sid) goes_on second.flows g polled.0) [
+                | inl gone ↦ inl gone
+                | inr stays ↦ inr (g, stays, one.2, omega arith)
+              ];
+              waiting = waits;
+            };
           }
     ]

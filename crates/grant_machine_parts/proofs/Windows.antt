@@ -7,10 +7,11 @@ use Rattle.minislot_time.specs.Extent.{Extent}
 use Rattle.grant_machine_parts.specs.Placing.{Placement, is_free, fits_at, first_fit, most_placements}
 use Rattle.grant_machine_parts.specs.Cutting.{Periodic, due_at, end_of, Missed, Placed, Kept, verdict, verdict_on, placement_at, Ran, run_due_times}
 
--- n free minislots of a MAP begin at offset x, from lo to hi
-pub record FitsAt (span : Extent) (ps : List Placement) (n lo hi x : ℕ) : Type 0 where
+-- n free minislots of a MAP begin at offset x, from lo to hi, and end by the last one
+pub record FitsAt (span : Extent) (ps : List Placement) (n lo hi last x : ℕ) : Type 0 where
   pub not_early : lo ≤ span.start + x
   pub not_late : span.start + x ≤ hi
+  pub in_lease : span.start + x + n ≤ last + 1
   pub within : x + n ≤ span.len
   pub free : list_all (is_free ps) (range_with_len x n) ≡ true
 
@@ -18,12 +19,13 @@ and_true : (a b : Bool) → (a && b) ≡ true → (a ≡ true) × (b ≡ true)
 and_true true b e = (refl, e)
 and_true false b e = absurd cc
 
-fits_tells : (span : Extent) (ps : List Placement) (n lo hi x : ℕ) → fits_at span ps n lo hi x ≡ true → FitsAt span ps n lo hi x
-fits_tells span ps n lo hi x e =
-    let last = and_true _ _ e in
-    let third = and_true _ _ last.0 in
+fits_tells : (span : Extent) (ps : List Placement) (n lo hi last x : ℕ) → fits_at span ps n lo hi last x ≡ true → FitsAt span ps n lo hi last x
+fits_tells span ps n lo hi last x e =
+    let fifth = and_true _ _ e in
+    let fourth = and_true _ _ fifth.0 in
+    let third = and_true _ _ fourth.0 in
     let first = and_true _ _ third.0 in
-    record { not_early = leb-true _ _ first.0; not_late = leb-true _ _ first.1; within = leb-true _ _ third.1; free = last.1 }
+    record { not_early = leb-true _ _ first.0; not_late = leb-true _ _ first.1; in_lease = leb-true _ _ third.1; within = leb-true _ _ fourth.1; free = fifth.1 }
 
 passes : {X : Type 0} (p : X → Bool) (xs : List X) (x : X) → find p xs ≡ Some x → p x ≡ true
 passes p [] x e = absurd cc
@@ -34,10 +36,10 @@ passes p (y ∷ ys) x e =
     ] refl e
 
 -- a first fit fits, and comes only below sixty placements
-pub first_fit_tells : (span : Extent) (ps : List Placement) (n lo hi x : ℕ) → first_fit span ps n lo hi ≡ Some x → FitsAt span ps n lo hi x
-first_fit_tells span ps n lo hi x e =
-    elim (ltb (length ps) most_placements) as (λ b. cond b (find (fits_at span ps n lo hi) (range_with_len 0 span.len)) None ≡ Some x → FitsAt span ps n lo hi x) [
-      | true ↦ λ f. fits_tells span ps n lo hi x (passes (fits_at span ps n lo hi) (range_with_len 0 span.len) x f)
+pub first_fit_tells : (span : Extent) (ps : List Placement) (n lo hi last x : ℕ) → first_fit span ps n lo hi last ≡ Some x → FitsAt span ps n lo hi last x
+first_fit_tells span ps n lo hi last x e =
+    elim (ltb (length ps) most_placements) as (λ b. cond b (find (fits_at span ps n lo hi last) (range_with_len 0 span.len)) None ≡ Some x → FitsAt span ps n lo hi last x) [
+      | true ↦ λ f. fits_tells span ps n lo hi last x (passes (fits_at span ps n lo hi last) (range_with_len 0 span.len) x f)
       | false ↦ λ f. absurd cc
     ] e
 
@@ -53,19 +55,20 @@ placed_is span None last x e = absurd (by (leb (end_of span) last) e)
     by false f = cc
 
 -- a due time that is placed is placed within its window
-pub placed_tells : (span : Extent) (ps : List Placement) (p : Periodic) (i x : ℕ) → verdict span ps p i ≡ Placed x → FitsAt span ps p.size (max (due_at p i) span.start) (due_at p i + p.jitter) x
+pub placed_tells : (span : Extent) (ps : List Placement) (p : Periodic) (i x : ℕ) → verdict span ps p i ≡ Placed x → FitsAt span ps p.size (max (due_at p i) span.start) (due_at p i + p.jitter) p.last x
 placed_tells span ps p i x e =
-    elim (ltb (due_at p i + p.jitter) span.start) as (λ b. cond b Missed (verdict_on span (first_fit span ps p.size (max (due_at p i) span.start) (due_at p i + p.jitter)) (due_at p i + p.jitter)) ≡ Placed x → FitsAt span ps p.size (max (due_at p i) span.start) (due_at p i + p.jitter) x) [
+    elim (ltb (due_at p i + p.jitter) span.start) as (λ b. cond b Missed (verdict_on span (first_fit span ps p.size (max (due_at p i) span.start) (due_at p i + p.jitter) p.last) (due_at p i + p.jitter)) ≡ Placed x → FitsAt span ps p.size (max (due_at p i) span.start) (due_at p i + p.jitter) p.last x) [
       | true ↦ λ f. absurd cc
-      | false ↦ λ f. first_fit_tells span ps p.size _ _ x (placed_is span _ _ x f)
+      | false ↦ λ f. first_fit_tells span ps p.size _ _ _ x (placed_is span _ _ x f)
     ] e
 
--- the placement of due time i: whole, in the MAP, and within its window
+-- the placement of due time i: whole, in the MAP, within its window, and up to the last minislot of its lease
 pub record InWindow (span : Extent) (p : Periodic) (q : Placement) (i : ℕ) : Type 0 where
   pub offset : ℕ
   pub is : q ≡ placement_at p i offset
   pub not_early : due_at p i ≤ span.start + offset
   pub not_late : span.start + offset ≤ due_at p i + p.jitter
+  pub in_lease : span.start + offset + p.size ≤ p.last + 1
   pub within : offset + p.size ≤ span.len
 
 -- numbers from first on, each above the one before, below end
@@ -85,13 +88,13 @@ pub record Adds (span : Extent) (p : Periodic) (i : ℕ) (ps : List Placement) (
   pub each : AllZip (InWindow span p) more numbers
   pub rising : Rising i numbers ran.index
 
-adds_first : (span : Extent) (p : Periodic) (i x : ℕ) (ps : List Placement) (ran : Ran) → FitsAt span ps p.size (max (due_at p i) span.start) (due_at p i + p.jitter) x
+adds_first : (span : Extent) (p : Periodic) (i x : ℕ) (ps : List Placement) (ran : Ran) → FitsAt span ps p.size (max (due_at p i) span.start) (due_at p i + p.jitter) p.last x
     → Adds span p (i + 1) (ps ++ placement_at p i x ∷ []) ran → Adds span p i ps ran
 adds_first span p i x ps ran fits a = record {
   more = placement_at p i x ∷ a.more;
   numbers = i ∷ a.numbers;
   added = a.added ∙ append_assoc ps (placement_at p i x ∷ []) a.more;
-  each = (let early = fits.not_early in record { offset = x; is = refl; not_early = omega arith; not_late = fits.not_late; within = fits.within }, a.each);
+  each = (let early = fits.not_early in record { offset = x; is = refl; not_early = omega arith; not_late = fits.not_late; in_lease = fits.in_lease; within = fits.within }, a.each);
   rising = (omega arith, a.rising);
 }
 

@@ -1,5 +1,5 @@
 -- The bytes of a MAP that isn't refused are a body as it is written.
-use Rattle.std.proofs.Common.{◌≡◌, ℕ, ◌<◌, ◌≤◌, ◌^◌, true, not, List, ◌∷◌, map, length, None, refl, ap, subst, arith, inl, inr, leb, length-append, mod-lt}
+use Rattle.std.proofs.Common.{◌≡◌, ℕ, ◌<◌, ◌≤◌, ◌^◌, true, not, List, ◌∷◌, map, length, None, refl, ap, subst, arith, leb, length-append, mod-lt}
 use Rattle.std.specs.List.{list_any, AllByRecursion}
 use Rattle.std.proofs.lemmas.Bool.{leb-true}
 use Rattle.std.proofs.lemmas.List.{length-map}
@@ -8,8 +8,8 @@ use Rattle.map_body.specs.Rules.{FitsElement, AreElements}
 use Rattle.map_body.specs.Layout.{IsWritten}
 use Rattle.flow_state.specs.declared.channel.Channel.{Channel}
 use Rattle.flow_state.specs.Limits.{last_sid, is_good_channel, is_backoff}
-use Rattle.flow_state.specs.Rows.{Table}
-use Rattle.grant_machine_parts.specs.Cutting.{Filled, fill, fill_refusal, span_of, ack_of, in_order, is_grant_of}
+use Rattle.flow_state.specs.Rows.{Table, has_ended}
+use Rattle.grant_machine_parts.specs.Cutting.{Filled, fill, fill_refusal, end_of, span_of, ack_of, in_order, still_waiting, is_grant_of}
 use Rattle.grant_machine_parts.specs.Drawing.{null_element, pending_element, begins_at, elements_of, body_of, bytes_of}
 use Rattle.flow_state.proofs.Callers.{Has, has_map}
 use Rattle.grant_machine_parts.proofs.Orders.{in_order_length}
@@ -63,6 +63,7 @@ module _ (t : Table) (len not_before ack : ℕ) (w : IsWell t) (ok : fill_refusa
       let back : length pending ≡ length (in_order t filled.waiting) = length-map (in_order t filled.waiting) (pending_element t.row.channel len) in
       let listed = in_order_length t filled.waiting in
       let kept = filter_fewer (λ v. not (list_any (is_grant_of v) filled.placements)) t.waiting in
+      let left = filter_fewer (λ v. not (has_ended t (end_of filled.span) v)) (still_waiting filled.placements t.waiting) in
       let most = w.few in
       let all = length-append {A = Element} (begun (begins_at filled.placements) 0 len) (null_element len ∷ pending) in
       omega arith

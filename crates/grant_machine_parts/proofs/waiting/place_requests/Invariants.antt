@@ -1,10 +1,13 @@
-use Rattle.std.proofs.Common.{◌≡◌, drop}
+use Rattle.std.proofs.Common.{◌≡◌, ℕ, drop}
+use Rattle.std.specs.List.{AllByRecursion}
 use Rattle.grant_machine_parts.specs.Cutting.{place_requests}
+use Rattle.grant_machine_parts.specs.Ranks.{requests_in, IsOfLast}
 use Rattle.grant_machine_parts.proofs.waiting.place_requests.Given as goal
 
 -- the requests from this one on, after those before it
-abbrev pub invariant-loop-request : goal.invariant-loop-request
-invariant-loop-request l = record {
+abbrev pub invariant-loop-one : goal.invariant-loop-one
+invariant-loop-one l = record {
   span : l.filling.span ≡ l.fn.filling.span;
-  rest : place_requests l.fn.filling.span l.channel l.requests l.fn.filling.placements ≡ place_requests l.fn.filling.span l.channel (drop l.request-index l.requests) l.filling.placements;
+  rest : (last : ℕ → ℕ) → AllByRecursion (IsOfLast last) l.ranked
+      → place_requests l.fn.filling.span l.channel last (requests_in l.ranked) l.fn.filling.placements ≡ place_requests l.fn.filling.span l.channel last (requests_in (drop l.one-index l.ranked)) l.filling.placements;
 }
