@@ -4,7 +4,7 @@ ghost use Rattle.std.specs.Prelude.{◌≡◌, ℕ, max, List, Option, Some, Non
 ghost use Rattle.ballots.specs.Limits.{IsPlace};
 ghost use Rattle.ballots.specs.Rows.{at, put, rows_from};
 ghost use Rattle.ballots.specs.Ballots.{number_of};
-ghost use Rattle.acceptor.specs.Content.{AreRowsFrom, Content, no_content, greatest};
+ghost use Rattle.acceptor.specs.Content.{AreRowsFrom, Content, IsSound, no_content, greatest};
 ghost use Rattle.acceptor.specs.Kept.{ballot_in};
 
 use crate::records::{Records, RecordsFault};
@@ -20,6 +20,7 @@ pub struct PlainRecords {
     tried: Option<Ballot>,
     row: Option<Ballot>,
     votes: BTreeMap<u64, Cast>,
+    learned: BTreeMap<u64, Value>,
     // The greatest of the promised row and of all votes' ballots, so that no call looks through the votes for it.
     highest: Option<Ballot>,
 }
@@ -27,13 +28,13 @@ pub struct PlainRecords {
 impl Model for PlainRecords {
     ghost use Rattle.std.specs.Prelude.{◌≡◌, ℕ, List};
     ghost use Rattle.ballots.specs.Ballots.{number_of};
-    ghost use Rattle.acceptor.specs.Content.{AreRowsFrom, Content, greatest};
+    ghost use Rattle.acceptor.specs.Content.{Content, IsSound, greatest};
 
     ghost Value = { Content };
 
-    ghost view = { λ r. record { tried = number_of r.tried; row = number_of r.row; votes = r.votes.entries } };
+    ghost view = { λ r. record { tried = number_of r.tried; row = number_of r.row; votes = r.votes.entries; learned = r.learned.entries } };
 
-    ghost invariant = { λ r. (number_of r.highest ≡ greatest (number_of r.row) r.votes.entries) × AreRowsFrom 1 r.votes.entries };
+    ghost invariant = { λ r. (number_of r.highest ≡ greatest (number_of r.row) r.votes.entries) × IsSound record { tried = number_of r.tried; row = number_of r.row; votes = r.votes.entries; learned = r.learned.entries } };
 }
 
 impl PlainRecords {
@@ -45,6 +46,7 @@ impl PlainRecords {
             tried: None,
             row: None,
             votes: BTreeMap::new(alloc),
+            learned: BTreeMap::new(alloc),
             highest: None,
         }
     }
@@ -160,6 +162,44 @@ fn put_at(
     }
 }
 
+fn learned_at(
+    alloc: Global,
+    learned: &BTreeMap<u64, Value>,
+    place: Place,
+) -> Result<Option<Value>, AllocError>
+    ensures { IfOk result (λ v. v ≡ at learned.now.entries place) }
+{
+    match learned.get(&place.number()) {
+        Some(value) => Ok(Some(value.copy(alloc)?)),
+        None => Ok(None),
+    }
+}
+
+fn all_learned_from(
+    alloc: Global,
+    learned: &BTreeMap<u64, Value>,
+    place: Place,
+) -> Result<Vec<(Place, Value)>, AllocError>
+    requires { AreRowsFrom 1 learned.now.entries }
+    ensures { IfOk result (λ rows. rows.items ≡ rows_from learned.now.entries place) }
+{
+    let mut rows = Vec::new(alloc);
+    for (at, value) in learned.range(place.number()..) {
+        if let Some(at) = Place::new(*at) {
+            rows.push((at, value.copy(alloc)?))?;
+        }
+    }
+    Ok(rows)
+}
+
+fn put_value(learned: &mut BTreeMap<u64, Value>, place: u64, value: Value) -> Result<(), AllocError>
+    ensures ok { OnOk result (learned.new.entries ≡ put learned.old.entries place value) }
+    ensures err { OnErr result (learned.new.entries ≡ learned.old.entries) }
+{
+    learned.insert(place, value).map_err(AllocError::from)?;
+    Ok(())
+}
+
 impl Records for PlainRecords {
     ghost may_find = { λ r c. c ≡ r };
 
@@ -193,6 +233,14 @@ impl Records for PlainRecords {
         Ok(copy_from(self.alloc, &self.votes, place)?)
     }
 
+    fn learned_row(&mut self, place: Place) -> Result<Option<Value>, RecordsFault> {
+        Ok(learned_at(self.alloc, &self.learned, place)?)
+    }
+
+    fn learned_from(&mut self, place: Place) -> Result<Vec<(Place, Value)>, RecordsFault> {
+        Ok(all_learned_from(self.alloc, &self.learned, place)?)
+    }
+
     fn put_tried(&mut self, ballot: Ballot) -> Result<(), RecordsFault> {
         self.tried = Some(ballot);
         Ok(())
@@ -215,6 +263,11 @@ impl Records for PlainRecords {
         let replaced = put_at(&mut self.votes, place.number(), Cast { ballot, value })?;
         self.highest = highest_after(self.highest, replaced, ballot, self.row, &self.votes);
         Ok(())
+    }
+
+    fn put_learned(&mut self, place: Place, value: &Value) -> Result<(), RecordsFault> {
+        let value = value.copy(self.alloc)?;
+        Ok(put_value(&mut self.learned, place.number(), value)?)
     }
 
     fn reopen(&mut self) -> Result<(), RecordsFault> {

@@ -4,7 +4,7 @@ ghost use Rattle.std.specs.Prelude.{◌≡◌, ◌⊎◌, ℕ, Bool, IsTrue, IfO
 ghost use Rattle.ballots.specs.Ballots.{number_of};
 ghost use Rattle.ballots.specs.Rows.{at, rows_from};
 ghost use Rattle.acceptor.specs.Content.{Content, IsSound, promised};
-ghost use Rattle.acceptor.specs.Content.Write.{Tries, Promises, Votes as Casts};
+ghost use Rattle.acceptor.specs.Content.Write.{Tries, Promises, Votes as Casts, Learns};
 ghost use Rattle.acceptor.specs.Found.{Holds, HoldsEither, AddsNothing, AddsOnly, FindsSame, HasMade, Keeps, MayHaveMade};
 
 use ballots::{Ballot, Cast, Place, Value, Votes};
@@ -45,7 +45,7 @@ impl<T: Drop> From<AllocFailed<T>> for RecordsFault {
     }
 }
 
-/// What a node keeps over a crash: the last ballot that it tried, its promised row and one vote a place. A read changes nothing and a write changes its one row, committed before an `Ok`. Refused and Broken come only in a call in which the count of failures rose. After a Broken one each call is Broken until a `reopen` is Ok, which tells what is there. A write adds nothing but what may be found with it to what may be found, also while that is more than one content. What is said of content stands where the records are honest after the call, and honesty once lost isn't regained.
+/// What a node keeps over a crash: the last ballot that it tried, its promised row, one vote a place, and the value that it learned of a place. A read changes nothing and a write changes its one row, committed before an `Ok`. Refused and Broken come only in a call in which the count of failures rose. After a Broken one each call is Broken until a `reopen` is Ok, which tells what is there. A write adds nothing but what may be found with it to what may be found, also while that is more than one content. What is said of content stands where the records are honest after the call, and honesty once lost isn't regained.
 pub trait Records {
     // What a reopen now may find.
     ghost may_find: { Self → Content → Type 0 };
@@ -109,6 +109,25 @@ pub trait Records {
         ensures count { CountsFaults result (count_of self.old) (count_of self.new) }
         ensures broken { BreaksBy result (is_broken self.old) (is_broken self.new) };
 
+    /// The value that the node has learned of the place, if there is one.
+    fn learned_row(&mut self, place: Place) -> Result<Option<Value>, RecordsFault>
+        ensures value { IsTrue (is_honest self.new) → IfOk result (λ v. (c : Content) → Holds (may_find self.old) c → v ≡ at c.learned place) }
+        ensures memory { IfErr result (λ e. e ≡ OutOfMemory → finds_no_memory self.old self.new) }
+        ensures kept { IsTrue (is_honest self.new) → Keeps result (may_find self.old) (may_find self.new) }
+        ensures honest { IsTrue (is_honest self.new) → IsTrue (is_honest self.old) }
+        ensures count { CountsFaults result (count_of self.old) (count_of self.new) }
+        ensures broken { BreaksBy result (is_broken self.old) (is_broken self.new) };
+
+    /// The values that the node has learned of places from the place on, by ascending place, also those behind a place of which it has learned none.
+    fn learned_from(&mut self, place: Place) -> Result<Vec<(Place, Value)>, RecordsFault>
+        ensures value { IsTrue (is_honest self.new) → IfOk result (λ rows. (c : Content) → Holds (may_find self.old) c → rows.items ≡ rows_from c.learned place) }
+        ensures memory { IfErr result (λ e. e ≡ OutOfMemory → finds_no_memory self.old self.new) }
+        ensures sound { IsTrue (is_honest self.new) → OnOk result ((c : Content) → Holds (may_find self.old) c → IsSound c) }
+        ensures kept { IsTrue (is_honest self.new) → Keeps result (may_find self.old) (may_find self.new) }
+        ensures honest { IsTrue (is_honest self.new) → IsTrue (is_honest self.old) }
+        ensures count { CountsFaults result (count_of self.old) (count_of self.new) }
+        ensures broken { BreaksBy result (is_broken self.old) (is_broken self.new) };
+
     /// Writes the ballot that the node tries to lead with.
     fn put_tried(&mut self, ballot: Ballot) -> Result<(), RecordsFault>
         ensures ok { IsTrue (is_honest self.new) → OnOk result (HasMade (may_find self.old) (may_find self.new) (Tries ballot)) }
@@ -135,6 +154,16 @@ pub trait Records {
         ensures harmless { IsTrue (is_honest self.new) → IfErr result (λ e. IsHarmless e → FindsSame (may_find self.old) (may_find self.new)) }
         ensures doubt { IsTrue (is_honest self.new) → MayHaveMade (may_find self.old) (may_find self.new) (Casts place record { ballot = ballot; value = value.now }) }
         ensures only { IsTrue (is_honest self.new) → AddsOnly (may_find self.old) (may_find self.new) (Casts place record { ballot = ballot; value = value.now }) }
+        ensures honest { IsTrue (is_honest self.new) → IsTrue (is_honest self.old) }
+        ensures count { CountsFaults result (count_of self.old) (count_of self.new) }
+        ensures broken { BreaksBy result (is_broken self.old) (is_broken self.new) };
+
+    /// Writes the value that the node has learned of the place, over the one that is there.
+    fn put_learned(&mut self, place: Place, value: &Value) -> Result<(), RecordsFault>
+        ensures ok { IsTrue (is_honest self.new) → OnOk result (HasMade (may_find self.old) (may_find self.new) (Learns place value.now)) }
+        ensures harmless { IsTrue (is_honest self.new) → IfErr result (λ e. IsHarmless e → FindsSame (may_find self.old) (may_find self.new)) }
+        ensures doubt { IsTrue (is_honest self.new) → MayHaveMade (may_find self.old) (may_find self.new) (Learns place value.now) }
+        ensures only { IsTrue (is_honest self.new) → AddsOnly (may_find self.old) (may_find self.new) (Learns place value.now) }
         ensures honest { IsTrue (is_honest self.new) → IsTrue (is_honest self.old) }
         ensures count { CountsFaults result (count_of self.old) (count_of self.new) }
         ensures broken { BreaksBy result (is_broken self.old) (is_broken self.new) };

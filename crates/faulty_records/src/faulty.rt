@@ -178,6 +178,20 @@ impl Records for FaultyRecords {
         }
     }
 
+    fn learned_row(&mut self, place: Place) -> Result<Option<Value>, RecordsFault> {
+        match self.faults.begin() {
+            None => self.plain.learned_row(place),
+            Some(failure) => self.faults.fail(failure),
+        }
+    }
+
+    fn learned_from(&mut self, place: Place) -> Result<Vec<(Place, Value)>, RecordsFault> {
+        match self.faults.begin() {
+            None => self.plain.learned_from(place),
+            Some(failure) => self.faults.fail(failure),
+        }
+    }
+
     fn put_tried(&mut self, ballot: Ballot) -> Result<(), RecordsFault> {
         match self.faults.begin() {
             None => self.plain.put_tried(ballot),
@@ -210,6 +224,17 @@ impl Records for FaultyRecords {
             None => self.plain.put_vote(place, ballot, value),
             Some(Failure::BrokenWritten) => {
                 self.plain.put_vote(place, ballot, value)?;
+                self.faults.fail(Failure::BrokenWritten)
+            }
+            Some(failure) => self.faults.fail(failure),
+        }
+    }
+
+    fn put_learned(&mut self, place: Place, value: &Value) -> Result<(), RecordsFault> {
+        match self.faults.begin() {
+            None => self.plain.put_learned(place, value),
+            Some(Failure::BrokenWritten) => {
+                self.plain.put_learned(place, value)?;
                 self.faults.fail(Failure::BrokenWritten)
             }
             Some(failure) => self.faults.fail(failure),
