@@ -1,8 +1,8 @@
--- One more vote: it teaches the value, or is counted.
-use Rattle.std.proofs.Common.{◌≡◌, ℕ, ◌*◌, ◌<◌, ◌≤◌, Bool, cond, nat_lt, List, Option, Some, None, is_some, refl, sym, ap, ◌∙◌, Result, Ok, Err, OnOk, OnErr, false}
+-- Whether one more vote teaches its value.
+use Rattle.std.proofs.Common.{◌≡◌, ℕ, ◌*◌, ◌<◌, ◌≤◌, Bool, List, Option, Some, None, is_some, sym, refl, Result, Ok, Err, OnOk, OnErr, false, true}
 use Rattle.std.proofs.lemmas.Bool.{lt-ltb, le-ltb}
 use Rattle.ballots.specs.Voting.{count_below}
-use Rattle.learner.specs.Tally.{Tally, is_voter, known, learn, put_voters, voted, with_voter}
+use Rattle.learner.specs.Tally.{Tally, is_voter, teaches, with_voter}
 
 pub on_ok : {T E P Q : Type 0} (r : Result T E) → (P → Q) → OnOk r P → OnOk r Q
 on_ok (Ok x) f p = f p
@@ -20,13 +20,10 @@ module _ (members : ℕ) (tally : Tally) (n b p : ℕ) (v : List ℕ) where
   abbrev voters : List Bool
   voters = with_voter tally.counted n b p v
 
-  abbrev counts : Tally
-  counts = record { counted = put_voters tally.counted b p v voters; learned = tally.learned }
+  pub teaches_so : (o : Option (List ℕ)) → o ≡ None → members < 2 * count_below (is_voter voters) members → true ≡ teaches members tally o b p v n
+  teaches_so (Some w) none most = absurd (cc (none))
+  teaches_so None none most = sym (lt-ltb members (2 * count_below (is_voter voters) members) most)
 
-  pub teaches : (o : Option (List ℕ)) → o ≡ None → members < 2 * count_below (is_voter voters) members → known tally o p v ≡ voted members tally o b p v n
-  teaches (Some w) none most = absurd (cc (none))
-  teaches None none most = sym (ap (λ x. cond x (learn tally p v) counts) (lt-ltb members (2 * count_below (is_voter voters) members) most))
-
-  pub counts_on : (o : Option (List ℕ)) → o ≡ None → 2 * count_below (is_voter voters) members ≤ members → counts ≡ voted members tally o b p v n
-  counts_on (Some w) none few = absurd (cc (none))
-  counts_on None none few = sym (ap (λ x. cond x (learn tally p v) counts) (le-ltb members (2 * count_below (is_voter voters) members) few))
+  pub teaches_not : (o : Option (List ℕ)) → o ≡ None → 2 * count_below (is_voter voters) members ≤ members → false ≡ teaches members tally o b p v n
+  teaches_not (Some w) none few = absurd (cc (none))
+  teaches_not None none few = sym (le-ltb members (2 * count_below (is_voter voters) members) few)

@@ -1,10 +1,13 @@
 //! A member as a learner.
 
-ghost use Rattle.std.specs.Prelude.{◌≡◌, ◌≢◌, ◌↔◌, IsTrue, IsOk, None, OnOk, OnErr, option_copied};
+ghost use Rattle.std.specs.Prelude.{◌≡◌, ◌≢◌, ◌↔◌, IsTrue, IsOk, IfOk, None, Some, OnOk, OnErr, OnSome, is_some, option_copied};
+ghost use Rattle.std.specs.BTreeMap.{is_at};
+ghost use Rattle.std.specs.Map.{remove_entry};
+ghost use Rattle.std.specs.Ordering.{nat_cmp};
 ghost use Rattle.ballots.specs.Members.{member_count};
 ghost use Rattle.ballots.specs.Rows.{at};
 ghost use Rattle.learner.specs.Proposals.{proposal_of};
-ghost use Rattle.learner.specs.Tally.{groups_at, known, learn, no_tally, put_voters, voted, voters_in};
+ghost use Rattle.learner.specs.Tally.{counts, groups_at, holding, known, no_tally, put_voters, teaches, voters_in};
 
 use crate::groups::{Groups, Proposal, Voters};
 use ballots::{Ballot, Bytes, Members, NodeId};
@@ -91,6 +94,31 @@ impl Learner {
         &self.learned
     }
 
+    /// Keeps a value for a place that isn't learned, beside the votes counted there: it makes the room, before `settle` or `let_go`.
+    pub fn hold(&mut self, place: u64, value: Bytes) -> Result<(), AllocError>
+        ensures ok { OnOk result (self.new ≡ holding self.old place value) }
+        ensures err { OnErr result (self.new ≡ self.old) }
+    {
+        self.learned.insert(place, value).map_err(AllocError::from)?;
+        Ok(())
+    }
+
+    /// The value that is kept for a place is learned, and votes there are counted no more. It takes no memory.
+    pub fn settle(&mut self, place: u64)
+        ensures counted { self.new.counted ≡ remove_entry (is_at (nat_cmp place)) self.old.counted }
+        ensures learned { self.new.learned ≡ self.old.learned }
+    {
+        self.counted.remove(&place);
+    }
+
+    /// The value that is kept for a place is let go. It takes no memory.
+    pub fn let_go(&mut self, place: u64)
+        ensures counted { self.new.counted ≡ self.old.counted }
+        ensures learned { self.new.learned ≡ remove_entry (is_at (nat_cmp place)) self.old.learned }
+    {
+        self.learned.remove(&place);
+    }
+
     /// A value is known to be chosen at a place. The first one stays, and a further one takes no memory.
     pub fn known(&mut self, place: u64, value: Bytes) -> Result<(), AllocError>
         ensures ok { OnOk result (self.new ≡ known self.old (at self.old.learned place) place value) }
@@ -100,12 +128,12 @@ impl Learner {
         if self.learned.contains_key(&place) {
             return Ok(());
         }
-        self.learned.insert(place, value).map_err(AllocError::from)?;
-        self.counted.remove(&place);
+        self.hold(place, value)?;
+        self.settle(place);
         Ok(())
     }
 
-    /// A vote of a node was heard. It counts once for its ballot and value, and a majority of the members teaches the value (Lamport, Paxos Made Simple, section 2.3).
+    /// A vote of a node was heard, and counts once for its ballot and value. Where with it a majority of the members has voted so, the value is given back: it is chosen (Lamport, Paxos Made Simple, section 2.3), nothing changed, and the caller learns it.
     pub fn voted(
         &mut self,
         members: Members,
@@ -113,19 +141,24 @@ impl Learner {
         place: u64,
         value: Bytes,
         from: NodeId,
-    ) -> Result<(), AllocError>
-        ensures ok { OnOk result (self.new ≡ voted (member_count members) self.old (at self.old.learned place) ballot place value from) }
+    ) -> Result<Option<Bytes>, AllocError>
+        ensures taught { IfOk result (λ taught. is_some taught ≡ teaches (member_count members) self.old (at self.old.learned place) ballot place value from) }
+        ensures value { IfOk result (λ taught. OnSome taught (taught ≡ Some value)) }
+        ensures unchanged { IfOk result (λ taught. OnSome taught (self.new ≡ self.old)) }
+        ensures counted { IfOk result (λ taught. taught ≡ None → self.new ≡ counts self.old (at self.old.learned place) ballot place value from) }
+        ensures learned { self.new.learned ≡ self.old.learned }
         ensures again { at self.old.learned place ≢ None → IsOk result }
         ensures err { OnErr result (self.new ≡ self.old) }
     {
         if self.learned.contains_key(&place) {
-            return Ok(());
+            return Ok(None);
         }
         let proposal = Proposal { ballot, value };
         let voters = voters_at(&self.counted, place, &proposal).with(from);
         if 2 * voters.count(members) > members.count() {
-            return self.known(place, proposal.value);
+            return Ok(Some(proposal.value));
         }
-        put_voters(self.alloc, &mut self.counted, place, proposal, voters)
+        put_voters(self.alloc, &mut self.counted, place, proposal, voters)?;
+        Ok(None)
     }
 }

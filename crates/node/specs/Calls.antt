@@ -102,12 +102,16 @@ TellsStore old (Err StoreRefused) new = StoreFailed old new × (new.broken ≡ f
 TellsStore old (Err Down) new = (StoreFailed old new × (new.broken ≡ true)) ⊎ ((old.down ≡ true) × StoreServed old new)
 TellsStore old other new = StoreServed old new
 
--- the same of a restart, which mends a broken store where it is Ok
+-- the store is broken no more, or as it was
+abbrev pub MayBeMended : Who → Who → Type 0
+MayBeMended old new = (new.broken ≡ false) ⊎ (new.broken ≡ old.broken)
+
+-- the same of a restart, which mends a broken store where it is Ok, and may have mended it where it failed as it read what was learned
 abbrev pub TellsStoreOfRestart : {T : Type 0} → Who → Result T Fault → Who → Type 0
 TellsStoreOfRestart old (Ok _) new = (new.failures ≡ old.failures) × (new.broken ≡ false)
-TellsStoreOfRestart old (Err StoreRefused) new = StoreFailed old new × (new.broken ≡ old.broken)
+TellsStoreOfRestart old (Err StoreRefused) new = StoreFailed old new × MayBeMended old new
 TellsStoreOfRestart old (Err Down) new = StoreFailed old new × (new.broken ≡ true)
-TellsStoreOfRestart old (Err other) new = StoreServed old new
+TellsStoreOfRestart old (Err other) new = (new.failures ≡ old.failures) × MayBeMended old new
 
 -- a node is down after the fault Down, and else as it was
 abbrev pub down_after : {T : Type 0} → Result T Fault → Bool → Bool

@@ -9,8 +9,8 @@ use Rattle.ballots.specs.declared.letters.Note.{Note}
 use Rattle.ballots.specs.declared.letters.Letter.{Letter}
 use Rattle.ballots.specs.declared.letters.Note.TheVariants.{Prepare, Promise, Accept, Voted, Higher, Known}
 use Rattle.acceptor.specs.Content.{Write, promised, after_write}
-use Rattle.acceptor.specs.Content.Write.{Tries, Promises, Votes}
-use Rattle.learner.specs.Tally.{is_majority, voted, known}
+use Rattle.acceptor.specs.Content.Write.{Tries, Promises, Votes, Learns}
+use Rattle.learner.specs.Tally.{is_majority, teaches, counts, learn}
 pub use Rattle.proposer.specs.Letters.{letter, to_all, proposals}
 use Rattle.proposer.specs.Joining.{join, place_after}
 use Rattle.proposer.specs.Roles.{role_after}
@@ -70,10 +70,10 @@ known_letters me n (row ∷ rows) = letter me n (Known row.0 row.1) ∷ known_le
 -- a Prepare of ballot b for the places from q on, from node n
 abbrev pub prepare : ℕ → View → ℕ → ℕ → ℕ → Outcome
 prepare me view b q n =
-    let known = known_letters me n (take 64 (rows_from view.tally.learned q)) in
+    let told = known_letters me n (take 64 (rows_from view.tally.learned q)) in
     if nat_lt (promised view.content) b
-    then writes view (Promises b) (known ++ letter me n (Promise b q (rows_from view.content.votes q)) ∷ [])
-    else sends view (known ++ letter me n (Higher (promised view.content)) ∷ [])
+    then writes view (Promises b) (told ++ letter me n (Promise b q (rows_from view.content.votes q)) ∷ [])
+    else sends view (told ++ letter me n (Higher (promised view.content)) ∷ [])
 
 -- after one more promise was counted: a majority leads
 abbrev pub after_promise : ℕ → ℕ → View → ℕ → ℕ → List ℕ → List (ℕ × Cast) → Outcome
@@ -104,6 +104,21 @@ accept members me view b p v n =
     if nat_lt b (promised view.content) then sends view (letter me n (Higher (promised view.content)) ∷ [])
     else vote_at members me view (at view.content.votes p) b p v
 
+-- v is learned at p: its row is written
+abbrev pub learns : View → ℕ → List ℕ → Outcome
+learns view p v = writes (record view { tally = learn view.tally p v }) (Learns p v) []
+
+-- node n's vote of ballot b for v at p was heard, where p is learned or not: it teaches v, or is counted
+abbrev pub voted : ℕ → View → Option (List ℕ) → ℕ → ℕ → List ℕ → ℕ → Outcome
+voted members view there b p v n =
+    if teaches members view.tally there b p v n then learns view p v
+    else nothing (record view { tally = counts view.tally there b p v n })
+
+-- v is known to be chosen at p, where p is learned or not
+abbrev pub known : View → Option (List ℕ) → ℕ → List ℕ → Outcome
+known view (Some value) p v = nothing view
+known view None p v = learns view p v
+
 -- a higher ballot was heard of
 abbrev pub after_higher : View → ℕ → View
 after_higher view b = record view { hint = max view.hint b; role = role_after view.role b }
@@ -113,9 +128,9 @@ abbrev pub heed : ℕ → ℕ → View → ℕ → Note → Outcome
 heed members me view from (Prepare b q) = prepare me view b q from
 heed members me view from (Promise b q votes) = promise members me view view.role b q votes from
 heed members me view from (Accept b p v) = accept members me view b p v from
-heed members me view from (Voted b p v) = nothing (record view { tally = voted members view.tally (at view.tally.learned p) b p v from })
+heed members me view from (Voted b p v) = voted members view (at view.tally.learned p) b p v from
 heed members me view from (Higher b) = nothing (after_higher view b)
-heed members me view from (Known p v) = nothing (record view { tally = known view.tally (at view.tally.learned p) p v })
+heed members me view from (Known p v) = known view (at view.tally.learned p) p v
 
 -- a letter that isn't heeded changes nothing
 abbrev pub receive : ℕ → ℕ → View → Letter → Outcome

@@ -1,20 +1,28 @@
 //! What a node has learned, and what it releases of it.
 
-ghost use Rattle.std.specs.Prelude.{◌≡◌, ◌+◌, ◌<◌, ◌≤◌, ◌↔◌, IfOk, IsTrue, None, OnOk, OnErr, option_copied, length};
+ghost use Rattle.std.specs.Prelude.{◌≡◌, ◌+◌, ◌<◌, ◌≤◌, ◌↔◌, IfOk, IfErr, IsTrue, [], Some, None, OnOk, OnErr, OnSome, is_some, option_copied, length};
+ghost use Rattle.acceptor.specs.Content.{Content};
+ghost use Rattle.acceptor.specs.Content.Write.{Learns};
+ghost use Rattle.acceptor.specs.Found.{FindsSame, HasMade, Holds, Keeps, MayHaveMade};
+ghost use Rattle.acceptor.specs.Faults.{BreaksBy, CountsFaults};
+ghost use Rattle.proposer.specs.Faults.{BreaksByStop, CountsStops, IsHarmlessStop};
 ghost use Rattle.ballots.specs.Limits.{IsPlace, most_places};
 ghost use Rattle.ballots.specs.Members.{member_count};
 ghost use Rattle.ballots.specs.Rows.{at};
-ghost use Rattle.learner.specs.Tally.{no_tally, known, voted};
+ghost use Rattle.learner.specs.Tally.{no_tally, counts, learn, teaches};
 ghost use Rattle.command_log.specs.Values.{outputs_of_values, values_from};
 ghost use Rattle.command_log.specs.View.{AreRows, IsLog};
 ghost use Rattle.map_release.specs.Released.{released};
+ghost use Rattle.node.specs.Calls.{IsStop};
 ghost use Rattle.node.specs.Learned.{IsPart};
 
 use crate::letters::prefix_len;
-use ballots::{Ballot, Bytes, MOST_PLACES, Members, NodeId, Place};
+use acceptor::{Records, RecordsFault};
+use ballots::{Ballot, Bytes, MOST_PLACES, Members, NodeId, Place, Value};
 use command_log::{Log, LogFault};
 use learner::Learner;
 use map_release::{Numbered, Release};
+use proposer::NodeFault;
 use std::alloc::{AllocError, Global};
 use std::collections::BTreeMap;
 use std::marker::Model;
@@ -64,6 +72,19 @@ fn apply(log: &mut Log, learned: &BTreeMap<u64, Bytes>) -> Result<u64, AllocErro
     Ok(log.prefix_len())
 }
 
+/// A learner of these values by place, each place's first one.
+fn learner_of(alloc: Global, rows: Vec<(Place, Value)>) -> Result<Learner, AllocError>
+    ensures rows { IfOk result (λ learner. AreRows 1 learner.learned) }
+    ensures counted { IfOk result (λ learner. learner.counted ≡ []) }
+    ensures same { IfOk result (λ learner. AreRows 1 rows.items → learner.learned ≡ rows.items) }
+{
+    let mut learner = Learner::new(alloc);
+    for (place, value) in rows {
+        learner.known(place.number(), value.into_bytes())?;
+    }
+    Ok(learner)
+}
+
 impl Knowledge {
     /// Nothing was learned.
     pub(crate) fn new(alloc: Global) -> Knowledge
@@ -75,6 +96,28 @@ impl Knowledge {
             release: Release::new(),
             prefix: 0,
         }
+    }
+
+    /// What the learned rows hold, and nothing counted or released.
+    pub(crate) fn read<R: Records>(
+        alloc: Global,
+        records: &mut R,
+        first: Place,
+    ) -> Result<Knowledge, RecordsFault>
+        requires { first ≡ 1 }
+        ensures value { IsTrue (R.is_honest records.new) → IfOk result (λ k. (c : Content) → Holds (R.may_find records.old) c → k ≡ record { tally = record { counted = []; learned = c.learned }; cursor = 0 }) }
+        ensures kept { IsTrue (R.is_honest records.new) → Keeps result (R.may_find records.old) (R.may_find records.new) }
+        ensures honest { IsTrue (R.is_honest records.new) → IsTrue (R.is_honest records.old) }
+        ensures count { CountsFaults result (R.count_of records.old) (R.count_of records.new) }
+        ensures broken { BreaksBy result (R.is_broken records.old) (R.is_broken records.new) }
+    {
+        let rows = records.learned_from(first)?;
+        Ok(Knowledge {
+            learner: learner_of(alloc, rows)?,
+            log: Log::new(alloc),
+            release: Release::new(),
+            prefix: 0,
+        })
     }
 
     /// Whether nothing was counted, learned or released.
@@ -111,14 +154,36 @@ impl Knowledge {
         self.prefix
     }
 
-    pub(crate) fn known(&mut self, place: Place, value: Bytes) -> Result<(), AllocError>
-        ensures ok { OnOk result (self.new ≡ record self.old { tally = known self.old.tally (at self.old.tally.learned place) place value }) }
-        ensures err { OnErr result (self.new ≡ self.old) }
+    /// Learns a value at a place that isn't learned: makes the room, writes its row, and then keeps it.
+    pub(crate) fn learn<R: Records>(
+        &mut self,
+        alloc: Global,
+        records: &mut R,
+        place: Place,
+        value: &Value,
+    ) -> Result<(), NodeFault>
+        requires { at self.old.tally.learned place ≡ None }
+        ensures learned { OnOk result (self.new ≡ record self.old { tally = learn self.old.tally place value.now }) }
+        ensures unchanged { OnErr result (self.new ≡ self.old) }
+        ensures stops { IfErr result IsStop }
+        ensures ok { IsTrue (R.is_honest records.new) → OnOk result (HasMade (R.may_find records.old) (R.may_find records.new) (Learns place value.now)) }
+        ensures harmless { IsTrue (R.is_honest records.new) → IfErr result (λ fault. IsHarmlessStop fault → FindsSame (R.may_find records.old) (R.may_find records.new)) }
+        ensures doubt { IsTrue (R.is_honest records.new) → OnErr result (MayHaveMade (R.may_find records.old) (R.may_find records.new) (Learns place value.now)) }
+        ensures honest { IsTrue (R.is_honest records.new) → IsTrue (R.is_honest records.old) }
+        ensures count { CountsStops result (R.count_of records.old) (R.count_of records.new) }
+        ensures broken { BreaksByStop result (R.is_broken records.old) (R.is_broken records.new) }
     {
-        self.learner.known(place.number(), value)?;
+        let kept = value.copy(alloc)?;
+        self.learner.hold(place.number(), kept.into_bytes())?;
+        if let Err(fault) = records.put_learned(place, value) {
+            self.learner.let_go(place.number());
+            return Err(NodeFault::from(fault));
+        }
+        self.learner.settle(place.number());
         Ok(())
     }
 
+    /// A vote was heard, and is counted. Where it teaches its value nothing changes, and the value is given back.
     pub(crate) fn voted(
         &mut self,
         members: Members,
@@ -126,13 +191,15 @@ impl Knowledge {
         place: Place,
         value: Bytes,
         from: NodeId,
-    ) -> Result<(), AllocError>
-        ensures ok { OnOk result (self.new ≡ record self.old { tally = voted (member_count members) self.old.tally (at self.old.tally.learned place) ballot place value from }) }
+    ) -> Result<Option<Bytes>, AllocError>
+        ensures taught { IfOk result (λ taught. is_some taught ≡ teaches (member_count members) self.old.tally (at self.old.tally.learned place) ballot place value from) }
+        ensures value { IfOk result (λ taught. OnSome taught (taught ≡ Some value)) }
+        ensures unchanged { IfOk result (λ taught. OnSome taught (self.new ≡ self.old)) }
+        ensures counted { IfOk result (λ taught. taught ≡ None → self.new ≡ record self.old { tally = counts self.old.tally (at self.old.tally.learned place) ballot place value from }) }
         ensures err { OnErr result (self.new ≡ self.old) }
     {
         self.learner
-            .voted(members, ballot, place.number(), value, from)?;
-        Ok(())
+            .voted(members, ballot, place.number(), value, from)
     }
 
     /// The outputs of the gapless values behind the cursor, without the MAPs that end at `now` (in minislots) or before.

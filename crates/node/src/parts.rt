@@ -5,7 +5,7 @@ ghost use Rattle.ballots.specs.Limits.{IsPlace, IsValue};
 ghost use Rattle.ballots.specs.Members.{member_count};
 ghost use Rattle.ballots.specs.Rows.{at, rows_from};
 ghost use Rattle.ballots.specs.declared.letters.Note.TheVariants.{Higher as HigherNote, Voted as VotedNote};
-ghost use Rattle.learner.specs.Tally.{voted, known};
+ghost use Rattle.learner.specs.Tally.{counts, teaches};
 ghost use Rattle.node.specs.Answers.{accepted_letters, WroteNothing};
 ghost use Rattle.acceptor.specs.Content.{Content};
 ghost use Rattle.node.specs.Calls.{Kept, KeptByRestart, Restarts, StopsLast, TakesTurn, TellsFresh, answer};
@@ -14,7 +14,7 @@ ghost use Rattle.node.specs.Releases.{Releases, outputs};
 ghost use Rattle.node.specs.View.{Standing};
 ghost use Rattle.proposer.specs.Turns as turn;
 ghost use Rattle.proposer.specs.Turns.{IsNextBallot};
-ghost use Rattle.node.specs.Step.{Leads, accept, after_higher, are_votes, heed, is_sound, known_letters, letter, nothing, offer, prepare, promise, to_all};
+ghost use Rattle.node.specs.Step.{Leads, accept, after_higher, are_votes, heed, is_sound, known, known_letters, learns, letter, nothing, offer, prepare, promise, to_all, voted};
 
 use crate::knowledge::Knowledge;
 use crate::letters::{known_letters, one_letter, prepared_note, replace_last};
@@ -220,6 +220,22 @@ impl<R: Records> Parts<R> {
         Ok(self.after_vote(answer, letters, from, ballot, place, value)?)
     }
 
+    /// A value is learned at a place that isn't learned, once its row is written.
+    fn learn(&mut self, place: Place, value: Value) -> Result<Vec<Letter>, NodeFault>
+        requires up { self.old.is_down ≡ false }
+        requires unlearned { at self.old.knowledge.tally.learned place ≡ None }
+        ensures honesty { IsTrue (R.is_honest self.new.records) → IsTrue (R.is_honest self.old.records) }
+        ensures kept { Kept (who_of R.count_of R.is_broken self.old) result (who_of R.count_of R.is_broken self.new) }
+        ensures done { IsTrue (R.is_honest self.new.records)
+            → Does R.may_find self.old (λ view course. course ≡ Ok (learns view place value)) result self.new }
+    {
+        let letters = Vec::new(self.alloc);
+        match self.knowledge.learn(self.alloc, &mut self.records, place, &value) {
+            Ok(()) => Ok(letters),
+            Err(fault) => Err(self.stop(fault)),
+        }
+    }
+
     /// A vote was heard of.
     fn take_voted(
         &mut self,
@@ -228,29 +244,38 @@ impl<R: Records> Parts<R> {
         place: Place,
         value: &Bytes,
     ) -> Result<Vec<Letter>, NodeFault>
-        requires { self.old.is_down ≡ false }
+        requires up { self.old.is_down ≡ false }
+        requires short { IsValue value.now }
         ensures honesty { IsTrue (R.is_honest self.new.records) → IsTrue (R.is_honest self.old.records) }
         ensures kept { Kept (who_of R.count_of R.is_broken self.old) result (who_of R.count_of R.is_broken self.new) }
         ensures done { IsTrue (R.is_honest self.new.records)
-            → Does R.may_find self.old (λ view course. course ≡ Ok (nothing record view { tally = voted (member_count self.old.proposer.members) view.tally (at view.tally.learned place) ballot place value.now from })) result self.new }
+            → Does R.may_find self.old (λ view course. course ≡ Ok (voted (member_count self.old.proposer.members) view (at view.tally.learned place) ballot place value.now from)) result self.new }
     {
-        let value = value.copy(self.alloc)?;
         let members = self.proposer.members();
-        self.knowledge.voted(members, ballot, place, value, from)?;
-        Ok(Vec::new(self.alloc))
+        let value = value.copy(self.alloc)?;
+        let taught = self
+            .knowledge
+            .voted(members, ballot, place, value, from)?;
+        match taught {
+            Some(value) => self.learn(place, value_of(value)),
+            None => Ok(Vec::new(self.alloc)),
+        }
     }
 
     /// A value is known to be chosen.
     fn take_known(&mut self, place: Place, value: &Bytes) -> Result<Vec<Letter>, NodeFault>
-        requires { self.old.is_down ≡ false }
+        requires up { self.old.is_down ≡ false }
+        requires short { IsValue value.now }
         ensures honesty { IsTrue (R.is_honest self.new.records) → IsTrue (R.is_honest self.old.records) }
         ensures kept { Kept (who_of R.count_of R.is_broken self.old) result (who_of R.count_of R.is_broken self.new) }
         ensures done { IsTrue (R.is_honest self.new.records)
-            → Does R.may_find self.old (λ view course. course ≡ Ok (nothing record view { tally = known view.tally (at view.tally.learned place) place value.now })) result self.new }
+            → Does R.may_find self.old (λ view course. course ≡ Ok (known view (at view.tally.learned place) place value.now)) result self.new }
     {
-        let value = value.copy(self.alloc)?;
-        self.knowledge.known(place, value)?;
-        Ok(Vec::new(self.alloc))
+        if self.knowledge.learned(place.number()).is_some() {
+            return Ok(Vec::new(self.alloc));
+        }
+        let value = value_of(value.copy(self.alloc)?);
+        self.learn(place, value)
     }
 
     /// A higher ballot was heard of.
@@ -341,19 +366,23 @@ impl<R: Records> Parts<R> {
         Ok(self.knowledge.release(self.alloc, now)?)
     }
 
-    /// Starts over its records.
+    /// Starts over its records, and reads what it had learned.
     pub(crate) fn start_over(&mut self) -> Result<(), NodeFault>
         ensures honesty { IsTrue (R.is_honest self.new.records) → IsTrue (R.is_honest self.old.records) }
         ensures kept { KeptByRestart (who_of R.count_of R.is_broken self.old) result (who_of R.count_of R.is_broken self.new) }
         ensures done { IsTrue (R.is_honest self.new.records) → (s : Standing) → Stands R.may_find self.old s
             → (t : Standing) × Restarts s result t × Stands R.may_find self.new t }
-        ensures reopened { OnOk result (R.reopens self.old.records self.new.records) }
+        ensures reopened { OnOk result ((mid : R) × R.reopens self.old.records mid) }
     {
         if let Err(fault) = self.records.reopen() {
             return Err(self.fail(fault));
         }
+        let knowledge = match Knowledge::read(self.alloc, &mut self.records, place_of(1)) {
+            Ok(knowledge) => knowledge,
+            Err(fault) => return Err(self.fail(fault)),
+        };
         self.proposer.restart();
-        self.knowledge = Knowledge::new(self.alloc);
+        self.knowledge = knowledge;
         self.is_down = false;
         Ok(())
     }
@@ -385,10 +414,17 @@ impl<R: Records> Parts<R> {
             Ok(votes) => votes,
             Err(fault) => return Err(self.fail(fault)),
         };
+        let learned = match self.records.learned_from(place_of(1)) {
+            Ok(learned) => learned,
+            Err(fault) => return Err(self.fail(fault)),
+        };
         if used != 0 {
             return Ok(false);
         }
         if !votes.rows().is_empty() {
+            return Ok(false);
+        }
+        if !learned.as_slice().is_empty() {
             return Ok(false);
         }
         Ok(self.is_untouched())

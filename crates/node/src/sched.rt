@@ -5,7 +5,7 @@ ghost use Rattle.ballots.specs.Members.{member_count};
 ghost use Rattle.acceptor.specs.Content.{Content};
 ghost use Rattle.acceptor.specs.Found.{Holds};
 ghost use Rattle.node.specs.Sched.{Stands, who_of};
-ghost use Rattle.node.specs.View.{Standing, started};
+ghost use Rattle.node.specs.View.{Standing, made};
 ghost use Rattle.node.specs.View.Standing.{Running};
 
 use crate::heeded::is_heeded;
@@ -26,13 +26,13 @@ pub struct SchedNode<R: Records> {
 }
 
 impl<R: Records> SchedNode<R> {
-    /// A node that starts over these records, with a member's number. Where they are honest they hold some content, and so aren't in doubt of a write.
+    /// A node over these records, with a member's number, that has read none of them: of what they hold as learned a restart tells it. Where they are honest they hold some content, and so aren't in doubt of a write.
     pub fn new(alloc: Global, id: NodeId, members: Members, records: R) -> SchedNode<R>
         requires member { id < member_count members }
         requires certain { IsTrue (R.is_honest records) → ∥ ((c : Content) × Holds (R.may_find records) c) ∥₁ }
         ensures who { who_of R.count_of R.is_broken result.parts ≡ record { id = id; members = member_count members; failures = R.count_of records; broken = R.is_broken records; down = false } }
         ensures honest { R.is_honest result.parts.records ≡ R.is_honest records }
-        ensures stands { (c : Content) → Holds (R.may_find records) c → Stands R.may_find result.parts (Running (started c)) }
+        ensures stands { (c : Content) → Holds (R.may_find records) c → Stands R.may_find result.parts (Running (made c)) }
     {
         SchedNode {
             parts: Parts {
@@ -59,7 +59,7 @@ impl<R: Records + Drop> Node for SchedNode<R> {
 
     ghost found_no_memory = { λ n. (mid : R) × R.finds_no_memory mid n.parts.records };
 
-    ghost reopens = { λ old new. R.reopens old.parts.records new.parts.records };
+    ghost reopens = { λ old _. (mid : R) × R.reopens old.parts.records mid };
 
     fn id(&self) -> NodeId {
         self.parts.proposer.id()

@@ -2,13 +2,12 @@ use Rattle.std.proofs.Common.{◌≡◌, ◌*◌, ◌<◌, ◌≤◌, arith, Boo
 use Rattle.ballots.specs.Members.{member_count}
 use Rattle.ballots.specs.Rows.{at}
 use Rattle.ballots.specs.Voting.{count_below}
-use Rattle.learner.specs.Tally.{Tally, is_voter, with_voter, voters_in, groups_at, put_voters}
-use Rattle.learner.proofs.Voting.{on_ok, is_nothing, teaches, counts_on}
-use Rattle.learner.proofs.Callers.{counted_more, counted_less}
+use Rattle.learner.specs.Tally.{Tally, is_voter, with_voter, voters_in, groups_at}
+use Rattle.learner.proofs.Voting.{is_nothing, teaches_so, teaches_not}
 use Rattle.learner.proofs.learner.Learner.voted.Goals as goal
 
-pub returns-then-count-clause-ok : goal.returns-then-count-clause-ok
-returns-then-count-clause-ok c =
+pub returns-then-count-clause-taught : goal.returns-then-count-clause-taught
+returns-then-count-clause-taught c =
     let t = c.args.self.now in
     let members = member_count c.args.members in
     let none : at t.learned c.args.place ≡ None = ap (λ (x : Tally). at x.learned c.args.place) (sym c.self.view_is) ∙ is_nothing (at c.self.inside.learned.entries c.args.place) (sym c.if-contains_key.ensures) in
@@ -16,10 +15,10 @@ returns-then-count-clause-ok c =
     c.with-voters.ensures ∙ ap (λ (s : List Bool). slice_set s c.args.from true) (c.voters_at.ensures ∙ ap (λ (x : Tally). voters_in (groups_at x.counted c.args.place) c.args.ballot c.args.value) c.self.view_is) in
     let same = c.count.ensures.among ∙ ap (λ (s : List Bool). count_below (is_voter s) members) voters in
     let most : members < 2 * count_below (is_voter (with_voter t.counted c.args.from c.args.ballot c.args.place c.args.value)) members = omega (arith, same, c.if-count.true, c.count-2.ensures) in
-    on_ok c.known.result (λ is. is ∙ teaches members t c.args.from c.args.ballot c.args.place c.args.value (at t.learned c.args.place) none most) c.known.ensures.ok
+    teaches_so members t c.args.from c.args.ballot c.args.place c.args.value (at t.learned c.args.place) none most
 
-pub returns-clause-ok : goal.returns-clause-ok
-returns-clause-ok c =
+pub returns-clause-taught : goal.returns-clause-taught
+returns-clause-taught c =
     let t = c.args.self.now in
     let members = member_count c.args.members in
     let none : at t.learned c.args.place ≡ None = ap (λ (x : Tally). at x.learned c.args.place) (sym c.self.view_is) ∙ is_nothing (at c.self.inside.learned.entries c.args.place) (sym c.if-contains_key.ensures) in
@@ -27,7 +26,4 @@ returns-clause-ok c =
     c.with-voters.ensures ∙ ap (λ (s : List Bool). slice_set s c.args.from true) (c.voters_at.ensures ∙ ap (λ (x : Tally). voters_in (groups_at x.counted c.args.place) c.args.ballot c.args.value) c.self.view_is) in
     let same = c.count.ensures.among ∙ ap (λ (s : List Bool). count_below (is_voter s) members) voters in
     let few : 2 * count_below (is_voter (with_voter t.counted c.args.from c.args.ballot c.args.place c.args.value)) members ≤ members = omega (arith, same, c.if-count.false, c.count-2.ensures) in
-    let after : Tally → List Bool → Tally = λ x s. record { counted = put_voters x.counted c.args.ballot c.args.place c.args.value s; learned = x.learned } in
-    on_ok c.put_voters.result
-    (λ is. ap (λ r. record { counted = r; learned = c.self.inside.learned.entries }) is ∙ ap (λ x. after x c.with-voters.result) c.self.view_is ∙ ap (after t) voters
-    ∙ counts_on members t c.args.from c.args.ballot c.args.place c.args.value (at t.learned c.args.place) none few) c.put_voters.ensures.ok
+    teaches_not members t c.args.from c.args.ballot c.args.place c.args.value (at t.learned c.args.place) none few
