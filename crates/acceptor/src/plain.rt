@@ -4,7 +4,7 @@ ghost use Rattle.std.specs.Prelude.{◌≡◌, ℕ, max, List, Option, Some, Non
 ghost use Rattle.ballots.specs.Limits.{IsPlace};
 ghost use Rattle.ballots.specs.Rows.{at, put, rows_from};
 ghost use Rattle.ballots.specs.Ballots.{number_of};
-ghost use Rattle.acceptor.specs.Content.{AreRowsFrom, AreValues, Content, no_content, greatest};
+ghost use Rattle.acceptor.specs.Content.{AreRowsFrom, Content, IsSound, no_content, greatest};
 ghost use Rattle.acceptor.specs.Kept.{ballot_in};
 
 use crate::records::{Records, RecordsFault};
@@ -28,13 +28,13 @@ pub struct PlainRecords {
 impl Model for PlainRecords {
     ghost use Rattle.std.specs.Prelude.{◌≡◌, ℕ, List};
     ghost use Rattle.ballots.specs.Ballots.{number_of};
-    ghost use Rattle.acceptor.specs.Content.{AreRowsFrom, AreValues, Content, greatest};
+    ghost use Rattle.acceptor.specs.Content.{Content, IsSound, greatest};
 
     ghost Value = { Content };
 
     ghost view = { λ r. record { tried = number_of r.tried; row = number_of r.row; votes = r.votes.entries; learned = r.learned.entries } };
 
-    ghost invariant = { λ r. (number_of r.highest ≡ greatest (number_of r.row) r.votes.entries) × AreRowsFrom 1 r.votes.entries × AreRowsFrom 1 r.learned.entries × AreValues r.learned.entries };
+    ghost invariant = { λ r. (number_of r.highest ≡ greatest (number_of r.row) r.votes.entries) × IsSound record { tried = number_of r.tried; row = number_of r.row; votes = r.votes.entries; learned = r.learned.entries } };
 }
 
 impl PlainRecords {
@@ -192,6 +192,14 @@ fn all_learned_from(
     Ok(rows)
 }
 
+fn put_value(learned: &mut BTreeMap<u64, Value>, place: u64, value: Value) -> Result<(), AllocError>
+    ensures ok { OnOk result (learned.new.entries ≡ put learned.old.entries place value) }
+    ensures err { OnErr result (learned.new.entries ≡ learned.old.entries) }
+{
+    learned.insert(place, value).map_err(AllocError::from)?;
+    Ok(())
+}
+
 impl Records for PlainRecords {
     ghost may_find = { λ r c. c ≡ r };
 
@@ -259,10 +267,7 @@ impl Records for PlainRecords {
 
     fn put_learned(&mut self, place: Place, value: &Value) -> Result<(), RecordsFault> {
         let value = value.copy(self.alloc)?;
-        self.learned
-            .insert(place.number(), value)
-            .map_err(AllocError::from)?;
-        Ok(())
+        Ok(put_value(&mut self.learned, place.number(), value)?)
     }
 
     fn reopen(&mut self) -> Result<(), RecordsFault> {

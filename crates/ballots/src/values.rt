@@ -105,7 +105,8 @@ impl Value {
 
     /// The same value again.
     pub fn copy(&self, alloc: Global) -> Result<Value, AllocError>
-        ensures { IfOk result (λ v. v ≡ self.now) }
+        ensures same { IfOk result (λ v. v ≡ self.now) }
+        ensures fits { IfOk result (λ v. IsValue v) }
     {
         Ok(Value {
             bytes: self.bytes.copy(alloc)?,

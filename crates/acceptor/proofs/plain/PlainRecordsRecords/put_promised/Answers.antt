@@ -1,4 +1,4 @@
-use Rattle.std.proofs.Common.{◌∙◌, ap, Some, sym, rules, ◌≡◌}
+use Rattle.std.proofs.Common.{◌∙◌, ap, Some}
 use Rattle.ballots.specs.Ballots.{number_of}
 use Rattle.acceptor.specs.Content.{greatest}
 use Rattle.acceptor.proofs.Greatest.{greatest_apart}

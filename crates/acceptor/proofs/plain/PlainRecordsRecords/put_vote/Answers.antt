@@ -19,13 +19,13 @@ invariant_of-self-2 c =
     let now : c.put_at.new.votes.entries ≡ put votes c.number.result cast = search rules in
     let before = c.self.invariant.0 ∙ others.1 ∙ ap (λ b. max b others.0) (sym c.in_ok-replaced.ensures.replaced) in
     let after = ap (greatest row) now ∙ others.2 in
-    (c.highest_after-self-inside.ensures others.0 before after, subst (AreRowsFrom 1) (sym now) (rows_put 1 c.number.result cast votes c.number.ensures.fits.0 c.number.ensures.fits.1 c.self.invariant.1))
+    (c.highest_after-self-inside.ensures others.0 before after, (subst (AreRowsFrom 1) (sym now) (rows_put 1 c.number.result cast votes c.number.ensures.fits.0 c.number.ensures.fits.1 c.self.invariant.1.0), c.self.invariant.1.1, c.self.invariant.1.2))
 
 pub returns-clause-ok : goal.returns-clause-ok
 returns-clause-ok c _ =
     let write : Content → Content = λ d. after_write d (Some (Votes c.args.place record { ballot = c.args.ballot; value = c.args.value.now })) in
     let votes : c.put_at.new.votes.entries ≡ put c.self.inside.votes.entries c.args.place record { ballot = c.args.ballot; value = c.args.value.now } = search rules in
-    let old : Content = record { tried = number_of c.self.inside.tried; row = number_of c.self.inside.row; votes = c.self.inside.votes.entries } in
+    let old : Content = record { tried = number_of c.self.inside.tried; row = number_of c.self.inside.row; votes = c.self.inside.votes.entries; learned = c.self.inside.learned.entries } in
     let is : record old { votes = c.put_at.new.votes.entries } ≡ write c.args.self.now = ap (λ (v : List (ℕ × Cast)). record old { votes = v }) votes ∙ ap write c.self.view_is in
     wrote c.args.self.now _ write is
 
@@ -33,6 +33,6 @@ pub returns-clause-doubt : goal.returns-clause-doubt
 returns-clause-doubt c _ =
     let write : Content → Content = λ d. after_write d (Some (Votes c.args.place record { ballot = c.args.ballot; value = c.args.value.now })) in
     let votes : c.put_at.new.votes.entries ≡ put c.self.inside.votes.entries c.args.place record { ballot = c.args.ballot; value = c.args.value.now } = search rules in
-    let old : Content = record { tried = number_of c.self.inside.tried; row = number_of c.self.inside.row; votes = c.self.inside.votes.entries } in
+    let old : Content = record { tried = number_of c.self.inside.tried; row = number_of c.self.inside.row; votes = c.self.inside.votes.entries; learned = c.self.inside.learned.entries } in
     let is : record old { votes = c.put_at.new.votes.entries } ≡ write c.args.self.now = ap (λ (v : List (ℕ × Cast)). record old { votes = v }) votes ∙ ap write c.self.view_is in
     doubted c.args.self.now _ write is
