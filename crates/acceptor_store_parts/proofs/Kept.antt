@@ -57,7 +57,7 @@ module _ (version : Version) (old new : State) (c : Content) (was : ServesAs ver
         tables = subst (λ (d : Database). AreTablesOf version d.trees c) (sym now) was.tables;
       }
 
-still_serves : (old new : State) (c : Content) (was : Serves old c) → Keeps old new → IsTrue new.is_open → Serves new c
+pub still_serves : (old new : State) (c : Content) (was : Serves old c) → Keeps old new → IsTrue new.is_open → Serves new c
 still_serves old new c was = still_serves_as Second old new c was
 
 module _ (sql : List ℕ) (params : Row) (old new : State) (schema : Schema) (has : old.now.schema ≡ schema) (plain : IsPlain (understood schema sql)) where

@@ -23,17 +23,17 @@ module _ (old new : State) (c : Content) (was : Serves old c) where
   reads_from : (q : ℕ) (rows : List Row) → Shown learned_from_query (Int (pos q) ∷ []) old new rows → rows ≡ map learned_shown (rows_from c.learned q)
   reads_from q rows h =
       let got = reads_as learned_from_query (Int (pos q) ∷ []) old new store_schema was.schema _ learned_from_is.0 learned_from_plain learned_from_is.1 rows h in
-      shown_from rest learned_shown 2 two_columns c.learned (rising 1 c.learned was.tables.sound.1.0) (overlay old.now.trees []) was.tables.learned_are q (λ v. refl) rows (got.answer Null)
+      shown_from rest learned_shown 2 two_columns c.learned (rising 1 c.learned was.tables.sound.1) (overlay old.now.trees []) was.tables.learned_are q (λ v. refl) rows (got.answer Null)
 
   reads_row : (q : ℕ) (rows : List Row) → Shown learned_row_query (Int (pos q) ∷ []) old new rows → rows ≡ map learned_shown (filter (λ v. v.0 == q) c.learned)
   reads_row q rows h =
       let got = reads_as learned_row_query (Int (pos q) ∷ []) old new store_schema was.schema _ learned_row_is.0 learned_row_plain learned_row_is.1 rows h in
-      shown_at rest learned_shown 2 two_columns c.learned (rising 1 c.learned was.tables.sound.1.0) (overlay old.now.trees []) was.tables.learned_are q (λ v. refl) rows (got.answer Null)
+      shown_at rest learned_shown 2 two_columns c.learned (rising 1 c.learned was.tables.sound.1) (overlay old.now.trees []) was.tables.learned_are q (λ v. refl) rows (got.answer Null)
 
   reads_all : (rows : List Row) → Shown all_learned_query [] old new rows → rows ≡ map learned_shown c.learned
   reads_all rows h =
       let got = reads_as all_learned_query [] old new store_schema was.schema _ all_learned_is.0 all_learned_plain all_learned_is.1 rows h in
-      shown_all rest learned_shown 2 two_columns c.learned (rising 1 c.learned was.tables.sound.1.0) (overlay old.now.trees []) was.tables.learned_are (λ v. refl) rows (got.answer Null)
+      shown_all rest learned_shown 2 two_columns c.learned (rising 1 c.learned was.tables.sound.1) (overlay old.now.trees []) was.tables.learned_are (λ v. refl) rows (got.answer Null)
 
 pub learned_found_from : (old new : State) (n : ℤ) {X : Type 0} (r : Result X Error) (items : X → List Row) → IfOk r (λ x. Shown learned_from_query (Int n ∷ []) old new (items x))
     → IfOk r (λ x. (q : ℕ) (c : Content) → n ≡ pos q → Serves old c → items x ≡ map learned_shown (rows_from c.learned q))

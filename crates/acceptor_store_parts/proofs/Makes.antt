@@ -85,10 +85,10 @@ abbrev with_next : List Row → Row → List Row
 with_next rows row = put_row (with_rowid Chosen rows row) rows
 
 put_third : (tried row : ℕ) → with_next (number_row 0 tried ∷ number_row 1 row ∷ []) (number_row 2 2) ≡ number_row 0 tried ∷ number_row 1 row ∷ number_row 2 2 ∷ []
-put_third tried row = rw value_cmp-Int refl
+put_third tried row = rw (value_cmp-Int, value_cmp-Int) refl
 
 put_all : with_next (with_next (with_next [] (number_row 0 0)) (number_row 1 0)) (number_row 2 2) ≡ number_row 0 0 ∷ number_row 1 0 ∷ number_row 2 2 ∷ []
-put_all = rw value_cmp-Int refl
+put_all = rw (value_cmp-Int, value_cmp-Int, value_cmp-Int) refl
 
 abbrev news : List Row
 news = number_row 0 0 ∷ number_row 1 0 ∷ number_row 2 2 ∷ []

@@ -33,3 +33,13 @@ pub numbers_found : (old new : State) {X : Type 0} (r : Result X Error) (items :
     → IfOk r (λ x. (version : Version) (c : Content) → ServesAs version old c → items x ≡ numbers_shown version c.tried c.row)
 numbers_found old new (Err e) items h = tt
 numbers_found old new (Ok x) items h = λ version c was. reads_numbers version old new c was (items x) h
+
+pub same_numbers : (version : Version) (a b tried row : ℕ) → numbers_shown version a b ≡ numbers_shown version tried row → (a ≡ tried) × (b ≡ row)
+same_numbers First a b tried row e =
+    let one : a ≡ tried = cc in
+    let two : b ≡ row = cc in
+    (one, two)
+same_numbers Second a b tried row e =
+    let one : a ≡ tried = cc in
+    let two : b ≡ row = cc in
+    (one, two)

@@ -160,7 +160,7 @@ module _ (db next : Trees) (c : Content) (p : ℕ) (cast : Cast) (was : AreTable
             ∙ (replaced (λ (w : ℕ × Cast). w.0) vote_row (λ w. refl) vote_table (p, cast) c.votes h.found (rising 1 c.votes was.sound.0) all
             ∙ ap (map vote_row) (placed_is p cast 1 c.votes was.sound.0)));
         learned_are = h.others 2 (λ same. absurd cc) ∙ was.learned_are;
-        sound = (rows_put 1 p cast c.votes fits.0 fits.1 was.sound.0, was.sound.1);
+        sound = (rows_put 1 p cast c.votes fits.0 fits.1 was.sound.0, was.sound.1, was.sound.2);
       }
 
 pub cast_learned : (v : ℕ × List ℕ) → cast_row learned_table (learned_row v) ≡ learned_row v
@@ -214,7 +214,7 @@ module _ (db next : Trees) (c : Content) (p : ℕ) (value : List ℕ) (was : Are
         numbers = h.others 0 (λ same. absurd cc) ∙ was.numbers;
         votes_are = h.others 1 (λ same. absurd cc) ∙ was.votes_are;
         learned_are = h.rows ∙ (ap (λ rows. put_row (learned_row (p, value)) (without_all rows (ids_of h.found))) was.learned_are
-            ∙ (replaced (λ (w : ℕ × List ℕ). w.0) learned_row (λ w. refl) learned_table (p, value) c.learned h.found (rising 1 c.learned was.sound.1.0) all
-            ∙ ap (map learned_row) (placed_is p value 1 c.learned was.sound.1.0)));
-        sound = (was.sound.0, rows_put 1 p value c.learned fits.0 fits.1 was.sound.1.0, values_put p value c.learned short was.sound.1.1);
+            ∙ (replaced (λ (w : ℕ × List ℕ). w.0) learned_row (λ w. refl) learned_table (p, value) c.learned h.found (rising 1 c.learned was.sound.1) all
+            ∙ ap (map learned_row) (placed_is p value 1 c.learned was.sound.1)));
+        sound = (was.sound.0, rows_put 1 p value c.learned fits.0 fits.1 was.sound.1, values_put p value c.learned short was.sound.2);
       }

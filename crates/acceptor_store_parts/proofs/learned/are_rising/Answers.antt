@@ -12,12 +12,12 @@ loop-row-preserved c =
     let i = c.loop-row.row-index in
     let learned = c.args.learned.now in
     let next : drop i learned ≡ x ∷ drop (i + 1) learned = at_drop_more (λ xs. xs) learned i x c.loop-row-test.true ∙ ap (λ (v : ℕ × List ℕ). v ∷ drop (i + 1) learned) (sym c.row-item.is) in (
-      λ rest. c.loop-row.invariant.0 (subst (AreRowsFrom c.loop-row.from) (sym next) (omega arith, omega arith, rest)),
-      λ all. (subst (AreRowsFrom c.loop-row.from) next (c.loop-row.invariant.1 all)).2,
+      λ rest. c.loop-row.invariant.0 (subst (AreRowsFrom c.loop-row.from) (sym next) (omega arith, omega arith, subst (λ n. AreRowsFrom (n + 1) (drop (i + 1) learned)) c.number-place.ensures.same rest)),
+      λ all. subst (λ n. AreRowsFrom (n + 1) (drop (i + 1) learned)) (sym c.number-place.ensures.same) ((subst (AreRowsFrom c.loop-row.from) next (c.loop-row.invariant.1 all)).2),
     )
 
-pub returns-then-row-from-clause-no : goal.returns-then-row-from-clause-no
-returns-then-row-from-clause-no c = λ _ all.
+pub returns-then-place-from-clause-no : goal.returns-then-place-from-clause-no
+returns-then-place-from-clause-no c = λ _ all.
     let x = c.row-item.result in
     let i = c.loop-row.row-index in
     let learned = c.args.learned.now in
