@@ -1,62 +1,102 @@
--- Once a request was accepted, each later one of its SID was sent later.
-use Rattle.std.proofs.Common.{◌≡◌, ◌≢◌, ◌⊎◌, ℕ, ◌<◌, ◌≤◌, Bool, true, false, cond, not, [], ◌∷◌, ◌++◌, Option, Some, None, refl, sym, ap, subst, ◌∙◌, arith, inl, inr, eqb}
-use Rattle.std.specs.List.{list_any}
+-- Once a request was accepted, each later one of its SID was sent later, also under a later lease.
+use Rattle.std.proofs.Common.{◌≡◌, ◌≢◌, ◌⊎◌, ℕ, ◌<◌, ◌≤◌, Bool, true, false, cond, not, List, [], ◌∷◌, ◌++◌, Option, Some, None, refl, sym, ap, subst, ◌∙◌, arith, inl, inr, eqb}
+use Rattle.std.specs.List.{find, list_any}
 use Rattle.std.specs.Prelude.{unwrap_or}
-use Rattle.std.proofs.lemmas.Bool.{eqb-true}
+use Rattle.std.proofs.lemmas.Bool.{eqb-true, eqb-false}
 use Rattle.flow_state.specs.declared.flow.FlowKind.{FlowKind}
 use Rattle.flow_state.specs.declared.flow.Waiting.{Waiting}
-use Rattle.flow_state.specs.Rows.{Table, FlowRow, Assignment, is_of, is_flow, assignment_of, free_sid}
-use Rattle.flow_state.specs.Refusals.{is_old, table_flow_refusal, table_request_refusal}
-use Rattle.flow_state.specs.Changes.{new_flow, flow_among, drop_in_table, request_in_table}
-use Rattle.grant_machine_parts.specs.Cutting.{is_grant_of, fill, fill_refusal, span_of, ack_of, table_after}
-use Rattle.flow_state.proofs.Callers.{Has, has_left, has_pushed, has_map, has_filter, any_has, has_any}
-use Rattle.flow_state.proofs.Callers.{eqb_same, some_sid, unwrap_some, free_is_free}
-use Rattle.flow_state.proofs.Callers.{has}
+use Rattle.flow_state.specs.declared.flow.Lease.{Lease}
+use Rattle.flow_state.specs.Rows.{Table, FlowRow, is_of, is_of_sid, is_flow, lease_of, free_sid, first_of, put_lease, has_ended}
+use Rattle.flow_state.specs.Refusals.{is_repeated, table_flow_refusal, table_request_refusal}
+use Rattle.flow_state.specs.Sound.{lease_in}
+use Rattle.flow_state.specs.Changes.{new_flow, new_lease, flow_among, drop_in_table, request_in_table}
+use Rattle.grant_machine_parts.specs.declared.placing.Placement.{Placement}
+use Rattle.grant_machine_parts.specs.Cutting.{is_grant_of, still_waiting, fill, fill_refusal, span_of, ack_of, end_of, table_after}
+use Rattle.flow_state.proofs.Callers.{Has, has_pushed, has_map, has_filter, found_has}
+use Rattle.flow_state.proofs.Callers.{eqb_same, put_found, put_others}
 use Rattle.flow_state.proofs.Callers.{IsWell, has_inserted, flow_is_well, drop_is_well, request_is_well, is_asked, asked, asked_same, not_le}
-use Rattle.grant_machine_parts.proofs.Callers.{is_cut, fill_moves, flow_from, cut_is_well}
+use Rattle.grant_machine_parts.proofs.Callers.{is_cut, flow_from, cut_is_well}
 use Rattle.grant_machine.proofs.Reached.{Kept}
+use Rattle.grant_machine.proofs.Leases.{IsNew, is_new}
 
--- the last accepted request was sent at this time or later
-abbrev pub IsSentBy : Option ℕ → ℕ → Type 0
-IsSentBy None sent = ⊥
-IsSentBy (Some last) sent = sent ≤ last
+-- the flow's last accepted request was sent at this time or later, or its lease begins later
+abbrev pub IsSentBy : FlowRow → ℕ → Type 0
+IsSentBy f sent = (sent < f.first) ⊎ ((last : ℕ) × (f.last_sent ≡ Some last) × (sent ≤ last))
 
--- a request of the SID was accepted that was sent then
+-- a request of the SID was accepted that was sent then, by the end of the SID's latest lease
 pub record WasAsked (t : Table) (sid sent : ℕ) : Type 0 where
   pub well : IsWell t
-  pub given : list_any (has sid) t.assigned ≡ true
-  pub later : (f : FlowRow) → Has t.flows f → f.sid ≡ sid → IsSentBy f.last_sent sent
+  pub lease : Lease
+  pub found : find (is_of_sid sid) t.leases ≡ Some lease
+  pub before : sent ≤ lease.last
+  pub later : (f : FlowRow) → Has t.flows f → f.sid ≡ sid → IsSentBy f sent
 
 -- a request that isn't old was sent later
-pub newer : (o : Option ℕ) (sent next : ℕ) → IsSentBy o sent → is_old o next ≡ false → sent < next
-newer None sent next s e = absurd s
-newer (Some last) sent next s e = let lt = not_le next last e in omega arith
+pub newer : (f : FlowRow) (sent next : ℕ) → IsSentBy f sent → f.first ≤ next → is_repeated f.last_sent next ≡ false → sent < next
+newer f sent next (inl before) begun e = omega arith
+newer f sent next (inr by) begun e = let lt = not_le next by.0 (ap (λ (o : Option ℕ). is_repeated o next) (sym by.1) ∙ e) in let le = by.2 in omega arith
 
-sent_later : (o : Option ℕ) (sent next : ℕ) → o ≡ Some next → sent ≤ next → IsSentBy o sent
-sent_later o sent next e le = subst (λ (p : Option ℕ). IsSentBy p sent) (sym e) le
+pub sent_after : (f : FlowRow) (sent next : ℕ) → f.last_sent ≡ Some next → sent ≤ next → IsSentBy f sent
+sent_after f sent next e le = inr (next, e, le)
 
-asked_flow : (o : Option Assignment) (t : Table) (modem tag : ℕ) (kind : FlowKind) (sid sent : ℕ) → assignment_of t modem tag ≡ o → table_flow_refusal t modem tag kind ≡ None → WasAsked t sid sent → WasAsked (flow_among o t modem tag kind) sid sent
-asked_flow (Some a) t modem tag kind sid sent e ok w = w
-asked_flow None t modem tag kind sid sent e ok w =
-    let free = some_sid t modem tag kind e ok in
-    let at : ℕ = unwrap_or (free_sid t) 0 in
-    let at_is : at ≡ free.0 = unwrap_some (free_sid t) free.0 free.1 in
-    let fresh = free_is_free t free.0 free.1 in
-    let old = any_has (has sid) t.assigned w.given in
-    record {
-      well = flow_is_well None t modem tag kind e ok w.well;
-      given = has_any (has sid) (t.assigned ++ record { modem = modem; tag = tag; sid = at } ∷ []) old.0 (has_left t.assigned (record { modem = modem; tag = tag; sid = at } ∷ []) old.0 old.1) old.2;
-      later = λ f h same. elim (has_inserted (new_flow at modem tag kind) t.flows f h) [
-        | inl k ↦ w.later f k same
-        | inr new ↦ absurd (let one : free.0 ≡ sid = sym at_is ∙ ap (λ (g : FlowRow). g.sid) new ∙ same in
-            let both : list_any (has free.0) t.assigned ≡ list_any (has sid) t.assigned = ap (λ n. list_any (has n) t.assigned) one in let given = w.given in cc)
+-- a flow with the same lease and the same last request
+sent_same : (f g : FlowRow) (sent : ℕ) → g.first ≡ f.first → g.last_sent ≡ f.last_sent → IsSentBy f sent → IsSentBy g sent
+sent_same f g sent first last (inl before) = inl (omega arith)
+sent_same f g sent first last (inr by) = inr (by.0, last ∙ by.1, by.2)
+
+asked_flow : (o : Option Lease) (t : Table) (modem tag last : ℕ) (kind : FlowKind) (sid sent : ℕ) → lease_of t modem tag ≡ o → table_flow_refusal t modem tag last kind ≡ None → WasAsked t sid sent → WasAsked (flow_among o t modem tag last kind) sid sent
+asked_flow (Some a) t modem tag last kind sid sent e ok w = w
+asked_flow None t modem tag last kind sid sent e ok w =
+    let n = is_new t modem tag last kind e ok in
+    by (eqb (unwrap_or (free_sid t) 0) sid) refl n
+  where
+    at : ℕ
+    at = unwrap_or (free_sid t) 0
+
+    given : Lease
+    given = new_lease t modem tag last (unwrap_or (free_sid t) 0)
+
+    well : IsWell (flow_among None t modem tag last kind)
+    well = flow_is_well None t modem tag last kind e ok w.well
+
+    -- the SID's lease is over, where the new one is of the SID
+    past : IsNew t at last → at ≡ sid → (w.lease.last < t.row.next_start) × (first_of t at ≡ t.row.next_start)
+    past n same = let had = found_has (is_of_sid sid) t.leases w.lease w.found in n.over w.lease had.0 (eqb-true _ _ had.1 ∙ sym same)
+
+    by : (b : Bool) → eqb at sid ≡ b → IsNew t at last → WasAsked (flow_among None t modem tag last kind) sid sent
+    by true h n =
+        let over = past n (eqb-true _ _ h) in
+        let ends : w.lease.last < t.row.next_start = over.0 in
+        let begins : first_of t at ≡ t.row.next_start = over.1 in
+        let on : t.row.next_start ≤ last = n.goes_on in
+        let before : sent ≤ w.lease.last = w.before in
+        record {
+          well = well;
+          lease = given;
+          found = ap (λ m. find (is_of_sid m) (put_lease given t.leases)) (sym (eqb-true _ _ h)) ∙ put_found given t.leases;
+          before = omega arith;
+          later = λ f k same. elim (has_inserted (new_flow given kind) t.flows f k) [
+            | inl old ↦ w.later f old same
+            | inr new ↦ inl (let first : first_of t at ≡ f.first = ap (λ (g : FlowRow). g.first) new in omega arith)
+          ];
+        }
+    by false h n = record {
+      well = well;
+      lease = w.lease;
+      found = put_others given t.leases sid h ∙ w.found;
+      before = w.before;
+      later = λ f k same. elim (has_inserted (new_flow given kind) t.flows f k) [
+        | inl old ↦ w.later f old same
+        | inr new ↦ absurd (eqb-false _ _ h (ap (λ (g : FlowRow). g.sid) new ∙ same))
       ];
     }
 
 asked_drop : (t : Table) (at sid sent : ℕ) → WasAsked t sid sent → WasAsked (drop_in_table t at) sid sent
 asked_drop t at sid sent w = record {
   well = drop_is_well t at w.well;
-  given = w.given;
+  lease = w.lease;
+  found = w.found;
+  before = w.before;
   later = λ f h same. w.later f (has_filter (λ g. not (is_flow at g)) t.flows f h).0 same;
 }
 
@@ -68,36 +108,43 @@ flow_asked at next f = by (eqb f.sid at) refl
     by true e = inl (eqb-true _ _ e, ap (λ b. (cond b (record f { last_sent = Some next }) f).last_sent) e)
     by false e = inr (ap (λ b. (cond b (record f { last_sent = Some next }) f).last_sent) e)
 
+flow_first : (at next : ℕ) (f : FlowRow) → (asked at next f).first ≡ f.first
+flow_first at next f = elim (is_flow at f) as (λ b. (cond b (record f { last_sent = Some next }) f).first ≡ f.first) [ true ↦ refl | false ↦ refl ]
+
 asked_request : (t : Table) (at n next sid sent : ℕ) → table_request_refusal t at n next ≡ None → WasAsked t sid sent → WasAsked (request_in_table t at n next) sid sent
 asked_request t at n next sid sent ok w =
     let a = is_asked t at n next ok in
     record {
       well = request_is_well t at n next ok w.well;
-      given = w.given;
+      lease = w.lease;
+      found = w.found;
+      before = w.before;
       later = λ f h same.
           let m = has_map (asked at next) t.flows f h in
           let old : m.0.sid ≡ sid = sym (asked_same at next m.0) ∙ ap (λ (g : FlowRow). g.sid) m.2 ∙ same in
-          subst (λ (g : FlowRow). IsSentBy g.last_sent sent) m.2 (elim (flow_asked at next m.0) [
+          subst (λ (g : FlowRow). IsSentBy g sent) m.2 (elim (flow_asked at next m.0) [
             | inl own ↦
-                let before : sent < next = newer a.flow.last_sent sent next (w.later a.flow a.there (a.sid_is ∙ sym own.0 ∙ old)) a.new in
-                sent_later (asked at next m.0).last_sent sent next own.1 (omega arith)
-            | inr kept ↦ subst (λ (o : Option ℕ). IsSentBy o sent) (sym kept) (w.later m.0 m.1 old)
+                let before : sent < next = newer a.flow sent next (w.later a.flow a.there (a.sid_is ∙ sym own.0 ∙ old)) a.after a.new in
+                sent_after (asked at next m.0) sent next own.1 (omega arith)
+            | inr kept ↦ sent_same m.0 (asked at next m.0) sent (flow_first at next m.0) kept (w.later m.0 m.1 old)
           ]);
     }
 
 asked_cut : (t : Table) (len not_before ack sid sent : ℕ) → fill_refusal t.row len not_before ack ≡ None → WasAsked t sid sent → WasAsked (table_after t (fill t len not_before ack)) sid sent
 asked_cut t len not_before ack sid sent ok w = record {
   well = cut_is_well t len not_before ack ok w.well;
-  given = w.given;
+  lease = w.lease;
+  found = w.found;
+  before = w.before;
   later = λ f h same.
       let span = span_of t.row len not_before in
-      let m = flow_from t (fill t len not_before ack).flows f (fill_moves t span (ack_of t.row ack span.start) (is_cut t len not_before ack ok).end) h in
-      subst (λ (o : Option ℕ). IsSentBy o sent) (sym m.2.last_sent) (w.later m.0 m.1 (sym m.2.sid ∙ same));
+      let m = flow_from t span (ack_of t.row ack span.start) f (is_cut t len not_before ack ok).end h in
+      sent_same m.0 f sent m.2.first m.2.last_sent (w.later m.0 m.1 (sym m.2.sid ∙ same));
 }
 
 pub asked_kept : (sid sent : ℕ) → Kept (λ t. WasAsked t sid sent)
 asked_kept sid sent = record {
-  flow = λ t modem tag kind ok w. asked_flow (assignment_of t modem tag) t modem tag kind sid sent refl ok w;
+  flow = λ t modem tag last kind ok w. asked_flow (lease_of t modem tag) t modem tag last kind sid sent refl ok w;
   drop = λ t at w. asked_drop t at sid sent w;
   request = λ t at n next ok w. asked_request t at n next sid sent ok w;
   cut = λ t len not_before ack ok w. asked_cut t len not_before ack sid sent ok w;
@@ -109,13 +156,21 @@ asked_now t sid n sent ok w =
     let a = is_asked t sid n sent ok in
     record {
       well = request_is_well t sid n sent ok w;
-      given = subst (λ k. list_any (has k) t.assigned ≡ true) a.sid_is (w.given a.flow a.there);
+      lease = lease_in a.flow;
+      found = ap (λ m. find (is_of_sid m) t.leases) (sym a.sid_is) ∙ (w.given a.flow a.there).lease;
+      before = a.before;
       later = λ f h same.
           let m = has_map (asked sid sent) t.flows f h in
           let own : m.0.sid ≡ sid = sym (asked_same sid sent m.0) ∙ ap (λ (g : FlowRow). g.sid) m.2 ∙ same in
-          subst (λ (g : FlowRow). IsSentBy g.last_sent sent) m.2
-          (sent_later (asked sid sent m.0).last_sent sent sent (ap (λ b. (cond b (record m.0 { last_sent = Some sent }) m.0).last_sent) (ap (λ k. eqb k sid) own ∙ eqb_same sid)) (omega arith));
+          subst (λ (g : FlowRow). IsSentBy g sent) m.2
+          (sent_after (asked sid sent m.0) sent sent (ap (λ b. (cond b (record m.0 { last_sent = Some sent }) m.0).last_sent) (ap (λ k. eqb k sid) own ∙ eqb_same sid)) (omega arith));
     }
+
+-- what waits after a MAP waited before it, and isn't granted by it
+pub waits_before : (t : Table) (len not_before ack : ℕ) (w : Waiting) → Has (fill t len not_before ack).waiting w → Has t.waiting w × (not (list_any (is_grant_of w) (fill t len not_before ack).placements) ≡ true)
+waits_before t len not_before ack w h =
+    let ps : List Placement = (fill t len not_before ack).placements in
+    has_filter (λ v. not (list_any (is_grant_of v) ps)) t.waiting w (has_filter (λ v. not (has_ended t (end_of (span_of t.row len not_before)) v)) (still_waiting ps t.waiting) w h).0
 
 -- ---- a request that was accepted, and waits no longer
 
@@ -123,9 +178,9 @@ pub record IsGone (t : Table) (sid sent : ℕ) : Type 0 where
   pub past : WasAsked t sid sent
   pub none : (w : Waiting) → Has t.waiting w → w.sid ≡ sid → w.sent ≢ sent
 
-gone_flow : (o : Option Assignment) (t : Table) (modem tag : ℕ) (kind : FlowKind) (sid sent : ℕ) → assignment_of t modem tag ≡ o → table_flow_refusal t modem tag kind ≡ None → IsGone t sid sent → IsGone (flow_among o t modem tag kind) sid sent
-gone_flow (Some a) t modem tag kind sid sent e ok g = g
-gone_flow None t modem tag kind sid sent e ok g = record { past = asked_flow None t modem tag kind sid sent e ok g.past; none = g.none }
+gone_flow : (o : Option Lease) (t : Table) (modem tag last : ℕ) (kind : FlowKind) (sid sent : ℕ) → lease_of t modem tag ≡ o → table_flow_refusal t modem tag last kind ≡ None → IsGone t sid sent → IsGone (flow_among o t modem tag last kind) sid sent
+gone_flow (Some a) t modem tag last kind sid sent e ok g = g
+gone_flow None t modem tag last kind sid sent e ok g = record { past = asked_flow None t modem tag last kind sid sent e ok g.past; none = g.none }
 
 gone_request : (t : Table) (at n next sid sent : ℕ) → table_request_refusal t at n next ≡ None → IsGone t sid sent → IsGone (request_in_table t at n next) sid sent
 gone_request t at n next sid sent ok g =
@@ -137,18 +192,18 @@ gone_request t at n next sid sent ok g =
         | inr new ↦ λ is.
             let own : at ≡ sid = ap (λ (v : Waiting). v.sid) new ∙ same in
             let then : next ≡ sent = ap (λ (v : Waiting). v.sent) new ∙ is in
-            let before : sent < next = newer a.flow.last_sent sent next (g.past.later a.flow a.there (a.sid_is ∙ own)) a.new in
+            let before : sent < next = newer a.flow sent next (g.past.later a.flow a.there (a.sid_is ∙ own)) a.after a.new in
             absurd (omega arith)
       ];
     }
 
 pub gone_kept : (sid sent : ℕ) → Kept (λ t. IsGone t sid sent)
 gone_kept sid sent = record {
-  flow = λ t modem tag kind ok g. gone_flow (assignment_of t modem tag) t modem tag kind sid sent refl ok g;
+  flow = λ t modem tag last kind ok g. gone_flow (lease_of t modem tag) t modem tag last kind sid sent refl ok g;
   drop = λ t at g. record { past = asked_drop t at sid sent g.past; none = λ w h. g.none w (has_filter (λ v. not (is_of at v)) t.waiting w h).0 };
   request = λ t at n next ok g. gone_request t at n next sid sent ok g;
   cut = λ t len not_before ack ok g. record {
     past = asked_cut t len not_before ack sid sent ok g.past;
-    none = λ w h. g.none w (has_filter (λ v. not (list_any (is_grant_of v) (fill t len not_before ack).placements)) t.waiting w h).0;
+    none = λ w h. g.none w (waits_before t len not_before ack w h).0;
   };
 }

@@ -45,7 +45,7 @@ cut_of_grant rows c g h = by (refusal_of rows c) refl h
     on : (d : Command) → refusal_of rows d ≡ None → Has (accepted_grants rows d) g → IsCutStep rows d
     on commands.Noop ok k = absurd k
     on (commands.Channel n) ok k = absurd k
-    on (commands.Flow ch modem tag kind) ok k = absurd k
+    on (commands.Flow ch modem tag last kind) ok k = absurd k
     on (commands.Drop ch sid) ok k = absurd k
     on (commands.Request ch sid n sent) ok k = absurd k
     on (commands.Cut ch len not_before ack) ok k = there (table_of rows ch) refl k
@@ -65,7 +65,7 @@ cut_of_map rows c ch start len bytes h = by (refusal_of rows c) refl h
     on : (d : Command) → refusal_of rows d ≡ None → (accepted rows d).output ≡ outputs.Map ch start len bytes → IsCutStep rows d
     on commands.Noop ok k = absurd cc
     on (commands.Channel n) ok k = absurd cc
-    on (commands.Flow at modem tag kind) ok k = absurd cc
+    on (commands.Flow at modem tag last kind) ok k = absurd cc
     on (commands.Drop at sid) ok k = absurd cc
     on (commands.Request at sid n sent) ok k = absurd cc
     on (commands.Cut at size not_before ack) ok k = there (table_of rows at) refl k

@@ -6,7 +6,7 @@ pub mod Tellings
 pub mod Schedules
 pub mod Timely
 pub mod Maps
-pub mod Sids
+pub mod Leases
 pub mod Due
 pub mod Added
 pub mod Lending

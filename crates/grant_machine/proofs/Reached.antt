@@ -6,7 +6,8 @@ use Rattle.flow_state.specs.declared.flow.FlowKind.{FlowKind}
 use Rattle.flow_state.specs.declared.refusal.Refusal.{Refusal}
 use Rattle.flow_state.specs.declared.refusal.Refusal.TheVariants.{BadValue, ChannelThere}
 use Rattle.flow_state.specs.Limits.{is_good_channel}
-use Rattle.flow_state.specs.Rows.{Rows, Table, Assignment, is_table, table_of, change_table, assignment_of}
+use Rattle.flow_state.specs.declared.flow.Lease.{Lease}
+use Rattle.flow_state.specs.Rows.{Rows, Table, is_table, table_of, change_table, lease_of}
 use Rattle.flow_state.specs.Refusals.{table_flow_refusal, table_request_refusal, on_table}
 use Rattle.flow_state.specs.Changes.{new_table, flow_among, flow_in_table, drop_in_table, request_in_table}
 use Rattle.grant_machine.specs.declared.command.Command.{Command}
@@ -17,13 +18,13 @@ use Rattle.grant_machine.specs.Runs.{rows_from, rows_after, IsReached}
 use Rattle.grant_machine.specs.Fits.{FitsChannel, FitsCommand}
 use Rattle.flow_state.proofs.Callers.{find_changed, find_added, some_is, changed, KeepsId}
 use Rattle.flow_state.proofs.Callers.{at_same, refusal_there, flow_keeps_id, found_before}
-use Rattle.grant_machine.proofs.Added.{find_pushed}
+use Rattle.grant_machine.proofs.Maps.{find_pushed}
 use Rattle.flow_state.proofs.Callers.{IsWell, new_is_well, flow_is_well, drop_is_well, request_is_well, passes_on, not_false}
 use Rattle.grant_machine_parts.proofs.Callers.{cut_is_well}
 
 -- each accepted command keeps what holds of a table
 pub record Kept (P : Table → Type 0) : Type 0 where
-  pub flow : (t : Table) (modem tag : ℕ) (kind : FlowKind) → table_flow_refusal t modem tag kind ≡ None → P t → P (flow_in_table t modem tag kind)
+  pub flow : (t : Table) (modem tag last : ℕ) (kind : FlowKind) → table_flow_refusal t modem tag last kind ≡ None → P t → P (flow_in_table t modem tag last kind)
   pub drop : (t : Table) (sid : ℕ) → P t → P (drop_in_table t sid)
   pub request : (t : Table) (sid n sent : ℕ) → table_request_refusal t sid n sent ≡ None → P t → P (request_in_table t sid n sent)
   pub cut : (t : Table) (len not_before ack : ℕ) → fill_refusal t.row len not_before ack ≡ None → P t → P (table_after t (fill t len not_before ack))
@@ -68,8 +69,8 @@ module _ (P : Table → Type 0) where
     | inl f ↦ holds t f
     | inr same ↦ subst P same (new c refl (good_channel rows c ok))
   ]
-  at_accepted kept rows (commands.Flow at modem tag kind) ch ok new holds =
-      at_change rows at _ ch (λ t. flow_keeps_id (assignment_of t modem tag) t modem tag kind) (λ t found h. kept.flow t modem tag kind (refusal_there rows at t (λ u. table_flow_refusal u modem tag kind) found ok) h) holds
+  at_accepted kept rows (commands.Flow at modem tag last kind) ch ok new holds =
+      at_change rows at _ ch (λ t. flow_keeps_id (lease_of t modem tag) t modem tag last kind) (λ t found h. kept.flow t modem tag last kind (refusal_there rows at t (λ u. table_flow_refusal u modem tag last kind) found ok) h) holds
   at_accepted kept rows (commands.Drop at sid) ch ok new holds = at_change rows at _ ch (λ t. refl) (λ t found h. kept.drop t sid h) holds
   at_accepted kept rows (commands.Request at sid n sent) ch ok new holds =
       at_change rows at _ ch (λ t. refl) (λ t found h. kept.request t sid n sent (refusal_there rows at t (λ u. table_request_refusal u sid n sent) found ok) h) holds
@@ -93,7 +94,7 @@ module _ (P : Table → Type 0) where
   found_accepted : (rows : Rows) (c : Command) (ch : ℕ) (t : Table) → table_of rows ch ≡ Some t → (u : Table) × (table_of (accepted rows c).rows ch ≡ Some u)
   found_accepted rows commands.Noop ch t e = (t, e)
   found_accepted rows (commands.Channel c) ch t e = (t, find_added rows ch (new_table c) t e)
-  found_accepted rows (commands.Flow at modem tag kind) ch t e = still_found rows at (λ u. flow_in_table u modem tag kind) ch (λ u. flow_keeps_id (assignment_of u modem tag) u modem tag kind) t e
+  found_accepted rows (commands.Flow at modem tag last kind) ch t e = still_found rows at (λ u. flow_in_table u modem tag last kind) ch (λ u. flow_keeps_id (lease_of u modem tag) u modem tag last kind) t e
   found_accepted rows (commands.Drop at sid) ch t e = still_found rows at (λ u. drop_in_table u sid) ch (λ u. refl) t e
   found_accepted rows (commands.Request at sid n sent) ch t e = still_found rows at (λ u. request_in_table u sid n sent) ch (λ u. refl) t e
   found_accepted rows (commands.Cut at len not_before ack) ch t e = found_cut (table_of rows at) rows at len not_before ack ch t e
@@ -108,7 +109,7 @@ module _ (P : Table → Type 0) where
       on : (d : Command) → refusal_of rows d ≡ None → At P (accepted rows d).rows ch
       on (commands.Channel n) e = λ t found. subst P (some_is s.table t (sym (find_added rows ch (new_table n) s.table s.found) ∙ found)) s.holds
       on commands.Noop e = at_accepted kept rows commands.Noop ch e (λ n is. absurd cc) here
-      on (commands.Flow at modem tag kind) e = at_accepted kept rows (commands.Flow at modem tag kind) ch e (λ n is. absurd cc) here
+      on (commands.Flow at modem tag last kind) e = at_accepted kept rows (commands.Flow at modem tag last kind) ch e (λ n is. absurd cc) here
       on (commands.Drop at sid) e = at_accepted kept rows (commands.Drop at sid) ch e (λ n is. absurd cc) here
       on (commands.Request at sid n sent) e = at_accepted kept rows (commands.Request at sid n sent) ch e (λ m is. absurd cc) here
       on (commands.Cut at len not_before ack) e = at_accepted kept rows (commands.Cut at len not_before ack) ch e (λ n is. absurd cc) here
@@ -121,7 +122,7 @@ module _ (P : Table → Type 0) where
 
 pub wells_kept : Kept IsWell
 wells_kept = record {
-  flow = λ t modem tag kind ok w. flow_is_well (assignment_of t modem tag) t modem tag kind refl ok w;
+  flow = λ t modem tag last kind ok w. flow_is_well (lease_of t modem tag) t modem tag last kind refl ok w;
   drop = drop_is_well;
   request = request_is_well;
   cut = cut_is_well;
@@ -155,15 +156,15 @@ FitsTable t = FitsChannel t.row.channel
 
 fits_kept : Kept FitsTable
 fits_kept = record {
-  flow = λ t modem tag kind ok f. by (assignment_of t modem tag) t modem tag kind f;
+  flow = λ t modem tag last kind ok f. by (lease_of t modem tag) t modem tag last kind f;
   drop = λ t sid f. f;
   request = λ t sid n sent ok f. f;
   cut = λ t len not_before ack ok f. f;
 }
   where
-    by : (o : Option Assignment) (t : Table) (modem tag : ℕ) (kind : FlowKind) → FitsTable t → FitsTable (flow_among o t modem tag kind)
-    by (Some a) t modem tag kind f = f
-    by None t modem tag kind f = f
+    by : (o : Option Lease) (t : Table) (modem tag last : ℕ) (kind : FlowKind) → FitsTable t → FitsTable (flow_among o t modem tag last kind)
+    by (Some a) t modem tag last kind f = f
+    by None t modem tag last kind f = f
 
 abbrev pub AllFit : Rows → Type 0
 AllFit rows = (ch : ℕ) → At FitsTable rows ch

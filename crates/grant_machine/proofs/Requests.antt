@@ -1,14 +1,16 @@
 -- A request is accepted once at most, and granted once at most, whole.
 use Rattle.std.proofs.Common.{◌≡◌, ◌⊎◌, ℕ, zero, suc, ◌+◌, ◌-◌, ◌<◌, ◌≤◌, Bool, true, false, cond, not, ◌&&◌, List, [], ◌∷◌, ◌++◌, map, filter, length, Option, Some, None, refl, sym, ap, subst, ◌∙◌, arith, inl, inr, eqb, slice_get, length-append}
-use Rattle.std.specs.List.{list_any}
+use Rattle.std.specs.List.{find, list_any}
 use Rattle.std.proofs.lemmas.Bool.{eqb-true}
 use Rattle.minislot_time.specs.Extent.{Extent}
 use Rattle.flow_state.specs.declared.channel.Channel.{Channel}
 use Rattle.flow_state.specs.declared.flow.FlowKind.{FlowKind}
 use Rattle.flow_state.specs.declared.flow.Waiting.{Waiting}
 use Rattle.flow_state.specs.declared.refusal.Refusal.{Refusal}
-use Rattle.flow_state.specs.Rows.{Rows, Table, FlowRow, Assignment, is_of, is_table, table_of, change_table, assignment_of}
+use Rattle.flow_state.specs.declared.flow.Lease.{Lease}
+use Rattle.flow_state.specs.Rows.{Rows, Table, FlowRow, is_of, is_of_sid, is_table, table_of, change_table, lease_of, last_of, has_ended}
 use Rattle.flow_state.specs.Refusals.{table_request_refusal, request_refusal}
+use Rattle.flow_state.specs.Sound.{lease_in}
 use Rattle.flow_state.specs.Changes.{new_table, flow_among, flow_in_table, drop_in_table, request_in_table}
 use Rattle.grant_machine.specs.declared.command.Command.{Command}
 use Rattle.grant_machine.specs.declared.command.Command.TheVariants as commands
@@ -19,23 +21,22 @@ use Rattle.grant_machine_parts.specs.declared.placing.Placement.{Placement}
 use Rattle.grant_machine_parts.specs.declared.placing.Cause.TheVariants.{Window, Sent}
 use Rattle.grant_machine_parts.specs.Placing.{first_fit}
 use Rattle.grant_machine_parts.specs.declared.due_times.Periodic.{Periodic}
-use Rattle.grant_machine_parts.specs.Cutting.{Passed, pass, grants_of_flow, polls_of_flow, in_order, placement_at, placement_for, place_requests, is_cause_sent, is_grant_of, Filled, fill, fill_span, fill_refusal, span_of, ack_of, end_of, table_after}
+use Rattle.grant_machine_parts.specs.Cutting.{Passed, pass, grants_of_flow, polls_of_flow, in_order, placement_at, placement_for, place_requests, is_cause_sent, is_grant_of, still_waiting, Filled, fill, fill_span, fill_refusal, span_of, ack_of, end_of, table_after}
 use Rattle.grant_machine.specs.Steps.{step, step_on, refusal_of, accepted, cut_on}
 use Rattle.grant_machine.specs.Runs.{outputs_from, grants_from, Grant, grant_of, step_grants}
 use Rattle.grant_machine.specs.Laws.{RequestsAreGrantedOnce, IsGrantedAt}
 use Rattle.flow_state.proofs.Callers.{Has, has_at, has_either, has_pushed, has_map, has_filter, filter_has, filter_empty, has_any}
 use Rattle.flow_state.proofs.Callers.{filter_append}
-use Rattle.grant_machine.proofs.Maps.{output_is, found_after}
+use Rattle.grant_machine.proofs.Maps.{output_is, command_is, found_after, find_pushed}
 use Rattle.flow_state.proofs.Callers.{is_found, some_is, find_changed, changed, KeepsId}
 use Rattle.flow_state.proofs.Callers.{eqb_same, refusal_there, there, found_before, at_same, flow_keeps_id}
-use Rattle.grant_machine.proofs.Added.{command_is, find_pushed}
 use Rattle.grant_machine_parts.proofs.Callers.{in_order_fewer}
 use Rattle.flow_state.proofs.Callers.{IsWell, one_flow, both, is_asked}
-use Rattle.grant_machine_parts.proofs.Callers.{pass_keeps, IsFor, is_cut, fill_moves, flow_from, cut_is_well}
+use Rattle.grant_machine_parts.proofs.Callers.{pass_keeps, IsFor, is_cut, flow_from, cut_is_well}
 use Rattle.grant_machine_parts.proofs.Callers.{fill_placed}
 use Rattle.grant_machine.proofs.Reached.{Stands, stands_step, AllWell, none_well, well_step}
 use Rattle.grant_machine.proofs.Cuts.{IsCutStep, cut_of_grant}
-use Rattle.grant_machine.proofs.Asked.{WasAsked, IsSentBy, IsGone, newer, asked_kept, asked_now, gone_kept}
+use Rattle.grant_machine.proofs.Asked.{WasAsked, IsSentBy, IsGone, newer, sent_after, waits_before, asked_kept, asked_now, gone_kept}
 
 -- ---- accepted once
 
@@ -51,7 +52,7 @@ request_ok rows ch sid n sent e = by (request_refusal rows ch sid n sent) refl e
 not_again : (rows : Rows) (ch sid n sent : ℕ) → Stands (λ t. WasAsked t sid sent) rows ch → request_refusal rows ch sid n sent ≡ None → ⊥
 not_again rows ch sid n sent s ok =
     let a = is_asked s.table sid n sent (refusal_there rows ch s.table (λ t. table_request_refusal t sid n sent) s.found ok) in
-    let lt : sent < sent = newer a.flow.last_sent sent sent (s.holds.later a.flow a.there a.sid_is) a.new in
+    let lt : sent < sent = newer a.flow sent sent (s.holds.later a.flow a.there a.sid_is) a.after a.new in
     omega arith
 
 never_again : (rows : Rows) (cs : List Command) (k ch sid n sent : ℕ) → Stands (λ t. WasAsked t sid sent) rows ch
@@ -106,11 +107,11 @@ passes_none span what fs sid sent ps none =
     filter_append (its sid sent) qs (placement_at p i x ∷ []) ∙ ap (λ (rs : List Placement). rs ++ filter (its sid sent) (placement_at p i x ∷ [])) empty
     ∙ ap (λ b. cond b (placement_at p i x ∷ []) []) (and_false (eqb p.sid sid))) ps none
 
-requests_count : (span : Extent) (c : Channel) (sid sent : ℕ) (ws : List Waiting) (ps : List Placement) → length (filter (its sid sent) (place_requests span c ws ps)) ≤ length (filter (its sid sent) ps) + length (filter (is_of sid) ws)
-requests_count span c sid sent [] ps = omega arith
-requests_count span c sid sent (w ∷ ws) ps =
-    let later = λ (qs : List Placement). requests_count span c sid sent ws qs in
-    elim (first_fit span ps w.n span.start (end_of span - w.n)) as (λ o. length (filter (its sid sent) (elim o [ Some x ↦ place_requests span c ws (ps ++ placement_for c w x ∷ []) | None ↦ place_requests span c ws ps ]))
+requests_count : (span : Extent) (c : Channel) (last : ℕ → ℕ) (sid sent : ℕ) (ws : List Waiting) (ps : List Placement) → length (filter (its sid sent) (place_requests span c last ws ps)) ≤ length (filter (its sid sent) ps) + length (filter (is_of sid) ws)
+requests_count span c last sid sent [] ps = omega arith
+requests_count span c last sid sent (w ∷ ws) ps =
+    let later = λ (qs : List Placement). requests_count span c last sid sent ws qs in
+    elim (first_fit span ps w.n span.start (end_of span - w.n) (last w.sid)) as (λ o. length (filter (its sid sent) (elim o [ Some x ↦ place_requests span c last ws (ps ++ placement_for c w x ∷ []) | None ↦ place_requests span c last ws ps ]))
     ≤ length (filter (its sid sent) ps) + length (cond (eqb w.sid sid) (w ∷ filter (is_of sid) ws) (filter (is_of sid) ws))) [
       | Some x ↦
           let more = later (ps ++ placement_for c w x ∷ []) in
@@ -137,7 +138,7 @@ fill_count t span ack sid sent =
     let granted = passes_none span (grants_of_flow c) t.flows sid sent [] refl in
     let polled : filter (its sid sent) second.placements ≡ [] = passes_none span (polls_of_flow c) first.flows sid sent first.placements granted in
     let none : length (filter (its sid sent) second.placements) ≡ 0 = ap length polled in
-    let asked = requests_count span c sid sent (in_order t t.waiting) second.placements in
+    let asked = requests_count span c (last_of t) sid sent (in_order t t.waiting) second.placements in
     let order = in_order_fewer (is_of sid) t t.waiting in
     omega arith
 
@@ -271,22 +272,25 @@ gone_table t len not_before ack sid sent p r well ok placed to cause waiting of 
     let f : Filled = fill t len not_before ack in
     let request = well.requests r waiting in
     let span = span_of t.row len not_before in
-    let moves = fill_moves t span (ack_of t.row ack span.start) (is_cut t len not_before ack ok).end in
+    let given = well.given request.flow request.there in
+    let own : request.flow.sid ≡ sid = request.sid ∙ of in
     record {
       past = record {
         well = cut_is_well t len not_before ack ok well;
-        given = subst (λ n. list_any (λ a. eqb a.sid n) t.assigned ≡ true) (request.sid ∙ of) (well.given request.flow request.there);
+        lease = lease_in request.flow;
+        found = ap (λ n. find (is_of_sid n) t.leases) (sym own) ∙ given.lease;
+        before = subst (λ n. n ≤ request.flow.last) then request.before;
         later = λ v k same.
-            let from = flow_from t f.flows v moves k in
+            let from = flow_from t span (ack_of t.row ack span.start) v (is_cut t len not_before ack ok).end k in
             let one : from.0 ≡ request.flow = one_flow 1 t.flows from.0 request.flow well.rising from.1 request.there (sym from.2.sid ∙ same ∙ sym of ∙ sym request.sid) in
-            subst (λ (o : Option ℕ). IsSentBy o sent) (sym (from.2.last_sent ∙ ap (λ (x : FlowRow). x.last_sent) one ∙ request.last ∙ ap (λ (n : ℕ). Some n) then)) (omega arith);
+            sent_after v sent sent (from.2.last_sent ∙ ap (λ (x : FlowRow). x.last_sent) one ∙ request.last ∙ ap (λ (n : ℕ). Some n) then) (omega arith);
       };
       none = λ v k same is.
           clash (list_any (is_grant_of v) f.placements)
           (has_any (is_grant_of v) f.placements p placed (
           ap (λ n. eqb n v.sid && is_cause_sent p.cause v.sent) (to ∙ sym same) ∙ ap (λ b. b && is_cause_sent p.cause v.sent) (eqb_same v.sid)
           ∙ ap (λ (x : Cause). is_cause_sent x v.sent) cause ∙ ap (λ n. eqb n v.sent) (sym is) ∙ eqb_same v.sent))
-          (has_filter (λ x. not (list_any (is_grant_of x) f.placements)) t.waiting v k).1;
+          (has_filter (λ x. not (list_any (is_grant_of x) f.placements)) t.waiting v (has_filter (λ x. not (has_ended t (end_of span) x)) (still_waiting f.placements t.waiting) v k).0).1;
     }
 
 gone_after : (rows : Rows) (c : Command) (g : Grant) (ch sid sent : ℕ) → AllWell rows → Has (step_grants rows c) g → g.channel ≡ ch → g.sid ≡ sid → g.cause ≡ Sent sent → Stands (λ t. IsGone t sid sent) (step rows c).rows ch
@@ -372,9 +376,9 @@ changed_waiting R rows ch at change u w ids e h old new =
           | false ↦ λ f k. old (record { table = t; found = found; waiting = k })
         ] refl
 
-flow_waiting : (o : Option Assignment) (t : Table) (modem tag : ℕ) (kind : FlowKind) (w : Waiting) → Has (flow_among o t modem tag kind).waiting w → Has t.waiting w
-flow_waiting (Some a) t modem tag kind w h = h
-flow_waiting None t modem tag kind w h = h
+flow_waiting : (o : Option Lease) (t : Table) (modem tag last : ℕ) (kind : FlowKind) (w : Waiting) → Has (flow_among o t modem tag last kind).waiting w → Has t.waiting w
+flow_waiting (Some a) t modem tag last kind w h = h
+flow_waiting None t modem tag last kind w h = h
 
 -- a request that waits after an accepted command waited before it, or is the command's
 comes : (rows : Rows) (c : Command) (ch : ℕ) (u : Table) (w : Waiting) → table_of (accepted rows c).rows ch ≡ Some u → Has u.waiting w → Waits rows ch w ⊎ (c ≡ commands.Request ch w.sid w.n w.sent)
@@ -383,9 +387,9 @@ comes rows (commands.Channel c) ch u w e h = elim (find_pushed rows ch (new_tabl
   | inl f ↦ inl (record { table = u; found = f; waiting = h })
   | inr same ↦ absurd (subst (λ (v : Table). Has v.waiting w) (sym same) h)
 ]
-comes rows (commands.Flow at modem tag kind) ch u w e h =
-    changed_waiting _ rows ch at (λ t. flow_in_table t modem tag kind) u w (λ t. flow_keeps_id (assignment_of t modem tag) t modem tag kind) e h (λ x. inl x)
-    (λ t found same k. inl (record { table = t; found = found; waiting = flow_waiting (assignment_of t modem tag) t modem tag kind w k }))
+comes rows (commands.Flow at modem tag last kind) ch u w e h =
+    changed_waiting _ rows ch at (λ t. flow_in_table t modem tag last kind) u w (λ t. flow_keeps_id (lease_of t modem tag) t modem tag last kind) e h (λ x. inl x)
+    (λ t found same k. inl (record { table = t; found = found; waiting = flow_waiting (lease_of t modem tag) t modem tag last kind w k }))
 comes rows (commands.Drop at sid) ch u w e h =
     changed_waiting _ rows ch at (λ t. drop_in_table t sid) u w (λ t. refl) e h (λ x. inl x)
     (λ t found same k. inl (record { table = t; found = found; waiting = (has_filter (λ v. not (is_of sid v)) t.waiting w k).0 }))
@@ -404,7 +408,7 @@ comes rows (commands.Cut at len not_before ack) ch u w e h = by (table_of rows a
         (λ v found same k. inl (record {
           table = t;
           found = subst (λ m. table_of rows m ≡ Some t) same f;
-          waiting = (has_filter (λ x. not (list_any (is_grant_of x) (fill t len not_before ack).placements)) t.waiting w k).0;
+          waiting = (waits_before t len not_before ack w k).0;
         }))
 
 step_comes : (rows : Rows) (c : Command) (ch : ℕ) (w : Waiting) → Waits (step rows c).rows ch w → Waits rows ch w ⊎ ((c ≡ commands.Request ch w.sid w.n w.sent) × ((step rows c).output ≡ outputs.Nothing))

@@ -9,19 +9,21 @@ use Rattle.flow_state.specs.declared.flow.FlowKind.TheVariants.{BestEffort, Ugs,
 use Rattle.flow_state.specs.declared.refusal.Refusal.{Refusal}
 use Rattle.flow_state.specs.declared.refusal.Refusal.TheVariants.{BadValue, ChannelThere}
 use Rattle.flow_state.specs.Limits.{is_good_channel}
-use Rattle.flow_state.specs.Rows.{Rows, Table, FlowRow, Assignment, is_table, table_of, change_table, assignment_of, is_flow, free_sid, insert_flow}
-use Rattle.flow_state.specs.Changes.{new_table, new_flow, flow_among, drop_in_table, request_in_table}
+use Rattle.flow_state.specs.declared.flow.Lease.{Lease}
+use Rattle.flow_state.specs.Rows.{Rows, Table, FlowRow, is_table, table_of, change_table, lease_of, is_flow, is_ended, free_sid, insert_flow}
+use Rattle.flow_state.specs.Changes.{new_table, new_flow, new_lease, flow_among, drop_in_table, request_in_table}
 use Rattle.grant_machine.specs.declared.command.Command.{Command}
 use Rattle.grant_machine.specs.declared.command.Command.TheVariants as commands
 use Rattle.grant_machine_parts.specs.declared.placing.Placement.{Placement}
 use Rattle.grant_machine_parts.specs.declared.due_times.Periodic.{Periodic}
-use Rattle.grant_machine_parts.specs.Cutting.{grants_of_kind, polls_of_kind, grants_of_flow, polls_of_flow, run_flow, pass, fill, fill_span, table_after, span_of}
+use Rattle.grant_machine_parts.specs.Cutting.{grants_of_kind, polls_of_kind, grants_of_flow, polls_of_flow, run_flow, pass, fill, table_after, span_of, end_of}
 use Rattle.grant_machine.specs.Steps.{step, step_on, refusal_of, accepted, cut_on}
 use Rattle.grant_machine.specs.Runs.{rows_from, IsReached}
 use Rattle.flow_state.proofs.Callers.{changed, same_id, KeepsId}
 use Rattle.flow_state.proofs.Callers.{flow_keeps_id}
 use Rattle.flow_state.proofs.Callers.{has_either, has_filter, has_all, all_has}
 use Rattle.flow_state.proofs.Callers.{passes_on}
+use Rattle.grant_machine_parts.proofs.Callers.{served_flows}
 use Rattle.grant_machine.proofs.Reached.{Kept, At, at_step}
 
 -- ---- best-effort flows
@@ -48,9 +50,9 @@ idle_insert f fs new all = all_has IsIdle (insert_flow f fs) (λ g h. elim (has_
   | inr r ↦ elim r [ inl e ↦ subst IsIdle e new | inr m ↦ has_all IsIdle fs g all (has_filter (λ x. not (leb x.sid f.sid)) fs g m).0 ]
 ])
 
-idle_flow : (o : Option Assignment) (t : Table) (modem tag : ℕ) (kind : FlowKind) → AreIdle t → AreIdle (flow_among o t modem tag kind)
-idle_flow (Some a) t modem tag kind all = all
-idle_flow None t modem tag kind all = idle_insert (new_flow (unwrap_or (free_sid t) 0) modem tag kind) t.flows (idle_start kind) all
+idle_flow : (o : Option Lease) (t : Table) (modem tag last : ℕ) (kind : FlowKind) → AreIdle t → AreIdle (flow_among o t modem tag last kind)
+idle_flow (Some a) t modem tag last kind all = all
+idle_flow None t modem tag last kind all = idle_insert (new_flow (new_lease t modem tag last (unwrap_or (free_sid t) 0)) kind) t.flows (idle_start kind) all
 
 idle_filter : (q : FlowRow → Bool) (fs : List FlowRow) → AllByRecursion IsIdle fs → AllByRecursion IsIdle (filter q fs)
 idle_filter q fs all = all_has IsIdle (filter q fs) (λ f h. has_all IsIdle fs f all (has_filter q fs f h).0)
@@ -66,7 +68,7 @@ AsksIdle what = (f : FlowRow) (span : Extent) (ps : List Placement) → IsIdle f
 grants_idle : (c : Channel) → AsksIdle (grants_of_flow c)
 grants_idle c f span ps h = by f.kind h
   where
-    by : (kind : FlowKind) → idle kind f.index → idle kind (run_flow span (grants_of_kind c f.sid kind) f.index ps).index
+    by : (kind : FlowKind) → idle kind f.index → idle kind (run_flow span (grants_of_kind c f.sid f.last kind) f.index ps).index
     by (BestEffort priority) h = h
     by (Ugs size interval jitter base) h = tt
     by (Poll interval jitter base) h = tt
@@ -74,7 +76,7 @@ grants_idle c f span ps h = by f.kind h
 polls_idle : (c : Channel) → AsksIdle (polls_of_flow c)
 polls_idle c f span ps h = by f.kind h
   where
-    by : (kind : FlowKind) → idle kind f.index → idle kind (run_flow span (polls_of_kind c f.sid kind) f.index ps).index
+    by : (kind : FlowKind) → idle kind f.index → idle kind (run_flow span (polls_of_kind c f.sid f.last kind) f.index ps).index
     by (BestEffort priority) h = h
     by (Ugs size interval jitter base) h = tt
     by (Poll interval jitter base) h = tt
@@ -83,20 +85,20 @@ pass_idle : (span : Extent) (what : FlowRow → Option Periodic) (fs : List Flow
 pass_idle span what [] ps asks all = tt
 pass_idle span what (f ∷ fs) ps asks all = (asks f span ps all.0, pass_idle span what fs (run_flow span (what f) f.index ps).placements asks all.1)
 
-pub fill_idle : (t : Table) (span : Extent) (ack : ℕ) → AreIdle t → AllByRecursion IsIdle (fill_span t span ack).flows
-fill_idle t span ack all =
+-- a MAP leaves it so, of all flows and of those that go on
+pub served_idle : (t : Table) (span : Extent) → AreIdle t → AllByRecursion IsIdle (served_flows t span)
+served_idle t span all =
     let first = pass span (grants_of_flow t.row.channel) t.flows [] in
     pass_idle span (polls_of_flow t.row.channel) first.flows first.placements (polls_idle t.row.channel) (pass_idle span (grants_of_flow t.row.channel) t.flows [] (grants_idle t.row.channel) all)
 
 idle_kept : Kept AreIdle
 idle_kept = record {
-  flow = λ t modem tag kind ok all. idle_flow (assignment_of t modem tag) t modem tag kind all;
+  flow = λ t modem tag last kind ok all. idle_flow (lease_of t modem tag) t modem tag last kind all;
   drop = λ t sid all. idle_filter (λ f. not (is_flow sid f)) t.flows all;
   request = λ t sid n sent ok all. idle_request sid sent t.flows all;
   cut = λ t len not_before ack ok all.
       let span = span_of t.row len not_before in
-      let first = pass span (grants_of_flow t.row.channel) t.flows [] in
-      pass_idle span (polls_of_flow t.row.channel) first.flows first.placements (polls_idle t.row.channel) (pass_idle span (grants_of_flow t.row.channel) t.flows [] (grants_idle t.row.channel) all);
+      idle_filter (λ f. not (is_ended (end_of span) f)) (served_flows t span) (served_idle t span all);
 }
 
 idle_rows : (rows : Rows) (cs : List Command) → ((ch : ℕ) → At AreIdle rows ch) → (ch : ℕ) → At AreIdle (rows_from rows cs) ch
@@ -158,7 +160,7 @@ apart_cut (Some t) rows at len not_before ack a = apart_changed rows at (λ u. t
 apart_accepted : (rows : Rows) (c : Command) → refusal_of rows c ≡ None → Apart rows → Apart (accepted rows c).rows
 apart_accepted rows commands.Noop ok a = a
 apart_accepted rows (commands.Channel c) ok a = apart_added rows (new_table c) (channel_new rows c ok) a
-apart_accepted rows (commands.Flow at modem tag kind) ok a = apart_changed rows at _ (λ t. flow_keeps_id (assignment_of t modem tag) t modem tag kind) a
+apart_accepted rows (commands.Flow at modem tag last kind) ok a = apart_changed rows at _ (λ t. flow_keeps_id (lease_of t modem tag) t modem tag last kind) a
 apart_accepted rows (commands.Drop at sid) ok a = apart_changed rows at (λ t. drop_in_table t sid) (λ t. refl) a
 apart_accepted rows (commands.Request at sid n sent) ok a = apart_changed rows at (λ t. request_in_table t sid n sent) (λ t. refl) a
 apart_accepted rows (commands.Cut at len not_before ack) ok a = apart_cut (table_of rows at) rows at len not_before ack a

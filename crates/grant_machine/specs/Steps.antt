@@ -1,7 +1,8 @@
 -- One step of the scheduler: a command's output, and the rows after it.
 use Rattle.std.specs.Prelude.{ℕ, IsTrue, Option, Some, None}
 use Rattle.flow_state.specs.declared.refusal.Refusal.{Refusal}
-use Rattle.flow_state.specs.Rows.{Rows, Table, Lease, table_of, change_table}
+use Rattle.flow_state.specs.declared.flow.Lease.{Lease}
+use Rattle.flow_state.specs.Rows.{Rows, Table, table_of, change_table}
 use Rattle.flow_state.specs.Refusals.{on_table, set_channel_refusal, add_flow_refusal, drop_flow_refusal, request_refusal, number_of}
 use Rattle.flow_state.specs.Changes.{is_known, with_channel, with_flow, lease_given, without_flow, with_request}
 use Rattle.grant_machine.specs.declared.command.Command.{Command}
