@@ -19,7 +19,7 @@ use Rattle.grant_machine_parts.specs.Cutting.{Periodic, due_at, end_of, Missed, 
 use Rattle.grant_machine_parts.specs.Filling.{IsRequestedUse, IsDueUse, IsUseFor}
 use Rattle.flow_state.proofs.Callers.{Has, has_filter, filter_has, has_flat_map}
 use Rattle.grant_machine_parts.proofs.Windows.{first_fit_tells, placed_is}
-use Rattle.flow_state.proofs.Callers.{IsWell, IsWellFlow, RisingFrom, both, filter_fewer, filter_both, flow_found, ended_with, not_less, not_true}
+use Rattle.flow_state.proofs.Callers.{IsWell, IsWellFlow, RisingFrom, both, filter_fewer, filter_both, flow_found, ended_with, not_less, not_true, rising_filter}
 
 -- ---- where a placement may go
 
@@ -251,18 +251,6 @@ rising_moved low (x ∷ fs) [] z r = absurd z
 rising_moved low (x ∷ fs) (y ∷ gs) z r =
     let same : y.sid ≡ x.sid = ap (λ (v : FlowRow). v.sid) z.0.is in
     (omega (arith, r.0), subst (λ n. RisingFrom (n + 1) gs) (sym same) (rising_moved (x.sid + 1) fs gs z.1 r.1))
-
-rising_weaker : (low more : ℕ) (fs : List FlowRow) → low ≤ more → RisingFrom more fs → RisingFrom low fs
-rising_weaker low more [] le r = tt
-rising_weaker low more (f ∷ fs) le r = (omega (arith, r.0), r.1)
-
-rising_filter : (q : FlowRow → Bool) (low : ℕ) (fs : List FlowRow) → RisingFrom low fs → RisingFrom low (filter q fs)
-rising_filter q low [] r = tt
-rising_filter q low (f ∷ fs) r =
-    elim (q f) as (λ b. RisingFrom low (cond b (f ∷ filter q fs) (filter q fs))) [
-      | true ↦ (r.0, rising_filter q (f.sid + 1) fs r.1)
-      | false ↦ rising_weaker low (f.sid + 1) (filter q fs) (omega (arith, r.0)) (rising_filter q (f.sid + 1) fs r.1)
-    ]
 
 pub moved_well : (fs gs : List FlowRow) → AllZip Moves fs gs → ((f : FlowRow) → Has fs f → IsWellFlow f) → (g : FlowRow) → Has gs g → IsWellFlow g
 moved_well fs gs z each g h = let m = moved_from fs gs g z h in m.2.well (each m.0 m.1)
