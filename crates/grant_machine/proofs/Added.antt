@@ -1,189 +1,170 @@
--- Before a SID is given there is nothing for it, and then its flow begins at due time number 0.
-use Rattle.std.proofs.Common.{◌≡◌, ◌⊎◌, ℕ, zero, suc, ◌+◌, ◌<◌, Bool, true, false, cond, not, ◌||◌, List, [], ◌∷◌, ◌++◌, map, filter, length, Option, Some, None, refl, sym, ap, subst, ◌∙◌, arith, eqb, inl, inr, slice_get}
+-- The grants before a lease is told lie before it or are to other SIDs, and then its flow begins at due time number 0.
+use Rattle.std.proofs.Common.{◌≡◌, ◌⊎◌, ℕ, zero, suc, ◌+◌, ◌<◌, ◌≤◌, Bool, true, false, cond, not, ◌&&◌, List, [], ◌∷◌, ◌++◌, map, filter, length, Option, Some, None, refl, sym, ap, subst, ◌∙◌, arith, eqb, inl, inr, slice_get, append_assoc}
 use Rattle.std.specs.List.{list_any, find}
 use Rattle.std.specs.List.Sorted.{IsStrictlyIncreasing}
 use Rattle.std.specs.Prelude.{unwrap_or, slice_index, nat_le}
 use Rattle.std.proofs.lemmas.Bool.{eqb-true}
-use Rattle.std.proofs.lemmas.List.{append-nil}
 use Rattle.minislot_time.specs.Extent.{Extent}
-use Rattle.flow_state.specs.declared.channel.Channel.{Channel}
 use Rattle.flow_state.specs.declared.flow.FlowKind.{FlowKind}
 use Rattle.flow_state.specs.declared.flow.FlowKind.TheVariants.{Ugs}
+use Rattle.flow_state.specs.declared.flow.Waiting.{Waiting}
 use Rattle.flow_state.specs.declared.refusal.Refusal.{Refusal}
-use Rattle.flow_state.specs.Limits.{last_time}
+use Rattle.flow_state.specs.Sound.{lease_in}
 use Rattle.flow_state.specs.declared.flow.Lease.{Lease}
-use Rattle.flow_state.specs.Rows.{Rows, Table, FlowRow, is_flow, is_of, is_table, table_of, change_table, lease_of, is_assignment, free_sid, insert_flow}
-use Rattle.flow_state.specs.Refusals.{on_table, table_flow_refusal, table_request_refusal, request_refusal_on}
-use Rattle.flow_state.specs.Changes.{new_table, new_flow, flow_among, flow_in_table, drop_in_table, request_in_table, sid_among, sid_for, sid_on}
+use Rattle.flow_state.specs.Rows.{Rows, Table, FlowRow, is_flow, is_of, is_of_sid, is_given, is_table, table_of, change_table, lease_of, free_sid, first_of, put_lease, insert_flow}
+use Rattle.flow_state.specs.Refusals.{on_table, table_flow_refusal}
+use Rattle.flow_state.specs.Changes.{new_table, new_flow, new_lease, flow_among, flow_in_table, lease_among, lease_for, lease_on, lease_given}
 use Rattle.grant_machine.specs.declared.command.Command.{Command}
 use Rattle.grant_machine.specs.declared.command.Command.TheVariants as commands
 use Rattle.grant_machine.specs.declared.output.Output.{Output}
 use Rattle.grant_machine.specs.declared.output.Output.TheVariants as outputs
 use Rattle.grant_machine_parts.specs.declared.placing.Placement.{Placement}
-use Rattle.grant_machine_parts.specs.Cutting.{Passed, pass, fill, fill_span, span_of, ack_of, table_after, grants_of_flow, polls_of_flow, place_requests, in_order, is_grant_of}
-use Rattle.grant_machine.specs.Steps.{step, step_on, refusal_of, accepted, cut_on}
-use Rattle.grant_machine.specs.Runs.{outputs_from, grants_from, Grant, grant_of, grants_in, grants_on, accepted_grants, step_grants, step_grants_on}
-use Rattle.grant_machine.specs.Laws.{UnsolicitedGrantsAreDue, is_grant_to}
-use Rattle.grant_machine_parts.proofs.Callers.{Rising}
-use Rattle.flow_state.proofs.Callers.{find_changed, is_found, some_is, changed, KeepsId}
-use Rattle.grant_machine.proofs.Maps.{output_is}
-use Rattle.flow_state.proofs.Callers.{eqb_same, at_same, refusal_there, flow_keeps_id, found_before, there}
-use Rattle.grant_machine.proofs.Sids.{assigned_fields}
-use Rattle.flow_state.proofs.Callers.{filter_append}
-use Rattle.grant_machine_parts.proofs.Callers.{Serving, filter_sub, is_to, pass_none, grants_keep, polls_keep, requests_none, in_order_none}
-use Rattle.flow_state.proofs.Callers.{has}
-use Rattle.grant_machine.proofs.Due.{Serves, AreDue, due_from, insert_same, own_grants, other_grants, not_found}
+use Rattle.grant_machine_parts.specs.Cutting.{Filled, fill, fill_refusal, span_of, ack_of, table_after}
+use Rattle.grant_machine.specs.Steps.{step, step_on, refusal_of, accepted, cut_on, lease_output}
+use Rattle.grant_machine.specs.Runs.{outputs_from, grants_from, Grant, grant_of, step_grants, step_grants_on}
+use Rattle.grant_machine.specs.Laws.{LeasedSid, UnsolicitedGrantsAreDue, is_grant_to}
+use Rattle.grant_machine_parts.proofs.Callers.{Rising, filter_sub, is_cut, fill_placed}
+use Rattle.flow_state.proofs.Callers.{find_changed, is_found, some_is, changed, KeepsId, eqb_same, at_same, refusal_there, flow_keeps_id, found_before, there, filter_append, filter_empty}
+use Rattle.flow_state.proofs.Callers.{Has, has_any, any_has, found_has, has_found, has_map, has_either, put_found, put_others, IsWell, flow_lease}
+use Rattle.grant_machine.proofs.Maps.{output_is, command_is, find_pushed, found_after}
+use Rattle.grant_machine.proofs.Leases.{IsNew, is_new, assigned_fields, put_has}
+use Rattle.grant_machine.proofs.Reached.{Kept, Stands, stands_step, AllWell, none_well, well_step}
+use Rattle.grant_machine.proofs.Cuts.{cut_of_grant}
+use Rattle.grant_machine.proofs.Due.{GrantTo, none_granted, insert_same, Holds, Serves, AreDue, due_from}
 
--- the SID isn't given in the table, and nothing is there for it
-pub record Blank (t : Table) (sid : ℕ) : Type 0 where
-  pub flows : filter (is_flow sid) t.flows ≡ []
-  pub waiting : filter (is_of sid) t.waiting ≡ []
-  pub free : list_any (has sid) t.assigned ≡ false
+-- ---- grants so far
 
-abbrev Untouched : Rows → ℕ → ℕ → Type 0
-Untouched rows ch sid = (t : Table) → table_of rows ch ≡ Some t → Blank t sid
+-- the SID was given, and this minislot lies before the channel's next MAP
+pub record Behind (t : Table) (sid start : ℕ) : Type 0 where
+  pub given : is_given t sid ≡ true
+  pub past : start < t.row.next_start
 
-none_more : (sid : ℕ) (xs : List Lease) (a : Lease) → list_any (has sid) xs ≡ false → eqb a.sid sid ≡ false → list_any (has sid) (xs ++ a ∷ []) ≡ false
-none_more sid [] a e off = ap (λ b. b || false) off
-none_more sid (x ∷ xs) a e off =
-    elim (eqb x.sid sid) as (λ b. (b || list_any (has sid) xs) ≡ false → (b || list_any (has sid) (xs ++ a ∷ [])) ≡ false) [ true ↦ λ f. absurd cc | false ↦ λ f. none_more sid xs a f off ] e
+-- a SID that was given stays given
+given_more : (n : Lease) (ls : List Lease) (sid : ℕ) → list_any (is_of_sid sid) ls ≡ true → list_any (is_of_sid sid) (put_lease n ls) ≡ true
+given_more n ls sid given = by (eqb n.sid sid) refl
+  where
+    any : (xs : List Lease) (l : Lease) → find (is_of_sid sid) xs ≡ Some l → list_any (is_of_sid sid) xs ≡ true
+    any xs l e = let f = found_has (is_of_sid sid) xs l e in has_any (is_of_sid sid) xs l f.0 f.1
 
--- a flow is added under another SID
-blank_flow : (o : Option Lease) (t : Table) (modem tag last : ℕ) (kind : FlowKind) (sid : ℕ) → eqb (sid_among o t) sid ≡ false → Blank t sid → Blank (flow_among o t modem tag last kind) sid
-blank_flow (Some a) t modem tag last kind sid off b = b
-blank_flow None t modem tag last kind sid off b = record {
-  flows = insert_same sid (new_flow (unwrap_or (free_sid t) 0) modem tag last kind) t.flows off ∙ b.flows;
-  waiting = b.waiting;
-  free = none_more sid t.assigned _ b.free off;
+    by : (b : Bool) → eqb n.sid sid ≡ b → list_any (is_of_sid sid) (put_lease n ls) ≡ true
+    by true same = any (put_lease n ls) n (ap (λ m. find (is_of_sid m) (put_lease n ls)) (sym (eqb-true _ _ same)) ∙ put_found n ls)
+    by false off =
+        let old = any_has (is_of_sid sid) ls given in
+        let found = has_found (is_of_sid sid) ls old.0 old.1 old.2 in
+        any (put_lease n ls) found.0 (put_others n ls sid off ∙ found.1)
+
+behind_flow : (o : Option Lease) (t : Table) (modem tag last : ℕ) (kind : FlowKind) (sid start : ℕ) → Behind t sid start → Behind (flow_among o t modem tag last kind) sid start
+behind_flow (Some a) t modem tag last kind sid start b = b
+behind_flow None t modem tag last kind sid start b = record { given = given_more (new_lease t modem tag last (unwrap_or (free_sid t) 0)) t.leases sid b.given; past = b.past }
+
+behind_kept : (sid start : ℕ) → Kept (λ t. Behind t sid start)
+behind_kept sid start = record {
+  flow = λ t modem tag last kind ok b. behind_flow (lease_of t modem tag) t modem tag last kind sid start b;
+  drop = λ t at b. record { given = b.given; past = b.past };
+  request = λ t at n sent ok b. record { given = b.given; past = b.past };
+  cut = λ t len not_before ack ok b. record { given = b.given; past = (let past = b.past in let later : t.row.next_start ≤ (span_of t.row len not_before).start = omega arith in omega arith) };
 }
 
-blank_drop : (t : Table) (at sid : ℕ) → Blank t sid → Blank (drop_in_table t at) sid
-blank_drop t at sid b = record {
-  flows = filter_sub (is_flow sid) (λ f. not (is_flow at f)) t.flows b.flows;
-  waiting = filter_sub (is_of sid) (λ w. not (is_of at w)) t.waiting b.waiting;
-  free = b.free;
-}
+-- the grant is to a SID that was given, and begins before the channel's next MAP
+abbrev IsBehind : Rows → Grant → Type 0
+IsBehind rows g = Stands (λ t. Behind t g.sid g.start) rows g.channel
 
-changed_none : (sid : ℕ) (change : FlowRow → FlowRow) → ((f : FlowRow) → (change f).sid ≡ f.sid) → (fs : List FlowRow) → filter (is_flow sid) fs ≡ [] → filter (is_flow sid) (map change fs) ≡ []
-changed_none sid change same [] e = refl
-changed_none sid change same (f ∷ fs) e =
-    by (eqb f.sid sid) refl e (changed_none sid change same fs)
+behind_now : (rows : Rows) (c : Command) (g : Grant) → AllWell rows → Has (step_grants rows c) g → IsBehind (step rows c).rows g
+behind_now rows c g w h =
+    let cut = cut_of_grant rows c g h in
+    let t : Table = cut.table in
+    let span : Extent = span_of t.row cut.len cut.not_before in
+    let f : Filled = fill t cut.len cut.not_before cut.ack in
+    let m = has_map (grant_of cut.channel f.span.start) f.placements g (subst (λ (gs : List Grant). Has gs g) cut.grants_are h) in
+    let well = w cut.channel t cut.found in
+    let end = (is_cut t cut.len cut.not_before cut.ack cut.ok).end in
+    let placed = (fill_placed t span (ack_of t.row cut.ack span.start) well end).each m.0 m.1 in
+    let flow : FlowRow = placed.leased.0 in
+    let to : flow.sid ≡ m.0.sid = placed.leased.2 in
+    let lease = flow_lease t flow (well.given flow placed.leased.1) in
+    let within : m.0.offset + m.0.size ≤ span.len = placed.within in
+    let some : 1 ≤ m.0.size = placed.some in
+    subst (IsBehind (step rows c).rows) m.2
+    (subst (λ (after : Rows). IsBehind after (grant_of cut.channel span.start m.0)) (sym cut.rows_are) (record {
+      table = table_after t f;
+      found = found_after rows cut.channel t f cut.found;
+      holds = record { given = has_any (is_of_sid m.0.sid) t.leases (lease_in flow) lease (ap (λ n. eqb n m.0.sid) to ∙ eqb_same m.0.sid); past = omega arith };
+    }))
+
+-- all of these grants
+abbrev AllBehind : Rows → List Grant → Type 0
+AllBehind rows gs = (g : Grant) → Has gs g → IsBehind rows g
+
+behind_step : (rows : Rows) (c : Command) (gs : List Grant) → AllWell rows → AllBehind rows gs → AllBehind (step rows c).rows (gs ++ step_grants rows c)
+behind_step rows c gs w all g h = elim (has_either gs (step_grants rows c) g h) [
+  | inl old ↦ stands_step (λ t. Behind t g.sid g.start) (behind_kept g.sid g.start) rows c g.channel (all g old)
+  | inr now ↦ behind_now rows c g w now
+]
+
+-- ---- a lease that isn't told yet
+
+abbrev NotThere : LeasedSid → Table → Type 0
+NotThere lease t = (l : Lease) → Has t.leases l → l.sid ≡ lease.sid → l.first ≡ lease.first → l.last ≡ lease.last → ⊥
+
+abbrev Unheard : Rows → LeasedSid → Type 0
+Unheard rows lease = (t : Table) → table_of rows lease.channel ≡ Some t → NotThere lease t
+
+-- the output tells the lease to nobody
+abbrev TellsNot : Output → LeasedSid → Type 0
+TellsNot out lease = (m : ℕ) → ¬ (out ≡ outputs.Assigned m lease.channel lease.sid lease.first lease.last)
+
+unheard_change : (rows : Rows) (at : ℕ) (change : Table → Table) (lease : LeasedSid) → KeepsId change → ((t : Table) → lease.channel ≡ at → table_of rows at ≡ Some t → NotThere lease t → NotThere lease (change t)) → Unheard rows lease → Unheard (change_table rows at change) lease
+unheard_change rows at change lease ids keeps u v e =
+    let before = found_before rows lease.channel at change v ids e in
+    subst (NotThere lease) (sym before.2) (by before.0 before.1)
   where
-    by : (b : Bool) → eqb f.sid sid ≡ b → cond b (f ∷ filter (is_flow sid) fs) (filter (is_flow sid) fs) ≡ [] → (filter (is_flow sid) fs ≡ [] → filter (is_flow sid) (map change fs) ≡ []) → filter (is_flow sid) (map change (f ∷ fs)) ≡ []
-    by true h g later = absurd cc
-    by false h g later = ap (λ n. cond (eqb n sid) (change f ∷ filter (is_flow sid) (map change fs)) (filter (is_flow sid) (map change fs))) (same f) ∙ ap (λ b. cond b (change f ∷ filter (is_flow sid) (map change fs)) (filter (is_flow sid) (map change fs))) h ∙ later g
-
-blank_request : (t : Table) (at m sent sid : ℕ) → table_request_refusal t at m sent ≡ None → Blank t sid → Blank (request_in_table t at m sent) sid
-blank_request t at m sent sid ok b = by (eqb at sid) refl
-  where
-    same : (f : FlowRow) (c : Bool) → (cond c (record f { last_sent = Some sent }) f).sid ≡ f.sid
-    same f true = refl
-    same f false = refl
-
-    by : (c : Bool) → eqb at sid ≡ c → Blank (request_in_table t at m sent) sid
-    by true h = absurd (let refused : request_refusal_on None t m sent ≡ None = ap (λ o. request_refusal_on o t m sent) (sym (not_found sid t.flows b.flows)) ∙ subst (λ k. table_request_refusal t k m sent ≡ None) (eqb-true _ _ h) ok in cc)
-    by false h = record {
-      flows = changed_none sid (λ f. cond (is_flow at f) (record f { last_sent = Some sent }) f) (λ f. same f (is_flow at f)) t.flows b.flows;
-      waiting = filter_append (is_of sid) t.waiting _ ∙ ap (λ c. filter (is_of sid) t.waiting ++ cond c (record { sid = at; n = m; sent = sent } ∷ []) []) h ∙ append-nil _ ∙ b.waiting;
-      free = b.free;
-    }
-
--- a MAP has nothing for the SID
-blank_fill : (t : Table) (span : Extent) (ack sid : ℕ) → Blank t sid → (filter (is_to sid) (fill_span t span ack).placements ≡ []) × Blank (table_after t (fill_span t span ack)) sid
-blank_fill t span ack sid b =
-    let c : Channel = t.row.channel in
-    let first : Passed = pass span (grants_of_flow c) t.flows [] in
-    let second : Passed = pass span (polls_of_flow c) first.flows first.placements in
-    let ps : List Placement = place_requests span c (in_order t t.waiting) second.placements in
-    let granted = pass_none span (grants_of_flow c) sid t.flows [] (grants_keep c) b.flows in
-    let polled = pass_none span (polls_of_flow c) sid first.flows first.placements (polls_keep c) granted.0 in
-    let asked : filter (is_to sid) ps ≡ filter (is_to sid) second.placements = requests_none span c sid (in_order t t.waiting) second.placements (in_order_none t sid t.waiting b.waiting) in (
-      asked ∙ polled.1 ∙ granted.1,
-      record { flows = polled.0; waiting = filter_sub (is_of sid) (λ w. not (list_any (is_grant_of w) ps)) t.waiting b.waiting; free = b.free },
-    )
-
--- ---- rows
-
--- a step keeps the SID untouched, and grants nothing to it
-pub record StaysUntouched (rows : Rows) (grants : List Grant) (ch sid : ℕ) : Type 0 where
-  pub after : Untouched rows ch sid
-  pub none : filter (is_grant_to ch sid) grants ≡ []
-
-untouched_change : (rows : Rows) (at : ℕ) (change : Table → Table) (ch sid : ℕ) → KeepsId change → ((t : Table) → ch ≡ at → table_of rows at ≡ Some t → Blank t sid → Blank (change t) sid) → Untouched rows ch sid → Untouched (change_table rows at change) ch sid
-untouched_change rows at change ch sid ids keeps u v e =
-    let before = found_before rows ch at change v ids e in
-    subst (λ (w : Table). Blank w sid) (sym before.2) (by before.0 before.1)
-  where
-    by : (t : Table) → table_of rows ch ≡ Some t → Blank (changed at change t) sid
+    by : (t : Table) → table_of rows lease.channel ≡ Some t → NotThere lease (changed at change t)
     by t found =
-        elim (is_table at t) as (λ c. is_table at t ≡ c → Blank (cond c (change t) t) sid) [
-          | true ↦ λ h. let same = at_same rows ch at t found h in keeps t same (subst (λ n. table_of rows n ≡ Some t) same found) (u t found)
+        elim (is_table at t) as (λ c. is_table at t ≡ c → NotThere lease (cond c (change t) t)) [
+          | true ↦ λ h. let same = at_same rows lease.channel at t found h in keeps t same (subst (λ n. table_of rows n ≡ Some t) same found) (u t found)
           | false ↦ λ h. u t found
         ] refl
 
--- the output gives the SID to nobody
-abbrev GivesNot : Output → ℕ → ℕ → Type 0
-GivesNot out ch sid = (m since until : ℕ) → ¬ (out ≡ outputs.Assigned m ch sid since until)
+-- a flow is added under another lease
+unheard_flow : (o : Option Lease) (t : Table) (modem tag last : ℕ) (kind : FlowKind) (lease : LeasedSid)
+    → (let l = lease_among o t modem tag last in l.sid ≡ lease.sid → l.first ≡ lease.first → l.last ≡ lease.last → ⊥) → NotThere lease t → NotThere lease (flow_among o t modem tag last kind)
+unheard_flow (Some a) t modem tag last kind lease other none = none
+unheard_flow None t modem tag last kind lease other none = λ l h sid first until. elim (put_has (new_lease t modem tag last (unwrap_or (free_sid t) 0)) t.leases l h) [
+  | inl new ↦ other (ap (λ (x : Lease). x.sid) new ∙ sid) (ap (λ (x : Lease). x.first) new ∙ first) (ap (λ (x : Lease). x.last) new ∙ until)
+  | inr old ↦ none l old.0 sid first until
+]
 
-cut_untouched : (o : Option Table) (rows : Rows) (at len not_before ack ch sid : ℕ) → table_of rows at ≡ o → Untouched rows ch sid → StaysUntouched (cut_on o rows at len not_before ack).rows (grants_on o at len not_before ack) ch sid
-cut_untouched None rows at len not_before ack ch sid e u = record { after = u; none = refl }
-cut_untouched (Some t) rows at len not_before ack ch sid e u = record {
-  after = untouched_change rows at _ ch sid (λ v. refl) (λ v same found b.
-      let here : v ≡ t = some_is v t (sym found ∙ e) in
-      subst (λ (w : Table). Blank (table_after w (fill t len not_before ack)) sid) (sym here) (blank_fill t span (ack_of t.row ack span.start) sid (subst (λ (w : Table). Blank w sid) here b)).1) u;
-  none = by (eqb at ch) refl;
-}
+told_as : (modem ch : ℕ) (l : Lease) (lease : LeasedSid) → ch ≡ lease.channel → l.sid ≡ lease.sid → l.first ≡ lease.first → l.last ≡ lease.last → lease_output modem ch l ≡ outputs.Assigned modem lease.channel lease.sid lease.first lease.last
+told_as modem ch l lease a b c d =
+    ap (λ n. outputs.Assigned modem n l.sid l.first l.last) a ∙ ap (λ n. outputs.Assigned modem lease.channel n l.first l.last) b
+    ∙ ap (λ n. outputs.Assigned modem lease.channel lease.sid n l.last) c ∙ ap (λ n. outputs.Assigned modem lease.channel lease.sid lease.first n) d
+
+unheard_accepted : (rows : Rows) (c : Command) (lease : LeasedSid) → TellsNot (accepted rows c).output lease → Unheard rows lease → Unheard (accepted rows c).rows lease
+unheard_accepted rows commands.Noop lease none u = u
+unheard_accepted rows (commands.Channel c) lease none u = λ t e. elim (find_pushed rows lease.channel (new_table c) t e) [
+  | inl f ↦ u t f
+  | inr same ↦ subst (NotThere lease) same (λ l h. absurd h)
+]
+unheard_accepted rows (commands.Flow at modem tag last kind) lease none u =
+    unheard_change rows at _ lease (λ t. flow_keeps_id (lease_of t modem tag) t modem tag last kind)
+    (λ t same found there. unheard_flow (lease_of t modem tag) t modem tag last kind lease
+    (λ sid first until. none modem (ap (λ o. lease_output modem at (lease_on o modem tag last)) found ∙ told_as modem at (lease_for t modem tag last) lease (sym same) sid first until)) there) u
+unheard_accepted rows (commands.Drop at other) lease none u = unheard_change rows at _ lease (λ t. refl) (λ t same found there. there) u
+unheard_accepted rows (commands.Request at other m sent) lease none u = unheard_change rows at _ lease (λ t. refl) (λ t same found there. there) u
+unheard_accepted rows (commands.Cut at len not_before ack) lease none u = by (table_of rows at)
   where
-    span : Extent
-    span = span_of t.row len not_before
+    by : (o : Option Table) → Unheard (cut_on o rows at len not_before ack).rows lease
+    by None = u
+    by (Some t) = unheard_change rows at _ lease (λ v. refl) (λ v same found there. there) u
 
-    by : (b : Bool) → eqb at ch ≡ b → filter (is_grant_to ch sid) (grants_in at (fill t len not_before ack)) ≡ []
-    by true h =
-        let same : at ≡ ch = eqb-true _ _ h in
-        let blank : Blank t sid = u t (subst (λ k. table_of rows k ≡ Some t) same e) in
-        subst (λ k. filter (is_grant_to ch sid) (grants_in k (fill t len not_before ack)) ≡ []) (sym same)
-        (own_grants ch sid (span_of t.row len not_before).start (fill t len not_before ack).placements
-        ∙ ap (map (grant_of ch (span_of t.row len not_before).start)) (blank_fill t (span_of t.row len not_before) (ack_of t.row ack (span_of t.row len not_before).start) sid blank).0)
-    by false h = other_grants ch at sid (span_of t.row len not_before).start (fill t len not_before ack).placements h
-
-accepted_untouched : (rows : Rows) (c : Command) (ch sid : ℕ) → refusal_of rows c ≡ None → GivesNot (accepted rows c).output ch sid → Untouched rows ch sid → StaysUntouched (accepted rows c).rows (accepted_grants rows c) ch sid
-accepted_untouched rows commands.Noop ch sid ok no_sid u = record { after = u; none = refl }
-accepted_untouched rows (commands.Channel c) ch sid ok no_sid u = record {
-  after = λ t e. elim (find_pushed rows ch (new_table c) t e) [
-    | inl f ↦ u t f
-    | inr same ↦ subst (λ (v : Table). Blank v sid) same (record { flows = refl; waiting = refl; free = refl })
-  ];
-  none = refl;
-}
-accepted_untouched rows (commands.Flow at modem tag last kind) ch sid ok no_sid u = record {
-  after = untouched_change rows at _ ch sid (λ t. flow_keeps_id (lease_of t modem tag) t modem tag last kind) (λ t same found b. blank_flow (lease_of t modem tag) t modem tag last kind sid (by t same found (eqb (sid_for t modem tag) sid) refl) b) u;
-  none = refl;
-}
+unheard_step : (rows : Rows) (c : Command) (lease : LeasedSid) → TellsNot (step rows c).output lease → Unheard rows lease → Unheard (step rows c).rows lease
+unheard_step rows c lease none u = by (refusal_of rows c) none
   where
-    by : (t : Table) → ch ≡ at → table_of rows at ≡ Some t → (b : Bool) → eqb (sid_for t modem tag) sid ≡ b → eqb (sid_for t modem tag) sid ≡ false
-    by t same found true h =
-        let sid_is : sid_on (table_of rows at) modem tag ≡ sid = ap (λ o. sid_on o modem tag) found ∙ eqb-true _ _ h in
-        absurd (no_sid modem 0 last_time (ap (λ k. outputs.Assigned modem k (sid_on (table_of rows at) modem tag) 0 last_time) (sym same) ∙ ap (λ n. outputs.Assigned modem ch n 0 last_time) sid_is))
-    by t same found false h = h
-accepted_untouched rows (commands.Drop at other) ch sid ok no_sid u = record { after = untouched_change rows at _ ch sid (λ t. refl) (λ t same found b. blank_drop t other sid b) u; none = refl }
-accepted_untouched rows (commands.Request at other m sent) ch sid ok no_sid u = record {
-  after = untouched_change rows at _ ch sid (λ t. refl) (λ t same found b. blank_request t other m sent sid (refusal_there rows at t (λ v. table_request_refusal v other m sent) found ok) b) u;
-  none = refl;
-}
-accepted_untouched rows (commands.Cut at len not_before ack) ch sid ok no_sid u = cut_untouched (table_of rows at) rows at len not_before ack ch sid refl u
-
-step_untouched : (rows : Rows) (c : Command) (ch sid : ℕ) → GivesNot (step rows c).output ch sid → Untouched rows ch sid → StaysUntouched (step rows c).rows (step_grants rows c) ch sid
-step_untouched rows c ch sid no_sid u = by (refusal_of rows c) refl no_sid
-  where
-    by : (o : Option Refusal) → refusal_of rows c ≡ o → GivesNot (step_on o rows c).output ch sid → StaysUntouched (step_on o rows c).rows (step_grants_on o rows c) ch sid
-    by (Some r) e f = record { after = u; none = refl }
-    by None e f = accepted_untouched rows c ch sid e f u
+    by : (o : Option Refusal) → TellsNot (step_on o rows c).output lease → Unheard (step_on o rows c).rows lease
+    by (Some r) f = u
+    by None f = unheard_accepted rows c lease f u
 
 -- ---- the flow is added
-
-any_last : (sid : ℕ) (xs : List Lease) (a : Lease) → eqb a.sid sid ≡ true → list_any (has sid) (xs ++ a ∷ []) ≡ true
-any_last sid [] a e = ap (λ b. b || false) e
-any_last sid (x ∷ xs) a e = elim (eqb x.sid sid) as (λ b. (b || list_any (has sid) (xs ++ a ∷ [])) ≡ true) [ true ↦ refl | false ↦ any_last sid xs a e ]
 
 -- the flow in its place is the one of its SID
 insert_own : (sid : ℕ) (f : FlowRow) (fs : List FlowRow) → eqb f.sid sid ≡ true → filter (is_flow sid) fs ≡ [] → filter (is_flow sid) (insert_flow f fs) ≡ f ∷ []
@@ -193,74 +174,134 @@ insert_own sid f fs here none =
     ∙ ap (λ b. cond b (f ∷ filter (is_flow sid) (filter (λ g. not (nat_le g.sid f.sid)) fs)) (filter (is_flow sid) (filter (λ g. not (nat_le g.sid f.sid)) fs))) here
     ∙ ap (λ (xs : List FlowRow). f ∷ xs) (filter_sub (is_flow sid) (λ g. not (nat_le g.sid f.sid)) fs none)
 
-blank_serves : (o : Option Lease) (t : Table) (modem tag sid size interval jitter base : ℕ) → lease_of t modem tag ≡ o → eqb (sid_among o t) sid ≡ true → Blank t sid → Serving (flow_among o t modem tag (Ugs size interval jitter base)) sid size interval jitter base 0
-blank_serves (Some a) t modem tag sid size interval jitter base e here b = absurd (given_not a t.assigned e here b.free)
-  where
-    given_not : (a : Lease) (xs : List Lease) → find (is_assignment modem tag) xs ≡ Some a → eqb a.sid sid ≡ true → list_any (has sid) xs ≡ false → ⊥
-    given_not a [] f h n = cc
-    given_not a (x ∷ xs) f h n =
-        elim (is_assignment modem tag x) as (λ c. cond c (Some x) (find (is_assignment modem tag) xs) ≡ Some a → ⊥) [
-          | true ↦ λ g. let same : x ≡ a = cc in let on : eqb x.sid sid ≡ true = ap (λ (y : Lease). eqb y.sid sid) same ∙ h in
-              let off : (true || list_any (has sid) xs) ≡ false = ap (λ b. b || list_any (has sid) xs) (sym on) ∙ n in cc
-          | false ↦ λ g. given_not a xs g h (rest_off (eqb x.sid sid) (list_any (has sid) xs) n)
-        ] f
-      where
-        rest_off : (p q : Bool) → (p || q) ≡ false → q ≡ false
-        rest_off true q m = absurd cc
-        rest_off false q m = m
-blank_serves None t modem tag sid size interval jitter base e here b = record {
-  flows = inr (new_flow (unwrap_or (free_sid t) 0) modem tag (Ugs size interval jitter base), insert_own sid (new_flow (unwrap_or (free_sid t) 0) modem tag (Ugs size interval jitter base)) t.flows here b.flows, refl, omega arith);
-  waiting = b.waiting;
-  given = any_last sid t.assigned (record { modem = modem; tag = tag; sid = unwrap_or (free_sid t) 0 }) here;
-}
+module _ (lease : LeasedSid) (size interval jitter base : ℕ) where
+  abbrev ugs_kind : FlowKind
+  ugs_kind = Ugs size interval jitter base
 
-flow_serves : (rows : Rows) (ch modem tag sid size interval jitter base : ℕ) → on_table rows ch (λ t. table_flow_refusal t modem tag (Ugs size interval jitter base)) ≡ None
-    → sid_on (table_of rows ch) modem tag ≡ sid → Untouched rows ch sid → Serves (change_table rows ch (λ t. flow_in_table t modem tag (Ugs size interval jitter base))) ch sid size interval jitter base 0
-flow_serves rows ch modem tag sid size interval jitter base ok sid_is u =
-    let kind : FlowKind = Ugs size interval jitter base in
-    let change : Table → Table = λ t. flow_in_table t modem tag last kind in
-    let here = there (table_of rows ch) (λ t. table_flow_refusal t modem tag last kind) ok in
-    let t : Table = here.0 in
-    let own : sid_for t modem tag ≡ sid = ap (λ o. sid_on o modem tag) (sym here.1) ∙ sid_is in
-    record {
-      table = change t;
-      found = find_changed rows ch ch change t (λ v. flow_keeps_id (lease_of v modem tag) v modem tag last kind) here.1 ∙ ap (λ b. Some (cond b (change t) t)) (is_found rows ch t here.1);
-      serving = blank_serves (lease_of t modem tag) t modem tag sid size interval jitter base refl (ap (λ n. eqb n sid) own ∙ eqb_same sid) (u t here.1);
-    }
+  -- what a step that adds the flow finds: a table in which the lease is a new one
+  pub record IsFirst (rows : Rows) (modem tag : ℕ) : Type 0 where
+    pub table : Table
+    pub found : table_of rows lease.channel ≡ Some table
+    pub well : IsWell table
+    pub new : IsNew table lease.sid lease.last
+    pub first_is : first_of table lease.sid ≡ lease.first
+    pub sid_is : unwrap_or (free_sid table) 0 ≡ lease.sid
+    pub none : lease_of table modem tag ≡ None
 
-step_adds : (rows : Rows) (ch modem tag sid size interval jitter base since until : ℕ) → (step rows (commands.Flow ch modem tag (Ugs size interval jitter base))).output ≡ outputs.Assigned modem ch sid since until → Untouched rows ch sid
-    → Serves (step rows (commands.Flow ch modem tag (Ugs size interval jitter base))).rows ch sid size interval jitter base 0 × (step_grants rows (commands.Flow ch modem tag (Ugs size interval jitter base)) ≡ [])
-step_adds rows ch modem tag sid size interval jitter base since until e u = by (refusal_of rows (commands.Flow ch modem tag (Ugs size interval jitter base))) refl e
-  where
-    by : (o : Option Refusal) → refusal_of rows (commands.Flow ch modem tag (Ugs size interval jitter base)) ≡ o → (step_on o rows (commands.Flow ch modem tag (Ugs size interval jitter base))).output ≡ outputs.Assigned modem ch sid since until
-        → Serves (step_on o rows (commands.Flow ch modem tag (Ugs size interval jitter base))).rows ch sid size interval jitter base 0 × (step_grants_on o rows (commands.Flow ch modem tag (Ugs size interval jitter base)) ≡ [])
-    by (Some r) h f = absurd cc
-    by None h f = (flow_serves rows ch modem tag sid size interval jitter base h (assigned_fields modem ch _ 0 last_time modem ch sid since until f).2 u, refl)
+  -- no flow and no request has a SID that is free
+  no_flow : (t : Table) → IsWell t → IsNew t lease.sid lease.last → (f : FlowRow) → Has t.flows f → f.sid ≡ lease.sid → ⊥
+  no_flow t w new f h same =
+      let leased = w.given f h in
+      let over : f.last < t.row.next_start = (new.over (lease_in f) (flow_lease t f leased) same).0 in
+      let on : t.row.next_start ≤ f.last = leased.goes_on in
+      omega arith
 
--- ---- over a list of commands
+  first_is_not : (t : Table) (l : Lease) (modem tag : ℕ) → lease_of t modem tag ≡ Some l → NotThere lease t → l.sid ≡ lease.sid → l.first ≡ lease.first → l.last ≡ lease.last → ⊥
+  first_is_not t l modem tag e none sid first last = none l (found_has _ t.leases l e).0 sid first last
 
-out_is : (o : Output) (outs : List Output) → slice_get (o ∷ outs) 0 ≡ Some o
-out_is o outs = refl
+  table_first : (rows : Rows) (t : Table) (modem tag : ℕ) (kind : FlowKind) (o : Option Lease) → table_of rows lease.channel ≡ Some t → IsWell t → NotThere lease t → lease_of t modem tag ≡ o → table_flow_refusal t modem tag lease.last kind ≡ None
+      → (lease_among o t modem tag lease.last).sid ≡ lease.sid → (lease_among o t modem tag lease.last).first ≡ lease.first → (lease_among o t modem tag lease.last).last ≡ lease.last → IsFirst rows modem tag
+  table_first rows t modem tag kind (Some l) found w none e ok sid first last = absurd (first_is_not t l modem tag e none sid first last)
+  table_first rows t modem tag kind None found w none e ok sid first last = record {
+    table = t;
+    found = found;
+    well = w;
+    new = subst (λ n. IsNew t n lease.last) sid (is_new t modem tag lease.last kind e ok);
+    first_is = ap (first_of t) (sym sid) ∙ first;
+    sid_is = sid;
+    none = e;
+  }
 
-from_rows : (rows : Rows) (cs : List Command) (k ch modem tag sid size interval jitter base since until : ℕ) → Untouched rows ch sid
-    → slice_get cs k ≡ Some (commands.Flow ch modem tag (Ugs size interval jitter base)) → slice_get (outputs_from rows cs) k ≡ Some (outputs.Assigned modem ch sid since until)
-    → ((j other a b : ℕ) → j < k → ¬ (slice_get (outputs_from rows cs) j ≡ Some (outputs.Assigned other ch sid a b)))
-    → AreDue (filter (is_grant_to ch sid) (grants_from rows cs)) size interval jitter base 0
-from_rows rows [] k ch modem tag sid size interval jitter base since until u c_is o_is first = absurd cc
-from_rows rows (c ∷ cs) zero ch modem tag sid size interval jitter base since until u c_is o_is first =
-    let kind : FlowKind = Ugs size interval jitter base in
-    let flow : Command = commands.Flow ch modem tag last kind in
-    let same : c ≡ flow = command_is c flow c_is in
-    let gives : (step rows flow).output ≡ outputs.Assigned modem ch sid since until = ap (λ (d : Command). (step rows d).output) (sym same) ∙ output_is _ _ o_is in
-    let adds = step_adds rows ch modem tag sid size interval jitter base since until gives u in
-    let rest = due_from (step rows flow).rows cs ch sid size interval jitter base 0 adds.0 in
-    subst (λ (d : Command). AreDue (filter (is_grant_to ch sid) (grants_from rows (d ∷ cs))) size interval jitter base 0) (sym same)
-    (subst (λ (gs : List Grant). AreDue (filter (is_grant_to ch sid) (gs ++ grants_from (step rows flow).rows cs)) size interval jitter base 0) (sym adds.1) rest)
-from_rows rows (c ∷ cs) (suc k) ch modem tag sid size interval jitter base since until u c_is o_is first =
-    let stays = step_untouched rows c ch sid (λ m a b e. first 0 m a b (omega arith) (ap (λ (o : Output). Some o) e)) u in
-    let rest = from_rows (step rows c).rows cs k ch modem tag sid size interval jitter base since until stays.after c_is o_is (λ j other a b lt e. first (suc j) other a b (omega arith) e) in
-    subst (λ (gs : List Grant). AreDue gs size interval jitter base 0)
-    (sym (filter_append (is_grant_to ch sid) (step_grants rows c) (grants_from (step rows c).rows cs) ∙ ap (λ (gs : List Grant). gs ++ filter (is_grant_to ch sid) (grants_from (step rows c).rows cs)) stays.none)) rest
+  -- a step that tells the lease first
+  step_first : (rows : Rows) (modem tag m : ℕ) (kind : FlowKind) → AllWell rows → Unheard rows lease → refusal_of rows (commands.Flow lease.channel modem tag lease.last kind) ≡ None
+      → lease_output modem lease.channel (lease_given rows lease.channel modem tag lease.last) ≡ outputs.Assigned m lease.channel lease.sid lease.first lease.last → IsFirst rows modem tag
+  step_first rows modem tag m kind w u ok told =
+      let here = there (table_of rows lease.channel) (λ t. table_flow_refusal t modem tag lease.last kind) ok in
+      let t : Table = here.0 in
+      let l : Lease = lease_given rows lease.channel modem tag lease.last in
+      let fields = assigned_fields modem lease.channel l.sid l.first l.last m lease.channel lease.sid lease.first lease.last told in
+      let is : l ≡ lease_for t modem tag lease.last = ap (λ o. lease_on o modem tag lease.last) here.1 in
+      table_first rows t modem tag kind (lease_of t modem tag) here.1 (w lease.channel t here.1) (u t here.1) refl
+      (refusal_there rows lease.channel t (λ v. table_flow_refusal v modem tag lease.last kind) here.1 ok)
+      (ap (λ (x : Lease). x.sid) (sym is) ∙ fields.2) (ap (λ (x : Lease). x.first) (sym is) ∙ fields.3) (ap (λ (x : Lease). x.last) (sym is) ∙ fields.4)
+
+  -- the flow after it
+  first_serves : (rows : Rows) (modem tag : ℕ) → IsFirst rows modem tag → Serves lease size interval jitter base (change_table rows lease.channel (λ t. flow_in_table t modem tag lease.last ugs_kind)) 0
+  first_serves rows modem tag f =
+      let t : Table = f.table in
+      let change : Table → Table = λ v. flow_in_table v modem tag lease.last ugs_kind in
+      record {
+        table = change t;
+        found = find_changed rows lease.channel lease.channel change t (λ v. flow_keeps_id (lease_of v modem tag) v modem tag lease.last ugs_kind) f.found ∙ ap (λ b. Some (cond b (change t) t)) (is_found rows lease.channel t f.found);
+        serving = inr (subst (λ (o : Option Lease). Holds lease size interval jitter base (flow_among o t modem tag lease.last ugs_kind) 0) (sym f.none) (holds f));
+      }
+    where
+      holds : (f : IsFirst rows modem tag) → Holds lease size interval jitter base (flow_among None f.table modem tag lease.last ugs_kind) 0
+      holds f =
+          let t : Table = f.table in
+          let given : Lease = new_lease t modem tag lease.last (unwrap_or (free_sid t) 0) in
+          let off = no_flow t f.well f.new in
+          let no_flows : filter (is_flow lease.sid) t.flows ≡ [] = filter_empty (is_flow lease.sid) t.flows (λ g h. not_its (eqb g.sid lease.sid) refl (λ e. off g h (eqb-true _ _ e))) in
+          let no_requests : filter (is_of lease.sid) t.waiting ≡ [] = filter_empty (is_of lease.sid) t.waiting
+          (λ w h. not_its (eqb w.sid lease.sid) refl (λ e. let r = f.well.requests w h in off r.flow r.there (r.sid ∙ eqb-true _ _ e))) in
+          let test : eqb (unwrap_or (free_sid t) 0) lease.sid ≡ true = ap (λ n. eqb n lease.sid) f.sid_is ∙ eqb_same lease.sid in
+          record {
+            serving = record {
+              flows = inr (new_flow given ugs_kind, insert_own lease.sid (new_flow given ugs_kind) t.flows test no_flows, refl, omega arith);
+              waiting = no_requests;
+            };
+            own = given;
+            found = ap (λ n. find (is_of_sid n) (put_lease given t.leases)) (sym f.sid_is) ∙ put_found given t.leases;
+            last_is = refl;
+          }
+        where
+          not_its : {b : Bool} (c : Bool) → b ≡ c → (b ≡ true → ⊥) → b ≡ false
+          not_its true e never = absurd (never e)
+          not_its false e never = e
+
+  -- the grants before it aren't under the lease
+  before_none : (rows : Rows) (modem tag : ℕ) (gs : List Grant) → IsFirst rows modem tag → AllBehind rows gs → filter (is_grant_to lease) gs ≡ []
+  before_none rows modem tag gs f all = none_granted lease gs (λ g h to.
+      let b = all g h in
+      let same : b.table ≡ f.table = some_is b.table f.table (sym b.found ∙ ap (table_of rows) to.channel ∙ f.found) in
+      let given : is_given f.table lease.sid ≡ true = subst (λ (t : Table). is_given t lease.sid ≡ true) same (subst (λ n. is_given b.table n ≡ true) to.sid_is b.holds.given) in
+      let past : g.start < f.table.row.next_start = subst (λ (t : Table). g.start < t.row.next_start) same b.holds.past in
+      let first : f.table.row.next_start ≡ lease.first = sym (ap (λ c. cond c f.table.row.next_start 0) given) ∙ f.first_is in
+      let begun : lease.first ≤ g.start = to.begun in
+      omega arith)
+
+  -- a step that adds the flow, and what was granted before it
+  step_adds : (rows : Rows) (modem tag m : ℕ) → AllWell rows → Unheard rows lease → (step rows (commands.Flow lease.channel modem tag lease.last ugs_kind)).output ≡ outputs.Assigned m lease.channel lease.sid lease.first lease.last
+      → IsFirst rows modem tag × Serves lease size interval jitter base (step rows (commands.Flow lease.channel modem tag lease.last ugs_kind)).rows 0 × (step_grants rows (commands.Flow lease.channel modem tag lease.last ugs_kind) ≡ [])
+  step_adds rows modem tag m w u e = by (refusal_of rows (commands.Flow lease.channel modem tag lease.last ugs_kind)) refl e
+    where
+      by : (o : Option Refusal) → refusal_of rows (commands.Flow lease.channel modem tag lease.last ugs_kind) ≡ o → (step_on o rows (commands.Flow lease.channel modem tag lease.last ugs_kind)).output ≡ outputs.Assigned m lease.channel lease.sid lease.first lease.last
+          → IsFirst rows modem tag × Serves lease size interval jitter base (step_on o rows (commands.Flow lease.channel modem tag lease.last ugs_kind)).rows 0 × (step_grants_on o rows (commands.Flow lease.channel modem tag lease.last ugs_kind) ≡ [])
+      by (Some r) h f = absurd cc
+      by None h f = let first = step_first rows modem tag m ugs_kind w u h f in (first, first_serves rows modem tag first, refl)
+
+  -- ---- over a list of commands
+
+  from_rows : (rows : Rows) (cs : List Command) (k modem tag : ℕ) (gs : List Grant) → AllWell rows → Unheard rows lease → AllBehind rows gs
+      → slice_get cs k ≡ Some (commands.Flow lease.channel modem tag lease.last ugs_kind) → slice_get (outputs_from rows cs) k ≡ Some (outputs.Assigned modem lease.channel lease.sid lease.first lease.last)
+      → ((j other : ℕ) → j < k → ¬ (slice_get (outputs_from rows cs) j ≡ Some (outputs.Assigned other lease.channel lease.sid lease.first lease.last)))
+      → AreDue lease size interval jitter base (filter (is_grant_to lease) (gs ++ grants_from rows cs)) 0
+  from_rows rows [] k modem tag gs w u all c_is o_is new = absurd cc
+  from_rows rows (c ∷ cs) zero modem tag gs w u all c_is o_is new =
+      let flow : Command = commands.Flow lease.channel modem tag lease.last ugs_kind in
+      let same : c ≡ flow = command_is c flow c_is in
+      let adds = step_adds rows modem tag modem w u (ap (λ (d : Command). (step rows d).output) (sym same) ∙ output_is _ _ o_is) in
+      let rest = due_from lease size interval jitter base (step rows flow).rows cs 0 adds.1 in
+      let front = before_none rows modem tag gs adds.0 all in
+      let parts : filter (is_grant_to lease) (gs ++ grants_from rows (c ∷ cs)) ≡ filter (is_grant_to lease) (grants_from (step rows flow).rows cs) =
+      filter_append (is_grant_to lease) gs (grants_from rows (c ∷ cs)) ∙ ap (λ (hs : List Grant). hs ++ filter (is_grant_to lease) (grants_from rows (c ∷ cs))) front
+      ∙ ap (λ (d : Command). filter (is_grant_to lease) (step_grants rows d ++ grants_from (step rows d).rows cs)) same
+      ∙ ap (λ (hs : List Grant). filter (is_grant_to lease) (hs ++ grants_from (step rows flow).rows cs)) adds.2 in
+      subst (λ (hs : List Grant). AreDue lease size interval jitter base hs 0) (sym parts) rest
+  from_rows rows (c ∷ cs) (suc k) modem tag gs w u all c_is o_is new =
+      let later = unheard_step rows c lease (λ m e. new 0 m (omega arith) (ap (λ (o : Output). Some o) e)) u in
+      let rest = from_rows (step rows c).rows cs k modem tag (gs ++ step_grants rows c) (well_step rows c w) later (behind_step rows c gs w all) c_is o_is (λ j other lt e. new (suc j) other (omega arith) e) in
+      subst (λ (hs : List Grant). AreDue lease size interval jitter base (filter (is_grant_to lease) hs) 0) (append_assoc gs (step_grants rows c) (grants_from (step rows c).rows cs)) rest
 
 rises : (first : ℕ) (is : List ℕ) (end : ℕ) → Rising first is end → (k : ℕ) → suc k < length is → slice_index is k < slice_index is (suc k)
 rises first [] end r k lt = absurd (omega arith)
@@ -271,8 +312,8 @@ rises first (i ∷ j ∷ is) end r (suc k) lt = rises (i + 1) (j ∷ is) end r.1
 increasing : (first : ℕ) (is : List ℕ) (end : ℕ) → Rising first is end → IsStrictlyIncreasing is
 increasing first is end r k lt = let next : k + 1 ≡ suc k = omega arith in rw next (rises first is end r k (omega arith))
 
--- the grants of an unsolicited grant flow, in order, begin within the jitter of due times whose numbers rise
+-- the grants of an unsolicited grant flow under its lease, in order, begin within the jitter of due times whose numbers rise
 pub unsolicited_grants_are_due : UnsolicitedGrantsAreDue
-unsolicited_grants_are_due cs k ch sid size interval jitter base a =
-    let due = from_rows [] cs k ch a.modem a.tag sid size interval jitter base a.added.0 a.added.1 (λ t e. absurd cc) a.asked a.added.2 (λ j other first last lt e. a.first j other lt (first, last, e)) in
+unsolicited_grants_are_due cs k lease size interval jitter base a =
+    let due = from_rows lease size interval jitter base [] cs k a.modem a.tag [] none_well (λ t e. absurd cc) (λ g h. absurd h) a.asked a.added (λ j other lt e. a.new j other lt e) in
     (due.numbers, increasing 0 due.numbers due.next due.rising, due.due)

@@ -57,7 +57,7 @@ abbrev pub LeadBack : List Lease → Type 0
 LeadBack ls = (l : Lease) → Has ls l → find (is_of_sid l.sid) ls ≡ Some l
 
 -- what a list has after a lease is put into it: that lease, and those of other SIDs
-put_has : (n : Lease) (ls : List Lease) (l : Lease) → Has (put_lease n ls) l → (n ≡ l) ⊎ (Has ls l × (eqb n.sid l.sid ≡ false))
+pub put_has : (n : Lease) (ls : List Lease) (l : Lease) → Has (put_lease n ls) l → (n ≡ l) ⊎ (Has ls l × (eqb n.sid l.sid ≡ false))
 put_has n ls l h = elim (has_either (filter (λ o. ltb o.sid n.sid) ls) (n ∷ filter (λ o. ltb n.sid o.sid) ls) l h) [
   | inl front ↦ let f = has_filter (λ o. ltb o.sid n.sid) ls l front in inr (f.0, below l.sid n.sid f.1)
   | inr back ↦ elim back [

@@ -1,7 +1,6 @@
 -- What modems can rely on in the outputs of any list of commands.
 use Rattle.std.proofs.Common.{◌≡◌, ℕ, zero, suc, ◌+◌, ◌-◌, ◌<◌, ◌≤◌, List, [], ◌∷◌, ◌++◌, map, length, Option, Some, None, refl, sym, ap, subst, ◌∙◌, arith, inl, inr, slice_get}
 use Rattle.std.specs.List.{AllByRecursion}
-use Rattle.std.specs.Prelude.{unwrap_or}
 use Rattle.std.proofs.lemmas.Bool.{eqb-true}
 use Rattle.minislot_time.specs.Wire.{wire}
 use Rattle.map_body.specs.declared.element.Element.{Element}
@@ -9,13 +8,8 @@ use Rattle.map_body.specs.Body.{Body}
 use Rattle.map_body.specs.Layout.{IsBody, IsWritten}
 use Rattle.map_body.specs.Cell.{IsCell}
 use Rattle.map_body.proofs.Callers.{one_body}
-use Rattle.flow_state.specs.declared.flow.FlowKind.{FlowKind}
-use Rattle.flow_state.specs.declared.refusal.Refusal.{Refusal}
 use Rattle.flow_state.specs.Limits.{last_time, last_sid}
-use Rattle.flow_state.specs.declared.flow.Lease.{Lease}
-use Rattle.flow_state.specs.Rows.{Rows, Table, table_of, is_assignment, lease_of, free_sid}
-use Rattle.flow_state.specs.Refusals.{table_flow_refusal}
-use Rattle.flow_state.specs.Changes.{flow_among, sid_among, sid_on}
+use Rattle.flow_state.specs.Rows.{Rows, Table, is_of_sid, table_of}
 use Rattle.grant_machine.specs.declared.command.Command.{Command}
 use Rattle.grant_machine.specs.declared.command.Command.TheVariants as commands
 use Rattle.grant_machine.specs.declared.output.Output.{Output}
@@ -23,21 +17,20 @@ use Rattle.grant_machine.specs.declared.output.Output.TheVariants as outputs
 use Rattle.grant_machine_parts.specs.declared.placing.Placement.{Placement}
 use Rattle.grant_machine_parts.specs.Cutting.{Filled, fill, fill_refusal, span_of}
 use Rattle.grant_machine_parts.specs.Drawing.{null_element, body_of, bytes_of}
-use Rattle.grant_machine.specs.Steps.{step, step_on, refusal_of, accepted, cut_on}
+use Rattle.grant_machine.specs.Steps.{step}
 use Rattle.grant_machine.specs.Runs.{outputs_from, outputs_of, rows_from}
 use Rattle.grant_machine.specs.Fits.{FitsCommand}
 use Rattle.grant_machine.specs.Owner.{IsMapOf}
-use Rattle.grant_machine.specs.Laws.{OutputsGoOn, MapsAreBodies, SharedMapsAreOne, SidsAreUnicast, OwnersAreOne}
-use Rattle.flow_state.proofs.Callers.{Has, contains_at, has_pushed, found_has}
+use Rattle.grant_machine.specs.Laws.{IsLeasedAt, OutputsGoOn, MapsAreBodies, SharedMapsAreOne, SidsAreUnicast, OwnersAreOne}
+use Rattle.flow_state.proofs.Callers.{contains_at, found_has}
 use Rattle.grant_machine.proofs.Maps.{output_is, maps_are_disjoint}
 use Rattle.flow_state.proofs.Callers.{is_found}
-use Rattle.grant_machine.proofs.Sids.{sids_are_for_good, assigned_fields}
-use Rattle.flow_state.proofs.Callers.{there, refusal_there, some_sid, unwrap_some}
-use Rattle.flow_state.proofs.Callers.{IsWell, free_range}
+use Rattle.grant_machine.proofs.Leases.{AllLeadBack, step_keeps, step_gives, leases_are_apart}
+use Rattle.flow_state.proofs.Callers.{IsWell}
 use Rattle.grant_machine_parts.proofs.Callers.{is_cut}
 use Rattle.grant_machine_parts.proofs.Callers.{count, null_at, none_before}
 use Rattle.grant_machine_parts.proofs.Callers.{pending, cut_placed, cut_most, pending_plain, cut_written}
-use Rattle.grant_machine.proofs.Reached.{Kept, At, at_step, AllWell, none_well, well_rows, FitsTable, none_fit, fit_rows}
+use Rattle.grant_machine.proofs.Reached.{At, AllWell, none_well, well_step, well_rows, FitsTable, none_fit, fit_rows}
 use Rattle.grant_machine.proofs.Cuts.{cut_of_map}
 use Rattle.grant_machine.proofs.Tellings.{map_parts, drawn_body, cut_cell}
 
@@ -160,73 +153,24 @@ shared_maps_are_one cs ch m start len start' len' bytes bytes' a b p q =
 
 -- ---- SIDs
 
--- each SID that was given is a unicast one
-abbrev GivesUnicast : Table → Type 0
-GivesUnicast t = (a : Lease) → Has t.assigned a → (1 ≤ a.sid) × (a.sid ≤ last_sid)
+back_rows : (rows : Rows) (cs : List Command) → AllLeadBack rows → AllLeadBack (rows_from rows cs)
+back_rows rows [] good = good
+back_rows rows (c ∷ cs) good = back_rows (step rows c).rows cs (step_keeps rows c good).back
 
-free_unicast : (t : Table) (sid : ℕ) → free_sid t ≡ Some sid → (1 ≤ sid) × (sid ≤ last_sid)
-free_unicast t sid e =
-    let range = free_range t sid e in
-    (range.0, omega (arith, range.1))
-
-unicast_flow : (o : Option Lease) (t : Table) (modem tag last : ℕ) (kind : FlowKind) → lease_of t modem tag ≡ o → table_flow_refusal t modem tag last kind ≡ None → GivesUnicast t → GivesUnicast (flow_among o t modem tag last kind)
-unicast_flow (Some a) t modem tag last kind e ok g = g
-unicast_flow None t modem tag last kind e ok g =
-    let free = some_sid t modem tag last kind e ok in
-    let range = free_unicast t free.0 free.1 in
-    let sid_is : unwrap_or (free_sid t) 0 ≡ free.0 = unwrap_some (free_sid t) free.0 free.1 in
-    λ a h. elim (has_pushed t.assigned (record { modem = modem; tag = tag; sid = unwrap_or (free_sid t) 0 }) a h) [
-      | inl old ↦ g a old
-      | inr new ↦ subst (λ n. (1 ≤ n) × (n ≤ last_sid)) (sym sid_is ∙ ap (λ (b : Lease). b.sid) new) range
-    ]
-
-unicast_kept : Kept GivesUnicast
-unicast_kept = record {
-  flow = λ t modem tag last kind ok g. unicast_flow (lease_of t modem tag) t modem tag last kind refl ok g;
-  drop = λ t sid g. g;
-  request = λ t sid n sent ok g. g;
-  cut = λ t len not_before ack ok g. g;
-}
-
-unicast_rows : (rows : Rows) (cs : List Command) → ((ch : ℕ) → At GivesUnicast rows ch) → (ch : ℕ) → At GivesUnicast (rows_from rows cs) ch
-unicast_rows rows [] g ch = g ch
-unicast_rows rows (c ∷ cs) g ch = unicast_rows (step rows c).rows cs (λ at. at_step GivesUnicast unicast_kept rows c at (λ n is good a h. absurd h) (g at)) ch
-
-sid_unicast : (o : Option Lease) (t : Table) (modem tag last : ℕ) (kind : FlowKind) → lease_of t modem tag ≡ o → table_flow_refusal t modem tag last kind ≡ None → GivesUnicast t → (1 ≤ sid_among o t) × (sid_among o t ≤ last_sid)
-sid_unicast (Some a) t modem tag last kind e ok g = g a (found_has (is_assignment modem tag) t.assigned a e).0
-sid_unicast None t modem tag last kind e ok g =
-    let free = some_sid t modem tag last kind e ok in
-    subst (λ n. (1 ≤ n) × (n ≤ last_sid)) (sym (unwrap_some (free_sid t) free.0 free.1)) (free_unicast t free.0 free.1)
-
-assigned_unicast : (rows : Rows) (c : Command) (m ch sid since until : ℕ) → ((at : ℕ) → At GivesUnicast rows at) → (step rows c).output ≡ outputs.Assigned m ch sid since until → (1 ≤ sid) × (sid ≤ last_sid)
-assigned_unicast rows c m ch sid since until g e = by (refusal_of rows c) refl e
-  where
-    cut_not : (o : Option Table) (at len not_before ack : ℕ) → (cut_on o rows at len not_before ack).output ≡ outputs.Assigned m ch sid since until → ⊥
-    cut_not (Some t) at len not_before ack f = cc
-    cut_not None at len not_before ack f = cc
-
-    on : (d : Command) → refusal_of rows d ≡ None → (accepted rows d).output ≡ outputs.Assigned m ch sid since until → (1 ≤ sid) × (sid ≤ last_sid)
-    on commands.Noop ok f = absurd cc
-    on (commands.Channel n) ok f = absurd cc
-    on (commands.Flow at modem tag last kind) ok f =
-        let here = there (table_of rows at) (λ t. table_flow_refusal t modem tag last kind) ok in
-        let t : Table = here.0 in
-        let range = sid_unicast (lease_of t modem tag) t modem tag last kind refl (refusal_there rows at t (λ u. table_flow_refusal u modem tag last kind) here.1 ok) (g at t here.1) in
-        let sid_is : sid_on (table_of rows at) modem tag ≡ sid = (assigned_fields modem at (sid_on (table_of rows at) modem tag) 0 last_time m ch sid since until f).2 in
-        subst (λ n. (1 ≤ n) × (n ≤ last_sid)) (ap (λ o. sid_on o modem tag) (sym here.1) ∙ sid_is) range
-    on (commands.Drop at s) ok f = absurd cc
-    on (commands.Request at s n sent) ok f = absurd cc
-    on (commands.Cut at len not_before ack) ok f = absurd (cut_not (table_of rows at) at len not_before ack f)
-
-    by : (o : Option Refusal) → refusal_of rows c ≡ o → (step_on o rows c).output ≡ outputs.Assigned m ch sid since until → (1 ≤ sid) × (sid ≤ last_sid)
-    by (Some r) h f = absurd cc
-    by None h f = on c h f
+-- a SID that a step gives leads to its lease, which is of a unicast one
+assigned_unicast : (rows : Rows) (c : Command) (m ch sid since until : ℕ) → AllWell rows → AllLeadBack rows → (step rows c).output ≡ outputs.Assigned m ch sid since until → (1 ≤ sid) × (sid ≤ last_sid)
+assigned_unicast rows c m ch sid since until w good e =
+    let l = step_gives rows c m ch sid since until good e in
+    let had = found_has (is_of_sid sid) l.table.leases l.latest.lease l.latest.found in
+    let well = (well_step rows c w ch l.table l.found).leases l.latest.lease had.0 in
+    let same : l.latest.lease.sid ≡ sid = eqb-true _ _ had.1 in
+    (subst (λ n. 1 ≤ n) same well.unicast, subst (λ n. n ≤ last_sid) same well.last)
 
 pub sids_are_unicast : SidsAreUnicast
 sids_are_unicast cs m ch sid since until contains =
     let here = contains_at (outputs_of cs) (outputs.Assigned m ch sid since until) contains in
     let s = step_at [] cs here.0 (outputs.Assigned m ch sid since until) here.1 in
-    assigned_unicast (rows_from [] s.front) s.command m ch sid since until (unicast_rows [] s.front (λ at t e. absurd cc)) s.gives
+    assigned_unicast (rows_from [] s.front) s.command m ch sid since until (well_rows [] s.front none_well) (back_rows [] s.front (λ c t f. absurd cc)) s.gives
 
 -- ---- owners
 
@@ -271,4 +215,5 @@ owners_are_one cs ch m a b p q =
     let s = q.assigned in
     let x = contains_at (outputs_of cs) (outputs.Assigned a ch p.element.sid r.first r.last) r.assigned in
     let y = contains_at (outputs_of cs) (outputs.Assigned b ch q.element.sid s.first s.last) s.assigned in
-    sids_are_for_good cs x.0 y.0 a b ch p.element.sid (r.first, r.last, x.1) (s.first, s.last, subst (λ n. slice_get (outputs_of cs) y.0 ≡ Some (outputs.Assigned b ch n s.first s.last)) (sym sid) y.1)
+    let other : IsLeasedAt cs y.0 b ch p.element.sid s.first s.last = subst (λ n. slice_get (outputs_of cs) y.0 ≡ Some (outputs.Assigned b ch n s.first s.last)) (sym sid) y.1 in
+    (leases_are_apart cs x.0 y.0 a b ch p.element.sid r.first r.last s.first s.last m x.1 other (r.begun, r.not_ended) (s.begun, s.not_ended)).0

@@ -10,19 +10,20 @@ use Rattle.flow_state.specs.declared.refusal.Refusal.{Refusal}
 use Rattle.flow_state.specs.declared.refusal.Refusal.TheVariants.{BadValue, ChannelThere}
 use Rattle.flow_state.specs.Limits.{is_good_channel}
 use Rattle.flow_state.specs.declared.flow.Lease.{Lease}
-use Rattle.flow_state.specs.Rows.{Rows, Table, FlowRow, is_table, table_of, change_table, lease_of, is_flow, free_sid, insert_flow}
-use Rattle.flow_state.specs.Changes.{new_table, new_flow, flow_among, drop_in_table, request_in_table}
+use Rattle.flow_state.specs.Rows.{Rows, Table, FlowRow, is_table, table_of, change_table, lease_of, is_flow, is_ended, free_sid, insert_flow}
+use Rattle.flow_state.specs.Changes.{new_table, new_flow, new_lease, flow_among, drop_in_table, request_in_table}
 use Rattle.grant_machine.specs.declared.command.Command.{Command}
 use Rattle.grant_machine.specs.declared.command.Command.TheVariants as commands
 use Rattle.grant_machine_parts.specs.declared.placing.Placement.{Placement}
 use Rattle.grant_machine_parts.specs.declared.due_times.Periodic.{Periodic}
-use Rattle.grant_machine_parts.specs.Cutting.{grants_of_kind, polls_of_kind, grants_of_flow, polls_of_flow, run_flow, pass, fill, fill_span, table_after, span_of}
+use Rattle.grant_machine_parts.specs.Cutting.{grants_of_kind, polls_of_kind, grants_of_flow, polls_of_flow, run_flow, pass, fill, table_after, span_of, end_of}
 use Rattle.grant_machine.specs.Steps.{step, step_on, refusal_of, accepted, cut_on}
 use Rattle.grant_machine.specs.Runs.{rows_from, IsReached}
 use Rattle.flow_state.proofs.Callers.{changed, same_id, KeepsId}
 use Rattle.flow_state.proofs.Callers.{flow_keeps_id}
 use Rattle.flow_state.proofs.Callers.{has_either, has_filter, has_all, all_has}
 use Rattle.flow_state.proofs.Callers.{passes_on}
+use Rattle.grant_machine_parts.proofs.Callers.{served_flows}
 use Rattle.grant_machine.proofs.Reached.{Kept, At, at_step}
 
 -- ---- best-effort flows
@@ -51,7 +52,7 @@ idle_insert f fs new all = all_has IsIdle (insert_flow f fs) (λ g h. elim (has_
 
 idle_flow : (o : Option Lease) (t : Table) (modem tag last : ℕ) (kind : FlowKind) → AreIdle t → AreIdle (flow_among o t modem tag last kind)
 idle_flow (Some a) t modem tag last kind all = all
-idle_flow None t modem tag last kind all = idle_insert (new_flow (unwrap_or (free_sid t) 0) modem tag last kind) t.flows (idle_start kind) all
+idle_flow None t modem tag last kind all = idle_insert (new_flow (new_lease t modem tag last (unwrap_or (free_sid t) 0)) kind) t.flows (idle_start kind) all
 
 idle_filter : (q : FlowRow → Bool) (fs : List FlowRow) → AllByRecursion IsIdle fs → AllByRecursion IsIdle (filter q fs)
 idle_filter q fs all = all_has IsIdle (filter q fs) (λ f h. has_all IsIdle fs f all (has_filter q fs f h).0)
@@ -67,7 +68,7 @@ AsksIdle what = (f : FlowRow) (span : Extent) (ps : List Placement) → IsIdle f
 grants_idle : (c : Channel) → AsksIdle (grants_of_flow c)
 grants_idle c f span ps h = by f.kind h
   where
-    by : (kind : FlowKind) → idle kind f.index → idle kind (run_flow span (grants_of_kind c f.sid kind) f.index ps).index
+    by : (kind : FlowKind) → idle kind f.index → idle kind (run_flow span (grants_of_kind c f.sid f.last kind) f.index ps).index
     by (BestEffort priority) h = h
     by (Ugs size interval jitter base) h = tt
     by (Poll interval jitter base) h = tt
@@ -75,7 +76,7 @@ grants_idle c f span ps h = by f.kind h
 polls_idle : (c : Channel) → AsksIdle (polls_of_flow c)
 polls_idle c f span ps h = by f.kind h
   where
-    by : (kind : FlowKind) → idle kind f.index → idle kind (run_flow span (polls_of_kind c f.sid kind) f.index ps).index
+    by : (kind : FlowKind) → idle kind f.index → idle kind (run_flow span (polls_of_kind c f.sid f.last kind) f.index ps).index
     by (BestEffort priority) h = h
     by (Ugs size interval jitter base) h = tt
     by (Poll interval jitter base) h = tt
@@ -84,8 +85,9 @@ pass_idle : (span : Extent) (what : FlowRow → Option Periodic) (fs : List Flow
 pass_idle span what [] ps asks all = tt
 pass_idle span what (f ∷ fs) ps asks all = (asks f span ps all.0, pass_idle span what fs (run_flow span (what f) f.index ps).placements asks all.1)
 
-pub fill_idle : (t : Table) (span : Extent) (ack : ℕ) → AreIdle t → AllByRecursion IsIdle (fill_span t span ack).flows
-fill_idle t span ack all =
+-- a MAP leaves it so, of all flows and of those that go on
+pub served_idle : (t : Table) (span : Extent) → AreIdle t → AllByRecursion IsIdle (served_flows t span)
+served_idle t span all =
     let first = pass span (grants_of_flow t.row.channel) t.flows [] in
     pass_idle span (polls_of_flow t.row.channel) first.flows first.placements (polls_idle t.row.channel) (pass_idle span (grants_of_flow t.row.channel) t.flows [] (grants_idle t.row.channel) all)
 
@@ -96,8 +98,7 @@ idle_kept = record {
   request = λ t sid n sent ok all. idle_request sid sent t.flows all;
   cut = λ t len not_before ack ok all.
       let span = span_of t.row len not_before in
-      let first = pass span (grants_of_flow t.row.channel) t.flows [] in
-      pass_idle span (polls_of_flow t.row.channel) first.flows first.placements (polls_idle t.row.channel) (pass_idle span (grants_of_flow t.row.channel) t.flows [] (grants_idle t.row.channel) all);
+      idle_filter (λ f. not (is_ended (end_of span) f)) (served_flows t span) (served_idle t span all);
 }
 
 idle_rows : (rows : Rows) (cs : List Command) → ((ch : ℕ) → At AreIdle rows ch) → (ch : ℕ) → At AreIdle (rows_from rows cs) ch

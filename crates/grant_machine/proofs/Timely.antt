@@ -1,6 +1,7 @@
--- What isn't granted to a request is granted at a due time of a flow that was added.
+-- Each grant lies within the lease of a flow that was added, and what isn't granted to a request is at a due time of it.
 use Rattle.std.proofs.Common.{◌≡◌, ◌⊎◌, ℕ, zero, suc, ◌+◌, ◌*◌, ◌<◌, ◌≤◌, Bool, true, false, cond, not, List, [], ◌∷◌, ◌++◌, Option, Some, None, refl, sym, ap, subst, ◌∙◌, arith, inl, inr, slice_get}
-use Rattle.std.specs.List.{list_any}
+use Rattle.std.specs.List.{find, Contains}
+use Rattle.std.proofs.lemmas.Bool.{eqb-true}
 use Rattle.std.specs.Prelude.{unwrap_or}
 use Rattle.minislot_time.specs.Extent.{Extent}
 use Rattle.flow_state.specs.declared.channel.Channel.{Channel}
@@ -8,10 +9,11 @@ use Rattle.flow_state.specs.declared.flow.FlowKind.{FlowKind}
 use Rattle.flow_state.specs.declared.flow.FlowKind.TheVariants.{BestEffort, Ugs, Poll}
 use Rattle.flow_state.specs.declared.refusal.Refusal.{Refusal}
 use Rattle.flow_state.specs.Limits.{last_time}
+use Rattle.flow_state.specs.Sound.{lease_in}
 use Rattle.flow_state.specs.declared.flow.Lease.{Lease}
-use Rattle.flow_state.specs.Rows.{Rows, Table, FlowRow, is_flow, is_table, table_of, change_table, lease_of, free_sid}
+use Rattle.flow_state.specs.Rows.{Rows, Table, FlowRow, is_flow, is_of_sid, is_table, table_of, change_table, lease_of, free_sid, first_of, last_of}
 use Rattle.flow_state.specs.Refusals.{table_flow_refusal}
-use Rattle.flow_state.specs.Changes.{new_table, new_flow, sid_among, sid_on, flow_among, flow_in_table, drop_in_table, request_in_table}
+use Rattle.flow_state.specs.Changes.{new_table, new_lease, new_flow, lease_among, lease_on, flow_among, flow_in_table, drop_in_table, request_in_table}
 use Rattle.grant_machine.specs.declared.command.Command.{Command}
 use Rattle.grant_machine.specs.declared.command.Command.TheVariants as commands
 use Rattle.grant_machine.specs.declared.output.Output.{Output}
@@ -21,21 +23,17 @@ use Rattle.grant_machine_parts.specs.declared.placing.Placement.{Placement}
 use Rattle.grant_machine_parts.specs.declared.placing.Cause.TheVariants.{Window, Sent}
 use Rattle.grant_machine_parts.specs.declared.due_times.Periodic.{Periodic}
 use Rattle.grant_machine_parts.specs.Cutting.{due_at, end_of, Missed, Placed, Kept, verdict, placement_at, Ran, run_due_times, run_flow, due_before, Passed, pass, grants_of_kind, polls_of_kind, grants_of_flow, polls_of_flow, in_order, placement_for, Filled, fill, fill_span, fill_refusal, span_of, ack_of, table_after}
-use Rattle.grant_machine.specs.Steps.{step, step_on, refusal_of, accepted, cut_on}
-use Rattle.grant_machine.specs.Runs.{outputs_from, grants_from, Grant, grant_of, step_grants}
-use Rattle.grant_machine.specs.Laws.{IsServedAt, OtherGrantsAreDue}
-use Rattle.flow_state.proofs.Callers.{Has, has_at, has_either, has_pushed, has_map, has_filter, has_any, any_has, has_found, found_has}
-use Rattle.grant_machine_parts.proofs.Callers.{placed_tells}
-use Rattle.grant_machine.proofs.Maps.{output_is}
-use Rattle.flow_state.proofs.Callers.{some_is, changed, KeepsId}
-use Rattle.grant_machine.proofs.Sids.{AllLeadBack, IsOwned, step_keeps, step_gives}
-use Rattle.flow_state.proofs.Callers.{found_before, at_same, flow_keeps_id, there, refusal_there, some_sid, unwrap_some, free_is_free}
-use Rattle.grant_machine.proofs.Maps.{find_pushed}
-use Rattle.flow_state.proofs.Callers.{has}
-use Rattle.flow_state.proofs.Callers.{has_inserted, asked}
-use Rattle.grant_machine_parts.proofs.Callers.{requests_keep, grants_ask_well, pass_moves, moved_from, is_cut, fill_moves, flow_from}
-use Rattle.grant_machine.proofs.Reached.{At}
-use Rattle.grant_machine.proofs.Cuts.{IsCutStep, cut_of_grant}
+use Rattle.grant_machine.specs.Steps.{step, step_on, refusal_of, accepted, cut_on, lease_output}
+use Rattle.grant_machine.specs.Runs.{outputs_from, outputs_of, grants_from, grants_of, Grant, grant_of, step_grants}
+use Rattle.grant_machine.specs.Laws.{LeasedSid, IsWithin, IsServedAt, OtherGrantsAreDue, GrantsAreLeased}
+use Rattle.flow_state.proofs.Callers.{Has, has_at, has_either, has_pushed, has_map, has_filter, found_has}
+use Rattle.flow_state.proofs.Callers.{some_is, changed, KeepsId, found_before, at_same, flow_keeps_id, refusal_there}
+use Rattle.flow_state.proofs.Callers.{IsWell, has_inserted, asked, one_flow, flow_lease}
+use Rattle.grant_machine_parts.proofs.Callers.{IsLeased, fill_placed, placed_tells, requests_keep, grants_ask_well, pass_moves, moved_from, is_cut, flow_from}
+use Rattle.grant_machine.proofs.Maps.{output_is, find_pushed}
+use Rattle.grant_machine.proofs.Leases.{IsNew, is_new, AllLeadBack, IsTold, now_told, step_keeps, step_gives}
+use Rattle.grant_machine.proofs.Reached.{AllWell, none_well, well_step}
+use Rattle.grant_machine.proofs.Cuts.{cut_of_grant}
 
 -- ---- the placements of a MAP
 
@@ -72,16 +70,16 @@ at_due span ps p i x e =
 periodic_is : (q p : Periodic) → Some q ≡ Some p → q ≡ p
 periodic_is q p e = cc
 
-grants_at : (span : Extent) (c : Channel) (sid : ℕ) (kind : FlowKind) (p : Periodic) → grants_of_kind c sid kind ≡ Some p → PlacesAt span kind p × (sid ≡ p.sid)
-grants_at span c sid (BestEffort priority) p e = absurd cc
-grants_at span c sid (Poll interval jitter base) p e = absurd cc
-grants_at span c sid (Ugs size interval jitter base) p e =
+grants_at : (span : Extent) (c : Channel) (sid last : ℕ) (kind : FlowKind) (p : Periodic) → grants_of_kind c sid last kind ≡ Some p → PlacesAt span kind p × (sid ≡ p.sid)
+grants_at span c sid last (BestEffort priority) p e = absurd cc
+grants_at span c sid last (Poll interval jitter base) p e = absurd cc
+grants_at span c sid last (Ugs size interval jitter base) p e =
     subst (λ (q : Periodic). PlacesAt span (Ugs size interval jitter base) q × (sid ≡ q.sid)) (periodic_is _ p e) ((λ ps i x v. at_due span ps _ i x v), refl)
 
-polls_at : (span : Extent) (c : Channel) (sid : ℕ) (kind : FlowKind) (p : Periodic) → polls_of_kind c sid kind ≡ Some p → PlacesAt span kind p × (sid ≡ p.sid)
-polls_at span c sid (BestEffort priority) p e = absurd cc
-polls_at span c sid (Ugs size interval jitter base) p e = absurd cc
-polls_at span c sid (Poll interval jitter base) p e =
+polls_at : (span : Extent) (c : Channel) (sid last : ℕ) (kind : FlowKind) (p : Periodic) → polls_of_kind c sid last kind ≡ Some p → PlacesAt span kind p × (sid ≡ p.sid)
+polls_at span c sid last (BestEffort priority) p e = absurd cc
+polls_at span c sid last (Ugs size interval jitter base) p e = absurd cc
+polls_at span c sid last (Poll interval jitter base) p e =
     subst (λ (q : Periodic). PlacesAt span (Poll interval jitter base) q × (sid ≡ q.sid)) (periodic_is _ p e) ((λ ps i x v. at_due span ps _ i x v), refl)
 
 module _ (all : List FlowRow) (span : Extent) where
@@ -119,11 +117,11 @@ fill_due t span ack le =
     let first : Passed = pass span (grants_of_flow c) t.flows [] in
     let second : Passed = pass span (polls_of_flow c) first.flows first.placements in
     let moves = pass_moves span (grants_of_flow c) t.flows [] le (grants_ask_well c) in
-    let granted : AllDue t.flows span first.placements = pass_due t.flows span (grants_of_flow c) t.flows (λ g h. (g, h, refl, refl)) (λ g p e. grants_at span c g.sid g.kind p e) [] (λ q h. absurd h) in
+    let granted : AllDue t.flows span first.placements = pass_due t.flows span (grants_of_flow c) t.flows (λ g h. (g, h, refl, refl)) (λ g p e. grants_at span c g.sid g.last g.kind p e) [] (λ q h. absurd h) in
     let polled : AllDue t.flows span second.placements = pass_due t.flows span (polls_of_flow c) first.flows
     (λ g h. let m = moved_from t.flows first.flows g moves h in (m.0, m.1, ap (λ (x : FlowRow). x.sid) (sym m.2.is), ap (λ (x : FlowRow). x.kind) (sym m.2.is)))
-    (λ g p e. polls_at span c g.sid g.kind p e) first.placements granted in
-    requests_keep (AllDue t.flows span) span c (in_order t t.waiting)
+    (λ g p e. polls_at span c g.sid g.last g.kind p e) first.placements granted in
+    requests_keep (AllDue t.flows span) span c (last_of t) (in_order t t.waiting)
     (λ w h ps x due fit q k. elim (has_pushed ps (placement_for c w x) q k) [
       | inl old ↦ due q old
       | inr new ↦ subst (λ (r : Placement). WasDue t.flows span r r.cause) new tt
@@ -131,13 +129,17 @@ fill_due t span ack le =
 
 -- ---- the flow of a grant
 
--- the flow is of a table's, but for its due time and last request
-pub record IsFlowOf (rows : Rows) (ch sid : ℕ) (kind : FlowKind) : Type 0 where
+-- the lease of a channel's flow
+abbrev pub lease_at : ℕ → FlowRow → LeasedSid
+lease_at ch f = record { channel = ch; sid = f.sid; first = f.first; last = f.last }
+
+-- a flow of this kind under the lease is of a table's, but for its due time and last request
+pub record IsFlowOf (rows : Rows) (lease : LeasedSid) (kind : FlowKind) : Type 0 where
   pub table : Table
-  pub found : table_of rows ch ≡ Some table
+  pub found : table_of rows lease.channel ≡ Some table
   pub flow : FlowRow
   pub there : Has table.flows flow
-  pub sid_is : flow.sid ≡ sid
+  pub lease_is : lease_at lease.channel flow ≡ lease
   pub kind_is : flow.kind ≡ kind
 
 -- the grant at a due time is of a flow of the rows
@@ -146,29 +148,43 @@ served_at span ch i (BestEffort priority) p d = d
 served_at span ch i (Ugs size interval jitter base) p d = record { whole = d.whole; not_early = d.not_early; not_late = d.not_late }
 served_at span ch i (Poll interval jitter base) p d = record { whole = d.whole; not_early = d.not_early; not_late = d.not_late }
 
--- a grant at a due time in a step: its flow
-pub record IsDueNow (rows : Rows) (g : Grant) (i : ℕ) : Type 0 where
+-- a grant in a step: the flow under whose lease it is, and where it comes of itself, of which due time
+pub record IsGrantOf (rows : Rows) (g : Grant) : Type 0 where
   pub kind : FlowKind
-  pub flow : IsFlowOf rows g.channel g.sid kind
-  pub served : IsServedAt kind g i
+  pub lease : LeasedSid
+  pub flow : IsFlowOf rows lease kind
+  pub within : IsWithin lease g
+  pub served : (i : ℕ) → g.cause ≡ Window i → IsServedAt kind g i
 
-due_now_by : (rows : Rows) (c : Command) (i : ℕ) (cut : IsCutStep rows c) (p : Placement) → WasDue cut.table.flows (span_of cut.table.row cut.len cut.not_before) p (Window i)
-    → IsDueNow rows (grant_of cut.channel (span_of cut.table.row cut.len cut.not_before).start p) i
-due_now_by rows c i cut p (f, there, sid, placed) = record {
-  kind = f.kind;
-  flow = record { table = cut.table; found = cut.found; flow = f; there = there; sid_is = sid; kind_is = refl };
-  served = served_at (span_of cut.table.row cut.len cut.not_before) cut.channel i f.kind p placed;
-}
+-- the flow that is due is the one in whose lease the placement lies
+due_flow : (t : Table) (span : Extent) (f : FlowRow) (q : Placement) (i : ℕ) → IsWell t → Has t.flows f → f.sid ≡ q.sid → WasDue t.flows span q (Window i) → IsPlacedAt span f.kind q i
+due_flow t span f q i w h same (g, there, sid, placed) = subst (λ (x : FlowRow). IsPlacedAt span x.kind q i) (one_flow 1 t.flows g f w.rising there h (sid ∙ sym same)) placed
 
-due_now : (rows : Rows) (c : Command) (g : Grant) (i : ℕ) → Has (step_grants rows c) g → g.cause ≡ Window i → IsDueNow rows g i
-due_now rows c g i h cause =
+grant_by : (rows : Rows) (ch : ℕ) (t : Table) (span : Extent) (q : Placement) → table_of rows ch ≡ Some t → IsWell t → t.row.next_start ≤ span.start → IsLeased t span q → WasDue t.flows span q q.cause → IsGrantOf rows (grant_of ch span.start q)
+grant_by rows ch t span q found w begun leased due =
+    let f : FlowRow = leased.0 in
+    let h : Has t.flows f = leased.1 in
+    let sid : f.sid ≡ q.sid = leased.2 in
+    let first : f.first ≤ t.row.next_start = (w.leases (lease_in f) (flow_lease t f (w.given f h))).begun in
+    record {
+      kind = f.kind;
+      lease = lease_at ch f;
+      flow = record { table = t; found = found; flow = f; there = h; lease_is = refl; kind_is = refl };
+      within = record { channel = refl; sid_is = sym sid; begun = omega arith; ended = leased.3 };
+      served = λ i e. served_at span ch i f.kind q (due_flow t span f q i w h sid (subst (WasDue t.flows span q) e due));
+    }
+
+grant_now : (rows : Rows) (c : Command) (g : Grant) → AllWell rows → Has (step_grants rows c) g → IsGrantOf rows g
+grant_now rows c g w h =
     let cut = cut_of_grant rows c g h in
     let t : Table = cut.table in
+    let span : Extent = span_of t.row cut.len cut.not_before in
+    let ack : ℕ = ack_of t.row cut.ack span.start in
     let f : Filled = fill t cut.len cut.not_before cut.ack in
     let m = has_map (grant_of cut.channel f.span.start) f.placements g (subst (λ (gs : List Grant). Has gs g) cut.grants_are h) in
-    let due = fill_due t (span_of t.row cut.len cut.not_before) (ack_of t.row cut.ack (span_of t.row cut.len cut.not_before).start) (is_cut t cut.len cut.not_before cut.ack cut.ok).end m.0 m.1 in
-    let at : m.0.cause ≡ Window i = ap (λ (x : Grant). x.cause) m.2 ∙ cause in
-    subst (λ (x : Grant). IsDueNow rows x i) m.2 (due_now_by rows c i cut m.0 (subst (WasDue t.flows (span_of t.row cut.len cut.not_before) m.0) at due))
+    let end = (is_cut t cut.len cut.not_before cut.ack cut.ok).end in
+    let well = w cut.channel t cut.found in
+    subst (IsGrantOf rows) m.2 (grant_by rows cut.channel t span m.0 cut.found well (omega arith) ((fill_placed t span ack well end).each m.0 m.1).leased (fill_due t span ack end m.0 m.1))
 
 -- ---- where a flow comes from
 
@@ -186,138 +202,148 @@ changed_table R rows ch at change u ids e old new =
           | false ↦ λ f is. old t found is
         ] refl
 
--- no SID of the channel is this one yet
-abbrev IsFresh : ℕ → Table → Type 0
-IsFresh sid t = list_any (has sid) t.assigned ≡ false
-
--- an accepted command adds the flow
-pub record Adds (rows : Rows) (c : Command) (ch sid : ℕ) (kind : FlowKind) : Type 0 where
+-- an accepted command adds the flow, under a lease that wasn't told
+pub record Adds (rows : Rows) (c : Command) (lease : LeasedSid) (kind : FlowKind) : Type 0 where
   pub modem : ℕ
   pub tag : ℕ
-  pub asked : c ≡ commands.Flow ch modem tag last kind
-  pub gives : (accepted rows c).output ≡ outputs.Assigned modem ch sid 0 last_time
-  pub fresh : At (IsFresh sid) rows ch
+  pub asked : c ≡ commands.Flow lease.channel modem tag lease.last kind
+  pub gives : (accepted rows c).output ≡ outputs.Assigned modem lease.channel lease.sid lease.first lease.last
+  pub fresh : (m : ℕ) → IsTold rows lease.channel lease.sid m lease.first lease.last → ⊥
 
-same_flow : (rows : Rows) (ch : ℕ) (t : Table) (f : FlowRow) (sid : ℕ) (kind : FlowKind) → table_of rows ch ≡ Some t → Has t.flows f → f.sid ≡ sid → f.kind ≡ kind → IsFlowOf rows ch sid kind
-same_flow rows ch t f sid kind found there sid_is kind_is = record { table = t; found = found; flow = f; there = there; sid_is = sid_is; kind_is = kind_is }
+same_flow : (rows : Rows) (ch : ℕ) (t : Table) (f : FlowRow) → table_of rows ch ≡ Some t → Has t.flows f → IsFlowOf rows (lease_at ch f) f.kind
+same_flow rows ch t f found there = record { table = t; found = found; flow = f; there = there; lease_is = refl; kind_is = refl }
 
-asked_same_kind : (at next : ℕ) (f : FlowRow) → ((asked at next f).sid ≡ f.sid) × ((asked at next f).kind ≡ f.kind)
-asked_same_kind at next f = by (is_flow at f)
+-- a flow of the same lease and kind
+like_flow : (rows : Rows) (ch : ℕ) (t : Table) (f g : FlowRow) → table_of rows ch ≡ Some t → Has t.flows f → g.sid ≡ f.sid → g.first ≡ f.first → g.last ≡ f.last → g.kind ≡ f.kind → IsFlowOf rows (lease_at ch g) g.kind
+like_flow rows ch t f g found there sid first last kind = record {
+  table = t;
+  found = found;
+  flow = f;
+  there = there;
+  lease_is =
+      ap (λ n. record { channel = ch; sid = n; first = f.first; last = f.last }) (sym sid)
+      ∙ ap (λ n. record { channel = ch; sid = g.sid; first = n; last = f.last }) (sym first)
+      ∙ ap (λ n. record { channel = ch; sid = g.sid; first = g.first; last = n }) (sym last);
+  kind_is = sym kind;
+}
+
+pub record IsLike (f g : FlowRow) : Type 0 where
+  pub sid : g.sid ≡ f.sid
+  pub first : g.first ≡ f.first
+  pub last : g.last ≡ f.last
+  pub kind : g.kind ≡ f.kind
+
+asked_like : (at next : ℕ) (f : FlowRow) → IsLike f (asked at next f)
+asked_like at next f = by (is_flow at f)
   where
-    by : (b : Bool) → ((cond b (record f { last_sent = Some next }) f).sid ≡ f.sid) × ((cond b (record f { last_sent = Some next }) f).kind ≡ f.kind)
-    by true = (refl, refl)
-    by false = (refl, refl)
+    by : (b : Bool) → IsLike f (cond b (record f { last_sent = Some next }) f)
+    by true = record { sid = refl; first = refl; last = refl; kind = refl }
+    by false = record { sid = refl; first = refl; last = refl; kind = refl }
+
+-- a new lease isn't one that was told
+new_lease_fresh : (rows : Rows) (t : Table) (ch sid first last : ℕ) → table_of rows ch ≡ Some t → IsNew t sid last → (m : ℕ) → IsTold rows ch sid m first last → ⊥
+new_lease_fresh rows t ch sid first last found new m told =
+    let same : told.table ≡ t = some_is told.table t (sym told.found ∙ found) in
+    let there : find (is_of_sid sid) t.leases ≡ Some told.told.lease = ap (λ (u : Table). find (is_of_sid sid) u.leases) (sym same) ∙ told.told.found in
+    let had = found_has (is_of_sid sid) t.leases told.told.lease there in
+    let over : told.told.lease.last < t.row.next_start = (new.over told.told.lease had.0 (eqb-true _ _ had.1)).0 in
+    let on : t.row.next_start ≤ last = new.goes_on in
+    let start : told.table.row.next_start ≡ t.row.next_start = ap (λ (u : Table). u.row.next_start) same in
+    elim told.told.is [
+      | inl is ↦ (let last_is : told.told.lease.last ≡ last = is.2 in omega arith)
+      | inr is ↦ (let past : last < told.table.row.next_start = is.1 in omega arith)
+    ]
 
 flow_added : (o : Option Lease) (rows : Rows) (t : Table) (ch modem tag last : ℕ) (kind : FlowKind) (f : FlowRow) → table_of rows ch ≡ Some t → lease_of t modem tag ≡ o → table_flow_refusal t modem tag last kind ≡ None
-    → Has (flow_among o t modem tag last kind).flows f → IsFlowOf rows ch f.sid f.kind ⊎ Adds rows (commands.Flow ch modem tag last kind) ch f.sid f.kind
-flow_added (Some a) rows t ch modem tag last kind f found e ok h = inl (same_flow rows ch t f f.sid f.kind found h refl refl)
+    → Has (flow_among o t modem tag last kind).flows f → IsFlowOf rows (lease_at ch f) f.kind ⊎ Adds rows (commands.Flow ch modem tag last kind) (lease_at ch f) f.kind
+flow_added (Some a) rows t ch modem tag last kind f found e ok h = inl (same_flow rows ch t f found h)
 flow_added None rows t ch modem tag last kind f found e ok h =
-    let free = some_sid t modem tag last kind e ok in
     let sid : ℕ = unwrap_or (free_sid t) 0 in
-    let sid_is : sid ≡ free.0 = unwrap_some (free_sid t) free.0 free.1 in
-    elim (has_inserted (new_flow sid modem tag last kind) t.flows f h) [
-      | inl old ↦ inl (same_flow rows ch t f f.sid f.kind found old refl refl)
-      | inr new ↦ inr (subst (λ (g : FlowRow). Adds rows (commands.Flow ch modem tag last kind) ch g.sid g.kind) new (record {
+    let lease : Lease = new_lease t modem tag last sid in
+    elim (has_inserted (new_flow lease kind) t.flows f h) [
+      | inl old ↦ inl (same_flow rows ch t f found old)
+      | inr new ↦ inr (subst (λ (g : FlowRow). Adds rows (commands.Flow ch modem tag last kind) (lease_at ch g) g.kind) new (record {
         modem = modem;
         tag = tag;
         asked = refl;
-        gives = ap (λ n. outputs.Assigned modem ch n 0 last_time) (ap (λ o. sid_on o modem tag) found ∙ ap (λ o. sid_among o t) e);
-        fresh = λ u there. subst (IsFresh sid) (some_is t u (sym found ∙ there)) (ap (λ n. list_any (has n) t.assigned) sid_is ∙ free_is_free t free.0 free.1);
+        gives = ap (lease_output modem ch) (ap (λ o. lease_on o modem tag last) found ∙ ap (λ o. lease_among o t modem tag last) e);
+        fresh = new_lease_fresh rows t ch sid (first_of t sid) last found (is_new t modem tag last kind e ok);
       }))
     ]
 
-flow_comes : (rows : Rows) (c : Command) (ch : ℕ) (u : Table) (f : FlowRow) → refusal_of rows c ≡ None → table_of (accepted rows c).rows ch ≡ Some u → Has u.flows f → IsFlowOf rows ch f.sid f.kind ⊎ Adds rows c ch f.sid f.kind
-flow_comes rows commands.Noop ch u f ok e h = inl (same_flow rows ch u f f.sid f.kind e h refl refl)
+flow_comes : (rows : Rows) (c : Command) (ch : ℕ) (u : Table) (f : FlowRow) → refusal_of rows c ≡ None → table_of (accepted rows c).rows ch ≡ Some u → Has u.flows f → IsFlowOf rows (lease_at ch f) f.kind ⊎ Adds rows c (lease_at ch f) f.kind
+flow_comes rows commands.Noop ch u f ok e h = inl (same_flow rows ch u f e h)
 flow_comes rows (commands.Channel c) ch u f ok e h = elim (find_pushed rows ch (new_table c) u e) [
-  | inl old ↦ inl (same_flow rows ch u f f.sid f.kind old h refl refl)
+  | inl old ↦ inl (same_flow rows ch u f old h)
   | inr new ↦ absurd (subst (λ (v : Table). Has v.flows f) (sym new) h)
 ]
 flow_comes rows (commands.Flow at modem tag last kind) ch u f ok e h =
     changed_table _ rows ch at (λ t. flow_in_table t modem tag last kind) u (λ t. flow_keeps_id (lease_of t modem tag) t modem tag last kind) e
-    (λ t found same. inl (same_flow rows ch t f f.sid f.kind found (subst (λ (v : Table). Has v.flows f) same h) refl refl))
-    (λ t found here is. subst (λ n. IsFlowOf rows ch f.sid f.kind ⊎ Adds rows (commands.Flow n modem tag last kind) ch f.sid f.kind) (sym here)
+    (λ t found same. inl (same_flow rows ch t f found (subst (λ (v : Table). Has v.flows f) same h)))
+    (λ t found here is. subst (λ n. IsFlowOf rows (lease_at ch f) f.kind ⊎ Adds rows (commands.Flow n modem tag last kind) (lease_at ch f) f.kind) (sym here)
     (flow_added (lease_of t modem tag) rows t ch modem tag last kind f found refl (refusal_there rows at t (λ v. table_flow_refusal v modem tag last kind) (subst (λ n. table_of rows n ≡ Some t) (sym here) found) ok)
     (subst (λ (v : Table). Has v.flows f) is h)))
 flow_comes rows (commands.Drop at sid) ch u f ok e h =
     changed_table _ rows ch at (λ t. drop_in_table t sid) u (λ t. refl) e
-    (λ t found same. inl (same_flow rows ch t f f.sid f.kind found (subst (λ (v : Table). Has v.flows f) same h) refl refl))
-    (λ t found here is. inl (same_flow rows ch t f f.sid f.kind found (has_filter (λ g. not (is_flow sid g)) t.flows f (subst (λ (v : Table). Has v.flows f) is h)).0 refl refl))
+    (λ t found same. inl (same_flow rows ch t f found (subst (λ (v : Table). Has v.flows f) same h)))
+    (λ t found here is. inl (same_flow rows ch t f found (has_filter (λ g. not (is_flow sid g)) t.flows f (subst (λ (v : Table). Has v.flows f) is h)).0))
 flow_comes rows (commands.Request at sid n sent) ch u f ok e h =
     changed_table _ rows ch at (λ t. request_in_table t sid n sent) u (λ t. refl) e
-    (λ t found same. inl (same_flow rows ch t f f.sid f.kind found (subst (λ (v : Table). Has v.flows f) same h) refl refl))
+    (λ t found same. inl (same_flow rows ch t f found (subst (λ (v : Table). Has v.flows f) same h)))
     (λ t found here is.
     let m = has_map (asked sid sent) t.flows f (subst (λ (v : Table). Has v.flows f) is h) in
-    let kept = asked_same_kind sid sent m.0 in
-    inl (same_flow rows ch t m.0 f.sid f.kind found m.1 (sym kept.0 ∙ ap (λ (g : FlowRow). g.sid) m.2) (sym kept.1 ∙ ap (λ (g : FlowRow). g.kind) m.2)))
+    let like : IsLike m.0 f = subst (IsLike m.0) m.2 (asked_like sid sent m.0) in
+    inl (like_flow rows ch t m.0 f found m.1 like.sid like.first like.last like.kind))
 flow_comes rows (commands.Cut at len not_before ack) ch u f ok e h = by (table_of rows at) refl e
   where
-    by : (o : Option Table) → table_of rows at ≡ o → table_of (cut_on o rows at len not_before ack).rows ch ≡ Some u → IsFlowOf rows ch f.sid f.kind ⊎ Adds rows (commands.Cut at len not_before ack) ch f.sid f.kind
-    by None none g = inl (same_flow rows ch u f f.sid f.kind g h refl refl)
+    by : (o : Option Table) → table_of rows at ≡ o → table_of (cut_on o rows at len not_before ack).rows ch ≡ Some u → IsFlowOf rows (lease_at ch f) f.kind ⊎ Adds rows (commands.Cut at len not_before ack) (lease_at ch f) f.kind
+    by None none g = inl (same_flow rows ch u f g h)
     by (Some s) found_s g =
         changed_table _ rows ch at (λ v. table_after v (fill s len not_before ack)) u (λ v. refl) g
-        (λ t found same. inl (same_flow rows ch t f f.sid f.kind found (subst (λ (v : Table). Has v.flows f) same h) refl refl))
+        (λ t found same. inl (same_flow rows ch t f found (subst (λ (v : Table). Has v.flows f) same h)))
         (λ t found here is.
         let span = span_of s.row len not_before in
         let fits = (is_cut s len not_before ack (refusal_there rows at s (λ v. fill_refusal v.row len not_before ack) found_s ok)).end in
-        let m = flow_from s (fill s len not_before ack).flows f (fill_moves s span (ack_of s.row ack span.start) fits) (subst (λ (v : Table). Has v.flows f) is h) in
-        inl (same_flow rows ch s m.0 f.sid f.kind (subst (λ n. table_of rows n ≡ Some s) here found_s) m.1 (sym m.2.sid) (sym m.2.kind)))
+        let m = flow_from s span (ack_of s.row ack span.start) f fits (subst (λ (v : Table). Has v.flows f) is h) in
+        inl (like_flow rows ch s m.0 f (subst (λ n. table_of rows n ≡ Some s) here found_s) m.1 m.2.sid m.2.first m.2.last m.2.kind))
 
 -- ---- over a list of commands
 
--- the command of this number adds the flow, and no SID is this one before
-pub record AddedLater (rows : Rows) (cs : List Command) (ch sid : ℕ) (kind : FlowKind) : Type 0 where
+-- the command of this number adds the flow under its lease, which isn't told before
+pub record AddedLater (rows : Rows) (cs : List Command) (lease : LeasedSid) (kind : FlowKind) : Type 0 where
   pub place : ℕ
   pub modem : ℕ
   pub tag : ℕ
-  pub asked : slice_get cs place ≡ Some (commands.Flow ch modem tag last kind)
-  pub added : slice_get (outputs_from rows cs) place ≡ Some (outputs.Assigned modem ch sid 0 last_time)
-  pub first : (j other since until : ℕ) → j < place → ¬ (slice_get (outputs_from rows cs) j ≡ Some (outputs.Assigned other ch sid since until))
-  pub fresh : At (IsFresh sid) rows ch
+  pub asked : slice_get cs place ≡ Some (commands.Flow lease.channel modem tag lease.last kind)
+  pub added : slice_get (outputs_from rows cs) place ≡ Some (outputs.Assigned modem lease.channel lease.sid lease.first lease.last)
+  pub new : (j other : ℕ) → j < place → ¬ (slice_get (outputs_from rows cs) j ≡ Some (outputs.Assigned other lease.channel lease.sid lease.first lease.last))
+  pub fresh : (m : ℕ) → IsTold rows lease.channel lease.sid m lease.first lease.last → ⊥
 
--- a SID that is given isn't fresh
-not_fresh : (rows : Rows) (ch sid modem : ℕ) → IsOwned rows ch sid modem → At (IsFresh sid) rows ch → ⊥
-not_fresh rows ch sid modem o fresh =
-    let found = found_has (has sid) o.table.assigned o.leads.assignment o.leads.found in
-    let on = has_any (has sid) o.table.assigned o.leads.assignment found.0 found.1 in
-    let off : list_any (has sid) o.table.assigned ≡ false = fresh o.table o.found in
-    cc
-
--- what is fresh after a step was fresh before it
-fresh_before : (rows : Rows) (c : Command) (ch sid : ℕ) → AllLeadBack rows → At (IsFresh sid) (step rows c).rows ch → At (IsFresh sid) rows ch
-fresh_before rows c ch sid good fresh t found = by (list_any (has sid) t.assigned) refl
-  where
-    by : (b : Bool) → list_any (has sid) t.assigned ≡ b → list_any (has sid) t.assigned ≡ false
-    by false e = e
-    by true e =
-        let any = any_has (has sid) t.assigned e in
-        let a = has_found (has sid) t.assigned any.0 any.1 any.2 in
-        let owned : IsOwned rows ch sid a.0.modem = record { table = t; found = found; leads = record { assignment = a.0; found = a.1; modem_is = refl } } in
-        absurd (not_fresh (step rows c).rows ch sid a.0.modem ((step_keeps rows c good).owned ch sid a.0.modem owned) fresh)
-
-added_back : (rows : Rows) (c : Command) (cs : List Command) (ch sid : ℕ) (kind : FlowKind) → AllLeadBack rows → AddedLater (step rows c).rows cs ch sid kind → AddedLater rows (c ∷ cs) ch sid kind
-added_back rows c cs ch sid kind good a = record {
+added_back : (rows : Rows) (c : Command) (cs : List Command) (lease : LeasedSid) (kind : FlowKind) → AllLeadBack rows → AddedLater (step rows c).rows cs lease kind → AddedLater rows (c ∷ cs) lease kind
+added_back rows c cs lease kind good a = record {
   place = suc a.place;
   modem = a.modem;
   tag = a.tag;
   asked = a.asked;
   added = a.added;
-  first = λ j other since until lt e. by j other since until lt e;
-  fresh = fresh_before rows c ch sid good a.fresh;
+  new = λ j other lt e. by j other lt e;
+  fresh = λ m told. a.fresh m ((step_keeps rows c good).told lease.channel lease.sid m lease.first lease.last told);
 }
   where
-    by : (j other since until : ℕ) → j < suc a.place → slice_get (outputs_from rows (c ∷ cs)) j ≡ Some (outputs.Assigned other ch sid since until) → ⊥
-    by zero other since until lt e = not_fresh (step rows c).rows ch sid other (step_gives rows c other ch sid since until good (output_is _ _ e)) a.fresh
-    by (suc j) other since until lt e = a.first j other since until (omega arith) e
+    by : (j other : ℕ) → j < suc a.place → slice_get (outputs_from rows (c ∷ cs)) j ≡ Some (outputs.Assigned other lease.channel lease.sid lease.first lease.last) → ⊥
+    by zero other lt e = a.fresh other (now_told _ lease.channel lease.sid other lease.first lease.last (step_gives rows c other lease.channel lease.sid lease.first lease.last good (output_is _ _ e)))
+    by (suc j) other lt e = a.new j other (omega arith) e
 
 -- a flow after a step was there before, or the step adds it
-flow_step : (rows : Rows) (c : Command) (cs : List Command) (ch sid : ℕ) (kind : FlowKind) → IsFlowOf (step rows c).rows ch sid kind → IsFlowOf rows ch sid kind ⊎ AddedLater rows (c ∷ cs) ch sid kind
-flow_step rows c cs ch sid kind f =
-    subst (λ (k : FlowKind). IsFlowOf rows ch sid k ⊎ AddedLater rows (c ∷ cs) ch sid k) f.kind_is
-    (subst (λ n. IsFlowOf rows ch n f.flow.kind ⊎ AddedLater rows (c ∷ cs) ch n f.flow.kind) f.sid_is (by (refusal_of rows c) refl f.found))
+flow_step : (rows : Rows) (c : Command) (cs : List Command) (lease : LeasedSid) (kind : FlowKind) → IsFlowOf (step rows c).rows lease kind → IsFlowOf rows lease kind ⊎ AddedLater rows (c ∷ cs) lease kind
+flow_step rows c cs lease kind f =
+    subst (λ (k : FlowKind). IsFlowOf rows lease k ⊎ AddedLater rows (c ∷ cs) lease k) f.kind_is
+    (subst (λ (l : LeasedSid). IsFlowOf rows l f.flow.kind ⊎ AddedLater rows (c ∷ cs) l f.flow.kind) f.lease_is (by (refusal_of rows c) refl f.found))
   where
-    by : (o : Option Refusal) → refusal_of rows c ≡ o → table_of (step_on o rows c).rows ch ≡ Some f.table → IsFlowOf rows ch f.flow.sid f.flow.kind ⊎ AddedLater rows (c ∷ cs) ch f.flow.sid f.flow.kind
-    by (Some r) e found = inl (same_flow rows ch f.table f.flow f.flow.sid f.flow.kind found f.there refl refl)
-    by None e found = elim (flow_comes rows c ch f.table f.flow e found f.there) [
+    by : (o : Option Refusal) → refusal_of rows c ≡ o → table_of (step_on o rows c).rows lease.channel ≡ Some f.table
+        → IsFlowOf rows (lease_at lease.channel f.flow) f.flow.kind ⊎ AddedLater rows (c ∷ cs) (lease_at lease.channel f.flow) f.flow.kind
+    by (Some r) e found = inl (same_flow rows lease.channel f.table f.flow found f.there)
+    by None e found = elim (flow_comes rows c lease.channel f.table f.flow e found f.there) [
       | inl old ↦ inl old
       | inr adds ↦ inr (record {
         place = 0;
@@ -325,38 +351,78 @@ flow_step rows c cs ch sid kind f =
         tag = adds.tag;
         asked = ap (λ (d : Command). Some d) adds.asked;
         added = ap (λ (o : Option Refusal). Some (step_on o rows c).output) e ∙ ap (λ (o : Output). Some o) adds.gives;
-        first = λ j other since until lt. absurd (omega arith);
+        new = λ j other lt. absurd (omega arith);
         fresh = adds.fresh;
       })
     ]
 
--- the flow of a grant at a due time is of the rows, or is added later
-pub record IsServed (rows : Rows) (cs : List Command) (g : Grant) (i : ℕ) : Type 0 where
+-- the flow of a grant is of the rows, or is added later
+pub record IsServed (rows : Rows) (cs : List Command) (g : Grant) : Type 0 where
   pub kind : FlowKind
-  pub served : IsServedAt kind g i
-  pub flow : IsFlowOf rows g.channel g.sid kind ⊎ AddedLater rows cs g.channel g.sid kind
+  pub lease : LeasedSid
+  pub within : IsWithin lease g
+  pub served : (i : ℕ) → g.cause ≡ Window i → IsServedAt kind g i
+  pub flow : IsFlowOf rows lease kind ⊎ AddedLater rows cs lease kind
 
-served_from : (rows : Rows) (cs : List Command) (g : Grant) (i : ℕ) → AllLeadBack rows → Has (grants_from rows cs) g → g.cause ≡ Window i → IsServed rows cs g i
-served_from rows [] g i good h cause = absurd h
-served_from rows (c ∷ cs) g i good h cause = elim (has_either (step_grants rows c) (grants_from (step rows c).rows cs) g h) [
-  | inl now ↦ let d = due_now rows c g i now cause in record { kind = d.kind; served = d.served; flow = inl d.flow }
+served_from : (rows : Rows) (cs : List Command) (g : Grant) → AllWell rows → AllLeadBack rows → Has (grants_from rows cs) g → IsServed rows cs g
+served_from rows [] g w good h = absurd h
+served_from rows (c ∷ cs) g w good h = elim (has_either (step_grants rows c) (grants_from (step rows c).rows cs) g h) [
+  | inl now ↦ let d = grant_now rows c g w now in record { kind = d.kind; lease = d.lease; within = d.within; served = d.served; flow = inl d.flow }
   | inr later ↦
-      let s = served_from (step rows c).rows cs g i (step_keeps rows c good).back later cause in
+      let s = served_from (step rows c).rows cs g (well_step rows c w) (step_keeps rows c good).back later in
       record {
         kind = s.kind;
+        lease = s.lease;
+        within = s.within;
         served = s.served;
         flow = elim s.flow [
-          | inl flow ↦ flow_step rows c cs g.channel g.sid s.kind flow
-          | inr added ↦ inr (added_back rows c cs g.channel g.sid s.kind good added)
+          | inl flow ↦ flow_step rows c cs s.lease s.kind flow
+          | inr added ↦ inr (added_back rows c cs s.lease s.kind good added)
         ];
       }
 ]
 
+-- a grant of a list of commands, and the command that added its flow
+pub record IsGranted (cs : List Command) (g : Grant) : Type 0 where
+  pub kind : FlowKind
+  pub lease : LeasedSid
+  pub within : IsWithin lease g
+  pub served : (i : ℕ) → g.cause ≡ Window i → IsServedAt kind g i
+  pub flow : AddedLater [] cs lease kind
+
+granted : (cs : List Command) (k : ℕ) (g : Grant) → slice_get (grants_of cs) k ≡ Some g → IsGranted cs g
+granted cs k g at =
+    let s = served_from [] cs g none_well (λ ch t e. absurd cc) (has_at (grants_from [] cs) k g at) in
+    record {
+      kind = s.kind;
+      lease = s.lease;
+      within = s.within;
+      served = s.served;
+      flow = elim s.flow [ inl flow ↦ absurd (let found = flow.found in cc) | inr a ↦ a ];
+    }
+
 -- what isn't granted to a request is granted at a due time
 pub other_grants_are_due : OtherGrantsAreDue
 other_grants_are_due cs k i g at cause =
-    let s = served_from [] cs g i (λ ch t e. absurd cc) (has_at (grants_from [] cs) k g at) cause in
-    elim s.flow [
-      | inl flow ↦ absurd (let found = flow.found in cc)
-      | inr a ↦ record { place = a.place; kind = s.kind; added = record { modem = a.modem; tag = a.tag; asked = a.asked; added = (0, last_time, a.added); first = λ j other lt given. a.first j other given.0 given.1 lt given.2 }; served = s.served }
-    ]
+    let s = granted cs k g at in
+    let a = s.flow in
+    record {
+      place = a.place;
+      lease = s.lease;
+      kind = s.kind;
+      added = record { modem = a.modem; tag = a.tag; asked = a.asked; added = a.added; new = a.new };
+      within = s.within;
+      served = s.served i cause;
+    }
+
+at_contains : (xs : List Output) (k : ℕ) (x : Output) → slice_get xs k ≡ Some x → Contains xs x
+at_contains [] k x e = absurd cc
+at_contains (y ∷ ys) zero x e = (0, omega arith, cc)
+at_contains (y ∷ ys) (suc k) x e = let c = at_contains ys k x e in (suc c.0, omega (arith, c.1), c.2)
+
+-- each grant lies within a lease that was told
+pub grants_are_leased : GrantsAreLeased
+grants_are_leased cs k g at =
+    let s = granted cs k g at in
+    let a = s.flow in
+    (s.lease, a.modem, s.within, at_contains (outputs_of cs) a.place (outputs.Assigned a.modem s.lease.channel s.lease.sid s.lease.first s.lease.last) a.added)
