@@ -1,7 +1,8 @@
 pub mod Keyed
-pub mod Assigned
+pub mod Freed
 pub mod Soundness
 pub mod DueTimes
+pub mod Places
 pub mod Timed
 pub mod Stored
 pub mod Requests

@@ -1,13 +1,16 @@
 -- Each change keeps what holds of every table.
-use Rattle.std.proofs.Common.{◌≡◌, ℕ, ◌+◌, ◌<◌, ◌≤◌, Bool, true, false, cond, not, suc, zero, List, [], ◌∷◌, ◌++◌, map, filter, length, refl, sym, ap, subst, ◌∙◌, Some, nat_le, arith, add-one, length-append}
-use Rattle.std.specs.List.{AllByRecursion, range_with_len}
-use Rattle.std.proofs.lemmas.Bool.{le-leb}
+use Rattle.std.proofs.Common.{◌≡◌, ℕ, ◌+◌, ◌<◌, ◌≤◌, Bool, true, false, cond, not, suc, zero, List, [], ◌∷◌, ◌++◌, map, filter, length, refl, sym, ap, subst, ◌∙◌, Some, eqb, leb, ltb, arith, length-append, inl, inr}
+use Rattle.std.specs.List.{AllByRecursion, find}
 use Rattle.flow_state.specs.declared.flow.FlowKind.{FlowKind}
 use Rattle.flow_state.specs.declared.flow.Waiting.{Waiting}
 use Rattle.flow_state.specs.Limits.{is_good_kind, last_sid, most_waiting}
-use Rattle.flow_state.specs.Rows.{Table, FlowRow, Assignment, is_flow, change_flow, is_of, without_request, insert_flow}
-use Rattle.flow_state.specs.Changes.{new_flow, add_to_table, drop_in_table, request_in_table}
-use Rattle.flow_state.specs.Sound.{Rise, IsSound}
+use Rattle.flow_state.specs.Rows.{Table, FlowRow, Lease, is_flow, change_flow, is_of, without_request, insert_flow, put_lease, free_sid, is_ended, has_ended}
+use Rattle.flow_state.specs.Changes.{new_flow, add_to_table, drop_in_table, request_in_table, close_table}
+use Rattle.flow_state.specs.Sound.{Rise, IsLeasedFlow, IsSound}
+use Rattle.flow_state.proofs.Assignments.{put_found, put_others}
+use Rattle.flow_state.proofs.Freed.{AreGiven, free_most, given_put, length_put, few_put}
+use Rattle.flow_state.proofs.Members.{Has, has_all, all_has, has_map, has_filter}
+use Rattle.flow_state.proofs.Wells.{has_inserted, free_range, free_apart, not_true, not_less}
 
 abbrev pub sids : List FlowRow → List ℕ
 sids fs = map (λ f. f.sid) fs
@@ -19,7 +22,7 @@ rise_below : (low mid : ℕ) (xs : List ℕ) (high : ℕ) → low ≤ mid → Ri
 rise_below low mid [] high l r = tt
 rise_below low mid (x ∷ xs) high l r = (omega arith, r.1, r.2)
 
-rise_filter : (p : FlowRow → Bool) (fs : List FlowRow) (low high : ℕ) → Rise low (sids fs) high → Rise low (sids (filter p fs)) high
+pub rise_filter : (p : FlowRow → Bool) (fs : List FlowRow) (low high : ℕ) → Rise low (sids fs) high → Rise low (sids (filter p fs)) high
 rise_filter p [] low high r = tt
 rise_filter p (f ∷ fs) low high r =
     elim (p f) as (λ b. Rise low (sids (cond b (f ∷ filter p fs) (filter p fs))) high) [
@@ -27,17 +30,9 @@ rise_filter p (f ∷ fs) low high r =
       | false ↦ rise_below low f.sid (sids (filter p fs)) high (omega arith) (rise_filter p fs f.sid high r.2)
     ]
 
-rise_more : (xs : List ℕ) (low high : ℕ) → low ≤ high → Rise low xs high → Rise low (xs ++ (high + 1) ∷ []) (high + 1)
-rise_more [] low high l r = (omega arith, omega arith, tt)
-rise_more (x ∷ xs) low high l r = (r.0, omega arith, rise_more xs x high r.1 r.2)
-
-good_filter : (p : FlowRow → Bool) (fs : List FlowRow) → AreGood fs → AreGood (filter p fs)
-good_filter p [] g = tt
-good_filter p (f ∷ fs) g = elim (p f) as (λ b. AreGood (cond b (f ∷ filter p fs) (filter p fs))) [ true ↦ (g.0, good_filter p fs g.1) | false ↦ good_filter p fs g.1 ]
-
-good_more : (fs : List FlowRow) (f : FlowRow) → AreGood fs → is_good_kind f.kind ≡ true → AreGood (fs ++ f ∷ [])
-good_more [] f g h = (h, tt)
-good_more (x ∷ fs) f g h = (g.0, good_more fs f g.1 h)
+rise_higher : (xs : List ℕ) (low high more : ℕ) → high ≤ more → Rise low xs high → Rise low xs more
+rise_higher [] low high more le r = tt
+rise_higher (x ∷ xs) low high more le r = (r.0, omega (arith, r.1), rise_higher xs x high more le r.2)
 
 filter_short : {X : Type 0} (p : X → Bool) (xs : List X) → length (filter p xs) ≤ length xs
 filter_short p [] = omega arith
@@ -45,30 +40,43 @@ filter_short p (x ∷ xs) =
     let rest : length (filter p xs) ≤ length xs = filter_short p xs in
     elim (p x) as (λ b. length (cond b (x ∷ filter p xs) (filter p xs)) ≤ length (x ∷ xs)) [ true ↦ omega arith | false ↦ omega arith ]
 
--- a flow whose SID is above all goes last
-low_kept : (n : ℕ) (fs : List FlowRow) (low high : ℕ) → Rise low (sids fs) high → high ≤ n → filter (λ g. nat_le g.sid n) fs ≡ fs
-low_kept n [] low high r l = refl
-low_kept n (f ∷ fs) low high r l = rw (le-leb f.sid n (omega arith)) (ap (λ (gs : List FlowRow). f ∷ gs) (low_kept n fs f.sid high r.2 l))
+-- ---- a flow in its place
 
-none_above : (n : ℕ) (fs : List FlowRow) (low high : ℕ) → Rise low (sids fs) high → high ≤ n → filter (λ g. not (nat_le g.sid n)) fs ≡ []
-none_above n [] low high r l = refl
-none_above n (f ∷ fs) low high r l = rw (le-leb f.sid n (omega arith)) (none_above n fs f.sid high r.2 l)
+module _ {X : Type 0} (key : X → ℕ) (n : ℕ) where
+  -- where all are above there is nothing up to it
+  pub none_below : (xs : List X) (low high : ℕ) → Rise low (map key xs) high → n ≤ low → filter (λ x. leb (key x) n) xs ≡ []
+  none_below [] low high r le = refl
+  none_below (x ∷ xs) low high r le =
+      let more : low < key x = r.0 in
+      ap (λ b. cond b (x ∷ filter (λ y. leb (key y) n) xs) (filter (λ y. leb (key y) n) xs)) (let off : leb (key x) n ≡ false = grind (arith, more, le) in off) ∙ none_below xs (key x) high r.2 (omega arith)
 
-pub insert_last : (f : FlowRow) (fs : List FlowRow) (low high : ℕ) → Rise low (sids fs) high → high ≤ f.sid → insert_flow f fs ≡ fs ++ f ∷ []
-insert_last f fs low high r l =
-    ap (λ (gs : List FlowRow). gs ++ f ∷ filter (λ g. not (nat_le g.sid f.sid)) fs) (low_kept f.sid fs low high r l)
-    ∙ ap (λ (gs : List FlowRow). fs ++ f ∷ gs) (none_above f.sid fs low high r l)
+  pub all_above : (xs : List X) (low high : ℕ) → Rise low (map key xs) high → n ≤ low → filter (λ x. not (leb (key x) n)) xs ≡ xs
+  all_above [] low high r le = refl
+  all_above (x ∷ xs) low high r le =
+      let more : low < key x = r.0 in
+      ap (λ b. cond (not b) (x ∷ filter (λ y. not (leb (key y) n)) xs) (filter (λ y. not (leb (key y) n)) xs)) (let off : leb (key x) n ≡ false = grind (arith, more, le) in off) ∙ ap (λ (ys : List X). x ∷ ys) (all_above xs (key x) high r.2 (omega arith))
 
-range_suc : (a n : ℕ) → range_with_len a (suc n) ≡ range_with_len a n ++ (a + n) ∷ []
-range_suc a zero = ap (λ k. k ∷ []) (omega arith)
-range_suc a (suc n) = ap (λ (r : List ℕ). a ∷ r) (range_suc (a + 1) n ∙ ap (λ k. range_with_len (a + 1) n ++ k ∷ []) (omega arith))
+-- before the first that is above it, and else behind the first
+pub insert_here : (f g : FlowRow) (fs : List FlowRow) (high : ℕ) → leb g.sid f.sid ≡ false → Rise g.sid (sids fs) high → insert_flow f (g ∷ fs) ≡ f ∷ g ∷ fs
+insert_here f g fs high off r =
+    let lt : f.sid < g.sid = grind (arith, off) in
+    ap (λ b. cond b (g ∷ filter (λ h. leb h.sid f.sid) fs) (filter (λ h. leb h.sid f.sid) fs) ++ f ∷ cond (not b) (g ∷ filter (λ h. not (leb h.sid f.sid)) fs) (filter (λ h. not (leb h.sid f.sid)) fs)) off
+    ∙ ap (λ (front : List FlowRow). front ++ f ∷ g ∷ filter (λ h. not (leb h.sid f.sid)) fs) (none_below (λ (h : FlowRow). h.sid) f.sid fs g.sid high r (omega arith))
+    ∙ ap (λ (back : List FlowRow). f ∷ g ∷ back) (all_above (λ (h : FlowRow). h.sid) f.sid fs g.sid high r (omega arith))
 
-range_more : (a n : ℕ) → range_with_len a (n + 1) ≡ range_with_len a n ++ (a + n) ∷ []
-range_more a n = rw add-one (range_suc a n)
+pub insert_later : (f g : FlowRow) (fs : List FlowRow) → leb g.sid f.sid ≡ true → insert_flow f (g ∷ fs) ≡ g ∷ insert_flow f fs
+insert_later f g fs on = ap (λ b. cond b (g ∷ filter (λ h. leb h.sid f.sid) fs) (filter (λ h. leb h.sid f.sid) fs) ++ f ∷ cond (not b) (g ∷ filter (λ h. not (leb h.sid f.sid)) fs) (filter (λ h. not (leb h.sid f.sid)) fs)) on
 
-map_more : {X : Type 0} (f : X → ℕ) (xs : List X) (x : X) → map f (xs ++ x ∷ []) ≡ map f xs ++ f x ∷ []
-map_more f [] x = refl
-map_more f (y ∷ xs) x = ap (λ (r : List ℕ). f y ∷ r) (map_more f xs x)
+rise_inserted : (f : FlowRow) (fs : List FlowRow) (low high : ℕ) → Rise low (sids fs) high → low < f.sid → f.sid ≤ high → ((g : FlowRow) → Has fs g → eqb f.sid g.sid ≡ false) → Rise low (sids (insert_flow f fs)) high
+rise_inserted f [] low high r more le apart = (more, le, tt)
+rise_inserted f (g ∷ fs) low high r more le apart = by (leb g.sid f.sid) refl (λ less. rise_inserted f fs g.sid high r.2 less le (λ h k. apart h (inr k)))
+  where
+    by : (b : Bool) → leb g.sid f.sid ≡ b → (g.sid < f.sid → Rise g.sid (sids (insert_flow f fs)) high) → Rise low (sids (insert_flow f (g ∷ fs))) high
+    by true e rest =
+        let off : eqb f.sid g.sid ≡ false = apart g (inl refl) in
+        rw (insert_later f g fs e) (r.0, r.1, rest (grind (arith, e, off)))
+    by false e rest =
+        rw (insert_here f g fs high e r.2) (more, le, ((let lt : f.sid < g.sid = grind (arith, e) in lt), r.1, r.2))
 
 sids_changed : (fs : List FlowRow) (sid : ℕ) (change : FlowRow → FlowRow) → ((f : FlowRow) → (change f).sid ≡ f.sid) → sids (map (λ f. cond (is_flow sid f) (change f) f) fs) ≡ sids fs
 sids_changed [] sid change same = refl
@@ -78,17 +86,29 @@ sids_changed (f ∷ fs) sid change same =
       | false ↦ ap (λ (r : List ℕ). f.sid ∷ r) (sids_changed fs sid change same)
     ]
 
-good_changed : (fs : List FlowRow) (sid : ℕ) (change : FlowRow → FlowRow) → ((f : FlowRow) → (change f).kind ≡ f.kind) → AreGood fs → AreGood (map (λ f. cond (is_flow sid f) (change f) f) fs)
-good_changed [] sid change same g = tt
-good_changed (f ∷ fs) sid change same g =
-    (elim (is_flow sid f) as (λ b. is_good_kind (cond b (change f) f).kind ≡ true) [ true ↦ ap is_good_kind (same f) ∙ g.0 | false ↦ g.0 ], good_changed fs sid change same g.1)
+-- what holds of each flow holds of each after a change that keeps it
+pub all_changed : (P Q : FlowRow → Type 0) (fs : List FlowRow) (sid : ℕ) (change : FlowRow → FlowRow) → ((f : FlowRow) → P f → Q f) → ((f : FlowRow) → P f → Q (change f)) → AllByRecursion P fs → AllByRecursion Q (map (λ f. cond (is_flow sid f) (change f) f) fs)
+all_changed P Q [] sid change same keeps all = tt
+all_changed P Q (f ∷ fs) sid change same keeps all =
+    (elim (is_flow sid f) as (λ b. Q (cond b (change f) f)) [ true ↦ keeps f all.0 | false ↦ same f all.0 ], all_changed P Q fs sid change same keeps all.1)
 
-pub sound_changed : (t : Table) (sid : ℕ) (change : FlowRow → FlowRow) → ((f : FlowRow) → (change f).sid ≡ f.sid) → ((f : FlowRow) → (change f).kind ≡ f.kind) → IsSound t → IsSound (change_flow t sid change)
-sound_changed t sid change same kind s = record {
+pub all_filter : {X : Type 0} (P Q : X → Type 0) (p : X → Bool) (xs : List X) → ((x : X) → p x ≡ true → P x → Q x) → AllByRecursion P xs → AllByRecursion Q (filter p xs)
+all_filter P Q p xs keeps all = all_has Q (filter p xs) (λ x h. let w = has_filter p xs x h in keeps x w.1 (has_all P xs x all w.0))
+
+all_inserted : (P Q : FlowRow → Type 0) (f : FlowRow) (fs : List FlowRow) → Q f → ((g : FlowRow) → Has fs g → P g → Q g) → AllByRecursion P fs → AllByRecursion Q (insert_flow f fs)
+all_inserted P Q f fs new keeps all = all_has Q (insert_flow f fs) (λ g h. elim (has_inserted f fs g h) [ inl old ↦ keeps g old (has_all P fs g all old) | inr is ↦ subst Q is new ])
+
+abbrev IsGoodFlow : FlowRow → Type 0
+IsGoodFlow f = is_good_kind f.kind ≡ true
+
+pub sound_changed : (t : Table) (sid : ℕ) (change : FlowRow → FlowRow) → ((f : FlowRow) → (change f).sid ≡ f.sid) → ((f : FlowRow) → (change f).kind ≡ f.kind)
+    → ((f : FlowRow) → IsLeasedFlow t f → IsLeasedFlow (change_flow t sid change) (change f)) → IsSound t → IsSound (change_flow t sid change)
+sound_changed t sid change same kind leased s = record {
   given = s.given;
   few = s.few;
-  rising = subst (λ (xs : List ℕ). Rise 0 xs (length t.assigned)) (sym (sids_changed t.flows sid change same)) s.rising;
-  kinds = good_changed t.flows sid change kind s.kinds;
+  rising = subst (λ (xs : List ℕ). Rise 0 xs (length t.leases)) (sym (sids_changed t.flows sid change same)) s.rising;
+  kinds = all_changed IsGoodFlow IsGoodFlow t.flows sid change (λ f g. g) (λ f g. ap is_good_kind (kind f) ∙ g) s.kinds;
+  leased = all_changed (IsLeasedFlow t) (IsLeasedFlow (change_flow t sid change)) t.flows sid change (λ f g. record { lease = g.lease; goes_on = g.goes_on }) leased s.leased;
   room = s.room;
 }
 
@@ -98,41 +118,69 @@ sound_without t sid s = record {
   few = s.few;
   rising = s.rising;
   kinds = s.kinds;
+  leased = all_has (IsLeasedFlow (without_request t sid)) t.flows (λ f h. let g = has_all (IsLeasedFlow t) t.flows f s.leased h in record { lease = g.lease; goes_on = g.goes_on });
   room = let short : length (filter (λ (w : Waiting). not (is_of sid w)) t.waiting) ≤ length t.waiting = filter_short _ t.waiting in let room : length t.waiting ≤ most_waiting = s.room in omega arith;
+}
+
+-- fewer requests wait
+pub sound_kept : (t : Table) (ws : List Waiting) → length ws ≤ length t.waiting → IsSound t → IsSound (record t { waiting = ws })
+sound_kept t ws fewer s = record {
+  given = s.given;
+  few = s.few;
+  rising = s.rising;
+  kinds = s.kinds;
+  leased = all_has (IsLeasedFlow (record t { waiting = ws })) t.flows (λ f h. let g = has_all (IsLeasedFlow t) t.flows f s.leased h in record { lease = g.lease; goes_on = g.goes_on });
+  room = let room : length t.waiting ≤ most_waiting = s.room in omega arith;
 }
 
 pub sound_dropped : (t : Table) (sid : ℕ) → IsSound t → IsSound (drop_in_table t sid)
 sound_dropped t sid s = record {
   given = s.given;
   few = s.few;
-  rising = rise_filter (λ f. not (is_flow sid f)) t.flows 0 (length t.assigned) s.rising;
-  kinds = good_filter (λ f. not (is_flow sid f)) t.flows s.kinds;
+  rising = rise_filter (λ f. not (is_flow sid f)) t.flows 0 (length t.leases) s.rising;
+  kinds = all_filter IsGoodFlow IsGoodFlow (λ f. not (is_flow sid f)) t.flows (λ f k g. g) s.kinds;
+  leased = all_filter (IsLeasedFlow t) (IsLeasedFlow (drop_in_table t sid)) (λ f. not (is_flow sid f)) t.flows (λ f k g. record { lease = g.lease; goes_on = g.goes_on }) s.leased;
   room = let short : length (filter (λ (w : Waiting). not (is_of sid w)) t.waiting) ≤ length t.waiting = filter_short _ t.waiting in let room : length t.waiting ≤ most_waiting = s.room in omega arith;
 }
 
 pub sound_requested : (t : Table) (sid n sent : ℕ) → IsSound t → length t.waiting < most_waiting → IsSound (request_in_table t sid n sent)
-sound_requested t sid n sent s less =
-    let changed : IsSound (change_flow t sid (λ f. record f { last_sent = Some sent })) = sound_changed t sid (λ f. record f { last_sent = Some sent }) (λ f. refl) (λ f. refl) s in
-    record {
-      given = changed.given;
-      few = changed.few;
-      rising = changed.rising;
-      kinds = changed.kinds;
-      room = rw (length-append t.waiting (record { sid = sid; n = n; sent = sent } ∷ [])) (omega arith);
-    }
+sound_requested t sid n sent s less = record {
+  given = s.given;
+  few = s.few;
+  rising = subst (λ (xs : List ℕ). Rise 0 xs (length t.leases)) (sym (sids_changed t.flows sid (λ f. record f { last_sent = Some sent }) (λ f. refl))) s.rising;
+  kinds = all_changed IsGoodFlow IsGoodFlow t.flows sid (λ f. record f { last_sent = Some sent }) (λ f g. g) (λ f g. g) s.kinds;
+  leased = all_changed (IsLeasedFlow t) (IsLeasedFlow (request_in_table t sid n sent)) t.flows sid (λ f. record f { last_sent = Some sent })
+      (λ f g. record { lease = g.lease; goes_on = g.goes_on }) (λ f g. record { lease = g.lease; goes_on = g.goes_on }) s.leased;
+  room = rw (length-append t.waiting (record { sid = sid; n = n; sent = sent } ∷ [])) (omega arith);
+}
 
-pub sound_added : (t : Table) (modem tag : ℕ) (kind : FlowKind) → IsSound t → is_good_kind kind ≡ true → length t.assigned < last_sid → IsSound (add_to_table t modem tag kind (length t.assigned + 1))
-sound_added t modem tag kind s good less =
-    let count : ℕ = length t.assigned in
-    let sid : ℕ = length t.assigned + 1 in
-    let last : Assignment = record { modem = modem; tag = tag; sid = length t.assigned + 1 } in
-    let more : length (t.assigned ++ last ∷ []) ≡ length t.assigned + 1 = length-append t.assigned (last ∷ []) in
-    let flows : insert_flow (new_flow (length t.assigned + 1) modem tag kind) t.flows ≡ t.flows ++ new_flow (length t.assigned + 1) modem tag kind ∷ [] = insert_last _ t.flows 0 (length t.assigned) s.rising (omega arith) in
+-- no flow has a SID that is free
+pub none_free : (t : Table) (sid : ℕ) → IsSound t → free_sid t ≡ Some sid → (f : FlowRow) → Has t.flows f → eqb sid f.sid ≡ false
+none_free t sid s free f h = free_apart t sid f free (has_all (IsLeasedFlow t) t.flows f s.leased h)
+
+pub sound_added : (t : Table) (l : Lease) (kind : FlowKind) → IsSound t → is_good_kind kind ≡ true → free_sid t ≡ Some l.sid → t.row.next_start ≤ l.last → IsSound (add_to_table t l kind)
+sound_added t l kind s good free goes_on =
+    let range = free_range t l.sid free in
+    let unicast : l.sid ≤ last_sid = omega (arith, range.1) in
+    let next : l.sid ≤ length t.leases + 1 = free_most t l.sid s.given s.few free in
+    let long = length_put l t.leases s.given range.0 next in
     record {
-      given = map_more (λ (a : Assignment). a.sid) t.assigned last ∙ ap (λ (xs : List ℕ). xs ++ (length t.assigned + 1) ∷ []) s.given
-          ∙ ap (λ k. range_with_len 1 (length t.assigned) ++ k ∷ []) (omega arith) ∙ sym (range_more 1 (length t.assigned)) ∙ ap (range_with_len 1) (sym more);
-      few = rw more (omega arith);
-      rising = rw (more, flows, map_more (λ (f : FlowRow). f.sid) t.flows (new_flow (length t.assigned + 1) modem tag kind)) (rise_more (sids t.flows) 0 (length t.assigned) (omega arith) s.rising);
-      kinds = rw flows (good_more t.flows (new_flow (length t.assigned + 1) modem tag kind) s.kinds good);
+      given = given_put l t.leases s.given range.0 next;
+      few = few_put l t.leases s.given range.0 next s.few unicast;
+      rising = rise_inserted (new_flow l kind) t.flows 0 (length (put_lease l t.leases)) (rise_higher (sids t.flows) 0 (length t.leases) (length (put_lease l t.leases)) long.0 s.rising) (omega (arith, range.0)) long.1 (none_free t l.sid s free);
+      kinds = all_inserted IsGoodFlow IsGoodFlow (new_flow l kind) t.flows good (λ f h g. g) s.kinds;
+      leased = all_inserted (IsLeasedFlow t) (IsLeasedFlow (add_to_table t l kind)) (new_flow l kind) t.flows
+          (record { lease = put_found l t.leases; goes_on = goes_on })
+          (λ f h g. record { lease = put_others l t.leases f.sid (free_apart t l.sid f free g) ∙ g.lease; goes_on = g.goes_on }) s.leased;
       room = s.room;
     }
+
+pub sound_closed : (t : Table) (end ack : ℕ) → IsSound t → IsSound (close_table t end ack)
+sound_closed t end ack s = record {
+  given = s.given;
+  few = s.few;
+  rising = rise_filter (λ f. not (is_ended end f)) t.flows 0 (length t.leases) s.rising;
+  kinds = all_filter IsGoodFlow IsGoodFlow (λ f. not (is_ended end f)) t.flows (λ f k g. g) s.kinds;
+  leased = all_filter (IsLeasedFlow t) (IsLeasedFlow (close_table t end ack)) (λ f. not (is_ended end f)) t.flows (λ f k g. record { lease = g.lease; goes_on = not_less f.last end (not_true (is_ended end f) k) }) s.leased;
+  room = let short : length (filter (λ (w : Waiting). not (has_ended t end w)) t.waiting) ≤ length t.waiting = filter_short _ t.waiting in let room : length t.waiting ≤ most_waiting = s.room in omega arith;
+}

@@ -1,8 +1,8 @@
 -- Stored flows and the rows that they mean.
-use Rattle.std.proofs.Common.{◌≡◌, ℕ, suc, zero, slice_get, ◌<◌, ◌≤◌, true, false, cond, not, List, [], ◌∷◌, ◌++◌, map, filter, Option, Some, None, refl, sym, ap, subst, ◌∙◌, nat_eq, eqb, arith}
+use Rattle.std.proofs.Common.{◌≡◌, ℕ, suc, zero, slice_get, ◌<◌, ◌≤◌, Bool, true, false, cond, not, leb, ltb, List, [], ◌∷◌, ◌++◌, map, filter, Option, Some, None, refl, sym, ap, subst, ◌∙◌, nat_eq, eqb, arith, inl, inr}
 use Rattle.std.specs.Prelude.{IfSome, IfNone}
 use Rattle.std.specs.List.{AllByRecursion, IsDistinct, find}
-use Rattle.std.specs.Option.{option_map}
+use Rattle.std.specs.Option.{option_map, option_map_or}
 use Rattle.std.specs.Map.{set_value, lookup, remove_entry, keys_of}
 use Rattle.std.proofs.lemmas.Bool.{eqb-true}
 use Rattle.std.proofs.lemmas.List.{map-append}
@@ -12,14 +12,15 @@ use Rattle.flow_state.specs.declared.flow.Waiting.{Waiting}
 use Rattle.flow_state.specs.declared.table.ChannelTable.TheInside.{Inside}
 use Rattle.flow_state.specs.declared.flow.FlowKind.{FlowKind}
 use Rattle.flow_state.specs.Limits.{is_good_kind, due_time}
-use Rattle.flow_state.specs.Rows.{Table, FlowRow, Assignment, is_flow, insert_flow, lent_flow}
+use Rattle.flow_state.specs.Rows.{Table, FlowRow, Lease, is_flow, is_ended, has_ended, insert_flow, lent_flow}
 use Rattle.flow_state.specs.Changes.{new_flow}
 use Rattle.flow_state.specs.Sound.{Rise, IsSound}
-use Rattle.flow_state.specs.StoredTable.{IsStoredFlow, IsStored}
+use Rattle.flow_state.specs.StoredTable.{IsStoredFlow, IsStored, is_ended_in}
 use Rattle.flow_state.specs.View.{flow_view, table_view}
 use Rattle.flow_state.proofs.Keyed.{AreKeyed, All-set_value, seen_found, seen_written, seen_absent, seen_removed}
-use Rattle.flow_state.proofs.Soundness.{sids, AreGood, insert_last}
+use Rattle.flow_state.proofs.Soundness.{sids, AreGood, all_filter}
 use Rattle.flow_state.proofs.DueTimes.{due_named, first_index}
+use Rattle.flow_state.proofs.Members.{Has}
 use Rattle.flow_state.proofs.Timed.{timed_sids}
 
 abbrev pub Flows : Type 0
@@ -38,7 +39,7 @@ stored_as b t flows unique timed is sound = record { flows = flows; unique = uni
 pub with_parts : (t : Table) (fs gs : List FlowRow) (vs ws : List Waiting) → fs ≡ gs → vs ≡ ws → record t { flows = fs; waiting = vs } ≡ record t { flows = gs; waiting = ws }
 with_parts t fs gs vs ws f w = cc
 
-pub same_table : (t : Table) (given other : List Assignment) (fs gs : List FlowRow) → given ≡ other → fs ≡ gs → record t { assigned = given; flows = fs } ≡ record t { assigned = other; flows = gs }
+pub same_table : (t : Table) (given other : List Lease) (fs gs : List FlowRow) → given ≡ other → fs ≡ gs → record t { leases = given; flows = fs } ≡ record t { leases = other; flows = gs }
 same_table t given other fs gs a f = cc
 
 keyed : (es : Flows) → AreStored es → AreKeyed flow_view (λ f. f.sid) es
@@ -95,34 +96,59 @@ lent_found (e ∷ es) sid all =
       | false ↦ lent_found es sid all.1
     ]
 
-apart_above : (a b : ℕ) → b < a → eqb a b ≡ false
-apart_above a b h = grind arith
+-- no flow stands under a SID that no row has
+pub none_found : (es : Flows) (sid : ℕ) → AreStored es → ((f : FlowRow) → Has (rows es) f → eqb sid f.sid ≡ false) → lookup (nat_eq sid) es ≡ None
+none_found [] sid all apart = refl
+none_found (e ∷ es) sid all apart =
+    ap (λ b. cond b (Some e.1) (lookup (nat_eq sid) es)) (ap (eqb sid) (sym all.0.key) ∙ apart (flow_view e.1) (inl refl)) ∙ none_found es sid all.1 (λ f h. apart f (inr h))
 
--- no flow stands under a SID above all
-pub none_found : (es : Flows) (sid low high : ℕ) → AreStored es → Rise low (sids (rows es)) high → high < sid → lookup (nat_eq sid) es ≡ None
-none_found [] sid low high all r h = refl
-none_found (e ∷ es) sid low high all r h =
-    let key : e.1.sid ≡ e.0 = all.0.key in
-    rw (apart_above sid e.0 (omega arith)) (none_found es sid e.1.sid high all.1 r.2 h)
+-- the rows of the entries that pass a test of their rows
+pub rows_filter : (p : ℕ × Flow → Bool) (q : FlowRow → Bool) (es : Flows) → ((e : ℕ × Flow) → IsStoredFlow e → p e ≡ q (flow_view e.1)) → AreStored es → rows (filter p es) ≡ filter q (rows es)
+rows_filter p q [] same all = refl
+rows_filter p q (e ∷ es) same all =
+    ap (λ b. rows (cond b (e ∷ filter p es) (filter p es))) (same e all.0)
+    ∙ elim (q (flow_view e.1)) as (λ b. rows (cond b (e ∷ filter p es) (filter p es)) ≡ cond b (flow_view e.1 ∷ filter q (rows es)) (filter q (rows es))) [
+      | true ↦ ap (λ (fs : List FlowRow). flow_view e.1 ∷ fs) (rows_filter p q es same all.1)
+      | false ↦ rows_filter p q es same all.1
+    ]
 
-pub stored_more : (es : Flows) (e : ℕ × Flow) → AreStored es → IsStoredFlow e → AreStored (es ++ e ∷ [])
-stored_more [] e all one = (one, tt)
-stored_more (x ∷ es) e all one = (all.0, stored_more es e all.1 one)
+-- an entry in its place by SID
+abbrev pub put_entry : ℕ → Flow → Flows → Flows
+put_entry sid f es = filter (λ e. leb e.0 sid) es ++ (sid, f) ∷ filter (λ e. not (leb e.0 sid)) es
+
+all_joined : (es : Flows) (e : ℕ × Flow) (fs : Flows) → AreStored es → IsStoredFlow e → AreStored fs → AreStored (es ++ e ∷ fs)
+all_joined [] e fs all one more = (one, more)
+all_joined (x ∷ es) e fs all one more = (all.0, all_joined es e fs all.1 one more)
+
+pub stored_put : (sid : ℕ) (f : Flow) (es : Flows) → AreStored es → IsStoredFlow (sid, f) → AreStored (put_entry sid f es)
+stored_put sid f es all one =
+    all_joined (filter (λ e. leb e.0 sid) es) (sid, f) (filter (λ e. not (leb e.0 sid)) es)
+    (all_filter IsStoredFlow IsStoredFlow (λ e. leb e.0 sid) es (λ e k s. s) all) one (all_filter IsStoredFlow IsStoredFlow (λ e. not (leb e.0 sid)) es (λ e k s. s) all)
 
 -- a flow as it is added
-abbrev pub as_added : ℕ → ℕ → ℕ → FlowKind → Flow
-as_added sid modem tag kind = record { sid = sid; modem = modem; tag = tag; kind = kind; due = due_time kind 0; last_sent = None }
+abbrev pub as_added : Lease → FlowKind → Flow
+as_added l kind = record { sid = l.sid; modem = l.modem; tag = l.tag; first = l.first; last = l.last; kind = kind; due = due_time kind 0; last_sent = None }
 
-pub stored_added : (sid modem tag : ℕ) (kind : FlowKind) → is_good_kind kind ≡ true → IsStoredFlow (sid, as_added sid modem tag kind)
-stored_added sid modem tag kind good = record { key = refl; due = due_named kind (due_time kind 0) good (0, refl) }
+pub stored_added : (l : Lease) (kind : FlowKind) → is_good_kind kind ≡ true → IsStoredFlow (l.sid, as_added l kind)
+stored_added l kind good = record { key = refl; due = due_named kind (due_time kind 0) good (0, refl) }
 
--- the rows after a flow is added under a SID above all
-pub rows_added : (es : Flows) (sid modem tag high : ℕ) (kind : FlowKind) → Rise 0 (sids (rows es)) high → high ≤ sid → is_good_kind kind ≡ true
-    → rows (es ++ (sid, as_added sid modem tag kind) ∷ []) ≡ insert_flow (new_flow sid modem tag kind) (rows es)
-rows_added es sid modem tag high kind rise above good =
-    map-append (λ (e : ℕ × Flow). flow_view e.1) es ((sid, as_added sid modem tag kind) ∷ [])
-    ∙ ap (λ i. rows es ++ record { sid = sid; modem = modem; tag = tag; kind = kind; index = i; last_sent = None } ∷ []) (first_index kind good)
-    ∙ sym (insert_last (new_flow sid modem tag kind) (rows es) 0 high rise above)
+-- the rows after a flow is added
+pub rows_added : (es : Flows) (l : Lease) (kind : FlowKind) → AreStored es → is_good_kind kind ≡ true → rows (put_entry l.sid (as_added l kind) es) ≡ insert_flow (new_flow l kind) (rows es)
+rows_added es l kind all good =
+    map-append (λ (e : ℕ × Flow). flow_view e.1) (filter (λ e. leb e.0 l.sid) es) ((l.sid, as_added l kind) ∷ filter (λ e. not (leb e.0 l.sid)) es)
+    ∙ ap (λ i. rows (filter (λ e. leb e.0 l.sid) es) ++ record { sid = l.sid; modem = l.modem; tag = l.tag; first = l.first; last = l.last; kind = kind; index = i; last_sent = None } ∷ rows (filter (λ e. not (leb e.0 l.sid)) es)) (first_index kind good)
+    ∙ ap (λ (front : List FlowRow). front ++ new_flow l kind ∷ rows (filter (λ e. not (leb e.0 l.sid)) es)) (rows_filter (λ e. leb e.0 l.sid) (λ f. leb f.sid l.sid) es (λ e s. ap (λ n. leb n l.sid) (sym s.key)) all)
+    ∙ ap (λ (back : List FlowRow). filter (λ f. leb f.sid l.sid) (rows es) ++ new_flow l kind ∷ back) (rows_filter (λ e. not (leb e.0 l.sid)) (λ f. not (leb f.sid l.sid)) es (λ e s. ap (λ n. not (leb n l.sid)) (sym s.key)) all)
+
+-- ---- flows whose leases ended
+
+-- what the entries tell of a SID is what the rows tell of its request
+pub ended_is : (es : Flows) (end sid : ℕ) → AreStored es → is_ended_in es end sid ≡ option_map_or (is_ended end) (find (is_flow sid) (rows es)) false
+ended_is es end sid all = by (lookup (nat_eq sid) es) ∙ ap (λ (o : Option FlowRow). option_map_or (is_ended end) o false) (sym (flow_found es sid all))
+  where
+    by : (o : Option Flow) → option_map_or (λ f. ltb f.last end) o false ≡ option_map_or (is_ended end) (option_map flow_view o) false
+    by (Some f) = refl
+    by None = refl
 
 -- flow number k is good, and its SID lies within the bounds
 pub good_at : (es : Flows) (k : ℕ) (e : ℕ × Flow) → AreGood (rows es) → slice_get es k ≡ Some e → is_good_kind e.1.kind ≡ true

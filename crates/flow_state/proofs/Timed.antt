@@ -1,16 +1,14 @@
 -- The flows for which something comes by itself, and their SIDs.
-use Rattle.std.proofs.Common.{◌≡◌, ℕ, ◌<◌, ◌≤◌, Bool, true, false, cond, not, List, [], ◌∷◌, ◌++◌, map, filter, slice_get, Option, Some, None, refl, sym, ap, ◌∙◌, eqb, arith, inl, inr}
+use Rattle.std.proofs.Common.{◌≡◌, ℕ, ◌<◌, ◌≤◌, Bool, true, false, cond, not, leb, List, [], ◌∷◌, ◌++◌, map, filter, slice_get, Option, Some, None, refl, sym, ap, ◌∙◌, eqb, arith, inl, inr}
 use Rattle.std.specs.List.{find}
 use Rattle.std.specs.Option.{option_map}
-use Rattle.std.proofs.lemmas.List.{map-append}
 use Rattle.std.proofs.lemmas.Option.{slice_get-map}
 use Rattle.flow_state.specs.Limits.{is_timed}
-use Rattle.flow_state.specs.Rows.{FlowRow, is_flow, timed, insert_flow}
+use Rattle.flow_state.specs.Rows.{FlowRow, is_flow, is_ended, timed, insert_flow}
 use Rattle.flow_state.specs.Sound.{Rise}
 use Rattle.flow_state.proofs.Assignments.{eqb_same}
-use Rattle.flow_state.proofs.Filters.{filter_append}
 use Rattle.flow_state.proofs.Members.{Has, has_at, has_filter}
-use Rattle.flow_state.proofs.Soundness.{sids, insert_last}
+use Rattle.flow_state.proofs.Soundness.{sids, insert_here, insert_later, none_below, all_above, rise_filter}
 
 abbrev pub timed_sids : List FlowRow → List ℕ
 timed_sids fs = map (λ f. f.sid) (timed fs)
@@ -47,15 +45,58 @@ timed_dropped (f ∷ fs) sid =
     ]
     ∙ elim (is_timed f.kind) as (λ b. cond b (cond (not (eqb f.sid sid)) (f.sid ∷ left) left) left ≡ filter (λ n. not (eqb n sid)) (map (λ (x : FlowRow). x.sid) (cond b (f ∷ timed fs) (timed fs)))) [ true ↦ refl | false ↦ refl ]
 
-timed_more : (fs : List FlowRow) (f : FlowRow) → timed_sids (fs ++ f ∷ []) ≡ timed_sids fs ++ cond (is_timed f.kind) (f.sid ∷ []) []
-timed_more fs f =
-    ap (λ (gs : List FlowRow). map (λ (x : FlowRow). x.sid) gs) (filter_append (λ (x : FlowRow). is_timed x.kind) fs (f ∷ []))
-    ∙ map-append (λ (x : FlowRow). x.sid) (timed fs) (timed (f ∷ []))
-    ∙ ap (λ (ns : List ℕ). timed_sids fs ++ ns) (elim (is_timed f.kind) as (λ b. map (λ (x : FlowRow). x.sid) (cond b (f ∷ []) []) ≡ cond b (f.sid ∷ []) []) [ true ↦ refl | false ↦ refl ])
+-- a SID in its place
+abbrev pub put_sid : ℕ → List ℕ → List ℕ
+put_sid sid ns = filter (λ n. leb n sid) ns ++ sid ∷ filter (λ n. not (leb n sid)) ns
 
--- a flow that is added above all
-pub timed_added : (fs : List FlowRow) (f : FlowRow) (high : ℕ) → Rise 0 (sids fs) high → high ≤ f.sid → timed_sids (insert_flow f fs) ≡ timed_sids fs ++ cond (is_timed f.kind) (f.sid ∷ []) []
-timed_added fs f high rise above = ap timed_sids (insert_last f fs 0 high rise above) ∙ timed_more fs f
+put_sid_above : (fs : List FlowRow) (sid low high : ℕ) → Rise low (sids fs) high → sid ≤ low → put_sid sid (sids fs) ≡ sid ∷ sids fs
+put_sid_above fs sid low high r le =
+    ap (λ (front : List ℕ). front ++ sid ∷ filter (λ n. not (leb n sid)) (sids fs)) (none_below (λ n. n) sid (sids fs) low high (mapped (sids fs) low high r) le)
+    ∙ ap (λ (back : List ℕ). sid ∷ back) (all_above (λ n. n) sid (sids fs) low high (mapped (sids fs) low high r) le)
+  where
+    mapped : (ns : List ℕ) (low high : ℕ) → Rise low ns high → Rise low (map (λ n. n) ns) high
+    mapped [] low high r = tt
+    mapped (n ∷ ns) low high r = (r.0, r.1, mapped ns n high r.2)
+
+-- a flow that is added
+pub timed_added : (fs : List FlowRow) (f : FlowRow) (low high : ℕ) → Rise low (sids fs) high → timed_sids (insert_flow f fs) ≡ cond (is_timed f.kind) (put_sid f.sid (timed_sids fs)) (timed_sids fs)
+timed_added [] f low high r = elim (is_timed f.kind) as (λ b. map (λ (x : FlowRow). x.sid) (cond b (f ∷ []) []) ≡ cond b (f.sid ∷ []) []) [ true ↦ refl | false ↦ refl ]
+timed_added (g ∷ fs) f low high r = by (leb g.sid f.sid) refl (timed_added fs f g.sid high r.2)
+  where
+    -- behind a first one
+    later : (is here : Bool) → leb g.sid f.sid ≡ true → timed_sids (insert_flow f fs) ≡ cond is (put_sid f.sid (timed_sids fs)) (timed_sids fs)
+        → map (λ (x : FlowRow). x.sid) (cond here (g ∷ timed (insert_flow f fs)) (timed (insert_flow f fs))) ≡ cond is (put_sid f.sid (map (λ (x : FlowRow). x.sid) (cond here (g ∷ timed fs) (timed fs)))) (map (λ (x : FlowRow). x.sid) (cond here (g ∷ timed fs) (timed fs)))
+    later true true e rest =
+        ap (λ (ns : List ℕ). g.sid ∷ ns) rest
+        ∙ ap (λ b. cond b (g.sid ∷ filter (λ n. leb n f.sid) (timed_sids fs)) (filter (λ n. leb n f.sid) (timed_sids fs)) ++ f.sid ∷ cond (not b) (g.sid ∷ filter (λ n. not (leb n f.sid)) (timed_sids fs)) (filter (λ n. not (leb n f.sid)) (timed_sids fs))) (sym e)
+    later false true e rest = ap (λ (ns : List ℕ). g.sid ∷ ns) rest
+    later true false e rest = rest
+    later false false e rest = rest
+
+    -- before all
+    first : leb g.sid f.sid ≡ false → (is : Bool) → map (λ (x : FlowRow). x.sid) (cond is (f ∷ timed (g ∷ fs)) (timed (g ∷ fs))) ≡ cond is (put_sid f.sid (timed_sids (g ∷ fs))) (timed_sids (g ∷ fs))
+    first e false = refl
+    first e true =
+        let lt : f.sid < g.sid = grind (arith, e) in
+        sym (put_sid_above (timed (g ∷ fs)) f.sid f.sid high (rise_filter (λ (x : FlowRow). is_timed x.kind) (g ∷ fs) f.sid high (lt, r.1, r.2)) (omega arith))
+
+    by : (b : Bool) → leb g.sid f.sid ≡ b → timed_sids (insert_flow f fs) ≡ cond (is_timed f.kind) (put_sid f.sid (timed_sids fs)) (timed_sids fs) → timed_sids (insert_flow f (g ∷ fs)) ≡ cond (is_timed f.kind) (put_sid f.sid (timed_sids (g ∷ fs))) (timed_sids (g ∷ fs))
+    by true e rest = ap timed_sids (insert_later f g fs e) ∙ later (is_timed f.kind) (is_timed g.kind) e rest
+    by false e rest = ap timed_sids (insert_here f g fs high e r.2) ∙ first e (is_timed f.kind)
+
+-- the flows whose leases ended, where what is told of their SIDs tells it
+pub timed_ended : (fs : List FlowRow) (end : ℕ) (ended : ℕ → Bool) → ((f : FlowRow) → Has fs f → ended f.sid ≡ is_ended end f) → timed_sids (filter (λ f. not (is_ended end f)) fs) ≡ filter (λ n. not (ended n)) (timed_sids fs)
+timed_ended [] end ended tells = refl
+timed_ended (f ∷ fs) end ended tells =
+    let kept : List FlowRow = filter (λ g. not (is_ended end g)) fs in
+    let left : List ℕ = filter (λ n. not (ended n)) (timed_sids fs) in
+    let rest : timed_sids kept ≡ left = timed_ended fs end ended (λ g h. tells g (inr h)) in
+    elim (is_ended end f) as (λ c. timed_sids (cond (not c) (f ∷ kept) kept) ≡ cond (is_timed f.kind) (cond (not c) (f.sid ∷ left) left) left) [
+      | true ↦ elim (is_timed f.kind) as (λ b. timed_sids kept ≡ cond b left left) [ true ↦ rest | false ↦ rest ]
+      | false ↦ elim (is_timed f.kind) as (λ b. map (λ (x : FlowRow). x.sid) (cond b (f ∷ timed kept) (timed kept)) ≡ cond b (f.sid ∷ left) left) [ true ↦ ap (λ (ns : List ℕ). f.sid ∷ ns) rest | false ↦ rest ]
+    ]
+    ∙ ap (λ c. cond (is_timed f.kind) (cond (not c) (f.sid ∷ left) left) left) (sym (tells f (inl refl)))
+    ∙ elim (is_timed f.kind) as (λ b. cond b (cond (not (ended f.sid)) (f.sid ∷ left) left) left ≡ filter (λ n. not (ended n)) (map (λ (x : FlowRow). x.sid) (cond b (f ∷ timed fs) (timed fs)))) [ true ↦ refl | false ↦ refl ]
 
 rise_has : (fs : List FlowRow) (f : FlowRow) (low high : ℕ) → Rise low (sids fs) high → Has fs f → low < f.sid
 rise_has [] f low high r h = absurd h
@@ -66,7 +107,7 @@ apart_below : (a b : ℕ) → a < b → eqb a b ≡ false
 apart_below a b h = grind arith
 
 -- a flow is the one of its SID
-found_rising : (fs : List FlowRow) (f : FlowRow) (low high : ℕ) → Rise low (sids fs) high → Has fs f → find (is_flow f.sid) fs ≡ Some f
+pub found_rising : (fs : List FlowRow) (f : FlowRow) (low high : ℕ) → Rise low (sids fs) high → Has fs f → find (is_flow f.sid) fs ≡ Some f
 found_rising [] f low high r h = absurd h
 found_rising (g ∷ fs) f low high r (inl e) =
     ap (λ b. cond b (Some g) (find (is_flow f.sid) fs)) (ap (λ (x : FlowRow). eqb x.sid f.sid) e ∙ eqb_same f.sid) ∙ ap (λ (x : FlowRow). Some x) e

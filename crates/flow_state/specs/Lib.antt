@@ -5,5 +5,6 @@ pub mod Changes
 pub mod View
 pub mod Sound
 pub mod StoredTable
+pub mod StoredLeases
 pub mod Entries
 pub mod Kept

@@ -1,6 +1,8 @@
 -- What is always true of a stored table.
-use Rattle.std.specs.Prelude.{◌≡◌, ℕ, nat_eq, map, Some}
+use Rattle.std.specs.Prelude.{◌≡◌, ℕ, nat_eq, nat_lt, Bool, false, List, map, Some}
 use Rattle.std.specs.List.{AllByRecursion}
+use Rattle.std.specs.Option.{option_map_or}
+use Rattle.std.specs.Map.{lookup}
 use Rattle.indexmap.specs.IndexMap.{IsUnique}
 use Rattle.flow_state.specs.declared.flow.Flow.{Flow}
 use Rattle.flow_state.specs.declared.table.ChannelTable.TheInside.{Inside}
@@ -27,3 +29,7 @@ with_sent f sent = record f { last_sent = Some sent }
 -- a stored flow that is due next at this time
 abbrev pub with_next_due : Flow → ℕ → Flow
 with_next_due f due = record f { due = due }
+
+-- a stored flow of this SID has a lease that ends before this time
+abbrev pub is_ended_in : List (ℕ × Flow) → (end sid : ℕ) → Bool
+is_ended_in es end sid = option_map_or (λ f. nat_lt f.last end) (lookup (nat_eq sid) es) false

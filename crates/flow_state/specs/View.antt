@@ -10,4 +10,4 @@ abbrev pub flow_view : Flow → FlowRow
 flow_view f = record { sid = f.sid; modem = f.modem; tag = f.tag; first = f.first; last = f.last; kind = f.kind; index = due_index f.kind f.due; last_sent = f.last_sent }
 
 abbrev pub table_view : Inside → Table
-table_view a = record { row = a.row; leases = a.leases.items; flows = map (λ e. flow_view e.1) a.flows.entries; waiting = a.waiting.items }
+table_view a = record { row = a.row; leases = a.leases; flows = map (λ e. flow_view e.1) a.flows.entries; waiting = a.waiting.items }

@@ -5,6 +5,7 @@ mod at_channel;
 mod channel;
 mod flow;
 mod flows;
+mod leases;
 mod limits;
 mod refusal;
 mod table;

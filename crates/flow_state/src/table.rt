@@ -1,19 +1,21 @@
-ghost use Rattle.std.specs.Prelude.{◌≡◌, ℕ, List, [], ◌∷◌, ◌++◌, ◌==◌, not, filter, if◌then◌else◌, vec_len, vec_capacity, is_some, slice_get, map, Some, None, IsOk, IsTrue, IsNone, IsSome, OnErr, IfOk, OnOk, IfErr, IfSome, IfNone, nat_eq, ◌<◌, ◌≤◌};
+ghost use Rattle.std.specs.Prelude.{◌≡◌, ℕ, List, [], ◌∷◌, ◌++◌, ◌==◌, not, filter, if◌then◌else◌, vec_len, vec_capacity, is_some, slice_get, map, Some, None, IsOk, IsTrue, IsNone, IsSome, OnErr, IfOk, OnOk, IfErr, IfSome, IfNone, nat_eq, nat_lt, nat_le, ◌<◌, ◌≤◌};
 ghost use Rattle.std.specs.Fn.{CalledAt};
 ghost use Rattle.std.specs.List.Retain.{IsFiltered};
+ghost use Rattle.std.specs.List.Sorted.{IsNonDecreasingBy};
 ghost use Rattle.std.specs.Map.{set_value};
 ghost use Rattle.std.specs.Option.{option_copied, option_map};
-ghost use Rattle.indexmap.specs.IndexMap.{get, IsUnique};
+ghost use Rattle.indexmap.specs.IndexMap.{get, spare, IsUnique};
 ghost use Rattle.flow_state.specs.Limits.{IsDueTime, is_good_kind, is_timed, last_sid, most_waiting};
 ghost use Rattle.flow_state.specs.Sound.{IsSound};
-ghost use Rattle.flow_state.specs.Rows.{FlowRow, lent_flow, timed, flow_of, waits, without_request, free_sid, first_of, lease_of, change_flow};
+ghost use Rattle.flow_state.specs.Rows.{FlowRow, lent_flow, timed, flow_of, waits, without_request, free_sid, lease_of};
 ghost use Rattle.flow_state.specs.Refusals.{Refuses, is_good_last, table_flow_refusal, table_drop_refusal, table_request_refusal, is_busy};
-ghost use Rattle.flow_state.specs.StoredTable.{with_sent, with_next_due};
-ghost use Rattle.flow_state.specs.Changes.{new_table, lease_for, new_lease, flow_in_table, add_to_table, drop_in_table, request_in_table, waiting_in_table, due_in_table, close_table};
+ghost use Rattle.flow_state.specs.StoredTable.{with_sent, with_next_due, is_ended_in};
+ghost use Rattle.flow_state.specs.Changes.{new_table, lease_for, flow_in_table, add_to_table, drop_in_table, request_in_table, waiting_in_table, due_in_table, close_table};
 
 use crate::channel::{Channel, ChannelRow};
 use crate::flow::{Flow, FlowKind, Lease, Waiting};
-use crate::limits::{LAST_SID, LAST_TIME, MOST_WAITING};
+use crate::leases::Leases;
+use crate::limits::{LAST_TIME, MOST_WAITING};
 use crate::refusal::Refusal;
 use indexmap::IndexMap;
 use std::alloc::{AllocError, Global};
@@ -24,7 +26,7 @@ use std::marker::Model;
 #[derive(Drop)]
 pub struct ChannelTable {
     row: ChannelRow,
-    leases: Vec<Lease>,
+    leases: Leases,
     flows: IndexMap<u16, Flow>,
     timed: Vec<u16>,
     waiting: Vec<Waiting>,
@@ -54,7 +56,7 @@ impl ChannelTable {
                 next_start: channel.base,
                 ack: 0,
             },
-            leases: Vec::new(alloc),
+            leases: Leases::new(alloc),
             flows: IndexMap::new(alloc),
             timed: Vec::new(alloc),
             waiting: Vec::new(alloc),
@@ -106,44 +108,18 @@ impl ChannelTable {
         self.waiting.get(k)
     }
 
-    /// The least SID that was never given or whose latest lease is over. None where all are leased.
-    fn free_sid(&self) -> Option<u16>
-        ensures { result ≡ free_sid self.now }
-    {
-        let next_start = self.row.next_start;
-        let place = match self.leases.iter().position(|lease| lease.last < next_start) {
-            Some(place) => place,
-            None => self.leases.len(),
-        };
-        if place < usize::from(LAST_SID) {
-            Some(place as u16 + 1)
-        } else {
-            None
-        }
-    }
-
-    /// The first minislot of a new lease of the SID.
-    fn first_of(&self, sid: u16) -> u64
-        ensures { result ≡ first_of self.now sid }
-    {
-        if usize::from(sid) <= self.leases.len() {
-            self.row.next_start
-        } else {
-            0
-        }
-    }
-
     /// Adds a flow under a lease of a free SID. Room is made everywhere before anything is written.
     fn insert_flow(&mut self, lease: Lease, kind: FlowKind) -> Result<(), AllocError>
         requires free { free_sid self.old ≡ Some lease.sid }
+        requires goes_on { self.old.row.next_start ≤ lease.last }
         requires good { IsTrue (is_good_kind kind) }
         ensures ok { OnOk result (self.new ≡ add_to_table self.old lease kind) }
         ensures err { OnErr result (self.new ≡ self.old) }
     {
         self.flows.reserve(1)?;
         self.timed.reserve(1)?;
-        self.leases.reserve(1)?;
-        self.flows.insert_sorted(lease.sid, Flow::new(lease, kind))?;
+        self.leases.put(lease)?;
+        put_flow(&mut self.flows, lease.sid, Flow::new(lease, kind));
         note_timed(&mut self.timed, lease.sid, kind);
         Ok(())
     }
@@ -168,19 +144,21 @@ impl ChannelTable {
         ensures known { IsSome (lease_of self.old modem tag) → IsOk result }
         ensures err { IfErr result (λ refusal. Refuses (table_flow_refusal self.old modem tag last kind) refusal × (self.new ≡ self.old)) }
     {
-        if let Some(lease) = self.lease_of(modem, tag) {
+        let start = self.row.next_start;
+        if let Some(lease) = self.leases.lease_of(modem, tag, start) {
             return Ok(lease);
         }
         if !(kind.is_good() && self.is_good_last(last)) {
             return Err(Refusal::BadValue);
         }
-        match self.free_sid() {
+        match self.leases.free_sid(start) {
             Some(sid) => {
+                let first = self.leases.first_of(sid, start);
                 let lease = Lease {
                     sid,
                     modem,
                     tag,
-                    first: self.first_of(sid),
+                    first,
                     last,
                 };
                 self.insert_flow(lease, kind)?;
@@ -188,17 +166,6 @@ impl ChannelTable {
             }
             None => Err(Refusal::SidsSpent),
         }
-    }
-
-    /// The lease of modem and tag that isn't over.
-    fn lease_of(&self, modem: u32, tag: u32) -> Option<Lease>
-        ensures { result ≡ lease_of self.now modem tag }
-    {
-        let next_start = self.row.next_start;
-        self.leases
-            .iter()
-            .find(|lease| lease.modem == modem && lease.tag == tag && lease.last >= next_start)
-            .copied()
     }
 
     /// Drops a flow and its waiting request. The flows above it move down by one place.
@@ -285,18 +252,37 @@ impl ChannelTable {
     pub(crate) fn close_cut(&mut self, end: u64, ack: u64)
         ensures { self.new ≡ close_table self.old end ack }
     {
+        forget_ended_requests(&mut self.waiting, &self.flows, end);
+        forget_ended_timed(&mut self.timed, &self.flows, end);
+        forget_ended(&mut self.flows, end);
         self.row.next_start = end;
         self.row.ack = ack;
     }
 }
 
-/// Notes the SID of an added flow, where it is a timed one. There is room for it.
+/// Puts a flow in its place by SID. No flow has the SID, and there is room for one.
+fn put_flow(flows: &mut IndexMap<u16, Flow>, sid: u16, flow: Flow)
+    requires room { 0 < spare flows.old }
+    requires new { get nat_eq flows.old sid ≡ None }
+    requires rising { IsNonDecreasingBy (λ e. e.0) flows.old.entries }
+    ensures put { flows.new.entries ≡ filter (λ e. nat_le e.0 sid) flows.old.entries ++ (sid, flow) ∷ filter (λ e. not (nat_le e.0 sid)) flows.old.entries }
+    ensures unique { IsUnique nat_eq flows.new }
+{
+    let place = flows.partition_point(|other, _| *other <= sid);
+    let put = flows.shift_insert(place, sid, flow);
+    prove!(put.is_ok());
+}
+
+/// Notes the SID of an added flow in its place, where it is a timed one. There is room for it.
 fn note_timed(timed: &mut Vec<u16>, sid: u16, kind: FlowKind)
-    requires { vec_len timed.old < vec_capacity timed.old }
-    ensures { timed.new.items ≡ timed.old.items ++ (if is_timed kind then sid ∷ [] else []) }
+    requires room { vec_len timed.old < vec_capacity timed.old }
+    requires rising { IsNonDecreasingBy (λ n. n) timed.old.items }
+    ensures { timed.new.items ≡ (if is_timed kind then filter (λ n. nat_le n sid) timed.old.items ++ sid ∷ filter (λ n. not (nat_le n sid)) timed.old.items else timed.old.items) }
 {
     if kind.is_timed() {
-        timed.push_reserved(sid);
+        let place = timed.partition_point(|other| *other <= sid);
+        let put = timed.insert(place, sid);
+        prove!(put.is_ok());
     }
 }
 
@@ -305,6 +291,46 @@ fn forget_timed(timed: &mut Vec<u16>, sid: u16)
     ensures { timed.new.items ≡ filter (λ n. not (n == sid)) timed.old.items }
 {
     timed.retain(|other| *other != sid);
+}
+
+/// Has the flow of this SID a lease that ends before this time?
+fn has_ended(flows: &IndexMap<u16, Flow>, sid: u16, end: u64) -> bool
+    ensures { result ≡ is_ended_in flows.now.entries end sid }
+{
+    match flows.get(&sid) {
+        Some(flow) => flow.last < end,
+        None => false,
+    }
+}
+
+/// Forgets the waiting requests of flows whose leases end before this time.
+fn forget_ended_requests(waiting: &mut Vec<Waiting>, flows: &IndexMap<u16, Flow>, end: u64)
+    ensures { waiting.new.items ≡ filter (λ w. not (is_ended_in flows.now.entries end w.sid)) waiting.old.items }
+{
+    waiting.retain(
+        |w: &Waiting| -> bool
+            ensures { result ≡ not (is_ended_in flows.entry.now.entries end w.now.sid) }
+        { !has_ended(flows, w.sid, end) },
+    );
+}
+
+/// Forgets the SIDs of flows whose leases end before this time.
+fn forget_ended_timed(timed: &mut Vec<u16>, flows: &IndexMap<u16, Flow>, end: u64)
+    ensures { timed.new.items ≡ filter (λ sid. not (is_ended_in flows.now.entries end sid)) timed.old.items }
+{
+    timed.retain(
+        |sid: &u16| -> bool
+            ensures { result ≡ not (is_ended_in flows.entry.now.entries end sid.now) }
+        { !has_ended(flows, *sid, end) },
+    );
+}
+
+/// Forgets the flows whose leases end before this time.
+fn forget_ended(flows: &mut IndexMap<u16, Flow>, end: u64)
+    ensures kept { flows.new.entries ≡ filter (λ e. nat_le end e.1.last) flows.old.entries }
+    ensures unique { IsUnique nat_eq flows.new }
+{
+    flows.retain(|_, flow| flow.last >= end);
 }
 
 /// Notes that a flow's last accepted request was sent at this time.

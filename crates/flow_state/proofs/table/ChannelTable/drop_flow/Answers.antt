@@ -20,7 +20,7 @@ refusal_is : (t u : Table) (o : Option Flow) (sid : ℕ) → t ≡ u → table_d
 refusal_is t u (Some f) sid same h = ap (λ (v : Table). table_drop_refusal v sid) (sym same) ∙ h
 refusal_is t u None sid same h = ap (λ (v : Table). table_drop_refusal v sid) (sym same) ∙ h
 
-dropped : (c : goal.After-retain) → table_view (record { row = c.self.inside.row; assigned = c.self.inside.assigned; flows = c.shift_remove.new.self; timed = c.forget_timed.new.timed; waiting = c.retain.new.self }) ≡ drop_in_table (table_view c.self.inside) c.args.sid
+dropped : (c : goal.After-retain) → table_view (record { row = c.self.inside.row; leases = c.self.inside.leases; flows = c.shift_remove.new.self; timed = c.forget_timed.new.timed; waiting = c.retain.new.self }) ≡ drop_in_table (table_view c.self.inside) c.args.sid
 dropped c =
     let kept : c.retain.new.self.items ≡ filter (λ w. not (is_of c.args.sid w)) c.self.inside.waiting.items = filter_same _ (λ w. not (is_of c.args.sid w)) _ (λ x b f k. search rules) _ _ c.retain.ensures.filtered in
     with_parts (table_view c.self.inside) _ _ _ _ (ap rows c.shift_remove.ensures.entries ∙ flow_removed c.self.inside.flows.entries c.args.sid c.self.invariant.flows c.self.invariant.unique) kept

@@ -13,8 +13,8 @@ returns-in-Some-clause-good c = good_at c.self.inside.flows.entries c.args.k _ c
 
 pub returns-in-Some-clause-unicast : goal.returns-in-Some-clause-unicast
 returns-in-Some-clause-unicast c =
-    let range = sid_at c.self.inside.flows.entries c.args.k _ 0 (length (table_view c.self.inside).assigned) c.self.invariant.sound.rising (sym c.in-Some.ensures.entry) in
-    let few : length (table_view c.self.inside).assigned ≤ last_sid = c.self.invariant.sound.few in
+    let range = sid_at c.self.inside.flows.entries c.args.k _ 0 (length (table_view c.self.inside).leases) c.self.invariant.sound.rising (sym c.in-Some.ensures.entry) in
+    let few : length (table_view c.self.inside).leases ≤ last_sid = c.self.invariant.sound.few in
     (omega (arith, range.0), omega (arith, range.1))
 
 pub returns-in-None-clause-row : goal.returns-in-None-clause-row

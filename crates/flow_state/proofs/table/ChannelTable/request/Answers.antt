@@ -11,7 +11,7 @@ use Rattle.flow_state.proofs.Stored.{stored_as, with_parts, stored_written, flow
 use Rattle.flow_state.proofs.Timed.{timed_changed}
 use Rattle.flow_state.proofs.table.ChannelTable.request.Goals as goal
 
-written : (c : goal.After-note_sent) → table_view (record { row = c.self.inside.row; assigned = c.self.inside.assigned; flows = c.note_sent.new.flows; timed = c.self.inside.timed; waiting = c.push.new.self }) ≡ request_in_table (table_view c.self.inside) c.args.sid c.args.n c.args.sent
+written : (c : goal.After-note_sent) → table_view (record { row = c.self.inside.row; leases = c.self.inside.leases; flows = c.note_sent.new.flows; timed = c.self.inside.timed; waiting = c.push.new.self }) ≡ request_in_table (table_view c.self.inside) c.args.sid c.args.n c.args.sent
 written c =
     with_parts (table_view c.self.inside) _ _ _ _
     (flow_written c.self.inside.flows.entries c.note_sent.new.flows.entries c.args.sid (λ f. with_sent f c.args.sent) (λ f. record f { last_sent = Some c.args.sent })

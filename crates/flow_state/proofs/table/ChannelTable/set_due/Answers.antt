@@ -16,7 +16,7 @@ is_some_map : (o : Option Flow) → is_some o ≡ is_some (option_map flow_view 
 is_some_map (Some f) = refl
 is_some_map None = refl
 
-written : (c : goal.After-note_due) → table_view (record { row = c.self.inside.row; assigned = c.self.inside.assigned; flows = c.note_due.new.flows; timed = c.self.inside.timed; waiting = c.self.inside.waiting }) ≡ due_in_table (table_view c.self.inside) c.args.sid c.args.due
+written : (c : goal.After-note_due) → table_view (record { row = c.self.inside.row; leases = c.self.inside.leases; flows = c.note_due.new.flows; timed = c.self.inside.timed; waiting = c.self.inside.waiting }) ≡ due_in_table (table_view c.self.inside) c.args.sid c.args.due
 written c =
     with_parts (table_view c.self.inside) _ _ _ _
     (flow_written c.self.inside.flows.entries c.note_due.new.flows.entries c.args.sid (λ f. with_next_due f c.args.due) (λ f. record f { index = due_index f.kind c.args.due })
@@ -36,7 +36,7 @@ invariant_of-self c =
     (c.note_due.ensures.unique c.self.invariant.unique)
     (c.self.invariant.timed_are ∙ sym (timed_changed (table_view c.self.inside).flows c.args.sid (λ f. record f { index = due_index f.kind c.args.due }) (λ f. refl) (λ f. refl)))
     (written c)
-    (sound_changed (table_view c.self.inside) c.args.sid (λ f. record f { index = due_index f.kind c.args.due }) (λ f. refl) (λ f. refl) c.self.invariant.sound)
+    (sound_changed (table_view c.self.inside) c.args.sid (λ f. record f { index = due_index f.kind c.args.due }) (λ f. refl) (λ f. refl) (λ f g. record { lease = g.lease; goes_on = g.goes_on }) c.self.invariant.sound)
 
 pub returns-clause-found : goal.returns-clause-found
 returns-clause-found c =

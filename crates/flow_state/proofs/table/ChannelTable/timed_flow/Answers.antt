@@ -14,7 +14,7 @@ returns-in-Some c =
     c.get-in-Some.ensures.value
     ∙ sym (lent_found c.self.inside.flows.entries c.in-Some.sid.now c.self.invariant.flows)
     ∙ ap (λ (o : Option FlowRow). option_map lent_flow o) (sym (flow_found c.self.inside.flows.entries c.in-Some.sid.now c.self.invariant.flows)
-    ∙ timed_found (table_view c.self.inside).flows c.args.k c.in-Some.sid.now (length (table_view c.self.inside).assigned) c.self.invariant.sound.rising at)
+    ∙ timed_found (table_view c.self.inside).flows c.args.k c.in-Some.sid.now (length (table_view c.self.inside).leases) c.self.invariant.sound.rising at)
     ∙ ap (λ (t : Table). option_map lent_flow (slice_get (timed t.flows) c.args.k)) c.self.view_is
 
 pub returns-in-None : goal.returns-in-None
