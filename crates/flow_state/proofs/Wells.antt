@@ -114,7 +114,7 @@ one_flow low (x ∷ fs) f g r (inr h) (inl e) same =
     let more = rising_has (x.sid + 1) fs f r.1 h in let here : x.sid ≡ g.sid = ap (λ (y : FlowRow). y.sid) e in absurd (omega arith)
 one_flow low (x ∷ fs) f g r (inr h) (inr k) same = one_flow (x.sid + 1) fs f g r.1 h k same
 
-rising_filter : (q : FlowRow → Bool) (low : ℕ) (fs : List FlowRow) → RisingFrom low fs → RisingFrom low (filter q fs)
+pub rising_filter : (q : FlowRow → Bool) (low : ℕ) (fs : List FlowRow) → RisingFrom low fs → RisingFrom low (filter q fs)
 rising_filter q low [] r = tt
 rising_filter q low (f ∷ fs) r =
     elim (q f) as (λ b. RisingFrom low (cond b (f ∷ filter q fs) (filter q fs))) [

@@ -1,5 +1,5 @@
 -- Each grant is told by the MAP that placed it, and a SID's minislots are in its grants.
-use Rattle.std.proofs.Common.{◌≡◌, ◌≢◌, ◌⊎◌, ℕ, zero, suc, ◌+◌, ◌-◌, ◌<◌, ◌≤◌, ◌^◌, true, List, [], ◌∷◌, ◌++◌, map, Some, None, refl, sym, ap, subst, ◌∙◌, arith, inl, inr, slice_get}
+use Rattle.std.proofs.Common.{◌≡◌, ◌≢◌, ◌⊎◌, ℕ, zero, suc, ◌+◌, ◌-◌, ◌<◌, ◌≤◌, ◌^◌, true, List, [], ◌∷◌, ◌++◌, map, Some, None, refl, sym, ap, subst, ◌∙◌, arith, inl, inr, Option, eqb, slice_get}
 use Rattle.std.specs.List.{AllByRecursion}
 use Rattle.map_body.specs.declared.element.Element.{Element}
 use Rattle.map_body.specs.declared.head.Head.{Head}
@@ -7,91 +7,141 @@ use Rattle.map_body.specs.Body.{Body}
 use Rattle.map_body.specs.Layout.{FitsHead, head_bytes, IsBody, IsWritten}
 use Rattle.map_body.specs.Cell.{IsCell}
 use Rattle.map_body.proofs.Callers.{one_body}
-use Rattle.flow_state.specs.Rows.{Rows, Table}
+use Rattle.std.proofs.lemmas.Bool.{eqb-true}
+use Rattle.flow_state.specs.declared.channel.Channel.{Channel}
+use Rattle.flow_state.specs.declared.flow.FlowKind.{FlowKind}
+use Rattle.flow_state.specs.declared.flow.Lease.{Lease}
+use Rattle.flow_state.specs.declared.refusal.Refusal.{Refusal}
+use Rattle.flow_state.specs.Rows.{Rows, Table, is_table, table_of, lease_of}
+use Rattle.flow_state.specs.Changes.{flow_among}
 use Rattle.grant_machine.specs.declared.command.Command.{Command}
+use Rattle.grant_machine.specs.declared.command.Command.TheVariants as commands
 use Rattle.grant_machine.specs.declared.output.Output.{Output}
 use Rattle.grant_machine.specs.declared.output.Output.TheVariants as outputs
 use Rattle.grant_machine_parts.specs.declared.placing.Placement.{Placement}
 use Rattle.grant_machine_parts.specs.Placing.{holds}
 use Rattle.grant_machine_parts.specs.Cutting.{Filled, fill, fill_refusal}
 use Rattle.grant_machine_parts.specs.Drawing.{placed_element, body_of, bytes_of}
-use Rattle.grant_machine.specs.Steps.{step, map_output}
+use Rattle.grant_machine.specs.Steps.{step, step_on, refusal_of, accepted, map_output}
 use Rattle.grant_machine.specs.Runs.{outputs_from, grants_from, Grant, grant_of, step_grants}
 use Rattle.grant_machine.specs.Fits.{FitsCommand}
 use Rattle.grant_machine_parts.specs.Filling.{IsUseFor}
-use Rattle.grant_machine.specs.Laws.{GrantsAreTold, CellsAreGranted}
-use Rattle.flow_state.proofs.Callers.{Has, has_at, place_of, has_left, has_right, has_either, has_map, map_has}
+use Rattle.grant_machine.specs.Laws.{IsSetAt, GrantsAreTold, CellsAreGranted}
+use Rattle.flow_state.proofs.Callers.{Has, has_at, place_of, has_left, has_right, has_either, has_map, map_has, is_found}
 use Rattle.grant_machine.proofs.Maps.{output_is}
 use Rattle.flow_state.proofs.Callers.{IsWell}
 use Rattle.grant_machine_parts.proofs.Callers.{it_holds, holds_from, holds_below, cell_of_placement, cell_tells}
 use Rattle.grant_machine_parts.proofs.Callers.{pending, cut_placed, cut_most, pending_plain, cut_written}
-use Rattle.grant_machine.proofs.Reached.{AllWell, none_well, well_step, AllFit, none_fit, fit_step}
+use Rattle.grant_machine.proofs.Reached.{Kept, At, at_step, AllWell, none_well, well_step, AllFit, none_fit, fit_step}
 use Rattle.grant_machine.proofs.Cuts.{cut_of_grant, cut_of_map}
 
--- ---- each grant is told
+-- ---- channels as they were set
 
--- the grant is told by a MAP among the outputs from these rows
-pub record IsToldFrom (rows : Rows) (cs : List Command) (g : Grant) : Type 0 where
-  pub place : ℕ
-  pub start : ℕ
-  pub len : ℕ
-  pub bytes : List ℕ
-  pub map : Body
-  pub told : slice_get (outputs_from rows cs) place ≡ Some (outputs.Map g.channel start len bytes)
-  pub body : IsWritten bytes map
-  pub begun : start ≤ g.start
-  pub ended : g.start + g.size ≤ start + len
-  pub iuc : ℕ
-  pub use_is : IsUseFor g.cause iuc
-  pub cell : (m : ℕ) → g.start ≤ m → m < g.start + g.size → IsCell map (m - start) (record { sid = g.sid; iuc = iuc; offset = g.start - start })
+module _ (IsSet : Channel → Type 0) where
+  -- what is known of each channel that is set is known of the table's
+  abbrev IsSetTable : Table → Type 0
+  IsSetTable t = IsSet t.row.channel
 
--- a MAP tells of its grants
-told_by : (rows : Rows) (cs : List Command) (ch len not_before ack : ℕ) (t : Table) (p : Placement) → IsWell t → t.row.channel.id < 2 ^ 8 → t.row.channel.ucd < 2 ^ 8 → fill_refusal t.row len not_before ack ≡ None
-    → Has (fill t len not_before ack).placements p → slice_get (outputs_from rows cs) 0 ≡ Some (map_output ch t (fill t len not_before ack)) → IsToldFrom rows cs (grant_of ch (fill t len not_before ack).span.start p)
-told_by rows cs ch len not_before ack t p w id ucd ok h out =
-    let f : Filled = fill t len not_before ack in
-    let a = cut_placed t len not_before ack w ok in
-    let within = (a.each p h).within in
-    record {
-      place = 0;
-      start = f.span.start;
-      len = len;
-      bytes = bytes_of t f;
-      map = body_of t f;
-      told = out;
-      body = cut_written t len not_before ack w ok id ucd;
-      begun = omega arith;
-      ended = omega arith;
-      iuc = p.iuc;
-      use_is = (a.each p h).use_is;
-      cell = λ m from below.
-          let offset : f.span.start + p.offset - f.span.start ≡ p.offset = omega arith in
-          subst (λ (x : ℕ). IsCell (body_of t f) (m - f.span.start) (record { sid = p.sid; iuc = p.iuc; offset = x })) (sym offset)
-          (cell_of_placement t f.span f.placements a len refl (cut_most t len not_before ack w ok) (pending t len not_before ack w ok) (pending_plain t len not_before ack w ok) (body_of t f) (m - f.span.start) p refl h
-          (it_holds (m - f.span.start) p (omega arith) (omega arith)));
-    }
+  set_kept : Kept IsSetTable
+  set_kept = record {
+    flow = λ t modem tag last kind ok s. by (lease_of t modem tag) t modem tag last kind s;
+    drop = λ t sid s. s;
+    request = λ t sid n sent ok s. s;
+    cut = λ t len not_before ack ok s. s;
+  }
+    where
+      by : (o : Option Lease) (t : Table) (modem tag last : ℕ) (kind : FlowKind) → IsSetTable t → IsSetTable (flow_among o t modem tag last kind)
+      by (Some a) t modem tag last kind s = s
+      by None t modem tag last kind s = s
 
-told_later : (rows : Rows) (c : Command) (cs : List Command) (g : Grant) → IsToldFrom (step rows c).rows cs g → IsToldFrom rows (c ∷ cs) g
-told_later rows c cs g t = record { place = suc t.place; start = t.start; len = t.len; bytes = t.bytes; map = t.map; told = t.told; body = t.body; begun = t.begun; ended = t.ended; iuc = t.iuc; use_is = t.use_is; cell = t.cell }
+  abbrev AllSet : Rows → Type 0
+  AllSet rows = (ch : ℕ) → At IsSetTable rows ch
 
-told_from : (rows : Rows) (cs : List Command) (g : Grant) → AllWell rows → AllFit rows → AllByRecursion FitsCommand cs → Has (grants_from rows cs) g → IsToldFrom rows cs g
-told_from rows [] g w fits all h = absurd h
-told_from rows (c ∷ cs) g w fits all h = elim (has_either (step_grants rows c) (grants_from (step rows c).rows cs) g h) [
-  | inl now ↦
-      let cut = cut_of_grant rows c g now in
-      let t : Table = cut.table in
-      let m = has_map (grant_of cut.channel (fill t cut.len cut.not_before cut.ack).span.start) (fill t cut.len cut.not_before cut.ack).placements g (subst (λ (gs : List Grant). Has gs g) cut.grants_are now) in
-      let good = fits cut.channel t cut.found in
-      subst (IsToldFrom rows (c ∷ cs)) m.2
-      (told_by rows (c ∷ cs) cut.channel cut.len cut.not_before cut.ack t m.0 (w cut.channel t cut.found) good.id good.ucd cut.ok m.1 (ap (λ (o : Output). Some o) cut.output_is))
-  | inr later ↦ told_later rows c cs g (told_from (step rows c).rows cs g (well_step rows c w) (fit_step rows c all.0 fits) all.1 later)
-]
+  -- each channel that a command sets from these rows on is known
+  abbrev SetBy : Rows → List Command → Type 0
+  SetBy rows cs = (k : ℕ) (n : Channel) → slice_get cs k ≡ Some (commands.Channel n) → slice_get (outputs_from rows cs) k ≡ Some (outputs.ChannelSet n.id n.ucd) → IsSet n
+
+  set_step : (rows : Rows) (c : Command) (cs : List Command) → SetBy rows (c ∷ cs) → AllSet rows → AllSet (step rows c).rows
+  set_step rows c cs new holds ch = by (refusal_of rows c) refl
+    where
+      set_now : (n : Channel) → refusal_of rows c ≡ None → c ≡ commands.Channel n → IsSet n
+      set_now n e is = new 0 n (ap (λ (d : Command). Some d) is) (ap (λ (o : Option Refusal). Some (step_on o rows c).output) e ∙ ap (λ (d : Command). Some (accepted rows d).output) is)
+
+      by : (o : Option Refusal) → refusal_of rows c ≡ o → At IsSetTable (step_on o rows c).rows ch
+      by (Some r) e = holds ch
+      by None e = subst (λ (o : Option Refusal). At IsSetTable (step_on o rows c).rows ch) e (at_step IsSetTable set_kept rows c ch (λ n is good. set_now n e is) (holds ch))
+
+  -- ---- each grant is told
+
+  -- the grant is told by a MAP among the outputs from these rows
+  pub record IsToldFrom (rows : Rows) (cs : List Command) (g : Grant) : Type 0 where
+    pub place : ℕ
+    pub start : ℕ
+    pub len : ℕ
+    pub bytes : List ℕ
+    pub map : Body
+    pub told : slice_get (outputs_from rows cs) place ≡ Some (outputs.Map g.channel start len bytes)
+    pub body : IsWritten bytes map
+    pub begun : start ≤ g.start
+    pub ended : g.start + g.size ≤ start + len
+    pub channel : Channel
+    pub set : IsSet channel
+    pub id : channel.id ≡ g.channel
+    pub iuc : ℕ
+    pub use_is : IsUseFor channel.phy g.cause iuc
+    pub cell : (m : ℕ) → g.start ≤ m → m < g.start + g.size → IsCell map (m - start) (record { sid = g.sid; iuc = iuc; offset = g.start - start })
+
+  -- a MAP tells of its grants
+  told_by : (rows : Rows) (cs : List Command) (ch len not_before ack : ℕ) (t : Table) (p : Placement) → IsWell t → t.row.channel.id < 2 ^ 8 → t.row.channel.ucd < 2 ^ 8 → fill_refusal t.row len not_before ack ≡ None
+      → IsSetTable t → t.row.channel.id ≡ ch
+      → Has (fill t len not_before ack).placements p → slice_get (outputs_from rows cs) 0 ≡ Some (map_output ch t (fill t len not_before ack)) → IsToldFrom rows cs (grant_of ch (fill t len not_before ack).span.start p)
+  told_by rows cs ch len not_before ack t p w id ucd ok set same h out =
+      let f : Filled = fill t len not_before ack in
+      let a = cut_placed t len not_before ack w ok in
+      let within = (a.each p h).within in
+      record {
+        place = 0;
+        start = f.span.start;
+        len = len;
+        bytes = bytes_of t f;
+        map = body_of t f;
+        told = out;
+        body = cut_written t len not_before ack w ok id ucd;
+        begun = omega arith;
+        ended = omega arith;
+        channel = t.row.channel;
+        set = set;
+        id = same;
+        iuc = p.iuc;
+        use_is = (a.each p h).use_is;
+        cell = λ m from below.
+            let offset : f.span.start + p.offset - f.span.start ≡ p.offset = omega arith in
+            subst (λ (x : ℕ). IsCell (body_of t f) (m - f.span.start) (record { sid = p.sid; iuc = p.iuc; offset = x })) (sym offset)
+            (cell_of_placement t f.span f.placements a len refl (cut_most t len not_before ack w ok) (pending t len not_before ack w ok) (pending_plain t len not_before ack w ok) (body_of t f) (m - f.span.start) p refl h
+            (it_holds (m - f.span.start) p (omega arith) (omega arith)));
+      }
+
+  told_later : (rows : Rows) (c : Command) (cs : List Command) (g : Grant) → IsToldFrom (step rows c).rows cs g → IsToldFrom rows (c ∷ cs) g
+  told_later rows c cs g t = record { place = suc t.place; start = t.start; len = t.len; bytes = t.bytes; map = t.map; told = t.told; body = t.body; begun = t.begun; ended = t.ended; channel = t.channel; set = t.set; id = t.id; iuc = t.iuc; use_is = t.use_is; cell = t.cell }
+
+  told_from : (rows : Rows) (cs : List Command) (g : Grant) → AllWell rows → AllFit rows → AllSet rows → SetBy rows cs → AllByRecursion FitsCommand cs → Has (grants_from rows cs) g → IsToldFrom rows cs g
+  told_from rows [] g w fits set new all h = absurd h
+  told_from rows (c ∷ cs) g w fits set new all h = elim (has_either (step_grants rows c) (grants_from (step rows c).rows cs) g h) [
+    | inl now ↦
+        let cut = cut_of_grant rows c g now in
+        let t : Table = cut.table in
+        let m = has_map (grant_of cut.channel (fill t cut.len cut.not_before cut.ack).span.start) (fill t cut.len cut.not_before cut.ack).placements g (subst (λ (gs : List Grant). Has gs g) cut.grants_are now) in
+        let good = fits cut.channel t cut.found in
+        subst (IsToldFrom rows (c ∷ cs)) m.2
+        (told_by rows (c ∷ cs) cut.channel cut.len cut.not_before cut.ack t m.0 (w cut.channel t cut.found) good.id good.ucd cut.ok (set cut.channel t cut.found) (eqb-true _ _ (is_found rows cut.channel t cut.found)) m.1 (ap (λ (o : Output). Some o) cut.output_is))
+    | inr later ↦ told_later rows c cs g (told_from (step rows c).rows cs g (well_step rows c w) (fit_step rows c all.0 fits) (set_step rows c cs new set) (λ k n. new (suc k) n) all.1 later)
+  ]
 
 -- each grant is told by the MAP that placed it
 pub grants_are_told : GrantsAreTold
 grants_are_told cs k g all at =
-    let t = told_from [] cs g none_well none_fit all (has_at (grants_from [] cs) k g at) in
-    record { place = t.place; start = t.start; len = t.len; bytes = t.bytes; map = t.map; told = t.told; body = t.body; begun = t.begun; ended = t.ended; iuc = t.iuc; use_is = t.use_is; cell = t.cell }
+    let t = told_from (λ n. (j : ℕ) × IsSetAt cs j n) [] cs g none_well none_fit (λ ch t e. absurd cc) (λ j n asked set. (j, record { asked = asked; set = set })) all (has_at (grants_from [] cs) k g at) in
+    record { place = t.place; start = t.start; len = t.len; bytes = t.bytes; map = t.map; told = t.told; body = t.body; begun = t.begun; ended = t.ended; channel = t.channel; set_by = t.set.0; set = t.set.1; id = t.id; iuc = t.iuc; use_is = t.use_is; cell = t.cell }
 
 -- ---- whose a minislot is
 

@@ -2,6 +2,7 @@
 use Rattle.std.specs.Prelude.{◌≡◌, ◌≢◌, ℕ, ◌+◌, ◌-◌, ◌<◌, ◌≤◌, ◌==◌, ◌&&◌, nat_le, Bool, List, ◌++◌, length, Some, slice_get}
 use Rattle.std.specs.List.{filter, AllZip, AllByRecursion, Contains}
 use Rattle.std.specs.List.Sorted.{IsStrictlyIncreasing}
+use Rattle.flow_state.specs.declared.channel.Channel.{Channel}
 use Rattle.flow_state.specs.declared.flow.FlowKind.{FlowKind}
 use Rattle.flow_state.specs.declared.flow.FlowKind.TheVariants.{BestEffort, Ugs, Poll}
 use Rattle.flow_state.specs.Limits.{due_time, last_sid}
@@ -140,7 +141,12 @@ pub record IsOfFlow (cs : List Command) (g : Grant) (i : ℕ) : Type 0 where
 abbrev pub OtherGrantsAreDue : Type 0
 OtherGrantsAreDue = (cs : List Command) (k i : ℕ) (g : Grant) → slice_get (grants_of cs) k ≡ Some g → g.cause ≡ Window i → IsOfFlow cs g i
 
--- the grant is told: a MAP's body gives each of its minislots to its SID by one element, of a use for what it serves
+-- command number k sets this channel
+pub record IsSetAt (cs : List Command) (k : ℕ) (c : Channel) : Type 0 where
+  pub asked : slice_get cs k ≡ Some (commands.Channel c)
+  pub set : slice_get (outputs_of cs) k ≡ Some (outputs.ChannelSet c.id c.ucd)
+
+-- the grant is told: a MAP's body gives each of its minislots to its SID by one element, of a use for what it serves on its channel as it was set
 pub record IsTold (cs : List Command) (g : Grant) : Type 0 where
   pub place : ℕ
   pub start : ℕ
@@ -151,8 +157,12 @@ pub record IsTold (cs : List Command) (g : Grant) : Type 0 where
   pub body : IsWritten bytes map
   pub begun : start ≤ g.start
   pub ended : g.start + g.size ≤ start + len
+  pub channel : Channel
+  pub set_by : ℕ
+  pub set : IsSetAt cs set_by channel
+  pub id : channel.id ≡ g.channel
   pub iuc : ℕ
-  pub use_is : IsUseFor g.cause iuc
+  pub use_is : IsUseFor channel.phy g.cause iuc
   pub cell : (m : ℕ) → g.start ≤ m → m < g.start + g.size
       → IsCell map (m - start) (record { sid = g.sid; iuc = iuc; offset = g.start - start })
 

@@ -31,7 +31,7 @@ pub record IsPlaced (t : Table) (span : Extent) (q : Placement) : Type 0 where
   pub within : q.offset + q.size ≤ span.len
   pub serves : IsFor t q q.cause
   pub leased : IsLeased t span q
-  pub use_is : IsUseFor q.cause q.iuc
+  pub use_is : IsUseFor t.row.channel.phy q.cause q.iuc
 
 -- sixty placements at most, and no minislot in two
 pub record ArePlaced (t : Table) (span : Extent) (ps : List Placement) : Type 0 where

@@ -19,7 +19,7 @@ use Rattle.grant_machine_parts.specs.Cutting.{Periodic, due_at, end_of, Missed, 
 use Rattle.grant_machine_parts.specs.Filling.{IsRequestedUse, IsDueUse, IsUseFor}
 use Rattle.flow_state.proofs.Callers.{Has, has_filter, filter_has, has_flat_map}
 use Rattle.grant_machine_parts.proofs.Windows.{first_fit_tells, placed_is}
-use Rattle.flow_state.proofs.Callers.{IsWell, IsWellFlow, RisingFrom, both, filter_fewer, filter_both, flow_found, ended_with, not_less, not_true}
+use Rattle.flow_state.proofs.Callers.{IsWell, IsWellFlow, RisingFrom, both, filter_fewer, filter_both, flow_found, ended_with, not_less, not_true, rising_filter}
 
 -- ---- where a placement may go
 
@@ -69,51 +69,45 @@ IsUse iuc = (iuc ≢ 7) × (iuc < 15)
 pub plain_request : (iuc : ℕ) → iuc ≡ 1 → IsUse iuc
 plain_request iuc e = (λ n. absurd (omega arith), omega arith)
 
-pub plain_requested : (iuc : ℕ) → IsRequestedUse iuc → IsUse iuc
-plain_requested iuc (inl (inl e)) = (λ n. absurd (omega arith), omega arith)
-plain_requested iuc (inl (inr e)) = (λ n. absurd (omega arith), omega arith)
-plain_requested iuc (inr (inl e)) = (λ n. absurd (omega arith), omega arith)
-plain_requested iuc (inr (inr e)) = (λ n. absurd (omega arith), omega arith)
+pub plain_requested : (phy : Phy) (iuc : ℕ) → IsRequestedUse phy iuc → IsUse iuc
+plain_requested Tdma iuc (inl e) = (λ n. absurd (omega arith), omega arith)
+plain_requested Tdma iuc (inr e) = (λ n. absurd (omega arith), omega arith)
+plain_requested Advanced iuc (inl e) = (λ n. absurd (omega arith), omega arith)
+plain_requested Advanced iuc (inr e) = (λ n. absurd (omega arith), omega arith)
 
-plain_due : (iuc : ℕ) → IsDueUse iuc → IsUse iuc
-plain_due iuc (inl e) = plain_request iuc e
-plain_due iuc (inr (inl (inl e))) = (λ n. absurd (omega arith), omega arith)
-plain_due iuc (inr (inl (inr e))) = (λ n. absurd (omega arith), omega arith)
-plain_due iuc (inr (inr e)) = (λ n. absurd (omega arith), omega arith)
+plain_due : (phy : Phy) (iuc : ℕ) → IsDueUse phy iuc → IsUse iuc
+plain_due phy iuc (inl e) = plain_request iuc e
+plain_due Tdma iuc (inr e) = plain_requested Tdma iuc e
+plain_due Advanced iuc (inr e) = (λ n. absurd (omega arith), omega arith)
 
--- what comes at due times within the limits
-pub record IsWellPeriodic (p : Periodic) : Type 0 where
+-- what comes at due times within the limits, on a channel of this kind
+pub record IsWellPeriodic (phy : Phy) (p : Periodic) : Type 0 where
   pub some : 1 ≤ p.size
   pub most : p.size ≤ 255
   pub unicast : 1 ≤ p.sid
   pub last : p.sid ≤ last_sid
-  pub iuc : IsDueUse p.iuc
+  pub iuc : IsDueUse phy p.iuc
   pub short : p.interval ≤ 1000000
 
-pub grant_use : (c : Channel) (n : ℕ) → IsRequestedUse (grant_iuc c n)
-grant_use c n = by c.phy (leb n c.short_max)
-  where
-    by : (phy : Phy) (b : Bool) → IsRequestedUse (sized_iuc phy b)
-    by Tdma true = inl (inl refl)
-    by Tdma false = inl (inr refl)
-    by Advanced true = inr (inl refl)
-    by Advanced false = inr (inr refl)
+sized_use : (phy : Phy) (b : Bool) → IsRequestedUse phy (sized_iuc phy b)
+sized_use Tdma true = inl refl
+sized_use Tdma false = inr refl
+sized_use Advanced true = inl refl
+sized_use Advanced false = inr refl
 
-unsolicited_use : (c : Channel) (n : ℕ) → IsDueUse (unsolicited_iuc c n)
+pub grant_use : (c : Channel) (n : ℕ) → IsRequestedUse c.phy (grant_iuc c n)
+grant_use c n = sized_use c.phy (leb n c.short_max)
+
+unsolicited_use : (c : Channel) (n : ℕ) → IsDueUse c.phy (unsolicited_iuc c n)
 unsolicited_use c n = by c.phy refl
   where
-    sized : (phy : Phy) (b : Bool) → phy ≡ Tdma → IsDueUse (sized_iuc phy b)
-    sized Tdma true e = inr (inl (inl refl))
-    sized Tdma false e = inr (inl (inr refl))
-    sized Advanced b e = absurd (cc (e))
-
-    by : (phy : Phy) → c.phy ≡ phy → IsDueUse (unsolicited_on phy c n)
-    by Tdma e = sized c.phy (leb n c.short_max) e
-    by Advanced e = inr (inr refl)
+    by : (phy : Phy) → c.phy ≡ phy → IsDueUse phy (unsolicited_on phy c n)
+    by Tdma e = inr (subst (λ (p : Phy). IsRequestedUse p (sized_iuc c.phy (leb n c.short_max))) e (grant_use c n))
+    by Advanced e = inr refl
 
 -- what a flow's kind asks for is at the flow's due times
-pub record IsOfFlow (f : FlowRow) (p : Periodic) : Type 0 where
-  pub well : IsWellPeriodic p
+pub record IsOfFlow (phy : Phy) (f : FlowRow) (p : Periodic) : Type 0 where
+  pub well : IsWellPeriodic phy p
   pub sid : p.sid ≡ f.sid
   pub last : p.last ≡ f.last
   pub due : (i : ℕ) → due_time f.kind i ≡ due_at p i
@@ -124,16 +118,16 @@ short_interval interval jitter base e = leb-true _ _ (both _ _ (both _ _ (both _
 periodic_is : (q p : Periodic) → Some q ≡ Some p → q ≡ p
 periodic_is q p e = cc
 
-pub grants_of : (c : Channel) (f : FlowRow) (p : Periodic) → IsWellFlow f → grants_of_kind c f.sid f.last f.kind ≡ Some p → IsOfFlow f p
+pub grants_of : (c : Channel) (f : FlowRow) (p : Periodic) → IsWellFlow f → grants_of_kind c f.sid f.last f.kind ≡ Some p → IsOfFlow c.phy f p
 grants_of c f p w e = by f.kind refl e
   where
-    by : (k : FlowKind) → f.kind ≡ k → grants_of_kind c f.sid f.last k ≡ Some p → IsOfFlow f p
+    by : (k : FlowKind) → f.kind ≡ k → grants_of_kind c f.sid f.last k ≡ Some p → IsOfFlow c.phy f p
     by (BestEffort priority) h g = absurd cc
     by (Poll interval jitter base) h g = absurd cc
     by (Ugs size interval jitter base) h g =
         let good : is_good_kind (Ugs size interval jitter base) ≡ true = ap is_good_kind (sym h) ∙ w.kind in
         let size_is = both _ _ (both _ _ good).0 in
-        subst (IsOfFlow f) (periodic_is _ p g) (record {
+        subst (IsOfFlow c.phy f) (periodic_is _ p g) (record {
           well = record {
             some = leb-true _ _ size_is.0;
             most = leb-true _ _ size_is.1;
@@ -147,15 +141,15 @@ grants_of c f p w e = by f.kind refl e
           due = λ i. ap (λ k. due_time k i) h;
         })
 
-pub polls_of : (c : Channel) (f : FlowRow) (p : Periodic) → IsWellFlow f → polls_of_kind c f.sid f.last f.kind ≡ Some p → IsOfFlow f p
+pub polls_of : (c : Channel) (f : FlowRow) (p : Periodic) → IsWellFlow f → polls_of_kind c f.sid f.last f.kind ≡ Some p → IsOfFlow c.phy f p
 polls_of c f p w e = by f.kind refl e
   where
-    by : (k : FlowKind) → f.kind ≡ k → polls_of_kind c f.sid f.last k ≡ Some p → IsOfFlow f p
+    by : (k : FlowKind) → f.kind ≡ k → polls_of_kind c f.sid f.last k ≡ Some p → IsOfFlow c.phy f p
     by (BestEffort priority) h g = absurd cc
     by (Ugs size interval jitter base) h g = absurd cc
     by (Poll interval jitter base) h g =
         let good : is_good_kind (Poll interval jitter base) ≡ true = ap is_good_kind (sym h) ∙ w.kind in
-        subst (IsOfFlow f) (periodic_is _ p g) (record {
+        subst (IsOfFlow c.phy f) (periodic_is _ p g) (record {
           well = record { some = omega arith; most = omega arith; unicast = w.unicast; last = w.last; iuc = inl refl; short = short_interval interval jitter base good };
           sid = refl;
           last = refl;
@@ -196,9 +190,9 @@ due_bound p i end most short le due =
     by : (a b c d e interval base : ℕ) → interval ≤ 1000000 → base + a < end → b ≤ end - 1 - (base + a) → e ≡ a + c → c ≡ b + d → d ≡ interval → base + e ≤ most + 1000000
     by a b c d e interval base small lt most_q outer inner last = omega arith
 
-run_bound : (span : Extent) (o : Option Periodic) (f : FlowRow) (ps : List Placement) → end_of span ≤ last_time → IsWellFlow f → ((p : Periodic) → o ≡ Some p → IsOfFlow f p) → due_time f.kind (run_flow span o f.index ps).index ≤ last_time + 1000000
-run_bound span None f ps le w of = w.due
-run_bound span (Some p) f ps le w of =
+run_bound : (phy : Phy) (span : Extent) (o : Option Periodic) (f : FlowRow) (ps : List Placement) → end_of span ≤ last_time → IsWellFlow f → ((p : Periodic) → o ≡ Some p → IsOfFlow phy f p) → due_time f.kind (run_flow span o f.index ps).index ≤ last_time + 1000000
+run_bound phy span None f ps le w of = w.due
+run_bound phy span (Some p) f ps le w of =
     let its = of p refl in
     let k : ℕ = due_before p f.index (end_of span) in
     let now : due_at p f.index ≤ last_time + 1000000 = subst (λ d. d ≤ last_time + 1000000) (its.due f.index) w.due in
@@ -215,24 +209,24 @@ pub record Moves (f g : FlowRow) : Type 0 where
   pub well : IsWellFlow f → IsWellFlow g
 
 -- what a pass asks of flows is at their due times
-abbrev pub AsksWell : (FlowRow → Option Periodic) → Type 0
-AsksWell what = (f : FlowRow) (p : Periodic) → IsWellFlow f → what f ≡ Some p → IsOfFlow f p
+abbrev pub AsksWell : Phy → (FlowRow → Option Periodic) → Type 0
+AsksWell phy what = (f : FlowRow) (p : Periodic) → IsWellFlow f → what f ≡ Some p → IsOfFlow phy f p
 
-pub grants_ask_well : (c : Channel) → AsksWell (grants_of_flow c)
+pub grants_ask_well : (c : Channel) → AsksWell c.phy (grants_of_flow c)
 grants_ask_well c f p w e = grants_of c f p w e
 
-pub polls_ask_well : (c : Channel) → AsksWell (polls_of_flow c)
+pub polls_ask_well : (c : Channel) → AsksWell c.phy (polls_of_flow c)
 polls_ask_well c f p w e = polls_of c f p w e
 
-pub pass_moves : (span : Extent) (what : FlowRow → Option Periodic) (fs : List FlowRow) (ps : List Placement) → end_of span ≤ last_time → AsksWell what → AllZip Moves fs (pass span what fs ps).flows
-pass_moves span what [] ps le asks = tt
-pass_moves span what (f ∷ fs) ps le asks = (
+pub pass_moves : {phy : Phy} (span : Extent) (what : FlowRow → Option Periodic) (fs : List FlowRow) (ps : List Placement) → end_of span ≤ last_time → AsksWell phy what → AllZip Moves fs (pass span what fs ps).flows
+pass_moves {phy = phy} span what [] ps le asks = tt
+pass_moves {phy = phy} span what (f ∷ fs) ps le asks = (
   record {
     index = (run_flow span (what f) f.index ps).index;
     is = refl;
-    well = λ w. record { unicast = w.unicast; last = w.last; kind = w.kind; due = run_bound span (what f) f ps le w (λ p e. asks f p w e) };
+    well = λ w. record { unicast = w.unicast; last = w.last; kind = w.kind; due = run_bound phy span (what f) f ps le w (λ p e. asks f p w e) };
   },
-  pass_moves span what fs (run_flow span (what f) f.index ps).placements le asks,
+  pass_moves {phy = phy} span what fs (run_flow span (what f) f.index ps).placements le asks,
 )
 
 -- the flow that a moved one was, and the one that it becomes
@@ -257,18 +251,6 @@ rising_moved low (x ∷ fs) [] z r = absurd z
 rising_moved low (x ∷ fs) (y ∷ gs) z r =
     let same : y.sid ≡ x.sid = ap (λ (v : FlowRow). v.sid) z.0.is in
     (omega (arith, r.0), subst (λ n. RisingFrom (n + 1) gs) (sym same) (rising_moved (x.sid + 1) fs gs z.1 r.1))
-
-rising_weaker : (low more : ℕ) (fs : List FlowRow) → low ≤ more → RisingFrom more fs → RisingFrom low fs
-rising_weaker low more [] le r = tt
-rising_weaker low more (f ∷ fs) le r = (omega (arith, r.0), r.1)
-
-rising_filter : (q : FlowRow → Bool) (low : ℕ) (fs : List FlowRow) → RisingFrom low fs → RisingFrom low (filter q fs)
-rising_filter q low [] r = tt
-rising_filter q low (f ∷ fs) r =
-    elim (q f) as (λ b. RisingFrom low (cond b (f ∷ filter q fs) (filter q fs))) [
-      | true ↦ (r.0, rising_filter q (f.sid + 1) fs r.1)
-      | false ↦ rising_weaker low (f.sid + 1) (filter q fs) (omega (arith, r.0)) (rising_filter q (f.sid + 1) fs r.1)
-    ]
 
 pub moved_well : (fs gs : List FlowRow) → AllZip Moves fs gs → ((f : FlowRow) → Has fs f → IsWellFlow f) → (g : FlowRow) → Has gs g → IsWellFlow g
 moved_well fs gs z each g h = let m = moved_from fs gs g z h in m.2.well (each m.0 m.1)
@@ -335,10 +317,10 @@ pub record MayPlace (t : Table) (span : Extent) (ps : List Placement) (q : Place
   pub iuc : IsUse q.iuc
   pub serves : IsFor t q q.cause
   pub leased : IsLeased t span q
-  pub use_is : IsUseFor q.cause q.iuc
+  pub use_is : IsUseFor t.row.channel.phy q.cause q.iuc
 
-may_place_due : (t : Table) (span : Extent) (ps : List Placement) (p : Periodic) (i x : ℕ) → IsWellPeriodic p → (f : FlowRow) → Has t.flows f → f.sid ≡ p.sid → f.last ≡ p.last → Fit span ps p.size p.last x → MayPlace t span ps (placement_at p i x)
-may_place_due t span ps p i x w f h same ends fit = record { lease_end = p.last; fit = fit; some = w.some; most = w.most; unicast = w.unicast; last = w.last; iuc = plain_due p.iuc w.iuc; serves = tt; leased = (f, h, same, let in_lease = fit.in_lease in omega arith); use_is = w.iuc }
+may_place_due : (t : Table) (span : Extent) (ps : List Placement) (p : Periodic) (i x : ℕ) → IsWellPeriodic t.row.channel.phy p → (f : FlowRow) → Has t.flows f → f.sid ≡ p.sid → f.last ≡ p.last → Fit span ps p.size p.last x → MayPlace t span ps (placement_at p i x)
+may_place_due t span ps p i x w f h same ends fit = record { lease_end = p.last; fit = fit; some = w.some; most = w.most; unicast = w.unicast; last = w.last; iuc = plain_due _ p.iuc w.iuc; serves = tt; leased = (f, h, same, let in_lease = fit.in_lease in omega arith); use_is = w.iuc }
 
 may_place_request : (t : Table) (span : Extent) (ps : List Placement) (w : Waiting) (x : ℕ) → IsWell t → Has t.waiting w → Fit span ps w.n (last_of t w.sid) x → MayPlace t span ps (placement_for t.row.channel w x)
 may_place_request t span ps w x well h fit =
@@ -353,7 +335,7 @@ may_place_request t span ps w x well h fit =
       most = r.most;
       unicast = subst (λ n. 1 ≤ n) r.sid f.unicast;
       last = subst (λ n. n ≤ last_sid) r.sid f.last;
-      iuc = plain_requested _ (grant_use t.row.channel w.n);
+      iuc = plain_requested _ _ (grant_use t.row.channel w.n);
       serves = (w, h, refl, refl, refl);
       leased = (r.flow, r.there, r.sid, let in_lease = fit.in_lease in omega arith);
       use_is = grant_use t.row.channel w.n;

@@ -46,7 +46,7 @@ module _ (t : Table) (len not_before ack : ℕ) (w : IsWell t) (ok : fill_refusa
       let flow_is : r.flow.sid ≡ m.0.sid = r.sid in
       let sid_is : m.0.sid ≡ e.sid = ap (λ (d : Element). d.sid) m.2 in
       let offset_is : len ≡ e.offset = ap (λ (d : Element). d.offset) m.2 in
-      let use_is : IsUse e.iuc = subst IsUse (ap (λ (d : Element). d.iuc) m.2) (plain_requested _ (grant_use t.row.channel m.0.n)) in
+      let use_is : IsUse e.iuc = subst IsUse (ap (λ (d : Element). d.iuc) m.2) (plain_requested _ _ (grant_use t.row.channel m.0.n)) in
       (use_is, record { sid = omega arith; iuc = small e.iuc use_is.1; offset = omega arith })
     where
       small : (iuc : ℕ) → iuc < 15 → iuc < 2 ^ 4

@@ -2,6 +2,8 @@
 use Rattle.std.specs.Prelude.{◌≡◌, ◌⊎◌, ℕ, ◌+◌, ◌<◌, ◌≤◌, Bool, true, false, List, [], ◌∷◌, ◌++◌}
 use Rattle.minislot_time.specs.Extent.{Extent}
 use Rattle.map_body.specs.Iucs as iucs
+use Rattle.flow_state.specs.declared.channel.Phy.{Phy}
+use Rattle.flow_state.specs.declared.channel.Phy.TheVariants.{Tdma, Advanced}
 use Rattle.flow_state.specs.Limits.{last_time}
 use Rattle.grant_machine_parts.specs.Placing.{Cause, Window, Sent, Placement}
 use Rattle.grant_machine_parts.specs.Cutting.{Periodic, Verdict, Missed, Placed, Kept, placement_at}
@@ -37,17 +39,21 @@ placements_on Missed ps p i = ps
 placements_on (Placed x) ps p i = ps ++ placement_at p i x ∷ []
 placements_on Kept ps p i = ps
 
--- the use of a grant to a request: short or long, of either kind of channel
-abbrev pub IsRequestedUse : ℕ → Type 0
-IsRequestedUse iuc =
-    ((iuc ≡ iucs.short_data_grant) ⊎ (iuc ≡ iucs.long_data_grant))
-    ⊎ ((iuc ≡ iucs.advanced_short_data_grant) ⊎ (iuc ≡ iucs.advanced_long_data_grant))
+-- the use of a grant to a request on each kind of channel: short or long
+abbrev pub IsRequestedUse : Phy → ℕ → Type 0
+IsRequestedUse Tdma iuc = (iuc ≡ iucs.short_data_grant) ⊎ (iuc ≡ iucs.long_data_grant)
+IsRequestedUse Advanced iuc = (iuc ≡ iucs.advanced_short_data_grant) ⊎ (iuc ≡ iucs.advanced_long_data_grant)
 
--- the use of what comes at a due time: a poll's, or an unsolicited grant's of either kind of channel
-abbrev pub IsDueUse : ℕ → Type 0
-IsDueUse iuc = (iuc ≡ iucs.request) ⊎ (((iuc ≡ iucs.short_data_grant) ⊎ (iuc ≡ iucs.long_data_grant)) ⊎ (iuc ≡ iucs.advanced_unsolicited_grant))
+-- the use of an unsolicited grant on each kind of channel
+abbrev pub IsUnsolicitedUse : Phy → ℕ → Type 0
+IsUnsolicitedUse Tdma iuc = IsRequestedUse Tdma iuc
+IsUnsolicitedUse Advanced iuc = iuc ≡ iucs.advanced_unsolicited_grant
 
--- the use of what serves this
-abbrev pub IsUseFor : Cause → ℕ → Type 0
-IsUseFor (Sent time) iuc = IsRequestedUse iuc
-IsUseFor (Window index) iuc = IsDueUse iuc
+-- the use of what comes at a due time: a poll's, or an unsolicited grant's
+abbrev pub IsDueUse : Phy → ℕ → Type 0
+IsDueUse phy iuc = (iuc ≡ iucs.request) ⊎ IsUnsolicitedUse phy iuc
+
+-- the use of what serves this, on a channel of this kind
+abbrev pub IsUseFor : Phy → Cause → ℕ → Type 0
+IsUseFor phy (Sent time) iuc = IsRequestedUse phy iuc
+IsUseFor phy (Window index) iuc = IsDueUse phy iuc
