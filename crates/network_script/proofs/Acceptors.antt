@@ -1,5 +1,5 @@
 -- A node that prepares, votes, counts and learns does what keeps the invariant.
-use Rattle.std.proofs.Common.{◌≡◌, ◌⊎◌, inl, inr, ⊎_elim, ℕ, ◌<◌, ◌≤◌, not, nat_lt, nat_le, ◌==◌, List, [], ◌∷◌, ◌++◌, take, refl, sym, subst, arith, Option, Some, None, slice_get}
+use Rattle.std.proofs.Common.{◌≡◌, inl, inr, ⊎_elim, ℕ, ◌<◌, ◌≤◌, not, nat_lt, nat_le, ◌==◌, List, [], ◌∷◌, ◌++◌, take, refl, sym, subst, arith, Option, Some, None, slice_get}
 use Rattle.std.proofs.lemmas.Bool.{cond_both, ltb-true, ltb-false, eqb-true, le-leb}
 use Rattle.ballots.specs.declared.letters.Cast.{Cast}
 use Rattle.ballots.specs.declared.letters.Note.{Note}
@@ -17,13 +17,13 @@ use Rattle.std.specs.BTreeMap.{is_at}
 use Rattle.std.specs.Ordering.{nat_cmp}
 use Rattle.node.specs.View.{View, Standing}
 use Rattle.node.specs.View.Standing.{Running}
-use Rattle.node.specs.Step.{nothing, sends, writes, letter, to_all, known_letters, prepare, vote_at, accept}
-use Rattle.learner.specs.Tally.{learn, known}
+use Rattle.node.specs.Step.{nothing, sends, writes, learns, known, letter, to_all, known_letters, prepare, vote_at, accept}
+use Rattle.learner.specs.Tally.{learn}
 use Rattle.network_script.proofs.Invariant.{IsProposed, PromiseOk, OwnOk, WriteOk, RoleOk, UpOk, LetterOk, Invariant}
 use Rattle.network_script.proofs.Lists.{in_append, in_filter, into_filter}
-use Rattle.network_script.proofs.Rows.{at_in, in_put}
+use Rattle.network_script.proofs.Rows.{at_in}
 use Rattle.network_script.proofs.Growth.{letter_grows}
-use Rattle.network_script.proofs.Writes.{write_grows}
+use Rattle.network_script.proofs.Writes.{write_grows, chosen_put}
 use Rattle.network_script.proofs.Sending.{in_take, Says, says_letter, to_all_says, known_says}
 use Rattle.network_script.proofs.Sound.{Sound, IsOther, AreQuiet, quiet_letters, quiet_own}
 
@@ -53,7 +53,7 @@ module _ (members : ℕ) (h : List Entry) (sent : List Letter) (states : List St
   was = inv.nodes k (Running view) here
 
   -- one write and letters that propose nothing
-  pub writes_sound : (w : Write) (more : List Letter) → WriteOk sent view.content (Some w) → (after_write view.content (Some w)).tried ≡ view.content.tried → AreQuiet members (record_write k (Some w) h) more → Sound members h sent k view (writes view w more)
+  pub writes_sound : (w : Write) (more : List Letter) → WriteOk members h sent view.content (Some w) → (after_write view.content (Some w)).tried ≡ view.content.tried → AreQuiet members (record_write k (Some w) h) more → Sound members h sent k view (writes view w more)
   writes_sound w more fine tried quiet = record {
     write = fine;
     content = refl;
@@ -97,7 +97,7 @@ module _ (members : ℕ) (h : List Entry) (sent : List Letter) (states : List St
   known_quiet : (q n : ℕ) → AreQuiet members h (known_letters k n (take 64 (rows_from view.tally.learned q)))
   known_quiet q n = quiet_known members h k n (take 64 (rows_from view.tally.learned q)) (λ p v there. was.learned p v (in_filter (λ row. nat_le q row.0) view.tally.learned (p, v) (in_take 64 (rows_from view.tally.learned q) (p, v) there)).0)
 
-  quiet_grows : (w : Option Write) → WriteOk sent view.content w → (more : List Letter) → AreQuiet members h more → AreQuiet members (record_write k w h) more
+  quiet_grows : (w : Option Write) → WriteOk members h sent view.content w → (more : List Letter) → AreQuiet members h more → AreQuiet members (record_write k w h) more
   quiet_grows w fine more quiet l there = (letter_grows members k h (record_write k w h) (write_grows members h sent states k view.content inv was.content w fine) l.from l.note (quiet l there).0, (quiet l there).1)
 
   pub prepare_sound : (b q n : ℕ) → Sound members h sent k view (prepare k view b q n)
@@ -133,10 +133,10 @@ module _ (members : ℕ) (h : List Entry) (sent : List Letter) (states : List St
       (λ less. sends_sound (letter k n (Higher (promised view.content)) ∷ []) (quiet_one members h k n (Higher (promised view.content)) tt tt))
       (λ no. vote_at_sound b p v (at view.content.votes p) refl (ltb-false b (promised view.content) no) proposed)
 
-  -- a view that differs in what it counted and learned
-  pub learns_sound : (new : View) → new.content ≡ view.content → new.role ≡ view.role → ((n b q : ℕ) (w : List ℕ) → IsVoteCounted new.tally.counted n b q w → IsIn h (Vote n b q w)) → ((p : ℕ) (v : List ℕ) → IsIn new.tally.learned (p, v) → IsChosen members h p v)
+  -- a view that differs in what it counted
+  pub counts_sound : (new : View) → new.content ≡ view.content → new.role ≡ view.role → ((n b q : ℕ) (w : List ℕ) → IsVoteCounted new.tally.counted n b q w → IsIn h (Vote n b q w)) → ((p : ℕ) (v : List ℕ) → IsIn new.tally.learned (p, v) → IsChosen members h p v)
       → Sound members h sent k view (nothing new)
-  learns_sound new content role counted learned = record {
+  counts_sound new content role counted learned = record {
     write = tt;
     content = content;
     letters = quiet_letters members h sent [] k (quiet_none members h);
@@ -147,13 +147,18 @@ module _ (members : ℕ) (h : List Entry) (sent : List Letter) (states : List St
     learned = learned;
   }
 
-  pub learn_sound : (p : ℕ) (v : List ℕ) → IsChosen members h p v → Sound members h sent k view (nothing (record view { tally = learn view.tally p v }))
-  learn_sound p v chosen = learns_sound (record view { tally = learn view.tally p v }) refl refl (λ n b q w there. was.counted n b q w (counted_less (is_at (nat_cmp p)) view.tally.counted n b q w there)) (λ q w there. by_row q w (in_put view.tally.learned p v q w there))
-    where
-      by_row : (q : ℕ) (w : List ℕ) → ((q ≡ p) × (w ≡ v)) ⊎ IsIn view.tally.learned (q, w) → IsChosen members h q w
-      by_row q w (inl is) = subst (λ (x : List ℕ). IsChosen members h q x) (sym is.1) (subst (λ (r : ℕ). IsChosen members h r v) (sym is.0) chosen)
-      by_row q w (inr there) = was.learned q w there
+  -- a chosen value is learned, and its row is written
+  pub learns_sound : (p : ℕ) (v : List ℕ) → IsChosen members h p v → Sound members h sent k view (learns view p v)
+  learns_sound p v chosen = record {
+    write = chosen;
+    content = refl;
+    letters = quiet_letters members h sent [] k (quiet_none members h);
+    role = was.role;
+    own = quiet_own members h sent [] k view.content.tried view.role (quiet_none members h) was.own;
+    counted = λ n b q w there. was.counted n b q w (counted_less (is_at (nat_cmp p)) view.tally.counted n b q w there);
+    learned = chosen_put members h p v view.tally.learned chosen was.learned;
+  }
 
-  pub known_sound : (there : Option (List ℕ)) (p : ℕ) (v : List ℕ) → IsChosen members h p v → Sound members h sent k view (nothing (record view { tally = known view.tally there p v }))
-  known_sound None p v chosen = learn_sound p v chosen
+  pub known_sound : (there : Option (List ℕ)) (p : ℕ) (v : List ℕ) → IsChosen members h p v → Sound members h sent k view (known view there p v)
+  known_sound None p v chosen = learns_sound p v chosen
   known_sound (Some value) p v chosen = nothing_sound

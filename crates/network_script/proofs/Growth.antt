@@ -9,7 +9,7 @@ use Rattle.ballots.specs.Voting.{Entry, node_of, IsIn, Quorum, IsOf, NoneBelow, 
 use Rattle.ballots.specs.Voting.Entry.{Promised, Vote}
 use Rattle.ballots.proofs.Callers.{old_vote}
 use Rattle.acceptor.specs.Content.{Content, Write}
-use Rattle.acceptor.specs.Content.Write.{Tries, Promises, Votes}
+use Rattle.acceptor.specs.Content.Write.{Tries, Promises, Votes, Learns}
 use Rattle.proposer.specs.declared.role.Role.{Role}
 use Rattle.node.specs.View.{Standing}
 use Rattle.proposer.specs.declared.role.Role.TheVariants.{Idle, Preparing, Leading}
@@ -93,11 +93,12 @@ module _ (members k : ℕ) (old new : List Entry) (grows : Grows k old new) wher
   letter_grows from (Known p v) ok = chosen_grows p v ok
 
   -- another node's content
-  content_grows : (j : ℕ) (c : Content) → j ≢ k → ContentOk old j c → ContentOk new j c
+  content_grows : (j : ℕ) (c : Content) → j ≢ k → ContentOk members old j c → ContentOk members new j c
   content_grows j c other ok = record {
     bound = λ e here node. ok.bound e (grows.others e j here node other) node;
     kept = λ p cast here. grows.keeps (Vote j cast.ballot p cast.value) (ok.kept p cast here);
     last = λ b p v vote. ok.last b p v (grows.others (Vote j b p v) j vote refl other);
+    held = λ p v here. chosen_grows p v (ok.held p v here);
   }
 
   -- another node, where more letters are sent, none of them a proposal in its ballots
@@ -115,8 +116,9 @@ module _ (members k : ℕ) (old new : List Entry) (grows : Grows k old new) wher
     doubt = write_more doubt ok.doubt;
   }
     where
-      write_more : (w : Option Write) → WriteOk sent c w → WriteOk (sent ++ more) c w
+      write_more : (w : Option Write) → WriteOk members old sent c w → WriteOk members new (sent ++ more) c w
       write_more None fine = tt
       write_more (Some (Tries b)) fine = fine
       write_more (Some (Promises b)) fine = fine
       write_more (Some (Votes p cast)) fine = (fine.0, (fine.1.0, in_left sent more fine.1.0 fine.1.1, fine.1.2))
+      write_more (Some (Learns p v)) fine = chosen_grows p v fine

@@ -10,7 +10,7 @@ use Rattle.ballots.specs.Voting.{Entry, node_of, ballot_of, IsIn, Quorum, IsOf, 
 use Rattle.ballots.specs.Voting.Entry.{Promised, Vote}
 use Rattle.acceptor.specs.Content.{Content, Write, promised}
 use Rattle.ballots.specs.Rows.{at}
-use Rattle.acceptor.specs.Content.Write.{Tries, Promises, Votes}
+use Rattle.acceptor.specs.Content.Write.{Tries, Promises, Votes, Learns}
 use Rattle.proposer.specs.declared.role.Role.{Role}
 use Rattle.learner.specs.Tally.{IsVoteCounted}
 use Rattle.node.specs.View.{View, Standing}
@@ -22,13 +22,15 @@ abbrev pub IsProposed : List Letter → ℕ → ℕ → List ℕ → Type 0
 IsProposed sent b p v = (l : Letter) × IsIn sent l × (l.note ≡ Accept b p v)
 
 -- the content of node k agrees with its entries in the history
-pub record ContentOk (h : List Entry) (k : ℕ) (c : Content) : Type 0 where
+pub record ContentOk (members : ℕ) (h : List Entry) (k : ℕ) (c : Content) : Type 0 where
   -- none is above the promised ballot
   pub bound : (e : Entry) → IsIn h e → node_of e ≡ k → ballot_of e ≤ promised c
   -- each vote that it keeps was cast
   pub kept : (p : ℕ) (cast : Cast) → IsIn c.votes (p, cast) → IsIn h (Vote k cast.ballot p cast.value)
   -- and it keeps the last at each place
   pub last : (b p : ℕ) (v : List ℕ) → IsIn h (Vote k b p v) → (cast : Cast) × IsIn c.votes (p, cast) × (b ≤ cast.ballot)
+  -- and what it has learned is chosen
+  pub held : (p : ℕ) (v : List ℕ) → IsIn c.learned (p, v) → IsChosen members h p v
 
 -- node n promised ballot b, and these are its votes below b from place q on
 pub record PromiseOk (h : List Entry) (n b q : ℕ) (votes : List (ℕ × Cast)) : Type 0 where
@@ -70,29 +72,30 @@ abbrev pub OwnOk : List Letter → ℕ → ℕ → Role → Type 0
 OwnOk sent k tried role = (b p : ℕ) (v : List ℕ) → IsProposed sent b p v → ballot_node b ≡ k → (b ≤ tried) × MayHaveProposed role b p
 
 -- a write that a node with this content may make
-abbrev pub WriteOk : List Letter → Content → Option Write → Type 0
-WriteOk sent c None = Unit {0}
-WriteOk sent c (Some (Tries b)) = c.tried ≤ b
-WriteOk sent c (Some (Promises b)) = promised c < b
-WriteOk sent c (Some (Votes p cast)) = (promised c ≤ cast.ballot) × IsProposed sent cast.ballot p cast.value
+abbrev pub WriteOk : ℕ → List Entry → List Letter → Content → Option Write → Type 0
+WriteOk members h sent c None = Unit {0}
+WriteOk members h sent c (Some (Tries b)) = c.tried ≤ b
+WriteOk members h sent c (Some (Promises b)) = promised c < b
+WriteOk members h sent c (Some (Votes p cast)) = (promised c ≤ cast.ballot) × IsProposed sent cast.ballot p cast.value
+WriteOk members h sent c (Some (Learns p v)) = IsChosen members h p v
 
 -- a node that is up
 pub record UpOk (members : ℕ) (h : List Entry) (sent : List Letter) (k : ℕ) (view : View) : Type 0 where
-  pub content : ContentOk h k view.content
+  pub content : ContentOk members h k view.content
   pub own : OwnOk sent k view.content.tried view.role
   pub role : RoleOk members h k view.content.tried view.role
   pub counted : (n b p : ℕ) (v : List ℕ) → IsVoteCounted view.tally.counted n b p v → IsIn h (Vote n b p v)
   pub learned : (p : ℕ) (v : List ℕ) → IsIn view.tally.learned (p, v) → IsChosen members h p v
 
 -- a node that is down
-pub record DownOk (h : List Entry) (sent : List Letter) (k : ℕ) (c : Content) (write : Option Write) : Type 0 where
-  pub content : ContentOk h k c
+pub record DownOk (members : ℕ) (h : List Entry) (sent : List Letter) (k : ℕ) (c : Content) (write : Option Write) : Type 0 where
+  pub content : ContentOk members h k c
   pub own : OwnOk sent k c.tried Idle
-  pub doubt : WriteOk sent c write
+  pub doubt : WriteOk members h sent c write
 
 abbrev pub NodeOk : ℕ → List Entry → List Letter → ℕ → Standing → Type 0
 NodeOk members h sent k (Running view) = UpOk members h sent k view
-NodeOk members h sent k (Stopped c doubt) = DownOk h sent k c doubt
+NodeOk members h sent k (Stopped c doubt) = DownOk members h sent k c doubt
 
 -- what a letter says holds of the history
 abbrev pub LetterOk : ℕ → List Entry → ℕ → Note → Type 0

@@ -15,7 +15,7 @@ abbrev pub content_of : Standing → Content
 content_of (Running view) = view.content
 content_of (Stopped c doubt) = c
 
-pub content_ok : (members : ℕ) (h : List Entry) (sent : List Letter) (k : ℕ) (s : Standing) → NodeOk members h sent k s → ContentOk h k (content_of s)
+pub content_ok : (members : ℕ) (h : List Entry) (sent : List Letter) (k : ℕ) (s : Standing) → NodeOk members h sent k s → ContentOk members h k (content_of s)
 content_ok members h sent k (Running view) ok = ok.content
 content_ok members h sent k (Stopped c doubt) ok = ok.content
 
@@ -38,10 +38,10 @@ module _ (members : ℕ) (h : List Entry) (sent : List Letter) (states : List St
   abbrev c : Content
   c = content_of s
 
-  agrees : ContentOk h k c
+  agrees : ContentOk members h k c
   agrees = content_ok members h sent k s (inv.nodes k s here)
 
-  pub goes_on : (w : Option Write) (more : List Letter) (new : Standing) → WriteOk sent c w → NewLetters members (record_write k w h) sent more k → NodeOk members (record_write k w h) (sent ++ more) k new
+  pub goes_on : (w : Option Write) (more : List Letter) (new : Standing) → WriteOk members h sent c w → NewLetters members (record_write k w h) sent more k → NodeOk members (record_write k w h) (sent ++ more) k new
       → Invariant members (record_write k w h) (sent ++ more) (slice_set states k new)
   goes_on w more new fine letters ok = record {
     legal = write_legal members h sent states k c inv agrees w fine;
@@ -68,7 +68,7 @@ module _ (members : ℕ) (h : List Entry) (sent : List Letter) (states : List St
       node j t (inr was) = node_grows members k h (record_write k w h) grows sent more j t was.0 (mine j was.0) (inv.nodes j t was.1)
 
   -- the same where no letter is sent
-  pub goes_quietly : (w : Option Write) (new : Standing) → WriteOk sent c w → NodeOk members (record_write k w h) sent k new → Invariant members (record_write k w h) sent (slice_set states k new)
+  pub goes_quietly : (w : Option Write) (new : Standing) → WriteOk members h sent c w → NodeOk members (record_write k w h) sent k new → Invariant members (record_write k w h) sent (slice_set states k new)
   goes_quietly w new fine ok =
       subst (λ (l : List Letter). Invariant members (record_write k w h) l (slice_set states k new)) (append-nil sent)
       (goes_on w [] new fine (no_letters members (record_write k w h) sent k) (subst (λ (l : List Letter). NodeOk members (record_write k w h) l k new) (sym (append-nil sent)) ok))

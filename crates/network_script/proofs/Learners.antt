@@ -9,12 +9,12 @@ use Rattle.proposer.specs.declared.role.Role.{Role}
 use Rattle.node.specs.View.{View, Standing}
 use Rattle.proposer.specs.declared.role.Role.TheVariants.{Idle, Preparing, Leading}
 use Rattle.node.specs.View.Standing.{Running}
-use Rattle.node.specs.Step.{nothing}
-use Rattle.learner.specs.Tally.{Groups, Tally, IsVoteCounted, is_majority, is_voter, learn, put_voters, voted, with_voter}
+use Rattle.node.specs.Step.{nothing, learns, voted}
+use Rattle.learner.specs.Tally.{Groups, IsVoteCounted, is_majority, is_voter, put_voters, with_voter}
 use Rattle.learner.proofs.Callers.{counted_more, voter_counted}
 use Rattle.proposer.specs.Roles.{role_after}
 use Rattle.network_script.proofs.Invariant.{OwnOk, RoleOk, UpOk, Invariant}
-use Rattle.network_script.proofs.Acceptors.{learns_sound, learn_sound, nothing_sound, quiet_none}
+use Rattle.network_script.proofs.Acceptors.{counts_sound, learns_sound, nothing_sound, quiet_none}
 use Rattle.network_script.proofs.Sound.{Sound, quiet_letters, quiet_own}
 
 -- each vote that is counted was cast
@@ -34,7 +34,7 @@ module _ (members : ℕ) (h : List Entry) (sent : List Letter) (states : List St
   was : UpOk members h sent k view
   was = inv.nodes k (Running view) here
 
-  pub voted_sound : (there : Option (List ℕ)) (b p : ℕ) (v : List ℕ) (n : ℕ) → IsIn h (Vote n b p v) → Sound members h sent k view (nothing (record view { tally = voted members view.tally there b p v n }))
+  pub voted_sound : (there : Option (List ℕ)) (b p : ℕ) (v : List ℕ) (n : ℕ) → IsIn h (Vote n b p v) → Sound members h sent k view (voted members view there b p v n)
   voted_sound (Some value) b p v n vote = nothing_sound members h sent states k view inv here
   voted_sound None b p v n vote =
       let voters = with_voter view.tally.counted n b p v in
@@ -44,9 +44,9 @@ module _ (members : ℕ) (h : List Entry) (sent : List Letter) (states : List St
         quorum = record { set = is_voter voters; majority = ltb-true members (2 * count_below (is_voter voters) members) most };
         votes = λ m is_of. voter_cast h view.tally.counted n b p v was.counted vote m is_of.1;
       } in
-      cond_both (is_majority members (is_voter voters)) (learn view.tally p v) (record { counted = counted; learned = view.tally.learned }) (λ (t : Tally). Sound members h sent k view (nothing (record view { tally = t })))
-      (λ most. learn_sound members h sent states k view inv here p v (chosen most))
-      (λ few. learns_sound members h sent states k view inv here (record view { tally = record { counted = counted; learned = view.tally.learned } }) refl refl (count_cast h view.tally.counted n b p v was.counted vote) was.learned)
+      cond_both (is_majority members (is_voter voters)) (learns view p v) (nothing (record view { tally = record { counted = counted; learned = view.tally.learned } })) (λ o. Sound members h sent k view o)
+      (λ most. learns_sound members h sent states k view inv here p v (chosen most))
+      (λ few. counts_sound members h sent states k view inv here (record view { tally = record { counted = counted; learned = view.tally.learned } }) refl refl (count_cast h view.tally.counted n b p v was.counted vote) was.learned)
 
   -- a view that differs in its hint and perhaps gives its role up
   pub role_sound : (hint : ℕ) (role : Role) → RoleOk members h k view.content.tried role → OwnOk sent k view.content.tried role → Sound members h sent k view (nothing (record view { hint = hint; role = role }))

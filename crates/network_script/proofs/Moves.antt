@@ -95,7 +95,7 @@ module _ (members : ℕ) (w : Written) (inv : Invariant members w.history w.lett
     abbrev AreSound : (Result Outcome Fault → Type 0) → Type 0
     AreSound IsCourse = (o : Outcome) → IsCourse (Ok o) → Sound members w.history w.letters k view o
 
-    broken : (told : Answer) (write : Option Write) → WriteOk w.letters view.content write → (w' : Written) → w' ≡ record w { nodes = slice_set w.nodes k (Stopped view.content write) } → Moves told w'
+    broken : (told : Answer) (write : Option Write) → WriteOk members w.history w.letters view.content write → (w' : Written) → w' ≡ record w { nodes = slice_set w.nodes k (Stopped view.content write) } → Moves told w'
     broken told write fine w' is = subst (Moves told) (sym is) (on_nodes told _ w.letters k None (broken_kept members w.history w.letters w.nodes k view inv here write fine))
 
     lost_moves : (told : Answer) (o : Outcome) → Sound members w.history w.letters k view o → (w' : Written)
@@ -221,7 +221,7 @@ module _ (members : ℕ) (w : Written) (inv : Invariant members w.history w.lett
         subst (Moves _) (sym (ap (after w k) without ∙ after_quiet w k (Running (started c))))
         (on_nodes _ _ w.letters k None (restarted_kept members w.history w.letters w.nodes k c doubt None inv here tt))
     starts answer.Finished m (inr with_it) =
-        let ok : DownOk w.history w.letters k c doubt = inv.nodes k (Stopped c doubt) here in
+        let ok : DownOk members w.history w.letters k c doubt = inv.nodes k (Stopped c doubt) here in
         subst (Moves _) (sym (ap (after w k) with_it ∙ after_write_alone w k (Running (started (after_write c doubt))) doubt))
         (on_nodes _ _ w.letters k doubt (restarted_kept members w.history w.letters w.nodes k c doubt doubt inv here ok.doubt))
     starts (answer.Fault f) m failed = stays_down _ m failed.1

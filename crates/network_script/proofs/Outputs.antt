@@ -5,7 +5,7 @@ use Rattle.std.proofs.lemmas.Option.{slice_get_within}
 use Rattle.ballots.specs.Voting.{Entry, IsIn, IsLegal, IsChosen}
 use Rattle.ballots.proofs.Callers.{agreement}
 use Rattle.acceptor.specs.Content.{Write, record_write}
-use Rattle.acceptor.specs.Content.Write.{Tries, Promises, Votes}
+use Rattle.acceptor.specs.Content.Write.{Tries, Promises, Votes, Learns}
 use Rattle.grant_machine.specs.declared.output.Output.{Output}
 use Rattle.command_log.specs.Values.{outputs_of_values}
 use Rattle.node.specs.View.{View, gapless, values_from}
@@ -91,6 +91,7 @@ in_released_by k (x ∷ xs) y (inr there) = inr (in_released_by k xs y there)
 pub written_keeps : (k : ℕ) (w : Option Write) (h : List Entry) (e : Entry) → IsIn h e → IsIn (record_write k w h) e
 written_keeps k None h e here = here
 written_keeps k (Some (Tries b)) h e here = here
+written_keeps k (Some (Learns p v)) h e here = here
 written_keeps k (Some (Promises b)) h e here = inr here
 written_keeps k (Some (Votes p cast)) h e here = inr here
 

@@ -55,7 +55,7 @@ opening_fine members ids = record {
     one_value = λ b p v w is also. absurd is.1;
     letters = λ l here. absurd here;
     nodes = λ k s is. subst (λ (x : Standing). NodeOk members [] [] k x) (sym (fresh_node members k s is)) record {
-      content = record { bound = λ e here node. absurd here; kept = λ p cast here. absurd here; last = λ b p v vote. absurd vote };
+      content = record { bound = λ e here node. absurd here; kept = λ p cast here. absurd here; last = λ b p v vote. absurd vote; held = λ p v here. absurd here };
       own = λ b p v is node. absurd is.1;
       role = tt;
       counted = λ n b p v here. absurd here.1;

@@ -18,7 +18,7 @@ use Rattle.network_script.proofs.Kept.{NewLetters, goes_on, goes_quietly, propos
 
 -- a whole call of node k whose write is allowed, whose letters say what holds, and whose view agrees with the history
 pub record Sound (members : ℕ) (h : List Entry) (sent : List Letter) (k : ℕ) (view : View) (o : Outcome) : Type 0 where
-  pub write : WriteOk sent view.content o.write
+  pub write : WriteOk members h sent view.content o.write
   pub content : o.view.content ≡ after_write view.content o.write
   pub letters : NewLetters members (record_write k o.write h) sent o.letters k
   pub role : RoleOk members h k o.view.content.tried o.view.role
@@ -58,7 +58,7 @@ module _ (members : ℕ) (h : List Entry) (sent : List Letter) (states : List St
 
   pub whole_kept : (o : Outcome) → Sound members h sent k view o → Invariant members (record_write k o.write h) (sent ++ o.letters) (slice_set states k (Running o.view))
   whole_kept o sound = goes_on members h sent states k (Running view) inv here o.write o.letters (Running o.view) sound.write sound.letters record {
-    content = subst (λ (c : Content). ContentOk (record_write k o.write h) k c) (sym sound.content) (write_content members h sent states k view.content inv was.content o.write sound.write);
+    content = subst (λ (c : Content). ContentOk members (record_write k o.write h) k c) (sym sound.content) (write_content members h sent states k view.content inv was.content o.write sound.write);
     own = sound.own;
     role = role_grows members k h (record_write k o.write h) grows k o.view.content.tried o.view.role sound.role;
     counted = λ n b p v there. grows.keeps (Vote n b p v) (sound.counted n b p v there);
@@ -70,15 +70,15 @@ module _ (members : ℕ) (h : List Entry) (sent : List Letter) (states : List St
 
   pub lost_kept : (o : Outcome) → Sound members h sent k view o → Invariant members (record_write k o.write h) sent (slice_set states k (Stopped o.view.content None))
   lost_kept o sound =
-      let tried : view.content.tried ≤ (after_write view.content o.write).tried = write_tried sent view.content o.write sound.write in
+      let tried : view.content.tried ≤ (after_write view.content o.write).tried = write_tried members h sent view.content o.write sound.write in
       let same : o.view.content.tried ≡ (after_write view.content o.write).tried = ap (λ (c : Content). c.tried) sound.content in
       goes_quietly members h sent states k (Running view) inv here o.write (Stopped o.view.content None) sound.write record {
-        content = subst (λ (c : Content). ContentOk (record_write k o.write h) k c) (sym sound.content) (write_content members h sent states k view.content inv was.content o.write sound.write);
+        content = subst (λ (c : Content). ContentOk members (record_write k o.write h) k c) (sym sound.content) (write_content members h sent states k view.content inv was.content o.write sound.write);
         own = λ b p v is node. (let le : b ≤ view.content.tried = (was.own b p v is node).0 in omega arith, tt);
         doubt = tt;
       }
 
-  pub broken_kept : (w : Option Write) → WriteOk sent view.content w → Invariant members h sent (slice_set states k (Stopped view.content w))
+  pub broken_kept : (w : Option Write) → WriteOk members h sent view.content w → Invariant members h sent (slice_set states k (Stopped view.content w))
   broken_kept w fine = goes_quietly members h sent states k (Running view) inv here None (Stopped view.content w) tt record {
     content = was.content;
     own = λ b p v is node. ((was.own b p v is node).0, tt);
@@ -86,14 +86,15 @@ module _ (members : ℕ) (h : List Entry) (sent : List Letter) (states : List St
   }
 
 -- a restart, whether it finds the write in doubt made or not
-pub restarted_kept : (members : ℕ) (h : List Entry) (sent : List Letter) (states : List Standing) (k : ℕ) (c : Content) (doubt w : Option Write) → Invariant members h sent states → slice_get states k ≡ Some (Stopped c doubt) → WriteOk sent c w
+pub restarted_kept : (members : ℕ) (h : List Entry) (sent : List Letter) (states : List Standing) (k : ℕ) (c : Content) (doubt w : Option Write) → Invariant members h sent states → slice_get states k ≡ Some (Stopped c doubt) → WriteOk members h sent c w
     → Invariant members (record_write k w h) sent (slice_set states k (Running (started (after_write c w))))
 restarted_kept members h sent states k c doubt w inv here fine =
-    let ok : DownOk h sent k c doubt = inv.nodes k (Stopped c doubt) here in
+    let ok : DownOk members h sent k c doubt = inv.nodes k (Stopped c doubt) here in
+    let kept : ContentOk members (record_write k w h) k (after_write c w) = write_content members h sent states k c inv ok.content w fine in
     goes_quietly members h sent states k (Stopped c doubt) inv here w (Running (started (after_write c w))) fine record {
-      content = write_content members h sent states k c inv ok.content w fine;
-      own = λ b p v is node. (let le : b ≤ c.tried = (ok.own b p v is node).0 in omega (arith, write_tried sent c w fine), tt);
+      content = kept;
+      own = λ b p v is node. (let le : b ≤ c.tried = (ok.own b p v is node).0 in omega (arith, write_tried members h sent c w fine), tt);
       role = tt;
       counted = λ n b p v there. absurd there.1;
-      learned = λ p v there. absurd there;
+      learned = kept.held;
     }
