@@ -78,7 +78,9 @@ fn hear(learner: &mut Learner, alloc: Global, members: Members, vote: Vote) -> R
     let ballot = Ballot::new(vote.ballot).ok_or("ballot")?;
     let from = NodeId::new(vote.from).ok_or("node")?;
     let value = Bytes::new(Vec::from_slice(alloc, &[vote.value])?);
-    learner.voted(members, ballot, vote.place, value, from)?;
+    if let Some(value) = learner.voted(members, ballot, vote.place, value, from)? {
+        learner.known(vote.place, value)?;
+    }
     Ok(())
 }
 
