@@ -60,3 +60,28 @@ fn broken_records_answer_nothing(rt: HostRuntime) -> Result<(), Fail> {
     assert_eq!(rt; records.failures(), 2);
     Ok(())
 }
+
+/// Whether a learned row stands after its write broke the records and they were opened again.
+fn stands(alloc: Global, failure: Failure) -> Result<bool, Fail> {
+    let (_ballot, place, value) = vote(alloc)?;
+    let mut records = FaultyRecords::new(
+        alloc,
+        Trouble {
+            failure,
+            first: 1,
+            last: 1,
+        },
+    );
+    if records.put_learned(place, &value).is_ok() {
+        return Err(Fail::from("the write was to fail"));
+    }
+    records.reopen()?;
+    Ok(records.learned_row(place)?.is_some())
+}
+
+#[test]
+fn a_learned_row_stands_where_it_was_written(rt: HostRuntime) -> Result<(), Fail> {
+    assert!(rt; stands(rt.alloc(), Failure::BrokenWritten)?);
+    assert!(rt; !stands(rt.alloc(), Failure::BrokenUnwritten)?);
+    Ok(())
+}

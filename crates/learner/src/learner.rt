@@ -146,6 +146,7 @@ impl Learner {
         ensures value { IfOk result (λ taught. OnSome taught (taught ≡ Some value)) }
         ensures unchanged { IfOk result (λ taught. OnSome taught (self.new ≡ self.old)) }
         ensures counted { IfOk result (λ taught. taught ≡ None → self.new ≡ counts self.old (at self.old.learned place) ballot place value from) }
+        ensures learned { self.new.learned ≡ self.old.learned }
         ensures again { at self.old.learned place ≢ None → IsOk result }
         ensures err { OnErr result (self.new ≡ self.old) }
     {

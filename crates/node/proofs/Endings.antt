@@ -2,7 +2,7 @@
 use Rattle.std.proofs.Common.{◌≡◌, ◌⊎◌, inl, inr, refl, sym, ap, subst, true, false, List, None, Result, Ok, Err, Vec, ℕ, [], cond}
 use Rattle.ballots.specs.declared.letters.Letter.{Letter}
 use Rattle.acceptor.specs.Content.{Content, after_write}
-use Rattle.acceptor.specs.Found.{Holds, HoldsEither, AddsNothing, FindsSame}
+use Rattle.acceptor.specs.Found.{Holds, HoldsEither, AddsNothing, FindsSame, Keeps}
 use Rattle.acceptor.specs.Faults.{IsHarmless}
 pub use Rattle.acceptor.proofs.Callers.{still_holds}
 use Rattle.acceptor.specs.declared.records.RecordsFault.{RecordsFault}
@@ -65,33 +65,64 @@ pub for_view : {R : Type 0} (may_find : R → Content → Type 0) (old new : Par
     → Does may_find old IsCourse result new → (view : View) → Stands may_find old (Running view) → (t : Standing) × Ends (IsCourse view) view (answer result) t × Stands may_find new t
 for_view may_find old new IsCourse result does view stands = subst (λ v. (t : Standing) × Ends (IsCourse v) v (answer result) t × Stands may_find new t) (sym stands.1) (does view.content stands.2)
 
--- a restart that failed
+-- a restart that failed, where the records found nothing new, and after a harmless fault hold what they held
 module _ {R : Type 0} (may_find : R → Content → Type 0) (old : Parts R) (a : R) (adds : AddsNothing (may_find old.records) (may_find a)) where
   abbrev pub FailsSo : Standing → Fault → Parts R → Type 0
   FailsSo s told new = (t : Standing) × Restarts s (Err told) t × Stands may_find new t
 
-  pub restart_fails : (fault : RecordsFault) (told : Fault) (new : Parts R) → (IsHarmless fault → FindsSame (may_find old.records) (may_find a)) → Fails record old { records = a } fault told new → (s : Standing) → Stands may_find old s → FailsSo s told new
-  restart_fails Refused told new harmless so (Running view) stands = subst (λ n. FailsSo (Running view) told n) (sym so.1) (subst (λ f. FailsSo (Running view) f record old { records = a }) (sym so.0) (Running view, refl, (stands.0, stands.1, still_holds (may_find old.records) (may_find a) view.content (harmless tt) stands.2)))
-  restart_fails OutOfMemory told new harmless so (Running view) stands = subst (λ n. FailsSo (Running view) told n) (sym so.1) (subst (λ f. FailsSo (Running view) f record old { records = a }) (sym so.0) (Running view, refl, (stands.0, stands.1, still_holds (may_find old.records) (may_find a) view.content (harmless tt) stands.2)))
+  pub restart_fails : (fault : RecordsFault) (told : Fault) (new : Parts R) → (IsHarmless fault → (c : Content) → Holds (may_find old.records) c → Holds (may_find a) c) → Fails record old { records = a } fault told new → (s : Standing) → Stands may_find old s → FailsSo s told new
+  restart_fails Refused told new harmless so (Running view) stands = subst (λ n. FailsSo (Running view) told n) (sym so.1) (subst (λ f. FailsSo (Running view) f record old { records = a }) (sym so.0) (Running view, refl, (stands.0, stands.1, harmless tt view.content stands.2)))
+  restart_fails OutOfMemory told new harmless so (Running view) stands = subst (λ n. FailsSo (Running view) told n) (sym so.1) (subst (λ f. FailsSo (Running view) f record old { records = a }) (sym so.0) (Running view, refl, (stands.0, stands.1, harmless tt view.content stands.2)))
   restart_fails Broken told new harmless so (Running view) stands = subst (λ n. FailsSo (Running view) told n) (sym so.1) (subst (λ f. FailsSo (Running view) f record old { records = a; is_down = true }) (sym so.0) (Stopped view.content None, refl, (refl, λ d is. inl (stands.2.1 d (adds d is)))))
   restart_fails Refused told new harmless so (Stopped c doubt) stands = subst (λ n. FailsSo (Stopped c doubt) told n) (sym so.1) (Stopped c doubt, (subst IsStop (sym so.0) tt, refl), (stands.0, λ d is. stands.1 d (adds d is)))
   restart_fails OutOfMemory told new harmless so (Stopped c doubt) stands = subst (λ n. FailsSo (Stopped c doubt) told n) (sym so.1) (Stopped c doubt, (subst IsStop (sym so.0) tt, refl), (stands.0, λ d is. stands.1 d (adds d is)))
   restart_fails Broken told new harmless so (Stopped c doubt) stands = subst (λ n. FailsSo (Stopped c doubt) told n) (sym so.1) (Stopped c doubt, (subst IsStop (sym so.0) tt, refl), (refl, λ d is. stands.1 d (adds d is)))
 
+-- what a reopen and then a read leave, by what the read did
+module _ (old mid new : Content → Type 0) (finds : (a b : Content) → HoldsEither old a b → Holds mid a ⊎ Holds mid b) where
+  held : (c : Content) → Holds old c → Holds mid c
+  held c holds = by_one (finds c c (either_same old c holds))
+    where
+      by_one : Holds mid c ⊎ Holds mid c → Holds mid c
+      by_one (inl h) = h
+      by_one (inr h) = h
+
+  pub reads : FindsSame mid new → (a b : Content) → HoldsEither old a b → Holds new a ⊎ Holds new b
+  reads same a b either = by_one (finds a b either)
+    where
+      by_one : Holds mid a ⊎ Holds mid b → Holds new a ⊎ Holds new b
+      by_one (inl h) = inl (still_holds mid new a same h)
+      by_one (inr h) = inr (still_holds mid new b same h)
+
+  pub reads_harmless : (T : Type 0) (fault : RecordsFault) → Keeps {T = T} (Err fault) mid new → IsHarmless fault → (c : Content) → Holds old c → Holds new c
+  reads_harmless T Refused keeps harmless c holds = still_holds mid new c keeps (held c holds)
+  reads_harmless T OutOfMemory keeps harmless c holds = still_holds mid new c keeps (held c holds)
+  reads_harmless T Broken keeps harmless c holds = absurd harmless
+
+-- nothing is found after a reopen and a read that failed but what was to be found before
+pub adds_nothing : (T : Type 0) (old mid new : Content → Type 0) → AddsNothing old mid → (fault : RecordsFault) → Keeps {T = T} (Err fault) mid new → AddsNothing old new
+adds_nothing T old mid new adds Refused keeps d is = adds d ((keeps d).1 is)
+adds_nothing T old mid new adds OutOfMemory keeps d is = adds d ((keeps d).1 is)
+adds_nothing T old mid new adds Broken keeps d is = adds d (keeps d is)
+
 -- a restart that is Ok
-pub restart_ends : {R : Type 0} (may_find : R → Content → Type 0) (old new : Parts R) → new.is_down ≡ false → ((c : Content) → view_over new c ≡ started c)
+pub restart_ends : {R : Type 0} (may_find : R → Content → Type 0) (old new : Parts R) → new.is_down ≡ false → ((c : Content) → Holds (may_find new.records) c → view_over new c ≡ started c)
     → ((a b : Content) → HoldsEither (may_find old.records) a b → Holds (may_find new.records) a ⊎ Holds (may_find new.records) b)
     → (s : Standing) → Stands may_find old s → (t : Standing) × Restarts s (Ok tt) t × Stands may_find new t
-restart_ends may_find old new up fresh finds (Running view) stands = (Running (started view.content), refl, (up, sym (fresh view.content), same (finds view.content view.content (either_same (may_find old.records) view.content stands.2))))
+restart_ends may_find old new up fresh finds (Running view) stands = by_one (finds view.content view.content (either_same (may_find old.records) view.content stands.2))
   where
-    same : Holds (may_find new.records) view.content ⊎ Holds (may_find new.records) view.content → Holds (may_find new.records) view.content
-    same (inl h) = h
-    same (inr h) = h
+    by_one : Holds (may_find new.records) view.content ⊎ Holds (may_find new.records) view.content → (t : Standing) × Restarts (Running view) (Ok tt) t × Stands may_find new t
+    by_one (inl h) = (Running (started view.content), refl, (up, sym (fresh view.content h), h))
+    by_one (inr h) = (Running (started view.content), refl, (up, sym (fresh view.content h), h))
 restart_ends may_find old new up fresh finds (Stopped c doubt) stands = by_one (finds c (after_write c doubt) stands.1)
   where
     by_one : Holds (may_find new.records) c ⊎ Holds (may_find new.records) (after_write c doubt) → (t : Standing) × Restarts (Stopped c doubt) (Ok tt) t × Stands may_find new t
-    by_one (inl h) = (Running (started c), inl refl, (up, sym (fresh c), h))
-    by_one (inr h) = (Running (started (after_write c doubt)), inr refl, (up, sym (fresh (after_write c doubt)), h))
+    by_one (inl h) = (Running (started c), inl refl, (up, sym (fresh c h), h))
+    by_one (inr h) = (Running (started (after_write c doubt)), inr refl, (up, sym (fresh (after_write c doubt) h), h))
+
+-- what is read of records is read of those after the read
+pub read_after : (old new : Content → Type 0) → FindsSame old new → (c : Content) → Holds new c → Holds old c
+read_after old new same c holds = still_holds new old c (λ d. ((same d).1, (same d).0)) holds
 
 -- a letter that isn't heeded
 pub unheeded : {R : Type 0} (may_find : R → Content → Type 0) (count_of : R → ℕ) (n : Parts R) (l : Letter) → n.is_down ≡ false → is_heeded (member_count n.proposer.members) n.proposer.id l ≡ false → (letters : List Letter) → letters ≡ []

@@ -24,20 +24,21 @@ greatest_above : (m : ℕ) (votes : List (ℕ × Cast)) → m ≤ greatest m vot
 greatest_above m [] = omega arith
 greatest_above m (vote ∷ votes) = omega (arith, greatest_above m votes)
 
--- the votes from place 1 on are all votes
-all_votes : (p : ℕ) (votes : List (ℕ × Cast)) → 1 ≤ p → AreRowsFrom p votes → rows_from votes 1 ≡ votes
-all_votes p [] first are = refl
-all_votes p (vote ∷ votes) first are =
-    let at_first : 1 ≤ vote.0 = omega (arith, first, are.0) in
-    ap (λ b. cond b (vote ∷ rows_from votes 1) (rows_from votes 1)) (le-leb 1 vote.0 at_first) ∙ ap (λ r. vote ∷ r) (all_votes (vote.0 + 1) votes (omega (arith, at_first)) are.2)
+-- the rows from place 1 on are all rows
+pub all_rows : {V : Type 0} (p : ℕ) (rows : List (ℕ × V)) → 1 ≤ p → AreRowsFrom p rows → rows_from rows 1 ≡ rows
+all_rows p [] first are = refl
+all_rows p (row ∷ rows) first are =
+    let at_first : 1 ≤ row.0 = omega (arith, first, are.0) in
+    ap (λ b. cond b (row ∷ rows_from rows 1) (rows_from rows 1)) (le-leb 1 row.0 at_first) ∙ ap (λ r. row ∷ r) (all_rows (row.0 + 1) rows (omega (arith, at_first)) are.2)
 
-pub empty_content : (c : Content) (used : ℕ) → used ≡ max c.tried (promised c) → used ≡ 0 → IsSound c → rows_from c.votes 1 ≡ [] → c ≡ no_content
-empty_content c used is none sound empty =
+pub empty_content : (c : Content) (used : ℕ) → used ≡ max c.tried (promised c) → used ≡ 0 → IsSound c → rows_from c.votes 1 ≡ [] → rows_from c.learned 1 ≡ [] → c ≡ no_content
+empty_content c used is none sound empty unlearned =
     let above : c.row ≤ promised c = greatest_above c.row c.votes in
     let tried : c.tried ≡ 0 = omega (arith, is, none) in
     let row : c.row ≡ 0 = omega (arith, is, none, above) in
-    let votes : c.votes ≡ [] = sym (all_votes 1 c.votes (omega arith) sound) ∙ empty in
-    (λ i. record { tried = tried i; row = row i; votes = votes i })
+    let votes : c.votes ≡ [] = sym (all_rows 1 c.votes (omega arith) sound.0) ∙ empty in
+    let learned : c.learned ≡ [] = sym (all_rows 1 c.learned (omega arith) sound.1) ∙ unlearned in
+    (λ i. record { tried = tried i; row = row i; votes = votes i; learned = learned i })
 
 module _ {R : Type 0} (may_find : R → Content → Type 0) (old : Parts R) (up : old.is_down ≡ false) where
   -- it is fresh exactly where it is untouched over no content
@@ -52,6 +53,9 @@ module _ {R : Type 0} (may_find : R → Content → Type 0) (old : Parts R) (up 
 
   pub voted_content : (c : Content) (votes : List (ℕ × Cast)) → votes ≡ rows_from c.votes 1 → (votes ≡ [] → ⊥) → view_over old c ≡ started no_content → ⊥
   voted_content c votes is some same = let empty : c ≡ no_content = ap (λ (v : View). v.content) same in some (is ∙ ap (λ (d : Content). rows_from d.votes 1) empty)
+
+  pub learned_content : (c : Content) (rows : List (ℕ × List ℕ)) → rows ≡ rows_from c.learned 1 → (rows ≡ [] → ⊥) → view_over old c ≡ started no_content → ⊥
+  learned_content c rows is some same = let empty : c ≡ no_content = ap (λ (v : View). v.content) same in some (is ∙ ap (λ (d : Content). rows_from d.learned 1) empty)
 
   module _ (a : R) where
     abbrev pub later : Parts R
@@ -100,7 +104,9 @@ module _ {R : Type 0} (may_find : R → Content → Type 0) (old new : Parts R) 
       let row : d.row ≡ 0 = ∥∥₁_elim somewhere (ℕ_set d.row 0) (λ s. ap (λ (c : Content). c.row) (same (it_holds s))) in
       let count : length d.votes ≡ 0 = ∥∥₁_elim somewhere (ℕ_set (length d.votes) 0) (λ s. ap (λ (c : Content). length c.votes) (same (it_holds s))) in
       let votes : d.votes ≡ [] = nil_from_length d.votes count in
-      (λ i. record { tried = tried i; row = row i; votes = votes i })
+      let several : length d.learned ≡ 0 = ∥∥₁_elim somewhere (ℕ_set (length d.learned) 0) (λ s. ap (λ (c : Content). length c.learned) (same (it_holds s))) in
+      let learned : d.learned ≡ [] = nil_from_length d.learned several in
+      (λ i. record { tried = tried i; row = row i; votes = votes i; learned = learned i })
 
   pub stands_fresh : new.is_down ≡ false → IsUntouched new → Stands may_find new (Running (started no_content))
   stands_fresh up untouched = (

@@ -1,7 +1,13 @@
--- What a node has learned after one more vote or Known.
-use Rattle.std.proofs.Common.{◌≡◌, ◌⊎◌, inl, inr, ℕ, ◌≤◌, Bool, true, false, cond, List, Option, Some, None, refl, sym, ap, subst, ◌∙◌}
+-- What a node has learned after one value more.
+use Rattle.std.proofs.Common.{◌≡◌, ◌⊎◌, inl, inr, ℕ, ◌≤◌, Bool, true, false, cond, List, [], ◌∷◌, Option, Some, None, refl, sym, ap, subst, ◌∙◌}
+use Rattle.std.specs.Cmp.{nat_cmp_is}
+use Rattle.std.specs.Map.{remove_entry}
+use Rattle.std.specs.BTreeMap.{is_at}
+use Rattle.std.specs.Ordering.{nat_cmp, is_eq}
+use Rattle.std.specs.declared.cmp.Ordering.TheVariants.{Equal, Greater}
 use Rattle.ballots.specs.Rows.{at, put}
-use Rattle.learner.specs.Tally.{Tally, known, voted, learn, put_voters, with_voter, is_majority, is_voter}
+use Rattle.ballots.proofs.Callers.{in_order, put_before, put_after, at_here, at_after}
+use Rattle.learner.specs.Tally.{Tally, known, teaches}
 use Rattle.command_log.specs.Values.{Rows, outputs_of_values, gapless, values_from}
 use Rattle.command_log.specs.View.{AreRows, IsLog, LogView}
 use Rattle.command_log.proofs.Callers.{are_rows_put, outputs_first}
@@ -19,24 +25,37 @@ known_one : (tally : Tally) (o : Option (List ℕ)) (p : ℕ) (v : List ℕ) →
 known_one tally None p v none = inr (none, refl)
 known_one tally (Some w) p v some = inl refl
 
-voted_one : (members : ℕ) (tally : Tally) (o : Option (List ℕ)) (b p : ℕ) (v : List ℕ) (n : ℕ) → at tally.learned p ≡ o → LearnsOne tally (voted members tally o b p v n).learned p v
-voted_one members tally (Some w) b p v n some = inl refl
-voted_one members tally None b p v n none = by_test (is_majority members (is_voter (with_voter tally.counted n b p v)))
-  where
-    by_test : (x : Bool) → LearnsOne tally (cond x (learn tally p v) record { counted = put_voters tally.counted b p v (with_voter tally.counted n b p v); learned = tally.learned }).learned p v
-    by_test true = inr (none, refl)
-    by_test false = inl refl
+-- what stands at a place to which a vote teaches its value
+pub unlearned : (members : ℕ) (tally : Tally) (o : Option (List ℕ)) (b p : ℕ) (v : List ℕ) (n : ℕ) → true ≡ teaches members tally o b p v n → o ≡ None
+unlearned members tally None b p v n so = refl
+unlearned members tally (Some w) b p v n so = absurd (cc (so))
 
-module _ (tally : Tally) (p : ℕ) (v : List ℕ) (log : Rows) (lo : 1 ≤ p) (hi : p ≤ most_places) (are : AreRows 1 tally.learned) (part : IsPart log tally.learned) where
-  keeps : (new : Rows) → LearnsOne tally new p v → AreRows 1 new × IsPart log new
-  keeps new (inl is) = (subst (AreRows 1) (sym is) are, subst (IsPart log) (sym is) part)
-  keeps new (inr learns) = (subst (AreRows 1) (sym learns.1) (are_rows_put 1 p v tally.learned are lo hi), subst (IsPart log) (sym learns.1) (part_grows log tally.learned p v part learns.0))
+-- a value more
+module _ (tally : Tally) (p : ℕ) (v : List ℕ) (lo : 1 ≤ p) (hi : p ≤ most_places) (are : AreRows 1 tally.learned) where
+  pub known_rows : AreRows 1 (known tally (at tally.learned p) p v).learned
+  known_rows = elim (known_one tally (at tally.learned p) p v refl) [
+    | inl is ↦ subst (AreRows 1) (sym is) are
+    | inr learns ↦ subst (AreRows 1) (sym learns.1) (are_rows_put 1 p v tally.learned are lo hi)
+  ]
 
-  pub known_keeps : (new : Tally) → new ≡ known tally (at tally.learned p) p v → AreRows 1 new.learned × IsPart log new.learned
-  known_keeps new is = keeps new.learned (subst (λ (t : Tally). LearnsOne tally t.learned p v) (sym is) (known_one tally (at tally.learned p) p v refl))
+  module _ (log : Rows) (part : IsPart log tally.learned) (none : at tally.learned p ≡ None) (new : Rows) (is : new ≡ put tally.learned p v) where
+    pub learn_keeps : AreRows 1 new × IsPart log new
+    learn_keeps = (subst (AreRows 1) (sym is) (are_rows_put 1 p v tally.learned are lo hi), subst (IsPart log) (sym is) (part_grows log tally.learned p v part none))
 
-  pub voted_keeps : (members b n : ℕ) (new : Tally) → new ≡ voted members tally (at tally.learned p) b p v n → AreRows 1 new.learned × IsPart log new.learned
-  voted_keeps members b n new is = keeps new.learned (subst (λ (t : Tally). LearnsOne tally t.learned p v) (sym is) (voted_one members tally (at tally.learned p) b p v n refl))
+at_itself : (p : ℕ) (v : List ℕ) (rows : Rows) → remove_entry (is_at (nat_cmp p)) ((p, v) ∷ rows) ≡ rows
+at_itself p v rows = ap (λ o. cond (is_eq o) rows ((p, v) ∷ remove_entry (is_at (nat_cmp p)) rows)) (sym (nat_cmp_is p p Equal refl))
+
+-- a row that is put at a place without one and taken away again
+pub put_back : (q p : ℕ) (v : List ℕ) (rows : Rows) → AreRows q rows → at rows p ≡ None → remove_entry (is_at (nat_cmp p)) (put rows p v) ≡ rows
+put_back q p v [] are none = at_itself p v []
+put_back q p v (row ∷ rows) are none = elim (in_order p row.0) [
+  | inl before ↦ ap (remove_entry (is_at (nat_cmp p))) (put_before row.0 row.1 rows p v before) ∙ at_itself p v (row ∷ rows)
+  | inr (inl here) ↦ let there : at (row ∷ rows) p ≡ Some row.1 = at_here row.0 row.1 rows p here in absurd (cc (none, there))
+  | inr (inr after) ↦
+      ap (remove_entry (is_at (nat_cmp p))) (put_after row.0 row.1 rows p v after)
+      ∙ ap (λ o. cond (is_eq o) (put rows p v) (row ∷ remove_entry (is_at (nat_cmp p)) (put rows p v))) (sym (nat_cmp_is p row.0 Greater after))
+      ∙ ap (λ (r : Rows). row ∷ r) (put_back (row.0 + 1) p v rows are.2 (sym (at_after row.0 row.1 rows p after) ∙ none))
+]
 
 -- places that are learned stay so
 pub are_learned : (first second : Rows) (n : ℕ) → IsPart first second → AreLearned first n → AreLearned second n

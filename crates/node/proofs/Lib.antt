@@ -11,3 +11,5 @@ pub mod Knowing
 pub mod Releasing
 pub mod Orders
 pub mod Telling
+pub mod Reading
+pub mod Learning

@@ -1,5 +1,5 @@
 -- What a node's answer tells of its store.
-use Rattle.std.proofs.Common.{◌≡◌, inl, ℕ, Bool, true, false, refl, sym, subst, ◌∙◌, Err}
+use Rattle.std.proofs.Common.{◌≡◌, inl, inr, ℕ, Bool, true, false, refl, sym, subst, ◌∙◌, Err}
 use Rattle.acceptor.specs.Faults.{CountsFaults, BreaksBy, BreaksByReopen}
 use Rattle.acceptor.specs.declared.records.RecordsFault.{RecordsFault}
 use Rattle.acceptor.specs.declared.records.RecordsFault.TheVariants.{Refused, Broken, OutOfMemory}
@@ -14,6 +14,15 @@ pub fails_so : {R : Type 0} (old : Parts R) (fault : RecordsFault) (first answer
 fails_so old Refused first answer new is same stops = (same ∙ is, subst (λ f. Stops old f new) is stops)
 fails_so old OutOfMemory first answer new is same stops = (same ∙ is, subst (λ f. Stops old f new) is stops)
 fails_so old Broken first answer new is same stops = (same ∙ is, subst (λ f. Stops old f new) is stops)
+
+-- what a second call of the store tells, after a first that was Ok
+pub counts_then : (first mid last : ℕ) (fault : RecordsFault) → mid ≡ first → CountsFaults {T = Unit {0}} (Err fault) mid last → CountsFaults {T = Unit {0}} (Err fault) first last
+counts_then first mid last fault is counts = subst (λ n. CountsFaults {T = Unit {0}} (Err fault) n last) is counts
+
+pub breaks_then : (first mid last : Bool) (fault : RecordsFault) → first ≡ false → BreaksBy {T = Unit {0}} (Err fault) mid last → BreaksBy {T = Unit {0}} (Err fault) first last
+breaks_then first mid last Refused is breaks = (is, breaks.1)
+breaks_then first mid last OutOfMemory is breaks = (is, breaks.1)
+breaks_then first mid last Broken is breaks = breaks
 
 module _ {R : Type 0} (count_of : R → ℕ) (is_broken : R → Bool) (old : Parts R) (a : R) where
   abbrev later : Parts R
@@ -39,22 +48,30 @@ module _ {R : Type 0} (count_of : R → ℕ) (is_broken : R → Bool) (old : Par
       → KeptByRestart {T = Unit {0}} (who_of count_of is_broken old) (Err answer) (who_of count_of is_broken new)
   restart_failed Refused answer new so counts breaks =
       subst (λ n. KeptByRestart {T = Unit {0}} (who_of count_of is_broken old) (Err answer) (who_of count_of is_broken n)) (sym so.1)
-      (subst (λ f. KeptByRestart {T = Unit {0}} (who_of count_of is_broken old) (Err f) (who_of count_of is_broken later)) (sym so.0) (refl, refl, counts.0, (counts.1 tt, breaks), refl))
+      (subst (λ f. KeptByRestart {T = Unit {0}} (who_of count_of is_broken old) (Err f) (who_of count_of is_broken later)) (sym so.0) (refl, refl, counts.0, (counts.1 tt, inr breaks), refl))
   restart_failed OutOfMemory answer new so counts breaks =
       subst (λ n. KeptByRestart {T = Unit {0}} (who_of count_of is_broken old) (Err answer) (who_of count_of is_broken n)) (sym so.1)
-      (subst (λ f. KeptByRestart {T = Unit {0}} (who_of count_of is_broken old) (Err f) (who_of count_of is_broken later)) (sym so.0) (refl, refl, counts.0, (counts.2 tt, breaks), refl))
+      (subst (λ f. KeptByRestart {T = Unit {0}} (who_of count_of is_broken old) (Err f) (who_of count_of is_broken later)) (sym so.0) (refl, refl, counts.0, (counts.2 tt, inr breaks), refl))
   restart_failed Broken answer new so counts breaks =
       subst (λ n. KeptByRestart {T = Unit {0}} (who_of count_of is_broken old) (Err answer) (who_of count_of is_broken n)) (sym so.1)
       (subst (λ f. KeptByRestart {T = Unit {0}} (who_of count_of is_broken old) (Err f) (who_of count_of is_broken record later { is_down = true })) (sym so.0) (refl, refl, counts.0, (counts.1 tt, breaks), refl))
 
--- what a second call of the store tells, after a first that was Ok
-pub counts_then : (first mid last : ℕ) (fault : RecordsFault) → mid ≡ first → CountsFaults {T = Unit {0}} (Err fault) mid last → CountsFaults {T = Unit {0}} (Err fault) first last
-counts_then first mid last fault is counts = subst (λ n. CountsFaults {T = Unit {0}} (Err fault) n last) is counts
-
-pub breaks_then : (first mid last : Bool) (fault : RecordsFault) → first ≡ false → BreaksBy {T = Unit {0}} (Err fault) mid last → BreaksBy {T = Unit {0}} (Err fault) first last
-breaks_then first mid last Refused is breaks = (is, breaks.1)
-breaks_then first mid last OutOfMemory is breaks = (is, breaks.1)
-breaks_then first mid last Broken is breaks = breaks
+  -- a restart in which the store was reopened, and failed as it was read
+  pub reading_failed : (mid : ℕ) (broken : Bool) (fault : RecordsFault) (answer : Fault) (new : Parts R) → Fails later fault answer new
+      → mid ≡ count_of old.records → CountsFaults {T = Unit {0}} (Err fault) mid (count_of a) → BreaksBy {T = Unit {0}} (Err fault) broken (is_broken a)
+      → KeptByRestart {T = Unit {0}} (who_of count_of is_broken old) (Err answer) (who_of count_of is_broken new)
+  reading_failed mid broken Refused answer new so same counts breaks =
+      let all = counts_then (count_of old.records) mid (count_of a) Refused same counts in
+      subst (λ n. KeptByRestart {T = Unit {0}} (who_of count_of is_broken old) (Err answer) (who_of count_of is_broken n)) (sym so.1)
+      (subst (λ f. KeptByRestart {T = Unit {0}} (who_of count_of is_broken old) (Err f) (who_of count_of is_broken later)) (sym so.0) (refl, refl, all.0, (all.1 tt, inl breaks.1), refl))
+  reading_failed mid broken OutOfMemory answer new so same counts breaks =
+      let all = counts_then (count_of old.records) mid (count_of a) OutOfMemory same counts in
+      subst (λ n. KeptByRestart {T = Unit {0}} (who_of count_of is_broken old) (Err answer) (who_of count_of is_broken n)) (sym so.1)
+      (subst (λ f. KeptByRestart {T = Unit {0}} (who_of count_of is_broken old) (Err f) (who_of count_of is_broken later)) (sym so.0) (refl, refl, all.0, (all.2 tt, inl breaks.1), refl))
+  reading_failed mid broken Broken answer new so same counts breaks =
+      let all = counts_then (count_of old.records) mid (count_of a) Broken same counts in
+      subst (λ n. KeptByRestart {T = Unit {0}} (who_of count_of is_broken old) (Err answer) (who_of count_of is_broken n)) (sym so.1)
+      (subst (λ f. KeptByRestart {T = Unit {0}} (who_of count_of is_broken old) (Err f) (who_of count_of is_broken record later { is_down = true })) (sym so.0) (refl, refl, all.0, (all.1 tt, breaks), refl))
 
 -- what a proposer's answer tells
 module _ {R : Type 0} (count_of : R → ℕ) (is_broken : R → Bool) (old : Parts R) (a : R) (up : old.is_down ≡ false) where

@@ -13,6 +13,7 @@ ghost use Rattle.learner.specs.Tally.{no_tally, counts, learn, teaches};
 ghost use Rattle.command_log.specs.Values.{outputs_of_values, values_from};
 ghost use Rattle.command_log.specs.View.{AreRows, IsLog};
 ghost use Rattle.map_release.specs.Released.{released};
+ghost use Rattle.node.specs.Calls.{IsStop};
 ghost use Rattle.node.specs.Learned.{IsPart};
 
 use crate::letters::prefix_len;
@@ -164,6 +165,7 @@ impl Knowledge {
         requires { at self.old.tally.learned place ≡ None }
         ensures learned { OnOk result (self.new ≡ record self.old { tally = learn self.old.tally place value.now }) }
         ensures unchanged { OnErr result (self.new ≡ self.old) }
+        ensures stops { IfErr result IsStop }
         ensures ok { IsTrue (R.is_honest records.new) → OnOk result (HasMade (R.may_find records.old) (R.may_find records.new) (Learns place value.now)) }
         ensures harmless { IsTrue (R.is_honest records.new) → IfErr result (λ fault. IsHarmlessStop fault → FindsSame (R.may_find records.old) (R.may_find records.new)) }
         ensures doubt { IsTrue (R.is_honest records.new) → OnErr result (MayHaveMade (R.may_find records.old) (R.may_find records.new) (Learns place value.now)) }

@@ -424,7 +424,7 @@ impl<R: Records> Parts<R> {
         if !votes.rows().is_empty() {
             return Ok(false);
         }
-        if !learned.is_empty() {
+        if !learned.as_slice().is_empty() {
             return Ok(false);
         }
         Ok(self.is_untouched())

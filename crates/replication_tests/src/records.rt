@@ -116,3 +116,39 @@ fn records_keep_their_rows(rt: HostRuntime) -> Result<(), Fail> {
     assert_eq!(rt; votes(&mut records, place)?, (9, 1));
     Ok(())
 }
+
+/// The rows that were learned of places from one on.
+fn learned_from<R: Records>(
+    rt: &impl Abort,
+    alloc: Global,
+    records: &mut R,
+    number: u64,
+) -> Result<String, Fail> {
+    let mut text = String::new(alloc);
+    for (place, value) in records.learned_from(Place::new(number).expect(rt, "a place"))? {
+        text.push_str(&format!(in alloc; "{} {:?};", place.number(), value.as_slice())?)?;
+    }
+    Ok(text)
+}
+
+#[test]
+fn learned_rows_stand_by_place(rt: HostRuntime) -> Result<(), Fail> {
+    let alloc = rt.alloc();
+    let second = Place::new(2).expect(&rt, "a place");
+    let third = Place::new(3).expect(&rt, "a place");
+    let mut records = PlainRecords::new(alloc);
+    for (place, byte) in [(third, b'C'), (second, b'B'), (third, b'D')] {
+        records.put_learned(place, &value(&rt, alloc, byte)?)?;
+    }
+    assert_eq!(rt;
+        learned_from(&rt, alloc, &mut records, 1)?.as_str(),
+        "2 [66];3 [68];"
+    );
+    assert_eq!(rt;
+        learned_from(&rt, alloc, &mut records, 3)?.as_str(),
+        "3 [68];"
+    );
+    let held = records.learned_row(third)?.expect(&rt, "a row");
+    assert_eq!(rt; held.as_slice(), [68].as_slice());
+    Ok(())
+}
