@@ -1,5 +1,5 @@
 -- Records over a connection.
-use Rattle.std.specs.Prelude.{◌≡◌, ◌≢◌, ℕ, Bool, true, false, ◌&&◌, Option, Some, None, ◌⊎◌, IfSome, IsTrue, refl}
+use Rattle.std.specs.Prelude.{◌≡◌, ◌≢◌, ℕ, map, Bool, true, false, ◌&&◌, Option, Some, None, ◌⊎◌, IfSome, IsTrue, refl}
 use Rattle.std.specs.Coded.{Coded, code_by, coded×, coded_bool, coded_ℕ, coded_option}
 use Rattle.ballots.specs.Ballots.{number_of}
 use Rattle.sqlite_disk.specs.declared.Disk as disk
@@ -8,7 +8,7 @@ use Rattle.sqlite.specs.Files.{HoldsDatabase, image_of}
 use Rattle.sqlite.specs.Store.{Ghosts}
 use Rattle.sqlite.specs.Tree.{Trees}
 use Rattle.sqlite.specs.Schema.{Schema}
-use Rattle.sqlite.specs.State.{HasCleanDisk}
+use Rattle.sqlite.specs.State.{State, HasCleanDisk}
 use Rattle.sqlite.specs.Effect.{IsDatabase}
 use Rattle.sqlite.specs.Held.{AreDatabases, Held, held_code, state}
 use Rattle.sqlite_store.specs.declared.store.FileStore.{FileStore}
@@ -16,11 +16,12 @@ use Rattle.sqlite_store.specs.FileStore.{recovers, view, state as store_state}
 use Rattle.sqlite_wal.specs.Recovery.{Image}
 use Rattle.acceptor.specs.Content.{Content, no_content, promised}
 use Rattle.acceptor.specs.Found.{Holds, AddsNothing}
-use Rattle.acceptor_store_parts.specs.Tables.{store_schema, blank_schema}
+use Rattle.acceptor_store_parts.specs.declared.Version.{Version}
+use Rattle.acceptor_store_parts.specs.Tables.{store_schema, schema_of, blank_schema}
 use Rattle.acceptor_store_parts.specs.Rowids.{IsReread}
-use Rattle.acceptor_store_parts.specs.Stored.{AreTables, IsOfNode}
+use Rattle.acceptor_store_parts.specs.Stored.{AreTables, AreTablesOf, IsOfNode, number_row, numbers_of}
 use Rattle.acceptor_store_parts.specs.Foreign.{IsForeign, IsForeignSchema}
-use Rattle.acceptor_store_parts.specs.Serves.{Serves}
+use Rattle.acceptor_store_parts.specs.Serves.{Serves, ServesAs}
 
 -- records as their contracts see them
 pub record Linked (S : Type 0) : Type 0 where
@@ -84,7 +85,7 @@ IsTested g old new highest c =
 
 -- what tests of the tables told
 abbrev pub Tells : {S : Type 0} → Ghosts S → Held S → Held S → Option ℕ → Type 0
-Tells g old new highest = ((state g old).now.schema ≡ store_schema) × ((k : Content) × ((c : Content) → Serves (state g old) c → (c ≡ k) × IsTested g old new highest c))
+Tells g old new highest = ((state g old).now.schema ≡ store_schema) × ((c : Content) → Serves (state g old) c → IsTested g old new highest c)
 
 -- a connection opened anew serves what the old one may have left
 pub record Reopens {S : Type 0} (g : Ghosts S) (old new : Held S) (highest : Option ℕ) : Type 0 where
@@ -94,31 +95,56 @@ pub record Reopens {S : Type 0} (g : Ghosts S) (old new : Held S) (highest : Opt
   pub holds : (before : Stands g old) → Holds (MayFindIn g new) (knows before).0
   pub adds_nothing : Stands g old → AddsNothing (MayFindIn g old) (MayFindIn g new)
 
--- it serves what its tables hold, which a node wrote
-abbrev pub Examines : {S : Type 0} → Ghosts S → Held S → Held S → Option ℕ → Type 0
-Examines g old new highest = IsReread (state g old) → (c : Content) × AreTables (state g old).now.trees c × IsOfNode c × Serves (state g new) c × (number_of highest ≡ promised c)
+-- the table of numbers has these
+abbrev pub HasNumbers : Version → Trees → ℕ → ℕ → Type 0
+HasNumbers version db tried row = db 0 ≡ map (λ e. number_row e.0 e.1) (numbers_of version tried row)
 
--- the last commit holds the content, which a node wrote, or has no tables at all
+-- it sees what it saw, and serves in this version what it served
+abbrev pub StaysAs : Version → State → State → Type 0
+StaysAs version old new = (new.now ≡ old.now) × ((c : Content) → ServesAs version old c → ServesAs version new c)
+
+-- it serves in this version what its tables hold, which a node wrote and of which this is the promised ballot
+abbrev pub Examines : {S : Type 0} → Ghosts S → Version → Held S → Held S → Option ℕ → Type 0
+Examines g version old new highest =
+    IsReread version (state g old)
+    → (c : Content) × AreTablesOf version (state g old).now.trees c × IsOfNode c × ServesAs version (state g new) c × (number_of highest ≡ promised c) × ((state g new).now ≡ (state g old).now)
+
+-- the last commit holds this content, which a node wrote, in tables of this version
+abbrev pub HadIn : {S : Type 0} → Ghosts S → Version → Held S → Content → Type 0
+HadIn g version conn c = ((state g conn).now.schema ≡ schema_of version) × AreTablesOf version (state g conn).committed.trees c × IsOfNode c
+
+-- the last commit holds the content, which a node wrote, in tables of one of the versions, or has no tables at all
 abbrev pub Had : {S : Type 0} → Ghosts S → Held S → Content → Type 0
-Had g conn c =
-    (((state g conn).now.schema ≡ blank_schema) × (c ≡ no_content))
-    ⊎ (((state g conn).now.schema ≡ store_schema) × AreTables (state g conn).committed.trees c × IsOfNode c)
+Had g conn c = (((state g conn).now.schema ≡ blank_schema) × (c ≡ no_content)) ⊎ ((version : Version) × HadIn g version conn c)
+
+-- it serves in this version what the older one had, of which this is the promised ballot
+abbrev pub Finds : {S : Type 0} → Ghosts S → Version → Held S → Held S → Option ℕ → Type 0
+Finds g version old new highest =
+    (c : Content) × HadIn g version old c × ServesAs version (state g new) c × (number_of highest ≡ promised c) × ((state g new).committed.trees ≡ (state g old).committed.trees)
+
+-- what a crash might have left of the connection, or what it had committed
+abbrev pub IsLeftAsWas : {S : Type 0} → Ghosts S → Held S → Trees → Type 0
+IsLeftAsWas g conn db = (state g conn).may_leave db ⊎ (db ≡ (state g conn).committed.trees)
+
+-- what it had is whole: as it was, or with the same content in the tables of version 2
+abbrev pub IsLeftWhole : {S : Type 0} → Ghosts S → Held S → Trees → Type 0
+IsLeftWhole g conn db = IsLeftAsWas g conn db ⊎ ((c : Content) → Had g conn c → AreTables db c)
 
 -- no node wrote the database that the connection sees
 abbrev pub SeesForeign : {S : Type 0} → Ghosts S → Held S → Type 0
 SeesForeign g conn = IsForeign (state g conn).now.schema (state g conn).committed.trees
 
--- tables, indexes or views beside the two tables or without them, or the two declared otherwise, of which a node made none or all
+-- tables, indexes or views beside the tables of a version or without them, or these declared otherwise, of which a node made none or all
 abbrev pub HasFurther : Schema → Type 0
-HasFurther s = (IsForeignSchema s → ⊥) × (s ≢ store_schema) × (s ≢ blank_schema)
+HasFurther s = (IsForeignSchema s → ⊥) × ((version : Version) → s ≢ schema_of version) × (s ≢ blank_schema)
 
 -- it serves what the older one had, and this is the promised ballot
 abbrev pub Prepares : {S : Type 0} → Ghosts S → Held S → Held S → Option ℕ → Type 0
 Prepares g old new highest = (c : Content) × Had g old c × Serves (state g new) c × (number_of highest ≡ promised c)
 
--- the trees are those of the content, or of a database without tables, and the content is none
+-- the trees are those of the content in one of the versions, or of a database without tables, and the content is none
 abbrev pub IsKeptIn : Trees → Content → Type 0
-IsKeptIn db c = AreTables db c ⊎ (IsDatabase (record { schema = blank_schema; trees = db }) × (c ≡ no_content))
+IsKeptIn db c = ((version : Version) × AreTablesOf version db c) ⊎ (IsDatabase (record { schema = blank_schema; trees = db }) × (c ≡ no_content))
 
 -- a database that the files hold has the content, or it has no tables and the content is none
 abbrev pub IsIn : {D : Type 0} → disk.Ghosts D → Files D → Content → Type 0

@@ -1,37 +1,36 @@
 //! Records in SQL tables.
 #![tactic(auto)]
 
-ghost use Rattle.std.specs.Prelude.{◌≡◌, ◌≢◌, ◌≤◌, Err, false, not, if◌then◌else◌, pos, IfOk, IfErr, IfSome, IsErrAnd, IsSome, IsSomeAnd, OnOk, Some, max, IsTrue, ◌↔◌, ◌⊎◌, ◌&&◌};
+mod opening;
+
+ghost use Rattle.std.specs.Prelude.{◌≡◌, ◌≢◌, ◌≤◌, Err, false, map, not, if◌then◌else◌, pos, IfOk, IfErr, IfSome, IsErrAnd, IsSome, IsSomeAnd, OnOk, Some, max, IsTrue, ◌↔◌, ◌⊎◌, ◌&&◌};
 ghost use Rattle.ballots.specs.Ballots.{number_of};
 ghost use Rattle.acceptor.specs.Faults.{BreaksBy, CountsFaults, HasRisen, IsHarmless, IsStoreFault};
 ghost use Rattle.acceptor.specs.declared.records.RecordsFault.TheVariants.{OutOfMemory};
-ghost use Rattle.acceptor.specs.Content.{Content, IsSound, promised, greatest, no_content};
+ghost use Rattle.acceptor.specs.Content.{Content, IsSound, promised, greatest};
 ghost use Rattle.ballots.specs.Rows.{at, rows_from};
-ghost use Rattle.acceptor.specs.Content.Write.{Tries, Promises, Votes as Casts};
+ghost use Rattle.acceptor.specs.Content.Write.{Tries, Promises, Votes as Casts, Learns};
 ghost use Rattle.acceptor.specs.Found.{Holds, HoldsEither, AddsNothing, AddsOnly, FindsSame, HasMade, Keeps, MayHaveMade};
 ghost use Rattle.sqlite.specs.Files.{over_files, file_state};
 ghost use Rattle.sqlite.specs.Tree.{Trees};
 ghost use Rattle.sqlite.specs.State.{HasCleanDisk, Survives};
 ghost use Rattle.sqlite.specs.Held.{AreDatabases, state};
 ghost use Rattle.sqlite_trees.specs.View.{IsClean, doubt};
-ghost use Rattle.acceptor_store_parts.specs.Foreign.{HoldsNone, IsForeignSchema};
-ghost use Rattle.acceptor_store_parts.specs.Rowids.{IsReread};
-ghost use Rattle.acceptor_store_parts.specs.Tables.{store_schema};
+ghost use Rattle.acceptor_store_parts.specs.Foreign.{IsForeignSchema};
 ghost use Rattle.acceptor_store_parts.specs.Serves.{Serves, StillServes, DoesNotServe, StaysOpen};
 ghost use Rattle.acceptor_store_parts.specs.Stops.{LeavesOpen, leaves_open};
-ghost use Rattle.acceptor_store.specs.Linked.{MayFind, IsHonest, is_honest, Tells, Reopens, Examines, Had, HasFurther, IsFoundIn, Prepares, SeesForeign};
+ghost use Rattle.acceptor_store.specs.Linked.{MayFind, IsHonest, is_honest, Tells, Reopens, Had, HasFurther, IsFoundIn, SeesForeign, IsLeftWhole};
 
 use acceptor::{Records, RecordsFault};
-use acceptor_store_parts::{Stop, Unread};
+use acceptor_store_parts::{Stop, Version};
 use ballots::{Ballot, Cast, Place, Value, Votes};
 use sqlite::{Alter, Connection, Error as SqlError, ErrorCode, FileStore, Files, Options};
 use sqlite_disk::Disk;
-use sqlite_schema::schema::Schema;
 use std::alloc::Global;
 use std::marker::Model;
 use thiserror::Error;
 
-/// Records in two tables, which this connection alone writes.
+/// Records in tables, which this connection alone writes.
 #[derive(Drop)]
 pub struct SqlRecords<S: Alter> {
     alloc: Global,
@@ -144,8 +143,8 @@ fn tested<S: Alter>(alloc: Global, conn: &mut Connection<S>) -> Option<Option<Ba
     ensures tells { HasCleanDisk (state S.Store conn.new) → IfSome result (Tells S.Store conn.old conn.new) }
     ensures clean { doubt (state S.Store conn.old).is_clean ≤ doubt (state S.Store conn.new).is_clean }
 {
-    match acceptor_store_parts::is_store(alloc, conn.schema()) {
-        Ok(true) => {}
+    match acceptor_store_parts::version_of(alloc, conn.schema()) {
+        Ok(Some(Version::Second)) => {}
         _ => return None,
     }
     let Ok(numbers) = acceptor_store_parts::read_numbers(conn) else {
@@ -188,120 +187,13 @@ pub enum OpenFault {
     /// Memory was refused.
     #[error("OutOfMemory")]
     OutOfMemory,
-    /// One of the tables is there or both are, and no node wrote them.
+    /// Some of the tables are there, and no node wrote them.
     #[error("Foreign")]
     Foreign,
 }
 
-fn stopped(stop: Stop) -> OpenFault
-    ensures { result ≢ OpenFault.Foreign }
-{
-    match stop {
-        Stop::Memory => OpenFault::OutOfMemory,
-        Stop::Refused => OpenFault::Refused,
-        Stop::Down => OpenFault::Broken,
-    }
-}
-
-/// Refuses any schema but the one of the two tables.
-fn judged(alloc: Global, schema: &Schema) -> Result<(), OpenFault>
-    ensures unowned { IsForeignSchema schema.now → IsErrAnd result (λ e. e ≡ OpenFault.Foreign) }
-    ensures further { (IsForeignSchema schema.now → ⊥) → schema.now ≢ store_schema → IsErrAnd result (λ e. (e ≡ OpenFault.Refused) ⊎ (e ≡ OpenFault.OutOfMemory)) }
-    ensures own { OnOk result (schema.now ≡ store_schema) }
-    ensures foreign { result ≡ Err OpenFault.Foreign → IsForeignSchema schema.now }
-{
-    if acceptor_store_parts::is_foreign(schema) {
-        return Err(OpenFault::Foreign);
-    }
-    match acceptor_store_parts::is_store(alloc, schema) {
-        Ok(true) => Ok(()),
-        Ok(false) => Err(OpenFault::Refused),
-        Err(_) => Err(OpenFault::OutOfMemory),
-    }
-}
-
-/// Tests the rows of the two tables.
-fn examined<S: Alter>(alloc: Global, conn: &mut Connection<S>) -> Result<Option<Ballot>, OpenFault>
-    ensures tables { HasCleanDisk (state S.Store conn.new) → (state S.Store conn.old).now.schema ≡ store_schema → IfOk result (Examines S.Store conn.old conn.new) }
-    ensures foreign { HasCleanDisk (state S.Store conn.new) → (state S.Store conn.old).now.schema ≡ store_schema → result ≡ Err OpenFault.Foreign → IsReread (state S.Store conn.old) → HoldsNone (state S.Store conn.old).now.trees }
-    ensures clean { doubt (state S.Store conn.old).is_clean ≤ doubt (state S.Store conn.new).is_clean }
-{
-    let shown = match acceptor_store_parts::query_numbers(conn) {
-        Ok(shown) => shown,
-        Err(error) => return Err(stopped(acceptor_store_parts::stop_for(conn, error))),
-    };
-    let Some(numbers) = acceptor_store_parts::both_numbers(shown.as_slice()) else {
-        return Err(OpenFault::Foreign);
-    };
-    let rows = match acceptor_store_parts::query_all_votes(conn) {
-        Ok(rows) => rows,
-        Err(error) => return Err(stopped(acceptor_store_parts::stop_for(conn, error))),
-    };
-    let votes = match acceptor_store_parts::read_votes(alloc, rows.as_slice()) {
-        Ok(votes) => votes,
-        Err(Unread::Memory) => return Err(OpenFault::OutOfMemory),
-        Err(Unread::Wrong) => return Err(OpenFault::Foreign),
-    };
-    if !acceptor_store_parts::are_in_order(votes.rows()) {
-        return Err(OpenFault::Foreign);
-    }
-    Ok(greatest_of(numbers.1, votes.rows()))
-}
-
-/// The connection over its own store, with the rows of the two tables tested, and the promised ballot.
-fn reread<S: Alter + Drop>(
-    alloc: Global,
-    conn: Connection<S>,
-) -> Result<(Connection<S>, Option<Ballot>), (OpenFault, S)>
-    ensures tables { IfOk result (λ r. HasCleanDisk (state S.Store r.0) → (state S.Store conn).now.schema ≡ store_schema → Prepares S.Store conn r.0 r.1) }
-    ensures clean { IfOk result (λ r. doubt (state S.Store conn).is_clean ≤ doubt (state S.Store r.0).is_clean) }
-    ensures foreign { IfErr result (λ e. e.0 ≡ OpenFault.Foreign → IsClean (S.Store.view e.1) → HoldsNone (state S.Store conn).committed.trees) }
-{
-    // Over the store the rows stand by rowid, which no other call tells.
-    let mut again = match acceptor_store_parts::reread(alloc, conn) {
-        Ok(again) => again,
-        Err((stop, store)) => return Err((stopped(stop), store)),
-    };
-    match acceptor_store_parts::is_store(alloc, again.schema()) {
-        Ok(true) => {}
-        Ok(false) => return Err((OpenFault::Broken, again.into_store())),
-        Err(_) => return Err((OpenFault::OutOfMemory, again.into_store())),
-    }
-    match examined(alloc, &mut again) {
-        Ok(highest) => Ok((again, highest)),
-        Err(fault) => Err((fault, again.into_store())),
-    }
-}
-
-/// The connection with its tables tested or made, and the promised ballot.
-fn prepared<S: Alter + Drop>(
-    alloc: Global,
-    mut conn: Connection<S>,
-) -> Result<(Connection<S>, Option<Ballot>), (OpenFault, S)>
-    ensures tables { IfOk result (λ r. HasCleanDisk (state S.Store r.0) → Prepares S.Store conn r.0 r.1) }
-    ensures clean { IfOk result (λ r. doubt (state S.Store conn).is_clean ≤ doubt (state S.Store r.0).is_clean) }
-    ensures foreign { IfErr result (λ e. e.0 ≡ OpenFault.Foreign → IsClean (S.Store.view e.1) → SeesForeign S.Store conn) }
-    ensures used { IsTrue (state S.Store conn).in_transaction → IsErrAnd result (λ e. e.0 ≡ OpenFault.Refused) }
-    ensures unowned { (state S.Store conn).in_transaction ≡ false → IsForeignSchema (state S.Store conn).now.schema → IsErrAnd result (λ e. e.0 ≡ OpenFault.Foreign) }
-    ensures further { (state S.Store conn).in_transaction ≡ false → HasFurther (state S.Store conn).now.schema → IsErrAnd result (λ e. (e.0 ≡ OpenFault.Refused) ⊎ (e.0 ≡ OpenFault.OutOfMemory)) }
-{
-    if !conn.is_autocommit() {
-        return Err((OpenFault::Refused, conn.into_store()));
-    }
-    if acceptor_store_parts::is_blank(conn.schema()) {
-        return match acceptor_store_parts::make_tables(&mut conn) {
-            Ok(()) => Ok((conn, None)),
-            Err(stop) => Err((stopped(stop), conn.into_store())),
-        };
-    }
-    match judged(alloc, conn.schema()) {
-        Ok(()) => reread(alloc, conn),
-        Err(fault) => Err((fault, conn.into_store())),
-    }
-}
-
 impl<S: Alter + Drop> SqlRecords<S> {
-    /// Records over the connection. In a database without tables they are made. A connection in a transaction is Refused, before anything else is looked at. Then a schema that no node made is Foreign, and any other than that of the two tables is Refused: tables that were declared otherwise, and tables, indexes or views beside the two or without them. Last, numbers and votes that no node wrote are Foreign. Foreign comes only where no node wrote the database. Want of memory and faults of the store come where they are met. Where it fails the store comes back.
+    /// Records over the connection, in tables of version 2. In a database without tables they are made, and those of version 1 are made into them with equal content and nothing learned, each in one transaction. A connection in a transaction is Refused, before anything else is looked at. Then a schema that no node made is Foreign, and any other than that of a version's tables is Refused: tables that were declared otherwise, and tables, indexes or views beside them or without them. Last, numbers, votes and learned values that no node wrote are Foreign, as is a mixture of the versions; nothing was changed then. Foreign comes only where no node wrote the database. Want of memory and faults of the store come where they are met. Where it fails the store comes back, and holds what it held, whole, in the older version or in version 2.
     pub fn open(alloc: Global, conn: Connection<S>) -> Result<SqlRecords<S>, (OpenFault, S)>
         ensures holds { IfOk result (λ r. IsHonest S.Store r → (c : Content) × Had S.Store conn c × Holds (MayFind S.Store r.held) c) }
         ensures clean { IfOk result (λ r. IsHonest S.Store r → HasCleanDisk (state S.Store conn)) }
@@ -310,8 +202,9 @@ impl<S: Alter + Drop> SqlRecords<S> {
         ensures used { IsTrue (state S.Store conn).in_transaction → IsErrAnd result (λ e. e.0 ≡ OpenFault.Refused) }
         ensures unowned { (state S.Store conn).in_transaction ≡ false → IsForeignSchema (state S.Store conn).now.schema → IsErrAnd result (λ e. e.0 ≡ OpenFault.Foreign) }
         ensures further { (state S.Store conn).in_transaction ≡ false → HasFurther (state S.Store conn).now.schema → IsErrAnd result (λ e. (e.0 ≡ OpenFault.Refused) ⊎ (e.0 ≡ OpenFault.OutOfMemory)) }
+        ensures whole { IfErr result (λ e. IsClean (S.Store.view e.1) → (db : Trees) → S.Store.recovers e.1 db → IsLeftWhole S.Store conn db) }
     {
-        let found = match prepared(alloc, conn) {
+        let found = match opening::prepared(alloc, conn) {
             Ok(found) => found,
             Err(refused) => return Err(refused),
         };
@@ -440,6 +333,47 @@ impl<S: Alter> SqlRecords<S> {
         }
     }
 
+    fn find_learned_row(&mut self, place: Place) -> Result<Option<Value>, RecordsFault>
+        ensures value { IsHonest S.Store self.new → IfOk result (λ v. (c : Content) → Holds (MayFind S.Store self.old.held) c → v ≡ at c.learned place) }
+        ensures kept { IsHonest S.Store self.new → Keeps result (MayFind S.Store self.old.held) (MayFind S.Store self.new.held) }
+        ensures honest { IsHonest S.Store self.new → IsHonest S.Store self.old }
+        ensures count { CountsFaults result self.old.failures self.new.failures }
+        ensures broken { BreaksBy result (not self.old.is_up) (not self.new.is_up) }
+    {
+        let alloc = self.alloc;
+        if !self.is_up {
+            return Err(end(&mut self.is_up, &mut self.failures, Stop::Down));
+        }
+        let Some(conn) = &mut self.conn else {
+            return Err(end(&mut self.is_up, &mut self.failures, Stop::Down));
+        };
+        match acceptor_store_parts::learned_row(alloc, conn, place) {
+            Ok(found) => Ok(found),
+            Err(stop) => Err(end(&mut self.is_up, &mut self.failures, stop)),
+        }
+    }
+
+    fn find_learned_from(&mut self, place: Place) -> Result<Vec<(Place, Value)>, RecordsFault>
+        ensures value { IsHonest S.Store self.new → IfOk result (λ learned. (c : Content) → Holds (MayFind S.Store self.old.held) c → learned.items ≡ rows_from c.learned place) }
+        ensures sound { IsHonest S.Store self.new → OnOk result ((c : Content) → Holds (MayFind S.Store self.old.held) c → IsSound c) }
+        ensures kept { IsHonest S.Store self.new → Keeps result (MayFind S.Store self.old.held) (MayFind S.Store self.new.held) }
+        ensures honest { IsHonest S.Store self.new → IsHonest S.Store self.old }
+        ensures count { CountsFaults result self.old.failures self.new.failures }
+        ensures broken { BreaksBy result (not self.old.is_up) (not self.new.is_up) }
+    {
+        let alloc = self.alloc;
+        if !self.is_up {
+            return Err(end(&mut self.is_up, &mut self.failures, Stop::Down));
+        }
+        let Some(conn) = &mut self.conn else {
+            return Err(end(&mut self.is_up, &mut self.failures, Stop::Down));
+        };
+        match acceptor_store_parts::learned_from(alloc, conn, place) {
+            Ok(found) => Ok(found),
+            Err(stop) => Err(end(&mut self.is_up, &mut self.failures, stop)),
+        }
+    }
+
     fn find_promised(&mut self) -> Result<Option<Ballot>, RecordsFault>
         ensures value { IsHonest S.Store self.new → IfOk result (λ b. (c : Content) → Holds (MayFind S.Store self.old.held) c → number_of b ≡ promised c) }
         ensures kept { IsHonest S.Store self.new → Keeps result (MayFind S.Store self.old.held) (MayFind S.Store self.new.held) }
@@ -531,6 +465,27 @@ impl<S: Alter> SqlRecords<S> {
             Err(stop) => Err(end(&mut self.is_up, &mut self.failures, stop)),
         }
     }
+
+    fn set_learned(&mut self, place: Place, value: &Value) -> Result<(), RecordsFault>
+        ensures ok { IsHonest S.Store self.new → OnOk result (HasMade (MayFind S.Store self.old.held) (MayFind S.Store self.new.held) (Learns place value.now)) }
+        ensures harmless { IsHonest S.Store self.new → IfErr result (λ e. IsHarmless e → FindsSame (MayFind S.Store self.old.held) (MayFind S.Store self.new.held)) }
+        ensures doubt { IsHonest S.Store self.new → MayHaveMade (MayFind S.Store self.old.held) (MayFind S.Store self.new.held) (Learns place value.now) }
+        ensures only { IsHonest S.Store self.new → AddsOnly (MayFind S.Store self.old.held) (MayFind S.Store self.new.held) (Learns place value.now) }
+        ensures honest { IsHonest S.Store self.new → IsHonest S.Store self.old }
+        ensures count { CountsFaults result self.old.failures self.new.failures }
+        ensures broken { BreaksBy result (not self.old.is_up) (not self.new.is_up) }
+    {
+        if !self.is_up {
+            return Err(end(&mut self.is_up, &mut self.failures, Stop::Down));
+        }
+        let Some(conn) = &mut self.conn else {
+            return Err(end(&mut self.is_up, &mut self.failures, Stop::Down));
+        };
+        match acceptor_store_parts::put_learned(conn, place, value) {
+            Ok(()) => Ok(()),
+            Err(stop) => Err(end(&mut self.is_up, &mut self.failures, stop)),
+        }
+    }
 }
 
 impl<D: Disk + Drop> Records for SqlRecords<FileStore<D>> {
@@ -566,6 +521,14 @@ impl<D: Disk + Drop> Records for SqlRecords<FileStore<D>> {
         self.find_votes_from(place)
     }
 
+    fn learned_row(&mut self, place: Place) -> Result<Option<Value>, RecordsFault> {
+        self.find_learned_row(place)
+    }
+
+    fn learned_from(&mut self, place: Place) -> Result<Vec<(Place, Value)>, RecordsFault> {
+        self.find_learned_from(place)
+    }
+
     fn put_tried(&mut self, ballot: Ballot) -> Result<(), RecordsFault> {
         self.set_tried(ballot)
     }
@@ -581,6 +544,10 @@ impl<D: Disk + Drop> Records for SqlRecords<FileStore<D>> {
         value: &Value,
     ) -> Result<(), RecordsFault> {
         self.set_vote(place, ballot, value)
+    }
+
+    fn put_learned(&mut self, place: Place, value: &Value) -> Result<(), RecordsFault> {
+        self.set_learned(place, value)
     }
 
     fn reopen(&mut self) -> Result<(), RecordsFault> {

@@ -12,8 +12,10 @@ use Rattle.sqlite_resolve.specs.declared.compiled.Compiled.{Compiled}
 use Rattle.sqlite.specs.State.{State, Executes, ExecutesIn, QueriesRow, FailsToQuery, IsNotRun, RunsCommand, shows_rows, Shown, ShowsRows, IsUnchanged, IsRolledBack}
 use Rattle.sqlite.proofs.Callers.{IsPlain}
 use Rattle.acceptor_store_parts.specs.Tables.{store_schema}
-use Rattle.acceptor_store_parts.specs.Stored.{AreTables}
-use Rattle.acceptor_store_parts.specs.Serves.{Serves, StillServes, Stays}
+use Rattle.acceptor_store_parts.specs.Stored.{AreTablesOf}
+use Rattle.acceptor_store_parts.specs.declared.Version.{Version}
+use Rattle.acceptor_store_parts.specs.declared.Version.TheVariants.{Second}
+use Rattle.acceptor_store_parts.specs.Serves.{Serves, ServesAs, StillServes, Stays}
 
 -- as it was, or back at the last commit
 abbrev pub Keeps : State → State → Type 0
@@ -36,24 +38,27 @@ failed_keeps sql params old new e (inr h) = elim (cases_Bool (shows_rows false h
   | inr runs ↦ not_done old new sql h.0 _ e (rw runs at h.2)
 ]
 
-module _ (old new : State) (c : Content) (was : Serves old c) where
-  pub still_serves : Keeps old new → IsTrue new.is_open → Serves new c
-  still_serves (inl h) opened = record {
+module _ (version : Version) (old new : State) (c : Content) (was : ServesAs version old c) where
+  pub still_serves_as : Keeps old new → IsTrue new.is_open → ServesAs version new c
+  still_serves_as (inl h) opened = record {
     is_open = opened;
     autocommit = h.0.mode ∙ was.autocommit;
     settled = h.0.now_is ∙ was.settled ∙ sym h.0.committed_is;
     schema = ap (λ (d : Database). d.schema) h.0.now_is ∙ was.schema;
-    tables = subst (λ (d : Database). AreTables d.trees c) (sym h.0.now_is) was.tables;
+    tables = subst (λ (d : Database). AreTablesOf version d.trees c) (sym h.0.now_is) was.tables;
   }
-  still_serves (inr h) opened =
+  still_serves_as (inr h) opened =
       let now = (h.undone opened).0 ∙ sym was.settled in
       record {
         is_open = opened;
         autocommit = h.autocommit;
         settled = (h.undone opened).0 ∙ sym (h.undone opened).1;
         schema = ap (λ (d : Database). d.schema) now ∙ was.schema;
-        tables = subst (λ (d : Database). AreTables d.trees c) (sym now) was.tables;
+        tables = subst (λ (d : Database). AreTablesOf version d.trees c) (sym now) was.tables;
       }
+
+pub still_serves : (old new : State) (c : Content) (was : Serves old c) → Keeps old new → IsTrue new.is_open → Serves new c
+still_serves old new c was = still_serves_as Second old new c was
 
 module _ (sql : List ℕ) (params : Row) (old new : State) (schema : Schema) (has : old.now.schema ≡ schema) (plain : IsPlain (understood schema sql)) where
   shown_keeps : (rows : List Row) → Shown sql params old new rows → Keeps old new
@@ -133,11 +138,11 @@ all_failed sql params old new plain (Ok x) rows h g opened = (all_ok sql params 
 all_failed sql params old new plain (Err e) rows h g opened = all_err sql params old new plain e g opened
 
 -- what was read changed nothing
-pub all_same : (sql : List ℕ) (params : Row) (old new : State) → old.now.schema ≡ store_schema → IsPlain (understood store_schema sql) → {X : Type 0} (r : Result X Error) (rows : X → List Row) → IfOk r (λ x. Shown sql params old new (rows x))
+pub all_same : (sql : List ℕ) (params : Row) (old new : State) (schema : Schema) → old.now.schema ≡ schema → IsPlain (understood schema sql) → {X : Type 0} (r : Result X Error) (rows : X → List Row) → IfOk r (λ x. Shown sql params old new (rows x))
     → OnOk r (IsUnchanged old new)
 unfolding Shown
-all_same sql params old new has plain (Err e) rows h = tt
-all_same sql params old new has plain (Ok x) rows h =
+all_same sql params old new schema has plain (Err e) rows h = tt
+all_same sql params old new schema has plain (Ok x) rows h =
     let known = sym h.1.is ∙ ap (λ s. understood s sql) has in
     let bare = subst IsPlain (sym known) plain in
     (rw bare.0 at h.2).3

@@ -12,13 +12,14 @@ pub mod States
 pub mod Queries
 pub mod Kept
 pub mod FilesLeft
+pub mod InOrder
+pub mod RowsShown
 pub mod Votes
+pub mod LearnedRows
 pub mod Once
-pub mod OneVote
 pub mod Numbers
 pub mod Shapes
 pub mod Makes
 pub mod Held
 pub mod Raw
-pub mod AllVotes
 pub mod Casts

@@ -1,5 +1,5 @@
--- What the texts make that make the two tables.
-use Rattle.std.proofs.Common.{◌≡◌, ℕ, List, [], ◌∷◌, false, None, Ok, Err, Result, OnOk, refl, sym, ap, subst, ◌∙◌}
+-- What the texts make that make the tables.
+use Rattle.std.proofs.Common.{◌≡◌, ℕ, List, [], ◌∷◌, map, false, None, Ok, Err, Result, OnOk, refl, sym, ap, subst, ◌∙◌}
 use Rattle.sqlite.specs.Order.{Row}
 use Rattle.sqlite.specs.Schema.{Schema}
 use Rattle.sqlite.specs.Source.TheVariants.{Values}
@@ -17,13 +17,17 @@ use Rattle.sqlite_rules.specs.Cast.{cast_row}
 use Rattle.sqlite.specs.Rowids.TheVariants.{Chosen}
 use Rattle.sqlite.specs.Rows.{Written}
 use Rattle.sqlite_value.proofs.OrderLemmas.{value_cmp-Int}
-use Rattle.acceptor.specs.Content.{no_content}
-use Rattle.acceptor_store_parts.specs.Stored.{number_row, AreTables}
+use Rattle.acceptor.specs.Content.{Content, no_content}
+use Rattle.acceptor_store_parts.specs.Stored.{number_row, learned_row, AreTables, AreTablesOf}
 use Rattle.sqlite.proofs.Callers.{runs_as, one_step, statement_of}
-use Rattle.acceptor_store_parts.specs.Tables.{store_schema, blank_schema, ballot_table, vote_table, ballot_text, vote_text}
-use Rattle.acceptor_store_parts.proofs.Meaning.{ballot_schema, both_put, both_terms, create_ballot_is, create_vote_is, both_put_is, create_ballot_plain, create_vote_plain, both_put_plain}
+use Rattle.acceptor_store_parts.specs.Tables.{store_schema, schema_of, blank_schema, ballot_table, vote_table, learned_table, ballot_text, vote_text, learned_text}
+use Rattle.acceptor_store_parts.proofs.Meaning.{
+  ballot_schema, numbers_put, numbers_terms, second_put, second_terms, create_ballot_is, create_vote_is, create_learned_is, numbers_put_is, second_put_is,
+  create_ballot_plain, create_vote_plain, create_learned_plain, numbers_put_plain, second_put_plain,
+}
+use Rattle.acceptor_store_parts.specs.declared.Version.TheVariants.{First, Second}
 use Rattle.acceptor_store_parts.proofs.Writes.{cast_number}
-use Rattle.acceptor_store_parts.specs.Serves.{Serves}
+use Rattle.acceptor_store_parts.specs.Serves.{Serves, ServesAs}
 use Rattle.acceptor_store_parts.proofs.Puts.{went, same_value}
 
 -- the trees that the list of objects doesn't keep, but for one that is made empty
@@ -40,7 +44,7 @@ makes_ballot old new count has h =
     let now : new.now ≡ first.0 = ap (λ (p : Tally × Database). p.1) (same_value all.2) ∙ same_value (rw plain at first.2) in
     (ap (λ (d : Database). d.schema) now ∙ schema, ap (λ (d : Database). d.trees 0) now ∙ subst (λ s. first.0.trees (next_tree s) ≡ []) has made.empty)
 
-pub makes_vote : (old new : State) (count : ℕ) → old.now.schema ≡ ballot_schema → old.now.trees 0 ≡ [] → Executes vote_text [] old new (Ok count) → (new.now.schema ≡ store_schema) × (new.now.trees 0 ≡ []) × (new.now.trees 1 ≡ [])
+pub makes_vote : (old new : State) (count : ℕ) → old.now.schema ≡ ballot_schema → old.now.trees 0 ≡ [] → Executes vote_text [] old new (Ok count) → (new.now.schema ≡ schema_of First) × (new.now.trees 0 ≡ []) × (new.now.trees 1 ≡ [])
 makes_vote old new count has none h =
     let w = subst (λ t. Writes old new None CreateTable t [] count) create_vote_is.1 (runs_as vote_text [] old new ballot_schema has CreateTable create_vote_is.0 create_vote_plain count h) in
     let all = went w.changed in
@@ -48,7 +52,7 @@ makes_vote old new count has none h =
     let made = first.1 in
     let both : Ok made.table ≡ Ok (record vote_table { tree = 0 }) = sym made.defined ∙ create_vote_is.2 in
     let same : made.table ≡ record vote_table { tree = 0 } = cc in
-    let schema : first.0.schema ≡ store_schema = made.is ∙ ap (λ s. created s made.table) has ∙ ap (created ballot_schema) same in
+    let schema : first.0.schema ≡ schema_of First = made.is ∙ ap (λ s. created s made.table) has ∙ ap (created ballot_schema) same in
     let plain : lacks_sequence first.0.schema ≡ false = ap lacks_sequence schema in
     let now : new.now ≡ first.0 = ap (λ (p : Tally × Database). p.1) (same_value all.2) ∙ same_value (rw plain at first.2) in
     let kept : KeepsRows (ballot_table ∷ []) old.now.trees first.0.trees = subst (λ (s : Schema). KeepsRows s.tables old.now.trees first.0.trees) has made.others in (
@@ -57,29 +61,66 @@ makes_vote old new count has none h =
       ap (λ (d : Database). d.trees 1) now ∙ subst (λ s. first.0.trees (next_tree s) ≡ []) has made.empty,
     )
 
--- two rows put in turn
-abbrev in_turn : Row → Row → List Row → List Row
-in_turn one two rows = put_row (with_rowid Chosen (put_row (with_rowid Chosen rows one) rows) two) (put_row (with_rowid Chosen rows one) rows)
+pub makes_learned : (old new : State) (count : ℕ) → old.now.schema ≡ schema_of First → Executes learned_text [] old new (Ok count)
+    → (new.now.schema ≡ store_schema) × (new.now.trees 0 ≡ old.now.trees 0) × (new.now.trees 1 ≡ old.now.trees 1) × (new.now.trees 2 ≡ [])
+makes_learned old new count has h =
+    let w = subst (λ t. Writes old new None CreateTable t [] count) create_learned_is.1 (runs_as learned_text [] old new (schema_of First) has CreateTable create_learned_is.0 create_learned_plain count h) in
+    let all = went w.changed in
+    let first = went all.1 in
+    let made = first.1 in
+    let both : Ok made.table ≡ Ok (record learned_table { tree = 0 }) = sym made.defined ∙ create_learned_is.2 in
+    let same : made.table ≡ record learned_table { tree = 0 } = cc in
+    let schema : first.0.schema ≡ store_schema = made.is ∙ ap (λ s. created s made.table) has ∙ ap (created (schema_of First)) same in
+    let plain : lacks_sequence first.0.schema ≡ false = ap lacks_sequence schema in
+    let now : new.now ≡ first.0 = ap (λ (p : Tally × Database). p.1) (same_value all.2) ∙ same_value (rw plain at first.2) in
+    let kept : KeepsRows (ballot_table ∷ vote_table ∷ []) old.now.trees first.0.trees = subst (λ (s : Schema). KeepsRows s.tables old.now.trees first.0.trees) has made.others in (
+      ap (λ (d : Database). d.schema) now ∙ schema,
+      ap (λ (d : Database). d.trees 0) now ∙ kept.0,
+      ap (λ (d : Database). d.trees 1) now ∙ kept.1.0,
+      ap (λ (d : Database). d.trees 2) now ∙ subst (λ s. first.0.trees (next_tree s) ≡ []) has made.empty,
+    )
 
-put_in_turn : in_turn (number_row 0 0) (number_row 1 0) [] ≡ number_row 0 0 ∷ number_row 1 0 ∷ []
-put_in_turn = rw value_cmp-Int refl
+-- a row put after the others
+abbrev with_next : List Row → Row → List Row
+with_next rows row = put_row (with_rowid Chosen rows row) rows
 
-both_rows : (db : Trees) → db 0 ≡ [] → edited db (edit_of db ballot_table [] Chosen 0 (number_row 0 0 ∷ number_row 1 0 ∷ [])) ≡ number_row 0 0 ∷ number_row 1 0 ∷ []
-both_rows db none =
-    let cast_both : in_turn (cast_row ballot_table (number_row 0 0)) (cast_row ballot_table (number_row 1 0)) (db 0) ≡ in_turn (number_row 0 0) (number_row 1 0) [] =
-    ap (λ r. in_turn r (cast_row ballot_table (number_row 1 0)) (db 0)) (cast_number 0 0) ∙ (ap (λ r. in_turn (number_row 0 0) r (db 0)) (cast_number 1 0) ∙ ap (in_turn (number_row 0 0) (number_row 1 0)) none) in
-    let whole : edited db (edit_of db ballot_table [] Chosen 0 (number_row 0 0 ∷ number_row 1 0 ∷ [])) ≡ in_turn (cast_row ballot_table (number_row 0 0)) (cast_row ballot_table (number_row 1 0)) (db 0) = refl in
-    whole ∙ (cast_both ∙ put_in_turn)
+put_third : (tried row : ℕ) → with_next (number_row 0 tried ∷ number_row 1 row ∷ []) (number_row 2 2) ≡ number_row 0 tried ∷ number_row 1 row ∷ number_row 2 2 ∷ []
+put_third tried row = rw (value_cmp-Int, value_cmp-Int) refl
+
+put_all : with_next (with_next (with_next [] (number_row 0 0)) (number_row 1 0)) (number_row 2 2) ≡ number_row 0 0 ∷ number_row 1 0 ∷ number_row 2 2 ∷ []
+put_all = rw (value_cmp-Int, value_cmp-Int, value_cmp-Int) refl
+
+abbrev news : List Row
+news = number_row 0 0 ∷ number_row 1 0 ∷ number_row 2 2 ∷ []
+
+all_rows : (db : Trees) → db 0 ≡ [] → edited db (edit_of db ballot_table [] Chosen 0 news) ≡ news
+all_rows db none =
+    let whole : edited db (edit_of db ballot_table [] Chosen 0 news)
+        ≡ with_next (with_next (with_next (db 0) (cast_row ballot_table (number_row 0 0))) (cast_row ballot_table (number_row 1 0))) (cast_row ballot_table (number_row 2 2)) = refl in
+    let one = ap (λ r. with_next (with_next (with_next (db 0) r) (cast_row ballot_table (number_row 1 0))) (cast_row ballot_table (number_row 2 2))) (cast_number 0 0) in
+    let two = ap (λ r. with_next (with_next (with_next (db 0) (number_row 0 0)) r) (cast_row ballot_table (number_row 2 2))) (cast_number 1 0) in
+    let three = ap (λ r. with_next (with_next (with_next (db 0) (number_row 0 0)) (number_row 1 0)) r) (cast_number 2 2) in
+    let empty = ap (λ rows. with_next (with_next (with_next rows (number_row 0 0)) (number_row 1 0)) (number_row 2 2)) none in
+    whole ∙ (one ∙ (two ∙ (three ∙ (empty ∙ put_all))))
+
+third_row : (db : Trees) (tried row : ℕ) → db 0 ≡ number_row 0 tried ∷ number_row 1 row ∷ []
+    → edited db (edit_of db ballot_table [] Chosen 0 (number_row 2 2 ∷ [])) ≡ number_row 0 tried ∷ number_row 1 row ∷ number_row 2 2 ∷ []
+third_row db tried row is =
+    let whole : edited db (edit_of db ballot_table [] Chosen 0 (number_row 2 2 ∷ [])) ≡ with_next (db 0) (cast_row ballot_table (number_row 2 2)) = refl in
+    whole ∙ (ap (with_next (db 0)) (cast_number 2 2) ∙ (ap (λ rows. with_next rows (number_row 2 2)) is ∙ put_third tried row))
 
 other_tree : ◌≡◌ {A = ℕ} 1 0 → ⊥
 other_tree same = absurd cc
 
-pub puts_both : (old new : State) (count : ℕ) → old.now.schema ≡ store_schema → old.now.trees 0 ≡ [] → old.now.trees 1 ≡ [] → Executes both_put [] old new (Ok count) → (new.now.schema ≡ store_schema) × AreTables new.now.trees no_content
-puts_both old new count has none empty h =
+another_tree : ◌≡◌ {A = ℕ} 2 0 → ⊥
+another_tree same = absurd cc
+
+puts_numbers : (old new : State) (count : ℕ) → old.now.schema ≡ store_schema → old.now.trees 0 ≡ [] → old.now.trees 1 ≡ [] → old.now.trees 2 ≡ [] → Executes numbers_put [] old new (Ok count) → (new.now.schema ≡ store_schema) × AreTables new.now.trees no_content
+puts_numbers old new count has none empty blank h =
     let db = old.now.trees in
-    let command = Insert 0 (Values both_terms 3) in
-    let w = runs_as both_put [] old new store_schema has command both_put_is both_put_plain count h in
-    let text = statement_of both_put (understood store_schema both_put) in
+    let command = Insert 0 (Values numbers_terms 3) in
+    let w = runs_as numbers_put [] old new store_schema has command numbers_put_is numbers_put_plain count h in
+    let text = statement_of numbers_put (understood store_schema numbers_put) in
     let done = went (subst (λ s. Does old.step_limit (mode_of old) [] (record old.now { schema = s }) text None command (Ok (w.tally, new.now))) has w.changed) in
     let now = ap (λ (p : Tally × Database). p.1) (same_value (went (went done.2).2).2) in
     let given = went done.1 in
@@ -87,31 +128,67 @@ puts_both old new count has none empty h =
     let counted = went written.2 in
     let trees : done.0.trees ≡ written.0 = ap (λ (it : Written). it.trees) (same_value counted.2) ∙ same_value counted.1 in
     let step = one_step store_schema _ db written.0 (edit_of db ballot_table [] Chosen 0 given.0) refl written.1 in
-    let news = number_row 0 0 ∷ number_row 1 0 ∷ [] in
     let rows_are : given.0 ≡ news = given.1.1 in
-    let edit : edited db (edit_of db ballot_table [] Chosen 0 given.0) ≡ news = ap (λ all. edited db (edit_of db ballot_table [] Chosen 0 all)) rows_are ∙ both_rows db none in (
+    let edit : edited db (edit_of db ballot_table [] Chosen 0 given.0) ≡ news = ap (λ all. edited db (edit_of db ballot_table [] Chosen 0 all)) rows_are ∙ all_rows db none in (
       ap (λ (d : Database). d.schema) now,
       record {
         numbers = ap (λ (d : Database). d.trees 0) now ∙ (ap (λ (t : Trees). t 0) trees ∙ (step.rows ∙ edit));
         votes_are = ap (λ (d : Database). d.trees 1) now ∙ (ap (λ (t : Trees). t 1) trees ∙ (step.others 1 other_tree tt ∙ empty));
-        sound = tt;
+        learned_are = ap (λ (d : Database). d.trees 2) now ∙ (ap (λ (t : Trees). t 2) trees ∙ (step.others 2 another_tree tt ∙ blank));
+        sound = (tt, tt, tt);
       },
     )
 
--- the three in turn, and committed
-pub served_after : (s₀ s₁ s₂ s₃ end : State) (m n k : ℕ) → s₀.now.schema ≡ blank_schema → Executes ballot_text [] s₀ s₁ (Ok m) → Executes vote_text [] s₁ s₂ (Ok n) → Executes both_put [] s₂ s₃ (Ok k) → Shows s₃ end s₃.now s₃.now false
-    → Serves end no_content
-served_after s₀ s₁ s₂ s₃ end m n k has one two three shows =
+puts_third : (old new : State) (c : Content) (count : ℕ) → old.now.schema ≡ store_schema → AreTablesOf First old.now.trees c → old.now.trees 2 ≡ [] → Executes second_put [] old new (Ok count) → (new.now.schema ≡ store_schema) × AreTables new.now.trees c
+puts_third old new c count has was blank h =
+    let db = old.now.trees in
+    let command = Insert 0 (Values second_terms 3) in
+    let w = runs_as second_put [] old new store_schema has command second_put_is second_put_plain count h in
+    let text = statement_of second_put (understood store_schema second_put) in
+    let done = went (subst (λ s. Does old.step_limit (mode_of old) [] (record old.now { schema = s }) text None command (Ok (w.tally, new.now))) has w.changed) in
+    let now = ap (λ (p : Tally × Database). p.1) (same_value (went (went done.2).2).2) in
+    let given = went done.1 in
+    let written = went (went given.2).2 in
+    let counted = went written.2 in
+    let trees : done.0.trees ≡ written.0 = ap (λ (it : Written). it.trees) (same_value counted.2) ∙ same_value counted.1 in
+    let step = one_step store_schema _ db written.0 (edit_of db ballot_table [] Chosen 0 given.0) refl written.1 in
+    let rows_are : given.0 ≡ number_row 2 2 ∷ [] = given.1.1 in
+    let edit = ap (λ all. edited db (edit_of db ballot_table [] Chosen 0 all)) rows_are ∙ third_row db c.tried c.row was.numbers in (
+      ap (λ (d : Database). d.schema) now,
+      record {
+        numbers = ap (λ (d : Database). d.trees 0) now ∙ (ap (λ (t : Trees). t 0) trees ∙ (step.rows ∙ edit));
+        votes_are = ap (λ (d : Database). d.trees 1) now ∙ (ap (λ (t : Trees). t 1) trees ∙ (step.others 1 other_tree tt ∙ was.votes_are));
+        learned_are = ap (λ (d : Database). d.trees 2) now ∙ (ap (λ (t : Trees). t 2) trees ∙ (step.others 2 another_tree tt ∙ (blank ∙ ap (map learned_row) (sym was.learned_are))));
+        sound = was.sound;
+      },
+    )
+
+-- the tables that are made in a database without any
+pub made_after : (s₀ s₁ s₂ s₃ s₄ : State) (m n k l : ℕ) → s₀.now.schema ≡ blank_schema → Executes ballot_text [] s₀ s₁ (Ok m) → Executes vote_text [] s₁ s₂ (Ok n) → Executes learned_text [] s₂ s₃ (Ok k) → Executes numbers_put [] s₃ s₄ (Ok l)
+    → (s₄.now.schema ≡ store_schema) × AreTables s₄.now.trees no_content
+made_after s₀ s₁ s₂ s₃ s₄ m n k l has one two three four =
     let a = makes_ballot s₀ s₁ m has one in
     let b = makes_vote s₁ s₂ n a.0 a.1 two in
-    let c = puts_both s₂ s₃ k b.0 b.1 b.2 three in
-    record {
-      is_open = shows.is_open;
-      autocommit = shows.mode;
-      settled = shows.now_is ∙ sym shows.committed_is;
-      schema = ap (λ (d : Database). d.schema) shows.now_is ∙ c.0;
-      tables = subst (λ (d : Database). AreTables d.trees no_content) (sym shows.now_is) c.1;
-    }
+    let c = makes_learned s₂ s₃ k b.0 three in
+    puts_numbers s₃ s₄ l c.0 (c.1 ∙ b.1) (c.2 ∙ b.2) c.3 four
+
+-- the tables of version 2 that are made of those of version 1
+pub raised_after : (s₀ s₁ s₂ : State) (c : Content) (m n : ℕ) → s₀.now.schema ≡ schema_of First → AreTablesOf First s₀.now.trees c → Executes learned_text [] s₀ s₁ (Ok m) → Executes second_put [] s₁ s₂ (Ok n)
+    → (s₂.now.schema ≡ store_schema) × AreTables s₂.now.trees c
+raised_after s₀ s₁ s₂ c m n has was one two =
+    let a = makes_learned s₀ s₁ m has one in
+    let kept : AreTablesOf First s₁.now.trees c = record { numbers = a.1 ∙ was.numbers; votes_are = a.2 ∙ was.votes_are; learned_are = was.learned_are; sound = was.sound } in
+    puts_third s₁ s₂ c n a.0 kept a.3 two
+
+-- tables that were committed are served
+pub served_after : (last end : State) (c : Content) → (last.now.schema ≡ store_schema) × AreTables last.now.trees c → Shows last end last.now last.now false → Serves end c
+served_after last end c made shows = record {
+  is_open = shows.is_open;
+  autocommit = shows.mode;
+  settled = shows.now_is ∙ sym shows.committed_is;
+  schema = ap (λ (d : Database). d.schema) shows.now_is ∙ made.0;
+  tables = subst (λ (d : Database). AreTables d.trees c) (sym shows.now_is) made.1;
+}
 
 pub on_ok : {T E A B : Type 0} (r : Result T E) → OnOk r A → (A → B) → OnOk r B
 on_ok (Ok x) h f = f h

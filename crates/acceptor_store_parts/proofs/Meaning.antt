@@ -14,7 +14,13 @@ use Rattle.sqlite.specs.declared.types.Value.TheVariants.{Null, Int}
 use Rattle.sqlite.specs.Query.{Query, inner, end}
 use Rattle.sqlite.specs.Term.{Term, lit, col, op2}
 use Rattle.sqlite.proofs.Callers.{IsPlain, command_of, statement_of}
-use Rattle.acceptor_store_parts.specs.Tables.{store_schema, blank_schema, ballot_table, vote_table, ballot_text, vote_text, tried_query, tried_put, promised_put, votes_query, vote_query, numbers_query, all_votes_query, vote_put}
+use Rattle.acceptor_store_parts.specs.declared.Version.{Version}
+use Rattle.acceptor_store_parts.specs.declared.Version.TheVariants.{First, Second}
+use Rattle.acceptor_store_parts.specs.Tables.{
+  store_schema, schema_of, blank_schema, ballot_table, vote_table, learned_table, ballot_text, vote_text, learned_text,
+  tried_query, tried_put, promised_put, votes_query, vote_query, numbers_query, all_votes_query, vote_put,
+  learned_row_query, learned_from_query, all_learned_query, learned_put,
+}
 
 abbrev pub number_query : Query
 number_query = record {
@@ -67,18 +73,48 @@ pub vote_put_plain : IsPlain (understood store_schema vote_put)
 unfolding understood everything
 vote_put_plain = (refl, refl)
 
-abbrev pub from_query : Query
-from_query = record {
-  from = inner 1 end;
-  filter = op2 (by.Compare Ge Binary) (col 1 0) (col 0 0) ∷ [];
+abbrev pub learned_terms : List Term
+learned_terms = col 0 0 ∷ lit Null ∷ col 0 1 ∷ []
+
+pub learned_put_is : command_of (understood store_schema learned_put) ≡ InsertOr 2 Replace (Values learned_terms 3) []
+unfolding understood everything
+learned_put_is = refl
+
+pub learned_put_plain : IsPlain (understood store_schema learned_put)
+unfolding understood everything
+learned_put_plain = (refl, refl)
+
+-- columns of the rows of a tree, by ascending rowid, where each row passes the filter
+abbrev pub rows_query : ℕ → List Term → List Term → Query
+rows_query tree filter columns = record {
+  from = inner tree end;
+  filter = filter;
   group = None;
-  project = col 1 0 ∷ col 1 2 ∷ col 1 3 ∷ [];
+  project = columns;
   distinct = false;
   collations = [];
   order = (col 1 0, record { collation = Binary; descending = false }) ∷ [];
   limit = lit (Int (negsuc 0));
   offset = lit (Int (pos 0));
 }
+
+-- the rowid is not below the parameter
+abbrev pub is_from : List Term
+is_from = op2 (by.Compare Ge Binary) (col 1 0) (col 0 0) ∷ []
+
+-- the rowid is the parameter
+abbrev pub is_at : List Term
+is_at = op2 (by.Compare Eq Binary) (col 1 0) (col 0 0) ∷ []
+
+-- what is shown of a number, of a vote and of a learned value
+abbrev pub two_columns : List Term
+two_columns = col 1 0 ∷ col 1 2 ∷ []
+
+abbrev pub three_columns : List Term
+three_columns = col 1 0 ∷ col 1 2 ∷ col 1 3 ∷ []
+
+abbrev pub from_query : Query
+from_query = rows_query 1 is_from three_columns
 
 pub votes_query_is : (command_of (understood store_schema votes_query) ≡ Select (record { lets = []; body = from_query }) (codes "place" ∷ codes "ballot" ∷ codes "value" ∷ [])) × (reads_listing store_schema votes_query ≡ false)
 unfolding understood everything
@@ -89,17 +125,7 @@ unfolding understood everything
 votes_query_plain = (refl, refl)
 
 abbrev pub one_query : Query
-one_query = record {
-  from = inner 1 end;
-  filter = op2 (by.Compare Eq Binary) (col 1 0) (col 0 0) ∷ [];
-  group = None;
-  project = col 1 0 ∷ col 1 2 ∷ col 1 3 ∷ [];
-  distinct = false;
-  collations = [];
-  order = (col 1 0, record { collation = Binary; descending = false }) ∷ [];
-  limit = lit (Int (negsuc 0));
-  offset = lit (Int (pos 0));
-}
+one_query = rows_query 1 is_at three_columns
 
 pub vote_query_is : (command_of (understood store_schema vote_query) ≡ Select (record { lets = []; body = one_query }) (codes "place" ∷ codes "ballot" ∷ codes "value" ∷ [])) × (reads_listing store_schema vote_query ≡ false)
 unfolding understood everything
@@ -109,32 +135,60 @@ pub vote_query_plain : IsPlain (understood store_schema vote_query)
 unfolding understood everything
 vote_query_plain = (refl, refl)
 
+abbrev pub learned_from_meaning : Query
+learned_from_meaning = rows_query 2 is_from two_columns
+
+pub learned_from_is : (command_of (understood store_schema learned_from_query) ≡ Select (record { lets = []; body = learned_from_meaning }) (codes "place" ∷ codes "value" ∷ [])) × (reads_listing store_schema learned_from_query ≡ false)
+unfolding understood everything
+learned_from_is = (refl, refl)
+
+pub learned_from_plain : IsPlain (understood store_schema learned_from_query)
+unfolding understood everything
+learned_from_plain = (refl, refl)
+
+abbrev pub learned_row_meaning : Query
+learned_row_meaning = rows_query 2 is_at two_columns
+
+pub learned_row_is : (command_of (understood store_schema learned_row_query) ≡ Select (record { lets = []; body = learned_row_meaning }) (codes "place" ∷ codes "value" ∷ [])) × (reads_listing store_schema learned_row_query ≡ false)
+unfolding understood everything
+learned_row_is = (refl, refl)
+
+pub learned_row_plain : IsPlain (understood store_schema learned_row_query)
+unfolding understood everything
+learned_row_plain = (refl, refl)
+
+abbrev pub all_learned_meaning : Query
+all_learned_meaning = rows_query 2 [] two_columns
+
+pub all_learned_is : (command_of (understood store_schema all_learned_query) ≡ Select (record { lets = []; body = all_learned_meaning }) (codes "place" ∷ codes "value" ∷ [])) × (reads_listing store_schema all_learned_query ≡ false)
+unfolding understood everything
+all_learned_is = (refl, refl)
+
+pub all_learned_plain : IsPlain (understood store_schema all_learned_query)
+unfolding understood everything
+all_learned_plain = (refl, refl)
+
 abbrev pub both_query : Query
-both_query = record {
-  from = inner 0 end;
-  filter = [];
-  group = None;
-  project = col 1 0 ∷ col 1 2 ∷ [];
-  distinct = false;
-  collations = [];
-  order = (col 1 0, record { collation = Binary; descending = false }) ∷ [];
-  limit = lit (Int (negsuc 0));
-  offset = lit (Int (pos 0));
-}
+both_query = rows_query 0 [] two_columns
 
-pub numbers_query_is : (command_of (understood store_schema numbers_query) ≡ Select (record { lets = []; body = both_query }) (codes "id" ∷ codes "number" ∷ [])) × (reads_listing store_schema numbers_query ≡ false)
+pub numbers_query_is : (version : Version) → (command_of (understood (schema_of version) numbers_query) ≡ Select (record { lets = []; body = both_query }) (codes "id" ∷ codes "number" ∷ [])) × (reads_listing (schema_of version) numbers_query ≡ false)
 unfolding understood everything
-numbers_query_is = (refl, refl)
+numbers_query_is First = (refl, refl)
+numbers_query_is Second = (refl, refl)
 
-pub numbers_query_plain : IsPlain (understood store_schema numbers_query)
+pub numbers_query_plain : (version : Version) → IsPlain (understood (schema_of version) numbers_query)
 unfolding understood everything
-numbers_query_plain = (refl, refl)
+numbers_query_plain First = (refl, refl)
+numbers_query_plain Second = (refl, refl)
 
 abbrev pub ballot_schema : Schema
 ballot_schema = record { tables = ballot_table ∷ []; indexes = []; views = [] }
 
-abbrev pub both_put : List ℕ
-both_put = codes "INSERT INTO ballot (id, number) VALUES (0, 0), (1, 0)"
+abbrev pub numbers_put : List ℕ
+numbers_put = codes "INSERT INTO ballot (id, number) VALUES (0, 0), (1, 0), (2, 2)"
+
+abbrev pub second_put : List ℕ
+second_put = codes "INSERT INTO ballot (id, number) VALUES (2, 2)"
 
 pub create_ballot_is : (command_of (understood blank_schema ballot_text) ≡ CreateTable) × (statement_of ballot_text (understood blank_schema ballot_text) ≡ ballot_text) × (table_defined_by ballot_text ≡ Ok ballot_table)
 unfolding understood everything
@@ -144,12 +198,23 @@ pub create_vote_is : (command_of (understood ballot_schema vote_text) ≡ Create
 unfolding understood everything
 create_vote_is = (refl, refl, refl)
 
-abbrev pub both_terms : List Term
-both_terms = lit (Int (pos 0)) ∷ lit Null ∷ lit (Int (pos 0)) ∷ lit (Int (pos 1)) ∷ lit Null ∷ lit (Int (pos 0)) ∷ []
-
-pub both_put_is : command_of (understood store_schema both_put) ≡ Insert 0 (Values both_terms 3)
+pub create_learned_is : (command_of (understood (schema_of First) learned_text) ≡ CreateTable) × (statement_of learned_text (understood (schema_of First) learned_text) ≡ learned_text) × (table_defined_by learned_text ≡ Ok (record learned_table { tree = 0 }))
 unfolding understood everything
-both_put_is = refl
+create_learned_is = (refl, refl, refl)
+
+abbrev pub numbers_terms : List Term
+numbers_terms = lit (Int (pos 0)) ∷ lit Null ∷ lit (Int (pos 0)) ∷ lit (Int (pos 1)) ∷ lit Null ∷ lit (Int (pos 0)) ∷ lit (Int (pos 2)) ∷ lit Null ∷ lit (Int (pos 2)) ∷ []
+
+pub numbers_put_is : command_of (understood store_schema numbers_put) ≡ Insert 0 (Values numbers_terms 3)
+unfolding understood everything
+numbers_put_is = refl
+
+abbrev pub second_terms : List Term
+second_terms = lit (Int (pos 2)) ∷ lit Null ∷ lit (Int (pos 2)) ∷ []
+
+pub second_put_is : command_of (understood store_schema second_put) ≡ Insert 0 (Values second_terms 3)
+unfolding understood everything
+second_put_is = refl
 
 pub create_ballot_plain : IsPlain (understood blank_schema ballot_text)
 unfolding understood everything
@@ -159,27 +224,27 @@ pub create_vote_plain : IsPlain (understood ballot_schema vote_text)
 unfolding understood everything
 create_vote_plain = (refl, refl)
 
-pub both_put_plain : IsPlain (understood store_schema both_put)
+pub create_learned_plain : IsPlain (understood (schema_of First) learned_text)
 unfolding understood everything
-both_put_plain = (refl, refl)
+create_learned_plain = (refl, refl)
+
+pub numbers_put_plain : IsPlain (understood store_schema numbers_put)
+unfolding understood everything
+numbers_put_plain = (refl, refl)
+
+pub second_put_plain : IsPlain (understood store_schema second_put)
+unfolding understood everything
+second_put_plain = (refl, refl)
 
 abbrev pub all_query : Query
-all_query = record {
-  from = inner 1 end;
-  filter = [];
-  group = None;
-  project = col 1 0 ∷ col 1 2 ∷ col 1 3 ∷ [];
-  distinct = false;
-  collations = [];
-  order = (col 1 0, record { collation = Binary; descending = false }) ∷ [];
-  limit = lit (Int (negsuc 0));
-  offset = lit (Int (pos 0));
-}
+all_query = rows_query 1 [] three_columns
 
-pub all_votes_query_is : (command_of (understood store_schema all_votes_query) ≡ Select (record { lets = []; body = all_query }) (codes "place" ∷ codes "ballot" ∷ codes "value" ∷ [])) × (reads_listing store_schema all_votes_query ≡ false)
+pub all_votes_query_is : (version : Version) → (command_of (understood (schema_of version) all_votes_query) ≡ Select (record { lets = []; body = all_query }) (codes "place" ∷ codes "ballot" ∷ codes "value" ∷ [])) × (reads_listing (schema_of version) all_votes_query ≡ false)
 unfolding understood everything
-all_votes_query_is = (refl, refl)
+all_votes_query_is First = (refl, refl)
+all_votes_query_is Second = (refl, refl)
 
-pub all_votes_query_plain : IsPlain (understood store_schema all_votes_query)
+pub all_votes_query_plain : (version : Version) → IsPlain (understood (schema_of version) all_votes_query)
 unfolding understood everything
-all_votes_query_plain = (refl, refl)
+all_votes_query_plain First = (refl, refl)
+all_votes_query_plain Second = (refl, refl)

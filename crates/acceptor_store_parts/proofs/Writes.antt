@@ -1,10 +1,12 @@
--- What the writes of the records make of the two tables.
-use Rattle.std.proofs.Common.{◌≡◌, ◌≢◌, inl, inr, ℕ, ℤ, pos, List, [], ◌∷◌, map, Some, None, Option, Ok, refl, ap, subst, ◌∙◌}
+-- What the writes of the records make of the tables.
+use Rattle.std.proofs.Common.{◌≡◌, ◌≢◌, inl, inr, ℕ, ℤ, pos, List, [], ◌∷◌, map, Some, None, Option, Ok, refl, sym, ap, subst, ◌∙◌}
 use Rattle.ballots.specs.declared.letters.Cast.{Cast}
-use Rattle.ballots.specs.Limits.{IsPlace}
+use Rattle.ballots.specs.Limits.{IsPlace, IsValue}
+use Rattle.ballots.specs.Rows.{put}
+use Rattle.ballots.proofs.Callers.{in_order, put_before, put_here, put_after}
 use Rattle.acceptor.proofs.SoundRows.{rows_put}
-use Rattle.acceptor.specs.Content.{Content, after_write}
-use Rattle.acceptor.specs.Content.Write.{Tries as Tried, Promises, Votes}
+use Rattle.acceptor.specs.Content.{Content, AreValues, after_write}
+use Rattle.acceptor.specs.Content.Write.{Tries as Tried, Promises, Votes, Learns}
 use Rattle.sqlite_schema.specs.declared.command.Conflict.TheVariants.{Replace}
 use Rattle.sqlite_rules.specs.declared.error.Rowids.TheVariants.{Chosen}
 use Rattle.sqlite_rules.specs.declared.error.Refusal.{Refusal}
@@ -17,16 +19,18 @@ use Rattle.sqlite.specs.Source.TheVariants.{Values}
 use Rattle.sqlite.specs.declared.types.Value.TheVariants.{Int, Blob}
 use Rattle.sqlite.specs.declared.run.Mode.{Mode}
 use Rattle.sqlite.specs.Order.{Row}
+use Rattle.sqlite.specs.Table.{Table}
 use Rattle.sqlite.specs.Tree.{Trees, put_row}
 use Rattle.sqlite.specs.Effect.{Database}
 use Rattle.sqlite.specs.Does.{Tally, Does}
 use Rattle.sqlite.specs.Rows.{Written, Task, Judged, Upserts, Tries, TriesEach, nothing, count_of}
-use Rattle.acceptor_store_parts.specs.Tables.{store_schema, ballot_table, vote_table}
-use Rattle.acceptor_store_parts.specs.Stored.{number_row, vote_row, AreTables}
-use Rattle.acceptor_store_parts.proofs.Meaning.{number_terms, vote_terms}
+use Rattle.acceptor_store_parts.specs.Tables.{store_schema, ballot_table, vote_table, learned_table}
+use Rattle.acceptor_store_parts.specs.Stored.{number_row, vote_row, learned_row, numbers_of, AreTables}
+use Rattle.acceptor_store_parts.proofs.Meaning.{number_terms, vote_terms, learned_terms}
 use Rattle.acceptor_store_parts.proofs.Rows.{replaced}
 use Rattle.acceptor_store_parts.proofs.Places.{rising, placed_is}
-use Rattle.std.proofs.Common.{lit<}
+use Rattle.acceptor_store_parts.specs.declared.Version.TheVariants.{Second}
+use Rattle.acceptor_store_parts.proofs.Numbers.{numbers_rise}
 use Rattle.acceptor_store_parts.proofs.Puts.{went, same_value, cast_int, cast_null, clears}
 
 module _ (task : Task) (new : Row) (db : Trees) (w : Written) where
@@ -82,42 +86,44 @@ module _ (limit : Option ℕ) (mode : Mode) (db : Trees) (text : List ℕ) (tall
 module _ (db next : Trees) (c : Content) (was : AreTables db c) where
   pub puts_tried : (b : ℕ) → PutNumber db next 0 b → AreTables next (after_write c (Some (Tried b)))
   puts_tried b h =
-      let xs = (0, c.tried) ∷ (1, c.row) ∷ [] in
+      let xs = numbers_of Second c.tried c.row in
       let all = subst (λ rows. AreConflicts None [] ballot_table rows (number_row 0 b) h.found) was.numbers h.conflict in
       record {
         numbers = h.rows ∙ (ap (λ rows. put_row (number_row 0 b) (without_all rows (ids_of h.found))) was.numbers
-            ∙ replaced (λ (e : ℕ × ℕ). e.0) (λ e. number_row e.0 e.1) (λ e. refl) ballot_table (0, b) xs h.found ((lit< tt, tt), (tt, tt)) all);
+            ∙ replaced (λ (e : ℕ × ℕ). e.0) (λ e. number_row e.0 e.1) (λ e. refl) ballot_table (0, b) xs h.found (numbers_rise Second c.tried c.row) all);
         votes_are = h.others 1 (λ same. absurd cc) ∙ was.votes_are;
+        learned_are = h.others 2 (λ same. absurd cc) ∙ was.learned_are;
         sound = was.sound;
       }
 
   pub puts_promised : (b : ℕ) → PutNumber db next 1 b → AreTables next (after_write c (Some (Promises b)))
   puts_promised b h =
-      let xs = (0, c.tried) ∷ (1, c.row) ∷ [] in
+      let xs = numbers_of Second c.tried c.row in
       let all = subst (λ rows. AreConflicts None [] ballot_table rows (number_row 1 b) h.found) was.numbers h.conflict in
       record {
         numbers = h.rows ∙ (ap (λ rows. put_row (number_row 1 b) (without_all rows (ids_of h.found))) was.numbers
-            ∙ replaced (λ (e : ℕ × ℕ). e.0) (λ e. number_row e.0 e.1) (λ e. refl) ballot_table (1, b) xs h.found ((lit< tt, tt), (tt, tt)) all);
+            ∙ replaced (λ (e : ℕ × ℕ). e.0) (λ e. number_row e.0 e.1) (λ e. refl) ballot_table (1, b) xs h.found (numbers_rise Second c.tried c.row) all);
         votes_are = h.others 1 (λ same. absurd cc) ∙ was.votes_are;
+        learned_are = h.others 2 (λ same. absurd cc) ∙ was.learned_are;
         sound = was.sound;
       }
 
 pub cast_vote : (v : ℕ × Cast) → cast_row vote_table (vote_row v) ≡ vote_row v
 cast_vote v = rw (cast_int, cast_int, cast_null)
 
--- one row was put into the table of votes, in place of those that it conflicts with
-pub record PutVote (db next : Trees) (v : ℕ × Cast) : Type 0 where
+-- one row was put into a table, in place of those that it conflicts with
+pub record PutsRow (table : Table) (db next : Trees) (row : Row) : Type 0 where
   pub found : List Row
-  pub conflict : AreConflicts None [] vote_table (db 1) (vote_row v) found
-  pub rows : next 1 ≡ put_row (vote_row v) (without_all (db 1) (ids_of found))
-  pub others : (t : ℕ) → t ≢ 1 → next t ≡ db t
+  pub conflict : AreConflicts None [] table (db table.tree) row found
+  pub rows : next table.tree ≡ put_row row (without_all (db table.tree) (ids_of found))
+  pub others : (t : ℕ) → t ≢ table.tree → next t ≡ db t
 
 abbrev pub vote_params : ℕ × Cast → Row
 vote_params v = Int (pos v.0) ∷ Int (pos v.1.ballot) ∷ Blob v.1.value ∷ []
 
 module _ (limit : Option ℕ) (mode : Mode) (db : Trees) (text : List ℕ) (tally : Tally) (after : Database) (v : ℕ × Cast) where
   pub put_vote : Does limit mode (vote_params v) (record { schema = store_schema; trees = db }) text None (InsertOr 1 Replace (Values vote_terms 4) []) (Ok (tally, after))
-      → (after.schema ≡ store_schema) × PutVote db after.trees v
+      → (after.schema ≡ store_schema) × PutsRow vote_table db after.trees (vote_row v)
   put_vote h =
       let it : Task = record { limit = limit; keys = mode.keys; schema = store_schema; table = vote_table; params = vote_params v } in
       let done = went h in
@@ -145,13 +151,70 @@ module _ (limit : Option ℕ) (mode : Mode) (db : Trees) (text : List ℕ) (tall
       )
 
 module _ (db next : Trees) (c : Content) (p : ℕ) (cast : Cast) (was : AreTables db c) where
-  pub puts_vote : IsPlace p → PutVote db next (p, cast) → AreTables next (after_write c (Some (Votes p cast)))
+  pub puts_vote : IsPlace p → PutsRow vote_table db next (vote_row (p, cast)) → AreTables next (after_write c (Some (Votes p cast)))
   puts_vote fits h =
       let all = subst (λ rows. AreConflicts None [] vote_table rows (vote_row (p, cast)) h.found) was.votes_are h.conflict in
       record {
         numbers = h.others 0 (λ same. absurd cc) ∙ was.numbers;
         votes_are = h.rows ∙ (ap (λ rows. put_row (vote_row (p, cast)) (without_all rows (ids_of h.found))) was.votes_are
-            ∙ (replaced (λ (w : ℕ × Cast). w.0) vote_row (λ w. refl) vote_table (p, cast) c.votes h.found (rising 1 c.votes was.sound) all
-            ∙ ap (map vote_row) (placed_is p cast 1 c.votes was.sound)));
-        sound = rows_put 1 p cast c.votes fits.0 fits.1 was.sound;
+            ∙ (replaced (λ (w : ℕ × Cast). w.0) vote_row (λ w. refl) vote_table (p, cast) c.votes h.found (rising 1 c.votes was.sound.0) all
+            ∙ ap (map vote_row) (placed_is p cast 1 c.votes was.sound.0)));
+        learned_are = h.others 2 (λ same. absurd cc) ∙ was.learned_are;
+        sound = (rows_put 1 p cast c.votes fits.0 fits.1 was.sound.0, was.sound.1, was.sound.2);
+      }
+
+pub cast_learned : (v : ℕ × List ℕ) → cast_row learned_table (learned_row v) ≡ learned_row v
+cast_learned v = rw (cast_int, cast_null)
+
+abbrev pub learned_params : ℕ × List ℕ → Row
+learned_params v = Int (pos v.0) ∷ Blob v.1 ∷ []
+
+module _ (limit : Option ℕ) (mode : Mode) (db : Trees) (text : List ℕ) (tally : Tally) (after : Database) (v : ℕ × List ℕ) where
+  pub put_learned : Does limit mode (learned_params v) (record { schema = store_schema; trees = db }) text None (InsertOr 2 Replace (Values learned_terms 3) []) (Ok (tally, after))
+      → (after.schema ≡ store_schema) × PutsRow learned_table db after.trees (learned_row v)
+  put_learned h =
+      let it : Task = record { limit = limit; keys = mode.keys; schema = store_schema; table = learned_table; params = learned_params v } in
+      let done = went h in
+      let concl = went (went done.2).2 in
+      let now : after ≡ record { schema = store_schema; trees = done.0.trees } = ap (λ (x : Tally × Database). x.1) (same_value concl.2) in
+      let sourced = went done.1 in
+      let countered = went sourced.2 in
+      let tries = went countered.2 in
+      let counts = went tries.2 in
+      let each = subst (λ rs. TriesEach it Replace [] rs (count_of countered.0) (nothing db) (Ok tries.0)) sourced.1.1 tries.1 in
+      let one = went each in
+      let new_is : with_rowid Chosen (db 2) (cast_row learned_table (learned_row v)) ≡ learned_row v = ap (with_rowid Chosen (db 2)) (cast_learned v) in
+      let put = subst (λ n. Upserts it Replace n db [] (Ok one.0)) new_is (tried it _ db one.0 one.1) in
+      let set = clears mode.keys learned_table (learned_params v) limit (learned_row v) db put.0 one.0 put.2 in
+      let trees : done.0.trees ≡ one.0.trees =
+      ap (λ (x : Written). x.trees) (same_value counts.2) ∙ (same_value counts.1 ∙ ap (λ (x : Written × ℤ). x.0.trees) (same_value one.2)) in
+      let all : after.trees ≡ one.0.trees = ap (λ (d : Database). d.trees) now ∙ trees in (
+        ap (λ (d : Database). d.schema) now,
+        record {
+          found = put.0;
+          conflict = put.1;
+          rows = ap (λ (x : Trees). x 2) all ∙ (set.0 ∙ ap (λ r. put_row r (without_all (db 2) (ids_of put.0))) (cast_learned v));
+          others = λ t other. ap (λ (x : Trees). x t) all ∙ set.1 t other;
+        },
+      )
+
+pub values_put : (p : ℕ) (value : List ℕ) (rows : List (ℕ × List ℕ)) → IsValue value → AreValues rows → AreValues (put rows p value)
+values_put p value [] fits all = (fits, tt)
+values_put p value (row ∷ rows) fits all = elim (in_order p row.0) [
+  | inl lt ↦ subst AreValues (sym (put_before row.0 row.1 rows p value lt)) (fits, all)
+  | inr (inl is) ↦ subst AreValues (sym (put_here row.0 row.1 rows p value is)) (fits, all.1)
+  | inr (inr gt) ↦ subst AreValues (sym (put_after row.0 row.1 rows p value gt)) (all.0, values_put p value rows fits all.1)
+]
+
+module _ (db next : Trees) (c : Content) (p : ℕ) (value : List ℕ) (was : AreTables db c) where
+  pub puts_learned : IsPlace p → IsValue value → PutsRow learned_table db next (learned_row (p, value)) → AreTables next (after_write c (Some (Learns p value)))
+  puts_learned fits short h =
+      let all = subst (λ rows. AreConflicts None [] learned_table rows (learned_row (p, value)) h.found) was.learned_are h.conflict in
+      record {
+        numbers = h.others 0 (λ same. absurd cc) ∙ was.numbers;
+        votes_are = h.others 1 (λ same. absurd cc) ∙ was.votes_are;
+        learned_are = h.rows ∙ (ap (λ rows. put_row (learned_row (p, value)) (without_all rows (ids_of h.found))) was.learned_are
+            ∙ (replaced (λ (w : ℕ × List ℕ). w.0) learned_row (λ w. refl) learned_table (p, value) c.learned h.found (rising 1 c.learned was.sound.1) all
+            ∙ ap (map learned_row) (placed_is p value 1 c.learned was.sound.1)));
+        sound = (was.sound.0, rows_put 1 p value c.learned fits.0 fits.1 was.sound.1, values_put p value c.learned short was.sound.2);
       }

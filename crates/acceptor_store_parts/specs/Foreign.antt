@@ -1,37 +1,57 @@
 -- Databases that no node wrote.
-use Rattle.std.specs.Prelude.{◌≡◌, ◌⊎◌, ℕ, codes, Some, None, IsSome, slice_get}
+use Rattle.std.specs.Prelude.{◌≡◌, ◌⊎◌, ℕ, List, codes, Some, None, IsSome, slice_get}
 use Rattle.acceptor.specs.Content.{Content}
 use Rattle.sqlite.specs.Tree.{Trees}
 use Rattle.sqlite.specs.Table.{Table}
 use Rattle.sqlite.specs.Schema.{Schema}
 use Rattle.sqlite_schema.specs.Names.{table_named, column_named}
-use Rattle.acceptor_store_parts.specs.Tables.{store_schema}
-use Rattle.acceptor_store_parts.specs.Stored.{AreTables, IsOfNode}
+use Rattle.acceptor_store_parts.specs.declared.Version.{Version}
+use Rattle.acceptor_store_parts.specs.Tables.{schema_of}
+use Rattle.acceptor_store_parts.specs.Stored.{AreTablesOf, IsOfNode}
 
--- only one of the two tables is there
-abbrev pub IsHalf : Schema → Type 0
-IsHalf s =
-    ((table_named s (codes "ballot") ≡ None) × IsSome (table_named s (codes "vote")))
-    ⊎ (IsSome (table_named s (codes "ballot")) × (table_named s (codes "vote") ≡ None))
+-- a table of this name is there, or none is
+abbrev pub HasTable : Schema → List ℕ → Type 0
+HasTable s name = IsSome (table_named s name)
 
--- the table of numbers or that of votes lacks a column
+abbrev pub HasNone : Schema → List ℕ → Type 0
+HasNone s name = table_named s name ≡ None
+
+-- only one of the tables of ballots and votes is there, or that of learned values without them
+abbrev pub IsPart : Schema → Type 0
+IsPart s =
+    (HasNone s (codes "ballot") × HasTable s (codes "vote"))
+    ⊎ ((HasTable s (codes "ballot") × HasNone s (codes "vote"))
+    ⊎ (HasNone s (codes "ballot") × HasNone s (codes "vote") × HasTable s (codes "learned")))
+
+-- the table lacks this column
+abbrev pub Lacks : Table → List ℕ → Type 0
+Lacks t name = column_named t name ≡ None
+
+-- the table of numbers, that of votes or that of learned values lacks a column
 abbrev pub LacksNumbers : Table → Type 0
-LacksNumbers t = (column_named t (codes "id") ≡ None) ⊎ (column_named t (codes "number") ≡ None)
+LacksNumbers t = Lacks t (codes "id") ⊎ Lacks t (codes "number")
 
 abbrev pub LacksVotes : Table → Type 0
-LacksVotes t = (column_named t (codes "place") ≡ None) ⊎ ((column_named t (codes "ballot") ≡ None) ⊎ (column_named t (codes "value") ≡ None))
+LacksVotes t = Lacks t (codes "place") ⊎ (Lacks t (codes "ballot") ⊎ Lacks t (codes "value"))
 
--- the schema has only one of the two tables, or one of them lacks a column
+abbrev pub LacksLearned : Table → Type 0
+LacksLearned t = Lacks t (codes "place") ⊎ Lacks t (codes "value")
+
+-- the table of this name is there, and lacks a column
+abbrev pub IsThereWithout : Schema → List ℕ → (Table → Type 0) → Type 0
+IsThereWithout s name Wants = (at : ℕ) × (t : Table) × (table_named s name ≡ Some at) × (slice_get s.tables at ≡ Some t) × Wants t
+
+-- the schema has only a part of the tables, or one of them lacks a column
 abbrev pub IsForeignSchema : Schema → Type 0
 IsForeignSchema s =
-    IsHalf s
-    ⊎ (((at : ℕ) × (t : Table) × (table_named s (codes "ballot") ≡ Some at) × (slice_get s.tables at ≡ Some t) × LacksNumbers t)
-    ⊎ ((at : ℕ) × (t : Table) × (table_named s (codes "vote") ≡ Some at) × (slice_get s.tables at ≡ Some t) × LacksVotes t))
+    IsPart s
+    ⊎ (IsThereWithout s (codes "ballot") LacksNumbers
+    ⊎ (IsThereWithout s (codes "vote") LacksVotes ⊎ IsThereWithout s (codes "learned") LacksLearned))
 
--- the two tables hold no content that a node writes
-abbrev pub HoldsNone : Trees → Type 0
-HoldsNone db = (c : Content) → AreTables db c → IsOfNode c → ⊥
+-- the tables hold no content that a node writes in this version
+abbrev pub HoldsNone : Version → Trees → Type 0
+HoldsNone version db = (c : Content) → AreTablesOf version db c → IsOfNode c → ⊥
 
--- no node wrote it, by its schema, or by its rows where the schema is that of the two tables
+-- no node wrote it, by its schema, or by its rows where the schema is that of a version
 abbrev pub IsForeign : Schema → Trees → Type 0
-IsForeign s db = IsForeignSchema s ⊎ ((s ≡ store_schema) × HoldsNone db)
+IsForeign s db = IsForeignSchema s ⊎ ((version : Version) × (s ≡ schema_of version) × HoldsNone version db)

@@ -1,4 +1,4 @@
--- What the two tables hold, as rows of the store.
+-- What the tables hold, as rows of the store.
 use Rattle.std.specs.Prelude.{◌≡◌, ◌⊎◌, ℕ, pos, List, [], ◌∷◌, map, Option, Some, None}
 use Rattle.std.specs.List.{AllByRecursion}
 use Rattle.ballots.specs.Ballots.{IsBallot}
@@ -8,6 +8,8 @@ use Rattle.acceptor.specs.Content.{Content, IsSound}
 use Rattle.sqlite.specs.declared.types.Value.TheVariants.{Null, Int, Blob}
 use Rattle.sqlite.specs.Order.{Row}
 use Rattle.sqlite.specs.Tree.{Trees}
+use Rattle.acceptor_store_parts.specs.declared.Version.{Version}
+use Rattle.acceptor_store_parts.specs.declared.Version.TheVariants.{First, Second}
 
 -- the key of a row is its rowid, and the column of the key is NULL
 abbrev pub number_row : ℕ → ℕ → Row
@@ -25,16 +27,43 @@ vote_row v = Int (pos v.0) ∷ Null ∷ Int (pos v.1.ballot) ∷ Blob v.1.value 
 abbrev pub vote_shown : ℕ × Cast → Row
 vote_shown v = Int (pos v.0) ∷ Int (pos v.1.ballot) ∷ Blob v.1.value ∷ []
 
--- tree 0 is the table of numbers, and tree 1 that of votes
-pub record AreTables (db : Trees) (c : Content) : Type 0 where
-  pub numbers : db 0 ≡ number_row 0 c.tried ∷ number_row 1 c.row ∷ []
+-- a learned value
+abbrev pub learned_row : ℕ × List ℕ → Row
+learned_row v = Int (pos v.0) ∷ Null ∷ Blob v.1 ∷ []
+
+-- a learned value as a query shows it
+abbrev pub learned_shown : ℕ × List ℕ → Row
+learned_shown v = Int (pos v.0) ∷ Blob v.1 ∷ []
+
+-- the table of numbers: row 0 is the ballot tried, row 1 the promised row, and in version 2 row 2 the number 2
+abbrev pub numbers_of : Version → ℕ → ℕ → List (ℕ × ℕ)
+numbers_of First tried row = (0, tried) ∷ (1, row) ∷ []
+numbers_of Second tried row = (0, tried) ∷ (1, row) ∷ (2, 2) ∷ []
+
+-- the same as a query shows them
+abbrev pub numbers_shown : Version → ℕ → ℕ → List Row
+numbers_shown version tried row = map (λ e. number_shown e.0 e.1) (numbers_of version tried row)
+
+-- in version 1 nothing is learned, and in version 2 tree 2 is the table of learned values
+abbrev pub HasLearned : Version → Trees → Content → Type 0
+HasLearned First db c = c.learned ≡ []
+HasLearned Second db c = db 2 ≡ map learned_row c.learned
+
+-- tables of a version: tree 0 is that of numbers, and tree 1 that of votes
+pub record AreTablesOf (version : Version) (db : Trees) (c : Content) : Type 0 where
+  pub numbers : db 0 ≡ map (λ e. number_row e.0 e.1) (numbers_of version c.tried c.row)
   pub votes_are : db 1 ≡ map vote_row c.votes
+  pub learned_are : HasLearned version db c
   pub sound : IsSound c
 
--- the first vote of a list
-abbrev pub cast_of : List (ℕ × Cast) → Option Cast
-cast_of [] = None
-cast_of (v ∷ vs) = Some v.1
+-- the tables that records are served from
+abbrev pub AreTables : Trees → Content → Type 0
+AreTables = AreTablesOf Second
+
+-- what the first row of a list has at its place
+abbrev pub first_of : {V : Type 0} → List (ℕ × V) → Option V
+first_of [] = None
+first_of (v ∷ vs) = Some v.1
 
 -- a number that a node keeps: 0, or a ballot
 abbrev pub IsNumber : ℕ → Type 0
@@ -44,8 +73,13 @@ IsNumber n = (n ≡ 0) ⊎ IsBallot n
 abbrev pub IsCast : ℕ × Cast → Type 0
 IsCast v = IsPlace v.0 × IsBallot v.1.ballot × IsValue v.1.value
 
+-- a value that a node learns: a place of the log and a short value
+abbrev pub IsLearned : ℕ × List ℕ → Type 0
+IsLearned v = IsPlace v.0 × IsValue v.1
+
 -- content that a node writes
 pub record IsOfNode (c : Content) : Type 0 where
   pub tried : IsNumber c.tried
   pub row : IsNumber c.row
   pub casts : AllByRecursion IsCast c.votes
+  pub learned : AllByRecursion IsLearned c.learned

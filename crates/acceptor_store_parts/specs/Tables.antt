@@ -1,19 +1,24 @@
--- The two tables of a node's records.
+-- The tables of a node's records, in both versions.
 use Rattle.std.specs.Prelude.{◌≡◌, true, false, [], ◌∷◌, Some, codes, List, ℕ}
 use Rattle.sqlite.specs.Collation.TheVariants.{Binary}
 use Rattle.sqlite.specs.declared.types.Value.TheVariants.{Null}
 use Rattle.sqlite.specs.Table.{Table}
 use Rattle.sqlite.specs.Schema.{Schema}
 use Rattle.sqlite.specs.Kind.TheVariants.{Integer, Blob}
+use Rattle.acceptor_store_parts.specs.declared.Version.{Version}
+use Rattle.acceptor_store_parts.specs.declared.Version.TheVariants.{First, Second}
 
--- the texts that make the two tables
+-- the texts that make the tables
 abbrev pub ballot_text : List ℕ
 ballot_text = codes "CREATE TABLE ballot (id INTEGER PRIMARY KEY, number INTEGER NOT NULL) STRICT"
 
 abbrev pub vote_text : List ℕ
 vote_text = codes "CREATE TABLE vote (place INTEGER PRIMARY KEY, ballot INTEGER NOT NULL, value BLOB NOT NULL) STRICT"
 
--- the two tables that these texts declare
+abbrev pub learned_text : List ℕ
+learned_text = codes "CREATE TABLE learned (place INTEGER PRIMARY KEY, value BLOB NOT NULL) STRICT"
+
+-- the tables that these texts declare
 abbrev pub ballot_table : Table
 ballot_table = record {
   name = codes "ballot";
@@ -49,9 +54,31 @@ vote_table = record {
   is_counted = false;
 }
 
--- the schema of the two tables alone, and the one of no table
+abbrev pub learned_table : Table
+learned_table = record {
+  name = codes "learned";
+  tree = 2;
+  columns = (record { name = codes "place"; kind = Integer; is_strict = true; not_null = false; default = Null; collation = Binary })
+      ∷ (record { name = codes "value"; kind = Blob; is_strict = true; not_null = true; default = Null; collation = Binary }) ∷ [];
+  key = Some 0;
+  primary = 0 ∷ [];
+  uniques = [];
+  orders = [];
+  checks = [];
+  references = [];
+  computed = [];
+  stamps = record { places = []; terms = []; formats = [] };
+  is_counted = false;
+}
+
+-- version 1 has the tables of ballots and votes alone, and version 2 that of learned values beside them
+abbrev pub schema_of : Version → Schema
+schema_of First = record { tables = ballot_table ∷ vote_table ∷ []; indexes = []; views = [] }
+schema_of Second = record { tables = ballot_table ∷ vote_table ∷ learned_table ∷ []; indexes = []; views = [] }
+
+-- the schema that records are served from, and the one of no table
 abbrev pub store_schema : Schema
-store_schema = record { tables = ballot_table ∷ vote_table ∷ []; indexes = []; views = [] }
+store_schema = schema_of Second
 
 abbrev pub blank_schema : Schema
 blank_schema = record { tables = []; indexes = []; views = [] }
@@ -80,6 +107,18 @@ all_votes_query = codes "SELECT place, ballot, value FROM vote ORDER BY place"
 
 abbrev pub vote_put : List ℕ
 vote_put = codes "INSERT OR REPLACE INTO vote (place, ballot, value) VALUES (?1, ?2, ?3)"
+
+abbrev pub learned_row_query : List ℕ
+learned_row_query = codes "SELECT place, value FROM learned WHERE place = ?1 ORDER BY place"
+
+abbrev pub learned_from_query : List ℕ
+learned_from_query = codes "SELECT place, value FROM learned WHERE place >= ?1 ORDER BY place"
+
+abbrev pub all_learned_query : List ℕ
+all_learned_query = codes "SELECT place, value FROM learned ORDER BY place"
+
+abbrev pub learned_put : List ℕ
+learned_put = codes "INSERT OR REPLACE INTO learned (place, value) VALUES (?1, ?2)"
 
 -- no rule beside those of the columns, and the first column is the rowid
 pub record IsPlainTable (t : Table) : Type 0 where

@@ -1,7 +1,7 @@
 //! Whether a schema is one that no node made.
 
-ghost use Rattle.std.specs.Prelude.{◌≡◌, ◌↔◌, IsTrue};
-ghost use Rattle.acceptor_store_parts.specs.Foreign.{IsForeignSchema, LacksNumbers, LacksVotes};
+ghost use Rattle.std.specs.Prelude.{◌≡◌, ◌↔◌, IsTrue, codes};
+ghost use Rattle.acceptor_store_parts.specs.Foreign.{IsForeignSchema, IsPart, IsThereWithout, LacksNumbers, LacksVotes, LacksLearned};
 
 use sqlite_schema::schema::{Schema, Table};
 
@@ -19,18 +19,54 @@ fn lacks_votes(table: &Table) -> bool
         || table.column_named(b"value").is_none()
 }
 
-/// Whether only one of the two tables is there, or one of them lacks a column.
+fn lacks_learned(table: &Table) -> bool
+    ensures { IsTrue result ↔ LacksLearned table.now }
+{
+    table.column_named(b"place").is_none() || table.column_named(b"value").is_none()
+}
+
+/// Whether only one of the tables of ballots and votes is there, or that of learned values without them.
+fn is_part(schema: &Schema) -> bool
+    ensures { IsTrue result ↔ IsPart schema.now }
+{
+    match (schema.table_named(b"ballot"), schema.table_named(b"vote")) {
+        (None, None) => schema.table_named(b"learned").is_some(),
+        (Some(_), Some(_)) => false,
+        _ => true,
+    }
+}
+
+fn has_bad_numbers(schema: &Schema) -> bool
+    ensures { IsTrue result ↔ IsThereWithout schema.now (codes "ballot") LacksNumbers }
+{
+    match schema.table_named(b"ballot") {
+        Some(at) => schema.tables.as_slice().get(at).is_some_and(lacks_numbers),
+        None => false,
+    }
+}
+
+fn has_bad_votes(schema: &Schema) -> bool
+    ensures { IsTrue result ↔ IsThereWithout schema.now (codes "vote") LacksVotes }
+{
+    match schema.table_named(b"vote") {
+        Some(at) => schema.tables.as_slice().get(at).is_some_and(lacks_votes),
+        None => false,
+    }
+}
+
+fn has_bad_learned(schema: &Schema) -> bool
+    ensures { IsTrue result ↔ IsThereWithout schema.now (codes "learned") LacksLearned }
+{
+    match schema.table_named(b"learned") {
+        Some(at) => schema.tables.as_slice().get(at).is_some_and(lacks_learned),
+        None => false,
+    }
+}
+
+/// Whether only a part of the tables is there, or one of them lacks a column.
 pub fn is_foreign(schema: &Schema) -> bool
     ensures yes { IsTrue result → IsForeignSchema schema.now }
     ensures all { IsForeignSchema schema.now → IsTrue result }
 {
-    match (schema.table_named(b"ballot"), schema.table_named(b"vote")) {
-        (None, None) => false,
-        (Some(numbers), Some(votes)) => {
-            let tables = schema.tables.as_slice();
-            tables.get(numbers).is_some_and(lacks_numbers)
-                || tables.get(votes).is_some_and(lacks_votes)
-        }
-        _ => true,
-    }
+    is_part(schema) || has_bad_numbers(schema) || has_bad_votes(schema) || has_bad_learned(schema)
 }

@@ -1,8 +1,9 @@
-//! The two tables of a node's records, by one statement a call.
+//! The tables of a node's records, by one statement a call.
 #![tactic(auto)]
 
 mod declared;
 mod foreign;
+mod learned;
 mod making;
 mod opening;
 mod reads;
@@ -25,8 +26,11 @@ ghost use Rattle.acceptor_store_parts.specs.Stored.{IsNumber};
 use ballots::{Ballot, Place, Value};
 pub use declared::is_column;
 pub use foreign::is_foreign;
-pub use making::{is_blank, make_tables};
-pub use opening::{both_numbers, is_store, read_numbers};
+pub use learned::{
+    are_rising, learned_from, learned_row, put_learned, query_all_learned, read_learned,
+};
+pub use making::{is_blank, make_tables, raise_version};
+pub use opening::{both_numbers, read_numbers, version_of};
 pub use reads::{
     Unread, query_all_votes, query_numbers, query_votes, read_votes, vote, votes_from,
 };
@@ -34,6 +38,13 @@ pub use reopening::{open_again, reopened};
 pub use rereading::{are_in_order, reread};
 use sqlite::types::ValueRef;
 use sqlite::{Alter, Connection, Error, ErrorCode, Row};
+
+/// What tables there are: those of ballots and votes alone in the first version, and that of learned values beside them in the second.
+#[derive(Clone, Copy, Debug, PartialEq, Eq)]
+pub enum Version {
+    First,
+    Second,
+}
 
 fn signed(ballot: Ballot) -> i64
     ensures { result ≡ pos ballot }

@@ -1,0 +1,30 @@
+use Rattle.std.proofs.Common.{sym, subst, rules, SFits, w64}
+use Rattle.std.proofs.lemmas.Int.{to_z-of_z}
+use Rattle.sqlite.specs.Listing.{understood}
+use Rattle.sqlite.specs.Held.{state}
+use Rattle.sqlite.proofs.StateLemmas.{survives_weaker}
+use Rattle.sqlite.proofs.Callers.{IsPlain, never_commits}
+use Rattle.acceptor_store_parts.specs.Tables.{learned_row_query}
+use Rattle.acceptor_store_parts.proofs.Meaning.{learned_row_plain}
+use Rattle.acceptor_store_parts.proofs.LearnedRows.{learned_found_at}
+use Rattle.acceptor_store_parts.proofs.Kept.{all_result, all_failed}
+use Rattle.acceptor_store_parts.proofs.learned.query_learned_row.Goals as goal
+
+pub returns-clause-value : goal.returns-clause-value
+returns-clause-value g c clean =
+    let fits : SFits w64 c.args.place = search rules in
+    learned_found_at (state g.S.Store c.args.conn.now) (state g.S.Store c.query_all.new.self) c.args.place c.query_all.result (λ x. x.items) (rw to_z-of_z at (c.query_all.ensures.ok clean))
+
+pub returns-clause-ok : goal.returns-clause-ok
+returns-clause-ok g c clean =
+    all_result learned_row_query _ (state g.S.Store c.args.conn.now) (state g.S.Store c.query_all.new.self) learned_row_plain c.query_all.result (λ x. x.items) (c.query_all.ensures.ok clean)
+
+pub returns-clause-err : goal.returns-clause-err
+returns-clause-err g c clean =
+    all_failed learned_row_query _ (state g.S.Store c.args.conn.now) (state g.S.Store c.query_all.new.self) learned_row_plain c.query_all.result (λ x. x.items) (c.query_all.ensures.ok clean) (c.query_all.ensures.err clean)
+
+pub returns-clause-survives : goal.returns-clause-survives
+returns-clause-survives g c =
+    let old = state g.S.Store c.args.conn.now in
+    let new = state g.S.Store c.query_all.new.self in
+    survives_weaker old new _ _ (λ _ db may d was. never_commits learned_row_query _ old db (subst (λ s. IsPlain (understood s learned_row_query)) (sym was.schema) learned_row_plain) may) c.query_all.ensures.survives

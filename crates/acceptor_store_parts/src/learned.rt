@@ -1,0 +1,192 @@
+//! The learned values, read and written.
+
+ghost use Rattle.std.specs.Prelude.{◌≡◌, ◌==◌, ℕ, List, pos, false, map, filter, IfErr, IfOk, IfSome, OnOk, OnErr, IsTrue};
+ghost use Rattle.std.specs.List.{AllByRecursion};
+ghost use Rattle.ballots.specs.Rows.{at, rows_from};
+ghost use Rattle.acceptor.specs.Content.{AreRowsFrom, Content};
+ghost use Rattle.acceptor.specs.Content.Write.{Learns};
+ghost use Rattle.sqlite.specs.State.{HasCleanDisk, Survives, IsUnchanged};
+ghost use Rattle.sqlite.specs.Held.{state};
+ghost use Rattle.acceptor_store_parts.specs.Stored.{IsLearned, learned_shown, first_of};
+ghost use Rattle.acceptor_store_parts.specs.Serves.{Serves, StillServes, DoesNotServe, HasWritten, MayHaveWritten, Stays, StaysOpen};
+ghost use Rattle.acceptor_store_parts.specs.Stops.{LeavesOpen};
+ghost use Rattle.acceptor_store_parts.specs.Tables.{store_schema};
+ghost use Rattle.acceptor_store_parts.specs.Rowids.{ShowsLearned};
+
+use crate::reads::{Unread, bytes_at, ended, place_at};
+use crate::{Stop, stop_for};
+use ballots::{MOST_PLACES, Place, Value};
+use sqlite::types::ValueRef;
+use sqlite::{Alter, Connection, Error, Row};
+use std::alloc::Global;
+
+/// The learned value that the row shows.
+fn read_one_learned(alloc: Global, row: &Row) -> Result<(Place, Value), Unread>
+    ensures ok { IfOk result (λ v. row.now ≡ learned_shown v) }
+    ensures fits { IfOk result (λ v. IsLearned v) }
+    ensures wrong { IfErr result (λ e. e ≡ Unread.Wrong → (v : ℕ × List ℕ) → IsLearned v → row.now ≡ learned_shown v → ⊥) }
+{
+    if row.column_count() != 2 {
+        return Err(Unread::Wrong);
+    }
+    let Some(place) = place_at(row, 0) else {
+        return Err(Unread::Wrong);
+    };
+    match Value::new(bytes_at(alloc, row, 1)?) {
+        Some(value) => Ok((place, value)),
+        None => Err(Unread::Wrong),
+    }
+}
+
+/// The learned values that the rows show.
+pub fn read_learned(alloc: Global, rows: &[Row]) -> Result<Vec<(Place, Value)>, Unread>
+    ensures ok { IfOk result (λ learned. rows.now ≡ map learned_shown learned.items) }
+    ensures fits { IfOk result (λ learned. AllByRecursion IsLearned learned.items) }
+    ensures wrong { IfErr result (λ e. e ≡ Unread.Wrong → (learned : List (ℕ × List ℕ)) → AllByRecursion IsLearned learned → rows.now ≡ map learned_shown learned → ⊥) }
+{
+    let mut learned = Vec::new(alloc);
+    for row in rows {
+        match read_one_learned(alloc, row) {
+            Ok(value) => learned.push(value)?,
+            Err(fault) => return Err(fault),
+        }
+    }
+    Ok(learned)
+}
+
+/// The learned values stand by ascending place.
+pub fn are_rising(learned: &[(Place, Value)]) -> bool
+    ensures yes { IsTrue result → AreRowsFrom 1 learned.now }
+    ensures no { result ≡ false → AreRowsFrom 1 learned.now → ⊥ }
+{
+    let mut from = 1u64;
+    for row in learned {
+        let place = row.0.number();
+        if place < from {
+            return false;
+        }
+        if MOST_PLACES < place {
+            return false;
+        }
+        from = place + 1;
+    }
+    true
+}
+
+fn query_learned_from<S: Alter>(conn: &mut Connection<S>, first: i64) -> Result<Vec<Row>, Error>
+    ensures value { HasCleanDisk (state S.Store conn.new) → IfOk result (λ rows. (q : _) (c : Content) → first ≡ pos q → Serves (state S.Store conn.old) c → rows.items ≡ map learned_shown (rows_from c.learned q)) }
+    ensures ok { HasCleanDisk (state S.Store conn.new) → OnOk result (Stays (state S.Store conn.old) (state S.Store conn.new)) }
+    ensures err { HasCleanDisk (state S.Store conn.new) → IsTrue (state S.Store conn.new).is_open → StillServes (state S.Store conn.old) (state S.Store conn.new) }
+    ensures survives { Survives (state S.Store conn.old) (state S.Store conn.new) (λ _. DoesNotServe (state S.Store conn.old)) }
+{
+    let from = ValueRef::Int(first);
+    conn.query_all(
+        "SELECT place, value FROM learned WHERE place >= ?1 ORDER BY place",
+        &[from],
+    )
+}
+
+fn query_learned_row<S: Alter>(conn: &mut Connection<S>, place: i64) -> Result<Vec<Row>, Error>
+    ensures value { HasCleanDisk (state S.Store conn.new) → IfOk result (λ rows. (q : _) (c : Content) → place ≡ pos q → Serves (state S.Store conn.old) c → rows.items ≡ map learned_shown (filter (λ v. v.0 == q) c.learned)) }
+    ensures ok { HasCleanDisk (state S.Store conn.new) → OnOk result (Stays (state S.Store conn.old) (state S.Store conn.new)) }
+    ensures err { HasCleanDisk (state S.Store conn.new) → IsTrue (state S.Store conn.new).is_open → StillServes (state S.Store conn.old) (state S.Store conn.new) }
+    ensures survives { Survives (state S.Store conn.old) (state S.Store conn.new) (λ _. DoesNotServe (state S.Store conn.old)) }
+{
+    let at = ValueRef::Int(place);
+    conn.query_all(
+        "SELECT place, value FROM learned WHERE place = ?1 ORDER BY place",
+        &[at],
+    )
+}
+
+/// All rows of the table of learned values, whatever they are.
+pub fn query_all_learned<S: Alter>(conn: &mut Connection<S>) -> Result<Vec<Row>, Error>
+    ensures held { HasCleanDisk (state S.Store conn.new) → IfOk result (λ rows. ShowsLearned (state S.Store conn.old) rows.items) }
+    ensures value { HasCleanDisk (state S.Store conn.new) → IfOk result (λ rows. (c : Content) → Serves (state S.Store conn.old) c → rows.items ≡ map learned_shown c.learned) }
+    ensures same { HasCleanDisk (state S.Store conn.new) → (state S.Store conn.old).now.schema ≡ store_schema → OnOk result (IsUnchanged (state S.Store conn.old) (state S.Store conn.new)) }
+    ensures survives { Survives (state S.Store conn.old) (state S.Store conn.new) (λ _. (state S.Store conn.old).now.schema ≡ store_schema → ⊥) }
+{
+    conn.query_all("SELECT place, value FROM learned ORDER BY place", &[])
+}
+
+/// The learned values from the place on.
+pub fn learned_from<S: Alter>(
+    alloc: Global,
+    conn: &mut Connection<S>,
+    place: Place,
+) -> Result<Vec<(Place, Value)>, Stop>
+    ensures value { HasCleanDisk (state S.Store conn.new) → IfOk result (λ learned. (c : Content) → Serves (state S.Store conn.old) c → learned.items ≡ rows_from c.learned place) }
+    ensures stays { HasCleanDisk (state S.Store conn.new) → StaysOpen result → StillServes (state S.Store conn.old) (state S.Store conn.new) }
+    ensures survives { Survives (state S.Store conn.old) (state S.Store conn.new) (λ _. DoesNotServe (state S.Store conn.old)) }
+{
+    let rows = match query_learned_from(conn, crate::signed_place(place)) {
+        Ok(rows) => rows,
+        Err(error) => return Err(stop_for(conn, error)),
+    };
+    match read_learned(alloc, &rows) {
+        Ok(learned) => Ok(learned),
+        Err(fault) => Err(ended(fault)),
+    }
+}
+
+fn first_learned(alloc: Global, rows: &[Row]) -> Result<Option<Value>, Unread>
+    ensures { IfOk result (λ value. (learned : _) → rows.now ≡ map learned_shown learned → value ≡ first_of learned) }
+{
+    match rows.first() {
+        Some(row) => Ok(Some(read_one_learned(alloc, row)?.1)),
+        None => Ok(None),
+    }
+}
+
+/// The learned value of the place.
+pub fn learned_row<S: Alter>(
+    alloc: Global,
+    conn: &mut Connection<S>,
+    place: Place,
+) -> Result<Option<Value>, Stop>
+    ensures value { HasCleanDisk (state S.Store conn.new) → IfOk result (λ value. (c : Content) → Serves (state S.Store conn.old) c → value ≡ at c.learned place) }
+    ensures stays { HasCleanDisk (state S.Store conn.new) → StaysOpen result → StillServes (state S.Store conn.old) (state S.Store conn.new) }
+    ensures survives { Survives (state S.Store conn.old) (state S.Store conn.new) (λ _. DoesNotServe (state S.Store conn.old)) }
+{
+    let rows = match query_learned_row(conn, crate::signed_place(place)) {
+        Ok(rows) => rows,
+        Err(error) => return Err(stop_for(conn, error)),
+    };
+    match first_learned(alloc, &rows) {
+        Ok(value) => Ok(value),
+        Err(fault) => Err(ended(fault)),
+    }
+}
+
+fn run_put_learned<S: Alter>(
+    conn: &mut Connection<S>,
+    place: Place,
+    value: &Value,
+) -> Result<usize, Error>
+    ensures ok { HasCleanDisk (state S.Store conn.new) → OnOk result (HasWritten (state S.Store conn.old) (state S.Store conn.new) (Learns place value.now)) }
+    ensures err { HasCleanDisk (state S.Store conn.new) → OnErr result (IsTrue (state S.Store conn.new).is_open → StillServes (state S.Store conn.old) (state S.Store conn.new)) }
+    ensures survives { Survives (state S.Store conn.old) (state S.Store conn.new) (MayHaveWritten (state S.Store conn.old) (Learns place value.now)) }
+{
+    let at = ValueRef::Int(crate::signed_place(place));
+    let bytes = ValueRef::Blob(value.as_slice());
+    conn.execute(
+        "INSERT OR REPLACE INTO learned (place, value) VALUES (?1, ?2)",
+        &[at, bytes],
+    )
+}
+
+/// Writes the learned value of its place.
+pub fn put_learned<S: Alter>(
+    conn: &mut Connection<S>,
+    place: Place,
+    value: &Value,
+) -> Result<(), Stop>
+    ensures ok { HasCleanDisk (state S.Store conn.new) → OnOk result (HasWritten (state S.Store conn.old) (state S.Store conn.new) (Learns place value.now)) }
+    ensures err { HasCleanDisk (state S.Store conn.new) → IfErr result (λ e. LeavesOpen e → StillServes (state S.Store conn.old) (state S.Store conn.new)) }
+    ensures survives { Survives (state S.Store conn.old) (state S.Store conn.new) (MayHaveWritten (state S.Store conn.old) (Learns place value.now)) }
+{
+    match run_put_learned(conn, place, value) {
+        Ok(_) => Ok(()),
+        Err(error) => Err(stop_for(conn, error)),
+    }
+}
