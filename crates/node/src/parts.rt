@@ -230,7 +230,10 @@ impl<R: Records> Parts<R> {
             → Does R.may_find self.old (λ view course. course ≡ Ok (learns view place value)) result self.new }
     {
         let letters = Vec::new(self.alloc);
-        match self.knowledge.learn(self.alloc, &mut self.records, place, &value) {
+        match self
+            .knowledge
+            .learn(self.alloc, &mut self.records, place, &value)
+        {
             Ok(()) => Ok(letters),
             Err(fault) => Err(self.stop(fault)),
         }
@@ -253,9 +256,7 @@ impl<R: Records> Parts<R> {
     {
         let members = self.proposer.members();
         let value = value.copy(self.alloc)?;
-        let taught = self
-            .knowledge
-            .voted(members, ballot, place, value, from)?;
+        let taught = self.knowledge.voted(members, ballot, place, value, from)?;
         match taught {
             Some(value) => self.learn(place, value_of(value)),
             None => Ok(Vec::new(self.alloc)),

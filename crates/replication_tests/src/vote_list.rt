@@ -74,13 +74,12 @@ fn learned(learner: &Learner, place: u64) -> Option<u8> {
     learner.learned(place)?.as_slice().first().copied()
 }
 
-/// A vote is heard, and the value that it teaches is learned.
 fn hear(learner: &mut Learner, alloc: Global, members: Members, vote: Vote) -> Result<(), Fail> {
     let ballot = Ballot::new(vote.ballot).ok_or("ballot")?;
     let from = NodeId::new(vote.from).ok_or("node")?;
     let value = Bytes::new(Vec::from_slice(alloc, &[vote.value])?);
-    if let Some(taught) = learner.voted(members, ballot, vote.place, value, from)? {
-        learner.known(vote.place, taught)?;
+    if let Some(value) = learner.voted(members, ballot, vote.place, value, from)? {
+        learner.known(vote.place, value)?;
     }
     Ok(())
 }

@@ -1,7 +1,7 @@
-use Rattle.std.proofs.Common.{◌≡◌, List, [], ◌∷◌, sym, ap, ◌∙◌, subst, rules}
+use Rattle.std.proofs.Common.{◌≡◌, [], ◌∷◌, sym, ap, ◌∙◌, subst, rules}
 use Rattle.std.proofs.lemmas.List.{nil_from_length}
 use Rattle.ballots.specs.Rows.{at}
-use Rattle.learner.specs.Tally.{Tally, known, no_tally}
+use Rattle.learner.specs.Tally.{Tally, known}
 use Rattle.command_log.specs.View.{AreRows}
 use Rattle.node.proofs.Knowing.{known_rows}
 use Rattle.node.proofs.Reading.{take_in, whole, none_counted}

@@ -1,4 +1,4 @@
-use Rattle.std.proofs.Common.{◌≡◌, ◌≤◌, length}
+use Rattle.std.proofs.Common.{◌≡◌, ◌≤◌}
 use Rattle.ballots.specs.Voting.{count_below}
 use Rattle.learner.specs.Tally.{is_voter}
 use Rattle.learner.proofs.groups.Voters.count.Given as goal

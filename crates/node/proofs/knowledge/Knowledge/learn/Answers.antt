@@ -6,7 +6,6 @@ use Rattle.ballots.specs.Rows.{at, put}
 use Rattle.command_log.specs.Values.{Rows}
 use Rattle.command_log.specs.View.{AreRows}
 use Rattle.learner.specs.Tally.{Tally}
-use Rattle.proposer.specs.declared.fault.NodeFault.{NodeFault as Fault}
 use Rattle.node.specs.Calls.{IsStop}
 use Rattle.node.specs.Learned.{Learned, IsPart, AreLearned}
 use Rattle.node.proofs.Knowing.{are_learned, learn_keeps, put_back}

@@ -1,12 +1,10 @@
-use Rattle.std.proofs.Common.{◌≡◌, refl, ap, subst, sym, Some, IsTrue, false, true}
+use Rattle.std.proofs.Common.{◌≡◌, refl, ap, subst, sym, Some}
 use Rattle.acceptor.specs.Content.{after_write}
 use Rattle.acceptor.specs.Content.Write.{Learns}
 use Rattle.node.specs.Learned.{Learned}
 use Rattle.node.specs.Sched.{Stands, Stops, view_over}
 use Rattle.node.specs.Step.{learns}
 use Rattle.node.specs.View.Standing.{Running}
-use Rattle.node.specs.declared.parts.Parts.{Parts}
-use Rattle.node.proofs.Endings.{EndsSo}
 use Rattle.node.proofs.Leading.{honest_before}
 use Rattle.node.proofs.Learning.{Ended, learn_fails}
 use Rattle.node.proofs.parts.Parts.learn.Goals as goal
