@@ -1,5 +1,5 @@
 -- A node that prepares, votes, counts and learns does what keeps the invariant.
-use Rattle.std.proofs.Common.{◌≡◌, ◌⊎◌, inl, inr, ⊎_elim, ℕ, ◌<◌, ◌≤◌, not, nat_lt, nat_le, ◌==◌, List, [], ◌∷◌, ◌++◌, take, refl, sym, subst, arith, Option, Some, None, slice_get}
+use Rattle.std.proofs.Common.{◌≡◌, inl, inr, ⊎_elim, ℕ, ◌<◌, ◌≤◌, not, nat_lt, nat_le, ◌==◌, List, [], ◌∷◌, ◌++◌, take, refl, sym, subst, arith, Option, Some, None, slice_get}
 use Rattle.std.proofs.lemmas.Bool.{cond_both, ltb-true, ltb-false, eqb-true, le-leb}
 use Rattle.ballots.specs.declared.letters.Cast.{Cast}
 use Rattle.ballots.specs.declared.letters.Note.{Note}
@@ -9,7 +9,7 @@ use Rattle.ballots.specs.Voting.{Entry, IsIn, IsChosen}
 use Rattle.ballots.specs.Voting.Entry.{Promised, Vote}
 use Rattle.acceptor.specs.Content.{Content, Write, promised, after_write, record_write}
 use Rattle.ballots.specs.Rows.{at, rows_from}
-use Rattle.acceptor.specs.Content.Write.{Promises, Votes, Learns}
+use Rattle.acceptor.specs.Content.Write.{Promises, Votes}
 use Rattle.proposer.specs.declared.role.Role.{Role}
 use Rattle.learner.specs.Tally.{IsVoteCounted}
 use Rattle.learner.proofs.Callers.{counted_less}

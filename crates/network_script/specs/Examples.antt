@@ -1,5 +1,5 @@
 -- Runs in which nothing fails, computed over the definitions.
-use Rattle.std.specs.Prelude.{◌≡◌, ℕ, List, [], ◌∷◌, Some, None}
+use Rattle.std.specs.Prelude.{◌≡◌, ℕ, List, [], ◌∷◌, ◌++◌, Some, None}
 use Rattle.ballots.specs.declared.letters.Letter.{Letter}
 use Rattle.ballots.specs.declared.letters.Note.{Note}
 use Rattle.ballots.specs.declared.letters.Note.TheVariants.{Prepare, Promise, Accept}
@@ -48,6 +48,12 @@ abbrev pub OneLeader : Type 0
 OneLeader =
     (answers 3 one_leader ≡ Sent 3 ∷ Sent 1 ∷ Sent 1 ∷ Sent 0 ∷ Sent 0 ∷ Sent 3 ∷ Sent 3 ∷ Sent 3 ∷ Sent 0 ∷ Sent 0 ∷ Sent 0 ∷ Sent 0 ∷ Sent 3 ∷ Sent 3 ∷ Sent 3 ∷ Sent 0 ∷ Sent 0 ∷ Sent 0 ∷ Sent 0 ∷ Released 2 ∷ Released 2 ∷ [])
     × ((runs 3 one_leader).1.outputs ≡ given 0 1 (ChannelSet 1 7) ∷ given 0 2 (Map 1 1000 1 map_one) ∷ given 1 1 (ChannelSet 1 7) ∷ given 1 2 (Map 1 1000 1 map_one) ∷ [])
+
+-- what a node had learned outlives its crash: it releases that again, without hearing of it again
+abbrev pub LearnedOutlivesCrash : Type 0
+LearnedOutlivesCrash =
+    (runs 3 (one_leader ++ Crash 1 ∷ Restart 1 ∷ Release 1 0 ∷ [])).1.outputs
+    ≡ given 0 1 (ChannelSet 1 7) ∷ given 0 2 (Map 1 1000 1 map_one) ∷ given 1 1 (ChannelSet 1 7) ∷ given 1 2 (Map 1 1000 1 map_one) ∷ given 1 1 (ChannelSet 1 7) ∷ given 1 2 (Map 1 1000 1 map_one) ∷ []
 
 -- five nodes: a leader's one Accept has reached node 1 as it crashes. A takeover that hears of node 1 proposes that value
 abbrev pub TakesOver : Type 0

@@ -1,7 +1,7 @@
 //! What holds of every run, whatever is lost, repeated and reordered, and whichever nodes crash and restart.
 
 ghost use Rattle.network_script.specs.Headline.{CoversOnce, GaplessIsBeginning, HasOneSchedule, Headline, HeldIsOwned, HistoryIsLegal, HoldersAreOne, LearnedIsChosen, MapsAreOne, ModemsAreNamed, OfEveryRun, OwnersAreOne, ReleasedIsOutput, RunsJoin, SentByOwner, SentIsHeld, WithSchedule};
-ghost use Rattle.network_script.specs.Examples.{IsRefused, LeastBallots, OneLeader, ReleasesInOrder, TakesOver, TakesOverAfresh, TriesHigher, VoteOutlivesCrash};
+ghost use Rattle.network_script.specs.Examples.{IsRefused, LearnedOutlivesCrash, LeastBallots, OneLeader, ReleasesInOrder, TakesOver, TakesOverAfresh, TriesHigher, VoteOutlivesCrash};
 ghost use Rattle.network_script.specs.Plain.{EachIsAnswered};
 ghost use Rattle.network_script.specs.Counts.{FewFaults};
 
@@ -52,10 +52,11 @@ pub fn each_is_answered()
     ensures { EachIsAnswered }
 {}
 
-/// Runs of the definitions, computed: three nodes with one leader, takeovers, a crash after a vote and
-/// before a ballot, refused events, and a gap that is closed.
+/// Runs of the definitions, computed: three nodes with one leader, a crash after values were learned,
+/// takeovers, a crash after a vote and before a ballot, refused events, and a gap that is closed.
 pub fn examples()
     ensures one_leader { OneLeader }
+    ensures learned_outlives_crash { LearnedOutlivesCrash }
     ensures takes_over { TakesOver }
     ensures takes_over_afresh { TakesOverAfresh }
     ensures vote_outlives_crash { VoteOutlivesCrash }
