@@ -113,8 +113,11 @@ fn at(failure: Failure, number: u64) -> Trouble {
     }
 }
 
-// Of the calls on node 1's records a Prepare makes three and an Accept three, of which the last one writes.
+// Of the calls on node 1's records a Prepare makes three and an Accept three, of which the last one writes. The Voted
+// that makes a majority is the next, and writes the learned row.
 const FIRST_VOTE: u64 = 6;
+
+const FIRST_LEARNED: u64 = 7;
 
 #[test]
 fn a_refused_vote(rt: HostRuntime) -> Result<(), Fail> {
@@ -171,5 +174,28 @@ fn goes_on_without(alloc: Global, failure: Failure, fault: NodeFault) -> Result<
 fn a_store_that_fails_for_good(rt: HostRuntime) -> Result<(), Fail> {
     assert!(rt; goes_on_without(rt.alloc(), Failure::Refused, NodeFault::StoreRefused)?);
     assert!(rt; goes_on_without(rt.alloc(), Failure::BrokenUnwritten, NodeFault::Down)?);
+    Ok(())
+}
+
+/// Whether the run goes on where the write of node 1's first learned row ends so, and the node restarts: it has learned
+/// the value or hears of the votes again.
+fn learns_again(alloc: Global, failure: Failure, fault: NodeFault) -> Result<bool, Fail> {
+    let late = Between {
+        events: "{kind = 'deliver', letter = 6}, {kind = 'deliver', letter = 9}, {kind = 'deliver', letter = 12}, {kind = 'restart', node = 1},",
+        answers: &[
+            Answer::Sent(3),
+            Answer::Sent(0),
+            Answer::Fault(fault),
+            Answer::Finished,
+        ],
+    };
+    goes_on(alloc, (1, at(failure, FIRST_LEARNED)), &NOTHING, &late)
+}
+
+#[test]
+fn a_learned_row_that_fails(rt: HostRuntime) -> Result<(), Fail> {
+    assert!(rt; learns_again(rt.alloc(), Failure::Refused, NodeFault::StoreRefused)?);
+    assert!(rt; learns_again(rt.alloc(), Failure::BrokenWritten, NodeFault::Down)?);
+    assert!(rt; learns_again(rt.alloc(), Failure::BrokenUnwritten, NodeFault::Down)?);
     Ok(())
 }

@@ -279,3 +279,14 @@ fn nothing_behind_a_gap_is_released(rt: HostRuntime) -> Result<(), Fail> {
     assert!(rt; are_both(released_by(&mut three, 1)?.as_slice()));
     Ok(())
 }
+
+/// A value behind a gap is kept too: what comes of the one before it is all that the node still needs.
+#[test]
+fn a_restart_keeps_what_was_learned(rt: HostRuntime) -> Result<(), Fail> {
+    let mut three = cluster_after(rt.alloc(), Members::Three, &GAP)?;
+    go_on(&mut three, &[Act::Restart(1)])?;
+    go_on(&mut three, &CLOSED)?;
+    go_on(&mut three, &[Act::Restart(1)])?;
+    assert!(rt; are_both(released_by(&mut three, 1)?.as_slice()));
+    Ok(())
+}

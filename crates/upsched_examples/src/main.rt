@@ -3,6 +3,9 @@
 //! run a second time with `--store` and a third time over files in memory, plans of `live` with fewer turns and `--verbose`, and plans with a fault by `live` too.
 #![tactic(auto)]
 
+mod older;
+
+use older::{FRESH, VOTED, make_older_folder};
 use sqlite::Files as Pair;
 use sqlite_disk::Memory;
 use std::alloc::{AllocError, Global};
@@ -277,6 +280,23 @@ impl<T: Threads + Wait + Clock + Sync + AllocGlobal> Host<'_, T> {
         Ok(agree)
     }
 
+    /// Whether a database of version 1 is refused where its node promised and voted, and is used where it is a fresh
+    /// node's.
+    fn older_stores_agree<O: Write>(&self, output: &mut O) -> io::Result<bool> {
+        make_older_folder(self.rt, "voted.store", VOTED)?;
+        let mut agree = self.is_refused("voted.store", "upsched: store not fresh\n", output)?;
+        make_older_folder(self.rt, "older.store", FRESH)?;
+        let words = ["--store", "older.store"];
+        agree &= self.agrees(
+            "run",
+            "scripts/one_leader.toml",
+            "scripts/one_leader",
+            words.as_slice(),
+            output,
+        )?;
+        Ok(agree)
+    }
+
     /// Whether an example agrees in each way in which its folder is run.
     fn agrees_in_all<O: Write>(
         &self,
@@ -322,6 +342,7 @@ impl<T: Threads + Wait + Clock + Sync + AllocGlobal> Host<'_, T> {
             all_agree &= self.run_folder(folder, output)?;
         }
         all_agree &= self.refusals_agree(output)?;
+        all_agree &= self.older_stores_agree(output)?;
         Ok(all_agree)
     }
 }
