@@ -1,9 +1,9 @@
 -- The rows after a MAP is closed, and the elements of its body.
-use Rattle.std.proofs.Common.{◌≡◌, ℕ, ◌+◌, ◌<◌, ◌≤◌, Bool, true, false, cond, not, ◌&&◌, max, min, List, [], ◌∷◌, ◌++◌, map, filter, length, Option, Some, None, refl, sym, ap, subst, ◌∙◌, arith, inl, inr, eqb, ◌^◌}
-use Rattle.std.specs.List.{list_any, filter_map, flat_map, range_with_len, AllByRecursion, AllZip}
+use Rattle.std.proofs.Common.{◌≡◌, ℕ, ◌+◌, ◌<◌, ◌≤◌, Bool, true, false, cond, not, ◌&&◌, max, min, List, [], ◌∷◌, ◌++◌, map, filter, length, Option, Some, None, refl, sym, ap, subst, ◌∙◌, arith, inl, inr, eqb, leb, ltb, ◌^◌}
+use Rattle.std.specs.List.{find, list_any, filter_map, flat_map, range_with_len, AllByRecursion, AllZip}
 use Rattle.std.specs.Option.{option_map, option_and_then, option_map_or}
 use Rattle.std.specs.Prelude.{IfSome}
-use Rattle.std.proofs.lemmas.Bool.{eqb-true}
+use Rattle.std.proofs.lemmas.Bool.{eqb-true, le-leb}
 use Rattle.minislot_time.specs.Extent.{Extent}
 use Rattle.map_body.specs.declared.element.Element.{Element}
 use Rattle.map_body.specs.Rules.{AreElements}
@@ -19,24 +19,26 @@ use Rattle.flow_state.specs.declared.flow.FlowKind.{FlowKind}
 use Rattle.flow_state.specs.declared.flow.FlowKind.TheVariants.{BestEffort, Ugs, Poll}
 use Rattle.flow_state.specs.declared.flow.Waiting.{Waiting}
 use Rattle.flow_state.specs.Limits.{last_time, due_index, is_timed}
-use Rattle.flow_state.specs.Rows.{Rows, Table, FlowRow, is_table, table_of, change_table, is_flow, flow_of, timed, channel_at}
+use Rattle.flow_state.specs.Rows.{Rows, Table, FlowRow, is_table, table_of, change_table, is_flow, flow_of, timed, channel_at, last_in, last_of, is_ended, has_ended}
 use Rattle.flow_state.specs.Changes.{with_due, waiting_of, waiting_in_table, with_cut_closed, close_table}
 use Rattle.grant_machine.specs.declared.cut.Filled.{Filled}
 use Rattle.grant_machine_parts.specs.declared.placing.Placement.{Placement}
-use Rattle.grant_machine_parts.specs.Cutting.{Filled as FilledMap, fill, fill_span, fill_refusal, span_of, end_of, in_order, priority_of, still_waiting, is_grant_of, table_after}
+use Rattle.grant_machine_parts.specs.Cutting.{Filled as FilledMap, fill, fill_refusal, span_of, end_of, in_order, priority_of, still_waiting, is_grant_of, flows_left, requests_left, table_after}
 use Rattle.grant_machine_parts.specs.Drawing.{begins_at, null_element, pending_element, elements_of, head_of, bytes_of}
 use Rattle.grant_machine.specs.Runs.{IsReached}
 use Rattle.grant_machine_parts.specs.Lent.{row_of, IsUnicast}
 use Rattle.grant_machine.specs.CutRows.{IsOfKind, due_times_set, requests_taken}
-use Rattle.grant_machine.specs.Plans.{IsFilledBy, elements_in}
+use Rattle.grant_machine_parts.specs.Ranks.{requests_in, going_on, IsOfLast}
+use Rattle.grant_machine_parts.specs.declared.waiting.Ranked.{Ranked}
+use Rattle.grant_machine.specs.Plans.{IsFilledBy, elements_in, flows_served}
 use Rattle.flow_state.proofs.Callers.{changed, find_changed, some_is, same_id, KeepsId}
 use Rattle.flow_state.proofs.Callers.{eqb_same}
 use Rattle.flow_state.proofs.Callers.{filter_append}
 use Rattle.flow_state.proofs.Callers.{Has, map_has, all_has, found_has, has_filter}
 use Rattle.flow_state.proofs.Callers.{IsWell, RisingFrom, one_flow}
-use Rattle.grant_machine_parts.proofs.Callers.{Moves, fill_moves, flow_from, is_cut}
+use Rattle.grant_machine_parts.proofs.Callers.{Moves, fill_moves, served_from, is_cut}
 use Rattle.grant_machine.proofs.Reached.{reached_is_well}
-use Rattle.grant_machine.proofs.Standing.{Apart, IsIdle, idle, fill_idle, reached_apart, reached_idle}
+use Rattle.grant_machine.proofs.Standing.{Apart, IsIdle, idle, served_idle, reached_apart, reached_idle}
 use Rattle.grant_machine.proofs.Lending.{due_set}
 use Rattle.grant_machine.proofs.Settling.{unicast}
 use Rattle.grant_machine_parts.proofs.Callers.{cut_elements, cut_few}
@@ -259,15 +261,30 @@ cut_early rows ch row len not_before ack e ok =
     let end = cut.end in
     (cut.most, subst (λ n. max n not_before + len ≤ last_time) same end)
 
-moved_rows : (t : Table) (span : Extent) (ack : ℕ) → end_of span ≤ last_time → AllZip IsMoved t.flows (fill_span t span ack).flows
-moved_rows t span ack le = let twice = fill_moves t span ack le in moved_twice t.flows twice.between (fill_span t span ack).flows twice.first twice.second
+moved_rows : (t : Table) (span : Extent) → end_of span ≤ last_time → AllZip IsMoved t.flows (flows_served t span)
+moved_rows t span le = let twice = fill_moves t span le in moved_twice t.flows twice.between (flows_served t span) twice.first twice.second
 
-abbrev after_of : Table → (end ack : ℕ) → List FlowRow → List Waiting → Table
-after_of t end ack flows waiting = record { row = record t.row { next_start = end; ack = ack }; assigned = t.assigned; flows = flows; waiting = waiting }
+-- a lease ends as soon, whichever due time of its flow is next
+ended_same : (end sid : ℕ) (fs gs : List FlowRow) → AllZip IsMoved fs gs → option_map_or (is_ended end) (find (is_flow sid) gs) false ≡ option_map_or (is_ended end) (find (is_flow sid) fs) false
+ended_same end sid [] [] z = refl
+ended_same end sid [] (g ∷ gs) z = absurd z
+ended_same end sid (f ∷ fs) [] z = absurd z
+ended_same end sid (f ∷ fs) (g ∷ gs) z =
+    ap (λ (x : FlowRow). option_map_or (is_ended end) (cond (is_flow sid x) (Some x) (find (is_flow sid) gs)) false) z.0.1
+    ∙ elim (is_flow sid f) as (λ b. option_map_or (is_ended end) (cond b (Some (record f { index = z.0.0 })) (find (is_flow sid) gs)) false ≡ option_map_or (is_ended end) (cond b (Some f) (find (is_flow sid) fs)) false) [
+      | true ↦ refl
+      | false ↦ ended_same end sid fs gs z.1
+    ]
+
+abbrev after_of : Table → (end ack : ℕ) → (fs : List FlowRow) → (ws : List Waiting) → Table
+after_of t end ack fs ws = close_table (record t { flows = fs; waiting = ws }) end ack
 
 module _ (rows : Rows) (ch : ℕ) (t : Table) (len not_before ack : ℕ) (x : Filled) (reached : IsReached rows) (found : table_of rows ch ≡ Some t) (ok : fill_refusal t.row len not_before ack ≡ None) (by : IsFilledBy t (span_of t.row len not_before) x) where
   abbrev filled : FilledMap
   filled = fill t len not_before ack
+
+  abbrev span : Extent
+  span = span_of t.row len not_before
 
   well : IsWell t
   well = reached_is_well rows reached ch t found
@@ -278,19 +295,19 @@ module _ (rows : Rows) (ch : ℕ) (t : Table) (len not_before ack : ℕ) (x : Fi
   placed : x.filling.placements ≡ filled.placements
   placed = by.placements filled.ack
 
-  flows_are : map row_of x.flows.items ≡ timed filled.flows
-  flows_are = by.flows filled.ack
-
-  rows_set : set_flows x.flows.items t.flows ≡ filled.flows
+  rows_set : set_flows x.flows.items t.flows ≡ flows_served t span
   rows_set =
       let idle_before = reached_idle rows reached ch t found in
-      all_set 1 t.flows filled.flows x.flows.items well.rising (moved_rows t (span_of t.row len not_before) filled.ack ended) idle_before (fill_idle t (span_of t.row len not_before) filled.ack idle_before) (sym flows_are)
+      all_set 1 t.flows (flows_served t span) x.flows.items well.rising (moved_rows t span ended) idle_before (served_idle t span idle_before) (sym by.flows)
 
   abbrev set_all : Table → Table
   set_all u = record u { flows = set_flows x.flows.items u.flows }
 
+  abbrev waits_on : List Waiting
+  waits_on = still_waiting filled.placements t.waiting
+
   abbrev take_granted : Table → Table
-  take_granted u = waiting_in_table u filled.waiting
+  take_granted u = waiting_in_table u waits_on
 
   -- the due times leave the requests that wait
   still_there : waiting_of (table_of (due_times_set rows ch x.flows.items) ch) ≡ t.waiting
@@ -299,28 +316,36 @@ module _ (rows : Rows) (ch : ℕ) (t : Table) (len not_before ack : ℕ) (x : Fi
       ∙ ap waiting_of (find_changed rows ch ch set_all t (λ u. refl) found)
       ∙ elim (is_table ch t) as (λ b. (cond b (set_all t) t).waiting ≡ t.waiting) [ true ↦ refl | false ↦ refl ]
 
-  requests_left : still_waiting x.filling.placements (waiting_of (table_of (due_times_set rows ch x.flows.items) ch)) ≡ filled.waiting
-  requests_left = ap (λ (ws : List Waiting). still_waiting x.filling.placements ws) still_there ∙ ap (λ (ps : List Placement). still_waiting ps t.waiting) placed
+  requests_kept : still_waiting x.filling.placements (waiting_of (table_of (due_times_set rows ch x.flows.items) ch)) ≡ waits_on
+  requests_kept = ap (λ (ws : List Waiting). still_waiting x.filling.placements ws) still_there ∙ ap (λ (ps : List Placement). still_waiting ps t.waiting) placed
+
+  -- what closing takes out is what ends with the MAP
+  closed_is : after_of t (end_of span) filled.ack (flows_served t span) waits_on ≡ table_after t filled
+  closed_is =
+      ap (λ (ws : List Waiting). record { row = record t.row { next_start = end_of span; ack = filled.ack }; leases = t.leases; flows = flows_left span (flows_served t span); waiting = ws })
+      (filter_same (λ w. not (has_ended (record t { flows = flows_served t span; waiting = waits_on }) (end_of span) w)) (λ w. not (has_ended t (end_of span) w)) waits_on
+      (λ w h. ap not (ended_same (end_of span) w.sid t.flows (flows_served t span) (moved_rows t span ended))))
 
   pub rows_closed : (a : ℕ) → a ≡ filled.ack
       → with_cut_closed (requests_taken (due_times_set rows ch x.flows.items) ch x.filling.placements) ch (end_of x.filling.span) a ≡ change_table rows ch (λ u. table_after u filled)
   rows_closed a same =
       let close : Table → Table = λ u. close_table u (end_of x.filling.span) a in
-      ap (λ (ws : List Waiting). change_table (change_table (due_times_set rows ch x.flows.items) ch (λ u. waiting_in_table u ws)) ch close) requests_left
+      ap (λ (ws : List Waiting). change_table (change_table (due_times_set rows ch x.flows.items) ch (λ u. waiting_in_table u ws)) ch close) requests_kept
       ∙ ap (λ (r : Rows). change_table (change_table r ch take_granted) ch close) (dues_are rows ch x.flows.items)
       ∙ ap (λ (r : Rows). change_table r ch close) (change_twice rows ch set_all take_granted (λ u. refl))
       ∙ change_twice rows ch (λ u. take_granted (set_all u)) close (λ u. refl)
       ∙ change_at rows ch t (λ u. close (take_granted (set_all u))) (λ u. table_after u filled) (reached_apart rows reached) found
-      (ap (λ (s : Extent). after_of t (end_of s) a (set_flows x.flows.items t.flows) filled.waiting) by.span_is
-      ∙ ap (λ n. after_of t (end_of filled.span) n (set_flows x.flows.items t.flows) filled.waiting) same
-      ∙ ap (λ (fs : List FlowRow). after_of t (end_of filled.span) filled.ack fs filled.waiting) rows_set)
+      (ap (λ (s : Extent). after_of t (end_of s) a (set_flows x.flows.items t.flows) waits_on) by.span_is
+      ∙ ap (λ n. after_of t (end_of span) n (set_flows x.flows.items t.flows) waits_on) same
+      ∙ ap (λ (fs : List FlowRow). after_of t (end_of span) filled.ack fs waits_on) rows_set
+      ∙ closed_is)
 
   -- the flows' kinds are those of the rows
   pub kinds_are : AllByRecursion (IsOfKind rows ch) x.flows.items
   kinds_are = all_has (IsOfKind rows ch) x.flows.items (λ f h row e.
-      let kept : Has (timed filled.flows) (row_of f) = subst (λ (gs : List FlowRow). Has gs (row_of f)) flows_are (map_has row_of x.flows.items f h) in
-      let there : Has filled.flows (row_of f) = (has_filter (λ g. is_timed g.kind) filled.flows (row_of f) kept).0 in
-      let from = flow_from t filled.flows (row_of f) (fill_moves t (span_of t.row len not_before) filled.ack ended) there in
+      let kept : Has (timed (flows_served t span)) (row_of f) = subst (λ (gs : List FlowRow). Has gs (row_of f)) by.flows (map_has row_of x.flows.items f h) in
+      let there : Has (flows_served t span) (row_of f) = (has_filter (λ g. is_timed g.kind) (flows_served t span) (row_of f) kept).0 in
+      let from = served_from t (flows_served t span) (row_of f) (fill_moves t span ended) there in
       let at : flow_of t f.sid ≡ Some row = sym (ap (λ o. option_and_then (λ u. flow_of u f.sid) o) found) ∙ e in
       let has = found_has (is_flow f.sid) t.flows row at in
       let sid : row.sid ≡ from.0.sid = eqb-true _ _ has.1 ∙ from.2.sid in
@@ -345,21 +370,50 @@ listed p q ws (n ∷ ns) =
     ∙ ap (λ (xs : List Waiting). filter q (filter (p n) ws) ++ xs) (listed p q ws ns)
     ∙ sym (filter_append q (filter (p n) ws) (flat_map (λ m. filter (p m) ws) ns))
 
--- those that still wait, in order
-waiting_in_order : (t : Table) (ps : List Placement) (ws : List Waiting) → still_waiting ps (in_order t ws) ≡ in_order t (still_waiting ps ws)
-waiting_in_order t ps ws = sym (listed (λ n w. eqb (priority_of t w) n) (λ w. not (is_granted ps w)) ws (7 ∷ 6 ∷ 5 ∷ 4 ∷ 3 ∷ 2 ∷ 1 ∷ 0 ∷ []))
+-- requests that pass a test, in order
+passing_in_order : (t : Table) (q : Waiting → Bool) (ws : List Waiting) → filter q (in_order t ws) ≡ in_order t (filter q ws)
+passing_in_order t q ws = sym (listed (λ n w. eqb (priority_of t w) n) q ws (7 ∷ 6 ∷ 5 ∷ 4 ∷ 3 ∷ 2 ∷ 1 ∷ 0 ∷ []))
+
+-- a request goes on where its lease does
+goes_with : (t : Table) (end : ℕ) (w : Waiting) → end ≤ last_time → leb end (last_of t w.sid) ≡ not (has_ended t end w)
+goes_with t end w le = by (flow_of t w.sid)
+  where
+    turned : (m n : ℕ) → leb m n ≡ not (ltb n m)
+    turned m n = grind arith
+
+    by : (o : Option FlowRow) → leb end (last_in o) ≡ not (option_map_or (is_ended end) o false)
+    by (Some f) = turned end f.last
+    by None = le-leb end last_time le
+
+going_requests : (t : Table) (end : ℕ) (rs : List Ranked) → end ≤ last_time → AllByRecursion (IsOfLast (last_of t)) rs → requests_in (going_on end rs) ≡ filter (λ w. not (has_ended t end w)) (requests_in rs)
+going_requests t end [] le lasts = refl
+going_requests t end (r ∷ rs) le lasts =
+    ap (λ b. requests_in (cond b (r ∷ going_on end rs) (going_on end rs))) (ap (leb end) lasts.0 ∙ goes_with t end r.request le)
+    ∙ elim (has_ended t end r.request) as (λ b. requests_in (cond (not b) (r ∷ going_on end rs) (going_on end rs)) ≡ cond (not b) (r.request ∷ filter (λ w. not (has_ended t end w)) (requests_in rs)) (filter (λ w. not (has_ended t end w)) (requests_in rs))) [
+      | true ↦ going_requests t end rs le lasts.1
+      | false ↦ ap (λ (ws : List Waiting). r.request ∷ ws) (going_requests t end rs le lasts.1)
+    ]
+
+-- those that still wait and go on, in order
+waiting_in_order : (t : Table) (span : Extent) (ps : List Placement) (rs : List Ranked) → end_of span ≤ last_time → requests_in rs ≡ in_order t t.waiting → AllByRecursion (IsOfLast (last_of t)) rs
+    → still_waiting ps (requests_in (going_on (end_of span) rs)) ≡ in_order t (requests_left t span (still_waiting ps t.waiting))
+waiting_in_order t span ps rs le is lasts =
+    let goes : Waiting → Bool = λ w. not (has_ended t (end_of span) w) in
+    let waits : Waiting → Bool = λ w. not (is_granted ps w) in
+    ap (λ (ws : List Waiting). still_waiting ps ws) (going_requests t (end_of span) rs le lasts ∙ ap (λ (ws : List Waiting). filter goes ws) is ∙ passing_in_order t goes t.waiting)
+    ∙ passing_in_order t waits (filter goes t.waiting)
+    ∙ ap (in_order t) (filter_turned waits goes t.waiting)
 
 abbrev drawn : Channel → List Placement → ℕ → List Waiting → List Element
 drawn c ps len rs = filter_map (begins_at ps) (range_with_len 0 len) ++ null_element len ∷ map (pending_element c len) rs
 
-pub elements_are : (t : Table) (len not_before ack : ℕ) (x : Filled) (c : Channel) → t.row.channel ≡ c → IsFilledBy t (span_of t.row len not_before) x → elements_in c x ≡ elements_of t (fill t len not_before ack)
-elements_are t len not_before ack x c same by =
+pub elements_are : (t : Table) (len not_before ack : ℕ) (x : Filled) (c : Channel) → end_of (span_of t.row len not_before) ≤ last_time → t.row.channel ≡ c → IsFilledBy t (span_of t.row len not_before) x → elements_in c x ≡ elements_of t (fill t len not_before ack)
+elements_are t len not_before ack x c le same by =
     let f : FilledMap = fill t len not_before ack in
     ap (λ (d : Channel). elements_in d x) (sym same)
-    ∙ ap (λ (s : Extent). drawn t.row.channel x.filling.placements s.len (still_waiting x.filling.placements x.requests.items)) by.span_is
-    ∙ ap (λ (ps : List Placement). drawn t.row.channel ps len (still_waiting ps x.requests.items)) (by.placements f.ack)
-    ∙ ap (λ (ws : List Waiting). drawn t.row.channel f.placements len (still_waiting f.placements ws)) by.requests
-    ∙ ap (λ (ws : List Waiting). drawn t.row.channel f.placements len ws) (waiting_in_order t f.placements t.waiting)
+    ∙ ap (λ (s : Extent). drawn t.row.channel x.filling.placements s.len (still_waiting x.filling.placements (requests_in (going_on (end_of s) x.ranked.items)))) by.span_is
+    ∙ ap (λ (ps : List Placement). drawn t.row.channel ps len (still_waiting ps (requests_in (going_on (end_of f.span) x.ranked.items)))) (by.placements f.ack)
+    ∙ ap (λ (ws : List Waiting). drawn t.row.channel f.placements len ws) (waiting_in_order t f.span f.placements x.ranked.items le by.requests by.lasts)
 
 -- ---- a cut that isn't refused
 
@@ -393,10 +447,10 @@ module _ (rows : Rows) (ch : ℕ) (row : ChannelRow) (len not_before ack : ℕ) 
   well_table = reached_is_well rows reached ch m.table m.found
 
   drawn_are : elements_in row.channel x ≡ elements_of m.table made
-  drawn_are = elements_are m.table len not_before ack x row.channel (ap (λ (r : ChannelRow). r.channel) m.row_is) m.by
+  drawn_are = elements_are m.table len not_before ack x row.channel (is_cut m.table len not_before ack m.good).end (ap (λ (r : ChannelRow). r.channel) m.row_is) m.by
 
-  pub made_unicast : AllByRecursion IsUnicast x.requests.items
-  made_unicast = subst (AllByRecursion IsUnicast) (sym m.by.requests) (unicast m.table well_table)
+  pub made_unicast : AllByRecursion IsUnicast x.ranked.items
+  made_unicast = unicast m.table well_table x.ranked.items m.by.requests
 
   pub made_sound : AreElements (elements_in row.channel x)
   made_sound = subst AreElements (sym drawn_are) (cut_elements m.table len not_before ack well_table m.good)

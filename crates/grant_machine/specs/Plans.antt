@@ -1,25 +1,31 @@
 -- What a filled MAP holds.
-use Rattle.std.specs.Prelude.{◌≡◌, ℕ, List, ◌∷◌, ◌++◌, map}
+use Rattle.std.specs.Prelude.{◌≡◌, ℕ, List, [], ◌∷◌, ◌++◌, map}
 use Rattle.std.specs.List.{AllByRecursion, filter_map, range_with_len}
 use Rattle.minislot_time.specs.Extent.{Extent}
 use Rattle.map_body.specs.declared.element.Element.{Element}
 use Rattle.flow_state.specs.declared.channel.Channel.{Channel}
-use Rattle.flow_state.specs.Rows.{Table, timed}
+use Rattle.flow_state.specs.Rows.{Table, FlowRow, timed, last_of}
 use Rattle.grant_machine.specs.declared.cut.Filled.{Filled}
-use Rattle.grant_machine_parts.specs.Cutting.{fill_span, in_order, still_waiting}
+use Rattle.grant_machine_parts.specs.Cutting.{grants_of_flow, pass, fill_polls, fill_span, end_of, in_order, still_waiting}
 use Rattle.grant_machine_parts.specs.Drawing.{begins_at, null_element, pending_element}
 use Rattle.grant_machine_parts.specs.Lent.{row_of, IsLent}
+use Rattle.grant_machine_parts.specs.Ranks.{requests_in, going_on, IsOfLast}
+
+-- the flows of a table with their next due times, those whose leases end with the MAP too
+abbrev pub flows_served : Table → Extent → List FlowRow
+flows_served t span = (fill_polls t span (pass span (grants_of_flow t.row.channel) t.flows [])).flows
 
 -- a table's MAP, filled, with its timed flows and its waiting requests by priority
 pub record IsFilledBy (t : Table) (span : Extent) (f : Filled) : Type 0 where
   pub span_is : f.filling.span ≡ span
   pub placements : (ack : ℕ) → f.filling.placements ≡ (fill_span t span ack).placements
-  pub flows : (ack : ℕ) → map row_of f.flows.items ≡ timed (fill_span t span ack).flows
+  pub flows : map row_of f.flows.items ≡ timed (flows_served t span)
   pub lent : AllByRecursion IsLent f.flows.items
-  pub requests : f.requests.items ≡ in_order t t.waiting
+  pub requests : requests_in f.ranked.items ≡ in_order t t.waiting
+  pub lasts : AllByRecursion (IsOfLast (last_of t)) f.ranked.items
 
--- the elements of a filled MAP: those by offset, the Null at its length, then those of the requests that still wait
+-- the elements of a filled MAP: those by offset, the Null at its length, then those of the requests that still wait and go on
 abbrev pub elements_in : Channel → Filled → List Element
 elements_in c f =
     filter_map (begins_at f.filling.placements) (range_with_len 0 f.filling.span.len)
-    ++ null_element f.filling.span.len ∷ map (pending_element c f.filling.span.len) (still_waiting f.filling.placements f.requests.items)
+    ++ null_element f.filling.span.len ∷ map (pending_element c f.filling.span.len) (still_waiting f.filling.placements (requests_in (going_on (end_of f.filling.span) f.ranked.items)))

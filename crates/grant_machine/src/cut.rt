@@ -15,12 +15,12 @@ ghost use Rattle.grant_machine.specs.Fits.{FitsCommand};
 ghost use Rattle.grant_machine.specs.Runs.{IsReached};
 ghost use Rattle.grant_machine_parts.specs.Lent.{row_of, IsLent, IsUnicast};
 ghost use Rattle.grant_machine.specs.CutRows.{IsOfTable, IsOfKind, due_times_set, requests_taken};
-ghost use Rattle.grant_machine.specs.Plans.{IsFilledBy, elements_in};
+ghost use Rattle.grant_machine.specs.Plans.{IsFilledBy, elements_in, flows_served};
 
 use crate::output::{MapBytes, Output};
 use crate::rows::{copy_requests, copy_timed, rank_requests, set_due_times, take_granted};
-use flow_state::{Channel, ChannelRow, Flow, Flows, LAST_TIME, MOST_MINISLOTS, Refusal, Waiting};
-use grant_machine_parts::{Filling, Service, by_priority, drawing, place_requests, serve};
+use flow_state::{Channel, ChannelRow, Flow, Flows, LAST_TIME, MOST_MINISLOTS, Refusal};
+use grant_machine_parts::{Filling, Ranked, Service, by_priority, drawing, place_requests, serve};
 use minislot_time::Slot;
 use std::alloc::{AllocError, Global};
 
@@ -29,7 +29,7 @@ use std::alloc::{AllocError, Global};
 pub struct Filled {
     filling: Filling,
     flows: Vec<Flow>,
-    requests: Vec<Waiting>,
+    ranked: Vec<Ranked>,
 }
 
 /// May a channel's next MAP have this length, start and Ack Time?
@@ -45,24 +45,24 @@ fn is_within_limits(row: &ChannelRow, len: u16, not_before: u64, ack: u64) -> bo
         && from + u64::from(len) <= LAST_TIME
 }
 
-/// Places unsolicited grants, then polls, then requests in their order.
+/// Places unsolicited grants, then polls, then requests in their order, each within its flow's lease.
 fn place_all(
     channel: &Channel,
     filling: &mut Filling,
     flows: &mut [Flow],
-    requests: &[Waiting],
+    ranked: &[Ranked],
 ) -> Result<(), AllocError>
     requires empty { filling.old.placements ≡ [] }
     requires lent { AllByRecursion IsLent flows.old }
-    requires unicast { AllByRecursion IsUnicast requests.now }
+    requires unicast { AllByRecursion IsUnicast ranked.now }
     ensures span { filling.new.span ≡ filling.old.span }
-    ensures placed { OnOk result ((t : Table) (ack : ℕ) → IsOfTable t channel.now flows.old requests.now → filling.new.placements ≡ (fill_span t filling.old.span ack).placements) }
-    ensures flows { OnOk result ((t : Table) (ack : ℕ) → IsOfTable t channel.now flows.old requests.now → map row_of flows.new ≡ timed (fill_span t filling.old.span ack).flows) }
+    ensures placed { OnOk result ((t : Table) (ack : ℕ) → IsOfTable t channel.now flows.old ranked.now → filling.new.placements ≡ (fill_span t filling.old.span ack).placements) }
+    ensures flows { OnOk result ((t : Table) → IsOfTable t channel.now flows.old ranked.now → map row_of flows.new ≡ timed (flows_served t filling.old.span)) }
     ensures lent { OnOk result (AllByRecursion IsLent flows.new) }
 {
     serve(Service::Grants, channel, filling, flows)?;
     serve(Service::Polls, channel, filling, flows)?;
-    place_requests(filling, channel, requests)?;
+    place_requests(filling, channel, ranked)?;
     Ok(())
 }
 
@@ -83,18 +83,19 @@ fn fill(
 {
     let mut served = copy_timed(alloc, flows, ch)?;
     let waiting = copy_requests(alloc, flows, ch)?;
-    let ranked = rank_requests(alloc, flows, ch, &waiting)?;
-    let requests = by_priority(alloc, &ranked)?;
+    let by_arrival = rank_requests(alloc, flows, ch, &waiting)?;
+    let ranked = by_priority(alloc, &by_arrival)?;
     let mut filling = Filling::new(alloc, start, len)?;
-    place_all(channel, &mut filling, &mut served, &requests)?;
+    place_all(channel, &mut filling, &mut served, &ranked)?;
     Ok(Filled {
         filling,
         flows: served,
-        requests,
+        ranked,
     })
 }
 
-/// Sets the due times, takes the granted requests out, and closes the MAP. It takes no memory.
+/// Sets the due times, takes the granted requests out, and closes the MAP: flows whose leases end before its end are gone, with
+/// their requests. It takes no memory.
 fn close(flows: &mut Flows, ch: u8, filled: &Filled, ack: u64)
     requires lent { AllByRecursion IsLent filled.now.flows.items }
     requires kinds { AllByRecursion (IsOfKind flows.old ch) filled.now.flows.items }
@@ -113,12 +114,12 @@ fn draw(
     start: Slot,
     ack: Slot,
 ) -> Result<Vec<u8>, AllocError>
-    requires unicast { AllByRecursion IsUnicast filled.now.requests.items }
+    requires unicast { AllByRecursion IsUnicast filled.now.ranked.items }
     requires sound { AreElements (elements_in channel.now filled.now) }
     requires few { length (elements_in channel.now filled.now) ≤ 255 }
     ensures { IfOk result (λ bytes. bytes.items ≡ layout (head_of channel.now start ack) (elements_in channel.now filled.now) 0) }
 {
-    let elements = drawing::elements_of(alloc, channel, &filled.filling, &filled.requests)?;
+    let elements = drawing::elements_of(alloc, channel, &filled.filling, &filled.ranked)?;
     let head = drawing::head_of(channel, start, ack);
     drawing::bytes_of(alloc, head, elements)
 }

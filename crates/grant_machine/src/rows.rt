@@ -8,7 +8,7 @@ ghost use Rattle.flow_state.specs.Changes.{waiting_of};
 ghost use Rattle.grant_machine_parts.specs.Lent.{IsLent};
 ghost use Rattle.grant_machine.specs.CutRows.{timed_on, ranked_on, due_times_set, requests_taken, IsOfKind};
 
-use flow_state::{Flow, Flows, Waiting};
+use flow_state::{Flow, Flows, LAST_TIME, Waiting};
 use grant_machine_parts::{Placement, Ranked, is_granted, kind_priority};
 use std::alloc::{AllocError, Global};
 
@@ -34,7 +34,25 @@ pub fn copy_requests(alloc: Global, flows: &Flows, ch: u8) -> Result<Vec<Waiting
     Ok(copied)
 }
 
-/// The requests with the priorities of their flows.
+/// A request with the priority of its flow and the last minislot of the flow's lease.
+fn rank(flows: &Flows, ch: u8, request: &Waiting) -> Ranked
+    ensures { result ≡ ranked_on flows.now ch request.now }
+{
+    match flows.flow_of(ch, request.sid) {
+        Some(flow) => Ranked {
+            priority: kind_priority(flow.kind),
+            last: flow.last,
+            request: *request,
+        },
+        None => Ranked {
+            priority: 0,
+            last: LAST_TIME,
+            request: *request,
+        },
+    }
+}
+
+/// The requests with the priorities of their flows and the last minislots of their leases.
 pub fn rank_requests(
     alloc: Global,
     flows: &Flows,
@@ -45,14 +63,7 @@ pub fn rank_requests(
 {
     let mut ranked = Vec::with_capacity(alloc, waiting.len())?;
     for request in waiting {
-        let priority = match flows.kind_of(ch, request.sid) {
-            Some(kind) => kind_priority(kind),
-            None => 0,
-        };
-        ranked.push(Ranked {
-            priority,
-            request: *request,
-        })?;
+        ranked.push(rank(flows, ch, request))?;
     }
     Ok(ranked)
 }

@@ -3,17 +3,18 @@ use Rattle.flow_state.specs.Rows.{Table, timed}
 use Rattle.grant_machine_parts.specs.Cutting.{fill_span}
 use Rattle.grant_machine_parts.specs.Lent.{row_of}
 use Rattle.grant_machine.specs.CutRows.{IsOfTable}
+use Rattle.grant_machine.specs.Plans.{flows_served}
 use Rattle.grant_machine.proofs.Settling.{parts_filled}
 use Rattle.grant_machine.proofs.cut.place_all.Goals as goal
 
-filled : (c : goal.In_ok-place_requests) (t : Table) (ack : ℕ) → IsOfTable t c.args.channel.now c.args.flows.now c.args.requests.now
-    → (c.place_requests.new.filling.placements ≡ (fill_span t c.args.filling.now.span ack).placements) × (map row_of c.serve-2.new.flows ≡ timed (fill_span t c.args.filling.now.span ack).flows)
+filled : (c : goal.In_ok-place_requests) (t : Table) (ack : ℕ) → IsOfTable t c.args.channel.now c.args.flows.now c.args.ranked.now
+    → (c.place_requests.new.filling.placements ≡ (fill_span t c.args.filling.now.span ack).placements) × (map row_of c.serve-2.new.flows ≡ timed (flows_served t c.args.filling.now.span))
 filled c t ack of =
-    parts_filled t ack c.args.channel.now c.args.filling.now c.serve.new.filling c.serve-2.new.filling c.place_requests.new.filling c.args.flows.now c.serve.new.flows c.serve-2.new.flows c.args.requests.now of
+    parts_filled t ack c.args.channel.now c.args.filling.now c.serve.new.filling c.serve-2.new.filling c.place_requests.new.filling c.args.flows.now c.serve.new.flows c.serve-2.new.flows c.args.ranked.now of
     c.requires.empty c.serve.ensures.span c.serve-2.ensures.span c.in_ok-serve.ensures.placed c.in_ok-serve.ensures.flows c.in_ok-serve-2.ensures.placed c.in_ok-serve-2.ensures.flows c.in_ok-place_requests.ensures.placed
 
 pub returns-clause-placed : goal.returns-clause-placed
 returns-clause-placed c = λ t ack of. (filled c t ack of).0
 
 pub returns-clause-flows : goal.returns-clause-flows
-returns-clause-flows c = λ t ack of. (filled c t ack of).1
+returns-clause-flows c = λ t of. (filled c t 0 of).1

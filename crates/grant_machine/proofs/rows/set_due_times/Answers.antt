@@ -9,7 +9,7 @@ use Rattle.grant_machine.proofs.Lending.{kinds_kept}
 use Rattle.grant_machine.proofs.rows.set_due_times.Goals as goal
 
 abbrev blank : Flow
-blank = record { sid = 0; modem = 0; tag = 0; kind = BestEffort 0; due = 0; last_sent = None }
+blank = record { sid = 0; modem = 0; tag = 0; first = 0; last = 0; kind = BestEffort 0; due = 0; last_sent = None }
 
 pub loop-flow-preserved : goal.loop-flow-preserved
 loop-flow-preserved c =
