@@ -12,7 +12,7 @@ use Rattle.flow_state.specs.declared.flow.Waiting.{Waiting}
 use Rattle.flow_state.specs.declared.table.ChannelTable.TheInside.{Inside}
 use Rattle.flow_state.specs.declared.flow.FlowKind.{FlowKind}
 use Rattle.flow_state.specs.Limits.{is_good_kind, due_time}
-use Rattle.flow_state.specs.Rows.{Table, FlowRow, Lease, is_flow, is_ended, has_ended, insert_flow, lent_flow}
+use Rattle.flow_state.specs.Rows.{Table, FlowRow, Lease, is_flow, is_ended, insert_flow, lent_flow}
 use Rattle.flow_state.specs.Changes.{new_flow}
 use Rattle.flow_state.specs.Sound.{Rise, IsSound}
 use Rattle.flow_state.specs.StoredTable.{IsStoredFlow, IsStored, is_ended_in}

@@ -1,4 +1,4 @@
-use Rattle.std.proofs.Common.{◌≡◌, ℕ, Bool, true, false, ◌&&◌, Some, None, refl, sym, ap, ◌∙◌}
+use Rattle.std.proofs.Common.{◌≡◌, true, false, ◌&&◌, sym, ap, ◌∙◌}
 use Rattle.flow_state.specs.Limits.{is_good_kind}
 use Rattle.flow_state.specs.Rows.{Table}
 use Rattle.flow_state.specs.Refusals.{is_good_last}

@@ -1,4 +1,4 @@
-use Rattle.std.proofs.Common.{◌≡◌, ℕ, ◌≤◌, ◌<◌, Bool, false, not, filter, leb, ltb, length, List, Option, ap, sym, ◌∙◌, subst, arith}
+use Rattle.std.proofs.Common.{◌≡◌, ℕ, false, not, filter, leb, ltb, length, List, Option, ap, sym, ◌∙◌, subst, arith}
 use Rattle.std.specs.Option.{option_map_or}
 use Rattle.flow_state.specs.declared.flow.Waiting.{Waiting}
 use Rattle.flow_state.specs.Rows.{Table, FlowRow, is_ended}
@@ -6,7 +6,7 @@ use Rattle.flow_state.specs.Changes.{close_table}
 use Rattle.flow_state.specs.StoredTable.{IsStoredFlow, is_ended_in}
 use Rattle.flow_state.specs.View.{table_view}
 use Rattle.flow_state.proofs.Soundness.{all_filter, sound_closed}
-use Rattle.flow_state.proofs.Stored.{Flows, AreStored, rows, stored_as, rows_filter, ended_is}
+use Rattle.flow_state.proofs.Stored.{AreStored, rows, stored_as, rows_filter, ended_is}
 use Rattle.flow_state.proofs.Timed.{timed_sids, timed_ended, found_rising}
 use Rattle.flow_state.proofs.table.ChannelTable.close_cut.Goals as goal
 

@@ -1,8 +1,8 @@
-use Rattle.std.proofs.Common.{◌≡◌, ℕ, ◌+◌, ◌<◌, ◌≤◌, cond, length, ap, sym, ◌∙◌, List, Some, None, refl, subst, nat_eq, arith}
+use Rattle.std.proofs.Common.{◌≡◌, ℕ, ◌≤◌, cond, length, ap, sym, ◌∙◌, List, None, subst, nat_eq, arith}
 use Rattle.std.specs.List.Sorted.{IsNonDecreasingBy}
 use Rattle.std.specs.Map.{lookup}
 use Rattle.flow_state.specs.declared.flow.Flow.{Flow}
-use Rattle.flow_state.specs.Limits.{is_timed, last_sid}
+use Rattle.flow_state.specs.Limits.{is_timed}
 use Rattle.flow_state.specs.Rows.{Table, free_sid}
 use Rattle.flow_state.specs.Sound.{Rise}
 use Rattle.flow_state.specs.Changes.{new_flow, add_to_table}
