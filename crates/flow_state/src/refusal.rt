@@ -16,16 +16,16 @@ pub enum Refusal {
     /// No flow has the SID, or it was dropped.
     #[error("NoFlow")]
     NoFlow,
-    /// Every unicast SID of the channel was given.
+    /// Every unicast SID of the channel is leased.
     #[error("SidsSpent")]
     SidsSpent,
     /// A request of the SID waits, or no more may wait on the channel.
     #[error("Busy")]
     Busy,
-    /// A request was sent no later than the last accepted one of its SID.
+    /// A request was sent before its lease, or no later than the last accepted one of it.
     #[error("OldRequest")]
     OldRequest,
-    /// A value is outside its limits, or the flow takes no requests.
+    /// A value is outside its limits or behind the lease, or the flow takes no requests.
     #[error("BadValue")]
     BadValue,
     /// No memory was found for what had to grow.
