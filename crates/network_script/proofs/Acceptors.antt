@@ -1,5 +1,5 @@
 -- A node that prepares, votes, counts and learns does what keeps the invariant.
-use Rattle.std.proofs.Common.{◌≡◌, inl, inr, ⊎_elim, ℕ, ◌<◌, ◌≤◌, not, nat_lt, nat_le, ◌==◌, List, [], ◌∷◌, ◌++◌, take, refl, sym, subst, arith, Option, Some, None, slice_get}
+use Rattle.std.proofs.Common.{◌≡◌, inl, inr, ⊎_elim, ℕ, ◌<◌, ◌≤◌, not, nat_lt, nat_le, ◌==◌, List, [], ◌∷◌, ◌++◌, take, refl, sym, ap, ◌∙◌, subst, arith, Option, Some, None, slice_get}
 use Rattle.std.proofs.lemmas.Bool.{cond_both, ltb-true, ltb-false, eqb-true, le-leb}
 use Rattle.ballots.specs.declared.letters.Cast.{Cast}
 use Rattle.ballots.specs.declared.letters.Note.{Note}
@@ -8,7 +8,7 @@ use Rattle.ballots.specs.declared.letters.Note.TheVariants.{Promise, Voted, High
 use Rattle.ballots.specs.Voting.{Entry, IsIn, IsChosen}
 use Rattle.ballots.specs.Voting.Entry.{Promised, Vote}
 use Rattle.acceptor.specs.Content.{Content, Write, promised, after_write, record_write}
-use Rattle.ballots.specs.Rows.{at, rows_from}
+use Rattle.ballots.specs.Rows.{at, put, rows_from}
 use Rattle.acceptor.specs.Content.Write.{Promises, Votes}
 use Rattle.proposer.specs.declared.role.Role.{Role}
 use Rattle.learner.specs.Tally.{IsVoteCounted}
@@ -53,8 +53,8 @@ module _ (members : ℕ) (h : List Entry) (sent : List Letter) (states : List St
   was = inv.nodes k (Running view) here
 
   -- one write and letters that propose nothing
-  pub writes_sound : (w : Write) (more : List Letter) → WriteOk members h sent view.content (Some w) → (after_write view.content (Some w)).tried ≡ view.content.tried → AreQuiet members (record_write k (Some w) h) more → Sound members h sent k view (writes view w more)
-  writes_sound w more fine tried quiet = record {
+  pub writes_sound : (w : Write) (more : List Letter) → WriteOk members h sent view.content (Some w) → (after_write view.content (Some w)).tried ≡ view.content.tried → (after_write view.content (Some w)).learned ≡ view.content.learned → AreQuiet members (record_write k (Some w) h) more → Sound members h sent k view (writes view w more)
+  writes_sound w more fine tried same quiet = record {
     write = fine;
     content = refl;
     letters = quiet_letters members (record_write k (Some w) h) sent more k quiet;
@@ -62,6 +62,7 @@ module _ (members : ℕ) (h : List Entry) (sent : List Letter) (states : List St
     own = quiet_own members (record_write k (Some w) h) sent more k (after_write view.content (Some w)).tried view.role quiet (subst (λ (t : ℕ). OwnOk sent k t view.role) (sym tried) was.own);
     counted = was.counted;
     learned = was.learned;
+    written = was.written ∙ sym same;
   }
 
   -- letters alone that propose nothing
@@ -74,6 +75,7 @@ module _ (members : ℕ) (h : List Entry) (sent : List Letter) (states : List St
     own = quiet_own members h sent more k view.content.tried view.role quiet was.own;
     counted = was.counted;
     learned = was.learned;
+    written = was.written;
   }
 
   pub nothing_sound : Sound members h sent k view (nothing view)
@@ -108,14 +110,14 @@ module _ (members : ℕ) (h : List Entry) (sent : List Letter) (states : List St
       (sends view (known ++ letter k n (Higher (promised view.content)) ∷ []))
       (λ o. Sound members h sent k view o)
       (λ less. let above = ltb-true (promised view.content) b less in
-      writes_sound (Promises b) (known ++ letter k n (Promise b q (rows_from view.content.votes q)) ∷ []) above refl
+      writes_sound (Promises b) (known ++ letter k n (Promise b q (rows_from view.content.votes q)) ∷ []) above refl refl
       (quiet_append members (Promised k b ∷ h) known (letter k n (Promise b q (rows_from view.content.votes q)) ∷ []) (quiet_grows (Some (Promises b)) above known (known_quiet q n))
       (quiet_one members (Promised k b ∷ h) k n (Promise b q (rows_from view.content.votes q)) (promise_ok b q above) tt)))
       (λ no. sends_sound (known ++ letter k n (Higher (promised view.content)) ∷ [])
       (quiet_append members h known (letter k n (Higher (promised view.content)) ∷ []) (known_quiet q n) (quiet_one members h k n (Higher (promised view.content)) tt tt)))
 
   new_vote : (b p : ℕ) (v : List ℕ) → promised view.content ≤ b → IsProposed sent b p v → Sound members h sent k view (writes view (Votes p record { ballot = b; value = v }) (to_all members k (Voted b p v)))
-  new_vote b p v above is = writes_sound (Votes p record { ballot = b; value = v }) (to_all members k (Voted b p v)) (above, is) refl (quiet_all members (Vote k b p v ∷ h) members k (Voted b p v) (inl refl) tt)
+  new_vote b p v above is = writes_sound (Votes p record { ballot = b; value = v }) (to_all members k (Voted b p v)) (above, is) refl refl (quiet_all members (Vote k b p v ∷ h) members k (Voted b p v) (inl refl) tt)
 
   vote_at_sound : (b p : ℕ) (v : List ℕ) (there : Option Cast) → at view.content.votes p ≡ there → promised view.content ≤ b → IsProposed sent b p v → Sound members h sent k view (vote_at members k view there b p v)
   vote_at_sound b p v None is above proposed = new_vote b p v above proposed
@@ -135,8 +137,8 @@ module _ (members : ℕ) (h : List Entry) (sent : List Letter) (states : List St
 
   -- a view that differs in what it counted
   pub counts_sound : (new : View) → new.content ≡ view.content → new.role ≡ view.role → ((n b q : ℕ) (w : List ℕ) → IsVoteCounted new.tally.counted n b q w → IsIn h (Vote n b q w)) → ((p : ℕ) (v : List ℕ) → IsIn new.tally.learned (p, v) → IsChosen members h p v)
-      → Sound members h sent k view (nothing new)
-  counts_sound new content role counted learned = record {
+      → new.tally.learned ≡ view.tally.learned → Sound members h sent k view (nothing new)
+  counts_sound new content role counted learned same = record {
     write = tt;
     content = content;
     letters = quiet_letters members h sent [] k (quiet_none members h);
@@ -145,6 +147,7 @@ module _ (members : ℕ) (h : List Entry) (sent : List Letter) (states : List St
         (subst (λ (c : Content). OwnOk sent k c.tried new.role) (sym content) (subst (λ (r : Role). OwnOk sent k view.content.tried r) (sym role) was.own));
     counted = counted;
     learned = learned;
+    written = same ∙ was.written ∙ ap (λ (c : Content). c.learned) (sym content);
   }
 
   -- a chosen value is learned, and its row is written
@@ -157,6 +160,7 @@ module _ (members : ℕ) (h : List Entry) (sent : List Letter) (states : List St
     own = quiet_own members h sent [] k view.content.tried view.role (quiet_none members h) was.own;
     counted = λ n b q w there. was.counted n b q w (counted_less (is_at (nat_cmp p)) view.tally.counted n b q w there);
     learned = chosen_put members h p v view.tally.learned chosen was.learned;
+    written = ap (λ (rows : List (ℕ × List ℕ)). put rows p v) was.written;
   }
 
   pub known_sound : (there : Option (List ℕ)) (p : ℕ) (v : List ℕ) → IsChosen members h p v → Sound members h sent k view (known view there p v)

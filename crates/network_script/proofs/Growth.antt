@@ -109,6 +109,7 @@ module _ (members k : ℕ) (old new : List Entry) (grows : Grows k old new) wher
     role = role_grows j view.content.tried view.role ok.role;
     counted = λ n b p v here. grows.keeps (Vote n b p v) (ok.counted n b p v here);
     learned = λ p v here. chosen_grows p v (ok.learned p v here);
+    written = ok.written;
   }
   node_grows sent more j (Stopped c doubt) other mine ok = record {
     content = content_grows j c other ok.content;

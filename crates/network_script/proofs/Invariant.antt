@@ -86,6 +86,8 @@ pub record UpOk (members : ℕ) (h : List Entry) (sent : List Letter) (k : ℕ) 
   pub role : RoleOk members h k view.content.tried view.role
   pub counted : (n b p : ℕ) (v : List ℕ) → IsVoteCounted view.tally.counted n b p v → IsIn h (Vote n b p v)
   pub learned : (p : ℕ) (v : List ℕ) → IsIn view.tally.learned (p, v) → IsChosen members h p v
+  -- which is what its learned rows hold
+  pub written : view.tally.learned ≡ view.content.learned
 
 -- a node that is down
 pub record DownOk (members : ℕ) (h : List Entry) (sent : List Letter) (k : ℕ) (c : Content) (write : Option Write) : Type 0 where

@@ -46,7 +46,7 @@ module _ (members : ℕ) (h : List Entry) (sent : List Letter) (states : List St
       } in
       cond_both (is_majority members (is_voter voters)) (learns view p v) (nothing (record view { tally = record { counted = counted; learned = view.tally.learned } })) (λ o. Sound members h sent k view o)
       (λ most. learns_sound members h sent states k view inv here p v (chosen most))
-      (λ few. counts_sound members h sent states k view inv here (record view { tally = record { counted = counted; learned = view.tally.learned } }) refl refl (count_cast h view.tally.counted n b p v was.counted vote) was.learned)
+      (λ few. counts_sound members h sent states k view inv here (record view { tally = record { counted = counted; learned = view.tally.learned } }) refl refl (count_cast h view.tally.counted n b p v was.counted vote) was.learned refl)
 
   -- a view that differs in its hint and perhaps gives its role up
   pub role_sound : (hint : ℕ) (role : Role) → RoleOk members h k view.content.tried role → OwnOk sent k view.content.tried role → Sound members h sent k view (nothing (record view { hint = hint; role = role }))
@@ -58,6 +58,7 @@ module _ (members : ℕ) (h : List Entry) (sent : List Letter) (states : List St
     own = quiet_own members h sent [] k view.content.tried role (quiet_none members h) own;
     counted = was.counted;
     learned = was.learned;
+    written = was.written;
   }
 
   idle_or_not : (hint c b : ℕ) (role : Role) → RoleOk members h k view.content.tried role → OwnOk sent k view.content.tried role

@@ -159,7 +159,7 @@ module _ (members : ℕ) (w : Written) (inv : Invariant members w.history w.lett
     releases_sound : Sound members w.history w.letters k view (nothing (released_all view))
     releases_sound =
         let s = nothing_sound members w.history w.letters w.nodes k view inv here in
-        record { write = s.write; content = s.content; letters = s.letters; role = s.role; own = s.own; counted = s.counted; learned = s.learned }
+        record { write = s.write; content = s.content; letters = s.letters; role = s.role; own = s.own; counted = s.counted; learned = s.learned; written = s.written }
 
     given_from : (now : ℕ) (x : ReleasedOutput) → IsIn (released_by k (released view now)) x → FromChosen members w.history x
     given_from now x new =
@@ -170,7 +170,7 @@ module _ (members : ℕ) (w : Written) (inv : Invariant members w.history w.lett
     gives : (now : ℕ) (told : Answer) (w' : Written) → w' ≡ record w { nodes = slice_set w.nodes k (Running (released_all view)); outputs = w.outputs ++ released_by k (released view now) } → Moves told w'
     gives now told w' is = subst (Moves told) (sym is) record {
       fine = goes_quietly members w.history w.letters w.nodes k (Running view) inv here None (Running (released_all view)) tt
-          record { content = view_was.content; own = view_was.own; role = view_was.role; counted = view_was.counted; learned = view_was.learned };
+          record { content = view_was.content; own = view_was.own; role = view_was.role; counted = view_was.counted; learned = view_was.learned; written = view_was.written };
       keeps = λ e there. there;
       stays = λ x there. in_left w.outputs (released_by k (released view now)) x there;
       fresh = λ x there. ⊎_elim (λ old. inl old) (λ new. inr (given_from now x new)) (in_append w.outputs (released_by k (released view now)) x there);

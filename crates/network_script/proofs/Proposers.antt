@@ -75,6 +75,7 @@ module _ (members : ℕ) (h : List Entry) (sent : List Letter) (states : List St
     own = own;
     counted = was.counted;
     learned = was.learned;
+    written = was.written;
   }
 
   -- a majority of promises makes a leader, which proposes at each place where a vote was reported and at those below it
@@ -213,6 +214,7 @@ module _ (members : ℕ) (h : List Entry) (sent : List Letter) (states : List St
     own = quiet_own members h sent more k b (Preparing b q [] []) quiet own;
     counted = was.counted;
     learned = was.learned;
+    written = was.written;
   }
     where
       q : ℕ

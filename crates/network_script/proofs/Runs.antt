@@ -1,5 +1,5 @@
 -- What holds of every world that a run comes to.
-use Rattle.std.proofs.Common.{◌≡◌, ⊎_elim, ℕ, zero, suc, List, [], ◌∷◌, replicate, sym, subst, Some, slice_get}
+use Rattle.std.proofs.Common.{◌≡◌, ⊎_elim, ℕ, zero, suc, List, [], ◌∷◌, replicate, refl, sym, subst, Some, slice_get}
 use Rattle.ballots.specs.Voting.{Entry, IsIn, IsChosen}
 use Rattle.acceptor.specs.Content.{no_content}
 use Rattle.node.specs.View.{Standing, started}
@@ -9,7 +9,7 @@ use Rattle.network_script_parts.specs.declared.event.Answer.{Answer}
 use Rattle.network_script_parts.specs.declared.event.ReleasedOutput.{ReleasedOutput}
 use Rattle.network_script.specs.World.{Written, opening}
 use Rattle.network_script.specs.Next.{Goes, Run}
-use Rattle.network_script.specs.Headline.{OfEveryRun, Passes, HistoryIsLegal, LearnedIsChosen}
+use Rattle.network_script.specs.Headline.{OfEveryRun, Passes, HistoryIsLegal, LearnedIsChosen, LearnedIsWritten}
 use Rattle.network_script.proofs.Invariant.{NodeOk, Invariant}
 use Rattle.network_script.proofs.Outputs.{FromChosen, chosen_keeps}
 use Rattle.network_script.proofs.Moves.{Moved, next_moves}
@@ -60,6 +60,7 @@ opening_fine members ids = record {
       role = tt;
       counted = λ n b p v here. absurd here.1;
       learned = λ p v here. absurd here;
+      written = refl;
     };
   };
   outputs = λ x here. absurd here;
@@ -72,6 +73,9 @@ pub passes_fine : (members : ℕ) (ids : List ℕ) (mid w : Written) → Passes 
 passes_fine members ids mid w passes =
     let fine = run_fine members ids passes.script passes.report mid passes.came in
     (fine, goes_fine members mid passes.rest passes.answers w fine passes.went)
+
+pub learned_is_written : OfEveryRun LearnedIsWritten
+learned_is_written members ids script report w run mid passes k view here = ((passes_fine members ids mid w passes).0.inv.nodes k (Running view) here).written
 
 pub history_legal : OfEveryRun HistoryIsLegal
 history_legal members ids script report w run = (run_fine members ids script report w run).inv.legal

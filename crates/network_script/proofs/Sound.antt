@@ -1,5 +1,5 @@
 -- What a call must do for the invariant to be kept, however the call ends.
-use Rattle.std.proofs.Common.{◌≡◌, ⊎_elim, ℕ, ◌≤◌, List, ◌++◌, sym, ap, subst, arith, Option, Some, None, slice_get, slice_set}
+use Rattle.std.proofs.Common.{◌≡◌, ⊎_elim, ℕ, ◌≤◌, List, ◌++◌, refl, sym, ap, subst, arith, Option, Some, None, slice_get, slice_set}
 use Rattle.ballots.specs.declared.letters.Note.{Note}
 use Rattle.ballots.specs.declared.letters.Letter.{Letter}
 use Rattle.ballots.specs.declared.letters.Note.TheVariants.{Prepare, Promise, Accept, Voted, Higher, Known}
@@ -25,6 +25,7 @@ pub record Sound (members : ℕ) (h : List Entry) (sent : List Letter) (k : ℕ)
   pub own : OwnOk (sent ++ o.letters) k o.view.content.tried o.view.role
   pub counted : (n b p : ℕ) (v : List ℕ) → IsVoteCounted o.view.tally.counted n b p v → IsIn h (Vote n b p v)
   pub learned : (p : ℕ) (v : List ℕ) → IsIn o.view.tally.learned (p, v) → IsChosen members h p v
+  pub written : o.view.tally.learned ≡ o.view.content.learned
 
 -- a letter that proposes nothing
 abbrev pub IsOther : Note → Type 0
@@ -63,6 +64,7 @@ module _ (members : ℕ) (h : List Entry) (sent : List Letter) (states : List St
     role = role_grows members k h (record_write k o.write h) grows k o.view.content.tried o.view.role sound.role;
     counted = λ n b p v there. grows.keeps (Vote n b p v) (sound.counted n b p v there);
     learned = λ p v there. chosen_grows members k h (record_write k o.write h) grows p v (sound.learned p v there);
+    written = sound.written;
   }
     where
       grows : Grows k h (record_write k o.write h)
@@ -97,4 +99,5 @@ restarted_kept members h sent states k c doubt w inv here fine =
       role = tt;
       counted = λ n b p v there. absurd there.1;
       learned = kept.held;
+      written = refl;
     }

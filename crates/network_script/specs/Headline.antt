@@ -46,6 +46,11 @@ LearnedIsChosen members ids w =
     (mid : Written) → Passes members ids mid w
     → (k : ℕ) (view : View) (p : ℕ) (v : List ℕ) → slice_get mid.nodes k ≡ Some (Running view) → IsIn view.tally.learned (p, v) → IsChosen members w.history p v
 
+-- what a node that is up learned, at any time, is what its learned rows hold
+abbrev pub LearnedIsWritten : ℕ → List ℕ → Written → Type 0
+LearnedIsWritten members ids w =
+    (mid : Written) → Passes members ids mid w → (k : ℕ) (view : View) → slice_get mid.nodes k ≡ Some (Running view) → view.tally.learned ≡ view.content.learned
+
 -- ---- the one schedule
 
 -- the list begins with these

@@ -1,6 +1,6 @@
 //! What holds of every run, whatever is lost, repeated and reordered, and whichever nodes crash and restart.
 
-ghost use Rattle.network_script.specs.Headline.{CoversOnce, GaplessIsBeginning, HasOneSchedule, Headline, HeldIsOwned, HistoryIsLegal, HoldersAreOne, LearnedIsChosen, MapsAreOne, ModemsAreNamed, OfEveryRun, OwnersAreOne, ReleasedIsOutput, RunsJoin, SentByOwner, SentIsHeld, WithSchedule};
+ghost use Rattle.network_script.specs.Headline.{CoversOnce, GaplessIsBeginning, HasOneSchedule, Headline, HeldIsOwned, HistoryIsLegal, HoldersAreOne, LearnedIsChosen, LearnedIsWritten, MapsAreOne, ModemsAreNamed, OfEveryRun, OwnersAreOne, ReleasedIsOutput, RunsJoin, SentByOwner, SentIsHeld, WithSchedule};
 ghost use Rattle.network_script.specs.Examples.{IsRefused, LearnedOutlivesCrash, LeastBallots, OneLeader, ReleasesInOrder, TakesOver, TakesOverAfresh, TriesHigher, VoteOutlivesCrash};
 ghost use Rattle.network_script.specs.Plain.{EachIsAnswered};
 ghost use Rattle.network_script.specs.Counts.{FewFaults};
@@ -10,6 +10,11 @@ ghost use Rattle.network_script.specs.Counts.{FewFaults};
 pub fn votes_legal()
     ensures legal { OfEveryRun HistoryIsLegal }
     ensures learned { OfEveryRun LearnedIsChosen }
+{}
+
+/// What a node that is up has learned is, at any time of a run, what its learned rows hold: a restart gives all of it back and nothing else.
+pub fn learned_is_kept()
+    ensures { OfEveryRun LearnedIsWritten }
 {}
 
 /// A run has one list of chosen values. Each node's gapless learned values are a beginning of it, each

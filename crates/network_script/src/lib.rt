@@ -5,7 +5,7 @@ mod laws;
 mod world;
 
 pub use laws::{
-    each_is_answered, examples, few_faults, headline, one_owner, one_schedule, runs_join,
-    votes_legal,
+    each_is_answered, examples, few_faults, headline, learned_is_kept, one_owner, one_schedule,
+    runs_join, votes_legal,
 };
 pub use world::World;
