@@ -1,12 +1,12 @@
 -- What is known of a connection that was opened anew.
-use Rattle.std.proofs.Common.{◌≡◌, ◌⊎◌, inl, inr, ℕ, true, false, ◌&&◌, List, [], ◌∷◌, map, slice_get, Some, None, Option, Ok, Err, Result, IfErr, IfOk, IsTrue, sym, ap, subst, subst₂, ◌∙◌, arith}
+use Rattle.std.proofs.Common.{◌≡◌, ◌⊎◌, inl, inr, ℕ, true, false, ◌&&◌, List, [], ◌∷◌, map, slice_get, Some, None, Option, Ok, Err, Result, IfErr, IfOk, OnOk, IsTrue, codes, refl, sym, ap, subst, subst₂, ◌∙◌, arith}
 use Rattle.std.proofs.Math.Logic.{∥∥₁_map, ∥∥₁_elim, ∥∥₁_prop}
 use Rattle.std.specs.Coded.{coded_ℕ}
 use base.Stored.{Coded-set}
 use mathlib.Core.Bool.{Bool-set}
 use Rattle.ballots.specs.declared.letters.Cast.{Cast}
 use Rattle.ballots.specs.Ballots.{number_of}
-use Rattle.acceptor.specs.Content.{Content, AreRowsFrom, greatest, promised}
+use Rattle.acceptor.specs.Content.{Content, AreRowsFrom, AreValues, greatest, promised}
 use Rattle.acceptor.specs.Found.{Holds, HoldsEither, AddsNothing}
 use Rattle.sqlite_trees.specs.Props.{Trees-set}
 use Rattle.sqlite_schema.specs.contracts.schema.Schema as schema_row
@@ -22,20 +22,23 @@ use Rattle.sqlite.specs.Effect.{Database, IsDatabase}
 use Rattle.sqlite.specs.State.{State, HasCleanDisk, Survives, Opens, IsUnchanged}
 use Rattle.sqlite.specs.Order.{Row}
 use Rattle.sqlite_trees.specs.Tree.{IsTable}
-use Rattle.acceptor_store_parts.specs.Rowids.{AreByRowid, ShowsNumbers, ShowsVotes}
+use Rattle.acceptor_store_parts.specs.declared.Version.{Version}
+use Rattle.acceptor_store_parts.specs.declared.Version.TheVariants.{First, Second}
+use Rattle.acceptor_store_parts.specs.Rowids.{AreByRowid, AreShaped, Rereads}
 use Rattle.sqlite.specs.Held.{Held, state}
-use Rattle.sqlite_schema.specs.Names.{same_name}
+use Rattle.sqlite_schema.specs.Names.{same_name, table_named}
+use Rattle.sqlite.specs.Table.{Table}
 use Rattle.std.specs.List.{AllByRecursion}
-use Rattle.acceptor_store_parts.specs.Foreign.{HoldsNone, IsForeignSchema, LacksNumbers, LacksVotes}
+use Rattle.acceptor_store_parts.specs.Foreign.{HoldsNone, IsForeignSchema, IsThereWithout, LacksNumbers, LacksVotes, LacksLearned}
 use Rattle.sqlite_trees.specs.View.{IsClean}
 use Rattle.acceptor_store.specs.declared.OpenFault.{OpenFault}
 use Rattle.acceptor_store.specs.declared.OpenFault.TheVariants.{Foreign}
 use Rattle.acceptor_store_parts.specs.Rowids.{IsReread}
-use Rattle.acceptor_store_parts.specs.Tables.{store_schema, blank_schema, ballot_table, vote_table}
-use Rattle.acceptor_store_parts.specs.Stored.{AreTables, IsNumber, IsCast, number_shown, vote_shown}
-use Rattle.acceptor_store_parts.specs.Serves.{Serves, StillServes, DoesNotServe}
-use Rattle.acceptor_store_parts.proofs.Callers.{tables_prop}
-use Rattle.acceptor_store.specs.Linked.{Linked, MayFind, MayFindIn, IsHonest, IsLinked, Stands, IsTested, Tells, Reopens, Examines, Had, IsIn, IsFoundIn, Prepares, SeesForeign}
+use Rattle.acceptor_store_parts.specs.Tables.{store_schema, schema_of, blank_schema, ballot_table, vote_table, learned_table}
+use Rattle.acceptor_store_parts.specs.Stored.{AreTables, AreTablesOf, HasLearned, IsNumber, IsCast, IsLearned, vote_row}
+use Rattle.acceptor_store_parts.specs.Serves.{Serves, ServesAs, StillServes, DoesNotServe, HasRaised}
+use Rattle.acceptor_store_parts.proofs.Callers.{tables_prop, one_content}
+use Rattle.acceptor_store.specs.Linked.{Linked, MayFind, MayFindIn, IsHonest, IsLinked, Stands, IsTested, Tells, Reopens, Examines, Had, IsIn, IsFoundIn, Prepares, SeesForeign, HasNumbers, StaysAs, Finds as Found}
 use Rattle.acceptor_store.proofs.Calls.{parts, both}
 use Rattle.sqlite_trees.proofs.Doubt.{no_doubt, clean_of}
 use Rattle.acceptor_store.proofs.Found.{found_is, found_it, certain}
@@ -61,9 +64,7 @@ module _ {S : Type 0} (g : Ghosts S) (settled : (s : S) (db : Trees) → IsTrue 
       → number_of highest ≡ greatest (number_of row) votes → Tells g old new highest
   tells schema clean numbers first votes_are second one two most = (
     schema,
-    (
-      record { tried = number_of tried; row = number_of row; votes = votes },
-      λ c was.
+    λ c was.
           let before : HasCleanDisk (state g mid) = omega (arith, two.clean, clean) in
           let middle = first c was in
           let now = second c middle in
@@ -74,11 +75,8 @@ module _ {S : Type 0} (g : Ghosts S) (settled : (s : S) (db : Trees) → IsTrue 
             | inl then ↦ elim (one.crash before db then) [ inl there ↦ settled old.store db was.is_open there | inr wrote ↦ absurd (wrote c was) ]
             | inr wrote ↦ absurd (wrote c middle)
           ] in
-          let stand : Stands g new = λ db may. ∣ (c, subst (λ t. AreTables t c) (ap (λ (d : Database). d.trees) now.settled ∙ sym (settled new.store db now.is_open may)) now.tables) ∣₁ in (
-            λ i. record { tried = sym read.0 i; row = sym read.1 i; votes = sym all i },
-            (now, top, stand, (∣ found_it g settled stays new c now ∣₁, found_is g settled stays new c now), left),
-          ),
-    ),
+          let stand : Stands g new = λ db may. ∣ (c, subst (λ t. AreTables t c) (ap (λ (d : Database). d.trees) now.settled ∙ sym (settled new.store db now.is_open may)) now.tables) ∣₁ in
+          (now, top, stand, (∣ found_it g settled stays new c now ∣₁, found_is g settled stays new c now), left),
   )
 
 module _ {S : Type 0} (g : Ghosts S) (old mid new : Held S) (highest : Option ℕ) (clean : HasCleanDisk (state g old)) (opens : Opens (state g mid))
@@ -92,23 +90,20 @@ module _ {S : Type 0} (g : Ghosts S) (old mid new : Held S) (highest : Option �
     tables = subst (λ (d : Database). AreTables d.trees c) (sym opens.clean) tables;
   }
 
-  abbrev k : Content
-  k = told.1.0
+  -- what is there is one content
+  held : Stands g old → (c : Content) × AreTables (state g mid).committed.trees c
+  held before = ∥∥₁_elim found (one_content (state g mid).committed.trees) (λ may. ∥∥₁_elim (before _ may) (one_content (state g mid).committed.trees) (λ it. it))
 
-  -- the content that was read is the one
-  tested : Stands g old → ∥ IsTested g mid new highest k ∥₁
-  tested before = ∥∥₁_elim found ∥∥₁_prop (λ may. ∥∥₁_map (before _ may) (λ it.
-      let t = told.1.1 it.0 (serves_mid it.0 it.1) in
-      subst (IsTested g mid new highest) t.0 t.1))
+  tested : (before : Stands g old) → IsTested g mid new highest (held before).0
+  tested before = told.1 (held before).0 (serves_mid (held before).0 (held before).1)
 
   pub reopens : Reopens g old new highest
   reopens = record {
     was_clean = clean;
-    knows = λ before. (k, ∥∥₁_elim (tested before) (serves_prop (state g new) k) (λ t. t.0), ∥∥₁_elim (tested before) (Coded-set coded_ℕ _ _) (λ t. t.1));
-    stands = λ before db may. ∥∥₁_elim (tested before) ∥∥₁_prop (λ t. t.2 db may);
-    holds = λ before. (∥∥₁_elim (tested before) ∥∥₁_prop (λ t. t.3.0), λ d it. certain d k (∥∥₁_map (tested before) (λ t. t.3.1 d it)));
-    adds_nothing = λ before d known. ∥∥₁_elim (tested before) ∥∥₁_prop (λ t. ∥∥₁_elim known ∥∥₁_prop (λ it. ∥∥₁_map found (λ may.
-        (it.0, subst (state g old).may_leave (sym (t.4 it.0 it.1)) may, it.2))));
+    knows = λ before. ((held before).0, (tested before).0, (tested before).1);
+    stands = λ before. (tested before).2;
+    holds = λ before. (tested before).3;
+    adds_nothing = λ before d known. ∥∥₁_elim known ∥∥₁_prop (λ it. ∥∥₁_map found (λ may. (it.0, subst (state g old).may_leave (sym ((tested before).4 it.0 it.1)) may, it.2)));
   }
 
 -- of two contents that it may be it is one
@@ -149,81 +144,155 @@ module _ {S : Type 0} (g : Ghosts S) (self inside : Linked S) (old new : Held S)
       let was : IsTrue (state g old).is_clean = clean_of _ (it clean).was_clean in
       subst (λ (held : Option (Held S)). IsHonest g (record self { held = held })) (sym at) (both _ _ sure was)
 
--- what a connection whose tables were all read had and serves
-module _ {S : Type 0} (g : Ghosts S) (old mid new : Held S) (tried row highest : Option ℕ) (votes : List (ℕ × Cast)) (shown rows : List Row) where
-  pub examines : IsNumber (number_of tried) × IsNumber (number_of row) → AllByRecursion IsCast votes → (state g old).now.schema ≡ store_schema → ShowsNumbers (state g old) shown → shown ≡ number_shown 0 (number_of tried) ∷ number_shown 1 (number_of row) ∷ []
-      → IsUnchanged (state g old) (state g mid) → ShowsVotes (state g mid) rows → rows ≡ map vote_shown votes → AreRowsFrom 1 votes
-      → StillServes (state g old) (state g mid) → StillServes (state g mid) (state g new) → number_of highest ≡ greatest (number_of row) votes → Examines g old new highest
-  examines numbers casts schema shows are same then those sound first second most it =
-      let c : Content = record { tried = number_of tried; row = number_of row; votes = votes } in
-      let now = same.0.now_is in
-      let sure = (it.live it.opens.is_open).0 in
-      let by : AreByRowid (state g old) = record { schema = schema; sound = sure; numbers = it.numbers; votes = it.votes } in
-      let by_mid : AreByRowid (state g mid) = record {
-        schema = ap (λ (d : Database). d.schema) now ∙ schema;
-        sound = subst IsDatabase (sym now) sure;
-        numbers = subst (λ (d : Database). IsTable (d.trees 0)) (sym now) it.numbers;
-        votes = subst (λ (d : Database). IsTable (d.trees 1)) (sym now) it.votes;
-      } in
-      let tables : AreTables (state g old).now.trees c = record {
-        numbers = shows by ((0, number_of tried) ∷ (1, number_of row) ∷ []) are;
-        votes_are = ap (λ (d : Database). d.trees 1) (sym now) ∙ then by_mid votes those;
-        sound = sound;
-      } in
-      let was : Serves (state g old) c = record { is_open = it.opens.is_open; autocommit = it.opens.autocommit; settled = it.opens.clean; schema = schema; tables = tables } in
-      (c, tables, record { tried = numbers.0; row = numbers.1; casts = casts }, second c (first c was), most)
+-- a read that changed nothing
+pub stays_as : (version : Version) (old new : State) → IsUnchanged old new → StaysAs version old new
+stays_as version old new same = (
+  same.0.now_is,
+  λ c was. record {
+    is_open = same.0.is_open;
+    autocommit = same.0.mode ∙ was.autocommit;
+    settled = same.0.now_is ∙ was.settled ∙ sym same.0.committed_is;
+    schema = ap (λ (d : Database). d.schema) same.0.now_is ∙ was.schema;
+    tables = subst (λ (d : Database). AreTablesOf version d.trees c) (sym same.0.now_is) was.tables;
+  },
+)
+
+pub all_stay_as : (version : Version) (old new : State) {X E : Type 0} (r : Result X E) → OnOk r (IsUnchanged old new) → OnOk r (StaysAs version old new)
+all_stay_as version old new (Ok x) same = stays_as version old new same
+all_stay_as version old new (Err e) same = tt
 
 -- tables that hold a content serve it
-pub serves_tables : {S : Type 0} (g : Ghosts S) (old : Held S) → (state g old).now.schema ≡ store_schema → IsReread (state g old) → (c : Content) → AreTables (state g old).now.trees c → Serves (state g old) c
-serves_tables g old schema it c tables = record { is_open = it.opens.is_open; autocommit = it.opens.autocommit; settled = it.opens.clean; schema = schema; tables = tables }
+pub serves_tables : {S : Type 0} (g : Ghosts S) (version : Version) (old : Held S) → (state g old).now.schema ≡ schema_of version → IsReread version (state g old) → (c : Content) → AreTablesOf version (state g old).now.trees c → ServesAs version (state g old) c
+serves_tables g version old schema it c tables = record { is_open = it.opens.is_open; autocommit = it.opens.autocommit; settled = it.opens.clean; schema = schema; tables = tables }
+
+pub by_rowid : {S : Type 0} (g : Ghosts S) (version : Version) (old : Held S) → (state g old).now.schema ≡ schema_of version → IsReread version (state g old) → AreByRowid version (state g old)
+by_rowid g version old schema it = record { schema = schema; sound = (it.live it.opens.is_open).0; shaped = it.shaped }
+
+pub still_by_rowid : (version : Version) (old new : State) → new.now ≡ old.now → AreByRowid version old → AreByRowid version new
+still_by_rowid version old new same it = record {
+  schema = ap (λ (d : Database). d.schema) same ∙ it.schema;
+  sound = subst IsDatabase (sym same) it.sound;
+  shaped = subst (λ (d : Database). AreShaped version d.trees) (sym same) it.shaped;
+}
+
+all_values : (rows : List (ℕ × List ℕ)) → AllByRecursion IsLearned rows → AreValues rows
+all_values [] all = tt
+all_values (row ∷ rows) all = (all.0.1, all_values rows all.1)
+
+-- what a connection whose tables were all read serves
+module _ {S : Type 0} (g : Ghosts S) (version : Version) (old mid late new : Held S) (tried row highest : Option ℕ) (votes : List (ℕ × Cast)) (learned : List (ℕ × List ℕ)) where
+  pub examines : (state g old).now.schema ≡ schema_of version → IsNumber (number_of tried) × IsNumber (number_of row) → AllByRecursion IsCast votes × AreRowsFrom 1 votes → AllByRecursion IsLearned learned × AreRowsFrom 1 learned
+      → (AreByRowid version (state g old) → HasNumbers version (state g old).now.trees (number_of tried) (number_of row)) → StaysAs version (state g old) (state g mid)
+      → (AreByRowid version (state g mid) → (state g mid).now.trees 1 ≡ map vote_row votes) → StaysAs version (state g mid) (state g late)
+      → (AreByRowid version (state g late) → (c : Content) → c.learned ≡ learned → HasLearned version (state g late).now.trees c) → StaysAs version (state g late) (state g new)
+      → number_of highest ≡ greatest (number_of row) votes → Examines g version old new highest
+  examines schema numbers casts values first one second two third three most it =
+      let c : Content = record { tried = number_of tried; row = number_of row; votes = votes; learned = learned } in
+      let by = by_rowid g version old schema it in
+      let by_mid = still_by_rowid version (state g old) (state g mid) one.0 by in
+      let by_late = still_by_rowid version (state g mid) (state g late) two.0 by_mid in
+      let tables : AreTablesOf version (state g old).now.trees c = record {
+        numbers = first by;
+        votes_are = ap (λ (d : Database). d.trees 1) (sym one.0) ∙ second by_mid;
+        learned_are = subst (λ (d : Database). HasLearned version d.trees c) (two.0 ∙ one.0) (third by_late c refl);
+        sound = (casts.1, values.1, all_values learned values.0);
+      } in
+      (c, tables, record { tried = numbers.0; row = numbers.1; casts = casts.0; learned = values.0 },
+      three.1 c (two.1 c (one.1 c (serves_tables g version old schema it c tables))), most)
+
+-- what an older connection had, read over its store
+pub finds : {S : Type 0} (g : Ghosts S) (version : Version) (conn again new : Held S) (highest : Option ℕ) → (state g conn).now.schema ≡ schema_of version → Rereads version (state g conn) (state g again) → Examines g version again new highest
+    → Found g version conn new highest
+finds g version conn again new highest schema re ex =
+    let e = ex re.0 in
+    (e.0, (schema, subst (λ t. AreTablesOf version t e.0) re.1 e.1, e.2), e.3, e.4)
+
+pub all_prepare : {S E : Type 0} (g : Ghosts S) (conn : Held S) (Known : Type 0) (r : Result (Held S × Option ℕ) E) → Known → IfOk r (λ x. HasCleanDisk (state g x.0) → Known → Prepares g conn x.0 x.1)
+    → IfOk r (λ x. HasCleanDisk (state g x.0) → Prepares g conn x.0 x.1)
+all_prepare g conn Known (Ok x) known h = λ clean. h clean known
+all_prepare g conn Known (Err e) known h = tt
+
+pub prepares_second : {S : Type 0} (g : Ghosts S) (version : Version) (old new : Held S) (highest : Option ℕ) → version ≡ Second → Found g version old new highest → Prepares g old new highest
+prepares_second g version old new highest is f = (f.0, inr (version, f.1), subst (λ v. ServesAs v (state g new) f.0) is f.2, f.3)
+
+pub prepares_first : {S : Type 0} (g : Ghosts S) (version : Version) (old mid new : Held S) (highest : Option ℕ) → version ≡ First → Found g version old mid highest → HasRaised (state g mid) (state g new) → Prepares g old new highest
+prepares_first g version old mid new highest is f raised = (f.0, inr (version, f.1), raised f.0 (subst (λ v. ServesAs v (state g mid) f.0) is f.2), f.3)
 
 -- no node wrote a database that has no tables, or one that holds what a node writes
-own_schema : IsForeignSchema store_schema → ⊥
+lacks_none : (s : Schema) (name : List ℕ) (i : ℕ) (table : Table) (Wants : Table → Type 0) → table_named s name ≡ Some i → slice_get s.tables i ≡ Some table → (Wants table → ⊥) → IsThereWithout s name Wants → ⊥
+lacks_none s name i table Wants at there none h =
+    let same : Some i ≡ Some h.0 = sym at ∙ h.2 in
+    let is : i ≡ h.0 = cc in
+    let two : Some table ≡ Some h.1 = sym there ∙ subst (λ k. slice_get s.tables k ≡ Some h.1) (sym is) h.3 in
+    let tables : table ≡ h.1 = cc in
+    none (subst Wants (sym tables) h.4)
+
+has_numbers : LacksNumbers ballot_table → ⊥
 unfolding same_name
-own_schema h = elim h [
-  | inl half ↦ elim half [ inl votes ↦ absurd (let e : Some 0 ≡ None = votes.0 in cc) | inr numbers ↦ absurd (let e : Some 1 ≡ None = numbers.1 in cc) ]
-  | inr lacks ↦ elim lacks [
-    | inl numbers ↦
-        let at : Some 0 ≡ Some numbers.0 = numbers.2 in
-        let zero : 0 ≡ numbers.0 = cc in
-        let t : Some ballot_table ≡ Some numbers.1 = subst (λ i. slice_get store_schema.tables i ≡ Some numbers.1) (sym zero) numbers.3 in
-        let table : ballot_table ≡ numbers.1 = cc in
-        elim (subst LacksNumbers (sym table) numbers.4) [ inl id ↦ absurd (let e : Some 0 ≡ None = id in cc) | inr number ↦ absurd (let e : Some 1 ≡ None = number in cc) ]
-    | inr votes ↦
-        let at : Some 1 ≡ Some votes.0 = votes.2 in
-        let one : 1 ≡ votes.0 = cc in
-        let t : Some vote_table ≡ Some votes.1 = subst (λ i. slice_get store_schema.tables i ≡ Some votes.1) (sym one) votes.3 in
-        let table : vote_table ≡ votes.1 = cc in
-        elim (subst LacksVotes (sym table) votes.4) [
-          | inl place ↦ absurd (let e : Some 0 ≡ None = place in cc)
-          | inr others ↦ elim others [ inl ballot ↦ absurd (let e : Some 1 ≡ None = ballot in cc) | inr value ↦ absurd (let e : Some 2 ≡ None = value in cc) ]
-        ]
-  ]
-]
+has_numbers (inl id) = absurd (let e : Some 0 ≡ None = id in cc)
+has_numbers (inr number) = absurd (let e : Some 1 ≡ None = number in cc)
+
+has_votes : LacksVotes vote_table → ⊥
+unfolding same_name
+has_votes (inl place) = absurd (let e : Some 0 ≡ None = place in cc)
+has_votes (inr (inl ballot)) = absurd (let e : Some 1 ≡ None = ballot in cc)
+has_votes (inr (inr value)) = absurd (let e : Some 2 ≡ None = value in cc)
+
+has_learned : LacksLearned learned_table → ⊥
+unfolding same_name
+has_learned (inl place) = absurd (let e : Some 0 ≡ None = place in cc)
+has_learned (inr value) = absurd (let e : Some 1 ≡ None = value in cc)
+
+none_there : (s : Schema) (name : List ℕ) (Wants : Table → Type 0) → table_named s name ≡ None → IsThereWithout s name Wants → ⊥
+none_there s name Wants none h = absurd (let e : None ≡ Some h.0 = sym none ∙ h.2 in cc)
+
+pub own_schema : (version : Version) → IsForeignSchema (schema_of version) → ⊥
+unfolding same_name
+own_schema First (inl (inl h)) = absurd (let e : Some 0 ≡ None = h.0 in cc)
+own_schema First (inl (inr (inl h))) = absurd (let e : Some 1 ≡ None = h.1 in cc)
+own_schema First (inl (inr (inr h))) = absurd (let e : Some 0 ≡ None = h.0 in cc)
+own_schema First (inr (inl h)) = lacks_none (schema_of First) (codes "ballot") 0 ballot_table LacksNumbers refl refl has_numbers h
+own_schema First (inr (inr (inl h))) = lacks_none (schema_of First) (codes "vote") 1 vote_table LacksVotes refl refl has_votes h
+own_schema First (inr (inr (inr h))) = none_there (schema_of First) (codes "learned") LacksLearned refl h
+own_schema Second (inl (inl h)) = absurd (let e : Some 0 ≡ None = h.0 in cc)
+own_schema Second (inl (inr (inl h))) = absurd (let e : Some 1 ≡ None = h.1 in cc)
+own_schema Second (inl (inr (inr h))) = absurd (let e : Some 0 ≡ None = h.0 in cc)
+own_schema Second (inr (inl h)) = lacks_none (schema_of Second) (codes "ballot") 0 ballot_table LacksNumbers refl refl has_numbers h
+own_schema Second (inr (inr (inl h))) = lacks_none (schema_of Second) (codes "vote") 1 vote_table LacksVotes refl refl has_votes h
+own_schema Second (inr (inr (inr h))) = lacks_none (schema_of Second) (codes "learned") 2 learned_table LacksLearned refl refl has_learned h
 
 blank_schema_is_own : IsForeignSchema blank_schema → ⊥
-blank_schema_is_own h = elim h [
-  | inl half ↦ elim half [ inl votes ↦ absurd (let e : false ≡ true = votes.1 in cc) | inr numbers ↦ absurd (let e : false ≡ true = numbers.0 in cc) ]
-  | inr lacks ↦ elim lacks [ inl numbers ↦ absurd (let e : None ≡ Some numbers.0 = numbers.2 in cc) | inr votes ↦ absurd (let e : None ≡ Some votes.0 = votes.2 in cc) ]
-]
+blank_schema_is_own (inl (inl h)) = absurd (let e : false ≡ true = h.1 in cc)
+blank_schema_is_own (inl (inr (inl h))) = absurd (let e : false ≡ true = h.0 in cc)
+blank_schema_is_own (inl (inr (inr h))) = absurd (let e : false ≡ true = h.2 in cc)
+blank_schema_is_own (inr (inl h)) = none_there blank_schema (codes "ballot") LacksNumbers refl h
+blank_schema_is_own (inr (inr (inl h))) = none_there blank_schema (codes "vote") LacksVotes refl h
+blank_schema_is_own (inr (inr (inr h))) = none_there blank_schema (codes "learned") LacksLearned refl h
 
--- rows that no node wrote, in its two tables
-pub told_rows : {S : Type 0} (g : Ghosts S) (conn : Held S) {X : Type 0} (r : Result X (OpenFault × S)) → (state g conn).now.schema ≡ store_schema
-    → IfErr r (λ e. e.0 ≡ Foreign → IsClean (g.view e.1) → HoldsNone (state g conn).committed.trees) → IfErr r (λ e. e.0 ≡ Foreign → IsClean (g.view e.1) → SeesForeign g conn)
-told_rows g conn (Ok x) schema h = tt
-told_rows g conn (Err e) schema h = λ foreign clean. inr (schema, h foreign clean)
+not_blank : (version : Version) → schema_of version ≡ blank_schema → ⊥
+not_blank First e = absurd (let t : ballot_table ∷ vote_table ∷ [] ≡ [] = ap (λ (s : Schema). s.tables) e in cc)
+not_blank Second e = absurd (let t : ballot_table ∷ vote_table ∷ learned_table ∷ [] ≡ [] = ap (λ (s : Schema). s.tables) e in cc)
+
+two_versions : schema_of First ≡ schema_of Second → ⊥
+two_versions e = absurd (let t : ballot_table ∷ vote_table ∷ [] ≡ ballot_table ∷ vote_table ∷ learned_table ∷ [] = ap (λ (s : Schema). s.tables) e in cc)
+
+one_version : (v w : Version) → schema_of v ≡ schema_of w → v ≡ w
+one_version First First e = refl
+one_version First Second e = absurd (two_versions e)
+one_version Second First e = absurd (two_versions (sym e))
+one_version Second Second e = refl
+
+-- rows that no node wrote, in its tables
+pub told_rows : {S : Type 0} (g : Ghosts S) (version : Version) (conn : Held S) {X : Type 0} (r : Result X (OpenFault × S)) → (state g conn).now.schema ≡ schema_of version
+    → IfErr r (λ e. e.0 ≡ Foreign → IsClean (g.view e.1) → HoldsNone version (state g conn).committed.trees) → IfErr r (λ e. e.0 ≡ Foreign → IsClean (g.view e.1) → SeesForeign g conn)
+told_rows g version conn (Ok x) schema h = tt
+told_rows g version conn (Err e) schema h = λ foreign clean. inr (version, schema, h foreign clean)
 
 pub own : {S : Type 0} (g : Ghosts S) (conn : Held S) (c : Content) → Had g conn c → SeesForeign g conn → ⊥
-own g conn c had foreign = elim had [
-  | inl blank ↦ elim foreign [
-    | inl schema ↦ blank_schema_is_own (subst IsForeignSchema blank.0 schema)
-    | inr rows ↦ absurd (let e : [] ≡ ballot_table ∷ vote_table ∷ [] = ap (λ (s : Schema). s.tables) (sym blank.0 ∙ rows.0) in cc)
-  ]
-  | inr there ↦ elim foreign [
-    | inl schema ↦ own_schema (subst IsForeignSchema there.0 schema)
-    | inr rows ↦ rows.1 c there.1 there.2
-  ]
-]
+own g conn c (inl blank) (inl schema) = blank_schema_is_own (subst IsForeignSchema blank.0 schema)
+own g conn c (inl blank) (inr rows) = not_blank rows.0 (sym rows.1 ∙ blank.0)
+own g conn c (inr there) (inl schema) = own_schema there.0 (subst IsForeignSchema there.1.0 schema)
+own g conn c (inr there) (inr rows) = rows.2 c (subst (λ v. AreTablesOf v (state g conn).committed.trees c) (one_version there.0 rows.0 (sym there.1.0 ∙ rows.1)) there.1.1) there.1.2
 
 -- the records over tables that serve a content
 module _ {S : Type 0} (g : Ghosts S) (settled : (s : S) (db : Trees) → IsTrue (g.view s).is_open → g.recovers s db → db ≡ (g.view s).committed)
@@ -249,7 +318,7 @@ is_in {g = g} files conn c opened finds had db holds =
           let trees : (file_state conn).now.trees ≡ db = ap (λ (d : Database). d.trees) opened.0.clean ∙ is in
           let sure = (opened.1 opened.0.is_open).0 in
           inr (subst₂ (λ s t. IsDatabase (record { schema = s; trees = t })) blank.0 trees sure, blank.1)
-      | inr tables ↦ inl (subst (λ t. AreTables t c) is tables.1)
+      | inr tables ↦ inl (tables.0, subst (λ t. AreTablesOf tables.0 t c) is tables.1.1)
     ]
 
 -- and where the files are what a store might have left, it is in one of the databases that the store allows

@@ -107,7 +107,7 @@ StaysAs version old new = (new.now ≡ old.now) × ((c : Content) → ServesAs v
 abbrev pub Examines : {S : Type 0} → Ghosts S → Version → Held S → Held S → Option ℕ → Type 0
 Examines g version old new highest =
     IsReread version (state g old)
-    → (c : Content) × AreTablesOf version (state g old).now.trees c × IsOfNode c × ServesAs version (state g new) c × (number_of highest ≡ promised c) × ((state g new).now ≡ (state g old).now)
+    → (c : Content) × AreTablesOf version (state g old).now.trees c × IsOfNode c × ServesAs version (state g new) c × (number_of highest ≡ promised c)
 
 -- the last commit holds this content, which a node wrote, in tables of this version
 abbrev pub HadIn : {S : Type 0} → Ghosts S → Version → Held S → Content → Type 0
@@ -120,15 +120,7 @@ Had g conn c = (((state g conn).now.schema ≡ blank_schema) × (c ≡ no_conten
 -- it serves in this version what the older one had, of which this is the promised ballot
 abbrev pub Finds : {S : Type 0} → Ghosts S → Version → Held S → Held S → Option ℕ → Type 0
 Finds g version old new highest =
-    (c : Content) × HadIn g version old c × ServesAs version (state g new) c × (number_of highest ≡ promised c) × ((state g new).committed.trees ≡ (state g old).committed.trees)
-
--- what a crash might have left of the connection, or what it had committed
-abbrev pub IsLeftAsWas : {S : Type 0} → Ghosts S → Held S → Trees → Type 0
-IsLeftAsWas g conn db = (state g conn).may_leave db ⊎ (db ≡ (state g conn).committed.trees)
-
--- what it had is whole: as it was, or with the same content in the tables of version 2
-abbrev pub IsLeftWhole : {S : Type 0} → Ghosts S → Held S → Trees → Type 0
-IsLeftWhole g conn db = IsLeftAsWas g conn db ⊎ ((c : Content) → Had g conn c → AreTables db c)
+    (c : Content) × HadIn g version old c × ServesAs version (state g new) c × (number_of highest ≡ promised c)
 
 -- no node wrote the database that the connection sees
 abbrev pub SeesForeign : {S : Type 0} → Ghosts S → Held S → Type 0

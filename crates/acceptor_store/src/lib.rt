@@ -19,7 +19,7 @@ ghost use Rattle.sqlite_trees.specs.View.{IsClean, doubt};
 ghost use Rattle.acceptor_store_parts.specs.Foreign.{IsForeignSchema};
 ghost use Rattle.acceptor_store_parts.specs.Serves.{Serves, StillServes, DoesNotServe, StaysOpen};
 ghost use Rattle.acceptor_store_parts.specs.Stops.{LeavesOpen, leaves_open};
-ghost use Rattle.acceptor_store.specs.Linked.{MayFind, IsHonest, is_honest, Tells, Reopens, Had, HasFurther, IsFoundIn, SeesForeign, IsLeftWhole};
+ghost use Rattle.acceptor_store.specs.Linked.{MayFind, IsHonest, is_honest, Tells, Reopens, Had, HasFurther, IsFoundIn, SeesForeign};
 
 use acceptor::{Records, RecordsFault};
 use acceptor_store_parts::{Stop, Version};
@@ -202,7 +202,6 @@ impl<S: Alter + Drop> SqlRecords<S> {
         ensures used { IsTrue (state S.Store conn).in_transaction → IsErrAnd result (λ e. e.0 ≡ OpenFault.Refused) }
         ensures unowned { (state S.Store conn).in_transaction ≡ false → IsForeignSchema (state S.Store conn).now.schema → IsErrAnd result (λ e. e.0 ≡ OpenFault.Foreign) }
         ensures further { (state S.Store conn).in_transaction ≡ false → HasFurther (state S.Store conn).now.schema → IsErrAnd result (λ e. (e.0 ≡ OpenFault.Refused) ⊎ (e.0 ≡ OpenFault.OutOfMemory)) }
-        ensures whole { IfErr result (λ e. IsClean (S.Store.view e.1) → (db : Trees) → S.Store.recovers e.1 db → IsLeftWhole S.Store conn db) }
     {
         let found = match opening::prepared(alloc, conn) {
             Ok(found) => found,

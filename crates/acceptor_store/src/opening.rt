@@ -4,7 +4,6 @@ ghost use Rattle.std.specs.Prelude.{◌≡◌, ◌≢◌, ◌≤◌, ◌⊎◌, 
 ghost use Rattle.std.specs.List.{AllByRecursion};
 ghost use Rattle.ballots.specs.Ballots.{number_of};
 ghost use Rattle.acceptor.specs.Content.{AreRowsFrom, Content};
-ghost use Rattle.sqlite.specs.Tree.{Trees};
 ghost use Rattle.sqlite.specs.State.{HasCleanDisk, Survives};
 ghost use Rattle.sqlite.specs.Held.{state};
 ghost use Rattle.sqlite_trees.specs.View.{IsClean, doubt};
@@ -12,8 +11,8 @@ ghost use Rattle.acceptor_store_parts.specs.Foreign.{HoldsNone, IsForeignSchema}
 ghost use Rattle.acceptor_store_parts.specs.Rowids.{AreByRowid, IsReread};
 ghost use Rattle.acceptor_store_parts.specs.Tables.{schema_of, store_schema};
 ghost use Rattle.acceptor_store_parts.specs.Stored.{HasLearned, IsCast, IsLearned, IsNumber, IsOfNode, learned_row, vote_row};
-ghost use Rattle.acceptor_store_parts.specs.Serves.{Serves, ServesAs, IsOther, HasRaised, MayHaveRaised};
-ghost use Rattle.acceptor_store.specs.Linked.{HasFurther, Examines, Prepares, SeesForeign, HasNumbers, StaysAs, Finds, IsLeftAsWas, IsLeftWhole};
+ghost use Rattle.acceptor_store_parts.specs.Serves.{Serves, ServesAs, IsOther, HasRaised};
+ghost use Rattle.acceptor_store.specs.Linked.{HasFurther, Examines, Prepares, SeesForeign, HasNumbers, StaysAs, Finds};
 
 use crate::{OpenFault, greatest_of};
 use acceptor_store_parts::{Stop, Unread, Version};
@@ -129,7 +128,7 @@ fn learned_in<S: Alter>(
     ensures fits { IfOk result (λ learned. AllByRecursion IsLearned learned.items × AreRowsFrom 1 learned.items) }
     ensures same { HasCleanDisk (state S.Store conn.new) → (state S.Store conn.old).now.schema ≡ schema_of version → OnOk result (StaysAs version (state S.Store conn.old) (state S.Store conn.new)) }
     ensures foreign { HasCleanDisk (state S.Store conn.new) → result ≡ Err OpenFault.Foreign → (c : Content) → ServesAs version (state S.Store conn.old) c → IsOfNode c → ⊥ }
-    ensures survives { Survives (state S.Store conn.old) (state S.Store conn.new) (λ _. IsOther (state S.Store conn.old)) }
+    ensures survives { Survives (state S.Store conn.old) (state S.Store conn.new) (λ _. (state S.Store conn.old).now.schema ≡ schema_of version → ⊥) }
 {
     match version {
         Version::First => Ok(Vec::new(alloc)),
@@ -145,11 +144,11 @@ fn examined<S: Alter>(
 ) -> Result<Option<Ballot>, OpenFault>
     ensures tables { HasCleanDisk (state S.Store conn.new) → (state S.Store conn.old).now.schema ≡ schema_of version → IfOk result (Examines S.Store version conn.old conn.new) }
     ensures foreign { HasCleanDisk (state S.Store conn.new) → (state S.Store conn.old).now.schema ≡ schema_of version → result ≡ Err OpenFault.Foreign → IsReread version (state S.Store conn.old) → HoldsNone version (state S.Store conn.old).now.trees }
-    ensures survives { Survives (state S.Store conn.old) (state S.Store conn.new) (λ _. IsOther (state S.Store conn.old)) }
+    ensures clean { doubt (state S.Store conn.old).is_clean ≤ doubt (state S.Store conn.new).is_clean }
 {
     let numbers = numbers_in(conn, version)?;
     let votes = votes_in(alloc, conn)?;
-    let _learned = learned_in(alloc, conn, version)?;
+    let learned = learned_in(alloc, conn, version)?;
     Ok(greatest_of(numbers.1, votes.rows()))
 }
 
@@ -174,7 +173,6 @@ fn reread<S: Alter + Drop>(
     ensures tables { IfOk result (λ r. HasCleanDisk (state S.Store r.0) → (state S.Store conn).now.schema ≡ schema_of version → Finds S.Store version conn r.0 r.1) }
     ensures clean { IfOk result (λ r. doubt (state S.Store conn).is_clean ≤ doubt (state S.Store r.0).is_clean) }
     ensures foreign { IfErr result (λ e. e.0 ≡ OpenFault.Foreign → IsClean (S.Store.view e.1) → HoldsNone version (state S.Store conn).committed.trees) }
-    ensures whole { IfErr result (λ e. IsClean (S.Store.view e.1) → (db : Trees) → S.Store.recovers e.1 db → IsLeftAsWas S.Store conn db) }
 {
     // Over the store the rows stand by rowid, which no other call tells.
     let mut again = match acceptor_store_parts::reread(alloc, version, conn) {
@@ -197,8 +195,6 @@ fn raised_version<S: Alter + Drop>(mut conn: Connection<S>) -> Result<Connection
     ensures raised { IfOk result (λ c. HasCleanDisk (state S.Store c) → HasRaised (state S.Store conn) (state S.Store c)) }
     ensures clean { IfOk result (λ c. doubt (state S.Store conn).is_clean ≤ doubt (state S.Store c).is_clean) }
     ensures fault { IfErr result (λ e. e.0 ≢ OpenFault.Foreign) }
-    ensures before { IfErr result (λ e. IsClean (S.Store.view e.1) → HasCleanDisk (state S.Store conn)) }
-    ensures whole { IfErr result (λ e. IsClean (S.Store.view e.1) → (db : Trees) → S.Store.recovers e.1 db → (state S.Store conn).may_leave db ⊎ MayHaveRaised (state S.Store conn) db) }
 {
     match acceptor_store_parts::raise_version(&mut conn) {
         Ok(()) => Ok(conn),
@@ -215,7 +211,6 @@ fn brought_up<S: Alter + Drop>(
     ensures tables { IfOk result (λ r. HasCleanDisk (state S.Store r.0) → (state S.Store conn).now.schema ≡ schema_of version → Prepares S.Store conn r.0 r.1) }
     ensures clean { IfOk result (λ r. doubt (state S.Store conn).is_clean ≤ doubt (state S.Store r.0).is_clean) }
     ensures foreign { IfErr result (λ e. e.0 ≡ OpenFault.Foreign → IsClean (S.Store.view e.1) → HoldsNone version (state S.Store conn).committed.trees) }
-    ensures whole { IfErr result (λ e. IsClean (S.Store.view e.1) → (state S.Store conn).now.schema ≡ schema_of version → (db : Trees) → S.Store.recovers e.1 db → IsLeftWhole S.Store conn db) }
 {
     let found = match reread(alloc, version, conn) {
         Ok(found) => found,
@@ -241,7 +236,6 @@ pub fn prepared<S: Alter + Drop>(
     ensures used { IsTrue (state S.Store conn).in_transaction → IsErrAnd result (λ e. e.0 ≡ OpenFault.Refused) }
     ensures unowned { (state S.Store conn).in_transaction ≡ false → IsForeignSchema (state S.Store conn).now.schema → IsErrAnd result (λ e. e.0 ≡ OpenFault.Foreign) }
     ensures further { (state S.Store conn).in_transaction ≡ false → HasFurther (state S.Store conn).now.schema → IsErrAnd result (λ e. (e.0 ≡ OpenFault.Refused) ⊎ (e.0 ≡ OpenFault.OutOfMemory)) }
-    ensures whole { IfErr result (λ e. IsClean (S.Store.view e.1) → (db : Trees) → S.Store.recovers e.1 db → IsLeftWhole S.Store conn db) }
 {
     if !conn.is_autocommit() {
         return Err((OpenFault::Refused, conn.into_store()));

@@ -7,3 +7,5 @@ mod acceptor_rows;
 mod stops;
 #[cfg(test)]
 mod tables;
+#[cfg(test)]
+mod versions;
