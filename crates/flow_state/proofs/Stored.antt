@@ -1,5 +1,5 @@
 -- Stored flows and the rows that they mean.
-use Rattle.std.proofs.Common.{◌≡◌, ℕ, suc, zero, slice_get, ◌<◌, ◌≤◌, Bool, true, false, cond, not, leb, ltb, List, [], ◌∷◌, ◌++◌, map, filter, Option, Some, None, refl, sym, ap, subst, ◌∙◌, nat_eq, eqb, arith, inl, inr}
+use Rattle.std.proofs.Common.{◌≡◌, ℕ, ◌+◌, take, length, add-one, suc, zero, slice_get, ◌<◌, ◌≤◌, Bool, true, false, cond, not, leb, ltb, List, [], ◌∷◌, ◌++◌, map, filter, Option, Some, None, refl, sym, ap, subst, ◌∙◌, nat_eq, eqb, arith, inl, inr}
 use Rattle.std.specs.Prelude.{IfSome, IfNone}
 use Rattle.std.specs.List.{AllByRecursion, IsDistinct, find}
 use Rattle.std.specs.Option.{option_map, option_map_or}
@@ -15,7 +15,7 @@ use Rattle.flow_state.specs.Limits.{is_good_kind, due_time}
 use Rattle.flow_state.specs.Rows.{Table, FlowRow, Lease, is_flow, is_ended, insert_flow, lent_flow}
 use Rattle.flow_state.specs.Changes.{new_flow}
 use Rattle.flow_state.specs.Sound.{Rise, IsSound}
-use Rattle.flow_state.specs.StoredTable.{IsStoredFlow, IsStored, is_ended_in}
+use Rattle.flow_state.specs.StoredTable.{IsStoredFlow, IsStored, EndFrom, is_ended_in}
 use Rattle.flow_state.specs.View.{flow_view, table_view}
 use Rattle.flow_state.proofs.Keyed.{AreKeyed, All-set_value, seen_found, seen_written, seen_absent, seen_removed}
 use Rattle.flow_state.proofs.Soundness.{sids, AreGood, all_filter}
@@ -33,8 +33,8 @@ abbrev pub rows : Flows → List FlowRow
 rows es = map (λ e. flow_view e.1) es
 
 -- a stored table by the table that it means
-pub stored_as : (b : Inside) (t : Table) → AreStored b.flows.entries → IsUnique nat_eq b.flows → b.timed.items ≡ timed_sids t.flows → table_view b ≡ t → IsSound t → IsStored b
-stored_as b t flows unique timed is sound = record { flows = flows; unique = unique; sound = subst IsSound (sym is) sound; timed_are = timed ∙ ap (λ (u : Table). timed_sids u.flows) (sym is) }
+pub stored_as : (b : Inside) (t : Table) → AreStored b.flows.entries → IsUnique nat_eq b.flows → b.timed.items ≡ timed_sids t.flows → table_view b ≡ t → IsSound t → EndFrom b.first_end b.flows.entries → IsStored b
+stored_as b t flows unique timed is sound ends = record { flows = flows; unique = unique; sound = subst IsSound (sym is) sound; ends = ends; timed_are = timed ∙ ap (λ (u : Table). timed_sids u.flows) (sym is) }
 
 pub with_parts : (t : Table) (fs gs : List FlowRow) (vs ws : List Waiting) → fs ≡ gs → vs ≡ ws → record t { flows = fs; waiting = vs } ≡ record t { flows = gs; waiting = ws }
 with_parts t fs gs vs ws f w = cc
@@ -139,6 +139,92 @@ rows_added es l kind all good =
     ∙ ap (λ i. rows (filter (λ e. leb e.0 l.sid) es) ++ record { sid = l.sid; modem = l.modem; tag = l.tag; first = l.first; last = l.last; kind = kind; index = i; last_sent = None } ∷ rows (filter (λ e. not (leb e.0 l.sid)) es)) (first_index kind good)
     ∙ ap (λ (front : List FlowRow). front ++ new_flow l kind ∷ rows (filter (λ e. not (leb e.0 l.sid)) es)) (rows_filter (λ e. leb e.0 l.sid) (λ f. leb f.sid l.sid) es (λ e s. ap (λ n. leb n l.sid) (sym s.key)) all)
     ∙ ap (λ (back : List FlowRow). filter (λ f. leb f.sid l.sid) (rows es) ++ new_flow l kind ∷ back) (rows_filter (λ e. not (leb e.0 l.sid)) (λ f. not (leb f.sid l.sid)) es (λ e s. ap (λ n. not (leb n l.sid)) (sym s.key)) all)
+
+-- ---- the ends of leases
+
+-- what the entries tell of the ends, the rows tell too
+pub ends_are : (es : Flows) (first : ℕ) → EndFrom first es → AllByRecursion (λ (f : FlowRow). first ≤ f.last) (rows es)
+ends_are [] first all = tt
+ends_are (e ∷ es) first all = (all.0, ends_are es first all.1)
+
+pub ends_in : (es : Flows) (first : ℕ) → AllByRecursion (λ (f : FlowRow). first ≤ f.last) (rows es) → EndFrom first es
+ends_in [] first all = tt
+ends_in (e ∷ es) first all = (all.0, ends_in es first all.1)
+
+-- none ends before an earlier time
+pub ends_earlier : (es : Flows) (first less : ℕ) → less ≤ first → EndFrom first es → EndFrom less es
+ends_earlier [] first less le all = tt
+ends_earlier (e ∷ es) first less le all = (omega (arith, all.0), ends_earlier es first less le all.1)
+
+-- one entry more
+ends_next : (es : Flows) (k first : ℕ) (e : ℕ × Flow) → slice_get es k ≡ Some e → first ≤ e.1.last → EndFrom first (take k es) → EndFrom first (take (suc k) es)
+ends_next [] k first e at le all = absurd cc
+ends_next (x ∷ es) zero first e at le all = let same : x ≡ e = cc in (subst (λ (y : ℕ × Flow). first ≤ y.1.last) (sym same) le, tt)
+ends_next (x ∷ es) (suc k) first e at le all = (all.0, ends_next es k first e at le all.1)
+
+pub ends_more : (es : Flows) (k first : ℕ) (e : ℕ × Flow) → slice_get es k ≡ Some e → first ≤ e.1.last → EndFrom first (take k es) → EndFrom first (take (k + 1) es)
+ends_more es k first e at le all = rw add-one (ends_next es k first e at le all)
+
+-- all of them
+pub ends_all : (es : Flows) (k first : ℕ) → slice_get es k ≡ None → EndFrom first (take k es) → EndFrom first es
+ends_all [] k first at all = tt
+ends_all (x ∷ es) zero first at all = absurd cc
+ends_all (x ∷ es) (suc k) first at all = (all.0, ends_all es k first at all.1)
+
+pub ends_whole : (es : Flows) (k first : ℕ) → length es ≤ k → EndFrom first (take k es) → EndFrom first es
+ends_whole [] k first le all = tt
+ends_whole (x ∷ es) zero first le all = absurd (omega (arith, le))
+ends_whole (x ∷ es) (suc k) first le all = (all.0, ends_whole es k first (omega (arith, le)) all.1)
+
+pub ends_take : (es : Flows) (k first : ℕ) → EndFrom first es → EndFrom first (take k es)
+ends_take [] zero first all = tt
+ends_take [] (suc k) first all = tt
+ends_take (x ∷ es) zero first all = tt
+ends_take (x ∷ es) (suc k) first all = (all.0, ends_take es k first all.1)
+
+-- after a flow is written that keeps its lease's end
+pub ends_written : (es fs : Flows) (sid first : ℕ) (write : Flow → Flow) → EndFrom first es → ((f : Flow) → (write f).last ≡ f.last)
+    → IfSome (lookup (nat_eq sid) es) (λ f. fs ≡ set_value (nat_eq sid) es (write f)) → IfNone (lookup (nat_eq sid) es) (fs ≡ es) → EndFrom first fs
+ends_written es fs sid first write all same some none = by (lookup (nat_eq sid) es) refl some none
+  where
+    by : (o : Option Flow) → lookup (nat_eq sid) es ≡ o → IfSome o (λ f. fs ≡ set_value (nat_eq sid) es (write f)) → IfNone o (fs ≡ es) → EndFrom first fs
+    by (Some f) e s n = subst (EndFrom first) (sym s) (All-set_value (λ (x : ℕ × Flow). first ≤ x.1.last) es sid f (write f) all e (λ k h. subst (λ m. first ≤ m) (sym (same f)) h))
+    by None e s n = subst (EndFrom first) (sym n) all
+
+-- after a flow is put in its place
+ends_append : (xs ys : Flows) (first : ℕ) → EndFrom first xs → EndFrom first ys → EndFrom first (xs ++ ys)
+ends_append [] ys first all rest = rest
+ends_append (x ∷ xs) ys first all rest = (all.0, ends_append xs ys first all.1 rest)
+
+ends_filter : (p : ℕ × Flow → Bool) (es : Flows) (first : ℕ) → EndFrom first es → EndFrom first (filter p es)
+ends_filter p es first all = all_filter (λ (e : ℕ × Flow). first ≤ e.1.last) (λ (e : ℕ × Flow). first ≤ e.1.last) p es (λ e k h. h) all
+
+pub ends_put : (sid : ℕ) (f : Flow) (es : Flows) (first less : ℕ) → less ≤ first → less ≤ f.last → EndFrom first es → EndFrom less (put_entry sid f es)
+ends_put sid f es first less le last all =
+    let earlier : EndFrom less es = ends_earlier es first less le all in
+    ends_append (filter (λ e. leb e.0 sid) es) ((sid, f) ∷ filter (λ e. not (leb e.0 sid)) es) less (ends_filter (λ e. leb e.0 sid) es less earlier) (last, ends_filter (λ e. not (leb e.0 sid)) es less earlier)
+
+-- where no lease ends before a time, no flow goes
+pub none_ended : (es : Flows) (first end : ℕ) → EndFrom first es → end ≤ first → filter (λ e. leb end e.1.last) es ≡ es
+none_ended [] first end all le = refl
+none_ended (e ∷ es) first end all le =
+    let last : first ≤ e.1.last = all.0 in
+    ap (λ b. cond b (e ∷ filter (λ x. leb end x.1.last) es) (filter (λ x. leb end x.1.last) es)) (let on : leb end e.1.last ≡ true = grind (arith, last, le) in on)
+    ∙ ap (λ (xs : Flows). e ∷ xs) (none_ended es first end all.1 le)
+
+pub not_ended : (es : Flows) (first end sid : ℕ) → EndFrom first es → end ≤ first → is_ended_in es end sid ≡ false
+not_ended [] first end sid all le = refl
+not_ended (e ∷ es) first end sid all le =
+    let last : first ≤ e.1.last = all.0 in
+    elim (nat_eq sid e.0) as (λ b. option_map_or (λ (f : Flow). ltb f.last end) (cond b (Some e.1) (lookup (nat_eq sid) es)) false ≡ false) [
+      | true ↦ (let off : ltb e.1.last end ≡ false = grind (arith, last, le) in off)
+      | false ↦ not_ended es first end sid all.1 le
+    ]
+
+-- what is kept where nothing is turned away
+pub filter_kept : {X : Type 0} (p : X → Bool) (xs : List X) → ((x : X) → p x ≡ false) → filter (λ x. not (p x)) xs ≡ xs
+filter_kept p [] none = refl
+filter_kept {X} p (x ∷ xs) none = ap (λ b. cond (not b) (x ∷ filter (λ y. not (p y)) xs) (filter (λ y. not (p y)) xs)) (none x) ∙ ap (λ (ys : List X). x ∷ ys) (filter_kept p xs none)
 
 -- ---- flows whose leases ended
 

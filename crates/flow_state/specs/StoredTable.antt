@@ -1,5 +1,5 @@
 -- What is always true of a stored table.
-use Rattle.std.specs.Prelude.{◌≡◌, ℕ, nat_eq, nat_lt, Bool, false, List, map, Some}
+use Rattle.std.specs.Prelude.{◌≡◌, ℕ, ◌≤◌, nat_eq, nat_lt, Bool, false, List, map, Some}
 use Rattle.std.specs.List.{AllByRecursion}
 use Rattle.std.specs.Option.{option_map_or}
 use Rattle.std.specs.Map.{lookup}
@@ -16,10 +16,15 @@ pub record IsStoredFlow (e : ℕ × Flow) : Type 0 where
   pub key : e.1.sid ≡ e.0
   pub due : e.1.due ≡ due_time e.1.kind (due_index e.1.kind e.1.due)
 
+-- no lease of these flows ends before this
+abbrev pub EndFrom : ℕ → List (ℕ × Flow) → Type 0
+EndFrom first es = AllByRecursion (λ e. first ≤ e.1.last) es
+
 pub record IsStored (a : Inside) : Type 0 where
   pub flows : AllByRecursion IsStoredFlow a.flows.entries
   pub unique : IsUnique nat_eq a.flows
   pub sound : IsSound (table_view a)
+  pub ends : EndFrom a.first_end a.flows.entries
   pub timed_are : a.timed.items ≡ map (λ f. f.sid) (timed (table_view a).flows)
 
 -- a stored flow whose last accepted request was sent at this time

@@ -9,7 +9,7 @@ ghost use Rattle.flow_state.specs.Limits.{IsDueTime, is_good_kind, is_timed, las
 ghost use Rattle.flow_state.specs.Sound.{IsSound};
 ghost use Rattle.flow_state.specs.Rows.{FlowRow, lent_flow, timed, flow_of, waits, without_request, free_sid, lease_of};
 ghost use Rattle.flow_state.specs.Refusals.{Refuses, is_good_last, table_flow_refusal, table_drop_refusal, table_request_refusal, is_busy};
-ghost use Rattle.flow_state.specs.StoredTable.{with_sent, with_next_due, is_ended_in};
+ghost use Rattle.flow_state.specs.StoredTable.{with_sent, with_next_due, is_ended_in, EndFrom};
 ghost use Rattle.flow_state.specs.Changes.{new_table, lease_for, flow_in_table, add_to_table, drop_in_table, request_in_table, waiting_in_table, due_in_table, close_table};
 
 use crate::channel::{Channel, ChannelRow};
@@ -22,12 +22,13 @@ use std::alloc::{AllocError, Global};
 use std::marker::Model;
 
 /// All that is kept of a channel. Flows are in the order of their SIDs, and `timed` has the SIDs of
-/// those that have due times.
+/// those that have due times. No flow's lease ends before `first_end`.
 #[derive(Drop)]
 pub struct ChannelTable {
     row: ChannelRow,
     leases: Leases,
     flows: IndexMap<u16, Flow>,
+    first_end: u64,
     timed: Vec<u16>,
     waiting: Vec<Waiting>,
 }
@@ -58,6 +59,7 @@ impl ChannelTable {
             },
             leases: Leases::new(alloc),
             flows: IndexMap::new(alloc),
+            first_end: LAST_TIME,
             timed: Vec::new(alloc),
             waiting: Vec::new(alloc),
         }
@@ -119,6 +121,7 @@ impl ChannelTable {
         self.flows.reserve(1)?;
         self.timed.reserve(1)?;
         self.leases.put(lease)?;
+        self.first_end = self.first_end.min(lease.last);
         put_flow(&mut self.flows, lease.sid, Flow::new(lease, kind));
         note_timed(&mut self.timed, lease.sid, kind);
         Ok(())
@@ -252,9 +255,13 @@ impl ChannelTable {
     pub(crate) fn close_cut(&mut self, end: u64, ack: u64)
         ensures { self.new ≡ close_table self.old end ack }
     {
-        forget_ended_requests(&mut self.waiting, &self.flows, end);
-        forget_ended_timed(&mut self.timed, &self.flows, end);
-        forget_ended(&mut self.flows, end);
+        self.first_end = forget_all_ended(
+            &mut self.waiting,
+            &mut self.timed,
+            &mut self.flows,
+            self.first_end,
+            end,
+        );
         self.row.next_start = end;
         self.row.ack = ack;
     }
@@ -331,6 +338,44 @@ fn forget_ended(flows: &mut IndexMap<u16, Flow>, end: u64)
     ensures unique { IsUnique nat_eq flows.new }
 {
     flows.retain(|_, flow| flow.last >= end);
+}
+
+/// The first minislot at which a lease of these flows ends, or a later flow's may: none ends before.
+fn first_end(flows: &IndexMap<u16, Flow>) -> u64
+    ensures { EndFrom result flows.now.entries }
+{
+    let mut first = LAST_TIME;
+    for k in 0..flows.len() {
+        if let Some((_, flow)) = flows.get_index(k) {
+            first = first.min(flow.last);
+        }
+    }
+    first
+}
+
+/// Forgets the flows whose leases end before this time, with what is kept of them. None ends before
+/// the given time, and then before the result, so that they aren't looked at where none ends.
+fn forget_all_ended(
+    waiting: &mut Vec<Waiting>,
+    timed: &mut Vec<u16>,
+    flows: &mut IndexMap<u16, Flow>,
+    first_end_before: u64,
+    end: u64,
+) -> u64
+    requires { EndFrom first_end_before flows.old.entries }
+    ensures requests { waiting.new.items ≡ filter (λ w. not (is_ended_in flows.old.entries end w.sid)) waiting.old.items }
+    ensures timed { timed.new.items ≡ filter (λ sid. not (is_ended_in flows.old.entries end sid)) timed.old.items }
+    ensures kept { flows.new.entries ≡ filter (λ e. nat_le end e.1.last) flows.old.entries }
+    ensures unique { IsUnique nat_eq flows.old → IsUnique nat_eq flows.new }
+    ensures ends { EndFrom result flows.new.entries }
+{
+    if end <= first_end_before {
+        return first_end_before;
+    }
+    forget_ended_requests(waiting, flows, end);
+    forget_ended_timed(timed, flows, end);
+    forget_ended(flows, end);
+    first_end(flows)
 }
 
 /// Notes that a flow's last accepted request was sent at this time.

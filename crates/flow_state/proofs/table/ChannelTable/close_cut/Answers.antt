@@ -20,16 +20,16 @@ left_same t end ack fs gs vs ws f w = ap (λ (hs : List FlowRow). with_left t en
 goes_on : (end last : ℕ) → leb end last ≡ not (ltb last end)
 goes_on end last = grind arith
 
-closed : (c : goal.After-self-2-1) → table_view (record { row = record c.self.inside.row { next_start = c.args.end; ack = c.args.ack }; leases = c.self.inside.leases; flows = c.forget_ended.new.flows; timed = c.forget_ended_timed.new.timed; waiting = c.forget_ended_requests.new.waiting })
+closed : (c : goal.After-self-3-1) → table_view (record { row = record c.self.inside.row { next_start = c.args.end; ack = c.args.ack }; leases = c.self.inside.leases; flows = c.forget_all_ended-self-inside.new.flows; first_end = c.forget_all_ended-self-inside.result; timed = c.forget_all_ended-self-inside.new.timed; waiting = c.forget_all_ended-self-inside.new.waiting })
     ≡ close_table (table_view c.self.inside) c.args.end c.args.ack
 closed c =
     left_same (table_view c.self.inside) c.args.end c.args.ack _ _ _ _
-    (ap rows c.forget_ended.ensures.kept ∙ rows_filter (λ e. leb c.args.end e.1.last) (λ f. not (is_ended c.args.end f)) c.self.inside.flows.entries (λ e s. goes_on c.args.end e.1.last) c.self.invariant.flows)
-    (c.forget_ended_requests.ensures ∙ (λ i. filter (λ w. not (ended_is c.self.inside.flows.entries c.args.end w.sid c.self.invariant.flows i)) c.self.inside.waiting.items))
+    (ap rows c.forget_all_ended-self-inside.ensures.kept ∙ rows_filter (λ e. leb c.args.end e.1.last) (λ f. not (is_ended c.args.end f)) c.self.inside.flows.entries (λ e s. goes_on c.args.end e.1.last) c.self.invariant.flows)
+    (c.forget_all_ended-self-inside.ensures.requests ∙ (λ i. filter (λ w. not (ended_is c.self.inside.flows.entries c.args.end w.sid c.self.invariant.flows i)) c.self.inside.waiting.items))
 
-timed_after : (c : goal.After-self-2-1) → c.forget_ended_timed.new.timed.items ≡ timed_sids (close_table (table_view c.self.inside) c.args.end c.args.ack).flows
+timed_after : (c : goal.After-self-3-1) → c.forget_all_ended-self-inside.new.timed.items ≡ timed_sids (close_table (table_view c.self.inside) c.args.end c.args.ack).flows
 timed_after c =
-    c.forget_ended_timed.ensures ∙ ap (filter (λ sid. not (is_ended_in c.self.inside.flows.entries c.args.end sid))) c.self.invariant.timed_are
+    c.forget_all_ended-self-inside.ensures.timed ∙ ap (filter (λ sid. not (is_ended_in c.self.inside.flows.entries c.args.end sid))) c.self.invariant.timed_are
     ∙ sym (timed_ended (table_view c.self.inside).flows c.args.end (is_ended_in c.self.inside.flows.entries c.args.end) (λ f h.
     ended_is c.self.inside.flows.entries c.args.end f.sid c.self.invariant.flows
     ∙ ap (λ (o : Option FlowRow). option_map_or (is_ended c.args.end) o false) (found_rising (table_view c.self.inside).flows f 0 (length (table_view c.self.inside).leases) c.self.invariant.sound.rising h)))
@@ -37,11 +37,15 @@ timed_after c =
 pub invariant_of-self : goal.invariant_of-self
 invariant_of-self c =
     stored_as _ (close_table (table_view c.self.inside) c.args.end c.args.ack)
-    (subst AreStored (sym c.forget_ended.ensures.kept) (all_filter IsStoredFlow IsStoredFlow (λ e. leb c.args.end e.1.last) c.self.inside.flows.entries (λ e k s. s) c.self.invariant.flows))
-    c.forget_ended.ensures.unique
+    (subst AreStored (sym c.forget_all_ended-self-inside.ensures.kept) (all_filter IsStoredFlow IsStoredFlow (λ e. leb c.args.end e.1.last) c.self.inside.flows.entries (λ e k s. s) c.self.invariant.flows))
+    (c.forget_all_ended-self-inside.ensures.unique c.self.invariant.unique)
     (timed_after c)
     (closed c)
     (sound_closed (table_view c.self.inside) c.args.end c.args.ack c.self.invariant.sound)
+    c.forget_all_ended-self-inside.ensures.ends
+
+pub forget_all_ended-self-inside-requires : goal.forget_all_ended-self-inside-requires
+forget_all_ended-self-inside-requires c = c.self.invariant.ends
 
 pub returns : goal.returns
 returns c = closed c ∙ ap (λ (t : Table). close_table t c.args.end c.args.ack) c.self.view_is

@@ -6,11 +6,12 @@ use Rattle.flow_state.specs.Limits.{is_timed}
 use Rattle.flow_state.specs.Rows.{Table, free_sid}
 use Rattle.flow_state.specs.Sound.{Rise}
 use Rattle.flow_state.specs.Changes.{new_flow, add_to_table}
+use Rattle.flow_state.specs.StoredTable.{EndFrom}
 use Rattle.flow_state.specs.View.{table_view}
 use Rattle.flow_state.proofs.Freed.{free_most}
 use Rattle.flow_state.proofs.Places.{rising}
 use Rattle.flow_state.proofs.Soundness.{none_free, sound_added}
-use Rattle.flow_state.proofs.Stored.{Flows, AreStored, rows, stored_as, as_added, put_entry, none_found, keys_are, stored_put, stored_added, rows_added, same_table}
+use Rattle.flow_state.proofs.Stored.{Flows, AreStored, rows, stored_as, as_added, put_entry, none_found, keys_are, stored_put, stored_added, rows_added, ends_put, same_table}
 use Rattle.flow_state.proofs.Timed.{timed_sids, put_sid, timed_rising, timed_added}
 use Rattle.flow_state.proofs.Wells.{free_range}
 use Rattle.flow_state.proofs.table.ChannelTable.insert_flow.Goals as goal
@@ -45,7 +46,7 @@ flows_after c =
     c.put_flow.ensures.put ∙ ap (put_entry c.args.lease.sid c.new.result) c.in_ok-reserve.ensures.entries
     ∙ ap (λ (f : Flow). put_entry c.args.lease.sid f c.self.inside.flows.entries) c.new.ensures
 
-added : (c : goal.After-note_timed) → table_view (record { row = c.self.inside.row; leases = c.put.new.self; flows = c.put_flow.new.flows; timed = c.note_timed.new.timed; waiting = c.self.inside.waiting })
+added : (c : goal.After-note_timed) → table_view (record { row = c.self.inside.row; leases = c.put.new.self; flows = c.put_flow.new.flows; first_end = c.min-self-inside.result; timed = c.note_timed.new.timed; waiting = c.self.inside.waiting })
     ≡ add_to_table (table_view c.self.inside) c.args.lease c.args.kind
 added c =
     same_table (table_view c.self.inside) _ _ _ _ c.in_ok-put.ensures.ok
@@ -67,6 +68,9 @@ invariant_of-self-2 c =
     (timed_after c)
     (added c)
     (sound_added (table_view c.self.inside) c.args.lease c.args.kind c.self.invariant.sound c.requires.good (ap free_sid c.self.view_is ∙ c.requires.free) (omega arith))
+    (let least = c.min-self-inside.ensures in
+    subst (EndFrom c.min-self-inside.result) (sym (flows_after c))
+    (ends_put c.args.lease.sid (as_added c.args.lease c.args.kind) c.self.inside.flows.entries c.self.inside.first_end c.min-self-inside.result (grind (arith, least)) (grind (arith, least)) c.self.invariant.ends))
 
 pub returns-clause-ok : goal.returns-clause-ok
 returns-clause-ok c = added c ∙ ap (λ (t : Table). add_to_table t c.args.lease c.args.kind) c.self.view_is
