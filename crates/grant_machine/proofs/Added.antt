@@ -1,5 +1,5 @@
 -- The grants before a lease is told lie before it or are to other SIDs, and then its flow begins at due time number 0.
-use Rattle.std.proofs.Common.{◌≡◌, ◌⊎◌, ℕ, zero, suc, ◌+◌, ◌<◌, ◌≤◌, Bool, true, false, cond, not, ◌&&◌, List, [], ◌∷◌, ◌++◌, map, filter, length, Option, Some, None, refl, sym, ap, subst, ◌∙◌, arith, eqb, inl, inr, slice_get, append_assoc}
+use Rattle.std.proofs.Common.{◌≡◌, ℕ, zero, suc, ◌+◌, ◌<◌, ◌≤◌, Bool, true, false, cond, not, List, [], ◌∷◌, ◌++◌, filter, length, Option, Some, None, refl, sym, ap, subst, ◌∙◌, arith, eqb, inl, inr, slice_get, append_assoc}
 use Rattle.std.specs.List.{list_any, find}
 use Rattle.std.specs.List.Sorted.{IsStrictlyIncreasing}
 use Rattle.std.specs.Prelude.{unwrap_or, slice_index, nat_le}
@@ -7,19 +7,17 @@ use Rattle.std.proofs.lemmas.Bool.{eqb-true}
 use Rattle.minislot_time.specs.Extent.{Extent}
 use Rattle.flow_state.specs.declared.flow.FlowKind.{FlowKind}
 use Rattle.flow_state.specs.declared.flow.FlowKind.TheVariants.{Ugs}
-use Rattle.flow_state.specs.declared.flow.Waiting.{Waiting}
 use Rattle.flow_state.specs.declared.refusal.Refusal.{Refusal}
 use Rattle.flow_state.specs.Sound.{lease_in}
 use Rattle.flow_state.specs.declared.flow.Lease.{Lease}
 use Rattle.flow_state.specs.Rows.{Rows, Table, FlowRow, is_flow, is_of, is_of_sid, is_given, is_table, table_of, change_table, lease_of, free_sid, first_of, put_lease, insert_flow}
-use Rattle.flow_state.specs.Refusals.{on_table, table_flow_refusal}
+use Rattle.flow_state.specs.Refusals.{table_flow_refusal}
 use Rattle.flow_state.specs.Changes.{new_table, new_flow, new_lease, flow_among, flow_in_table, lease_among, lease_for, lease_on, lease_given}
 use Rattle.grant_machine.specs.declared.command.Command.{Command}
 use Rattle.grant_machine.specs.declared.command.Command.TheVariants as commands
 use Rattle.grant_machine.specs.declared.output.Output.{Output}
 use Rattle.grant_machine.specs.declared.output.Output.TheVariants as outputs
-use Rattle.grant_machine_parts.specs.declared.placing.Placement.{Placement}
-use Rattle.grant_machine_parts.specs.Cutting.{Filled, fill, fill_refusal, span_of, ack_of, table_after}
+use Rattle.grant_machine_parts.specs.Cutting.{Filled, fill, span_of, ack_of, table_after}
 use Rattle.grant_machine.specs.Steps.{step, step_on, refusal_of, accepted, cut_on, lease_output}
 use Rattle.grant_machine.specs.Runs.{outputs_from, grants_from, Grant, grant_of, step_grants, step_grants_on}
 use Rattle.grant_machine.specs.Laws.{LeasedSid, UnsolicitedGrantsAreDue, is_grant_to}
@@ -30,7 +28,7 @@ use Rattle.grant_machine.proofs.Maps.{output_is, command_is, find_pushed, found_
 use Rattle.grant_machine.proofs.Leases.{IsNew, is_new, assigned_fields, put_has}
 use Rattle.grant_machine.proofs.Reached.{Kept, Stands, stands_step, AllWell, none_well, well_step}
 use Rattle.grant_machine.proofs.Cuts.{cut_of_grant}
-use Rattle.grant_machine.proofs.Due.{GrantTo, none_granted, insert_same, Holds, Serves, AreDue, due_from}
+use Rattle.grant_machine.proofs.Due.{none_granted, Holds, Serves, AreDue, due_from}
 
 -- ---- grants so far
 

@@ -9,12 +9,11 @@ use Rattle.flow_state.specs.declared.flow.Lease.{Lease}
 use Rattle.flow_state.specs.Rows.{Rows, Table, is_table, table_of, change_table, lease_of, is_of_sid, free_sid, first_of, put_lease}
 use Rattle.flow_state.specs.Refusals.{table_flow_refusal, on_table}
 use Rattle.flow_state.specs.Changes.{new_table, new_lease, add_to_table, flow_among, flow_in_table, lease_among, lease_for, lease_on, lease_given}
-use Rattle.flow_state.proofs.Callers.{Has, has_either, has_filter, found_has, lease_is, put_found, put_others, has_put, over_before, is_added, unwrap_some}
+use Rattle.flow_state.proofs.Callers.{Has, has_either, has_filter, found_has, lease_is, put_found, put_others, over_before, is_added, unwrap_some}
 use Rattle.flow_state.proofs.Callers.{found_before, at_same, refusal_there, flow_keeps_id, there, find_changed, find_added, is_found, some_is, changed, KeepsId}
 use Rattle.grant_machine.specs.declared.command.Command.{Command}
 use Rattle.grant_machine.specs.declared.command.Command.TheVariants as commands
 use Rattle.grant_machine.specs.declared.output.Output.TheVariants as outputs
-use Rattle.grant_machine_parts.specs.Cutting.{fill, table_after}
 use Rattle.grant_machine.specs.Steps.{step, step_on, refusal_of, accepted, cut_on}
 use Rattle.grant_machine.specs.Runs.{outputs_from}
 use Rattle.grant_machine.specs.Laws.{InLease, LeasesAreApart}

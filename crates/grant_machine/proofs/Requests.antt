@@ -36,7 +36,7 @@ use Rattle.grant_machine_parts.proofs.Callers.{pass_keeps, IsFor, is_cut, flow_f
 use Rattle.grant_machine_parts.proofs.Callers.{fill_placed}
 use Rattle.grant_machine.proofs.Reached.{Stands, stands_step, AllWell, none_well, well_step}
 use Rattle.grant_machine.proofs.Cuts.{IsCutStep, cut_of_grant}
-use Rattle.grant_machine.proofs.Asked.{WasAsked, IsSentBy, IsGone, newer, sent_after, waits_before, asked_kept, asked_now, gone_kept}
+use Rattle.grant_machine.proofs.Asked.{WasAsked, IsGone, newer, sent_after, waits_before, asked_kept, asked_now, gone_kept}
 
 -- ---- accepted once
 

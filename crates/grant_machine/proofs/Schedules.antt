@@ -1,5 +1,5 @@
 -- What modems can rely on in the outputs of any list of commands.
-use Rattle.std.proofs.Common.{◌≡◌, ℕ, zero, suc, ◌+◌, ◌-◌, ◌<◌, ◌≤◌, List, [], ◌∷◌, ◌++◌, map, length, Option, Some, None, refl, sym, ap, subst, ◌∙◌, arith, inl, inr, slice_get}
+use Rattle.std.proofs.Common.{◌≡◌, ℕ, zero, suc, ◌+◌, ◌-◌, ◌<◌, ◌≤◌, List, [], ◌∷◌, ◌++◌, map, length, Some, None, refl, sym, ap, subst, ◌∙◌, arith, inl, inr, slice_get}
 use Rattle.std.specs.List.{AllByRecursion}
 use Rattle.std.proofs.lemmas.Bool.{eqb-true}
 use Rattle.minislot_time.specs.Wire.{wire}
@@ -9,9 +9,8 @@ use Rattle.map_body.specs.Layout.{IsBody, IsWritten}
 use Rattle.map_body.specs.Cell.{IsCell}
 use Rattle.map_body.proofs.Callers.{one_body}
 use Rattle.flow_state.specs.Limits.{last_time, last_sid}
-use Rattle.flow_state.specs.Rows.{Rows, Table, is_of_sid, table_of}
+use Rattle.flow_state.specs.Rows.{Rows, Table, is_of_sid}
 use Rattle.grant_machine.specs.declared.command.Command.{Command}
-use Rattle.grant_machine.specs.declared.command.Command.TheVariants as commands
 use Rattle.grant_machine.specs.declared.output.Output.{Output}
 use Rattle.grant_machine.specs.declared.output.Output.TheVariants as outputs
 use Rattle.grant_machine_parts.specs.declared.placing.Placement.{Placement}

@@ -3,11 +3,9 @@ use Rattle.std.specs.List.{AllByRecursion, filter}
 use Rattle.std.specs.Vec.{with_items}
 use Rattle.std.proofs.lemmas.List.{with_items_is}
 use Rattle.minislot_time.specs.Extent.{Extent}
-use Rattle.flow_state.specs.declared.flow.Flow.{Flow}
 use Rattle.flow_state.specs.declared.flow.Waiting.{Waiting}
 use Rattle.flow_state.specs.Rows.{Rows, table_of, timed, last_of}
 use Rattle.flow_state.specs.Limits.{is_timed}
-use Rattle.flow_state.specs.Changes.{waiting_of}
 use Rattle.grant_machine_parts.specs.Filling.{PartMap}
 use Rattle.grant_machine_parts.specs.Cutting.{fill_span}
 use Rattle.grant_machine_parts.specs.Lent.{row_of, IsLent, IsUnicast}
