@@ -1,14 +1,14 @@
 -- Leases of SIDs, and the one that a flow that isn't refused is given.
-use Rattle.std.proofs.Common.{◌≡◌, ◌⊎◌, ℕ, ◌<◌, ◌≤◌, Bool, true, false, cond, not, ◌||◌, ◌&&◌, List, [], ◌∷◌, ◌++◌, filter, Option, Some, None, refl, sym, ap, ◌∙◌, arith, eqb, leb, ltb, inl, inr, is_some, is_none}
+use Rattle.std.proofs.Common.{◌≡◌, ◌⊎◌, ℕ, ◌<◌, ◌≤◌, Bool, true, false, cond, not, ◌||◌, ◌&&◌, List, [], ◌∷◌, ◌++◌, filter, Option, Some, None, refl, sym, ap, ◌∙◌, arith, eqb, ltb, inl, inr, is_some, is_none}
 use Rattle.std.specs.List.{find, list_any}
 use Rattle.std.specs.Prelude.{unwrap_or}
-use Rattle.std.proofs.lemmas.Bool.{eqb-true, leb-true, leb-false}
+use Rattle.std.proofs.lemmas.Bool.{eqb-true, leb-true}
 use Rattle.flow_state.specs.declared.flow.FlowKind.{FlowKind}
 use Rattle.flow_state.specs.declared.refusal.Refusal.TheVariants.{BadValue, SidsSpent}
 use Rattle.flow_state.specs.Limits.{is_good_kind, last_time}
 use Rattle.flow_state.specs.Rows.{Table, Lease, is_over, is_lease_of, lease_of, is_of_sid, is_given, is_leased, unicast_sids, free_sid, first_of, put_lease}
 use Rattle.flow_state.specs.Refusals.{is_good_last, table_flow_refusal}
-use Rattle.flow_state.proofs.Members.{Has, has_any, any_has, none_has, found_has, has_found, has_either, has_filter}
+use Rattle.flow_state.proofs.Members.{Has, has_any, none_has, found_has, has_either, has_filter}
 
 module _ {X : Type 0} (p : X → Bool) where
   pub find_kept : (xs : List X) (a b : X) → find p xs ≡ Some a → find p (xs ++ b ∷ []) ≡ Some a
@@ -68,8 +68,8 @@ free_is_free t sid e = not_true (is_leased t sid) (find_passes (λ s. not (is_le
 -- a lease that isn't over keeps its SID from being free
 pub leased : (t : Table) (l : Lease) → Has t.leases l → t.row.next_start ≤ l.last → is_leased t l.sid ≡ true
 leased t l h goes_on = has_any (λ o. is_of_sid l.sid o && not (is_over t o)) t.leases l h (
-  ap (λ b. b && not (is_over t l)) (eqb_same l.sid) ∙ not_over l.last t.row.next_start goes_on
-)
+    ap (λ b. b && not (is_over t l)) (eqb_same l.sid) ∙ not_over l.last t.row.next_start goes_on
+    )
   where
     not_over : (m n : ℕ) → n ≤ m → not (ltb m n) ≡ true
     not_over m n le = grind (arith, le)

@@ -1,9 +1,9 @@
 -- Leases by SID: the least SID that is free, and a lease in its place.
-use Rattle.std.proofs.Common.{◌≡◌, ℕ, ◌+◌, ◌-◌, ◌<◌, ◌≤◌, Bool, true, false, cond, not, ◌&&◌, ◌||◌, suc, zero, List, [], ◌∷◌, ◌++◌, map, filter, length, Option, Some, None, refl, sym, ap, subst, ◌∙◌, eqb, leb, ltb, arith, slice_set, length-append, inl, inr}
+use Rattle.std.proofs.Common.{◌≡◌, ℕ, ◌+◌, ◌-◌, ◌<◌, ◌≤◌, Bool, true, false, cond, not, ◌&&◌, ◌||◌, suc, zero, List, [], ◌∷◌, ◌++◌, map, filter, length, Option, Some, None, refl, sym, ap, subst, ◌∙◌, eqb, leb, ltb, arith, slice_set, inl, inr}
 use Rattle.std.specs.List.{find, list_any, range_with_len}
 use Rattle.std.proofs.lemmas.Bool.{eqb-true}
 use Rattle.flow_state.specs.Limits.{last_sid}
-use Rattle.flow_state.specs.Rows.{Table, Lease, is_over, is_of_sid, is_given, is_leased, free_sid, unicast_sids, put_lease}
+use Rattle.flow_state.specs.Rows.{Table, Lease, is_over, is_of_sid, is_given, free_sid, unicast_sids, put_lease}
 use Rattle.flow_state.specs.StoredLeases.{next_of}
 use Rattle.flow_state.proofs.Members.{Has, found_has}
 
@@ -107,9 +107,9 @@ module _ (over : Lease → Bool) where
   found : (ls : List Lease) (low m : ℕ) → Runs low ls → length ls ≤ m → find (λ s. not (held ls s)) (range_with_len low m) ≡ choose (find over ls) low m (length ls)
   found [] low zero r le = refl
   found [] low (suc m) r le = sym (
-    ap (λ b. cond b (Some (low + 0)) None) (let lt : ltb 0 (suc m) ≡ true = grind arith in lt)
-    ∙ ap (λ (n : ℕ). Some n) (let same : low + 0 ≡ low = omega arith in same)
-  )
+      ap (λ b. cond b (Some (low + 0)) None) (let lt : ltb 0 (suc m) ≡ true = grind arith in lt)
+      ∙ ap (λ (n : ℕ). Some n) (let same : low + 0 ≡ low = omega arith in same)
+      )
   found (l ∷ ls) low zero r le = absurd (omega arith)
   found (l ∷ ls) low (suc m) r le =
       let head : not (held (l ∷ ls) low) ≡ over l =

@@ -1,5 +1,5 @@
 -- What a search by a test finds, and a new entry put there.
-use Rattle.std.proofs.Common.{◌≡◌, ℕ, zero, suc, ◌+◌, ◌<◌, ◌≤◌, Bool, true, false, cond, not, List, [], ◌∷◌, ◌++◌, map, filter, length, take, drop, insert, Option, Some, None, refl, sym, ap, ◌∙◌, nat_eq, leb, arith, get_or}
+use Rattle.std.proofs.Common.{◌≡◌, ℕ, zero, suc, ◌+◌, ◌<◌, ◌≤◌, Bool, true, false, cond, not, List, [], ◌∷◌, ◌++◌, map, filter, length, take, drop, insert, Some, None, refl, sym, ap, ◌∙◌, nat_eq, arith, get_or}
 use Rattle.std.specs.Prelude.{OnOk, Result, Ok, Err}
 use Rattle.std.specs.Result.{is_ok}
 use Rattle.std.specs.List.{prefix_len}
@@ -30,8 +30,7 @@ module _ {X : Type 0} (p : X → Bool) where
   parted (x ∷ xs) zero le point = let none = none_pass (x ∷ xs) point.1 in (sym none.0, sym none.1)
   parted (x ∷ xs) (suc i) le point =
       let here : p x ≡ true = point.0 0 x (omega arith) (omega arith) in
-      let rest = parted xs i (omega arith) (λ k d l h. point.0 (suc k) d (omega arith) (omega arith), λ k d l h. point.1 (suc k) d (omega arith) (omega arith)) in
-      (
+      let rest = parted xs i (omega arith) (λ k d l h. point.0 (suc k) d (omega arith) (omega arith), λ k d l h. point.1 (suc k) d (omega arith) (omega arith)) in (
         ap (λ (ys : List X). x ∷ ys) rest.0 ∙ ap (λ b. cond b (x ∷ filter p xs) (filter p xs)) (sym here),
         rest.1 ∙ ap (λ b. cond (not b) (x ∷ filter (λ y. not (p y)) xs) (filter (λ y. not (p y)) xs)) (sym here),
       )

@@ -1,6 +1,6 @@
 -- Each change keeps what holds of every table.
-use Rattle.std.proofs.Common.{◌≡◌, ℕ, ◌+◌, ◌<◌, ◌≤◌, Bool, true, false, cond, not, suc, zero, List, [], ◌∷◌, ◌++◌, map, filter, length, refl, sym, ap, subst, ◌∙◌, Some, eqb, leb, ltb, arith, length-append, inl, inr}
-use Rattle.std.specs.List.{AllByRecursion, find}
+use Rattle.std.proofs.Common.{◌≡◌, ℕ, ◌+◌, ◌<◌, ◌≤◌, Bool, true, false, cond, not, List, [], ◌∷◌, ◌++◌, map, filter, length, refl, sym, ap, subst, ◌∙◌, Some, eqb, leb, arith, length-append, inl, inr}
+use Rattle.std.specs.List.{AllByRecursion}
 use Rattle.flow_state.specs.declared.flow.FlowKind.{FlowKind}
 use Rattle.flow_state.specs.declared.flow.Waiting.{Waiting}
 use Rattle.flow_state.specs.Limits.{is_good_kind, last_sid, most_waiting}
@@ -8,8 +8,8 @@ use Rattle.flow_state.specs.Rows.{Table, FlowRow, Lease, is_flow, change_flow, i
 use Rattle.flow_state.specs.Changes.{new_flow, add_to_table, drop_in_table, request_in_table, close_table}
 use Rattle.flow_state.specs.Sound.{Rise, IsLeasedFlow, IsSound}
 use Rattle.flow_state.proofs.Assignments.{put_found, put_others}
-use Rattle.flow_state.proofs.Freed.{AreGiven, free_most, given_put, length_put, few_put}
-use Rattle.flow_state.proofs.Members.{Has, has_all, all_has, has_map, has_filter}
+use Rattle.flow_state.proofs.Freed.{free_most, given_put, length_put, few_put}
+use Rattle.flow_state.proofs.Members.{Has, has_all, all_has, has_filter}
 use Rattle.flow_state.proofs.Wells.{has_inserted, free_range, free_apart, not_true, not_less}
 
 abbrev pub sids : List FlowRow → List ℕ

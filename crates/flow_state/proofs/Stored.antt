@@ -12,7 +12,7 @@ use Rattle.flow_state.specs.declared.flow.Waiting.{Waiting}
 use Rattle.flow_state.specs.declared.table.ChannelTable.TheInside.{Inside}
 use Rattle.flow_state.specs.declared.flow.FlowKind.{FlowKind}
 use Rattle.flow_state.specs.Limits.{is_good_kind, due_time}
-use Rattle.flow_state.specs.Rows.{Table, FlowRow, Lease, is_flow, is_ended, has_ended, insert_flow, lent_flow}
+use Rattle.flow_state.specs.Rows.{Table, FlowRow, Lease, is_flow, is_ended, insert_flow, lent_flow}
 use Rattle.flow_state.specs.Changes.{new_flow}
 use Rattle.flow_state.specs.Sound.{Rise, IsSound}
 use Rattle.flow_state.specs.StoredTable.{IsStoredFlow, IsStored, is_ended_in}
@@ -160,3 +160,8 @@ pub sid_at : (es : Flows) (k : ℕ) (e : ℕ × Flow) (low high : ℕ) → Rise 
 sid_at [] k e low high rise h = absurd cc
 sid_at (x ∷ es) zero e low high rise h = let same : x ≡ e = cc in subst (λ (y : ℕ × Flow). (low < y.1.sid) × (y.1.sid ≤ high)) same (rise.0, rise.1)
 sid_at (x ∷ es) (suc k) e low high rise h = let rest = sid_at es k e x.1.sid high rise.2 h in (omega (arith, rest.0), rest.1)
+
+-- the entries stand under the SIDs of the rows
+pub keys_are : (es : Flows) → AreStored es → map (λ e. e.0) es ≡ sids (rows es)
+keys_are [] all = refl
+keys_are (e ∷ es) all = ap (λ n. n ∷ map (λ (x : ℕ × Flow). x.0) es) (sym all.0.key) ∙ ap (λ (ns : List ℕ). e.1.sid ∷ ns) (keys_are es all.1)

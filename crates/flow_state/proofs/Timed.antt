@@ -1,6 +1,7 @@
 -- The flows for which something comes by itself, and their SIDs.
 use Rattle.std.proofs.Common.{◌≡◌, ℕ, ◌<◌, ◌≤◌, Bool, true, false, cond, not, leb, List, [], ◌∷◌, ◌++◌, map, filter, slice_get, Option, Some, None, refl, sym, ap, ◌∙◌, eqb, arith, inl, inr}
 use Rattle.std.specs.List.{find}
+use Rattle.std.specs.List.Sorted.{IsNonDecreasingBy}
 use Rattle.std.specs.Option.{option_map}
 use Rattle.std.proofs.lemmas.Option.{slice_get-map}
 use Rattle.flow_state.specs.Limits.{is_timed}
@@ -8,6 +9,7 @@ use Rattle.flow_state.specs.Rows.{FlowRow, is_flow, is_ended, timed, insert_flow
 use Rattle.flow_state.specs.Sound.{Rise}
 use Rattle.flow_state.proofs.Assignments.{eqb_same}
 use Rattle.flow_state.proofs.Members.{Has, has_at, has_filter}
+use Rattle.flow_state.proofs.Places.{rising}
 use Rattle.flow_state.proofs.Soundness.{sids, insert_here, insert_later, none_below, all_above, rise_filter}
 
 abbrev pub timed_sids : List FlowRow → List ℕ
@@ -49,14 +51,18 @@ timed_dropped (f ∷ fs) sid =
 abbrev pub put_sid : ℕ → List ℕ → List ℕ
 put_sid sid ns = filter (λ n. leb n sid) ns ++ sid ∷ filter (λ n. not (leb n sid)) ns
 
+mapped : (ns : List ℕ) (low high : ℕ) → Rise low ns high → Rise low (map (λ n. n) ns) high
+mapped [] low high r = tt
+mapped (n ∷ ns) low high r = (r.0, r.1, mapped ns n high r.2)
+
+-- the SIDs of timed flows don't fall
+pub timed_rising : (fs : List FlowRow) (low high : ℕ) → Rise low (sids fs) high → IsNonDecreasingBy (λ n. n) (timed_sids fs)
+timed_rising fs low high r = rising (λ n. n) (timed_sids fs) low high (mapped (timed_sids fs) low high (rise_filter (λ (x : FlowRow). is_timed x.kind) fs low high r))
+
 put_sid_above : (fs : List FlowRow) (sid low high : ℕ) → Rise low (sids fs) high → sid ≤ low → put_sid sid (sids fs) ≡ sid ∷ sids fs
 put_sid_above fs sid low high r le =
     ap (λ (front : List ℕ). front ++ sid ∷ filter (λ n. not (leb n sid)) (sids fs)) (none_below (λ n. n) sid (sids fs) low high (mapped (sids fs) low high r) le)
     ∙ ap (λ (back : List ℕ). sid ∷ back) (all_above (λ n. n) sid (sids fs) low high (mapped (sids fs) low high r) le)
-  where
-    mapped : (ns : List ℕ) (low high : ℕ) → Rise low ns high → Rise low (map (λ n. n) ns) high
-    mapped [] low high r = tt
-    mapped (n ∷ ns) low high r = (r.0, r.1, mapped ns n high r.2)
 
 -- a flow that is added
 pub timed_added : (fs : List FlowRow) (f : FlowRow) (low high : ℕ) → Rise low (sids fs) high → timed_sids (insert_flow f fs) ≡ cond (is_timed f.kind) (put_sid f.sid (timed_sids fs)) (timed_sids fs)

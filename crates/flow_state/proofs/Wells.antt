@@ -1,5 +1,5 @@
 -- What is true of each table that commands reach: times, sizes and SIDs within their limits, flows by SID, and a flow for each waiting request.
-use Rattle.std.proofs.Common.{◌≡◌, ◌⊎◌, ℕ, suc, ◌+◌, ◌*◌, ◌<◌, ◌≤◌, Bool, true, false, cond, not, ◌||◌, ◌&&◌, List, [], ◌∷◌, ◌++◌, map, filter, length, Option, Some, None, refl, sym, ap, subst, ◌∙◌, arith, inl, inr, eqb, leb, ltb, is_some, is_none, length-append}
+use Rattle.std.proofs.Common.{◌≡◌, ◌⊎◌, ℕ, suc, ◌+◌, ◌*◌, ◌<◌, ◌≤◌, Bool, true, false, cond, not, ◌||◌, ◌&&◌, List, [], ◌∷◌, ◌++◌, map, filter, length, Option, Some, None, refl, sym, ap, subst, ◌∙◌, arith, inl, inr, eqb, leb, ltb, length-append}
 use Rattle.std.specs.Option.{option_map_or}
 use Rattle.std.specs.Prelude.{unwrap_or}
 use Rattle.std.proofs.lemmas.Bool.{eqb-true, leb-true}
@@ -8,9 +8,9 @@ use Rattle.flow_state.specs.declared.flow.FlowKind.{FlowKind}
 use Rattle.flow_state.specs.declared.flow.FlowKind.TheVariants.{BestEffort, Ugs, Poll}
 use Rattle.flow_state.specs.declared.flow.Waiting.{Waiting}
 use Rattle.flow_state.specs.declared.refusal.Refusal.{Refusal}
-use Rattle.flow_state.specs.declared.refusal.Refusal.TheVariants.{BadValue, SidsSpent, OldRequest, Busy}
+use Rattle.flow_state.specs.declared.refusal.Refusal.TheVariants.{BadValue, OldRequest, Busy}
 use Rattle.flow_state.specs.Limits.{last_time, last_sid, most_waiting, is_good_channel, is_good_kind, is_size, is_schedule, is_ugs, due_time}
-use Rattle.flow_state.specs.Rows.{Table, FlowRow, Lease, is_flow, is_of, flow_of, lease_of, is_of_sid, is_leased, unicast_sids, free_sid, first_of, put_lease, insert_flow, waits, is_ended, has_ended}
+use Rattle.flow_state.specs.Rows.{Table, FlowRow, Lease, is_flow, is_of, flow_of, lease_of, is_of_sid, is_leased, unicast_sids, free_sid, insert_flow, waits, is_ended, has_ended}
 use Rattle.flow_state.specs.Sound.{lease_in, IsLeasedFlow}
 use Rattle.flow_state.specs.Refusals.{table_flow_refusal, table_request_refusal, request_refusal_on, is_old, is_repeated}
 use Rattle.flow_state.specs.Changes.{new_table, new_flow, new_lease, add_to_table, flow_among, drop_in_table, request_in_table, close_table}
@@ -230,10 +230,10 @@ free_apart t sid f free l = by (eqb sid f.sid) refl
   where
     by : (b : Bool) → eqb sid f.sid ≡ b → b ≡ false
     by true e = absurd (
-      let on : is_leased t f.sid ≡ true = leased t (lease_in f) (flow_lease t f l) l.goes_on in
-      let off : is_leased t sid ≡ false = free_is_free t sid free in
-      let same : is_leased t sid ≡ is_leased t f.sid = ap (is_leased t) (eqb-true sid f.sid e) in cc
-    )
+        let on : is_leased t f.sid ≡ true = leased t (lease_in f) (flow_lease t f l) l.goes_on in
+        let off : is_leased t sid ≡ false = free_is_free t sid free in
+        let same : is_leased t sid ≡ is_leased t f.sid = ap (is_leased t) (eqb-true sid f.sid e) in cc
+        )
     by false e = refl
 
 pub flow_is_well : (o : Option Lease) (t : Table) (modem tag last : ℕ) (kind : FlowKind) → lease_of t modem tag ≡ o → table_flow_refusal t modem tag last kind ≡ None → IsWell t → IsWell (flow_among o t modem tag last kind)

@@ -1,5 +1,5 @@
 -- What a stored table means.
-use Rattle.std.specs.Prelude.{ℕ, map}
+use Rattle.std.specs.Prelude.{map}
 use Rattle.flow_state.specs.declared.flow.Flow.{Flow}
 use Rattle.flow_state.specs.declared.table.ChannelTable.TheInside.{Inside}
 use Rattle.flow_state.specs.Limits.{due_index}

@@ -1,5 +1,5 @@
 -- What a filled MAP is made of, and its flows as they are lent.
-use Rattle.std.proofs.Common.{◌≡◌, ℕ, ◌≤◌, Bool, true, false, cond, List, [], ◌∷◌, map, filter, eqb, Option, Some, None, refl, sym, ap, subst, ◌∙◌}
+use Rattle.std.proofs.Common.{◌≡◌, ℕ, ◌≤◌, Bool, true, false, cond, List, [], ◌∷◌, ◌++◌, map, filter, eqb, Option, Some, None, refl, sym, ap, subst, ◌∙◌}
 use Rattle.std.specs.List.{AllByRecursion, flat_map}
 use Rattle.std.specs.Option.{option_and_then, option_map}
 use Rattle.minislot_time.specs.Extent.{Extent}
@@ -232,10 +232,10 @@ parts_filled t ack c a b d e f0 f1 f2 rs of empty same1 same2 placed1 flows1 pla
     of.requests_are (placed3 (last_of t) of.lasts_are ∙ ap (λ (s : Extent). place_requests s c (last_of t) (requests_in rs) d.placements) (same2 ∙ same1))
 
 -- what a flow that is lent tells of a request of its SID
-pub rank_some : (o : Option FlowRow) (f : Flow) (w : Waiting) → Some f ≡ option_map lent_flow o → record { priority = kind_priority f.kind; last = f.last; request = w } ≡ record { priority = flow_priority o; last = last_in o; request = w }
-rank_some (Some g) f w e = let same : f ≡ lent_flow g = cc in ap (λ (x : Flow). record { priority = kind_priority x.kind; last = x.last; request = w }) same
+pub rank_some : (o : Option FlowRow) (f : Flow) (w : Waiting) → Some f ≡ option_map lent_flow o → ◌≡◌ {A = Ranked} (record { priority = kind_priority f.kind; last = f.last; request = w }) (record { priority = flow_priority o; last = last_in o; request = w })
+rank_some (Some g) f w e = let same : f ≡ lent_flow g = cc in ap {B = Ranked} (λ (x : Flow). record { priority = kind_priority x.kind; last = x.last; request = w }) same
 rank_some None f w e = absurd cc
 
-pub rank_none : (o : Option FlowRow) (w : Waiting) → None ≡ option_map lent_flow o → record { priority = 0; last = last_time; request = w } ≡ record { priority = flow_priority o; last = last_in o; request = w }
+pub rank_none : (o : Option FlowRow) (w : Waiting) → None ≡ option_map lent_flow o → ◌≡◌ {A = Ranked} (record { priority = 0; last = last_time; request = w }) (record { priority = flow_priority o; last = last_in o; request = w })
 rank_none (Some g) w e = absurd cc
 rank_none None w e = refl

@@ -1,8 +1,7 @@
-use Rattle.std.proofs.Common.{rules, ◌≡◌, ℕ, ◌≤◌, ◌∷◌, ◌++◌, List, cond, not, filter, length, insert, leb, true, false, sym, ap, subst, ◌∙◌}
+use Rattle.std.proofs.Common.{rules, ◌≡◌, ℕ, ◌∷◌, ◌++◌, List, cond, not, filter, insert, leb, true, false, sym, ap, subst, ◌∙◌}
 use Rattle.std.specs.List.Sorted.{IsPartitionPoint, IsNonDecreasingBy}
 use Rattle.std.proofs.lemmas.List.Sorted.{IsPartitionPoint-from_clause, IsPartitionedBy-leb}
 use borrow.Author.Tests.{tests}
-use Rattle.flow_state.specs.Limits.{is_timed}
 use Rattle.flow_state.proofs.Places.{put_at}
 use Rattle.flow_state.proofs.table.note_timed.Goals as goal
 

@@ -1,5 +1,5 @@
-use Rattle.std.proofs.Common.{◌≡◌, ℕ, ◌<◌, ◌≤◌, Bool, true, false, cond, ◌&&◌, List, length, leb, sym, ap, subst, ◌∙◌, refl, arith}
-use Rattle.flow_state.specs.Rows.{Table, Lease, first_of, is_given}
+use Rattle.std.proofs.Common.{◌≡◌, ℕ, ◌<◌, ◌≤◌, Bool, true, false, cond, ◌&&◌, length, leb, sym, ap, subst, ◌∙◌, refl, arith}
+use Rattle.flow_state.specs.Rows.{Table, first_of, is_given}
 use Rattle.flow_state.proofs.Freed.{AreGiven, given_is}
 use Rattle.flow_state.proofs.leases.Leases.first_of.Goals.{else-sid-ge1-via-then-sid-ge1+else-from-len, else-sid-ge1-via-else-sid-ge1}
 use Rattle.flow_state.proofs.leases.Leases.first_of.Goals as goal

@@ -1,11 +1,11 @@
-use Rattle.std.proofs.Common.{rules, ◌≡◌, ℕ, ◌≤◌, List, Option, Some, None, length, ltb, sym, ap, subst, ◌∙◌}
+use Rattle.std.proofs.Common.{rules, ◌≡◌, ◌≤◌, List, length, ltb, sym, ap, subst, ◌∙◌}
 use Rattle.std.specs.List.{find}
 use Rattle.std.specs.Option.{option_copied}
 use Rattle.std.proofs.lemmas.Iterator.{YieldsList-from_slice}
 use Rattle.std.proofs.lemmas.Iterator.Search.{find_from_yields_List}
 use borrow.Author.Tests.{tests}
 use Rattle.flow_state.specs.Limits.{last_sid}
-use Rattle.flow_state.specs.Rows.{Table, Lease, is_over}
+use Rattle.flow_state.specs.Rows.{Lease, is_over}
 use Rattle.flow_state.specs.StoredLeases.{next_of}
 use Rattle.flow_state.proofs.Freed.{AreGiven, free_over, free_next}
 use Rattle.flow_state.proofs.leases.Leases.free_sid.Goals as goal
@@ -15,10 +15,10 @@ returns-in-Some c = λ t same start.
     let now : c.self.inside.latest.items ≡ t.leases = c.self.view_is ∙ sym same in
     free_over t c.in-Some.lease.now (subst AreGiven now c.self.invariant.given) (subst (λ (ls : List Lease). length ls ≤ last_sid) now c.self.invariant.few)
     (
-      ap (find (is_over t)) (sym now) ∙ ap (λ n. find (λ (l : Lease). ltb l.last n) c.self.inside.latest.items) start
-      ∙ ap (find (λ (l : Lease). ltb l.last c.args.start)) (sym c.deref.ensures.value)
-      ∙ sym (find_from_yields_List (λ (l : Lease). ltb l.last c.args.start) _ _ _ c.find.ensures.ran (YieldsList-from_slice c.deref.result.now cc) (λ x b q k. search (rules, tests)))
-      ∙ ap option_copied c.in-Some.is
+    ap (find (is_over t)) (sym now) ∙ ap (λ n. find (λ (l : Lease). ltb l.last n) c.self.inside.latest.items) start
+    ∙ ap (find (λ (l : Lease). ltb l.last c.args.start)) (sym c.deref.ensures.value)
+    ∙ sym (find_from_yields_List (λ (l : Lease). ltb l.last c.args.start) _ _ _ c.find.ensures.ran (YieldsList-from_slice c.deref.result.now cc) (λ x b q k. search (rules, tests)))
+    ∙ ap option_copied c.in-Some.is
     )
 
 pub returns-in-None : goal.returns-in-None
@@ -27,8 +27,8 @@ returns-in-None c = λ t same start.
     c.next_sid.ensures ∙ ap next_of (sym same)
     ∙ free_next t (subst AreGiven now c.self.invariant.given) (subst (λ (ls : List Lease). length ls ≤ last_sid) now c.self.invariant.few)
     (
-      ap (find (is_over t)) (sym now) ∙ ap (λ n. find (λ (l : Lease). ltb l.last n) c.self.inside.latest.items) start
-      ∙ ap (find (λ (l : Lease). ltb l.last c.args.start)) (sym c.deref.ensures.value)
-      ∙ sym (find_from_yields_List (λ (l : Lease). ltb l.last c.args.start) _ _ _ c.find.ensures.ran (YieldsList-from_slice c.deref.result.now cc) (λ x b q k. search (rules, tests)))
-      ∙ ap option_copied c.in-None.is
+    ap (find (is_over t)) (sym now) ∙ ap (λ n. find (λ (l : Lease). ltb l.last n) c.self.inside.latest.items) start
+    ∙ ap (find (λ (l : Lease). ltb l.last c.args.start)) (sym c.deref.ensures.value)
+    ∙ sym (find_from_yields_List (λ (l : Lease). ltb l.last c.args.start) _ _ _ c.find.ensures.ran (YieldsList-from_slice c.deref.result.now cc) (λ x b q k. search (rules, tests)))
+    ∙ ap option_copied c.in-None.is
     )

@@ -1,9 +1,9 @@
-use Rattle.std.proofs.Common.{rules, ◌≡◌, ℕ, ◌&&◌, not, List, Option, eqb, ltb, sym, ap, ◌∙◌}
+use Rattle.std.proofs.Common.{rules, ◌&&◌, not, eqb, ltb, sym, ap, ◌∙◌}
 use Rattle.std.specs.List.{find}
 use Rattle.std.proofs.lemmas.Iterator.{YieldsList-from_slice}
 use Rattle.std.proofs.lemmas.Iterator.Search.{find_from_yields_List}
 use borrow.Author.Tests.{tests}
-use Rattle.flow_state.specs.Rows.{Table, Lease, is_lease_of}
+use Rattle.flow_state.specs.Rows.{Lease}
 use Rattle.flow_state.proofs.leases.Leases.lease_of.Goals as goal
 
 pub returns : goal.returns

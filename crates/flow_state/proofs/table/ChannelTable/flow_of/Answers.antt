@@ -1,4 +1,4 @@
-use Rattle.std.proofs.Common.{◌≡◌, ap, sym, ◌∙◌}
+use Rattle.std.proofs.Common.{ap, sym, ◌∙◌}
 use Rattle.std.specs.Option.{option_map}
 use Rattle.flow_state.specs.Rows.{Table, lent_flow, flow_of}
 use Rattle.flow_state.proofs.Stored.{flow_found, lent_found}

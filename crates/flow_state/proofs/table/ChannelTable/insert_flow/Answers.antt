@@ -1,84 +1,72 @@
-use Rattle.std.proofs.Common.{◌≡◌, ℕ, ◌+◌, ◌<◌, ◌≤◌, ◌&&◌, cond, length, ap, sym, ◌∙◌, List, [], ◌∷◌, ◌++◌, map, Option, None, refl, subst, nat_eq, arith}
-use Rattle.std.specs.Option.{option_map}
+use Rattle.std.proofs.Common.{◌≡◌, ℕ, ◌≤◌, cond, length, ap, sym, ◌∙◌, List, None, subst, nat_eq, arith}
+use Rattle.std.specs.List.Sorted.{IsNonDecreasingBy}
 use Rattle.std.specs.Map.{lookup}
-use Rattle.std.proofs.lemmas.List.{map-append}
-use Rattle.indexmap.specs.IndexMap.{get}
-use Rattle.indexmap.proofs.CallerLemmas.{insert_entry-new}
 use Rattle.flow_state.specs.declared.flow.Flow.{Flow}
-use Rattle.flow_state.specs.Limits.{is_timed, last_sid}
-use Rattle.flow_state.specs.Rows.{Table, Assignment, assignment_of, free_sid}
+use Rattle.flow_state.specs.Limits.{is_timed}
+use Rattle.flow_state.specs.Rows.{Table, free_sid}
+use Rattle.flow_state.specs.Sound.{Rise}
 use Rattle.flow_state.specs.Changes.{new_flow, add_to_table}
-use Rattle.flow_state.specs.View.{table_view, assignment_view}
-use Rattle.flow_state.proofs.Assigned.{assigned_found, free_is}
-use Rattle.flow_state.proofs.Soundness.{sound_added}
-use Rattle.flow_state.proofs.Stored.{AreStored, rows, stored_as, as_added, none_found, stored_more, stored_added, rows_added, same_table}
-use Rattle.flow_state.proofs.Timed.{timed_sids, timed_added}
+use Rattle.flow_state.specs.View.{table_view}
+use Rattle.flow_state.proofs.Freed.{free_most}
+use Rattle.flow_state.proofs.Places.{rising}
+use Rattle.flow_state.proofs.Soundness.{none_free, sound_added}
+use Rattle.flow_state.proofs.Stored.{Flows, AreStored, rows, stored_as, as_added, put_entry, none_found, keys_are, stored_put, stored_added, rows_added, same_table}
+use Rattle.flow_state.proofs.Timed.{timed_sids, put_sid, timed_rising, timed_added}
+use Rattle.flow_state.proofs.Wells.{free_range}
 use Rattle.flow_state.proofs.table.ChannelTable.insert_flow.Goals as goal
 
-pub invariant_of-self : goal.invariant_of-self
-invariant_of-self c =
-    stored_as _ (table_view c.self.inside) (subst AreStored (sym c.in_err-reserve.ensures.entries) c.self.invariant.flows) c.in_err-reserve.ensures.unique
-    c.self.invariant.timed_are
-    (same_table (table_view c.self.inside) _ _ _ _ refl (ap rows c.in_err-reserve.ensures.entries)) c.self.invariant.sound
+pub put-requires-clause-some : goal.put-requires-clause-some
+put-requires-clause-some c = (free_range (table_view c.self.inside) c.args.lease.sid (ap free_sid c.self.view_is ∙ c.requires.free)).0
 
-pub invariant_of-self-in_err-insert : goal.invariant_of-self-in_err-insert
-invariant_of-self-in_err-insert c =
-    stored_as _ (table_view c.self.inside) (subst AreStored (sym c.in_ok-reserve.ensures.entries) c.self.invariant.flows) c.in_ok-reserve.ensures.unique
-    (c.reserve-2.ensures.items ∙ c.self.invariant.timed_are)
-    (same_table (table_view c.self.inside) _ _ _ _ (ap (map assignment_view) c.in_err-insert.ensures.err) (ap rows c.in_ok-reserve.ensures.entries)) c.self.invariant.sound
+pub put-requires-clause-unicast : goal.put-requires-clause-unicast
+put-requires-clause-unicast c = let range = free_range (table_view c.self.inside) c.args.lease.sid (ap free_sid c.self.view_is ∙ c.requires.free) in omega (arith, range.1)
 
--- the SID is one more than how many were given
-next : (c : goal.After-note_timed) → (c.args.sid ≡ length (table_view c.self.inside).assigned + 1) × (length (table_view c.self.inside).assigned < last_sid)
-next c = free_is (table_view c.self.inside) c.self.invariant.sound.given c.args.sid (ap free_sid c.self.view_is ∙ c.requires.free)
+pub put-requires-clause-next : goal.put-requires-clause-next
+put-requires-clause-next c = free_most (table_view c.self.inside) c.args.lease.sid c.self.invariant.sound.given c.self.invariant.sound.few (ap free_sid c.self.view_is ∙ c.requires.free)
 
-unknown : (c : goal.After-note_timed) → get (λ x y. nat_eq x.0 y.0 && nat_eq x.1 y.1) c.self.inside.assigned (c.args.modem, c.args.tag) ≡ None
-unknown c =
-    sym (assigned_found c.self.inside.assigned.entries c.args.modem c.args.tag)
-    ∙ ap (λ (o : Option Assignment). option_map (λ a. a.sid) o) (ap (λ (t : Table). assignment_of t c.args.modem c.args.tag) c.self.view_is ∙ c.requires.unknown)
+pub put_flow-requires-clause-new : goal.put_flow-requires-clause-new
+put_flow-requires-clause-new c =
+    subst (λ (es : Flows). lookup (nat_eq c.args.lease.sid) es ≡ None) (sym c.in_ok-reserve.ensures.entries)
+    (none_found c.self.inside.flows.entries c.args.lease.sid c.self.invariant.flows (none_free (table_view c.self.inside) c.args.lease.sid c.self.invariant.sound (ap free_sid c.self.view_is ∙ c.requires.free)))
 
-assigned_after : (c : goal.After-note_timed) → c.insert.new.self.entries ≡ c.self.inside.assigned.entries ++ ((c.args.modem, c.args.tag), c.args.sid) ∷ []
-assigned_after c = c.in_ok-insert.ensures.entries ∙ insert_entry-new _ c.self.inside.assigned (c.args.modem, c.args.tag) c.args.sid (unknown c)
+pub put_flow-requires-clause-rising : goal.put_flow-requires-clause-rising
+put_flow-requires-clause-rising c =
+    subst (λ (es : Flows). IsNonDecreasingBy (λ e. e.0) es) (sym c.in_ok-reserve.ensures.entries)
+    (rising (λ (e : ℕ × Flow). e.0) c.self.inside.flows.entries 0 (length (table_view c.self.inside).leases)
+    (subst (λ (ns : List ℕ). Rise 0 ns (length (table_view c.self.inside).leases)) (sym (keys_are c.self.inside.flows.entries c.self.invariant.flows)) c.self.invariant.sound.rising))
 
-flows_after : (c : goal.After-note_timed) → c.insert-2.new.self.entries ≡ c.self.inside.flows.entries ++ (c.args.sid, as_added c.args.sid c.args.modem c.args.tag c.args.kind) ∷ []
+pub note_timed-requires-clause-rising : goal.note_timed-requires-clause-rising
+note_timed-requires-clause-rising c =
+    subst (λ (ns : List ℕ). IsNonDecreasingBy (λ n. n) ns) (sym (c.reserve-2.ensures.items ∙ c.self.invariant.timed_are))
+    (timed_rising (table_view c.self.inside).flows 0 (length (table_view c.self.inside).leases) c.self.invariant.sound.rising)
+
+flows_after : (c : goal.After-note_timed) → c.put_flow.new.flows.entries ≡ put_entry c.args.lease.sid (as_added c.args.lease c.args.kind) c.self.inside.flows.entries
 flows_after c =
-    let above : length (table_view c.self.inside).assigned < c.args.sid = let next_is : c.args.sid ≡ length (table_view c.self.inside).assigned + 1 = (next c).0 in omega arith in
-    let absent : get nat_eq c.reserve.new.self c.args.sid ≡ None =
-    subst (λ (es : List (ℕ × Flow)). lookup (nat_eq c.args.sid) es ≡ None) (sym c.in_ok-reserve.ensures.entries)
-    (none_found c.self.inside.flows.entries c.args.sid 0 (length (table_view c.self.inside).assigned) c.self.invariant.flows c.self.invariant.sound.rising above) in
-    c.in_ok-insert-2.ensures.entries
-    ∙ insert_entry-new nat_eq c.reserve.new.self c.args.sid c.new.result absent
-    ∙ ap (λ (es : List (ℕ × Flow)). es ++ (c.args.sid, c.new.result) ∷ []) c.in_ok-reserve.ensures.entries
-    ∙ ap (λ (f : Flow). c.self.inside.flows.entries ++ (c.args.sid, f) ∷ []) c.new.ensures
+    c.put_flow.ensures.put ∙ ap (put_entry c.args.lease.sid c.new.result) c.in_ok-reserve.ensures.entries
+    ∙ ap (λ (f : Flow). put_entry c.args.lease.sid f c.self.inside.flows.entries) c.new.ensures
 
-added : (c : goal.After-note_timed) → table_view (record { row = c.self.inside.row; assigned = c.insert.new.self; flows = c.insert-2.new.self; timed = c.note_timed.new.timed; waiting = c.self.inside.waiting })
-    ≡ add_to_table (table_view c.self.inside) c.args.modem c.args.tag c.args.kind c.args.sid
+added : (c : goal.After-note_timed) → table_view (record { row = c.self.inside.row; leases = c.put.new.self; flows = c.put_flow.new.flows; timed = c.note_timed.new.timed; waiting = c.self.inside.waiting })
+    ≡ add_to_table (table_view c.self.inside) c.args.lease c.args.kind
 added c =
-    let above : length (table_view c.self.inside).assigned ≤ c.args.sid = let next_is : c.args.sid ≡ length (table_view c.self.inside).assigned + 1 = (next c).0 in omega arith in
-    same_table (table_view c.self.inside) _ _ _ _
-    (ap (map assignment_view) (assigned_after c) ∙ map-append assignment_view c.self.inside.assigned.entries (((c.args.modem, c.args.tag), c.args.sid) ∷ []))
-    (ap rows (flows_after c) ∙ rows_added c.self.inside.flows.entries c.args.sid c.args.modem c.args.tag (length (table_view c.self.inside).assigned) c.args.kind c.self.invariant.sound.rising above c.requires.good)
+    same_table (table_view c.self.inside) _ _ _ _ c.in_ok-put.ensures.ok
+    (ap rows (flows_after c) ∙ rows_added c.self.inside.flows.entries c.args.lease c.args.kind c.self.invariant.flows c.requires.good)
 
-timed_after : (c : goal.After-note_timed) → c.note_timed.new.timed.items ≡ timed_sids (add_to_table (table_view c.self.inside) c.args.modem c.args.tag c.args.kind c.args.sid).flows
+timed_after : (c : goal.After-note_timed) → c.note_timed.new.timed.items ≡ timed_sids (add_to_table (table_view c.self.inside) c.args.lease c.args.kind).flows
 timed_after c =
-    let above : length (table_view c.self.inside).assigned ≤ c.args.sid = let next_is : c.args.sid ≡ length (table_view c.self.inside).assigned + 1 = (next c).0 in omega arith in
     c.note_timed.ensures
-    ∙ ap (λ (ns : List ℕ). ns ++ cond (is_timed c.args.kind) (c.args.sid ∷ []) []) (c.reserve-2.ensures.items ∙ c.self.invariant.timed_are)
-    ∙ sym (timed_added (table_view c.self.inside).flows (new_flow c.args.sid c.args.modem c.args.tag c.args.kind) (length (table_view c.self.inside).assigned) c.self.invariant.sound.rising above)
-
-pub invariant_of-self-in_err-reserve-2 : goal.invariant_of-self-in_err-reserve-2
-invariant_of-self-in_err-reserve-2 c =
-    stored_as _ (table_view c.self.inside) (subst AreStored (sym c.in_ok-reserve.ensures.entries) c.self.invariant.flows) c.in_ok-reserve.ensures.unique
-    (c.reserve-2.ensures.items ∙ c.self.invariant.timed_are)
-    (same_table (table_view c.self.inside) _ _ _ _ refl (ap rows c.in_ok-reserve.ensures.entries)) c.self.invariant.sound
+    ∙ ap (λ (ns : List ℕ). cond (is_timed c.args.kind) (put_sid c.args.lease.sid ns) ns) (c.reserve-2.ensures.items ∙ c.self.invariant.timed_are)
+    ∙ sym (timed_added (table_view c.self.inside).flows (new_flow c.args.lease c.args.kind) 0 (length (table_view c.self.inside).leases) c.self.invariant.sound.rising)
 
 pub invariant_of-self-2 : goal.invariant_of-self-2
 invariant_of-self-2 c =
-    stored_as _ (add_to_table (table_view c.self.inside) c.args.modem c.args.tag c.args.kind c.args.sid)
-    (subst AreStored (sym (flows_after c)) (stored_more c.self.inside.flows.entries _ c.self.invariant.flows (stored_added c.args.sid c.args.modem c.args.tag c.args.kind c.requires.good)))
-    c.in_ok-insert-2.ensures.unique
+    let start : c.self.inside.row.next_start ≡ c.args.self.now.row.next_start = ap (λ (t : Table). t.row.next_start) c.self.view_is in
+    let later : c.args.self.now.row.next_start ≤ c.args.lease.last = c.requires.goes_on in
+    stored_as _ (add_to_table (table_view c.self.inside) c.args.lease c.args.kind)
+    (subst AreStored (sym (flows_after c)) (stored_put c.args.lease.sid (as_added c.args.lease c.args.kind) c.self.inside.flows.entries c.self.invariant.flows (stored_added c.args.lease c.args.kind c.requires.good)))
+    c.put_flow.ensures.unique
     (timed_after c)
     (added c)
-    (rw (next c).0 (sound_added (table_view c.self.inside) c.args.modem c.args.tag c.args.kind c.self.invariant.sound c.requires.good (next c).1))
+    (sound_added (table_view c.self.inside) c.args.lease c.args.kind c.self.invariant.sound c.requires.good (ap free_sid c.self.view_is ∙ c.requires.free) (omega arith))
 
 pub returns-clause-ok : goal.returns-clause-ok
-returns-clause-ok c = added c ∙ ap (λ (t : Table). add_to_table t c.args.modem c.args.tag c.args.kind c.args.sid) c.self.view_is
+returns-clause-ok c = added c ∙ ap (λ (t : Table). add_to_table t c.args.lease c.args.kind) c.self.view_is
