@@ -143,8 +143,8 @@ fn tested<S: Alter>(alloc: Global, conn: &mut Connection<S>) -> Option<Option<Ba
     ensures tells { HasCleanDisk (state S.Store conn.new) → IfSome result (Tells S.Store conn.old conn.new) }
     ensures clean { doubt (state S.Store conn.old).is_clean ≤ doubt (state S.Store conn.new).is_clean }
 {
-    match acceptor_store_parts::version_of(alloc, conn.schema()) {
-        Ok(Some(Version::Second)) => {}
+    match opening::is_of(alloc, conn.schema(), Version::Second) {
+        Ok(true) => {}
         _ => return None,
     }
     let Ok(numbers) = acceptor_store_parts::read_numbers(conn) else {

@@ -152,7 +152,8 @@ fn examined<S: Alter>(
     Ok(greatest_of(numbers.1, votes.rows()))
 }
 
-fn is_of(alloc: Global, schema: &Schema, version: Version) -> Result<bool, OpenFault>
+/// Whether the schema is that of the tables of this version alone.
+pub fn is_of(alloc: Global, schema: &Schema, version: Version) -> Result<bool, OpenFault>
     ensures ok { IfOk result (λ is. IsTrue is → schema.now ≡ schema_of version) }
     ensures err { IfErr result (λ e. e ≡ OpenFault.OutOfMemory) }
 {

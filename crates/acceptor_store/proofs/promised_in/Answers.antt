@@ -15,5 +15,5 @@ returns-clause-value g c clean d was =
     let told = subst (λ o. IfSome o (λ r. (x : Content) → Serves (state g.S.Store c.args.conn.now) x → (number_of r.0 ≡ x.tried) × (number_of r.1 ≡ x.row))) c.in-Some.is (c.in_ok-numbers.ensures.value before) in
     let row = (told d was).1 in
     let one : c.in-Some-new.first ≡ 1 = (let e = c.in-Some-new.ensures.some in cc) in
-    let votes = c.in_ok-votes.ensures.value clean d mid ∙ (ap (rows_from d.votes) one ∙ all_rows 1 1 d.votes (omega arith) was.tables.sound) in
+    let votes = c.in_ok-votes.ensures.value clean d mid ∙ (ap (rows_from d.votes) one ∙ all_rows 1 1 d.votes (omega arith) was.tables.sound.0) in
     c.greatest_of.ensures ∙ (ap (λ n. greatest n c.rows.result.now) row ∙ ap (greatest d.row) (c.rows.ensures ∙ votes))

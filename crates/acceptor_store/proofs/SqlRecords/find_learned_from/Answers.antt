@@ -22,7 +22,7 @@ returns-in-Ok-clause-honest g c =
 pub returns-in-Err-clause-kept : goal.returns-in-Err-clause-kept
 returns-in-Err-clause-kept g c =
     kept g.S.Store g.met.S.Store.settled g.met.S.Store.stays c.args.self.now c.in-Some.conn c.learned_from.new.conn c.self.inside.is_sure
-    (entered g.S.Store c.args.self.now (record { held = c.self.inside.conn; is_up = c.self.inside.is_up; is_sure = c.self.inside.is_sure; highest = c.self.inside.highest; failures = c.self.inside.failures }) c.in-Some.conn c.self.view_is c.in-Some.is c.self.invariant c.if-not-self.false) _ c.learned_from.ensures.survives _ c.end-in-Err.result (λ harmless clean. c.in-Err.ensures.stays clean (c.end-in-Err.ensures.harmless harmless)) (λ x db was none. none x was)
+    (entered g.S.Store c.args.self.now (record { held = c.self.inside.conn; is_up = c.self.inside.is_up; is_sure = c.self.inside.is_sure; highest = c.self.inside.highest; failures = c.self.inside.failures }) c.in-Some.conn c.self.view_is c.in-Some.is c.self.invariant c.if-not-self.false) _ c.learned_from.ensures.survives (List (ℕ × List ℕ)) c.end-in-Err.result (λ harmless clean. c.in-Err.ensures.stays clean (c.end-in-Err.ensures.harmless harmless)) (λ x db was none. none x was)
 
 pub returns-in-Err-clause-honest : goal.returns-in-Err-clause-honest
 returns-in-Err-clause-honest g c =
