@@ -65,18 +65,18 @@ module _ {S : Type 0} (g : Ghosts S) (settled : (s : S) (db : Trees) → IsTrue 
   tells schema clean numbers first votes_are second one two most = (
     schema,
     λ c was.
-          let before : HasCleanDisk (state g mid) = omega (arith, two.clean, clean) in
-          let middle = first c was in
-          let now = second c middle in
-          let read = numbers c was in
-          let all = votes_are c middle in
-          let top : number_of highest ≡ promised c = most ∙ (ap (λ n. greatest n votes) read.1 ∙ ap (greatest c.row) all) in
-          let left : (db : Trees) → (state g new).may_leave db → db ≡ (state g old).committed.trees = λ db may. elim (two.crash clean db may) [
-            | inl then ↦ elim (one.crash before db then) [ inl there ↦ settled old.store db was.is_open there | inr wrote ↦ absurd (wrote c was) ]
-            | inr wrote ↦ absurd (wrote c middle)
-          ] in
-          let stand : Stands g new = λ db may. ∣ (c, subst (λ t. AreTables t c) (ap (λ (d : Database). d.trees) now.settled ∙ sym (settled new.store db now.is_open may)) now.tables) ∣₁ in
-          (now, top, stand, (∣ found_it g settled stays new c now ∣₁, found_is g settled stays new c now), left),
+        let before : HasCleanDisk (state g mid) = omega (arith, two.clean, clean) in
+        let middle = first c was in
+        let now = second c middle in
+        let read = numbers c was in
+        let all = votes_are c middle in
+        let top : number_of highest ≡ promised c = most ∙ (ap (λ n. greatest n votes) read.1 ∙ ap (greatest c.row) all) in
+        let left : (db : Trees) → (state g new).may_leave db → db ≡ (state g old).committed.trees = λ db may. elim (two.crash clean db may) [
+          | inl then ↦ elim (one.crash before db then) [ inl there ↦ settled old.store db was.is_open there | inr wrote ↦ absurd (wrote c was) ]
+          | inr wrote ↦ absurd (wrote c middle)
+        ] in
+        let stand : Stands g new = λ db may. ∣ (c, subst (λ t. AreTables t c) (ap (λ (d : Database). d.trees) now.settled ∙ sym (settled new.store db now.is_open may)) now.tables) ∣₁ in
+        (now, top, stand, (∣ found_it g settled stays new c now ∣₁, found_is g settled stays new c now), left),
   )
 
 module _ {S : Type 0} (g : Ghosts S) (old mid new : Held S) (highest : Option ℕ) (clean : HasCleanDisk (state g old)) (opens : Opens (state g mid))
@@ -196,9 +196,13 @@ module _ {S : Type 0} (g : Ghosts S) (version : Version) (old mid late new : Hel
         votes_are = ap (λ (d : Database). d.trees 1) (sym one.0) ∙ second by_mid;
         learned_are = subst (λ (d : Database). HasLearned version d.trees c) (two.0 ∙ one.0) (third by_late c refl);
         sound = (casts.1, values.1, all_values learned values.0);
-      } in
-      (c, tables, record { tried = numbers.0; row = numbers.1; casts = casts.0; learned = values.0 },
-      three.1 c (two.1 c (one.1 c (serves_tables g version old schema it c tables))), most)
+      } in (
+        c,
+        tables,
+        record { tried = numbers.0; row = numbers.1; casts = casts.0; learned = values.0 },
+        three.1 c (two.1 c (one.1 c (serves_tables g version old schema it c tables))),
+        most,
+      )
 
 -- what an older connection had, read over its store
 pub finds : {S : Type 0} (g : Ghosts S) (version : Version) (conn again new : Held S) (highest : Option ℕ) → (state g conn).now.schema ≡ schema_of version → Rereads version (state g conn) (state g again) → Examines g version again new highest

@@ -22,8 +22,21 @@ use Rattle.acceptor_store_parts.specs.Stored.{number_row, learned_row, AreTables
 use Rattle.sqlite.proofs.Callers.{runs_as, one_step, statement_of}
 use Rattle.acceptor_store_parts.specs.Tables.{store_schema, schema_of, blank_schema, ballot_table, vote_table, learned_table, ballot_text, vote_text, learned_text}
 use Rattle.acceptor_store_parts.proofs.Meaning.{
-  ballot_schema, numbers_put, numbers_terms, second_put, second_terms, create_ballot_is, create_vote_is, create_learned_is, numbers_put_is, second_put_is,
-  create_ballot_plain, create_vote_plain, create_learned_plain, numbers_put_plain, second_put_plain,
+  ballot_schema,
+  numbers_put,
+  numbers_terms,
+  second_put,
+  second_terms,
+  create_ballot_is,
+  create_vote_is,
+  create_learned_is,
+  numbers_put_is,
+  second_put_is,
+  create_ballot_plain,
+  create_vote_plain,
+  create_learned_plain,
+  numbers_put_plain,
+  second_put_plain,
 }
 use Rattle.acceptor_store_parts.specs.declared.Version.TheVariants.{First, Second}
 use Rattle.acceptor_store_parts.proofs.Writes.{cast_number}
@@ -96,7 +109,7 @@ news = number_row 0 0 ∷ number_row 1 0 ∷ number_row 2 2 ∷ []
 all_rows : (db : Trees) → db 0 ≡ [] → edited db (edit_of db ballot_table [] Chosen 0 news) ≡ news
 all_rows db none =
     let whole : edited db (edit_of db ballot_table [] Chosen 0 news)
-        ≡ with_next (with_next (with_next (db 0) (cast_row ballot_table (number_row 0 0))) (cast_row ballot_table (number_row 1 0))) (cast_row ballot_table (number_row 2 2)) = refl in
+    ≡ with_next (with_next (with_next (db 0) (cast_row ballot_table (number_row 0 0))) (cast_row ballot_table (number_row 1 0))) (cast_row ballot_table (number_row 2 2)) = refl in
     let one = ap (λ r. with_next (with_next (with_next (db 0) r) (cast_row ballot_table (number_row 1 0))) (cast_row ballot_table (number_row 2 2))) (cast_number 0 0) in
     let two = ap (λ r. with_next (with_next (with_next (db 0) (number_row 0 0)) r) (cast_row ballot_table (number_row 2 2))) (cast_number 1 0) in
     let three = ap (λ r. with_next (with_next (with_next (db 0) (number_row 0 0)) (number_row 1 0)) r) (cast_number 2 2) in

@@ -17,9 +17,27 @@ use Rattle.sqlite.proofs.Callers.{IsPlain, command_of, statement_of}
 use Rattle.acceptor_store_parts.specs.declared.Version.{Version}
 use Rattle.acceptor_store_parts.specs.declared.Version.TheVariants.{First, Second}
 use Rattle.acceptor_store_parts.specs.Tables.{
-  store_schema, schema_of, blank_schema, ballot_table, vote_table, learned_table, ballot_text, vote_text, learned_text,
-  tried_query, tried_put, promised_put, votes_query, vote_query, numbers_query, all_votes_query, vote_put,
-  learned_row_query, learned_from_query, all_learned_query, learned_put,
+  store_schema,
+  schema_of,
+  blank_schema,
+  ballot_table,
+  vote_table,
+  learned_table,
+  ballot_text,
+  vote_text,
+  learned_text,
+  tried_query,
+  tried_put,
+  promised_put,
+  votes_query,
+  vote_query,
+  numbers_query,
+  all_votes_query,
+  vote_put,
+  learned_row_query,
+  learned_from_query,
+  all_learned_query,
+  learned_put,
 }
 
 abbrev pub number_query : Query

@@ -26,7 +26,7 @@ returns-clause-made g c clean has =
     let three = c.in_ok-execute-3.ensures.runs third two.1.mode in
     let four = c.in_ok-execute-4.ensures.runs fourth three.1.mode in
     let made = made_after (state g.S.Store (record c.args.conn.now { in_transaction = true })) (state g.S.Store c.execute.new.self.conn.now) (state g.S.Store c.execute-2.new.self.conn.now)
-        (state g.S.Store c.execute-3.new.self.conn.now) (state g.S.Store c.execute-4.new.self.conn.now) c.in_ok-execute.field-0 c.in_ok-execute-2.field-0 c.in_ok-execute-3.field-0 c.in_ok-execute-4.field-0 has (rw begun at one.0) two.0 three.0 four.0 in
+    (state g.S.Store c.execute-3.new.self.conn.now) (state g.S.Store c.execute-4.new.self.conn.now) c.in_ok-execute.field-0 c.in_ok-execute-2.field-0 c.in_ok-execute-3.field-0 c.in_ok-execute-4.field-0 has (rw begun at one.0) two.0 three.0 four.0 in
     subst (λ h. OnOk c.commit.result (Serves (state g.S.Store h) no_content)) same
     (on_ok c.commit.result (c.commit.ensures.ok late) (λ done. served_after (state g.S.Store c.execute-4.new.self.conn.now) (state g.S.Store end) no_content made done.1))
 
@@ -48,14 +48,14 @@ returns-clause-survives g c =
     let d : Survives s₀ s₃ Never = survives_then s₀ s₂ s₃ Never Never Never (λ _ db no. no) (λ _ db no. no) b c.execute-3.ensures.survives in
     let e : Survives s₀ s₄ Never = survives_then s₀ s₃ s₄ Never Never Never (λ _ db no. no) (λ _ db no. no) d c.execute-4.ensures.survives in
     let whole : HasCleanDisk s₅ → (db : Trees) → db ≡ s₄.now.trees → Wanted db = λ late db is has.
-        let fourth : HasCleanDisk s₄ = omega (arith, c.commit.ensures.survives.clean, late) in
-        let third : HasCleanDisk s₃ = omega (arith, c.execute-4.ensures.survives.clean, fourth) in
-        let second : HasCleanDisk s₂ = omega (arith, c.execute-3.ensures.survives.clean, third) in
-        let first : HasCleanDisk s₁ = omega (arith, c.execute-2.ensures.survives.clean, second) in
-        let one = c.in_ok-execute.ensures.runs first (rw begun refl) in
-        let two = c.in_ok-execute-2.ensures.runs second one.1.mode in
-        let three = c.in_ok-execute-3.ensures.runs third two.1.mode in
-        let four = c.in_ok-execute-4.ensures.runs fourth three.1.mode in
-        let made = made_after (state g.S.Store (record c.args.conn.now { in_transaction = true })) s₁ s₂ s₃ s₄ c.in_ok-execute.field-0 c.in_ok-execute-2.field-0 c.in_ok-execute-3.field-0 c.in_ok-execute-4.field-0 has (rw begun at one.0) two.0 three.0 four.0 in
-        subst (λ t. AreTables t no_content) (sym is) made.1 in
+    let fourth : HasCleanDisk s₄ = omega (arith, c.commit.ensures.survives.clean, late) in
+    let third : HasCleanDisk s₃ = omega (arith, c.execute-4.ensures.survives.clean, fourth) in
+    let second : HasCleanDisk s₂ = omega (arith, c.execute-3.ensures.survives.clean, third) in
+    let first : HasCleanDisk s₁ = omega (arith, c.execute-2.ensures.survives.clean, second) in
+    let one = c.in_ok-execute.ensures.runs first (rw begun refl) in
+    let two = c.in_ok-execute-2.ensures.runs second one.1.mode in
+    let three = c.in_ok-execute-3.ensures.runs third two.1.mode in
+    let four = c.in_ok-execute-4.ensures.runs fourth three.1.mode in
+    let made = made_after (state g.S.Store (record c.args.conn.now { in_transaction = true })) s₁ s₂ s₃ s₄ c.in_ok-execute.field-0 c.in_ok-execute-2.field-0 c.in_ok-execute-3.field-0 c.in_ok-execute-4.field-0 has (rw begun at one.0) two.0 three.0 four.0 in
+    subst (λ t. AreTables t no_content) (sym is) made.1 in
     subst (λ h. Survives s₀ (state g.S.Store h) Wanted) same (survives_then s₀ s₄ s₅ Never (λ db. db ≡ s₄.now.trees) Wanted (λ _ db no. absurd no) whole e c.commit.ensures.survives)

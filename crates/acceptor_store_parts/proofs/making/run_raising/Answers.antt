@@ -21,9 +21,9 @@ returns-clause-raised g c clean =
     let two = c.in_ok-execute-2.ensures.runs second one.1.mode in
     subst (λ h. OnOk c.commit.result (HasRaised (state g.S.Store c.args.conn.now) (state g.S.Store h))) same
     (on_ok c.commit.result (c.commit.ensures.ok late) (λ done d was.
-        let raised = raised_after (state g.S.Store (record c.args.conn.now { in_transaction = true })) (state g.S.Store c.execute.new.self.conn.now) (state g.S.Store c.execute-2.new.self.conn.now) d
-            c.in_ok-execute.field-0 c.in_ok-execute-2.field-0 was.schema was.tables (rw begun at one.0) two.0 in
-        served_after (state g.S.Store c.execute-2.new.self.conn.now) (state g.S.Store end) d raised done.1))
+    let raised = raised_after (state g.S.Store (record c.args.conn.now { in_transaction = true })) (state g.S.Store c.execute.new.self.conn.now) (state g.S.Store c.execute-2.new.self.conn.now) d
+    c.in_ok-execute.field-0 c.in_ok-execute-2.field-0 was.schema was.tables (rw begun at one.0) two.0 in
+    served_after (state g.S.Store c.execute-2.new.self.conn.now) (state g.S.Store end) d raised done.1))
 
 pub returns-clause-survives : goal.returns-clause-survives
 returns-clause-survives g c =
@@ -38,10 +38,10 @@ returns-clause-survives g c =
     let a : Survives s₀ s₁ Never = survives_begin g.S.Store c.args.conn.now s₁ Never (rw begun at c.execute.ensures.survives) in
     let b : Survives s₀ s₂ Never = survives_then s₀ s₁ s₂ Never Never Never (λ _ db no. no) (λ _ db no. no) a c.execute-2.ensures.survives in
     let whole : HasCleanDisk s₃ → (db : Trees) → db ≡ s₂.now.trees → MayHaveRaised s₀ db = λ late db is d was.
-        let second : HasCleanDisk s₂ = omega (arith, c.commit.ensures.survives.clean, late) in
-        let first : HasCleanDisk s₁ = omega (arith, c.execute-2.ensures.survives.clean, second) in
-        let one = c.in_ok-execute.ensures.runs first (rw begun refl) in
-        let two = c.in_ok-execute-2.ensures.runs second one.1.mode in
-        let raised = raised_after (state g.S.Store (record c.args.conn.now { in_transaction = true })) s₁ s₂ d c.in_ok-execute.field-0 c.in_ok-execute-2.field-0 was.schema was.tables (rw begun at one.0) two.0 in
-        subst (λ t. AreTables t d) (sym is) raised.1 in
+    let second : HasCleanDisk s₂ = omega (arith, c.commit.ensures.survives.clean, late) in
+    let first : HasCleanDisk s₁ = omega (arith, c.execute-2.ensures.survives.clean, second) in
+    let one = c.in_ok-execute.ensures.runs first (rw begun refl) in
+    let two = c.in_ok-execute-2.ensures.runs second one.1.mode in
+    let raised = raised_after (state g.S.Store (record c.args.conn.now { in_transaction = true })) s₁ s₂ d c.in_ok-execute.field-0 c.in_ok-execute-2.field-0 was.schema was.tables (rw begun at one.0) two.0 in
+    subst (λ t. AreTables t d) (sym is) raised.1 in
     subst (λ h. Survives s₀ (state g.S.Store h) (MayHaveRaised s₀)) same (survives_then s₀ s₂ s₃ Never (λ db. db ≡ s₂.now.trees) (MayHaveRaised s₀) (λ _ db no. absurd no) whole b c.commit.ensures.survives)

@@ -14,4 +14,4 @@ returns-in-First-clause-none c =
 pub returns-else-not-is_second-clause-none : goal.returns-else-not-is_second-clause-none
 returns-else-not-is_second-clause-none c =
     none_then c.only_two-in-Second.result c.only_two-in-Second.ensures.none (λ none tried row it ir is.
-        none tried row it ir (ap (take 2) (subst (λ v. c.args.rows.now ≡ numbers_shown v tried row) c.in-Second.is is)))
+    none tried row it ir (ap (take 2) (subst (λ v. c.args.rows.now ≡ numbers_shown v tried row) c.in-Second.is is)))
