@@ -7,5 +7,3 @@ mod acceptor_rows;
 mod stops;
 #[cfg(test)]
 mod tables;
-#[cfg(test)]
-mod versions;

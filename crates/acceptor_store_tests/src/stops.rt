@@ -10,9 +10,9 @@ use std::alloc::Global;
 use std::io;
 use std::test::Fail;
 
-pub type Fused = Fuse<Memory>;
+type Fused = Fuse<Memory>;
 
-pub type Stored = SqlRecords<FileStore<Fused>>;
+type Stored = SqlRecords<FileStore<Fused>>;
 
 /// Channel 1 of UCD Count 7 as a command, and a cut of one minislot.
 const CHANNEL: [u8; 17] = [1, 1, 7, 0, 16, 2, 5, 3, 8, 0, 0, 0, 0, 0, 0, 3, 232];
@@ -38,20 +38,20 @@ struct Writes {
 
 /// Which of the two files is stopped.
 #[derive(Clone, Copy, Debug, PartialEq, Eq)]
-pub enum Stopped {
+enum Stopped {
     Database,
     Log,
 }
 
 /// What a stop leaves of a file: each byte that was written, as where the process alone died, or nothing but what was synced.
 #[derive(Debug, Drop)]
-pub struct Left {
-    pub written: Vec<u8>,
-    pub synced: Vec<u8>,
+struct Left {
+    written: Vec<u8>,
+    synced: Vec<u8>,
 }
 
 /// Which of these is found of the log, and of the database.
-pub const FOUND: [(bool, bool); 4] = [(true, true), (true, false), (false, true), (false, false)];
+const FOUND: [(bool, bool); 4] = [(true, true), (true, false), (false, true), (false, false)];
 
 /// How far the writes came: whether the files opened, how many writes were made, and why the next wasn't.
 #[derive(Clone, Copy, Debug)]
@@ -82,7 +82,7 @@ fn fused(alloc: Global, stopped: Stopped, calls: u64) -> Files<Fused> {
 
 /// The records in the files, or the files again. Each commit copies the log into the database. With few pages in memory a
 /// connection is opened soon.
-pub fn opened(alloc: Global, files: Files<Fused>) -> Result<Stored, Files<Fused>> {
+fn opened(alloc: Global, files: Files<Fused>) -> Result<Stored, Files<Fused>> {
     let options = Options {
         cache_pages: 8,
         spill_pages: 8,
@@ -167,7 +167,7 @@ fn written(alloc: Global, files: Files<Fused>, writes: &Writes) -> Result<Outcom
     Ok(Outcome { reached, files })
 }
 
-pub fn left_of(alloc: Global, file: &mut Fused) -> Result<Left, Fail> {
+fn left_of(alloc: Global, file: &mut Fused) -> Result<Left, Fail> {
     let written = Vec::from_slice(alloc, file.inner().bytes())?;
     file.crash();
     let synced = Vec::from_slice(alloc, file.inner().bytes())?;
@@ -175,7 +175,7 @@ pub fn left_of(alloc: Global, file: &mut Fused) -> Result<Left, Fail> {
 }
 
 /// The file as it is found afterwards, with a fuse that doesn't blow.
-pub fn found(alloc: Global, left: &Left, is_written: bool) -> io::Result<Fused> {
+fn found(alloc: Global, left: &Left, is_written: bool) -> io::Result<Fused> {
     let mut copy = Memory::new(alloc);
     let bytes = if is_written {
         left.written.as_slice()
@@ -194,7 +194,7 @@ fn number(ballot: Option<Ballot>) -> u64 {
 }
 
 /// What the records hold, in the words of `CONTENTS`.
-pub fn content(alloc: Global, records: &mut Stored) -> Result<String, Fail> {
+fn content(alloc: Global, records: &mut Stored) -> Result<String, Fail> {
     let tried = number(records.tried()?);
     let promised = number(records.promised()?);
     let first = Place::new(1).ok_or("a place")?;

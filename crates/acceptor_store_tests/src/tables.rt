@@ -1,13 +1,10 @@
 use acceptor_store::{OpenFault, SqlRecords};
-use sqlite::{Connection, Error, ErrorCode};
+use sqlite::{Connection, Error};
 use std::alloc::Global;
 use std::test::Fail;
 
 const TABLES: &str =
     "CREATE TABLE ballot (id INTEGER PRIMARY KEY, number INTEGER NOT NULL) STRICT; CREATE TABLE vote (place INTEGER PRIMARY KEY, ballot INTEGER NOT NULL, value BLOB NOT NULL) STRICT; INSERT INTO ballot (id, number) VALUES (0, 8), (1, 0)";
-
-const LEARNED: &str =
-    "CREATE TABLE learned (place INTEGER PRIMARY KEY, value BLOB NOT NULL) STRICT";
 
 fn opened(alloc: Global, before: &str, after: &str) -> Result<Option<OpenFault>, Error> {
     let mut conn = Connection::open_in_memory(alloc)?;
@@ -37,7 +34,6 @@ fn which_tables_are_foreign(rt: HostRuntime) -> Result<(), Fail> {
         "UPDATE ballot SET number = 7",
         "DELETE FROM ballot WHERE id = 1",
         "INSERT INTO ballot VALUES (2, 0)",
-        "INSERT INTO ballot VALUES (2, 2)",
         "DROP TABLE vote",
     ] {
         let fault = opened(rt.alloc(), TABLES, text)?;
@@ -67,37 +63,6 @@ fn what_else_is_refused(rt: HostRuntime) -> Result<(), Fail> {
     ] {
         let fault = opened(rt.alloc(), TABLES, text)?;
         assert_eq!(rt; fault, Some(OpenFault::Refused), "{text}");
-    }
-    Ok(())
-}
-
-/// The tables of version 2, after those of version 1.
-fn second(alloc: Global, number: &str, after: &str) -> Result<Option<OpenFault>, Error> {
-    let text = format!(in alloc; "{TABLES}; {LEARNED}; {number}").map_err(|_| Error::SqliteFailure(
-        ErrorCode::OutOfMemory,
-    ))?;
-    opened(alloc, text.as_str(), after)
-}
-
-/// Tables of version 2 open, and a mixture of the versions, or a learned value that no node writes, is foreign.
-#[test]
-fn which_versions_are_foreign(rt: HostRuntime) -> Result<(), Fail> {
-    let number = "INSERT INTO ballot VALUES (2, 2)";
-    let learned = "INSERT INTO learned VALUES (3, x'00'), (1, x''), (1000000, x'07')";
-    assert_eq!(rt; second(rt.alloc(), number, learned)?, None);
-    for (number, text) in [
-        ("", ""),
-        ("INSERT INTO ballot VALUES (2, 3)", ""),
-        (number, "DROP TABLE vote"),
-        (number, "INSERT INTO learned VALUES (0, x'07')"),
-        (number, "INSERT INTO learned VALUES (1000001, x'07')"),
-        (
-            number,
-            "INSERT INTO learned VALUES (1, x'00112233445566778899aabbccddeeff00112233445566778899aabbccddeeff00112233445566778899aabbccddeeff00112233445566778899aabbccddeeff00')",
-        ),
-    ] {
-        let fault = second(rt.alloc(), number, text)?;
-        assert_eq!(rt; fault, Some(OpenFault::Foreign), "{number} {text}");
     }
     Ok(())
 }
