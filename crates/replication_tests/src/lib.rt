@@ -1,9 +1,14 @@
-//! Tests of ballots and letters, of records, of counted votes, of nodes and of worlds, by the public calls of `ballots`,
-//! `acceptor`, `learner`, `node`, `network_script_parts` and `network_script`. What scripts print stands as data in examples/.
+//! Tests of ballots and letters, of records that keep what is written and records that fail, of counted votes, of nodes
+//! and of worlds, by the public calls of `ballots`, `acceptor`, `faulty_records`, `learner`, `node`, `network_script_parts`
+//! and `network_script`. What scripts print stands as data in examples/.
 #![tactic(auto)]
 
 #[cfg(test)]
 mod clusters;
+#[cfg(test)]
+mod failing_records;
+#[cfg(test)]
+mod failing_runs;
 #[cfg(test)]
 mod letters;
 #[cfg(test)]
