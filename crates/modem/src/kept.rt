@@ -17,7 +17,7 @@ use map_body::{Interval, Iuc, Sid};
 use std::alloc::{AllocError, Global};
 
 /// An element's minislots of a channel, from `start` up to `stop`.
-#[derive(Clone, Copy, Debug, PartialEq, Eq)]
+#[derive(Clone, Copy, PartialEq, Eq)]
 pub(crate) struct KeptInterval {
     pub channel: u8,
     pub sid: u16,

@@ -2,7 +2,7 @@
 
 /// A channel that the modem knows: its UCD Count, its clock (a minislot) and the latest data back-offs, start
 /// and end.
-#[derive(Clone, Copy, Debug, PartialEq, Eq)]
+#[derive(Clone, Copy)]
 pub(crate) struct Channel {
     pub id: u8,
     pub ucd: u8,
@@ -11,7 +11,7 @@ pub(crate) struct Channel {
 }
 
 /// A lease: a SID of a channel is the modem's from the minislot `first` to the minislot `last`.
-#[derive(Clone, Copy, Debug, PartialEq, Eq)]
+#[derive(Clone, Copy)]
 pub(crate) struct Lease {
     pub channel: u8,
     pub sid: u16,
@@ -20,7 +20,7 @@ pub(crate) struct Lease {
 }
 
 /// How far a want has come.
-#[derive(Clone, Copy, Debug, PartialEq, Eq)]
+#[derive(Clone, Copy)]
 pub(crate) enum Progress {
     /// Not sent; the request minislots that it still lets pass, once drawn.
     Unsent(Option<u16>),
@@ -29,7 +29,7 @@ pub(crate) enum Progress {
 }
 
 /// A request that the modem wants to send, or has sent.
-#[derive(Clone, Copy, Debug, PartialEq, Eq)]
+#[derive(Clone, Copy)]
 pub(crate) struct Want {
     pub channel: u8,
     pub sid: u16,

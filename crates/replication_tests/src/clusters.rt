@@ -19,7 +19,7 @@ const CUT: [u8; 20] = [
 ];
 
 /// What is done with a cluster: a node leads, offers a value or starts over, or a letter comes.
-#[derive(Clone, Copy, Debug)]
+#[derive(Clone, Copy)]
 enum Act {
     Lead(usize),
     Offer(usize, &'static [u8]),

@@ -55,7 +55,7 @@ const LEARNT: [Answer; 13] = [
 ];
 
 /// What is put between the leader's lead and its offer, or between its vote and what nodes learn, and its answers.
-#[derive(Clone, Copy, Debug)]
+#[derive(Clone, Copy)]
 struct Between<'a> {
     events: &'a str,
     answers: &'a [Answer],

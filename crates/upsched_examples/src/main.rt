@@ -21,7 +21,7 @@ use upsched_parts::{Fault, Status, script_of};
 use upsched_store_parts::{print_over, run_words};
 
 /// A folder of examples of one command.
-#[derive(Clone, Copy, Debug)]
+#[derive(Clone, Copy)]
 struct Folder {
     path: &'static str,
     command: &'static str,
