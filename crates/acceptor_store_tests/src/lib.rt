@@ -4,6 +4,10 @@
 #[cfg(test)]
 mod acceptor_rows;
 #[cfg(test)]
+mod files;
+#[cfg(test)]
 mod stops;
 #[cfg(test)]
 mod tables;
+#[cfg(test)]
+mod versions;

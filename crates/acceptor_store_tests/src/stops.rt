@@ -1,18 +1,13 @@
 //! The four writes that a node makes up to its first grant, stopped at each call on one of its files in turn.
 
+use crate::files::{
+    FOUND, Fused, Left, Stopped, Stored, calls_of, content, found, fused, left_of, opened,
+};
 use acceptor::{Records, RecordsFault};
-use acceptor_store::SqlRecords;
-use acceptor_store_parts::open_again;
 use ballots::{Ballot, Bytes, Place, Value};
-use sqlite::{FileStore, Files, Options};
-use sqlite_disk::{Crash, Disk, Fuse, Memory};
+use sqlite::Files;
 use std::alloc::Global;
-use std::io;
 use std::test::Fail;
-
-type Fused = Fuse<Memory>;
-
-type Stored = SqlRecords<FileStore<Fused>>;
 
 /// Channel 1 of UCD Count 7 as a command, and a cut of one minislot.
 const CHANNEL: [u8; 17] = [1, 1, 7, 0, 16, 2, 5, 3, 8, 0, 0, 0, 0, 0, 0, 3, 232];
@@ -36,23 +31,6 @@ struct Writes {
     cut: Value,
 }
 
-/// Which of the two files is stopped.
-#[derive(Clone, Copy, Debug, PartialEq, Eq)]
-enum Stopped {
-    Database,
-    Log,
-}
-
-/// What a stop leaves of a file: each byte that was written, as where the process alone died, or nothing but what was synced.
-#[derive(Debug, Drop)]
-struct Left {
-    written: Vec<u8>,
-    synced: Vec<u8>,
-}
-
-/// Which of these is found of the log, and of the database.
-const FOUND: [(bool, bool); 4] = [(true, true), (true, false), (false, true), (false, false)];
-
 /// How far the writes came: whether the files opened, how many writes were made, and why the next wasn't.
 #[derive(Clone, Copy, Debug)]
 struct Reached {
@@ -66,34 +44,6 @@ struct Reached {
 struct Outcome {
     reached: Reached,
     files: Files<Fused>,
-}
-
-/// Empty files, one of which passes so many calls on and fails each one after.
-fn fused(alloc: Global, stopped: Stopped, calls: u64) -> Files<Fused> {
-    let (log, db) = match stopped {
-        Stopped::Database => (u64::MAX, calls),
-        Stopped::Log => (calls, u64::MAX),
-    };
-    Files {
-        log: Fuse::new(Memory::new(alloc), log),
-        db: Fuse::new(Memory::new(alloc), db),
-    }
-}
-
-/// The records in the files, or the files again. Each commit copies the log into the database. With few pages in memory a
-/// connection is opened soon.
-fn opened(alloc: Global, files: Files<Fused>) -> Result<Stored, Files<Fused>> {
-    let options = Options {
-        cache_pages: 8,
-        spill_pages: 8,
-        checkpoint_frames: 1,
-        seed: 1,
-    };
-    let conn = open_again(alloc, files, options)?;
-    match SqlRecords::open(alloc, conn) {
-        Ok(records) => Ok(records),
-        Err((_, store)) => Err(store.close()),
-    }
 }
 
 fn value_of(alloc: Global, bytes: &[u8]) -> Result<Value, Fail> {
@@ -167,50 +117,6 @@ fn written(alloc: Global, files: Files<Fused>, writes: &Writes) -> Result<Outcom
     Ok(Outcome { reached, files })
 }
 
-fn left_of(alloc: Global, file: &mut Fused) -> Result<Left, Fail> {
-    let written = Vec::from_slice(alloc, file.inner().bytes())?;
-    file.crash();
-    let synced = Vec::from_slice(alloc, file.inner().bytes())?;
-    Ok(Left { written, synced })
-}
-
-/// The file as it is found afterwards, with a fuse that doesn't blow.
-fn found(alloc: Global, left: &Left, is_written: bool) -> io::Result<Fused> {
-    let mut copy = Memory::new(alloc);
-    let bytes = if is_written {
-        left.written.as_slice()
-    } else {
-        left.synced.as_slice()
-    };
-    copy.write_at(0, bytes)?;
-    Ok(Fuse::new(copy, u64::MAX))
-}
-
-fn number(ballot: Option<Ballot>) -> u64 {
-    match ballot {
-        Some(ballot) => ballot.number(),
-        None => 0,
-    }
-}
-
-/// What the records hold, in the words of `CONTENTS`.
-fn content(alloc: Global, records: &mut Stored) -> Result<String, Fail> {
-    let tried = number(records.tried()?);
-    let promised = number(records.promised()?);
-    let first = Place::new(1).ok_or("a place")?;
-    let votes = records.votes_from(first)?;
-    let mut text = format!(in alloc; "{tried} {promised}")?;
-    for (place, cast) in votes.rows() {
-        let vote = format!(in alloc;
-            " {place} {} {:?}",
-            cast.ballot.number(),
-            cast.value.as_slice()
-        )?;
-        text.push_str(vote.as_str())?;
-    }
-    Ok(text)
-}
-
 /// What the files hold, by a node's number of writes. Every database that is found opens, and holds one of `CONTENTS`.
 fn held(alloc: Global, log: &Left, db: &Left, which: (bool, bool)) -> Result<usize, Fail> {
     let files = Files {
@@ -247,7 +153,12 @@ fn stopped_at(
     stopped: Stopped,
     calls: u64,
 ) -> Result<Reached, Fail> {
-    let mut outcome = written(alloc, fused(alloc, stopped, calls), writes)?;
+    let (log, db) = calls_of(stopped, calls);
+    let files = Files {
+        log: fused(alloc, &[], log)?,
+        db: fused(alloc, &[], db)?,
+    };
+    let mut outcome = written(alloc, files, writes)?;
     let log = left_of(alloc, &mut outcome.files.log)?;
     let db = left_of(alloc, &mut outcome.files.db)?;
     for which in FOUND {

@@ -1,16 +1,30 @@
 use acceptor_store::{OpenFault, SqlRecords};
-use sqlite::{Connection, Error};
+use acceptor_store_parts::{Version, version_of};
+use sqlite::{Connection, Error, MemStore};
 use std::alloc::Global;
 use std::test::Fail;
 
+/// Tables of version 1.
 const TABLES: &str =
     "CREATE TABLE ballot (id INTEGER PRIMARY KEY, number INTEGER NOT NULL) STRICT; CREATE TABLE vote (place INTEGER PRIMARY KEY, ballot INTEGER NOT NULL, value BLOB NOT NULL) STRICT; INSERT INTO ballot (id, number) VALUES (0, 8), (1, 0)";
 
-fn opened(alloc: Global, before: &str, after: &str) -> Result<Option<OpenFault>, Error> {
+/// What version 2 has beside them.
+const LEARNED: &str =
+    "CREATE TABLE learned (place INTEGER PRIMARY KEY, value BLOB NOT NULL) STRICT";
+
+const SECOND: &str = "INSERT INTO ballot (id, number) VALUES (2, 2)";
+
+/// A connection to a database that these texts made.
+fn made(alloc: Global, texts: &[&str]) -> Result<Connection<MemStore>, Error> {
     let mut conn = Connection::open_in_memory(alloc)?;
-    conn.execute_batch(before)?;
-    conn.execute_batch(after)?;
-    match SqlRecords::open(alloc, conn) {
+    for text in texts {
+        conn.execute_batch(text)?;
+    }
+    Ok(conn)
+}
+
+fn opened(alloc: Global, texts: &[&str]) -> Result<Option<OpenFault>, Error> {
+    match SqlRecords::open(alloc, made(alloc, texts)?) {
         Ok(_) => Ok(None),
         Err((fault, _)) => Ok(Some(fault)),
     }
@@ -23,7 +37,7 @@ fn which_tables_are_foreign(rt: HostRuntime) -> Result<(), Fail> {
         "INSERT INTO vote VALUES (3, 9, x'00'), (2, 16, x'0907')",
         "INSERT INTO vote VALUES (1000000, 16, x'00112233445566778899aabbccddeeff00112233445566778899aabbccddeeff00112233445566778899aabbccddeeff00112233445566778899aabbccddeeff')",
     ] {
-        assert_eq!(rt; opened(rt.alloc(), TABLES, text)?, None, "{text}");
+        assert_eq!(rt; opened(rt.alloc(), &[TABLES, text])?, None, "{text}");
     }
     for text in [
         "INSERT INTO vote VALUES (0, 16, x'0907')",
@@ -36,9 +50,77 @@ fn which_tables_are_foreign(rt: HostRuntime) -> Result<(), Fail> {
         "INSERT INTO ballot VALUES (2, 0)",
         "DROP TABLE vote",
     ] {
-        let fault = opened(rt.alloc(), TABLES, text)?;
+        let fault = opened(rt.alloc(), &[TABLES, text])?;
         assert_eq!(rt; fault, Some(OpenFault::Foreign), "{text}");
     }
+    Ok(())
+}
+
+/// Learned values at a node's places, of at most 64 bytes, open, and all others are foreign.
+#[test]
+fn which_learned_values_are_foreign(rt: HostRuntime) -> Result<(), Fail> {
+    for (text, fault) in [
+        ("INSERT INTO learned VALUES (3, x'00'), (1, x'')", None),
+        (
+            "INSERT INTO learned VALUES (1000000, x'00112233445566778899aabbccddeeff00112233445566778899aabbccddeeff00112233445566778899aabbccddeeff00112233445566778899aabbccddeeff')",
+            None,
+        ),
+        (
+            "INSERT INTO learned VALUES (0, x'0907')",
+            Some(OpenFault::Foreign),
+        ),
+        (
+            "INSERT INTO learned VALUES (1000001, x'0907')",
+            Some(OpenFault::Foreign),
+        ),
+        (
+            "INSERT INTO learned VALUES (1, x'00112233445566778899aabbccddeeff00112233445566778899aabbccddeeff00112233445566778899aabbccddeeff00112233445566778899aabbccddeeff00')",
+            Some(OpenFault::Foreign),
+        ),
+    ] {
+        let found = opened(rt.alloc(), &[TABLES, LEARNED, SECOND, text])?;
+        assert_eq!(rt; found, fault, "{text}");
+    }
+    Ok(())
+}
+
+/// Tables of version 1 with a part of what version 2 has beside them are foreign, and so is a part of the tables of version 2.
+#[test]
+fn which_mixtures_are_foreign(rt: HostRuntime) -> Result<(), Fail> {
+    for [first, then] in [
+        [SECOND, ""],
+        [LEARNED, ""],
+        [LEARNED, "INSERT INTO ballot VALUES (2, 1)"],
+        [LEARNED, "INSERT INTO ballot VALUES (2, 2), (3, 0)"],
+        [LEARNED, "INSERT INTO ballot VALUES (2, 2); DROP TABLE vote"],
+        [LEARNED, "DROP TABLE vote; DROP TABLE ballot"],
+        [
+            "CREATE TABLE learned (place INTEGER PRIMARY KEY) STRICT",
+            SECOND,
+        ],
+    ] {
+        let fault = opened(rt.alloc(), &[TABLES, first, then])?;
+        assert_eq!(rt; fault, Some(OpenFault::Foreign), "{first}; {then}");
+    }
+    Ok(())
+}
+
+/// The version of what an open that failed leaves.
+fn left(alloc: Global, texts: &[&str]) -> Result<Option<Version>, Fail> {
+    let Err((_, store)) = SqlRecords::open(alloc, made(alloc, texts)?) else {
+        return Err(Fail::new("it opens"));
+    };
+    match Connection::over(alloc, store) {
+        Ok(conn) => Ok(version_of(alloc, conn.schema())?),
+        Err((error, _)) => Err(Fail::new(format_args!("{error}"))),
+    }
+}
+
+/// A vote that no node writes leaves the tables those of version 1.
+#[test]
+fn foreign_tables_are_left(rt: HostRuntime) -> Result<(), Fail> {
+    let vote = "INSERT INTO vote VALUES (0, 16, x'0907')";
+    assert_eq!(rt; left(rt.alloc(), &[TABLES, vote])?, Some(Version::First));
     Ok(())
 }
 
@@ -48,20 +130,24 @@ fn no_value(rt: HostRuntime) -> Result<(), Fail> {
     let text =
         "CREATE TABLE ballot (id INTEGER PRIMARY KEY, number INTEGER NOT NULL) STRICT; INSERT INTO ballot VALUES (0, 0), (1, 0)";
     let votes = "CREATE TABLE vote (place INTEGER PRIMARY KEY, ballot INTEGER NOT NULL) STRICT";
-    assert_eq!(rt; opened(rt.alloc(), text, votes)?, Some(OpenFault::Foreign));
+    assert_eq!(rt;
+        opened(rt.alloc(), &[text, votes])?,
+        Some(OpenFault::Foreign)
+    );
     Ok(())
 }
 
-/// What stands beside the two tables isn't foreign, and is refused.
+/// What stands beside the tables of either version isn't foreign, and is refused.
 #[test]
 fn what_else_is_refused(rt: HostRuntime) -> Result<(), Fail> {
     for text in [
         "CREATE TABLE more (id INTEGER PRIMARY KEY) STRICT",
         "CREATE INDEX by_ballot ON vote (ballot)",
+        "CREATE TABLE learned (place INTEGER PRIMARY KEY, value BLOB NOT NULL) STRICT; INSERT INTO ballot VALUES (2, 2); CREATE INDEX by_value ON learned (value)",
         "DROP TABLE vote; DROP TABLE ballot; CREATE TABLE more (id INTEGER PRIMARY KEY) STRICT",
         "BEGIN",
     ] {
-        let fault = opened(rt.alloc(), TABLES, text)?;
+        let fault = opened(rt.alloc(), &[TABLES, text])?;
         assert_eq!(rt; fault, Some(OpenFault::Refused), "{text}");
     }
     Ok(())
