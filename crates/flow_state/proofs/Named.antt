@@ -1,10 +1,10 @@
 -- Leases that are named: the one of a modem and tag, and the names with one more lease.
-use Rattle.std.proofs.Common.{◌≡◌, ◌≢◌, ℕ, ◌<◌, ◌≤◌, Bool, true, false, cond, not, ◌&&◌, List, length, slice_get, Option, Some, None, refl, sym, ap, ◌∙◌, eqb, ltb, arith}
+use Rattle.std.proofs.Common.{◌≡◌, ◌≢◌, ℕ, ◌≤◌, Bool, true, false, cond, not, ◌&&◌, List, length, slice_get, Option, Some, None, refl, sym, ap, ◌∙◌, eqb, ltb, arith}
 use Rattle.std.specs.List.{find}
 use Rattle.std.specs.Option.{option_map_or}
 use Rattle.std.proofs.lemmas.Bool.{eqb-true}
 use Rattle.flow_state.specs.Rows.{Lease}
-use Rattle.flow_state.specs.StoredLeases.{Names, AreNamedFrom, AreNamed, named, is_after, is_lease_from, put_at}
+use Rattle.flow_state.specs.StoredLeases.{Names, AreNamedFrom, AreNamed, NameLeases, named, is_after, is_lease_from, put_at}
 use Rattle.flow_state.proofs.Puts.{find_placed, find_nowhere, at_put, other_put}
 
 both : (a b : Bool) → (a && b) ≡ true → (a ≡ true) × (b ≡ true)
@@ -92,6 +92,28 @@ kept_name es modem tag place m t p was is apart =
       | false ↦ λ g. is
     ] refl
 
+pub fewer_names : (es : Names) (modem tag m t p : ℕ) → cond (eqb modem m && eqb tag t) None (named es m t) ≡ Some p → named es m t ≡ Some p
+fewer_names es modem tag m t p e =
+    elim (eqb modem m && eqb tag t) as (λ b. cond b None (named es m t) ≡ Some p → named es m t ≡ Some p) [ true ↦ λ f. absurd cc | false ↦ λ f. f ] e
+
+pub one_holder : (a b c d : ℕ) → true ≡ (eqb a b && eqb c d) → (a ≡ b) × (c ≡ d)
+one_holder a b c d e = let parts = both (eqb a b) (eqb c d) (sym e) in (eqb-true a b parts.0, eqb-true c d parts.1)
+
+pub not_named : (o : Option ℕ) (place : ℕ) → false ≡ option_map_or (λ p. eqb p place) o false → o ≡ Some place → ⊥
+not_named o place e is = false_same place (e ∙ ap (λ (p : Option ℕ). option_map_or (λ q. eqb q place) p false) is)
+  where
+    false_same : (n : ℕ) → false ≡ eqb n n → ⊥
+    false_same n f = let same : eqb n n ≡ true = grind arith in false_true (f ∙ same)
+      where
+        false_true : false ≡ true → ⊥
+        false_true g = cc
+
+pub none_named : (o : Option ℕ) (place : ℕ) → o ≡ None → o ≡ Some place → ⊥
+none_named o place none is = none_some (sym none ∙ is)
+  where
+    none_some : None ≡ Some place → ⊥
+    none_some e = cc
+
 -- ---- with a lease put at a place
 
 module _ (ls : List Lease) (place : ℕ) (l : Lease) (before after : Option ℕ) (es added fs : Names) (named_before : Option ℕ)
@@ -128,3 +150,40 @@ module _ (ls : List Lease) (place : ℕ) (l : Lease) (before after : Option ℕ)
                 | false ↦ λ g. kept m.modem m.tag p (others m.modem m.tag g ∙ name) apart
               ] refl
         ] refl
+
+module _ (ls : List Lease) (place : ℕ) (l : Lease) (es added fs : Names)
+    (within : place ≤ length ls)
+    (are : NameLeases es ls)
+    (own : named added l.modem l.tag ≡ Some place)
+    (others : (m t : ℕ) → (eqb l.modem m && eqb l.tag t) ≡ false → named added m t ≡ named es m t)
+    (fewer : (m t p : ℕ) → named fs m t ≡ Some p → named added m t ≡ Some p)
+    (gone : (b : Lease) → slice_get ls place ≡ Some b → named fs b.modem b.tag ≡ Some place → (b.modem ≡ l.modem) × (b.tag ≡ l.tag))
+  where
+    same_holder : (a b c d : ℕ) → a ≡ b → c ≡ d → (eqb a b && eqb c d) ≡ false → ⊥
+    same_holder a b c d e f g =
+        let first : eqb a b ≡ true = grind (arith, e) in
+        let second : eqb c d ≡ true = grind (arith, f) in
+        true_false (sym (ap (λ q. q && eqb c d) first ∙ second) ∙ g)
+      where
+        true_false : true ≡ false → ⊥
+        true_false h = cc
+
+    pub names_put : NameLeases fs (put_at ls place l)
+    names_put m t p e =
+        elim (eqb l.modem m && eqb l.tag t) as (λ b. (eqb l.modem m && eqb l.tag t) ≡ b → (o : Lease) × (slice_get (put_at ls place l) p ≡ Some o) × (o.modem ≡ m) × (o.tag ≡ t)) [
+          | true ↦ λ g.
+              let is = one_holder l.modem m l.tag t (sym g) in
+              let same : place ≡ p = place_same place p (sym own ∙ ap (λ n. named added n l.tag) is.0 ∙ ap (named added m) is.1 ∙ fewer m t p e) in
+              (l, ap (slice_get (put_at ls place l)) (sym same) ∙ at_put ls place l within, is.0, is.1)
+          | false ↦ λ g. stood g (are m t p (sym (others m t g) ∙ fewer m t p e))
+        ] refl
+      where
+        stood : (eqb l.modem m && eqb l.tag t) ≡ false → (o : Lease) × (slice_get ls p ≡ Some o) × (o.modem ≡ m) × (o.tag ≡ t) → (o : Lease) × (slice_get (put_at ls place l) p ≡ Some o) × (o.modem ≡ m) × (o.tag ≡ t)
+        stood g (o, stands, of_modem, of_tag) =
+            elim (eqb p place) as (λ b. eqb p place ≡ b → (o : Lease) × (slice_get (put_at ls place l) p ≡ Some o) × (o.modem ≡ m) × (o.tag ≡ t)) [
+              | true ↦ λ f.
+                  let same : p ≡ place = eqb-true p place f in
+                  let holder = gone o (ap (slice_get ls) (sym same) ∙ stands) (ap (λ n. named fs n o.tag) of_modem ∙ ap (named fs m) of_tag ∙ e ∙ ap (λ (n : ℕ). Some n) same) in
+                  absurd (same_holder l.modem m l.tag t (sym holder.0 ∙ of_modem) (sym holder.1 ∙ of_tag) g)
+              | false ↦ λ f. let apart : p ≢ place = grind (arith, f) in (o, other_put ls place l p within apart ∙ stands, of_modem, of_tag)
+            ] refl

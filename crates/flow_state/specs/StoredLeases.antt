@@ -29,6 +29,10 @@ AreNamedFrom start es ls = (p : ℕ) (l : Lease) → slice_get ls p ≡ Some l �
 abbrev pub AreNamed : Option ℕ → Names → List Lease → Type 0
 AreNamed until es ls = (p : ℕ) (l : Lease) → slice_get ls p ≡ Some l → is_after until l.last ≡ true → named es l.modem l.tag ≡ Some p
 
+-- each name is that of a lease of the modem and tag, so that there are no more names than leases
+abbrev pub NameLeases : Names → List Lease → Type 0
+NameLeases es ls = (modem tag p : ℕ) → named es modem tag ≡ Some p → (l : Lease) × (slice_get ls p ≡ Some l) × (l.modem ≡ modem) × (l.tag ≡ tag)
+
 -- a lease of modem and tag that doesn't end before the start
 abbrev pub is_lease_from : (start modem tag : ℕ) → Lease → Bool
 is_lease_from start modem tag l = (l.modem == modem) && (l.tag == tag) && not (nat_lt l.last start)
@@ -59,6 +63,7 @@ pub record IsInOrder (a : Inside) : Type 0 where
   pub given : map (λ l. l.sid) a.latest.items ≡ range_with_len 1 (length a.latest.items)
   pub few : length a.latest.items ≤ last_sid
   pub named : AreNamed a.unnamed_until a.names.entries a.latest.items
+  pub name_leases : NameLeases a.names.entries a.latest.items
   pub bounds : AreBounds a.latest.items a.first_ends.items
   pub blocks : AreBlocks (length a.latest.items) (length a.first_ends.items)
 

@@ -62,6 +62,13 @@ pub(crate) fn later_end(end: Option<u64>, latest: &[Lease], place: Option<u16>) 
     }
 }
 
+/// The lease at a place.
+pub(crate) fn lease_at(latest: &[Lease], place: usize) -> Option<Lease>
+    ensures { result ≡ slice_get latest.now place }
+{
+    latest.get(place).copied()
+}
+
 /// Are they leases of one modem and tag?
 fn have_one_holder(a: Lease, b: Lease) -> bool
     ensures { result ≡ ((a.modem == b.modem) && (a.tag == b.tag)) }
@@ -83,6 +90,8 @@ fn name_place(names: &IndexMap<(u32, u32), u16>, lease: Lease, place: u16) -> bo
 fn forget_name(names: &mut IndexMap<(u32, u32), u16>, place: u16, before: Lease, lease: Lease)
     ensures own { named names.new.entries lease.modem lease.tag ≡ named names.old.entries lease.modem lease.tag }
     ensures kept { (m t p : ℕ) → named names.old.entries m t ≡ Some p → p ≢ place → named names.new.entries m t ≡ Some p }
+    ensures fewer { (m t p : ℕ) → named names.new.entries m t ≡ Some p → named names.old.entries m t ≡ Some p }
+    ensures gone { named names.new.entries before.modem before.tag ≡ Some place → (before.modem ≡ lease.modem) × (before.tag ≡ lease.tag) }
 {
     if have_one_holder(before, lease) {
         return;
@@ -102,6 +111,8 @@ pub(crate) fn forget_before(
 )
     ensures own { named names.new.entries lease.modem lease.tag ≡ named names.old.entries lease.modem lease.tag }
     ensures kept { (m t p : ℕ) → named names.old.entries m t ≡ Some p → p ≢ place → named names.new.entries m t ≡ Some p }
+    ensures fewer { (m t p : ℕ) → named names.new.entries m t ≡ Some p → named names.old.entries m t ≡ Some p }
+    ensures gone { (b : Lease) → before ≡ Some b → named names.new.entries b.modem b.tag ≡ Some place → (b.modem ≡ lease.modem) × (b.tag ≡ lease.tag) }
 {
     if let Some(before) = before {
         forget_name(names, place, before, lease);

@@ -5,7 +5,7 @@ ghost use Rattle.flow_state.specs.StoredLeases.{next_of};
 
 use crate::blocks::{BLOCK, first_end_of, first_over, put_at};
 use crate::flow::Lease;
-use crate::holders::{forget_before, is_after, later_end, named_lease};
+use crate::holders::{forget_before, is_after, later_end, lease_at, named_lease};
 use crate::limits::LAST_SID;
 use indexmap::IndexMap;
 use std::alloc::{AllocError, Global};
@@ -113,7 +113,7 @@ impl Leases {
         self.first_ends.reserve(1)?;
         let named = self.names.insert((lease.modem, lease.tag), place)?;
         self.unnamed_until = later_end(self.unnamed_until, &self.latest, named);
-        let before = self.latest.get(at).copied();
+        let before = lease_at(&self.latest, at);
         forget_before(&mut self.names, place, before, lease);
         put_at(&mut self.latest, at, lease);
         let first_end = first_end_of(&self.latest, block);

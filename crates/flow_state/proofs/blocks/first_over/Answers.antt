@@ -1,4 +1,4 @@
-use Rattle.std.proofs.Common.{◌≡◌, ◌*◌, ◌<◌, ◌≤◌, length, get_or, sym, arith}
+use Rattle.std.proofs.Common.{get_or, sym, arith}
 use Rattle.std.proofs.lemmas.Option.{slice_get-get_or}
 use Rattle.flow_state.proofs.Bounds.{none_more, bound_from, over_found, over_nowhere}
 use Rattle.flow_state.proofs.blocks.first_over.Goals as goal

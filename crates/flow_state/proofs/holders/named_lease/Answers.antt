@@ -1,4 +1,4 @@
-use Rattle.std.proofs.Common.{◌≡◌, length, refl, sym, ◌∙◌}
+use Rattle.std.proofs.Common.{length, refl, sym, ◌∙◌}
 use Rattle.std.proofs.lemmas.Option.{slice_get_past, slice_get_read}
 use Rattle.flow_state.proofs.Named.{found_at, no_place, no_lease, other_lease}
 use Rattle.flow_state.proofs.holders.named_lease.Goals as goal

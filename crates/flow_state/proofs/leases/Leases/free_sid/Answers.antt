@@ -1,4 +1,4 @@
-use Rattle.std.proofs.Common.{◌≡◌, ◌≤◌, List, length, ltb, Option, Some, None, sym, ap, subst, ◌∙◌}
+use Rattle.std.proofs.Common.{◌≡◌, ◌≤◌, List, length, ltb, sym, ap, subst, ◌∙◌}
 use Rattle.std.specs.List.{find}
 use Rattle.flow_state.specs.Limits.{last_sid}
 use Rattle.flow_state.specs.Rows.{Lease, is_over}

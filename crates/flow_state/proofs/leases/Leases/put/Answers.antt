@@ -1,10 +1,10 @@
 use Rattle.std.proofs.Common.{◌≡◌, ℕ, ◌+◌, ◌-◌, ◌/◌, ◌<◌, ◌≤◌, true, false, List, length, slice_get, ltb, sym, ap, subst, ◌∙◌, refl, arith}
 use Rattle.flow_state.specs.Limits.{last_sid}
 use Rattle.flow_state.specs.Rows.{Lease, put_lease}
-use Rattle.flow_state.specs.StoredLeases.{AreNamed, IsBound, put_at}
+use Rattle.flow_state.specs.StoredLeases.{AreNamed, NameLeases, IsBound, put_at}
 use Rattle.flow_state.proofs.Bounds.{bounds_after}
 use Rattle.flow_state.proofs.Freed.{AreGiven, put_over, put_last, given_put, few_put}
-use Rattle.flow_state.proofs.Named.{named_put}
+use Rattle.flow_state.proofs.Named.{named_put, names_put}
 use Rattle.flow_state.proofs.Puts.{put_within, put_behind}
 use Rattle.flow_state.proofs.leases.Leases.put.Goals as goal
 
@@ -46,6 +46,12 @@ invariant_of-self-2 c =
           (λ m t e. c.in_ok-named.ensures.updates.2 (m, t) e)
           c.forget_before.ensures.own c.forget_before.ensures.kept c.later_end-self-inside.ensures.later
           (λ p o is e. c.later_end-self-inside.ensures.ended p o is (ap (λ (os : List Lease). slice_get os p) (c.deref.ensures.value ∙ c.in_ok-reserve.ensures.items) ∙ e)));
+      name_leases = subst (λ (os : List Lease). NameLeases c.forget_before.new.names.entries os) (sym (put_after c ∙ ap (λ n. put_at c.self.inside.latest.items n c.args.lease) at))
+          (names_put c.self.inside.latest.items (c.args.lease.sid - 1) c.args.lease c.self.inside.names.entries c.insert.new.self.entries c.forget_before.new.names.entries
+          (omega (arith, next)) c.self.invariant.name_leases c.in_ok-named.ensures.updates.1
+          (λ m t e. c.in_ok-named.ensures.updates.2 (m, t) e)
+          c.forget_before.ensures.fewer
+          (λ b e f. c.forget_before.ensures.gone b (c.lease_at-before.ensures ∙ ap (λ (os : List Lease). slice_get os c.from-at.result) (c.deref-2.ensures.value ∙ c.in_ok-reserve.ensures.items) ∙ ap (slice_get c.self.inside.latest.items) at ∙ e) f));
       bounds = bounds.0;
       blocks = bounds.1;
     }
