@@ -14,3 +14,6 @@ pub mod Found
 pub mod Assignments
 pub mod Wells
 pub mod Callers
+pub mod Puts
+pub mod Bounds
+pub mod Named

@@ -3,16 +3,25 @@ ghost use Rattle.flow_state.specs.Limits.{last_sid};
 ghost use Rattle.flow_state.specs.Rows.{Table, lease_of, free_sid, first_of, put_lease};
 ghost use Rattle.flow_state.specs.StoredLeases.{next_of};
 
+use crate::blocks::{BLOCK, first_end_of, first_over, put_at};
 use crate::flow::Lease;
+use crate::holders::{forget_before, is_after, later_end, lease_at, named_lease};
 use crate::limits::LAST_SID;
+use indexmap::IndexMap;
 use std::alloc::{AllocError, Global};
 use std::marker::Model;
 
 /// The latest lease of each SID of a channel that was given. SIDs are given in order from 1, so the
-/// lease of a SID stands at the place one below it.
+/// lease of a SID stands at the place one below it. `names` has the place of the lease that was put last
+/// for a modem and tag: that of each lease that ends after `unnamed_until`, so that it is found at once.
+/// `first_ends` has a time for each block of places, before which none of its leases ends, so that a
+/// block where none is over is passed over.
 #[derive(Drop)]
 pub struct Leases {
     latest: Vec<Lease>,
+    names: IndexMap<(u32, u32), u16>,
+    unnamed_until: Option<u64>,
+    first_ends: Vec<u64>,
 }
 
 impl Model for Leases {
@@ -35,13 +44,20 @@ impl Leases {
     {
         Leases {
             latest: Vec::new(alloc),
+            names: IndexMap::new(alloc),
+            unnamed_until: None,
+            first_ends: Vec::new(alloc),
         }
     }
 
-    /// The lease of modem and tag that isn't over, where the channel's next MAP begins at a start.
+    /// The lease of modem and tag that isn't over, where the channel's next MAP begins at a start. All
+    /// leases are looked through only where one that isn't named may not be over.
     pub(crate) fn lease_of(&self, modem: u32, tag: u32, start: u64) -> Option<Lease>
         ensures { (t : Table) → t.leases ≡ self.now → t.row.next_start ≡ start → result ≡ lease_of t modem tag }
     {
+        if is_after(self.unnamed_until, start) {
+            return named_lease(&self.latest, &self.names, modem, tag, start);
+        }
         self.latest
             .iter()
             .find(|lease| lease.modem == modem && lease.tag == tag && !(lease.last < start))
@@ -52,7 +68,7 @@ impl Leases {
     pub(crate) fn free_sid(&self, start: u64) -> Option<u16>
         ensures { (t : Table) → t.leases ≡ self.now → t.row.next_start ≡ start → result ≡ free_sid t }
     {
-        match self.latest.iter().find(|lease| lease.last < start) {
+        match first_over(&self.latest, &self.first_ends, start) {
             Some(lease) => Some(lease.sid),
             None => self.next_sid(),
         }
@@ -90,12 +106,18 @@ impl Leases {
         ensures ok { OnOk result (self.new ≡ put_lease lease self.old) }
         ensures err { OnErr result (self.new ≡ self.old) }
     {
-        let place = usize::from(lease.sid) - 1;
-        if place < self.latest.len() {
-            self.latest[place] = lease;
-        } else {
-            self.latest.push(lease)?;
-        }
+        let place = lease.sid - 1;
+        let at = usize::from(place);
+        let block = at / BLOCK;
+        self.latest.reserve(1)?;
+        self.first_ends.reserve(1)?;
+        let named = self.names.insert((lease.modem, lease.tag), place)?;
+        self.unnamed_until = later_end(self.unnamed_until, &self.latest, named);
+        let before = lease_at(&self.latest, at);
+        forget_before(&mut self.names, place, before, lease);
+        put_at(&mut self.latest, at, lease);
+        let first_end = first_end_of(&self.latest, block);
+        put_at(&mut self.first_ends, block, first_end);
         Ok(())
     }
 }

@@ -2,9 +2,11 @@
 #![tactic(auto)]
 
 mod at_channel;
+mod blocks;
 mod channel;
 mod flow;
 mod flows;
+mod holders;
 mod leases;
 mod limits;
 mod refusal;

@@ -1,9 +1,5 @@
-use Rattle.std.proofs.Common.{rules, ◌≡◌, ◌≤◌, List, length, ltb, sym, ap, subst, ◌∙◌}
+use Rattle.std.proofs.Common.{◌≡◌, ◌≤◌, List, length, ltb, sym, ap, subst, ◌∙◌}
 use Rattle.std.specs.List.{find}
-use Rattle.std.specs.Option.{option_copied}
-use Rattle.std.proofs.lemmas.Iterator.{YieldsList-from_slice}
-use Rattle.std.proofs.lemmas.Iterator.Search.{find_from_yields_List}
-use borrow.Author.Tests.{tests}
 use Rattle.flow_state.specs.Limits.{last_sid}
 use Rattle.flow_state.specs.Rows.{Lease, is_over}
 use Rattle.flow_state.specs.StoredLeases.{next_of}
@@ -13,12 +9,10 @@ use Rattle.flow_state.proofs.leases.Leases.free_sid.Goals as goal
 pub returns-in-Some : goal.returns-in-Some
 returns-in-Some c = λ t same start.
     let now : c.self.inside.latest.items ≡ t.leases = c.self.view_is ∙ sym same in
-    free_over t c.in-Some.lease.now (subst AreGiven now c.self.invariant.given) (subst (λ (ls : List Lease). length ls ≤ last_sid) now c.self.invariant.few)
+    free_over t c.in-Some.lease (subst AreGiven now c.self.invariant.given) (subst (λ (ls : List Lease). length ls ≤ last_sid) now c.self.invariant.few)
     (
     ap (find (is_over t)) (sym now) ∙ ap (λ n. find (λ (l : Lease). ltb l.last n) c.self.inside.latest.items) start
-    ∙ ap (find (λ (l : Lease). ltb l.last c.args.start)) (sym c.deref.ensures.value)
-    ∙ sym (find_from_yields_List (λ (l : Lease). ltb l.last c.args.start) _ _ _ c.find.ensures.ran (YieldsList-from_slice c.deref.result.now cc) (λ x b q k. search (rules, tests)))
-    ∙ ap option_copied c.in-Some.is
+    ∙ ap (find (λ (l : Lease). ltb l.last c.args.start)) (sym c.deref.ensures.value) ∙ sym c.first_over.ensures ∙ c.in-Some.is
     )
 
 pub returns-in-None : goal.returns-in-None
@@ -28,7 +22,5 @@ returns-in-None c = λ t same start.
     ∙ free_next t (subst AreGiven now c.self.invariant.given) (subst (λ (ls : List Lease). length ls ≤ last_sid) now c.self.invariant.few)
     (
     ap (find (is_over t)) (sym now) ∙ ap (λ n. find (λ (l : Lease). ltb l.last n) c.self.inside.latest.items) start
-    ∙ ap (find (λ (l : Lease). ltb l.last c.args.start)) (sym c.deref.ensures.value)
-    ∙ sym (find_from_yields_List (λ (l : Lease). ltb l.last c.args.start) _ _ _ c.find.ensures.ran (YieldsList-from_slice c.deref.result.now cc) (λ x b q k. search (rules, tests)))
-    ∙ ap option_copied c.in-None.is
+    ∙ ap (find (λ (l : Lease). ltb l.last c.args.start)) (sym c.deref.ensures.value) ∙ sym c.first_over.ensures ∙ c.in-None.is
     )
