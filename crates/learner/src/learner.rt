@@ -1,13 +1,11 @@
 //! A member as a learner.
 
 ghost use Rattle.std.specs.Prelude.{◌≡◌, ◌≢◌, ◌↔◌, IsTrue, IsOk, IfOk, None, Some, OnOk, OnErr, OnSome, is_some, option_copied};
-ghost use Rattle.std.specs.BTreeMap.{is_at};
-ghost use Rattle.std.specs.Map.{remove_entry};
-ghost use Rattle.std.specs.Ordering.{nat_cmp};
+ghost use Rattle.std.specs.Fn.{FnOnceReturnsAtMut};
 ghost use Rattle.ballots.specs.Members.{member_count};
 ghost use Rattle.ballots.specs.Rows.{at};
 ghost use Rattle.learner.specs.Proposals.{proposal_of};
-ghost use Rattle.learner.specs.Tally.{counts, groups_at, holding, known, no_tally, put_voters, teaches, voters_in};
+ghost use Rattle.learner.specs.Tally.{counts, groups_at, known, learn, no_tally, put_voters, teaches, voters_in};
 
 use crate::groups::{Groups, Proposal, Voters};
 use ballots::{Ballot, Bytes, Members, NodeId};
@@ -94,29 +92,30 @@ impl Learner {
         &self.learned
     }
 
-    /// Keeps a value for a place that isn't learned, beside the votes counted there: it makes the room, before `settle` or `let_go`.
-    pub fn hold(&mut self, place: u64, value: Bytes) -> Result<(), AllocError>
-        ensures ok { OnOk result (self.new ≡ holding self.old place value) }
+    /// Learns a value at a place that isn't learned, once `write` has written it down in `rows`, and answers what `write` gave. The room comes first: where memory is refused nothing is written. Where the write fails nothing is learned.
+    pub fn learn_after<W, E, F: FnOnce(&mut W) -> Result<(), E>>(
+        &mut self,
+        place: u64,
+        value: Bytes,
+        rows: &mut W,
+        write: F,
+    ) -> Result<Result<(), E>, AllocError>
+        requires unlearned { at self.old.learned place ≡ None }
+        requires callable { F.IsAlwaysCallable write }
+        ensures written { IfOk result (λ written. FnOnceReturnsAtMut F.FnOnce write rows.old written rows.new) }
+        ensures learned { IfOk result (λ written. OnOk written (self.new ≡ learn self.old place value)) }
+        ensures refused { IfOk result (λ written. OnErr written (self.new ≡ self.old)) }
         ensures err { OnErr result (self.new ≡ self.old) }
+        ensures unwritten { OnErr result (rows.new ≡ rows.old) }
     {
         self.learned.insert(place, value).map_err(AllocError::from)?;
-        Ok(())
-    }
-
-    /// The value that is kept for a place is learned, and votes there are counted no more. It takes no memory.
-    pub fn settle(&mut self, place: u64)
-        ensures counted { self.new.counted ≡ remove_entry (is_at (nat_cmp place)) self.old.counted }
-        ensures learned { self.new.learned ≡ self.old.learned }
-    {
+        let written = write(rows);
+        if written.is_err() {
+            self.learned.remove(&place);
+            return Ok(written);
+        }
         self.counted.remove(&place);
-    }
-
-    /// The value that is kept for a place is let go. It takes no memory.
-    pub fn let_go(&mut self, place: u64)
-        ensures counted { self.new.counted ≡ self.old.counted }
-        ensures learned { self.new.learned ≡ remove_entry (is_at (nat_cmp place)) self.old.learned }
-    {
-        self.learned.remove(&place);
+        Ok(written)
     }
 
     /// A value is known to be chosen at a place. The first one stays, and a further one takes no memory.
@@ -128,9 +127,7 @@ impl Learner {
         if self.learned.contains_key(&place) {
             return Ok(());
         }
-        self.hold(place, value)?;
-        self.settle(place);
-        Ok(())
+        self.learn_after(place, value, &mut (), |_nothing| Ok(()))?
     }
 
     /// A vote of a node was heard, and counts once for its ballot and value. Where with it a majority of the members has voted so, the value is given back: it is chosen (Lamport, Paxos Made Simple, section 2.3), nothing changed, and the caller learns it.

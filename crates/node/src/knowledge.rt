@@ -102,15 +102,14 @@ impl Knowledge {
     pub(crate) fn read<R: Records>(
         alloc: Global,
         records: &mut R,
-        first: Place,
     ) -> Result<Knowledge, RecordsFault>
-        requires { first ≡ 1 }
         ensures value { IsTrue (R.is_honest records.new) → IfOk result (λ k. (c : Content) → Holds (R.may_find records.old) c → k ≡ record { tally = record { counted = []; learned = c.learned }; cursor = 0 }) }
         ensures kept { IsTrue (R.is_honest records.new) → Keeps result (R.may_find records.old) (R.may_find records.new) }
         ensures honest { IsTrue (R.is_honest records.new) → IsTrue (R.is_honest records.old) }
         ensures count { CountsFaults result (R.count_of records.old) (R.count_of records.new) }
         ensures broken { BreaksBy result (R.is_broken records.old) (R.is_broken records.new) }
     {
+        let first = Place::new(1).unwrap();
         let rows = records.learned_from(first)?;
         Ok(Knowledge {
             learner: learner_of(alloc, rows)?,
@@ -173,13 +172,11 @@ impl Knowledge {
         ensures count { CountsStops result (R.count_of records.old) (R.count_of records.new) }
         ensures broken { BreaksByStop result (R.is_broken records.old) (R.is_broken records.new) }
     {
-        let kept = value.copy(alloc)?;
-        self.learner.hold(place.number(), kept.into_bytes())?;
-        if let Err(fault) = records.put_learned(place, value) {
-            self.learner.let_go(place.number());
-            return Err(NodeFault::from(fault));
-        }
-        self.learner.settle(place.number());
+        let kept = value.copy(alloc)?.into_bytes();
+        self.learner
+            .learn_after(place.number(), kept, records, |records: &mut R| {
+                records.put_learned(place, value)
+            })??;
         Ok(())
     }
 

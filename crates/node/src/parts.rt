@@ -378,7 +378,7 @@ impl<R: Records> Parts<R> {
         if let Err(fault) = self.records.reopen() {
             return Err(self.fail(fault));
         }
-        let knowledge = match Knowledge::read(self.alloc, &mut self.records, place_of(1)) {
+        let knowledge = match Knowledge::read(self.alloc, &mut self.records) {
             Ok(knowledge) => knowledge,
             Err(fault) => return Err(self.fail(fault)),
         };

@@ -25,14 +25,14 @@ pub struct SchedNode<R: Records> {
     ghost somewhere: { IsTrue (R.is_honest parts.records) → ∥ ((s : Standing) × Stands R.may_find parts s) ∥₁ },
 }
 
-impl<R: Records> SchedNode<R> {
+impl<R: Records + Drop> SchedNode<R> {
     /// A node over these records, with a member's number, that has read none of them: of what they hold as learned a restart tells it. Where they are honest they hold some content, and so aren't in doubt of a write.
     pub fn new(alloc: Global, id: NodeId, members: Members, records: R) -> SchedNode<R>
         requires member { id < member_count members }
         requires certain { IsTrue (R.is_honest records) → ∥ ((c : Content) × Holds (R.may_find records) c) ∥₁ }
-        ensures who { who_of R.count_of R.is_broken result.parts ≡ record { id = id; members = member_count members; failures = R.count_of records; broken = R.is_broken records; down = false } }
-        ensures honest { R.is_honest result.parts.records ≡ R.is_honest records }
-        ensures stands { (c : Content) → Holds (R.may_find records) c → Stands R.may_find result.parts (Running (made c)) }
+        ensures who { ⟦<SchedNode<R> as Node>⟧.who result ≡ record { id = id; members = member_count members; failures = R.count_of records; broken = R.is_broken records; down = false } }
+        ensures honest { ⟦<SchedNode<R> as Node>⟧.honest result ≡ R.is_honest records }
+        ensures stands { (c : Content) → Holds (R.may_find records) c → ⟦<SchedNode<R> as Node>⟧.stands result (Running (made c)) }
     {
         SchedNode {
             parts: Parts {
