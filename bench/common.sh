@@ -31,17 +31,31 @@ closure() {
         END { count = split(tops, top, " "); for (k = 1; k <= count; k++) add(top[k]) }' "$root/crates.txt"
 }
 
-# run_over NAME DEP..: proves and runs bench/NAME/main.rt.in over these crates and libraries, in a workspace of its own. The
-# program's words are those of the array `arguments`, if there is one.
-run_over() {
+# workspace_over NAME DEP..: makes a workspace of its own for bench/NAME/main.rt.in over these crates and libraries; its folder is `workspace`.
+workspace_over() {
     local bench=${1}_bench source=$root/bench/$1/main.rt.in crate
     shift
-    mkdir -p "$made/crates/$bench/src"
-    cp "$source" "$made/crates/$bench/src/main.rt"
+    workspace=$made/crates/$bench
+    mkdir -p "$workspace/src"
+    cp "$source" "$workspace/src/main.rt"
     for crate in $(closure "$@"); do
         cp -r "$root/crates/$crate" "$made/crates"
         grep -E "^$crate:" "$root/crates.txt" >>"$made/crates.txt"
     done
     echo "$bench: $*" >>"$made/crates.txt"
-    (cd "$made/crates/$bench" && rt run --jobs 1 ${arguments[@]+-- "${arguments[@]}"})
+}
+
+# run_over NAME DEP..: proves and runs that. The program's words are those of the array `arguments`, if there is one.
+run_over() {
+    workspace_over "$@"
+    (cd "$workspace" && rt run --jobs 1 ${arguments[@]+-- "${arguments[@]}"})
+}
+
+# try_over NAME DEP..: as run_over, with a build that isn't proved and stops at what a proof rules out. Each word is a file, of which
+# the program gets a copy under its last name.
+try_over() {
+    local word given=()
+    workspace_over "$@"
+    for word in "${arguments[@]}"; do given+=(--data "$(basename -- "$word")=$word"); done
+    (cd "$workspace" && rt try --seconds 1800 "${given[@]}" -- "${arguments[@]##*/}")
 }
