@@ -4,6 +4,7 @@ pub mod Rounds
 pub mod Moving
 pub mod Plants
 pub mod Comparisons
+pub mod TwoParts
 pub mod Wholes
 pub mod Played
 pub mod Listening

@@ -9,6 +9,7 @@ ghost use Rattle.node_worker.specs.Audits.{Fits, FitsAt, AreCounted, IsWhole, Is
 use crate::entry::Record;
 use crate::kept::Kept;
 use crate::plant::{has_come, is_next};
+use crate::sent::LetterPlace;
 use node::Node;
 
 /// The number of the first record that fails, or how many there are where entries are left over.
@@ -20,7 +21,13 @@ fn fits<N: Node>(kepts: &[Kept<N>], before: &[Record], next: &Record) -> bool
     ensures { IsTrue result ↔ Fits kepts.now before.now next.now }
 {
     match kepts.get(usize::from(next.node.number())) {
-        Some(kept) => is_next(before, next, kept.entries()) && has_come(before, next),
+        Some(kept) => {
+            let mut anywhere = LetterPlace {
+                record: 0,
+                letter: 0,
+            };
+            is_next(before, next, kept.entries()) && has_come(before, next, &mut anywhere)
+        }
         None => false,
     }
 }

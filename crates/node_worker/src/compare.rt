@@ -1,6 +1,6 @@
 //! Copies and comparisons of lists of what nodes send and release.
 
-ghost use Rattle.std.specs.Prelude.{◌≡◌, IfOk, IsTrue, ◌↔◌, Contains};
+ghost use Rattle.std.specs.Prelude.{◌≡◌, IfOk, IsTrue, ◌↔◌};
 
 use ballots::Letter;
 use map_release::Numbered;
@@ -41,18 +41,6 @@ pub fn are_same_letters(a: &[Letter], b: &[Letter]) -> bool
         }
     }
     true
-}
-
-/// Whether a letter is one of these.
-pub fn is_among(letters: &[Letter], letter: &Letter) -> bool
-    ensures { IsTrue result ↔ Contains letters.now letter.now }
-{
-    for other in letters {
-        if other.is_same(letter) {
-            return true;
-        }
-    }
-    false
 }
 
 /// Whether two lists of outputs are the same.

@@ -10,6 +10,7 @@ mod entry;
 mod kept;
 mod laws;
 mod plant;
+mod sent;
 mod worker;
 
 pub use audits::{Torn, audit};

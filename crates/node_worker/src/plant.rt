@@ -13,10 +13,10 @@ ghost use Rattle.node_worker.specs.declared.entry.Done.{Done as Noted};
 ghost use Rattle.node_worker.specs.Runs.{IsLegal, IsModemEvent, IsOfModem, IsSilent, IsOutputAt, SendsAsOwner};
 ghost use Rattle.node_worker.specs.Legal.{entries_of, letters_of, outputs_of, Comes, Begins, MayRecord};
 
-use crate::compare::is_among;
 use crate::entry::{Cause, Done, Entry, Record};
 use crate::kept::{Kept, WorkFault};
-use ballots::{Letter, Members};
+use crate::sent::{LetterPlace, was_sent};
+use ballots::Members;
 use grant_machine::Output;
 use minislot_time::Slot;
 use modem::Modem;
@@ -33,6 +33,9 @@ pub struct Plant<N: Node> {
     room: usize,
     records: Vec<Record>,
     modems: Vec<Modem>,
+    // For the node of each number, where its last letter was found: the search for the next begins there. What is found
+    // doesn't hang on it.
+    last_letters: [LetterPlace; 5],
     of: PhantomData<N>,
 }
 
@@ -69,6 +72,10 @@ impl<N: Node> Plant<N> {
             room,
             records,
             modems,
+            last_letters: [LetterPlace {
+                record: 0,
+                letter: 0,
+            }; 5],
             of: PhantomData,
         })
     }
@@ -93,7 +100,11 @@ impl<N: Node> Plant<N> {
             || done.node.number() >= self.members.count()
             || kept.members().count() != self.members.count()
             || !is_next(self.records.as_slice(), &done, kept.entries())
-            || !has_come(self.records.as_slice(), &done)
+            || !has_come(
+                self.records.as_slice(),
+                &done,
+                &mut self.last_letters[usize::from(done.node.number())],
+            )
         {
             return Err(done);
         }
@@ -216,24 +227,12 @@ pub(crate) fn is_next(records: &[Record], done: &Done, entries: &[Entry]) -> boo
     }
 }
 
-// Whether a received letter is to the node and was sent.
-pub(crate) fn has_come(records: &[Record], done: &Done) -> bool
+// Whether a received letter is to the node and was sent. The search for it begins at a place.
+pub(crate) fn has_come(records: &[Record], done: &Done, place: &mut LetterPlace) -> bool
     ensures { IsTrue result ↔ Comes (letters_of records.now) done.now.node done.now.entry.cause }
 {
     match done.entry.cause() {
-        Cause::Letter(letter) => letter.to == done.node && was_sent(records, letter),
+        Cause::Letter(letter) => letter.to == done.node && was_sent(records, letter, place),
         Cause::Ask(_) => true,
     }
-}
-
-// Whether a record sent the letter.
-fn was_sent(records: &[Record], letter: &Letter) -> bool
-    ensures { IsTrue result ↔ Contains (letters_of records.now) letter.now }
-{
-    for record in records {
-        if is_among(record.entry.letters(), letter) {
-            return true;
-        }
-    }
-    false
 }

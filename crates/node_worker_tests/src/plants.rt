@@ -62,6 +62,42 @@ fn a_letter_is_recorded_once_it_was_sent(rt: HostRuntime) -> Result<(), Fail> {
     Ok(())
 }
 
+// Whether both of node k's records are taken, in this order.
+fn are_recorded(
+    plant: &mut Plant<PlainNode>,
+    kepts: &Kepts,
+    k: usize,
+    first: Done,
+    second: Done,
+) -> bool {
+    is_recorded(plant, kepts, k, first) && is_recorded(plant, kepts, k, second)
+}
+
+// Whether node 1's receipts of two letters of node 0 are taken, of the later letter first.
+fn is_taken_in_another_order(
+    alloc: Global,
+    kepts: &mut Kepts,
+    plant: &mut Plant<PlainNode>,
+) -> Option<bool> {
+    let (first, second) = (does(kepts, 0, lead())?, does(kepts, 0, lead())?);
+    let later = answer_to(alloc, kepts, &second, 1)?;
+    let earlier = answer_to(alloc, kepts, &first, 1)?;
+    let are_led = are_recorded(plant, kepts, 0, first, second);
+    Some(are_led && are_recorded(plant, kepts, 1, later, earlier))
+}
+
+#[test]
+fn letters_are_recorded_in_another_order(rt: HostRuntime) -> Result<(), Fail> {
+    let alloc = rt.alloc();
+    let mut kepts = three(alloc, 2)?;
+    let mut plant = plant_of_three(alloc)?;
+    assert_eq!(rt;
+        is_taken_in_another_order(alloc, &mut kepts, &mut plant),
+        Some(true)
+    );
+    Ok(())
+}
+
 // Whether a second thing that a node did is taken after another node's record in its place.
 fn is_taken_after_another(
     kepts: &mut Kepts,

@@ -20,8 +20,12 @@ may g c =
     c.as_slice.ensures.value c.as_slice-else-not-is_next.ensures.value c.entries.ensures.entries
     (c.if-not-is_next.ensures.0 refl) (c.if-not-has_come.ensures.0 refl)
 
+-- where the search alone was done
 pub invariant_of-self : goal.invariant_of-self
-invariant_of-self g c =
+invariant_of-self g c = (c.self.invariant.0, c.self.invariant.1, c.self.invariant.2)
+
+pub invariant_of-self-2 : goal.invariant_of-self-2
+invariant_of-self-2 g c =
     let P : List Done → Type 0 = λ ds. IsSound (member_count c.self.inside.members) ds in
     let heard : Listened (outputs_of c.self.inside.records.items) c.self.inside.modems.items = c.self.invariant.2 in
     let Q : List Done → Type 0 = λ ds. HaveListened heard.0 (outputs_of ds) c.self.inside.modems.items heard.1 in (
