@@ -117,6 +117,10 @@ HadIn g version conn c = ((state g conn).now.schema ≡ schema_of version) × Ar
 abbrev pub Had : {S : Type 0} → Ghosts S → Held S → Content → Type 0
 Had g conn c = (((state g conn).now.schema ≡ blank_schema) × (c ≡ no_content)) ⊎ ((version : Version) × HadIn g version conn c)
 
+-- a crash left it before too, or these are tables of version 2 of the content that the connection had, which a node wrote: of a database that no node wrote nothing else is left
+abbrev pub IsLeftWhole : {S : Type 0} → Ghosts S → Held S → Trees → Type 0
+IsLeftWhole g conn db = (state g conn).may_leave db ⊎ ((c : Content) × Had g conn c × AreTables db c)
+
 -- it serves in this version what the older one had, of which this is the promised ballot
 abbrev pub Finds : {S : Type 0} → Ghosts S → Version → Held S → Held S → Option ℕ → Type 0
 Finds g version old new highest =

@@ -19,7 +19,7 @@ ghost use Rattle.sqlite_trees.specs.View.{IsClean, doubt};
 ghost use Rattle.acceptor_store_parts.specs.Foreign.{IsForeignSchema};
 ghost use Rattle.acceptor_store_parts.specs.Serves.{Serves, StillServes, DoesNotServe, StaysOpen};
 ghost use Rattle.acceptor_store_parts.specs.Stops.{LeavesOpen, leaves_open};
-ghost use Rattle.acceptor_store.specs.Linked.{MayFind, IsHonest, is_honest, Tells, Reopens, Had, HasFurther, IsFoundIn, SeesForeign};
+ghost use Rattle.acceptor_store.specs.Linked.{MayFind, IsHonest, is_honest, Tells, Reopens, Had, HasFurther, IsFoundIn, IsLeftWhole, SeesForeign};
 
 use acceptor::{Records, RecordsFault};
 use acceptor_store_parts::{Stop, Version};
@@ -198,6 +198,7 @@ impl<S: Alter + Drop> SqlRecords<S> {
         ensures holds { IfOk result (λ r. IsHonest S.Store r → (c : Content) × Had S.Store conn c × Holds (MayFind S.Store r.held) c) }
         ensures clean { IfOk result (λ r. IsHonest S.Store r → HasCleanDisk (state S.Store conn)) }
         ensures own { IfOk result (λ r. IsHonest S.Store r → SeesForeign S.Store conn → ⊥) }
+        ensures whole { IfErr result (λ e. IsClean (S.Store.view e.1) → (db : Trees) → S.Store.recovers e.1 db → IsLeftWhole S.Store conn db) }
         ensures foreign { IfErr result (λ e. e.0 ≡ OpenFault.Foreign → IsClean (S.Store.view e.1) → SeesForeign S.Store conn) }
         ensures used { IsTrue (state S.Store conn).in_transaction → IsErrAnd result (λ e. e.0 ≡ OpenFault.Refused) }
         ensures unowned { (state S.Store conn).in_transaction ≡ false → IsForeignSchema (state S.Store conn).now.schema → IsErrAnd result (λ e. e.0 ≡ OpenFault.Foreign) }

@@ -5,14 +5,15 @@ ghost use Rattle.std.specs.List.{AllByRecursion};
 ghost use Rattle.ballots.specs.Ballots.{number_of};
 ghost use Rattle.acceptor.specs.Content.{AreRowsFrom, Content};
 ghost use Rattle.sqlite.specs.State.{HasCleanDisk, Survives};
+ghost use Rattle.sqlite.specs.Tree.{Trees};
 ghost use Rattle.sqlite.specs.Held.{state};
 ghost use Rattle.sqlite_trees.specs.View.{IsClean, doubt};
 ghost use Rattle.acceptor_store_parts.specs.Foreign.{HoldsNone, IsForeignSchema};
 ghost use Rattle.acceptor_store_parts.specs.Rowids.{AreByRowid, IsReread};
 ghost use Rattle.acceptor_store_parts.specs.Tables.{schema_of, store_schema};
 ghost use Rattle.acceptor_store_parts.specs.Stored.{HasLearned, IsCast, IsLearned, IsNumber, IsOfNode, learned_row, vote_row};
-ghost use Rattle.acceptor_store_parts.specs.Serves.{Serves, ServesAs, IsOther, HasRaised};
-ghost use Rattle.acceptor_store.specs.Linked.{HasFurther, Examines, Prepares, SeesForeign, HasNumbers, StaysAs, Finds};
+ghost use Rattle.acceptor_store_parts.specs.Serves.{Serves, ServesAs, IsOther, HasRaised, MayHaveRaised};
+ghost use Rattle.acceptor_store.specs.Linked.{HasFurther, Examines, Prepares, SeesForeign, HasNumbers, StaysAs, Finds, IsLeftWhole};
 
 use crate::{OpenFault, greatest_of};
 use acceptor_store_parts::{Stop, Unread, Version};
@@ -144,11 +145,11 @@ fn examined<S: Alter>(
 ) -> Result<Option<Ballot>, OpenFault>
     ensures tables { HasCleanDisk (state S.Store conn.new) → (state S.Store conn.old).now.schema ≡ schema_of version → IfOk result (Examines S.Store version conn.old conn.new) }
     ensures foreign { HasCleanDisk (state S.Store conn.new) → (state S.Store conn.old).now.schema ≡ schema_of version → result ≡ Err OpenFault.Foreign → IsReread version (state S.Store conn.old) → HoldsNone version (state S.Store conn.old).now.trees }
-    ensures clean { doubt (state S.Store conn.old).is_clean ≤ doubt (state S.Store conn.new).is_clean }
+    ensures survives { Survives (state S.Store conn.old) (state S.Store conn.new) (λ _. (state S.Store conn.old).now.schema ≡ schema_of version → ⊥) }
 {
     let numbers = numbers_in(conn, version)?;
     let votes = votes_in(alloc, conn)?;
-    let learned = learned_in(alloc, conn, version)?;
+    learned_in(alloc, conn, version)?;
     Ok(greatest_of(numbers.1, votes.rows()))
 }
 
@@ -173,6 +174,8 @@ fn reread<S: Alter + Drop>(
 ) -> Result<(Connection<S>, Option<Ballot>), (OpenFault, S)>
     ensures tables { IfOk result (λ r. HasCleanDisk (state S.Store r.0) → (state S.Store conn).now.schema ≡ schema_of version → Finds S.Store version conn r.0 r.1) }
     ensures clean { IfOk result (λ r. doubt (state S.Store conn).is_clean ≤ doubt (state S.Store r.0).is_clean) }
+    ensures leaves { IfOk result (λ r. HasCleanDisk (state S.Store r.0) → (db : Trees) → (state S.Store r.0).may_leave db → (state S.Store conn).may_leave db) }
+    ensures left { IfErr result (λ e. IsClean (S.Store.view e.1) → (db : Trees) → S.Store.recovers e.1 db → (state S.Store conn).may_leave db) }
     ensures foreign { IfErr result (λ e. e.0 ≡ OpenFault.Foreign → IsClean (S.Store.view e.1) → HoldsNone version (state S.Store conn).committed.trees) }
 {
     // Over the store the rows stand by rowid, which no other call tells.
@@ -196,6 +199,8 @@ fn raised_version<S: Alter + Drop>(mut conn: Connection<S>) -> Result<Connection
     ensures raised { IfOk result (λ c. HasCleanDisk (state S.Store c) → HasRaised (state S.Store conn) (state S.Store c)) }
     ensures clean { IfOk result (λ c. doubt (state S.Store conn).is_clean ≤ doubt (state S.Store c).is_clean) }
     ensures fault { IfErr result (λ e. e.0 ≢ OpenFault.Foreign) }
+    ensures trusted { IfErr result (λ e. doubt (state S.Store conn).is_clean ≤ doubt (S.Store.view e.1).is_clean) }
+    ensures left { IfErr result (λ e. IsClean (S.Store.view e.1) → (db : Trees) → S.Store.recovers e.1 db → (state S.Store conn).may_leave db ⊎ MayHaveRaised (state S.Store conn) db) }
 {
     match acceptor_store_parts::raise_version(&mut conn) {
         Ok(()) => Ok(conn),
@@ -211,6 +216,7 @@ fn brought_up<S: Alter + Drop>(
 ) -> Result<(Connection<S>, Option<Ballot>), (OpenFault, S)>
     ensures tables { IfOk result (λ r. HasCleanDisk (state S.Store r.0) → (state S.Store conn).now.schema ≡ schema_of version → Prepares S.Store conn r.0 r.1) }
     ensures clean { IfOk result (λ r. doubt (state S.Store conn).is_clean ≤ doubt (state S.Store r.0).is_clean) }
+    ensures whole { IfErr result (λ e. IsClean (S.Store.view e.1) → (state S.Store conn).now.schema ≡ schema_of version → (db : Trees) → S.Store.recovers e.1 db → IsLeftWhole S.Store conn db) }
     ensures foreign { IfErr result (λ e. e.0 ≡ OpenFault.Foreign → IsClean (S.Store.view e.1) → HoldsNone version (state S.Store conn).committed.trees) }
 {
     let found = match reread(alloc, version, conn) {
@@ -233,6 +239,7 @@ pub fn prepared<S: Alter + Drop>(
 ) -> Result<(Connection<S>, Option<Ballot>), (OpenFault, S)>
     ensures tables { IfOk result (λ r. HasCleanDisk (state S.Store r.0) → Prepares S.Store conn r.0 r.1) }
     ensures clean { IfOk result (λ r. doubt (state S.Store conn).is_clean ≤ doubt (state S.Store r.0).is_clean) }
+    ensures whole { IfErr result (λ e. IsClean (S.Store.view e.1) → (db : Trees) → S.Store.recovers e.1 db → IsLeftWhole S.Store conn db) }
     ensures foreign { IfErr result (λ e. e.0 ≡ OpenFault.Foreign → IsClean (S.Store.view e.1) → SeesForeign S.Store conn) }
     ensures used { IsTrue (state S.Store conn).in_transaction → IsErrAnd result (λ e. e.0 ≡ OpenFault.Refused) }
     ensures unowned { (state S.Store conn).in_transaction ≡ false → IsForeignSchema (state S.Store conn).now.schema → IsErrAnd result (λ e. e.0 ≡ OpenFault.Foreign) }

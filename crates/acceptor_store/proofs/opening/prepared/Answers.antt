@@ -2,6 +2,7 @@ use Rattle.std.proofs.Common.{inl, Err, sym, ap, subst, ◌∙◌}
 use Rattle.acceptor_store_parts.specs.Foreign.{IsForeignSchema}
 use Rattle.acceptor_store.specs.Linked.{HasFurther}
 use Rattle.acceptor_store.proofs.Reopening.{told_rows, own_schema, all_prepare}
+use Rattle.acceptor_store.proofs.Leaving.{left_whole}
 use Rattle.acceptor_store.proofs.opening.prepared.Goals as goal
 
 pub returns-in-Ok-judged-clause-foreign : goal.returns-in-Ok-judged-clause-foreign
@@ -22,3 +23,7 @@ returns-in-Ok-judged-clause-tables g c =
 
 pub returns-in-Ok-judged-clause-unowned : goal.returns-in-Ok-judged-clause-unowned
 returns-in-Ok-judged-clause-unowned g c free foreign = absurd (own_schema c.in-Ok-judged.version (subst IsForeignSchema (sym c.schema-2.ensures.value ∙ c.in-Ok-judged.ensures.own) foreign))
+
+pub returns-in-Ok-judged-clause-whole : goal.returns-in-Ok-judged-clause-whole
+returns-in-Ok-judged-clause-whole g c =
+    left_whole g.S.Store c.in-Ok-judged.version c.args.conn c.brought_up.result (sym c.schema-2.ensures.value ∙ c.in-Ok-judged.ensures.own) c.brought_up.ensures.whole

@@ -1,4 +1,5 @@
-use Rattle.std.proofs.Common.{◌≡◌, false, true, IsTrue, refl, sym, subst, ◌∙◌, arith}
+use Rattle.std.proofs.Common.{◌≡◌, false, true, IsTrue, refl, sym, ap, subst, ◌∙◌, arith}
+use Rattle.sqlite.specs.Effect.{Database}
 use Rattle.sqlite_trees.specs.Tree.{Trees, IsTable}
 use Rattle.sqlite_trees.specs.View.{IsShaped, IsClean}
 use Rattle.sqlite_trees.specs.declared.store.Shape.TheVariants.{Table}
@@ -31,3 +32,17 @@ returns-in-Ok-clause-committed g c clean =
       record { opens = opening.0; live = opening.1; shaped = shaped c.args.version _ numbers votes (λ is. subst (λ (t : Trees). IsTable (t 2)) (sym trees) (learned is).0) },
       trees ∙ (c.into_store-store.ensures.undone.undone opened).0,
     )
+
+-- it is opened over what was committed, which a crash left before
+pub returns-in-Ok-clause-leaves : goal.returns-in-Ok-clause-leaves
+returns-in-Ok-clause-leaves g c clean db may =
+    let store = c.into_store-store.result in
+    let v = g.S.Store.view store in
+    let sure : IsClean v = omega (arith, c.in-Ok.ensures.clean, clean) in
+    let unbroken : v.is_broken ≡ false = sym (c.is_broken.ensures sure) ∙ c.if-is_broken.false in
+    let opened = is_open_now g.S.Store store (g.met.S.Store.broken_if_shut store) unbroken in
+    let undone = c.into_store-store.ensures.undone in
+    let opening = (c.in-Ok.ensures.opens clean).0 in
+    let same : db ≡ (g.S.Store.view c.args.conn.store).committed =
+    g.met.S.Store.settled c.in-Ok.again.store db opening.is_open may ∙ (ap (λ (d : Database). d.trees) (sym opening.clean) ∙ (c.in-Ok.ensures.trees clean ∙ (undone.undone opened).0)) in
+    subst (g.S.Store.recovers c.args.conn.store) (sym same) (g.met.S.Store.stays c.args.conn.store ((undone.kept sure).was_open opened))

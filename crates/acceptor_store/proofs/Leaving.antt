@@ -1,0 +1,41 @@
+-- What is left where an open fails.
+use Rattle.std.proofs.Common.{◌≡◌, ◌⊎◌, inl, inr, ℕ, Option, Ok, Err, Result, IfErr, ap, subst, ◌∙◌, arith}
+use Rattle.sqlite.specs.Store.{Ghosts}
+use Rattle.sqlite.specs.Tree.{Trees}
+use Rattle.sqlite.specs.Effect.{Database}
+use Rattle.sqlite.specs.State.{State, HasCleanDisk, Survives}
+use Rattle.sqlite.specs.Held.{Held, state}
+use Rattle.sqlite.proofs.StateLemmas.{survives_then}
+use Rattle.sqlite_trees.specs.View.{IsClean}
+use Rattle.acceptor_store_parts.specs.declared.Version.{Version}
+use Rattle.acceptor_store_parts.specs.declared.Version.TheVariants.{First}
+use Rattle.acceptor_store_parts.specs.Tables.{schema_of}
+use Rattle.acceptor_store_parts.specs.Serves.{ServesAs, IsOther, MayHaveRaised}
+use Rattle.acceptor_store.specs.declared.OpenFault.{OpenFault}
+use Rattle.acceptor_store.specs.Linked.{Finds, IsLeftWhole}
+
+-- the reads of a version's tables commit nothing
+pub reads_leave : (version : Version) (old mid late new : State) → Survives old mid (λ _. IsOther old) → Survives mid late (λ _. IsOther mid) → Survives late new (λ _. late.now.schema ≡ schema_of version → ⊥)
+    → (HasCleanDisk mid → old.now.schema ≡ schema_of version → mid.now ≡ old.now) → (HasCleanDisk late → mid.now.schema ≡ schema_of version → late.now ≡ mid.now)
+    → Survives old new (λ _. old.now.schema ≡ schema_of version → ⊥)
+reads_leave version old mid late new one two three same next =
+    let Other : Trees → Type 0 = λ _. old.now.schema ≡ schema_of version → ⊥ in
+    let middle : HasCleanDisk late → old.now.schema ≡ schema_of version → mid.now.schema ≡ schema_of version = λ clean has. ap (λ (d : Database). d.schema) (same (omega (arith, two.clean, clean)) has) ∙ has in
+    let both : Survives old late Other = survives_then old mid late (λ _. IsOther old) (λ _. IsOther mid) Other (λ _ db other has. other version has) (λ clean db other has. other version (middle clean has)) one two in
+    survives_then old late new Other (λ _. late.now.schema ≡ schema_of version → ⊥) Other (λ _ db other. other) (λ clean db other has.
+    let before : HasCleanDisk late = omega (arith, three.clean, clean) in
+    let there = middle before has in
+    other (ap (λ (d : Database). d.schema) (next before there) ∙ there)) both three
+
+-- a migration that failed leaves the tables of version 1, or those of version 2 with their content
+pub raises_whole : {S : Type 0} (g : Ghosts S) (version : Version) (conn found : Held S) (highest : Option ℕ) (db : Trees) → version ≡ First
+    → (HasCleanDisk (state g found) → (db : Trees) → (state g found).may_leave db → (state g conn).may_leave db) → HasCleanDisk (state g found) → Finds g version conn found highest
+    → (state g found).may_leave db ⊎ MayHaveRaised (state g found) db → IsLeftWhole g conn db
+raises_whole g version conn found highest db is leaves clean f (inl before) = inl (leaves clean db before)
+raises_whole g version conn found highest db is leaves clean f (inr raised) = inr (f.0, inr (version, f.1), raised f.0 (subst (λ v. ServesAs v (state g found) f.0) is f.2))
+
+-- the schema is known to be that of a version
+pub left_whole : {S X : Type 0} (g : Ghosts S) (version : Version) (conn : Held S) (r : Result X (OpenFault × S)) → (state g conn).now.schema ≡ schema_of version
+    → IfErr r (λ e. IsClean (g.view e.1) → (state g conn).now.schema ≡ schema_of version → (db : Trees) → g.recovers e.1 db → IsLeftWhole g conn db) → IfErr r (λ e. IsClean (g.view e.1) → (db : Trees) → g.recovers e.1 db → IsLeftWhole g conn db)
+left_whole g version conn (Ok x) schema h = tt
+left_whole g version conn (Err e) schema h = λ clean. h clean schema
