@@ -1,7 +1,6 @@
 -- What is known of a connection that was opened anew.
 use Rattle.std.proofs.Common.{◌≡◌, ◌⊎◌, inl, inr, ℕ, true, false, ◌&&◌, List, [], ◌∷◌, map, slice_get, Some, None, Option, Ok, Err, Result, IfErr, IfOk, OnOk, IsTrue, codes, refl, sym, ap, subst, subst₂, ◌∙◌, arith}
 use Rattle.std.proofs.Math.Logic.{∥∥₁_map, ∥∥₁_elim, ∥∥₁_prop}
-use Rattle.std.specs.Coded.{coded_ℕ}
 use base.Stored.{Coded-set}
 use mathlib.Core.Bool.{Bool-set}
 use Rattle.ballots.specs.declared.letters.Cast.{Cast}
@@ -20,8 +19,6 @@ use Rattle.sqlite.specs.Store.{Ghosts}
 use Rattle.sqlite.specs.Tree.{Trees}
 use Rattle.sqlite.specs.Effect.{Database, IsDatabase}
 use Rattle.sqlite.specs.State.{State, HasCleanDisk, Survives, Opens, IsUnchanged}
-use Rattle.sqlite.specs.Order.{Row}
-use Rattle.sqlite_trees.specs.Tree.{IsTable}
 use Rattle.acceptor_store_parts.specs.declared.Version.{Version}
 use Rattle.acceptor_store_parts.specs.declared.Version.TheVariants.{First, Second}
 use Rattle.acceptor_store_parts.specs.Rowids.{AreByRowid, AreShaped, Rereads}
@@ -41,7 +38,7 @@ use Rattle.acceptor_store_parts.proofs.Callers.{tables_prop, one_content}
 use Rattle.acceptor_store.specs.Linked.{Linked, MayFind, MayFindIn, IsHonest, IsLinked, Stands, IsTested, Tells, Reopens, Examines, Had, IsIn, IsFoundIn, Prepares, SeesForeign, HasNumbers, StaysAs, Finds as Found}
 use Rattle.acceptor_store.proofs.Calls.{parts, both}
 use Rattle.sqlite_trees.proofs.Doubt.{no_doubt, clean_of}
-use Rattle.acceptor_store.proofs.Found.{found_is, found_it, certain}
+use Rattle.acceptor_store.proofs.Found.{found_is, found_it}
 
 schema_set : IsSet Schema
 schema_set = Coded-set schema_row.the_row.coded
