@@ -1,39 +1,10 @@
 ghost use Rattle.std.specs.Prelude.{◌≡◌, ◌++◌, IfOk, OnOk};
-ghost use Rattle.std.specs.Int.{w16, w32, w64, to_be_bytes};
 ghost use Rattle.grant_machine.specs.declared.command.Command.TheVariants as commands;
 ghost use Rattle.command_log.specs.Spelling.{phy_byte, channel_spelling, flow_spelling, kind_spelling, spelling};
 
-use byteorder::{BigEndian, ByteOrder};
 use flow_state::{Channel, FlowKind, LAST_TIME, Phy};
 use grant_machine::Command;
 use std::alloc::{AllocError, Global};
-
-fn put_u16(out: &mut Vec<u8>, number: u16) -> Result<(), AllocError>
-    ensures { OnOk result (out.new.items ≡ out.old.items ++ to_be_bytes w16 number) }
-{
-    let mut word = [0; 2];
-    BigEndian::write_u16(&mut word, number);
-    out.extend_from_slice(&word)?;
-    Ok(())
-}
-
-fn put_u32(out: &mut Vec<u8>, number: u32) -> Result<(), AllocError>
-    ensures { OnOk result (out.new.items ≡ out.old.items ++ to_be_bytes w32 number) }
-{
-    let mut word = [0; 4];
-    BigEndian::write_u32(&mut word, number);
-    out.extend_from_slice(&word)?;
-    Ok(())
-}
-
-fn put_u64(out: &mut Vec<u8>, number: u64) -> Result<(), AllocError>
-    ensures { OnOk result (out.new.items ≡ out.old.items ++ to_be_bytes w64 number) }
-{
-    let mut word = [0; 8];
-    BigEndian::write_u64(&mut word, number);
-    out.extend_from_slice(&word)?;
-    Ok(())
-}
 
 /// The first byte of a channel.
 fn phy_byte(phy: Phy) -> u8
@@ -49,11 +20,12 @@ fn put_channel(out: &mut Vec<u8>, channel: Channel) -> Result<(), AllocError>
     ensures { OnOk result (out.new.items ≡ out.old.items ++ channel_spelling channel) }
 {
     out.extend_from_slice(&[channel.id, channel.ucd])?;
-    put_u16(out, channel.short_max)?;
+    out.extend_from_slice(&channel.short_max.to_be_bytes())?;
     let (ranging_start, ranging_end) = channel.ranging_backoff;
     let (data_start, data_end) = channel.data_backoff;
     out.extend_from_slice(&[ranging_start, ranging_end, data_start, data_end])?;
-    put_u64(out, channel.base)
+    out.extend_from_slice(&channel.base.to_be_bytes())?;
+    Ok(())
 }
 
 fn put_kind(out: &mut Vec<u8>, kind: FlowKind) -> Result<(), AllocError>
@@ -71,10 +43,10 @@ fn put_kind(out: &mut Vec<u8>, kind: FlowKind) -> Result<(), AllocError>
             base,
         } => {
             out.extend_from_slice(&[1])?;
-            put_u16(out, size)?;
-            put_u32(out, interval)?;
-            put_u32(out, jitter)?;
-            put_u64(out, base)?;
+            out.extend_from_slice(&size.to_be_bytes())?;
+            out.extend_from_slice(&interval.to_be_bytes())?;
+            out.extend_from_slice(&jitter.to_be_bytes())?;
+            out.extend_from_slice(&base.to_be_bytes())?;
             Ok(())
         }
         FlowKind::Poll {
@@ -83,9 +55,9 @@ fn put_kind(out: &mut Vec<u8>, kind: FlowKind) -> Result<(), AllocError>
             base,
         } => {
             out.extend_from_slice(&[2])?;
-            put_u32(out, interval)?;
-            put_u32(out, jitter)?;
-            put_u64(out, base)?;
+            out.extend_from_slice(&interval.to_be_bytes())?;
+            out.extend_from_slice(&jitter.to_be_bytes())?;
+            out.extend_from_slice(&base.to_be_bytes())?;
             Ok(())
         }
     }
@@ -95,8 +67,9 @@ fn put_flow_head(out: &mut Vec<u8>, ch: u8, modem: u32, tag: u32) -> Result<(), 
     ensures { OnOk result (out.new.items ≡ out.old.items ++ flow_spelling ch modem tag) }
 {
     out.extend_from_slice(&[ch])?;
-    put_u32(out, modem)?;
-    put_u32(out, tag)
+    out.extend_from_slice(&modem.to_be_bytes())?;
+    out.extend_from_slice(&tag.to_be_bytes())?;
+    Ok(())
 }
 
 /// A flow. The last minislot of its lease is written where it isn't the last time of all.
@@ -117,7 +90,7 @@ fn put_flow(
     }
     out.extend_from_slice(&[7])?;
     put_flow_head(out, ch, modem, tag)?;
-    put_u64(out, last)?;
+    out.extend_from_slice(&last.to_be_bytes())?;
     put_kind(out, kind)
 }
 
@@ -142,13 +115,13 @@ pub fn command_bytes(alloc: Global, command: &Command) -> Result<Vec<u8>, AllocE
         } => put_flow(&mut out, ch, modem, tag, last, kind)?,
         Command::Drop { ch, sid } => {
             out.extend_from_slice(&[3, ch])?;
-            put_u16(&mut out, sid)?;
+            out.extend_from_slice(&sid.to_be_bytes())?;
         }
         Command::Request { ch, sid, n, sent } => {
             out.extend_from_slice(&[4, ch])?;
-            put_u16(&mut out, sid)?;
-            put_u16(&mut out, n)?;
-            put_u64(&mut out, sent)?;
+            out.extend_from_slice(&sid.to_be_bytes())?;
+            out.extend_from_slice(&n.to_be_bytes())?;
+            out.extend_from_slice(&sent.to_be_bytes())?;
         }
         Command::Cut {
             ch,
@@ -157,9 +130,9 @@ pub fn command_bytes(alloc: Global, command: &Command) -> Result<Vec<u8>, AllocE
             ack,
         } => {
             out.extend_from_slice(&[5, ch])?;
-            put_u16(&mut out, len)?;
-            put_u64(&mut out, not_before)?;
-            put_u64(&mut out, ack)?;
+            out.extend_from_slice(&len.to_be_bytes())?;
+            out.extend_from_slice(&not_before.to_be_bytes())?;
+            out.extend_from_slice(&ack.to_be_bytes())?;
         }
     }
     Ok(out)
