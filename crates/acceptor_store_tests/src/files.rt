@@ -41,6 +41,12 @@ pub struct Left {
 /// Which of these is found of the log, and of the database.
 pub const FOUND: [(bool, bool); 4] = [(true, true), (true, false), (false, true), (false, false)];
 
+/// Whether this choice finds what another found: of a file that was synced as it was written.
+pub fn is_again(log: &Left, db: &Left, which: (bool, bool)) -> bool {
+    (!which.0 && log.written.as_slice() == log.synced.as_slice())
+        || (!which.1 && db.written.as_slice() == db.synced.as_slice())
+}
+
 pub fn left_of(alloc: Global, file: &mut Fused) -> Result<Left, Fail> {
     let written = Vec::from_slice(alloc, file.inner().bytes())?;
     file.crash();

@@ -1,7 +1,7 @@
 //! The four writes that a node makes up to its first grant, stopped at each call on one of its files in turn.
 
 use crate::files::{
-    FOUND, Fused, Left, Stopped, Stored, calls_of, content, found, fused, left_of, opened,
+    FOUND, Fused, Left, Stopped, Stored, calls_of, content, found, fused, is_again, left_of, opened,
 };
 use acceptor::{Records, RecordsFault};
 use ballots::{Ballot, Bytes, Place, Value};
@@ -162,6 +162,9 @@ fn stopped_at(
     let log = left_of(alloc, &mut outcome.files.log)?;
     let db = left_of(alloc, &mut outcome.files.db)?;
     for which in FOUND {
+        if is_again(&log, &db, which) {
+            continue;
+        }
         let made = held(alloc, &log, &db, which)?;
         if !may_leave(outcome.reached, made) {
             return Err(Fail::new(format_args!(

@@ -2,7 +2,7 @@
 
 use crate::files::{
     FOUND, Fused, Left, Linked, Stopped, Stored, calls_of, connected, content, found, fused,
-    left_of, opened,
+    is_again, left_of, opened,
 };
 use acceptor::Records;
 use acceptor_store::SqlRecords;
@@ -204,6 +204,9 @@ fn opened_until(
 fn versions_of(alloc: Global, bodies: &Bodies) -> Result<(bool, bool), Fail> {
     let mut found = (false, false);
     for which in FOUND {
+        if is_again(&bodies.log, &bodies.db, which) {
+            continue;
+        }
         match found_of(alloc, files_of(alloc, bodies, which)?)? {
             Version::First => found.0 = true,
             Version::Second => found.1 = true,
