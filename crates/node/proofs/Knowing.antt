@@ -1,12 +1,6 @@
 -- What a node has learned after one value more.
-use Rattle.std.proofs.Common.{◌≡◌, ◌⊎◌, inl, inr, ℕ, ◌≤◌, true, cond, List, [], ◌∷◌, Option, Some, None, refl, sym, ap, subst, ◌∙◌}
-use Rattle.std.specs.Cmp.{nat_cmp_is}
-use Rattle.std.specs.Map.{remove_entry}
-use Rattle.std.specs.BTreeMap.{is_at}
-use Rattle.std.specs.Ordering.{nat_cmp, is_eq}
-use Rattle.std.specs.declared.cmp.Ordering.TheVariants.{Equal, Greater}
+use Rattle.std.proofs.Common.{◌≡◌, ◌⊎◌, inl, inr, ℕ, ◌≤◌, true, List, Option, Some, None, refl, sym, ap, subst, ◌∙◌}
 use Rattle.ballots.specs.Rows.{at, put}
-use Rattle.ballots.proofs.Callers.{in_order, put_before, put_after, at_here, at_after}
 use Rattle.learner.specs.Tally.{Tally, known, teaches}
 use Rattle.command_log.specs.Values.{Rows, outputs_of_values, gapless, values_from}
 use Rattle.command_log.specs.View.{AreRows, IsLog, LogView}
@@ -41,21 +35,6 @@ module _ (tally : Tally) (p : ℕ) (v : List ℕ) (lo : 1 ≤ p) (hi : p ≤ mos
   module _ (log : Rows) (part : IsPart log tally.learned) (none : at tally.learned p ≡ None) (new : Rows) (is : new ≡ put tally.learned p v) where
     pub learn_keeps : AreRows 1 new × IsPart log new
     learn_keeps = (subst (AreRows 1) (sym is) (are_rows_put 1 p v tally.learned are lo hi), subst (IsPart log) (sym is) (part_grows log tally.learned p v part none))
-
-at_itself : (p : ℕ) (v : List ℕ) (rows : Rows) → remove_entry (is_at (nat_cmp p)) ((p, v) ∷ rows) ≡ rows
-at_itself p v rows = ap (λ o. cond (is_eq o) rows ((p, v) ∷ remove_entry (is_at (nat_cmp p)) rows)) (sym (nat_cmp_is p p Equal refl))
-
--- a row that is put at a place without one and taken away again
-pub put_back : (q p : ℕ) (v : List ℕ) (rows : Rows) → AreRows q rows → at rows p ≡ None → remove_entry (is_at (nat_cmp p)) (put rows p v) ≡ rows
-put_back q p v [] are none = at_itself p v []
-put_back q p v (row ∷ rows) are none = elim (in_order p row.0) [
-  | inl before ↦ ap (remove_entry (is_at (nat_cmp p))) (put_before row.0 row.1 rows p v before) ∙ at_itself p v (row ∷ rows)
-  | inr (inl here) ↦ let there : at (row ∷ rows) p ≡ Some row.1 = at_here row.0 row.1 rows p here in absurd (cc (none, there))
-  | inr (inr after) ↦
-      ap (remove_entry (is_at (nat_cmp p))) (put_after row.0 row.1 rows p v after)
-      ∙ ap (λ o. cond (is_eq o) (put rows p v) (row ∷ remove_entry (is_at (nat_cmp p)) (put rows p v))) (sym (nat_cmp_is p row.0 Greater after))
-      ∙ ap (λ (r : Rows). row ∷ r) (put_back (row.0 + 1) p v rows are.2 (sym (at_after row.0 row.1 rows p after) ∙ none))
-]
 
 -- places that are learned stay so
 pub are_learned : (first second : Rows) (n : ℕ) → IsPart first second → AreLearned first n → AreLearned second n
