@@ -4,12 +4,11 @@
 //! So it prints the same whichever request for memory is refused.
 #![tactic(auto)]
 
-mod letters;
 mod plans;
 mod scripts;
 
 use std::env;
-use std::io::{BufWriter, Read, Write};
+use std::io::{Read, Write};
 use std::process::ExitCode;
 
 /// How a comparison ended.

@@ -32,19 +32,13 @@ fn outputs_of(alloc: Global, commands: &[Command]) -> Result<Vec<Output>, AllocE
     Ok(outputs)
 }
 
-fn is_same(alloc: Global, first: &Output, second: &Output) -> Option<bool> {
-    let text = format!(in alloc; "{first:?}").ok()?;
-    let other = format!(in alloc; "{second:?}").ok()?;
-    Some(text.as_str() == other.as_str())
-}
-
 /// Applies a plan's commands twice, and compares their outputs.
 pub fn compare(alloc: Global, text: &str) -> Option<Verdict> {
     let commands = commands_of(alloc, text)?;
     let first = outputs_of(alloc, commands.as_slice()).ok()?;
     let second = outputs_of(alloc, commands.as_slice()).ok()?;
     for (number, (output, other)) in first.iter().zip(&second).enumerate() {
-        if !is_same(alloc, output, other)? {
+        if !output.is_same(other) {
             return Some(Verdict::Differs(number));
         }
     }

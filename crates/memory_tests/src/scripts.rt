@@ -1,11 +1,11 @@
 //! Scripts.
 
-use crate::{Verdict, letters};
-use ballots::{Letter, Members};
+use crate::Verdict;
+use ballots::Letter;
 use network_script::World;
 use network_script_parts::{
-    Answer, Event, OutOfMemory, PlainNode, Refusal, Script, ScriptFault, new_modems, plain_nodes,
-    read_script,
+    Answer, Event, OutOfMemory, PlainNode, Refusal, ReleasedOutput, Script, ScriptFault,
+    new_modems, plain_nodes, read_script,
 };
 use node::NodeFault;
 use std::alloc::Global;
@@ -140,16 +140,26 @@ fn run_second(world: &mut World<PlainNode>, events: &[Event], met: &[Met]) -> Op
     Some(Verdict::Same)
 }
 
+fn are_same_letters(first: &[Letter], second: &[Letter]) -> bool {
+    first.len() == second.len()
+        && first
+            .iter()
+            .zip(second)
+            .all(|(letter, other)| letter.is_same(other))
+}
+
+fn are_same_outputs(first: &[ReleasedOutput], second: &[ReleasedOutput]) -> bool {
+    first.len() == second.len()
+        && first.iter().zip(second).all(|(released, other)| {
+            released.node == other.node && released.numbered.is_same(&other.numbered)
+        })
+}
+
 /// Whether both worlds lend the same.
-fn are_same(alloc: Global, first: &World<PlainNode>, second: &World<PlainNode>) -> Option<bool> {
-    if !letters::are_same(alloc, first.letters(), second.letters())? {
-        return Some(false);
-    }
-    let outputs = format!(in alloc; "{:?}", first.outputs()).ok()?;
-    if outputs.as_str() != format!(in alloc; "{:?}", second.outputs()).ok()?.as_str() {
-        return Some(false);
-    }
-    Some(first.transmissions() == second.transmissions())
+fn are_same(first: &World<PlainNode>, second: &World<PlainNode>) -> bool {
+    are_same_letters(first.letters(), second.letters())
+        && are_same_outputs(first.outputs(), second.outputs())
+        && first.transmissions() == second.transmissions()
 }
 
 /// Runs a script's events one by one, and again with crashes in place of the events at which memory was wanted, and
@@ -161,7 +171,7 @@ pub fn compare(alloc: Global, text: &str) -> Option<Verdict> {
     let met = run_first(alloc, &mut first, events)?;
     let mut second = world_of(alloc, &script).ok()?;
     match run_second(&mut second, events, met.as_slice())? {
-        Verdict::Same if !are_same(alloc, &first, &second)? => Some(Verdict::Differs(events.len())),
+        Verdict::Same if !are_same(&first, &second) => Some(Verdict::Differs(events.len())),
         verdict => Some(verdict),
     }
 }
