@@ -48,7 +48,7 @@ workspace_over() {
 # run_over NAME DEP..: proves and runs that. The program's words are those of the array `arguments`, if there is one.
 run_over() {
     workspace_over "$@"
-    (cd "$workspace" && rt run --jobs 1 ${arguments[@]+-- "${arguments[@]}"})
+    (cd "$workspace" && rt run --jobs "${BENCH_JOBS:-1}" ${arguments[@]+-- "${arguments[@]}"})
 }
 
 # try_over NAME DEP..: as run_over, with a build that isn't proved and stops at what a proof rules out. Each word is a file, of which
