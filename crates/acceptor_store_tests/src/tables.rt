@@ -1,5 +1,4 @@
 use acceptor_store::{OpenFault, SqlRecords};
-use acceptor_store_parts::{Version, version_of};
 use sqlite::{Connection, Error, MemStore};
 use std::alloc::Global;
 use std::test::Fail;
@@ -102,25 +101,6 @@ fn which_mixtures_are_foreign(rt: HostRuntime) -> Result<(), Fail> {
         let fault = opened(rt.alloc(), &[TABLES, first, then])?;
         assert_eq!(rt; fault, Some(OpenFault::Foreign), "{first}; {then}");
     }
-    Ok(())
-}
-
-/// The version of what an open that failed leaves.
-fn left(alloc: Global, texts: &[&str]) -> Result<Option<Version>, Fail> {
-    let Err((_, store)) = SqlRecords::open(alloc, made(alloc, texts)?) else {
-        return Err(Fail::new("it opens"));
-    };
-    match Connection::over(alloc, store) {
-        Ok(conn) => Ok(version_of(alloc, conn.schema())?),
-        Err((error, _)) => Err(Fail::new(format_args!("{error}"))),
-    }
-}
-
-/// A vote that no node writes leaves the tables those of version 1.
-#[test]
-fn foreign_tables_are_left(rt: HostRuntime) -> Result<(), Fail> {
-    let vote = "INSERT INTO vote VALUES (0, 16, x'0907')";
-    assert_eq!(rt; left(rt.alloc(), &[TABLES, vote])?, Some(Version::First));
     Ok(())
 }
 
