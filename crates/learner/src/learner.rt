@@ -1,11 +1,11 @@
 //! A member as a learner.
 
-ghost use Rattle.std.specs.Prelude.{◌≡◌, ◌≢◌, ◌↔◌, IsTrue, IsOk, IfOk, None, Some, OnOk, OnErr, OnSome, is_some, option_copied};
+ghost use Rattle.std.specs.Prelude.{◌≡◌, ◌≢◌, ◌↔◌, IsTrue, IsOk, IfOk, None, Some, Ok, OnOk, OnErr, OnSome, is_some, option_copied};
 ghost use Rattle.std.specs.Fn.{FnOnceReturnsAtMut};
 ghost use Rattle.ballots.specs.Members.{member_count};
 ghost use Rattle.ballots.specs.Rows.{at};
 ghost use Rattle.learner.specs.Proposals.{proposal_of};
-ghost use Rattle.learner.specs.Tally.{counts, groups_at, known, learn, no_tally, put_voters, teaches, voters_in};
+ghost use Rattle.learner.specs.Tally.{counts, groups_at, known, no_tally, put_voters, teaches, voters_in};
 
 use crate::groups::{Groups, Proposal, Voters};
 use ballots::{Ballot, Bytes, Members, NodeId};
@@ -92,7 +92,7 @@ impl Learner {
         &self.learned
     }
 
-    /// Learns a value at a place that isn't learned, once `write` has written it down in `rows`, and answers what `write` gave. The room comes first: where memory is refused nothing is written. Where the write fails nothing is learned.
+    /// A value is known to be chosen at a place: where that isn't learned, learns it once `write` has written it down in `rows`, and answers what `write` gave. The room comes first: where memory is refused nothing is written. Where the write fails nothing is learned. Where the place is learned its value stays, `write` isn't called, and that takes no memory.
     pub fn learn_after<W, E, F: FnOnce(&mut W) -> Result<(), E>>(
         &mut self,
         place: u64,
@@ -100,14 +100,18 @@ impl Learner {
         rows: &mut W,
         write: F,
     ) -> Result<Result<(), E>, AllocError>
-        requires unlearned { at self.old.learned place ≡ None }
         requires callable { F.IsAlwaysCallable write }
-        ensures written { IfOk result (λ written. FnOnceReturnsAtMut F.FnOnce write rows.old written rows.new) }
-        ensures learned { IfOk result (λ written. OnOk written (self.new ≡ learn self.old place value)) }
+        ensures written { at self.old.learned place ≡ None → IfOk result (λ written. FnOnceReturnsAtMut F.FnOnce write rows.old written rows.new) }
+        ensures learned { IfOk result (λ written. OnOk written (self.new ≡ known self.old (at self.old.learned place) place value)) }
         ensures refused { IfOk result (λ written. OnErr written (self.new ≡ self.old)) }
+        ensures again { at self.old.learned place ≢ None → result ≡ Ok (Ok tt) }
+        ensures again_unwritten { at self.old.learned place ≢ None → rows.new ≡ rows.old }
         ensures err { OnErr result (self.new ≡ self.old) }
         ensures unwritten { OnErr result (rows.new ≡ rows.old) }
     {
+        if self.learned.contains_key(&place) {
+            return Ok(Ok(()));
+        }
         self.learned.insert(place, value).map_err(AllocError::from)?;
         let written = write(rows);
         if written.is_err() {
@@ -124,9 +128,6 @@ impl Learner {
         ensures again { at self.old.learned place ≢ None → IsOk result }
         ensures err { OnErr result (self.new ≡ self.old) }
     {
-        if self.learned.contains_key(&place) {
-            return Ok(());
-        }
         self.learn_after(place, value, &mut (), |_nothing| Ok(()))?
     }
 
