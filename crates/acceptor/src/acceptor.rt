@@ -2,10 +2,9 @@
 
 ghost use Rattle.std.specs.Prelude.{◌≡◌, ◌<◌, ◌≤◌, ◌⊎◌, max, IsTrue, Option, Some, IfSome, IfNone, IfOk, IfErr, OnOk, OnErr};
 ghost use Rattle.ballots.specs.Ballots.{number_of};
-ghost use Rattle.ballots.specs.declared.letters.Cast.{Cast as Ballotted};
 ghost use Rattle.acceptor.specs.Answers.{Prepares, Accepts, IsNewVote, IsOfBallot, MayHavePromised, MayHaveVoted};
 ghost use Rattle.acceptor.specs.Content.{Content, Write, promised, after_write};
-ghost use Rattle.acceptor.specs.Content.Write.{Promises, Votes as Casts};
+ghost use Rattle.acceptor.specs.Content.Write.{Votes as Casts};
 ghost use Rattle.acceptor.specs.Found.{FindsSame, HasMade, Holds, Keeps, MayHaveMade};
 ghost use Rattle.acceptor.specs.declared.records.RecordsFault.TheVariants.{OutOfMemory};
 ghost use Rattle.acceptor.specs.Faults.{BreaksBy, CountsFaults, IsHarmless};

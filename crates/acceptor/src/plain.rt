@@ -1,7 +1,6 @@
 //! Records in memory.
 
-ghost use Rattle.std.specs.Prelude.{◌≡◌, ℕ, max, List, Option, Some, None, IfOk, IfSome, IsTrue, OnOk, OnErr, ◌↔◌, true, false};
-ghost use Rattle.ballots.specs.Limits.{IsPlace};
+ghost use Rattle.std.specs.Prelude.{◌≡◌, ℕ, max, Option, Some, None, IfOk, IfSome, IsTrue, OnOk, OnErr, ◌↔◌, true, false};
 ghost use Rattle.ballots.specs.Rows.{at, put, rows_from};
 ghost use Rattle.ballots.specs.Ballots.{number_of};
 ghost use Rattle.acceptor.specs.Content.{AreRowsFrom, Content, IsSound, no_content, greatest};
@@ -26,7 +25,7 @@ pub struct PlainRecords {
 }
 
 impl Model for PlainRecords {
-    ghost use Rattle.std.specs.Prelude.{◌≡◌, ℕ, List};
+    ghost use Rattle.std.specs.Prelude.{◌≡◌, ℕ};
     ghost use Rattle.ballots.specs.Ballots.{number_of};
     ghost use Rattle.acceptor.specs.Content.{Content, IsSound, greatest};
 

@@ -1,6 +1,6 @@
 //! Nodes and their ballots.
 
-ghost use Rattle.std.specs.Prelude.{◌≡◌, ◌↔◌, ℕ, ◌<◌, ◌≤◌, MatchResult, OnSome, IsSome, Some};
+ghost use Rattle.std.specs.Prelude.{◌≡◌, ◌↔◌, ℕ, ◌<◌, MatchResult, OnSome, IsSome, Some};
 ghost use Rattle.ballots.specs.Ballots.{IsBallot, IsLeastAbove, NoneAbove, ballot_node};
 
 use std::marker::Model;

@@ -4,7 +4,6 @@ ghost use Rattle.std.specs.Prelude.{◌≡◌, ◌≢◌, ◌↔◌, IsTrue, IsO
 ghost use Rattle.std.specs.Fn.{FnOnceReturnsAtMut};
 ghost use Rattle.ballots.specs.Members.{member_count};
 ghost use Rattle.ballots.specs.Rows.{at};
-ghost use Rattle.learner.specs.Proposals.{proposal_of};
 ghost use Rattle.learner.specs.Tally.{counts, groups_at, known, no_tally, put_voters, teaches, voters_in};
 
 use crate::groups::{Groups, Proposal, Voters};

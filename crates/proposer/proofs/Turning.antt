@@ -1,22 +1,17 @@
 -- Steps of a proposer's turn.
-use Rattle.std.proofs.Common.{◌≡◌, ◌⊎◌, inl, inr, ℕ, zero, suc, ◌+◌, ◌-◌, ◌*◌, ◌≤◌, ◌<◌, max, Bool, true, false, cond, ◌&&◌, not, ◌==◌, nat_eq, nat_lt, List, [], ◌∷◌, ◌++◌, refl, sym, ap, subst, ◌∙◌, arith, Result, Ok, Err, OnErr, Some}
-use Rattle.std.specs.List.{list_any}
+use Rattle.std.proofs.Common.{◌≡◌, inr, ℕ, suc, ◌+◌, ◌-◌, ◌<◌, max, List, [], ◌∷◌, ◌++◌, refl, sym, ap, subst, ◌∙◌, arith, Result, Ok, Err, OnErr}
 use Rattle.acceptor.proofs.Callers.{still_holds}
-use Rattle.std.proofs.lemmas.Bool.{lt-ltb, le-ltb, eq-eqb, ne_eqb}
 use Rattle.ballots.specs.Ballots.{IsLeastAbove}
 use Rattle.ballots.specs.Rows.{at}
-use Rattle.ballots.specs.Voting.{count_below}
 use Rattle.ballots.specs.declared.letters.Cast.{Cast}
 use Rattle.ballots.specs.declared.letters.Letter.{Letter}
 use Rattle.ballots.specs.declared.letters.Note.TheVariants.{Accept}
-use Rattle.acceptor.specs.Content.{Content, promised, after_write}
+use Rattle.acceptor.specs.Content.{Content, promised}
 use Rattle.acceptor.specs.Content.Write.{Tries}
-use Rattle.acceptor.specs.Found.{Findable, Holds, HoldsEither, FindsSame, MayHaveMade}
-use Rattle.proposer.specs.Joining.{join, place_after, proposal}
+use Rattle.acceptor.specs.Found.{Findable, Holds, FindsSame, MayHaveMade}
+use Rattle.proposer.specs.Joining.{proposal}
 use Rattle.proposer.specs.Letters.{to_all, proposals}
-use Rattle.proposer.specs.Turns.{Turn, stays, are_majority, after_promise, promise, limit, IsNextBallot, MayHaveTried}
-use Rattle.proposer.specs.declared.role.Role.{Role}
-use Rattle.proposer.specs.declared.role.Role.TheVariants.{Idle, Preparing, Leading}
+use Rattle.proposer.specs.Turns.{IsNextBallot, MayHaveTried}
 
 pub on_err : {T E : Type 0} (r : Result T E) (P : Type 0) → P → OnErr r P
 on_err (Ok x) P p = tt

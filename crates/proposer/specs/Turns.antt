@@ -1,5 +1,5 @@
 -- What a proposer does in a turn.
-use Rattle.std.specs.Prelude.{◌≡◌, ◌⊎◌, ℕ, ◌+◌, ◌-◌, ◌*◌, ◌<◌, ◌≤◌, max, Bool, ◌&&◌, not, if◌then◌else◌, ◌==◌, nat_eq, nat_lt, nat_le, List, [], ◌∷◌, length, filter, Some, Result, Ok, Err}
+use Rattle.std.specs.Prelude.{◌⊎◌, ℕ, ◌+◌, ◌-◌, ◌*◌, ◌<◌, ◌≤◌, max, Bool, ◌&&◌, not, if◌then◌else◌, ◌==◌, nat_eq, nat_lt, List, [], ◌∷◌, length, Some, Result, Ok, Err}
 use Rattle.std.specs.List.{list_any}
 use Rattle.ballots.specs.Ballots.{IsLeastAbove, NoneAbove}
 use Rattle.ballots.specs.Limits.{most_places, longest_value}
@@ -10,7 +10,6 @@ use Rattle.ballots.specs.declared.letters.Note.TheVariants.{Accept, Prepare}
 use Rattle.acceptor.specs.Content.{Content, promised, after_write}
 use Rattle.acceptor.specs.Content.Write.{Tries}
 use Rattle.acceptor.specs.Found.{Findable, Holds, HoldsEither}
-use Rattle.proposer.specs.Bounds.{in_log}
 use Rattle.proposer.specs.Joining.{join, place_after}
 use Rattle.proposer.specs.Letters.{to_all, proposals}
 use Rattle.proposer.specs.declared.role.Role.{Role}

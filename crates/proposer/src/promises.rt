@@ -1,8 +1,7 @@
 //! Promises that were counted, and the votes that they reported.
 
-ghost use Rattle.std.specs.Prelude.{◌≡◌, ℕ, ◌≤◌, ◌<◌, List, [], ◌∷◌, IfOk, OnOk, OnErr, nat_eq};
-ghost use Rattle.std.specs.List.{list_any, All};
-ghost use Rattle.std.specs.Map.{keys_of};
+ghost use Rattle.std.specs.Prelude.{◌≡◌, ℕ, ◌≤◌, ◌<◌, List, [], ◌∷◌, IfOk, OnOk, nat_eq};
+ghost use Rattle.std.specs.List.{list_any};
 ghost use Rattle.ballots.specs.Members.{member_count};
 ghost use Rattle.ballots.specs.Voting.{count_below};
 ghost use Rattle.ballots.specs.Rows.{at};

@@ -1,17 +1,15 @@
 //! What a proposer does in each turn.
 
-ghost use Rattle.std.specs.Prelude.{◌≡◌, ◌⊎◌, ◌↔◌, ℕ, ◌+◌, ◌-◌, ◌<◌, ◌≤◌, max, IsTrue, List, Some, Ok, Err, IfOk, IfErr, OnOk, OnErr, is_ok, MatchOption};
+ghost use Rattle.std.specs.Prelude.{◌≡◌, ◌⊎◌, ◌↔◌, ℕ, ◌+◌, ◌-◌, ◌<◌, max, IsTrue, Some, Ok, Err, IfOk, IfErr, OnOk, OnErr, is_ok, MatchOption};
 ghost use Rattle.ballots.specs.Limits.{most_places};
 ghost use Rattle.ballots.specs.Members.{member_count};
-ghost use Rattle.ballots.specs.Ballots.{IsLeastAbove, number_of};
-ghost use Rattle.acceptor.specs.Content.{Content, promised};
 ghost use Rattle.acceptor.specs.Content.Write.{Tries};
-ghost use Rattle.acceptor.specs.Found.{Holds, FindsSame, HasMade, Keeps};
+ghost use Rattle.acceptor.specs.Found.{FindsSame, HasMade};
 ghost use Rattle.proposer.specs.Bounds.{in_log};
 ghost use Rattle.proposer.specs.Faults.{BreaksByStop, CountsStops, IsHarmlessStop};
 ghost use Rattle.proposer.specs.Letters.{proposals};
 ghost use Rattle.proposer.specs.Roles.{role_after};
-ghost use Rattle.proposer.specs.Turns.{Turn, promise, after_promise, stays, offer, tries, limit, IsNextBallot, DeclinesToLead, MayHaveTried};
+ghost use Rattle.proposer.specs.Turns.{promise, after_promise, stays, offer, tries, IsNextBallot, DeclinesToLead, MayHaveTried};
 ghost use Rattle.proposer.specs.declared.role.Role.TheVariants.{Idle};
 
 use crate::fault::NodeFault;

@@ -1,7 +1,8 @@
 //! The role of a node as a proposer.
 
-ghost use Rattle.std.specs.Prelude.{◌≡◌};
+ghost use Rattle.std.specs.Prelude.{◌≡◌, IsTrue, IsFalse};
 ghost use Rattle.proposer.specs.Roles.{role_after};
+ghost use Rattle.proposer.specs.declared.role.Role.TheVariants.{Idle};
 
 use crate::promises::{Joined, Nodes};
 use ballots::Ballot;
@@ -24,35 +25,25 @@ pub enum Role {
     },
 }
 
+/// Whether a role is one in a ballot below this.
+fn is_passed(role: &Role, other: Ballot) -> bool
+    ensures below { IsTrue result → role_after role.now other ≡ Idle }
+    ensures stays { IsFalse result → role_after role.now other ≡ role.now }
+{
+    match role {
+        Role::Idle => false,
+        Role::Preparing { ballot, .. } => ballot.number() < other.number(),
+        Role::Leading { ballot, .. } => ballot.number() < other.number(),
+    }
+}
+
 /// The role after a ballot was heard of.
 pub fn higher(role: Role, other: Ballot) -> Role
     ensures { result ≡ role_after role other }
 {
-    match role {
-        Role::Idle => Role::Idle,
-        Role::Preparing {
-            ballot,
-            place,
-            counted,
-            joined,
-        } => {
-            if ballot.number() < other.number() {
-                Role::Idle
-            } else {
-                Role::Preparing {
-                    ballot,
-                    place,
-                    counted,
-                    joined,
-                }
-            }
-        }
-        Role::Leading { ballot, next } => {
-            if ballot.number() < other.number() {
-                Role::Idle
-            } else {
-                Role::Leading { ballot, next }
-            }
-        }
+    if is_passed(&role, other) {
+        Role::Idle
+    } else {
+        role
     }
 }

@@ -1,4 +1,4 @@
-use Rattle.std.proofs.Common.{◌≡◌, ◌≤◌}
+use Rattle.std.proofs.Common.{◌≡◌}
 use Rattle.proposer.specs.Bounds.{AreInLog}
 use Rattle.proposer.specs.Joining.{place_after}
 use Rattle.proposer.proofs.promises.Joined.place_after.Given as goal

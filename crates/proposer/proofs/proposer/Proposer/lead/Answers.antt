@@ -1,11 +1,11 @@
-use Rattle.std.proofs.Common.{◌≡◌, ◌+◌, ◌∙◌, ap, max, subst, sym}
+use Rattle.std.proofs.Common.{◌+◌, ◌∙◌, ap, max, subst, sym}
 use Rattle.ballots.specs.Ballots.{IsLeastAbove}
 use Rattle.ballots.specs.Members.{member_count}
 use Rattle.ballots.specs.declared.letters.Note.TheVariants.{Prepare}
 use Rattle.proposer.specs.declared.role.Role.TheVariants.{Preparing}
 use Rattle.proposer.specs.Letters.{to_all}
 use Rattle.proposer.specs.Proposing.{Proposing}
-use Rattle.proposer.specs.Turns.{IsNextBallot, MayHaveTried}
+use Rattle.proposer.specs.Turns.{MayHaveTried}
 use Rattle.proposer.proofs.Turning.{on_err, next_ballot, may_have_tried}
 use Rattle.acceptor.proofs.Callers.{still_holds}
 use Rattle.proposer.proofs.proposer.Proposer.lead.Goals as goal
