@@ -1,7 +1,6 @@
 -- The cells that a map gives are those of its intervals before the Null.
-use Rattle.std.proofs.Common.{◌≡◌, ℕ, ◌+◌, ◌-◌, ◌<◌, ◌≤◌, Bool, true, false, cond, ◌==◌, ◌&&◌, max, Option, Some, List, [], ◌∷◌, map, refl, sym, subst, ◌∙◌, ap, arith, ◌⊎◌, inl, inr, ◌↔◌}
+use Rattle.std.proofs.Common.{◌≡◌, ℕ, ◌+◌, ◌-◌, ◌<◌, ◌≤◌, Bool, true, false, cond, ◌==◌, ◌&&◌, max, Option, Some, List, [], ◌∷◌, map, refl, sym, ◌∙◌, ap, arith, ◌⊎◌, inl, inr, ◌↔◌}
 use Rattle.std.specs.List.{filter, filter_map}
-use Rattle.std.specs.Option.{option_map_or}
 use Rattle.map_body.specs.declared.element.Element.{Element}
 use Rattle.map_body.specs.Body.{Body}
 use Rattle.map_body.specs.Intervals.{intervals, is_null}
@@ -10,7 +9,7 @@ use Rattle.modem.proofs.CellList.{Cell, Covers, cell_in, cell_of}
 use Rattle.map_body.specs.declared.interval.Interval.{Interval}
 use Rattle.modem.specs.declared.known.Channel.{Channel}
 use Rattle.modem.specs.declared.kept.KeptInterval.{KeptInterval}
-use Rattle.modem.specs.State.{State, Kept, HasAt, is_own_at, channel_of, clock_of, with_channel}
+use Rattle.modem.specs.State.{State, Kept, HasAt, channel_of, clock_of, with_channel}
 use Rattle.modem.specs.KeptIntervals.{kept_interval, interval_of, covered}
 use Rattle.modem.specs.Wants.{lasting}
 use Rattle.modem.proofs.Pieces.{HasAt-covered}

@@ -5,7 +5,7 @@ use Rattle.modem.specs.declared.known.Lease.{Lease}
 use Rattle.modem.specs.declared.types.Sending.{Sending}
 use Rattle.modem.specs.declared.known.Want.{Want}
 use Rattle.map_body.specs.Sids.{everybody}
-use Rattle.modem.specs.State.{State, Kept, HasAt, covers, is_own_at, is_lease, has_lease, with_lease, lease_of, is_of, channel_of, clock_of, with_channel}
+use Rattle.modem.specs.State.{State, Kept, HasAt, covers, is_own_at, is_lease, has_lease, with_lease, lease_of, channel_of, clock_of, with_channel}
 use Rattle.modem.specs.Wants.{lasting}
 use Rattle.std.proofs.lemmas.Bool.Decides.{nat_tests}
 use Rattle.modem.specs.Ticks.{Ticks, Counts, SendsBy}

@@ -1,6 +1,6 @@
 //! The modem core, which keeps one interval for each element that it was given, and lets go of those that have ended.
 
-ghost use Rattle.std.specs.Prelude.{◌≡◌, ℕ, ◌<◌, ◌≤◌, None, Some, Ok, Err, OnOk, OnErr, IfOk, IfErr, IfSome, IfNone, IsOkAnd, IsErr, List, true, false, ◌∷◌, ◌++◌, [], ◌⊎◌, ◌==◌, ◌↔◌, MatchBool};
+ghost use Rattle.std.specs.Prelude.{◌≡◌, ℕ, ◌<◌, ◌≤◌, None, Some, Ok, Err, OnOk, OnErr, IfOk, IfErr, IfSome, IsOkAnd, IsErr, List, false, ◌∷◌, ◌++◌, [], ◌⊎◌, ◌==◌, MatchBool};
 ghost use Rattle.std.specs.Option.{option_map};
 ghost use Rattle.modem.specs.State.{new_modem, channel_clock, channel_of, has_lease, with_ucd, with_lease};
 ghost use Rattle.modem.specs.Held.{StandsFor, Hearing, Held, unicast_sid};

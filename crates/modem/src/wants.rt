@@ -1,6 +1,6 @@
 //! A modem's wants, over slices.
 
-ghost use Rattle.std.specs.Prelude.{◌≡◌, ℕ, ◌+◌, ◌-◌, ◌<◌, ◌≤◌, ◌==◌, ◌&&◌, if◌then◌else◌, IfOk, Option, Some, None};
+ghost use Rattle.std.specs.Prelude.{◌≡◌, ◌+◌, ◌-◌, ◌<◌, ◌==◌, ◌&&◌, if◌then◌else◌, IfOk, Option, Some, None};
 ghost use Rattle.std.specs.List.{filter_map, list_any};
 ghost use Rattle.modem.specs.declared.known.Want.{Want};
 ghost use Rattle.modem.specs.State.{is_own_at};
@@ -175,28 +175,7 @@ pub(crate) fn send(
 ) -> Option<Sending>
     ensures { SendsBy leases.now wants.old.items channel at random is_open result wants.new.items counted }
 {
-    send_of(
-        wants.as_mut_slice(),
-        leases,
-        channel,
-        at,
-        random,
-        counted,
-        is_open,
-    )
-}
-
-fn send_of(
-    wants: &mut [Want],
-    leases: &[Lease],
-    channel: Channel,
-    at: u64,
-    random: u64,
-    counted: Option<(u16, Iuc)>,
-    is_open: bool,
-) -> Option<Sending>
-    ensures { SendsBy leases.now wants.old channel at random is_open result wants.new counted }
-{
+    let wants = wants.as_mut_slice();
     match counted {
         Some(interval) => send_by(wants, leases, channel, at, random, interval, is_open),
         None => send_shared(wants, leases, channel, at, random, is_open),

@@ -1,4 +1,4 @@
-use Rattle.std.proofs.Common.{take, [], ◌∷◌, arith}
+use Rattle.std.proofs.Common.{take, arith}
 use Rattle.std.proofs.lemmas.List.{take_more}
 use Rattle.modem.specs.declared.kept.KeptInterval.{KeptInterval}
 use Rattle.modem.proofs.Order.{HasAt-one_more}
