@@ -1,4 +1,5 @@
 ghost use Rattle.std.specs.Prelude.{◌≡◌, ◌++◌, IfOk, OnOk};
+ghost use Rattle.std.specs.Int.{w32, w64, to_be_bytes};
 ghost use Rattle.grant_machine.specs.declared.command.Command.TheVariants as commands;
 ghost use Rattle.command_log.specs.Spelling.{phy_byte, channel_spelling, flow_spelling, kind_spelling, spelling};
 
@@ -28,6 +29,16 @@ fn put_channel(out: &mut Vec<u8>, channel: Channel) -> Result<(), AllocError>
     Ok(())
 }
 
+/// When a flow's grants or polls come.
+fn put_timing(out: &mut Vec<u8>, interval: u32, jitter: u32, base: u64) -> Result<(), AllocError>
+    ensures { OnOk result (out.new.items ≡ out.old.items ++ to_be_bytes w32 interval ++ to_be_bytes w32 jitter ++ to_be_bytes w64 base) }
+{
+    out.extend_from_slice(&interval.to_be_bytes())?;
+    out.extend_from_slice(&jitter.to_be_bytes())?;
+    out.extend_from_slice(&base.to_be_bytes())?;
+    Ok(())
+}
+
 fn put_kind(out: &mut Vec<u8>, kind: FlowKind) -> Result<(), AllocError>
     ensures { OnOk result (out.new.items ≡ out.old.items ++ kind_spelling kind) }
 {
@@ -44,10 +55,7 @@ fn put_kind(out: &mut Vec<u8>, kind: FlowKind) -> Result<(), AllocError>
         } => {
             out.extend_from_slice(&[1])?;
             out.extend_from_slice(&size.to_be_bytes())?;
-            out.extend_from_slice(&interval.to_be_bytes())?;
-            out.extend_from_slice(&jitter.to_be_bytes())?;
-            out.extend_from_slice(&base.to_be_bytes())?;
-            Ok(())
+            put_timing(out, interval, jitter, base)
         }
         FlowKind::Poll {
             interval,
@@ -55,10 +63,7 @@ fn put_kind(out: &mut Vec<u8>, kind: FlowKind) -> Result<(), AllocError>
             base,
         } => {
             out.extend_from_slice(&[2])?;
-            out.extend_from_slice(&interval.to_be_bytes())?;
-            out.extend_from_slice(&jitter.to_be_bytes())?;
-            out.extend_from_slice(&base.to_be_bytes())?;
-            Ok(())
+            put_timing(out, interval, jitter, base)
         }
     }
 }
