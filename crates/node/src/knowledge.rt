@@ -6,7 +6,7 @@ ghost use Rattle.acceptor.specs.Content.Write.{Learns};
 ghost use Rattle.acceptor.specs.Found.{FindsSame, HasMade, Holds, Keeps, MayHaveMade};
 ghost use Rattle.acceptor.specs.Faults.{BreaksBy, CountsFaults};
 ghost use Rattle.proposer.specs.Faults.{BreaksByStop, CountsStops, IsHarmlessStop};
-ghost use Rattle.ballots.specs.Limits.{IsPlace, most_places};
+ghost use Rattle.ballots.specs.Limits.{most_places};
 ghost use Rattle.ballots.specs.Members.{member_count};
 ghost use Rattle.ballots.specs.Rows.{at};
 ghost use Rattle.learner.specs.Tally.{no_tally, counts, learn, teaches};

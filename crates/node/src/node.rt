@@ -1,6 +1,6 @@
 //! A node, by what its calls do.
 
-ghost use Rattle.std.specs.Prelude.{◌≡◌, ◌⊎◌, ℕ, Bool, false, [], IfErr, IfOk, IsOkAnd, IsTrue, List, OnOk, Option, option_copied};
+ghost use Rattle.std.specs.Prelude.{◌≡◌, ◌⊎◌, ℕ, Bool, false, [], IfErr, IfOk, IsOkAnd, IsTrue, OnOk, Option, option_copied};
 ghost use Rattle.acceptor.specs.Content.{no_content};
 ghost use Rattle.ballots.specs.Ballots.{IsLeastAbove};
 ghost use Rattle.ballots.specs.Members.{member_count};

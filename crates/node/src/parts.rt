@@ -1,11 +1,10 @@
 //! What a node is made of, and what its parts do with letters.
 
-ghost use Rattle.std.specs.Prelude.{◌≡◌, ◌++◌, ◌∷◌, [], ◌<◌, ◌≤◌, ◌↔◌, Ok, true, false, IsTrue, IfErr, IfOk, OnErr, OnOk, ℕ, ◌⊎◌, take};
+ghost use Rattle.std.specs.Prelude.{◌≡◌, ◌++◌, ◌∷◌, [], ◌<◌, ◌↔◌, Ok, true, false, IsTrue, IfErr, IfOk, OnErr, OnOk, ℕ, ◌⊎◌, take};
 ghost use Rattle.ballots.specs.Limits.{IsPlace, IsValue};
 ghost use Rattle.ballots.specs.Members.{member_count};
 ghost use Rattle.ballots.specs.Rows.{at, rows_from};
 ghost use Rattle.ballots.specs.declared.letters.Note.TheVariants.{Higher as HigherNote, Voted as VotedNote};
-ghost use Rattle.learner.specs.Tally.{counts, teaches};
 ghost use Rattle.node.specs.Answers.{accepted_letters, WroteNothing};
 ghost use Rattle.acceptor.specs.Content.{Content};
 ghost use Rattle.node.specs.Calls.{Kept, KeptByRestart, Restarts, StopsLast, TakesTurn, TellsFresh, answer};
@@ -137,6 +136,25 @@ impl<R: Records> Parts<R> {
         Ok(self.proposer.promise(from, ballot, place, votes.rows())?)
     }
 
+    /// The letters that tell all members of its vote for a value.
+    fn voted_letters(
+        &self,
+        ballot: Ballot,
+        place: Place,
+        value: Bytes,
+    ) -> Result<Vec<Letter>, AllocError>
+        ensures { IfOk result (λ letters. letters.items ≡ to_all (member_count self.now.proposer.members) self.now.proposer.id (VotedNote ballot place value)) }
+    {
+        let me = self.proposer.id();
+        let place = place.number();
+        let note = Note::Voted {
+            ballot,
+            place,
+            value,
+        };
+        to_all(self.alloc, self.proposer.members(), me, &note)
+    }
+
     /// What a vote needs: its letters, and a copy of the value to keep.
     fn before_vote(
         &self,
@@ -148,17 +166,7 @@ impl<R: Records> Parts<R> {
         ensures { IfOk result (λ parts. (parts.0.items ≡ to_all (member_count self.now.proposer.members) self.now.proposer.id (VotedNote ballot place value.now)) × (parts.1 ≡ value.now)) }
     {
         let kept = value_of(value.copy(self.alloc)?);
-        let note = Note::Voted {
-            ballot,
-            place: place.number(),
-            value: value.copy(self.alloc)?,
-        };
-        let letters = to_all(
-            self.alloc,
-            self.proposer.members(),
-            self.proposer.id(),
-            &note,
-        )?;
+        let letters = self.voted_letters(ballot, place, value.copy(self.alloc)?)?;
         Ok((letters, kept))
     }
 
@@ -181,17 +189,7 @@ impl<R: Records> Parts<R> {
                 if told.as_slice() == value.as_slice() {
                     return Ok(ready);
                 }
-                let note = Note::Voted {
-                    ballot,
-                    place: place.number(),
-                    value: told,
-                };
-                to_all(
-                    self.alloc,
-                    self.proposer.members(),
-                    self.proposer.id(),
-                    &note,
-                )
+                self.voted_letters(ballot, place, told)
             }
             Accepted::Higher(other) => one_letter(self.alloc, self.proposer.id(), from, other),
         }

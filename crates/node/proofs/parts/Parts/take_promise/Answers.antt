@@ -2,7 +2,6 @@ use Rattle.std.proofs.Common.{◌≡◌, refl, ap, sym, ◌∙◌, Ok, Err, rule
 use Rattle.ballots.specs.Members.{member_count}
 use Rattle.proposer.specs.Bounds.{in_log}
 use Rattle.proposer.specs.Turns as turn
-use Rattle.proposer.specs.Turns.{Turn}
 use Rattle.proposer.specs.declared.proposer.Proposer.{Proposer}
 use Rattle.proposer.specs.declared.fault.NodeFault.{NodeFault as Fault}
 use Rattle.node.specs.Calls.{answer}
