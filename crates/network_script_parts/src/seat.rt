@@ -1,7 +1,7 @@
 //! A node with a flag of its own: whether it is up.
 
 ghost use Rattle.std.specs.Prelude.{◌≡◌, true, false};
-ghost use Rattle.network_script_parts.specs.Seat.{survives as survives_lem};
+ghost use Rattle.network_script_parts.specs.Seat.{stays_up as stays_up_lem, survives as survives_lem};
 
 use ballots::Letter;
 use map_release::Numbered;
@@ -23,6 +23,16 @@ fn survives(fault: NodeFault) -> bool
         fault,
         NodeFault::OutOfMemory | NodeFault::StoreRefused | NodeFault::Down
     )
+}
+
+/// Whether a node that was up is up after a call that ended so.
+fn stays_up<T>(ended: &Result<T, NodeFault>) -> bool
+    ensures { result ≡ stays_up_lem ended.now }
+{
+    match ended {
+        Ok(_) => true,
+        Err(fault) => survives(*fault),
+    }
 }
 
 impl<N: Node> Seat<N> {
@@ -68,13 +78,9 @@ impl<N: Node> Seat<N> {
         ensures up { is_up self.new ≡ stays_up result }
         ensures order { IsHonest self.new → (view : View) → Stands self.old (Running view) → StopsLast (who_of self.old).members (who_of self.old).id view Lead (answer result) }
     {
-        match self.node.lead() {
-            Ok(sent) => Ok(sent),
-            Err(fault) => {
-                self.up = survives(fault);
-                Err(fault)
-            }
-        }
+        let sent = self.node.lead();
+        self.up = stays_up(&sent);
+        sent
     }
 
     /// The node is offered a value. It crashes where it lacks memory or its store fails.
@@ -87,13 +93,9 @@ impl<N: Node> Seat<N> {
         ensures up { is_up self.new ≡ stays_up result }
         ensures order { IsHonest self.new → (view : View) → Stands self.old (Running view) → StopsLast (who_of self.old).members (who_of self.old).id view (Offer value.now) (answer result) }
     {
-        match self.node.offer(value) {
-            Ok(sent) => Ok(sent),
-            Err(fault) => {
-                self.up = survives(fault);
-                Err(fault)
-            }
-        }
+        let sent = self.node.offer(value);
+        self.up = stays_up(&sent);
+        sent
     }
 
     /// A letter comes to the node. It crashes where it lacks memory or its store fails.
@@ -105,13 +107,9 @@ impl<N: Node> Seat<N> {
         ensures called { IsHonest self.new → CalledIn (who_of self.old) (Stands self.old) (Receive letter.now) (answer result) (Stands self.new) }
         ensures up { is_up self.new ≡ stays_up result }
     {
-        match self.node.receive(letter) {
-            Ok(sent) => Ok(sent),
-            Err(fault) => {
-                self.up = survives(fault);
-                Err(fault)
-            }
-        }
+        let sent = self.node.receive(letter);
+        self.up = stays_up(&sent);
+        sent
     }
 
     /// The node releases what it can. It crashes where it lacks memory or its store fails.
@@ -123,13 +121,9 @@ impl<N: Node> Seat<N> {
         ensures called { IsHonest self.new → ReleasedIn (Stands self.old) now (outputs result) (Stands self.new) }
         ensures up { is_up self.new ≡ stays_up result }
     {
-        match self.node.release(now) {
-            Ok(released) => Ok(released),
-            Err(fault) => {
-                self.up = survives(fault);
-                Err(fault)
-            }
-        }
+        let released = self.node.release(now);
+        self.up = stays_up(&released);
+        released
     }
 
     /// The node, which crashed, starts over its records, where its store lets it.
