@@ -6,6 +6,7 @@ pub mod Plants
 pub mod Comparisons
 pub mod TwoParts
 pub mod Wholes
+pub mod Onward
 pub mod Played
 pub mod Listening
 pub mod Clusters

@@ -1,14 +1,14 @@
 //! Whether records are what the nodes did.
 
-ghost use Rattle.std.specs.Prelude.{◌≡◌, ◌<◌, ◌≤◌, ◌↔◌, ℕ, length, take, Some, slice_get, IsTrue, IsOk, IfErr, count_by, ◌==◌, []};
-ghost use Rattle.node_worker.specs.KeptView.{KeptView, IsReplay};
-ghost use Rattle.node_worker.specs.Legal.{entries_of};
+ghost use Rattle.std.specs.Prelude.{◌≡◌, ◌<◌, ◌≤◌, ◌↔◌, ℕ, length, IsTrue, IsOk, IfErr, count_by, ◌==◌, []};
+ghost use Rattle.node_worker.specs.KeptView.{IsReplay};
+ghost use Rattle.node_worker.specs.Legal.{entries_of, letters_of, Comes};
 ghost use Rattle.node_worker.specs.Runs.{IsLegal};
-ghost use Rattle.node_worker.specs.Audits.{Fits, FitsAt, AreCounted, IsWhole, IsTorn, IsCluster, AreReplays};
+ghost use Rattle.node_worker.specs.Audits.{FitsAt, IsEntry, AreCounted, IsWhole, IsTorn, IsCluster, AreReplays};
 
 use crate::entry::Record;
 use crate::kept::Kept;
-use crate::plant::{has_come, is_next};
+use crate::plant::has_come;
 use crate::sent::LetterPlace;
 use node::Node;
 
@@ -16,32 +16,52 @@ use node::Node;
 #[derive(Clone, Copy, Debug, PartialEq, Eq)]
 pub struct Torn(pub usize);
 
-// Whether the record may come after these.
-fn fits<N: Node>(kepts: &[Kept<N>], before: &[Record], next: &Record) -> bool
-    ensures { IsTrue result ↔ Fits kepts.now before.now next.now }
+// Whether the record is entry number n of its node.
+fn is_entry<N: Node>(kepts: &[Kept<N>], next: &Record, n: usize) -> bool
+    ensures { IsTrue result ↔ IsEntry kepts.now next.now n }
 {
-    match kepts.get(usize::from(next.node.number())) {
-        Some(kept) => {
-            let mut anywhere = LetterPlace {
-                record: 0,
-                letter: 0,
-            };
-            is_next(before, next, kept.entries()) && has_come(before, next, &mut anywhere)
-        }
+    let Some(kept) = kepts.get(usize::from(next.node.number())) else {
+        return false;
+    };
+    match kept.entries().get(n) {
+        Some(entry) => next.entry.is_same(entry),
         None => false,
     }
 }
 
-// How many records fit, one after another.
+// Whether the record is entry number n of its node, and may come after these. The search for a received letter begins at a place.
+fn follows<N: Node>(
+    kepts: &[Kept<N>],
+    before: &[Record],
+    next: &Record,
+    n: usize,
+    place: &mut LetterPlace,
+) -> bool
+    ensures { IsTrue result ↔ IsEntry kepts.now next.now n × Comes (letters_of before.now) next.now.node next.now.entry.cause }
+{
+    is_entry(kepts, next, n) && has_come(before, next, place)
+}
+
+// How many records fit, one after another. Each is compared with its node's next entry alone, and its letter is looked for
+// from where its node's last one was found.
 fn count_fitting<N: Node>(kepts: &[Kept<N>], records: &[Record]) -> usize
     ensures within { result ≤ length records.now }
     ensures before { (j : ℕ) → j < result → FitsAt kepts.now records.now j }
     ensures here { result < length records.now → FitsAt kepts.now records.now result → ⊥ }
 {
+    let mut counts = [0usize; 5];
+    let mut places = [LetterPlace {
+        record: 0,
+        letter: 0,
+    }; 5];
     for i in 0..records.len() {
-        if !fits(kepts, &records[..i], &records[i]) {
+        let next = &records[i];
+        let node = usize::from(next.node.number());
+        let count = counts[node];
+        if !follows(kepts, &records[..i], next, count, &mut places[node]) {
             return i;
         }
+        counts[node] = count + 1;
     }
     records.len()
 }

@@ -1,6 +1,6 @@
 //! The records of all nodes, in one order.
 
-ghost use Rattle.std.specs.Prelude.{◌≡◌, ◌↔◌, [], ◌∷◌, ◌++◌, length, IfOk, IfErr, OnOk, OnErr, IsOk, IsTrue, Contains, List, MatchOption, ◌≤◌, ◌<◌, ◌⊎◌};
+ghost use Rattle.std.specs.Prelude.{◌≡◌, ◌↔◌, [], ◌∷◌, ◌++◌, length, IfOk, IfErr, OnOk, OnErr, IsOk, IsTrue, List, MatchOption, ◌≤◌, ◌<◌, ◌⊎◌};
 ghost use Rattle.ballots.specs.Members.{member_count};
 ghost use Rattle.network_script_parts.specs.declared.event.Event.TheVariants as event;
 ghost use Rattle.network_script_parts.specs.declared.event.ReleasedOutput.{ReleasedOutput};

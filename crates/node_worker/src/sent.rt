@@ -1,6 +1,6 @@
 //! Where the letters stand that the records sent.
 
-ghost use Rattle.std.specs.Prelude.{◌≡◌, ◌↔◌, ◌<◌, Contains, IfSome, IsSome, IsTrue, length};
+ghost use Rattle.std.specs.Prelude.{◌↔◌, ◌<◌, Contains, IfSome, IsSome, IsTrue, length};
 ghost use Rattle.node_worker.specs.Legal.{letters_of};
 
 use crate::entry::Record;
