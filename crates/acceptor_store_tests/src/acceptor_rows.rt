@@ -77,23 +77,38 @@ fn is_answered<R: Records>(
     Ok(answer.as_str() == case.2)
 }
 
+/// Ballot, the byte of a value, and the answer.
+const CASES: [(u64, Option<u8>, &str); 9] = [
+    (9, None, "promised"),
+    (9, None, "higher 9"),
+    (8, Some(b'A'), "higher 9"),
+    (17, Some(b'A'), "voted [65]"),
+    (16, None, "higher 17"),
+    (18, None, "promised 1 17 [65]"),
+    (17, Some(b'B'), "higher 18"),
+    (18, Some(b'B'), "voted [66]"),
+    (18, Some(b'C'), "voted [66]"),
+];
+
+/// Whether each case is answered as it says.
+fn are_answered<R: Records>(rt: &impl Abort, alloc: Global, records: &mut R) -> Result<bool, Fail> {
+    for case in CASES {
+        if !is_answered(rt, alloc, records, case)? {
+            return Ok(false);
+        }
+    }
+    Ok(true)
+}
+
+fn failures_of<R: Records>(records: &R) -> u64 {
+    records.failures()
+}
+
 #[test]
 fn promises_and_votes(rt: HostRuntime) -> Result<(), Fail> {
     let mut records = fresh(rt.alloc())?;
-    for case in [
-        (9, None, "promised"),
-        (9, None, "higher 9"),
-        (8, Some(b'A'), "higher 9"),
-        (17, Some(b'A'), "voted [65]"),
-        (16, None, "higher 17"),
-        (18, None, "promised 1 17 [65]"),
-        (17, Some(b'B'), "higher 18"),
-        (18, Some(b'B'), "voted [66]"),
-        (18, Some(b'C'), "voted [66]"),
-    ] {
-        assert!(rt; is_answered(&rt, rt.alloc(), &mut records, case)?);
-    }
-    assert_eq!(rt; records.failures(), 0);
+    assert!(rt; are_answered(&rt, rt.alloc(), &mut records)?);
+    assert_eq!(rt; failures_of(&records), 0);
     Ok(())
 }
 
@@ -153,18 +168,19 @@ fn records_keep_their_rows(rt: HostRuntime) -> Result<(), Fail> {
     Ok(())
 }
 
+/// The same writes, and one of another vote at place 2.
+fn write_over<R: Records>(rt: &impl Abort, alloc: Global, records: &mut R) -> Result<(), Fail> {
+    write(rt, alloc, records)?;
+    let value = value(rt, alloc, b'E')?;
+    Ok(records.put_vote(Place::new(2).expect(rt, "a place"), ballot(rt, 24), &value)?)
+}
+
 /// A vote takes the place of the one at its place, and of no other.
 #[test]
 fn a_vote_over_another(rt: HostRuntime) -> Result<(), Fail> {
     let mut records = fresh(rt.alloc())?;
-    write(&rt, rt.alloc(), &mut records)?;
-    let value = value(&rt, rt.alloc(), b'E')?;
-    records.put_vote(
-        Place::new(2).expect(&rt, "a place"),
-        ballot(&rt, 24),
-        &value,
-    )?;
+    write_over(&rt, rt.alloc(), &mut records)?;
     assert!(rt; keeps(&rt, &mut records, (16, 24, 24, 2))?);
-    assert_eq!(rt; records.failures(), 0);
+    assert_eq!(rt; failures_of(&records), 0);
     Ok(())
 }

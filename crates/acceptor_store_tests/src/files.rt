@@ -3,7 +3,7 @@
 use acceptor::Records;
 use acceptor_store::SqlRecords;
 use acceptor_store_parts::open_again;
-use ballots::{Ballot, Place};
+use ballots::{Ballot, Place, Votes};
 use sqlite::{Connection, FileStore, Files, Options};
 use sqlite_disk::{Crash, Disk, Fuse, Memory};
 use std::alloc::Global;
@@ -11,10 +11,6 @@ use std::io;
 use std::test::Fail;
 
 pub type Fused = Fuse<Memory>;
-
-pub type Linked = Connection<FileStore<Fused>>;
-
-pub type Stored = SqlRecords<FileStore<Fused>>;
 
 /// Which of the two files is stopped.
 #[derive(Clone, Copy, Debug, PartialEq, Eq)]
@@ -24,7 +20,7 @@ pub enum Stopped {
 }
 
 /// How many calls on the log, and on the database, pass where one of them is stopped after so many.
-pub fn calls_of(stopped: Stopped, calls: u64) -> (u64, u64) {
+fn calls_of(stopped: Stopped, calls: u64) -> (u64, u64) {
     match stopped {
         Stopped::Database => (u64::MAX, calls),
         Stopped::Log => (calls, u64::MAX),
@@ -38,43 +34,81 @@ pub struct Left {
     pub synced: Vec<u8>,
 }
 
+/// What is left of the log and of the database.
+#[derive(Debug, Drop)]
+pub struct Bodies {
+    pub log: Left,
+    pub db: Left,
+}
+
 /// Which of these is found of the log, and of the database.
 pub const FOUND: [(bool, bool); 4] = [(true, true), (true, false), (false, true), (false, false)];
 
-/// Whether this choice finds what another found: of a file that was synced as it was written.
-pub fn is_again(log: &Left, db: &Left, which: (bool, bool)) -> bool {
-    (!which.0 && log.written.as_slice() == log.synced.as_slice())
-        || (!which.1 && db.written.as_slice() == db.synced.as_slice())
+fn is_whole(left: &Left) -> bool {
+    left.written.as_slice() == left.synced.as_slice()
 }
 
-pub fn left_of(alloc: Global, file: &mut Fused) -> Result<Left, Fail> {
+/// Whether this choice finds what another found: of a file that was synced as it was written.
+pub fn is_again(bodies: &Bodies, which: (bool, bool)) -> bool {
+    (!which.0 && is_whole(&bodies.log)) || (!which.1 && is_whole(&bodies.db))
+}
+
+fn left_of(alloc: Global, file: &mut Fused) -> Result<Left, Fail> {
     let written = Vec::from_slice(alloc, file.inner().bytes())?;
     file.crash();
     let synced = Vec::from_slice(alloc, file.inner().bytes())?;
     Ok(Left { written, synced })
 }
 
+pub fn left_behind(alloc: Global, mut files: Files<Fused>) -> Result<Bodies, Fail> {
+    let log = left_of(alloc, &mut files.log)?;
+    let db = left_of(alloc, &mut files.db)?;
+    Ok(Bodies { log, db })
+}
+
 /// A file of these bytes, all of them synced, that passes so many calls on and fails each one after.
-pub fn fused(alloc: Global, bytes: &[u8], calls: u64) -> io::Result<Fused> {
+fn fused(alloc: Global, bytes: &[u8], calls: u64) -> io::Result<Fused> {
     let mut file = Memory::new(alloc);
     file.write_at(0, bytes)?;
     file.sync()?;
     Ok(Fuse::new(file, calls))
 }
 
-/// The file as it is found afterwards, with a fuse that doesn't blow.
-pub fn found(alloc: Global, left: &Left, is_written: bool) -> io::Result<Fused> {
-    let bytes = if is_written {
+/// Files of these bytes, of the log and of the database, one of which stops after so many calls.
+pub fn stopping(
+    alloc: Global,
+    bytes: (&[u8], &[u8]),
+    stopped: Stopped,
+    calls: u64,
+) -> io::Result<Files<Fused>> {
+    let (log, db) = calls_of(stopped, calls);
+    Ok(Files {
+        log: fused(alloc, bytes.0, log)?,
+        db: fused(alloc, bytes.1, db)?,
+    })
+}
+
+fn bytes_of(left: &Left, is_written: bool) -> &[u8] {
+    if is_written {
         left.written.as_slice()
     } else {
         left.synced.as_slice()
-    };
-    fused(alloc, bytes, u64::MAX)
+    }
+}
+
+/// What is found of the files: what was written to the log, or synced, and likewise of the database.
+pub fn found(alloc: Global, bodies: &Bodies, which: (bool, bool)) -> io::Result<Files<Fused>> {
+    let log = bytes_of(&bodies.log, which.0);
+    let db = bytes_of(&bodies.db, which.1);
+    stopping(alloc, (log, db), Stopped::Log, u64::MAX)
 }
 
 /// A connection to the files, or the files again. Each commit copies the log into the database. With few pages in memory it
 /// is opened soon.
-pub fn connected(alloc: Global, files: Files<Fused>) -> Result<Linked, Files<Fused>> {
+pub fn connected<D: Disk + Drop>(
+    alloc: Global,
+    files: Files<D>,
+) -> Result<Connection<FileStore<D>>, Files<D>> {
     let options = Options {
         cache_pages: 8,
         spill_pages: 8,
@@ -85,11 +119,22 @@ pub fn connected(alloc: Global, files: Files<Fused>) -> Result<Linked, Files<Fus
 }
 
 /// The records in the files, or the files again.
-pub fn opened(alloc: Global, files: Files<Fused>) -> Result<Stored, Files<Fused>> {
+pub fn opened<D: Disk + Drop>(
+    alloc: Global,
+    files: Files<D>,
+) -> Result<SqlRecords<FileStore<D>>, Files<D>> {
     let conn = connected(alloc, files)?;
     match SqlRecords::open(alloc, conn) {
         Ok(records) => Ok(records),
         Err((_, store)) => Err(store.close()),
+    }
+}
+
+/// The files of the records.
+pub fn closed<D: Disk + Drop>(records: SqlRecords<FileStore<D>>) -> Result<Files<D>, Fail> {
+    match records.into_store() {
+        Some(store) => Ok(store.close()),
+        None => Err(Fail::new("no store")),
     }
 }
 
@@ -100,13 +145,8 @@ fn number(ballot: Option<Ballot>) -> u64 {
     }
 }
 
-/// The ballot tried and the promised one, and place, ballot and bytes of each vote.
-pub fn content(alloc: Global, records: &mut Stored) -> Result<String, Fail> {
-    let tried = number(records.tried()?);
-    let promised = number(records.promised()?);
-    let first = Place::new(1).ok_or("a place")?;
-    let votes = records.votes_from(first)?;
-    let mut text = format!(in alloc; "{tried} {promised}")?;
+/// Place, ballot and bytes of each vote, behind this text.
+fn with_votes(alloc: Global, mut text: String, votes: &Votes) -> Result<String, Fail> {
     for (place, cast) in votes.rows() {
         let vote = format!(in alloc;
             " {place} {} {:?}",
@@ -116,4 +156,14 @@ pub fn content(alloc: Global, records: &mut Stored) -> Result<String, Fail> {
         text.push_str(vote.as_str())?;
     }
     Ok(text)
+}
+
+/// The ballot tried and the promised one, and place, ballot and bytes of each vote.
+pub fn content<R: Records>(alloc: Global, records: &mut R) -> Result<String, Fail> {
+    let tried = number(records.tried()?);
+    let promised = number(records.promised()?);
+    let first = Place::new(1).ok_or("a place")?;
+    let votes = records.votes_from(first)?;
+    let text = format!(in alloc; "{tried} {promised}")?;
+    with_votes(alloc, text, &votes)
 }

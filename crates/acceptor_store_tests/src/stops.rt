@@ -1,11 +1,12 @@
 //! The four writes that a node makes up to its first grant, stopped at each call on one of its files in turn.
 
 use crate::files::{
-    FOUND, Fused, Left, Stopped, Stored, calls_of, content, found, fused, is_again, left_of, opened,
+    Bodies, FOUND, Stopped, closed, content, found, is_again, left_behind, opened, stopping,
 };
 use acceptor::{Records, RecordsFault};
 use ballots::{Ballot, Bytes, Place, Value};
 use sqlite::Files;
+use sqlite_disk::Disk;
 use std::alloc::Global;
 use std::test::Fail;
 
@@ -39,13 +40,6 @@ struct Reached {
     fault: Option<RecordsFault>,
 }
 
-/// That, and the files as the stop left them.
-#[derive(Drop)]
-struct Outcome {
-    reached: Reached,
-    files: Files<Fused>,
-}
-
 fn value_of(alloc: Global, bytes: &[u8]) -> Result<Value, Fail> {
     let bytes = Bytes::new(Vec::from_slice(alloc, bytes)?);
     Ok(Value::new(bytes).ok_or("a value")?)
@@ -59,8 +53,8 @@ fn first_writes(alloc: Global) -> Result<Writes, Fail> {
     })
 }
 
-fn put_vote(
-    records: &mut Stored,
+fn put_vote<R: Records>(
+    records: &mut R,
     place: u64,
     ballot: Ballot,
     value: &Value,
@@ -72,7 +66,7 @@ fn put_vote(
 }
 
 /// Makes the write of this number.
-fn put(records: &mut Stored, number: usize, writes: &Writes) -> Result<(), RecordsFault> {
+fn put<R: Records>(records: &mut R, number: usize, writes: &Writes) -> Result<(), RecordsFault> {
     match number {
         0 => records.put_tried(writes.ballot),
         1 => records.put_promised(writes.ballot),
@@ -82,55 +76,62 @@ fn put(records: &mut Stored, number: usize, writes: &Writes) -> Result<(), Recor
 }
 
 /// How many writes are made, and why the next isn't.
-fn put_all(records: &mut Stored, writes: &Writes) -> (usize, Option<RecordsFault>) {
+fn put_all<R: Records>(records: &mut R, writes: &Writes) -> Reached {
     for number in 0..4usize {
         if let Err(fault) = put(records, number, writes) {
-            return (number, Some(fault));
+            return Reached {
+                is_open: true,
+                made: number,
+                fault: Some(fault),
+            };
         }
     }
-    (4, None)
+    Reached {
+        is_open: true,
+        made: 4,
+        fault: None,
+    }
 }
 
-/// Opens the files and makes the writes.
-fn written(alloc: Global, files: Files<Fused>, writes: &Writes) -> Result<Outcome, Fail> {
-    let mut records = match opened(alloc, files) {
-        Ok(records) => records,
-        Err(files) => {
-            let reached = Reached {
-                is_open: false,
-                made: 0,
-                fault: None,
-            };
-            return Ok(Outcome { reached, files });
+/// Where the files don't open.
+const UNOPENED: Reached = Reached {
+    is_open: false,
+    made: 0,
+    fault: None,
+};
+
+/// Opens the files and makes the writes: how far they came, and the files as the stop left them.
+fn written<D: Disk + Drop>(
+    alloc: Global,
+    files: Files<D>,
+    writes: &Writes,
+) -> Result<(Reached, Files<D>), Fail> {
+    match opened(alloc, files) {
+        Ok(mut records) => {
+            let reached = put_all(&mut records, writes);
+            Ok((reached, closed(records)?))
         }
-    };
-    let (made, fault) = put_all(&mut records, writes);
-    let reached = Reached {
-        is_open: true,
-        made,
-        fault,
-    };
-    let Some(store) = records.into_store() else {
-        return Err(Fail::new("no store"));
-    };
-    let files = store.close();
-    Ok(Outcome { reached, files })
+        Err(files) => Ok((UNOPENED, files)),
+    }
+}
+
+/// The number of writes after which the records hold this.
+fn made_of(text: &str) -> Option<usize> {
+    CONTENTS.iter().position(|content| *content == text)
+}
+
+/// What the records in the files hold.
+fn content_of<D: Disk + Drop>(alloc: Global, files: Files<D>) -> Result<String, Fail> {
+    match opened(alloc, files) {
+        Ok(mut records) => content(alloc, &mut records),
+        Err(_) => Err(Fail::new("what is left doesn't open")),
+    }
 }
 
 /// What the files hold, by a node's number of writes. Every database that is found opens, and holds one of `CONTENTS`.
-fn held(alloc: Global, log: &Left, db: &Left, which: (bool, bool)) -> Result<usize, Fail> {
-    let files = Files {
-        log: found(alloc, log, which.0)?,
-        db: found(alloc, db, which.1)?,
-    };
-    let Ok(mut records) = opened(alloc, files) else {
-        return Err(Fail::new("what is left doesn't open"));
-    };
-    let text = content(alloc, &mut records)?;
-    match CONTENTS
-        .iter()
-        .position(|content| *content == text.as_str())
-    {
+fn held(alloc: Global, bodies: &Bodies, which: (bool, bool)) -> Result<usize, Fail> {
+    let text = content_of(alloc, found(alloc, bodies, which)?)?;
+    match made_of(text.as_str()) {
         Some(made) => Ok(made),
         None => Err(Fail::new("it holds something else")),
     }
@@ -145,35 +146,50 @@ fn may_leave(reached: Reached, made: usize) -> bool {
     }
 }
 
-/// How far the writes come that are stopped after so many calls on a file. Whatever is found of the files holds what was
-/// written before, or that and the one write at which they stopped.
+/// Whatever is found of the files holds what was written before, or that and the one write at which they stopped.
+fn all_held(alloc: Global, reached: Reached, bodies: &Bodies) -> Result<(), Fail> {
+    for which in FOUND {
+        if is_again(bodies, which) {
+            continue;
+        }
+        let made = held(alloc, bodies, which)?;
+        if !may_leave(reached, made) {
+            return Err(Fail::new(format_args!("{which:?}: {made} of {reached:?}")));
+        }
+    }
+    Ok(())
+}
+
+/// How far the writes come that are stopped after so many calls on a file, where what is left of them is what may be.
 fn stopped_at(
     alloc: Global,
     writes: &Writes,
     stopped: Stopped,
     calls: u64,
 ) -> Result<Reached, Fail> {
-    let (log, db) = calls_of(stopped, calls);
-    let files = Files {
-        log: fused(alloc, &[], log)?,
-        db: fused(alloc, &[], db)?,
-    };
-    let mut outcome = written(alloc, files, writes)?;
-    let log = left_of(alloc, &mut outcome.files.log)?;
-    let db = left_of(alloc, &mut outcome.files.db)?;
-    for which in FOUND {
-        if is_again(&log, &db, which) {
-            continue;
-        }
-        let made = held(alloc, &log, &db, which)?;
-        if !may_leave(outcome.reached, made) {
-            return Err(Fail::new(format_args!(
-                "{stopped:?} {calls} {which:?}: {made} of {:?}",
-                outcome.reached
-            )));
-        }
+    let files = stopping(alloc, (&[], &[]), stopped, calls)?;
+    let (reached, files) = written(alloc, files, writes)?;
+    let bodies = left_behind(alloc, files)?;
+    all_held(alloc, reached, &bodies)?;
+    Ok(reached)
+}
+
+/// Where the writes stopped: 0 as the files were opened, and then by the write. None where they went through.
+fn place_of(reached: Reached) -> Option<usize> {
+    if !reached.is_open {
+        return Some(0);
     }
-    Ok(outcome.reached)
+    match reached.fault {
+        Some(_) => Some(reached.made.saturating_add(1)),
+        None => None,
+    }
+}
+
+fn counted(mut counts: [u64; 5], place: usize) -> [u64; 5] {
+    if let Some(count) = counts.get_mut(place) {
+        *count = count.saturating_add(1);
+    }
+    counts
 }
 
 /// How many stops come as the files are opened, and at each write.
@@ -181,17 +197,9 @@ fn stops(alloc: Global, stopped: Stopped) -> Result<[u64; 5], Fail> {
     let writes = first_writes(alloc)?;
     let mut counts = [0u64; 5];
     for calls in 0..500u64 {
-        let place = match stopped_at(alloc, &writes, stopped, calls)? {
-            Reached { is_open: false, .. } => 0,
-            Reached {
-                made,
-                fault: Some(_),
-                ..
-            } => made.saturating_add(1),
-            Reached { fault: None, .. } => return Ok(counts),
-        };
-        if let Some(count) = counts.get_mut(place) {
-            *count = count.saturating_add(1);
+        match place_of(stopped_at(alloc, &writes, stopped, calls)?) {
+            Some(place) => counts = counted(counts, place),
+            None => return Ok(counts),
         }
     }
     Err(Fail::new("the writes never go through"))

@@ -1,5 +1,5 @@
 use acceptor_store::{OpenFault, SqlRecords};
-use sqlite::{Connection, Error, MemStore};
+use sqlite::{Alter, Connection, Error};
 use std::alloc::Global;
 use std::test::Fail;
 
@@ -13,31 +13,44 @@ const LEARNED: &str =
 
 const SECOND: &str = "INSERT INTO ballot (id, number) VALUES (2, 2)";
 
-/// A connection to a database that these texts made.
-fn made(alloc: Global, texts: &[&str]) -> Result<Connection<MemStore>, Error> {
-    let mut conn = Connection::open_in_memory(alloc)?;
+/// Runs these texts.
+fn run<S: Alter + Drop>(conn: &mut Connection<S>, texts: &[&str]) -> Result<(), Error> {
     for text in texts {
         conn.execute_batch(text)?;
     }
-    Ok(conn)
+    Ok(())
 }
 
-fn opened(alloc: Global, texts: &[&str]) -> Result<Option<OpenFault>, Error> {
-    match SqlRecords::open(alloc, made(alloc, texts)?) {
-        Ok(_) => Ok(None),
-        Err((fault, _)) => Ok(Some(fault)),
+/// How records over the connection open.
+fn fault_of<S: Alter + Drop>(alloc: Global, conn: Connection<S>) -> Option<OpenFault> {
+    match SqlRecords::open(alloc, conn) {
+        Ok(_) => None,
+        Err((fault, _)) => Some(fault),
     }
 }
 
-/// Tables of records open, and all others are foreign.
+/// How records open over a database that these texts made.
+fn opened(alloc: Global, texts: &[&str]) -> Result<Option<OpenFault>, Error> {
+    let mut conn = Connection::open_in_memory(alloc)?;
+    run(&mut conn, texts)?;
+    Ok(fault_of(alloc, conn))
+}
+
+/// Tables of records open.
 #[test]
-fn which_tables_are_foreign(rt: HostRuntime) -> Result<(), Fail> {
+fn which_tables_open(rt: HostRuntime) -> Result<(), Fail> {
     for text in [
         "INSERT INTO vote VALUES (3, 9, x'00'), (2, 16, x'0907')",
         "INSERT INTO vote VALUES (1000000, 16, x'00112233445566778899aabbccddeeff00112233445566778899aabbccddeeff00112233445566778899aabbccddeeff00112233445566778899aabbccddeeff')",
     ] {
         assert_eq!(rt; opened(rt.alloc(), &[TABLES, text])?, None, "{text}");
     }
+    Ok(())
+}
+
+/// All other tables are foreign.
+#[test]
+fn which_tables_are_foreign(rt: HostRuntime) -> Result<(), Fail> {
     for text in [
         "INSERT INTO vote VALUES (0, 16, x'0907')",
         "INSERT INTO vote VALUES (1000001, 16, x'0907')",

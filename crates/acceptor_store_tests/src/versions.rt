@@ -1,14 +1,15 @@
 //! Files of version 1 that are opened, also where a file stops, and learned values that are kept.
 
 use crate::files::{
-    FOUND, Fused, Left, Linked, Stopped, Stored, calls_of, connected, content, found, fused,
-    is_again, left_of, opened,
+    Bodies, FOUND, Fused, Stopped, closed, connected, content, found, is_again, left_behind,
+    opened, stopping,
 };
 use acceptor::Records;
 use acceptor_store::SqlRecords;
 use acceptor_store_parts::{Version, version_of};
 use ballots::{Bytes, Place, Value};
-use sqlite::Files;
+use sqlite::{Alter, Connection, FileStore, Files};
+use sqlite_disk::Disk;
 use std::alloc::Global;
 use std::test::Fail;
 
@@ -19,82 +20,63 @@ const FIRST: &str =
 /// What they hold, of tables of either version.
 const HELD: &str = "16 18 1 17 [65]";
 
-/// The bytes of the log and of the database.
-#[derive(Drop)]
-struct Bodies {
-    log: Left,
-    db: Left,
-}
-
-fn left_behind(alloc: Global, mut files: Files<Fused>) -> Result<Bodies, Fail> {
-    let log = left_of(alloc, &mut files.log)?;
-    let db = left_of(alloc, &mut files.db)?;
-    Ok(Bodies { log, db })
-}
-
-/// The files with these tables.
-fn first_files(alloc: Global) -> Result<Bodies, Fail> {
-    let files = Files {
-        log: fused(alloc, &[], u64::MAX)?,
-        db: fused(alloc, &[], u64::MAX)?,
-    };
-    let Ok(mut conn) = connected(alloc, files) else {
-        return Err(Fail::new("no connection"));
-    };
-    conn.execute_batch(FIRST)?;
-    left_behind(alloc, conn.into_store().close())
-}
-
-/// What is found of the files: what was written to the log, or synced, and likewise of the database.
-fn files_of(alloc: Global, bodies: &Bodies, which: (bool, bool)) -> Result<Files<Fused>, Fail> {
-    Ok(Files {
-        log: found(alloc, &bodies.log, which.0)?,
-        db: found(alloc, &bodies.db, which.1)?,
-    })
-}
-
-fn first_linked(alloc: Global) -> Result<Linked, Fail> {
-    let bodies = first_files(alloc)?;
-    match connected(alloc, files_of(alloc, &bodies, (true, true))?) {
+fn linked<D: Disk + Drop>(
+    alloc: Global,
+    files: Files<D>,
+) -> Result<Connection<FileStore<D>>, Fail> {
+    match connected(alloc, files) {
         Ok(conn) => Ok(conn),
         Err(_) => Err(Fail::new("no connection")),
     }
 }
 
-fn records_over(alloc: Global, conn: Linked) -> Result<Stored, Fail> {
+/// The files after this text.
+fn ran<D: Disk + Drop>(alloc: Global, files: Files<D>, text: &str) -> Result<Files<D>, Fail> {
+    let mut conn = linked(alloc, files)?;
+    conn.execute_batch(text)?;
+    Ok(conn.into_store().close())
+}
+
+/// What the files with these tables leave.
+fn first_files(alloc: Global) -> Result<Bodies, Fail> {
+    let files = stopping(alloc, (&[], &[]), Stopped::Log, u64::MAX)?;
+    left_behind(alloc, ran(alloc, files, FIRST)?)
+}
+
+/// The files with these tables, as they were written.
+fn first_found(alloc: Global) -> Result<Files<Fused>, Fail> {
+    let bodies = first_files(alloc)?;
+    Ok(found(alloc, &bodies, (true, true))?)
+}
+
+fn records_over<S: Alter + Drop>(
+    alloc: Global,
+    conn: Connection<S>,
+) -> Result<SqlRecords<S>, Fail> {
     match SqlRecords::open(alloc, conn) {
         Ok(records) => Ok(records),
         Err((fault, _)) => Err(Fail::new(format_args!("it doesn't open: {fault}"))),
     }
 }
 
-fn closed(records: Stored) -> Result<Files<Fused>, Fail> {
-    match records.into_store() {
-        Some(store) => Ok(store.close()),
-        None => Err(Fail::new("no store")),
-    }
-}
-
-/// Another connection to the files of the records.
-fn linked_anew(alloc: Global, records: Stored) -> Result<Linked, Fail> {
-    match connected(alloc, closed(records)?) {
-        Ok(conn) => Ok(conn),
-        Err(_) => Err(Fail::new("no connection")),
-    }
+/// Whether the numbers have the row that tells version 2.
+fn has_second<S: Alter>(conn: &mut Connection<S>) -> Result<bool, Fail> {
+    let rows = conn.query_all("SELECT id FROM ballot WHERE id = 2 AND number = 2", &[])?;
+    Ok(rows.len() == 1)
 }
 
 /// The version whose tables the files have, with or without the row that tells version 2.
-fn version(alloc: Global, conn: &mut Linked) -> Result<Option<Version>, Fail> {
-    let rows = conn.query_all("SELECT id FROM ballot WHERE id = 2 AND number = 2", &[])?;
-    match (version_of(alloc, conn.schema())?, rows.len()) {
-        (Some(Version::First), 0) => Ok(Some(Version::First)),
-        (Some(Version::Second), 1) => Ok(Some(Version::Second)),
-        _ => Ok(None),
+fn version<S: Alter>(alloc: Global, conn: &mut Connection<S>) -> Result<Version, Fail> {
+    let is_second = has_second(conn)?;
+    match (version_of(alloc, conn.schema())?, is_second) {
+        (Some(Version::First), false) => Ok(Version::First),
+        (Some(Version::Second), true) => Ok(Version::Second),
+        _ => Err(Fail::new("it is of no version")),
     }
 }
 
 /// Place and bytes of each learned value from the place on.
-fn learned_from(alloc: Global, records: &mut Stored, place: u64) -> Result<String, Fail> {
+fn learned_from<R: Records>(alloc: Global, records: &mut R, place: u64) -> Result<String, Fail> {
     let mut text = String::new(alloc);
     for (place, value) in records.learned_from(Place::new(place).ok_or("a place")?)? {
         let row = format!(in alloc; "{} {:?};", place.number(), value.as_slice())?;
@@ -104,82 +86,132 @@ fn learned_from(alloc: Global, records: &mut Stored, place: u64) -> Result<Strin
 }
 
 /// The bytes of the learned value of the place.
-fn learned_row(alloc: Global, records: &mut Stored, place: u64) -> Result<String, Fail> {
+fn learned_row<R: Records>(alloc: Global, records: &mut R, place: u64) -> Result<String, Fail> {
     match records.learned_row(Place::new(place).ok_or("a place")?)? {
         Some(value) => Ok(format!(in alloc; "{:?}", value.as_slice())?),
         None => Ok(format!(in alloc; "none")?),
     }
 }
 
+/// Whether the records hold what the tables of version 1 held.
+fn holds_votes<R: Records>(alloc: Global, records: &mut R) -> Result<bool, Fail> {
+    Ok(content(alloc, records)?.as_str() == HELD)
+}
+
+/// Whether these are the learned values from this place on.
+fn holds_from<R: Records>(
+    alloc: Global,
+    records: &mut R,
+    place: u64,
+    want: &str,
+) -> Result<bool, Fail> {
+    Ok(learned_from(alloc, records, place)?.as_str() == want)
+}
+
+/// Whether this is the learned value of the place.
+fn holds_row<R: Records>(
+    alloc: Global,
+    records: &mut R,
+    place: u64,
+    want: &str,
+) -> Result<bool, Fail> {
+    Ok(learned_row(alloc, records, place)?.as_str() == want)
+}
+
 /// The records hold what the tables of version 1 held, and nothing learned.
-fn holds_the_first(alloc: Global, records: &mut Stored) -> Result<bool, Fail> {
-    let text = content(alloc, records)?;
-    let all = learned_from(alloc, records, 1)?;
-    let row = learned_row(alloc, records, 1)?;
-    Ok(text.as_str() == HELD && all.is_empty() && row.as_str() == "none")
+fn holds_the_first<R: Records>(alloc: Global, records: &mut R) -> Result<bool, Fail> {
+    Ok(
+        holds_votes(alloc, records)?
+            && holds_from(alloc, records, 1, "")?
+            && holds_row(alloc, records, 1, "none")?,
+    )
+}
+
+/// The records in the files, and which version the files were of.
+fn raised<D: Disk + Drop>(
+    alloc: Global,
+    files: Files<D>,
+) -> Result<(Version, SqlRecords<FileStore<D>>), Fail> {
+    let mut conn = linked(alloc, files)?;
+    let version = version(alloc, &mut conn)?;
+    Ok((version, records_over(alloc, conn)?))
+}
+
+/// Opens the files, and tells which version they were of; with the files again. Whatever that was, they hold the same.
+fn reopened<D: Disk + Drop>(alloc: Global, files: Files<D>) -> Result<(Version, Files<D>), Fail> {
+    let (version, mut records) = raised(alloc, files)?;
+    if !holds_the_first(alloc, &mut records)? {
+        return Err(Fail::new("it holds something else"));
+    }
+    Ok((version, closed(records)?))
 }
 
 /// A database of version 1 holds the same once it was opened, and nothing learned, in tables of version 2.
 #[test]
 fn version_one_is_raised(rt: HostRuntime) -> Result<(), Fail> {
-    let mut conn = first_linked(rt.alloc())?;
-    assert_eq!(rt; version(rt.alloc(), &mut conn)?, Some(Version::First));
-    let mut records = records_over(rt.alloc(), conn)?;
-    assert!(rt; holds_the_first(rt.alloc(), &mut records)?);
-    let mut again = linked_anew(rt.alloc(), records)?;
-    assert_eq!(rt; version(rt.alloc(), &mut again)?, Some(Version::Second));
-    let mut records = records_over(rt.alloc(), again)?;
-    assert!(rt; holds_the_first(rt.alloc(), &mut records)?);
+    let (first, files) = reopened(rt.alloc(), first_found(rt.alloc())?)?;
+    assert_eq!(rt; first, Version::First);
+    let (second, _) = reopened(rt.alloc(), files)?;
+    assert_eq!(rt; second, Version::Second);
     Ok(())
 }
 
-fn put_learned(alloc: Global, records: &mut Stored, place: u64, byte: u8) -> Result<(), Fail> {
+fn put_learned<R: Records>(
+    alloc: Global,
+    records: &mut R,
+    place: u64,
+    byte: u8,
+) -> Result<(), Fail> {
     let bytes = Bytes::new(Vec::from_slice(alloc, &[byte])?);
     let value = Value::new(bytes).ok_or("a value")?;
     Ok(records.put_learned(Place::new(place).ok_or("a place")?, &value)?)
 }
 
+/// Writes learned values at places 3 and 1, and reopens the records.
+fn learn_two<R: Records>(alloc: Global, records: &mut R) -> Result<(), Fail> {
+    put_learned(alloc, records, 3, 51)?;
+    put_learned(alloc, records, 1, 49)?;
+    Ok(records.reopen()?)
+}
+
+fn has_both_rows<R: Records>(alloc: Global, records: &mut R) -> Result<bool, Fail> {
+    Ok(holds_row(alloc, records, 2, "none")? && holds_row(alloc, records, 3, "[51]")?)
+}
+
 /// The records hold learned values at places 1 and 3 alone, and what the tables of version 1 held.
-fn holds_learned(alloc: Global, records: &mut Stored) -> Result<bool, Fail> {
-    let all = learned_from(alloc, records, 1)?;
-    let later = learned_from(alloc, records, 2)?;
-    let second = learned_row(alloc, records, 2)?;
-    let third = learned_row(alloc, records, 3)?;
-    let are_rows = second.as_str() == "none" && third.as_str() == "[51]";
+fn holds_learned<R: Records>(alloc: Global, records: &mut R) -> Result<bool, Fail> {
     Ok(
-        are_rows
-            && all.as_str() == "1 [49];3 [51];"
-            && later.as_str() == "3 [51];"
-            && content(alloc, records)?.as_str() == HELD,
+        has_both_rows(alloc, records)?
+            && holds_from(alloc, records, 1, "1 [49];3 [51];")?
+            && holds_from(alloc, records, 2, "3 [51];")?
+            && holds_votes(alloc, records)?,
     )
+}
+
+fn records_in<D: Disk + Drop>(
+    alloc: Global,
+    files: Files<D>,
+) -> Result<SqlRecords<FileStore<D>>, Fail> {
+    records_over(alloc, linked(alloc, files)?)
 }
 
 /// Learned values are kept as the records are reopened, and as their files are opened anew.
 #[test]
 fn learned_values_are_kept(rt: HostRuntime) -> Result<(), Fail> {
-    let mut records = records_over(rt.alloc(), first_linked(rt.alloc())?)?;
-    put_learned(rt.alloc(), &mut records, 3, 51)?;
-    put_learned(rt.alloc(), &mut records, 1, 49)?;
-    records.reopen()?;
+    let mut records = records_in(rt.alloc(), first_found(rt.alloc())?)?;
+    learn_two(rt.alloc(), &mut records)?;
     assert!(rt; holds_learned(rt.alloc(), &mut records)?);
-    let mut records = records_over(rt.alloc(), linked_anew(rt.alloc(), records)?)?;
-    assert!(rt; holds_learned(rt.alloc(), &mut records)?);
+    let mut again = records_in(rt.alloc(), closed(records)?)?;
+    assert!(rt; holds_learned(rt.alloc(), &mut again)?);
     Ok(())
 }
 
-/// Opens what was found of the files, and tells which version it was of. Whatever that was, it holds the same.
-fn found_of(alloc: Global, files: Files<Fused>) -> Result<Version, Fail> {
-    let Ok(mut conn) = connected(alloc, files) else {
-        return Err(Fail::new("what is left is no database"));
-    };
-    let Some(version) = version(alloc, &mut conn)? else {
-        return Err(Fail::new("it is of no version"));
-    };
-    let mut records = records_over(alloc, conn)?;
-    if !holds_the_first(alloc, &mut records)? {
-        return Err(Fail::new("it holds something else"));
+/// Opens the files: whether that went through, and the files again.
+fn tried<D: Disk + Drop>(alloc: Global, files: Files<D>) -> Result<(bool, Files<D>), Fail> {
+    match opened(alloc, files) {
+        Ok(records) => Ok((true, closed(records)?)),
+        Err(files) => Ok((false, files)),
     }
-    Ok(version)
 }
 
 /// Opens the files, one of which stops after so many calls: whether that went through, and what the files held then.
@@ -189,30 +221,60 @@ fn opened_until(
     stopped: Stopped,
     calls: u64,
 ) -> Result<(bool, Bodies), Fail> {
-    let (log, db) = calls_of(stopped, calls);
-    let files = Files {
-        log: fused(alloc, bodies.log.written.as_slice(), log)?,
-        db: fused(alloc, bodies.db.written.as_slice(), db)?,
-    };
-    match opened(alloc, files) {
-        Ok(records) => Ok((true, left_behind(alloc, closed(records)?)?)),
-        Err(files) => Ok((false, left_behind(alloc, files)?)),
-    }
+    let bytes = (bodies.log.written.as_slice(), bodies.db.written.as_slice());
+    let (is_open, files) = tried(alloc, stopping(alloc, bytes, stopped, calls)?)?;
+    Ok((is_open, left_behind(alloc, files)?))
+}
+
+/// Which version these files are of. Whatever that is, they hold the same.
+fn found_of(alloc: Global, bodies: &Bodies, which: (bool, bool)) -> Result<Version, Fail> {
+    let (version, _) = reopened(alloc, found(alloc, bodies, which)?)?;
+    Ok(version)
 }
 
 /// Whether version 1, and whether version 2, is among what may be found of the files.
 fn versions_of(alloc: Global, bodies: &Bodies) -> Result<(bool, bool), Fail> {
     let mut found = (false, false);
     for which in FOUND {
-        if is_again(&bodies.log, &bodies.db, which) {
+        if is_again(bodies, which) {
             continue;
         }
-        match found_of(alloc, files_of(alloc, bodies, which)?)? {
+        match found_of(alloc, bodies, which)? {
             Version::First => found.0 = true,
             Version::Second => found.1 = true,
         }
     }
     Ok(found)
+}
+
+/// What an open leaves.
+#[derive(Clone, Copy, Debug)]
+enum Leaves {
+    /// It stopped, and version 1 alone is left.
+    First,
+    /// It stopped, and version 1 or version 2 is left.
+    Either,
+    /// It went through, and version 2 alone is left.
+    Second,
+}
+
+fn left_by(is_open: bool, versions: (bool, bool)) -> Option<Leaves> {
+    match (is_open, versions) {
+        (true, (false, true)) => Some(Leaves::Second),
+        (false, (true, false)) => Some(Leaves::First),
+        (false, (true, true)) => Some(Leaves::Either),
+        _ => None,
+    }
+}
+
+/// What an open leaves that stops after so many calls.
+fn stop_at(alloc: Global, bodies: &Bodies, stopped: Stopped, calls: u64) -> Result<Leaves, Fail> {
+    let (is_open, left) = opened_until(alloc, bodies, stopped, calls)?;
+    let versions = versions_of(alloc, &left)?;
+    match left_by(is_open, versions) {
+        Some(leaves) => Ok(leaves),
+        None => Err(Fail::new(format_args!("{calls}: {is_open} {versions:?}"))),
+    }
 }
 
 /// How many stops left version 1 alone, and how many left either. An open that goes through leaves version 2 alone.
@@ -221,12 +283,10 @@ fn stops(alloc: Global, stopped: Stopped) -> Result<(u64, u64), Fail> {
     let mut first = 0u64;
     let mut either = 0u64;
     for calls in 0..200u64 {
-        let (is_open, left) = opened_until(alloc, &bodies, stopped, calls)?;
-        match (is_open, versions_of(alloc, &left)?) {
-            (true, (false, true)) => return Ok((first, either)),
-            (false, (true, false)) => first = first.saturating_add(1),
-            (false, (true, true)) => either = either.saturating_add(1),
-            other => return Err(Fail::new(format_args!("{calls}: {other:?}"))),
+        match stop_at(alloc, &bodies, stopped, calls)? {
+            Leaves::First => first = first.saturating_add(1),
+            Leaves::Either => either = either.saturating_add(1),
+            Leaves::Second => return Ok((first, either)),
         }
     }
     Err(Fail::new("the open never goes through"))
