@@ -1,4 +1,4 @@
-ghost use Rattle.std.specs.Prelude.{◌≡◌, ℕ, ◌*◌, ◌+◌, ◌∷◌, ◌++◌, [], List, Some, length, IfOk, IfErr, MatchResult};
+ghost use Rattle.std.specs.Prelude.{◌≡◌, ◌*◌, ◌+◌, ◌∷◌, ◌++◌, [], List, Some, length, IfOk, IfErr, MatchResult};
 ghost use Rattle.map_body.specs.declared.element.Element.{Element};
 ghost use Rattle.map_body.specs.Body.{Body};
 ghost use Rattle.map_body.specs.Intervals.{null_offset};
