@@ -11,10 +11,11 @@ use Rattle.network_script_parts.specs.Receiver.{Receiver, new_receiver}
 use Rattle.network_script_parts.specs.Modems.{ModemNext, OfModem, Listens as ListensTo}
 use Rattle.network_script_parts.specs.Receiving.{AreReceivers}
 use Rattle.node_worker.specs.Legal.{outputs_of}
+use Rattle.node_worker.specs.Places.{IsPlaceOf}
 use Rattle.node_worker.specs.Runs.{IsOfModem, IsOutputAt, Listens, HaveListened, sent_by}
 use Rattle.node_worker.specs.declared.entry.Done.{Done}
 use Rattle.std.proofs.lemmas.Grind.{flat_map-append}
-use Rattle.std.proofs.lemmas.List.{append-nil, take_more}
+use Rattle.std.proofs.lemmas.List.{append-nil, take_more, take-append-le}
 use Rattle.std.proofs.Math.Seq.{split_at}
 use Rattle.map_release.specs.declared.numbered.Numbered.{Numbered}
 
@@ -109,3 +110,8 @@ outputs_more records j r within at =
     let parts : outputs_of (take (j + 1) records) ≡ outputs_of (take j records) ++ (mine ++ []) =
     ap outputs_of (subst P (sym at) (take_more records j r within)) ∙ outputs_of-append (take j records) (r ∷ []) in
     ap length parts ∙ (length-append (outputs_of (take j records)) (mine ++ []) ∙ ap (λ n. length (outputs_of (take j records)) + n) (ap length (append-nil mine) ∙ length-released_by r.node r.entry.outputs))
+
+-- a place is one where more was recorded
+pub place_more : (records more : List Done) (i n : ℕ) → IsPlaceOf records i n → IsPlaceOf (records ++ more) i n
+place_more records more i n is =
+    (omega (arith, is.0, length-append records more), ap (λ (ds : List Done). length (outputs_of ds)) (take-append-le i records more is.0) ∙ is.1)

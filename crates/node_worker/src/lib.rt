@@ -9,6 +9,7 @@ mod compare;
 mod entry;
 mod kept;
 mod laws;
+mod outputs;
 mod plant;
 mod sent;
 mod worker;

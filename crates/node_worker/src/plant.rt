@@ -1,6 +1,6 @@
 //! The records of all nodes, in one order.
 
-ghost use Rattle.std.specs.Prelude.{◌≡◌, ◌↔◌, [], ◌∷◌, ◌++◌, length, IfOk, IfErr, OnOk, OnErr, IsOk, IsTrue, List, MatchOption, ◌≤◌, ◌<◌, ◌⊎◌};
+ghost use Rattle.std.specs.Prelude.{◌≡◌, ◌↔◌, [], ◌∷◌, ◌++◌, length, IfOk, IfErr, OnOk, OnErr, IsOk, IsTrue, List, ◌≤◌, ◌<◌, ◌⊎◌};
 ghost use Rattle.ballots.specs.Members.{member_count};
 ghost use Rattle.network_script_parts.specs.declared.event.Event.TheVariants as event;
 ghost use Rattle.network_script_parts.specs.declared.event.ReleasedOutput.{ReleasedOutput};
@@ -10,14 +10,15 @@ ghost use Rattle.network_script_parts.specs.Receiving.{AreNew, AreReceivers};
 ghost use Rattle.node_worker.specs.KeptView.{AreTrusted, SameNode};
 ghost use Rattle.node_worker.specs.Steps.{DoneBy, Recorded};
 ghost use Rattle.node_worker.specs.declared.entry.Done.{Done as Noted};
-ghost use Rattle.node_worker.specs.Runs.{IsLegal, IsModemEvent, IsOfModem, IsSilent, IsOutputAt, SendsAsOwner};
+ghost use Rattle.node_worker.specs.Runs.{IsLegal, IsModemEvent, IsOfModem, IsSilent, SendsAsOwner};
+ghost use Rattle.node_worker.specs.Places.{IsPlaceOf};
 ghost use Rattle.node_worker.specs.Legal.{entries_of, letters_of, outputs_of, Comes, Begins, MayRecord};
 
 use crate::entry::{Cause, Done, Entry, Record};
 use crate::kept::{Kept, WorkFault};
+use crate::outputs::{OutputPlace, output_at};
 use crate::sent::{LetterPlace, was_sent};
 use ballots::Members;
-use grant_machine::Output;
 use minislot_time::Slot;
 use modem::Modem;
 use network_script_parts::{Answer, Event, OutOfMemory, Refusal, ask, hear_near, tick_at};
@@ -36,6 +37,8 @@ pub struct Plant<N: Node> {
     // For the node of each number, where its last letter was found: the search for the next begins there. What is found
     // doesn't hang on it.
     last_letters: [LetterPlace; 5],
+    // Where the last output that a modem heard was found: the search for the next begins there.
+    last_output: OutputPlace,
     of: PhantomData<N>,
 }
 
@@ -49,10 +52,11 @@ impl<N: Node> Model for Plant<N> {
     ghost use Rattle.node_worker.specs.KeptView.{AreTrusted};
     ghost use Rattle.node_worker.specs.Legal.{IsSound, outputs_of};
     ghost use Rattle.node_worker.specs.Runs.{Listened};
+    ghost use Rattle.node_worker.specs.Places.{IsPlaceOf};
 
     ghost view = { λ p. record { members = member_count p.members; room = p.room; records = p.records.items; modems = p.modems.items } };
 
-    ghost invariant = { λ p. (p.room ≤ p.records.cap) × (AreTrusted N.honest → IsSound (member_count p.members) p.records.items) × Listened (outputs_of p.records.items) p.modems.items };
+    ghost invariant = { λ p. (p.room ≤ p.records.cap) × (AreTrusted N.honest → IsSound (member_count p.members) p.records.items) × Listened (outputs_of p.records.items) p.modems.items × IsPlaceOf p.records.items p.last_output.record p.last_output.before };
 }
 
 impl<N: Node> Plant<N> {
@@ -76,6 +80,10 @@ impl<N: Node> Plant<N> {
                 record: 0,
                 letter: 0,
             }; 5],
+            last_output: OutputPlace {
+                record: 0,
+                before: 0,
+            },
             of: PhantomData,
         })
     }
@@ -119,7 +127,12 @@ impl<N: Node> Plant<N> {
         ensures next { (rs : List Receiver) → AreReceivers self.old.modems rs → (after : List Receiver) × ModemNext rs (outputs_of self.old.records) event.now result after × AreReceivers self.new.modems after }
         ensures owner { AreTrusted N.honest → SendsAsOwner self.new.members self.new.records self.new.modems event.now result }
     {
-        go_on(&mut self.modems, self.records.as_slice(), event)
+        go_on(
+            &mut self.modems,
+            self.records.as_slice(),
+            event,
+            &mut self.last_output,
+        )
     }
 }
 
@@ -140,13 +153,20 @@ pub fn step<N: Node>(
 }
 
 // A modem's event.
-pub(crate) fn go_on(modems: &mut Vec<Modem>, records: &[Record], event: &Event) -> Answer
-    requires { IsModemEvent event.now }
+pub(crate) fn go_on(
+    modems: &mut Vec<Modem>,
+    records: &[Record],
+    event: &Event,
+    place: &mut OutputPlace,
+) -> Answer
+    requires event { IsModemEvent event.now }
+    requires place { IsPlaceOf records.now place.old.record place.old.before }
     ensures next { (rs : List Receiver) → AreReceivers modems.old.items rs → (after : List Receiver) × ModemNext rs (outputs_of records.now) event.now result after × AreReceivers modems.new.items after }
     ensures within { (modems.new.items ≡ modems.old.items) × IsSilent result ⊎ IsOfModem (length (outputs_of records.now)) event.now }
+    ensures place { IsPlaceOf records.now place.new.record place.new.before }
 {
     match event {
-        Event::Hear(m, i, near) => hear(modems, records, *m, *i, *near),
+        Event::Hear(m, i, near) => hear(modems, records, *m, *i, *near, place),
         Event::Want(m, ch, sid, n) => want(modems, *m, *ch, *sid, *n),
         Event::Tick(m, ch, slot, random) => tick(modems, *m, *ch, *slot, *random),
         _ => Answer::Refused(Refusal::NoModem),
@@ -154,14 +174,23 @@ pub(crate) fn go_on(modems: &mut Vec<Modem>, records: &[Record], event: &Event) 
 }
 
 // Modem m hears output i near a minislot time.
-fn hear(modems: &mut Vec<Modem>, records: &[Record], m: usize, i: usize, near: Slot) -> Answer
+fn hear(
+    modems: &mut Vec<Modem>,
+    records: &[Record],
+    m: usize,
+    i: usize,
+    near: Slot,
+    place: &mut OutputPlace,
+) -> Answer
+    requires { IsPlaceOf records.now place.old.record place.old.before }
     ensures next { (rs : List Receiver) → AreReceivers modems.old.items rs → (after : List Receiver) × ModemNext rs (outputs_of records.now) (event.Hear m i near) result after × AreReceivers modems.new.items after }
     ensures within { (modems.new.items ≡ modems.old.items) × IsSilent result ⊎ i < length (outputs_of records.now) }
+    ensures place { IsPlaceOf records.now place.new.record place.new.before }
 {
     if modems.len() <= m {
         return Answer::Refused(Refusal::NoModem);
     }
-    let Some(output) = output_at(records, i) else {
+    let Some(output) = output_at(records, i, place) else {
         return Answer::Refused(Refusal::NoOutput);
     };
     let modem = &mut modems[m];
@@ -188,21 +217,6 @@ fn tick(modems: &mut Vec<Modem>, m: usize, ch: u8, slot: Slot, random: u64) -> A
     }
     let modem = &mut modems[m];
     tick_at(modem, ch, slot, random)
-}
-
-// Output number i of all that the records released.
-fn output_at(records: &[Record], i: usize) -> Option<&Output>
-    ensures { MatchOption result (length (outputs_of records.now) ≤ i) (λ o. IsOutputAt records.now i o.now) }
-{
-    let mut left = i;
-    for record in records {
-        let outputs = record.entry.outputs();
-        if left < outputs.len() {
-            return Some(&outputs[left].output);
-        }
-        left -= outputs.len();
-    }
-    None
 }
 
 // Whether the node's records and this one begin its entries.

@@ -11,11 +11,11 @@ pub returns-then-len-m-clause-next : goal.returns-then-len-m-clause-next
 returns-then-len-m-clause-next c = λ rs hold. none_does (λ r. Listens r (slice_get (outputs_of c.args.records.now) c.args.i) c.args.near) c.args.modems.now.items rs c.args.m hold (omega arith)
 
 pub returns-in_default-clause-next : goal.returns-in_default-clause-next
-returns-in_default-clause-next c = λ rs hold. one_stays (λ r. Listens r (slice_get (outputs_of c.args.records.now) c.args.i) c.args.near) _ c.args.modems.now.items rs c.args.m hold (omega arith) (λ r. hears_none (outputs_of c.args.records.now) c.args.i c.args.near r c.in_default.ensures)
+returns-in_default-clause-next c = λ rs hold. one_stays (λ r. Listens r (slice_get (outputs_of c.args.records.now) c.args.i) c.args.near) _ c.args.modems.now.items rs c.args.m hold (omega arith) (λ r. hears_none (outputs_of c.args.records.now) c.args.i c.args.near r c.in_default.ensures.found)
 
 pub returns-clause-next : goal.returns-clause-next
 returns-clause-next c = λ rs hold.
-    let at = c.in-Some.ensures in
+    let at = c.in-Some.ensures.found in
     one_does (λ r. Listens r (slice_get (outputs_of c.args.records.now) c.args.i) c.args.near) c.hear_near.result c.args.modems.now.items rs c.args.m c.index_mut-modem.result.now c.hear_near.new.modem hold (omega arith) c.index_mut-modem.ensures.value
     (λ r is.
     let one = c.hear_near.ensures.hears r is in
@@ -24,4 +24,4 @@ returns-clause-next c = λ rs hold.
     (one.0, subst P (sym at.1) (subst Q (sym at.2) one.1), one.2))
 
 pub returns-clause-within : goal.returns-clause-within
-returns-clause-within c = inr (slice_get_within (outputs_of c.args.records.now) c.args.i c.in-Some.ensures.0 c.in-Some.ensures.1)
+returns-clause-within c = inr (slice_get_within (outputs_of c.args.records.now) c.args.i c.in-Some.ensures.found.0 c.in-Some.ensures.found.1)

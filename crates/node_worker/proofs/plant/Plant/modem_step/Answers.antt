@@ -4,6 +4,8 @@ use Rattle.network_script_parts.specs.Receiver.{Receiver}
 use Rattle.network_script_parts.specs.Modems.{ModemNext}
 use Rattle.network_script_parts.specs.Receiving.{AreReceivers}
 use Rattle.node_worker.specs.Legal.{outputs_of}
+use Rattle.node_worker.specs.Places.{IsPlaceOf}
+use Rattle.node_worker.specs.declared.entry.Done.{Done}
 use Rattle.node_worker.specs.PlantView.{PlantView}
 use Rattle.node_worker.proofs.Played.{modem_keeps, modem_listens}
 use Rattle.node_worker.proofs.plant.Plant.modem_step.Goals as goal
@@ -15,6 +17,7 @@ invariant_of-self g c = (
   c.self.invariant.1,
   modem_listens c.self.inside.records.items c.as_slice.result.now c.self.inside.modems.items c.go_on.new.modems.items c.args.event.now c.go_on.result
       c.as_slice.ensures.value c.self.invariant.2 c.go_on.ensures.next c.go_on.ensures.within,
+  subst (λ (ds : List Done). IsPlaceOf ds c.go_on.new.place.record c.go_on.new.place.before) c.as_slice.ensures.value c.go_on.ensures.place,
 )
 
 pub returns-clause-next : goal.returns-clause-next

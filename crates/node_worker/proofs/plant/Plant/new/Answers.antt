@@ -3,6 +3,7 @@ use Rattle.ballots.specs.Members.{member_count}
 use Rattle.modem.specs.State.{State}
 use Rattle.network_script_parts.proofs.Callers.{new_are}
 use Rattle.node_worker.specs.Legal.{IsSound, outputs_of}
+use Rattle.node_worker.specs.Places.{IsPlaceOf}
 use Rattle.node_worker.specs.Runs.{HaveListened}
 use Rattle.node_worker.specs.declared.entry.Done.{Done}
 use Rattle.node_worker.proofs.Plants.{none_legal}
@@ -16,4 +17,5 @@ invariant_of-result g c =
       omega (arith, c.in_ok-records.ensures.exact),
       (λ trusted. subst P (sym c.in_ok-records.ensures.items) (none_legal (member_count c.args.members))),
       (ids, [], subst Q (sym c.in_ok-records.ensures.items) (record { events = []; answers = []; receivers = _; listened = refl; hold = new_are c.args.modems.items c.requires; sends = refl })),
+      subst (λ (ds : List Done). IsPlaceOf ds 0 0) (sym c.in_ok-records.ensures.items) (omega arith, refl),
     )

@@ -5,7 +5,8 @@ use Rattle.node_worker.specs.Legal.{IsSound, MayRecord, outputs_of}
 use Rattle.node_worker.specs.Runs.{HaveListened, Listened}
 use Rattle.node_worker.specs.declared.entry.Done.{Done}
 use Rattle.node_worker.proofs.Plants.{record_legal}
-use Rattle.node_worker.proofs.Listening.{listened_more}
+use Rattle.node_worker.specs.Places.{IsPlaceOf}
+use Rattle.node_worker.proofs.Listening.{listened_more, place_more}
 use Rattle.node_worker.proofs.Comparisons.{plant_of, may_record, not_apart}
 use Rattle.node_worker.proofs.plant.Plant.record.Goals as goal
 
@@ -22,7 +23,7 @@ may g c =
 
 -- where the search alone was done
 pub invariant_of-self : goal.invariant_of-self
-invariant_of-self g c = (c.self.invariant.0, c.self.invariant.1, c.self.invariant.2)
+invariant_of-self g c = (c.self.invariant.0, c.self.invariant.1, c.self.invariant.2, c.self.invariant.3)
 
 pub invariant_of-self-2 : goal.invariant_of-self-2
 invariant_of-self-2 g c =
@@ -33,6 +34,8 @@ invariant_of-self-2 g c =
       (λ trusted. subst P (sym c.push_reserved.ensures.items)
           (record_legal (was g c) c.args.kept.now c.args.done (c.self.invariant.1 trusted) c.entries.ensures.replay (c.entries.ensures.trusted trusted) (may g c))),
       (heard.0, heard.1, subst Q (sym c.push_reserved.ensures.items) (listened_more heard.0 c.self.inside.records.items (c.args.done ∷ []) c.self.inside.modems.items heard.1 heard.2)),
+      subst (λ (ds : List Done). IsPlaceOf ds c.self.inside.last_output.record c.self.inside.last_output.before) (sym c.push_reserved.ensures.items)
+          (place_more c.self.inside.records.items (c.args.done ∷ []) c.self.inside.last_output.record c.self.inside.last_output.before c.self.invariant.3),
     )
 
 pub returns-clause-may : goal.returns-clause-may
