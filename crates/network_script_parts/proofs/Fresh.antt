@@ -43,11 +43,6 @@ next_first {N} who honest stands members n nodes more node are id of up at_start
       numbered = map_push member nodes node ∙ (ap (λ (l : List (ℕ × ℕ)). l ++ member node ∷ []) are.numbered ∙ (ap (λ (x : ℕ × ℕ). map number (range_with_len 0 n) ++ x ∷ []) here ∙ sym (map-range_with_len_more number 0 n n (omega arith))));
     })
 
--- one more that has failed in nothing
-pub more_first : {N : Type 0} (who : N → Who) (honest : N → Bool) (stands : N → Standing → Type 0) (members n id : ℕ) (nodes more : List N) (node : N) → AreFirst who honest stands members n nodes → id ≡ n → who node ≡ record { id = id; members = members; failures = 0; broken = false; down = false } → (IsTrue (honest node) → stands node (Running (started no_content))) → more ≡ nodes ++ node ∷ [] → AreFirst who honest stands members (n + 1) more
-more_first who honest stands members n id nodes more node are is_n is at_start pushed =
-    next_first who honest stands members n nodes more node are (ap (λ (w : Who). w.id) is ∙ is_n) (ap (λ (w : Who). w.members) is) (ap (λ (w : Who). w.down) is) at_start pushed
-
 -- all of them
 pub all_first : {N : Type 0} (who : N → Who) (honest : N → Bool) (stands : N → Standing → Type 0) (members n : ℕ) (nodes : List N) → AreFirst who honest stands members n nodes → n ≡ members → AreFresh who honest stands nodes
 all_first {N} who honest stands members n nodes are is =

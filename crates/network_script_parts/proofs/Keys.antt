@@ -1,7 +1,7 @@
 -- What a key holds, from what its value is.
 use Rattle.std.proofs.Common.{◌≡◌, Bool, true, false, List, [], Option, Some, None, refl}
 use Rattle.std.specs.List.{list_all}
-use Rattle.toml.specs.Data.{Data, Members, get_member, as_array}
+use Rattle.toml.specs.Data.{Data, as_array}
 use Rattle.toml.specs.View.{items_of}
 use Rattle.network_script_parts.specs.Items.{held_items, is_table, only_tables}
 use Rattle.network_script_parts.proofs.Callers.{list_of-items_of}

@@ -1,5 +1,5 @@
 -- What one event does to one node: where it stands then, what it sent and released, and its one write.
-use Rattle.std.specs.Prelude.{◌≡◌, ◌≢◌, ◌⊎◌, ℕ, List, [], ◌∷◌, length, Option, None, Result, Ok, Err}
+use Rattle.std.specs.Prelude.{◌≡◌, ◌≢◌, ◌⊎◌, ℕ, List, [], length, Option, None, Result, Ok, Err}
 use Rattle.ballots.specs.declared.letters.Letter.{Letter}
 use Rattle.acceptor.specs.Content.{Content, Write, after_write}
 use Rattle.map_release.specs.declared.numbered.Numbered.{Numbered}

@@ -14,7 +14,7 @@ pub use command_table::command_of;
 pub use event::{Answer, Event, OutOfMemory, Refusal, ReleasedOutput, Report, Transmission};
 pub use event_table::event_of;
 pub use fields::tables_at;
-pub use opening::{PlainNode, new_modems, plain_nodes};
+pub use opening::{PlainNode, new_modems, nodes_by_number, plain_nodes};
 pub use receivers::{Receivers, ask, hear_near, tick_at};
 pub use script::{Script, ScriptFault, read_script};
 pub use seat::Seat;

@@ -1,11 +1,8 @@
 //! The nodes and the modems that a world opens with.
 
-ghost use Rattle.std.specs.Prelude.{◌≡◌, ◌<◌, false, IsTrue, IfOk, length, map};
-ghost use Rattle.acceptor.specs.Content.{no_content};
+ghost use Rattle.std.specs.Prelude.{◌≡◌, ◌<◌, ℕ, Ok, IfOk, length, map};
 ghost use Rattle.ballots.specs.Members.{member_count};
-ghost use Rattle.node.specs.View.{started};
-ghost use Rattle.node.specs.View.Standing.{Running};
-ghost use Rattle.network_script_parts.specs.Fresh.{AreFresh};
+ghost use Rattle.network_script_parts.specs.Fresh.{AreFresh, IsFreshAt};
 ghost use Rattle.network_script_parts.specs.Receiving.{AreNew};
 
 use acceptor::PlainRecords;
@@ -17,17 +14,35 @@ use std::alloc::{AllocError, Global};
 /// A node whose records are lost with the process.
 pub type PlainNode = SchedNode<PlainRecords>;
 
-/// A fresh node, with a member's number.
-fn plain_node(alloc: Global, number: u8, members: Members) -> PlainNode
-    requires { number < member_count members }
-    ensures who { ⟦<SchedNode<PlainRecords> as Node>⟧.who result ≡ record { id = number; members = member_count members; failures = 0; broken = false; down = false } }
-    ensures honest { IsTrue (⟦<SchedNode<PlainRecords> as Node>⟧.honest result) }
-    ensures fresh { ⟦<SchedNode<PlainRecords> as Node>⟧.stands result (Running (started no_content)) }
+/// The nodes of so many members, by number, as `make` gives them for one number after another. The first fault ends it:
+/// one that `make` gives, or want of memory for the list.
+pub fn nodes_by_number<N: Node, E: From<AllocError>, F: FnMut(NodeId, Members) -> Result<N, E>>(
+    alloc: Global,
+    members: Members,
+    mut make: F,
+) -> Result<Vec<N>, E>
+    requires callable { (state : F) (id : ℕ) → id < member_count members → F.pre state id members }
+    requires fresh { (state after : F) (id : ℕ) (node : N) → id < member_count members → F.step state id members (Ok node) after → IsFreshAt N.who N.honest N.stands (member_count members) id node }
+    ensures fresh { IfOk result (λ nodes. AreFresh N.who N.honest N.stands nodes.items) }
+    ensures count { IfOk result (λ nodes. length nodes.items ≡ member_count members) }
 {
-    match NodeId::new(number) {
-        Some(id) => SchedNode::new(alloc, id, members, PlainRecords::new(alloc)),
-        None => unreachable!(),
+    let mut nodes = Vec::new(alloc);
+    for number in 0..members.count() {
+        let Some(id) = NodeId::new(number) else {
+            unreachable!();
+        };
+        let node = make(id, members)?;
+        nodes.push(node).map_err(AllocError::from)?;
     }
+    Ok(nodes)
+}
+
+/// A fresh node, with a member's number.
+fn plain_node(alloc: Global, id: NodeId, members: Members) -> PlainNode
+    requires { id < member_count members }
+    ensures { IsFreshAt ⟦<SchedNode<PlainRecords> as Node>⟧.who ⟦<SchedNode<PlainRecords> as Node>⟧.honest ⟦<SchedNode<PlainRecords> as Node>⟧.stands (member_count members) id result }
+{
+    SchedNode::new(alloc, id, members, PlainRecords::new(alloc))
 }
 
 /// The fresh nodes of so many members, by number.
@@ -35,11 +50,9 @@ pub fn plain_nodes(alloc: Global, members: Members) -> Result<Vec<PlainNode>, Al
     ensures fresh { IfOk result (λ nodes. AreFresh ⟦<SchedNode<PlainRecords> as Node>⟧.who ⟦<SchedNode<PlainRecords> as Node>⟧.honest ⟦<SchedNode<PlainRecords> as Node>⟧.stands nodes.items) }
     ensures count { IfOk result (λ nodes. length nodes.items ≡ member_count members) }
 {
-    let mut nodes = Vec::new(alloc);
-    for number in 0..members.count() {
-        nodes.push(plain_node(alloc, number, members))?;
-    }
-    Ok(nodes)
+    nodes_by_number(alloc, members, |id, members| {
+        Ok(plain_node(alloc, id, members))
+    })
 }
 
 /// New modems of these ids.

@@ -1,6 +1,12 @@
-use Rattle.std.proofs.Common.{sym, ◌∙◌}
+use Rattle.std.proofs.Common.{ap, sym, ◌∙◌}
 use Rattle.acceptor.specs.Content.{no_content}
+use Rattle.node.specs.Calls.{Who}
 use Rattle.network_script_parts.proofs.opening.plain_node.Goals as goal
 
-pub returns-clause-fresh : goal.returns-clause-fresh
-returns-clause-fresh c = c.new-in-Some-2.ensures.stands no_content (∣ sym c.new-in-Some.ensures ∣₁, λ d is. is ∙ c.new-in-Some.ensures)
+pub returns : goal.returns
+returns c = record {
+  id = ap (λ (w : Who). w.id) c.new-2.ensures.who;
+  members = ap (λ (w : Who). w.members) c.new-2.ensures.who;
+  up = ap (λ (w : Who). w.down) c.new-2.ensures.who;
+  fresh = λ honest. c.new-2.ensures.stands no_content (∣ sym c.new.ensures ∣₁, λ d is. is ∙ c.new.ensures);
+}
