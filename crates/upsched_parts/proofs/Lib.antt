@@ -1,3 +1,4 @@
 pub mod Callers
 mod Printed
+mod Taken
 mod Told

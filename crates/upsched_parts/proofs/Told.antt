@@ -1,5 +1,5 @@
 -- What is printed of a run, one answer after another.
-use Rattle.std.proofs.Common.{◌≡◌, ℕ, ◌+◌, ◌<◌, ◌≤◌, List, [], ◌++◌, length, get_or, take, drop, Option, Some, None, IfSome, Result, Ok, Err, IfOk, OnOk, ap, subst, ◌∙◌, sym, refl, append_assoc, append-nil, add-one}
+use Rattle.std.proofs.Common.{◌≡◌, ℕ, ◌+◌, ◌<◌, ◌≤◌, List, [], ◌++◌, length, get_or, take, drop, Option, Some, None, IfSome, Result, Ok, Err, OnOk, ap, subst, ◌∙◌, sym, refl, append_assoc, append-nil, add-one}
 use Rattle.std.proofs.lemmas.List.{drop_all, length-replicate}
 use Rattle.std.proofs.Math.Seq.{drop-cons}
 use Rattle.std.specs.Io.KnownBytes.{Appends}

@@ -1,4 +1,4 @@
-use Rattle.std.proofs.Common.{◌≡◌, ℕ, ◌+◌, ◌≤◌, take, Some, None, sym, subst, arith}
+use Rattle.std.proofs.Common.{◌+◌, take, sym, subst, arith}
 use Rattle.flow_state.specs.StoredTable.{EndFrom}
 use Rattle.flow_state.proofs.Stored.{ends_earlier, ends_more, ends_all, ends_take}
 use Rattle.flow_state.proofs.table.first_end.Goals as goal

@@ -1,4 +1,4 @@
-use Rattle.std.proofs.Common.{◌≡◌, ℕ, ◌≤◌, sym, arith}
+use Rattle.std.proofs.Common.{ℕ, ◌≤◌, sym, arith}
 use Rattle.flow_state.specs.declared.flow.Waiting.{Waiting}
 use Rattle.flow_state.specs.StoredTable.{is_ended_in}
 use Rattle.flow_state.proofs.Stored.{none_ended, not_ended, filter_kept}

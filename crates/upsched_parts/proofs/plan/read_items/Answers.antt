@@ -1,27 +1,24 @@
-use Rattle.std.proofs.Common.{map, refl}
+use Rattle.std.proofs.Common.{[], ◌∷◌, ◌++◌, ◌∙◌, map, refl}
+use Rattle.std.proofs.lemmas.Slice.Zip.{all_zipped_more}
 use Rattle.toml.specs.View.{view}
 use Rattle.network_script_parts.specs.CommandTable.{SpellsCommand}
-use Rattle.network_script_parts.proofs.Callers.{read_more, sound_before, item_at}
+use Rattle.upsched_parts.proofs.Taken.{first_bad, split_next}
 use Rattle.upsched_parts.proofs.plan.read_items.Goals as goal
 
-pub returns-in-None-clause-fault : goal.returns-in-None-clause-fault
-returns-in-None-clause-fault c =
-    let items = c.args.items.now in
-    let item = c.index-items-i.result in (
-      c.loop-i.i,
-      refl,
-      record {
-        bad = view item;
-        here = item_at items c.loop-i.i item c.loop-i-test.true c.index-items-i.is;
-        means_nothing = λ command spelled. let found = c.in-None.ensures.only command spelled in cc;
-        sound_before = sound_before SpellsCommand (map view items) _ c.loop-i.i c.loop-i.invariant;
-      },
-    )
+pub returns-in-None-command_of-clause-fault : goal.returns-in-None-command_of-clause-fault
+returns-in-None-command_of-clause-fault c =
+    let (read, split, means) = c.loop-item.invariant in
+    let item = c.in-Some.item in
+    let rest = c.next.new.self.rest.items in
+    let bad = first_bad SpellsCommand read c.loop-item.commands.items (view item) (map view rest) means (λ command spelled. let found = c.command_of.ensures.only command spelled in cc) in
+    (c.len.result, refl, rw (split, c.in-Some.ensures.steps.0, c.len.ensures, c.loop-item.commands.ok.0) bad)
 
-pub loop-i-preserved : goal.loop-i-preserved
-loop-i-preserved c =
-    let items = c.args.items.now in
-    let item = c.index-items-i.result in
-    let here = item_at items c.loop-i.i item c.loop-i-test.true c.index-items-i.is in
-    let more = read_more SpellsCommand (map view items) _ c.loop-i.i (view item) c.in-Some.command here c.loop-i.invariant c.in-Some.ensures.found in
-    rw c.in_ok-push-in-Some.ensures.items more
+pub loop-item-preserved-in_ok-push-in-Some-command_of-3 : goal.loop-item-preserved-in_ok-push-in-Some-command_of-3
+loop-item-preserved-in_ok-push-in-Some-command_of-3 c =
+    let (read, split, means) = c.loop-item.invariant in
+    let item = c.in-Some.item in
+    let rest = c.next.new.self.rest.items in (
+      read ++ view item ∷ [],
+      split ∙ split_next read c.loop-item.item-iterator.rest.items item rest c.in-Some.ensures.steps.0,
+      rw c.in_ok-push-in-Some-command_of.ensures.items (all_zipped_more SpellsCommand read c.loop-item.commands.items (view item) c.in-Some-command_of.command means c.in-Some-command_of.ensures.found),
+    )
