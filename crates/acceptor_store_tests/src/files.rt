@@ -4,7 +4,7 @@ use acceptor::Records;
 use acceptor_store::SqlRecords;
 use acceptor_store_parts::open_again;
 use ballots::{Ballot, Place, Votes};
-use sqlite::{Connection, FileStore, Files, Options};
+use sqlite::{Alter, Connection, Error, FileStore, Files, Options};
 use sqlite_disk::{Crash, Disk, Fuse, Memory};
 use std::alloc::Global;
 use std::io;
@@ -116,6 +116,14 @@ pub fn connected<D: Disk + Drop>(
         seed: 1,
     };
     open_again(alloc, files, options)
+}
+
+/// Runs these texts.
+pub fn run<S: Alter + Drop>(conn: &mut Connection<S>, texts: &[&str]) -> Result<(), Error> {
+    for text in texts {
+        conn.execute_batch(text)?;
+    }
+    Ok(())
 }
 
 /// The records in the files, or the files again.

@@ -120,10 +120,14 @@ fn made_of(text: &str) -> Option<usize> {
     CONTENTS.iter().position(|content| *content == text)
 }
 
+fn content_in<R: Records + Drop>(alloc: Global, mut records: R) -> Result<String, Fail> {
+    content(alloc, &mut records)
+}
+
 /// What the records in the files hold.
 fn content_of<D: Disk + Drop>(alloc: Global, files: Files<D>) -> Result<String, Fail> {
     match opened(alloc, files) {
-        Ok(mut records) => content(alloc, &mut records),
+        Ok(records) => content_in(alloc, records),
         Err(_) => Err(Fail::new("what is left doesn't open")),
     }
 }

@@ -1,3 +1,4 @@
+use crate::files::run;
 use acceptor_store::{OpenFault, SqlRecords};
 use sqlite::{Alter, Connection, Error};
 use std::alloc::Global;
@@ -12,14 +13,6 @@ const LEARNED: &str =
     "CREATE TABLE learned (place INTEGER PRIMARY KEY, value BLOB NOT NULL) STRICT";
 
 const SECOND: &str = "INSERT INTO ballot (id, number) VALUES (2, 2)";
-
-/// Runs these texts.
-fn run<S: Alter + Drop>(conn: &mut Connection<S>, texts: &[&str]) -> Result<(), Error> {
-    for text in texts {
-        conn.execute_batch(text)?;
-    }
-    Ok(())
-}
 
 /// How records over the connection open.
 fn fault_of<S: Alter + Drop>(alloc: Global, conn: Connection<S>) -> Option<OpenFault> {

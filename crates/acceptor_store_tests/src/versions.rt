@@ -2,7 +2,7 @@
 
 use crate::files::{
     Bodies, FOUND, Fused, Stopped, closed, connected, content, found, is_again, left_behind,
-    opened, stopping,
+    opened, run, stopping,
 };
 use acceptor::Records;
 use acceptor_store::SqlRecords;
@@ -30,17 +30,26 @@ fn linked<D: Disk + Drop>(
     }
 }
 
+/// The store after this text.
+fn ran<S: Alter + Drop>(mut conn: Connection<S>, text: &str) -> Result<S, Fail> {
+    run(&mut conn, &[text])?;
+    Ok(conn.into_store())
+}
+
 /// The files after this text.
-fn ran<D: Disk + Drop>(alloc: Global, files: Files<D>, text: &str) -> Result<Files<D>, Fail> {
-    let mut conn = linked(alloc, files)?;
-    conn.execute_batch(text)?;
-    Ok(conn.into_store().close())
+fn files_after<D: Disk + Drop>(
+    alloc: Global,
+    files: Files<D>,
+    text: &str,
+) -> Result<Files<D>, Fail> {
+    let store = ran(linked(alloc, files)?, text)?;
+    Ok(store.close())
 }
 
 /// What the files with these tables leave.
 fn first_files(alloc: Global) -> Result<Bodies, Fail> {
     let files = stopping(alloc, (&[], &[]), Stopped::Log, u64::MAX)?;
-    left_behind(alloc, ran(alloc, files, FIRST)?)
+    left_behind(alloc, files_after(alloc, files, FIRST)?)
 }
 
 /// The files with these tables, as they were written.
@@ -127,19 +136,18 @@ fn holds_the_first<R: Records>(alloc: Global, records: &mut R) -> Result<bool, F
     )
 }
 
-/// The records in the files, and which version the files were of.
-fn raised<D: Disk + Drop>(
+/// The records over the connection, and of which version its tables were.
+fn raised<S: Alter + Drop>(
     alloc: Global,
-    files: Files<D>,
-) -> Result<(Version, SqlRecords<FileStore<D>>), Fail> {
-    let mut conn = linked(alloc, files)?;
+    mut conn: Connection<S>,
+) -> Result<(Version, SqlRecords<S>), Fail> {
     let version = version(alloc, &mut conn)?;
     Ok((version, records_over(alloc, conn)?))
 }
 
 /// Opens the files, and tells which version they were of; with the files again. Whatever that was, they hold the same.
 fn reopened<D: Disk + Drop>(alloc: Global, files: Files<D>) -> Result<(Version, Files<D>), Fail> {
-    let (version, mut records) = raised(alloc, files)?;
+    let (version, mut records) = raised(alloc, linked(alloc, files)?)?;
     if !holds_the_first(alloc, &mut records)? {
         return Err(Fail::new("it holds something else"));
     }
