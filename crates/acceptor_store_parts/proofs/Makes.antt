@@ -38,9 +38,9 @@ use Rattle.acceptor_store_parts.proofs.Meaning.{
   numbers_put_plain,
   second_put_plain,
 }
-use Rattle.acceptor_store_parts.specs.declared.Version.TheVariants.{First, Second}
+use Rattle.acceptor_store_parts.specs.declared.Version.TheVariants.{First}
 use Rattle.acceptor_store_parts.proofs.Writes.{cast_number}
-use Rattle.acceptor_store_parts.specs.Serves.{Serves, ServesAs}
+use Rattle.acceptor_store_parts.specs.Serves.{Serves}
 use Rattle.acceptor_store_parts.proofs.Puts.{went, same_value}
 
 -- the trees that the list of objects doesn't keep, but for one that is made empty

@@ -1,5 +1,5 @@
 -- The numbers, as the query shows them.
-use Rattle.std.proofs.Common.{◌≡◌, ℕ, pos, ◌<◌, List, [], ◌∷◌, map, Ok, Err, Result, refl, IfOk, lit<}
+use Rattle.std.proofs.Common.{◌≡◌, ℕ, pos, List, [], ◌∷◌, Ok, Err, Result, refl, IfOk, lit<}
 use Rattle.acceptor.specs.Content.{Content}
 use Rattle.sqlite.specs.declared.error.Error.{Error}
 use Rattle.sqlite.specs.declared.types.Value.TheVariants.{Null, Int}

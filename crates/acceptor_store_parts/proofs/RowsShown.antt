@@ -15,7 +15,7 @@ use Rattle.sqlite.specs.Collation.TheVariants.{Binary}
 use Rattle.sqlite.specs.declared.types.Value.TheVariants.{Int}
 use Rattle.sqlite.specs.Order.{Row}
 use Rattle.sqlite.specs.Ops.{binary, is_true}
-use Rattle.sqlite.specs.Query.{IsAnswer, matches, output, Output, inner, end}
+use Rattle.sqlite.specs.Query.{IsAnswer, matches, output, inner, end}
 use Rattle.sqlite.specs.Term.{Term}
 use Rattle.sqlite.specs.Tree.{Trees}
 use Rattle.acceptor_store_parts.proofs.Meaning.{rows_query, is_from, is_at}

@@ -1,6 +1,5 @@
 use Rattle.std.proofs.Common.{◌≡◌, ℕ, Option, Some, None, IfNone, take, sym, ap, subst}
 use Rattle.acceptor_store_parts.specs.Stored.{IsNumber, numbers_shown}
-use Rattle.acceptor_store_parts.specs.declared.Version.TheVariants.{Second}
 use Rattle.acceptor_store_parts.proofs.opening.both_numbers.Goals as goal
 
 none_then : {X A B : Type 0} (o : Option X) → IfNone o A → (A → B) → IfNone o B

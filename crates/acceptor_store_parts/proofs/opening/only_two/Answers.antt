@@ -1,6 +1,5 @@
-use Rattle.std.proofs.Common.{◌≡◌, ℕ, pos, List, [], ◌∷◌, sym, ap, ◌∙◌, slice_index_or}
+use Rattle.std.proofs.Common.{List, ap, ◌∙◌, slice_index_or}
 use Rattle.sqlite.specs.Order.{Row}
-use Rattle.acceptor_store_parts.specs.Stored.{number_shown}
 use Rattle.acceptor_store_parts.proofs.opening.only_two.Goals as goal
 
 pub returns-in_default-clause-none : goal.returns-in_default-clause-none

@@ -1,7 +1,6 @@
-use Rattle.std.proofs.Common.{◌≡◌, ℕ, ◌+◌, List, [], ◌∷◌, ◌++◌, drop, take, map, sym, ap, slice_index_or, subst, ◌∙◌, arith}
+use Rattle.std.proofs.Common.{◌≡◌, ◌+◌, [], ◌∷◌, ◌++◌, drop, take, map, sym, ap, slice_index_or, subst, ◌∙◌, arith}
 use Rattle.std.proofs.lemmas.List.{at_drop_more, take_more}
 use Rattle.std.specs.List.{AllByRecursion}
-use Rattle.ballots.specs.declared.letters.Cast.{Cast}
 use Rattle.sqlite.specs.Order.{Row}
 use Rattle.acceptor_store_parts.specs.Stored.{IsCast, vote_shown}
 use Rattle.acceptor_store_parts.proofs.Casts.{one_more, one_shown, shown_at}
