@@ -9,7 +9,7 @@ use Rattle.flow_state.specs.declared.flow.FlowKind.TheVariants.{BestEffort, Ugs,
 use Rattle.flow_state.specs.declared.flow.Waiting.{Waiting}
 use Rattle.flow_state.specs.declared.refusal.Refusal.{Refusal}
 use Rattle.flow_state.specs.declared.refusal.Refusal.TheVariants.{BadValue, OldRequest, Busy}
-use Rattle.flow_state.specs.Limits.{last_time, last_sid, most_waiting, is_good_channel, is_good_kind, is_size, is_schedule, is_ugs, due_time}
+use Rattle.flow_state.specs.Limits.{last_time, longest_interval, last_sid, most_waiting, is_good_channel, is_good_kind, is_size, is_schedule, is_ugs, due_time}
 use Rattle.flow_state.specs.Rows.{Table, FlowRow, Lease, is_flow, is_of, flow_of, lease_of, is_of_sid, is_leased, unicast_sids, free_sid, insert_flow, waits, is_ended, has_ended}
 use Rattle.flow_state.specs.Sound.{lease_in, IsLeasedFlow}
 use Rattle.flow_state.specs.Refusals.{table_flow_refusal, table_request_refusal, request_refusal_on, is_old, is_repeated}
@@ -23,7 +23,7 @@ pub record IsWellFlow (f : FlowRow) : Type 0 where
   pub unicast : 1 ≤ f.sid
   pub last : f.sid ≤ last_sid
   pub kind : is_good_kind f.kind ≡ true
-  pub due : due_time f.kind f.index ≤ last_time + 1000000
+  pub due : due_time f.kind f.index ≤ last_time + longest_interval
 
 -- a lease of a unicast SID that has begun when the channel's next MAP begins
 pub record IsWellLease (start : ℕ) (l : Lease) : Type 0 where
@@ -201,7 +201,7 @@ new_is_well c good = record {
 -- ---- a flow as it is added
 
 scheduled : (interval jitter base : ℕ) → is_schedule interval jitter base ≡ true → base + 0 * interval ≤ last_time
-scheduled interval jitter base e = let at_most : base ≤ last_time = leb-true base last_time (both (leb 1 interval && leb interval 1000000 && ltb jitter interval) (leb base last_time) e).1 in omega arith
+scheduled interval jitter base e = let at_most : base ≤ last_time = leb-true base last_time (both (leb 1 interval && leb interval longest_interval && ltb jitter interval) (leb base last_time) e).1 in omega arith
 
 first_due : (kind : FlowKind) → is_good_kind kind ≡ true → due_time kind 0 ≤ last_time
 first_due (BestEffort priority) e = omega arith

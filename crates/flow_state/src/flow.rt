@@ -3,7 +3,7 @@ ghost use Rattle.flow_state.specs.Limits.{is_size as size_fits, is_schedule as s
 ghost use Rattle.flow_state.specs.Refusals.{is_repeated, is_old, first_refusal};
 ghost use Rattle.flow_state.specs.View.{flow_view};
 
-use crate::limits::LAST_TIME;
+use crate::limits::{LAST_TIME, LONGEST_INTERVAL};
 use crate::refusal::Refusal;
 
 /// How a service flow is scheduled (CM-SP-MULPIv3.1, Upstream Service Flow Scheduling Services).
@@ -39,7 +39,7 @@ pub(crate) fn is_size(n: u16) -> bool
 fn is_schedule(interval: u32, jitter: u32, base: u64) -> bool
     ensures { result ≡ schedule_fits interval jitter base }
 {
-    1 <= interval && interval <= 1_000_000 && jitter < interval && base <= LAST_TIME
+    1 <= interval && interval <= LONGEST_INTERVAL && jitter < interval && base <= LAST_TIME
 }
 
 impl FlowKind {

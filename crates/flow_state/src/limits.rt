@@ -7,5 +7,8 @@ pub const MOST_MINISLOTS: u16 = 4096;
 /// The last unicast SID (CM-SP-MULPIv3.1, Service Identifier).
 pub const LAST_SID: u16 = 8191;
 
+/// The longest interval of unsolicited grants or polls, in minislots.
+pub const LONGEST_INTERVAL: u32 = 1_000_000;
+
 /// So many requests may wait on a channel.
 pub(crate) const MOST_WAITING: usize = 118;

@@ -11,7 +11,7 @@ use Rattle.flow_state.specs.declared.flow.FlowKind.TheVariants.{BestEffort, Ugs,
 use Rattle.flow_state.specs.declared.flow.Lease.{Lease}
 use Rattle.flow_state.specs.declared.flow.Waiting.{Waiting}
 use Rattle.flow_state.specs.declared.refusal.Refusal.TheVariants.{BadValue}
-use Rattle.flow_state.specs.Limits.{last_time, last_sid, is_good_kind, is_schedule, is_ugs, due_time}
+use Rattle.flow_state.specs.Limits.{last_time, longest_interval, last_sid, is_good_kind, is_schedule, is_ugs, due_time}
 use Rattle.flow_state.specs.Rows.{Table, FlowRow, is_of, is_of_sid, flow_of, last_in, last_of, is_ended, has_ended}
 use Rattle.flow_state.specs.Sound.{lease_in}
 use Rattle.grant_machine_parts.specs.Placing.{Cause, Window, Sent, Placement, holder, is_free, fits_at, first_fit, most_placements}
@@ -87,7 +87,7 @@ pub record IsWellPeriodic (phy : Phy) (p : Periodic) : Type 0 where
   pub unicast : 1 ≤ p.sid
   pub last : p.sid ≤ last_sid
   pub iuc : IsDueUse phy p.iuc
-  pub short : p.interval ≤ 1000000
+  pub short : p.interval ≤ longest_interval
 
 sized_use : (phy : Phy) (b : Bool) → IsRequestedUse phy (sized_iuc phy b)
 sized_use Tdma true = inl refl
@@ -112,7 +112,7 @@ pub record IsOfFlow (phy : Phy) (f : FlowRow) (p : Periodic) : Type 0 where
   pub last : p.last ≡ f.last
   pub due : (i : ℕ) → due_time f.kind i ≡ due_at p i
 
-short_interval : (interval jitter base : ℕ) → is_schedule interval jitter base ≡ true → interval ≤ 1000000
+short_interval : (interval jitter base : ℕ) → is_schedule interval jitter base ≡ true → interval ≤ longest_interval
 short_interval interval jitter base e = leb-true _ _ (both _ _ (both _ _ (both _ _ e).0).0).1
 
 periodic_is : (q p : Periodic) → Some q ≡ Some p → q ≡ p
@@ -173,9 +173,9 @@ due_later : (p : Periodic) (i j : ℕ) → i ≤ j → due_at p i ≤ due_at p j
 due_later p i j le = let more : i * p.interval ≤ j * p.interval = mul-le-mul_right p.interval le in omega arith
 
 -- the first due time that isn't tried is at most an interval behind the end
-due_bound : (p : Periodic) (i end most : ℕ) → p.interval ≤ 1000000 → end ≤ most → due_at p i ≤ most + 1000000 → due_at p (i + due_before p i end) ≤ most + 1000000
+due_bound : (p : Periodic) (i end most : ℕ) → p.interval ≤ longest_interval → end ≤ most → due_at p i ≤ most + longest_interval → due_at p (i + due_before p i end) ≤ most + longest_interval
 due_bound p i end most short le due =
-    elim (ltb (due_at p i) end) as (λ b. ltb (due_at p i) end ≡ b → due_at p (i + cond b ((end - 1 - due_at p i) / p.interval + 1) 0) ≤ most + 1000000) [
+    elim (ltb (due_at p i) end) as (λ b. ltb (due_at p i) end ≡ b → due_at p (i + cond b ((end - 1 - due_at p i) / p.interval + 1) 0) ≤ most + longest_interval) [
       | true ↦ λ h.
           let lt : due_at p i < end = ltb-true _ _ h in
           let q : ℕ = (end - 1 - due_at p i) / p.interval in
@@ -187,18 +187,18 @@ due_bound p i end most short le due =
       | false ↦ λ h. let same : i + 0 ≡ i = omega arith in rw same due
     ] refl
   where
-    by : (a b c d e interval base : ℕ) → interval ≤ 1000000 → base + a < end → b ≤ end - 1 - (base + a) → e ≡ a + c → c ≡ b + d → d ≡ interval → base + e ≤ most + 1000000
+    by : (a b c d e interval base : ℕ) → interval ≤ longest_interval → base + a < end → b ≤ end - 1 - (base + a) → e ≡ a + c → c ≡ b + d → d ≡ interval → base + e ≤ most + longest_interval
     by a b c d e interval base small lt most_q outer inner last = omega arith
 
-run_bound : (phy : Phy) (span : Extent) (o : Option Periodic) (f : FlowRow) (ps : List Placement) → end_of span ≤ last_time → IsWellFlow f → ((p : Periodic) → o ≡ Some p → IsOfFlow phy f p) → due_time f.kind (run_flow span o f.index ps).index ≤ last_time + 1000000
+run_bound : (phy : Phy) (span : Extent) (o : Option Periodic) (f : FlowRow) (ps : List Placement) → end_of span ≤ last_time → IsWellFlow f → ((p : Periodic) → o ≡ Some p → IsOfFlow phy f p) → due_time f.kind (run_flow span o f.index ps).index ≤ last_time + longest_interval
 run_bound phy span None f ps le w of = w.due
 run_bound phy span (Some p) f ps le w of =
     let its = of p refl in
     let k : ℕ = due_before p f.index (end_of span) in
-    let now : due_at p f.index ≤ last_time + 1000000 = subst (λ d. d ≤ last_time + 1000000) (its.due f.index) w.due in
+    let now : due_at p f.index ≤ last_time + longest_interval = subst (λ d. d ≤ last_time + longest_interval) (its.due f.index) w.due in
     let bound = due_bound p f.index (end_of span) last_time its.well.short le now in
     let less = due_later p (run_flow span (Some p) f.index ps).index (f.index + k) (index_within span p k f.index ps) in
-    subst (λ d. d ≤ last_time + 1000000) (sym (its.due (run_flow span (Some p) f.index ps).index)) (omega arith)
+    subst (λ d. d ≤ last_time + longest_interval) (sym (its.due (run_flow span (Some p) f.index ps).index)) (omega arith)
 
 -- ---- a pass over flows
 

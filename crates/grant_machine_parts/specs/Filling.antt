@@ -4,7 +4,7 @@ use Rattle.minislot_time.specs.Extent.{Extent}
 use Rattle.map_body.specs.Iucs as iucs
 use Rattle.flow_state.specs.declared.channel.Phy.{Phy}
 use Rattle.flow_state.specs.declared.channel.Phy.TheVariants.{Tdma, Advanced}
-use Rattle.flow_state.specs.Limits.{last_time}
+use Rattle.flow_state.specs.Limits.{last_time, longest_interval}
 use Rattle.grant_machine_parts.specs.Placing.{Cause, Window, Sent, Placement}
 use Rattle.grant_machine_parts.specs.Cutting.{Periodic, Verdict, Missed, Placed, Kept, placement_at}
 
@@ -19,12 +19,12 @@ has_use p = p.iuc < iucs.expansion
 
 -- next due times are at most this
 abbrev pub last_due : ℕ
-last_due = last_time + 1000000
+last_due = last_time + longest_interval
 
 -- due times follow one another within the limits
 pub record IsTimely (p : Periodic) : Type 0 where
   pub more : 1 ≤ p.interval
-  pub most : p.interval ≤ 1000000
+  pub most : p.interval ≤ longest_interval
   pub use_of : p.iuc < iucs.expansion
 
 -- the flow goes on to its next due time

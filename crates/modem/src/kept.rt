@@ -16,6 +16,9 @@ use crate::leases::is_of;
 use map_body::{Interval, Iuc, Sid};
 use std::alloc::{AllocError, Global};
 
+/// An interval that covers a minislot began at most so many minislots before: an offset in a MAP has 14 bits.
+const REACH: u64 = 0x3FFF;
+
 /// An element's minislots of a channel, from `start` up to `stop`.
 #[derive(Clone, Copy, PartialEq, Eq)]
 pub(crate) struct KeptInterval {
@@ -42,12 +45,12 @@ fn begins_by(interval: &KeptInterval, ch: u8, at: u64) -> bool
     interval.channel < ch || interval.channel == ch && start <= at
 }
 
-// Those that may cover a minislot of a channel: they begin there, or less than 2^14 before.
+// Those that may cover a minislot of a channel: they begin there, or at most REACH before.
 fn around(kept: &[KeptInterval], ch: u8, at: u64) -> &[KeptInterval]
     requires { AreKept kept.now }
     ensures { (sid iuc : ℕ) → HasAt (map kept_interval result.now) ch at sid iuc ↔ HasAt (map kept_interval kept.now) ch at sid iuc }
 {
-    let first = at.saturating_sub(0x3FFF);
+    let first = at.saturating_sub(REACH);
     let before = kept.partition_point(|k| begins_before(k, ch, first));
     let rest = &kept[before..];
     let count = rest.partition_point(|k| begins_by(k, ch, at));
@@ -152,11 +155,11 @@ pub(crate) fn let_go(kept: &mut Vec<KeptInterval>, ch: u8, clock: u64)
     cut(kept, before, before + count);
 }
 
-// Whether a channel's intervals that began 2^14 minislots before the clock, and so have ended, are many: of so
+// Whether a channel's intervals that began more than REACH before the clock, and so have ended, are many: of so
 // many channels, one's share of half of what is kept. It costs the logarithm of what is kept, and a list in
 // which no channel has many is at most twice what hasn't ended or began since.
 fn has_many_old(kept: &[KeptInterval], ch: u8, clock: u64, channels: usize) -> bool {
-    let first = clock.saturating_sub(0x3FFF);
+    let first = clock.saturating_sub(REACH);
     let before = kept.partition_point(|k| begins_before(k, ch, 0));
     let old = kept[before..].partition_point(|k| begins_before(k, ch, first));
     old > 0 && kept.len() / old / 2 <= channels

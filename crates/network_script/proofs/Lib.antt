@@ -26,7 +26,6 @@ mod Answered
 pub mod Places
 mod Outwardly
 pub mod Acts
-pub mod Pieces
 pub mod Same
 pub mod Counted
 pub mod Tallied

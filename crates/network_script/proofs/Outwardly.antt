@@ -107,15 +107,3 @@ comes_seen o o' i letter k Takes told lt is to goes =
 -- there is no such letter
 pub no_letter_seen : (o : Outward) (i : ℕ) (Takes : ℕ → Answer → Outward → Type 0) → length o.letters ≤ i → IfSent o (slice_get o.letters i) Takes (Refused NoLetter) o
 no_letter_seen o i Takes le = subst (λ (l : Option Letter). IfSent o l Takes (Refused NoLetter) o) (sym (slice_get_past o.letters i le)) (refl, refl)
-
--- a run goes on by one event
-seen_more : (o mid o' : Outward) (events : List Event) (answers : List Answer) (event : Event) (told : Answer) → SeenRun o events answers mid → SeenNext mid event told o' → SeenRun o (events ++ event ∷ []) (answers ++ told ∷ []) o'
-seen_more o mid o' [] [] event told goes next = (o', subst (λ (v : Outward). SeenNext v event told o') goes next, refl)
-seen_more o mid o' (e ∷ events) (a ∷ answers) event told goes next = (goes.0, goes.1, seen_more goes.0 mid o' events answers event told goes.2 next)
-seen_more o mid o' [] (a ∷ answers) event told goes next = absurd goes
-seen_more o mid o' (e ∷ events) [] event told goes next = absurd goes
-
--- the same at an index
-pub seen_on : (o mid o' : Outward) (events : List Event) (i : ℕ) (event : Event) (answers : List Answer) (told : Answer) → i < length events → event ≡ get_or events i event → SeenRun o (take i events) answers mid → SeenNext mid event told o' → SeenRun o (take (i + 1) events) (answers ++ told ∷ []) o'
-seen_on o mid o' events i event answers told lt is goes next =
-    rw (take_more events i event lt) (seen_more o mid o' (take i events) answers (get_or events i event) told goes (subst (λ (e : Event). SeenNext mid e told o') is next))

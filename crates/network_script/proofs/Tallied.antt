@@ -101,13 +101,3 @@ counted_call {N} {g} seats k seat mid new given event told to to' up is letters 
     let same : (g.who new.node).failures ≡ (g.who mid.node).failures = ap (λ (n : N). (g.who n).failures) node in
     counted_seat seats k seat new event told to to' up.0 is letters called (rw same kept.2)
     (λ loud. rw same (rose (g.who seat.node) (g.who mid.node) (seat.runs (up.1 seat is)) kept loud))
-
--- a run goes on by one event
-count_more : (c mid c' : Counts) (events : List Event) (answers : List Answer) (event : Event) (answer : Answer) → CountRun c events answers mid → CountNext mid event answer c' → CountRun c (events ++ event ∷ []) (answers ++ answer ∷ []) c'
-count_more c mid c' [] [] event answer run next = (c', subst (λ (v : Counts). CountNext v event answer c') run next, refl)
-count_more c mid c' (e ∷ events) (a ∷ answers) event answer run next = (run.0, run.1, count_more run.0 mid c' events answers event answer run.2 next)
-count_more c mid c' [] (a ∷ answers) event answer run next = absurd run
-count_more c mid c' (e ∷ events) [] event answer run next = absurd run
-
-pub count_on : (c mid c' : Counts) (events : List Event) (i : ℕ) (event : Event) (answers : List Answer) (answer : Answer) → i < length events → event ≡ get_or events i event → CountRun c (take i events) answers mid → CountNext mid event answer c' → CountRun c (take (i + 1) events) (answers ++ answer ∷ []) c'
-count_on c mid c' events i event answers answer lt is run next = rw (take_more events i event lt) (count_more c mid c' (take i events) answers (get_or events i event) answer run (subst (λ (e : Event). CountNext mid e answer c') is next))

@@ -8,6 +8,7 @@ use Rattle.network_script_parts.specs.declared.event.Answer.{Answer}
 use Rattle.network_script.specs.declared.world.World.{World}
 use Rattle.network_script_parts.specs.Occupant.{who_of}
 use Rattle.network_script.specs.Worlds.{seats_of, letters_of}
+use Rattle.network_script.specs.Along.{Along}
 use Rattle.network_script_parts.specs.StoreFaults.{is_store_fault}
 
 -- each node's count of failures, and whom each letter is to
@@ -41,9 +42,7 @@ pub record CountNext (old : Counts) (event : Event) (answer : Answer) (new : Cou
 
 -- the same of a run
 abbrev pub CountRun : Counts → List Event → List Answer → Counts → Type 0
-CountRun old [] [] new = new ≡ old
-CountRun old (event ∷ events) (answer ∷ answers) new = (mid : Counts) × CountNext old event answer mid × CountRun mid events answers new
-CountRun old events answers new = ⊥
+CountRun = Along CountNext
 
 -- the node is this one
 abbrev pub is_node : ℕ → Option ℕ → Bool

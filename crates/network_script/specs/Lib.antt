@@ -1,4 +1,5 @@
 pub mod World
+pub mod Along
 pub mod Next
 pub mod Seats
 pub mod Worlds

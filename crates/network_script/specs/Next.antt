@@ -14,6 +14,7 @@ use Rattle.network_script_parts.specs.Moves.Ask.{Call, TakeThenCrash, Release as
 use Rattle.network_script_parts.specs.Receiver.{Receiver}
 use Rattle.network_script_parts.specs.Modems.{ModemNext, sent_at}
 use Rattle.network_script.specs.World.{Written, released_by, opening}
+use Rattle.network_script.specs.Along.{Along}
 
 -- the event is answered so, and nothing changes
 abbrev pub Unmoved : Written → Answer → Answer → Written → Type 0
@@ -57,11 +58,9 @@ Next members w (Hear m i near) answer w' = OnModems w (Hear m i near) answer w'
 Next members w (Want m ch sid n) answer w' = OnModems w (Want m ch sid n) answer w'
 Next members w (Tick m ch slot random) answer w' = OnModems w (Tick m ch slot random) answer w'
 
--- these events may be answered so, one after another
+-- in a world of so many members these events may be answered so, one after another
 abbrev pub Goes : ℕ → Written → List Event → List Answer → Written → Type 0
-Goes members w [] [] w' = w' ≡ w
-Goes members w (event ∷ events) (answer ∷ answers) w' = (mid : Written) × Next members w event answer mid × Goes members mid events answers w'
-Goes members w events answers w' = ⊥
+Goes members = Along (Next members)
 
 -- a script over so many fresh nodes and modems with these ids may give this report, and leave this world
 abbrev pub Run : ℕ → List ℕ → List Event → List Answer → Written → Type 0

@@ -17,6 +17,7 @@ use Rattle.network_script_parts.specs.Receiving.{Hold}
 use Rattle.network_script_parts.specs.Seat.{survives}
 use Rattle.network_script.specs.declared.world.World.{World}
 use Rattle.network_script.specs.World.{released_by}
+use Rattle.network_script.specs.Along.{Along}
 use Rattle.network_script.specs.Worlds.{seats_of, letters_of, outputs_of, receivers_of, transmissions_of}
 
 pub record Outward : Type 0 where
@@ -115,9 +116,7 @@ SeenNext o (Tick m ch slot random) answer o' = OfModems o (Tick m ch slot random
 
 -- these events may be answered so, one after another
 abbrev pub SeenRun : Outward → List Event → List Answer → Outward → Type 0
-SeenRun o [] [] o' = o' ≡ o
-SeenRun o (event ∷ events) (answer ∷ answers) o' = (mid : Outward) × SeenNext o event answer mid × SeenRun mid events answers o'
-SeenRun o events answers o' = ⊥
+SeenRun = Along SeenNext
 
 -- an event, from whatever modems the world may hold
 abbrev pub Seen : {N : Type 0} {g : Ghosts N} → World N g → Event → Answer → World N g → Type 0

@@ -1,11 +1,11 @@
 use Rattle.std.proofs.Common.{◌≡◌, subst, sym, refl, rules, take, length, ◌∙◌, is_ok, true, ap, ◌+◌}
 use Rattle.std.proofs.lemmas.List.{take_all}
-use Rattle.network_script.proofs.Outwardly.{seen_on}
-use Rattle.network_script.proofs.Pieces.{goes_on}
+use Rattle.network_script.proofs.Joining.{along_on}
 use Rattle.network_script.proofs.Places.{standings_length}
-use Rattle.network_script.proofs.Tallied.{count_on}
 use Rattle.network_script.proofs.world.World.run.Goals as goal
-use Rattle.network_script.specs.Next.{Goes}
+use Rattle.network_script.specs.Counts.{CountNext}
+use Rattle.network_script.specs.Next.{Next, Goes}
+use Rattle.network_script.specs.Outward.{SeenNext}
 use Rattle.network_script.specs.World.{Written}
 use Rattle.network_script.specs.Worlds.{written}
 
@@ -33,15 +33,15 @@ loop-event-preserved g c =
           let step = c.happen-answer.ensures.next all before.0 before.1 before.2 before.3 before.4 in
           let size : length before.0 ≡ length nodes = standings_length _ _ before.3 ∙ (c.loop-event.invariant.members ∙ sym (standings_length _ _ each)) in
           let items = rw ok at c.push.ensures.items in
-          (step.0, step.1, step.2, step.3, step.4, rw items (goes_on (length nodes) _ _ _ c.args.events.now c.loop-event.event-index c.event-item.result _ _ c.loop-event-test.true c.event-item.is before.5 (rw (← size) step.5)));
+          (step.0, step.1, step.2, step.3, step.4, rw items (along_on (Next (length nodes)) _ _ _ c.args.events.now c.loop-event.event-index c.event-item.result _ _ c.loop-event-test.true c.event-item.is before.5 (rw (← size) step.5)));
       seen = λ modems hold.
           let before = c.loop-event.invariant.seen modems hold in
           let step = c.happen-answer.ensures.seen before.0 before.2 in
           let items = rw ok at c.push.ensures.items in
-          (step.0, rw items (seen_on _ _ _ c.args.events.now c.loop-event.event-index c.event-item.result _ _ c.loop-event-test.true c.event-item.is before.1 step.1), step.2);
+          (step.0, rw items (along_on SeenNext _ _ _ c.args.events.now c.loop-event.event-index c.event-item.result _ _ c.loop-event-test.true c.event-item.is before.1 step.1), step.2);
       counted =
           let items = rw ok at c.push.ensures.items in
-          rw items (count_on _ _ _ c.args.events.now c.loop-event.event-index c.event-item.result _ _ c.loop-event-test.true c.event-item.is c.loop-event.invariant.counted c.happen-answer.ensures.counted);
+          rw items (along_on CountNext _ _ _ c.args.events.now c.loop-event.event-index c.event-item.result _ _ c.loop-event-test.true c.event-item.is c.loop-event.invariant.counted c.happen-answer.ensures.counted);
     }
 
 pub returns-clause-run : goal.returns-clause-run
