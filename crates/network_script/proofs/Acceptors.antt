@@ -1,5 +1,5 @@
 -- A node that prepares, votes, counts and learns does what keeps the invariant.
-use Rattle.std.proofs.Common.{◌≡◌, inl, inr, ⊎_elim, ℕ, ◌<◌, ◌≤◌, not, nat_lt, nat_le, ◌==◌, List, [], ◌∷◌, ◌++◌, take, refl, sym, ap, ◌∙◌, subst, arith, Option, Some, None, slice_get}
+use Rattle.std.proofs.Common.{◌≡◌, inl, inr, ⊎_elim, ℕ, ◌<◌, ◌≤◌, nat_lt, nat_le, ◌==◌, List, [], ◌∷◌, ◌++◌, take, refl, sym, ap, ◌∙◌, subst, arith, Option, Some, None, slice_get}
 use Rattle.std.proofs.lemmas.Bool.{cond_both, ltb-true, ltb-false, eqb-true, le-leb}
 use Rattle.ballots.specs.declared.letters.Cast.{Cast}
 use Rattle.ballots.specs.declared.letters.Note.{Note}
@@ -18,7 +18,6 @@ use Rattle.std.specs.Ordering.{nat_cmp}
 use Rattle.node.specs.View.{View, Standing}
 use Rattle.node.specs.View.Standing.{Running}
 use Rattle.node.specs.Step.{nothing, sends, writes, learns, known, letter, to_all, known_letters, prepare, vote_at, accept}
-use Rattle.learner.specs.Tally.{learn}
 use Rattle.network_script.proofs.Invariant.{IsProposed, PromiseOk, OwnOk, WriteOk, RoleOk, UpOk, LetterOk, Invariant}
 use Rattle.network_script.proofs.Lists.{in_append, in_filter, into_filter}
 use Rattle.network_script.proofs.Rows.{at_in}

@@ -1,14 +1,11 @@
 -- The written world after one node moved.
-use Rattle.std.proofs.Common.{◌≡◌, ◌<◌, ◌≤◌, ℕ, zero, suc, List, [], ◌∷◌, ◌++◌, append-nil, Option, Some, None, slice_get, slice_set, refl, sym, ap, ◌∙◌}
-use Rattle.ballots.specs.declared.letters.Letter.{Letter}
+use Rattle.std.proofs.Common.{◌≡◌, ℕ, zero, suc, List, [], ◌∷◌, ◌++◌, append-nil, Option, Some, None, slice_get, slice_set, refl, sym, ap, ◌∙◌}
 use Rattle.acceptor.specs.Content.{Write, record_write}
-use Rattle.map_release.specs.declared.numbered.Numbered.{Numbered}
 use Rattle.node.specs.View.{View, Standing}
 use Rattle.node.specs.View.Standing.{Running, Stopped}
 use Rattle.node.specs.Step.{Outcome}
-use Rattle.network_script_parts.specs.declared.event.ReleasedOutput.{ReleasedOutput}
 use Rattle.network_script_parts.specs.Release.{released, released_all}
-use Rattle.network_script_parts.specs.Moves.{Move, quiet, whole, lost, gives}
+use Rattle.network_script_parts.specs.Moves.{quiet, whole, lost, gives}
 use Rattle.network_script.specs.World.{Written, released_by}
 use Rattle.network_script.specs.Next.{after}
 

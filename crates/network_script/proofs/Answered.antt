@@ -23,7 +23,7 @@ use Rattle.network_script_parts.specs.declared.event.Transmission.{Transmission}
 use Rattle.network_script.specs.World.{Written}
 use Rattle.network_script_parts.specs.Receiver.{Receiver}
 use Rattle.network_script_parts.specs.Modems.{OfModem}
-use Rattle.network_script_parts.specs.Moves.{Ask, Move, quiet, whole, lost, gives, Fails, Ends, IsToldLast, MovesUp, MovesDown, Moves}
+use Rattle.network_script_parts.specs.Moves.{Ask, Move, quiet, whole, lost, gives, Fails, Ends, IsToldLast, MovesUp, Moves}
 use Rattle.network_script_parts.specs.Moves.Ask.{Call, TakeThenCrash, Release as ReleaseAt, Crash, Restart}
 use Rattle.network_script.specs.Next.{OfNode, after, Next}
 use Rattle.network_script.proofs.After.{after_same}

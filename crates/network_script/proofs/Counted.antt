@@ -1,29 +1,19 @@
 -- The counts of failures, event by event.
-use Rattle.std.proofs.Common.{◌≡◌, ◌≤◌, ◌+◌, ◌-◌, ◌^◌, ◌⊎◌, inl, inr, ℕ, zero, suc, List, [], ◌∷◌, Option, Some, None, Bool, true, false, slice_get, slice_set, refl, sym, ap, ◌∙◌, subst, arith, ◌&&◌, if◌then◌else◌}
+use Rattle.std.proofs.Common.{◌≡◌, ◌≤◌, ◌+◌, ◌-◌, ◌^◌, ◌⊎◌, inl, inr, ℕ, List, [], ◌∷◌, Option, Some, None, Bool, true, false, slice_get, slice_set, refl, sym, ap, ◌∙◌, subst, arith, ◌&&◌, if◌then◌else◌}
 use Rattle.std.proofs.lemmas.Bool.Decides.{eqb_tells}
 use Rattle.std.proofs.lemmas.Bool.{cases_lt}
+use Rattle.std.proofs.lemmas.Option.{slice_get_within}
 use Rattle.std.proofs.Math.Nat.{min-eq_left, min-eq_right}
 use Rattle.acceptor.specs.Faults.{HasRisen}
 use Rattle.network_script_parts.specs.declared.event.Event.{Event}
 use Rattle.network_script_parts.specs.declared.event.Event.TheVariants as event
 use Rattle.network_script_parts.specs.declared.event.Answer.{Answer}
+use Rattle.network_script.proofs.Lists.{get_same, get_other}
 use Rattle.network_script.specs.Counts.{Counts, CountNext, CountRun, called_by, is_node, faults_of, FewFaults}
 use Rattle.network_script_parts.specs.StoreFaults.{is_store_fault}
 
 false_true : false ≡ true → ⊥
 false_true e = cc
-
-got_same : {A : Type 0} (xs : List A) (k : ℕ) (old new : A) → slice_get xs k ≡ Some old → slice_get (slice_set xs k new) k ≡ Some new
-got_same [] k old new at = cc
-got_same (x ∷ xs) zero old new at = refl
-got_same (x ∷ xs) (suc k) old new at = got_same xs k old new at
-
-got_other : {A : Type 0} (xs : List A) (k j : ℕ) (new : A) → (k ≡ j → ⊥) → slice_get (slice_set xs k new) j ≡ slice_get xs j
-got_other [] k j new apart = refl
-got_other (x ∷ xs) zero zero new apart = absurd (apart refl)
-got_other (x ∷ xs) zero (suc j) new apart = refl
-got_other (x ∷ xs) (suc k) zero new apart = refl
-got_other (x ∷ xs) (suc k) (suc j) new apart = got_other xs k j new (λ e. apart (ap suc e))
 
 -- nothing was counted
 pub count_still : (c : Counts) (event : Event) (answer : Answer) → is_store_fault answer ≡ false → CountNext c event answer c
@@ -40,7 +30,7 @@ pub count_one : (old new : Counts) (event : Event) (answer : Answer) (k before a
     → (is_store_fault answer ≡ true → (called_by old.addressees event ≡ Some k) × HasRisen before after)
     → CountNext old event answer new
 count_one old new event answer k before after letters at is le cause =
-    let there : slice_get new.failures k ≡ Some after = ap (λ fs. slice_get fs k) is ∙ got_same old.failures k before after at in
+    let there : slice_get new.failures k ≡ Some after = ap (λ fs. slice_get fs k) is ∙ get_same old.failures k after (slice_get_within old.failures k before at) in
     record {
       letters = letters;
       grow = λ j b at_j. elim (eqb_tells k j) [
@@ -49,7 +39,7 @@ count_one old new event answer k before after letters at is le cause =
             let at_k : slice_get old.failures j ≡ Some before = subst (λ (m : ℕ). slice_get old.failures m ≡ Some before) same at in
             let b_is : b ≡ before = cc in
             (after, there_j, rw b_is le)
-        | inr (_, apart) ↦ (b, ap (λ fs. slice_get fs j) is ∙ (got_other old.failures k j after apart ∙ at_j), omega arith)
+        | inr (_, apart) ↦ (b, ap (λ fs. slice_get fs j) is ∙ (get_other old.failures k j after apart ∙ at_j), omega arith)
       ];
       cause = λ loud. (k, before, after, (cause loud).0, at, there, (cause loud).1);
     }

@@ -1,5 +1,5 @@
 -- Gapless learned values, the outputs that they give, and which of them stand in the outputs of the chosen values.
-use Rattle.std.proofs.Common.{◌≡◌, ◌⊎◌, inl, inr, ⊎_elim, ℕ, zero, suc, ◌+◌, ◌<◌, ◌≤◌, Bool, true, false, cond, ◌==◌, List, [], ◌∷◌, ◌++◌, length, drop, refl, sym, ap, subst, arith, Option, Some, None, slice_get}
+use Rattle.std.proofs.Common.{◌≡◌, ◌⊎◌, inl, inr, ⊎_elim, ℕ, zero, suc, ◌+◌, ◌<◌, ◌≤◌, Bool, true, false, cond, ◌==◌, List, [], ◌∷◌, length, drop, refl, sym, ap, subst, arith, Option, Some, None, slice_get}
 use Rattle.std.proofs.lemmas.Bool.{eqb-true}
 use Rattle.std.proofs.lemmas.Option.{slice_get_within}
 use Rattle.ballots.specs.Voting.{Entry, IsIn, IsLegal, IsChosen}
@@ -36,11 +36,6 @@ beginning (x ∷ xs) (y ∷ ys) same short =
     let rest = beginning xs ys (λ k. same (suc k)) (λ k z is. let e : suc k < suc (length ys) = short (suc k) z is in omega arith) in
     let first : x ≡ y = same zero x y refl refl in
     (rest.0, λ i. first i ∷ rest.1 i)
-
-pub get_left : {X : Type 0} (xs ys : List X) (k : ℕ) (x : X) → slice_get xs k ≡ Some x → slice_get (xs ++ ys) k ≡ Some x
-get_left [] ys k x is = absurd (cc (is))
-get_left (z ∷ xs) ys zero x is = is
-get_left (z ∷ xs) ys (suc k) x is = get_left xs ys k x is
 
 pub get_past : {X : Type 0} (xs : List X) (k : ℕ) → length xs ≤ k → (x : X) → slice_get xs k ≡ Some x → ⊥
 get_past xs k past x is = let e : k < length xs = slice_get_within xs k x is in omega arith

@@ -1,6 +1,6 @@
 -- What is seen of a world from without, event by event.
-use Rattle.std.proofs.Common.{◌≡◌, ◌<◌, ◌≤◌, ◌+◌, ◌++◌, ℕ, List, [], ◌∷◌, Option, Some, None, Result, Ok, Err, Bool, true, false, Vec, Global, map, length, get_or, take, slice_get, slice_set, refl, sym, ap, ◌∙◌, subst, arith}
-use Rattle.std.proofs.lemmas.List.{map-set, length-map, take_more}
+use Rattle.std.proofs.Common.{◌≡◌, ◌<◌, ◌≤◌, ℕ, List, Option, Some, None, Result, Ok, Err, Bool, true, false, Vec, Global, map, length, get_or, slice_get, slice_set, refl, sym, ap, ◌∙◌, subst, arith}
+use Rattle.std.proofs.lemmas.List.{map-set, length-map}
 use Rattle.std.proofs.lemmas.Option.{slice_get_past, slice_get_read}
 use Rattle.ballots.specs.declared.letters.Letter.{Letter}
 use Rattle.map_release.specs.declared.numbered.Numbered.{Numbered}
@@ -8,7 +8,6 @@ use Rattle.node.specs.declared.node.Node.{Ghosts}
 use Rattle.node.specs.Calls.{answer}
 use Rattle.node.specs.Releases.{outputs as outputs_given}
 use Rattle.proposer.specs.declared.fault.NodeFault.{NodeFault}
-use Rattle.network_script_parts.specs.declared.event.Event.{Event}
 use Rattle.network_script_parts.specs.declared.event.Answer.{Answer}
 use Rattle.network_script_parts.specs.declared.event.Answer.TheVariants.{Sent, Released, Finished, Refused, Fault, Crashed}
 use Rattle.network_script_parts.specs.declared.event.Refusal.{Refusal}
@@ -19,7 +18,7 @@ use Rattle.network_script_parts.specs.Occupant.{is_up}
 use Rattle.network_script_parts.specs.Seat.{stays_up, survives}
 use Rattle.network_script.specs.Seats.{IsUpAt, IsNotUp, ups}
 use Rattle.network_script.specs.Worlds.{Posted, Lost, Keeps, up_after}
-use Rattle.network_script.specs.Outward.{Outward, IfUp, IfDown, IfSent, Sends, Loses, Gives, SeenNext, SeenRun}
+use Rattle.network_script.specs.Outward.{Outward, IfUp, IfDown, IfSent, Sends, Loses, Gives}
 use Rattle.network_script.proofs.Places.{seen_at}
 
 -- there is no seat k

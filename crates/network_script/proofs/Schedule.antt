@@ -16,10 +16,11 @@ use Rattle.node.specs.View.Standing.{Running}
 use Rattle.map_release.specs.declared.numbered.Numbered.{Numbered}
 use Rattle.network_script_parts.specs.declared.event.Event.{Event}
 use Rattle.network_script_parts.specs.declared.event.Answer.{Answer}
+use Rattle.network_script.proofs.Lists.{get_left}
 use Rattle.network_script.specs.World.{Written}
 use Rattle.network_script.specs.Next.{Run}
 use Rattle.network_script.specs.Headline.{OfEveryRun, WithSchedule, IsBeginning, IsSchedule, HasOneSchedule, GaplessIsBeginning, ReleasedIsOutput, IsReleasedMap, MapsAreOne, CoversOnce}
-use Rattle.network_script.proofs.Outputs.{StandsIn, get_left, chosen_beginning, learned_chosen, chosen_keeps}
+use Rattle.network_script.proofs.Outputs.{StandsIn, chosen_beginning, learned_chosen, chosen_keeps}
 use Rattle.network_script.proofs.Runs.{run_fine, passes_fine}
 use Rattle.network_script.proofs.Existence.{schedule_exists}
 

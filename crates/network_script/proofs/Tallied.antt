@@ -1,6 +1,6 @@
 -- The counts of failures, at the seats.
-use Rattle.std.proofs.Common.{◌≡◌, ◌<◌, ◌≤◌, ◌+◌, ◌++◌, ℕ, zero, suc, List, [], ◌∷◌, Some, Result, Ok, Err, true, false, map, length, take, get_or, slice_get, slice_set, refl, ap, subst, Vec, ⊎_elim, sym, ◌∙◌}
-use Rattle.std.proofs.lemmas.List.{map-set, map-append, take_more}
+use Rattle.std.proofs.Common.{◌≡◌, ◌<◌, ◌≤◌, ℕ, List, Some, Result, Ok, Err, true, false, map, length, get_or, slice_get, slice_set, ap, subst, Vec, ⊎_elim, sym, ◌∙◌}
+use Rattle.std.proofs.lemmas.List.{map-set, map-append}
 use Rattle.std.specs.declared.alloc.Global.{Global}
 use Rattle.node.specs.declared.node.Node.{Ghosts}
 use Rattle.ballots.specs.declared.letters.Letter.{Letter}
@@ -15,9 +15,10 @@ use Rattle.network_script_parts.specs.declared.event.Event.{Event}
 use Rattle.network_script_parts.specs.declared.event.Answer.{Answer}
 use Rattle.network_script_parts.specs.declared.event.Answer.TheVariants.{Sent, Released, Finished, Fault, Crashed}
 use Rattle.network_script_parts.specs.declared.seat.Seat.{Seat}
+use Rattle.network_script.proofs.Lists.{get_left}
 use Rattle.network_script.specs.Seats.{IsUpAt}
 use Rattle.network_script.specs.Worlds.{Posted, Lost, Keeps}
-use Rattle.network_script.specs.Counts.{Counts, CountNext, CountRun, called_by}
+use Rattle.network_script.specs.Counts.{CountNext, called_by}
 use Rattle.network_script_parts.specs.StoreFaults.{is_store_fault}
 use Rattle.network_script.proofs.Places.{seen_at}
 use Rattle.network_script.proofs.Counted.{count_one}
@@ -65,16 +66,11 @@ keeps_rose (Ok v) k before Crashed after keeps old new up kept loud = absurd (fa
 keeps_rose (Err fault) k before (Fault fault') after keeps old new up kept loud = err_rose (Vec Numbered Global) old new fault up kept (subst (λ (f : NodeFault). is_store_fault (Fault f) ≡ true) keeps.0 loud)
 keeps_rose given k before told after keeps old new up kept loud = absurd keeps
 
-got_more : {A : Type 0} (xs ys : List A) (i : ℕ) (x : A) → slice_get xs i ≡ Some x → slice_get (xs ++ ys) i ≡ Some x
-got_more [] ys i x at = cc
-got_more (y ∷ xs) ys zero x at = at
-got_more (y ∷ xs) ys (suc i) x at = got_more xs ys i x at
-
 -- letters stay
 pub posted_letters : (given : Result (Vec Letter Global) NodeFault) (letters : List Letter) (told : Answer) (letters' : List Letter) → Posted (answer given) letters told letters'
     → (i n : ℕ) → slice_get (map (λ (letter : Letter). letter.to) letters) i ≡ Some n → slice_get (map (λ (letter : Letter). letter.to) letters') i ≡ Some n
 posted_letters (Ok v) letters (Sent m) letters' posted i n at =
-    rw (posted.1, map-append) (got_more (map (λ (letter : Letter). letter.to) letters) (map (λ (letter : Letter). letter.to) v.items) i n at)
+    rw (posted.1, map-append) (get_left (map (λ (letter : Letter). letter.to) letters) (map (λ (letter : Letter). letter.to) v.items) i n at)
 posted_letters (Ok v) letters Crashed letters' posted i n at = rw posted.1 at
 posted_letters (Err fault) letters (Fault fault') letters' posted i n at = rw posted.1 at
 posted_letters given letters told letters' posted i n at = absurd posted

@@ -1,5 +1,5 @@
 -- A run in which nothing fails, computed: the plain program of the written world, for scripts without modems.
-use Rattle.std.specs.Prelude.{◌≡◌, ◌≤◌, ℕ, ◌+◌, ◌-◌, ◌*◌, ◌/◌, ◌^◌, max, nat_lt, nat_le, if◌then◌else◌, List, [], ◌∷◌, ◌++◌, length, Option, Some, None, Result, Ok, Err, slice_get, slice_set}
+use Rattle.std.specs.Prelude.{◌≡◌, ◌≤◌, ℕ, ◌+◌, ◌-◌, ◌*◌, ◌/◌, ◌^◌, max, nat_lt, nat_le, if◌then◌else◌, List, [], ◌∷◌, length, Option, Some, None, Result, Ok, Err, slice_get}
 use Rattle.ballots.specs.Limits.{most_places}
 use Rattle.ballots.specs.declared.letters.Letter.{Letter}
 use Rattle.node.specs.View.{View, Standing, started, gapless}
@@ -12,8 +12,8 @@ use Rattle.network_script_parts.specs.declared.event.Event.TheVariants.{Lead, Of
 use Rattle.network_script_parts.specs.declared.event.Answer.{Answer}
 use Rattle.network_script_parts.specs.declared.event.Answer.TheVariants as answer
 use Rattle.network_script_parts.specs.declared.event.Refusal.TheVariants.{NoLetter, NodeDown, NodeUp, NoNode, NoModem}
-use Rattle.network_script_parts.specs.Release.{released, released_all}
-use Rattle.network_script_parts.specs.Moves.{Move, quiet, whole, lost, gives}
+use Rattle.network_script_parts.specs.Release.{released}
+use Rattle.network_script_parts.specs.Moves.{quiet, whole, lost, gives}
 use Rattle.network_script.specs.World.{Written}
 use Rattle.network_script.specs.Next.{Next, after}
 

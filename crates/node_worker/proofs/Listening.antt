@@ -7,36 +7,31 @@ use Rattle.network_script_parts.specs.declared.event.Answer.{Answer}
 use Rattle.network_script_parts.specs.declared.event.ReleasedOutput.{ReleasedOutput}
 use Rattle.network_script_parts.specs.declared.event.Transmission.{Transmission}
 use Rattle.network_script.specs.World.{released_by}
+use Rattle.network_script.proofs.Callers.{along_joins, get_front}
 use Rattle.network_script_parts.specs.Receiver.{Receiver, new_receiver}
 use Rattle.network_script_parts.specs.Modems.{ModemNext, OfModem, Listens as ListensTo}
 use Rattle.network_script_parts.specs.Receiving.{AreReceivers}
 use Rattle.node_worker.specs.Legal.{outputs_of}
 use Rattle.node_worker.specs.Places.{IsPlaceOf}
-use Rattle.node_worker.specs.Runs.{IsOfModem, IsOutputAt, Listens, HaveListened, sent_by}
+use Rattle.node_worker.specs.Runs.{IsOfModem, IsOutputAt, ListensNext, Listens, HaveListened, sent_by}
 use Rattle.node_worker.specs.declared.entry.Done.{Done}
 use Rattle.std.proofs.lemmas.Grind.{flat_map-append}
 use Rattle.std.proofs.lemmas.List.{append-nil, take_more, take-append-le}
 use Rattle.std.proofs.Math.Seq.{split_at}
 use Rattle.map_release.specs.declared.numbered.Numbered.{Numbered}
 
-slice_get_front : {A : Type 0} (ys zs : List A) (k : ℕ) → k < length ys → slice_get (ys ++ zs) k ≡ slice_get ys k
-slice_get_front [] zs k within = absurd (omega arith)
-slice_get_front (y ∷ ys) zs zero within = refl
-slice_get_front (y ∷ ys) zs (suc k) within = slice_get_front ys zs k (omega arith)
-
 -- a modem's event is the same where more was released
-step_more : (xs ys : List ReleasedOutput) (rs mid : List Receiver) (e : Event) (told : Answer) → IsOfModem (length xs) e → ModemNext rs xs e told mid → IsOfModem (length (xs ++ ys)) e × ModemNext rs (xs ++ ys) e told mid
+step_more : (xs ys : List ReleasedOutput) (rs mid : List Receiver) (e : Event) (told : Answer) → IsOfModem (length xs) e → ModemNext rs xs e told mid → ListensNext (xs ++ ys) rs e told mid
 step_more xs ys rs mid (event.Hear m i near) told within next =
-    (omega (arith, within, length-append xs ys), subst (λ (o : Option ReleasedOutput). OfModem rs m (slice_get rs m) (λ r. ListensTo r o near) told mid) (sym (slice_get_front xs ys i within)) next)
+    (omega (arith, within, length-append xs ys), subst (λ (o : Option ReleasedOutput). OfModem rs m (slice_get rs m) (λ r. ListensTo r o near) told mid) (sym (get_front xs ys i within)) next)
 step_more xs ys rs mid (event.Want m ch sid n) told within next = (tt, next)
 step_more xs ys rs mid (event.Tick m ch slot random) told within next = (tt, next)
 step_more xs ys rs mid other told never next = absurd never
 
 listens_more : (xs ys : List ReleasedOutput) (rs rs' : List Receiver) (events : List Event) (answers : List Answer) → Listens xs rs events answers rs' → Listens (xs ++ ys) rs events answers rs'
 listens_more xs ys rs rs' [] [] same = same
-listens_more xs ys rs rs' (e ∷ events) (told ∷ answers) (within, mid, next, rest) =
-    let step = step_more xs ys rs mid e told within next in
-    (step.0, mid, step.1, listens_more xs ys mid rs' events answers rest)
+listens_more xs ys rs rs' (e ∷ events) (told ∷ answers) (mid, (within, next), rest) =
+    (mid, step_more xs ys rs mid e told within next, listens_more xs ys mid rs' events answers rest)
 listens_more xs ys rs rs' [] (told ∷ answers) never = absurd never
 listens_more xs ys rs rs' (e ∷ events) [] never = absurd never
 
@@ -50,20 +45,13 @@ listened_more ids records more modems sent told = record {
   sends = told.sends;
 }
 
-listens_on : (xs : List ReleasedOutput) (rs mid rs' : List Receiver) (events : List Event) (answers : List Answer) (e : Event) (told : Answer)
-    → Listens xs rs events answers mid → IsOfModem (length xs) e → ModemNext mid xs e told rs' → Listens xs rs (events ++ e ∷ []) (answers ++ told ∷ []) rs'
-listens_on xs rs mid rs' [] [] e told same within next = (within, rs', subst (λ (r : List Receiver). ModemNext r xs e told rs') same next, refl)
-listens_on xs rs mid rs' (f ∷ events) (answer ∷ answers) e told (first, there, step, rest) within next = (first, there, step, listens_on xs there mid rs' events answers e told rest within next)
-listens_on xs rs mid rs' [] (answer ∷ answers) e told never within next = absurd never
-listens_on xs rs mid rs' (f ∷ events) [] e told never within next = absurd never
-
 -- one more event of a modem
 pub listened_on : (ids : List ℕ) (xs : List ReleasedOutput) (old new : List State) (sent : List Transmission) (e : Event) (told : Answer) → (was : HaveListened ids xs old sent) → IsOfModem (length xs) e
     → ((rs : List Receiver) → AreReceivers old rs → (after : List Receiver) × ModemNext rs xs e told after × AreReceivers new after)
     → HaveListened ids xs new (sent_by (was.events ++ e ∷ []) (was.answers ++ told ∷ []))
 listened_on ids xs old new sent e told was within goes =
     let next = goes was.receivers was.hold in
-    record { events = was.events ++ e ∷ []; answers = was.answers ++ told ∷ []; receivers = next.0; listened = listens_on xs (map new_receiver ids) was.receivers next.0 was.events was.answers e told was.listened within next.1; hold = next.2; sends = refl }
+    record { events = was.events ++ e ∷ []; answers = was.answers ++ told ∷ []; receivers = next.0; listened = along_joins (ListensNext xs) (map new_receiver ids) was.receivers next.0 was.events (e ∷ []) was.answers (told ∷ []) was.listened (next.0, (within, next.1), refl); hold = next.2; sends = refl }
 
 length-released_by : (k : ℕ) (xs : List Numbered) → length (released_by k xs) ≡ length xs
 length-released_by k [] = refl
@@ -97,7 +85,7 @@ output_of records j left i r x within at counted short is =
       record { node = r.node; numbered = x },
       ap (λ xs. slice_get xs i) parts
           ∙ (slice_get_from (outputs_of (take j records)) (mine ++ later) left i counted
-          ∙ (slice_get_front mine later left (omega (arith, length-released_by r.node r.entry.outputs))
+          ∙ (get_front mine later left (omega (arith, length-released_by r.node r.entry.outputs))
           ∙ released_at r.node r.entry.outputs left x short is)),
       refl,
     )

@@ -1,5 +1,5 @@
 -- Sound records, and modems that listened to their outputs, are a run.
-use Rattle.std.proofs.Common.{inl, inr, ◌⊎◌, ◌≡◌, ◌≢◌, ℕ, zero, suc, ◌<◌, List, [], ◌∷◌, ◌++◌, length, take, map, replicate, refl, sym, ap, subst, ◌∙◌, append_assoc, Some, slice_get, slice_set, ⊎_elim, arith}
+use Rattle.std.proofs.Common.{inl, inr, ◌⊎◌, ◌≡◌, ℕ, zero, suc, ◌<◌, List, [], ◌∷◌, ◌++◌, length, take, map, replicate, refl, sym, ap, subst, ◌∙◌, append_assoc, Some, slice_get, slice_set, ⊎_elim, arith}
 use Rattle.std.proofs.lemmas.List.{append-nil, length-set, length-replicate}
 use Rattle.std.proofs.lemmas.Option.{slice_get_within, get_or_from_slice_get, slice_get-get_or}
 use Rattle.std.proofs.lemmas.List.{get_or-replicate}
@@ -15,7 +15,7 @@ use Rattle.network_script_parts.specs.declared.event.Transmission.{Transmission}
 use Rattle.network_script_parts.specs.declared.event.Answer.TheVariants as answer
 use Rattle.network_script.proofs.Callers.{headline, modems_are_named}
 use Rattle.command_log.specs.Values.{Owner}
-use Rattle.network_script.proofs.Callers.{in_right}
+use Rattle.network_script.proofs.Callers.{in_right, get_same, get_other}
 use Rattle.ballots.specs.Voting.{IsIn}
 use Rattle.network_script.specs.World.{Written, released_by, opening as opening_world}
 use Rattle.network_script_parts.specs.Receiver.{Receiver, new_receiver}
@@ -34,18 +34,6 @@ use Rattle.node_worker.proofs.Plants.{entries_of-append, entries_of_one}
 use Rattle.node_worker.proofs.Wholes.{at_below, at_one}
 use Rattle.node_worker.proofs.Moving.{entry_moves}
 use Rattle.node_worker.proofs.Listening.{listened_on}
-
-pub set_same : {A : Type 0} (xs : List A) (i : ℕ) (y : A) → i < length xs → slice_get (slice_set xs i y) i ≡ Some y
-set_same [] i y within = absurd (omega arith)
-set_same (x ∷ xs) zero y within = refl
-set_same (x ∷ xs) (suc i) y within = set_same xs i y (omega arith)
-
-pub set_other : {A : Type 0} (xs : List A) (i j : ℕ) (y : A) → i ≢ j → slice_get (slice_set xs i y) j ≡ slice_get xs j
-set_other [] i j y apart = refl
-set_other (x ∷ xs) zero zero y apart = absurd (apart refl)
-set_other (x ∷ xs) zero (suc j) y apart = refl
-set_other (x ∷ xs) (suc i) zero y apart = refl
-set_other (x ∷ xs) (suc i) (suc j) y apart = set_other xs i j y (λ same. apart (ap suc same))
 
 -- from this world on, these records and what the modems then did
 record Played (members : ℕ) (w : Written) (records : List Done) (rs : List Receiver) (sent : List Transmission) : Type 0 where
@@ -66,16 +54,16 @@ after_modem w mid e told = record w { modems = mid; transmissions = w.transmissi
 
 modems_go : (members : ℕ) (w : Written) (events : List Event) (answers : List Answer) (rs : List Receiver) → Listens w.outputs w.modems events answers rs → Played members w [] rs (sent_by events answers)
 modems_go members w [] [] rs listens = record { script = []; report = []; world = w; read = refl; goes = refl; letters = sym (append-nil w.letters); outputs = sym (append-nil w.outputs); modems = sym listens; transmissions = sym (append-nil w.transmissions); stand = λ k s at. (s, at, refl) }
-modems_go members w (event.Hear m i near ∷ events) (told ∷ answers) rs (within, mid, step, listens) =
+modems_go members w (event.Hear m i near ∷ events) (told ∷ answers) rs (mid, (within, step), listens) =
     let rest = modems_go members (after_modem w mid (event.Hear m i near) told) events answers rs listens in
     record { script = event.Hear m i near ∷ rest.script; report = told ∷ rest.report; world = rest.world; read = rest.read; goes = (after_modem w mid (event.Hear m i near) told, (mid, step, refl), rest.goes); letters = rest.letters; outputs = rest.outputs; modems = rest.modems; transmissions = rest.transmissions ∙ append_assoc w.transmissions (sent_at (event.Hear m i near) told) (sent_by events answers); stand = rest.stand }
-modems_go members w (event.Want m ch sid n ∷ events) (told ∷ answers) rs (within, mid, step, listens) =
+modems_go members w (event.Want m ch sid n ∷ events) (told ∷ answers) rs (mid, (within, step), listens) =
     let rest = modems_go members (after_modem w mid (event.Want m ch sid n) told) events answers rs listens in
     record { script = event.Want m ch sid n ∷ rest.script; report = told ∷ rest.report; world = rest.world; read = rest.read; goes = (after_modem w mid (event.Want m ch sid n) told, (mid, step, refl), rest.goes); letters = rest.letters; outputs = rest.outputs; modems = rest.modems; transmissions = rest.transmissions ∙ append_assoc w.transmissions (sent_at (event.Want m ch sid n) told) (sent_by events answers); stand = rest.stand }
-modems_go members w (event.Tick m ch slot random ∷ events) (told ∷ answers) rs (within, mid, step, listens) =
+modems_go members w (event.Tick m ch slot random ∷ events) (told ∷ answers) rs (mid, (within, step), listens) =
     let rest = modems_go members (after_modem w mid (event.Tick m ch slot random) told) events answers rs listens in
     record { script = event.Tick m ch slot random ∷ rest.script; report = told ∷ rest.report; world = rest.world; read = rest.read; goes = (after_modem w mid (event.Tick m ch slot random) told, (mid, step, refl), rest.goes); letters = rest.letters; outputs = rest.outputs; modems = rest.modems; transmissions = rest.transmissions ∙ append_assoc w.transmissions (sent_at (event.Tick m ch slot random) told) (sent_by events answers); stand = rest.stand }
-modems_go members w (other ∷ events) (told ∷ answers) rs listens = absurd listens.0
+modems_go members w (other ∷ events) (told ∷ answers) rs listens = absurd listens.1.0
 modems_go members w [] (told ∷ answers) rs listens = absurd listens
 modems_go members w (e ∷ events) [] rs listens = absurd listens
 
@@ -163,12 +151,12 @@ goes members w (d ∷ ds) events answers rs each comes named listens =
     (λ same.
     let R : ℕ → Type 0 = λ n. (t : Standing) × Replays members n step.0 (entries_of n ds) t in
     let S : Standing → Type 0 = λ x. (t : Standing) × Replays members k x (entries_of k ds) t in
-    let is : step.0 ≡ u = at_one nodes k step.0 u (ap (slice_get nodes) (sym same.0) ∙ set_same w.nodes d.node step.0 within) at in
+    let is : step.0 ≡ u = at_one nodes k step.0 u (ap (slice_get nodes) (sym same.0) ∙ get_same w.nodes d.node step.0 within) at in
     subst S is (subst R same.0 (its.0, step.2)))
     (λ other.
     let T : List EntryView → Type 0 = λ es. (t : Standing) × Replays members k u es t in
     subst T (entries_of-append k (d ∷ []) ds ∙ ap (λ es. es ++ entries_of k ds) other.1)
-    (each k u (sym (set_other w.nodes d.node k step.0 other.0) ∙ at)))
+    (each k u (sym (get_other w.nodes d.node k step.0 other.0) ∙ at)))
     (entries_of_one k d) in
     let comes' : ComesFrom (w.letters ++ d.entry.letters) ds =
     λ i x at. subst (λ (ls : List Letter). Comes ls x.node x.entry.cause) (sym (append_assoc w.letters d.entry.letters (letters_of (take i ds)))) (comes (suc i) x at) in
@@ -196,13 +184,13 @@ goes members w (d ∷ ds) events answers rs each comes named listens =
       stand = λ k u at.
           ⊎_elim
           (λ same.
-          let r = rest.stand d.node step.0 (ap (λ ns. slice_get ns d.node) m.2.nodes ∙ set_same w.nodes d.node step.0 within) in
+          let r = rest.stand d.node step.0 (ap (λ ns. slice_get ns d.node) m.2.nodes ∙ get_same w.nodes d.node step.0 within) in
           let is : s.0 ≡ u = at_one w.nodes k s.0 u (ap (slice_get w.nodes) (sym same.0) ∙ s.1) at in
           let here : Replays members d.node s.0 (entries_of d.node (d ∷ ds)) r.0 = subst (λ (es : List EntryView). Replays members d.node s.0 es r.0) (sym first) (step.0, step.1, r.2) in
           let there : Replays members k s.0 (entries_of k (d ∷ ds)) r.0 = subst (λ (n : ℕ). Replays members n s.0 (entries_of n (d ∷ ds)) r.0) same.0 here in
           (r.0, subst (λ (n : ℕ). slice_get rest.world.nodes n ≡ Some r.0) same.0 r.1, subst (λ (x : Standing). Replays members k x (entries_of k (d ∷ ds)) r.0) is there))
           (λ other.
-          let r = rest.stand k u (ap (λ ns. slice_get ns k) m.2.nodes ∙ (set_other w.nodes d.node k step.0 other.0 ∙ at)) in
+          let r = rest.stand k u (ap (λ ns. slice_get ns k) m.2.nodes ∙ (get_other w.nodes d.node k step.0 other.0 ∙ at)) in
           let less : entries_of k (d ∷ ds) ≡ entries_of k ds = entries_of-append k (d ∷ []) ds ∙ ap (λ es. es ++ entries_of k ds) other.1 in
           (r.0, r.1, subst (λ (es : List EntryView). Replays members k u es r.0) (sym less) r.2))
           (entries_of_one k d);
@@ -286,7 +274,7 @@ sent_last (f ∷ events) [] e told same x here = absurd (omega (arith, same))
 
 listens_length : (xs : List ReleasedOutput) (rs rs' : List Receiver) (events : List Event) (answers : List Answer) → Listens xs rs events answers rs' → length events ≡ length answers
 listens_length xs rs rs' [] [] listens = refl
-listens_length xs rs rs' (e ∷ events) (told ∷ answers) (within, mid, step, rest) = ap suc (listens_length xs mid rs' events answers rest)
+listens_length xs rs rs' (e ∷ events) (told ∷ answers) (mid, step, rest) = ap suc (listens_length xs mid rs' events answers rest)
 listens_length xs rs rs' [] (told ∷ answers) listens = absurd listens
 listens_length xs rs rs' (e ∷ events) [] listens = absurd listens
 

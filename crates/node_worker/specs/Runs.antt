@@ -11,6 +11,7 @@ use Rattle.network_script_parts.specs.declared.event.ReleasedOutput.{ReleasedOut
 use Rattle.network_script_parts.specs.declared.event.Transmission.{Transmission}
 use Rattle.modem.specs.Held.{unicast_sid}
 use Rattle.command_log.specs.Values.{Owner}
+use Rattle.network_script.specs.Along.{Along}
 use Rattle.network_script.specs.World.{Written}
 use Rattle.network_script_parts.specs.Receiver.{Receiver, new_receiver}
 use Rattle.network_script_parts.specs.Modems.{ModemNext, sent_at}
@@ -73,12 +74,13 @@ IsModemEvent (event.Want m ch sid n) = Unit {0}
 IsModemEvent (event.Tick m ch slot random) = Unit {0}
 IsModemEvent other = ⊥
 
--- modems' events, one after another, where these outputs were released
+-- an event of a modem, where these outputs were released
+abbrev pub ListensNext : List ReleasedOutput → List Receiver → Event → Answer → List Receiver → Type 0
+ListensNext outputs rs e told rs' = IsOfModem (length outputs) e × ModemNext rs outputs e told rs'
+
+-- modems' events, one after another
 abbrev pub Listens : List ReleasedOutput → List Receiver → List Event → List Answer → List Receiver → Type 0
-Listens outputs rs [] [] rs' = rs' ≡ rs
-Listens outputs rs (e ∷ events) (told ∷ answers) rs' =
-    IsOfModem (length outputs) e × (mid : List Receiver) × ModemNext rs outputs e told mid × Listens outputs mid events answers rs'
-Listens outputs rs events answers rs' = ⊥
+Listens outputs = Along (ListensNext outputs)
 
 -- what modems sent at their events
 abbrev pub sent_by : List Event → List Answer → List Transmission

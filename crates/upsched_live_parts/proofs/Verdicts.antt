@@ -1,5 +1,5 @@
 -- What an ended program tells of the audit.
-use Rattle.std.proofs.Common.{◌≡◌, ℕ, List, Option, Result, Ok, Err, IfOk, OnOk, sym, ◌∙◌}
+use Rattle.std.proofs.Common.{◌≡◌, ℕ, List, Option, Result, Ok, Err, sym, ◌∙◌}
 use Rattle.std.specs.Io.KnownBytes.{Appends}
 use Rattle.node_worker.specs.declared.audits.Torn.{Torn}
 use Rattle.upsched_parts.specs.declared.status.Status.{Status}

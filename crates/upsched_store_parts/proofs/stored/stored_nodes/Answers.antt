@@ -1,4 +1,4 @@
-use Rattle.std.proofs.Common.{◌≡◌, ◌≤◌, ◌∙◌, refl}
+use Rattle.std.proofs.Common.{◌∙◌}
 use Rattle.ballots.specs.Members.{member_count}
 use Rattle.network_script_parts.proofs.Callers.{none_first, next_first, all_first}
 use Rattle.upsched_store_parts.proofs.Counts.{reached, none_below, more_below}

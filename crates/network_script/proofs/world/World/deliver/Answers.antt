@@ -1,6 +1,5 @@
-use Rattle.std.proofs.Common.{◌<◌, ◌∙◌, ℕ, rules, length, slice_set, refl, Some, ap, sym}
+use Rattle.std.proofs.Common.{◌<◌, ◌∙◌, rules, length, slice_set, refl, Some, ap, sym}
 use Rattle.ballots.specs.declared.letters.Letter.{Letter}
-use Rattle.node.specs.View.{View}
 use Rattle.node.specs.Calls.{Course, answer}
 use Rattle.node.specs.Calls.Cause.{Receive}
 use Rattle.network_script_parts.specs.declared.event.Answer.TheVariants.{Refused}
