@@ -7,7 +7,7 @@ ghost use Rattle.acceptor.specs.Content.{AreRowsFrom, Content, IsSound, no_conte
 ghost use Rattle.acceptor.specs.Kept.{ballot_in};
 
 use crate::records::{Records, RecordsFault};
-use ballots::{Ballot, Cast, Place, Value, Votes};
+use ballots::{Ballot, Cast, Place, Value, Votes, higher};
 use std::alloc::{AllocError, Global};
 use std::collections::BTreeMap;
 use std::marker::Model;
@@ -58,15 +58,6 @@ fn copied(alloc: Global, cast: &Cast) -> Result<Cast, AllocError>
         ballot: cast.ballot,
         value: cast.value.copy(alloc)?,
     })
-}
-
-fn higher(ballot: Option<Ballot>, other: Ballot) -> Option<Ballot>
-    ensures { number_of result ≡ max (number_of ballot) other }
-{
-    match ballot {
-        Some(b) if b.number() >= other.number() => ballot,
-        _ => Some(other),
-    }
 }
 
 /// The greatest of a ballot and those of the votes.

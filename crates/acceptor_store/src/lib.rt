@@ -3,7 +3,7 @@
 
 mod opening;
 
-ghost use Rattle.std.specs.Prelude.{◌≡◌, ◌≢◌, ◌≤◌, Err, false, map, not, if◌then◌else◌, pos, IfOk, IfErr, IfSome, IsErrAnd, IsSome, IsSomeAnd, OnOk, Some, max, IsTrue, ◌↔◌, ◌⊎◌, ◌&&◌};
+ghost use Rattle.std.specs.Prelude.{◌≡◌, ◌≢◌, ◌≤◌, Err, false, map, not, if◌then◌else◌, pos, IfOk, IfErr, IfSome, IsErrAnd, IsSome, IsSomeAnd, OnOk, Some, IsTrue, ◌↔◌, ◌⊎◌, ◌&&◌};
 ghost use Rattle.ballots.specs.Ballots.{number_of};
 ghost use Rattle.acceptor.specs.Faults.{BreaksBy, CountsFaults, HasRisen, IsHarmless, IsStoreFault};
 ghost use Rattle.acceptor.specs.declared.records.RecordsFault.TheVariants.{OutOfMemory};
@@ -23,7 +23,7 @@ ghost use Rattle.acceptor_store.specs.Linked.{MayFind, IsHonest, is_honest, Tell
 
 use acceptor::{Records, RecordsFault};
 use acceptor_store_parts::{Stop, Version};
-use ballots::{Ballot, Cast, Place, Value, Votes};
+use ballots::{Ballot, Cast, Place, Value, Votes, higher};
 use sqlite::{Alter, Connection, Error as SqlError, ErrorCode, FileStore, Files, Options};
 use sqlite_disk::Disk;
 use std::alloc::Global;
@@ -98,15 +98,6 @@ fn raised(highest: Option<Option<Ballot>>, ballot: Ballot) -> Option<Option<Ball
     match highest? {
         Some(was) if ballot.number() < was.number() => None,
         _ => Some(Some(ballot)),
-    }
-}
-
-fn higher(ballot: Option<Ballot>, other: Ballot) -> Option<Ballot>
-    ensures { number_of result ≡ max (number_of ballot) other }
-{
-    match ballot {
-        Some(b) if b.number() >= other.number() => ballot,
-        _ => Some(other),
     }
 }
 

@@ -1,5 +1,5 @@
 -- What the writes of the records make of the tables.
-use Rattle.std.proofs.Common.{◌≡◌, ◌≢◌, inl, inr, ℕ, ℤ, pos, List, [], ◌∷◌, map, Some, None, Option, Ok, refl, sym, ap, subst, ◌∙◌}
+use Rattle.std.proofs.Common.{◌≡◌, ◌≢◌, inl, inr, ℕ, ℤ, pos, List, [], ◌∷◌, ◌++◌, map, filter, nat_lt, Some, None, Option, Ok, refl, sym, ap, subst, ◌∙◌}
 use Rattle.ballots.specs.declared.letters.Cast.{Cast}
 use Rattle.ballots.specs.Limits.{IsPlace, IsValue}
 use Rattle.ballots.specs.Rows.{put}
@@ -46,16 +46,16 @@ module _ (task : Task) (new : Row) (db : Trees) (w : Written) where
 pub cast_number : (id n : ℕ) → cast_row ballot_table (number_row id n) ≡ number_row id n
 cast_number id n = rw (cast_int, cast_int, cast_null)
 
--- one row was put into the table of numbers, in place of those that it conflicts with
-pub record PutNumber (db next : Trees) (id b : ℕ) : Type 0 where
+-- one row was put into a table, in place of those that it conflicts with
+pub record PutsRow (table : Table) (db next : Trees) (row : Row) : Type 0 where
   pub found : List Row
-  pub conflict : AreConflicts None [] ballot_table (db 0) (number_row id b) found
-  pub rows : next 0 ≡ put_row (number_row id b) (without_all (db 0) (ids_of found))
-  pub others : (t : ℕ) → t ≢ 0 → next t ≡ db t
+  pub conflict : AreConflicts None [] table (db table.tree) row found
+  pub rows : next table.tree ≡ put_row row (without_all (db table.tree) (ids_of found))
+  pub others : (t : ℕ) → t ≢ table.tree → next t ≡ db t
 
 module _ (limit : Option ℕ) (mode : Mode) (db : Trees) (text : List ℕ) (tally : Tally) (after : Database) (id b : ℕ) where
   pub put_number : Does limit mode (Int (pos b) ∷ []) (record { schema = store_schema; trees = db }) text None (InsertOr 0 Replace (Values (number_terms id) 3) []) (Ok (tally, after))
-      → (after.schema ≡ store_schema) × PutNumber db after.trees id b
+      → (after.schema ≡ store_schema) × PutsRow ballot_table db after.trees (number_row id b)
   put_number h =
       let params = Int (pos b) ∷ [] in
       let it : Task = record { limit = limit; keys = mode.keys; schema = store_schema; table = ballot_table; params = params } in
@@ -84,39 +84,23 @@ module _ (limit : Option ℕ) (mode : Mode) (db : Trees) (text : List ℕ) (tall
       )
 
 module _ (db next : Trees) (c : Content) (was : AreTables db c) where
-  pub puts_tried : (b : ℕ) → PutNumber db next 0 b → AreTables next (after_write c (Some (Tried b)))
-  puts_tried b h =
+  -- the rows of the numbers, once one was put
+  numbers_put : (id b : ℕ) → PutsRow ballot_table db next (number_row id b) → (let xs = numbers_of Second c.tried c.row in
+      next 0 ≡ map (λ e. number_row e.0 e.1) (filter (λ y. nat_lt y.0 id) xs ++ (id, b) ∷ filter (λ y. nat_lt id y.0) xs))
+  numbers_put id b h =
       let xs = numbers_of Second c.tried c.row in
-      let all = subst (λ rows. AreConflicts None [] ballot_table rows (number_row 0 b) h.found) was.numbers h.conflict in
-      record {
-        numbers = h.rows ∙ (ap (λ rows. put_row (number_row 0 b) (without_all rows (ids_of h.found))) was.numbers
-            ∙ replaced (λ (e : ℕ × ℕ). e.0) (λ e. number_row e.0 e.1) (λ e. refl) ballot_table (0, b) xs h.found (numbers_rise Second c.tried c.row) all);
-        votes_are = h.others 1 (λ same. absurd cc) ∙ was.votes_are;
-        learned_are = h.others 2 (λ same. absurd cc) ∙ was.learned_are;
-        sound = was.sound;
-      }
+      let all = subst (λ rows. AreConflicts None [] ballot_table rows (number_row id b) h.found) was.numbers h.conflict in
+      h.rows ∙ (ap (λ rows. put_row (number_row id b) (without_all rows (ids_of h.found))) was.numbers
+      ∙ replaced (λ (e : ℕ × ℕ). e.0) (λ e. number_row e.0 e.1) (λ e. refl) ballot_table (id, b) xs h.found (numbers_rise Second c.tried c.row) all)
 
-  pub puts_promised : (b : ℕ) → PutNumber db next 1 b → AreTables next (after_write c (Some (Promises b)))
-  puts_promised b h =
-      let xs = numbers_of Second c.tried c.row in
-      let all = subst (λ rows. AreConflicts None [] ballot_table rows (number_row 1 b) h.found) was.numbers h.conflict in
-      record {
-        numbers = h.rows ∙ (ap (λ rows. put_row (number_row 1 b) (without_all rows (ids_of h.found))) was.numbers
-            ∙ replaced (λ (e : ℕ × ℕ). e.0) (λ e. number_row e.0 e.1) (λ e. refl) ballot_table (1, b) xs h.found (numbers_rise Second c.tried c.row) all);
-        votes_are = h.others 1 (λ same. absurd cc) ∙ was.votes_are;
-        learned_are = h.others 2 (λ same. absurd cc) ∙ was.learned_are;
-        sound = was.sound;
-      }
+  pub puts_tried : (b : ℕ) → PutsRow ballot_table db next (number_row 0 b) → AreTables next (after_write c (Some (Tried b)))
+  puts_tried b h = record { numbers = numbers_put 0 b h; votes_are = h.others 1 (λ same. absurd cc) ∙ was.votes_are; learned_are = h.others 2 (λ same. absurd cc) ∙ was.learned_are; sound = was.sound }
+
+  pub puts_promised : (b : ℕ) → PutsRow ballot_table db next (number_row 1 b) → AreTables next (after_write c (Some (Promises b)))
+  puts_promised b h = record { numbers = numbers_put 1 b h; votes_are = h.others 1 (λ same. absurd cc) ∙ was.votes_are; learned_are = h.others 2 (λ same. absurd cc) ∙ was.learned_are; sound = was.sound }
 
 pub cast_vote : (v : ℕ × Cast) → cast_row vote_table (vote_row v) ≡ vote_row v
 cast_vote v = rw (cast_int, cast_int, cast_null)
-
--- one row was put into a table, in place of those that it conflicts with
-pub record PutsRow (table : Table) (db next : Trees) (row : Row) : Type 0 where
-  pub found : List Row
-  pub conflict : AreConflicts None [] table (db table.tree) row found
-  pub rows : next table.tree ≡ put_row row (without_all (db table.tree) (ids_of found))
-  pub others : (t : ℕ) → t ≢ table.tree → next t ≡ db t
 
 abbrev pub vote_params : ℕ × Cast → Row
 vote_params v = Int (pos v.0) ∷ Int (pos v.1.ballot) ∷ Blob v.1.value ∷ []

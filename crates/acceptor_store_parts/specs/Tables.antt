@@ -1,10 +1,12 @@
 -- The tables of a node's records, in both versions.
-use Rattle.std.specs.Prelude.{◌≡◌, true, false, [], ◌∷◌, Some, codes, List, ℕ}
+use Rattle.std.specs.Prelude.{◌≡◌, Bool, true, false, [], ◌∷◌, Some, codes, List, ℕ}
 use Rattle.sqlite.specs.Collation.TheVariants.{Binary}
 use Rattle.sqlite.specs.declared.types.Value.TheVariants.{Null}
 use Rattle.sqlite.specs.Table.{Table}
 use Rattle.sqlite.specs.Schema.{Schema}
+use Rattle.sqlite.specs.Kind.{Kind}
 use Rattle.sqlite.specs.Kind.TheVariants.{Integer, Blob}
+use Rattle.sqlite_schema.specs.declared.schema.Column.{Column}
 use Rattle.acceptor_store_parts.specs.declared.Version.{Version}
 use Rattle.acceptor_store_parts.specs.declared.Version.TheVariants.{First, Second}
 
@@ -18,58 +20,36 @@ vote_text = codes "CREATE TABLE vote (place INTEGER PRIMARY KEY, ballot INTEGER 
 abbrev pub learned_text : List ℕ
 learned_text = codes "CREATE TABLE learned (place INTEGER PRIMARY KEY, value BLOB NOT NULL) STRICT"
 
+-- a column of a STRICT table
+abbrev pub column : List ℕ → Kind → Bool → Column
+column name kind not_null = record { name = name; kind = kind; is_strict = true; not_null = not_null; default = Null; collation = Binary }
+
+-- a STRICT table whose first column is its key, and that has no rule beyond its columns'
+abbrev pub strict_table : List ℕ → ℕ → List Column → Table
+strict_table name tree columns = record {
+  name = name;
+  tree = tree;
+  columns = columns;
+  key = Some 0;
+  primary = 0 ∷ [];
+  uniques = [];
+  orders = [];
+  checks = [];
+  references = [];
+  computed = [];
+  stamps = record { places = []; terms = []; formats = [] };
+  is_counted = false;
+}
+
 -- the tables that these texts declare
 abbrev pub ballot_table : Table
-ballot_table = record {
-  name = codes "ballot";
-  tree = 0;
-  columns = (record { name = codes "id"; kind = Integer; is_strict = true; not_null = false; default = Null; collation = Binary })
-      ∷ (record { name = codes "number"; kind = Integer; is_strict = true; not_null = true; default = Null; collation = Binary }) ∷ [];
-  key = Some 0;
-  primary = 0 ∷ [];
-  uniques = [];
-  orders = [];
-  checks = [];
-  references = [];
-  computed = [];
-  stamps = record { places = []; terms = []; formats = [] };
-  is_counted = false;
-}
+ballot_table = strict_table (codes "ballot") 0 (column (codes "id") Integer false ∷ column (codes "number") Integer true ∷ [])
 
 abbrev pub vote_table : Table
-vote_table = record {
-  name = codes "vote";
-  tree = 1;
-  columns = (record { name = codes "place"; kind = Integer; is_strict = true; not_null = false; default = Null; collation = Binary })
-      ∷ (record { name = codes "ballot"; kind = Integer; is_strict = true; not_null = true; default = Null; collation = Binary })
-      ∷ (record { name = codes "value"; kind = Blob; is_strict = true; not_null = true; default = Null; collation = Binary }) ∷ [];
-  key = Some 0;
-  primary = 0 ∷ [];
-  uniques = [];
-  orders = [];
-  checks = [];
-  references = [];
-  computed = [];
-  stamps = record { places = []; terms = []; formats = [] };
-  is_counted = false;
-}
+vote_table = strict_table (codes "vote") 1 (column (codes "place") Integer false ∷ column (codes "ballot") Integer true ∷ column (codes "value") Blob true ∷ [])
 
 abbrev pub learned_table : Table
-learned_table = record {
-  name = codes "learned";
-  tree = 2;
-  columns = (record { name = codes "place"; kind = Integer; is_strict = true; not_null = false; default = Null; collation = Binary })
-      ∷ (record { name = codes "value"; kind = Blob; is_strict = true; not_null = true; default = Null; collation = Binary }) ∷ [];
-  key = Some 0;
-  primary = 0 ∷ [];
-  uniques = [];
-  orders = [];
-  checks = [];
-  references = [];
-  computed = [];
-  stamps = record { places = []; terms = []; formats = [] };
-  is_counted = false;
-}
+learned_table = strict_table (codes "learned") 2 (column (codes "place") Integer false ∷ column (codes "value") Blob true ∷ [])
 
 -- version 1 has the tables of ballots and votes alone, and version 2 that of learned values beside them
 abbrev pub schema_of : Version → Schema

@@ -1,7 +1,7 @@
 //! Nodes and their ballots.
 
-ghost use Rattle.std.specs.Prelude.{◌≡◌, ◌↔◌, ℕ, ◌<◌, MatchResult, OnSome, IsSome, Some};
-ghost use Rattle.ballots.specs.Ballots.{IsBallot, IsLeastAbove, NoneAbove, ballot_node};
+ghost use Rattle.std.specs.Prelude.{◌≡◌, ◌↔◌, ℕ, ◌<◌, max, MatchResult, OnSome, IsSome, Some};
+ghost use Rattle.ballots.specs.Ballots.{IsBallot, IsLeastAbove, NoneAbove, ballot_node, number_of};
 
 use std::marker::Model;
 use thiserror::Error;
@@ -111,5 +111,15 @@ pub fn least_above(above: u64, node: NodeId) -> Result<Ballot, RoundsSpent>
         })
     } else {
         Err(RoundsSpent)
+    }
+}
+
+/// The higher of a ballot, where there is one, and another.
+pub fn higher(ballot: Option<Ballot>, other: Ballot) -> Option<Ballot>
+    ensures { number_of result ≡ max (number_of ballot) other }
+{
+    match ballot {
+        Some(b) if b.number() >= other.number() => ballot,
+        _ => Some(other),
     }
 }

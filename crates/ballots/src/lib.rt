@@ -10,7 +10,7 @@ mod members;
 mod places;
 mod values;
 
-pub use ballot::{Ballot, NodeId, RoundsSpent, least_above};
+pub use ballot::{Ballot, NodeId, RoundsSpent, higher, least_above};
 pub use letters::{Cast, Letter, Note, Votes};
 pub use members::Members;
 pub use places::{MOST_PLACES, Place};

@@ -1,6 +1,6 @@
 use ballots::{
     Ballot, Bytes, Cast, LONGEST_VALUE, MOST_PLACES, Members, NodeId, Note, Place, RoundsSpent,
-    Value, Votes, agreement, ballots_differ, least_above, quorums_meet,
+    Value, Votes, agreement, ballots_differ, higher, least_above, quorums_meet,
 };
 use std::alloc::{AllocError, Global};
 use std::process::Abort;
@@ -29,6 +29,26 @@ fn nodes_and_ballots(rt: HostRuntime) {
         (8_796_093_022_200, 1, 8_796_093_022_201),
     ] {
         assert_eq!(rt; least(&rt, above, number), want, "above {above}");
+    }
+}
+
+// The higher of two ballots, of which the first may be none, a 0.
+fn higher_of(rt: &impl Abort, first: u64, other: u64) -> u64 {
+    let other = Ballot::new(other).expect(rt, "a ballot");
+    match higher(Ballot::new(first), other) {
+        Some(ballot) => ballot.number(),
+        None => 0,
+    }
+}
+
+#[test]
+fn the_higher_ballot(rt: HostRuntime) {
+    for (first, other, want) in [(0, 9, 9), (17, 9, 17), (9, 17, 17), (9, 9, 9)] {
+        assert_eq!(rt;
+            higher_of(&rt, first, other),
+            want,
+            "of {first} and {other}"
+        );
     }
 }
 

@@ -13,7 +13,7 @@ pub returns-clause-ok : goal.returns-clause-ok
 returns-clause-ok g c clean =
     let short = subst IsValue c.as_slice.ensures.same c.as_slice.ensures.fits in
     let at : SFits w64 c.signed_place.result = search rules in
-    put_learned_ok (state g.S.Store c.args.conn.now) (state g.S.Store c.execute.new.self) c.args.place c.args.value.now c.execute.result c.signed_place.ensures.fits short
+    put_learned_ok (state g.S.Store c.args.conn.now) (state g.S.Store c.execute.new.self) c.args.place c.args.value.now c.signed_place.ensures.fits short c.execute.result
     (rw (to_z-of_z, c.signed_place.ensures.value, c.as_slice.ensures.same) at (c.execute.ensures.runs clean))
 
 pub returns-clause-err : goal.returns-clause-err
@@ -29,4 +29,4 @@ returns-clause-survives g c =
     let old = state g.S.Store c.args.conn.now in
     let new = state g.S.Store c.execute.new.self in
     let crash = rw (to_z-of_z, c.signed_place.ensures.value, c.as_slice.ensures.same) at c.execute.ensures.survives in
-    survives_weaker old new _ _ (λ _ db may d was. put_learned_commits old new d c.args.place c.args.value.now was c.signed_place.ensures.fits short db may) crash
+    survives_weaker old new _ _ (λ _ db may d was. put_learned_commits old new c.args.place c.args.value.now c.signed_place.ensures.fits short d was db may) crash
