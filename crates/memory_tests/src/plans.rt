@@ -27,7 +27,7 @@ fn outputs_of(alloc: Global, commands: &[Command]) -> Result<Vec<Output>, AllocE
     let mut outputs = Vec::with_capacity(alloc, commands.len())?;
     for command in commands {
         let output = apply(&mut machine, command)?;
-        outputs.push(output).map_err(AllocError::from)?;
+        outputs.push(output)?;
     }
     Ok(outputs)
 }
