@@ -233,7 +233,10 @@ impl<S: Alter + Drop> SqlRecords<S> {
     }
 }
 
-fn unopened(error: SqlError) -> OpenFault {
+fn unopened(error: SqlError) -> OpenFault
+    ensures memory { error ≡ SqlError.SqliteFailure ErrorCode.OutOfMemory → result ≡ OpenFault.OutOfMemory }
+    ensures refused { (error ≡ SqlError.SqliteFailure ErrorCode.OutOfMemory → ⊥) → result ≡ OpenFault.Refused }
+{
     match error {
         SqlError::SqliteFailure(ErrorCode::OutOfMemory) => OpenFault::OutOfMemory,
         _ => OpenFault::Refused,
