@@ -3,14 +3,14 @@
 
 mod opening;
 
-ghost use Rattle.std.specs.Prelude.{◌≡◌, ◌≢◌, ◌≤◌, Err, false, map, not, if◌then◌else◌, pos, IfOk, IfErr, IfSome, IsErrAnd, IsSome, IsSomeAnd, OnOk, Some, IsTrue, ◌↔◌, ◌⊎◌, ◌&&◌};
+ghost use Rattle.std.specs.Prelude.{◌≡◌, ◌≤◌, Err, false, not, if◌then◌else◌, IfOk, IfErr, IfSome, IsErrAnd, IsSome, IsSomeAnd, OnOk, Some, IsTrue, ◌↔◌, ◌⊎◌, ◌&&◌};
 ghost use Rattle.ballots.specs.Ballots.{number_of};
 ghost use Rattle.acceptor.specs.Faults.{BreaksBy, CountsFaults, HasRisen, IsHarmless, IsStoreFault};
 ghost use Rattle.acceptor.specs.declared.records.RecordsFault.TheVariants.{OutOfMemory};
 ghost use Rattle.acceptor.specs.Content.{Content, IsSound, promised, greatest};
 ghost use Rattle.ballots.specs.Rows.{at, rows_from};
 ghost use Rattle.acceptor.specs.Content.Write.{Tries, Promises, Votes as Casts, Learns};
-ghost use Rattle.acceptor.specs.Found.{Holds, HoldsEither, AddsNothing, AddsOnly, FindsSame, HasMade, Keeps, MayHaveMade};
+ghost use Rattle.acceptor.specs.Found.{Holds, AddsNothing, AddsOnly, FindsSame, HasMade, Keeps, MayHaveMade};
 ghost use Rattle.sqlite.specs.Files.{over_files, file_state};
 ghost use Rattle.sqlite.specs.Tree.{Trees};
 ghost use Rattle.sqlite.specs.State.{HasCleanDisk, Survives};

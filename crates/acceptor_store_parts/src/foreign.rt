@@ -1,6 +1,6 @@
 //! Whether a schema is one that no node made.
 
-ghost use Rattle.std.specs.Prelude.{◌≡◌, ◌↔◌, IsTrue, codes};
+ghost use Rattle.std.specs.Prelude.{◌↔◌, IsTrue, codes};
 ghost use Rattle.acceptor_store_parts.specs.Foreign.{IsForeignSchema, IsPart, IsThereWithout, LacksNumbers, LacksVotes, LacksLearned};
 
 use sqlite_schema::schema::{Schema, Table};

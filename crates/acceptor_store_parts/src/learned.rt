@@ -1,6 +1,6 @@
 //! The learned values, read and written.
 
-ghost use Rattle.std.specs.Prelude.{◌≡◌, ◌==◌, ℕ, List, pos, false, map, filter, IfErr, IfOk, IfSome, OnOk, OnErr, IsTrue};
+ghost use Rattle.std.specs.Prelude.{◌≡◌, ◌==◌, ℕ, List, pos, false, map, filter, IfErr, IfOk, OnOk, OnErr, IsTrue};
 ghost use Rattle.std.specs.List.{AllByRecursion};
 ghost use Rattle.ballots.specs.Rows.{at, rows_from};
 ghost use Rattle.acceptor.specs.Content.{AreRowsFrom, Content};

@@ -10,9 +10,9 @@ mod reads;
 mod reopening;
 mod rereading;
 
-ghost use Rattle.std.specs.Prelude.{◌≡◌, ℕ, pos, List, [], ◌∷◌, IsTrue, IfOk, IfErr, OnOk, OnErr};
+ghost use Rattle.std.specs.Prelude.{◌≡◌, ℕ, pos, [], ◌∷◌, IsTrue, IfOk, IfErr, OnOk, OnErr};
 ghost use Rattle.std.specs.Prelude.{Some};
-ghost use Rattle.acceptor.specs.Content.{Content, Write, after_write};
+ghost use Rattle.acceptor.specs.Content.{Content};
 ghost use Rattle.acceptor.specs.Content.Write.{Tries, Promises, Votes as Casts};
 ghost use Rattle.sqlite.specs.State.{HasCleanDisk, Survives, IsUnchanged};
 ghost use Rattle.sqlite.specs.Held.{state};

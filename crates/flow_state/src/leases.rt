@@ -1,4 +1,4 @@
-ghost use Rattle.std.specs.Prelude.{◌≡◌, ℕ, ◌+◌, ◌≤◌, List, [], length, OnOk, OnErr};
+ghost use Rattle.std.specs.Prelude.{◌≡◌, ◌+◌, ◌≤◌, List, [], length, OnOk, OnErr};
 ghost use Rattle.flow_state.specs.Limits.{last_sid};
 ghost use Rattle.flow_state.specs.Rows.{Table, lease_of, free_sid, first_of, put_lease};
 ghost use Rattle.flow_state.specs.StoredLeases.{next_of};

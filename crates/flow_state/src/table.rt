@@ -1,4 +1,4 @@
-ghost use Rattle.std.specs.Prelude.{◌≡◌, ℕ, List, [], ◌∷◌, ◌++◌, ◌==◌, not, filter, if◌then◌else◌, vec_len, vec_capacity, is_some, slice_get, map, Some, None, IsOk, IsTrue, IsNone, IsSome, OnErr, IfOk, OnOk, IfErr, IfSome, IfNone, nat_eq, nat_lt, nat_le, ◌<◌, ◌≤◌};
+ghost use Rattle.std.specs.Prelude.{◌≡◌, List, ◌∷◌, ◌++◌, ◌==◌, not, filter, if◌then◌else◌, vec_len, vec_capacity, is_some, slice_get, Some, None, IsOk, IsTrue, IsSome, OnErr, IfOk, OnOk, IfErr, IfSome, IfNone, nat_eq, nat_le, ◌<◌, ◌≤◌};
 ghost use Rattle.std.specs.Fn.{CalledAt};
 ghost use Rattle.std.specs.List.Retain.{IsFiltered};
 ghost use Rattle.std.specs.List.Sorted.{IsNonDecreasingBy};

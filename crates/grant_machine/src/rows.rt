@@ -2,7 +2,6 @@
 
 ghost use Rattle.std.specs.Prelude.{◌≡◌, map, IfOk};
 ghost use Rattle.std.specs.List.{AllByRecursion};
-ghost use Rattle.flow_state.specs.Limits.{due_time, due_index};
 ghost use Rattle.flow_state.specs.Rows.{table_of};
 ghost use Rattle.flow_state.specs.Changes.{waiting_of};
 ghost use Rattle.grant_machine_parts.specs.Lent.{IsLent};

@@ -13,11 +13,12 @@ use Rattle.grant_machine_parts.specs.Placing.{Placement, holds, holder, most_pla
 use Rattle.grant_machine_parts.specs.Cutting.{end_of, fill_span}
 use Rattle.grant_machine_parts.specs.Drawing.{placed_element, free_element, null_element, beginning, begins_at}
 use Rattle.grant_machine_parts.specs.Filling.{IsUseFor}
+use Rattle.map_body.proofs.Callers.{get_behind}
 use Rattle.flow_state.proofs.Callers.{Has, has_at, has_either, has_pushed, has_any, has_found, found_has, unfound, all_has}
 use Rattle.flow_state.proofs.Callers.{eqb_same}
 use Rattle.flow_state.proofs.Callers.{IsWell, both}
 use Rattle.grant_machine_parts.proofs.Fillings.{IsUse, plain_request, IsFor, IsLeased, MayPlace, fill_keeps}
-use Rattle.grant_machine_parts.proofs.Offsets.{some_same, InList, begun, StandAt, begun_has, ascending, next_to, in_row, begun_count, at_front, at_end, named_twice}
+use Rattle.grant_machine_parts.proofs.Offsets.{some_same, InList, begun, StandAt, begun_has, ascending, next_to, in_row, begun_count, at_front, named_twice}
 
 -- ---- the placements of a filled MAP
 
@@ -235,7 +236,7 @@ module _ (t : Table) (span : Extent) (ps : List Placement) (a : ArePlaced t span
 
   -- the Null is the first one, and stands behind those that begin
   pub null_at : slice_get es count ≡ Some (null_element len)
-  null_at = at_end (begun (begins_at ps) 0 len) (null_element len) rest
+  null_at = get_behind (begun (begins_at ps) 0 len) (null_element len ∷ rest) 0 _ (omega arith)
 
   pub none_before : NoNullBefore es count
   none_before k lt n =

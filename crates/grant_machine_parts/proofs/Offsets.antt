@@ -3,7 +3,8 @@ use Rattle.std.proofs.Common.{◌≡◌, ◌⊎◌, ℕ, zero, suc, ◌+◌, ◌
 use Rattle.std.specs.List.{list_any, range_with_len, filter_map, cons_option}
 use Rattle.std.proofs.lemmas.Bool.{eqb-true}
 use Rattle.map_body.specs.declared.element.Element.{Element}
-use Rattle.flow_state.proofs.Callers.{Has}
+use Rattle.map_body.proofs.Callers.{get_front}
+use Rattle.flow_state.proofs.Callers.{Has, has_at}
 
 pub some_same : (d e : Element) → Some d ≡ Some e → d ≡ e
 some_same d e s = cc
@@ -158,17 +159,10 @@ module _ (b : ℕ → Option Element) where
         | Some d ↦ λ f. subst (λ c. suc (length (begun (a + 1) n)) ≤ length (cond c (a ∷ filter u (range_with_len (a + 1) n)) (filter u (range_with_len (a + 1) n)))) (sym (all a d f)) (omega arith)
       ] refl
 
--- ---- lists behind lists
+-- ---- lists before lists
 
-module _ {X : Type 0} where
-  pub at_front : (xs ys : List X) (k : ℕ) (x : X) → slice_get (xs ++ ys) k ≡ Some x → k < length xs → Has xs x
-  at_front [] ys k x e lt = absurd (omega arith)
-  at_front (y ∷ xs) ys zero x e lt = inl cc
-  at_front (y ∷ xs) ys (suc k) x e lt = inr (at_front xs ys k x e (omega arith))
-
-  pub at_end : (xs : List X) (y : X) (ys : List X) → slice_get (xs ++ y ∷ ys) (length xs) ≡ Some y
-  at_end [] y ys = refl
-  at_end (x ∷ xs) y ys = at_end xs y ys
+pub at_front : {X : Type 0} (xs ys : List X) (k : ℕ) (x : X) → slice_get (xs ++ ys) k ≡ Some x → k < length xs → Has xs x
+at_front xs ys k x is within = has_at xs k x (sym (get_front xs ys k within) ∙ is)
 
 -- ---- how many offsets pass
 

@@ -1,6 +1,6 @@
 //! The MAP body that tells modems of a filled MAP.
 
-ghost use Rattle.std.specs.Prelude.{◌≡◌, ℕ, ◌^◌, ◌<◌, ◌≤◌, ◌∷◌, ◌++◌, length, map, IfOk, OnOk};
+ghost use Rattle.std.specs.Prelude.{◌≡◌, ◌^◌, ◌<◌, ◌≤◌, ◌∷◌, ◌++◌, length, map, IfOk, OnOk};
 ghost use Rattle.std.specs.List.{filter_map, range_with_len};
 ghost use Rattle.map_body.specs.Rules.{AreElements};
 ghost use Rattle.map_body.specs.Layout.{layout};

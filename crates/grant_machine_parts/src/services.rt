@@ -5,7 +5,7 @@ ghost use Rattle.std.specs.List.{AllByRecursion};
 ghost use Rattle.map_body.specs.Iucs as iucs;
 ghost use Rattle.flow_state.specs.Limits.{due_time, due_index};
 ghost use Rattle.grant_machine_parts.specs.Cutting.{grant_iuc, unsolicited_iuc, run_flow, pass};
-ghost use Rattle.grant_machine_parts.specs.Filling.{last_due, IsTimely};
+ghost use Rattle.grant_machine_parts.specs.Filling.{last_due};
 ghost use Rattle.grant_machine_parts.specs.Lent.{row_of, IsLent, given, given_to};
 
 use crate::due_times::Periodic;

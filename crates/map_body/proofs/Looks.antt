@@ -1,5 +1,5 @@
 -- What is seen of elements with one more behind them.
-use Rattle.std.proofs.Common.{◌≡◌, ◌⊎◌, ℕ, zero, suc, ◌+◌, ◌<◌, ◌≤◌, Bool, true, false, List, [], ◌∷◌, ◌++◌, length, Option, Some, None, refl, sym, ap, subst, ◌∙◌, arith, inl, inr, slice_get}
+use Rattle.std.proofs.Common.{◌≡◌, ◌⊎◌, ℕ, ◌+◌, ◌<◌, ◌≤◌, Bool, true, false, List, [], ◌∷◌, ◌++◌, length, Option, Some, None, refl, sym, ap, subst, ◌∙◌, arith, inl, inr, slice_get}
 use Rattle.std.specs.Prelude.{if◌then◌else◌, MatchOption}
 use Rattle.std.specs.Option.{is_some}
 use Rattle.std.proofs.lemmas.Bool.Decides.{Decides-eqb}
@@ -11,17 +11,11 @@ use Rattle.map_body.specs.declared.judging.Seen.{Seen}
 use Rattle.map_body.specs.Rules.{HasIuc, Falls, SoundBefore, AreElements, FirstElementFault}
 use Rattle.map_body.specs.Intervals.{is_null, null_offset}
 use Rattle.map_body.specs.Looking.{Scanned, IsSound, IsFound, Saw}
+use Rattle.map_body.proofs.Lists.{get_front, get_behind}
 use Rattle.map_body.proofs.Scan.{expands, falls, scans_on, iuc_at, all_scanned, none_null}
 
--- the elements of the front stay
-same_get : (es more : List Element) (k : ℕ) → k < length es → slice_get (es ++ more) k ≡ slice_get es k
-same_get [] more k lt = absurd (omega (arith, lt))
-same_get (e ∷ es) more zero lt = refl
-same_get (e ∷ es) more (suc k) lt = same_get es more k (omega (arith, lt))
-
 pub last_get : (es : List Element) (e : Element) → slice_get (es ++ e ∷ []) (length es) ≡ Some e
-last_get [] e = refl
-last_get (d ∷ es) e = last_get es e
+last_get es e = get_behind es (e ∷ []) 0 (length es) (omega arith)
 
 pub one_longer : (es : List Element) (e : Element) → length (es ++ e ∷ []) ≡ length es + 1
 one_longer [] e = refl
@@ -29,10 +23,10 @@ one_longer (d ∷ es) e = let rest = one_longer es e in omega (arith, rest)
 
 module _ (es : List Element) (e : Element) where
   iuc_on : (k n : ℕ) → HasIuc es k n → HasIuc (es ++ e ∷ []) k n
-  iuc_on k n (d, at, is) = (d, same_get es (e ∷ []) k (slice_get_within es k d at) ∙ at, is)
+  iuc_on k n (d, at, is) = (d, get_front es (e ∷ []) k (slice_get_within es k d at) ∙ at, is)
 
   iuc_back : (k n : ℕ) → k < length es → HasIuc (es ++ e ∷ []) k n → HasIuc es k n
-  iuc_back k n lt (d, at, is) = (d, sym (same_get es (e ∷ []) k lt) ∙ at, is)
+  iuc_back k n lt (d, at, is) = (d, sym (get_front es (e ∷ []) k lt) ∙ at, is)
 
   falls_on : (k : ℕ) → Falls es k → Falls (es ++ e ∷ []) k
   falls_on k f =
@@ -42,8 +36,8 @@ module _ (es : List Element) (e : Element) where
         here = f.here;
         place = f.place;
         next = f.next;
-        before_is = same_get es (e ∷ []) f.place (omega (arith, f.next, within)) ∙ f.before_is;
-        here_is = same_get es (e ∷ []) k within ∙ f.here_is;
+        before_is = get_front es (e ∷ []) f.place (omega (arith, f.next, within)) ∙ f.before_is;
+        here_is = get_front es (e ∷ []) k within ∙ f.here_is;
         below = f.below;
         not_after_null = λ j lt null. f.not_after_null j lt (iuc_back j 7 (omega (arith, lt, within)) null);
       }
@@ -54,8 +48,8 @@ module _ (es : List Element) (e : Element) where
     here = f.here;
     place = f.place;
     next = f.next;
-    before_is = sym (same_get es (e ∷ []) f.place (omega (arith, f.next, within))) ∙ f.before_is;
-    here_is = sym (same_get es (e ∷ []) k within) ∙ f.here_is;
+    before_is = sym (get_front es (e ∷ []) f.place (omega (arith, f.next, within))) ∙ f.before_is;
+    here_is = sym (get_front es (e ∷ []) k within) ∙ f.here_is;
     below = f.below;
     not_after_null = λ j lt null. f.not_after_null j lt (iuc_on j 7 null);
   }
@@ -69,7 +63,7 @@ module _ (es : List Element) (e : Element) where
     sound = sound_on (length es) (omega arith) s.sound;
     clear = λ off k lt null. s.clear off k lt (iuc_back k 7 lt null);
     seen = λ on. let k = s.seen on in (k.0, k.1, iuc_on k.0 7 k.2);
-    last_is = λ j d next at. s.last_is j d next (sym (same_get es (e ∷ []) j (omega (arith, next))) ∙ at);
+    last_is = λ j d next at. s.last_is j d next (sym (get_front es (e ∷ []) j (omega (arith, next))) ∙ at);
     first = s.first;
   }
 

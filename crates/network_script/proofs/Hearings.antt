@@ -1,5 +1,7 @@
 -- What the modems of a run have heard was released, what they stand for is kept, and what they send is held.
-use Rattle.std.proofs.Common.{◌≡◌, ◌≢◌, ◌⊎◌, inl, inr, ⊎_elim, ℕ, zero, suc, ◌≤◌, List, [], ◌∷◌, ◌++◌, refl, sym, ◌∙◌, ap, subst, arith, Option, Some, None, slice_get, slice_set, MatchBool, Bool, true, false, ◌==◌}
+use Rattle.std.proofs.Common.{◌≡◌, ◌≢◌, ◌⊎◌, inl, inr, ⊎_elim, ℕ, ◌≤◌, List, [], ◌∷◌, ◌++◌, refl, sym, ◌∙◌, ap, subst, Option, Some, None, slice_get, slice_set, MatchBool, Bool, true, false, ◌==◌}
+use Rattle.std.proofs.lemmas.Bool.Decides.{eqb_tells}
+use Rattle.std.proofs.lemmas.Option.{slice_get_within}
 use Rattle.ballots.specs.Voting.{IsIn}
 use Rattle.grant_machine.specs.declared.output.Output.{Output}
 use Rattle.grant_machine.specs.declared.output.Output.TheVariants as output
@@ -20,7 +22,7 @@ use Rattle.network_script_parts.specs.declared.event.ReleasedOutput.{ReleasedOut
 use Rattle.network_script_parts.specs.declared.event.Transmission.{Transmission}
 use Rattle.network_script_parts.specs.Receiver.{Receiver}
 use Rattle.network_script_parts.specs.Modems.{HearsOutput, Listens, Wants, ComesToKnown, ComesToUnknown, ComesTo, OfModem, ModemNext, sent_at}
-use Rattle.network_script.proofs.Lists.{in_append, get_set, get_in}
+use Rattle.network_script.proofs.Lists.{in_append, get_same, get_other, get_set, get_in}
 
 -- each output that was heard was released, and each MAP was heard near its start
 abbrev pub AreReleased : List ReleasedOutput → List Hearing → Type 0
@@ -62,11 +64,11 @@ hears_id old new (output.Map ch start len bytes) near heard.NotMine is = absurd 
 
 -- after a write at k, where something stood, what stood at j or what was written stands there
 set_forth : {X : Type 0} (xs : List X) (k j : ℕ) (x y z : X) → slice_get xs k ≡ Some z → slice_get xs j ≡ Some y → ((j ≡ k) × (slice_get (slice_set xs k x) j ≡ Some x)) ⊎ ((j ≢ k) × (slice_get (slice_set xs k x) j ≡ Some y))
-set_forth [] k j x y z there is = absurd (cc (is))
-set_forth (w ∷ xs) zero zero x y z there is = inl (refl, refl)
-set_forth (w ∷ xs) zero (suc j) x y z there is = inr (omega arith, is)
-set_forth (w ∷ xs) (suc k) zero x y z there is = inr (omega arith, is)
-set_forth (w ∷ xs) (suc k) (suc j) x y z there is = ⊎_elim (λ h. inl (ap suc h.0, h.1)) (λ h. inr ((λ e. h.0 (omega arith)), h.1)) (set_forth xs k j x y z there is)
+set_forth xs k j x y z there is =
+    ⊎_elim
+    (λ at. inl (at.1, subst (λ i. slice_get (slice_set xs k x) i ≡ Some x) (sym at.1) (get_same xs k x (slice_get_within xs k z there))))
+    (λ apart. inr (apart.1, get_other xs k j x (λ e. apart.1 (sym e)) ∙ is))
+    (eqb_tells j k)
 
 some_same : {X : Type 0} (o : Option X) (x y : X) → o ≡ Some x → o ≡ Some y → x ≡ y
 some_same o x y is also = cc (is, also)
@@ -196,7 +198,7 @@ module _ (hears_stand : (old new : State) (o : Output) (near : ℕ) (h : Heard) 
         subst (λ (ms : List Receiver). ModemsOk ids outputs ms sent) (sym goes.2) (ok_set ids outputs modems sent m r goes.0 is (follows r goes.0 goes.1) ok)
 
     set_there : (m : ℕ) (r r' : Receiver) → slice_get modems m ≡ Some r → slice_get (slice_set modems m r') m ≡ Some r'
-    set_there m r r' is = ⊎_elim (λ h. h.1) (λ h. absurd (h.0 refl)) (set_forth modems m m r' r r is is)
+    set_there m r r' is = get_same modems m r' (slice_get_within modems m r is)
 
     tick_sends : (m ch slot random : ℕ) (told : Answer) (modems' : List Receiver) (there : Option Receiver) → slice_get modems m ≡ there
         → OfModem modems m there (λ r. ComesTo r slot random (channel_of r.state.channels ch)) told modems' → SendsHeld modems' (sent_at (event.Tick m ch slot random) told)

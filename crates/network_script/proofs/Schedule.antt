@@ -1,5 +1,5 @@
 -- A run has one list of chosen values; nodes hold its beginnings, and what they release stands in its outputs.
-use Rattle.std.proofs.Common.{◌≡◌, ℕ, List, [], ◌∷◌, ◌++◌, length, map, refl, sym, ◌∙◌, ap, subst, append-nil, Some, slice_get}
+use Rattle.std.proofs.Common.{◌≡◌, ℕ, List, [], ◌∷◌, ◌++◌, length, map, refl, sym, ◌∙◌, ap, arith, subst, append-nil, Some, slice_get}
 use Rattle.std.proofs.lemmas.List.{map-append}
 use Rattle.ballots.specs.Voting.{Entry, IsLegal}
 use Rattle.flow_state.specs.Rows.{Rows}
@@ -16,6 +16,7 @@ use Rattle.node.specs.View.Standing.{Running}
 use Rattle.map_release.specs.declared.numbered.Numbered.{Numbered}
 use Rattle.network_script_parts.specs.declared.event.Event.{Event}
 use Rattle.network_script_parts.specs.declared.event.Answer.{Answer}
+use Rattle.map_body.proofs.Callers.{get_behind}
 use Rattle.network_script.proofs.Lists.{get_left}
 use Rattle.network_script.specs.World.{Written}
 use Rattle.network_script.specs.Next.{Run}
@@ -42,17 +43,13 @@ stands values c x begins there =
     let whole : outputs_of_values values ++ more.0 ≡ outputs_of_values c = more.1 ∙ ap outputs_of_values begins.1 in
     (there.0, there.1, subst (λ (os : List Output). slice_get os there.0 ≡ Some x.output) whole (get_left (outputs_of_values values) more.0 there.0 x.output there.2))
 
-get_after : {X : Type 0} (xs : List X) (y : X) (ys : List X) → slice_get (xs ++ y ∷ ys) (length xs) ≡ Some y
-get_after [] y ys = refl
-get_after (x ∷ xs) y ys = get_after xs y ys
-
 -- two lists of the chosen values are one
 one_list : (members : ℕ) (h : List Entry) (c d : List (List ℕ)) → IsLegal members h → IsSchedule members h c → IsSchedule members h d → d ≡ c
 one_list members h c d legal is also = go (chosen_beginning members h d c legal also.chosen is)
   where
     go : IsBeginning d c → d ≡ c
     go ([], e) = sym (append-nil d) ∙ e
-    go (y ∷ ys, e) = absurd (also.whole y (is.chosen (length d) y (subst (λ (l : List (List ℕ)). slice_get l (length d) ≡ Some y) e (get_after d y ys))))
+    go (y ∷ ys, e) = absurd (also.whole y (is.chosen (length d) y (subst (λ (l : List (List ℕ)). slice_get l (length d) ≡ Some y) e (get_behind d (y ∷ ys) 0 (length d) (omega arith)))))
 
 pub one_schedule : OfEveryRun HasOneSchedule
 one_schedule members ids script report w run =

@@ -1,6 +1,6 @@
 //! Nodes and modems, what they sent and what was released, one event at a time.
 
-ghost use Rattle.std.specs.Prelude.{◌≡◌, ◌≢◌, ◌++◌, [], List, false, All, map, OnOk, OnErr, IfOk, IfSome, IfNone};
+ghost use Rattle.std.specs.Prelude.{◌≡◌, ◌++◌, List, false, All, map, OnOk, OnErr, IfOk, IfSome, IfNone};
 ghost use Rattle.node.specs.View.{Standing};
 ghost use Rattle.network_script.specs.World.{released_by};
 ghost use Rattle.network_script.specs.Seats.{IsNumbered, IsNotUp, IsUpAt, IsMissed, AreSeated, AreStandings, ups};
@@ -109,8 +109,7 @@ impl<N: Node> World<N> {
 
 #[tactic(auto, using(crate::proofs::Places::one_node))]
 impl<N: Node> World<N> {
-    ghost use Rattle.std.specs.Prelude.{◌≡◌, ℕ, List, length, IfOk, OnErr};
-    ghost use Rattle.ballots.specs.declared.letters.Letter.{Letter as SentLetter};
+    ghost use Rattle.std.specs.Prelude.{◌≡◌, List, length, IfOk, OnErr};
     ghost use Rattle.node.specs.Calls.{answer};
     ghost use Rattle.node.specs.Releases.{outputs as outputs_given};
     ghost use Rattle.node.specs.View.{Standing};

@@ -7,7 +7,7 @@ use Rattle.network_script_parts.specs.declared.event.Answer.{Answer}
 use Rattle.network_script_parts.specs.declared.event.ReleasedOutput.{ReleasedOutput}
 use Rattle.network_script_parts.specs.declared.event.Transmission.{Transmission}
 use Rattle.network_script.specs.World.{released_by}
-use Rattle.network_script.proofs.Callers.{along_joins, get_front}
+use Rattle.network_script.proofs.Callers.{along_joins, get_front, get_behind}
 use Rattle.network_script_parts.specs.Receiver.{Receiver, new_receiver}
 use Rattle.network_script_parts.specs.Modems.{ModemNext, OfModem, Listens as ListensTo}
 use Rattle.network_script_parts.specs.Receiving.{AreReceivers}
@@ -62,11 +62,6 @@ released_at k [] i x within is = absurd (omega arith)
 released_at k (y ∷ xs) zero x within is = ap (λ z. Some (record { node = k; numbered = z })) (sym is)
 released_at k (y ∷ xs) (suc i) x within is = released_at k xs i x (omega arith) is
 
-slice_get_from : {A : Type 0} (xs ys : List A) (k i : ℕ) → length xs + k ≡ i → slice_get (xs ++ ys) i ≡ slice_get ys k
-slice_get_from [] ys k i e = ap (slice_get ys) (omega arith)
-slice_get_from (x ∷ xs) ys k zero e = absurd (omega arith)
-slice_get_from (x ∷ xs) ys k (suc i) e = slice_get_from xs ys k i (omega arith)
-
 outputs_of-append : (xs ys : List Done) → outputs_of (xs ++ ys) ≡ outputs_of xs ++ outputs_of ys
 outputs_of-append xs ys = flat_map-append (λ (d : Done). released_by d.node d.entry.outputs) xs ys
 
@@ -84,7 +79,7 @@ output_of records j left i r x within at counted short is =
     ap outputs_of cut ∙ outputs_of-append (take j records) (r ∷ drop (suc j) records) in (
       record { node = r.node; numbered = x },
       ap (λ xs. slice_get xs i) parts
-          ∙ (slice_get_from (outputs_of (take j records)) (mine ++ later) left i counted
+          ∙ (get_behind (outputs_of (take j records)) (mine ++ later) left i counted
           ∙ (get_front mine later left (omega (arith, length-released_by r.node r.entry.outputs))
           ∙ released_at r.node r.entry.outputs left x short is)),
       refl,

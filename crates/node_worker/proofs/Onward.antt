@@ -1,8 +1,9 @@
 -- Records that go on with their node's next entry.
-use Rattle.std.proofs.Common.{◌≡◌, ℕ, ◌<◌, ◌≤◌, ◌+◌, ◌==◌, List, [], ◌∷◌, ◌++◌, length, take, get_or, sym, ap, subst, ◌∙◌, Some, None, slice_get, ⊎_elim, arith, set, refl, length-append, count_by}
+use Rattle.std.proofs.Common.{◌≡◌, ℕ, ◌<◌, ◌≤◌, ◌+◌, ◌==◌, List, [], ◌∷◌, ◌++◌, length, take, get_or, sym, ap, subst, ◌∙◌, Some, None, slice_get, ⊎_elim, arith, set, length-append, count_by}
 use Rattle.std.proofs.lemmas.List.{append-nil, length-take, take_more, get_or-set_same, get_or-set_other}
 use Rattle.std.proofs.lemmas.List.Sums.{count_by-le-length}
 use Rattle.std.proofs.lemmas.Option.{same_Some, get_or_from_slice_get}
+use Rattle.network_script.proofs.Callers.{get_behind}
 use Rattle.node_worker.specs.Entries.{EntryView}
 use Rattle.node_worker.specs.KeptView.{KeptView}
 use Rattle.node_worker.specs.Legal.{entries_of, letters_of, Comes, Begins}
@@ -12,18 +13,13 @@ use Rattle.node_worker.proofs.Plants.{entries_of-append, entries_of_one}
 use Rattle.node_worker.proofs.Comparisons.{one_begins}
 use Rattle.node_worker.proofs.Wholes.{fits_begin, length-entries_of}
 
--- what stands behind xs is the first of the rest
-behind : {A : Type 0} (xs rest : List A) → slice_get (xs ++ rest) (length xs) ≡ slice_get rest 0
-behind [] rest = refl
-behind (x ∷ xs) rest = behind xs rest
-
 -- the rest begins with what is read behind xs
 goes_on_with : (xs rest entries : List EntryView) (e : EntryView) → xs ++ rest ≡ entries → slice_get entries (length xs) ≡ Some e → (more : List EntryView) × (rest ≡ e ∷ more)
 goes_on_with xs [] entries e told at =
-    let none : None ≡ Some e = sym (behind xs []) ∙ (ap (λ (es : List EntryView). slice_get es (length xs)) told ∙ at) in
+    let none : None ≡ Some e = sym (get_behind xs [] 0 (length xs) (omega arith)) ∙ (ap (λ (es : List EntryView). slice_get es (length xs)) told ∙ at) in
     absurd (cc none)
 goes_on_with xs (r ∷ more) entries e told at =
-    let same : Some r ≡ Some e = sym (behind xs (r ∷ more)) ∙ (ap (λ (es : List EntryView). slice_get es (length xs)) told ∙ at) in
+    let same : Some r ≡ Some e = sym (get_behind xs (r ∷ more) 0 (length xs) (omega arith)) ∙ (ap (λ (es : List EntryView). slice_get es (length xs)) told ∙ at) in
     (more, ap (λ (x : EntryView). x ∷ more) (same_Some r e same))
 
 -- with what is read behind those that begin the entries, they begin them too

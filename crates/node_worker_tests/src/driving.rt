@@ -1,6 +1,6 @@
 //! What drives the nodes of a test, and what holds them.
 
-ghost use Rattle.std.specs.Prelude.{◌≡◌, ◌<◌};
+ghost use Rattle.std.specs.Prelude.{◌<◌};
 
 use ballots::NodeId;
 use network_script_parts::OutOfMemory;

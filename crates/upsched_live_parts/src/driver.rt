@@ -1,6 +1,6 @@
 //! What each node of `live` is asked, and what its worker waits for.
 
-ghost use Rattle.std.specs.Prelude.{◌≡◌, ◌<◌, ◌+◌, IfOk};
+ghost use Rattle.std.specs.Prelude.{◌≡◌, ◌<◌, ◌+◌};
 
 use crate::following::Following;
 use crate::inbox::Inbox;

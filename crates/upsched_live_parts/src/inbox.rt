@@ -1,7 +1,5 @@
 //! The letters to a node, each once, in the order in which they were sent.
 
-ghost use Rattle.std.specs.Prelude.{IfSome};
-
 use ballots::{Letter, NodeId};
 use node_worker::Record;
 

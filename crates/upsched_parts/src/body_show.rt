@@ -1,6 +1,6 @@
 //! `upsched show HEX`: a MAP body in words.
 
-ghost use Rattle.std.specs.Prelude.{◌≡◌, ◌≢◌, ℕ, Ok, IfOk, OnOk, MatchResult};
+ghost use Rattle.std.specs.Prelude.{◌≡◌, ◌≢◌, Ok, IfOk, OnOk};
 ghost use Rattle.std.specs.Io.KnownBytes.{Appends};
 ghost use Rattle.map_body.specs.Body.{Body};
 ghost use Rattle.upsched_parts.specs.declared.status.Status.TheVariants.{Done, NotUnderstood};

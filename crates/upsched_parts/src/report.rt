@@ -1,6 +1,6 @@
 //! Prints what came of a run.
 
-ghost use Rattle.std.specs.Prelude.{◌≡◌, ◌++◌, OnOk, take, drop};
+ghost use Rattle.std.specs.Prelude.{◌≡◌, OnOk, take, drop};
 ghost use Rattle.std.specs.Io.KnownBytes.{Appends};
 ghost use Rattle.upsched_parts.specs.RunLines.{answer_line, answer_lines, place_line, place_lines, released_count, counts_line};
 
