@@ -14,32 +14,24 @@ use Rattle.grant_machine.specs.declared.command.Command.{Command}
 use Rattle.grant_machine.specs.declared.command.Command.TheVariants as commands
 use Rattle.grant_machine.specs.Fits.{FitsChannel, FitsKind, FitsCommand}
 use Rattle.command_log.specs.Spelling.{phy_byte, channel_spelling, flow_spelling, kind_spelling, spelling}
-use Rattle.command_log.specs.Reading.{kind_in, flow_in, flow_command_in, command_in}
+use Rattle.command_log.specs.Reading.{channel_in, kind_in, flow_in, flow_command_in, command_in}
+
+-- a channel's fields are read as they were spelled, whatever byte stands before them
+fields_read : (phy : Phy) (first : ℕ) (c : Channel) → c.phy ≡ phy → FitsChannel c → channel_in phy (first ∷ channel_spelling c) ≡ c
+fields_read phy first c is fits i = record {
+  id = c.id;
+  ucd = c.ucd;
+  phy = sym is i;
+  short_max = from_be_bytes-to_be_bytes_2 c.short_max fits.short_max i;
+  ranging_backoff = c.ranging_backoff;
+  data_backoff = c.data_backoff;
+  base = from_be_bytes-to_be_bytes_8 c.base fits.base i;
+}
 
 -- the first byte tells the channel's PHY
 channel_read : (phy : Phy) (c : Channel) → c.phy ≡ phy → FitsChannel c → command_in (spelling (commands.Channel c)) ≡ Some (commands.Channel c)
-channel_read Tdma c is fits =
-    ap (λ (phy : Phy). command_in (phy_byte phy ∷ channel_spelling c)) is
-    ∙ (λ i. Some (commands.Channel record {
-      id = c.id;
-      ucd = c.ucd;
-      phy = sym is i;
-      short_max = from_be_bytes-to_be_bytes_2 c.short_max fits.short_max i;
-      ranging_backoff = c.ranging_backoff;
-      data_backoff = c.data_backoff;
-      base = from_be_bytes-to_be_bytes_8 c.base fits.base i;
-    }))
-channel_read Advanced c is fits =
-    ap (λ (phy : Phy). command_in (phy_byte phy ∷ channel_spelling c)) is
-    ∙ (λ i. Some (commands.Channel record {
-      id = c.id;
-      ucd = c.ucd;
-      phy = sym is i;
-      short_max = from_be_bytes-to_be_bytes_2 c.short_max fits.short_max i;
-      ranging_backoff = c.ranging_backoff;
-      data_backoff = c.data_backoff;
-      base = from_be_bytes-to_be_bytes_8 c.base fits.base i;
-    }))
+channel_read Tdma c is fits = ap (λ (phy : Phy). command_in (phy_byte phy ∷ channel_spelling c)) is ∙ ap (λ (d : Channel). Some (commands.Channel d)) (fields_read Tdma 1 c is fits)
+channel_read Advanced c is fits = ap (λ (phy : Phy). command_in (phy_byte phy ∷ channel_spelling c)) is ∙ ap (λ (d : Channel). Some (commands.Channel d)) (fields_read Advanced 6 c is fits)
 
 kind_read : (kind : FlowKind) → FitsKind kind → kind_in (kind_spelling kind) ≡ Some kind
 kind_read (BestEffort priority) fits = refl

@@ -270,6 +270,33 @@ flow_is_well None t modem tag last kind e ok w =
           few = w.few;
         }
 
+-- ---- some flows and requests stay, and a request's flow with it
+
+module _ (t : Table) (stays : FlowRow → Bool) (waits : Waiting → Bool) (w : IsWell t) where
+  request_stays : ((r : Waiting) (f : FlowRow) → Has t.flows f → f.sid ≡ r.sid → waits r ≡ true → stays f ≡ true)
+      → (r : Waiting) → Has (filter waits t.waiting) r → IsWellRequest (filter stays t.flows) r
+  request_stays too r h =
+      let kept = has_filter waits t.waiting r h in
+      let old = w.requests r kept.0 in
+      record {
+        some = old.some;
+        most = old.most;
+        time = old.time;
+        flow = old.flow;
+        there = filter_has stays t.flows old.flow old.there (too r old.flow old.there old.sid kept.1);
+        sid = old.sid;
+        last = old.last;
+        after = old.after;
+        before = old.before;
+        asks = old.asks;
+      }
+
+  one_waits : (sid : ℕ) → length (filter (is_of sid) (filter waits t.waiting)) ≤ 1
+  one_waits sid = let less = filter_both (is_of sid) waits t.waiting in let one = w.alone sid in omega arith
+
+  few_wait : length (filter waits t.waiting) ≤ most_waiting
+  few_wait = let less = filter_fewer waits t.waiting in let most = w.few in omega arith
+
 -- ---- a flow is dropped
 
 pub drop_is_well : (t : Table) (at : ℕ) → IsWell t → IsWell (drop_in_table t at)
@@ -281,26 +308,10 @@ drop_is_well t at w = record {
   rising = rising_filter (λ g. not (is_flow at g)) 1 t.flows w.rising;
   given = λ f h. let g = w.given f (has_filter (λ g. not (is_flow at g)) t.flows f h).0 in record { lease = g.lease; goes_on = g.goes_on };
   leases = w.leases;
-  requests = λ r h. by r (has_filter (λ v. not (is_of at v)) t.waiting r h);
-  alone = λ sid. let less = filter_both (is_of sid) (λ v. not (is_of at v)) t.waiting in let one = w.alone sid in omega arith;
-  few = let less = filter_fewer (λ v. not (is_of at v)) t.waiting in let most = w.few in omega arith;
+  requests = request_stays t (λ g. not (is_flow at g)) (λ v. not (is_of at v)) w (λ r f h same kept. ap (λ n. not (eqb n at)) same ∙ kept);
+  alone = one_waits t (λ g. not (is_flow at g)) (λ v. not (is_of at v)) w;
+  few = few_wait t (λ g. not (is_flow at g)) (λ v. not (is_of at v)) w;
 }
-  where
-    by : (r : Waiting) → Has t.waiting r × (not (is_of at r) ≡ true) → IsWellRequest (filter (λ g. not (is_flow at g)) t.flows) r
-    by r h =
-        let old = w.requests r h.0 in
-        record {
-          some = old.some;
-          most = old.most;
-          time = old.time;
-          flow = old.flow;
-          there = filter_has (λ g. not (is_flow at g)) t.flows old.flow old.there (ap (λ n. not (eqb n at)) old.sid ∙ h.1);
-          sid = old.sid;
-          last = old.last;
-          after = old.after;
-          before = old.before;
-          asks = old.asks;
-        }
 
 -- ---- a request as it is accepted
 
@@ -462,23 +473,7 @@ close_is_well t end ack later le acked w = record {
   rising = rising_filter (λ g. not (is_ended end g)) 1 t.flows w.rising;
   given = λ f h. let kept = has_filter (λ g. not (is_ended end g)) t.flows f h in let g = w.given f kept.0 in record { lease = g.lease; goes_on = not_less f.last end (not_true (is_ended end f) kept.1) };
   leases = λ l h. let old = w.leases l h in let begun = old.begun in record { unicast = old.unicast; last = old.last; begun = omega arith; whole = old.whole; ended = old.ended };
-  requests = λ r h. by r (has_filter (λ v. not (has_ended t end v)) t.waiting r h);
-  alone = λ sid. let less = filter_both (is_of sid) (λ v. not (has_ended t end v)) t.waiting in let one = w.alone sid in omega arith;
-  few = let less = filter_fewer (λ v. not (has_ended t end v)) t.waiting in let most = w.few in omega arith;
+  requests = request_stays t (λ g. not (is_ended end g)) (λ v. not (has_ended t end v)) w (λ r f h same kept. ap not (sym (ended_with t end r f w.rising h same)) ∙ kept);
+  alone = one_waits t (λ g. not (is_ended end g)) (λ v. not (has_ended t end v)) w;
+  few = few_wait t (λ g. not (is_ended end g)) (λ v. not (has_ended t end v)) w;
 }
-  where
-    by : (r : Waiting) → Has t.waiting r × (not (has_ended t end r) ≡ true) → IsWellRequest (filter (λ g. not (is_ended end g)) t.flows) r
-    by r h =
-        let old = w.requests r h.0 in
-        record {
-          some = old.some;
-          most = old.most;
-          time = old.time;
-          flow = old.flow;
-          there = filter_has (λ g. not (is_ended end g)) t.flows old.flow old.there (ap not (sym (ended_with t end r old.flow w.rising old.there old.sid)) ∙ h.1);
-          sid = old.sid;
-          last = old.last;
-          after = old.after;
-          before = old.before;
-          asks = old.asks;
-        }

@@ -149,22 +149,28 @@ well_after cs = well_rows [] cs none_well
 pub reached_is_well : (rows : Rows) → IsReached rows → AllWell rows
 reached_is_well rows r = subst AllWell r.2 (well_after r.0)
 
+-- ---- what is known of the channel of a table
+
+module _ (P : Channel → Type 0) where
+  abbrev pub OfChannel : Table → Type 0
+  OfChannel t = P t.row.channel
+
+  pub channel_kept : Kept OfChannel
+  channel_kept = record {
+    flow = λ t modem tag last kind ok h. by (lease_of t modem tag) t modem tag last kind h;
+    drop = λ t sid h. h;
+    request = λ t sid n sent ok h. h;
+    cut = λ t len not_before ack ok h. h;
+  }
+    where
+      by : (o : Option Lease) (t : Table) (modem tag last : ℕ) (kind : FlowKind) → OfChannel t → OfChannel (flow_among o t modem tag last kind)
+      by (Some a) t modem tag last kind h = h
+      by None t modem tag last kind h = h
+
 -- ---- channels as the program can hold them
 
 abbrev pub FitsTable : Table → Type 0
-FitsTable t = FitsChannel t.row.channel
-
-fits_kept : Kept FitsTable
-fits_kept = record {
-  flow = λ t modem tag last kind ok f. by (lease_of t modem tag) t modem tag last kind f;
-  drop = λ t sid f. f;
-  request = λ t sid n sent ok f. f;
-  cut = λ t len not_before ack ok f. f;
-}
-  where
-    by : (o : Option Lease) (t : Table) (modem tag last : ℕ) (kind : FlowKind) → FitsTable t → FitsTable (flow_among o t modem tag last kind)
-    by (Some a) t modem tag last kind f = f
-    by None t modem tag last kind f = f
+FitsTable = OfChannel FitsChannel
 
 abbrev pub AllFit : Rows → Type 0
 AllFit rows = (ch : ℕ) → At FitsTable rows ch
@@ -173,7 +179,7 @@ pub none_fit : AllFit []
 none_fit ch t e = absurd cc
 
 pub fit_step : (rows : Rows) (c : Command) → FitsCommand c → AllFit rows → AllFit (step rows c).rows
-fit_step rows c fits w ch = at_step FitsTable fits_kept rows c ch (λ n is good. subst FitsCommand is fits) (w ch)
+fit_step rows c fits w ch = at_step FitsTable (channel_kept FitsChannel) rows c ch (λ n is good. subst FitsCommand is fits) (w ch)
 
 pub fit_rows : (rows : Rows) (cs : List Command) → AllByRecursion FitsCommand cs → AllFit rows → AllFit (rows_from rows cs)
 fit_rows rows [] fits w = w

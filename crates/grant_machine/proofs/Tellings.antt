@@ -9,11 +9,8 @@ use Rattle.map_body.specs.Cell.{IsCell}
 use Rattle.map_body.proofs.Callers.{one_body}
 use Rattle.std.proofs.lemmas.Bool.{eqb-true}
 use Rattle.flow_state.specs.declared.channel.Channel.{Channel}
-use Rattle.flow_state.specs.declared.flow.FlowKind.{FlowKind}
-use Rattle.flow_state.specs.declared.flow.Lease.{Lease}
 use Rattle.flow_state.specs.declared.refusal.Refusal.{Refusal}
-use Rattle.flow_state.specs.Rows.{Rows, Table, lease_of}
-use Rattle.flow_state.specs.Changes.{flow_among}
+use Rattle.flow_state.specs.Rows.{Rows, Table}
 use Rattle.grant_machine.specs.declared.command.Command.{Command}
 use Rattle.grant_machine.specs.declared.command.Command.TheVariants as commands
 use Rattle.grant_machine.specs.declared.output.Output.{Output}
@@ -32,7 +29,7 @@ use Rattle.grant_machine.proofs.Maps.{output_is}
 use Rattle.flow_state.proofs.Callers.{IsWell}
 use Rattle.grant_machine_parts.proofs.Callers.{it_holds, holds_from, holds_below, cell_of_placement, cell_tells}
 use Rattle.grant_machine_parts.proofs.Callers.{pending, cut_placed, cut_most, pending_plain, cut_written}
-use Rattle.grant_machine.proofs.Reached.{Kept, At, at_step, AllWell, none_well, well_step, AllFit, none_fit, fit_step}
+use Rattle.grant_machine.proofs.Reached.{At, at_step, OfChannel, channel_kept, AllWell, none_well, well_step, AllFit, none_fit, fit_step}
 use Rattle.grant_machine.proofs.Cuts.{cut_of_grant, cut_of_map}
 
 -- ---- channels as they were set
@@ -40,19 +37,7 @@ use Rattle.grant_machine.proofs.Cuts.{cut_of_grant, cut_of_map}
 module _ (IsSet : Channel → Type 0) where
   -- what is known of each channel that is set is known of the table's
   abbrev IsSetTable : Table → Type 0
-  IsSetTable t = IsSet t.row.channel
-
-  set_kept : Kept IsSetTable
-  set_kept = record {
-    flow = λ t modem tag last kind ok s. by (lease_of t modem tag) t modem tag last kind s;
-    drop = λ t sid s. s;
-    request = λ t sid n sent ok s. s;
-    cut = λ t len not_before ack ok s. s;
-  }
-    where
-      by : (o : Option Lease) (t : Table) (modem tag last : ℕ) (kind : FlowKind) → IsSetTable t → IsSetTable (flow_among o t modem tag last kind)
-      by (Some a) t modem tag last kind s = s
-      by None t modem tag last kind s = s
+  IsSetTable = OfChannel IsSet
 
   abbrev AllSet : Rows → Type 0
   AllSet rows = (ch : ℕ) → At IsSetTable rows ch
@@ -69,7 +54,7 @@ module _ (IsSet : Channel → Type 0) where
 
       by : (o : Option Refusal) → refusal_of rows c ≡ o → At IsSetTable (step_on o rows c).rows ch
       by (Some r) e = holds ch
-      by None e = subst (λ (o : Option Refusal). At IsSetTable (step_on o rows c).rows ch) e (at_step IsSetTable set_kept rows c ch (λ n is good. set_now n e is) (holds ch))
+      by None e = subst (λ (o : Option Refusal). At IsSetTable (step_on o rows c).rows ch) e (at_step IsSetTable (channel_kept IsSet) rows c ch (λ n is good. set_now n e is) (holds ch))
 
   -- ---- each grant is told
 

@@ -3,6 +3,7 @@ use Rattle.std.proofs.Common.{◌≡◌, ◌⊎◌, ℕ, ◌+◌, ◌<◌, ◌�
 use Rattle.std.specs.Prelude.{if◌then◌else◌, MatchOption}
 use Rattle.std.specs.Option.{is_some}
 use Rattle.std.proofs.lemmas.Bool.Decides.{Decides-eqb}
+use Rattle.std.proofs.lemmas.List.{length-append}
 use Rattle.std.proofs.lemmas.Option.{slice_get_within}
 use Rattle.map_body.specs.declared.element.Element.{Element}
 use Rattle.map_body.specs.declared.fault.MapFault.{MapFault}
@@ -16,10 +17,6 @@ use Rattle.map_body.proofs.Scan.{expands, falls, scans_on, iuc_at, all_scanned, 
 
 pub last_get : (es : List Element) (e : Element) → slice_get (es ++ e ∷ []) (length es) ≡ Some e
 last_get es e = get_behind es (e ∷ []) 0 (length es) (omega arith)
-
-pub one_longer : (es : List Element) (e : Element) → length (es ++ e ∷ []) ≡ length es + 1
-one_longer [] e = refl
-one_longer (d ∷ es) e = let rest = one_longer es e in omega (arith, rest)
 
 module _ (es : List Element) (e : Element) where
   iuc_on : (k n : ℕ) → HasIuc es k n → HasIuc (es ++ e ∷ []) k n
@@ -91,7 +88,7 @@ module _ (es : List Element) (e : Element) where
   -- an element with which nothing is wrong
   pub scanned_on : (null_seen after : Bool) (last : ℕ) → Scanned es (length es) null_seen last → ¬ (e.iuc ≡ 15) → (null_seen ≡ true) ⊎ (last ≤ e.offset) → ((e.iuc ≡ 7) × (after ≡ true)) ⊎ (¬ (e.iuc ≡ 7) × (after ≡ null_seen)) → Scanned (es ++ e ∷ []) (length (es ++ e ∷ [])) after e.offset
   scanned_on null_seen after last s plain order null =
-      subst (λ n. Scanned (es ++ e ∷ []) n after e.offset) (sym (one_longer es e)) (scans_on (es ++ e ∷ []) (length es) last null_seen after e (scan_on null_seen last s) (last_get es e) plain order null)
+      subst (λ n. Scanned (es ++ e ∷ []) n after e.offset) (sym (length-append es (e ∷ []))) (scans_on (es ++ e ∷ []) (length es) last null_seen after e (scan_on null_seen last s) (last_get es e) plain order null)
 
 -- the Null's offset with one element more
 null_step : (d e : Element) (es : List Element) (n : ℕ) → (null_offset es ≡ Some n → null_offset (es ++ e ∷ []) ≡ Some n) → (b : Bool) → (if b then Some d.offset else null_offset es) ≡ Some n → (if b then Some d.offset else null_offset (es ++ e ∷ [])) ≡ Some n
