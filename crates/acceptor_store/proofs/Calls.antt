@@ -1,5 +1,6 @@
 -- What a call on the records does, by what its statement did.
-use Rattle.std.proofs.Common.{◌≡◌, inl, inr, ℕ, ◌≤◌, Bool, true, false, ◌&&◌, Some, None, Option, Err, IsTrue, IfSome, refl, sym, ap, subst, ◌∙◌, arith}
+use Rattle.std.proofs.Common.{◌≡◌, inl, inr, ℕ, ◌≤◌, Bool, true, ◌&&◌, Some, None, Option, Err, IsTrue, IfSome, sym, ap, subst, ◌∙◌, arith}
+use Rattle.std.proofs.lemmas.Bool.{and_from, and_parts}
 use Rattle.sqlite_trees.proofs.Doubt.{no_doubt, clean_of}
 use Rattle.sqlite.specs.Store.{Ghosts}
 use Rattle.sqlite.specs.Tree.{Trees}
@@ -7,7 +8,7 @@ use Rattle.sqlite.specs.State.{HasCleanDisk, Survives}
 use Rattle.sqlite.specs.Held.{Held, state}
 use Rattle.ballots.specs.declared.letters.Cast.{Cast}
 use Rattle.ballots.specs.Ballots.{number_of}
-use Rattle.acceptor.proofs.Greatest.{greatest_apart, replaced}
+use Rattle.acceptor.proofs.Callers.{greatest_apart, replaced}
 use Rattle.acceptor.specs.Content.{Content, Write, after_write, promised}
 use Rattle.acceptor.specs.Content.Write.{Promises, Votes}
 use Rattle.acceptor.specs.Faults.{IsHarmless}
@@ -16,14 +17,6 @@ use Rattle.acceptor.specs.declared.records.RecordsFault.{RecordsFault}
 use Rattle.acceptor_store_parts.specs.Serves.{Serves, StillServes, HasWritten, MayHaveWritten}
 use Rattle.acceptor_store.specs.Linked.{Linked, MayFind, MayFindIn, IsHonest, IsLinked, Knows}
 use Rattle.acceptor_store.proofs.Found.{served, now_holds, may_hold, only_adds, same_found, no_more, keeps_err}
-
-pub parts : (a b : Bool) → IsTrue (a && b) → IsTrue a × IsTrue b
-parts true b h = (refl, h)
-parts false b h = absurd (cc)
-
-pub both : (a b : Bool) → IsTrue a → IsTrue b → IsTrue (a && b)
-both true b x y = y
-both false b x y = absurd (cc)
 
 -- the records have this connection, and what is known of it
 pub record Entered {S : Type 0} (g : Ghosts S) (self : Linked S) (old : Held S) (is_sure : Bool) : Type 0 where
@@ -43,7 +36,7 @@ module _ {S : Type 0} (g : Ghosts S) (settled : (s : S) (db : Trees) → IsTrue 
     (stays : (s : S) → IsTrue (g.view s).is_open → g.recovers s (g.view s).committed) (self : Linked S) (old new : Held S) (is_sure : Bool) (it : Entered g self old is_sure)
     (Commits : Trees → Type 0) (survives : Survives (state g old) (state g new) Commits) where
   clean_now : IsTrue (is_sure && (state g new).is_clean) → HasCleanDisk (state g new)
-  clean_now h = no_doubt _ (parts is_sure _ h).1
+  clean_now h = no_doubt _ (and_parts is_sure _ h).1
 
   clean_then : IsTrue (is_sure && (state g new).is_clean) → HasCleanDisk (state g old)
   clean_then h = omega (arith, survives.clean, clean_now h)
@@ -56,31 +49,31 @@ module _ {S : Type 0} (g : Ghosts S) (settled : (s : S) (db : Trees) → IsTrue 
 
   pub honest : IsTrue (is_sure && (state g new).is_clean) → IsHonest g self
   honest h =
-      let sure : IsTrue self.is_sure = subst IsTrue (sym it.sure) (parts is_sure _ h).0 in
+      let sure : IsTrue self.is_sure = subst IsTrue (sym it.sure) (and_parts is_sure _ h).0 in
       let clean : IsTrue (state g old).is_clean = clean_of _ (clean_then h) in
-      subst (λ (held : Option (Held S)). IsHonest g (record self { held = held })) (sym it.at) (both _ _ sure clean)
+      subst (λ (held : Option (Held S)). IsHonest g (record self { held = held })) (sym it.at) (and_from _ _ sure clean)
 
   pub value : (V : Content → Type 0) → (HasCleanDisk (state g new) → (c : Content) → Serves (state g old) c → V c) → IsTrue (is_sure && (state g new).is_clean)
       → (c : Content) → Holds (MayFind g self.held) c → V c
   value V read h c holds =
-      let was = it.known (parts is_sure _ h).0 (clean_then h) in
+      let was = it.known (and_parts is_sure _ h).0 (clean_then h) in
       subst V (served g settled stays old new was.0 was.1 c (to_old (λ f. Holds f c) holds)) (read (clean_now h) was.0 was.1)
 
   pub same : (HasCleanDisk (state g new) → StillServes (state g old) (state g new)) → IsTrue (is_sure && (state g new).is_clean) → FindsSame (MayFind g self.held) (MayFindIn g new)
   same still h =
-      let was = it.known (parts is_sure _ h).0 (clean_then h) in
+      let was = it.known (and_parts is_sure _ h).0 (clean_then h) in
       from_self (λ f. FindsSame f (MayFindIn g new)) (same_found g settled stays old new was.0 was.1 (still (clean_now h) was.0 was.1))
 
   pub kept : (T : Type 0) (e : RecordsFault) → (IsHarmless e → HasCleanDisk (state g new) → StillServes (state g old) (state g new)) → ((c : Content) (db : Trees) → Serves (state g old) c → Commits db → ⊥)
       → IsTrue (is_sure && (state g new).is_clean) → Keeps {T = T} (Err e) (MayFind g self.held) (MayFindIn g new)
   kept T e still none h =
-      let was = it.known (parts is_sure _ h).0 (clean_then h) in
+      let was = it.known (and_parts is_sure _ h).0 (clean_then h) in
       keeps_err T e (MayFind g self.held) (MayFindIn g new) (λ harmless. same (still harmless) h)
       (from_self (λ f. AddsNothing f (MayFindIn g new)) (no_more g old new Commits (λ db. none was.0 db was.1) (clean_now h) survives))
 
   pub made : (w : Write) → (HasCleanDisk (state g new) → HasWritten (state g old) (state g new) w) → IsTrue (is_sure && (state g new).is_clean) → HasMade (MayFind g self.held) (MayFindIn g new) w
   made w written h =
-      let was = it.known (parts is_sure _ h).0 (clean_then h) in
+      let was = it.known (and_parts is_sure _ h).0 (clean_then h) in
       from_self (λ f. HasMade f (MayFindIn g new) w) (now_holds g settled stays old new was.0 was.1 w (written (clean_now h) was.0 was.1))
 
 module _ {S : Type 0} (g : Ghosts S) (settled : (s : S) (db : Trees) → IsTrue (g.view s).is_open → g.recovers s db → db ≡ (g.view s).committed)
@@ -88,16 +81,16 @@ module _ {S : Type 0} (g : Ghosts S) (settled : (s : S) (db : Trees) → IsTrue 
     (w : Write) (survives : Survives (state g old) (state g new) (MayHaveWritten (state g old) w)) where
   pub in_doubt : IsTrue (is_sure && (state g new).is_clean) → MayHaveMade (MayFind g self.held) (MayFindIn g new) w
   in_doubt h =
-      let clean : HasCleanDisk (state g new) = no_doubt _ (parts is_sure _ h).1 in
+      let clean : HasCleanDisk (state g new) = no_doubt _ (and_parts is_sure _ h).1 in
       let before : HasCleanDisk (state g old) = omega (arith, survives.clean, clean) in
-      let was = it.known (parts is_sure _ h).0 before in
+      let was = it.known (and_parts is_sure _ h).0 before in
       subst (λ held. MayHaveMade (MayFind g held) (MayFindIn g new) w) (sym it.at) (may_hold g settled stays old new was.0 was.1 w clean survives)
 
   pub adds_only : IsTrue (is_sure && (state g new).is_clean) → AddsOnly (MayFind g self.held) (MayFindIn g new) w
   adds_only h =
-      let clean : HasCleanDisk (state g new) = no_doubt _ (parts is_sure _ h).1 in
+      let clean : HasCleanDisk (state g new) = no_doubt _ (and_parts is_sure _ h).1 in
       let before : HasCleanDisk (state g old) = omega (arith, survives.clean, clean) in
-      let was = it.known (parts is_sure _ h).0 before in
+      let was = it.known (and_parts is_sure _ h).0 before in
       subst (λ held. AddsOnly (MayFind g held) (MayFindIn g new) w) (sym it.at) (only_adds g settled stays old new was.0 was.1 w clean survives)
 
 -- what stays true of the fields where a write was made
@@ -135,6 +128,6 @@ pub value_known : {S : Type 0} (g : Ghosts S) (settled : (s : S) (db : Trees) �
     (stays : (s : S) → IsTrue (g.view s).is_open → g.recovers s (g.view s).committed) (self : Linked S) (old : Held S) (is_sure : Bool) → Entered g self old is_sure → (highest : Option ℕ) → self.highest ≡ Some highest
     → IsTrue (is_sure && (state g old).is_clean) → (c : Content) → Holds (MayFind g self.held) c → number_of highest ≡ promised c
 value_known g settled stays self old is_sure it highest is h c holds =
-    let was = it.known (parts is_sure _ h).0 (no_doubt _ (parts is_sure _ h).1) in
+    let was = it.known (and_parts is_sure _ h).0 (no_doubt _ (and_parts is_sure _ h).1) in
     let known = subst (λ hi. IfSome hi (λ b. number_of b ≡ promised was.0)) is was.2 in
     known ∙ ap promised (served g settled stays old old was.0 was.1 c (subst (λ held. Holds (MayFind g held) c) it.at holds))

@@ -1,5 +1,6 @@
 -- What is known of a connection that was opened anew.
 use Rattle.std.proofs.Common.{◌≡◌, ◌⊎◌, inl, inr, ℕ, true, false, ◌&&◌, List, [], ◌∷◌, map, slice_get, Some, None, Option, Ok, Err, Result, IfErr, IfOk, OnOk, IsTrue, codes, refl, sym, ap, subst, subst₂, ◌∙◌, arith}
+use Rattle.std.proofs.lemmas.Bool.{and_from, and_parts}
 use Rattle.std.proofs.Math.Logic.{∥∥₁_map, ∥∥₁_elim, ∥∥₁_prop}
 use base.Stored.{Coded-set}
 use mathlib.Core.Bool.{Bool-set}
@@ -36,7 +37,6 @@ use Rattle.acceptor_store_parts.specs.Stored.{AreTables, AreTablesOf, HasLearned
 use Rattle.acceptor_store_parts.specs.Serves.{Serves, ServesAs, StillServes, DoesNotServe, HasRaised}
 use Rattle.acceptor_store_parts.proofs.Callers.{tables_prop, one_content}
 use Rattle.acceptor_store.specs.Linked.{Linked, MayFind, MayFindIn, IsHonest, IsLinked, Stands, IsTested, Tells, Reopens, Examines, Had, IsIn, IsFoundIn, Prepares, SeesForeign, HasNumbers, StaysAs, Finds as Found}
-use Rattle.acceptor_store.proofs.Calls.{parts, both}
 use Rattle.sqlite_trees.proofs.Doubt.{no_doubt, clean_of}
 use Rattle.acceptor_store.proofs.Found.{found_is, found_it}
 
@@ -126,20 +126,20 @@ module _ {S : Type 0} (g : Ghosts S) (self inside : Linked S) (old new : Held S)
 
   pub reopen_ok : IsTrue (inside.is_sure && (state g new).is_clean) → (a b : Content) → HoldsEither (MayFind g self.held) a b → Holds (MayFindIn g new) a ⊎ Holds (MayFindIn g new) b
   reopen_ok h a b either =
-      let clean : HasCleanDisk (state g new) = no_doubt _ (parts inside.is_sure _ h).1 in
-      one_of g old new highest (it clean) (before (parts inside.is_sure _ h).0 clean) a b (subst (λ held. HoldsEither (MayFind g held) a b) at either)
+      let clean : HasCleanDisk (state g new) = no_doubt _ (and_parts inside.is_sure _ h).1 in
+      one_of g old new highest (it clean) (before (and_parts inside.is_sure _ h).0 clean) a b (subst (λ held. HoldsEither (MayFind g held) a b) at either)
 
   pub reopen_kept : IsTrue (inside.is_sure && (state g new).is_clean) → AddsNothing (MayFind g self.held) (MayFindIn g new)
   reopen_kept h =
-      let clean : HasCleanDisk (state g new) = no_doubt _ (parts inside.is_sure _ h).1 in
-      subst (λ held. AddsNothing (MayFind g held) (MayFindIn g new)) (sym at) ((it clean).adds_nothing (before (parts inside.is_sure _ h).0 clean))
+      let clean : HasCleanDisk (state g new) = no_doubt _ (and_parts inside.is_sure _ h).1 in
+      subst (λ held. AddsNothing (MayFind g held) (MayFindIn g new)) (sym at) ((it clean).adds_nothing (before (and_parts inside.is_sure _ h).0 clean))
 
   pub reopen_honest : IsTrue (inside.is_sure && (state g new).is_clean) → IsHonest g self
   reopen_honest h =
-      let clean : HasCleanDisk (state g new) = no_doubt _ (parts inside.is_sure _ h).1 in
-      let sure : IsTrue self.is_sure = subst IsTrue (ap (λ (r : Linked S). r.is_sure) view) (parts inside.is_sure _ h).0 in
+      let clean : HasCleanDisk (state g new) = no_doubt _ (and_parts inside.is_sure _ h).1 in
+      let sure : IsTrue self.is_sure = subst IsTrue (ap (λ (r : Linked S). r.is_sure) view) (and_parts inside.is_sure _ h).0 in
       let was : IsTrue (state g old).is_clean = clean_of _ (it clean).was_clean in
-      subst (λ (held : Option (Held S)). IsHonest g (record self { held = held })) (sym at) (both _ _ sure was)
+      subst (λ (held : Option (Held S)). IsHonest g (record self { held = held })) (sym at) (and_from _ _ sure was)
 
 -- a read that changed nothing
 pub stays_as : (version : Version) (old new : State) → IsUnchanged old new → StaysAs version old new
@@ -307,7 +307,7 @@ module _ {S : Type 0} (g : Ghosts S) (settled : (s : S) (db : Trees) → IsTrue 
 
   pub opened_holds : IsTrue (true && (state g new).is_clean) → (c : Content) × Had g old c × Holds (MayFindIn g new) c
   opened_holds h =
-      let now = it (no_doubt _ (parts true _ h).1) in
+      let now = it (no_doubt _ (and_parts true _ h).1) in
       (now.0, now.1, (∣ found_it g settled stays new now.0 now.2 ∣₁, found_is g settled stays new now.0 now.2))
 
 -- what an open of files had is in them

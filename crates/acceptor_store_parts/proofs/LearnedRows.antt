@@ -1,5 +1,6 @@
 -- The learned values, as queries show them.
-use Rattle.std.proofs.Common.{◌≡◌, ℕ, ℤ, pos, ◌==◌, List, [], ◌∷◌, map, filter, Ok, Err, Result, IfOk, refl, subst}
+use Rattle.std.proofs.Common.{◌≡◌, ℕ, ℤ, pos, ◌==◌, List, [], ◌∷◌, map, filter, Result, IfOk, refl, subst}
+use Rattle.std.proofs.lemmas.Result.{IfOk-weaker}
 use Rattle.ballots.specs.Rows.{rows_from}
 use Rattle.acceptor.specs.Content.{Content}
 use Rattle.sqlite.specs.declared.error.Error.{Error}
@@ -37,15 +38,12 @@ module _ (old new : State) (c : Content) (was : Serves old c) where
 
 pub learned_found_from : (old new : State) (n : ℤ) {X : Type 0} (r : Result X Error) (items : X → List Row) → IfOk r (λ x. Shown learned_from_query (Int n ∷ []) old new (items x))
     → IfOk r (λ x. (q : ℕ) (c : Content) → n ≡ pos q → Serves old c → items x ≡ map learned_shown (rows_from c.learned q))
-learned_found_from old new n (Err e) items h = tt
-learned_found_from old new n (Ok x) items h = λ q c is was. reads_from old new c was q (items x) (subst (λ k. Shown learned_from_query (Int k ∷ []) old new (items x)) is h)
+learned_found_from old new n r items = IfOk-weaker r _ _ (λ x h. λ q c is was. reads_from old new c was q (items x) (subst (λ k. Shown learned_from_query (Int k ∷ []) old new (items x)) is h))
 
 pub learned_found_at : (old new : State) (n : ℤ) {X : Type 0} (r : Result X Error) (items : X → List Row) → IfOk r (λ x. Shown learned_row_query (Int n ∷ []) old new (items x))
     → IfOk r (λ x. (q : ℕ) (c : Content) → n ≡ pos q → Serves old c → items x ≡ map learned_shown (filter (λ v. v.0 == q) c.learned))
-learned_found_at old new n (Err e) items h = tt
-learned_found_at old new n (Ok x) items h = λ q c is was. reads_row old new c was q (items x) (subst (λ k. Shown learned_row_query (Int k ∷ []) old new (items x)) is h)
+learned_found_at old new n r items = IfOk-weaker r _ _ (λ x h. λ q c is was. reads_row old new c was q (items x) (subst (λ k. Shown learned_row_query (Int k ∷ []) old new (items x)) is h))
 
 pub all_learned_found : (old new : State) {X : Type 0} (r : Result X Error) (items : X → List Row) → IfOk r (λ x. Shown all_learned_query [] old new (items x))
     → IfOk r (λ x. (c : Content) → Serves old c → items x ≡ map learned_shown c.learned)
-all_learned_found old new (Err e) items h = tt
-all_learned_found old new (Ok x) items h = λ c was. reads_all old new c was (items x) h
+all_learned_found old new r items = IfOk-weaker r _ _ (λ x h. λ c was. reads_all old new c was (items x) h)

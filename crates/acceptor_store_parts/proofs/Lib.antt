@@ -16,6 +16,7 @@ pub mod InOrder
 pub mod RowsShown
 pub mod Votes
 pub mod LearnedRows
+pub mod Images
 pub mod Once
 pub mod Numbers
 pub mod Shapes

@@ -1,5 +1,6 @@
 -- The numbers, as the query shows them.
-use Rattle.std.proofs.Common.{◌≡◌, ℕ, pos, List, [], ◌∷◌, Ok, Err, Result, refl, IfOk, lit<}
+use Rattle.std.proofs.Common.{◌≡◌, ℕ, pos, List, [], ◌∷◌, Result, refl, IfOk, lit<}
+use Rattle.std.proofs.lemmas.Result.{IfOk-weaker}
 use Rattle.acceptor.specs.Content.{Content}
 use Rattle.sqlite.specs.declared.error.Error.{Error}
 use Rattle.sqlite.specs.declared.types.Value.TheVariants.{Null, Int}
@@ -31,8 +32,7 @@ reads_numbers version old new c was rows h =
 
 pub numbers_found : (old new : State) {X : Type 0} (r : Result X Error) (items : X → List Row) → IfOk r (λ x. Shown numbers_query [] old new (items x))
     → IfOk r (λ x. (version : Version) (c : Content) → ServesAs version old c → items x ≡ numbers_shown version c.tried c.row)
-numbers_found old new (Err e) items h = tt
-numbers_found old new (Ok x) items h = λ version c was. reads_numbers version old new c was (items x) h
+numbers_found old new r items = IfOk-weaker r _ _ (λ x h. λ version c was. reads_numbers version old new c was (items x) h)
 
 pub same_numbers : (version : Version) (a b tried row : ℕ) → numbers_shown version a b ≡ numbers_shown version tried row → (a ≡ tried) × (b ≡ row)
 same_numbers First a b tried row e =

@@ -3,7 +3,7 @@ use Rattle.std.proofs.Common.{◌≡◌, ◌≢◌, inl, inr, ℕ, pos, ◌<◌,
 use Rattle.std.specs.List.{AllByRecursion, filter}
 use Rattle.std.specs.declared.cmp.Ordering.TheVariants.{Less, Equal, Greater}
 use Rattle.std.proofs.lemmas.Int.{ints}
-use Rattle.std.proofs.lemmas.Bool.{cases_lt, cases_eq}
+use Rattle.std.proofs.lemmas.Bool.{cases_lt, cases_eq, eq-eqb, eqb-true}
 use Rattle.std.proofs.lemmas.Bool.Decides.{nat_tests}
 use Rattle.acceptor_store_parts.proofs.Rising.{IsRisingBy}
 use Rattle.acceptor_store_parts.proofs.Filters.{none_below, all_above, all_others, lower}
@@ -18,12 +18,6 @@ use Rattle.sqlite_value.specs.Keys.{first_key}
 use Rattle.sqlite.specs.Order.{Row, value_cmp}
 use Rattle.sqlite.specs.Tree.{put_row, rowid, has_rowid, without_rowid}
 use Rattle.sqlite.specs.Table.{Table}
-
-is_same : (a b : ℕ) → a ≡ b → (a == b) ≡ true
-is_same a b same = grind (arith, nat_tests)
-
-is_same_if : (a b : ℕ) → (a == b) ≡ true → a ≡ b
-is_same_if a b same = grind (arith, nat_tests)
 
 module _ {X : Type 0} (key : X → ℕ) (row : X → Row) (keyed : (x : X) → rowid (row x) ≡ Int (pos (key x))) where
   less : (x y : X) → key x < key y → value_cmp (rowid (row x)) (rowid (row y)) ≡ Less
@@ -130,14 +124,14 @@ module _ {X : Type 0} (key : X → ℕ) (row : X → Row) (keyed : (x : X) → r
     pub replaced : (found : List Row) → IsRisingBy key xs → AreConflicts None [] table (map row xs) (row v) found
         → put_row (row v) (without_all (map row xs) (ids_of found)) ≡ map row (filter (λ y. nat_lt (key y) (key v)) xs ++ v ∷ filter (λ y. nat_lt (key v) (key y)) xs)
     replaced [] rises all =
-        let none = keeps (key v) xs (λ y has same. all.complete (row y) (row_has xs y has) (conflict_is y ∙ is_same (key y) (key v) same)) in
+        let none = keeps (key v) xs (λ y has same. all.complete (row y) (row_has xs y has) (conflict_is y ∙ eq-eqb (key y) (key v) same)) in
         let put = put_between v xs rises in
         subst (λ ys. put_row (row v) (map row ys) ≡ map row (filter (λ y. nat_lt (key y) (key v)) xs ++ v ∷ filter (λ y. nat_lt (key v) (key y)) xs)) none put
     replaced (x ∷ more) rises all =
         let ids : (r : Row) → Has (x ∷ more) r → id_in (rowid r) ≡ pos (key v) = λ r has.
         let from = all.sound r has in
         let it = has_row xs from.0 from.1 in
-        let same : key it.0 ≡ key v = is_same_if (key it.0) (key v) (sym (conflict_is it.0) ∙ (ap (conflicts None [] table (row v)) (sym it.2) ∙ from.2)) in
+        let same : key it.0 ≡ key v = eqb-true (key it.0) (key v) (sym (conflict_is it.0) ∙ (ap (conflicts None [] table (row v)) (sym it.2) ∙ from.2)) in
         ap (λ (s : Row). id_in (rowid s)) from.3 ∙ (ap (λ (s : Row). id_in (rowid s)) it.2 ∙ (ap id_in (keyed it.0) ∙ ap pos same)) in
         let first = ids x (inl refl) in
         rw (first, without_one, without_same (key v) xs more (λ r has. ids r (inr has))) (put_between v xs rises)

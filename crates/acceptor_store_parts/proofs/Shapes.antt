@@ -7,6 +7,7 @@ use Rattle.ballots.proofs.Callers.{at_here, at_before, at_after, in_order}
 use Rattle.sqlite.specs.declared.types.Value.{Value}
 use Rattle.sqlite.specs.Order.{Row, column}
 use Rattle.acceptor_store_parts.specs.Stored.{vote_shown, learned_shown, first_of}
+use Rattle.acceptor_store_parts.proofs.Images.{same_lists}
 
 pub three : (row : Row) (a b c : Value) → length row ≡ 3 → column row 0 ≡ a → column row 1 ≡ b → column row 2 ≡ c → row ≡ a ∷ b ∷ c ∷ []
 three [] a b c len e f g = absurd (omega (arith, len))
@@ -29,15 +30,7 @@ same_shown v w e =
     λ i. (place i, record { ballot = ballot i; value = value i })
 
 pub all_shown : (vs ws : List (ℕ × Cast)) → map vote_shown vs ≡ map vote_shown ws → vs ≡ ws
-all_shown [] [] e = refl
-all_shown [] (w ∷ ws) e = absurd cc
-all_shown (v ∷ vs) [] e = absurd cc
-all_shown (v ∷ vs) (w ∷ ws) e =
-    let head : vote_shown v ≡ vote_shown w = cc in
-    let tail : map vote_shown vs ≡ map vote_shown ws = cc in
-    let first = same_shown v w head in
-    let rest = all_shown vs ws tail in
-    cc
+all_shown = same_lists vote_shown same_shown
 
 pub same_learned : (v w : ℕ × List ℕ) → learned_shown v ≡ learned_shown w → v ≡ w
 same_learned v w e =
@@ -46,15 +39,7 @@ same_learned v w e =
     λ i. (place i, value i)
 
 pub all_learned_shown : (vs ws : List (ℕ × List ℕ)) → map learned_shown vs ≡ map learned_shown ws → vs ≡ ws
-all_learned_shown [] [] e = refl
-all_learned_shown [] (w ∷ ws) e = absurd cc
-all_learned_shown (v ∷ vs) [] e = absurd cc
-all_learned_shown (v ∷ vs) (w ∷ ws) e =
-    let head : learned_shown v ≡ learned_shown w = cc in
-    let tail : map learned_shown vs ≡ map learned_shown ws = cc in
-    let first = same_learned v w head in
-    let rest = all_learned_shown vs ws tail in
-    cc
+all_learned_shown = same_lists learned_shown same_learned
 
 -- the first of those at the place is what stands there
 pub first_at : {V : Type 0} (p : ℕ) (rows : List (ℕ × V)) → first_of (filter (λ v. v.0 == p) rows) ≡ at rows p

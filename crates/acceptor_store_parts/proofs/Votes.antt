@@ -1,5 +1,6 @@
 -- The votes, as queries show them.
-use Rattle.std.proofs.Common.{◌≡◌, ℕ, ℤ, pos, ◌==◌, List, [], ◌∷◌, map, filter, Ok, Err, Result, IfOk, refl, subst}
+use Rattle.std.proofs.Common.{◌≡◌, ℕ, ℤ, pos, ◌==◌, List, [], ◌∷◌, map, filter, Result, IfOk, refl, subst}
+use Rattle.std.proofs.lemmas.Result.{IfOk-weaker}
 use Rattle.ballots.specs.declared.letters.Cast.{Cast}
 use Rattle.ballots.specs.Rows.{rows_from}
 use Rattle.acceptor.specs.Content.{Content}
@@ -39,15 +40,12 @@ reads_all version old new c was rows h =
 
 pub votes_found : (old new : State) (n : ℤ) {X : Type 0} (r : Result X Error) (items : X → List Row) → IfOk r (λ x. Shown votes_query (Int n ∷ []) old new (items x))
     → IfOk r (λ x. (q : ℕ) (c : Content) → n ≡ pos q → Serves old c → items x ≡ map vote_shown (rows_from c.votes q))
-votes_found old new n (Err e) items h = tt
-votes_found old new n (Ok x) items h = λ q c is was. reads_votes old new c q was (items x) (subst (λ k. Shown votes_query (Int k ∷ []) old new (items x)) is h)
+votes_found old new n r items = IfOk-weaker r _ _ (λ x h. λ q c is was. reads_votes old new c q was (items x) (subst (λ k. Shown votes_query (Int k ∷ []) old new (items x)) is h))
 
 pub vote_found : (old new : State) (n : ℤ) {X : Type 0} (r : Result X Error) (items : X → List Row) → IfOk r (λ x. Shown vote_query (Int n ∷ []) old new (items x))
     → IfOk r (λ x. (q : ℕ) (c : Content) → n ≡ pos q → Serves old c → items x ≡ map vote_shown (filter (λ v. v.0 == q) c.votes))
-vote_found old new n (Err e) items h = tt
-vote_found old new n (Ok x) items h = λ q c is was. reads_vote old new c q was (items x) (subst (λ k. Shown vote_query (Int k ∷ []) old new (items x)) is h)
+vote_found old new n r items = IfOk-weaker r _ _ (λ x h. λ q c is was. reads_vote old new c q was (items x) (subst (λ k. Shown vote_query (Int k ∷ []) old new (items x)) is h))
 
 pub all_found : (old new : State) {X : Type 0} (r : Result X Error) (items : X → List Row) → IfOk r (λ x. Shown all_votes_query [] old new (items x))
     → IfOk r (λ x. (version : Version) (c : Content) → ServesAs version old c → items x ≡ map vote_shown c.votes)
-all_found old new (Err e) items h = tt
-all_found old new (Ok x) items h = λ version c was. reads_all version old new c was (items x) h
+all_found old new r items = IfOk-weaker r _ _ (λ x h. λ version c was. reads_all version old new c was (items x) h)

@@ -1,11 +1,10 @@
 -- What the writes of the records make of the tables.
-use Rattle.std.proofs.Common.{◌≡◌, ◌≢◌, inl, inr, ℕ, ℤ, pos, List, [], ◌∷◌, ◌++◌, map, filter, nat_lt, Some, None, Option, Ok, refl, sym, ap, subst, ◌∙◌}
+use Rattle.std.proofs.Common.{◌≡◌, ◌≢◌, inl, inr, ℕ, ℤ, pos, List, [], ◌∷◌, ◌++◌, map, filter, nat_lt, Some, None, Option, Ok, refl, ap, subst, ◌∙◌}
 use Rattle.ballots.specs.declared.letters.Cast.{Cast}
 use Rattle.ballots.specs.Limits.{IsPlace, IsValue}
 use Rattle.ballots.specs.Rows.{put}
-use Rattle.ballots.proofs.Callers.{in_order, put_before, put_here, put_after}
-use Rattle.acceptor.proofs.SoundRows.{rows_put}
-use Rattle.acceptor.specs.Content.{Content, AreValues, after_write}
+use Rattle.acceptor.proofs.Callers.{rows_put, values_put}
+use Rattle.acceptor.specs.Content.{Content, after_write}
 use Rattle.acceptor.specs.Content.Write.{Tries as Tried, Promises, Votes, Learns}
 use Rattle.sqlite_schema.specs.declared.command.Conflict.TheVariants.{Replace}
 use Rattle.sqlite_rules.specs.declared.error.Rowids.TheVariants.{Chosen}
@@ -16,7 +15,7 @@ use Rattle.sqlite_rules.specs.Keys.{AreConflicts}
 use Rattle.sqlite_rules.specs.Calls.{ids_of}
 use Rattle.sqlite.specs.Command.TheVariants.{InsertOr}
 use Rattle.sqlite.specs.Source.TheVariants.{Values}
-use Rattle.sqlite.specs.declared.types.Value.TheVariants.{Int, Blob}
+use Rattle.sqlite.specs.declared.types.Value.TheVariants.{Int}
 use Rattle.sqlite.specs.declared.run.Mode.{Mode}
 use Rattle.sqlite.specs.Order.{Row}
 use Rattle.sqlite.specs.Table.{Table}
@@ -25,7 +24,7 @@ use Rattle.sqlite.specs.Effect.{Database}
 use Rattle.sqlite.specs.Does.{Tally, Does}
 use Rattle.sqlite.specs.Rows.{Written, Task, Judged, Upserts, Tries, TriesEach, nothing, count_of}
 use Rattle.acceptor_store_parts.specs.Tables.{store_schema, ballot_table, vote_table, learned_table}
-use Rattle.acceptor_store_parts.specs.Stored.{number_row, vote_row, learned_row, numbers_of, AreTables}
+use Rattle.acceptor_store_parts.specs.Stored.{number_row, vote_row, learned_row, numbers_of, AreTables, vote_shown, learned_shown}
 use Rattle.acceptor_store_parts.proofs.Meaning.{number_terms, vote_terms, learned_terms}
 use Rattle.acceptor_store_parts.proofs.Rows.{replaced}
 use Rattle.acceptor_store_parts.proofs.Places.{rising, placed_is}
@@ -102,14 +101,11 @@ module _ (db next : Trees) (c : Content) (was : AreTables db c) where
 pub cast_vote : (v : ℕ × Cast) → cast_row vote_table (vote_row v) ≡ vote_row v
 cast_vote v = rw (cast_int, cast_int, cast_null)
 
-abbrev pub vote_params : ℕ × Cast → Row
-vote_params v = Int (pos v.0) ∷ Int (pos v.1.ballot) ∷ Blob v.1.value ∷ []
-
 module _ (limit : Option ℕ) (mode : Mode) (db : Trees) (text : List ℕ) (tally : Tally) (after : Database) (v : ℕ × Cast) where
-  pub put_vote : Does limit mode (vote_params v) (record { schema = store_schema; trees = db }) text None (InsertOr 1 Replace (Values vote_terms 4) []) (Ok (tally, after))
+  pub put_vote : Does limit mode (vote_shown v) (record { schema = store_schema; trees = db }) text None (InsertOr 1 Replace (Values vote_terms 4) []) (Ok (tally, after))
       → (after.schema ≡ store_schema) × PutsRow vote_table db after.trees (vote_row v)
   put_vote h =
-      let it : Task = record { limit = limit; keys = mode.keys; schema = store_schema; table = vote_table; params = vote_params v } in
+      let it : Task = record { limit = limit; keys = mode.keys; schema = store_schema; table = vote_table; params = vote_shown v } in
       let done = went h in
       let concl = went (went done.2).2 in
       let now : after ≡ record { schema = store_schema; trees = done.0.trees } = ap (λ (x : Tally × Database). x.1) (same_value concl.2) in
@@ -121,7 +117,7 @@ module _ (limit : Option ℕ) (mode : Mode) (db : Trees) (text : List ℕ) (tall
       let one = went each in
       let new_is : with_rowid Chosen (db 1) (cast_row vote_table (vote_row v)) ≡ vote_row v = ap (with_rowid Chosen (db 1)) (cast_vote v) in
       let put = subst (λ n. Upserts it Replace n db [] (Ok one.0)) new_is (tried it _ db one.0 one.1) in
-      let set = clears mode.keys vote_table (vote_params v) limit (vote_row v) db put.0 one.0 put.2 in
+      let set = clears mode.keys vote_table (vote_shown v) limit (vote_row v) db put.0 one.0 put.2 in
       let trees : done.0.trees ≡ one.0.trees =
       ap (λ (x : Written). x.trees) (same_value counts.2) ∙ (same_value counts.1 ∙ ap (λ (x : Written × ℤ). x.0.trees) (same_value one.2)) in
       let all : after.trees ≡ one.0.trees = ap (λ (d : Database). d.trees) now ∙ trees in (
@@ -150,14 +146,11 @@ module _ (db next : Trees) (c : Content) (p : ℕ) (cast : Cast) (was : AreTable
 pub cast_learned : (v : ℕ × List ℕ) → cast_row learned_table (learned_row v) ≡ learned_row v
 cast_learned v = rw (cast_int, cast_null)
 
-abbrev pub learned_params : ℕ × List ℕ → Row
-learned_params v = Int (pos v.0) ∷ Blob v.1 ∷ []
-
 module _ (limit : Option ℕ) (mode : Mode) (db : Trees) (text : List ℕ) (tally : Tally) (after : Database) (v : ℕ × List ℕ) where
-  pub put_learned : Does limit mode (learned_params v) (record { schema = store_schema; trees = db }) text None (InsertOr 2 Replace (Values learned_terms 3) []) (Ok (tally, after))
+  pub put_learned : Does limit mode (learned_shown v) (record { schema = store_schema; trees = db }) text None (InsertOr 2 Replace (Values learned_terms 3) []) (Ok (tally, after))
       → (after.schema ≡ store_schema) × PutsRow learned_table db after.trees (learned_row v)
   put_learned h =
-      let it : Task = record { limit = limit; keys = mode.keys; schema = store_schema; table = learned_table; params = learned_params v } in
+      let it : Task = record { limit = limit; keys = mode.keys; schema = store_schema; table = learned_table; params = learned_shown v } in
       let done = went h in
       let concl = went (went done.2).2 in
       let now : after ≡ record { schema = store_schema; trees = done.0.trees } = ap (λ (x : Tally × Database). x.1) (same_value concl.2) in
@@ -169,7 +162,7 @@ module _ (limit : Option ℕ) (mode : Mode) (db : Trees) (text : List ℕ) (tall
       let one = went each in
       let new_is : with_rowid Chosen (db 2) (cast_row learned_table (learned_row v)) ≡ learned_row v = ap (with_rowid Chosen (db 2)) (cast_learned v) in
       let put = subst (λ n. Upserts it Replace n db [] (Ok one.0)) new_is (tried it _ db one.0 one.1) in
-      let set = clears mode.keys learned_table (learned_params v) limit (learned_row v) db put.0 one.0 put.2 in
+      let set = clears mode.keys learned_table (learned_shown v) limit (learned_row v) db put.0 one.0 put.2 in
       let trees : done.0.trees ≡ one.0.trees =
       ap (λ (x : Written). x.trees) (same_value counts.2) ∙ (same_value counts.1 ∙ ap (λ (x : Written × ℤ). x.0.trees) (same_value one.2)) in
       let all : after.trees ≡ one.0.trees = ap (λ (d : Database). d.trees) now ∙ trees in (
@@ -181,14 +174,6 @@ module _ (limit : Option ℕ) (mode : Mode) (db : Trees) (text : List ℕ) (tall
           others = λ t other. ap (λ (x : Trees). x t) all ∙ set.1 t other;
         },
       )
-
-pub values_put : (p : ℕ) (value : List ℕ) (rows : List (ℕ × List ℕ)) → IsValue value → AreValues rows → AreValues (put rows p value)
-values_put p value [] fits all = (fits, tt)
-values_put p value (row ∷ rows) fits all = elim (in_order p row.0) [
-  | inl lt ↦ subst AreValues (sym (put_before row.0 row.1 rows p value lt)) (fits, all)
-  | inr (inl is) ↦ subst AreValues (sym (put_here row.0 row.1 rows p value is)) (fits, all.1)
-  | inr (inr gt) ↦ subst AreValues (sym (put_after row.0 row.1 rows p value gt)) (all.0, values_put p value rows fits all.1)
-]
 
 module _ (db next : Trees) (c : Content) (p : ℕ) (value : List ℕ) (was : AreTables db c) where
   pub puts_learned : IsPlace p → IsValue value → PutsRow learned_table db next (learned_row (p, value)) → AreTables next (after_write c (Some (Learns p value)))

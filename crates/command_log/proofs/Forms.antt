@@ -1,8 +1,8 @@
 -- Bytes that have the form of a command spell it, and other bytes spell none.
-use Rattle.std.proofs.Common.{◌≡◌, ℕ, ◌<◌, ◌==◌, ◌&&◌, Bool, true, false, cond, List, ◌∷◌, ◌++◌, length, drop, Option, Some, None, refl, sym, ap, ◌∙◌, arith}
+use Rattle.std.proofs.Common.{◌≡◌, ℕ, ◌<◌, ◌==◌, Bool, true, false, cond, List, ◌∷◌, ◌++◌, length, drop, Option, Some, None, refl, sym, ap, ◌∙◌, arith}
 use Rattle.std.specs.Option.{IfSome, MatchOption, option_map}
 use Rattle.std.specs.Int.{w16, w32, w64, to_be_bytes}
-use Rattle.std.proofs.lemmas.Bool.{eqb-true}
+use Rattle.std.proofs.lemmas.Bool.{eqb-true, and_parts}
 use Rattle.flow_state.specs.declared.channel.Phy.{Phy}
 use Rattle.flow_state.specs.declared.channel.Phy.TheVariants.{Tdma, Advanced}
 use Rattle.std.proofs.lemmas.List.{length-drop}
@@ -74,13 +74,9 @@ module _ (bytes : List ℕ) (are : AreBytes bytes) where
         (field_8 bytes are 9 17 _ refl (omega arith) (at_end bytes are 17 len)))),
   )
 
-both_true : (a b : Bool) → (a && b) ≡ true → (a ≡ true) × (b ≡ true)
-both_true true b h = (refl, h)
-both_true false b h = absurd (cc (h))
-
 form_is : (bytes : List ℕ) (tag len : ℕ) → is_form bytes tag len ≡ true → (byte bytes 0 ≡ tag) × (length bytes ≡ len)
 form_is bytes tag len h =
-    let both = both_true (byte bytes 0 == tag) (length bytes == len) h in
+    let both = and_parts (byte bytes 0 == tag) (length bytes == len) h in
     (eqb-true (byte bytes 0) tag both.0, eqb-true (length bytes) len both.1)
 
 -- one form after another

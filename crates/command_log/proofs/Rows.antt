@@ -1,37 +1,29 @@
 -- Rows by ascending place, and the values that they have without a gap.
-use Rattle.std.proofs.Common.{◌≡◌, ◌⊎◌, inl, inr, ℕ, zero, suc, ◌+◌, ◌<◌, ◌≤◌, cond, ◌==◌, List, [], ◌∷◌, ◌++◌, length, Some, None, slice_get, refl, sym, ap, ◌∙◌, subst, arith}
-use Rattle.std.proofs.lemmas.Bool.{cases_order, cases_eq, lt-ltb, le-ltb, eq-eqb, ne_eqb}
+use Rattle.std.proofs.Common.{◌≡◌, ◌⊎◌, inl, inr, ℕ, zero, suc, ◌+◌, ◌<◌, ◌≤◌, cond, List, [], ◌∷◌, ◌++◌, length, Some, None, slice_get, refl, sym, ap, ◌∙◌, subst, arith}
+use Rattle.std.proofs.lemmas.Bool.{cases_order, cases_eq, eq-eqb, ne_eqb}
 use Rattle.std.specs.Ordering.{nat_cmp, match_ordering, is_eq}
 use Rattle.std.specs.declared.cmp.Ordering.TheVariants.{Less, Equal, Greater}
 use Rattle.std.specs.BTreeMap.{insert_entry}
+use Rattle.std.specs.Cmp.{nat_cmp_is}
 use Rattle.ballots.specs.Limits.{most_places}
 use Rattle.command_log.specs.Values.{Rows, values_from}
 use Rattle.command_log.specs.View.{AreRows, value_at}
-
-less : (p q : ℕ) → p < q → nat_cmp p q ≡ Less
-less p q lt = ap (λ b. cond b Less (cond (p == q) Equal Greater)) (lt-ltb p q lt)
-
-equal : (p q : ℕ) → p ≡ q → nat_cmp p q ≡ Equal
-equal p q is = ap (λ b. cond b Less (cond (p == q) Equal Greater)) (le-ltb p q (omega arith)) ∙ ap (λ b. cond b Equal Greater) (eq-eqb p q is)
-
-greater : (p q : ℕ) → q < p → nat_cmp p q ≡ Greater
-greater p q gt = ap (λ b. cond b Less (cond (p == q) Equal Greater)) (le-ltb p q (omega arith)) ∙ ap (λ b. cond b Equal Greater) (ne_eqb p q (λ is. omega arith))
 
 -- nothing stands before the first row
 pub none_below : (p q : ℕ) (rows : Rows) → p < q → AreRows q rows → value_at rows p ≡ None
 none_below p q [] lt are = refl
 none_below p q (row ∷ rows) lt are =
     let before : p < row.0 = omega (arith, are.0) in
-    ap (λ o. cond (is_eq o) (Some row.1) (value_at rows p)) (less p row.0 before) ∙ none_below p (row.0 + 1) rows (omega arith) are.2
+    ap (λ o. cond (is_eq o) (Some row.1) (value_at rows p)) (sym (nat_cmp_is p row.0 Less before)) ∙ none_below p (row.0 + 1) rows (omega arith) are.2
 
 at_first : (p : ℕ) (row : ℕ × List ℕ) (rows : Rows) → p ≡ row.0 → value_at (row ∷ rows) p ≡ Some row.1
-at_first p row rows is = ap (λ o. cond (is_eq o) (Some row.1) (value_at rows p)) (equal p row.0 is)
+at_first p row rows is = ap (λ o. cond (is_eq o) (Some row.1) (value_at rows p)) (sym (nat_cmp_is p row.0 Equal is))
 
 past_first : (p : ℕ) (row : ℕ × List ℕ) (rows : Rows) → row.0 < p → value_at (row ∷ rows) p ≡ value_at rows p
-past_first p row rows gt = ap (λ o. cond (is_eq o) (Some row.1) (value_at rows p)) (greater p row.0 gt)
+past_first p row rows gt = ap (λ o. cond (is_eq o) (Some row.1) (value_at rows p)) (sym (nat_cmp_is p row.0 Greater gt))
 
 -- the values from p on, where the first row stands at p or behind it
-values_here : (p : ℕ) (row : ℕ × List ℕ) (rows : Rows) → row.0 ≡ p → values_from p (row ∷ rows) ≡ row.1 ∷ values_from (p + 1) rows
+pub values_here : (p : ℕ) (row : ℕ × List ℕ) (rows : Rows) → row.0 ≡ p → values_from p (row ∷ rows) ≡ row.1 ∷ values_from (p + 1) rows
 values_here p row rows is = ap (λ b. cond b (row.1 ∷ values_from (p + 1) rows) []) (eq-eqb row.0 p is)
 
 values_gap : (p : ℕ) (row : ℕ × List ℕ) (rows : Rows) → p < row.0 → values_from p (row ∷ rows) ≡ []
@@ -43,9 +35,9 @@ are_rows_put p q v [] are lo hi = (lo, hi, tt)
 are_rows_put p q v (row ∷ rows) are lo hi = by_order (λ gt. are_rows_put (row.0 + 1) q v rows are.2 gt hi) (cases_order q row.0)
   where
     by_order : (row.0 + 1 ≤ q → AreRows (row.0 + 1) (insert_entry nat_cmp rows q v)) → (q ≡ row.0) ⊎ ((q < row.0) ⊎ (row.0 < q)) → AreRows p (insert_entry nat_cmp (row ∷ rows) q v)
-    by_order rest (inl is) = subst (λ o. AreRows p (match_ordering o ((q, v) ∷ row ∷ rows) ((row.0, v) ∷ rows) (row ∷ insert_entry nat_cmp rows q v))) (sym (equal q row.0 is)) (are.0, are.1, are.2)
-    by_order rest (inr (inl lt)) = subst (λ o. AreRows p (match_ordering o ((q, v) ∷ row ∷ rows) ((row.0, v) ∷ rows) (row ∷ insert_entry nat_cmp rows q v))) (sym (less q row.0 lt)) (lo, hi, (omega arith, are.1, are.2))
-    by_order rest (inr (inr gt)) = subst (λ o. AreRows p (match_ordering o ((q, v) ∷ row ∷ rows) ((row.0, v) ∷ rows) (row ∷ insert_entry nat_cmp rows q v))) (sym (greater q row.0 gt)) (are.0, are.1, rest (omega arith))
+    by_order rest (inl is) = subst (λ o. AreRows p (match_ordering o ((q, v) ∷ row ∷ rows) ((row.0, v) ∷ rows) (row ∷ insert_entry nat_cmp rows q v))) (nat_cmp_is q row.0 Equal is) (are.0, are.1, are.2)
+    by_order rest (inr (inl lt)) = subst (λ o. AreRows p (match_ordering o ((q, v) ∷ row ∷ rows) ((row.0, v) ∷ rows) (row ∷ insert_entry nat_cmp rows q v))) (nat_cmp_is q row.0 Less lt) (lo, hi, (omega arith, are.1, are.2))
+    by_order rest (inr (inr gt)) = subst (λ o. AreRows p (match_ordering o ((q, v) ∷ row ∷ rows) ((row.0, v) ∷ rows) (row ∷ insert_entry nat_cmp rows q v))) (nat_cmp_is q row.0 Greater gt) (are.0, are.1, rest (omega arith))
 
 -- the same value once more
 pub put_same : (p q : ℕ) (v : List ℕ) (rows : Rows) → AreRows p rows → value_at rows q ≡ Some v → insert_entry nat_cmp rows q v ≡ rows
@@ -56,12 +48,12 @@ put_same p q v (row ∷ rows) are is = by_order (put_same (row.0 + 1) q v rows a
     by_order rest (inl same) =
         let found : Some row.1 ≡ Some v = sym (at_first q row rows same) ∙ is in
         let value : v ≡ row.1 = cc in
-        ap (λ o. match_ordering o ((q, v) ∷ row ∷ rows) ((row.0, v) ∷ rows) (row ∷ insert_entry nat_cmp rows q v)) (equal q row.0 same) ∙ ap (λ w. (row.0, w) ∷ rows) value
+        ap (λ o. match_ordering o ((q, v) ∷ row ∷ rows) ((row.0, v) ∷ rows) (row ∷ insert_entry nat_cmp rows q v)) (sym (nat_cmp_is q row.0 Equal same)) ∙ ap (λ w. (row.0, w) ∷ rows) value
     by_order rest (inr (inl lt)) =
         let none : value_at (row ∷ rows) q ≡ None = none_below q row.0 (row ∷ rows) lt (omega arith, are.1, are.2) in
         absurd (cc)
     by_order rest (inr (inr gt)) =
-        ap (λ o. match_ordering o ((q, v) ∷ row ∷ rows) ((row.0, v) ∷ rows) (row ∷ insert_entry nat_cmp rows q v)) (greater q row.0 gt)
+        ap (λ o. match_ordering o ((q, v) ∷ row ∷ rows) ((row.0, v) ∷ rows) (row ∷ insert_entry nat_cmp rows q v)) (sym (nat_cmp_is q row.0 Greater gt))
         ∙ ap (λ (es : Rows). row ∷ es) (rest (sym (past_first q row rows gt) ∙ is))
 
 -- the values of the first rows begin those of the second
@@ -85,10 +77,10 @@ values_grow p q v (row ∷ rows) are lo none = by_order (values_grow (row.0 + 1)
         let found : value_at (row ∷ rows) q ≡ Some row.1 = at_first q row rows same in
         absurd (cc)
     by_order rest (inr (inl lt)) =
-        subst (λ o. Grows p (row ∷ rows) (match_ordering o ((q, v) ∷ row ∷ rows) ((row.0, v) ∷ rows) (row ∷ insert_entry nat_cmp rows q v))) (sym (less q row.0 lt))
+        subst (λ o. Grows p (row ∷ rows) (match_ordering o ((q, v) ∷ row ∷ rows) ((row.0, v) ∷ rows) (row ∷ insert_entry nat_cmp rows q v))) (nat_cmp_is q row.0 Less lt)
         (values_from p ((q, v) ∷ row ∷ rows), ap (λ (vs : List (List ℕ)). vs ++ values_from p ((q, v) ∷ row ∷ rows)) (sym (values_gap p row rows (omega arith))))
     by_order rest (inr (inr gt)) =
-        subst (λ o. Grows p (row ∷ rows) (match_ordering o ((q, v) ∷ row ∷ rows) ((row.0, v) ∷ rows) (row ∷ insert_entry nat_cmp rows q v))) (sym (greater q row.0 gt))
+        subst (λ o. Grows p (row ∷ rows) (match_ordering o ((q, v) ∷ row ∷ rows) ((row.0, v) ∷ rows) (row ∷ insert_entry nat_cmp rows q v))) (nat_cmp_is q row.0 Greater gt)
         (by_place rest gt (cases_eq row.0 p))
 
 -- value number k of those without a gap is the one at its place, and behind the last there is none

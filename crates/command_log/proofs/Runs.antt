@@ -1,10 +1,12 @@
 -- One more command, and longer lists of commands.
 use Rattle.std.proofs.Common.{◌≡◌, ℕ, zero, suc, List, [], ◌∷◌, ◌++◌, length, take, map, refl, ap, ◌∙◌}
+use Rattle.std.proofs.lemmas.List.{map-append}
 use Rattle.flow_state.specs.Rows.{Rows}
 use Rattle.grant_machine.specs.declared.command.Command.{Command}
 use Rattle.grant_machine.specs.declared.output.Output.{Output}
 use Rattle.grant_machine.specs.Steps.{step}
 use Rattle.grant_machine.specs.Runs.{outputs_from, outputs_of, rows_from, rows_after}
+use Rattle.grant_machine.proofs.Callers.{one_each}
 use Rattle.command_log.specs.Reading.{command_of}
 use Rattle.command_log.specs.Values.{outputs_of_values}
 
@@ -17,37 +19,29 @@ pub rows_append : (rows : Rows) (cs ds : List Command) → rows_from rows (cs ++
 rows_append rows [] ds = refl
 rows_append rows (c ∷ cs) ds = rows_append (step rows c).rows cs ds
 
-pub outputs_length : (rows : Rows) (cs : List Command) → length (outputs_from rows cs) ≡ length cs
-outputs_length rows [] = refl
-outputs_length rows (c ∷ cs) = ap (λ n. suc n) (outputs_length (step rows c).rows cs)
-
-map_append : {A B : Type 0} (f : A → B) (xs ys : List A) → map f (xs ++ ys) ≡ map f xs ++ map f ys
-map_append f [] ys = refl
-map_append {B = B} f (x ∷ xs) ys = ap (λ (zs : List B). f x ∷ zs) (map_append f xs ys)
-
 map_length : {A B : Type 0} (f : A → B) (xs : List A) → length (map f xs) ≡ length xs
 map_length f [] = refl
 map_length f (x ∷ xs) = ap (λ n. suc n) (map_length f xs)
 
 -- a value has one output
 pub values_length : (values : List (List ℕ)) → length (outputs_of_values values) ≡ length values
-values_length values = outputs_length [] (map command_of values) ∙ map_length command_of values
+values_length values = one_each [] (map command_of values) ∙ map_length command_of values
 
 -- the outputs of a longer list begin with those of its beginning
 pub outputs_begin : (values more : List (List ℕ)) → (rest : List Output) × (outputs_of_values (values ++ more) ≡ outputs_of_values values ++ rest)
 outputs_begin values more = (
   outputs_from (rows_after (map command_of values)) (map command_of more),
-  ap outputs_of (map_append command_of values more) ∙ outputs_append [] (map command_of values) (map command_of more),
+  ap outputs_of (map-append command_of values more) ∙ outputs_append [] (map command_of values) (map command_of more),
 )
 
 -- one more value
 pub outputs_push : (values : List (List ℕ)) (v : List ℕ)
     → outputs_of_values (values ++ v ∷ []) ≡ outputs_of_values values ++ (step (rows_after (map command_of values)) (command_of v)).output ∷ []
-outputs_push values v = ap outputs_of (map_append command_of values (v ∷ [])) ∙ outputs_append [] (map command_of values) (command_of v ∷ [])
+outputs_push values v = ap outputs_of (map-append command_of values (v ∷ [])) ∙ outputs_append [] (map command_of values) (command_of v ∷ [])
 
 pub rows_push : (values : List (List ℕ)) (v : List ℕ)
     → rows_after (map command_of (values ++ v ∷ [])) ≡ (step (rows_after (map command_of values)) (command_of v)).rows
-rows_push values v = ap rows_after (map_append command_of values (v ∷ [])) ∙ rows_append [] (map command_of values) (command_of v ∷ [])
+rows_push values v = ap rows_after (map-append command_of values (v ∷ [])) ∙ rows_append [] (map command_of values) (command_of v ∷ [])
 
 map_take : {A B : Type 0} (f : A → B) (n : ℕ) (xs : List A) → map f (take n xs) ≡ take n (map f xs)
 map_take f zero xs = refl

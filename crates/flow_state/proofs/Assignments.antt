@@ -2,7 +2,7 @@
 use Rattle.std.proofs.Common.{◌≡◌, ◌⊎◌, ℕ, ◌<◌, ◌≤◌, Bool, true, false, cond, not, ◌||◌, ◌&&◌, List, [], ◌∷◌, ◌++◌, filter, Option, Some, None, refl, sym, ap, ◌∙◌, arith, eqb, ltb, inl, inr, is_some, is_none}
 use Rattle.std.specs.List.{find, list_any}
 use Rattle.std.specs.Prelude.{unwrap_or}
-use Rattle.std.proofs.lemmas.Bool.{eqb-true, leb-true}
+use Rattle.std.proofs.lemmas.Bool.{eqb-true, leb-true, and_parts, not-true}
 use Rattle.flow_state.specs.declared.flow.FlowKind.{FlowKind}
 use Rattle.flow_state.specs.declared.refusal.Refusal.TheVariants.{BadValue, SidsSpent}
 use Rattle.flow_state.specs.Limits.{is_good_kind, last_time}
@@ -37,15 +37,10 @@ module _ {X : Type 0} (p : X → Bool) where
 pub eqb_same : (n : ℕ) → eqb n n ≡ true
 eqb_same n = grind arith
 
+pub eqb_apart : (a b : ℕ) → a < b → eqb a b ≡ false
+eqb_apart a b h = grind arith
+
 -- ---- tests
-
-not_true : (b : Bool) → not b ≡ true → b ≡ false
-not_true true h = absurd cc
-not_true false h = refl
-
-both : (a b : Bool) → (a && b) ≡ true → (a ≡ true) × (b ≡ true)
-both true b e = (refl, e)
-both false b e = absurd cc
 
 not_below : (m n : ℕ) → not (ltb m n) ≡ true → n ≤ m
 not_below m n e = grind (arith, e)
@@ -56,14 +51,14 @@ not_below m n e = grind (arith, e)
 pub lease_is : (t : Table) (modem tag : ℕ) (l : Lease) → lease_of t modem tag ≡ Some l → Has t.leases l × (l.modem ≡ modem) × (l.tag ≡ tag) × (t.row.next_start ≤ l.last)
 lease_is t modem tag l e =
     let found = found_has (is_lease_of t modem tag) t.leases l e in
-    let tests = both _ _ found.1 in
-    let names = both _ _ tests.0 in
+    let tests = and_parts _ _ found.1 in
+    let names = and_parts _ _ tests.0 in
     (found.0, eqb-true _ _ names.0, eqb-true _ _ names.1, not_below l.last t.row.next_start tests.1)
 
 -- ---- free SIDs
 
 pub free_is_free : (t : Table) (sid : ℕ) → free_sid t ≡ Some sid → is_leased t sid ≡ false
-free_is_free t sid e = not_true (is_leased t sid) (find_passes (λ s. not (is_leased t s)) unicast_sids sid e)
+free_is_free t sid e = not-true (is_leased t sid) (find_passes (λ s. not (is_leased t s)) unicast_sids sid e)
 
 -- a lease that isn't over keeps its SID from being free
 pub leased : (t : Table) (l : Lease) → Has t.leases l → t.row.next_start ≤ l.last → is_leased t l.sid ≡ true
@@ -190,8 +185,8 @@ is_added t modem tag last kind none e =
     by false o g f h = absurd cc
     by true None g f h = absurd cc
     by true (Some sid) g f h =
-        let values = both _ _ g in
-        let times = both _ _ values.1 in
+        let values = and_parts _ _ g in
+        let times = and_parts _ _ values.1 in
         record { kind_good = values.0; most = leb-true _ _ times.0; goes_on = leb-true _ _ times.1; sid = sid; free = f }
 
 pub some_sid : (t : Table) (modem tag last : ℕ) (kind : FlowKind) → lease_of t modem tag ≡ None → table_flow_refusal t modem tag last kind ≡ None → (sid : ℕ) × (free_sid t ≡ Some sid)

@@ -2,7 +2,7 @@
 use Rattle.std.proofs.Common.{◌≡◌, ◌≢◌, ℕ, ◌+◌, ◌*◌, ◌<◌, ◌≤◌, true, false, List, length, slice_get, Some, None, refl, sym, ap, subst, ◌∙◌, ◌/◌, eqb, ltb, arith}
 use Rattle.std.specs.List.{find}
 use Rattle.std.proofs.lemmas.Bool.{eqb-true}
-use Rattle.std.proofs.lemmas.Option.{slice_get_within}
+use Rattle.std.proofs.lemmas.Option.{slice_get_within, same_Some}
 use Rattle.flow_state.specs.Rows.{Lease}
 use Rattle.flow_state.specs.StoredLeases.{IsBound, AreBounds, IsFirstOver, AreBlocks, put_at}
 use Rattle.flow_state.proofs.Puts.{find_placed, find_nowhere, at_put, other_put, length_within, length_behind}
@@ -42,16 +42,13 @@ over_nowhere ls blocks start enough none =
 
 -- ---- with a lease put at a place
 
-some_same : (a b : ℕ) → Some a ≡ Some b → a ≡ b
-some_same a b e = cc
-
 pub bounds_put : (ls : List Lease) (bounds : List ℕ) (place block : ℕ) (l : Lease) (bound : ℕ)
     → place ≤ length ls → block ≤ length bounds → 128 * block ≤ place → place < 128 * block + 128
     → IsBound (put_at ls place l) block bound → AreBounds ls bounds → AreBounds (put_at ls place l) (put_at bounds block bound)
 bounds_put ls bounds place block l bound within there from to is old k other e =
     elim (eqb k block) as (λ b. eqb k block ≡ b → IsBound (put_at ls place l) k other) [
       | true ↦ λ f. let same : k ≡ block = eqb-true k block f in
-          let value : bound ≡ other = some_same bound other (sym (at_put bounds block bound there) ∙ sym (ap (slice_get (put_at bounds block bound)) same) ∙ e) in
+          let value : bound ≡ other = same_Some bound other (sym (at_put bounds block bound there) ∙ sym (ap (slice_get (put_at bounds block bound)) same) ∙ e) in
           rw (same, ← value) is
       | false ↦ λ f. let apart : k ≢ block = grind (arith, f) in
           λ p m ge lt g. old k other (sym (other_put bounds block bound k there apart) ∙ e) p m ge lt (sym (other_put ls place l p within (λ at. apart (omega arith))) ∙ g)

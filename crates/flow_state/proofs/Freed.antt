@@ -6,6 +6,7 @@ use Rattle.flow_state.specs.Limits.{last_sid}
 use Rattle.flow_state.specs.Rows.{Table, Lease, is_over, is_of_sid, is_given, free_sid, unicast_sids, put_lease}
 use Rattle.flow_state.specs.StoredLeases.{next_of}
 use Rattle.flow_state.proofs.Members.{Has, found_has}
+use Rattle.flow_state.proofs.Assignments.{eqb_same, eqb_apart}
 
 -- the SIDs of the leases are these in order, from low on
 abbrev pub Runs : ℕ → List Lease → Type 0
@@ -35,12 +36,6 @@ pub runs_has : (low : ℕ) (ls : List Lease) (l : Lease) → Runs low ls → Has
 runs_has low [] l r h = absurd h
 runs_has low (o ∷ ls) l r (inl e) = let same : o.sid ≡ l.sid = ap (λ (x : Lease). x.sid) e in let first = r.0 in (omega arith, omega arith)
 runs_has low (o ∷ ls) l r (inr h) = let more = runs_has (low + 1) ls l r.1 h in (omega (arith, more.0), omega (arith, more.1))
-
-eqb_same : (a : ℕ) → eqb a a ≡ true
-eqb_same a = grind arith
-
-eqb_apart : (a b : ℕ) → a < b → eqb a b ≡ false
-eqb_apart a b h = grind arith
 
 -- ---- SIDs that were given
 

@@ -5,7 +5,7 @@ use Rattle.std.specs.Option.{option_map}
 use Rattle.std.specs.Map.{set_value, lookup, remove_entry, keys_of}
 use Rattle.std.proofs.lemmas.Bool.{eqb-true}
 
-eqb_sym : (a b : ℕ) → eqb a b ≡ eqb b a
+pub eqb_sym : (a b : ℕ) → eqb a b ≡ eqb b a
 eqb_sym a b = grind arith
 
 -- what holds of each entry holds after a value is written that keeps it

@@ -2,18 +2,11 @@
 use Rattle.std.proofs.Common.{◌≡◌, ◌≢◌, ℕ, ◌≤◌, Bool, true, false, cond, not, ◌&&◌, List, length, slice_get, Option, Some, None, refl, sym, ap, ◌∙◌, eqb, ltb, arith}
 use Rattle.std.specs.List.{find}
 use Rattle.std.specs.Option.{option_map_or}
-use Rattle.std.proofs.lemmas.Bool.{eqb-true}
+use Rattle.std.proofs.lemmas.Bool.{eqb-true, and_parts}
+use Rattle.std.proofs.lemmas.Option.{same_Some}
 use Rattle.flow_state.specs.Rows.{Lease}
 use Rattle.flow_state.specs.StoredLeases.{Names, AreNamedFrom, AreNamed, NameLeases, named, is_after, is_lease_from, put_at}
 use Rattle.flow_state.proofs.Puts.{find_placed, find_nowhere, at_put, other_put}
-
-both : (a b : Bool) → (a && b) ≡ true → (a ≡ true) × (b ≡ true)
-both true true e = (refl, refl)
-both true false e = absurd cc
-both false b e = absurd cc
-
-place_same : (a b : ℕ) → Some a ≡ Some b → a ≡ b
-place_same a b e = cc
 
 lease_same : (a b : Lease) → Some a ≡ Some b → a ≡ b
 lease_same a b e = cc
@@ -21,8 +14,8 @@ lease_same a b e = cc
 module _ (start modem tag : ℕ) (es : Names) (ls : List Lease) (are : AreNamedFrom start es ls) where
   here : (q : ℕ) (m : Lease) → slice_get ls q ≡ Some m → is_lease_from start modem tag m ≡ true → named es modem tag ≡ Some q
   here q m e is =
-      let first = both (eqb m.modem modem && eqb m.tag tag) (not (ltb m.last start)) is in
-      let second = both (eqb m.modem modem) (eqb m.tag tag) first.0 in
+      let first = and_parts (eqb m.modem modem && eqb m.tag tag) (not (ltb m.last start)) is in
+      let second = and_parts (eqb m.modem modem) (eqb m.tag tag) first.0 in
       let end = first.1 in
       let le : start ≤ m.last = grind (arith, end) in
       let of_modem : m.modem ≡ modem = eqb-true m.modem modem second.0 in
@@ -33,7 +26,7 @@ module _ (start modem tag : ℕ) (es : Names) (ls : List Lease) (are : AreNamedF
   named_found k l name e is =
       find_placed (is_lease_from start modem tag) ls k l e is (λ q m lt f.
       elim (is_lease_from start modem tag m) as (λ b. is_lease_from start modem tag m ≡ b → b ≡ false) [
-        | true ↦ λ g. let same : k ≡ q = place_same k q (sym name ∙ here q m f g) in absurd (omega arith)
+        | true ↦ λ g. let same : k ≡ q = same_Some k q (sym name ∙ here q m f g) in absurd (omega arith)
         | false ↦ λ g. refl
       ] refl)
 
@@ -56,14 +49,14 @@ module _ (start modem tag : ℕ) (es : Names) (ls : List Lease) (are : AreNamedF
       none_some k e = cc
 
   pub no_lease : (place from : ℕ) → Some place ≡ named es modem tag → from ≡ place → None ≡ slice_get ls from → None ≡ find (is_lease_from start modem tag) ls
-  no_lease place from name at none = sym (named_nowhere (λ k l f e. let same : place ≡ k = place_same place k (name ∙ f) in absurd (none_some l (none ∙ ap (slice_get ls) (at ∙ same) ∙ e))))
+  no_lease place from name at none = sym (named_nowhere (λ k l f e. let same : place ≡ k = same_Some place k (name ∙ f) in absurd (none_some l (none ∙ ap (slice_get ls) (at ∙ same) ∙ e))))
     where
       none_some : (l : Lease) → None ≡ Some l → ⊥
       none_some l e = cc
 
   pub other_lease : (place from : ℕ) (o : Lease) → Some place ≡ named es modem tag → from ≡ place → Some o ≡ slice_get ls from → false ≡ is_lease_from start modem tag o → None ≡ find (is_lease_from start modem tag) ls
   other_lease place from o name at stands is = sym (named_nowhere (λ k l f e.
-      let same : place ≡ k = place_same place k (name ∙ f) in
+      let same : place ≡ k = same_Some place k (name ∙ f) in
       let lease : o ≡ l = lease_same o l (stands ∙ ap (slice_get ls) (at ∙ same) ∙ e) in
       ap (is_lease_from start modem tag) (sym lease) ∙ sym is))
 
@@ -85,10 +78,10 @@ pub kept_name : (es : Names) (modem tag place m t p : ℕ) → named es modem ta
 kept_name es modem tag place m t p was is apart =
     elim (eqb modem m && eqb tag t) as (λ b. (eqb modem m && eqb tag t) ≡ b → cond b None (named es m t) ≡ Some p) [
       | true ↦ λ g.
-          let parts = both (eqb modem m) (eqb tag t) g in
+          let parts = and_parts (eqb modem m) (eqb tag t) g in
           let of_modem : modem ≡ m = eqb-true modem m parts.0 in
           let of_tag : tag ≡ t = eqb-true tag t parts.1 in
-          absurd (apart (place_same p place (sym is ∙ sym (ap (λ n. named es n tag) of_modem ∙ ap (named es m) of_tag) ∙ was)))
+          absurd (apart (same_Some p place (sym is ∙ sym (ap (λ n. named es n tag) of_modem ∙ ap (named es m) of_tag) ∙ was)))
       | false ↦ λ g. is
     ] refl
 
@@ -97,7 +90,7 @@ fewer_names es modem tag m t p e =
     elim (eqb modem m && eqb tag t) as (λ b. cond b None (named es m t) ≡ Some p → named es m t ≡ Some p) [ true ↦ λ f. absurd cc | false ↦ λ f. f ] e
 
 pub one_holder : (a b c d : ℕ) → true ≡ (eqb a b && eqb c d) → (a ≡ b) × (c ≡ d)
-one_holder a b c d e = let parts = both (eqb a b) (eqb c d) (sym e) in (eqb-true a b parts.0, eqb-true c d parts.1)
+one_holder a b c d e = let parts = and_parts (eqb a b) (eqb c d) (sym e) in (eqb-true a b parts.0, eqb-true c d parts.1)
 
 pub not_named : (o : Option ℕ) (place : ℕ) → false ≡ option_map_or (λ p. eqb p place) o false → o ≡ Some place → ⊥
 not_named o place e is = false_same place (e ∙ ap (λ (p : Option ℕ). option_map_or (λ q. eqb q place) p false) is)
@@ -143,7 +136,7 @@ module _ (ls : List Lease) (place : ℕ) (l : Lease) (before after : Option ℕ)
               let name : named es m.modem m.tag ≡ Some p = are p m stood (later m.last is) in
               elim (eqb l.modem m.modem && eqb l.tag m.tag) as (λ b. (eqb l.modem m.modem && eqb l.tag m.tag) ≡ b → named fs m.modem m.tag ≡ Some p) [
                 | true ↦ λ g.
-                    let parts = both (eqb l.modem m.modem) (eqb l.tag m.tag) g in
+                    let parts = and_parts (eqb l.modem m.modem) (eqb l.tag m.tag) g in
                     let of_modem : l.modem ≡ m.modem = eqb-true l.modem m.modem parts.0 in
                     let of_tag : l.tag ≡ m.tag = eqb-true l.tag m.tag parts.1 in
                     absurd (false_true (ended p m (was ∙ ap (λ n. named es n l.tag) of_modem ∙ ap (named es m.modem) of_tag ∙ name) stood) is)
@@ -173,7 +166,7 @@ module _ (ls : List Lease) (place : ℕ) (l : Lease) (es added fs : Names)
         elim (eqb l.modem m && eqb l.tag t) as (λ b. (eqb l.modem m && eqb l.tag t) ≡ b → (o : Lease) × (slice_get (put_at ls place l) p ≡ Some o) × (o.modem ≡ m) × (o.tag ≡ t)) [
           | true ↦ λ g.
               let is = one_holder l.modem m l.tag t (sym g) in
-              let same : place ≡ p = place_same place p (sym own ∙ ap (λ n. named added n l.tag) is.0 ∙ ap (named added m) is.1 ∙ fewer m t p e) in
+              let same : place ≡ p = same_Some place p (sym own ∙ ap (λ n. named added n l.tag) is.0 ∙ ap (named added m) is.1 ∙ fewer m t p e) in
               (l, ap (slice_get (put_at ls place l)) (sym same) ∙ at_put ls place l within, is.0, is.1)
           | false ↦ λ g. stood g (are m t p (sym (others m t g) ∙ fewer m t p e))
         ] refl

@@ -1,6 +1,6 @@
 -- What a request that isn't refused tells.
-use Rattle.std.proofs.Common.{◌≡◌, ℕ, ◌<◌, Bool, true, false, cond, ◌||◌, length, Option, Some, None, refl}
-use Rattle.std.proofs.lemmas.Bool.{leb-false}
+use Rattle.std.proofs.Common.{◌≡◌, ℕ, ◌<◌, Bool, true, false, cond, length, Option, Some, None, refl}
+use Rattle.std.proofs.lemmas.Bool.{leb-false, or_parts}
 use Rattle.flow_state.specs.declared.refusal.Refusal.TheVariants.{Busy, OldRequest, BadValue}
 use Rattle.flow_state.specs.Limits.{most_waiting}
 use Rattle.flow_state.specs.Rows.{Table, FlowRow, flow_of, waits}
@@ -12,14 +12,10 @@ not_busy false true busy h = absurd cc
 not_busy false false true h = absurd cc
 not_busy false false false h = refl
 
-or_right : (a b : Bool) → (a || b) ≡ false → b ≡ false
-or_right true b h = absurd cc
-or_right false b h = h
-
 -- there is room for it
 pub request_room : (t : Table) (sid n sent : ℕ) → table_request_refusal t sid n sent ≡ None → length t.waiting < most_waiting
 request_room t sid n sent h = by (flow_of t sid) h
   where
     by : (o : Option FlowRow) → request_refusal_on o t n sent ≡ None → length t.waiting < most_waiting
     by None e = absurd cc
-    by (Some f) e = leb-false _ _ (or_right (waits t f.sid) _ (not_busy _ _ (is_busy t f.sid) e))
+    by (Some f) e = leb-false _ _ (or_parts (waits t f.sid) _ (not_busy _ _ (is_busy t f.sid) e)).1

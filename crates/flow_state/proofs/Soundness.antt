@@ -1,6 +1,7 @@
 -- Each change keeps what holds of every table.
 use Rattle.std.proofs.Common.{◌≡◌, ℕ, ◌+◌, ◌<◌, ◌≤◌, Bool, true, false, cond, not, List, [], ◌∷◌, ◌++◌, map, filter, length, refl, sym, ap, subst, ◌∙◌, Some, eqb, leb, arith, length-append, inl, inr}
 use Rattle.std.specs.List.{AllByRecursion}
+use Rattle.std.proofs.lemmas.Bool.{not-true, ltb-false}
 use Rattle.flow_state.specs.declared.flow.FlowKind.{FlowKind}
 use Rattle.flow_state.specs.declared.flow.Waiting.{Waiting}
 use Rattle.flow_state.specs.Limits.{is_good_kind, last_sid, most_waiting}
@@ -10,7 +11,7 @@ use Rattle.flow_state.specs.Sound.{Rise, IsLeasedFlow, IsSound}
 use Rattle.flow_state.proofs.Assignments.{put_found, put_others}
 use Rattle.flow_state.proofs.Freed.{free_most, given_put, length_put, few_put}
 use Rattle.flow_state.proofs.Members.{Has, has_all, all_has, has_filter}
-use Rattle.flow_state.proofs.Wells.{has_inserted, free_range, free_apart, not_true, not_less}
+use Rattle.flow_state.proofs.Wells.{has_inserted, free_range, free_apart, filter_fewer}
 
 abbrev pub sids : List FlowRow → List ℕ
 sids fs = map (λ f. f.sid) fs
@@ -33,12 +34,6 @@ rise_filter p (f ∷ fs) low high r =
 rise_higher : (xs : List ℕ) (low high more : ℕ) → high ≤ more → Rise low xs high → Rise low xs more
 rise_higher [] low high more le r = tt
 rise_higher (x ∷ xs) low high more le r = (r.0, omega (arith, r.1), rise_higher xs x high more le r.2)
-
-filter_short : {X : Type 0} (p : X → Bool) (xs : List X) → length (filter p xs) ≤ length xs
-filter_short p [] = omega arith
-filter_short p (x ∷ xs) =
-    let rest : length (filter p xs) ≤ length xs = filter_short p xs in
-    elim (p x) as (λ b. length (cond b (x ∷ filter p xs) (filter p xs)) ≤ length (x ∷ xs)) [ true ↦ omega arith | false ↦ omega arith ]
 
 -- ---- a flow in its place
 
@@ -119,7 +114,7 @@ sound_without t sid s = record {
   rising = s.rising;
   kinds = s.kinds;
   leased = all_has (IsLeasedFlow (without_request t sid)) t.flows (λ f h. let g = has_all (IsLeasedFlow t) t.flows f s.leased h in record { lease = g.lease; goes_on = g.goes_on });
-  room = let short : length (filter (λ (w : Waiting). not (is_of sid w)) t.waiting) ≤ length t.waiting = filter_short _ t.waiting in let room : length t.waiting ≤ most_waiting = s.room in omega arith;
+  room = let short : length (filter (λ (w : Waiting). not (is_of sid w)) t.waiting) ≤ length t.waiting = filter_fewer _ t.waiting in let room : length t.waiting ≤ most_waiting = s.room in omega arith;
 }
 
 -- fewer requests wait
@@ -140,7 +135,7 @@ sound_dropped t sid s = record {
   rising = rise_filter (λ f. not (is_flow sid f)) t.flows 0 (length t.leases) s.rising;
   kinds = all_filter IsGoodFlow IsGoodFlow (λ f. not (is_flow sid f)) t.flows (λ f k g. g) s.kinds;
   leased = all_filter (IsLeasedFlow t) (IsLeasedFlow (drop_in_table t sid)) (λ f. not (is_flow sid f)) t.flows (λ f k g. record { lease = g.lease; goes_on = g.goes_on }) s.leased;
-  room = let short : length (filter (λ (w : Waiting). not (is_of sid w)) t.waiting) ≤ length t.waiting = filter_short _ t.waiting in let room : length t.waiting ≤ most_waiting = s.room in omega arith;
+  room = let short : length (filter (λ (w : Waiting). not (is_of sid w)) t.waiting) ≤ length t.waiting = filter_fewer _ t.waiting in let room : length t.waiting ≤ most_waiting = s.room in omega arith;
 }
 
 pub sound_requested : (t : Table) (sid n sent : ℕ) → IsSound t → length t.waiting < most_waiting → IsSound (request_in_table t sid n sent)
@@ -181,6 +176,6 @@ sound_closed t end ack s = record {
   few = s.few;
   rising = rise_filter (λ f. not (is_ended end f)) t.flows 0 (length t.leases) s.rising;
   kinds = all_filter IsGoodFlow IsGoodFlow (λ f. not (is_ended end f)) t.flows (λ f k g. g) s.kinds;
-  leased = all_filter (IsLeasedFlow t) (IsLeasedFlow (close_table t end ack)) (λ f. not (is_ended end f)) t.flows (λ f k g. record { lease = g.lease; goes_on = not_less f.last end (not_true (is_ended end f) k) }) s.leased;
-  room = let short : length (filter (λ (w : Waiting). not (has_ended t end w)) t.waiting) ≤ length t.waiting = filter_short _ t.waiting in let room : length t.waiting ≤ most_waiting = s.room in omega arith;
+  leased = all_filter (IsLeasedFlow t) (IsLeasedFlow (close_table t end ack)) (λ f. not (is_ended end f)) t.flows (λ f k g. record { lease = g.lease; goes_on = ltb-false f.last end (not-true (is_ended end f) k) }) s.leased;
+  room = let short : length (filter (λ (w : Waiting). not (has_ended t end w)) t.waiting) ≤ length t.waiting = filter_fewer _ t.waiting in let room : length t.waiting ≤ most_waiting = s.room in omega arith;
 }

@@ -7,7 +7,7 @@ use Rattle.std.proofs.lemmas.Option.{slice_get-map}
 use Rattle.flow_state.specs.Limits.{is_timed}
 use Rattle.flow_state.specs.Rows.{FlowRow, is_flow, is_ended, timed, insert_flow}
 use Rattle.flow_state.specs.Sound.{Rise}
-use Rattle.flow_state.proofs.Assignments.{eqb_same}
+use Rattle.flow_state.proofs.Assignments.{eqb_same, eqb_apart}
 use Rattle.flow_state.proofs.Members.{Has, has_at, has_filter}
 use Rattle.flow_state.proofs.Places.{rising}
 use Rattle.flow_state.proofs.Soundness.{sids, insert_here, insert_later, none_below, all_above, rise_filter}
@@ -109,16 +109,13 @@ rise_has [] f low high r h = absurd h
 rise_has (g ∷ fs) f low high r (inl e) = let same : g.sid ≡ f.sid = ap (λ (x : FlowRow). x.sid) e in omega (arith, r.0)
 rise_has (g ∷ fs) f low high r (inr h) = let more = rise_has fs f g.sid high r.2 h in omega (arith, r.0)
 
-apart_below : (a b : ℕ) → a < b → eqb a b ≡ false
-apart_below a b h = grind arith
-
 -- a flow is the one of its SID
 pub found_rising : (fs : List FlowRow) (f : FlowRow) (low high : ℕ) → Rise low (sids fs) high → Has fs f → find (is_flow f.sid) fs ≡ Some f
 found_rising [] f low high r h = absurd h
 found_rising (g ∷ fs) f low high r (inl e) =
     ap (λ b. cond b (Some g) (find (is_flow f.sid) fs)) (ap (λ (x : FlowRow). eqb x.sid f.sid) e ∙ eqb_same f.sid) ∙ ap (λ (x : FlowRow). Some x) e
 found_rising (g ∷ fs) f low high r (inr h) =
-    ap (λ b. cond b (Some g) (find (is_flow f.sid) fs)) (apart_below g.sid f.sid (rise_has fs f g.sid high r.2 h)) ∙ found_rising fs f g.sid high r.2 h
+    ap (λ b. cond b (Some g) (find (is_flow f.sid) fs)) (eqb_apart g.sid f.sid (rise_has fs f g.sid high r.2 h)) ∙ found_rising fs f g.sid high r.2 h
 
 -- timed flow number k is the one of its SID
 pub timed_found : (fs : List FlowRow) (k sid high : ℕ) → Rise 0 (sids fs) high → slice_get (timed_sids fs) k ≡ Some sid → find (is_flow sid) fs ≡ slice_get (timed fs) k

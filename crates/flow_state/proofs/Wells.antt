@@ -2,7 +2,7 @@
 use Rattle.std.proofs.Common.{◌≡◌, ◌⊎◌, ℕ, suc, ◌+◌, ◌*◌, ◌<◌, ◌≤◌, Bool, true, false, cond, not, ◌||◌, ◌&&◌, List, [], ◌∷◌, ◌++◌, map, filter, length, Option, Some, None, refl, sym, ap, subst, ◌∙◌, arith, inl, inr, eqb, leb, ltb, length-append}
 use Rattle.std.specs.Option.{option_map_or}
 use Rattle.std.specs.Prelude.{unwrap_or}
-use Rattle.std.proofs.lemmas.Bool.{eqb-true, leb-true}
+use Rattle.std.proofs.lemmas.Bool.{eqb-true, leb-true, and_parts, or_parts, not-false, not-true, leb-false, ltb-false}
 use Rattle.flow_state.specs.declared.channel.Channel.{Channel}
 use Rattle.flow_state.specs.declared.flow.FlowKind.{FlowKind}
 use Rattle.flow_state.specs.declared.flow.FlowKind.TheVariants.{BestEffort, Ugs, Poll}
@@ -65,28 +65,6 @@ pub record IsWell (t : Table) : Type 0 where
   pub few : length t.waiting ≤ most_waiting
 
 -- ---- tests
-
-pub both : (a b : Bool) → (a && b) ≡ true → (a ≡ true) × (b ≡ true)
-both true b e = (refl, e)
-both false b e = absurd cc
-
-pub neither : (a b : Bool) → (a || b) ≡ false → (a ≡ false) × (b ≡ false)
-neither true b e = absurd cc
-neither false b e = (refl, e)
-
-pub not_false : (b : Bool) → not b ≡ false → b ≡ true
-not_false true e = refl
-not_false false e = absurd cc
-
-pub not_true : (b : Bool) → not b ≡ true → b ≡ false
-not_true true e = absurd cc
-not_true false e = refl
-
-pub not_le : (m n : ℕ) → leb m n ≡ false → n < m
-not_le m n e = grind (arith, e)
-
-pub not_less : (m n : ℕ) → ltb m n ≡ false → n ≤ m
-not_less m n e = grind (arith, e)
 
 -- no refusal at a test: the test fails, and what comes after it doesn't refuse
 pub passes_on : (b : Bool) (r : Refusal) (o : Option Refusal) → cond b (Some r) o ≡ None → (b ≡ false) × (o ≡ None)
@@ -152,7 +130,7 @@ rising_above sid low [] r = tt
 rising_above sid low (f ∷ fs) r =
     elim (leb f.sid sid) as (λ b. leb f.sid sid ≡ b → RisingFrom (sid + 1) (cond (not b) (f ∷ filter (λ x. not (leb x.sid sid)) fs) (filter (λ x. not (leb x.sid sid)) fs))) [
       | true ↦ λ e. rising_above sid (f.sid + 1) fs r.1
-      | false ↦ λ e. let lt = not_le f.sid sid e in (omega arith, rising_filter (λ x. not (leb x.sid sid)) (f.sid + 1) fs r.1)
+      | false ↦ λ e. let lt = leb-false f.sid sid e in (omega arith, rising_filter (λ x. not (leb x.sid sid)) (f.sid + 1) fs r.1)
     ] refl
 
 rising_inserted : (f : FlowRow) (fs : List FlowRow) → 1 ≤ f.sid → ((g : FlowRow) → Has fs g → ¬ (g.sid ≡ f.sid)) → RisingFrom 1 fs → RisingFrom 1 (insert_flow f fs)
@@ -187,7 +165,7 @@ filter_both p q (x ∷ xs) =
 pub new_is_well : (c : Channel) → is_good_channel c ≡ true → IsWell (new_table c)
 new_is_well c good = record {
   channel = good;
-  next = leb-true _ _ (both _ _ good).1;
+  next = leb-true _ _ (and_parts _ _ good).1;
   ack = omega arith;
   flows = λ f h. absurd h;
   rising = tt;
@@ -201,11 +179,11 @@ new_is_well c good = record {
 -- ---- a flow as it is added
 
 scheduled : (interval jitter base : ℕ) → is_schedule interval jitter base ≡ true → base + 0 * interval ≤ last_time
-scheduled interval jitter base e = let at_most : base ≤ last_time = leb-true base last_time (both (leb 1 interval && leb interval longest_interval && ltb jitter interval) (leb base last_time) e).1 in omega arith
+scheduled interval jitter base e = let at_most : base ≤ last_time = leb-true base last_time (and_parts (leb 1 interval && leb interval longest_interval && ltb jitter interval) (leb base last_time) e).1 in omega arith
 
 first_due : (kind : FlowKind) → is_good_kind kind ≡ true → due_time kind 0 ≤ last_time
 first_due (BestEffort priority) e = omega arith
-first_due (Ugs size interval jitter base) e = let schedule = both (is_size size) (is_schedule interval jitter base) e in
+first_due (Ugs size interval jitter base) e = let schedule = and_parts (is_size size) (is_schedule interval jitter base) e in
     scheduled interval jitter base schedule.1
 first_due (Poll interval jitter base) e = scheduled interval jitter base e
 
@@ -341,13 +319,13 @@ is_asked t sid n sent e = by (flow_of t sid) refl e
         let same : flow.sid ≡ sid = eqb-true _ _ found.1 in
         let first = passes_on (not (is_size n) || not (leb sent last_time) || ltb flow.last sent || is_ugs flow.kind) BadValue _ g in
         let second = passes_on (is_old flow sent) OldRequest _ first.1 in
-        let old = neither (ltb sent flow.first) (is_repeated flow.last_sent sent) second.0 in
+        let old = or_parts (ltb sent flow.first) (is_repeated flow.last_sent sent) second.0 in
         let third = passes_on (waits t flow.sid || leb most_waiting (length t.waiting)) Busy None second.1 in
-        let values = neither (not (is_size n) || not (leb sent last_time) || ltb flow.last sent) (is_ugs flow.kind) first.0 in
-        let times = neither (not (is_size n) || not (leb sent last_time)) (ltb flow.last sent) values.0 in
-        let parts = neither (not (is_size n)) (not (leb sent last_time)) times.0 in
-        let size = both _ _ (not_false (is_size n) parts.0) in
-        let busy = neither (waits t flow.sid) (leb most_waiting (length t.waiting)) third.0 in
+        let values = or_parts (not (is_size n) || not (leb sent last_time) || ltb flow.last sent) (is_ugs flow.kind) first.0 in
+        let times = or_parts (not (is_size n) || not (leb sent last_time)) (ltb flow.last sent) values.0 in
+        let parts = or_parts (not (is_size n)) (not (leb sent last_time)) times.0 in
+        let size = and_parts _ _ (not-false (is_size n) parts.0) in
+        let busy = or_parts (waits t flow.sid) (leb most_waiting (length t.waiting)) third.0 in
         record {
           flow = flow;
           found = f;
@@ -355,13 +333,13 @@ is_asked t sid n sent e = by (flow_of t sid) refl e
           sid_is = same;
           some = leb-true _ _ size.0;
           most = leb-true _ _ size.1;
-          time = leb-true _ _ (not_false _ parts.1);
-          after = not_less sent flow.first old.0;
-          before = not_less flow.last sent times.1;
+          time = leb-true _ _ (not-false _ parts.1);
+          after = ltb-false sent flow.first old.0;
+          before = ltb-false flow.last sent times.1;
           asks = values.1;
           new = old.1;
           idle = ap (waits t) (sym same) ∙ busy.0;
-          room = not_le most_waiting (length t.waiting) busy.1;
+          room = leb-false most_waiting (length t.waiting) busy.1;
         }
 
 -- a flow as a request of a SID leaves it
@@ -471,7 +449,7 @@ close_is_well t end ack later le acked w = record {
   ack = acked;
   flows = λ f h. w.flows f (has_filter (λ g. not (is_ended end g)) t.flows f h).0;
   rising = rising_filter (λ g. not (is_ended end g)) 1 t.flows w.rising;
-  given = λ f h. let kept = has_filter (λ g. not (is_ended end g)) t.flows f h in let g = w.given f kept.0 in record { lease = g.lease; goes_on = not_less f.last end (not_true (is_ended end f) kept.1) };
+  given = λ f h. let kept = has_filter (λ g. not (is_ended end g)) t.flows f h in let g = w.given f kept.0 in record { lease = g.lease; goes_on = ltb-false f.last end (not-true (is_ended end f) kept.1) };
   leases = λ l h. let old = w.leases l h in let begun = old.begun in record { unicast = old.unicast; last = old.last; begun = omega arith; whole = old.whole; ended = old.ended };
   requests = request_stays t (λ g. not (is_ended end g)) (λ v. not (has_ended t end v)) w (λ r f h same kept. ap not (sym (ended_with t end r f w.rising h same)) ∙ kept);
   alone = one_waits t (λ g. not (is_ended end g)) (λ v. not (has_ended t end v)) w;

@@ -2,7 +2,7 @@
 use Rattle.std.proofs.Common.{◌≡◌, ◌≢◌, ◌⊎◌, ℕ, ◌<◌, ◌≤◌, Bool, true, false, cond, not, List, Option, Some, None, refl, sym, ap, subst, ◌∙◌, arith, inl, inr, eqb}
 use Rattle.std.specs.List.{find, list_any}
 use Rattle.std.specs.Prelude.{unwrap_or}
-use Rattle.std.proofs.lemmas.Bool.{eqb-true, eqb-false}
+use Rattle.std.proofs.lemmas.Bool.{eqb-true, eqb-false, leb-false}
 use Rattle.flow_state.specs.declared.flow.FlowKind.{FlowKind}
 use Rattle.flow_state.specs.declared.flow.Waiting.{Waiting}
 use Rattle.flow_state.specs.declared.flow.Lease.{Lease}
@@ -14,7 +14,7 @@ use Rattle.grant_machine_parts.specs.declared.placing.Placement.{Placement}
 use Rattle.grant_machine_parts.specs.Cutting.{is_grant_of, still_waiting, fill, fill_refusal, span_of, ack_of, end_of, table_after}
 use Rattle.flow_state.proofs.Callers.{Has, has_pushed, has_map, has_filter, found_has}
 use Rattle.flow_state.proofs.Callers.{eqb_same, put_found, put_others}
-use Rattle.flow_state.proofs.Callers.{IsWell, has_inserted, flow_is_well, drop_is_well, request_is_well, is_asked, asked, asked_same, not_le}
+use Rattle.flow_state.proofs.Callers.{IsWell, has_inserted, flow_is_well, drop_is_well, request_is_well, is_asked, asked, asked_same}
 use Rattle.grant_machine_parts.proofs.Callers.{is_cut, flow_from, cut_is_well}
 use Rattle.grant_machine.proofs.Reached.{Kept}
 use Rattle.grant_machine.proofs.Leases.{IsNew, is_new}
@@ -34,7 +34,7 @@ pub record WasAsked (t : Table) (sid sent : ℕ) : Type 0 where
 -- a request that isn't old was sent later
 pub newer : (f : FlowRow) (sent next : ℕ) → IsSentBy f sent → f.first ≤ next → is_repeated f.last_sent next ≡ false → sent < next
 newer f sent next (inl before) begun e = omega arith
-newer f sent next (inr by) begun e = let lt = not_le next by.0 (ap (λ (o : Option ℕ). is_repeated o next) (sym by.1) ∙ e) in let le = by.2 in omega arith
+newer f sent next (inr by) begun e = let lt = leb-false next by.0 (ap (λ (o : Option ℕ). is_repeated o next) (sym by.1) ∙ e) in let le = by.2 in omega arith
 
 pub sent_after : (f : FlowRow) (sent next : ℕ) → f.last_sent ≡ Some next → sent ≤ next → IsSentBy f sent
 sent_after f sent next e le = inr (next, e, le)

@@ -23,19 +23,20 @@ use Rattle.flow_state.specs.Rows.{Rows, Table, FlowRow, is_table, table_of, chan
 use Rattle.flow_state.specs.Changes.{with_due, waiting_of, waiting_in_table, with_cut_closed, close_table}
 use Rattle.grant_machine.specs.declared.cut.Filled.{Filled}
 use Rattle.grant_machine_parts.specs.declared.placing.Placement.{Placement}
-use Rattle.grant_machine_parts.specs.Cutting.{Filled as FilledMap, fill, fill_refusal, span_of, end_of, in_order, priority_of, still_waiting, is_grant_of, flows_left, requests_left, table_after}
+use Rattle.grant_machine_parts.specs.Cutting.{Filled as FilledMap, fill, fill_refusal, span_of, end_of, in_order, priority_of, still_waiting, is_grant_of, flows_left, requests_left, table_after, flows_served}
 use Rattle.grant_machine_parts.specs.Drawing.{begins_at, null_element, pending_element, elements_of, head_of, bytes_of}
 use Rattle.grant_machine.specs.Runs.{IsReached}
-use Rattle.grant_machine_parts.specs.Lent.{row_of, IsUnicast}
+use Rattle.grant_machine_parts.specs.Lent.{IsUnicast}
 use Rattle.grant_machine.specs.CutRows.{IsOfKind, due_times_set, requests_taken}
 use Rattle.grant_machine_parts.specs.Ranks.{requests_in, going_on, IsOfLast}
 use Rattle.grant_machine_parts.specs.declared.waiting.Ranked.{Ranked}
-use Rattle.grant_machine.specs.Plans.{IsFilledBy, elements_in, flows_served}
+use Rattle.grant_machine.specs.Plans.{IsFilledBy, elements_in}
 use Rattle.flow_state.proofs.Callers.{changed, find_changed, some_is, same_id, KeepsId}
 use Rattle.flow_state.proofs.Callers.{eqb_same}
 use Rattle.flow_state.proofs.Callers.{filter_append}
 use Rattle.flow_state.proofs.Callers.{Has, map_has, all_has, found_has, has_filter}
 use Rattle.flow_state.proofs.Callers.{IsWell, RisingFrom, one_flow}
+use Rattle.flow_state.specs.View.{flow_view}
 use Rattle.grant_machine_parts.proofs.Callers.{Moves, fill_moves, served_from, is_cut}
 use Rattle.grant_machine.proofs.Reached.{reached_is_well}
 use Rattle.grant_machine.proofs.Standing.{Apart, IsIdle, idle, served_idle, reached_apart, reached_idle}
@@ -120,7 +121,7 @@ above_weaker : (low more : ℕ) (ss : List Flow) → low ≤ more → AreAbove m
 above_weaker low more [] le a = tt
 above_weaker low more (s ∷ ss) le a = (omega (arith, a.0), above_weaker low more ss le a.1)
 
-moved_sid : (f : FlowRow) (s : Flow) → IsMoved f (row_of s) → s.sid ≡ f.sid
+moved_sid : (f : FlowRow) (s : Flow) → IsMoved f (flow_view s) → s.sid ≡ f.sid
 moved_sid f s m = ap (λ (g : FlowRow). g.sid) m.1
 
 -- the timed flows of those that moved, one by one
@@ -130,20 +131,20 @@ untimed g gs e = ap (λ b. cond b (g ∷ timed gs) (timed gs)) e
 first_timed : (g : FlowRow) (gs : List FlowRow) → is_timed g.kind ≡ true → timed (g ∷ gs) ≡ g ∷ timed gs
 first_timed g gs e = ap (λ b. cond b (g ∷ timed gs) (timed gs)) e
 
-above : (low : ℕ) (fs gs : List FlowRow) (ss : List Flow) → RisingFrom low fs → AllZip IsMoved fs gs → timed gs ≡ map row_of ss → AreAbove low ss
+above : (low : ℕ) (fs gs : List FlowRow) (ss : List Flow) → RisingFrom low fs → AllZip IsMoved fs gs → timed gs ≡ map flow_view ss → AreAbove low ss
 above low [] [] [] r z e = tt
 above low [] [] (s ∷ ss) r z e = absurd cc
 above low [] (g ∷ gs) ss r z e = absurd z
 above low (f ∷ fs) [] ss r z e = absurd z
 above low (f ∷ fs) (g ∷ gs) ss r z e = by (λ us h. above (f.sid + 1) fs gs us r.1 z.1 h) (is_timed g.kind) refl ss e
   where
-    by : ((us : List Flow) → timed gs ≡ map row_of us → AreAbove (f.sid + 1) us) → (b : Bool) → is_timed g.kind ≡ b → (us : List Flow) → timed (g ∷ gs) ≡ map row_of us → AreAbove low us
+    by : ((us : List Flow) → timed gs ≡ map flow_view us → AreAbove (f.sid + 1) us) → (b : Bool) → is_timed g.kind ≡ b → (us : List Flow) → timed (g ∷ gs) ≡ map flow_view us → AreAbove low us
     by rest false k us h = above_weaker low (f.sid + 1) us (omega (arith, r.0)) (rest us (sym (untimed g gs k) ∙ h))
     by rest true k [] h = absurd (let there : g ∷ timed gs ≡ [] = sym (first_timed g gs k) ∙ h in cc)
     by rest true k (u ∷ us) h =
-        let there : g ∷ timed gs ≡ row_of u ∷ map row_of us = sym (first_timed g gs k) ∙ h in
-        let first : g ≡ row_of u = cc in
-        let others : timed gs ≡ map row_of us = cc in
+        let there : g ∷ timed gs ≡ flow_view u ∷ map flow_view us = sym (first_timed g gs k) ∙ h in
+        let first : g ≡ flow_view u = cc in
+        let others : timed gs ≡ map flow_view us = cc in
         let same : u.sid ≡ f.sid = ap (λ (x : FlowRow). x.sid) (sym first) ∙ ap (λ (x : FlowRow). x.sid) z.0.1 in
         (omega (arith, r.0, same), above_weaker low (f.sid + 1) us (omega (arith, r.0)) (rest us others))
 
@@ -172,7 +173,7 @@ head_stays g (s ∷ ss) fs a =
     lower : (sid n : ℕ) → n < sid → eqb n sid ≡ false
     lower sid n lt = grind arith
 
-is_set : (f : FlowRow) (s : Flow) → IsMoved f (row_of s) → due_set s.sid s.due f ≡ row_of s
+is_set : (f : FlowRow) (s : Flow) → IsMoved f (flow_view s) → due_set s.sid s.due f ≡ flow_view s
 is_set f s m =
     let kind : f.kind ≡ s.kind = sym (ap (λ (g : FlowRow). g.kind) m.1) in
     let index : due_index s.kind s.due ≡ m.0 = ap (λ (g : FlowRow). g.index) m.1 in
@@ -182,29 +183,29 @@ is_set f s m =
     ∙ ap (λ i. record f { index = i }) index
     ∙ sym m.1
 
-all_set : (low : ℕ) (fs gs : List FlowRow) (ss : List Flow) → RisingFrom low fs → AllZip IsMoved fs gs → AllByRecursion IsIdle fs → AllByRecursion IsIdle gs → timed gs ≡ map row_of ss → set_flows ss fs ≡ gs
+all_set : (low : ℕ) (fs gs : List FlowRow) (ss : List Flow) → RisingFrom low fs → AllZip IsMoved fs gs → AllByRecursion IsIdle fs → AllByRecursion IsIdle gs → timed gs ≡ map flow_view ss → set_flows ss fs ≡ gs
 all_set low [] [] [] r z from to e = refl
 all_set low [] [] (s ∷ ss) r z from to e = absurd cc
 all_set low [] (g ∷ gs) ss r z from to e = absurd z
 all_set low (f ∷ fs) [] ss r z from to e = absurd z
 all_set low (f ∷ fs) (g ∷ gs) ss r z from to e = by (λ us h. all_set (f.sid + 1) fs gs us r.1 z.1 from.1 to.1 h) (is_timed g.kind) refl ss e
   where
-    by : ((us : List Flow) → timed gs ≡ map row_of us → set_flows us fs ≡ gs) → (b : Bool) → is_timed g.kind ≡ b → (us : List Flow) → timed (g ∷ gs) ≡ map row_of us → set_flows us (f ∷ fs) ≡ g ∷ gs
+    by : ((us : List Flow) → timed gs ≡ map flow_view us → set_flows us fs ≡ gs) → (b : Bool) → is_timed g.kind ≡ b → (us : List Flow) → timed (g ∷ gs) ≡ map flow_view us → set_flows us (f ∷ fs) ≡ g ∷ gs
     by rest false k us h =
-        let others : timed gs ≡ map row_of us = sym (untimed g gs k) ∙ h in
+        let others : timed gs ≡ map flow_view us = sym (untimed g gs k) ∙ h in
         let same : g ≡ f = stays_idle f g z.0 from.0 to.0 k in
         head_stays f us fs (above (f.sid + 1) fs gs us r.1 z.1 others) ∙ ap (λ (hs : List FlowRow). f ∷ hs) (rest us others) ∙ ap (λ (x : FlowRow). x ∷ gs) (sym same)
     by rest true k [] h = absurd (let there : g ∷ timed gs ≡ [] = sym (first_timed g gs k) ∙ h in cc)
     by rest true k (u ∷ us) h =
-        let there : g ∷ timed gs ≡ row_of u ∷ map row_of us = sym (first_timed g gs k) ∙ h in
-        let first : g ≡ row_of u = cc in
-        let others : timed gs ≡ map row_of us = cc in
-        let moved : IsMoved f (row_of u) = subst (IsMoved f) first z.0 in
+        let there : g ∷ timed gs ≡ flow_view u ∷ map flow_view us = sym (first_timed g gs k) ∙ h in
+        let first : g ≡ flow_view u = cc in
+        let others : timed gs ≡ map flow_view us = cc in
+        let moved : IsMoved f (flow_view u) = subst (IsMoved f) first z.0 in
         let same = moved_sid f u moved in
         ap (λ (x : FlowRow). set_flows us (x ∷ map (due_set u.sid u.due) fs)) (is_set f u moved)
-        ∙ ap (λ (xs : List FlowRow). set_flows us (row_of u ∷ xs)) (unset u.sid u.due (f.sid + 1) fs r.1 (omega arith))
-        ∙ head_stays (row_of u) us fs (above_weaker (u.sid + 1) (f.sid + 1) us (omega arith) (above (f.sid + 1) fs gs us r.1 z.1 others))
-        ∙ ap (λ (xs : List FlowRow). row_of u ∷ xs) (rest us others)
+        ∙ ap (λ (xs : List FlowRow). set_flows us (flow_view u ∷ xs)) (unset u.sid u.due (f.sid + 1) fs r.1 (omega arith))
+        ∙ head_stays (flow_view u) us fs (above_weaker (u.sid + 1) (f.sid + 1) us (omega arith) (above (f.sid + 1) fs gs us r.1 z.1 others))
+        ∙ ap (λ (xs : List FlowRow). flow_view u ∷ xs) (rest us others)
         ∙ ap (λ (x : FlowRow). x ∷ gs) (sym first)
 
 -- ---- requests
@@ -343,9 +344,9 @@ module _ (rows : Rows) (ch : ℕ) (t : Table) (len not_before ack : ℕ) (x : Fi
   -- the flows' kinds are those of the rows
   pub kinds_are : AllByRecursion (IsOfKind rows ch) x.flows.items
   kinds_are = all_has (IsOfKind rows ch) x.flows.items (λ f h row e.
-      let kept : Has (timed (flows_served t span)) (row_of f) = subst (λ (gs : List FlowRow). Has gs (row_of f)) by.flows (map_has row_of x.flows.items f h) in
-      let there : Has (flows_served t span) (row_of f) = (has_filter (λ g. is_timed g.kind) (flows_served t span) (row_of f) kept).0 in
-      let from = served_from t (flows_served t span) (row_of f) (fill_moves t span ended) there in
+      let kept : Has (timed (flows_served t span)) (flow_view f) = subst (λ (gs : List FlowRow). Has gs (flow_view f)) by.flows (map_has flow_view x.flows.items f h) in
+      let there : Has (flows_served t span) (flow_view f) = (has_filter (λ g. is_timed g.kind) (flows_served t span) (flow_view f) kept).0 in
+      let from = served_from t (flows_served t span) (flow_view f) (fill_moves t span ended) there in
       let at : flow_of t f.sid ≡ Some row = sym (ap (λ o. option_and_then (λ u. flow_of u f.sid) o) found) ∙ e in
       let has = found_has (is_flow f.sid) t.flows row at in
       let sid : row.sid ≡ from.0.sid = eqb-true _ _ has.1 ∙ from.2.sid in

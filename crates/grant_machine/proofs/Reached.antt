@@ -1,6 +1,7 @@
 -- What holds of every table that commands reach.
 use Rattle.std.proofs.Common.{◌≡◌, ℕ, true, false, cond, not, List, [], ◌∷◌, Option, Some, None, refl, sym, subst, ◌∙◌, inl, inr, is_some}
 use Rattle.std.specs.List.{AllByRecursion}
+use Rattle.std.proofs.lemmas.Bool.{not-false}
 use Rattle.flow_state.specs.declared.channel.Channel.{Channel}
 use Rattle.flow_state.specs.declared.flow.FlowKind.{FlowKind}
 use Rattle.flow_state.specs.declared.refusal.Refusal.{Refusal}
@@ -19,7 +20,7 @@ use Rattle.grant_machine.specs.Fits.{FitsChannel, FitsCommand}
 use Rattle.flow_state.proofs.Callers.{find_changed, find_added, some_is, changed, KeepsId}
 use Rattle.flow_state.proofs.Callers.{at_same, refusal_there, flow_keeps_id, found_before}
 use Rattle.grant_machine.proofs.Maps.{find_pushed}
-use Rattle.flow_state.proofs.Callers.{IsWell, new_is_well, flow_is_well, drop_is_well, request_is_well, passes_on, not_false}
+use Rattle.flow_state.proofs.Callers.{IsWell, new_is_well, flow_is_well, drop_is_well, request_is_well, passes_on}
 use Rattle.grant_machine_parts.proofs.Callers.{cut_is_well}
 
 -- each accepted command keeps what holds of a table
@@ -61,7 +62,7 @@ module _ (P : Table → Type 0) where
 
   -- a channel that isn't refused is good
   good_channel : (rows : Rows) (c : Channel) → refusal_of rows (commands.Channel c) ≡ None → is_good_channel c ≡ true
-  good_channel rows c e = not_false _ (passes_on (not (is_good_channel c)) BadValue (cond (is_some (table_of rows c.id)) (Some ChannelThere) None) e).0
+  good_channel rows c e = not-false _ (passes_on (not (is_good_channel c)) BadValue (cond (is_some (table_of rows c.id)) (Some ChannelThere) None) e).0
 
   at_accepted : Kept P → (rows : Rows) (c : Command) (ch : ℕ) → refusal_of rows c ≡ None → ((n : Channel) → c ≡ commands.Channel n → is_good_channel n ≡ true → P (new_table n)) → At P rows ch → At P (accepted rows c).rows ch
   at_accepted kept rows commands.Noop ch ok new holds = holds

@@ -10,7 +10,7 @@ use Rattle.grant_machine.specs.Steps.{step}
 use Rattle.grant_machine.specs.Runs.{rows_from, IsReached}
 use Rattle.grant_machine.specs.Fits.{FitsCommand}
 
-rows_push : (rows : Rows) (cs : List Command) (c : Command) → rows_from rows (cs ++ c ∷ []) ≡ (step (rows_from rows cs) c).rows
+pub rows_push : (rows : Rows) (cs : List Command) (c : Command) → rows_from rows (cs ++ c ∷ []) ≡ (step (rows_from rows cs) c).rows
 rows_push rows [] c = refl
 rows_push rows (d ∷ cs) c = rows_push (step rows d).rows cs c
 

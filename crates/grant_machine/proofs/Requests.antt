@@ -1,7 +1,7 @@
 -- A request is accepted once at most, and granted once at most, whole.
 use Rattle.std.proofs.Common.{◌≡◌, ◌⊎◌, ℕ, zero, suc, ◌+◌, ◌-◌, ◌<◌, ◌≤◌, Bool, true, false, cond, not, ◌&&◌, List, [], ◌∷◌, ◌++◌, map, filter, length, Option, Some, None, refl, sym, ap, subst, ◌∙◌, arith, inl, inr, eqb, slice_get, length-append}
 use Rattle.std.specs.List.{find, list_any}
-use Rattle.std.proofs.lemmas.Bool.{eqb-true}
+use Rattle.std.proofs.lemmas.Bool.{eqb-true, and_parts, and_right}
 use Rattle.minislot_time.specs.Extent.{Extent}
 use Rattle.flow_state.specs.declared.channel.Channel.{Channel}
 use Rattle.flow_state.specs.declared.flow.FlowKind.{FlowKind}
@@ -31,7 +31,7 @@ use Rattle.grant_machine.proofs.Maps.{output_is, command_is, found_after, find_p
 use Rattle.flow_state.proofs.Callers.{is_found, some_is, find_changed, changed, KeepsId}
 use Rattle.flow_state.proofs.Callers.{eqb_same, refusal_there, there, found_before, at_same, flow_keeps_id}
 use Rattle.grant_machine_parts.proofs.Callers.{in_order_fewer}
-use Rattle.flow_state.proofs.Callers.{IsWell, one_flow, both, is_asked}
+use Rattle.flow_state.proofs.Callers.{IsWell, one_flow, is_asked}
 use Rattle.grant_machine_parts.proofs.Callers.{pass_keeps, IsFor, is_cut, flow_from, cut_is_well}
 use Rattle.grant_machine_parts.proofs.Callers.{fill_placed}
 use Rattle.grant_machine.proofs.Reached.{Stands, stands_step, AllWell, none_well, well_step}
@@ -97,15 +97,11 @@ once_accepted rows (x ∷ cs) (suc j) (suc k) ch sid n m sent w a b c d = ap suc
 abbrev its : ℕ → ℕ → Placement → Bool
 its sid sent p = eqb p.sid sid && is_cause_sent p.cause sent
 
-and_false : (b : Bool) → (b && false) ≡ false
-and_false true = refl
-and_false false = refl
-
 passes_none : (span : Extent) (what : FlowRow → Option Periodic) (fs : List FlowRow) (sid sent : ℕ) (ps : List Placement) → filter (its sid sent) ps ≡ [] → filter (its sid sent) (pass span what fs ps).placements ≡ []
 passes_none span what fs sid sent ps none =
     pass_keeps (λ qs. filter (its sid sent) qs ≡ []) span what fs (λ f h p e qs i x empty fit.
     filter_append (its sid sent) qs (placement_at p i x ∷ []) ∙ ap (λ (rs : List Placement). rs ++ filter (its sid sent) (placement_at p i x ∷ [])) empty
-    ∙ ap (λ b. cond b (placement_at p i x ∷ []) []) (and_false (eqb p.sid sid))) ps none
+    ∙ ap (λ b. cond b (placement_at p i x ∷ []) []) (and_right (eqb p.sid sid) false refl)) ps none
 
 requests_count : (span : Extent) (c : Channel) (last : ℕ → ℕ) (sid sent : ℕ) (ws : List Waiting) (ps : List Placement) → length (filter (its sid sent) (place_requests span c last ws ps)) ≤ length (filter (its sid sent) ps) + length (filter (is_of sid) ws)
 requests_count span c last sid sent [] ps = omega arith
@@ -215,7 +211,7 @@ its_parts ch sid sent g e =
     (eqb-true _ _ one.0, eqb-true _ _ two.0, by g.cause two.1)
   where
     split : (a b : Bool) → (a && b) ≡ true → (a ≡ true) × (b ≡ true)
-    split a b f = both a b f
+    split a b f = and_parts a b f
 
     by : (c : Cause) → is_cause_sent c sent ≡ true → c ≡ Sent sent
     by (Window i) f = absurd cc

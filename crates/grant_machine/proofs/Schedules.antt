@@ -35,7 +35,7 @@ use Rattle.grant_machine.proofs.Tellings.{map_parts, drawn_body, cut_cell}
 
 -- ---- outputs of longer lists
 
-one_each : (rows : Rows) (cs : List Command) → length (outputs_from rows cs) ≡ length cs
+pub one_each : (rows : Rows) (cs : List Command) → length (outputs_from rows cs) ≡ length cs
 one_each rows [] = refl
 one_each rows (c ∷ cs) = ap suc (one_each (step rows c).rows cs)
 

@@ -2,6 +2,7 @@
 use Rattle.std.proofs.Common.{◌≡◌, ℕ, ◌≤◌, Bool, true, false, cond, List, [], ◌∷◌, ◌++◌, map, filter, eqb, Option, Some, None, refl, sym, ap, subst, ◌∙◌}
 use Rattle.std.specs.List.{AllByRecursion, flat_map}
 use Rattle.std.specs.Option.{option_and_then, option_map}
+use Rattle.std.proofs.lemmas.Bool.{and_parts}
 use Rattle.minislot_time.specs.Extent.{Extent}
 use Rattle.flow_state.specs.declared.channel.Channel.{Channel}
 use Rattle.flow_state.specs.declared.flow.Flow.{Flow}
@@ -13,17 +14,17 @@ use Rattle.flow_state.specs.Rows.{Rows, Table, FlowRow, table_of, timed, lent_fl
 use Rattle.flow_state.specs.Changes.{waiting_of}
 use Rattle.grant_machine_parts.specs.declared.services.Service.TheVariants.{Grants, Polls}
 use Rattle.grant_machine_parts.specs.declared.placing.Placement.{Placement}
-use Rattle.grant_machine_parts.specs.Cutting.{kind_priority, flow_priority, priority_of, Passed, pass, in_order, place_requests, fill_span, fill_polls, grants_of_flow, polls_of_flow, grants_of_kind, polls_of_kind, run_flow, with_first}
+use Rattle.grant_machine_parts.specs.Cutting.{kind_priority, flow_priority, priority_of, Passed, pass, in_order, place_requests, fill_span, fill_polls, grants_of_flow, polls_of_flow, grants_of_kind, polls_of_kind, run_flow, with_first, flows_served}
 use Rattle.grant_machine_parts.specs.declared.due_times.Periodic.{Periodic}
 use Rattle.grant_machine.specs.Runs.{IsReached}
 use Rattle.grant_machine_parts.specs.Filling.{PartMap}
-use Rattle.grant_machine_parts.specs.Lent.{row_of, IsLent, IsUnicast, given_to}
+use Rattle.grant_machine_parts.specs.Lent.{IsLent, IsUnicast, given_to}
 use Rattle.grant_machine_parts.specs.Ranks.{of_priority, by_priority, requests_in, IsOfLast}
 use Rattle.grant_machine_parts.specs.declared.waiting.Ranked.{Ranked}
 use Rattle.grant_machine.specs.CutRows.{IsOfTable, timed_on, ranked_on}
-use Rattle.grant_machine.specs.Plans.{flows_served}
 use Rattle.flow_state.proofs.Callers.{Has, all_has, map_has, has_map, has_filter, has_flat_map}
-use Rattle.flow_state.proofs.Callers.{IsWell, IsWellFlow, both}
+use Rattle.flow_state.proofs.Callers.{IsWell, IsWellFlow}
+use Rattle.flow_state.specs.View.{flow_view}
 use Rattle.grant_machine.proofs.Reached.{reached_is_well}
 use Rattle.grant_machine_parts.proofs.Callers.{in_order_has}
 use Rattle.grant_machine_parts.proofs.Callers.{schedule_pos, round_at}
@@ -32,14 +33,14 @@ use Rattle.grant_machine.proofs.Standing.{IsIdle, idle, reached_idle}
 -- the number of a due time is its own
 round_kind : (sid : ℕ) (kind : FlowKind) (i : ℕ) → is_good_kind kind ≡ true → idle kind i → due_index kind (due_time kind i) ≡ i
 round_kind sid (BestEffort priority) i good h = sym h
-round_kind sid (Ugs size interval jitter base) i good h = round_at base i interval (schedule_pos interval jitter base (both _ _ good).1)
+round_kind sid (Ugs size interval jitter base) i good h = round_at base i interval (schedule_pos interval jitter base (and_parts _ _ good).1)
 round_kind sid (Poll interval jitter base) i good h = round_at base i interval (schedule_pos interval jitter base good)
 
 -- a flow's row is what it was lent from
-pub row_back : (f : FlowRow) → IsWellFlow f → IsIdle f → row_of (lent_flow f) ≡ f
+pub row_back : (f : FlowRow) → IsWellFlow f → IsIdle f → flow_view (lent_flow f) ≡ f
 row_back f w h = ap (λ i. record f { index = i }) (round_kind f.sid f.kind f.index w.kind h)
 
-pub rows_back : (fs : List FlowRow) → AllByRecursion IsWellFlow fs → AllByRecursion IsIdle fs → map row_of (map lent_flow fs) ≡ fs
+pub rows_back : (fs : List FlowRow) → AllByRecursion IsWellFlow fs → AllByRecursion IsIdle fs → map flow_view (map lent_flow fs) ≡ fs
 rows_back [] w h = refl
 rows_back (f ∷ fs) w h = rw (row_back f w.0 h.0, rows_back fs w.1 h.1) refl
 
@@ -83,8 +84,8 @@ flows_lent rows ch r = by (table_of rows ch) refl
     by (Some t) e = rw e (lent_all t.flows (well_flows rows ch t r e) (reached_idle rows r ch t e))
     by None e = rw e tt
 
-pub flows_back : (rows : Rows) (ch : ℕ) (t : Table) → IsReached rows → table_of rows ch ≡ Some t → map row_of (flows_on (table_of rows ch)) ≡ t.flows
-flows_back rows ch t r e = ap (λ o. map row_of (flows_on o)) e ∙ rows_back t.flows (well_flows rows ch t r e) (reached_idle rows r ch t e)
+pub flows_back : (rows : Rows) (ch : ℕ) (t : Table) → IsReached rows → table_of rows ch ≡ Some t → map flow_view (flows_on (table_of rows ch)) ≡ t.flows
+flows_back rows ch t r e = ap (λ o. map flow_view (flows_on o)) e ∙ rows_back t.flows (well_flows rows ch t r e) (reached_idle rows r ch t e)
 
 -- the requests by the priority of their flows
 abbrev pub rank_in : Table → Waiting → Ranked
@@ -180,10 +181,10 @@ no_polls c f e = by f.kind e
     by (Poll interval jitter base) e = absurd cc
 
 -- the rows of timed flows as they are lent
-pub timed_rows : (fs : List Flow) → map row_of (filter (λ f. is_timed f.kind) fs) ≡ timed (map row_of fs)
+pub timed_rows : (fs : List Flow) → map flow_view (filter (λ f. is_timed f.kind) fs) ≡ timed (map flow_view fs)
 timed_rows [] = refl
-timed_rows (f ∷ fs) = elim (is_timed f.kind) as (λ b. map row_of (cond b (f ∷ filter (λ g. is_timed g.kind) fs) (filter (λ g. is_timed g.kind) fs)) ≡ cond b (row_of f ∷ timed (map row_of fs)) (timed (map row_of fs))) [
-  | true ↦ ap (λ (rs : List FlowRow). row_of f ∷ rs) (timed_rows fs)
+timed_rows (f ∷ fs) = elim (is_timed f.kind) as (λ b. map flow_view (cond b (f ∷ filter (λ g. is_timed g.kind) fs) (filter (λ g. is_timed g.kind) fs)) ≡ cond b (flow_view f ∷ timed (map flow_view fs)) (timed (map flow_view fs))) [
+  | true ↦ ap (λ (rs : List FlowRow). flow_view f ∷ rs) (timed_rows fs)
   | false ↦ timed_rows fs
 ]
 
@@ -195,20 +196,20 @@ timed_lent (f ∷ fs) all = elim (is_timed f.kind) as (λ b. AllByRecursion IsLe
 ]
 
 -- two services and then the requests fill a MAP
-pub served_filled : (t : Table) (span : Extent) (ack : ℕ) (c : Channel) (f0 f1 f2 : List Flow) (rs : List Waiting) (p1 p2 p3 : List Placement) → t.row.channel ≡ c → map row_of f0 ≡ timed t.flows
-    → p1 ≡ (pass span (given_to Grants c) (map row_of f0) []).placements → map row_of f1 ≡ (pass span (given_to Grants c) (map row_of f0) []).flows
-    → p2 ≡ (pass span (given_to Polls c) (map row_of f1) p1).placements → map row_of f2 ≡ (pass span (given_to Polls c) (map row_of f1) p1).flows
+pub served_filled : (t : Table) (span : Extent) (ack : ℕ) (c : Channel) (f0 f1 f2 : List Flow) (rs : List Waiting) (p1 p2 p3 : List Placement) → t.row.channel ≡ c → map flow_view f0 ≡ timed t.flows
+    → p1 ≡ (pass span (given_to Grants c) (map flow_view f0) []).placements → map flow_view f1 ≡ (pass span (given_to Grants c) (map flow_view f0) []).flows
+    → p2 ≡ (pass span (given_to Polls c) (map flow_view f1) p1).placements → map flow_view f2 ≡ (pass span (given_to Polls c) (map flow_view f1) p1).flows
     → rs ≡ in_order t t.waiting → p3 ≡ place_requests span c (last_of t) rs p2
-    → (p3 ≡ (fill_span t span ack).placements) × (map row_of f2 ≡ timed (flows_served t span))
+    → (p3 ≡ (fill_span t span ack).placements) × (map flow_view f2 ≡ timed (flows_served t span))
 served_filled t span ack c f0 f1 f2 rs p1 p2 p3 row start placed1 flows1 placed2 flows2 order placed3 =
     let first : Passed = pass span (grants_of_flow t.row.channel) t.flows [] in
-    let one : pass span (given_to Grants c) (map row_of f0) [] ≡ of_timed first =
-    ap (λ d. pass span (grants_of_flow d) (map row_of f0) []) (sym row) ∙ ap (λ (fs : List FlowRow). pass span (grants_of_flow t.row.channel) fs []) start
+    let one : pass span (given_to Grants c) (map flow_view f0) [] ≡ of_timed first =
+    ap (λ d. pass span (grants_of_flow d) (map flow_view f0) []) (sym row) ∙ ap (λ (fs : List FlowRow). pass span (grants_of_flow t.row.channel) fs []) start
     ∙ pass_timed span (grants_of_flow t.row.channel) (no_grants t.row.channel) t.flows [] in
     let p1_is : p1 ≡ first.placements = placed1 ∙ ap (λ (p : Passed). p.placements) one in
-    let f1_is : map row_of f1 ≡ timed first.flows = flows1 ∙ ap (λ (p : Passed). p.flows) one in
-    let two : pass span (given_to Polls c) (map row_of f1) p1 ≡ of_timed (fill_polls t span first) =
-    ap (λ d. pass span (polls_of_flow d) (map row_of f1) p1) (sym row) ∙ ap (λ (fs : List FlowRow). pass span (polls_of_flow t.row.channel) fs p1) f1_is
+    let f1_is : map flow_view f1 ≡ timed first.flows = flows1 ∙ ap (λ (p : Passed). p.flows) one in
+    let two : pass span (given_to Polls c) (map flow_view f1) p1 ≡ of_timed (fill_polls t span first) =
+    ap (λ d. pass span (polls_of_flow d) (map flow_view f1) p1) (sym row) ∙ ap (λ (fs : List FlowRow). pass span (polls_of_flow t.row.channel) fs p1) f1_is
     ∙ ap (λ (ps : List Placement). pass span (polls_of_flow t.row.channel) (timed first.flows) ps) p1_is
     ∙ pass_timed span (polls_of_flow t.row.channel) (no_polls t.row.channel) first.flows first.placements in
     let p2_is : p2 ≡ (fill_polls t span first).placements = placed2 ∙ ap (λ (p : Passed). p.placements) two in (
@@ -219,13 +220,13 @@ served_filled t span ack c f0 f1 f2 rs p1 p2 p3 row start placed1 flows1 placed2
 
 -- the same of a MAP that is filled step by step
 pub parts_filled : (t : Table) (ack : ℕ) (c : Channel) (a b d e : PartMap) (f0 f1 f2 : List Flow) (rs : List Ranked) → IsOfTable t c f0 rs → a.placements ≡ [] → b.span ≡ a.span → d.span ≡ b.span
-    → b.placements ≡ (pass a.span (given_to Grants c) (map row_of f0) a.placements).placements → map row_of f1 ≡ (pass a.span (given_to Grants c) (map row_of f0) a.placements).flows
-    → d.placements ≡ (pass b.span (given_to Polls c) (map row_of f1) b.placements).placements → map row_of f2 ≡ (pass b.span (given_to Polls c) (map row_of f1) b.placements).flows
+    → b.placements ≡ (pass a.span (given_to Grants c) (map flow_view f0) a.placements).placements → map flow_view f1 ≡ (pass a.span (given_to Grants c) (map flow_view f0) a.placements).flows
+    → d.placements ≡ (pass b.span (given_to Polls c) (map flow_view f1) b.placements).placements → map flow_view f2 ≡ (pass b.span (given_to Polls c) (map flow_view f1) b.placements).flows
     → ((last : ℕ → ℕ) → AllByRecursion (IsOfLast last) rs → e.placements ≡ place_requests d.span c last (requests_in rs) d.placements)
-    → (e.placements ≡ (fill_span t a.span ack).placements) × (map row_of f2 ≡ timed (flows_served t a.span))
+    → (e.placements ≡ (fill_span t a.span ack).placements) × (map flow_view f2 ≡ timed (flows_served t a.span))
 parts_filled t ack c a b d e f0 f1 f2 rs of empty same1 same2 placed1 flows1 placed2 flows2 placed3 =
-    let grants : pass a.span (given_to Grants c) (map row_of f0) a.placements ≡ pass a.span (given_to Grants c) (map row_of f0) [] = ap (λ (ps : List Placement). pass a.span (given_to Grants c) (map row_of f0) ps) empty in
-    let polls : pass b.span (given_to Polls c) (map row_of f1) b.placements ≡ pass a.span (given_to Polls c) (map row_of f1) b.placements = ap (λ (s : Extent). pass s (given_to Polls c) (map row_of f1) b.placements) same1 in
+    let grants : pass a.span (given_to Grants c) (map flow_view f0) a.placements ≡ pass a.span (given_to Grants c) (map flow_view f0) [] = ap (λ (ps : List Placement). pass a.span (given_to Grants c) (map flow_view f0) ps) empty in
+    let polls : pass b.span (given_to Polls c) (map flow_view f1) b.placements ≡ pass a.span (given_to Polls c) (map flow_view f1) b.placements = ap (λ (s : Extent). pass s (given_to Polls c) (map flow_view f1) b.placements) same1 in
     served_filled t a.span ack c f0 f1 f2 (requests_in rs) b.placements d.placements e.placements of.channel of.flows_are
     (placed1 ∙ ap (λ (p : Passed). p.placements) grants) (flows1 ∙ ap (λ (p : Passed). p.flows) grants)
     (placed2 ∙ ap (λ (p : Passed). p.placements) polls) (flows2 ∙ ap (λ (p : Passed). p.flows) polls)

@@ -1,5 +1,5 @@
 -- What is true of the rows that commands reach, beside what is true of each table: each channel has one table, and a best-effort flow stays at due time number 0.
-use Rattle.std.proofs.Common.{◌≡◌, ℕ, Bool, true, false, cond, not, List, [], ◌∷◌, ◌++◌, map, filter, Option, Some, None, refl, sym, ap, subst, ◌∙◌, arith, inl, inr, eqb, leb, is_some}
+use Rattle.std.proofs.Common.{◌≡◌, ℕ, Bool, true, false, cond, not, List, [], ◌∷◌, ◌++◌, map, filter, Option, Some, None, refl, sym, ap, subst, ◌∙◌, inl, inr, eqb, leb, is_some}
 use Rattle.std.specs.List.{AllByRecursion}
 use Rattle.std.specs.Prelude.{unwrap_or}
 use Rattle.minislot_time.specs.Extent.{Extent}
@@ -16,14 +16,13 @@ use Rattle.grant_machine.specs.declared.command.Command.{Command}
 use Rattle.grant_machine.specs.declared.command.Command.TheVariants as commands
 use Rattle.grant_machine_parts.specs.declared.placing.Placement.{Placement}
 use Rattle.grant_machine_parts.specs.declared.due_times.Periodic.{Periodic}
-use Rattle.grant_machine_parts.specs.Cutting.{grants_of_kind, polls_of_kind, grants_of_flow, polls_of_flow, run_flow, pass, fill, table_after, span_of, end_of}
+use Rattle.grant_machine_parts.specs.Cutting.{grants_of_kind, polls_of_kind, grants_of_flow, polls_of_flow, run_flow, pass, fill, table_after, span_of, end_of, flows_served}
 use Rattle.grant_machine.specs.Steps.{step, step_on, refusal_of, accepted, cut_on}
 use Rattle.grant_machine.specs.Runs.{rows_from, IsReached}
-use Rattle.flow_state.proofs.Callers.{changed, same_id, KeepsId}
+use Rattle.flow_state.proofs.Callers.{changed, same_id, KeepsId, eqb_sym}
 use Rattle.flow_state.proofs.Callers.{flow_keeps_id}
 use Rattle.flow_state.proofs.Callers.{has_either, has_filter, has_all, all_has}
 use Rattle.flow_state.proofs.Callers.{passes_on}
-use Rattle.grant_machine_parts.proofs.Callers.{served_flows}
 use Rattle.grant_machine.proofs.Reached.{Kept, At, at_step}
 
 -- ---- best-effort flows
@@ -86,7 +85,7 @@ pass_idle span what [] ps asks all = tt
 pass_idle span what (f ∷ fs) ps asks all = (asks f span ps all.0, pass_idle span what fs (run_flow span (what f) f.index ps).placements asks all.1)
 
 -- a MAP leaves it so, of all flows and of those that go on
-pub served_idle : (t : Table) (span : Extent) → AreIdle t → AllByRecursion IsIdle (served_flows t span)
+pub served_idle : (t : Table) (span : Extent) → AreIdle t → AllByRecursion IsIdle (flows_served t span)
 served_idle t span all =
     let first = pass span (grants_of_flow t.row.channel) t.flows [] in
     pass_idle span (polls_of_flow t.row.channel) first.flows first.placements (polls_idle t.row.channel) (pass_idle span (grants_of_flow t.row.channel) t.flows [] (grants_idle t.row.channel) all)
@@ -98,7 +97,7 @@ idle_kept = record {
   request = λ t sid n sent ok all. idle_request sid sent t.flows all;
   cut = λ t len not_before ack ok all.
       let span = span_of t.row len not_before in
-      idle_filter (λ f. not (is_ended (end_of span) f)) (served_flows t span) (served_idle t span all);
+      idle_filter (λ f. not (is_ended (end_of span) f)) (flows_served t span) (served_idle t span all);
 }
 
 idle_rows : (rows : Rows) (cs : List Command) → ((ch : ℕ) → At AreIdle rows ch) → (ch : ℕ) → At AreIdle (rows_from rows cs) ch
@@ -132,14 +131,11 @@ none_added : (rows : Rows) (n : Table) (ch : ℕ) → table_of rows ch ≡ None 
 none_added [] n ch e off = ap (λ b. cond b (Some n) None) off
 none_added (r ∷ rows) n ch e off = elim (is_table ch r) as (λ b. cond b (Some r) (table_of rows ch) ≡ None → cond b (Some r) (table_of (rows ++ n ∷ []) ch) ≡ None) [ true ↦ λ f. absurd cc | false ↦ λ f. none_added rows n ch f off ] e
 
-eqb_turned : (a b : ℕ) → eqb a b ≡ eqb b a
-eqb_turned a b = grind arith
-
 apart_added : (rows : Rows) (n : Table) → table_of rows n.row.channel.id ≡ None → Apart rows → Apart (rows ++ n ∷ [])
 apart_added [] n e a = (refl, tt)
 apart_added (r ∷ rows) n e a =
     let both = later (is_table n.row.channel.id r) refl e in
-    (none_added rows n r.row.channel.id a.0 (eqb_turned n.row.channel.id r.row.channel.id ∙ both.0), apart_added rows n both.1 a.1)
+    (none_added rows n r.row.channel.id a.0 (eqb_sym n.row.channel.id r.row.channel.id ∙ both.0), apart_added rows n both.1 a.1)
   where
     later : (b : Bool) → is_table n.row.channel.id r ≡ b → cond b (Some r) (table_of rows n.row.channel.id) ≡ None → (is_table n.row.channel.id r ≡ false) × (table_of rows n.row.channel.id ≡ None)
     later true h f = absurd cc

@@ -3,6 +3,7 @@ use Rattle.std.proofs.Common.{◌≡◌, ◌⊎◌, ℕ, zero, suc, ◌+◌, ◌
 use Rattle.std.specs.List.{find, Contains}
 use Rattle.std.proofs.lemmas.Bool.{eqb-true}
 use Rattle.std.specs.Prelude.{unwrap_or}
+use Rattle.std.proofs.lemmas.Option.{same_Some}
 use Rattle.minislot_time.specs.Extent.{Extent}
 use Rattle.flow_state.specs.declared.channel.Channel.{Channel}
 use Rattle.flow_state.specs.declared.flow.FlowKind.{FlowKind}
@@ -67,20 +68,17 @@ at_due span ps p i x e =
     let early = t.not_early in
     record { whole = refl; not_early = omega arith; not_late = t.not_late }
 
-periodic_is : (q p : Periodic) → Some q ≡ Some p → q ≡ p
-periodic_is q p e = cc
-
 grants_at : (span : Extent) (c : Channel) (sid last : ℕ) (kind : FlowKind) (p : Periodic) → grants_of_kind c sid last kind ≡ Some p → PlacesAt span kind p × (sid ≡ p.sid)
 grants_at span c sid last (BestEffort priority) p e = absurd cc
 grants_at span c sid last (Poll interval jitter base) p e = absurd cc
 grants_at span c sid last (Ugs size interval jitter base) p e =
-    subst (λ (q : Periodic). PlacesAt span (Ugs size interval jitter base) q × (sid ≡ q.sid)) (periodic_is _ p e) ((λ ps i x v. at_due span ps _ i x v), refl)
+    subst (λ (q : Periodic). PlacesAt span (Ugs size interval jitter base) q × (sid ≡ q.sid)) (same_Some _ p e) ((λ ps i x v. at_due span ps _ i x v), refl)
 
 polls_at : (span : Extent) (c : Channel) (sid last : ℕ) (kind : FlowKind) (p : Periodic) → polls_of_kind c sid last kind ≡ Some p → PlacesAt span kind p × (sid ≡ p.sid)
 polls_at span c sid last (BestEffort priority) p e = absurd cc
 polls_at span c sid last (Ugs size interval jitter base) p e = absurd cc
 polls_at span c sid last (Poll interval jitter base) p e =
-    subst (λ (q : Periodic). PlacesAt span (Poll interval jitter base) q × (sid ≡ q.sid)) (periodic_is _ p e) ((λ ps i x v. at_due span ps _ i x v), refl)
+    subst (λ (q : Periodic). PlacesAt span (Poll interval jitter base) q × (sid ≡ q.sid)) (same_Some _ p e) ((λ ps i x v. at_due span ps _ i x v), refl)
 
 module _ (all : List FlowRow) (span : Extent) where
   abbrev RanDue : Ran → Type 0

@@ -6,11 +6,11 @@ use Rattle.flow_state.specs.declared.flow.Flow.{Flow}
 use Rattle.flow_state.specs.declared.flow.Waiting.{Waiting}
 use Rattle.flow_state.specs.Rows.{Rows, Table, FlowRow, table_of, timed, lent_flow, last_in, last_of}
 use Rattle.flow_state.specs.Changes.{with_due, with_waiting, waiting_of, flow_row}
+use Rattle.flow_state.specs.View.{flow_view}
 use Rattle.grant_machine_parts.specs.Cutting.{flow_priority, in_order, still_waiting}
 use Rattle.grant_machine_parts.specs.declared.waiting.Ranked.{Ranked}
 use Rattle.grant_machine_parts.specs.Ranks.{requests_in, IsOfLast}
 use Rattle.grant_machine_parts.specs.declared.placing.Placement.{Placement}
-use Rattle.grant_machine_parts.specs.Lent.{row_of}
 
 -- a channel's timed flows as they are lent
 abbrev pub timed_on : Option Table → List Flow
@@ -37,6 +37,6 @@ IsOfKind rows ch f = (row : FlowRow) → flow_row rows ch f.sid ≡ Some row →
 -- the channel, its timed flows as they are lent and its requests by priority are the table's
 pub record IsOfTable (t : Table) (c : Channel) (flows : List Flow) (ranked : List Ranked) : Type 0 where
   pub channel : t.row.channel ≡ c
-  pub flows_are : map row_of flows ≡ timed t.flows
+  pub flows_are : map flow_view flows ≡ timed t.flows
   pub requests_are : requests_in ranked ≡ in_order t t.waiting
   pub lasts_are : AllByRecursion (IsOfLast (last_of t)) ranked

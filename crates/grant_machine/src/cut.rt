@@ -7,15 +7,16 @@ ghost use Rattle.map_body.specs.Layout.{layout};
 ghost use Rattle.flow_state.specs.Limits.{last_time, most_minislots};
 ghost use Rattle.flow_state.specs.Rows.{Table, table_of, timed, channel_at};
 ghost use Rattle.flow_state.specs.Changes.{with_cut_closed};
+ghost use Rattle.flow_state.specs.View.{flow_view};
 ghost use Rattle.grant_machine.specs.declared.command.Command.TheVariants as commands;
-ghost use Rattle.grant_machine_parts.specs.Cutting.{fill_span, fill_refusal, end_of};
+ghost use Rattle.grant_machine_parts.specs.Cutting.{fill_span, fill_refusal, end_of, flows_served};
 ghost use Rattle.grant_machine_parts.specs.Drawing.{head_of};
 ghost use Rattle.grant_machine.specs.Steps.{step, refusal_of};
 ghost use Rattle.grant_machine.specs.Fits.{FitsCommand};
 ghost use Rattle.grant_machine.specs.Runs.{IsReached};
-ghost use Rattle.grant_machine_parts.specs.Lent.{row_of, IsLent, IsUnicast};
+ghost use Rattle.grant_machine_parts.specs.Lent.{IsLent, IsUnicast};
 ghost use Rattle.grant_machine.specs.CutRows.{IsOfTable, IsOfKind, due_times_set, requests_taken};
-ghost use Rattle.grant_machine.specs.Plans.{IsFilledBy, elements_in, flows_served};
+ghost use Rattle.grant_machine.specs.Plans.{IsFilledBy, elements_in};
 
 use crate::output::{MapBytes, Output};
 use crate::rows::{copy_requests, copy_timed, rank_requests, set_due_times, take_granted};
@@ -57,7 +58,7 @@ fn place_all(
     requires unicast { AllByRecursion IsUnicast ranked.now }
     ensures span { filling.new.span ≡ filling.old.span }
     ensures placed { OnOk result ((t : Table) (ack : ℕ) → IsOfTable t channel.now flows.old ranked.now → filling.new.placements ≡ (fill_span t filling.old.span ack).placements) }
-    ensures flows { OnOk result ((t : Table) → IsOfTable t channel.now flows.old ranked.now → map row_of flows.new ≡ timed (flows_served t filling.old.span)) }
+    ensures flows { OnOk result ((t : Table) → IsOfTable t channel.now flows.old ranked.now → map flow_view flows.new ≡ timed (flows_served t filling.old.span)) }
     ensures lent { OnOk result (AllByRecursion IsLent flows.new) }
 {
     serve(Service::Grants, channel, filling, flows)?;

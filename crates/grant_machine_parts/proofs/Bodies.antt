@@ -1,7 +1,8 @@
 -- The body of a filled MAP: its elements are those of a body, and each minislot is its holder's.
 use Rattle.std.proofs.Common.{◌≡◌, ◌≢◌, ◌⊎◌, ℕ, suc, ◌+◌, ◌-◌, ◌<◌, ◌≤◌, ◌^◌, Bool, true, false, cond, ◌&&◌, ◌||◌, List, [], ◌∷◌, ◌++◌, map, length, Option, Some, None, refl, sym, ap, subst, ◌∙◌, arith, inl, inr, eqb, leb, ltb, is_some, slice_get, length-append}
 use Rattle.std.specs.List.{list_any, AllByRecursion}
-use Rattle.std.proofs.lemmas.Bool.{eqb-true, eqb-false, leb-true, ltb-true, le-leb, lt-ltb, cases_lt}
+use Rattle.std.proofs.lemmas.Bool.{eqb-true, eqb-false, leb-true, ltb-true, le-leb, lt-ltb, cases_lt, and_parts}
+use Rattle.std.proofs.lemmas.Option.{same_Some}
 use Rattle.minislot_time.specs.Extent.{Extent}
 use Rattle.map_body.specs.declared.element.Element.{Element}
 use Rattle.map_body.specs.Body.{Body}
@@ -16,9 +17,9 @@ use Rattle.grant_machine_parts.specs.Filling.{IsUseFor}
 use Rattle.map_body.proofs.Callers.{get_behind}
 use Rattle.flow_state.proofs.Callers.{Has, has_at, has_either, has_pushed, has_any, has_found, found_has, unfound, all_has}
 use Rattle.flow_state.proofs.Callers.{eqb_same}
-use Rattle.flow_state.proofs.Callers.{IsWell, both}
+use Rattle.flow_state.proofs.Callers.{IsWell}
 use Rattle.grant_machine_parts.proofs.Fillings.{IsUse, plain_request, IsFor, IsLeased, MayPlace, fill_keeps}
-use Rattle.grant_machine_parts.proofs.Offsets.{some_same, InList, begun, StandAt, begun_has, ascending, next_to, in_row, begun_count, at_front, named_twice}
+use Rattle.grant_machine_parts.proofs.Offsets.{InList, begun, StandAt, begun_has, ascending, next_to, in_row, begun_count, at_front, named_twice}
 
 -- ---- the placements of a filled MAP
 
@@ -41,10 +42,10 @@ pub record ArePlaced (t : Table) (span : Extent) (ps : List Placement) : Type 0 
   pub few : length ps ≤ most_placements
 
 pub holds_from : (x : ℕ) (p : Placement) → holds x p ≡ true → p.offset ≤ x
-holds_from x p e = leb-true _ _ (both _ _ e).0
+holds_from x p e = leb-true _ _ (and_parts _ _ e).0
 
 pub holds_below : (x : ℕ) (p : Placement) → holds x p ≡ true → x < p.offset + p.size
-holds_below x p e = ltb-true _ _ (both _ _ e).1
+holds_below x p e = ltb-true _ _ (and_parts _ _ e).1
 
 pub it_holds : (x : ℕ) (p : Placement) → p.offset ≤ x → x < p.offset + p.size → holds x p ≡ true
 it_holds x p ge lt = by (leb p.offset x) (ltb x (p.offset + p.size)) (le-leb p.offset x ge) (lt-ltb x (p.offset + p.size) lt)
@@ -161,19 +162,19 @@ module _ (t : Table) (span : Extent) (ps : List Placement) (a : ArePlaced t span
       by (Some p) f = on (eqb p.offset x) refl (sym (ap (beginning x (holder ps (x - 1))) f) ∙ is)
         where
           on : (b : Bool) → eqb p.offset x ≡ b → cond b (Some (placed_element p)) None ≡ Some e → ((p : Placement) × Has ps p × (p.offset ≡ x) × (placed_element p ≡ e)) ⊎ BeginsFree x e
-          on true g h = inl (p, (found_has (holds x) ps p f).0, eqb-true _ _ g, some_same _ _ h)
+          on true g h = inl (p, (found_has (holds x) ps p f).0, eqb-true _ _ g, same_Some _ _ h)
           on false g h = absurd cc
       by None f = on (eqb x 0) (holder ps (x - 1)) refl refl (sym (ap (beginning x (holder ps (x - 1))) f) ∙ is)
         where
           on : (b : Bool) (o : Option Placement) → eqb x 0 ≡ b → holder ps (x - 1) ≡ o → cond (b || is_some o) (Some (free_element x)) None ≡ Some e → ((p : Placement) × Has ps p × (p.offset ≡ x) × (placed_element p ≡ e)) ⊎ BeginsFree x e
-          on true o g k h = inr (record { is = some_same _ _ h; free = f; after = inl (eqb-true _ _ g) })
+          on true o g k h = inr (record { is = same_Some _ _ h; free = f; after = inl (eqb-true _ _ g) })
           on false None g k h = absurd cc
           on false (Some p) g k h =
               let found = found_has (holds (x - 1)) ps p k in
               let from : p.offset ≤ x - 1 = holds_from (x - 1) p found.1 in
               let below : x - 1 < p.offset + p.size = holds_below (x - 1) p found.1 in
               let not_zero : ¬ (x ≡ 0) = eqb-false x 0 g in
-              inr (record { is = some_same _ _ h; free = f; after = inr (p, found.0, ends p from below not_zero (unfound (holds x) ps p f found.0)) })
+              inr (record { is = same_Some _ _ h; free = f; after = inr (p, found.0, ends p from below not_zero (unfound (holds x) ps p f found.0)) })
             where
               at : (o s : ℕ) → o ≤ x - 1 → x - 1 < o + s → ¬ (x ≡ 0) → o + s ≤ x → o + s ≡ x
               at o s from below not_zero ge = grind (arith, not_zero)

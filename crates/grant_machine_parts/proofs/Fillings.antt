@@ -1,7 +1,8 @@
 -- How a MAP is filled: each placement fits where it is put, and the table after it is well.
 use Rattle.std.proofs.Common.{◌≡◌, ◌≢◌, ◌⊎◌, ℕ, zero, suc, ◌+◌, ◌*◌, ◌-◌, ◌/◌, ◌<◌, ◌≤◌, Bool, true, false, cond, not, max, List, [], ◌∷◌, ◌++◌, filter, length, Option, Some, None, refl, sym, ap, subst, ◌∙◌, arith, inl, inr, eqb, leb, ltb, is_none, add-mul, one-mul, div-mul-le_self, mul-le-mul_right}
 use Rattle.std.specs.List.{list_any, list_all, find, range_with_len, AllZip}
-use Rattle.std.proofs.lemmas.Bool.{leb-true, ltb-true}
+use Rattle.std.proofs.lemmas.Bool.{leb-true, ltb-true, and_parts, not-true, ltb-false}
+use Rattle.std.proofs.lemmas.Option.{same_Some}
 use Rattle.minislot_time.specs.Extent.{Extent}
 use Rattle.flow_state.specs.declared.channel.Channel.{Channel}
 use Rattle.flow_state.specs.declared.channel.Phy.{Phy}
@@ -15,11 +16,11 @@ use Rattle.flow_state.specs.Limits.{last_time, longest_interval, last_sid, is_go
 use Rattle.flow_state.specs.Rows.{Table, FlowRow, is_of, is_of_sid, flow_of, last_in, last_of, is_ended, has_ended}
 use Rattle.flow_state.specs.Sound.{lease_in}
 use Rattle.grant_machine_parts.specs.Placing.{Cause, Window, Sent, Placement, holder, is_free, fits_at, first_fit, most_placements}
-use Rattle.grant_machine_parts.specs.Cutting.{Periodic, due_at, end_of, Missed, Placed, Kept, verdict, verdict_on, placement_at, Ran, run_due_times, run_flow, due_before, Passed, pass, grants_of_flow, polls_of_flow, grants_of_kind, polls_of_kind, sized_iuc, grant_iuc, unsolicited_on, unsolicited_iuc, priority_of, in_order, placement_for, place_requests, is_grant_of, Filled, fill, fill_polls, fill_span, fill_refusal, span_of, ack_of, table_after}
+use Rattle.grant_machine_parts.specs.Cutting.{Periodic, due_at, end_of, Missed, Placed, Kept, verdict, verdict_on, placement_at, Ran, run_due_times, run_flow, due_before, Passed, pass, grants_of_flow, polls_of_flow, grants_of_kind, polls_of_kind, sized_iuc, grant_iuc, unsolicited_on, unsolicited_iuc, priority_of, in_order, placement_for, place_requests, is_grant_of, Filled, fill, fill_span, fill_refusal, span_of, ack_of, table_after, flows_served}
 use Rattle.grant_machine_parts.specs.Filling.{IsRequestedUse, IsDueUse, IsUseFor}
 use Rattle.flow_state.proofs.Callers.{Has, has_filter, filter_has, has_flat_map}
 use Rattle.grant_machine_parts.proofs.Windows.{first_fit_tells, placed_is}
-use Rattle.flow_state.proofs.Callers.{IsWell, IsWellFlow, RisingFrom, both, filter_fewer, filter_both, flow_found, ended_with, not_less, not_true, rising_filter}
+use Rattle.flow_state.proofs.Callers.{IsWell, IsWellFlow, RisingFrom, filter_fewer, filter_both, flow_found, ended_with, rising_filter}
 
 -- ---- where a placement may go
 
@@ -37,8 +38,8 @@ none_is (Some x) e = absurd cc
 all_free : (ps : List Placement) (a n y : ℕ) → list_all (is_free ps) (range_with_len a n) ≡ true → a ≤ y → y < a + n → holder ps y ≡ None
 all_free ps a zero y e ge lt = absurd (omega arith)
 all_free ps a (suc n) y e ge lt = elim (first a y ge) [
-  | inl same ↦ none_is (holder ps y) (subst (λ k. is_free ps k ≡ true) same (both _ _ e).0)
-  | inr more ↦ all_free ps (a + 1) n y (both _ _ e).1 more (omega arith)
+  | inl same ↦ none_is (holder ps y) (subst (λ k. is_free ps k ≡ true) same (and_parts _ _ e).0)
+  | inr more ↦ all_free ps (a + 1) n y (and_parts _ _ e).1 more (omega arith)
 ]
   where
     first : (a x : ℕ) → a ≤ x → (a ≡ x) ⊎ (a + 1 ≤ x)
@@ -113,10 +114,7 @@ pub record IsOfFlow (phy : Phy) (f : FlowRow) (p : Periodic) : Type 0 where
   pub due : (i : ℕ) → due_time f.kind i ≡ due_at p i
 
 short_interval : (interval jitter base : ℕ) → is_schedule interval jitter base ≡ true → interval ≤ longest_interval
-short_interval interval jitter base e = leb-true _ _ (both _ _ (both _ _ (both _ _ e).0).0).1
-
-periodic_is : (q p : Periodic) → Some q ≡ Some p → q ≡ p
-periodic_is q p e = cc
+short_interval interval jitter base e = leb-true _ _ (and_parts _ _ (and_parts _ _ (and_parts _ _ e).0).0).1
 
 pub grants_of : (c : Channel) (f : FlowRow) (p : Periodic) → IsWellFlow f → grants_of_kind c f.sid f.last f.kind ≡ Some p → IsOfFlow c.phy f p
 grants_of c f p w e = by f.kind refl e
@@ -126,15 +124,15 @@ grants_of c f p w e = by f.kind refl e
     by (Poll interval jitter base) h g = absurd cc
     by (Ugs size interval jitter base) h g =
         let good : is_good_kind (Ugs size interval jitter base) ≡ true = ap is_good_kind (sym h) ∙ w.kind in
-        let size_is = both _ _ (both _ _ good).0 in
-        subst (IsOfFlow c.phy f) (periodic_is _ p g) (record {
+        let size_is = and_parts _ _ (and_parts _ _ good).0 in
+        subst (IsOfFlow c.phy f) (same_Some _ p g) (record {
           well = record {
             some = leb-true _ _ size_is.0;
             most = leb-true _ _ size_is.1;
             unicast = w.unicast;
             last = w.last;
             iuc = unsolicited_use c size;
-            short = short_interval interval jitter base (both _ _ good).1;
+            short = short_interval interval jitter base (and_parts _ _ good).1;
           };
           sid = refl;
           last = refl;
@@ -149,7 +147,7 @@ polls_of c f p w e = by f.kind refl e
     by (Ugs size interval jitter base) h g = absurd cc
     by (Poll interval jitter base) h g =
         let good : is_good_kind (Poll interval jitter base) ≡ true = ap is_good_kind (sym h) ∙ w.kind in
-        subst (IsOfFlow c.phy f) (periodic_is _ p g) (record {
+        subst (IsOfFlow c.phy f) (same_Some _ p g) (record {
           well = record { some = omega arith; most = omega arith; unicast = w.unicast; last = w.last; iuc = inl refl; short = short_interval interval jitter base good };
           sid = refl;
           last = refl;
@@ -371,10 +369,10 @@ pub record IsCut (t : Table) (len not_before ack : ℕ) : Type 0 where
 pub is_cut : (t : Table) (len not_before ack : ℕ) → fill_refusal t.row len not_before ack ≡ None → IsCut t len not_before ack
 is_cut t len not_before ack e =
     let good = test _ e in
-    let four = both _ _ good in
-    let three = both _ _ four.0 in
-    let two = both _ _ three.0 in
-    let one = both _ _ two.0 in
+    let four = and_parts _ _ good in
+    let three = and_parts _ _ four.0 in
+    let two = and_parts _ _ three.0 in
+    let one = and_parts _ _ two.0 in
     record { some = leb-true _ _ one.0; most = leb-true _ _ one.1; end = leb-true _ _ four.1 }
   where
     test : (b : Bool) → cond b None (Some BadValue) ≡ None → b ≡ true
@@ -387,11 +385,7 @@ pub record MovesTwice (t : Table) (flows : List FlowRow) : Type 0 where
   pub first : AllZip Moves t.flows between
   pub second : AllZip Moves between flows
 
--- the flows as both passes leave them
-abbrev pub served_flows : Table → Extent → List FlowRow
-served_flows t span = (fill_polls t span (pass span (grants_of_flow t.row.channel) t.flows [])).flows
-
-pub fill_moves : (t : Table) (span : Extent) → end_of span ≤ last_time → MovesTwice t (served_flows t span)
+pub fill_moves : (t : Table) (span : Extent) → end_of span ≤ last_time → MovesTwice t (flows_served t span)
 fill_moves t span le =
     let c : Channel = t.row.channel in
     let first : Passed = pass span (grants_of_flow c) t.flows [] in
@@ -433,13 +427,13 @@ served_to t flows f m at =
     (last.0, last.1, becomes f on.0 last.0 on.2 last.2)
 
 stays : (end : ℕ) (f : FlowRow) → not (is_ended end f) ≡ true → end ≤ f.last
-stays end f e = not_less f.last end (not_true (is_ended end f) e)
+stays end f e = ltb-false f.last end (not-true (is_ended end f) e)
 
 -- the flow that a flow after the MAP was before it; its lease goes on to the MAP's end
 pub flow_from : (t : Table) (span : Extent) (ack : ℕ) (h : FlowRow) → end_of span ≤ last_time → Has (fill_span t span ack).flows h → (f : FlowRow) × Has t.flows f × Becomes f h × (end_of span ≤ h.last)
 flow_from t span ack h le at =
-    let left = has_filter (λ g. not (is_ended (end_of span) g)) (served_flows t span) h at in
-    let from = served_from t (served_flows t span) h (fill_moves t span le) left.0 in
+    let left = has_filter (λ g. not (is_ended (end_of span) g)) (flows_served t span) h at in
+    let from = served_from t (flows_served t span) h (fill_moves t span le) left.0 in
     (from.0, from.1, from.2, stays (end_of span) h left.1)
 
 fill_is_well : (t : Table) (span : Extent) (ack : ℕ) → IsWell t → t.row.next_start ≤ span.start → end_of span ≤ last_time → IsWell (table_after t (fill_span t span (ack_of t.row ack span.start)))
@@ -450,7 +444,7 @@ fill_is_well t span ack w later le =
     let waits : Waiting → Bool = λ v. not (list_any (is_grant_of v) f.placements) in
     let m = fill_moves t span le in
     let old_ack = w.ack in
-    let served = served_flows t span in
+    let served = flows_served t span in
     record {
       channel = w.channel;
       next = le;

@@ -1,7 +1,8 @@
 -- What a service gives a flow, and the flow's due times.
 use Rattle.std.proofs.Common.{◌≡◌, ℕ, ◌+◌, ◌-◌, ◌*◌, ◌/◌, ◌≤◌, true, Some, refl, sym, ap, subst, ◌∙◌, arith}
-use Rattle.std.proofs.lemmas.Bool.{leb-true}
+use Rattle.std.proofs.lemmas.Bool.{leb-true, and_parts}
 use Rattle.std.proofs.lemmas.Nat.{div-mul-add}
+use Rattle.std.proofs.lemmas.Option.{same_Some}
 use Rattle.flow_state.specs.declared.channel.Channel.{Channel}
 use Rattle.flow_state.specs.declared.flow.FlowKind.{FlowKind}
 use Rattle.flow_state.specs.declared.flow.FlowKind.TheVariants.{BestEffort, Ugs, Poll}
@@ -10,7 +11,6 @@ use Rattle.grant_machine_parts.specs.declared.services.Service.{Service}
 use Rattle.grant_machine_parts.specs.declared.services.Service.TheVariants.{Grants, Polls}
 use Rattle.grant_machine_parts.specs.Cutting.{Periodic, due_at}
 use Rattle.grant_machine_parts.specs.Lent.{given}
-use Rattle.flow_state.proofs.Callers.{both}
 
 -- a flow's due times are those of what it is given
 pub record GivenDue (kind : FlowKind) (p : Periodic) : Type 0 where
@@ -19,18 +19,15 @@ pub record GivenDue (kind : FlowKind) (p : Periodic) : Type 0 where
   pub time : (i : ℕ) → due_time kind i ≡ due_at p i
 
 pub schedule_pos : (interval jitter base : ℕ) → is_schedule interval jitter base ≡ true → 1 ≤ interval
-schedule_pos interval jitter base e = leb-true _ _ (both _ _ (both _ _ (both _ _ e).0).0).0
-
-it_is : (p q : Periodic) → Some p ≡ Some q → p ≡ q
-it_is p q e = cc
+schedule_pos interval jitter base e = leb-true _ _ (and_parts _ _ (and_parts _ _ (and_parts _ _ e).0).0).0
 
 pub given_due : (service : Service) (c : Channel) (sid last : ℕ) (kind : FlowKind) (p : Periodic) → given service c sid last kind ≡ Some p → is_good_kind kind ≡ true → GivenDue kind p
 given_due Grants c sid last (BestEffort priority) p e good = absurd cc
-given_due Grants c sid last (Ugs size interval jitter base) p e good = subst (GivenDue (Ugs size interval jitter base)) (it_is _ p e) (record { pos = schedule_pos interval jitter base (both _ _ good).1; index = λ d. refl; time = λ i. refl })
+given_due Grants c sid last (Ugs size interval jitter base) p e good = subst (GivenDue (Ugs size interval jitter base)) (same_Some _ p e) (record { pos = schedule_pos interval jitter base (and_parts _ _ good).1; index = λ d. refl; time = λ i. refl })
 given_due Grants c sid last (Poll interval jitter base) p e good = absurd cc
 given_due Polls c sid last (BestEffort priority) p e good = absurd cc
 given_due Polls c sid last (Ugs size interval jitter base) p e good = absurd cc
-given_due Polls c sid last (Poll interval jitter base) p e good = subst (GivenDue (Poll interval jitter base)) (it_is _ p e) (record { pos = schedule_pos interval jitter base good; index = λ d. refl; time = λ i. refl })
+given_due Polls c sid last (Poll interval jitter base) p e good = subst (GivenDue (Poll interval jitter base)) (same_Some _ p e) (record { pos = schedule_pos interval jitter base good; index = λ d. refl; time = λ i. refl })
 
 -- the number of due time number i is i
 pub round : (kind : FlowKind) (p : Periodic) (i : ℕ) → GivenDue kind p → due_index kind (due_at p i) ≡ i

@@ -2,12 +2,10 @@
 use Rattle.std.proofs.Common.{◌≡◌, ◌⊎◌, ℕ, zero, suc, ◌+◌, ◌<◌, ◌≤◌, Bool, true, false, cond, ◌||◌, List, [], ◌∷◌, ◌++◌, filter, length, Option, Some, None, refl, sym, ap, subst, ◌∙◌, arith, inl, inr, eqb, slice_get}
 use Rattle.std.specs.List.{list_any, range_with_len, filter_map, cons_option}
 use Rattle.std.proofs.lemmas.Bool.{eqb-true}
+use Rattle.std.proofs.lemmas.Option.{same_Some}
 use Rattle.map_body.specs.declared.element.Element.{Element}
 use Rattle.map_body.proofs.Callers.{get_front}
 use Rattle.flow_state.proofs.Callers.{Has, has_at}
-
-pub some_same : (d e : Element) → Some d ≡ Some e → d ≡ e
-some_same d e s = cc
 
 -- the first place or a later one
 pub first_or_later : (a x : ℕ) → a ≤ x → (a ≡ x) ⊎ (a + 1 ≤ x)
@@ -44,11 +42,11 @@ module _ (b : ℕ → Option Element) where
 
   -- the first of them, or what stands behind them
   pub first_from : StandAt → (a n : ℕ) (null : Element) (rest : List Element) (h : Element) → null.offset ≡ a + n → slice_get (begun a n ++ null ∷ rest) 0 ≡ Some h → (a ≤ h.offset) × (h.offset ≤ a + n)
-  first_from at a zero null rest h end e = let same : null.offset ≡ h.offset = ap (λ (c : Element). c.offset) (some_same null h e) in (omega arith, omega arith)
+  first_from at a zero null rest h end e = let same : null.offset ≡ h.offset = ap (λ (c : Element). c.offset) (same_Some null h e) in (omega arith, omega arith)
   first_from at a (suc n) null rest h end e =
       elim (b a) as (λ o. b a ≡ o → slice_get (cons_option o (begun (a + 1) n) ++ null ∷ rest) 0 ≡ Some h → (a ≤ h.offset) × (h.offset ≤ a + suc n)) [
         | None ↦ λ f g. let m = first_from at (a + 1) n null rest h (omega arith) g in (omega (arith, m.0), omega (arith, m.1))
-        | Some d ↦ λ f g. let here : h.offset ≡ a = ap (λ (c : Element). c.offset) (sym (some_same d h g)) ∙ at a d f in (omega arith, omega arith)
+        | Some d ↦ λ f g. let here : h.offset ≡ a = ap (λ (c : Element). c.offset) (sym (same_Some d h g)) ∙ at a d f in (omega arith, omega arith)
       ] refl e
 
   -- offsets rise up to the one behind them
@@ -66,21 +64,21 @@ module _ (b : ℕ → Option Element) where
           → ((q : ℕ) → slice_get (begun (a + 1) n ++ null ∷ rest) q ≡ Some before → slice_get (begun (a + 1) n ++ null ∷ rest) (suc q) ≡ Some here → suc q ≤ length (begun (a + 1) n) → before.offset ≤ here.offset)
           → slice_get (x ∷ begun (a + 1) n ++ null ∷ rest) p ≡ Some before → slice_get (x ∷ begun (a + 1) n ++ null ∷ rest) (suc p) ≡ Some here → suc p ≤ suc (length (begun (a + 1) n)) → before.offset ≤ here.offset
       by x f zero later g h k =
-          let first : before.offset ≡ a = ap (λ (c : Element). c.offset) (sym (some_same x before g)) ∙ at a x f in
+          let first : before.offset ≡ a = ap (λ (c : Element). c.offset) (sym (same_Some x before g)) ∙ at a x f in
           let next = first_from at (a + 1) n null rest here (omega arith) h in
           omega (arith, next.0)
       by x f (suc q) later g h k = later q g h (omega arith)
 
   -- no element begins before the first one
   first_gap : StandAt → (a n : ℕ) (null : Element) (rest : List Element) (h : Element) → null.offset ≡ a + n → slice_get (begun a n ++ null ∷ rest) 0 ≡ Some h → (z : ℕ) → a ≤ z → z < h.offset → b z ≡ None
-  first_gap at a zero null rest h end e z ge lt = absurd (let same : null.offset ≡ h.offset = ap (λ (c : Element). c.offset) (some_same null h e) in omega arith)
+  first_gap at a zero null rest h end e z ge lt = absurd (let same : null.offset ≡ h.offset = ap (λ (c : Element). c.offset) (same_Some null h e) in omega arith)
   first_gap at a (suc n) null rest h end e z ge lt =
       elim (b a) as (λ o. b a ≡ o → slice_get (cons_option o (begun (a + 1) n) ++ null ∷ rest) 0 ≡ Some h → b z ≡ None) [
         | None ↦ λ f g. elim (first_or_later a z ge) [
           | inl same ↦ subst (λ k. b k ≡ None) same f
           | inr more ↦ first_gap at (a + 1) n null rest h (omega arith) g z more lt
         ]
-        | Some d ↦ λ f g. absurd (let here : h.offset ≡ a = ap (λ (c : Element). c.offset) (sym (some_same d h g)) ∙ at a d f in omega arith)
+        | Some d ↦ λ f g. absurd (let here : h.offset ≡ a = ap (λ (c : Element). c.offset) (sym (same_Some d h g)) ∙ at a d f in omega arith)
       ] refl e
 
   -- what stands next to one of them: no element begins in between, and it begins at the end at the latest
@@ -105,7 +103,7 @@ module _ (b : ℕ → Option Element) where
           → ((q : ℕ) → slice_get (begun (a + 1) n ++ null ∷ rest) q ≡ Some before → slice_get (begun (a + 1) n ++ null ∷ rest) (suc q) ≡ Some here → suc q ≤ length (begun (a + 1) n) → NextTo (a + 1) n before here)
           → slice_get (x ∷ begun (a + 1) n ++ null ∷ rest) p ≡ Some before → slice_get (x ∷ begun (a + 1) n ++ null ∷ rest) (suc p) ≡ Some here → suc p ≤ suc (length (begun (a + 1) n)) → NextTo a (suc n) before here
       by x f zero later g h k =
-          let first : before.offset ≡ a = ap (λ (c : Element). c.offset) (sym (some_same x before g)) ∙ at a x f in
+          let first : before.offset ≡ a = ap (λ (c : Element). c.offset) (sym (same_Some x before g)) ∙ at a x f in
           let next = first_from at (a + 1) n null rest here (omega arith) h in
           record { gap = λ z gt lt. first_gap at (a + 1) n null rest here (omega arith) h z (omega arith) lt; within = omega (arith, next.1) }
       by x f (suc q) later g h k = widened (later q g h (omega arith))
@@ -140,7 +138,7 @@ module _ (b : ℕ → Option Element) where
         | Some d ↦ λ f. elim split [
           | inl same ↦
               let next = first_after at (a + 1) n null rest x (omega arith) (omega arith) (λ z more low. none z (omega arith) low) in
-              let here : d ≡ e = some_same d e (sym f ∙ ap b same ∙ is) in
+              let here : d ≡ e = same_Some d e (sym f ∙ ap b same ∙ is) in
               record { place = 0; next = next.0; here_is = ap (λ (c : Element). Some c) here; next_is = next.1; not_ended = next.2; inside = omega arith }
           | inr more ↦
               let later = in_row at (a + 1) n null rest y x e (omega arith) more le (omega arith) is none in

@@ -1,6 +1,6 @@
 -- Due times one after another, and those that may be passed over.
 use Rattle.std.proofs.Common.{◌≡◌, ℕ, zero, suc, ◌+◌, ◌-◌, ◌*◌, ◌/◌, ◌%◌, ◌<◌, ◌≤◌, Bool, true, false, not, cond, max, List, [], ◌∷◌, ◌++◌, length, Some, None, refl, sym, ap, ◌∙◌, arith, ltb, ⊎_elim, add-one}
-use Rattle.std.proofs.lemmas.Bool.{lt-ltb, ltb-true, lt-leb, le-leb, cases_lt}
+use Rattle.std.proofs.lemmas.Bool.{lt-ltb, lt-leb, le-leb, cases_lt, le-ltb}
 use Rattle.std.proofs.lemmas.Nat.{div-add-mod', div-mul-add, mod_below, mul-le}
 use Rattle.std.proofs.lemmas.Grind.{div_ceil_times}
 use Rattle.std.specs.Int.{div_ceil}
@@ -12,9 +12,6 @@ use Rattle.grant_machine_parts.specs.Filling.{PartMap, goes_on, placements_on}
 
 next_due : (p : Periodic) (i : ℕ) → due_at p (i + 1) ≡ due_at p i + p.interval
 next_due p i = grind arith
-
-not_lt : (a b : ℕ) → b ≤ a → ltb a b ≡ false
-not_lt a b le = elim (ltb a b) as (λ v. ltb a b ≡ v → v ≡ false) [ true ↦ λ e. absurd (let lt : a < b = ltb-true a b e in omega arith) | false ↦ λ e. refl ] refl
 
 div_more : (a t : ℕ) → 0 < t → (a + t) / t ≡ a / t + 1
 div_more a t pos =
@@ -37,13 +34,13 @@ due_step p i end pos lt =
     ∙ ap (λ b. suc (cond b ((end - 1 - (d + p.interval)) / p.interval + 1) 0)) (sym (lt-ltb (d + p.interval) end more)))
     (λ (last : end ≤ d + p.interval).
     ap (λ n. n + 1) (div-eq_of_lt (let small : end - 1 - d < p.interval = omega arith in small))
-    ∙ ap (λ b. suc (cond b ((end - 1 - (d + p.interval)) / p.interval + 1) 0)) (sym (not_lt (d + p.interval) end last)))
+    ∙ ap (λ b. suc (cond b ((end - 1 - (d + p.interval)) / p.interval + 1) 0)) (sym (le-ltb (d + p.interval) end last)))
     (cases_lt (d + p.interval) end)
     ∙ ap (λ n. suc (cond (ltb n end) ((end - 1 - n) / p.interval + 1) 0)) (sym next)
 
 -- none is
 pub due_none : (p : Periodic) (i end : ℕ) → end ≤ due_at p i → due_before p i end ≡ 0
-due_none p i end le = ap (λ b. cond b ((end - 1 - due_at p i) / p.interval + 1) 0) (not_lt (due_at p i) end le)
+due_none p i end le = ap (λ b. cond b ((end - 1 - due_at p i) / p.interval + 1) 0) (le-ltb (due_at p i) end le)
 
 pub run_done : (span : Extent) (p : Periodic) (i : ℕ) (ps : List Placement) → end_of span ≤ due_at p i → run_flow span (Some p) i ps ≡ record { placements = ps; index = i }
 run_done span p i ps le = ap (λ k. run_due_times span p k i ps) (due_none p i (end_of span) le)
@@ -115,7 +112,7 @@ full_stays span ps p i pos full le = ⊎_elim (λ (lt : due_at p i < end_of span
     kept : verdict span ps p i ≡ Kept
     kept =
         full_verdict span ps p i full
-        ∙ ap (λ b. cond b Missed (unplaced span (due_at p i + p.jitter))) (not_lt (due_at p i + p.jitter) span.start (omega arith))
+        ∙ ap (λ b. cond b Missed (unplaced span (due_at p i + p.jitter))) (le-ltb (due_at p i + p.jitter) span.start (omega arith))
         ∙ ap (λ b. cond b Kept Missed) (le-leb (end_of span) (due_at p i + p.jitter) le)
 
 -- so many due times, rounded up, lie before a bound

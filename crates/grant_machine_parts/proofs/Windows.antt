@@ -1,7 +1,7 @@
 -- Grants and polls begin within their windows, one after another.
-use Rattle.std.proofs.Common.{◌≡◌, ℕ, zero, suc, ◌+◌, ◌≤◌, Bool, true, false, cond, ◌&&◌, max, List, [], ◌∷◌, ◌++◌, length, Option, Some, None, refl, sym, ap, ◌∙◌, arith, ltb, leb, append_assoc}
+use Rattle.std.proofs.Common.{◌≡◌, ℕ, zero, suc, ◌+◌, ◌≤◌, Bool, true, false, cond, max, List, [], ◌∷◌, ◌++◌, length, Option, Some, None, refl, sym, ap, ◌∙◌, arith, ltb, leb, append_assoc}
 use Rattle.std.specs.List.{find, list_all, range_with_len, AllZip}
-use Rattle.std.proofs.lemmas.Bool.{leb-true}
+use Rattle.std.proofs.lemmas.Bool.{leb-true, and_parts}
 use Rattle.std.proofs.lemmas.List.{append-nil}
 use Rattle.minislot_time.specs.Extent.{Extent}
 use Rattle.grant_machine_parts.specs.Placing.{Placement, is_free, fits_at, first_fit, most_placements}
@@ -15,16 +15,12 @@ pub record FitsAt (span : Extent) (ps : List Placement) (n lo hi last x : ℕ) :
   pub within : x + n ≤ span.len
   pub free : list_all (is_free ps) (range_with_len x n) ≡ true
 
-and_true : (a b : Bool) → (a && b) ≡ true → (a ≡ true) × (b ≡ true)
-and_true true b e = (refl, e)
-and_true false b e = absurd cc
-
 fits_tells : (span : Extent) (ps : List Placement) (n lo hi last x : ℕ) → fits_at span ps n lo hi last x ≡ true → FitsAt span ps n lo hi last x
 fits_tells span ps n lo hi last x e =
-    let fifth = and_true _ _ e in
-    let fourth = and_true _ _ fifth.0 in
-    let third = and_true _ _ fourth.0 in
-    let first = and_true _ _ third.0 in
+    let fifth = and_parts _ _ e in
+    let fourth = and_parts _ _ fifth.0 in
+    let third = and_parts _ _ fourth.0 in
+    let first = and_parts _ _ third.0 in
     record { not_early = leb-true _ _ first.0; not_late = leb-true _ _ first.1; in_lease = leb-true _ _ third.1; within = leb-true _ _ fourth.1; free = fifth.1 }
 
 passes : {X : Type 0} (p : X → Bool) (xs : List X) (x : X) → find p xs ≡ Some x → p x ≡ true

@@ -1,7 +1,7 @@
 -- The bytes of a MAP that isn't refused are a body as it is written.
 use Rattle.std.proofs.Common.{◌≡◌, ℕ, ◌<◌, ◌≤◌, ◌^◌, true, not, List, ◌∷◌, map, length, None, refl, ap, subst, arith, leb, length-append, mod-lt}
 use Rattle.std.specs.List.{list_any, AllByRecursion}
-use Rattle.std.proofs.lemmas.Bool.{leb-true}
+use Rattle.std.proofs.lemmas.Bool.{leb-true, and_parts}
 use Rattle.std.proofs.lemmas.List.{length-map}
 use Rattle.map_body.specs.declared.element.Element.{Element}
 use Rattle.map_body.specs.Rules.{FitsElement, AreElements}
@@ -13,7 +13,7 @@ use Rattle.grant_machine_parts.specs.Cutting.{Filled, fill, fill_refusal, end_of
 use Rattle.grant_machine_parts.specs.Drawing.{null_element, pending_element, begins_at, elements_of, body_of, bytes_of}
 use Rattle.flow_state.proofs.Callers.{Has, has_map}
 use Rattle.grant_machine_parts.proofs.Orders.{in_order_length}
-use Rattle.flow_state.proofs.Callers.{IsWell, both, filter_fewer}
+use Rattle.flow_state.proofs.Callers.{IsWell, filter_fewer}
 use Rattle.grant_machine_parts.proofs.Fillings.{IsUse, plain_requested, grant_use, in_order_has, IsCut, is_cut, cut_is_well}
 use Rattle.grant_machine_parts.proofs.Offsets.{begun}
 use Rattle.grant_machine_parts.proofs.Bodies.{ArePlaced, fill_placed, count_few, are_elements, elements_fit}
@@ -73,13 +73,13 @@ module _ (t : Table) (len not_before ack : ℕ) (w : IsWell t) (ok : fill_refusa
 
   backoff_small : (start end : ℕ) → is_backoff start end ≡ true → (start < 2 ^ 8) × (end < 2 ^ 8)
   backoff_small start end e =
-      let first : start ≤ end = leb-true start end (both (leb start end) (leb end 15) e).0 in
-      let second : end ≤ 15 = leb-true end 15 (both (leb start end) (leb end 15) e).1 in
+      let first : start ≤ end = leb-true start end (and_parts (leb start end) (leb end 15) e).0 in
+      let second : end ≤ 15 = leb-true end 15 (and_parts (leb start end) (leb end 15) e).1 in
       (omega arith, omega arith)
 
   channel_backoffs : (c : Channel) → is_good_channel c ≡ true → (c.ranging_backoff.0 < 2 ^ 8) × (c.ranging_backoff.1 < 2 ^ 8) × (c.data_backoff.0 < 2 ^ 8) × (c.data_backoff.1 < 2 ^ 8)
   channel_backoffs c good =
-      let tests = both _ _ (both _ _ (both _ _ good).0).0 in
+      let tests = and_parts _ _ (and_parts _ _ (and_parts _ _ good).0).0 in
       let ranging = backoff_small c.ranging_backoff.0 c.ranging_backoff.1 tests.0 in
       let sending = backoff_small c.data_backoff.0 c.data_backoff.1 tests.1 in
       (ranging.0, ranging.1, sending.0, sending.1)

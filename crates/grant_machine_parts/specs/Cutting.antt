@@ -200,6 +200,10 @@ fill_requests t span ack passed =
 abbrev pub fill_polls : Table → Extent → Passed → Passed
 fill_polls t span granted = pass span (polls_of_flow t.row.channel) granted.flows granted.placements
 
+-- the flows of a table with their next due times, those whose leases end with the MAP too
+abbrev pub flows_served : Table → Extent → List FlowRow
+flows_served t span = (fill_polls t span (pass span (grants_of_flow t.row.channel) t.flows [])).flows
+
 abbrev pub fill_span : Table → Extent → ℕ → Filled
 fill_span t span ack = fill_requests t span ack (fill_polls t span (pass span (grants_of_flow t.row.channel) t.flows []))
 

@@ -11,10 +11,6 @@ use Rattle.grant_machine_parts.specs.Cutting.{Periodic, grants_of_kind, polls_of
 use Rattle.grant_machine_parts.specs.Filling.{last_due}
 use Rattle.grant_machine_parts.specs.Ranks.{Ranked}
 
--- the flow's row: with the number of the next due time in place of the time
-abbrev pub row_of : Flow → FlowRow
-row_of f = record { sid = f.sid; modem = f.modem; tag = f.tag; first = f.first; last = f.last; kind = f.kind; index = due_index f.kind f.due; last_sent = f.last_sent }
-
 -- a flow within the limits, at one of its due times
 pub record IsLent (f : Flow) : Type 0 where
   pub sid : f.sid ≤ last_sid

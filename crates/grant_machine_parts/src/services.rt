@@ -4,9 +4,10 @@ ghost use Rattle.std.specs.Prelude.{◌≡◌, ◌<◌, ◌≤◌, map, IfOk, On
 ghost use Rattle.std.specs.List.{AllByRecursion};
 ghost use Rattle.map_body.specs.Iucs as iucs;
 ghost use Rattle.flow_state.specs.Limits.{due_time, due_index};
+ghost use Rattle.flow_state.specs.View.{flow_view};
 ghost use Rattle.grant_machine_parts.specs.Cutting.{grant_iuc, unsolicited_iuc, run_flow, pass};
 ghost use Rattle.grant_machine_parts.specs.Filling.{last_due};
-ghost use Rattle.grant_machine_parts.specs.Lent.{row_of, IsLent, given, given_to};
+ghost use Rattle.grant_machine_parts.specs.Lent.{IsLent, given, given_to};
 
 use crate::due_times::Periodic;
 use crate::placing::Filling;
@@ -125,8 +126,8 @@ pub fn serve(
 ) -> Result<(), AllocError>
     requires { AllByRecursion IsLent flows.old }
     ensures span { filling.new.span ≡ filling.old.span }
-    ensures placed { OnOk result (filling.new.placements ≡ (pass filling.old.span (given_to service channel.now) (map row_of flows.old) filling.old.placements).placements) }
-    ensures flows { OnOk result (map row_of flows.new ≡ (pass filling.old.span (given_to service channel.now) (map row_of flows.old) filling.old.placements).flows) }
+    ensures placed { OnOk result (filling.new.placements ≡ (pass filling.old.span (given_to service channel.now) (map flow_view flows.old) filling.old.placements).placements) }
+    ensures flows { OnOk result (map flow_view flows.new ≡ (pass filling.old.span (given_to service channel.now) (map flow_view flows.old) filling.old.placements).flows) }
     ensures lent { OnOk result (AllByRecursion IsLent flows.new) }
 {
     for flow in flows.iter_mut() {

@@ -1,16 +1,8 @@
 -- Whether one more vote teaches its value.
-use Rattle.std.proofs.Common.{◌≡◌, ℕ, ◌*◌, ◌<◌, ◌≤◌, Bool, List, Option, Some, None, is_some, sym, refl, Result, Ok, Err, OnOk, OnErr, false, true}
+use Rattle.std.proofs.Common.{◌≡◌, ℕ, ◌*◌, ◌<◌, ◌≤◌, Bool, List, Option, Some, None, is_some, sym, refl, Result, Ok, Err, OnErr, false, true}
 use Rattle.std.proofs.lemmas.Bool.{lt-ltb, le-ltb}
 use Rattle.ballots.specs.Voting.{count_below}
 use Rattle.learner.specs.Tally.{Tally, is_voter, teaches, with_voter}
-
-pub on_ok : {T E P Q : Type 0} (r : Result T E) → (P → Q) → OnOk r P → OnOk r Q
-on_ok (Ok x) f p = f p
-on_ok (Err e) f p = tt
-
-pub on_err : {T E P Q : Type 0} (r : Result T E) → (P → Q) → OnErr r P → OnErr r Q
-on_err (Ok x) f p = tt
-on_err (Err e) f p = f p
 
 pub any_err : {T E P : Type 0} (r : Result T E) → P → OnErr r P
 any_err (Ok x) p = tt

@@ -1,7 +1,8 @@
 -- The first Null, its place, and what stands behind it.
-use Rattle.std.proofs.Common.{◌≡◌, ℕ, zero, suc, Bool, true, false, List, [], ◌∷◌, drop, Option, Some, None, refl, ap, ◌∙◌, arith, slice_get}
+use Rattle.std.proofs.Common.{◌≡◌, ℕ, zero, suc, true, false, List, [], ◌∷◌, drop, Option, Some, None, refl, ap, ◌∙◌, arith, slice_get}
 use Rattle.std.specs.Prelude.{if◌then◌else◌}
 use Rattle.std.proofs.lemmas.Bool.Decides.{Decides-eqb}
+use Rattle.std.proofs.lemmas.Bool.{false_from_ne_true}
 use Rattle.map_body.specs.declared.element.Element.{Element}
 use Rattle.map_body.specs.declared.interval.Interval.{Interval}
 use Rattle.map_body.specs.Rules.{IsNull, IsFirstNull}
@@ -15,12 +16,8 @@ intervals_behind (Some e) es = intervals (e ∷ es)
 null_is : (e : Element) (es : List Element) → IsNull (e ∷ es) 0 → is_null e ≡ true
 null_is e es h = (Decides-eqb e.iuc 7).1 (let same : e ≡ h.0 = cc in ap (λ (d : Element). d.iuc) same ∙ h.2)
 
-not_true : (b : Bool) → ¬ (b ≡ true) → b ≡ false
-not_true true h = absurd (h refl)
-not_true false h = refl
-
 null_isnt : (e : Element) (es : List Element) → ¬ IsNull (e ∷ es) 0 → is_null e ≡ false
-null_isnt e es h = not_true (is_null e) (λ on. h (e, refl, (Decides-eqb e.iuc 7).0 on))
+null_isnt e es h = false_from_ne_true (is_null e) (λ on. h (e, refl, (Decides-eqb e.iuc 7).0 on))
 
 -- the first Null of a list whose first element is none
 first_behind : (e : Element) (es : List Element) (k : ℕ) → IsFirstNull (e ∷ es) (suc k) → IsFirstNull es k

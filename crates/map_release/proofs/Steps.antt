@@ -1,5 +1,5 @@
 -- What is released of one more output.
-use Rattle.std.proofs.Common.{◌≡◌, ℕ, zero, suc, ◌+◌, ◌-◌, ◌≤◌, Bool, true, false, not, cond, List, [], ◌∷◌, ◌++◌, length, take, drop, filter, Option, Some, None, slice_get, refl, sym, ap, ◌∙◌, arith}
+use Rattle.std.proofs.Common.{◌≡◌, ℕ, zero, suc, ◌+◌, ◌-◌, ◌≤◌, Bool, true, false, not, cond, List, [], ◌∷◌, ◌++◌, length, take, drop, filter, Option, Some, slice_get, refl, sym, ap, ◌∙◌, arith}
 use Rattle.std.proofs.Math.ListN.{drop_of_length-le}
 use Rattle.std.proofs.lemmas.List.{length-take, length-take-le, take_all}
 use Rattle.grant_machine.specs.declared.output.Output.{Output}
@@ -78,11 +78,6 @@ looked_up log passed o is =
 -- as many outputs as values that are applied
 pub applied_length : (log : LogView) → IsLog log → length (applied_outputs log) ≡ log.applied
 applied_length log is = length-take-le log.applied (outputs_of_values (gapless log.learned)) (omega (arith, values_length (gapless log.learned), is.gapless))
-
-pub is_last : {X : Type 0} (n : ℕ) (xs : List X) → slice_get xs n ≡ None → length xs ≤ n
-is_last n [] none = omega arith
-is_last zero (x ∷ xs) none = absurd (cc (none))
-is_last (suc n) (x ∷ xs) none = omega (arith, is_last n xs none)
 
 -- all of them were passed
 pub released_all : (now cursor passed : ℕ) (log : LogView) → IsLog log → log.applied ≤ passed → released now cursor (take passed (applied_outputs log)) ≡ released now cursor (applied_outputs log)

@@ -2,7 +2,8 @@
 use Rattle.std.proofs.Common.{◌≡◌, ℕ, ◌<◌, ◌≤◌, Bool, true, false, cond, ◌==◌, ◌&&◌, ◌||◌, nat_lt, nat_le, List, [], ◌∷◌, ◌++◌, map, Option, Some, None, refl, sym, ◌∙◌, arith, ◌⊎◌, inl, inr, ◌↔◌}
 use Rattle.std.specs.List.{list_any}
 use Rattle.std.proofs.lemmas.Bool.Decides.{nat_tests}
-use Rattle.modem.proofs.Parts.{no_true, both, one_of, left_true, right_true, same_number, number_same, and_intro}
+use Rattle.std.proofs.lemmas.Bool.{and_parts, or_cases, or_left, or_right, and_from, eqb-true, eq-eqb}
+use Rattle.modem.proofs.Parts.{no_true}
 use Rattle.modem.specs.declared.kept.KeptInterval.{KeptInterval}
 use Rattle.modem.specs.State.{Kept, IsAt, HasAt}
 use Rattle.modem.specs.KeptIntervals.{kept_interval}
@@ -26,25 +27,25 @@ IsAt-kept k ch m sid iuc = (tested, meant)
     tested h =
         let low : nat_le k.start m ≡ true = let f : k.start ≤ m = h.from in grind (arith, nat_tests) in
         let high : nat_lt m k.«end» ≡ true = let t : m < k.«end» = h.to in grind (arith, nat_tests) in
-        and_intro _ _ (and_intro _ _ (number_same _ _ h.same_channel) (and_intro _ _ low high)) (and_intro _ _ (number_same _ _ h.same_sid) (number_same _ _ h.same_iuc))
+        and_from _ _ (and_from _ _ (eq-eqb _ _ h.same_channel) (and_from _ _ low high)) (and_from _ _ (eq-eqb _ _ h.same_sid) (eq-eqb _ _ h.same_iuc))
 
     meant : is_at ch m sid iuc k ≡ true → IsAt k ch m sid iuc
     meant h =
-        let parts : (covers ch m k ≡ true) × ((k.sid == sid) && (k.iuc == iuc) ≡ true) = both _ _ h in
-        let place : ((k.channel == ch) ≡ true) × ((nat_le k.start m && nat_lt m k.«end») ≡ true) = both _ _ parts.0 in
-        let range : (nat_le k.start m ≡ true) × (nat_lt m k.«end» ≡ true) = both _ _ place.1 in
-        let name = both _ _ parts.1 in
+        let parts : (covers ch m k ≡ true) × ((k.sid == sid) && (k.iuc == iuc) ≡ true) = and_parts _ _ h in
+        let place : ((k.channel == ch) ≡ true) × ((nat_le k.start m && nat_lt m k.«end») ≡ true) = and_parts _ _ parts.0 in
+        let range : (nat_le k.start m ≡ true) × (nat_lt m k.«end» ≡ true) = and_parts _ _ place.1 in
+        let name = and_parts _ _ parts.1 in
         let low : nat_le k.start m ≡ true = range.0 in
         let high : nat_lt m k.«end» ≡ true = range.1 in
-        record { same_channel = same_number _ _ place.0; same_sid = same_number _ _ name.0; same_iuc = same_number _ _ name.1; from = grind (arith, nat_tests); to = grind (arith, nat_tests) }
+        record { same_channel = eqb-true _ _ place.0; same_sid = eqb-true _ _ name.0; same_iuc = eqb-true _ _ name.1; from = grind (arith, nat_tests); to = grind (arith, nat_tests) }
 
 pub HasAt-kept : (ks : List KeptInterval) (ch m sid iuc : ℕ) → (list_any (λ k. is_at ch m sid iuc (kept_interval k)) ks ≡ true) ↔ HasAt (map kept_interval ks) ch m sid iuc
 HasAt-kept [] ch m sid iuc = (λ h. no_true h, λ n. absurd n)
 HasAt-kept (k ∷ ks) ch m sid iuc =
     let rest = HasAt-kept ks ch m sid iuc in
     let this = IsAt-kept (kept_interval k) ch m sid iuc in (
-      λ h. elim (one_of _ _ h) [ inl a ↦ inl (this.1 a) | inr b ↦ inr (rest.0 b) ],
-      λ h. elim h [ inl a ↦ left_true _ _ (this.0 a) | inr b ↦ right_true _ _ (rest.1 b) ],
+      λ h. elim (or_cases _ _ h) [ inl a ↦ inl (this.1 a) | inr b ↦ inr (rest.0 b) ],
+      λ h. elim h [ inl a ↦ or_left _ _ (this.0 a) | inr b ↦ or_right _ _ (rest.1 b) ],
     )
 
 -- with one more interval
@@ -57,7 +58,7 @@ HasAt-push ks c ch m sid iuc =
 
 -- the test of the order, both ways
 before : (c : Kept) (best : ℕ × ℕ) → (nat_lt c.sid best.0 || ((c.sid == best.0) && nat_lt c.iuc best.1)) ≡ true → (sid iuc : ℕ) → IsNotAfter best sid iuc → IsNotAfter (c.sid, c.iuc) sid iuc
-before c best h sid iuc after = elim (one_of _ _ h) [ inl less ↦ lesser less | inr rest ↦ same (both _ _ rest) ]
+before c best h sid iuc after = elim (or_cases _ _ h) [ inl less ↦ lesser less | inr rest ↦ same (and_parts _ _ rest) ]
   where
     lesser : nat_lt c.sid best.0 ≡ true → IsNotAfter (c.sid, c.iuc) sid iuc
     lesser less =
@@ -66,7 +67,7 @@ before c best h sid iuc after = elim (one_of _ _ h) [ inl less ↦ lesser less |
 
     same : ((c.sid == best.0) ≡ true) × (nat_lt c.iuc best.1 ≡ true) → IsNotAfter (c.sid, c.iuc) sid iuc
     same parts =
-        let e : c.sid ≡ best.0 = same_number _ _ parts.0 in
+        let e : c.sid ≡ best.0 = eqb-true _ _ parts.0 in
         let t = parts.1 in
         let l : c.iuc < best.1 = grind (arith, nat_tests) in
         elim after [ inl a ↦ inl (omega arith) | inr b ↦ inr (omega arith, omega arith) ]
@@ -83,7 +84,7 @@ module _ (ks : List Kept) (c : Kept) (ch m : ℕ) where
   skip first skips h = go first h
     where
       old : (sid iuc : ℕ) → HasAt (ks ++ c ∷ []) ch m sid iuc → HasAt ks ch m sid iuc
-      old sid iuc there = elim ((HasAt-push ks c ch m sid iuc).0 there) [ inl a ↦ a | inr x ↦ no_true (sym skips ∙ (both _ _ ((IsAt-kept c ch m sid iuc).0 x)).0) ]
+      old sid iuc there = elim ((HasAt-push ks c ch m sid iuc).0 there) [ inl a ↦ a | inr x ↦ no_true (sym skips ∙ (and_parts _ _ ((IsAt-kept c ch m sid iuc).0 x)).0) ]
 
       go : (first : Option (ℕ × ℕ)) → Counts ks ch m first → Counts (ks ++ c ∷ []) ch m first
       go None h = λ sid iuc there. h sid iuc (old sid iuc there)
@@ -92,7 +93,7 @@ module _ (ks : List Kept) (c : Kept) (ch m : ℕ) where
   -- the cell itself
   this : covers ch m c ≡ true → HasAt (ks ++ c ∷ []) ch m c.sid c.iuc
   this counts =
-      (HasAt-push ks c ch m c.sid c.iuc).1 (inr ((IsAt-kept c ch m c.sid c.iuc).1 (and_intro _ _ counts (and_intro _ _ (number_same c.sid c.sid refl) (number_same c.iuc c.iuc refl)))))
+      (HasAt-push ks c ch m c.sid c.iuc).1 (inr ((IsAt-kept c ch m c.sid c.iuc).1 (and_from _ _ counts (and_from _ _ (eq-eqb c.sid c.sid refl) (eq-eqb c.iuc c.iuc refl)))))
 
   count : (first : Option (ℕ × ℕ)) → covers ch m c ≡ true → Counts ks ch m first → Counts (ks ++ c ∷ []) ch m (first_of first c)
   count None counts h =

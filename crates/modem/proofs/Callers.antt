@@ -1,3 +1,4 @@
--- What crates above cite of a modem's steps: hearings and ticks keep what a modem stands for, and what it transmits by its SIDs it holds.
+-- What crates above cite: hearings and ticks keep what a modem stands for, what it transmits by its SIDs it holds, and one time near a reference has given low bits.
 pub use Rattle.modem.proofs.Stands.{Hears-stands, Ticks-stands}
+pub use Rattle.modem.proofs.Times.{near_once}
 pub use Rattle.modem.proofs.Transmits.{Ticks-held}

@@ -2,13 +2,14 @@
 use Rattle.std.proofs.Common.{◌≡◌, ℕ, zero, suc, ◌<◌, ◌≤◌, Bool, true, false, List, [], ◌∷◌, Option, Some, slice_get, refl, sym, ap, ◌∙◌, arith, ◌⊎◌, inl, inr}
 use Rattle.std.specs.Option.{option_map_or}
 use Rattle.std.proofs.lemmas.Option.{slice_get_within}
+use Rattle.std.proofs.lemmas.Bool.{eqb-true, eq-eqb}
 use Rattle.map_body.specs.declared.element.Element.{Element}
 use Rattle.map_body.specs.declared.head.Head.{Head}
 use Rattle.map_body.specs.Body.{Body}
 use Rattle.map_body.specs.Rules.{NoNullBefore}
 use Rattle.map_body.specs.Intervals.{is_null}
 use Rattle.modem.specs.Held.{HasCell}
-use Rattle.modem.proofs.Parts.{no_true, same_number, number_same}
+use Rattle.modem.proofs.Parts.{no_true}
 
 -- the first element covers x, and the second is the next one
 pub record Covers (e next : Element) (x sid iuc : ℕ) : Type 0 where
@@ -31,11 +32,11 @@ plain : (e : Element) → (e.iuc ≡ 7 → ⊥) → is_null e ≡ false
 plain e no_null = go (is_null e) refl
   where
     go : (b : Bool) → is_null e ≡ b → is_null e ≡ false
-    go true is = absurd (no_null (same_number _ _ is))
+    go true is = absurd (no_null (eqb-true _ _ is))
     go false is = is
 
 not_plain : (e : Element) → is_null e ≡ false → e.iuc ≡ 7 → ⊥
-not_plain e is null = no_true (sym is ∙ number_same _ _ null)
+not_plain e is null = no_true (sym is ∙ eq-eqb _ _ null)
 
 -- no Null stands before the second element, where the first is none
 first_plain : (h : Head) (e : Element) (es : List Element) → is_null e ≡ false → NoNullBefore (e ∷ es) 1

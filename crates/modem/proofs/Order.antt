@@ -1,27 +1,19 @@
 -- Kept intervals in order: what is found among them, added and let go.
-use Rattle.std.proofs.Common.{◌≡◌, ℕ, zero, suc, ◌+◌, ◌-◌, ◌<◌, ◌≤◌, Bool, true, false, not, ◌==◌, ◌&&◌, ◌||◌, if◌then◌else◌, nat_lt, ltb, leb, List, [], ◌∷◌, ◌++◌, length, take, drop, map, get_or, refl, sym, subst, ◌∙◌, arith, ◌⊎◌, inl, inr, ◌↔◌, Result, Ok, Err, IsOk}
+use Rattle.std.proofs.Common.{◌≡◌, ℕ, zero, suc, ◌+◌, ◌-◌, ◌<◌, ◌≤◌, true, false, not, ◌==◌, ◌&&◌, if◌then◌else◌, nat_lt, ltb, leb, List, [], ◌∷◌, ◌++◌, length, take, drop, map, get_or, refl, sym, subst, ◌∙◌, arith, ◌⊎◌, inl, inr, ◌↔◌, Result, Ok, Err, IsOk}
 use Rattle.std.specs.List.{AllWithin, insert}
 use Rattle.std.specs.Result.{is_ok}
 use Rattle.std.specs.List.Sorted.{IsNonDecreasingBy}
-use Rattle.std.proofs.lemmas.Bool.{cases_lt, ltb-true, leb-true, leb-false}
+use Rattle.std.proofs.lemmas.Bool.{cases_lt, ltb-true, leb-true, leb-false, and_parts, eqb-true, or_parts, not-false}
 use Rattle.std.proofs.lemmas.Bool.Decides.{nat_tests}
 use Rattle.std.proofs.lemmas.Grind.{common_steps}
 use Rattle.std.proofs.lemmas.List.{map-append, take-append-drop, get_or-take, get_or-drop, length-take-le, drop-drop, get_or_append_left, get_or-append_right}
 use Rattle.std.proofs.lemmas.List.Elements.{All-append, All-cons, All-take, All-drop}
 use Rattle.std.proofs.lemmas.List.Sorted.{IsNonDecreasingBy-insert}
-use Rattle.modem.proofs.Parts.{no_true, both, same_number}
+use Rattle.modem.proofs.Parts.{no_true}
 use Rattle.modem.proofs.AtKept.{HasAt-append}
 use Rattle.modem.specs.declared.kept.KeptInterval.{KeptInterval}
 use Rattle.modem.specs.State.{Kept, IsAt, HasAt}
 use Rattle.modem.specs.KeptIntervals.{kept_interval, place, place_of, IsShort, AreKept, is_live}
-
-neither : (a b : Bool) → (a || b) ≡ false → (a ≡ false) × (b ≡ false)
-neither true b h = no_true (sym h)
-neither false b h = (refl, h)
-
-not_not : (b : Bool) → not b ≡ false → b ≡ true
-not_not true h = refl
-not_not false h = no_true (sym h)
 
 -- what is at a minislot stands at an index
 record Found (ks : List KeptInterval) (ch m sid iuc : ℕ) : Type 0 where
@@ -144,8 +136,8 @@ gone ks n ch clock at_ch m sid iuc le ended late = none_there (take n ks) at_ch 
         let len : length (take n ks) ≡ n = length-take-le n ks le in
         let here : get_or ks i k ≡ k = sym (get_or-take n ks i k (omega arith)) ∙ is in
         let over : is_live ch clock k ≡ false = subst (λ (o : KeptInterval). is_live ch clock o ≡ false) here (ended i k (omega arith) (omega arith)) in
-        let parts = neither (not (k.channel == ch)) (nat_lt clock k.stop) over in
-        let same : k.channel ≡ ch = same_number _ _ (not_not _ parts.0) in
+        let parts = or_parts (not (k.channel == ch)) (nat_lt clock k.stop) over in
+        let same : k.channel ≡ ch = eqb-true _ _ (not-false _ parts.0) in
         let past : nat_lt clock k.stop ≡ false = parts.1 in
         let stopped : k.stop ≤ clock = grind (arith, nat_tests) in
         let now : clock ≤ m = late (sym same ∙ x.same_channel) in
@@ -192,18 +184,18 @@ HasAt-one_more was now next is k ch m sid iuc so_far one =
 -- equal in each field
 pub IsAt-equal : (a b : KeptInterval) (ch m sid iuc : ℕ) → ((a.channel == b.channel) && ((a.sid == b.sid) && ((a.iuc == b.iuc) && ((a.start == b.start) && (a.stop == b.stop))))) ≡ true → IsAt (kept_interval b) ch m sid iuc → IsAt (kept_interval a) ch m sid iuc
 IsAt-equal a b ch m sid iuc same x =
-    let one = both _ _ same in
-    let two = both _ _ one.1 in
-    let three = both _ _ two.1 in
-    let four = both _ _ three.1 in
-    let start : a.start ≡ b.start = same_number _ _ four.0 in
-    let stop : a.stop ≡ b.stop = same_number _ _ four.1 in
+    let one = and_parts _ _ same in
+    let two = and_parts _ _ one.1 in
+    let three = and_parts _ _ two.1 in
+    let four = and_parts _ _ three.1 in
+    let start : a.start ≡ b.start = eqb-true _ _ four.0 in
+    let stop : a.stop ≡ b.stop = eqb-true _ _ four.1 in
     let from : b.start ≤ m = x.from in
     let to : m < b.stop = x.to in
     record {
-      same_channel = same_number _ _ one.0 ∙ x.same_channel;
-      same_sid = same_number _ _ two.0 ∙ x.same_sid;
-      same_iuc = same_number _ _ three.0 ∙ x.same_iuc;
+      same_channel = eqb-true _ _ one.0 ∙ x.same_channel;
+      same_sid = eqb-true _ _ two.0 ∙ x.same_sid;
+      same_iuc = eqb-true _ _ three.0 ∙ x.same_iuc;
       from = omega arith;
       to = omega arith;
     }

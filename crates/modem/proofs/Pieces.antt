@@ -3,7 +3,8 @@ use Rattle.std.proofs.Common.{◌≡◌, ℕ, suc, ◌+◌, ◌<◌, ◌≤◌, 
 use Rattle.std.specs.List.{All, filter_map, cons_option}
 use Rattle.std.proofs.lemmas.Bool.Decides.{nat_tests}
 use Rattle.std.proofs.lemmas.List.Elements.{All-nil, All-cons, All-append}
-use Rattle.modem.proofs.Parts.{no_true, both, one_of, left_true, right_true, and_intro, same_number, number_same}
+use Rattle.std.proofs.lemmas.Bool.{and_parts, or_cases, or_left, or_right, and_from, eqb-true, eq-eqb}
+use Rattle.modem.proofs.Parts.{no_true}
 use Rattle.modem.proofs.Order.{HasAt-joined}
 use Rattle.modem.specs.declared.kept.KeptInterval.{KeptInterval}
 use Rattle.modem.specs.declared.known.Lease.{Lease}
@@ -23,21 +24,21 @@ is_at_most a b h = grind (arith, nat_tests)
 -- a lease of the interval's SID: its part has what the interval has in the lease
 cut_in : (k : KeptInterval) (l : Lease) (ch m sid iuc : ℕ) → is_of k.channel k.sid l ≡ true → IsAt (kept_interval (cut_to k l)) ch m sid iuc → (covers ch sid m l ≡ true) × IsAt (kept_interval k) ch m sid iuc
 cut_in k l ch m sid iuc of x =
-    let parts : ((l.channel == k.channel) ≡ true) × ((l.sid == k.sid) ≡ true) = both _ _ of in
+    let parts : ((l.channel == k.channel) ≡ true) × ((l.sid == k.sid) ≡ true) = and_parts _ _ of in
     let from : max k.start l.first ≤ m = x.from in
     let to : m < min k.stop (l.last + 1) = x.to in
     let first : l.first ≤ m = omega arith in
     let last : m ≤ l.last = omega arith in (
-      and_intro _ _
-          (and_intro _ _ (number_same _ _ (same_number _ _ parts.0 ∙ x.same_channel)) (number_same _ _ (same_number _ _ parts.1 ∙ x.same_sid)))
-          (and_intro _ _ (is_at_most l.first m first) (is_at_most m l.last last)),
+      and_from _ _
+          (and_from _ _ (eq-eqb _ _ (eqb-true _ _ parts.0 ∙ x.same_channel)) (eq-eqb _ _ (eqb-true _ _ parts.1 ∙ x.same_sid)))
+          (and_from _ _ (is_at_most l.first m first) (is_at_most m l.last last)),
       record { same_channel = x.same_channel; same_sid = x.same_sid; same_iuc = x.same_iuc; from = omega arith; to = omega arith },
     )
 
 cut_out : (k : KeptInterval) (l : Lease) (ch m sid iuc : ℕ) → covers ch sid m l ≡ true → IsAt (kept_interval k) ch m sid iuc → IsAt (kept_interval (cut_to k l)) ch m sid iuc
 cut_out k l ch m sid iuc c x =
-    let parts : (is_of ch sid l ≡ true) × ((nat_le l.first m && nat_le m l.last) ≡ true) = both _ _ c in
-    let range : (nat_le l.first m ≡ true) × (nat_le m l.last ≡ true) = both _ _ parts.1 in
+    let parts : (is_of ch sid l ≡ true) × ((nat_le l.first m && nat_le m l.last) ≡ true) = and_parts _ _ c in
+    let range : (nat_le l.first m ≡ true) × (nat_le m l.last ≡ true) = and_parts _ _ parts.1 in
     let first : l.first ≤ m = at_most l.first m range.0 in
     let last : m ≤ l.last = at_most m l.last range.1 in
     let from : k.start ≤ m = x.from in
@@ -47,9 +48,9 @@ cut_out k l ch m sid iuc c x =
 -- a lease of another SID covers nothing of the interval
 not_of : (k : KeptInterval) (l : Lease) (ch m sid iuc : ℕ) → is_of k.channel k.sid l ≡ false → covers ch sid m l ≡ true → IsAt (kept_interval k) ch m sid iuc → ⊥
 not_of k l ch m sid iuc off c x =
-    let parts : (is_of ch sid l ≡ true) × ((nat_le l.first m && nat_le m l.last) ≡ true) = both _ _ c in
-    let of : ((l.channel == ch) ≡ true) × ((l.sid == sid) ≡ true) = both _ _ parts.0 in
-    no_true (sym off ∙ and_intro _ _ (number_same _ _ (same_number _ _ of.0 ∙ sym x.same_channel)) (number_same _ _ (same_number _ _ of.1 ∙ sym x.same_sid)))
+    let parts : (is_of ch sid l ≡ true) × ((nat_le l.first m && nat_le m l.last) ≡ true) = and_parts _ _ c in
+    let of : ((l.channel == ch) ≡ true) × ((l.sid == sid) ≡ true) = and_parts _ _ parts.0 in
+    no_true (sym off ∙ and_from _ _ (eq-eqb _ _ (eqb-true _ _ of.0 ∙ sym x.same_channel)) (eq-eqb _ _ (eqb-true _ _ of.1 ∙ sym x.same_sid)))
 
 -- the parts of one interval
 HasAt-pieces : (leases : List Lease) (k : KeptInterval) (ch m sid iuc : ℕ) → HasAt (map kept_interval (filter_map (piece k) leases)) ch m sid iuc ↔ ((is_own_at leases ch sid m ≡ true) × IsAt (kept_interval k) ch m sid iuc)
@@ -58,12 +59,12 @@ HasAt-pieces (l ∷ ls) k ch m sid iuc = go (HasAt-pieces ls k ch m sid iuc) (is
   where
     go : (HasAt (map kept_interval (filter_map (piece k) ls)) ch m sid iuc ↔ ((is_own_at ls ch sid m ≡ true) × IsAt (kept_interval k) ch m sid iuc)) → (b : Bool) → is_of k.channel k.sid l ≡ b → HasAt (map kept_interval (cons_option (if b then Some (cut_to k l) else None) (filter_map (piece k) ls))) ch m sid iuc ↔ ((is_own_at (l ∷ ls) ch sid m ≡ true) × IsAt (kept_interval k) ch m sid iuc)
     go rest true of = (
-      λ h. elim h [ inl x ↦ let c = cut_in k l ch m sid iuc of x in (left_true _ _ c.0, c.1) | inr y ↦ let r = rest.0 y in (right_true _ _ r.0, r.1) ],
-      λ h. elim (one_of _ _ h.0) [ inl c ↦ inl (cut_out k l ch m sid iuc c h.1) | inr own ↦ inr (rest.1 (own, h.1)) ],
+      λ h. elim h [ inl x ↦ let c = cut_in k l ch m sid iuc of x in (or_left _ _ c.0, c.1) | inr y ↦ let r = rest.0 y in (or_right _ _ r.0, r.1) ],
+      λ h. elim (or_cases _ _ h.0) [ inl c ↦ inl (cut_out k l ch m sid iuc c h.1) | inr own ↦ inr (rest.1 (own, h.1)) ],
     )
     go rest false off = (
-      λ h. let r = rest.0 h in (right_true _ _ r.0, r.1),
-      λ h. elim (one_of _ _ h.0) [ inl c ↦ absurd (not_of k l ch m sid iuc off c h.1) | inr own ↦ rest.1 (own, h.1) ],
+      λ h. let r = rest.0 h in (or_right _ _ r.0, r.1),
+      λ h. elim (or_cases _ _ h.0) [ inl c ↦ absurd (not_of k l ch m sid iuc off c h.1) | inr own ↦ rest.1 (own, h.1) ],
     )
 
 -- the parts of all of them

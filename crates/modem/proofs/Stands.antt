@@ -14,7 +14,8 @@ use Rattle.modem.proofs.Times.{near_once}
 use Rattle.map_body.specs.Body.{Body}
 use Rattle.map_body.proofs.Callers.{one_body}
 use Rattle.std.proofs.lemmas.List.Folds.{list_any-append}
-use Rattle.modem.proofs.Parts.{no_true, both, one_of, left_true, right_true, and_intro, same_number, number_same}
+use Rattle.std.proofs.lemmas.Bool.{and_parts, or_cases, or_left, or_right, and_from, eqb-true, eq-eqb}
+use Rattle.modem.proofs.Parts.{no_true}
 use Rattle.modem.proofs.Clocks.{clock_of-row, clock_of-placed, clock_of-with_ucd, found_id}
 use Rattle.grant_machine.specs.declared.output.Output.{Output}
 use Rattle.grant_machine.specs.declared.output.Output.TheVariants.{Nothing, ChannelSet, Assigned, Map as MapOutput, Refused}
@@ -104,21 +105,21 @@ same_parts a b c d e x y z u v same = (cc, cc, cc, cc, cc)
 -- an equal lease covers the same
 same_covers : (l lease : Lease) (ch sid m : ℕ) → is_lease lease l ≡ true → covers ch sid m lease ≡ true → covers ch sid m l ≡ true
 same_covers l lease ch sid m same c =
-    let parts = both _ _ same in
-    let name = both _ _ parts.0 in
-    let range = both _ _ parts.1 in
+    let parts = and_parts _ _ same in
+    let name = and_parts _ _ parts.0 in
+    let range = and_parts _ _ parts.1 in
     let test : ℕ → ℕ → ℕ → ℕ → Bool = λ a b f t. ((a == ch) && (b == sid)) && (nat_le f m && nat_le m t) in
-    ap (λ a. test a l.sid l.first l.last) (same_number _ _ name.0)
-    ∙ ap (λ b. test lease.channel b l.first l.last) (same_number _ _ name.1)
-    ∙ ap (λ f. test lease.channel lease.sid f l.last) (same_number _ _ range.0)
-    ∙ ap (λ t. test lease.channel lease.sid lease.first t) (same_number _ _ range.1)
+    ap (λ a. test a l.sid l.first l.last) (eqb-true _ _ name.0)
+    ∙ ap (λ b. test lease.channel b l.first l.last) (eqb-true _ _ name.1)
+    ∙ ap (λ f. test lease.channel lease.sid f l.last) (eqb-true _ _ range.0)
+    ∙ ap (λ t. test lease.channel lease.sid lease.first t) (eqb-true _ _ range.1)
     ∙ c
 
 -- what a lease covers that is one of them is covered already
 covered_before : (leases : List Lease) (lease : Lease) (ch sid m : ℕ) → has_lease leases lease ≡ true → covers ch sid m lease ≡ true → is_own_at leases ch sid m ≡ true
 covered_before [] lease ch sid m there c = no_true there
 covered_before (l ∷ ls) lease ch sid m there c =
-    elim (one_of _ _ there) [ inl this ↦ left_true _ _ (same_covers l lease ch sid m this c) | inr more ↦ right_true _ _ (covered_before ls lease ch sid m more c) ]
+    elim (or_cases _ _ there) [ inl this ↦ or_left _ _ (same_covers l lease ch sid m this c) | inr more ↦ or_right _ _ (covered_before ls lease ch sid m more c) ]
 
 -- the leases with one more
 own_with : (leases : List Lease) (lease : Lease) (ch sid m : ℕ) → (is_own_at (with_lease leases lease) ch sid m ≡ true) ↔ ((covers ch sid m lease ≡ true) ⊎ (is_own_at leases ch sid m ≡ true))
@@ -128,19 +129,19 @@ own_with leases lease ch sid m = go (has_lease leases lease) refl
     go true there = (λ own. inr own, λ h. elim h [ inl c ↦ covered_before leases lease ch sid m there c | inr own ↦ own ])
     go false e =
         let joined = list_any-append (covers ch sid m) leases (lease ∷ []) in (
-          λ own. elim (one_of _ _ (sym joined ∙ own)) [ inl was ↦ inr was | inr new ↦ elim (one_of _ _ new) [ inl this ↦ inl this | inr none ↦ no_true none ] ],
-          λ h. joined ∙ elim h [ inl this ↦ right_true _ _ (left_true _ _ this) | inr own ↦ left_true _ _ own ],
+          λ own. elim (or_cases _ _ (sym joined ∙ own)) [ inl was ↦ inr was | inr new ↦ elim (or_cases _ _ new) [ inl this ↦ inl this | inr none ↦ no_true none ] ],
+          λ h. joined ∙ elim h [ inl this ↦ or_right _ _ (or_left _ _ this) | inr own ↦ or_left _ _ own ],
         )
 
 -- the lease of an Assigned covers what it leases
 leased : (modem id ch sid first last at_ch at_sid m : ℕ) → modem ≡ id → covers at_ch at_sid m (lease_of ch sid first last) ≡ true → Leases id (Assigned modem ch sid first last) at_ch at_sid m
 leased modem id ch sid first last at_ch at_sid m mine c =
-    let parts : (((ch == at_ch) && (sid == at_sid)) ≡ true) × ((nat_le first m && nat_le m last) ≡ true) = both _ _ c in
-    let name : ((ch == at_ch) ≡ true) × ((sid == at_sid) ≡ true) = both _ _ parts.0 in
-    let range : (nat_le first m ≡ true) × (nat_le m last ≡ true) = both _ _ parts.1 in
+    let parts : (((ch == at_ch) && (sid == at_sid)) ≡ true) × ((nat_le first m && nat_le m last) ≡ true) = and_parts _ _ c in
+    let name : ((ch == at_ch) ≡ true) × ((sid == at_sid) ≡ true) = and_parts _ _ parts.0 in
+    let range : (nat_le first m ≡ true) × (nat_le m last ≡ true) = and_parts _ _ parts.1 in
     let low : nat_le first m ≡ true = range.0 in
     let high : nat_le m last ≡ true = range.1 in
-    record { first = first; last = last; assigned = same_output _ _ _ _ _ _ _ _ mine (same_number _ _ name.0) (same_number _ _ name.1); begun = grind (arith, nat_tests); not_ended = grind (arith, nat_tests) }
+    record { first = first; last = last; assigned = same_output _ _ _ _ _ _ _ _ mine (eqb-true _ _ name.0) (eqb-true _ _ name.1); begun = grind (arith, nat_tests); not_ended = grind (arith, nat_tests) }
 
 covering : (modem id ch sid first last at_ch at_sid m : ℕ) → Leases id (Assigned modem ch sid first last) at_ch at_sid m → covers at_ch at_sid m (lease_of ch sid first last) ≡ true
 covering modem id ch sid first last at_ch at_sid m l =
@@ -149,7 +150,7 @@ covering modem id ch sid first last at_ch at_sid m l =
     let to : m ≤ l.last = l.not_ended in
     let low : nat_le first m ≡ true = grind (arith, nat_tests) in
     let high : nat_le m last ≡ true = grind (arith, nat_tests) in
-    and_intro _ _ (and_intro _ _ (number_same _ _ same_ch) (number_same _ _ same_sid)) (and_intro _ _ low high)
+    and_from _ _ (and_from _ _ (eq-eqb _ _ same_ch) (eq-eqb _ _ same_sid)) (and_from _ _ low high)
 
 -- an Assigned that is heard
 Assigned-stands : (old new : State) (modem ch sid first last near : ℕ) (answer : Heard) (hearings : List Hearing) (mine : Bool) → (modem == old.id) ≡ mine → MatchBool mine ((answer ≡ Taken) × (new ≡ record old { leases = with_lease old.leases (lease_of ch sid first last) })) ((answer ≡ NotMine) × (new ≡ old)) → StandsFor old hearings → StandsFor new (record { output = Assigned modem ch sid first last; near = near; answer = answer } ∷ hearings)
@@ -157,7 +158,7 @@ Assigned-stands old new modem ch sid first last near answer hearings true mine h
   leases = λ ch' sid' m.
       let own = own_with old.leases (lease_of ch sid first last) ch' sid' m in
       let known = was.leases ch' sid' m in (
-        λ is. elim (own.0 is) [ inl c ↦ inl (leased modem old.id ch sid first last ch' sid' m (same_number _ _ mine) c) | inr before ↦ inr (known.0 before) ],
+        λ is. elim (own.0 is) [ inl c ↦ inl (leased modem old.id ch sid first last ch' sid' m (eqb-true _ _ mine) c) | inr before ↦ inr (known.0 before) ],
         λ heard. own.1 (elim heard [ inl l ↦ inl (covering modem old.id ch sid first last ch' sid' m l) | inr before ↦ inr (known.1 before) ]),
       );
   holds = λ ch m sid iuc late.
@@ -171,7 +172,7 @@ Assigned-stands old new modem ch sid first last near answer hearings false other
     stranger ch' sid' first' last' e =
         let one : modem ≡ new.id = (same_parts _ _ _ _ _ _ _ _ _ _ e).0 in
         let same : new.id ≡ old.id = ap (λ (v : State). v.id) h.1 in
-        no_true (sym other ∙ number_same _ _ (one ∙ same))
+        no_true (sym other ∙ eq-eqb _ _ (one ∙ same))
 
 -- what hearing an output makes a modem stand for: the hearing is added
 pub Hears-stands : (old new : State) (output : Output) (near : ℕ) (answer : Heard) (hearings : List Hearing) → Hears old output near answer new → StandsFor old hearings → StandsFor new (record { output = output; near = near; answer = answer } ∷ hearings)

@@ -1,6 +1,6 @@
 -- What a call of a node does to the written world.
-use Rattle.std.proofs.Common.{◌≡◌, ◌<◌, ◌≤◌, ◌++◌, inl, inr, ℕ, zero, suc, List, [], ◌∷◌, Option, Some, None, Result, Ok, Err, Bool, true, false, IsTrue, length, get_or, slice_get, slice_set, refl, sym, ap, ◌∙◌, subst, arith, append_assoc, append-nil}
-use Rattle.std.proofs.lemmas.Option.{slice_get_read}
+use Rattle.std.proofs.Common.{◌≡◌, ◌<◌, ◌≤◌, ◌++◌, inl, inr, ℕ, List, [], ◌∷◌, Option, Some, None, Result, Ok, Err, Bool, true, false, IsTrue, length, get_or, slice_get, slice_set, refl, sym, ap, ◌∙◌, subst, append_assoc, append-nil}
+use Rattle.std.proofs.lemmas.Option.{slice_get_read, slice_get_past}
 use Rattle.ballots.specs.declared.letters.Letter.{Letter}
 use Rattle.acceptor.specs.Content.{Content, Write, after_write, record_write}
 use Rattle.map_release.specs.declared.numbered.Numbered.{Numbered}
@@ -83,11 +83,6 @@ same_at xs k x y lt is_x is_y =
     let a = slice_get_read xs (length xs) k x refl lt is_x in
     let b = slice_get_read xs (length xs) k y refl lt is_y in
     cc
-
-get_none : {A : Type 0} (xs : List A) (k : ℕ) → length xs ≤ k → slice_get xs k ≡ None
-get_none [] k le = refl
-get_none (x ∷ xs) zero le = absurd (omega arith)
-get_none (x ∷ xs) (suc k) le = get_none xs k (omega arith)
 
 -- a call of node k, in each written world
 pub record CallOf {N : Type 0} {g : Ghosts N} (nodes : List Standing) (k : ℕ) (cause : Cause) (given : Result (List Letter) NodeFault) (mid : Seat N g) : Type 0 where
@@ -245,7 +240,7 @@ stays members w k s asked answer at moved = asks members w w k s asked answer at
 
 -- there is no node k
 pub no_node : (members : ℕ) (w : Written) (k : ℕ) (asked : Ask) → length w.nodes ≤ k → OfNode members w k (slice_get w.nodes k) asked (Refused NoNode) w
-no_node members w k asked le = subst (λ (s : Option Standing). OfNode members w k s asked (Refused NoNode) w) (sym (get_none w.nodes k le)) (refl, refl)
+no_node members w k asked le = subst (λ (s : Option Standing). OfNode members w k s asked (Refused NoNode) w) (sym (slice_get_past w.nodes k le)) (refl, refl)
 
 -- a node that can't be called, whatever it is asked but a restart
 pub misses : (members : ℕ) (w : Written) (k : ℕ) (asked : Ask) (refusal : Refusal) → ((c : Content) (doubt : Option Write) → Moves members k (Stopped c doubt) asked (Refused NodeDown) (quiet (Stopped c doubt)))
@@ -263,7 +258,7 @@ comes members w w' i letter k takes answer lt is to goes =
 
 -- there is no such letter
 pub no_letter : (members : ℕ) (w : Written) (i : ℕ) (takes : Letter → Ask) → length w.letters ≤ i → Comes members w (slice_get w.letters i) takes (Refused NoLetter) w
-no_letter members w i takes le = subst (λ (l : Option Letter). Comes members w l takes (Refused NoLetter) w) (sym (get_none w.letters i le)) (refl, refl)
+no_letter members w i takes le = subst (λ (l : Option Letter). Comes members w l takes (Refused NoLetter) w) (sym (slice_get_past w.letters i le)) (refl, refl)
 
 -- one more output is numbered, and one less is left
 pub numbered_more : (outputs new : List ReleasedOutput) (k : ℕ) (x : Numbered) (rest left : List Numbered) (all : List ReleasedOutput) → new ≡ outputs ++ record { node = k; numbered = x } ∷ [] → rest ≡ x ∷ left

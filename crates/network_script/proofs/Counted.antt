@@ -1,7 +1,7 @@
 -- The counts of failures, event by event.
 use Rattle.std.proofs.Common.{◌≡◌, ◌≤◌, ◌+◌, ◌-◌, ◌^◌, ◌⊎◌, inl, inr, ℕ, List, [], ◌∷◌, Option, Some, None, Bool, true, false, slice_get, slice_set, refl, sym, ap, ◌∙◌, subst, arith, ◌&&◌, if◌then◌else◌}
 use Rattle.std.proofs.lemmas.Bool.Decides.{eqb_tells}
-use Rattle.std.proofs.lemmas.Bool.{cases_lt}
+use Rattle.std.proofs.lemmas.Bool.{cases_lt, and_parts, false≢true}
 use Rattle.std.proofs.lemmas.Option.{slice_get_within}
 use Rattle.std.proofs.Math.Nat.{min-eq_left, min-eq_right}
 use Rattle.acceptor.specs.Faults.{HasRisen}
@@ -12,15 +12,12 @@ use Rattle.network_script.proofs.Lists.{get_same, get_other}
 use Rattle.network_script.specs.Counts.{Counts, CountNext, CountRun, called_by, is_node, faults_of, FewFaults}
 use Rattle.network_script_parts.specs.StoreFaults.{is_store_fault}
 
-false_true : false ≡ true → ⊥
-false_true e = cc
-
 -- nothing was counted
 pub count_still : (c : Counts) (event : Event) (answer : Answer) → is_store_fault answer ≡ false → CountNext c event answer c
 count_still c event answer quiet = record {
   letters = λ i n at. at;
   grow = λ k before at. (before, at, omega arith);
-  cause = λ loud. absurd (false_true (sym quiet ∙ loud));
+  cause = λ loud. absurd (false≢true (sym quiet ∙ loud));
 }
 
 -- node k's count went on
@@ -63,14 +60,10 @@ called_more to to' (event.Hear m i near) k more at = at
 called_more to to' (event.Want m ch sid n) k more at = at
 called_more to to' (event.Tick m ch slot random) k more at = at
 
-both : (a b : Bool) → ((a && b) ≡ true) → (a ≡ true) × (b ≡ true)
-both true b e = (refl, e)
-both false b e = absurd (false_true e)
-
 node_is : (k : ℕ) (o : Option ℕ) (n : ℕ) → is_node k o ≡ true → o ≡ Some n → n ≡ k
 node_is k None n yes_it_is is = cc
 node_is k (Some m) n yes_it_is is =
-    let same : m ≡ k = elim (eqb_tells m k) [ inl (_, e) ↦ e | inr (test, _) ↦ absurd (false_true (sym test ∙ yes_it_is)) ] in
+    let same : m ≡ k = elim (eqb_tells m k) [ inl (_, e) ↦ e | inr (test, _) ↦ absurd (false≢true (sym test ∙ yes_it_is)) ] in
     cc
 
 -- one more event counts at most one, and only where node k's count rose
@@ -97,7 +90,7 @@ run_grow old new (event ∷ events) (answer ∷ answers) (mid, next, run) k befo
     let later = run_grow mid new events answers run k grown.0 grown.1 in
     let letters = run_letters old new (event ∷ events) (answer ∷ answers) (mid, next, run) in
     let rose : (is_store_fault answer && is_node k (called_by new.addressees event)) ≡ true → HasRisen before grown.0 = λ test.
-    let b = both (is_store_fault answer) _ test in
+    let b = and_parts (is_store_fault answer) _ test in
     let why = next.cause b.0 in
     let same : why.0 ≡ k = node_is k (called_by new.addressees event) why.0 b.1 (called_more old.addressees new.addressees event why.0 letters why.3) in
     let at_old : slice_get old.failures k ≡ Some why.1 = subst (λ (n : ℕ). slice_get old.failures n ≡ Some why.1) same why.4 in

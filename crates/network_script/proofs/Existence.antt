@@ -1,6 +1,6 @@
 -- Every history has its list of chosen values: whether a value is chosen at a place can be computed.
-use Rattle.std.proofs.Common.{◌≡◌, ◌⊎◌, inl, inr, ℕ, zero, suc, ◌+◌, ◌*◌, ◌<◌, ◌≤◌, max, Bool, true, false, ◌&&◌, ◌||◌, ◌==◌, bytes_eq, List, [], ◌∷◌, length, refl, sym, ◌∙◌, ap, subst, arith, Some, slice_get}
-use Rattle.std.proofs.lemmas.Bool.{and_parts, and_from, ltb-true, lt-ltb, eqb-true, eq-eqb}
+use Rattle.std.proofs.Common.{◌≡◌, ◌⊎◌, inl, inr, ℕ, zero, suc, ◌+◌, ◌*◌, ◌<◌, ◌≤◌, max, Bool, true, false, ◌&&◌, ◌==◌, bytes_eq, List, [], ◌∷◌, length, refl, sym, ◌∙◌, ap, subst, arith, Some, slice_get}
+use Rattle.std.proofs.lemmas.Bool.{and_parts, and_from, ltb-true, lt-ltb, eqb-true, eq-eqb, or_left, or_right}
 use Rattle.std.proofs.lemmas.Slice.Eq.{bytes_eq-Decides}
 use Rattle.std.specs.List.{list_any}
 use Rattle.ballots.specs.Voting.{Entry, IsIn, IsChosen, count_below}
@@ -43,14 +43,6 @@ vote_tells m b p v (Vote n c q w) is =
 itself : (m b p : ℕ) (v : List ℕ) → is_vote_of m b p v (Vote m b p v) ≡ true
 itself m b p v =
     and_from (m == m && b == b && p == p) (bytes_eq v v) (and_from (m == m && b == b) (p == p) (and_from (m == m) (b == b) (eq-eqb m m refl) (eq-eqb b b refl)) (eq-eqb p p refl)) ((bytes_eq-Decides v v).1 refl)
-
-or_left : (x y : Bool) → x ≡ true → (x || y) ≡ true
-or_left true y is = refl
-or_left false y is = absurd (cc (is))
-
-or_right : (x y : Bool) → y ≡ true → (x || y) ≡ true
-or_right true y is = refl
-or_right false y is = is
 
 in_any : {X : Type 0} (test : X → Bool) (xs : List X) (x : X) → IsIn xs x → test x ≡ true → list_any test xs ≡ true
 in_any test [] x here is = absurd here

@@ -1,6 +1,6 @@
 -- Gapless learned values, the outputs that they give, and which of them stand in the outputs of the chosen values.
 use Rattle.std.proofs.Common.{◌≡◌, ◌⊎◌, inl, inr, ⊎_elim, ℕ, zero, suc, ◌+◌, ◌<◌, ◌≤◌, Bool, true, false, cond, ◌==◌, List, [], ◌∷◌, length, drop, refl, sym, ap, subst, arith, Option, Some, None, slice_get}
-use Rattle.std.proofs.lemmas.Bool.{eqb-true}
+use Rattle.std.proofs.lemmas.Bool.{eqb-true, cases_lt}
 use Rattle.std.proofs.lemmas.Option.{slice_get_within}
 use Rattle.ballots.specs.Voting.{Entry, IsIn, IsLegal, IsChosen}
 use Rattle.ballots.proofs.Callers.{agreement}
@@ -40,7 +40,7 @@ beginning (x ∷ xs) (y ∷ ys) same short =
 pub get_past : {X : Type 0} (xs : List X) (k : ℕ) → length xs ≤ k → (x : X) → slice_get xs k ≡ Some x → ⊥
 get_past xs k past x is = let e : k < length xs = slice_get_within xs k x is in omega arith
 
-get_some : {X : Type 0} (xs : List X) (k : ℕ) → k < length xs → (x : X) × (slice_get xs k ≡ Some x)
+pub get_some : {X : Type 0} (xs : List X) (k : ℕ) → k < length xs → (x : X) × (slice_get xs k ≡ Some x)
 get_some [] k within = absurd (omega arith)
 get_some (x ∷ xs) zero within = (x, refl)
 get_some (x ∷ xs) (suc k) within = get_some xs k (omega arith)
@@ -52,11 +52,8 @@ earlier_some xs k x j is le = let e : k < length xs = slice_get_within xs k x is
 abbrev pub AreChosen : ℕ → List Entry → List (List ℕ) → Type 0
 AreChosen members h values = (k : ℕ) (v : List ℕ) → slice_get values k ≡ Some v → IsChosen members h (k + 1) v
 
-le_or_past : (a b : ℕ) → (a < b) ⊎ (b ≤ a)
-le_or_past a b = grind arith
-
 pub chosen_beginning : (members : ℕ) (h : List Entry) (values c : List (List ℕ)) → IsLegal members h → AreChosen members h values → IsSchedule members h c → IsBeginning values c
-chosen_beginning members h values c legal chosen schedule = beginning values c (λ k v w x y. agreement members h (k + 1) v w legal (chosen k v x) (schedule.chosen k w y)) (λ k v is. ⊎_elim (λ within. within) (λ past. absurd (beyond k v is past)) (le_or_past k (length c)))
+chosen_beginning members h values c legal chosen schedule = beginning values c (λ k v w x y. agreement members h (k + 1) v w legal (chosen k v x) (schedule.chosen k w y)) (λ k v is. ⊎_elim (λ within. within) (λ past. absurd (beyond k v is past)) (cases_lt k (length c)))
   where
     beyond : (k : ℕ) (v : List ℕ) → slice_get values k ≡ Some v → length c ≤ k → ⊥
     beyond k v is past = let first = earlier_some values k v (length c) is past in schedule.whole first.0 (chosen (length c) first.0 first.1)

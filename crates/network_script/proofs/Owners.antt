@@ -1,5 +1,5 @@
 -- Over whole runs: what modems hold they own, and what they send they hold.
-use Rattle.std.proofs.Common.{◌≡◌, inl, inr, ⊎_elim, ℕ, zero, suc, ◌-◌, ◌%◌, ◌≤◌, ◌^◌, List, [], ◌∷◌, ◌++◌, map, refl, sym, ◌∙◌, ap, subst, arith, Option, Some, slice_get, Contains}
+use Rattle.std.proofs.Common.{◌≡◌, inl, inr, ⊎_elim, ℕ, zero, suc, ◌-◌, ◌≤◌, List, [], ◌∷◌, ◌++◌, map, refl, sym, ◌∙◌, ap, subst, arith, Option, Some, slice_get, Contains}
 use Rattle.minislot_time.specs.Wire.{IsNear}
 use Rattle.map_body.specs.Cell.{IsCell}
 use Rattle.flow_state.specs.Limits.{last_sid}
@@ -13,11 +13,12 @@ use Rattle.command_log.specs.Reading.{command_of}
 use Rattle.command_log.specs.Values.{outputs_of_values}
 use Rattle.modem.specs.declared.types.Heard.{Heard}
 use Rattle.modem.specs.declared.types.Sending.{Sending}
-use Rattle.modem.specs.State.{KnownChannel, channel_clock, State, new_modem, channel_of}
+use Rattle.modem.specs.State.{KnownChannel, channel_clock, State, channel_of}
 use Rattle.modem.specs.Held.{Hearing, Gives, WasLeased, HeldBy, Held, StandsFor, unicast_sid}
 use Rattle.modem.specs.Hears.{Hears}
 use Rattle.modem.specs.Ticks.{Ticks}
 use Rattle.modem.specs.Owner.{IsTimely}
+use Rattle.modem.proofs.Callers.{near_once}
 use Rattle.network_script_parts.specs.declared.event.Event.{Event}
 use Rattle.network_script_parts.specs.declared.event.Answer.{Answer}
 use Rattle.network_script_parts.specs.declared.event.ReleasedOutput.{ReleasedOutput}
@@ -25,6 +26,7 @@ use Rattle.network_script_parts.specs.declared.event.Transmission.{Transmission}
 use Rattle.network_script.specs.World.{Written, opening}
 use Rattle.network_script_parts.specs.Receiver.{Receiver, new_receiver}
 use Rattle.network_script_parts.specs.Modems.{sent_at}
+use Rattle.network_script_parts.proofs.Callers.{new_stands}
 use Rattle.network_script.specs.Next.{Goes, Run}
 use Rattle.network_script.specs.Headline.{OfEveryRun, WithSchedule, HeldIsOwned, ModemsAreNamed, OwnersAreOne, SentIsHeld}
 use Rattle.network_script.proofs.Drawn.{is_drawn}
@@ -53,12 +55,6 @@ leased_of outs released stand id [] ch sid m all was = absurd was
 leased_of outs released stand id (h ∷ earlier) ch sid m all (inl is) =
     record { first = is.first; last = is.last; assigned = subst (λ (o : Output). Contains outs o) (all.0.2 ∙ is.assigned) (stand all.0.0 all.0.1); begun = is.begun; not_ended = is.not_ended }
 leased_of outs released stand id (h ∷ earlier) ch sid m all (inr before) = leased_of outs released stand id earlier ch sid m all.2 before
-
--- one time near a reference has these low bits
-near_once : (bits near t u : ℕ) → IsNear bits near t → IsNear bits near u → t ≡ u
-near_once bits near t u a b =
-    let low : t % 2 ^ 32 ≡ u % 2 ^ 32 = a.low ∙ sym b.low in
-    omega (arith, a.not_earlier, a.earlier, b.not_earlier, b.earlier)
 
 -- a MAP that was heard near its start gives what it holds
 gives_owned : (cs : List Command) (o : Output) (near ch m sid iuc id : ℕ) → AreScheduled (outputs_of cs) → Contains (outputs_of cs) o → IsTimely o near → Gives o near ch m sid iuc → IsLeased (outputs_of cs) id ch sid m → Owns (outputs_of cs) ch m id
@@ -101,9 +97,6 @@ opening_receiver : (ids : List ℕ) (j : ℕ) (r : Receiver) → slice_get (map 
 opening_receiver [] j r is = absurd (cc (is))
 opening_receiver (id ∷ ids) zero r is = (id, refl, (let e : Some (new_receiver id) ≡ Some r = is in cc (e)))
 opening_receiver (id ∷ ids) (suc j) r is = opening_receiver ids j r is
-
-new_stands : (id : ℕ) → StandsFor (new_modem id) []
-new_stands id = record { leases = λ ch sid m. (λ own. absurd (cc (own)), λ was. absurd was); holds = λ ch m sid iuc late. (λ has. absurd has, λ held. absurd held) }
 
 opening_modems : (ids : List ℕ) → ModemsOk ids [] (map new_receiver ids) []
 opening_modems ids = record {

@@ -1,7 +1,7 @@
 -- A node that leads, counts promises and proposes does what keeps the invariant.
-use Rattle.std.proofs.Common.{◌≡◌, ◌⊎◌, inl, inr, ⊎_elim, ℕ, ◌+◌, ◌-◌, ◌*◌, ◌<◌, ◌≤◌, Bool, true, false, cond, not, ◌&&◌, ◌||◌, nat_lt, nat_eq, ◌==◌, List, [], ◌∷◌, ◌++◌, length, refl, sym, ◌∙◌, ap, subst, arith, Option, Some, None, Result, Ok, Err, slice_get}
+use Rattle.std.proofs.Common.{◌≡◌, ◌⊎◌, inl, inr, ⊎_elim, ℕ, ◌+◌, ◌-◌, ◌*◌, ◌<◌, ◌≤◌, true, cond, not, ◌&&◌, nat_lt, nat_eq, ◌==◌, List, [], ◌∷◌, ◌++◌, length, refl, sym, ◌∙◌, ap, subst, arith, Option, Some, None, Result, Ok, Err, slice_get}
 use Rattle.std.specs.List.{list_any}
-use Rattle.std.proofs.lemmas.Bool.{cond_both, and_parts, or_cases, ltb-true, eqb-true}
+use Rattle.std.proofs.lemmas.Bool.{cond_both, and_parts, or_cases, ltb-true, eqb-true, or_right}
 use Rattle.std.proofs.lemmas.Bool.Decides.{nat_tests}
 use Rattle.ballots.specs.Limits.{most_places}
 use Rattle.ballots.specs.Ballots.{ballot_node, IsLeastAbove}
@@ -30,10 +30,6 @@ use Rattle.network_script.proofs.Sound.{Sound, IsOther, quiet_letters, quiet_own
 
 counted_one : (counted : List ℕ) (n j : ℕ) → IsCounted (n ∷ counted) j → (j ≡ n) ⊎ IsCounted counted j
 counted_one counted n j is = ⊎_elim (λ same. inl (eqb-true j n same)) (λ old. inr old) (or_cases (nat_eq j n) (list_any (nat_eq j) counted) is)
-
-or_right : (x y : Bool) → y ≡ true → (x || y) ≡ true
-or_right true y is = refl
-or_right false y is = is
 
 old_counted : (counted : List ℕ) (n j : ℕ) → IsCounted counted j → IsCounted (n ∷ counted) j
 old_counted counted n j is = or_right (nat_eq j n) (list_any (nat_eq j) counted) is

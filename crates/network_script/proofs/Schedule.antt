@@ -1,16 +1,14 @@
 -- A run has one list of chosen values; nodes hold its beginnings, and what they release stands in its outputs.
-use Rattle.std.proofs.Common.{◌≡◌, ℕ, List, [], ◌∷◌, ◌++◌, length, map, refl, sym, ◌∙◌, ap, arith, subst, append-nil, Some, slice_get}
+use Rattle.std.proofs.Common.{◌≡◌, ℕ, List, [], ◌∷◌, ◌++◌, length, map, sym, ◌∙◌, ap, arith, subst, append-nil, Some, slice_get}
 use Rattle.std.proofs.lemmas.List.{map-append}
 use Rattle.ballots.specs.Voting.{Entry, IsLegal}
-use Rattle.flow_state.specs.Rows.{Rows}
-use Rattle.grant_machine.specs.declared.command.Command.{Command}
 use Rattle.grant_machine.specs.declared.output.Output.{Output}
 use Rattle.grant_machine.specs.declared.output.Output.TheVariants.{Map}
-use Rattle.grant_machine.specs.Steps.{step}
 use Rattle.grant_machine.specs.Runs.{outputs_from, rows_from}
 use Rattle.grant_machine.specs.Laws.{MapsAreDisjoint}
 use Rattle.command_log.specs.Reading.{command_of}
 use Rattle.command_log.specs.Values.{outputs_of_values}
+use Rattle.command_log.proofs.Callers.{outputs_append}
 use Rattle.node.specs.View.{gapless}
 use Rattle.node.specs.View.Standing.{Running}
 use Rattle.map_release.specs.declared.numbered.Numbered.{Numbered}
@@ -25,15 +23,11 @@ use Rattle.network_script.proofs.Outputs.{StandsIn, chosen_beginning, learned_ch
 use Rattle.network_script.proofs.Runs.{run_fine, passes_fine}
 use Rattle.network_script.proofs.Existence.{schedule_exists}
 
-outputs_join : (rows : Rows) (cs ds : List Command) → outputs_from rows (cs ++ ds) ≡ outputs_from rows cs ++ outputs_from (rows_from rows cs) ds
-outputs_join rows [] ds = refl
-outputs_join rows (c ∷ cs) ds = ap (λ (os : List Output). (step rows c).output ∷ os) (outputs_join (step rows c).rows cs ds)
-
 -- the outputs of a list of values begin with those of its beginning
 pub outputs_go_on : (values more : List (List ℕ)) → IsBeginning (outputs_of_values values) (outputs_of_values (values ++ more))
 outputs_go_on values more = (
   outputs_from (rows_from [] (map command_of values)) (map command_of more),
-  sym (outputs_join [] (map command_of values) (map command_of more)) ∙ ap (outputs_from []) (sym (map-append command_of values more)),
+  sym (outputs_append [] (map command_of values) (map command_of more)) ∙ ap (outputs_from []) (sym (map-append command_of values more)),
 )
 
 -- what stands in the outputs of a beginning stands in those of the whole

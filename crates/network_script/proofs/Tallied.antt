@@ -2,6 +2,7 @@
 use Rattle.std.proofs.Common.{◌≡◌, ◌<◌, ◌≤◌, ℕ, List, Some, Result, Ok, Err, true, false, map, length, get_or, slice_get, slice_set, ap, subst, Vec, ⊎_elim, sym, ◌∙◌}
 use Rattle.std.proofs.lemmas.List.{map-set, map-append}
 use Rattle.std.specs.declared.alloc.Global.{Global}
+use Rattle.std.proofs.lemmas.Bool.{false≢true}
 use Rattle.node.specs.declared.node.Node.{Ghosts}
 use Rattle.ballots.specs.declared.letters.Letter.{Letter}
 use Rattle.proposer.specs.declared.fault.NodeFault.{NodeFault}
@@ -23,46 +24,43 @@ use Rattle.network_script_parts.specs.StoreFaults.{is_store_fault}
 use Rattle.network_script.proofs.Places.{seen_at}
 use Rattle.network_script.proofs.Counted.{count_one}
 
-pub false_true : false ≡ true → ⊥
-false_true e = cc
-
 -- a fault of the store of a node that was up comes only where its count rose
 err_rose : (T : Type 0) (old new : Who) (fault : NodeFault) → old.down ≡ false → Kept {T = T} old (Err fault) new → is_store_fault (Fault fault) ≡ true → HasRisen old.failures new.failures
 err_rose T old new StoreRefused up kept loud = kept.3.0
-err_rose T old new Down up kept loud = ⊎_elim (λ failed. failed.0) (λ was. absurd (false_true (sym up ∙ was.0))) kept.3
-err_rose T old new NotLeading up kept loud = absurd (false_true loud)
-err_rose T old new LogFull up kept loud = absurd (false_true loud)
-err_rose T old new RoundsSpent up kept loud = absurd (false_true loud)
-err_rose T old new ValueTooLong up kept loud = absurd (false_true loud)
-err_rose T old new OutOfMemory up kept loud = absurd (false_true loud)
+err_rose T old new Down up kept loud = ⊎_elim (λ failed. failed.0) (λ was. absurd (false≢true (sym up ∙ was.0))) kept.3
+err_rose T old new NotLeading up kept loud = absurd (false≢true loud)
+err_rose T old new LogFull up kept loud = absurd (false≢true loud)
+err_rose T old new RoundsSpent up kept loud = absurd (false≢true loud)
+err_rose T old new ValueTooLong up kept loud = absurd (false≢true loud)
+err_rose T old new OutOfMemory up kept loud = absurd (false≢true loud)
 
 -- and one of a restart
 pub restart_rose : (T : Type 0) (old new : Who) (fault : NodeFault) → KeptByRestart {T = T} old (Err fault) new → is_store_fault (Fault fault) ≡ true → HasRisen old.failures new.failures
 restart_rose T old new StoreRefused kept loud = kept.3.0
 restart_rose T old new Down kept loud = kept.3.0
-restart_rose T old new NotLeading kept loud = absurd (false_true loud)
-restart_rose T old new LogFull kept loud = absurd (false_true loud)
-restart_rose T old new RoundsSpent kept loud = absurd (false_true loud)
-restart_rose T old new ValueTooLong kept loud = absurd (false_true loud)
-restart_rose T old new OutOfMemory kept loud = absurd (false_true loud)
+restart_rose T old new NotLeading kept loud = absurd (false≢true loud)
+restart_rose T old new LogFull kept loud = absurd (false≢true loud)
+restart_rose T old new RoundsSpent kept loud = absurd (false≢true loud)
+restart_rose T old new ValueTooLong kept loud = absurd (false≢true loud)
+restart_rose T old new OutOfMemory kept loud = absurd (false≢true loud)
 
 pub posted_rose : (given : Result (Vec Letter Global) NodeFault) (letters : List Letter) (told : Answer) (letters' : List Letter) → Posted (answer given) letters told letters'
     → (old new : Who) → old.down ≡ false → Kept old given new → is_store_fault told ≡ true → HasRisen old.failures new.failures
-posted_rose (Ok v) letters (Sent n) letters' posted old new up kept loud = absurd (false_true loud)
-posted_rose (Ok v) letters Crashed letters' posted old new up kept loud = absurd (false_true loud)
+posted_rose (Ok v) letters (Sent n) letters' posted old new up kept loud = absurd (false≢true loud)
+posted_rose (Ok v) letters Crashed letters' posted old new up kept loud = absurd (false≢true loud)
 posted_rose (Err fault) letters (Fault fault') letters' posted old new up kept loud = err_rose (Vec Letter Global) old new fault up kept (subst (λ (f : NodeFault). is_store_fault (Fault f) ≡ true) posted.0 loud)
 posted_rose given letters told letters' posted old new up kept loud = absurd posted
 
 pub lost_rose : (given : Result (Vec Letter Global) NodeFault) (told : Answer) → Lost (answer given) told
     → (old new : Who) → old.down ≡ false → Kept old given new → is_store_fault told ≡ true → HasRisen old.failures new.failures
-lost_rose (Ok v) Finished lost old new up kept loud = absurd (false_true loud)
+lost_rose (Ok v) Finished lost old new up kept loud = absurd (false≢true loud)
 lost_rose (Err fault) (Fault fault') lost old new up kept loud = err_rose (Vec Letter Global) old new fault up kept (subst (λ (f : NodeFault). is_store_fault (Fault f) ≡ true) lost loud)
 lost_rose given told lost old new up kept loud = absurd lost
 
 pub keeps_rose : (given : Result (Vec Numbered Global) NodeFault) (k : ℕ) (before : List ReleasedOutput) (told : Answer) (after : List ReleasedOutput) → Keeps (outputs given) k before told after
     → (old new : Who) → old.down ≡ false → Kept old given new → is_store_fault told ≡ true → HasRisen old.failures new.failures
-keeps_rose (Ok v) k before (Released n) after keeps old new up kept loud = absurd (false_true loud)
-keeps_rose (Ok v) k before Crashed after keeps old new up kept loud = absurd (false_true loud)
+keeps_rose (Ok v) k before (Released n) after keeps old new up kept loud = absurd (false≢true loud)
+keeps_rose (Ok v) k before Crashed after keeps old new up kept loud = absurd (false≢true loud)
 keeps_rose (Err fault) k before (Fault fault') after keeps old new up kept loud = err_rose (Vec Numbered Global) old new fault up kept (subst (λ (f : NodeFault). is_store_fault (Fault f) ≡ true) keeps.0 loud)
 keeps_rose given k before told after keeps old new up kept loud = absurd keeps
 

@@ -9,10 +9,11 @@ use Rattle.ballots.specs.Voting.Entry.{Promised, Vote}
 use Rattle.acceptor.specs.Content.{Content, Write, promised, after_write, record_write}
 use Rattle.ballots.specs.Rows.{put}
 use Rattle.acceptor.specs.Content.Write.{Tries, Promises, Votes, Learns}
+use Rattle.acceptor.proofs.Callers.{greatest_apart}
 use Rattle.node.specs.View.{Standing}
 use Rattle.network_script.proofs.Invariant.{IsProposed, ContentOk, WriteOk, LetterOk, Invariant}
 use Rattle.network_script.proofs.Growth.{Grows, grows_same, grows_entry, chosen_grows}
-use Rattle.network_script.proofs.Rows.{in_put, into_put, kept_put, least_greatest, in_greatest}
+use Rattle.network_script.proofs.Rows.{in_put, into_put, kept_put, in_greatest}
 
 -- what was proposed is safe
 pub proposed_safe : (members : ℕ) (h : List Entry) (sent : List Letter) (states : List Standing) (b p : ℕ) (v : List ℕ) → Invariant members h sent states → IsProposed sent b p v → IsSafe members h b p v
@@ -75,7 +76,7 @@ module _ (members : ℕ) (h : List Entry) (sent : List Letter) (states : List St
   promise_content b above = record { bound = bound; kept = λ p cast here. inr (ok.kept p cast here); last = last; held = λ p v here. still (Promised k b) (promise_may b above) p v (ok.held p v here) }
     where
       at_least : b ≤ promised record c { row = b }
-      at_least = least_greatest b c.votes
+      at_least = omega (arith, greatest_apart b c.votes)
 
       bound : (e : Entry) → IsIn (Promised k b ∷ h) e → node_of e ≡ k → ballot_of e ≤ promised record c { row = b }
       bound e (inl is) node = let same : ballot_of e ≡ b = ap ballot_of is in omega (arith, at_least)

@@ -1,10 +1,9 @@
 -- Runs in which nothing fails, computed over the definitions.
 use Rattle.std.specs.Prelude.{◌≡◌, ℕ, List, [], ◌∷◌, ◌++◌, Some, None}
-use Rattle.ballots.specs.declared.letters.Letter.{Letter}
-use Rattle.ballots.specs.declared.letters.Note.{Note}
 use Rattle.ballots.specs.declared.letters.Note.TheVariants.{Prepare, Promise, Accept}
 use Rattle.grant_machine.specs.declared.output.Output.{Output}
 use Rattle.grant_machine.specs.declared.output.Output.TheVariants.{ChannelSet, Map}
+use Rattle.proposer.specs.Letters.{letter}
 use Rattle.proposer.specs.declared.fault.NodeFault.TheVariants.{NotLeading}
 use Rattle.network_script_parts.specs.declared.event.Event.{Event}
 use Rattle.network_script_parts.specs.declared.event.Event.TheVariants.{Lead, Offer, Deliver, DeliverThenCrash, Crash, Restart, Release}
@@ -20,9 +19,6 @@ runs members script = acts members (opening members []) script
 
 abbrev pub answers : ℕ → List Event → List Answer
 answers members script = (runs members script).0
-
-abbrev pub letter : ℕ → ℕ → Note → Letter
-letter from to note = record { from = from; to = to; note = note }
 
 abbrev pub given : ℕ → ℕ → Output → ReleasedOutput
 given node place output = record { node = node; numbered = record { place = place; output = output } }

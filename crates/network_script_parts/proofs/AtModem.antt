@@ -81,7 +81,7 @@ none_does Does vs rs m are past =
     (rs, subst Goes (sym none) (refl, refl), are)
 
 -- a modem that has heard nothing stands for no hearings
-new_stands : (id : ℕ) → StandsFor (new_modem id) []
+pub new_stands : (id : ℕ) → StandsFor (new_modem id) []
 new_stands id = record {
   leases = λ ch sid m. ((λ is. absurd (cc (is))), (λ none. absurd none));
   holds = λ ch m sid iuc later. ((λ none. absurd none), (λ none. absurd none));

@@ -1,6 +1,6 @@
 -- What crates above cite: fresh nodes, one after another; a modem's event, from the one modem to all of them; items of an array that mean something, as far as they are read.
 pub use Rattle.network_script_parts.proofs.Fresh.{AreFirst, none_first, next_first, all_first}
-pub use Rattle.network_script_parts.proofs.AtModem.{comes_at, hears_none, new_are, none_does, one_does, one_stays}
+pub use Rattle.network_script_parts.proofs.AtModem.{comes_at, hears_none, new_are, new_stands, none_does, one_does, one_stays}
 use Rattle.std.proofs.Common.{◌≡◌, ℕ, zero, suc, ◌+◌, ◌<◌, List, [], ◌∷◌, ◌++◌, length, get_or, take, map, Some, slice_get, refl, arith}
 use Rattle.std.proofs.lemmas.List.{take_more}
 use Rattle.std.proofs.lemmas.Option.{slice_get-map, slice_get_read, slice_get_within, get_or_from_slice_get}

@@ -6,10 +6,11 @@ use Rattle.std.proofs.Math.Logic.{∥∥₁_elim, ∥∥₁_prop}
 use Rattle.std.proofs.Math.Nat.{ℕ_set}
 use Rattle.ballots.specs.Rows.{rows_from}
 use Rattle.ballots.specs.declared.letters.Cast.{Cast}
-use Rattle.acceptor.specs.Content.{Content, IsSound, AreRowsFrom, no_content, promised, greatest}
+use Rattle.acceptor.specs.Content.{Content, IsSound, AreRowsFrom, no_content, promised}
 use Rattle.acceptor.specs.Found.{Findable, Holds, FindsSame, Keeps}
 use Rattle.acceptor.specs.declared.records.RecordsFault.{RecordsFault}
 use Rattle.acceptor.specs.declared.records.RecordsFault.TheVariants.{Refused, Broken, OutOfMemory}
+use Rattle.acceptor.proofs.Callers.{greatest_apart}
 use Rattle.proposer.specs.declared.fault.NodeFault.{NodeFault as Fault}
 use Rattle.node.specs.View.{View, Standing, started}
 use Rattle.node.specs.View.Standing.{Running, Stopped}
@@ -18,11 +19,6 @@ use Rattle.node.specs.Learned.{Learned}
 use Rattle.node.specs.Sched.{Stands, Fails, IsUntouched, view_over}
 use Rattle.node.specs.declared.parts.Parts.{Parts}
 use Rattle.node.proofs.Endings.{still_holds}
-
--- the greatest is none of the lesser
-greatest_above : (m : ℕ) (votes : List (ℕ × Cast)) → m ≤ greatest m votes
-greatest_above m [] = omega arith
-greatest_above m (vote ∷ votes) = omega (arith, greatest_above m votes)
 
 -- the rows from place 1 on are all rows
 pub all_rows : {V : Type 0} (p : ℕ) (rows : List (ℕ × V)) → 1 ≤ p → AreRowsFrom p rows → rows_from rows 1 ≡ rows
@@ -33,7 +29,7 @@ all_rows p (row ∷ rows) first are =
 
 pub empty_content : (c : Content) (used : ℕ) → used ≡ max c.tried (promised c) → used ≡ 0 → IsSound c → rows_from c.votes 1 ≡ [] → rows_from c.learned 1 ≡ [] → c ≡ no_content
 empty_content c used is none sound empty unlearned =
-    let above : c.row ≤ promised c = greatest_above c.row c.votes in
+    let above : c.row ≤ promised c = omega (arith, greatest_apart c.row c.votes) in
     let tried : c.tried ≡ 0 = omega (arith, is, none) in
     let row : c.row ≡ 0 = omega (arith, is, none, above) in
     let votes : c.votes ≡ [] = sym (all_rows 1 c.votes (omega arith) sound.0) ∙ empty in

@@ -1,13 +1,13 @@
 -- Rows by place, and the values that they have without a gap.
 use Rattle.std.proofs.Common.{◌≡◌, ◌≢◌, ◌⊎◌, inl, inr, ℕ, zero, suc, ◌+◌, ◌<◌, ◌≤◌, cond, List, [], ◌∷◌, ◌++◌, length, take, Option, Some, None, slice_get, refl, sym, ap, subst, ◌∙◌, arith, length-append, length-take}
-use Rattle.std.proofs.lemmas.Bool.{cases_order, cases_eq, eq-eqb, ne_eqb}
+use Rattle.std.proofs.lemmas.Bool.{cases_order, cases_eq, ne_eqb}
 use Rattle.std.proofs.lemmas.Bool.Decides.{nat_tests}
 use Rattle.std.proofs.lemmas.Option.{slice_get_past}
 use Rattle.ballots.specs.Limits.{most_places}
 use Rattle.ballots.specs.Rows.{at, put}
 use Rattle.command_log.specs.Values.{Rows, values_from, gapless}
 use Rattle.command_log.specs.View.{AreRows}
-use Rattle.command_log.proofs.Callers.{none_below, are_rows_put, put_same, values_grow, value_is_at}
+use Rattle.command_log.proofs.Callers.{none_below, are_rows_put, put_same, values_grow, value_is_at, values_here}
 use Rattle.node.specs.Learned.{IsPart, AreLearned}
 
 put_equal : (row : ℕ × List ℕ) (rows : Rows) (p : ℕ) (v : List ℕ) → p ≡ row.0 → put (row ∷ rows) p v ≡ (row.0, v) ∷ rows
@@ -66,9 +66,6 @@ part_grows first second p v part none q w is = elim (cases_eq q p) [
 pub beyond : (p q : ℕ) (rows : Rows) → AreRows p rows → most_places < q → at rows q ≡ None
 beyond p q [] are far = refl
 beyond p q (row ∷ rows) are far = at_there row rows q (omega (arith, are.1)) ∙ beyond (row.0 + 1) q rows are.2 far
-
-values_here : (p : ℕ) (row : ℕ × List ℕ) (rows : Rows) → row.0 ≡ p → values_from p (row ∷ rows) ≡ row.1 ∷ values_from (p + 1) rows
-values_here p row rows is = ap (λ b. cond b (row.1 ∷ values_from (p + 1) rows) []) (eq-eqb row.0 p is)
 
 values_gap : (p : ℕ) (row : ℕ × List ℕ) (rows : Rows) → row.0 ≢ p → values_from p (row ∷ rows) ≡ []
 values_gap p row rows other = ap (λ b. cond b (row.1 ∷ values_from (p + 1) rows) []) (ne_eqb row.0 p other)

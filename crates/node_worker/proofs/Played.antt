@@ -13,7 +13,7 @@ use Rattle.network_script_parts.specs.declared.event.Answer.{Answer}
 use Rattle.network_script_parts.specs.declared.event.ReleasedOutput.{ReleasedOutput}
 use Rattle.network_script_parts.specs.declared.event.Transmission.{Transmission}
 use Rattle.network_script_parts.specs.declared.event.Answer.TheVariants as answer
-use Rattle.network_script.proofs.Callers.{headline, modems_are_named}
+use Rattle.network_script.proofs.Callers.{headline, modems_are_named, get_some}
 use Rattle.command_log.specs.Values.{Owner}
 use Rattle.network_script.proofs.Callers.{in_right, get_same, get_other}
 use Rattle.ballots.specs.Voting.{IsIn}
@@ -31,7 +31,7 @@ use Rattle.node_worker.specs.Replays.{EntryStep, Replays, answer_of, opening}
 use Rattle.node_worker.specs.Legal.{entries_of, letters_of, outputs_of, Comes, IsSound}
 use Rattle.node_worker.specs.Runs.{IsEvent, ReadAs, Listens, sent_by, IsOfModem, IsSilent, Listened, HaveListened, SoundIsRun, SoundIsLegal, IsLegal, SendsAsOwner}
 use Rattle.node_worker.proofs.Plants.{entries_of-append, entries_of_one}
-use Rattle.node_worker.proofs.Wholes.{at_below, at_one}
+use Rattle.node_worker.proofs.Wholes.{at_one}
 use Rattle.node_worker.proofs.Moving.{entry_moves}
 use Rattle.node_worker.proofs.Listening.{listened_on}
 
@@ -134,7 +134,7 @@ goes : (members : ℕ) (w : Written) (records : List Done) (events : List Event)
 goes members w [] events answers rs each comes named listens = modems_go members w events answers rs (subst (λ (xs : List ReleasedOutput). Listens xs w.modems events answers rs) (append-nil w.outputs) listens)
 goes members w (d ∷ ds) events answers rs each comes named listens =
     let within : d.node < length w.nodes = named zero d refl in
-    let s : (s : Standing) × (slice_get w.nodes d.node ≡ Some s) = at_below w.nodes d.node within in
+    let s : (s : Standing) × (slice_get w.nodes d.node ≡ Some s) = get_some w.nodes d.node within in
     let its : (t : Standing) × Replays members d.node s.0 (entries_of d.node (d ∷ ds)) t = each d.node s.0 s.1 in
     let first : entries_of d.node (d ∷ ds) ≡ d.entry ∷ entries_of d.node ds =
     entries_of-append d.node (d ∷ []) ds

@@ -6,7 +6,6 @@ use Rattle.map_release.specs.declared.numbered.Numbered.{Numbered}
 use Rattle.node.specs.View.{View, Standing, started}
 use Rattle.node.specs.View.Standing.{Running, Stopped}
 use Rattle.node.specs.Calls.{Cause as Call, Course, Ends, StopsLast}
-use Rattle.node.specs.Calls.Cause.{Receive}
 use Rattle.node.specs.Releases.{Releases}
 use Rattle.proposer.specs.declared.fault.NodeFault.{NodeFault}
 use Rattle.proposer.specs.declared.fault.NodeFault.TheVariants.{OutOfMemory, StoreRefused, Down}
@@ -71,11 +70,6 @@ call_answers cause (Refused refusal) letters outputs whole = refl
 call_answers cause FailedBefore letters outputs whole = refl
 call_answers cause FailedEither letters outputs whole = refl
 call_answers cause Lost letters outputs whole = refl
-
--- nothing that a node knows declines a letter
-pub comes_last : (members id : ℕ) (view : View) (l : Letter) (given : Result (List Letter) NodeFault) → StopsLast members id view (Receive l) given
-comes_last members id view l (Ok sent) = tt
-comes_last members id view l (Err fault) = λ stop. tt
 
 -- a node that is up, and what it was called for
 pub received : (members id : ℕ) (cause : Cause) (call : Call) (Before Mid After : Standing → Type 0) (given : Result (List Letter) NodeFault) (ended : Ended) (letters : List Letter) (outputs : List Numbered)

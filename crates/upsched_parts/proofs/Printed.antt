@@ -1,37 +1,15 @@
 -- What is printed of a list of commands, one command after another.
-use Rattle.std.proofs.Common.{◌≡◌, ℕ, ◌+◌, ◌<◌, ◌≤◌, List, [], ◌∷◌, ◌++◌, length, take, get_or, Option, Some, None, IfSome, Result, Ok, Err, OnOk, ap, ◌∙◌, sym, refl, append_assoc, append-nil, add-zero, arith}
+use Rattle.std.proofs.Common.{◌≡◌, ℕ, ◌+◌, ◌<◌, ◌≤◌, List, [], ◌∷◌, ◌++◌, length, take, get_or, Option, Some, None, IfSome, Result, Ok, Err, OnOk, ap, ◌∙◌, sym, append_assoc, append-nil, add-zero, arith}
 use Rattle.std.proofs.lemmas.List.{take_more, take_all, length-take-le}
 use Rattle.std.specs.Io.KnownBytes.{Appends, Keeps}
+use Rattle.std.proofs.KnownBytes.{Appends-trans, Appends-kept}
 use Rattle.flow_state.specs.Rows.{Rows}
 use Rattle.grant_machine.specs.declared.command.Command.{Command}
 use Rattle.grant_machine.specs.Steps.{step}
 use Rattle.grant_machine.specs.Runs.{outputs_from, rows_from, outputs_of, rows_after}
+use Rattle.grant_machine.proofs.Callers.{rows_push}
 use Rattle.upsched_parts.specs.Lines.{output_line, output_lines}
 use Rattle.upsched_parts.specs.Plan.{IsPlan, PrintsPlan}
-
--- known bytes that stay grow by nothing
-pub appends_none : (known : Option (List ℕ)) → Appends known known []
-appends_none None = tt
-appends_none (Some xs) = sym (append-nil xs)
-
--- known bytes grow by one text and then another
-pub appends_both : (old mid new : Option (List ℕ)) (xs ys : List ℕ) → Appends old mid xs → Appends mid new ys → Appends old new (xs ++ ys)
-appends_both None mid new xs ys first second = tt
-appends_both (Some a) None new xs ys first second = absurd first
-appends_both (Some a) (Some b) None xs ys first second = absurd second
-appends_both (Some a) (Some b) (Some c) xs ys first second = second ∙ ap (λ t. t ++ ys) first ∙ append_assoc a xs ys
-
--- known bytes grow by a text and then stay
-appends_kept : (old mid new : Option (List ℕ)) (xs : List ℕ) → Appends old mid xs → Keeps mid new → Appends old new xs
-appends_kept None mid new xs grown kept = tt
-appends_kept (Some a) None new xs grown kept = absurd grown
-appends_kept (Some a) (Some b) None xs grown kept = absurd kept
-appends_kept (Some a) (Some b) (Some c) xs grown kept = kept ∙ grown
-
--- the rows after one command more
-rows_more : (rows : Rows) (cs : List Command) (c : Command) → rows_from rows (cs ++ c ∷ []) ≡ (step (rows_from rows cs) c).rows
-rows_more rows [] c = refl
-rows_more rows (d ∷ ds) c = rows_more (step rows d).rows ds c
 
 -- the lines of one command more
 lines_more : (n : ℕ) (rows : Rows) (cs : List Command) (c : Command)
@@ -54,15 +32,15 @@ one_more cs i d m m' old mid new below reached before rows line =
     let whole : take (i + 1) cs ≡ front ++ c ∷ [] = take_more cs i d below in
     let long : length front ≡ i = length-take-le i cs (omega arith) in
     let count : i + 1 ≡ 1 + length front = omega arith in
-    let lines = appends_both old mid new _ _ before (rw (count, reached) at line) in (
-      rows ∙ ap (λ r. (step r c).rows) reached ∙ sym (rows_more [] front c) ∙ ap rows_after (sym whole),
+    let lines = Appends-trans old mid new _ _ before (rw (count, reached) at line) in (
+      rows ∙ ap (λ r. (step r c).rows) reached ∙ sym (rows_push [] front c) ∙ ap rows_after (sym whole),
       rw (whole, lines_more 1 [] front c) lines,
     )
 
 -- all of the lines, and then nothing more
 pub all_lines : (cs : List Command) (i : ℕ) (old mid new : Option (List ℕ)) → length cs ≤ i
     → Appends old mid (output_lines 1 (outputs_of (take i cs))) → Keeps mid new → Appends old new (output_lines 1 (outputs_of cs))
-all_lines cs i old mid new end grown kept = appends_kept old mid new _ (rw (take_all i cs end) at grown) kept
+all_lines cs i old mid new end grown kept = Appends-kept old mid new _ (rw (take_all i cs end) at grown) kept
 
 -- a text that is read as a plan is known to be one, where it is known
 pub plan_known : (known : Option (List ℕ)) (text read : List ℕ) (cs : List Command) → IfSome known (λ bytes. text ≡ bytes) → read ≡ text → IsPlan read cs → IfSome known (λ bytes. IsPlan bytes cs)

@@ -3,6 +3,7 @@ use Rattle.std.proofs.Common.{◌≡◌, ℕ, ◌+◌, ◌<◌, ◌≤◌, List,
 use Rattle.std.proofs.lemmas.List.{drop_all, length-replicate}
 use Rattle.std.proofs.Math.Seq.{drop-cons}
 use Rattle.std.specs.Io.KnownBytes.{Appends}
+use Rattle.std.proofs.KnownBytes.{Appends-nil, Appends-trans}
 use Rattle.network_script_parts.specs.declared.event.Answer.{Answer}
 use Rattle.ballots.specs.declared.letters.Letter.{Letter}
 use Rattle.ballots.specs.declared.members.Members.{Members}
@@ -18,7 +19,6 @@ use Rattle.network_script.specs.World.{Written, opening}
 use Rattle.upsched_parts.specs.RunLines.{answer_line, answer_lines, place_lines, released_count, counts_line}
 use Rattle.ballots.specs.Members.{member_count}
 use Rattle.upsched_parts.specs.Run.{PrintsEvents, PrintsScript}
-use Rattle.upsched_parts.proofs.Printed.{appends_none, appends_both}
 
 -- some text was printed, and what is left joined to it is the whole
 pub record IsPartOf (whole left : List ℕ) (old new : Option (List ℕ)) : Type 0 where
@@ -28,13 +28,13 @@ pub record IsPartOf (whole left : List ℕ) (old new : Option (List ℕ)) : Type
 
 -- nothing is printed yet
 pub none_yet : (whole : List ℕ) (known : Option (List ℕ)) → IsPartOf whole whole known known
-none_yet whole known = record { text = []; grown = appends_none known; joined = refl }
+none_yet whole known = record { text = []; grown = Appends-nil known; joined = refl }
 
 -- two texts more
 pub two_more : (whole xs ys left : List ℕ) (old a b c : Option (List ℕ)) → IsPartOf whole (xs ++ ys ++ left) old a → Appends a b xs → Appends b c ys → IsPartOf whole left old c
 two_more whole xs ys left old a b c before first second = record {
   text = before.text ++ xs ++ ys;
-  grown = appends_both old b c _ _ (appends_both old a b _ _ before.grown first) second;
+  grown = Appends-trans old b c _ _ (Appends-trans old a b _ _ before.grown first) second;
   joined = append_assoc (before.text ++ xs) ys left ∙ append_assoc before.text xs (ys ++ left) ∙ ap (λ t. before.text ++ t) (sym (append_assoc xs ys left)) ∙ before.joined;
 }
 
@@ -70,7 +70,7 @@ run_told members ids events report answers w letters outputs counted sent old mi
     let run : Run members ids events report w = subst (λ (m : ℕ). Goes m (opening members ids) events report w) (length-replicate members (Running (started no_content))) goes in
     let told : Appends old mid (answer_lines 0 report w.outputs) = rw (is_report, is_outputs) at first in
     let counts : Appends mid new (counts_line (length w.letters) (length w.outputs) (length w.transmissions)) = rw (is_letters, is_counted, is_sent) at last in
-    (report, w, run, appends_both old mid new _ _ told counts)
+    (report, w, run, Appends-trans old mid new _ _ told counts)
 
 -- lines of a run of a script that is read off a text are what the text prints
 pub script_printed : (known old new : Option (List ℕ)) (count : Members) (ids : List ℕ) (events : List Event) → IfSome known (λ text. IsScript text count ids events)

@@ -6,13 +6,13 @@ use Rattle.minislot_time.specs.Extent.{Extent}
 use Rattle.flow_state.specs.declared.flow.Waiting.{Waiting}
 use Rattle.flow_state.specs.Rows.{Rows, table_of, timed, last_of}
 use Rattle.flow_state.specs.Limits.{is_timed}
+use Rattle.flow_state.specs.View.{flow_view}
 use Rattle.grant_machine_parts.specs.Filling.{PartMap}
-use Rattle.grant_machine_parts.specs.Cutting.{fill_span}
-use Rattle.grant_machine_parts.specs.Lent.{row_of, IsLent, IsUnicast}
+use Rattle.grant_machine_parts.specs.Cutting.{fill_span, flows_served}
+use Rattle.grant_machine_parts.specs.Lent.{IsLent, IsUnicast}
 use Rattle.grant_machine_parts.specs.Ranks.{by_priority, requests_in, IsOfLast}
 use Rattle.grant_machine_parts.specs.declared.waiting.Ranked.{Ranked}
 use Rattle.grant_machine.specs.CutRows.{IsOfTable, ranked_on}
-use Rattle.grant_machine.specs.Plans.{flows_served}
 use Rattle.grant_machine.proofs.Settling.{timed_rows, timed_lent, timed_of, flows_on, flows_lent, flows_back, ranked_there, ordered, lasts, requests_unicast}
 use Rattle.grant_machine.proofs.cut.fill.Goals as goal
 
@@ -41,7 +41,7 @@ returns c = λ t found.
     c.deref-3.ensures.value ∙ asked c.args.flows.now c.args.ch _ _ _ _ _ _ c.in_ok-ranked.ensures c.deref-2.ensures.value c.in_ok-by_arrival.ensures c.deref.ensures.value c.in_ok-waiting.ensures in
     let of : IsOfTable t c.args.channel.now c.deref_mut.result.now c.deref-3.result.now = record {
       channel = c.requires.channel t found;
-      flows_are = ap (map row_of) (c.deref_mut.ensures.value ∙ c.in_ok-served.ensures ∙ timed_of (table_of c.args.flows.now c.args.ch)) ∙ timed_rows (flows_on (table_of c.args.flows.now c.args.ch)) ∙ ap timed (flows_back c.args.flows.now c.args.ch t c.requires.reached found);
+      flows_are = ap (map flow_view) (c.deref_mut.ensures.value ∙ c.in_ok-served.ensures ∙ timed_of (table_of c.args.flows.now c.args.ch)) ∙ timed_rows (flows_on (table_of c.args.flows.now c.args.ch)) ∙ ap timed (flows_back c.args.flows.now c.args.ch t c.requires.reached found);
       requests_are = ap requests_in ranked_is ∙ ordered c.args.flows.now c.args.ch t found;
       lasts_are = subst (AllByRecursion (IsOfLast (last_of t))) (sym ranked_is) (lasts c.args.flows.now c.args.ch t found);
     } in
@@ -49,7 +49,7 @@ returns c = λ t found.
     record {
       span_is = c.place_all.ensures.span ∙ span_is;
       placements = λ ack. c.in_ok-place_all.ensures.placed t ack of ∙ ap (λ (s : Extent). (fill_span t s ack).placements) span_is;
-      flows = ap (map row_of) flows_is ∙ c.in_ok-place_all.ensures.flows t of ∙ ap (λ (s : Extent). timed (flows_served t s)) span_is;
+      flows = ap (map flow_view) flows_is ∙ c.in_ok-place_all.ensures.flows t of ∙ ap (λ (s : Extent). timed (flows_served t s)) span_is;
       lent = subst (AllByRecursion IsLent) (sym flows_is) c.in_ok-place_all.ensures.lent;
       requests = ap requests_in (sym c.deref-3.ensures.value) ∙ of.requests_are;
       lasts = subst (AllByRecursion (IsOfLast (last_of t))) c.deref-3.ensures.value of.lasts_are;

@@ -1,8 +1,9 @@
-use Rattle.upsched_parts.proofs.Printed.{appends_none, one_more, all_lines}
+use Rattle.upsched_parts.proofs.Printed.{one_more, all_lines}
+use Rattle.std.proofs.KnownBytes.{Appends-nil}
 use Rattle.upsched_parts.proofs.plan_run.print_outputs.Goals as goal
 
 pub loop-i-init : goal.loop-i-init
-loop-i-init g c = (c.new-machine.ensures, appends_none (g.O.Write.contents c.args.output.now))
+loop-i-init g c = (c.new-machine.ensures, Appends-nil (g.O.Write.contents c.args.output.now))
 
 pub loop-i-preserved : goal.loop-i-preserved
 loop-i-preserved g c =

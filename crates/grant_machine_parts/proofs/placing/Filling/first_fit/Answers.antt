@@ -1,18 +1,15 @@
-use Rattle.std.proofs.Common.{◌≡◌, ◌≤◌, Bool, true, false, cond, not, nat_lt, Option, ℕ, length, IfSome, Some, None, refl, sym, ap, subst, ◌∙◌}
+use Rattle.std.proofs.Common.{◌≡◌, ◌≤◌, false, cond, not, nat_lt, Option, ℕ, length, IfSome, Some, None, sym, ap, subst, ◌∙◌}
 use Rattle.std.specs.List.{find, range_with_len}
+use Rattle.std.proofs.lemmas.Bool.{not-false}
 use Rattle.grant_machine_parts.specs.Placing.{most_placements, is_free, fits_at, first_fit}
 use Rattle.grant_machine_parts.specs.Filling.{PartMap}
 use Rattle.grant_machine_parts.specs.Gaps.{AreGaps}
 use Rattle.grant_machine_parts.proofs.Carved.{fit_ends}
 use Rattle.grant_machine_parts.proofs.placing.Filling.first_fit.Goals as goal
 
-not_false : (b : Bool) → not b ≡ false → b ≡ true
-not_false true e = refl
-not_false false e = absurd cc
-
 -- what is found among the minislots is the first fit, while placements may be added
 fit_found : (v : PartMap) (n lo hi last : ℕ) → not (nat_lt (length v.placements) most_placements) ≡ false → find (fits_at v.span v.placements n lo hi last) (range_with_len 0 v.span.len) ≡ first_fit v.span v.placements n lo hi last
-fit_found v n lo hi last room = sym (ap (λ b. cond b (find (fits_at v.span v.placements n lo hi last) (range_with_len 0 v.span.len)) None) (not_false (nat_lt (length v.placements) most_placements) room))
+fit_found v n lo hi last room = sym (ap (λ b. cond b (find (fits_at v.span v.placements n lo hi last) (range_with_len 0 v.span.len)) None) (not-false (nat_lt (length v.placements) most_placements) room))
 
 found : (c : goal.After-first_fit) → c.first_fit.result ≡ first_fit c.args.self.now.span c.args.self.now.placements c.args.n c.args.lo c.args.hi c.args.last
 found c =

@@ -1,4 +1,5 @@
 use Rattle.std.proofs.Common.{false, refl, sym, length, slice_set, arith}
+use Rattle.std.proofs.lemmas.Bool.{false≢true}
 use Rattle.node.specs.View.Standing.{Running}
 use Rattle.network_script_parts.specs.declared.event.Answer.TheVariants.{Finished}
 use Rattle.network_script_parts.specs.Seat.{crashed}
@@ -9,7 +10,7 @@ use Rattle.network_script.proofs.After.{after_quiet}
 use Rattle.network_script.proofs.Acts.{seen_up, moves, asks, misses}
 use Rattle.network_script_parts.specs.declared.event.Event.TheVariants as event
 use Rattle.network_script.proofs.Counted.{count_still}
-use Rattle.network_script.proofs.Tallied.{counted_seat, false_true}
+use Rattle.network_script.proofs.Tallied.{counted_seat}
 use Rattle.network_script.specs.Outward.{outward, Falls}
 use Rattle.network_script.proofs.Outwardly.{missed_seen, goes_seen}
 use Rattle.network_script.proofs.world.World.crash.Goals as goal
@@ -41,7 +42,7 @@ returns-in-Some-clause-counted g c = count_still _ _ _ refl
 pub returns-clause-counted : goal.returns-clause-counted
 returns-clause-counted g c =
     counted_seat c.args.self.now.seats.items c.args.k c.index_mut-seat.result.now c.crash.new.self (event.Crash c.args.k) Finished _ _
-    c.in_default.ensures.up.0 c.index_mut-seat.ensures.value (λ i n at. at) refl (rw c.crash.ensures.node (omega arith)) (λ loud. absurd (false_true loud))
+    c.in_default.ensures.up.0 c.index_mut-seat.ensures.value (λ i n at. at) refl (rw c.crash.ensures.node (omega arith)) (λ loud. absurd (false≢true loud))
 
 pub returns-in-Some-clause-seen : goal.returns-in-Some-clause-seen
 returns-in-Some-clause-seen g c = λ modems hold.

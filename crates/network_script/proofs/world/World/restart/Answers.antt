@@ -1,4 +1,5 @@
 use Rattle.std.proofs.Common.{◌≡◌, ◌<◌, ◌∙◌, sym, refl, rules, length, true, false, None, Some, slice_set}
+use Rattle.std.proofs.lemmas.Bool.{false≢true}
 use Rattle.node.specs.View.Standing.{Running, Stopped}
 use Rattle.network_script_parts.specs.declared.event.Answer.TheVariants.{Finished, Refused, Fault}
 use Rattle.network_script_parts.specs.declared.event.Refusal.TheVariants.{NoNode, NodeUp}
@@ -10,7 +11,7 @@ use Rattle.network_script_parts.specs.Moves.Ask.{Restart}
 use Rattle.acceptor.specs.Content.{record_write}
 use Rattle.network_script_parts.specs.declared.event.Event.TheVariants as event
 use Rattle.network_script.proofs.Counted.{count_still}
-use Rattle.network_script.proofs.Tallied.{counted_seat, restart_rose, false_true}
+use Rattle.network_script.proofs.Tallied.{counted_seat, restart_rose}
 use Rattle.network_script.specs.Outward.{outward, Rises}
 use Rattle.network_script.proofs.Outwardly.{no_seat, seat_is, rises_seen, unrisen_seen}
 use Rattle.network_script.proofs.world.World.restart.Goals as goal
@@ -70,7 +71,7 @@ returns-then-is_up-clause-counted g c = count_still _ _ _ refl
 pub returns-in-Ok-clause-counted : goal.returns-in-Ok-clause-counted
 returns-in-Ok-clause-counted g c =
     counted_seat c.args.self.now.seats.items c.args.k c.index_mut-seat.result.now c.restart.new.self (event.Restart c.args.k) Finished _ _
-    (search rules) c.index_mut-seat.ensures.value (λ i n at. at) refl c.in-Ok.ensures.kept.2 (λ loud. absurd (false_true loud))
+    (search rules) c.index_mut-seat.ensures.value (λ i n at. at) refl c.in-Ok.ensures.kept.2 (λ loud. absurd (false≢true loud))
 
 pub returns-in-Err-clause-counted : goal.returns-in-Err-clause-counted
 returns-in-Err-clause-counted g c =
