@@ -1,6 +1,6 @@
 -- One more command, and longer lists of commands.
-use Rattle.std.proofs.Common.{◌≡◌, ℕ, zero, suc, List, [], ◌∷◌, ◌++◌, length, take, map, refl, ap, ◌∙◌}
-use Rattle.std.proofs.lemmas.List.{map-append}
+use Rattle.std.proofs.Common.{◌≡◌, ℕ, zero, suc, List, [], ◌∷◌, ◌++◌, length, take, map, refl, ap, ◌∙◌, sym}
+use Rattle.std.proofs.lemmas.List.{map-append, length-map, take-map}
 use Rattle.flow_state.specs.Rows.{Rows}
 use Rattle.grant_machine.specs.declared.command.Command.{Command}
 use Rattle.grant_machine.specs.declared.output.Output.{Output}
@@ -19,13 +19,9 @@ pub rows_append : (rows : Rows) (cs ds : List Command) → rows_from rows (cs ++
 rows_append rows [] ds = refl
 rows_append rows (c ∷ cs) ds = rows_append (step rows c).rows cs ds
 
-map_length : {A B : Type 0} (f : A → B) (xs : List A) → length (map f xs) ≡ length xs
-map_length f [] = refl
-map_length f (x ∷ xs) = ap (λ n. suc n) (map_length f xs)
-
 -- a value has one output
 pub values_length : (values : List (List ℕ)) → length (outputs_of_values values) ≡ length values
-values_length values = one_each [] (map command_of values) ∙ map_length command_of values
+values_length values = one_each [] (map command_of values) ∙ length-map values command_of
 
 -- the outputs of a longer list begin with those of its beginning
 pub outputs_begin : (values more : List (List ℕ)) → (rest : List Output) × (outputs_of_values (values ++ more) ≡ outputs_of_values values ++ rest)
@@ -43,11 +39,6 @@ pub rows_push : (values : List (List ℕ)) (v : List ℕ)
     → rows_after (map command_of (values ++ v ∷ [])) ≡ (step (rows_after (map command_of values)) (command_of v)).rows
 rows_push values v = ap rows_after (map-append command_of values (v ∷ [])) ∙ rows_append [] (map command_of values) (command_of v ∷ [])
 
-map_take : {A B : Type 0} (f : A → B) (n : ℕ) (xs : List A) → map f (take n xs) ≡ take n (map f xs)
-map_take f zero xs = refl
-map_take f (suc n) [] = refl
-map_take {B = B} f (suc n) (x ∷ xs) = ap (λ (zs : List B). f x ∷ zs) (map_take f n xs)
-
 outputs_take : (rows : Rows) (n : ℕ) (cs : List Command) → outputs_from rows (take n cs) ≡ take n (outputs_from rows cs)
 outputs_take rows zero cs = refl
 outputs_take rows (suc n) [] = refl
@@ -55,4 +46,4 @@ outputs_take rows (suc n) (c ∷ cs) = ap (λ (os : List Output). (step rows c).
 
 -- the outputs of the first values are the first outputs
 pub outputs_first : (n : ℕ) (values : List (List ℕ)) → outputs_of_values (take n values) ≡ take n (outputs_of_values values)
-outputs_first n values = ap outputs_of (map_take command_of n values) ∙ outputs_take [] n (map command_of values)
+outputs_first n values = ap outputs_of (sym (take-map command_of n values)) ∙ outputs_take [] n (map command_of values)

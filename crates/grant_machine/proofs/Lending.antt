@@ -3,6 +3,7 @@ use Rattle.std.proofs.Common.{◌≡◌, ℕ, zero, suc, Bool, true, false, cond
 use Rattle.std.specs.List.{find, AllByRecursion}
 use Rattle.std.specs.Option.{option_map}
 use Rattle.std.proofs.lemmas.List.{length_push}
+use Rattle.std.proofs.lemmas.Option.{slice_get-map}
 use Rattle.flow_state.specs.declared.flow.Flow.{Flow}
 use Rattle.flow_state.specs.declared.flow.FlowKind.{FlowKind}
 use Rattle.flow_state.specs.Rows.{Rows, Table, FlowRow, table_of, flow_of, is_flow, lent_flow, timed, timed_at, waiting_at}
@@ -12,16 +13,11 @@ use Rattle.grant_machine.specs.CutRows.{timed_on, IsOfKind}
 use Rattle.flow_state.proofs.Callers.{found_before}
 use Rattle.flow_state.proofs.Callers.{is_found}
 
-get_map : {X Y : Type 0} (f : X → Y) (xs : List X) (k : ℕ) → slice_get (map f xs) k ≡ option_map f (slice_get xs k)
-get_map f [] k = refl
-get_map f (x ∷ xs) zero = refl
-get_map f (x ∷ xs) (suc k) = get_map f xs k
-
 pub timed_at_is : (rows : Rows) (ch k : ℕ) → timed_at rows ch k ≡ slice_get (timed_on (table_of rows ch)) k
 timed_at_is rows ch k = by (table_of rows ch) refl
   where
     by : (o : Option Table) → table_of rows ch ≡ o → timed_at rows ch k ≡ slice_get (timed_on (table_of rows ch)) k
-    by (Some t) e = rw e (sym (get_map lent_flow (timed t.flows) k))
+    by (Some t) e = rw e (sym (slice_get-map lent_flow (timed t.flows) k))
     by None e = rw e refl
 
 pub waiting_at_is : (rows : Rows) (ch k : ℕ) → waiting_at rows ch k ≡ slice_get (waiting_of (table_of rows ch)) k

@@ -11,7 +11,7 @@ use Rattle.flow_state.specs.declared.flow.Waiting.{Waiting}
 use Rattle.flow_state.specs.Rows.{Table, FlowRow, is_flow, is_of, last_of, is_ended, has_ended}
 use Rattle.grant_machine_parts.specs.Placing.{Placement, first_fit}
 use Rattle.grant_machine_parts.specs.Cutting.{Periodic, end_of, Ran, run_due_times, run_flow, due_before, Passed, pass, grants_of_flow, polls_of_flow, grants_of_kind, polls_of_kind, place_requests, placement_for, in_order, priority_of, Filled, fill_span, still_waiting, requests_left, is_grant_of, table_after, unsolicited_iuc}
-use Rattle.flow_state.proofs.Callers.{filter_append}
+use Rattle.flow_state.proofs.Callers.{filter_append, eqb_same}
 use Rattle.grant_machine_parts.proofs.Windows.{InWindow, Rising, rising_later, run_adds}
 
 abbrev pub is_to : ℕ → Placement → Bool
@@ -24,11 +24,8 @@ all_to span p sid [] (i ∷ is) e z = absurd z
 all_to span p sid (q ∷ qs) [] e z = absurd z
 all_to span p sid (q ∷ qs) (i ∷ is) e z =
     let to : q.sid ≡ sid = ap (λ (r : Placement). r.sid) z.0.is ∙ e in
-    let test : eqb q.sid sid ≡ true = ap (λ n. eqb n sid) to ∙ same_test sid in
+    let test : eqb q.sid sid ≡ true = ap (λ n. eqb n sid) to ∙ eqb_same sid in
     ap (λ b. cond b (q ∷ filter (is_to sid) qs) (filter (is_to sid) qs)) test ∙ ap (λ (rs : List Placement). q ∷ rs) (all_to span p sid qs is e z.1)
-  where
-    same_test : (n : ℕ) → eqb n n ≡ true
-    same_test n = grind arith
 
 pub none_to : (span : Extent) (p : Periodic) (sid : ℕ) (qs : List Placement) (is : List ℕ) → eqb p.sid sid ≡ false → AllZip (InWindow span p) qs is → filter (is_to sid) qs ≡ []
 none_to span p sid [] [] e z = refl

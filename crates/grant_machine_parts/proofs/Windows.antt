@@ -3,6 +3,7 @@ use Rattle.std.proofs.Common.{◌≡◌, ℕ, zero, suc, ◌+◌, ◌≤◌, Boo
 use Rattle.std.specs.List.{find, list_all, range_with_len, AllZip}
 use Rattle.std.proofs.lemmas.Bool.{leb-true, and_parts}
 use Rattle.std.proofs.lemmas.List.{append-nil}
+use Rattle.flow_state.proofs.Callers.{find_passes}
 use Rattle.minislot_time.specs.Extent.{Extent}
 use Rattle.grant_machine_parts.specs.Placing.{Placement, is_free, fits_at, first_fit, most_placements}
 use Rattle.grant_machine_parts.specs.Cutting.{Periodic, due_at, end_of, Missed, Placed, Kept, verdict, verdict_on, placement_at, Ran, run_due_times}
@@ -23,19 +24,11 @@ fits_tells span ps n lo hi last x e =
     let first = and_parts _ _ third.0 in
     record { not_early = leb-true _ _ first.0; not_late = leb-true _ _ first.1; in_lease = leb-true _ _ third.1; within = leb-true _ _ fourth.1; free = fifth.1 }
 
-passes : {X : Type 0} (p : X → Bool) (xs : List X) (x : X) → find p xs ≡ Some x → p x ≡ true
-passes p [] x e = absurd cc
-passes p (y ∷ ys) x e =
-    elim (p y) as (λ c. p y ≡ c → cond c (Some y) (find p ys) ≡ Some x → p x ≡ true) [
-      | true ↦ λ h f. let same : y ≡ x = cc in ap p (sym same) ∙ h
-      | false ↦ λ h f. passes p ys x f
-    ] refl e
-
 -- a first fit fits, and comes only below sixty placements
 pub first_fit_tells : (span : Extent) (ps : List Placement) (n lo hi last x : ℕ) → first_fit span ps n lo hi last ≡ Some x → FitsAt span ps n lo hi last x
 first_fit_tells span ps n lo hi last x e =
     elim (ltb (length ps) most_placements) as (λ b. cond b (find (fits_at span ps n lo hi last) (range_with_len 0 span.len)) None ≡ Some x → FitsAt span ps n lo hi last x) [
-      | true ↦ λ f. fits_tells span ps n lo hi last x (passes (fits_at span ps n lo hi last) (range_with_len 0 span.len) x f)
+      | true ↦ λ f. fits_tells span ps n lo hi last x (find_passes (fits_at span ps n lo hi last) (range_with_len 0 span.len) x f)
       | false ↦ λ f. absurd cc
     ] e
 
