@@ -1,14 +1,8 @@
-"""Puts wrong bodies into a copy of the crates, one at a time, and tells what `rt check` says of each.
-
-Usage: bench/edits.py CRATES FOLDER COPY NAME..   the edits of CRATES/NAME/FOLDER/ on COPY/NAME
-What the check says of an edit is left in CRATES/NAME/out/FOLDER/EDIT.txt."""
-
+"""Wrong bodies of crates: how an edit is put into a crate's texts, and how the prover took it. `./check` uses it."""
+import os
 import re
-import subprocess
-import sys
-from pathlib import Path
 
-REFUSED, BY_A_NAME, WRONG = range(3)
+PARTS = ("src/", "specs/", "proofs/")
 # a proof that names what an edit took away, and what cites that proof
 NAMES = re.compile(r"(\./)?proofs/.*(has no field|is not in scope|has no `|was not admitted)")
 # code or a definition that can't be read, so that no contract was tried
@@ -20,19 +14,23 @@ class BadEdit(Exception):
 
 
 def edited(edit, crate):
-    """Returns the texts of the crate's files that the edit changes, by their paths."""
+    """The texts of a crate's files that an edit changes, by path: pairs of 'old:' and 'new:' behind a 'file:'."""
     path, old, texts = "", "", {}
-    for line in edit.read_text().split("\n"):
+    with open(edit, encoding="utf-8") as file:
+        lines = file.read().split("\n")
+    for line in lines:
         key, _, value = line.partition(":")
         value = value.removeprefix(" ")
         if key == "file":
             path = value.strip()
+            if not path.startswith(PARTS) or not os.path.isfile(f"{crate}/{path}"):
+                raise BadEdit(f"there is no file {path}")
         elif key == "old":
             old = value
         elif key == "new":
             if not path or not old:
-                raise BadEdit("a 'new:' stands before any 'file:' or 'old:'")
-            text = texts.get(path) or (crate / path).read_text()
+                raise BadEdit("a 'new:' has no 'file:' and 'old:' before it")
+            text = texts.get(path) or text_of(f"{crate}/{path}")
             if text.count(old) != 1:
                 raise BadEdit(f"an 'old:' is in {path} {text.count(old)} times, and not once")
             texts[path], old = text.replace(old, value), ""
@@ -41,69 +39,32 @@ def edited(edit, crate):
     return texts
 
 
-def check(crate, texts):
-    """Returns the status of a check of the crate with these texts in place of its own, and what it said."""
-    were = {path: (crate / path).read_text() for path in texts}
-    try:
-        for path, text in texts.items():
-            (crate / path).write_text(text)
-        how = {"stdin": subprocess.DEVNULL, "stdout": subprocess.PIPE, "stderr": subprocess.STDOUT}
-        ran = subprocess.run(["rt", "check", "--jobs", "1"], cwd=crate, errors="replace", **how)
-        return ran.returncode, ran.stdout
-    finally:
-        for path, text in were.items():
-            (crate / path).write_text(text)
+def text_of(path):
+    with open(path, encoding="utf-8") as file:
+        return file.read()
 
 
-def judged(status, said):
-    """Returns how the prover took an edit, and a line on it."""
-    if status == 0:
-        return WRONG, "NOT REFUSED: the crate is still proved"
+def why_not_refused(said):
+    """Why what a check of an edited crate said isn't that a goal is false, '' where it is; and where it stops."""
+    verdicts = re.findall(r"^logic=(\S+)", said, re.M)
+    if verdicts[-1:] == ["proved"]:
+        return "NOT REFUSED: the crate is still proved with this edit", ""
     lines = said.split("\n")
-    if not any(it.startswith("logic=not-proved") for it in lines):
-        first = next((it for it in lines if "error" in it), said[:200])
-        return WRONG, f"BAD EDIT: it didn't reach the prover: {first}"
-    stops = [it for it in lines if re.match(r"(note: )?\S+:\d+:\d+:", it) and (": error" in it or it.startswith("note: "))]
-    unread = next((it for it in stops if re.match(r"(\./)?(src|specs)/", it) and UNREAD.search(re.sub("`[^`]*`", "", it))), "")
+    if verdicts[-1:] != ["not-proved"]:
+        first = next((line for line in lines if "error" in line), said[:200])
+        return f"BAD EDIT: it didn't reach the prover: {first[:200]}", ""
+    stops = [line for line in lines if re.match(r"(note: )?\S+:\d+:\d+:", line)]
+    stops = [line for line in stops if ": error" in line or line.startswith("note: ")] or stops
+    unread = next((line for line in stops if is_unread(line)), "")
     if unread:
-        return WRONG, f"BAD EDIT: it can't be read: {unread}"
-    shown = next((it for it in stops if not NAMES.match(it)), "")
+        return f"BAD EDIT: it can't be read: {unread[:200]}", ""
+    shown = next((line for line in stops if not NAMES.match(line)), "")
     if stops and not shown:
-        return BY_A_NAME, f"refused only since a proof names what the edit took away: {stops[0]}"
-    return REFUSED, f"refused: {shown}"
+        return f"refused only since a proof names what the edit took away: {stops[0][:200]}", ""
+    return "", shown
 
 
-def tried(edit, crate, log):
-    """Tries the edit on the copy of its crate, and returns how the prover took it, and a line on it."""
-    try:
-        texts = edited(edit, crate)
-    except (BadEdit, OSError) as why:
-        return WRONG, f"BAD EDIT: {why}"
-    status, said = check(crate, texts)
-    log.write_text(said)
-    return judged(status, said)
-
-
-def main():
-    crates, folder, copy, names = Path(sys.argv[1]), sys.argv[2], Path(sys.argv[3]), sys.argv[4:]
-    counts = [0, 0, 0]
-    for name in names:
-        logs = crates / name / "out" / folder
-        logs.mkdir(parents=True, exist_ok=True)
-        edits = sorted((crates / name / folder).glob("*.edit"))
-        status, said = check(copy / name, {})
-        if status != 0:
-            (logs / "none.txt").write_text(said)
-            print(f"{name}: not proved as it stands, so none of its {len(edits)} edits was tried: {logs}/none.txt", flush=True)
-            counts[WRONG] += len(edits)
-            continue
-        for edit in edits:
-            how, line = tried(edit, copy / name, logs / f"{edit.stem}.txt")
-            print(f"{name}/{edit.stem}: {line[:240]}", flush=True)
-            counts[how] += 1
-    refused = counts[REFUSED] + counts[BY_A_NAME]
-    print(f"{refused} refused, {counts[BY_A_NAME]} of them only by a missing name; {counts[WRONG]} not")
-    sys.exit(counts[WRONG] > 0)
-
-
-main()
+def is_unread(line):
+    """Whether a line tells that code or a definition can't be read, where a body that is only wrong reads well."""
+    at = re.match(r"(?:\./)?(?:src|specs)/\S+?:\d+:\d+: error: (?:(`[^`]*`): )?(.*)", line)
+    return at is not None and (not at[1] or UNREAD.search(re.sub(r"`[^`]*`", "", at[2])) is not None)
