@@ -3,12 +3,16 @@
 Usage: bench/edits.py CRATES FOLDER COPY NAME..   the edits of CRATES/NAME/FOLDER/ on COPY/NAME
 What the check says of an edit is left in CRATES/NAME/out/FOLDER/EDIT.txt."""
 
+import os
 import re
 import subprocess
 import sys
 from pathlib import Path
 
 REFUSED, BY_A_NAME, WRONG = range(3)
+# where the prover stops, and of these the code and the definitions
+STOP = re.compile(r"note: \S+:\d+:\d+:|\S+:\d+:\d+: error")
+OWN = re.compile(r"(\./)?(src|specs)/")
 # a proof that names what an edit took away, and what cites that proof
 NAMES = re.compile(r"(\./)?proofs/.*(has no field|is not in scope|has no `|was not admitted)")
 # code or a definition that can't be read, so that no contract was tried
@@ -47,8 +51,9 @@ def check(crate, texts):
     try:
         for path, text in texts.items():
             (crate / path).write_text(text)
+        words = ["rt", "check", "--jobs", os.environ.get("BENCH_JOBS", "1")]
         how = {"stdin": subprocess.DEVNULL, "stdout": subprocess.PIPE, "stderr": subprocess.STDOUT}
-        ran = subprocess.run(["rt", "check", "--jobs", "1"], cwd=crate, errors="replace", **how)
+        ran = subprocess.run(words, cwd=crate, errors="replace", **how)
         return ran.returncode, ran.stdout
     finally:
         for path, text in were.items():
@@ -63,8 +68,8 @@ def judged(status, said):
     if not any(it.startswith("logic=not-proved") for it in lines):
         first = next((it for it in lines if "error" in it), said[:200])
         return WRONG, f"BAD EDIT: it didn't reach the prover: {first}"
-    stops = [it for it in lines if re.match(r"(note: )?\S+:\d+:\d+:", it) and (": error" in it or it.startswith("note: "))]
-    unread = next((it for it in stops if re.match(r"(\./)?(src|specs)/", it) and UNREAD.search(re.sub("`[^`]*`", "", it))), "")
+    stops = [it for it in lines if STOP.match(it)]
+    unread = next((it for it in stops if OWN.match(it) and UNREAD.search(re.sub("`[^`]*`", "", it))), "")
     if unread:
         return WRONG, f"BAD EDIT: it can't be read: {unread}"
     shown = next((it for it in stops if not NAMES.match(it)), "")
@@ -94,7 +99,7 @@ def main():
         status, said = check(copy / name, {})
         if status != 0:
             (logs / "none.txt").write_text(said)
-            print(f"{name}: not proved as it stands, so none of its {len(edits)} edits was tried: {logs}/none.txt", flush=True)
+            print(f"{name}: not proved as it stands, so none of {len(edits)} was tried: {logs}/none.txt", flush=True)
             counts[WRONG] += len(edits)
             continue
         for edit in edits:

@@ -1,12 +1,15 @@
 #!/usr/bin/env bash
-# Tries the wrong bodies that the gate doesn't try: those of crates/NAME/more-fails/, of the crates named or of all. Each is put into a
-# copy of its crate, which `rt check` has to refuse at a goal that is false. The copy begins with the work that earlier checks kept in
-# out/, so that an edit takes no longer than the proofs that it touches; a crate without that work is proved first, with all below it.
-# A line an edit tells where the prover stops; what it says of each stands in crates/NAME/out/more-fails/. The last line counts those
-# refused, and those refused only since a proof names what the edit took away, which shows nothing. Status 1 where one isn't refused or
-# no longer fits the code, or where a crate isn't proved as it stands.
+# Tries the wrong bodies that the gate doesn't try: those of crates/NAME/more-fails/, of the crates named or of all.
+# Each is put into a copy of its crate, which `rt check` has to refuse at a goal that is false. The copy begins with
+# the work that earlier checks kept in out/, so that an edit takes no longer than the proofs that it touches; a crate
+# without that work is proved first, with all below it.
 #
-# With --must-fail it tries those of crates/NAME/must-fail/ in the same way.
+# A line an edit tells where the prover stops; all that it says is left in crates/NAME/out/more-fails/EDIT.txt. The
+# last line counts those refused, and those refused only since a proof names what the edit took away, which shows
+# nothing. The status is 1 where one isn't refused or no longer fits the code, or where a crate isn't proved as it
+# stands.
+#
+# With --must-fail it tries those of crates/NAME/must-fail/ in the same way. A check has BENCH_JOBS jobs, or 1.
 #
 # Usage: bench/edits.sh [--must-fail] [NAME..]
 set -uo pipefail
@@ -17,8 +20,8 @@ if [ "${1-}" = --must-fail ]; then
     shift
 fi
 if [ $# -eq 0 ]; then
-    mapfile -t edits < <(cd "$root/crates" && printf '%s\n' */"$folder")
-    set -- "${edits[@]%/*}"
+    mapfile -t folders < <(cd "$root/crates" && printf '%s\n' */"$folder")
+    set -- "${folders[@]%/*}"
 fi
 for name; do
     [ -d "$root/crates/$name/$folder" ] && continue
@@ -28,8 +31,11 @@ done
 
 mkdir -- "$made/crates"
 for crate in $(closure "$@"); do
-    cp -a -- "$root/crates/$crate" "$made/crates"
-    rm -rf -- "$made/crates/$crate/must-fail"
+    tar -C "$root/crates" --exclude="$crate"/{must-fail,out/incremental} -c "$crate" | tar -C "$made/crates" -x
+    kept=$crate/out/incremental
+    # of a crate below that is built, its library is enough
+    case " $* " in *" $crate "*) ;; *) [ ! -f "$root/crates/$crate/out/rlib/stamp" ] || kept= ;; esac
+    [ -z "$kept" ] || [ ! -d "$root/crates/$kept" ] || cp -a -- "$root/crates/$kept" "$made/crates/$kept"
     grep -E "^$crate:" "$root/crates.txt" >>"$made/crates.txt"
 done
 python3 "$root/bench/edits.py" "$root/crates" "$folder" "$made/crates" "$@"
