@@ -1,7 +1,8 @@
 """Puts wrong bodies into a copy of the crates, one at a time, and tells what `rt check` says of each.
 
 Usage: bench/edits.py CRATES FOLDER COPY NAME..   the edits of CRATES/NAME/FOLDER/ on COPY/NAME
-What the check says of an edit is left in CRATES/NAME/out/FOLDER/EDIT.txt."""
+What the check says of an edit is left in CRATES/NAME/out/FOLDER/EDIT.txt. Where COPY is empty nothing is checked:
+then it tells the edits that can't be applied."""
 
 import os
 import re
@@ -89,13 +90,31 @@ def tried(edit, crate, log):
     return judged(status, said)
 
 
+def unfit(edits, crate):
+    """Tells those of the edits that can't be applied to the crate, and returns how many there are."""
+    count = 0
+    for edit in edits:
+        try:
+            edited(edit, crate)
+        except (BadEdit, OSError) as why:
+            print(f"{crate.name}/{edit.stem}: BAD EDIT: {why}")
+            count += 1
+    return count
+
+
+def edits_of(crate, folder):
+    return sorted((crate / folder).glob("*.edit"))
+
+
 def main():
     crates, folder, copy, names = Path(sys.argv[1]), sys.argv[2], Path(sys.argv[3]), sys.argv[4:]
+    if not sys.argv[3]:
+        sys.exit(sum(unfit(edits_of(crates / it, folder), crates / it) for it in names) > 0)
     counts = [0, 0, 0]
     for name in names:
         logs = crates / name / "out" / folder
         logs.mkdir(parents=True, exist_ok=True)
-        edits = sorted((crates / name / folder).glob("*.edit"))
+        edits = edits_of(crates / name, folder)
         status, said = check(copy / name, {})
         if status != 0:
             (logs / "none.txt").write_text(said)

@@ -9,16 +9,21 @@
 # nothing. The status is 1 where one isn't refused or no longer fits the code, or where a crate isn't proved as it
 # stands.
 #
-# With --must-fail it tries those of crates/NAME/must-fail/ in the same way. A check has BENCH_JOBS jobs, or 1.
+# With --fit it only tells those that no longer fit the code, in a second. With --must-fail it takes those of
+# crates/NAME/must-fail/. A check has BENCH_JOBS jobs, or 1.
 #
-# Usage: bench/edits.sh [--must-fail] [NAME..]
+# Usage: bench/edits.sh [--must-fail] [--fit] [NAME..]
 set -uo pipefail
 . "$(dirname -- "${BASH_SOURCE[0]}")/common.sh"
-folder=more-fails
-if [ "${1-}" = --must-fail ]; then
-    folder=must-fail
+folder=more-fails fits=
+while [[ ${1-} == --* ]]; do
+    case $1 in
+    --must-fail) folder=must-fail ;;
+    --fit) fits=1 ;;
+    *) echo "$0: no $1" >&2 && exit 2 ;;
+    esac
     shift
-fi
+done
 if [ $# -eq 0 ]; then
     mapfile -t folders < <(cd "$root/crates" && printf '%s\n' */"$folder")
     set -- "${folders[@]%/*}"
@@ -29,6 +34,10 @@ for name; do
     exit 1
 done
 
+if [ -n "$fits" ]; then
+    python3 "$root/bench/edits.py" "$root/crates" "$folder" "" "$@"
+    exit
+fi
 mkdir -- "$made/crates"
 for crate in $(closure "$@"); do
     tar -C "$root/crates" --exclude="$crate"/{must-fail,out/incremental} -c "$crate" | tar -C "$made/crates" -x
