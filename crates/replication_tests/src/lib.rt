@@ -19,3 +19,4 @@ mod strange_letters;
 mod vote_list;
 #[cfg(test)]
 mod worlds;
+pub mod wrong_answers;
