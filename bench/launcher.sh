@@ -3,10 +3,10 @@
 # folder or by a link, with texts on standard input or in a pipe, with standard descriptors that are closed, full or a pipe that
 # nobody reads, and over a folder that can't be written. Tells each call that ends otherwise than wanted, and how many do as wanted.
 #
-# With `unproved` it runs the launcher's other half, which calls `rt try`: a stand-in runs PROGRAM, or the proved one, and says what
-# `rt try` says beside the program's own lines.
+# With `unproved` it runs the launcher's other half, which calls `rt try`: a stand-in runs the program, and says what `rt try` says
+# beside the program's own lines. The program is the proved one, or PROGRAM.
 #
-# Usage: bench/launcher.sh [unproved [PROGRAM]]
+# Usage: bench/launcher.sh [proved|unproved [PROGRAM]]
 set -uo pipefail
 . "$(dirname -- "${BASH_SOURCE[0]}")/common.sh"
 [ $# -lt 2 ] || program=$(readlink -f -- "$2")
@@ -57,7 +57,7 @@ exit "\$status"
 STUB
     chmod +x "$made/bin/rt"
 else
-    cp -- "$program" "$repository/crates/upsched/out"
+    cp -- "$program" "$repository/crates/upsched/out/upsched"
 fi
 PATH=$made/bin:$PATH
 upsched=$repository/upsched
