@@ -106,6 +106,31 @@ def edits_of(crate, folder):
     return sorted((crate / folder).glob("*.edit"))
 
 
+def is_proved(crate, log):
+    """Returns whether the crate is proved as it stands, and leaves what the check said where it isn't."""
+    status, said = check(crate, {})
+    if status != 0:
+        log.write_text(said)
+    return status == 0
+
+
+def tried_all(edits, crate, logs):
+    """Tries the edits on the copy of their crate, tells each, and returns how many the prover took in each way."""
+    counts = [0, 0, 0]
+    alone = logs / "none.txt"
+    if not is_proved(crate, alone):
+        print(f"{crate.name}: not proved as it stands, so none of {len(edits)} was tried: {alone}", flush=True)
+        return [0, 0, len(edits)]
+    for edit in edits:
+        how, line = tried(edit, crate, logs / f"{edit.stem}.txt")
+        print(f"{crate.name}/{edit.stem}: {line[:240]}", flush=True)
+        counts[how] += 1
+    if not is_proved(crate, alone):
+        print(f"{crate.name}: not proved any more, over what its edits left, so they show nothing: {alone}", flush=True)
+        return [0, 0, len(edits)]
+    return counts
+
+
 def main():
     crates, folder, copy, names = Path(sys.argv[1]), sys.argv[2], Path(sys.argv[3]), sys.argv[4:]
     if not sys.argv[3]:
@@ -114,17 +139,8 @@ def main():
     for name in names:
         logs = crates / name / "out" / folder
         logs.mkdir(parents=True, exist_ok=True)
-        edits = edits_of(crates / name, folder)
-        status, said = check(copy / name, {})
-        if status != 0:
-            (logs / "none.txt").write_text(said)
-            print(f"{name}: not proved as it stands, so none of {len(edits)} was tried: {logs}/none.txt", flush=True)
-            counts[WRONG] += len(edits)
-            continue
-        for edit in edits:
-            how, line = tried(edit, copy / name, logs / f"{edit.stem}.txt")
-            print(f"{name}/{edit.stem}: {line[:240]}", flush=True)
-            counts[how] += 1
+        taken = tried_all(edits_of(crates / name, folder), copy / name, logs)
+        counts = [sum(it) for it in zip(counts, taken)]
     refused = counts[REFUSED] + counts[BY_A_NAME]
     print(f"{refused} refused, {counts[BY_A_NAME]} of them only by a missing name; {counts[WRONG]} not")
     sys.exit(counts[WRONG] > 0)
