@@ -8,8 +8,8 @@ use std::io;
 use std::io::ErrorKind;
 use thiserror::Error;
 
-/// Nothing was written to records that are there, unless it came of the store or of memory as the nodes' tables were made.
-#[derive(Clone, Copy, Debug, PartialEq, Eq, Error)]
+/// The cause of the first file that is refused, or of the folder.
+#[derive(Clone, Copy, Debug, Error)]
 pub enum StoreFault {
     /// The records that are there aren't those of a fresh node.
     #[error("NotFresh")]

@@ -30,3 +30,14 @@ pub fn fresh_node<R: Records + Drop>(
         Err(StoreFault::NotFresh)
     }
 }
+
+/// Refuses records that a fresh node can't start over.
+pub fn examine_records<R: Records + Drop>(alloc: Global, records: R) -> Result<(), StoreFault>
+    requires { IsTrue (R.is_honest records) → ∥ ((c : Content) × Holds (R.may_find records) c) ∥₁ }
+{
+    let Some(id) = NodeId::new(0) else {
+        unreachable!();
+    };
+    let _node = fresh_node(alloc, id, Members::Three, records)?;
+    Ok(())
+}

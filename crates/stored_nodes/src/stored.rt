@@ -5,7 +5,7 @@ ghost use Rattle.ballots.specs.Members.{member_count};
 ghost use Rattle.network_script_parts.specs.Fresh.{AreFresh, IsFreshAt};
 
 use crate::fault::StoreFault;
-use crate::fresh::fresh_node;
+use crate::fresh::{examine_records, fresh_node};
 use acceptor_store::{SqlRecords, open_files};
 use ballots::{Members, NodeId};
 use network_script_parts::nodes_by_number;
@@ -56,12 +56,7 @@ fn examine<D: Disk>(alloc: Global, files: &mut Files<D>) -> Result<(), StoreFaul
 }
 
 fn examine_copy(alloc: Global, files: Files<Memory>) -> Result<(), StoreFault> {
-    let Some(id) = NodeId::new(0) else {
-        unreachable!();
-    };
-    let records = open_files(alloc, files)?;
-    let _node = fresh_node(alloc, id, Members::Three, records)?;
-    Ok(())
+    examine_records(alloc, open_files(alloc, files)?)
 }
 
 /// The fresh nodes of so many members, by number, each over its files. Files that hold anything else
