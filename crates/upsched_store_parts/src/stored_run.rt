@@ -5,27 +5,33 @@ ghost use Rattle.network_script_parts.specs.Fresh.{AreFresh};
 ghost use Rattle.upsched_parts.specs.declared.status.Status.TheVariants.{NotUnderstood};
 ghost use Rattle.upsched_parts.specs.Run.{NoScript};
 
-use crate::store_folder::nodes_in;
-use crate::stored::{StoredNode, stored_nodes};
-use acceptor_store::SqlRecords;
 use log::Log;
 use network_script_parts::Script;
-use node::{Node, SchedNode};
-use sqlite::{FileStore, Files};
+use node::Node;
+use sqlite::Files;
 use sqlite_disk::Disk;
 use std::io::{Read, Write};
+use stored_nodes::{StoreFault, nodes_in, stored_nodes};
 use upsched_parts::{Fault, RunWords, Status, print_script, script_of};
 
-/// What a script does to fresh nodes over files is printed, and their files are closed.
-fn print_stored<'a, R: Log + AllocGlobal, D: Disk + Drop, O: Write>(
+/// What is told of nodes that don't start over files.
+fn fault_of<'a>(fault: StoreFault) -> Fault<'a> {
+    match fault {
+        StoreFault::NotFresh => Fault::StoreNotFresh,
+        StoreFault::Unusable => Fault::Store,
+        StoreFault::OutOfMemory => Fault::Memory,
+    }
+}
+
+/// What a script does to fresh nodes is printed, and the nodes are let go.
+fn print_nodes<'a, R: Log + AllocGlobal, N: Node, O: Write>(
     rt: &R,
-    nodes: Vec<StoredNode<D>>,
+    nodes: Vec<N>,
     script: &Script,
     verbose: bool,
     output: &mut O,
 ) -> Result<(), Fault<'a>>
-    requires { AreFresh ⟦<SchedNode<SqlRecords<FileStore<D>>> as Node>⟧.who ⟦<SchedNode<SqlRecords<FileStore<D>>> as Node>⟧.honest
-        ⟦<SchedNode<SqlRecords<FileStore<D>>> as Node>⟧.stands nodes.items }
+    requires { AreFresh N.who N.honest N.stands nodes.items }
 {
     let _world = print_script(rt, nodes, script, verbose, output)?;
     Ok(())
@@ -39,8 +45,10 @@ pub fn print_over<'a, R: Log + AllocGlobal, D: Disk + Drop, O: Write>(
     verbose: bool,
     output: &mut O,
 ) -> Result<(), Fault<'a>> {
-    let nodes = stored_nodes(rt.alloc(), script.members, files)?;
-    print_stored(rt, nodes, script, verbose, output)
+    match stored_nodes(rt.alloc(), script.members, files) {
+        Ok(nodes) => print_nodes(rt, nodes, script, verbose, output),
+        Err(fault) => Err(fault_of(fault)),
+    }
 }
 
 fn print_in<'a, F: Read, O: Write>(
@@ -53,8 +61,10 @@ fn print_in<'a, F: Read, O: Write>(
     ensures { NoScript (F.remaining script.old) → output.new ≡ output.old }
 {
     let script = script_of(rt.alloc(), script, words.script)?;
-    let nodes = nodes_in(rt, folder, script.members)?;
-    print_stored(rt, nodes, &script, words.verbose, output)
+    match nodes_in(rt, folder, script.members) {
+        Ok(nodes) => print_nodes(rt, nodes, &script, words.verbose, output),
+        Err(fault) => Err(fault_of(fault)),
+    }
 }
 
 /// Runs a script over fresh nodes with files in a folder, and prints as `run_script` does. A fault of the
