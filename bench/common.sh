@@ -22,13 +22,16 @@ closure() {
     awk -v tops="$*" -f "$root/quick/closure.awk" "$root/crates.txt"
 }
 
-# workspace_over NAME DEP..: makes a workspace of its own for bench/NAME/main.rt.in over these crates and libraries; its folder is `workspace`.
+# workspace_over NAME DEP..: makes a workspace of its own for the sources bench/NAME/*.rt.in over these crates and libraries; its folder is
+# `workspace`.
 workspace_over() {
-    local bench=${1}_bench source=$root/bench/$1/main.rt.in crate
+    local bench=${1}_bench sources=$root/bench/$1 source crate
     shift
     workspace=$made/crates/$bench
     mkdir -p "$workspace/src"
-    cp "$source" "$workspace/src/main.rt"
+    for source in "$sources"/*.rt.in; do
+        cp "$source" "$workspace/src/$(basename -- "$source" .in)"
+    done
     for crate in $(closure "$@"); do
         cp -r "$root/crates/$crate" "$made/crates"
         grep -E "^$crate:" "$root/crates.txt" >>"$made/crates.txt"
