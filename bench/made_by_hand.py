@@ -34,7 +34,7 @@ def made_in(text):
         head = re.match(r"\s*(?:pub(?:\(\w+\))? )?fn (\w+)", line)
         function = head[1] if head else function
         if re.match(r"impl\b", line):
-            is_from = re.search(r"\bFrom<(AllocError|AllocFailed|OutOfMemory)\b", line) is not None
+            is_from = re.search(r"\bFrom<", line) is not None
         if STATES.match(line) or DECLARES.match(line):
             continue
         for at in WORD.finditer(line.partition(" //")[0]):
