@@ -1,6 +1,6 @@
 use Rattle.sqlite.specs.Held.{state}
 use Rattle.sqlite.proofs.StateLemmas.{survives_then}
-use Rattle.acceptor_store_parts.proofs.making.raise_version.Goals as goal
+use Rattle.acceptor_store_parts.proofs.making.raise.Goals as goal
 
 pub returns-in-Err-clause-survives : goal.returns-in-Err-clause-survives
 returns-in-Err-clause-survives g c =
