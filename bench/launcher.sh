@@ -1,10 +1,11 @@
 #!/usr/bin/env bash
-# Runs ./upsched as it may be called: with paths that hold spaces, quotes, a leading dash or an equals sign, above the caller's
-# folder or by a link, with texts on standard input or in a pipe, with standard descriptors that are closed, full or a pipe that
-# nobody reads, and over a folder that can't be written. Tells each call that ends otherwise than wanted, and how many do as wanted.
+# Runs ./upsched as it may be called: with paths that hold spaces, quotes, a leading dash or an equals sign, above the
+# caller's folder or by a link, with texts on standard input or in a pipe, with standard descriptors that are closed,
+# full or a pipe that nobody reads, and over a folder that can't be written. Tells each call that ends otherwise than
+# wanted, and how many do as wanted.
 #
-# With `unproved` it runs the launcher's other half, which calls `rt try`: a stand-in runs the program, and says what `rt try` says
-# beside the program's own lines. The program is the proved one, or PROGRAM.
+# With `unproved` it runs the launcher's other half, which calls `rt try`: a stand-in runs the program, and says what
+# `rt try` says beside the program's own lines. The program is the proved one, or PROGRAM.
 #
 # Usage: bench/launcher.sh [proved|unproved [PROGRAM]]
 set -uo pipefail
@@ -45,7 +46,7 @@ shift
 cd "\$room" && '$program' "\$@" >output
 status=\$?
 if [ "\$(stat -c %s output)" -gt 1048576 ]; then
-    echo 'checked: no-answer: the program wrote more than 1048576 bytes to standard output or to standard error, the limit on each' >&2
+    echo 'checked: no-answer: the program wrote more than 1048576 bytes to standard output or to standard error' >&2
     echo 'run=no-answer proved=no' >&2
     exit 6
 fi
@@ -81,12 +82,14 @@ chmod 755 -- "$made"
 chmod 555 -- closed_to_all
 
 right=0 wrong=0
-# wants NAME STATUS OUTPUT ERRORS: how the last call ended, with the first line of each. Of a build without proof one line more tells.
+# wants NAME STATUS OUTPUT ERRORS: how the last call ended, with the first line of each. Of a build without proof one
+# line more tells, and none of the tool's.
 wants() {
     local first_output first_errors
     read -r first_output <"$made/output" || :
     first_errors=$(grep -v '^upsched: no proved program here' "$made/errors" | head -n 1)
-    if [ "$ended" = "$2" ] && [[ $first_output == $3 ]] && [[ $first_errors == $4 ]] && ! grep -qE '^(checked|run|races)' "$made/errors"; then
+    if [ "$ended" = "$2" ] && [[ $first_output == $3 ]] && [[ $first_errors == $4 ]] &&
+        ! grep -qE '^(checked|run|races)' "$made/errors"; then
         right=$((right + 1))
     else
         echo "$1: status $ended, '$first_output', '$first_errors'"
@@ -116,7 +119,10 @@ builds() {
     shift
     : >"$made/builds"
     "$@"
-    [ ! -s "$made/builds" ] || [ "$(cat "$made/builds")" = "$build" ] || { echo "$2: built $(cat "$made/builds")"; wrong=$((wrong + 1)); }
+    [ ! -s "$made/builds" ] || [ "$(cat "$made/builds")" = "$build" ] || {
+        echo "$2: built $(cat "$made/builds")"
+        wrong=$((wrong + 1))
+    }
 }
 
 grant='1 channel 1 ucd 7'
