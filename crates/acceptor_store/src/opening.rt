@@ -49,7 +49,8 @@ fn judged(alloc: Global, schema: &Schema) -> Result<Version, OpenFault>
     }
 }
 
-/// The ballot tried and the promised row, where the table of numbers has what a node writes in this version.
+/// The ballot tried and the promised row, where the table of numbers has what a node writes in this
+/// version.
 fn numbers_in<S: Alter>(
     conn: &mut Connection<S>,
     version: Version,
@@ -166,7 +167,8 @@ pub fn is_of(alloc: Global, schema: &Schema, version: Version) -> Result<bool, O
     }
 }
 
-/// The connection over its own store, with the rows of the version's tables tested, and the promised ballot.
+/// The connection over its own store, with the rows of the version's tables tested, and the
+/// promised ballot.
 fn reread<S: Alter + Drop>(
     alloc: Global,
     version: Version,
@@ -194,7 +196,8 @@ fn reread<S: Alter + Drop>(
     }
 }
 
-/// The connection over the tables of version 2, where it had those of this version, and the promised ballot.
+/// The connection over the tables of version 2, where it had those of this version, and the
+/// promised ballot.
 fn brought_up<S: Alter + Drop>(
     alloc: Global,
     version: Version,
