@@ -6,9 +6,10 @@ ghost use Rattle.network_script_parts.specs.Fresh.{AreFresh};
 
 use crate::fault::StoreFault;
 use crate::stored::{StoredNode, stored_nodes};
+use acceptor_store::SqlRecords;
 use ballots::Members;
-use node::Node;
-use sqlite::{File, Files, Unknown};
+use node::{Node, SchedNode};
+use sqlite::{File, FileStore, Files, Unknown};
 use std::fs;
 use std::io::ErrorKind;
 
@@ -64,7 +65,8 @@ pub fn nodes_in(
     folder: &str,
     members: Members,
 ) -> Result<Vec<StoredNode<File>>, StoreFault>
-    ensures fresh { IfOk result (λ nodes. AreFresh ⟦<StoredNode<File> as Node>⟧.who ⟦<StoredNode<File> as Node>⟧.honest ⟦<StoredNode<File> as Node>⟧.stands nodes.items) }
+    ensures fresh { IfOk result (λ nodes. AreFresh ⟦<SchedNode<SqlRecords<FileStore<File>>> as Node>⟧.who ⟦<SchedNode<SqlRecords<FileStore<File>>> as Node>⟧.honest
+        ⟦<SchedNode<SqlRecords<FileStore<File>>> as Node>⟧.stands nodes.items) }
     ensures count { IfOk result (λ nodes. length nodes.items ≡ member_count members) }
 {
     let mut missing = Vec::new(rt.alloc());

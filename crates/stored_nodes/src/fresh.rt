@@ -15,14 +15,18 @@ use std::alloc::Global;
 /// A node with a member's number over records that hold nothing. Others are refused.
 pub fn fresh_node<R: Records + Drop>(
     alloc: Global,
-    id: NodeId,
+    number: u8,
     members: Members,
     records: R,
 ) -> Result<SchedNode<R>, StoreFault>
-    requires member { id < member_count members }
+    requires member { number < member_count members }
     requires certain { IsTrue (R.is_honest records) → ∥ ((c : Content) × Holds (R.may_find records) c) ∥₁ }
-    ensures { IfOk result (IsFreshAt ⟦<SchedNode<R> as Node>⟧.who ⟦<SchedNode<R> as Node>⟧.honest ⟦<SchedNode<R> as Node>⟧.stands (member_count members) id) }
+    ensures { IfOk result (IsFreshAt ⟦<SchedNode<R> as Node>⟧.who ⟦<SchedNode<R> as Node>⟧.honest
+        ⟦<SchedNode<R> as Node>⟧.stands (member_count members) number) }
 {
+    let Some(id) = NodeId::new(number) else {
+        unreachable!();
+    };
     let mut node = SchedNode::new(alloc, id, members, records);
     if node.is_fresh()? {
         Ok(node)
@@ -35,9 +39,6 @@ pub fn fresh_node<R: Records + Drop>(
 pub fn examine_records<R: Records + Drop>(alloc: Global, records: R) -> Result<(), StoreFault>
     requires { IsTrue (R.is_honest records) → ∥ ((c : Content) × Holds (R.may_find records) c) ∥₁ }
 {
-    let Some(id) = NodeId::new(0) else {
-        unreachable!();
-    };
-    let _node = fresh_node(alloc, id, Members::Three, records)?;
+    let _node = fresh_node(alloc, 0, Members::Three, records)?;
     Ok(())
 }

@@ -7,8 +7,7 @@ ghost use Rattle.network_script_parts.specs.Fresh.{AreFresh, IsFreshAt};
 use crate::fault::StoreFault;
 use crate::fresh::{examine_records, fresh_node};
 use acceptor_store::{SqlRecords, open_files};
-use ballots::{Members, NodeId};
-use network_script_parts::nodes_by_number;
+use ballots::Members;
 use node::{Node, SchedNode};
 use sqlite::{FileStore, Files};
 use sqlite_disk::{Disk, Memory};
@@ -21,15 +20,16 @@ pub type StoredNode<D> = SchedNode<SqlRecords<FileStore<D>>>;
 /// A node with a member's number over files whose records are those of a fresh one, or of none.
 fn stored_node<D: Disk + Drop>(
     alloc: Global,
-    id: NodeId,
+    number: u8,
     members: Members,
     files: Files<D>,
 ) -> Result<StoredNode<D>, StoreFault>
-    requires { id < member_count members }
-    ensures { IfOk result (IsFreshAt ⟦<StoredNode<D> as Node>⟧.who ⟦<StoredNode<D> as Node>⟧.honest ⟦<StoredNode<D> as Node>⟧.stands (member_count members) id) }
+    requires { number < member_count members }
+    ensures { IfOk result (IsFreshAt ⟦<SchedNode<SqlRecords<FileStore<D>>> as Node>⟧.who ⟦<SchedNode<SqlRecords<FileStore<D>>> as Node>⟧.honest
+        ⟦<SchedNode<SqlRecords<FileStore<D>>> as Node>⟧.stands (member_count members) number) }
 {
     let records = open_files(alloc, files)?;
-    fresh_node(alloc, id, members, records)
+    fresh_node(alloc, number, members, records)
 }
 
 /// What a file holds, in memory.
@@ -59,6 +59,13 @@ fn examine_copy(alloc: Global, files: Files<Memory>) -> Result<(), StoreFault> {
     examine_records(alloc, open_files(alloc, files)?)
 }
 
+fn examine_all<D: Disk>(alloc: Global, files: &mut [Files<D>]) -> Result<(), StoreFault> {
+    for pair in files {
+        examine(alloc, pair)?;
+    }
+    Ok(())
+}
+
 /// The fresh nodes of so many members, by number, each over its files. Files that hold anything else
 /// than a fresh node's records, or nothing, are refused before any of them is written to.
 pub fn stored_nodes<D: Disk + Drop>(
@@ -66,24 +73,22 @@ pub fn stored_nodes<D: Disk + Drop>(
     members: Members,
     files: Vec<Files<D>>,
 ) -> Result<Vec<StoredNode<D>>, StoreFault>
-    ensures fresh { IfOk result (λ nodes. AreFresh ⟦<StoredNode<D> as Node>⟧.who ⟦<StoredNode<D> as Node>⟧.honest ⟦<StoredNode<D> as Node>⟧.stands nodes.items) }
+    ensures fresh { IfOk result (λ nodes. AreFresh ⟦<SchedNode<SqlRecords<FileStore<D>>> as Node>⟧.who ⟦<SchedNode<SqlRecords<FileStore<D>>> as Node>⟧.honest
+        ⟦<SchedNode<SqlRecords<FileStore<D>>> as Node>⟧.stands nodes.items) }
     ensures count { IfOk result (λ nodes. length nodes.items ≡ member_count members) }
 {
     let mut files = files;
-    for pair in files.as_mut_slice() {
-        examine(alloc, pair)?;
-    }
+    examine_all(alloc, files.as_mut_slice())?;
     let mut left = files.into_iter();
-    nodes_by_number(
-        alloc,
-        members,
-        |id, members|
-            requires { id < member_count members }
-        {
-            match left.next() {
-                Some(pair) => stored_node(alloc, id, members, pair),
-                None => Err(StoreFault::Unusable),
-            }
-        },
-    )
+    let mut nodes = Vec::new(alloc);
+    for number in 0..members.count() {
+        let Some(pair) = left.next() else {
+            return Err(StoreFault::Unusable);
+        };
+        let node = stored_node(alloc, number, members, pair)?;
+        let Ok(()) = nodes.push(node) else {
+            return Err(StoreFault::OutOfMemory);
+        };
+    }
+    Ok(nodes)
 }
