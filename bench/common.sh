@@ -8,7 +8,7 @@ program=$root/crates/upsched/out/upsched
 # Ends the benchmark where no proved program is there.
 needs_program() {
     [ -x "$program" ] && return
-    echo "$0: no proved program: (cd '$root/crates/upsched' && rm -f out/upsched && rt run -- --help)" >&2
+    echo "$0: no proved program: ./upsched --build makes it" >&2
     exit 1
 }
 
@@ -19,25 +19,19 @@ measure() {
 
 # closure NAME..: of these crates and libraries, those of the repository, and all that they stand on there.
 closure() {
-    awk -F: -v tops="$*" '
-        function add(name,    k, count, names) {
-            if (!(name in below) || name in seen) return
-            seen[name]
-            print name
-            count = split(below[name], names, " ")
-            for (k = 1; k <= count; k++) add(names[k])
-        }
-        /^[a-z]/ { split($1, words, " "); below[words[1]] = $2 }
-        END { count = split(tops, top, " "); for (k = 1; k <= count; k++) add(top[k]) }' "$root/crates.txt"
+    awk -v tops="$*" -f "$root/quick/closure.awk" "$root/crates.txt"
 }
 
-# workspace_over NAME DEP..: makes a workspace of its own for bench/NAME/main.rt.in over these crates and libraries; its folder is `workspace`.
+# workspace_over NAME DEP..: makes a workspace of its own for the sources bench/NAME/*.rt.in over these crates and libraries; its folder is
+# `workspace`.
 workspace_over() {
-    local bench=${1}_bench source=$root/bench/$1/main.rt.in crate
+    local bench=${1}_bench sources=$root/bench/$1 source crate
     shift
     workspace=$made/crates/$bench
     mkdir -p "$workspace/src"
-    cp "$source" "$workspace/src/main.rt"
+    for source in "$sources"/*.rt.in; do
+        cp "$source" "$workspace/src/$(basename -- "$source" .in)"
+    done
     for crate in $(closure "$@"); do
         cp -r "$root/crates/$crate" "$made/crates"
         grep -E "^$crate:" "$root/crates.txt" >>"$made/crates.txt"

@@ -1,22 +1,27 @@
 #!/usr/bin/env bash
-# Runs ./upsched as it may be called: with paths that hold spaces, quotes, a leading dash or an equals sign, above the caller's
-# folder or by a link, with standard descriptors that are closed, full or a pipe that nobody reads, and over a
-# folder that can't be written. Tells each call that ends otherwise than wanted, and how many do as wanted.
+# Runs ./upsched as it may be called: with paths that hold spaces, quotes, a leading dash or an equals sign, above the
+# caller's folder or by a link, with texts on standard input or in a pipe, with standard descriptors that are closed,
+# full or a pipe that nobody reads, and over a folder that can't be written. Tells each call that ends otherwise than
+# wanted, and how many do as wanted.
 #
-# With `unproved` it runs the launcher's other half, which calls `rt try`, with the proved program in its place.
+# With `unproved` it runs the launcher's other half, which calls `rt try`: a stand-in runs the program, and says what
+# `rt try` says beside the program's own lines. The program is the proved one, or PROGRAM.
 #
-# Usage: bench/launcher.sh [unproved]
+# Usage: bench/launcher.sh [proved|unproved [PROGRAM]]
 set -uo pipefail
 . "$(dirname -- "${BASH_SOURCE[0]}")/common.sh"
+[ $# -lt 2 ] || program=$(readlink -f -- "$2")
 needs_program
 
 repository=$made/repository
 mkdir -- "$repository" "$made/bin" "$made/above" "$made/above/here"
-cp -r -- "$root/upsched" "$root/crates.txt" "$repository"
-sed -n 's/^\([a-z_]*\):.*/\1/p' "$root/crates.txt" | while read -r name; do
+cp -r -- "$root/upsched" "$root/crates.txt" "$root/quick" "$repository"
+closure upsched | while read -r name; do
     mkdir -p -- "$repository/crates/$name/src"
 done
 mkdir -- "$repository/crates/upsched/out"
+: >"$made/builds"
+chmod 666 -- "$made/builds"
 if [ "${1-}" = unproved ]; then
     mkdir -m 1777 -- "$made/rooms"
     # `rt try` as the launcher calls it: the files of --data lie in the folder that the program runs in
@@ -25,20 +30,35 @@ if [ "${1-}" = unproved ]; then
 [ "\$1" = try ] || exit 99
 shift
 room=\$(mktemp -d '$made/rooms/room.XXXXXX')
-while [ "\$1" = --data ]; do
-    mkdir -p -- "\$(dirname -- "\$room/\${2%%=*}")"
-    cp -- "\${2#*=}" "\$room/\${2%%=*}"
+basename -- "\$PWD" >>'$made/builds'
+while [ "\$1" != -- ]; do
+    case \$1 in
+        --data)
+            mkdir -p -- "\$(dirname -- "\$room/\${2%%=*}")"
+            cp -- "\${2#*=}" "\$room/\${2%%=*}"
+            ;;
+        --seconds) ;;
+        *) exit 98 ;;
+    esac
     shift 2
 done
 shift
-cd "\$room" && '$program' "\$@"
+cd "\$room" && '$program' "\$@" >output
 status=\$?
+if [ "\$(stat -c %s output)" -gt 1048576 ]; then
+    echo 'checked: no-answer: the program wrote more than 1048576 bytes to standard output or to standard error' >&2
+    echo 'run=no-answer proved=no' >&2
+    exit 6
+fi
+cat output
 echo "checked: ended status=\$status" >&2
+echo 'races: not looked for, since a kit has no ThreadSanitizer' >&2
+echo "run=ended status=\$status runners=1 races=unchecked proved=no" >&2
 exit "\$status"
 STUB
     chmod +x "$made/bin/rt"
 else
-    cp -- "$program" "$repository/crates/upsched/out"
+    cp -- "$program" "$repository/crates/upsched/out/upsched"
 fi
 PATH=$made/bin:$PATH
 upsched=$repository/upsched
@@ -46,6 +66,7 @@ upsched=$repository/upsched
 cd "$made/above/here" || exit 1
 plan=$root/examples/plans/first_grant.toml
 script=$root/examples/scripts/one_leader.toml
+body=$root/examples/bodies/first_grant.hex
 cp -- "$plan" 'with space.toml'
 cp -- "$plan" "quo'te\".toml"
 cp -- "$plan" ./-dash.toml
@@ -53,18 +74,22 @@ cp -- "$plan" 'is=equal.toml'
 cp -- "$plan" 'a*b?[c].toml'
 cp -- "$plan" ../above.toml
 cp -- "$script" script.toml
+printf 'kind = "\377"\n' >no_text.toml
+printf '%s\n' 'command = 3' >no_array.toml
 ln -s -- "$repository/upsched" ../link
 mkdir -- 'st ore' closed_to_all
 chmod 755 -- "$made"
 chmod 555 -- closed_to_all
 
 right=0 wrong=0
-# wants NAME STATUS OUTPUT ERRORS: how the last call ended, with the first line of each.
+# wants NAME STATUS OUTPUT ERRORS: how the last call ended, with the first line of each. Of a build without proof one
+# line more tells, and none of the tool's.
 wants() {
     local first_output first_errors
     read -r first_output <"$made/output" || :
     first_errors=$(grep -v '^upsched: no proved program here' "$made/errors" | head -n 1)
-    if [ "$ended" = "$2" ] && [[ $first_output == $3 ]] && [[ $first_errors == $4 ]]; then
+    if [ "$ended" = "$2" ] && [[ $first_output == $3 ]] && [[ $first_errors == $4 ]] &&
+        ! grep -qE '^(checked|run|races)' "$made/errors"; then
         right=$((right + 1))
     else
         echo "$1: status $ended, '$first_output', '$first_errors'"
@@ -81,6 +106,25 @@ calls() {
     wants "$name" "$status" "$output" "$errors"
 }
 
+# builds_nothing COMMAND..: runs it, and tells where that called `rt try`.
+builds_nothing() {
+    : >"$made/builds"
+    "$@"
+    [ ! -s "$made/builds" ] || { echo "$2: built something first"; wrong=$((wrong + 1)); }
+}
+
+# builds WORD COMMAND..: runs it, and tells where the build without proof that it took isn't that.
+builds() {
+    local build=$1
+    shift
+    : >"$made/builds"
+    "$@"
+    [ ! -s "$made/builds" ] || [ "$(cat "$made/builds")" = "$build" ] || {
+        echo "$2: built $(cat "$made/builds")"
+        wrong=$((wrong + 1))
+    }
+}
+
 grant='1 channel 1 ucd 7'
 calls 'a space' 0 "$grant" '' maps 'with space.toml'
 calls 'quotes' 0 "$grant" '' maps "quo'te\".toml"
@@ -91,15 +135,55 @@ calls 'an equals sign' 0 "$grant" '' maps 'is=equal.toml'
 calls 'a pattern' 0 "$grant" '' maps 'a*b?[c].toml'
 calls 'above' 0 "$grant" '' maps ../above.toml
 calls 'down and above' 0 "$grant" '' maps 'st ore/../../above.toml'
-calls 'no file' 1 '' 'upsched: cannot read nowhere.toml' maps nowhere.toml
-calls 'a folder' 1 '' 'upsched: cannot read *' maps .
-calls 'an empty word' 1 '' 'upsched: cannot read ' maps ''
-calls 'no word' 2 '' '*' 
-calls 'a store with a space' 0 '0 sent 3' '' run script.toml --store 'st ore'
-calls 'the store again' 1 '' 'upsched: store not fresh' run script.toml --store='st ore'
-calls 'no such store' 1 '' 'upsched: store' run script.toml --store nowhere
+builds_nothing calls 'no file' 1 '' 'upsched: cannot read nowhere.toml' maps nowhere.toml
+builds_nothing calls 'no file for run' 1 '' 'upsched: cannot read nowhere.toml' run nowhere.toml --store 'st ore'
+builds_nothing calls 'no file for live' 1 '' 'upsched: cannot read nowhere.toml' live --turns 5 nowhere.toml
+builds_nothing calls 'a folder' 1 '' 'upsched: cannot read .' maps .
+builds_nothing calls 'a folder for live' 1 '' 'upsched: cannot read st ore' live 'st ore'
+builds_nothing calls 'no text' 1 '' 'upsched: cannot read no_text.toml' run no_text.toml
+builds_nothing calls 'an empty word' 1 '' 'upsched: cannot read ' maps ''
+builds upsched_words calls 'no word' 2 '' '*'
+builds upsched_words calls 'help' 0 'A DOCSIS upstream scheduler*' '' --help
+builds upsched_words calls 'the version' 0 'upsched 0.1.0' '' --version
+builds upsched_words calls 'two files, one of them missing' 2 '' 'error: *' maps nowhere.toml script.toml
+builds upsched_words calls 'too many turns' 2 '' 'error: *' live --turns 1000001 nowhere.toml
+builds upsched_words calls 'live without a plan' 2 '' 'error: *' live
+builds upsched_words calls 'no such option' 2 '' 'error: *' maps --store x nowhere.toml
+builds upsched_words calls 'a store that is none' 2 '' 'error: *' run nowhere.toml --store
+builds upsched_words calls 'a word that is no text' 2 '' "error: a word isn't UTF-8" maps $'\377.toml'
+builds upsched_commands calls 'no array' 1 '' 'upsched: plan 2 BadCommand 1' maps no_array.toml
+builds upsched_commands calls 'a script' 0 '0 sent 3' '' run --verbose script.toml
+builds upsched calls 'threads' 0 'audit yes' '' live ../above.toml --turns=200
+builds upsched calls 'a store with a space' 0 '0 sent 3' '' run script.toml --store 'st ore'
+builds upsched calls 'the store again' 1 '' 'upsched: store not fresh' run script.toml --store='st ore'
+builds upsched calls 'no such store' 1 '' 'upsched: store' run script.toml --store nowhere
 launcher=../link calls 'by a link' 0 "$grant" '' maps 'with space.toml'
 
+# halves FILE: its text, with five seconds between its halves.
+halves() {
+    local size
+    size=$(stat -c %s -- "$1")
+    head -c $((size / 2)) -- "$1"
+    sleep 5
+    tail -c +$((size / 2 + 1)) -- "$1"
+}
+
+mkdir -- 'an other store'
+calls 'standard input' 0 "$grant" '' maps - <"$plan"
+calls 'standard input behind --' 0 "$grant" '' maps -- - <"$plan"
+calls 'standard input by its path' 0 "$grant" '' maps /dev/stdin <"$plan"
+calls 'standard input of run, with a store' 0 '0 sent 3' '' run - --store 'an other store' <"$script"
+[ -f 'an other store/node-1.db' ] || { echo 'standard input of run, with a store: no records'; wrong=$((wrong + 1)); }
+calls 'standard input of live' 0 'audit yes' '' live --turns 200 - <"$plan"
+calls 'standard input of show' 0 'channel 1 ucd 7 start 1000 *' '' show - <"$body"
+calls 'a text with a fault on standard input' 1 '' 'upsched: plan 2 BadCommand 1' maps - <no_array.toml
+calls 'no text on standard input' 1 '' 'upsched: cannot read -' maps - <no_text.toml
+calls 'a folder on standard input' 1 '' 'upsched: cannot read -' maps - <.
+calls 'no digits on standard input' 1 '' 'upsched: hex' show - <no_text.toml
+calls 'too many digits on standard input' 1 '' 'upsched: more than 131071 bytes *' show - < <(head -c 200000 /dev/zero)
+calls 'a pipe in two halves' 0 "$grant" '' maps - < <(halves "$plan")
+calls 'two halves, by the path' 0 "$grant" '' maps /dev/stdin < <(halves "$plan")
+calls 'a pipe of its own' 0 "$grant" '' maps <(halves "$plan")
 "$upsched" maps 'with space.toml' >"$made/output" 2>"$made/errors" <&-
 ended=$?
 wants 'standard input closed' 0 "$grant" ''
@@ -121,6 +205,10 @@ ended=$?
 : >"$made/output"
 wants 'standard output full' 1 '' 'upsched: output'
 python3 "$root/bench/plans.py" mixed 20000 >long.toml
+if [ "${1-}" = unproved ]; then
+    calls 'a long text' 6 '' 'upsched: no answer: *' maps long.toml
+    python3 "$root/bench/plans.py" mixed 4000 >long.toml
+fi
 "$upsched" maps long.toml 2>"$made/errors" | head -n 1 >"$made/output"
 ended=${PIPESTATUS[0]}
 wants 'a pipe that nobody reads on' 1 '1 *' 'upsched: output'

@@ -129,7 +129,8 @@ fn promised_in<S: Alter>(alloc: Global, conn: &mut Connection<S>) -> Result<Opti
     Ok(greatest_of(numbers.1, votes.rows()))
 }
 
-/// Tests the tables of a connection that was opened, and gives the promised ballot. None where they are none of the records, or can't be read.
+/// Tests the tables of a connection that was opened, and gives the promised ballot. None where they
+/// are none of the records, or can't be read.
 fn tested<S: Alter>(alloc: Global, conn: &mut Connection<S>) -> Option<Option<Ballot>>
     ensures tells { HasCleanDisk (state S.Store conn.new) → IfSome result (Tells S.Store conn.old conn.new) }
     ensures clean { doubt (state S.Store conn.old).is_clean ≤ doubt (state S.Store conn.new).is_clean }
@@ -169,7 +170,8 @@ fn opened_anew<D: Disk + Drop>(
 /// Why records weren't opened.
 #[derive(Clone, Copy, Debug, PartialEq, Eq, Error)]
 pub enum OpenFault {
-    /// The store failed, or the files hold no database, or one that is used or declared in another way.
+    /// The store failed, or the files hold no database, or one that is used or declared in another
+    /// way.
     #[error("Refused")]
     Refused,
     /// The store is shut, or its files can't be used.
@@ -184,7 +186,19 @@ pub enum OpenFault {
 }
 
 impl<S: Alter + Drop> SqlRecords<S> {
-    /// Records over the connection, in tables of version 2. In a database without tables they are made, and those of version 1 are made into them with equal content and nothing learned, each in one transaction. A connection in a transaction is Refused, before anything else is looked at. Then a schema that no node made is Foreign, and any other than that of a version's tables is Refused: tables that were declared otherwise, and tables, indexes or views beside them or without them. Last, numbers, votes and learned values that no node wrote are Foreign, as is a mixture of the versions; nothing was changed then. Foreign comes only where no node wrote the database. Want of memory and faults of the store come where they are met. Where it fails the store comes back, and holds what it held, whole, in the older version or in version 2.
+    /// Records over the connection, in tables of version 2. In a database without tables they are
+    /// made, and those of version 1 are made into them with equal content and nothing learned, each
+    /// in one transaction.
+    ///
+    /// A connection in a transaction is Refused, before anything else is looked at. Then a schema
+    /// that no node made is Foreign, and any other than that of a version's tables is Refused:
+    /// tables that were declared otherwise, and tables, indexes or views beside them or without
+    /// them. Last, numbers, votes and learned values that no node wrote are Foreign, as is a
+    /// mixture of the versions; nothing was changed then. Foreign comes only where no node wrote
+    /// the database.
+    ///
+    /// Want of memory and faults of the store come where they are met. Where it fails the store
+    /// comes back, and holds what it held, whole, in the older version or in version 2.
     pub fn open(alloc: Global, conn: Connection<S>) -> Result<SqlRecords<S>, (OpenFault, S)>
         ensures holds { IfOk result (λ r. IsHonest S.Store r → (c : Content) × Had S.Store conn c × Holds (MayFind S.Store r.held) c) }
         ensures clean { IfOk result (λ r. IsHonest S.Store r → HasCleanDisk (state S.Store conn)) }
@@ -211,7 +225,8 @@ impl<S: Alter + Drop> SqlRecords<S> {
 }
 
 impl<S: Alter + Drop> SqlRecords<S> {
-    /// The store of the records, and none after a reopen that failed. What isn't committed is rolled back, and a crash leaves nothing that it couldn't leave before.
+    /// The store of the records, and none after a reopen that failed. What isn't committed is
+    /// rolled back, and a crash leaves nothing that it couldn't leave before.
     pub fn into_store(self) -> Option<S>
         ensures some { IsSome result ↔ IsSome self.held }
         ensures numbered { IfSome result (λ s. IsClean (S.Store.view s) → IsTrue (S.Store.view s).is_numbered) }
@@ -243,7 +258,9 @@ fn unopened(error: SqlError) -> OpenFault
     }
 }
 
-/// Records over the files, whatever was left of them by a crash. They hold what the files hold: one of the contents that the store of the records before might have left. Files of which a sync has failed are Broken.
+/// Records over the files, whatever was left of them by a crash. They hold what the files hold: one
+/// of the contents that the store of the records before might have left. Files of which a sync has
+/// failed are Broken.
 pub fn open_files<D: Disk + Drop>(
     alloc: Global,
     files: Files<D>,

@@ -49,7 +49,8 @@ fn judged(alloc: Global, schema: &Schema) -> Result<Version, OpenFault>
     }
 }
 
-/// The ballot tried and the promised row, where the table of numbers has what a node writes in this version.
+/// The ballot tried and the promised row, where the table of numbers has what a node writes in this
+/// version.
 fn numbers_in<S: Alter>(
     conn: &mut Connection<S>,
     version: Version,
@@ -166,7 +167,8 @@ pub fn is_of(alloc: Global, schema: &Schema, version: Version) -> Result<bool, O
     }
 }
 
-/// The connection over its own store, with the rows of the version's tables tested, and the promised ballot.
+/// The connection over its own store, with the rows of the version's tables tested, and the
+/// promised ballot.
 fn reread<S: Alter + Drop>(
     alloc: Global,
     version: Version,
@@ -194,21 +196,8 @@ fn reread<S: Alter + Drop>(
     }
 }
 
-/// The connection with its tables of version 1 made into those of version 2.
-fn raised_version<S: Alter + Drop>(mut conn: Connection<S>) -> Result<Connection<S>, (OpenFault, S)>
-    ensures raised { IfOk result (λ c. HasCleanDisk (state S.Store c) → HasRaised (state S.Store conn) (state S.Store c)) }
-    ensures clean { IfOk result (λ c. doubt (state S.Store conn).is_clean ≤ doubt (state S.Store c).is_clean) }
-    ensures fault { IfErr result (λ e. e.0 ≢ OpenFault.Foreign) }
-    ensures trusted { IfErr result (λ e. doubt (state S.Store conn).is_clean ≤ doubt (S.Store.view e.1).is_clean) }
-    ensures left { IfErr result (λ e. IsClean (S.Store.view e.1) → (db : Trees) → S.Store.recovers e.1 db → (state S.Store conn).may_leave db ⊎ MayHaveRaised (state S.Store conn) db) }
-{
-    match acceptor_store_parts::raise_version(&mut conn) {
-        Ok(()) => Ok(conn),
-        Err(stop) => Err((stopped(stop), conn.into_store())),
-    }
-}
-
-/// The connection over the tables of version 2, where it had those of this version, and the promised ballot.
+/// The connection over the tables of version 2, where it had those of this version, and the
+/// promised ballot.
 fn brought_up<S: Alter + Drop>(
     alloc: Global,
     version: Version,
@@ -225,9 +214,9 @@ fn brought_up<S: Alter + Drop>(
     };
     match version {
         Version::Second => Ok(found),
-        Version::First => match raised_version(found.0) {
+        Version::First => match acceptor_store_parts::raise_version(found.0) {
             Ok(raised) => Ok((raised, found.1)),
-            Err(refused) => Err(refused),
+            Err(refused) => Err((stopped(refused.0), refused.1)),
         },
     }
 }

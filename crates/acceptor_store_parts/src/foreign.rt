@@ -25,7 +25,8 @@ fn lacks_learned(table: &Table) -> bool
     table.column_named(b"place").is_none() || table.column_named(b"value").is_none()
 }
 
-/// Whether only one of the tables of ballots and votes is there, or that of learned values without them.
+/// Whether only one of the tables of ballots and votes is there, or that of learned values without
+/// them.
 fn is_part(schema: &Schema) -> bool
     ensures { IsTrue result ↔ IsPart schema.now }
 {

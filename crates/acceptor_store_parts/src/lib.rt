@@ -39,7 +39,8 @@ pub use rereading::{are_in_order, reread};
 use sqlite::types::ValueRef;
 use sqlite::{Alter, Connection, Error, ErrorCode, Row};
 
-/// What tables there are: those of ballots and votes alone in the first version, and that of learned values beside them in the second.
+/// What tables there are: those of ballots and votes alone in the first version, and that of
+/// learned values beside them in the second.
 #[derive(Clone, Copy, Debug, PartialEq, Eq)]
 pub enum Version {
     First,

@@ -3,10 +3,9 @@
 ghost use Rattle.std.specs.Prelude.{◌≡◌, IfOk, length};
 
 use crate::driving::{Leads, Meeting, Open};
-use crate::fixtures::is_whole_lead;
 use ballots::Members;
 use network_script_parts::{OutOfMemory, PlainNode, plain_nodes};
-use node_worker::{Gate, Kept, Plant, Torn, audit, run_cluster};
+use node_worker::{Ended, Gate, Kept, Plant, Record, Torn, audit, run_cluster};
 use std::alloc::Global;
 use std::sync::Wait;
 use std::test::*;
@@ -37,6 +36,11 @@ fn run<G: Gate<PlainNode> + Sync, R: Threads + Wait + Clock + Sync>(
     let nodes = plain_nodes(alloc, Members::Three)?;
     let carriers = listed(alloc, carriers)?;
     run_cluster(rt, alloc, nodes, Vec::new(alloc), 3, carriers, gate)
+}
+
+// Whether it is a whole call that sent three letters.
+fn is_whole_lead(record: &Record) -> bool {
+    record.entry.ended == Ended::Whole && record.entry.letters().len() == 3
 }
 
 // Whether there are so many records, each of a whole call to lead, and no turn is left.

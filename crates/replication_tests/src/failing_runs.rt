@@ -3,7 +3,7 @@
 use ballots::Members;
 use faulty_records::{Failure, FaultyNode, Trouble, faulty_nodes};
 use network_script::World;
-use network_script_parts::{Answer, OutOfMemory, Refusal, read_script};
+use network_script_parts::{Answer, Event, OutOfMemory, Refusal, read_script};
 use node::NodeFault;
 use std::alloc::Global;
 use std::test::Fail;
@@ -66,9 +66,18 @@ const NOTHING: Between<'static> = Between {
     answers: &[],
 };
 
+/// A node whose records fail, how, and the first and the last of their calls that do.
+type Faulty = (u8, Failure, u64, u64);
+
 /// The opening world of three, in which one node's records fail.
-fn opening(alloc: Global, faulty: u8, trouble: Trouble) -> Result<FaultyWorld, OutOfMemory> {
-    let nodes = faulty_nodes(alloc, Members::Three, faulty, trouble)?;
+fn opening(alloc: Global, faulty: Faulty) -> Result<FaultyWorld, OutOfMemory> {
+    let (node, failure, first, last) = faulty;
+    let trouble = Trouble {
+        failure,
+        first,
+        last,
+    };
+    let nodes = faulty_nodes(alloc, Members::Three, node, trouble)?;
     World::new(alloc, nodes, Vec::new(alloc))
 }
 
@@ -82,35 +91,25 @@ fn wanted(alloc: Global, early: &Between<'_>, late: &Between<'_>) -> Result<Vec<
     Ok(answers)
 }
 
-/// Whether the run with these events between answers as wanted, and ends with 23 letters and four outputs.
-fn goes_on(
-    alloc: Global,
-    (faulty, trouble): (u8, Trouble),
-    early: &Between<'_>,
-    late: &Between<'_>,
-) -> Result<bool, Fail> {
+/// The events of all parts, in order.
+fn events(alloc: Global, early: &Between<'_>, late: &Between<'_>) -> Result<Vec<Event>, Fail> {
     let text = format!(in alloc;
         "members = 3\nevent = [{LEADS}{}{OFFERS}{}{LEARN}]",
         early.events, late.events
     )?;
-    let script = read_script(alloc, text.as_str())?;
-    let mut world = opening(alloc, faulty, trouble)?;
-    let report = world.run(script.events.as_slice())?;
-    let wanted = wanted(alloc, early, late)?;
-    Ok(report.answers() == wanted.as_slice() && ends_whole(&world))
+    Ok(read_script(alloc, text.as_str())?.events)
 }
 
-fn ends_whole(world: &FaultyWorld) -> bool {
-    world.letters().len() == 23 && world.outputs().len() == 4
-}
-
-/// The one call of this number fails.
-fn at(failure: Failure, number: u64) -> Trouble {
-    Trouble {
-        failure,
-        first: number,
-        last: number,
-    }
+/// Whether the run with these events between answers as wanted, and ends with 23 letters and four outputs.
+fn goes_on(
+    alloc: Global,
+    world: &mut FaultyWorld,
+    early: &Between<'_>,
+    late: &Between<'_>,
+) -> Result<bool, Fail> {
+    let report = world.run(events(alloc, early, late)?.as_slice())?;
+    let is_wanted = report.answers() == wanted(alloc, early, late)?.as_slice();
+    Ok(is_wanted && world.letters().len() == 23 && world.outputs().len() == 4)
 }
 
 // Of the calls on node 1's records a Prepare makes three and an Accept three, of which the last one writes. The Voted
@@ -119,83 +118,119 @@ const FIRST_VOTE: u64 = 6;
 
 const FIRST_LEARNED: u64 = 7;
 
-#[test]
-fn a_refused_vote(rt: HostRuntime) -> Result<(), Fail> {
-    let late = Between {
-        events: "{kind = 'deliver', letter = 6}, {kind = 'deliver', letter = 6}, {kind = 'restart', node = 1}, {kind = 'deliver', letter = 6},",
-        answers: &[
-            Answer::Fault(NodeFault::StoreRefused),
-            Answer::Refused(Refusal::NodeDown),
-            Answer::Finished,
-            Answer::Sent(3),
-        ],
-    };
-    let trouble = at(Failure::Refused, FIRST_VOTE);
-    assert!(rt; goes_on(rt.alloc(), (1, trouble), &NOTHING, &late)?);
-    Ok(())
-}
+/// Node 1's vote is refused.
+const REFUSED_VOTE: Between<'static> = Between {
+    events: "{kind = 'deliver', letter = 6}, {kind = 'deliver', letter = 6}, {kind = 'restart', node = 1}, {kind = 'deliver', letter = 6},",
+    answers: &[
+        Answer::Fault(NodeFault::StoreRefused),
+        Answer::Refused(Refusal::NodeDown),
+        Answer::Finished,
+        Answer::Sent(3),
+    ],
+};
+
+/// Node 1's records break at its vote.
+const BROKEN_VOTE: Between<'static> = Between {
+    events: "{kind = 'deliver', letter = 6}, {kind = 'restart', node = 1}, {kind = 'deliver', letter = 6},",
+    answers: &[
+        Answer::Fault(NodeFault::Down),
+        Answer::Finished,
+        Answer::Sent(3),
+    ],
+};
+
+const VOTED: Between<'static> = Between {
+    events: VOTES,
+    answers: &[Answer::Sent(3)],
+};
+
+const ASKS_NODE_2: &str = "{kind = 'deliver', letter = 2}, {kind = 'restart', node = 2},";
+
+/// Node 2 neither promises nor restarts, and the rest goes on without it.
+const REFUSES: Between<'static> = Between {
+    events: ASKS_NODE_2,
+    answers: &[
+        Answer::Fault(NodeFault::StoreRefused),
+        Answer::Fault(NodeFault::StoreRefused),
+    ],
+};
+
+const BREAKS: Between<'static> = Between {
+    events: ASKS_NODE_2,
+    answers: &[
+        Answer::Fault(NodeFault::Down),
+        Answer::Fault(NodeFault::Down),
+    ],
+};
+
+const LEARNS: &str =
+    "{kind = 'deliver', letter = 6}, {kind = 'deliver', letter = 9}, {kind = 'deliver', letter = 12}, {kind = 'restart', node = 1},";
+
+/// The write of node 1's first learned row fails, and the node restarts: it has learned the value or hears of the votes again.
+const REFUSED_ROW: Between<'static> = Between {
+    events: LEARNS,
+    answers: &[
+        Answer::Sent(3),
+        Answer::Sent(0),
+        Answer::Fault(NodeFault::StoreRefused),
+        Answer::Finished,
+    ],
+};
+
+const BROKEN_ROW: Between<'static> = Between {
+    events: LEARNS,
+    answers: &[
+        Answer::Sent(3),
+        Answer::Sent(0),
+        Answer::Fault(NodeFault::Down),
+        Answer::Finished,
+    ],
+};
+
+/// Whose records fail, and what is put between.
+const RUNS: [(Faulty, Between<'static>, Between<'static>); 8] = [
+    (
+        (1, Failure::Refused, FIRST_VOTE, FIRST_VOTE),
+        NOTHING,
+        REFUSED_VOTE,
+    ),
+    (
+        (1, Failure::BrokenWritten, FIRST_VOTE, FIRST_VOTE),
+        NOTHING,
+        BROKEN_VOTE,
+    ),
+    (
+        (1, Failure::BrokenUnwritten, FIRST_VOTE, FIRST_VOTE),
+        NOTHING,
+        BROKEN_VOTE,
+    ),
+    ((2, Failure::Refused, 1, u64::MAX), REFUSES, VOTED),
+    ((2, Failure::BrokenUnwritten, 1, u64::MAX), BREAKS, VOTED),
+    (
+        (1, Failure::Refused, FIRST_LEARNED, FIRST_LEARNED),
+        NOTHING,
+        REFUSED_ROW,
+    ),
+    (
+        (1, Failure::BrokenWritten, FIRST_LEARNED, FIRST_LEARNED),
+        NOTHING,
+        BROKEN_ROW,
+    ),
+    (
+        (1, Failure::BrokenUnwritten, FIRST_LEARNED, FIRST_LEARNED),
+        NOTHING,
+        BROKEN_ROW,
+    ),
+];
 
 #[test]
-fn a_broken_vote(rt: HostRuntime) -> Result<(), Fail> {
-    let late = Between {
-        events: "{kind = 'deliver', letter = 6}, {kind = 'restart', node = 1}, {kind = 'deliver', letter = 6},",
-        answers: &[
-            Answer::Fault(NodeFault::Down),
-            Answer::Finished,
-            Answer::Sent(3),
-        ],
-    };
-    let kept = at(Failure::BrokenWritten, FIRST_VOTE);
-    assert!(rt; goes_on(rt.alloc(), (1, kept), &NOTHING, &late)?);
-    let lost = at(Failure::BrokenUnwritten, FIRST_VOTE);
-    assert!(rt; goes_on(rt.alloc(), (1, lost), &NOTHING, &late)?);
-    Ok(())
-}
-
-/// Every call on node 2's records fails, so it neither promises nor restarts, and the rest goes on without it.
-fn goes_on_without(alloc: Global, failure: Failure, fault: NodeFault) -> Result<bool, Fail> {
-    let early = Between {
-        events: "{kind = 'deliver', letter = 2}, {kind = 'restart', node = 2},",
-        answers: &[Answer::Fault(fault), Answer::Fault(fault)],
-    };
-    let late = Between {
-        events: VOTES,
-        answers: &[Answer::Sent(3)],
-    };
-    let trouble = Trouble {
-        failure,
-        first: 1,
-        last: u64::MAX,
-    };
-    goes_on(alloc, (2, trouble), &early, &late)
-}
-
-#[test]
-fn a_store_that_fails_for_good(rt: HostRuntime) -> Result<(), Fail> {
-    assert!(rt; goes_on_without(rt.alloc(), Failure::Refused, NodeFault::StoreRefused)?);
-    assert!(rt; goes_on_without(rt.alloc(), Failure::BrokenUnwritten, NodeFault::Down)?);
-    Ok(())
-}
-
-/// Whether the run goes on where the write of node 1's first learned row ends so, and the node restarts: it has learned
-/// the value or hears of the votes again.
-fn learns_again(alloc: Global, failure: Failure, fault: NodeFault) -> Result<bool, Fail> {
-    let late = Between {
-        events: "{kind = 'deliver', letter = 6}, {kind = 'deliver', letter = 9}, {kind = 'deliver', letter = 12}, {kind = 'restart', node = 1},",
-        answers: &[
-            Answer::Sent(3),
-            Answer::Sent(0),
-            Answer::Fault(fault),
-            Answer::Finished,
-        ],
-    };
-    goes_on(alloc, (1, at(failure, FIRST_LEARNED)), &NOTHING, &late)
-}
-
-#[test]
-fn a_learned_row_that_fails(rt: HostRuntime) -> Result<(), Fail> {
-    assert!(rt; learns_again(rt.alloc(), Failure::Refused, NodeFault::StoreRefused)?);
-    assert!(rt; learns_again(rt.alloc(), Failure::BrokenWritten, NodeFault::Down)?);
-    assert!(rt; learns_again(rt.alloc(), Failure::BrokenUnwritten, NodeFault::Down)?);
+fn runs_go_on(rt: HostRuntime) -> Result<(), Fail> {
+    for (faulty, early, late) in RUNS {
+        let mut world = opening(rt.alloc(), faulty)?;
+        assert!(rt;
+            goes_on(rt.alloc(), &mut world, &early, &late)?,
+            "{faulty:?}"
+        );
+    }
     Ok(())
 }

@@ -1,10 +1,8 @@
-//! Tests of ballots and letters, of records that keep what is written and records that fail, of counted votes, of nodes
-//! and of worlds, by the public calls of `ballots`, `acceptor`, `faulty_records`, `learner`, `node`, `network_script_parts`
-//! and `network_script`. What scripts print stands as data in examples/.
+//! Tests of ballots, of records that keep what is written and records that fail, of counted votes and of nodes, by the public calls of
+//! `ballots`, `acceptor`, `faulty_records`, `learner`, `node`, `network_script_parts` and `network_script`. What scripts print
+//! stands as data in examples/.
 #![tactic(auto)]
 
-#[cfg(test)]
-mod clusters;
 #[cfg(test)]
 mod failing_records;
 #[cfg(test)]
@@ -17,5 +15,4 @@ mod records;
 mod strange_letters;
 #[cfg(test)]
 mod vote_list;
-#[cfg(test)]
-mod worlds;
+pub mod wrong_answers;

@@ -1,30 +1,22 @@
-use acceptor::{Accepted, Acceptor, PlainRecords, Prepared, Records, RecordsFault, greatest_used};
-use ballots::{Ballot, Bytes, Place, Value};
+use acceptor::{Accepted, Acceptor, PlainRecords, Prepared, Records};
+use ballots::{Ballot, Bytes, Place, Value, Votes};
 use std::alloc::Global;
-use std::process::Abort;
 use std::test::Fail;
 
-fn value(rt: &impl Abort, alloc: Global, byte: u8) -> Result<Value, Fail> {
+fn value(alloc: Global, byte: u8) -> Result<Value, Fail> {
     let bytes = Vec::from_slice(alloc, &[byte])?;
-    Ok(Value::new(Bytes::new(bytes)).expect(rt, "a value"))
+    Ok(Value::new(Bytes::new(bytes)).ok_or("a value")?)
 }
 
-fn ballot(rt: &impl Abort, number: u64) -> Ballot {
-    Ballot::new(number).expect(rt, "a ballot")
+fn ballot(number: u64) -> Result<Ballot, Fail> {
+    Ok(Ballot::new(number).ok_or("a ballot")?)
 }
 
-/// What an acceptor answers to a ballot.
-fn prepare<R: Records>(
-    rt: &impl Abort,
-    alloc: Global,
-    acceptor: &mut Acceptor<R>,
-    number: u64,
-) -> Result<String, Fail> {
-    let place = Place::new(1).expect(rt, "a place");
-    let votes = match acceptor.prepare(ballot(rt, number), place)? {
-        Prepared::Higher(other) => return Ok(format!(in alloc; "higher {}", other.number())?),
-        Prepared::Promised(votes) => votes,
-    };
+fn place(number: u64) -> Result<Place, Fail> {
+    Ok(Place::new(number).ok_or("a place")?)
+}
+
+fn told(alloc: Global, votes: &Votes) -> Result<String, Fail> {
     match votes.rows() {
         [] => Ok(format!(in alloc; "promised")?),
         [(place, cast), ..] => Ok(format!(in alloc;
@@ -35,120 +27,88 @@ fn prepare<R: Records>(
     }
 }
 
-/// What it answers to a value.
-fn accept<R: Records>(
-    rt: &impl Abort,
+/// What an acceptor answers to a ballot.
+fn prepare(
     alloc: Global,
-    acceptor: &mut Acceptor<R>,
+    acceptor: &mut Acceptor<PlainRecords>,
+    number: u64,
+) -> Result<String, Fail> {
+    match acceptor.prepare(ballot(number)?, place(1)?)? {
+        Prepared::Higher(other) => Ok(format!(in alloc; "higher {}", other.number())?),
+        Prepared::Promised(votes) => told(alloc, &votes),
+    }
+}
+
+/// What it answers to a value.
+fn accept(
+    alloc: Global,
+    acceptor: &mut Acceptor<PlainRecords>,
     number: u64,
     byte: u8,
 ) -> Result<String, Fail> {
-    let place = Place::new(1).expect(rt, "a place");
-    match acceptor.accept(ballot(rt, number), place, value(rt, alloc, byte)?)? {
+    match acceptor.accept(ballot(number)?, place(1)?, value(alloc, byte)?)? {
         Accepted::Higher(other) => Ok(format!(in alloc; "higher {}", other.number())?),
         Accepted::Voted(bytes) => Ok(format!(in alloc; "voted {:?}", bytes.as_slice())?),
     }
 }
 
+/// What it answers to a ballot, or to a value where there is one.
+fn answer(
+    alloc: Global,
+    acceptor: &mut Acceptor<PlainRecords>,
+    number: u64,
+    byte: Option<u8>,
+) -> Result<String, Fail> {
+    match byte {
+        None => prepare(alloc, acceptor, number),
+        Some(byte) => accept(alloc, acceptor, number, byte),
+    }
+}
+
+/// Ballot, the byte of a value, and the answer.
+const ASKED: [(u64, Option<u8>, &str); 10] = [
+    (9, None, "promised"),
+    (9, None, "higher 9"),
+    (8, Some(b'A'), "higher 9"),
+    (17, Some(b'A'), "voted [65]"),
+    (16, None, "higher 17"),
+    (18, None, "promised 1 17 [65]"),
+    (17, Some(b'B'), "higher 18"),
+    (18, Some(b'B'), "voted [66]"),
+    (18, Some(b'C'), "voted [66]"),
+    (24, None, "promised 1 18 [66]"),
+];
+
 #[test]
 fn promises_and_votes(rt: HostRuntime) -> Result<(), Fail> {
     let mut acceptor = Acceptor::new(PlainRecords::new(rt.alloc()));
-    for (number, byte, want) in [
-        (9, None, "promised"),
-        (9, None, "higher 9"),
-        (8, Some(b'A'), "higher 9"),
-        (17, Some(b'A'), "voted [65]"),
-        (16, None, "higher 17"),
-        (18, None, "promised 1 17 [65]"),
-        (17, Some(b'B'), "higher 18"),
-        (18, Some(b'B'), "voted [66]"),
-        (18, Some(b'C'), "voted [66]"),
-        (24, None, "promised 1 18 [66]"),
-    ] {
-        let answer = match byte {
-            None => prepare(&rt, rt.alloc(), &mut acceptor, number)?,
-            Some(byte) => accept(&rt, rt.alloc(), &mut acceptor, number, byte)?,
-        };
+    for (number, byte, want) in ASKED {
+        let answer = answer(rt.alloc(), &mut acceptor, number, byte)?;
         assert_eq!(rt; answer.as_str(), want);
     }
-    let mut records = acceptor.into_records();
-    assert_eq!(rt; greatest_used(&mut records)?, 24);
-    assert_eq!(rt; records.failures(), 0);
     Ok(())
 }
 
-fn number(ballot: Option<Ballot>) -> u64 {
-    match ballot {
-        Some(ballot) => ballot.number(),
-        None => 0,
+fn learn(alloc: Global, records: &mut PlainRecords, number: u64, byte: u8) -> Result<(), Fail> {
+    Ok(records.put_learned(place(number)?, &value(alloc, byte)?)?)
+}
+
+/// The first byte that was learned of a place, 0 where nothing was.
+fn learned(records: &mut PlainRecords, number: u64) -> Result<u8, Fail> {
+    match records.learned_row(place(number)?)? {
+        Some(value) => Ok(value.as_slice().first().copied().unwrap_or(0)),
+        None => Ok(0),
     }
 }
 
-/// The ballots that were tried and promised last.
-fn ballots<R: Records>(records: &mut R) -> Result<(u64, u64), RecordsFault> {
-    let tried = number(records.tried()?);
-    let promised = number(records.promised()?);
-    Ok((tried, promised))
-}
-
-/// The ballot of the vote at a place, and how many votes stand from there on.
-fn votes<R: Records>(records: &mut R, place: Place) -> Result<(u64, usize), RecordsFault> {
-    let vote = number(records.vote(place)?.map(|cast| cast.ballot));
-    let count = records.votes_from(place)?.rows().len();
-    Ok((vote, count))
-}
-
-/// Ballot 16 is tried and 8 promised.
-fn write<R: Records>(rt: &impl Abort, records: &mut R) -> Result<(), RecordsFault> {
-    records.put_tried(ballot(rt, 16))?;
-    records.put_promised(ballot(rt, 8))?;
-    records.reopen()
-}
-
 #[test]
-fn records_keep_their_rows(rt: HostRuntime) -> Result<(), Fail> {
-    let place = Place::new(2).expect(&rt, "a place");
-    let value = value(&rt, rt.alloc(), b'D')?;
+fn learned_rows(rt: HostRuntime) -> Result<(), Fail> {
     let mut records = PlainRecords::new(rt.alloc());
-    records.put_vote(place, ballot(&rt, 9), &value)?;
-    write(&rt, &mut records)?;
-    assert_eq!(rt; ballots(&mut records)?, (16, 9));
-    assert_eq!(rt; votes(&mut records, place)?, (9, 1));
-    Ok(())
-}
-
-/// The rows that were learned of places from one on.
-fn learned_from<R: Records>(
-    rt: &impl Abort,
-    alloc: Global,
-    records: &mut R,
-    number: u64,
-) -> Result<String, Fail> {
-    let mut text = String::new(alloc);
-    for (place, value) in records.learned_from(Place::new(number).expect(rt, "a place"))? {
-        text.push_str(&format!(in alloc; "{} {:?};", place.number(), value.as_slice())?)?;
+    for (number, byte) in [(3, b'C'), (2, b'B'), (3, b'D')] {
+        learn(rt.alloc(), &mut records, number, byte)?;
     }
-    Ok(text)
-}
-
-#[test]
-fn learned_rows_stand_by_place(rt: HostRuntime) -> Result<(), Fail> {
-    let alloc = rt.alloc();
-    let second = Place::new(2).expect(&rt, "a place");
-    let third = Place::new(3).expect(&rt, "a place");
-    let mut records = PlainRecords::new(alloc);
-    for (place, byte) in [(third, b'C'), (second, b'B'), (third, b'D')] {
-        records.put_learned(place, &value(&rt, alloc, byte)?)?;
+    for (number, want) in [(1, 0), (2, b'B'), (3, b'D')] {
+        assert_eq!(rt; learned(&mut records, number)?, want, "at {number}");
     }
-    assert_eq!(rt;
-        learned_from(&rt, alloc, &mut records, 1)?.as_str(),
-        "2 [66];3 [68];"
-    );
-    assert_eq!(rt;
-        learned_from(&rt, alloc, &mut records, 3)?.as_str(),
-        "3 [68];"
-    );
-    let held = records.learned_row(third)?.expect(&rt, "a row");
-    assert_eq!(rt; held.as_slice(), [68].as_slice());
     Ok(())
 }

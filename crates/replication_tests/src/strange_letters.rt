@@ -2,60 +2,74 @@
 
 use acceptor::PlainRecords;
 use ballots::{Ballot, Bytes, Cast, Letter, Members, NodeId, Note, Votes};
-use node::{Node, NodeFault, SchedNode};
+use node::{Node, SchedNode};
 use std::alloc::Global;
 use std::test::Fail;
 
 type PlainNode = SchedNode<PlainRecords>;
 
-fn node_0(alloc: Global) -> Result<PlainNode, Fail> {
-    let id = NodeId::new(0).ok_or("node")?;
-    if id.number() >= Members::Three.count() {
-        return Err("member".into());
-    }
-    Ok(SchedNode::new(alloc, id, Members::Three, PlainRecords::new(alloc)))
+/// What a letter says.
+#[derive(Clone, Copy)]
+enum Told {
+    /// It asks for a promise of this ballot.
+    Prepare(u64),
+    /// It asks for a vote of ballot 9 at a place, for so many bytes.
+    Accept(u64, usize),
+    /// It promises this ballot, and reports empty values voted for at these places in these ballots.
+    Promise(u64, &'static [(u64, u64)]),
 }
 
 fn ballot(number: u64) -> Result<Ballot, Fail> {
     Ok(Ballot::new(number).ok_or("ballot")?)
 }
 
-fn letter(from: u8, to: u8, note: Note) -> Result<Letter, Fail> {
-    let from = NodeId::new(from).ok_or("node")?;
-    let to = NodeId::new(to).ok_or("node")?;
-    Ok(Letter { from, to, note })
+fn node(number: u8) -> Result<NodeId, Fail> {
+    Ok(NodeId::new(number).ok_or("node")?)
 }
 
-/// Asks for a promise from place 1 on.
-fn prepare(number: u64) -> Result<Note, Fail> {
-    Ok(Note::Prepare {
-        ballot: ballot(number)?,
-        place: 1,
-    })
-}
-
-/// Asks for a vote of ballot 9, for so many bytes.
-fn accept(alloc: Global, place: u64, len: usize) -> Result<Note, Fail> {
-    Ok(Note::Accept {
-        ballot: ballot(9)?,
-        place,
-        value: Bytes::new(Vec::from_elem(alloc, 7, len)?),
-    })
-}
-
-/// A promise of this ballot from place 1 on, which reports empty values voted for at these places in these ballots.
-fn promise(alloc: Global, promised: u64, votes: &[(u64, u64)]) -> Result<Note, Fail> {
+fn votes(alloc: Global, told: &[(u64, u64)]) -> Result<Votes, Fail> {
     let mut rows = Vec::new(alloc);
-    for (place, number) in votes {
+    for (place, number) in told {
         let value = Bytes::new(Vec::new(alloc));
         let ballot = ballot(*number)?;
         rows.push((*place, Cast { ballot, value }))?;
     }
-    Ok(Note::Promise {
-        ballot: ballot(promised)?,
-        place: 1,
-        votes: Votes::new(rows),
+    Ok(Votes::new(rows))
+}
+
+fn note(alloc: Global, told: Told) -> Result<Note, Fail> {
+    match told {
+        Told::Prepare(number) => Ok(Note::Prepare {
+            ballot: ballot(number)?,
+            place: 1,
+        }),
+        Told::Accept(place, len) => Ok(Note::Accept {
+            ballot: ballot(9)?,
+            place,
+            value: Bytes::new(Vec::from_elem(alloc, 7, len)?),
+        }),
+        Told::Promise(number, told) => Ok(Note::Promise {
+            ballot: ballot(number)?,
+            place: 1,
+            votes: votes(alloc, told)?,
+        }),
+    }
+}
+
+fn letter(alloc: Global, from: u8, to: u8, told: Told) -> Result<Letter, Fail> {
+    Ok(Letter {
+        from: node(from)?,
+        to: node(to)?,
+        note: note(alloc, told)?,
     })
+}
+
+fn node_0(alloc: Global) -> Result<PlainNode, Fail> {
+    let id = node(0)?;
+    if id.number() >= Members::Three.count() {
+        return Err("member".into());
+    }
+    Ok(SchedNode::new(alloc, id, Members::Three, PlainRecords::new(alloc)))
 }
 
 /// Whether a fresh node sends nothing to this letter and is fresh still.
@@ -65,22 +79,24 @@ fn is_passed_over(alloc: Global, letter: &Letter) -> Result<bool, Fail> {
     Ok(sent.is_empty() && node.is_fresh()?)
 }
 
-#[test]
-fn letters_of_strangers(rt: HostRuntime) -> Result<(), Fail> {
-    let alloc = rt.alloc();
-    assert!(rt; is_passed_over(alloc, &letter(4, 0, promise(alloc, 8, &[])?)?)?);
-    assert!(rt; is_passed_over(alloc, &letter(2, 0, prepare(9)?)?)?);
-    assert!(rt; is_passed_over(alloc, &letter(1, 1, prepare(9)?)?)?);
-    assert!(rt; !is_passed_over(alloc, &letter(1, 0, prepare(9)?)?)?);
-    Ok(())
-}
+/// From whom to whom, what, and whether it is passed over.
+const LETTERS: [(u8, u8, Told, bool); 8] = [
+    (4, 0, Told::Promise(8, &[]), true),
+    (2, 0, Told::Prepare(9), true),
+    (1, 1, Told::Prepare(9), true),
+    (1, 0, Told::Prepare(9), false),
+    (1, 0, Told::Accept(0, 1), true),
+    (1, 0, Told::Accept(1, 65), true),
+    (1, 0, Told::Accept(1, 64), false),
+    (1, 0, Told::Promise(8, &[]), true),
+];
 
 #[test]
-fn values_out_of_bounds(rt: HostRuntime) -> Result<(), Fail> {
-    let alloc = rt.alloc();
-    assert!(rt; is_passed_over(alloc, &letter(1, 0, accept(alloc, 0, 1)?)?)?);
-    assert!(rt; is_passed_over(alloc, &letter(1, 0, accept(alloc, 1, 65)?)?)?);
-    assert!(rt; !is_passed_over(alloc, &letter(1, 0, accept(alloc, 1, 64)?)?)?);
+fn letters_to_a_fresh_node(rt: HostRuntime) -> Result<(), Fail> {
+    for (from, to, told, want) in LETTERS {
+        let letter = letter(rt.alloc(), from, to, told)?;
+        assert_eq!(rt; is_passed_over(rt.alloc(), &letter)?, want, "{from} {to}");
+    }
     Ok(())
 }
 
@@ -93,38 +109,31 @@ fn preparing(alloc: Global, leads: usize) -> Result<PlainNode, Fail> {
     Ok(node)
 }
 
-/// Whether node 0 leads once nodes 1 and 2 have promised it this ballot with these votes. If not, it sent nothing.
-fn leads_by(
-    alloc: Global,
-    leads: usize,
-    promised: u64,
-    votes: &[(u64, u64)],
-) -> Result<bool, Fail> {
-    let mut node = preparing(alloc, leads)?;
-    let mut is_quiet = true;
+/// How many letters the node sends to this from nodes 1 and 2, and whether it leads then.
+fn heard(alloc: Global, node: &mut PlainNode, told: Told) -> Result<(usize, bool), Fail> {
+    let mut sent: usize = 0;
     for from in [1, 2] {
-        let sent = node.receive(&letter(from, 0, promise(alloc, promised, votes)?)?)?;
-        is_quiet = is_quiet && sent.is_empty();
+        let letters = node.receive(&letter(alloc, from, 0, told)?)?;
+        sent = sent.saturating_add(letters.len());
     }
-    match node.offer(b"A") {
-        Ok(_) => Ok(true),
-        Err(NodeFault::NotLeading) if is_quiet => Ok(false),
-        Err(fault) => Err(fault.into()),
-    }
+    Ok((sent, node.offer(b"A").is_ok()))
 }
 
-#[test]
-fn promises_of_ballot_8(rt: HostRuntime) -> Result<(), Fail> {
-    assert!(rt; leads_by(rt.alloc(), 1, 8, &[])?);
-    assert!(rt; !leads_by(rt.alloc(), 1, 8, &[(2, 8), (1, 8)])?);
-    assert!(rt; !leads_by(rt.alloc(), 1, 8, &[(1, 8)])?);
-    assert!(rt; !leads_by(rt.alloc(), 2, 8, &[])?);
-    Ok(())
-}
+/// How often node 0 led, what nodes 1 and 2 promise it, how many letters it sends, and whether it leads.
+const PROMISES: [(usize, Told, (usize, bool)); 6] = [
+    (1, Told::Promise(8, &[]), (0, true)),
+    (1, Told::Promise(8, &[(2, 8), (1, 8)]), (0, false)),
+    (1, Told::Promise(8, &[(1, 8)]), (0, false)),
+    (2, Told::Promise(8, &[]), (0, false)),
+    (2, Told::Promise(16, &[(1, 8), (2, 8)]), (6, true)),
+    (2, Told::Promise(16, &[(2, 8), (1, 8)]), (0, false)),
+];
 
 #[test]
-fn promises_of_ballot_16(rt: HostRuntime) -> Result<(), Fail> {
-    assert!(rt; leads_by(rt.alloc(), 2, 16, &[(1, 8), (2, 8)])?);
-    assert!(rt; !leads_by(rt.alloc(), 2, 16, &[(2, 8), (1, 8)])?);
+fn promises_to_a_node_that_prepares(rt: HostRuntime) -> Result<(), Fail> {
+    for (leads, told, want) in PROMISES {
+        let mut node = preparing(rt.alloc(), leads)?;
+        assert_eq!(rt; heard(rt.alloc(), &mut node, told)?, want, "{leads} leads");
+    }
     Ok(())
 }

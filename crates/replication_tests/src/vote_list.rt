@@ -6,22 +6,7 @@ use std::alloc::{AllocError, Global};
 use std::test::Fail;
 
 /// A vote: its ballot, its place, its value and who voted.
-#[derive(Clone, Copy, PartialEq, Eq)]
-struct Vote {
-    ballot: u64,
-    place: u64,
-    value: u8,
-    from: u8,
-}
-
-const fn vote_of(ballot: u64, place: u64, value: u8, from: u8) -> Vote {
-    Vote {
-        ballot,
-        place,
-        value,
-        from,
-    }
-}
+type Vote = (u64, u64, u8, u8);
 
 /// The votes that were heard, each once, and the values learned with their places.
 #[derive(Drop)]
@@ -49,21 +34,21 @@ impl Plain {
 
     /// How many voted as this one did.
     fn count(&self, vote: Vote) -> usize {
-        let like = |other: &&Vote| {
-            other.ballot == vote.ballot && other.place == vote.place && other.value == vote.value
-        };
+        let (ballot, place, value, _) = vote;
+        let like = |other: &&Vote| other.0 == ballot && other.1 == place && other.2 == value;
         self.heard.iter().filter(like).count()
     }
 
     fn voted(&mut self, members: Members, vote: Vote) -> Result<(), AllocError> {
-        if self.learned(vote.place).is_some() {
+        let (_, place, value, _) = vote;
+        if self.learned(place).is_some() {
             return Ok(());
         }
         if !self.heard.contains(&vote) {
             self.heard.push(vote)?;
         }
         if self.count(vote) >= usize::from(members.majority()) {
-            self.learned.push((vote.place, vote.value))?;
+            self.learned.push((place, value))?;
         }
         Ok(())
     }
@@ -75,11 +60,12 @@ fn learned(learner: &Learner, place: u64) -> Option<u8> {
 }
 
 fn hear(learner: &mut Learner, alloc: Global, members: Members, vote: Vote) -> Result<(), Fail> {
-    let ballot = Ballot::new(vote.ballot).ok_or("ballot")?;
-    let from = NodeId::new(vote.from).ok_or("node")?;
-    let value = Bytes::new(Vec::from_slice(alloc, &[vote.value])?);
-    if let Some(value) = learner.voted(members, ballot, vote.place, value, from)? {
-        learner.known(vote.place, value)?;
+    let (ballot, place, value, from) = vote;
+    let ballot = Ballot::new(ballot).ok_or("ballot")?;
+    let from = NodeId::new(from).ok_or("node")?;
+    let value = Bytes::new(Vec::from_slice(alloc, &[value])?);
+    if let Some(value) = learner.voted(members, ballot, place, value, from)? {
+        learner.known(place, value)?;
     }
     Ok(())
 }
@@ -104,53 +90,53 @@ fn alike(
     Ok(Some((plain.learned(1), plain.learned(2))))
 }
 
-#[test]
-fn a_value_of_a_later_ballot_is_learned(rt: HostRuntime) -> Result<(), Fail> {
-    let votes = [
-        vote_of(8, 1, 0x0A, 1),
-        vote_of(10, 1, 0x0B, 2),
-        vote_of(10, 1, 0x0B, 2),
-        vote_of(8, 1, 0x0A, 2),
-        vote_of(10, 1, 0x0B, 3),
-        vote_of(8, 1, 0x0A, 1),
-        vote_of(10, 1, 0x0B, 4),
-        vote_of(8, 1, 0x0A, 0),
-    ];
-    assert_eq!(rt;
-        alike(rt.alloc(), Members::Five, &votes)?,
-        Some((Some(0x0B), None))
-    );
-    Ok(())
-}
+/// Members, votes, and what is learned at places 1 and 2 after them.
+const ROWS: [(Members, &[Vote], (Option<u8>, Option<u8>)); 3] = [
+    // a value of a later ballot
+    (
+        Members::Five,
+        &[
+            (8, 1, 0x0A, 1),
+            (10, 1, 0x0B, 2),
+            (10, 1, 0x0B, 2),
+            (8, 1, 0x0A, 2),
+            (10, 1, 0x0B, 3),
+            (8, 1, 0x0A, 1),
+            (10, 1, 0x0B, 4),
+            (8, 1, 0x0A, 0),
+        ],
+        (Some(0x0B), None),
+    ),
+    // a value that was reported
+    (
+        Members::Five,
+        &[
+            (8, 1, 0x0A, 1),
+            (10, 1, 0x0A, 1),
+            (10, 1, 0x0A, 2),
+            (10, 2, 0x0A, 3),
+            (10, 1, 0x0A, 3),
+        ],
+        (Some(0x0A), None),
+    ),
+    // two places of three nodes
+    (
+        Members::Three,
+        &[
+            (8, 2, 0x0C, 0),
+            (8, 1, 0x0A, 0),
+            (9, 1, 0x0A, 1),
+            (8, 2, 0x0C, 1),
+            (9, 1, 0x0B, 2),
+        ],
+        (None, Some(0x0C)),
+    ),
+];
 
 #[test]
-fn the_reported_value_is_learned(rt: HostRuntime) -> Result<(), Fail> {
-    let votes = [
-        vote_of(8, 1, 0x0A, 1),
-        vote_of(10, 1, 0x0A, 1),
-        vote_of(10, 1, 0x0A, 2),
-        vote_of(10, 2, 0x0A, 3),
-        vote_of(10, 1, 0x0A, 3),
-    ];
-    assert_eq!(rt;
-        alike(rt.alloc(), Members::Five, &votes)?,
-        Some((Some(0x0A), None))
-    );
-    Ok(())
-}
-
-#[test]
-fn votes_for_two_places_of_three_nodes(rt: HostRuntime) -> Result<(), Fail> {
-    let votes = [
-        vote_of(8, 2, 0x0C, 0),
-        vote_of(8, 1, 0x0A, 0),
-        vote_of(9, 1, 0x0A, 1),
-        vote_of(8, 2, 0x0C, 1),
-        vote_of(9, 1, 0x0B, 2),
-    ];
-    assert_eq!(rt;
-        alike(rt.alloc(), Members::Three, &votes)?,
-        Some((None, Some(0x0C)))
-    );
+fn lists_and_sets_learn_alike(rt: HostRuntime) -> Result<(), Fail> {
+    for (members, votes, want) in ROWS {
+        assert_eq!(rt; alike(rt.alloc(), members, votes)?, Some(want));
+    }
     Ok(())
 }

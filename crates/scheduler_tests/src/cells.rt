@@ -1,20 +1,40 @@
 //! The first body of a cut, in which each minislot is a cell of a plain list, beside the machine's.
 
-use crate::flows;
-use flow_state::{FlowKind, LAST_TIME};
+use flow_state::{Channel, FlowKind, LAST_TIME, Phy};
 use grant_machine::{Command, Machine, Output};
-use map_body::decode;
 use std::alloc::{AllocError, Global};
 use std::test::Fail;
-
-/// An element as it is told: SID, IUC and offset.
-type Told = (u16, u8, u16);
 
 /// As many placements may a MAP have.
 const MOST_PLACEMENTS: usize = 60;
 
-/// More due times than a flow of these tests has in a MAP.
+/// More due times than a flow of these rows has in a MAP.
 const MOST_DUE: usize = 100;
+
+/// The largest short grant.
+const SHORT_MAX: u16 = 16;
+
+/// What comes at each due time of a flow: so many minislots, or a poll.
+#[derive(Clone, Copy)]
+struct Due {
+    size: Option<u16>,
+    interval: u32,
+    jitter: u32,
+    base: u64,
+}
+
+/// What is done on channel 1, whose flows are all of one modem.
+#[derive(Clone, Copy)]
+enum Step {
+    /// A flow that asks, with its priority, gets the next SID.
+    Asking(u8),
+    /// A flow that is served at due times gets the next SID.
+    Served(Due),
+    /// A SID asks for so many minislots.
+    Request(u16, u16),
+    /// A MAP of so many minislots, at this time or later.
+    Cut(u16, u64),
+}
 
 /// A MAP that is being filled: for each minislot the number of the placement that holds it, 0 where it
 /// is free; and the SIDs and IUCs of the placements.
@@ -26,14 +46,6 @@ struct Cells {
 }
 
 impl Cells {
-    fn new(alloc: Global, start: u64, len: u16) -> Result<Cells, AllocError> {
-        Ok(Cells {
-            start,
-            cells: vec![in alloc; 0; usize::from(len)]?,
-            placements: Vec::new(alloc),
-        })
-    }
-
     fn end(&self) -> u64 {
         self.start.saturating_add(self.cells.len() as u64)
     }
@@ -63,10 +75,8 @@ impl Cells {
     fn place(&mut self, at: usize, size: u16, sid: u16, iuc: u8) -> Result<(), AllocError> {
         self.placements.push((sid, iuc))?;
         let number = self.placements.len();
-        for x in at..at.saturating_add(usize::from(size)) {
-            if let Some(cell) = self.cells.get_mut(x) {
-                *cell = number;
-            }
+        for cell in self.cells.iter_mut().skip(at).take(usize::from(size)) {
+            *cell = number;
         }
         Ok(())
     }
@@ -80,191 +90,132 @@ impl Cells {
     }
 
     /// An element for each longest run of cells that are free or of one placement, and the Null.
-    fn elements(&self, alloc: Global) -> Result<Vec<Told>, AllocError> {
+    fn elements(&self, alloc: Global) -> Result<Vec<u8>, AllocError> {
         let mut told = Vec::new(alloc);
         let mut before = usize::MAX;
         let mut offset: u16 = 0;
         for held in &self.cells {
             if *held != before {
                 let (sid, iuc) = self.use_of(*held);
-                told.push((sid, iuc, offset))?;
+                told.extend_from_slice(&element(sid, iuc, offset))?;
             }
             before = *held;
             offset = offset.saturating_add(1);
         }
-        told.push((0, 7, offset))?;
+        told.extend_from_slice(&element(0, 7, offset))?;
         Ok(told)
     }
 }
 
-/// What comes at each due time of a flow.
-#[derive(Clone, Copy)]
-struct Periodic {
-    size: u16,
-    iuc: u8,
-    interval: u32,
-    jitter: u32,
+/// The bytes of an element.
+fn element(sid: u16, iuc: u8, offset: u16) -> [u8; 4] {
+    (u32::from(sid) << 18 | u32::from(iuc) << 14 | u32::from(offset)).to_be_bytes()
 }
 
-/// A flow with its next due time.
+fn grant_iuc(n: u16) -> u8 {
+    if n <= SHORT_MAX { 5 } else { 6 }
+}
+
+/// A flow: its SID, the priority of its requests, and what comes at its next due time.
 #[derive(Clone, Copy)]
-struct TimedFlow {
+struct PlainFlow {
     sid: u16,
-    kind: FlowKind,
-    due: u64,
+    priority: u8,
+    due: Option<Due>,
 }
 
 /// A request, and whether it still waits.
 #[derive(Clone, Copy)]
-struct Asked {
+struct PlainRequest {
     sid: u16,
+    priority: u8,
     n: u16,
     waits: bool,
 }
 
-fn grant_iuc(short_max: u16, n: u16) -> u8 {
-    if n <= short_max { 5 } else { 6 }
-}
-
-fn grants_of(kind: FlowKind, short_max: u16) -> Option<Periodic> {
-    match kind {
-        FlowKind::Ugs {
-            size,
-            interval,
-            jitter,
-            ..
-        } => Some(Periodic {
-            size,
-            iuc: grant_iuc(short_max, size),
-            interval,
-            jitter,
-        }),
-        _ => None,
-    }
-}
-
-fn polls_of(kind: FlowKind) -> Option<Periodic> {
-    match kind {
-        FlowKind::Poll {
-            interval,
-            jitter,
-            ..
-        } => Some(Periodic {
-            size: 1,
-            iuc: 1,
-            interval,
-            jitter,
-        }),
-        _ => None,
-    }
-}
-
-/// Serves a flow's due times before the MAP's end, one after another.
-fn serve(cells: &mut Cells, flow: &mut TimedFlow, what: Periodic) -> Result<(), AllocError> {
+/// Serves the due times of a SID before the MAP's end, one after another; what comes at the next one.
+fn serve(cells: &mut Cells, sid: u16, mut due: Due) -> Result<Due, AllocError> {
+    let (size, iuc) = match due.size {
+        Some(size) => (size, grant_iuc(size)),
+        None => (1, 1),
+    };
     for _ in 0..MOST_DUE {
-        let last = flow.due.saturating_add(u64::from(what.jitter));
-        if flow.due >= cells.end() {
-            return Ok(());
+        let last = due.base.saturating_add(u64::from(due.jitter));
+        if due.base >= cells.end() {
+            return Ok(due);
         }
-        if last >= cells.start {
-            match cells.first_fit(what.size, flow.due, last) {
-                Some(at) => cells.place(at, what.size, flow.sid, what.iuc)?,
-                None => {
-                    if last >= cells.end() {
-                        return Ok(());
-                    }
-                }
-            }
+        match cells.first_fit(size, due.base, last) {
+            Some(at) => cells.place(at, size, sid, iuc)?,
+            None if last >= cells.end() => return Ok(due),
+            None => {}
         }
-        flow.due = flow.due.saturating_add(u64::from(what.interval));
+        due.base = due.base.saturating_add(u64::from(due.interval));
     }
-    Ok(())
+    Ok(due)
 }
 
 /// What the first body of a cut keeps of one channel.
 #[derive(Drop)]
 struct Plain {
     alloc: Global,
-    short_max: u16,
     next_start: u64,
-    flows: Vec<TimedFlow>,
-    requests: Vec<Asked>,
+    flows: Vec<PlainFlow>,
+    requests: Vec<PlainRequest>,
 }
 
 impl Plain {
-    fn new(alloc: Global) -> Plain {
-        Plain {
-            alloc,
-            short_max: 0,
-            next_start: 0,
-            flows: Vec::new(alloc),
-            requests: Vec::new(alloc),
-        }
-    }
-
-    fn add_flow(&mut self, kind: FlowKind) -> Result<(), AllocError> {
-        let due = match kind {
-            FlowKind::BestEffort(_) => 0,
-            FlowKind::Ugs { base, .. } => base,
-            FlowKind::Poll { base, .. } => base,
-        };
+    fn add_flow(&mut self, priority: u8, due: Option<Due>) -> Result<(), AllocError> {
         let sid = ((self.flows.len() % 8191) as u16).saturating_add(1);
-        self.flows.push(TimedFlow { sid, kind, due })?;
+        self.flows.push(PlainFlow { sid, priority, due })?;
         Ok(())
     }
 
-    fn serve_grants(&mut self, cells: &mut Cells) -> Result<(), AllocError> {
-        for flow in &mut self.flows {
-            if let Some(what) = grants_of(flow.kind, self.short_max) {
-                serve(cells, flow, what)?;
+    fn add_request(&mut self, sid: u16, n: u16) -> Result<(), AllocError> {
+        for flow in &self.flows {
+            if flow.sid == sid {
+                self.requests.push(PlainRequest {
+                    sid,
+                    priority: flow.priority,
+                    n,
+                    waits: true,
+                })?;
             }
         }
         Ok(())
     }
 
-    fn serve_polls(&mut self, cells: &mut Cells) -> Result<(), AllocError> {
+    /// Serves the flows that are polled, or the others.
+    fn serve_all(&mut self, cells: &mut Cells, is_polled: bool) -> Result<(), AllocError> {
         for flow in &mut self.flows {
-            if let Some(what) = polls_of(flow.kind) {
-                serve(cells, flow, what)?;
+            if let Some(due) = flow.due {
+                if due.size.is_none() == is_polled {
+                    flow.due = Some(serve(cells, flow.sid, due)?);
+                }
             }
         }
         Ok(())
     }
 
-    /// The priority of a SID's requests.
-    fn priority(&self, sid: u16) -> u8 {
-        match self.flows.iter().find(|flow| flow.sid == sid) {
-            Some(flow) => match flow.kind {
-                FlowKind::BestEffort(priority) => priority,
-                FlowKind::Ugs { .. } => 0,
-                FlowKind::Poll { .. } => 7,
-            },
-            None => 0,
-        }
-    }
-
-    /// The places of the requests that wait, those of the greatest priority first.
-    fn in_order(&self) -> Result<Vec<usize>, AllocError> {
-        let mut order = Vec::new(self.alloc);
+    fn place_requests(&mut self, cells: &mut Cells) -> Result<(), AllocError> {
         for priority in [7, 6, 5, 4, 3, 2, 1, 0] {
-            for k in 0..self.requests.len() {
-                if let Some(request) = self.requests.get(k) {
-                    if request.waits && self.priority(request.sid) == priority {
-                        order.push(k)?;
+            for request in &mut self.requests {
+                if request.waits && request.priority == priority {
+                    if let Some(at) = cells.first_fit(request.n, 0, u64::MAX) {
+                        cells.place(at, request.n, request.sid, grant_iuc(request.n))?;
+                        request.waits = false;
                     }
                 }
             }
         }
-        Ok(order)
+        Ok(())
     }
 
-    fn place_requests(&mut self, cells: &mut Cells) -> Result<(), AllocError> {
-        for k in self.in_order()? {
-            if let Some(request) = self.requests.get_mut(k) {
-                if let Some(at) = cells.first_fit(request.n, 0, u64::MAX) {
-                    let iuc = grant_iuc(self.short_max, request.n);
-                    cells.place(at, request.n, request.sid, iuc)?;
-                    request.waits = false;
+    /// Tells the requests that wait.
+    fn tell_waiting(&self, told: &mut Vec<u8>, len: u16) -> Result<(), AllocError> {
+        for priority in [7, 6, 5, 4, 3, 2, 1, 0] {
+            for request in &self.requests {
+                if request.waits && request.priority == priority {
+                    told.extend_from_slice(&element(request.sid, grant_iuc(request.n), len))?;
                 }
             }
         }
@@ -272,96 +223,47 @@ impl Plain {
     }
 
     /// The elements of the next MAP.
-    fn cut(&mut self, len: u16, not_before: u64) -> Result<Vec<Told>, AllocError> {
-        let mut cells = Cells::new(self.alloc, self.next_start.max(not_before), len)?;
-        self.serve_grants(&mut cells)?;
-        self.serve_polls(&mut cells)?;
+    fn cut(&mut self, len: u16, not_before: u64) -> Result<Vec<u8>, AllocError> {
+        let mut cells = Cells {
+            start: self.next_start.max(not_before),
+            cells: vec![in self.alloc; 0; usize::from(len)]?,
+            placements: Vec::new(self.alloc),
+        };
+        self.serve_all(&mut cells, false)?;
+        self.serve_all(&mut cells, true)?;
         self.place_requests(&mut cells)?;
         self.next_start = cells.end();
         let mut told = cells.elements(self.alloc)?;
-        for k in self.in_order()? {
-            if let Some(request) = self.requests.get(k) {
-                told.push((request.sid, grant_iuc(self.short_max, request.n), len))?;
-            }
-        }
+        self.tell_waiting(&mut told, len)?;
         Ok(told)
     }
 
-    /// Takes a command that the machine took; what its MAP tells, if it is a cut.
-    fn take(&mut self, command: &Command) -> Result<Vec<Told>, AllocError> {
-        match *command {
-            Command::Channel(channel) => {
-                self.short_max = channel.short_max;
-                self.next_start = channel.base;
-            }
-            Command::Flow { kind, .. } => self.add_flow(kind)?,
-            Command::Request { sid, n, .. } => {
-                self.requests.push(Asked {
-                    sid,
-                    n,
-                    waits: true,
-                })?;
-            }
-            Command::Cut {
-                len,
-                not_before,
-                ..
-            } => return self.cut(len, not_before),
-            _ => (),
+    /// The elements that a step tells, if it is a cut.
+    fn take(&mut self, step: Step) -> Result<Vec<u8>, AllocError> {
+        match step {
+            Step::Asking(priority) => self.add_flow(priority, None)?,
+            Step::Served(due) => self.add_flow(7, Some(due))?,
+            Step::Request(sid, n) => self.add_request(sid, n)?,
+            Step::Cut(len, not_before) => return self.cut(len, not_before),
         }
         Ok(Vec::new(self.alloc))
     }
 }
 
-/// Does a body tell these elements and no others?
-fn tells(alloc: Global, bytes: &[u8], told: &[Told]) -> bool {
-    let Ok(body) = decode(alloc, bytes) else {
-        return false;
-    };
-    if body.elements().len() != told.len() {
-        return false;
+fn kind(due: Due) -> FlowKind {
+    match due.size {
+        Some(size) => FlowKind::Ugs {
+            size,
+            interval: due.interval,
+            jitter: due.jitter,
+            base: due.base,
+        },
+        None => FlowKind::Poll {
+            interval: due.interval,
+            jitter: due.jitter,
+            base: due.base,
+        },
     }
-    for (element, told) in body.elements().iter().zip(told) {
-        if (element.sid.get(), element.iuc.get(), element.offset.get()) != *told {
-            return false;
-        }
-    }
-    true
-}
-
-/// How many MAPs of these commands are alike by the machine and by the first body. None where one isn't.
-fn alike(alloc: Global, commands: &[Command]) -> Result<Option<usize>, AllocError> {
-    let mut machine = Machine::new(alloc);
-    let mut plain = Plain::new(alloc);
-    let mut maps: usize = 0;
-    for command in commands {
-        let output = machine.apply(command)?;
-        if matches!(output, Output::Refused(_)) {
-            continue;
-        }
-        let told = plain.take(command)?;
-        if let Output::Map {
-            start,
-            len,
-            bytes,
-            ..
-        } = &output
-        {
-            if start.get().saturating_add(u64::from(*len)) != plain.next_start
-                || !tells(alloc, bytes.as_slice(), &told)
-            {
-                return Ok(None);
-            }
-            maps = maps.saturating_add(1);
-        }
-    }
-    Ok(Some(maps))
-}
-
-fn channel(base: u64) -> Command {
-    let mut channel = flows::channel();
-    channel.base = base;
-    Command::Channel(channel)
 }
 
 fn flow(tag: u32, kind: FlowKind) -> Command {
@@ -374,160 +276,234 @@ fn flow(tag: u32, kind: FlowKind) -> Command {
     }
 }
 
-fn unsolicited(tag: u32, size: u16, interval: u32, jitter: u32, base: u64) -> Command {
-    flow(
-        tag,
-        FlowKind::Ugs {
-            size,
-            interval,
-            jitter,
-            base,
+/// The command of a step; a flow has this tag.
+fn command(step: Step, tag: u32) -> Command {
+    match step {
+        Step::Asking(priority) => flow(tag, FlowKind::BestEffort(priority)),
+        Step::Served(due) => flow(tag, kind(due)),
+        Step::Request(sid, n) => Command::Request {
+            ch: 1,
+            sid,
+            n,
+            sent: 990,
         },
-    )
-}
-
-fn request(sid: u16, n: u16) -> Command {
-    Command::Request {
-        ch: 1,
-        sid,
-        n,
-        sent: 990,
+        Step::Cut(len, not_before) => Command::Cut {
+            ch: 1,
+            len,
+            not_before,
+            ack: 995,
+        },
     }
 }
 
-fn cut(ch: u8, len: u16, not_before: u64) -> Command {
-    Command::Cut {
-        ch,
-        len,
-        not_before,
-        ack: 995,
+fn channel(base: u64) -> Command {
+    Command::Channel(Channel {
+        id: 1,
+        ucd: 7,
+        phy: Phy::Tdma,
+        short_max: SHORT_MAX,
+        ranging_backoff: (2, 5),
+        data_backoff: (3, 8),
+        base,
+    })
+}
+
+/// Whether a step gives these elements by the machine, in a MAP that ends at this time where there are any. A step that the machine
+/// refuses isn't compared.
+fn is_alike(output: &Output, end: u64, told: &[u8]) -> bool {
+    match output {
+        Output::Map {
+            start,
+            len,
+            bytes,
+            ..
+        } => {
+            start.get().saturating_add(u64::from(*len)) == end
+                && bytes.as_slice().get(16..) == Some(told)
+        }
+        _ => told.is_empty(),
     }
 }
 
-#[test]
-fn a_request_and_later_maps(rt: HostRuntime) -> Result<(), Fail> {
-    let commands = [
-        channel(1000),
-        flow(1, FlowKind::BestEffort(0)),
-        request(1, 20),
-        cut(1, 100, 0),
-        request(1, 20),
-        cut(1, 10, 1050),
-        cut(1, 10, 1200),
-        cut(1, 0, 0),
-        cut(2, 10, 0),
-    ];
-    assert_eq!(rt; alike(rt.alloc(), &commands)?, Some(3));
-    Ok(())
+/// How many steps of a channel whose first MAP begins at a time are alike by the machine and by the first body, up to the first that
+/// isn't, and how many the machine refuses.
+fn alike(alloc: Global, base: u64, steps: &[Step]) -> Result<(usize, usize), AllocError> {
+    let mut machine = Machine::new(alloc);
+    let mut plain = Plain {
+        alloc,
+        next_start: base,
+        flows: Vec::new(alloc),
+        requests: Vec::new(alloc),
+    };
+    let mut counts: (usize, usize) = (0, 0);
+    let mut tag: u32 = 0;
+    machine.apply(&channel(base))?;
+    for step in steps {
+        tag = tag.saturating_add(1);
+        let output = machine.apply(&command(*step, tag))?;
+        if matches!(output, Output::Refused(_)) {
+            counts.1 = counts.1.saturating_add(1);
+            continue;
+        }
+        let told = plain.take(*step)?;
+        if !is_alike(&output, plain.next_start, told.as_slice()) {
+            return Ok(counts);
+        }
+        counts.0 = counts.0.saturating_add(1);
+    }
+    Ok(counts)
 }
 
+const FOUR: Due = Due {
+    size: Some(4),
+    interval: 40,
+    jitter: 8,
+    base: 1000,
+};
+
+const WIDER: Due = Due { jitter: 12, ..FOUR };
+
+const EIGHT: Due = Due {
+    size: Some(8),
+    interval: 40,
+    jitter: 20,
+    base: 1005,
+};
+
+const BY_TURNS: Due = Due {
+    size: Some(4),
+    interval: 10,
+    jitter: 4,
+    base: 1000,
+};
+
+const POLLED: Due = Due {
+    size: None,
+    interval: 12,
+    jitter: 3,
+    base: 1000,
+};
+
+const TWO: Due = Due {
+    size: Some(2),
+    ..POLLED
+};
+
+/// Where the first MAP begins, what is done, and how many steps the machine refuses.
+const ROWS: [(u64, &[Step], usize); 9] = [
+    (
+        1000,
+        &[
+            Step::Asking(0),
+            Step::Request(1, 20),
+            Step::Cut(100, 0),
+            Step::Request(1, 20),
+            Step::Cut(10, 1050),
+            Step::Cut(10, 1200),
+            Step::Cut(0, 0),
+        ],
+        2,
+    ),
+    (1000, &[Step::Cut(1, 0), Step::Cut(100, 0)], 0),
+    (
+        1000,
+        &[Step::Asking(0), Step::Request(1, 255), Step::Cut(100, 0)],
+        0,
+    ),
+    (
+        1000,
+        &[
+            Step::Served(FOUR),
+            Step::Served(FOUR),
+            Step::Served(FOUR),
+            Step::Served(FOUR),
+            Step::Cut(40, 0),
+        ],
+        0,
+    ),
+    (
+        1000,
+        &[
+            Step::Served(WIDER),
+            Step::Served(WIDER),
+            Step::Served(WIDER),
+            Step::Served(WIDER),
+            Step::Cut(40, 0),
+        ],
+        0,
+    ),
+    (
+        1000,
+        &[Step::Served(EIGHT), Step::Cut(10, 0), Step::Cut(30, 0)],
+        0,
+    ),
+    (
+        4_294_967_286,
+        &[Step::Asking(0), Step::Request(1, 20), Step::Cut(20, 0)],
+        0,
+    ),
+    (
+        1000,
+        &[
+            Step::Served(BY_TURNS),
+            Step::Served(BY_TURNS),
+            Step::Cut(10, 0),
+            Step::Cut(10, 0),
+            Step::Cut(10, 0),
+        ],
+        0,
+    ),
+    (
+        1000,
+        &[
+            Step::Served(POLLED),
+            Step::Served(TWO),
+            Step::Asking(7),
+            Step::Request(3, 4),
+            Step::Request(1, 17),
+            Step::Cut(30, 0),
+            Step::Cut(30, 0),
+        ],
+        0,
+    ),
+];
+
 #[test]
-fn an_empty_map_and_one_too_short(rt: HostRuntime) -> Result<(), Fail> {
-    let alloc = rt.alloc();
-    assert_eq!(rt;
-        alike(alloc, &[channel(1000), cut(1, 1, 0), cut(1, 100, 0)])?,
-        Some(2)
-    );
-    let commands = [
-        channel(1000),
-        flow(1, FlowKind::BestEffort(0)),
-        request(1, 255),
-        cut(1, 100, 0),
-    ];
-    assert_eq!(rt; alike(alloc, &commands)?, Some(1));
+fn maps_are_alike(rt: HostRuntime) -> Result<(), Fail> {
+    for (base, steps, refused) in ROWS {
+        let (count, declined) = alike(rt.alloc(), base, steps)?;
+        assert_eq!(rt;
+            (count.saturating_add(declined), declined),
+            (steps.len(), refused)
+        );
+    }
     Ok(())
 }
 
 /// An unsolicited grant every 64 minislots, and 118 flows of which each waits with a request of 1, where
 /// one more isn't taken.
-fn crowd(alloc: Global) -> Result<Vec<Command>, AllocError> {
-    let mut commands = Vec::new(alloc);
-    commands.push(channel(1000))?;
-    commands.push(unsolicited(0, 1, 64, 0, 1002))?;
-    for tag in 1..120 {
-        commands.push(flow(tag, FlowKind::BestEffort((tag % 8) as u8)))?;
+fn crowd(alloc: Global) -> Result<Vec<Step>, AllocError> {
+    let mut steps = Vec::new(alloc);
+    steps.push(Step::Served(Due {
+        size: Some(1),
+        interval: 64,
+        jitter: 0,
+        base: 1002,
+    }))?;
+    for flow in 1..120u32 {
+        steps.push(Step::Asking((flow % 8) as u8))?;
     }
     for sid in 2..121 {
-        commands.push(request(sid, 1))?;
+        steps.push(Step::Request(sid, 1))?;
     }
-    Ok(commands)
+    steps.push(Step::Cut(4096, 0))?;
+    steps.push(Step::Cut(50, 0))?;
+    Ok(steps)
 }
 
 #[test]
 fn a_full_map(rt: HostRuntime) -> Result<(), Fail> {
-    let mut commands = crowd(rt.alloc())?;
-    commands.push(cut(1, 4096, 0))?;
-    commands.push(cut(1, 50, 0))?;
-    assert_eq!(rt; alike(rt.alloc(), &commands)?, Some(2));
-    Ok(())
-}
-
-/// Four flows of four minislots each, due at once.
-fn at_once(jitter: u32) -> [Command; 6] {
-    [
-        channel(1000),
-        unsolicited(1, 4, 40, jitter, 1000),
-        unsolicited(2, 4, 40, jitter, 1000),
-        unsolicited(3, 4, 40, jitter, 1000),
-        unsolicited(4, 4, 40, jitter, 1000),
-        cut(1, 40, 0),
-    ]
-}
-
-#[test]
-fn windows(rt: HostRuntime) -> Result<(), Fail> {
-    let alloc = rt.alloc();
-    assert_eq!(rt; alike(alloc, &at_once(8))?, Some(1));
-    assert_eq!(rt; alike(alloc, &at_once(12))?, Some(1));
-    let commands = [
-        channel(1000),
-        unsolicited(1, 8, 40, 20, 1005),
-        cut(1, 10, 0),
-        cut(1, 30, 0),
-    ];
-    assert_eq!(rt; alike(alloc, &commands)?, Some(2));
-    Ok(())
-}
-
-#[test]
-fn late_times_and_two_modems(rt: HostRuntime) -> Result<(), Fail> {
-    let alloc = rt.alloc();
-    let wrapping = [
-        channel(4294967286),
-        flow(1, FlowKind::BestEffort(0)),
-        request(1, 20),
-        cut(1, 20, 0),
-    ];
-    assert_eq!(rt; alike(alloc, &wrapping)?, Some(1));
-    let by_turns = [
-        channel(1000),
-        unsolicited(1, 4, 10, 4, 1000),
-        unsolicited(2, 4, 10, 4, 1000),
-        cut(1, 10, 0),
-        cut(1, 10, 0),
-        cut(1, 10, 0),
-    ];
-    assert_eq!(rt; alike(alloc, &by_turns)?, Some(3));
-    Ok(())
-}
-
-#[test]
-fn polls_go_behind_grants(rt: HostRuntime) -> Result<(), Fail> {
-    let poll = FlowKind::Poll {
-        interval: 12,
-        jitter: 3,
-        base: 1000,
-    };
-    let commands = [
-        channel(1000),
-        flow(1, poll),
-        unsolicited(2, 2, 12, 3, 1000),
-        flow(3, FlowKind::BestEffort(7)),
-        request(3, 4),
-        request(1, 17),
-        cut(1, 30, 0),
-        cut(1, 30, 0),
-    ];
-    assert_eq!(rt; alike(rt.alloc(), &commands)?, Some(2));
+    let steps = crowd(rt.alloc())?;
+    assert_eq!(rt; alike(rt.alloc(), 1000, steps.as_slice())?, (240, 1));
     Ok(())
 }

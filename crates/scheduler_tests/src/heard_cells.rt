@@ -1,7 +1,6 @@
 //! What a modem heard as a plain list of cells, one for each minislot, beside the modem's intervals.
 
-use crate::modems::modem_50;
-use grant_machine::{MapBytes, Output};
+use crate::modems::{Map, heard_map, modem_of};
 use minislot_time::Slot;
 use modem::{Heard, Modem, Sending};
 use std::alloc::{AllocError, Global};
@@ -16,19 +15,17 @@ const OWN: u16 = 1;
 /// The channel's data back-off begins at this exponent of two.
 const BACKOFF: u64 = 8;
 
-/// A MAP that starts at a minislot, with the words of its elements.
-#[derive(Clone, Copy)]
-struct Map {
-    start: u64,
-    words: &'static [u32],
-}
-
 /// What happens to a modem.
 #[derive(Clone, Copy)]
 enum Step {
+    /// It hears a MAP near a minislot.
     Hear(Map, u64),
+    /// It wants so many minislots.
     Want(u16),
+    /// It comes to a minislot, with a random number.
     Tick(u64, u64),
+    /// It comes to each minislot from one up to another, the latter not among them.
+    Ticks(u64, u64),
 }
 
 /// A minislot that was heard of: whose it is, and the IUC.
@@ -63,15 +60,6 @@ fn length_of(words: &[u32]) -> u64 {
 }
 
 impl Plain {
-    fn new(alloc: Global) -> Plain {
-        Plain {
-            clock: 0,
-            cells: Vec::new(alloc),
-            want: None,
-            left: None,
-        }
-    }
-
     /// The minislots from an element's offset to the next one's.
     fn keep(&mut self, start: u64, word: u32, end: u64) -> Result<(), AllocError> {
         for x in offset_of(word)..end {
@@ -138,46 +126,38 @@ impl Plain {
     }
 }
 
-/// The output that tells a MAP.
-fn output(alloc: Global, map: Map) -> Result<Output, AllocError> {
-    let wire = (map.start % 0x1_0000_0000) as u32;
-    let mut bytes = Vec::new(alloc);
-    bytes.extend_from_slice(&[1, 7, (map.words.len() % 256) as u8, 0])?;
-    bytes.extend_from_slice(&wire.to_be_bytes())?;
-    bytes.extend_from_slice(&[0, 0, 0, 0, 2, 5, 3, 8])?;
-    for word in map.words {
-        bytes.extend_from_slice(&word.to_be_bytes())?;
+/// Does a minislot give the same by both?
+fn ticks_alike(modem: &mut Modem, plain: &mut Plain, at: u64, random: u64) -> bool {
+    match Slot::new(at) {
+        Some(slot) => modem.tick(1, slot, random) == Ok(plain.tick(at, random)),
+        None => false,
     }
-    Ok(Output::Map {
-        ch: 1,
-        start: Slot::new(map.start).ok_or(AllocError)?,
-        len: 0,
-        bytes: MapBytes::new(bytes),
-    })
 }
 
 /// Does a step give the same by both?
 fn is_alike(modem: &mut Modem, plain: &mut Plain, alloc: Global, step: Step) -> Result<bool, Fail> {
     match step {
         Step::Hear(map, near) => {
-            let heard = modem.hear(&output(alloc, map)?, Slot::new(near).ok_or("slot")?)?;
-            Ok(heard == plain.hear(map, near)?)
+            Ok(heard_map(modem, alloc, map, near)? == plain.hear(map, near)?)
         }
         Step::Want(n) => {
             plain.want = Some(n);
             Ok(modem.want(1, OWN, n).is_ok())
         }
-        Step::Tick(at, random) => {
-            let sent = modem.tick(1, Slot::new(at).ok_or("slot")?, random);
-            Ok(sent == Ok(plain.tick(at, random)))
-        }
+        Step::Tick(at, random) => Ok(ticks_alike(modem, plain, at, random)),
+        Step::Ticks(from, to) => Ok((from..to).all(|at| ticks_alike(modem, plain, at, 0))),
     }
 }
 
 /// How many steps give the same by both, up to the first that doesn't.
 fn alike(alloc: Global, steps: &[Step]) -> Result<usize, Fail> {
-    let mut modem = modem_50(alloc)?;
-    let mut plain = Plain::new(alloc);
+    let mut modem = modem_of(alloc, 50, 0, 1 << 62)?;
+    let mut plain = Plain {
+        clock: 0,
+        cells: Vec::new(alloc),
+        want: None,
+        left: None,
+    };
     let mut count: usize = 0;
     for step in steps {
         if !is_alike(&mut modem, &mut plain, alloc, *step)? {
@@ -193,16 +173,6 @@ const WRAPPING: Map = Map {
     words: &[0x0005_8000, 0x0001_C014],
 };
 
-#[test]
-fn a_map_whose_wire_time_wraps(rt: HostRuntime) -> Result<(), Fail> {
-    let alloc = rt.alloc();
-    let heard = [Step::Hear(WRAPPING, 4294967284), Step::Tick(4294967296, 0)];
-    assert_eq!(rt; alike(alloc, &heard)?, 2);
-    let late = [Step::Hear(WRAPPING, 6442450933)];
-    assert_eq!(rt; alike(alloc, &late)?, 1);
-    Ok(())
-}
-
 const BY_TURNS: &[u32] = &[0x0005_4000, 0x0009_4004, 0xFFFC_4008, 0x0001_C00A];
 
 const FIRST: Map = Map {
@@ -215,34 +185,6 @@ const THIRD: Map = Map {
     words: BY_TURNS,
 };
 
-#[test]
-fn maps_out_of_order_and_again(rt: HostRuntime) -> Result<(), Fail> {
-    let steps = [
-        Step::Hear(THIRD, 1003),
-        Step::Hear(THIRD, 1003),
-        Step::Hear(FIRST, 1003),
-        Step::Tick(1003, 0),
-        Step::Tick(1012, 0),
-        Step::Tick(1021, 0),
-        Step::Hear(FIRST, 1022),
-        Step::Tick(1024, 0),
-    ];
-    assert_eq!(rt; alike(rt.alloc(), &steps)?, 8);
-    Ok(())
-}
-
-#[test]
-fn each_minislot_of_two_maps(rt: HostRuntime) -> Result<(), Fail> {
-    let mut steps = Vec::new(rt.alloc());
-    steps.push(Step::Hear(FIRST, 1000))?;
-    steps.push(Step::Hear(THIRD, 1000))?;
-    for at in 1000..1032 {
-        steps.push(Step::Tick(at, 0))?;
-    }
-    assert_eq!(rt; alike(rt.alloc(), &steps)?, 34);
-    Ok(())
-}
-
 const OPEN_TO_ALL: Map = Map {
     start: 1000,
     words: &[0xFFFC_4000, 0x0001_C064],
@@ -253,26 +195,46 @@ const POLL: Map = Map {
     words: &[0x0004_4000, 0xFFFC_4002, 0x0001_C004],
 };
 
-#[test]
-fn requests_by_back_off_and_by_poll(rt: HostRuntime) -> Result<(), Fail> {
-    let alloc = rt.alloc();
-    let backed_off = [
+const ROWS: [&[Step]; 6] = [
+    // a wire time that wraps, in time and too late
+    &[Step::Hear(WRAPPING, 4294967284), Step::Tick(4294967296, 0)],
+    &[Step::Hear(WRAPPING, 6442450933)],
+    // MAPs out of order and again
+    &[
+        Step::Hear(THIRD, 1003),
+        Step::Hear(THIRD, 1003),
+        Step::Hear(FIRST, 1003),
+        Step::Tick(1003, 0),
+        Step::Tick(1012, 0),
+        Step::Tick(1021, 0),
+        Step::Hear(FIRST, 1022),
+        Step::Tick(1024, 0),
+    ],
+    // each minislot of two MAPs
+    &[
+        Step::Hear(FIRST, 1000),
+        Step::Hear(THIRD, 1000),
+        Step::Ticks(1000, 1032),
+    ],
+    // a request by back-off, and one at a poll
+    &[
         Step::Hear(OPEN_TO_ALL, 1000),
         Step::Want(20),
         Step::Tick(1000, 10),
-        Step::Tick(1001, 0),
-        Step::Tick(1002, 0),
-        Step::Tick(1003, 0),
-    ];
-    assert_eq!(rt; alike(alloc, &backed_off)?, 6);
-    let polled = [
+        Step::Ticks(1001, 1004),
+    ],
+    &[
         Step::Hear(POLL, 1100),
         Step::Tick(1100, 0),
         Step::Want(20),
-        Step::Tick(1101, 0),
-        Step::Tick(1102, 0),
-        Step::Tick(1103, 0),
-    ];
-    assert_eq!(rt; alike(alloc, &polled)?, 6);
+        Step::Ticks(1101, 1104),
+    ],
+];
+
+#[test]
+fn modems_are_alike(rt: HostRuntime) -> Result<(), Fail> {
+    for steps in ROWS {
+        assert_eq!(rt; alike(rt.alloc(), steps)?, steps.len());
+    }
     Ok(())
 }

@@ -1,6 +1,6 @@
-//! Tests of times, MAP bodies, flows, commands, the log and its releases, and of modems, by the public calls of
-//! `minislot_time`, `map_body`, `flow_state`, `grant_machine`, `command_log`, `map_release` and `modem`. What plans print
-//! stands as data in examples/.
+//! Tests of times, MAP bodies and commands as bytes, of a cut beside its first body, and of modems, by the public calls of
+//! `minislot_time`, `map_body`, `grant_machine`, `command_log` and `modem`. What plans print, and what modems of a script
+//! do, stands as data in examples/.
 #![tactic(auto)]
 
 #[cfg(test)]
@@ -10,18 +10,8 @@ mod cells;
 #[cfg(test)]
 mod commands;
 #[cfg(test)]
-mod flows;
-#[cfg(test)]
 mod heard_cells;
 #[cfg(test)]
-mod leases;
-#[cfg(test)]
-mod logs;
-#[cfg(test)]
-mod modem_leases;
-#[cfg(test)]
 mod modems;
-#[cfg(test)]
-mod releases;
 #[cfg(test)]
 mod times;

@@ -10,5 +10,5 @@ mod verdict;
 
 pub use cluster::live_cluster;
 pub use driver::{Agenda, LiveCarrier, LiveGate};
-pub use live_run::live;
+pub use live_run::{Audited, live, live_audited};
 pub use verdict::{print_audit, print_verdict};

@@ -1,16 +1,20 @@
 //! `upsched live PLAN`: a plan's commands, worked on by three nodes with a thread each.
 
-ghost use Rattle.std.specs.Prelude.{◌≡◌, ◌≢◌, Ok, IfOk};
+ghost use Rattle.std.specs.Prelude.{◌≡◌, ◌≢◌, ◌↔◌, All, Ok, IfOk, IsOk, length};
 ghost use Rattle.std.specs.Io.KnownBytes.{Appends};
+ghost use Rattle.node_worker.specs.Audits.{IsCluster, IsWhole};
+ghost use Rattle.node_worker.specs.Runs.{IsLegal};
 ghost use Rattle.upsched_parts.specs.declared.status.Status.TheVariants.{Done, NotUnderstood};
 ghost use Rattle.upsched_parts.specs.Plan.{NoPlan};
 ghost use Rattle.upsched_live_parts.specs.Verdict.{verdict_line};
 
 use crate::cluster::live_cluster;
+use crate::driver::LiveCarrier;
 use crate::verdict::{print_audit, status_of};
 use log::{Log, info};
+use network_script_parts::PlainNode;
 use node::Node;
-use node_worker::{Kept, Record, Torn};
+use node_worker::{Kept, Plant, Record, Torn};
 use std::io::{Read, Write};
 use std::sync::Wait;
 use std::thread::Threads;
@@ -30,6 +34,9 @@ fn learned_count<N: Node>(node: &N, places: usize) -> usize {
 
 /// Logs of each node how much of it is recorded, and how many of the first places it has learned.
 fn tell_of<R: Log, N: Node>(rt: &R, kepts: &[Kept<N>], records: &[Record], places: usize) {
+    if records.is_empty() {
+        info!(rt; "nothing to audit: no node has a record");
+    }
     for kept in kepts {
         let node = kept.id();
         let recorded = records.iter().filter(|record| record.node == node).count();
@@ -38,32 +45,53 @@ fn tell_of<R: Log, N: Node>(rt: &R, kepts: &[Kept<N>], records: &[Record], place
     }
 }
 
-/// What the nodes make of a plan is audited, and the line of that is printed.
-fn print_live<'a, R: Log, T: Threads + Wait + Clock + Sync + AllocGlobal, F: Read, O: Write>(
+/// What came of a plan that nodes worked on, and what its audit found.
+#[derive(Drop)]
+pub struct Audited {
+    pub kepts: Vec<Kept<PlainNode>>,
+    pub carriers: Vec<LiveCarrier>,
+    pub plant: Plant<PlainNode>,
+    pub verdict: Result<(), Torn>,
+}
+
+/// Has three nodes with a thread and so many turns each work on a plan's commands, audits what they did and what was
+/// recorded of it, and prints the line of that. A fault of the plan is found before anything happens. With `verbose` it
+/// also logs how much each node recorded and learned. How much that is isn't promised; with no turn, or where no carrier
+/// found anything to do, there is nothing to audit, and the line is the same.
+pub fn live_audited<'a, R: Log, T: Threads + Wait + Clock + Sync + AllocGlobal, F: Read, O: Write>(
     rt: &R,
     threads: &T,
     plan: &mut F,
     words: &LiveWords<'a>,
     output: &mut O,
-) -> Result<Result<(), Torn>, Fault<'a>>
-    ensures printed { IfOk result (λ verdict. Appends (O.contents output.old) (O.contents output.new) (verdict_line verdict)) }
+) -> Result<Audited, Fault<'a>>
+    ensures cluster { IfOk result (λ a. (length a.kepts.items ≡ 3) × IsCluster a.kepts.items) }
+    ensures turns { IfOk result (λ a. (length a.carriers.items ≡ 3) × All (λ c. c.turns ≡ 0) a.carriers.items) }
+    ensures legal { IfOk result (λ a. IsLegal a.plant.members a.plant.records a.plant.modems) }
+    ensures whole { IfOk result (λ a. IsOk a.verdict ↔ IsWhole a.kepts.items a.plant.records) }
+    ensures printed { IfOk result (λ a. Appends (O.contents output.old) (O.contents output.new) (verdict_line a.verdict)) }
     ensures no_plan { NoPlan (F.remaining plan.old) → output.new ≡ output.old }
 {
     let commands = plan_of(threads.alloc(), plan, words.plan)?;
-    let Ok((kepts, _, plant)) = live_cluster(threads, commands.as_slice(), words.turns) else {
+    let Ok((kepts, carriers, plant)) = live_cluster(threads, commands.as_slice(), words.turns)
+    else {
         return Err(Fault::Memory);
     };
     if words.verbose {
         tell_of(rt, kepts.as_slice(), plant.records(), commands.len());
     }
-    print_audit(kepts.as_slice(), plant.records(), output)
+    let verdict = print_audit(kepts.as_slice(), plant.records(), output)?;
+    Ok(Audited {
+        kepts,
+        carriers,
+        plant,
+        verdict,
+    })
 }
 
-/// Has three nodes with a thread and so many turns each work on a plan's commands, and prints `audit yes` where each
-/// record of each node is there in its order, else `audit torn I` by the number of the first record that isn't. A
-/// fault of the plan is found before anything happens, and is told in one line; so is want of memory or of a thread.
-/// With `verbose` it also logs how much each node recorded and learned. How much that is isn't promised. Threads are
-/// made, and waited for, by `threads`.
+/// `live_audited` as a command: prints `audit yes` where each record of each node is there in its order, else
+/// `audit torn I` by the number of the first record that isn't. A fault of the plan is told in one line; so is want of
+/// memory or of a thread. Threads are made, and waited for, by `threads`.
 pub fn live<R: Log, T: Threads + Wait + Clock + Sync + AllocGlobal, F: Read, O: Write, E: Write>(
     rt: &R,
     threads: &T,
@@ -77,8 +105,8 @@ pub fn live<R: Log, T: Threads + Wait + Clock + Sync + AllocGlobal, F: Read, O: 
     ensures no_plan { NoPlan (F.remaining plan.old) → output.new ≡ output.old }
     ensures understood { result ≢ NotUnderstood }
 {
-    match print_live(rt, threads, plan, words, output) {
-        Ok(verdict) => status_of(verdict),
+    match live_audited(rt, threads, plan, words, output) {
+        Ok(audited) => status_of(audited.verdict),
         Err(fault) => fault.told(errors),
     }
 }

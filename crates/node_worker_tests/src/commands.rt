@@ -1,0 +1,174 @@
+//! The program's words, a writer that is full, and what is logged.
+
+use log::sink::Memory;
+use log::{Level, Logged};
+use std::alloc::Global;
+use std::io;
+use std::io::Write;
+use std::test::Fail;
+use upsched_parts::{MapsWords, RunWords, Status, maps, read_words, refused, run_script};
+
+/// A writer that is full.
+#[derive(Drop)]
+struct Full;
+
+impl Write for Full {
+    fn write(&mut self, _buf: &[u8]) -> io::Result<usize> {
+        Err(io::Error::from(io::ErrorKind::StorageFull))
+    }
+
+    fn flush(&mut self) -> io::Result<()> {
+        Ok(())
+    }
+}
+
+#[test]
+fn a_full_output(rt: HostRuntime) {
+    let mut errors = Vec::new(rt.alloc());
+    let words = MapsWords { plan: "plan.toml" };
+    let mut plan = "command = [{kind = 'noop'}]".as_bytes();
+    let status = maps(rt.alloc(), &mut plan, &words, &mut Full, &mut errors);
+    assert_eq!(rt; status, Status::Faulted);
+    assert_eq!(rt; errors.as_slice(), b"upsched: output\n".as_slice());
+}
+
+fn listed(alloc: Global, words: &[&str]) -> Result<Vec<String>, Fail> {
+    let mut list = Vec::new(alloc);
+    list.push(String::from_str(alloc, "upsched")?)?;
+    for word in words {
+        list.push(String::from_str(alloc, word)?)?;
+    }
+    Ok(list)
+}
+
+/// What words are read as, or how the program ends by them.
+fn read_as(alloc: Global, words: &[&str]) -> Result<String, Fail> {
+    let given = listed(alloc, words)?;
+    match read_words(alloc, given.as_slice()) {
+        Ok(words) => Ok(format!(in alloc; "{words:?}")?),
+        Err(error) => {
+            let status = refused(&error, &mut io::sink(), &mut io::sink());
+            Ok(format!(in alloc; "{status:?}")?)
+        }
+    }
+}
+
+const WORDS: [(&[&str], &str); 25] = [
+    (
+        &["maps", "a plan.toml"],
+        "Maps(MapsWords { plan: \"a plan.toml\" })",
+    ),
+    (&["show", "00fF"], "Show(ShowWords { hex: \"00fF\" })"),
+    (
+        &["run", "script.toml"],
+        "Run(RunWords { script: \"script.toml\", verbose: false, store: None })",
+    ),
+    (
+        &["run", "script.toml", "--verbose"],
+        "Run(RunWords { script: \"script.toml\", verbose: true, store: None })",
+    ),
+    (
+        &["run", "--verbose", "script.toml"],
+        "Run(RunWords { script: \"script.toml\", verbose: true, store: None })",
+    ),
+    (
+        &["run", "script.toml", "--store", "a folder"],
+        "Run(RunWords { script: \"script.toml\", verbose: false, store: Some(\"a folder\") })",
+    ),
+    (
+        &["live", "plan.toml"],
+        "Live(LiveWords { plan: \"plan.toml\", turns: 2000, verbose: false })",
+    ),
+    (
+        &["live", "plan.toml", "--verbose"],
+        "Live(LiveWords { plan: \"plan.toml\", turns: 2000, verbose: true })",
+    ),
+    (
+        &["live", "--turns", "0", "plan.toml"],
+        "Live(LiveWords { plan: \"plan.toml\", turns: 0, verbose: false })",
+    ),
+    (
+        &["live", "plan.toml", "--turns=1000000"],
+        "Live(LiveWords { plan: \"plan.toml\", turns: 1000000, verbose: false })",
+    ),
+    (&[], "NotUnderstood"),
+    (&["maps"], "NotUnderstood"),
+    (&["show"], "NotUnderstood"),
+    (&["run"], "NotUnderstood"),
+    (&["maps", "one", "two"], "NotUnderstood"),
+    (&["maps", "plan.toml", "--verbose"], "NotUnderstood"),
+    (&["run", "script.toml", "--store"], "NotUnderstood"),
+    (&["live"], "NotUnderstood"),
+    (&["live", "plan.toml", "--turns"], "NotUnderstood"),
+    (&["live", "plan.toml", "--turns", "many"], "NotUnderstood"),
+    (&["live", "plan.toml", "--turns=-1"], "NotUnderstood"),
+    (
+        &["live", "plan.toml", "--turns", "1000001"],
+        "NotUnderstood",
+    ),
+    (&["--help"], "Done"),
+    (&["run", "--help"], "Done"),
+    (&["--version"], "Done"),
+];
+
+#[test]
+fn words_of_the_program(rt: HostRuntime) -> Result<(), Fail> {
+    for (words, want) in WORDS {
+        assert_eq!(rt; read_as(rt.alloc(), words)?.as_str(), want, "{words:?}");
+    }
+    Ok(())
+}
+
+/// Whether words that name no command print this among other things on standard output.
+fn prints(alloc: Global, words: &[&str], part: &str) -> Result<bool, Fail> {
+    let mut output = Vec::new(alloc);
+    let given = listed(alloc, words)?;
+    if let Err(error) = read_words(alloc, given.as_slice()) {
+        let _ = refused(&error, &mut output, &mut io::sink());
+    }
+    Ok(std::str::from_utf8(output.as_slice())?.contains(part))
+}
+
+#[test]
+fn help_and_version(rt: HostRuntime) -> Result<(), Fail> {
+    let verbose = ["run", "--help"];
+    for (words, part) in [
+        (["--version"].as_slice(), "upsched 0.1.0\n"),
+        (
+            verbose.as_slice(),
+            "on standard error; what is printed stays the same",
+        ),
+        (["--help"].as_slice(), "docs/RULES.md"),
+        (["--help"].as_slice(), "docs/SCRIPTS.md"),
+    ] {
+        assert!(rt; prints(rt.alloc(), words, part)?, "{part}");
+    }
+    Ok(())
+}
+
+const SCRIPT: &str =
+    "members = 3\nevent = [{kind = 'deliver', letter = 0}, {kind = 'offer', node = 2, value = '00'}]";
+
+const PRINTED: &[u8] =
+    b"0 refused 1 NoLetter\n1 fault 1 NotLeading\nletters 0 outputs 0 transmissions 0\n";
+
+#[test]
+fn faults_are_logged(rt: HostRuntime) {
+    for verbose in [false, true] {
+        let logged = Logged::new(&rt, Level::Info, Memory::new(rt.alloc()));
+        let words = RunWords {
+            script: "script.toml",
+            verbose,
+            store: None,
+        };
+        let mut output = Vec::new(rt.alloc());
+        let mut errors = Vec::new(rt.alloc());
+        let mut script = SCRIPT.as_bytes();
+        let status = run_script(&logged, &mut script, &words, &mut output, &mut errors);
+        assert_eq!(rt; status, Status::Done);
+        assert_eq!(rt; output.as_slice(), PRINTED);
+        assert!(rt; errors.is_empty());
+        let (_, sink) = logged.into_parts();
+        assert_eq!(rt; sink.into_lines().len(), usize::from(verbose));
+    }
+}

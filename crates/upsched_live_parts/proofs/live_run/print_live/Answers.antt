@@ -1,6 +1,0 @@
-use Rattle.upsched_parts.proofs.Callers.{no_plan_read}
-use Rattle.upsched_live_parts.proofs.live_run.print_live.Goals as goal
-
-pub returns-clause-no_plan : goal.returns-clause-no_plan
-returns-clause-no_plan g c = λ none.
-    absurd (no_plan_read (g.F.Read.remaining c.args.plan.now) c.in_ok-commands.commands.items none c.in_ok-commands.ensures)
