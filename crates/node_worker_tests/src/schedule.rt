@@ -100,22 +100,40 @@ fn plant_after(alloc: Global) -> Result<Option<Plant<PlainNode>>, Fail> {
     Ok(Some(plant))
 }
 
-/// What modem 0 hears, and that it has nothing to send by SID 1.
+/// What modem 0 does at a minislot.
+#[derive(Clone, Copy)]
+enum Asked {
+    /// It hears this one of all outputs.
+    Hear(usize),
+    /// It comes to the minislot.
+    Tick,
+    /// It wants to send by SID 1.
+    Want,
+}
+
+fn answer(plant: &mut Plant<PlainNode>, slot: Slot, asked: Asked) -> Answer {
+    match asked {
+        Asked::Hear(i) => plant.modem_step(&Event::Hear(0, i, slot)),
+        Asked::Tick => plant.modem_step(&Event::Tick(0, 1, slot, 0)),
+        Asked::Want => plant.modem_step(&Event::Want(0, 1, 1, 5)),
+    }
+}
+
+/// It hears of the channel and the cut, and has nothing to send; and there are four outputs.
+const ANSWERS: [(Asked, Answer); 5] = [
+    (Asked::Hear(0), Answer::Heard(Heard::Taken)),
+    (Asked::Hear(1), Answer::Heard(Heard::Taken)),
+    (Asked::Tick, Answer::Ticked(None)),
+    (Asked::Want, Answer::WantRefused(WantFault::NotMine)),
+    (Asked::Hear(4), Answer::Refused(Refusal::NoOutput)),
+];
+
 #[test]
 fn a_modem_hears_what_two_nodes_release(rt: HostRuntime) -> Result<(), Fail> {
     let mut plant = plant_after(rt.alloc())?.ok_or("a plant")?;
     let slot = Slot::new(1000).ok_or("slot")?;
-    for (event, want) in [
-        (Event::Hear(0, 0, slot), Answer::Heard(Heard::Taken)),
-        (Event::Hear(0, 1, slot), Answer::Heard(Heard::Taken)),
-        (Event::Tick(0, 1, slot, 0), Answer::Ticked(None)),
-        (
-            Event::Want(0, 1, 1, 5),
-            Answer::WantRefused(WantFault::NotMine),
-        ),
-        (Event::Hear(0, 4, slot), Answer::Refused(Refusal::NoOutput)),
-    ] {
-        assert_eq!(rt; plant.modem_step(&event), want);
+    for (asked, want) in ANSWERS {
+        assert_eq!(rt; answer(&mut plant, slot, asked), want);
     }
     Ok(())
 }
