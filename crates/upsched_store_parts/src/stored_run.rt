@@ -5,13 +5,14 @@ ghost use Rattle.network_script_parts.specs.Fresh.{AreFresh};
 ghost use Rattle.upsched_parts.specs.declared.status.Status.TheVariants.{NotUnderstood};
 ghost use Rattle.upsched_parts.specs.Run.{NoScript};
 
+use acceptor_store::SqlRecords;
 use log::Log;
 use network_script_parts::Script;
-use node::Node;
-use sqlite::Files;
+use node::{Node, SchedNode};
+use sqlite::{FileStore, Files};
 use sqlite_disk::Disk;
 use std::io::{Read, Write};
-use stored_nodes::{StoreFault, nodes_in, stored_nodes};
+use stored_nodes::{StoreFault, StoredNode, nodes_in, stored_nodes};
 use upsched_parts::{Fault, RunWords, Status, print_script, script_of};
 
 /// What is told of nodes that don't start over files.
@@ -23,15 +24,16 @@ fn fault_of<'a>(fault: StoreFault) -> Fault<'a> {
     }
 }
 
-/// What a script does to fresh nodes is printed, and the nodes are let go.
-fn print_nodes<'a, R: Log + AllocGlobal, N: Node, O: Write>(
+/// What a script does to fresh nodes over files is printed, and their files are closed.
+fn print_stored<'a, R: Log + AllocGlobal, D: Disk + Drop, O: Write>(
     rt: &R,
-    nodes: Vec<N>,
+    nodes: Vec<StoredNode<D>>,
     script: &Script,
     verbose: bool,
     output: &mut O,
 ) -> Result<(), Fault<'a>>
-    requires { AreFresh N.who N.honest N.stands nodes.items }
+    requires { AreFresh ⟦<SchedNode<SqlRecords<FileStore<D>>> as Node>⟧.who ⟦<SchedNode<SqlRecords<FileStore<D>>> as Node>⟧.honest
+        ⟦<SchedNode<SqlRecords<FileStore<D>>> as Node>⟧.stands nodes.items }
 {
     let _world = print_script(rt, nodes, script, verbose, output)?;
     Ok(())
@@ -46,7 +48,7 @@ pub fn print_over<'a, R: Log + AllocGlobal, D: Disk + Drop, O: Write>(
     output: &mut O,
 ) -> Result<(), Fault<'a>> {
     match stored_nodes(rt.alloc(), script.members, files) {
-        Ok(nodes) => print_nodes(rt, nodes, script, verbose, output),
+        Ok(nodes) => print_stored(rt, nodes, script, verbose, output),
         Err(fault) => Err(fault_of(fault)),
     }
 }
@@ -62,7 +64,7 @@ fn print_in<'a, F: Read, O: Write>(
 {
     let script = script_of(rt.alloc(), script, words.script)?;
     match nodes_in(rt, folder, script.members) {
-        Ok(nodes) => print_nodes(rt, nodes, &script, words.verbose, output),
+        Ok(nodes) => print_stored(rt, nodes, &script, words.verbose, output),
         Err(fault) => Err(fault_of(fault)),
     }
 }
