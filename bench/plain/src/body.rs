@@ -75,7 +75,7 @@ impl MapBody {
         if elements.len() > MOST_ELEMENTS {
             return Err(MapFault::TooMany);
         }
-        let null = first_null(elements.iter().map(|e| (e.iuc, e.offset)))?;
+        let null = first_null(elements.iter().map(|element| element.word()))?;
         Ok(MapBody {
             head,
             elements,
@@ -92,27 +92,39 @@ impl MapBody {
     }
 }
 
-/// The place of the first Null, or the first fault from left to right.
-fn first_null(mut elements: impl Iterator<Item = (u8, u16)>) -> Result<usize, MapFault> {
+/// Is a word's IUC the Null's or an expansion's?
+fn is_special(word: u32) -> bool {
+    let both = u32::from(NULL) << 14;
+    word & both == both
+}
+
+fn is_expansion(word: u32) -> bool {
+    let expansion = u32::from(EXPANSION) << 14;
+    word & expansion == expansion
+}
+
+/// The place of the first Null among elements' words, or the first fault from left to right.
+fn first_null(mut words: impl Iterator<Item = u32>) -> Result<usize, MapFault> {
     let mut last = 0;
     let mut i = 0;
     loop {
-        let Some((iuc, offset)) = elements.next() else {
+        let Some(word) = words.next() else {
             return Err(MapFault::NoNull);
         };
-        if iuc == EXPANSION {
-            return Err(MapFault::Expansion(i));
-        }
-        if offset < last {
-            return Err(MapFault::OutOfOrder(i));
-        }
-        if iuc == NULL {
+        let offset = word & 0x3FFF;
+        if offset < last || is_special(word) {
+            if is_expansion(word) {
+                return Err(MapFault::Expansion(i));
+            }
+            if offset < last {
+                return Err(MapFault::OutOfOrder(i));
+            }
             break;
         }
         last = offset;
         i += 1;
     }
-    match elements.position(|(iuc, _)| iuc == EXPANSION) {
+    match words.position(is_expansion) {
         Some(behind) => Err(MapFault::Expansion(i + 1 + behind)),
         None => Ok(i),
     }
@@ -149,10 +161,7 @@ pub fn judge(bytes: &[u8]) -> Result<Outline<'_>, MapFault> {
         return Err(MapFault::Trailing);
     }
     let (words, _) = rest.as_chunks::<4>();
-    let null = first_null(words.iter().map(|word| {
-        let element = Element::of_word(u32::from_be_bytes(*word));
-        (element.iuc, element.offset)
-    }))?;
+    let null = first_null(words.iter().map(|word| u32::from_be_bytes(*word)))?;
     let head = Head {
         channel: front[0],
         ucd: front[1],

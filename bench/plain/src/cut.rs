@@ -80,25 +80,32 @@ impl Filling {
         let latest = hi.min((last + 1).checked_sub(u64::from(n))?);
         let latest = latest.checked_sub(self.start)?.min(u64::from(self.len)) as u32;
         let first = lo.saturating_sub(self.start).min(u64::from(self.len)) as u32;
-        for (gap, free) in self.gaps[..self.gap_count].iter().enumerate() {
-            let offset = free.from.max(first);
+        let gaps = &self.gaps[..self.gap_count];
+        let passed = match gaps.last() {
+            _ if first == 0 => 0,
+            Some(gap) if gap.from <= first => gaps.len() - 1,
+            _ => gaps.partition_point(|gap| gap.to <= first),
+        };
+        for (further, gap) in gaps[passed..].iter().enumerate() {
+            let offset = gap.from.max(first);
             if offset > latest {
                 return None;
             }
-            if offset + u32::from(n) <= free.to {
+            if offset + u32::from(n) <= gap.to {
+                let gap = passed + further;
                 return Some(Fit { gap, offset });
             }
         }
         None
     }
 
-    /// Places n minislots where they fit.
-    pub fn place(&mut self, fit: Fit, n: u16, sid: u16, iuc: u8) {
+    /// Places n minislots where they fit, for an element without its offset.
+    pub fn place(&mut self, fit: Fit, n: u16, element: u32) {
         let from = fit.offset;
         let to = from + u32::from(n);
         self.carve(fit.gap, from, to);
         let placed = Placed {
-            word: word(sid, iuc, from as u16),
+            word: element | from,
             from: from as u16,
             to: to as u16,
         };
@@ -107,7 +114,9 @@ impl Filling {
         while at > 0 && self.placed[at - 1].from > placed.from {
             at -= 1;
         }
-        self.placed.copy_within(at..count, at + 1);
+        if at < count {
+            self.placed.copy_within(at..count, at + 1);
+        }
         self.placed[at] = placed;
         self.placed_count += 1;
     }
@@ -131,8 +140,9 @@ impl Filling {
         }
     }
 
-    /// The bytes of the MAP: an element for each placement and each gap, the Null, and the pending ones.
-    pub fn draw(&self, head: &Head, pending: impl ExactSizeIterator<Item = (u16, u8)>) -> Vec<u8> {
+    /// The bytes of the MAP: an element for each placement and each gap, the Null, and the pending ones, which are
+    /// given without their offset.
+    pub fn draw(&self, head: &Head, pending: impl ExactSizeIterator<Item = u32>) -> Vec<u8> {
         let count = self.placed_count + self.gap_count + 1 + pending.len();
         let mut bytes = with_head(head, count);
         let (words, _) = bytes[HEAD..].as_chunks_mut::<4>();
@@ -155,8 +165,8 @@ impl Filling {
             put(word(EVERYBODY, REQUEST, at));
         }
         put(word(0, NULL, len));
-        for (sid, iuc) in pending {
-            put(word(sid, iuc, len));
+        for (place, element) in words.zip(pending) {
+            *place = (element | self.len).to_be_bytes();
         }
         bytes
     }

@@ -32,19 +32,20 @@ impl Dues {
 
     /// Lends each time before an end, by SID, to be changed.
     pub fn for_each_before(&mut self, end: u64, mut serve: impl FnMut(usize, &mut u64)) {
-        let blocks = self.times.chunks_mut(BLOCK).zip(&mut self.least);
-        for (number, (times, least)) in blocks.enumerate() {
-            if *least >= end {
+        for block in 0..self.least.len() {
+            if self.least[block] >= end {
                 continue;
             }
+            let first = block * BLOCK;
+            let behind = self.times.len().min(first + BLOCK);
             let mut next = NEVER;
-            for (within, time) in times.iter_mut().enumerate() {
+            for (within, time) in self.times[first..behind].iter_mut().enumerate() {
                 if *time < end {
-                    serve(number * BLOCK + within, time);
+                    serve(first + within, time);
                 }
                 next = next.min(*time);
             }
-            *least = next;
+            self.least[block] = next;
         }
     }
 

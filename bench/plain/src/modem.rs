@@ -123,13 +123,18 @@ pub fn extend(bits: u32, near: u64) -> Option<u64> {
         .filter(|time| *time < TIME_LIMIT)
 }
 
+/// Keeps one in its place, unless it is kept, as where a MAP is heard again.
 fn keep(kept: &mut VecDeque<Kept>, one: Kept) {
-    let at = match kept.back() {
-        Some(back) if back.start >= one.start => kept.partition_point(|k| k.start < one.start),
-        _ => kept.len(),
-    };
-    let same_start = kept.range(at..).take_while(|k| k.start == one.start);
-    if !same_start.into_iter().any(|k| *k == one) {
+    match kept.back() {
+        Some(back) if back.start >= one.start => keep_within(kept, one),
+        _ => kept.push_back(one),
+    }
+}
+
+fn keep_within(kept: &mut VecDeque<Kept>, one: Kept) {
+    let at = kept.partition_point(|k| k.start < one.start);
+    let mut same_start = kept.range(at..).take_while(|k| k.start == one.start);
+    if !same_start.any(|k| *k == one) {
         kept.insert(at, one);
     }
 }
@@ -293,19 +298,20 @@ impl Site {
 
     fn take(&mut self, outline: &Outline, start: u64, clock: u64) {
         self.pass_to(clock);
-        let mut element = outline.element(0);
-        for next in 1..=outline.null {
-            let behind = outline.element(next);
+        for pair in outline.words[..=outline.null].windows(2) {
+            let element = Element::of_word(u32::from_be_bytes(pair[0]));
+            if element.sid != EVERYBODY && !self.may_own(element.sid) {
+                continue;
+            }
+            let behind = Element::of_word(u32::from_be_bytes(pair[1]));
             if element.offset < behind.offset {
-                let kept = Kept {
+                self.take_interval(Kept {
                     start: start + u64::from(element.offset),
                     len: behind.offset - element.offset,
                     sid: element.sid,
                     iuc: element.iuc,
-                };
-                self.take_interval(kept);
+                });
             }
-            element = behind;
         }
         self.backoff = outline.head.data_backoff;
     }
@@ -395,6 +401,10 @@ impl Modem {
             id,
             sites: Vec::new(),
         }
+    }
+
+    pub fn id(&self) -> u32 {
+        self.id
     }
 
     fn site(&mut self, ch: u8) -> Option<&mut Site> {

@@ -17,6 +17,7 @@ pub enum ModemEvent {
     Hear(Output, u64),
     Want(u8, u16, u16),
     Tick(u8, u64, u64),
+    BeginAnew,
 }
 
 pub enum NodeEvent {
@@ -134,6 +135,7 @@ pub fn read_modem_event(record: &[u8]) -> Option<(usize, ModemEvent)> {
         }
         1 => ModemEvent::Want(fields.u8()?, fields.u16()?, fields.u16()?),
         2 => ModemEvent::Tick(fields.u8()?, fields.u64()?, fields.u64()?),
+        3 => ModemEvent::BeginAnew,
         _ => return None,
     };
     Some((modem, event))
@@ -152,6 +154,10 @@ fn put_modem_answer(out: &mut String, modem: &mut Modem, event: &ModemEvent) {
             Ok(sending) => put_sending(out, sending),
             Err(_) => out.push_str("refused 7 TimeBack"),
         },
+        ModemEvent::BeginAnew => {
+            *modem = Modem::new(modem.id());
+            out.push_str("done");
+        }
     }
 }
 

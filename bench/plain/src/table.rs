@@ -1,7 +1,7 @@
 //! What is kept of a channel: a row for each SID that was given, due times, and requests by rank.
 
 use crate::body::{
-    Head, ADVANCED_LONG_DATA_GRANT, ADVANCED_SHORT_DATA_GRANT, ADVANCED_UNSOLICITED_GRANT,
+    word, Head, ADVANCED_LONG_DATA_GRANT, ADVANCED_SHORT_DATA_GRANT, ADVANCED_UNSOLICITED_GRANT,
     LONG_DATA_GRANT, REQUEST, SHORT_DATA_GRANT,
 };
 use crate::command::{Channel, FlowKind, Phy};
@@ -60,9 +60,16 @@ struct Row {
 #[derive(Clone, Copy)]
 struct Waiting {
     last: u64,
-    sid: u16,
+    // The element that grants it or tells that it is pending, without its offset.
+    element: u32,
     n: u16,
     priority: u8,
+}
+
+impl Waiting {
+    fn sid(&self) -> u16 {
+        (self.element >> 18) as u16
+    }
 }
 
 /// A lease as it is told.
@@ -76,8 +83,8 @@ pub struct Lease {
 /// What comes by itself for a flow.
 #[derive(Clone, Copy)]
 struct Periodic {
-    sid: u16,
-    iuc: u8,
+    // The element of each placement, without its offset.
+    element: u32,
     size: u16,
     interval: u32,
     jitter: u32,
@@ -174,7 +181,7 @@ impl Periodic {
             }
             let hi = due + u64::from(self.jitter);
             match filling.first_fit(self.size, due.max(start), hi, self.last) {
-                Some(fit) => filling.place(fit, self.size, self.sid, self.iuc),
+                Some(fit) => filling.place(fit, self.size, self.element),
                 None if hi >= end => return due,
                 None => {}
             }
@@ -197,8 +204,7 @@ impl Row {
         };
         let size = u16::from(size);
         Some(Periodic {
-            sid,
-            iuc: channel.unsolicited_iuc(size),
+            element: word(sid, channel.unsolicited_iuc(size), 0),
             size,
             interval,
             jitter,
@@ -211,8 +217,7 @@ impl Row {
             return None;
         };
         Some(Periodic {
-            sid,
-            iuc: REQUEST,
+            element: word(sid, REQUEST, 0),
             size: 1,
             interval,
             jitter,
@@ -367,7 +372,7 @@ impl Table {
             return Err(Refusal::NoFlow);
         };
         if row.waits {
-            self.waiting.retain(|w| w.sid != sid);
+            self.waiting.retain(|w| w.sid() != sid);
         }
         self.end_flow(usize::from(sid) - 1);
         Ok(())
@@ -375,6 +380,7 @@ impl Table {
 
     pub fn request(&mut self, sid: u16, n: u16, sent: u64) -> Result<(), Refusal> {
         let is_room = self.waiting.len() < MOST_WAITING;
+        let iuc = self.channel.grant_iuc(n);
         let Some(row) = self.row_of(sid) else {
             return Err(Refusal::NoFlow);
         };
@@ -396,7 +402,7 @@ impl Table {
         row.accepts_from = sent + 1;
         let waiting = Waiting {
             last: row.last,
-            sid,
+            element: word(sid, iuc, 0),
             n,
             priority,
         };
@@ -437,8 +443,7 @@ impl Table {
             ranging_backoff: channel.ranging_backoff,
             data_backoff: channel.data_backoff,
         };
-        let pending = self.waiting.iter();
-        let bytes = filling.draw(&head, pending.map(|w| (w.sid, channel.grant_iuc(w.n))));
+        let bytes = filling.draw(&head, self.waiting.iter().map(|w| w.element));
         self.close(filling.end());
         Ok((start, bytes))
     }
@@ -466,26 +471,30 @@ impl Table {
 
     /// Grants requests by rank. Left are those that still wait and whose leases go on to the MAP's end.
     fn serve_waiting(&mut self, filling: &mut Filling) {
-        let channel = self.channel;
         let start = filling.start();
         let end = filling.end();
-        let rows = &mut self.rows;
         // No run of so many minislots is free any more.
         let mut spent = u16::MAX;
-        self.waiting.retain(|w| {
+        let mut kept = 0;
+        for at in 0..self.waiting.len() {
+            let w = self.waiting[at];
             if w.n < spent && !filling.is_full() {
                 let hi = end.saturating_sub(u64::from(w.n));
                 if let Some(fit) = filling.first_fit(w.n, start, hi, w.last) {
-                    filling.place(fit, w.n, w.sid, channel.grant_iuc(w.n));
-                    rows[usize::from(w.sid) - 1].waits = false;
-                    return false;
+                    filling.place(fit, w.n, w.element);
+                    self.rows[usize::from(w.sid()) - 1].waits = false;
+                    continue;
                 }
                 if w.last >= end {
                     spent = w.n;
                 }
             }
-            w.last >= end
-        });
+            if w.last >= end {
+                self.waiting[kept] = w;
+                kept += 1;
+            }
+        }
+        self.waiting.truncate(kept);
     }
 
     /// The MAPs reach to an end: the flows go whose leases end before, and their SIDs are free.

@@ -113,6 +113,7 @@ fn come_all(modem: &mut Modem, events: &[ModemEvent]) {
             ModemEvent::Tick(ch, slot, random) => {
                 let _ = black_box(modem.tick(*ch, *slot, *random));
             }
+            ModemEvent::BeginAnew => *modem = Modem::new(0),
         }
     }
 }

@@ -5,9 +5,13 @@ use crate::machine::{Machine, Output};
 use crate::random::Random;
 use crate::records::put_record;
 use crate::LAST_TIME;
+use std::collections::VecDeque;
 
 /// So many commands are made with the same weights.
 const STRETCH: usize = 2000;
+
+/// So many SIDs of a channel are asked for again and again.
+const MOST_TOLD: usize = 160;
 
 /// How often each kind of command is made, while a stretch lasts.
 #[derive(Clone, Copy)]
@@ -30,9 +34,10 @@ pub struct CommandMaker {
     left: usize,
     // So many channels were set at first.
     opened: u8,
-    // By channel, where its MAPs reach to, and the greatest SID that was told.
+    // By channel, where its MAPs reach to, the greatest SID that was told, and those told last.
     now: [u64; 256],
     sids: [u16; 256],
+    told: Vec<VecDeque<u16>>,
 }
 
 fn base_of(random: &mut Random) -> u64 {
@@ -55,6 +60,7 @@ impl CommandMaker {
             opened: 0,
             now: [0; 256],
             sids: [0; 256],
+            told: vec![VecDeque::new(); 256],
         }
     }
 
@@ -170,6 +176,11 @@ impl CommandMaker {
         if self.random.percent(1) {
             return self.random.number() as u16;
         }
+        let told = &self.told[usize::from(ch)];
+        if !told.is_empty() && self.random.percent(80) {
+            let at = self.random.below(told.len() as u64) as usize;
+            return told[at];
+        }
         let most = u64::from(self.sids[usize::from(ch)]);
         self.random.below(most + 2) as u16
     }
@@ -262,6 +273,11 @@ impl CommandMaker {
             Output::Assigned { ch, sid, .. } => {
                 let most = &mut self.sids[usize::from(*ch)];
                 *most = (*sid).max(*most);
+                let told = &mut self.told[usize::from(*ch)];
+                told.push_back(*sid);
+                if told.len() > MOST_TOLD {
+                    told.pop_front();
+                }
             }
             _ => {}
         }

@@ -8,14 +8,21 @@ use crate::random::Random;
 use crate::records::put_record;
 use std::collections::VecDeque;
 
-/// So many outputs are kept, to be heard again.
-const KEPT: usize = 40;
+/// So many MAPs are kept, to be heard again.
+const KEPT: usize = 12;
+
+/// So many SIDs are kept, of which modems that begin anew hear.
+const MOST_TOLD: usize = 200;
+
+/// After so many events on average a modem begins anew.
+const LIFE: u64 = 4000;
 
 /// A modem's minislots go on by channel.
 struct Maker {
     commands: CommandMaker,
     random: Random,
-    outputs: VecDeque<Output>,
+    told: VecDeque<Output>,
+    maps: VecDeque<Output>,
     slots: [[u64; 256]; 4],
 }
 
@@ -96,7 +103,7 @@ impl Maker {
             ranging_backoff: (0, 0),
             data_backoff: (random.below(16) as u8, random.below(16) as u8),
         };
-        let ucd = self.outputs.iter().find_map(|output| match output {
+        let ucd = self.maps.iter().find_map(|map| match map {
             Output::Map { ch: of, bytes, .. } if *of == ch => bytes.get(1).copied(),
             _ => None,
         });
@@ -115,20 +122,36 @@ impl Maker {
         }
     }
 
+    /// The machine's next output.
+    fn next_output(&mut self) -> Output {
+        let (_, output) = self.commands.next_one();
+        let (list, most) = match output {
+            Output::Map { .. } => (&mut self.maps, KEPT),
+            Output::ChannelSet { .. } | Output::Assigned { .. } => (&mut self.told, MOST_TOLD),
+            Output::Nothing | Output::Refused(_) => return output,
+        };
+        list.push_back(output.clone());
+        if list.len() > most {
+            list.pop_front();
+        }
+        output
+    }
+
     fn made_output(&mut self) -> Output {
-        if self.random.percent(10) {
-            return self.made_map();
+        match self.random.below(20) {
+            0 | 1 => return self.made_map(),
+            2..=6 => return self.next_output(),
+            _ => {}
         }
-        if self.random.percent(60) || self.outputs.is_empty() {
-            let (_, output) = self.commands.next_one();
-            self.outputs.push_back(output);
-            if self.outputs.len() > KEPT {
-                self.outputs.pop_front();
-            }
+        let list = match self.random.percent(30) {
+            true => &self.told,
+            false => &self.maps,
+        };
+        if list.is_empty() {
+            return self.next_output();
         }
-        let behind = self.random.below(self.outputs.len() as u64).min(5);
-        let at = self.outputs.len() - 1 - behind as usize;
-        let mut output = self.outputs[at].clone();
+        let at = self.random.below(list.len() as u64) as usize;
+        let mut output = list[at].clone();
         if let Output::Map { bytes, .. } = &mut output {
             if self.random.percent(3) {
                 let at = self.random.below(bytes.len() as u64) as usize;
@@ -144,16 +167,27 @@ impl Maker {
         let near = match &output {
             Output::Map { ch, start, .. } => {
                 let slot = &mut self.slots[usize::from(modem)][usize::from(*ch)];
-                *slot = start.saturating_sub(self.random.below(30)).max(*slot);
-                match self.random.below(50) {
+                let early = start.saturating_sub(self.random.below(30));
+                match self.random.below(20_000) {
                     0 => self.random.number() >> 1,
                     1 => start + self.random.below(1 << 33),
-                    _ => *slot,
+                    2..=6000 => {
+                        *slot = early.max(*slot);
+                        *slot
+                    }
+                    _ => early.min(*slot),
                 }
             }
             _ => 0,
         };
         hear_record(modem, &output, near)
+    }
+
+    /// A modem that begins anew hears of a channel's setting and of SIDs in the next records.
+    fn made_anew(&mut self) -> Vec<u8> {
+        let modem = self.random.below(4) as u8;
+        self.slots[usize::from(modem)] = [0; 256];
+        vec![3, modem]
     }
 
     fn made_tick(&mut self) -> Vec<u8> {
@@ -173,15 +207,23 @@ impl Maker {
     fn made_want(&mut self) -> Vec<u8> {
         let modem = self.random.below(4) as u8;
         let ch = self.random.below(4) as u8;
-        let sid = self.random.below(60) as u16;
         let n = self.random.below(258) as u16;
-        want_record(modem, ch, sid, n)
+        let at = self.random.below(MOST_TOLD as u64) as usize;
+        match self.told.get(at) {
+            Some(Output::Assigned { modem, ch, sid, .. }) if *modem < 4 => {
+                want_record(*modem as u8, *ch, *sid, n)
+            }
+            _ => want_record(modem, ch, self.random.below(60) as u16, n),
+        }
     }
 
     fn next_one(&mut self) -> Vec<u8> {
-        match self.random.below(10) {
-            0..=2 => self.made_hear(),
-            3..=7 => self.made_tick(),
+        if self.random.below(LIFE) == 0 {
+            return self.made_anew();
+        }
+        match self.random.below(20) {
+            0..=6 => self.made_hear(),
+            7..=17 => self.made_tick(),
             _ => self.made_want(),
         }
     }
@@ -191,7 +233,8 @@ pub fn made(seed: u64, count: usize) -> Vec<u8> {
     let mut maker = Maker {
         commands: CommandMaker::new(seed),
         random: Random::new(seed ^ 0x5555),
-        outputs: VecDeque::new(),
+        told: VecDeque::new(),
+        maps: VecDeque::new(),
         slots: [[0; 256]; 4],
     };
     let mut file = Vec::new();
