@@ -107,6 +107,8 @@ pub struct Table {
     poll_flows: usize,
     // By priority, the greater first, and then by arrival.
     waiting: Vec<Waiting>,
+    // No lease of one that waits ends before this minislot.
+    waiting_until: u64,
 }
 
 pub fn is_good_channel(channel: &Channel) -> bool {
@@ -240,6 +242,7 @@ impl Table {
             polls: Vec::new(),
             poll_flows: 0,
             waiting: Vec::new(),
+            waiting_until: LAST_TIME,
         }
     }
 
@@ -406,6 +409,7 @@ impl Table {
             n,
             priority,
         };
+        self.waiting_until = self.waiting_until.min(waiting.last);
         let mut at = self.waiting.len();
         while at > 0 && self.waiting[at - 1].priority < priority {
             at -= 1;
@@ -471,30 +475,50 @@ impl Table {
 
     /// Grants requests by rank. Left are those that still wait and whose leases go on to the MAP's end.
     fn serve_waiting(&mut self, filling: &mut Filling) {
-        let start = filling.start();
-        let end = filling.end();
         // No run of so many minislots is free any more.
         let mut spent = u16::MAX;
+        let mut seen = 0;
         let mut kept = 0;
-        for at in 0..self.waiting.len() {
-            let w = self.waiting[at];
-            if w.n < spent && !filling.is_full() {
-                let hi = end.saturating_sub(u64::from(w.n));
-                if let Some(fit) = filling.first_fit(w.n, start, hi, w.last) {
-                    filling.place(fit, w.n, w.element);
-                    self.rows[usize::from(w.sid()) - 1].waits = false;
-                    continue;
-                }
-                if w.last >= end {
-                    spent = w.n;
-                }
+        while seen < self.waiting.len() && !filling.is_full() {
+            let waiting = self.waiting[seen];
+            seen += 1;
+            if waiting.n < spent && self.is_granted(filling, waiting, &mut spent) {
+                continue;
             }
-            if w.last >= end {
-                self.waiting[kept] = w;
-                kept += 1;
+            if kept + 1 < seen {
+                self.waiting[kept] = waiting;
+            }
+            kept += 1;
+        }
+        if kept < seen {
+            self.waiting.drain(kept..seen);
+        }
+        let end = filling.end();
+        if self.waiting_until < end {
+            self.waiting.retain(|w| w.last >= end);
+            let lasts = self.waiting.iter().map(|w| w.last);
+            self.waiting_until = lasts.min().unwrap_or(LAST_TIME);
+        }
+    }
+
+    /// Places a request where it fits.
+    fn is_granted(&mut self, filling: &mut Filling, waiting: Waiting, spent: &mut u16) -> bool {
+        let n = waiting.n;
+        let end = filling.end();
+        let hi = end.saturating_sub(u64::from(n));
+        match filling.first_fit(n, filling.start(), hi, waiting.last) {
+            Some(fit) => {
+                filling.place(fit, n, waiting.element);
+                self.rows[usize::from(waiting.sid()) - 1].waits = false;
+                true
+            }
+            None => {
+                if waiting.last >= end {
+                    *spent = n;
+                }
+                false
             }
         }
-        self.waiting.truncate(kept);
     }
 
     /// The MAPs reach to an end: the flows go whose leases end before, and their SIDs are free.
