@@ -34,13 +34,11 @@ fn cpu_nanos() -> u64 {
     time.seconds as u64 * 1_000_000_000 + time.nanos as u64
 }
 
-/// How a shape is run.
+/// How a shape is run: in so many rounds, each with its timed calls so many times over.
 #[derive(Clone, Copy)]
-pub struct Plan {
-    pub rounds: u32,
-    pub repeats: u32,
-    /// The timed calls are made, too.
-    pub is_whole: bool,
+struct Plan {
+    rounds: u32,
+    repeats: u32,
 }
 
 /// Runs rounds: each makes what is there before, and then the timed calls over it. The nanoseconds of these.
@@ -48,13 +46,11 @@ fn time_rounds<S>(plan: Plan, make: impl Fn() -> S, calls: impl Fn(&mut S)) -> u
     let mut nanos = 0;
     for _ in 0..plan.rounds {
         let mut made = make();
-        if plan.is_whole {
-            let start = cpu_nanos();
-            for _ in 0..plan.repeats {
-                calls(&mut made);
-            }
-            nanos += cpu_nanos() - start;
+        let start = cpu_nanos();
+        for _ in 0..plan.repeats {
+            calls(&mut made);
         }
+        nanos += cpu_nanos() - start;
         black_box(&mut made);
     }
     nanos
@@ -172,21 +168,19 @@ fn time_node(plan: Plan, before: &[&[u8]], timed: &[&[u8]]) -> Option<u64> {
     Some(time_rounds(plan, make, |node| act_all(node, &timed)))
 }
 
-/// Runs a shape's file, in at most so many rounds. How many calls were timed, and their nanoseconds.
+/// Runs a shape's file, in at most so many rounds. How many calls were timed, and their nanoseconds; of what isn't
+/// whole the timed calls are left out.
 pub fn time(file: &[u8], most_rounds: u32, is_whole: bool) -> Option<(u64, u64)> {
     let mut records = records(file);
     let mut first = Fields::new(records.next()?);
     let kind = first.u8()?;
     let rounds = first.u32()?.min(most_rounds);
     let repeats = first.u32()?;
+    let repeats = if is_whole { repeats } else { 0 };
     let before_count = first.u32()? as usize;
     let all: Vec<&[u8]> = records.collect();
     let (before, timed) = all.split_at_checked(before_count)?;
-    let plan = Plan {
-        rounds,
-        repeats,
-        is_whole,
-    };
+    let plan = Plan { rounds, repeats };
     let nanos = match kind {
         ENCODE | DECODE => time_codec(plan, kind, timed)?,
         APPLY => time_apply(plan, before, timed),
