@@ -1,13 +1,16 @@
 #!/usr/bin/env bash
-# Compares the codec, the scheduler, the modem and the node with the same in plain Rust, written for speed (bench/plain).
+# Compares the codec, the scheduler, the modem and the node with the same in plain Rust, written for speed
+# (bench/plain).
 #
-# First what both answer, byte for byte, to 100,000 made commands, and to as many bodies (valid and damaged ones), events of
-# four modems and events of three or five nodes. Then what a call costs, in nanoseconds of processor time (by turns, medians
-# of nine runs) and, where valgrind is there, in instructions: for each kind of work plain Rust's, upsched's and the ratio.
+# First what both answer, byte for byte, to 100,000 made commands, and to as many bodies (valid and damaged
+# ones), events of four modems and events of three or five nodes. Then what a call costs, in nanoseconds of
+# processor time (by turns, medians of nine runs) and, where valgrind is there, in instructions: for each kind
+# of work plain Rust's, upsched's and the ratio.
 #
-# What is built of upsched is proved first, in a temporary workspace, which takes several minutes; plain Rust is built by cargo.
-# With `quick` there are 10,000 inputs of each kind, three runs of one round, and no instructions. With `unproved` upsched's
-# side is built without proof, by `rt try`, which compares 1,000 inputs of each kind and times nothing.
+# What is built of upsched is proved first, in a temporary workspace, which takes several minutes; plain Rust is
+# built by cargo. With `quick` there are 10,000 inputs of each kind, three runs of one round, and no
+# instructions. With `unproved` upsched's side is built without proof, by `rt try`, which compares 1,000 inputs
+# of each kind and times nothing.
 #
 # Usage: bench/plain.sh [quick|unproved]
 set -euo pipefail
@@ -24,6 +27,7 @@ CARGO_TARGET_DIR=$made/target cargo test --quiet --release --manifest-path "$roo
 plain=$made/target/release/plain
 workspace_over plain_side node acceptor ballots command_log grant_machine flow_state map_body minislot_time modem \
     byteorder hex anyhow
+cp "$root/bench/plain_side/timing.rt.in" "$workspace/src/timing.rt"
 side=$workspace/out/plain_side_bench
 
 # answers KIND FILE: what upsched answers to a file of inputs.
