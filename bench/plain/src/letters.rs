@@ -154,6 +154,15 @@ fn put_numbers(out: &mut Vec<u8>, kind: u8, numbers: &[u64]) {
     }
 }
 
+fn put_votes(out: &mut Vec<u8>, votes: &Votes) {
+    for vote in votes.iter() {
+        out.extend(vote.place.to_be_bytes());
+        out.extend(vote.ballot.to_be_bytes());
+        out.push(vote.value.len() as u8);
+        out.extend_from_slice(vote.value);
+    }
+}
+
 /// The bytes of a letter: sender, addressee, kind, and its fields in order, of a vote its value with its length.
 pub fn letter_bytes(letter: &Letter) -> Vec<u8> {
     let mut out = vec![letter.from, letter.to];
@@ -165,12 +174,7 @@ pub fn letter_bytes(letter: &Letter) -> Vec<u8> {
             votes,
         } => {
             put_numbers(&mut out, 1, &[*ballot, *place]);
-            for vote in votes.iter() {
-                out.extend(vote.place.to_be_bytes());
-                out.extend(vote.ballot.to_be_bytes());
-                out.push(vote.value.len() as u8);
-                out.extend_from_slice(vote.value);
-            }
+            put_votes(&mut out, votes);
         }
         Note::Accept {
             ballot,

@@ -245,61 +245,64 @@ fn request_shapes() -> Vec<Shape> {
     ]
 }
 
+fn cuts_on_all(len: u16) -> Vec<Command> {
+    (0..255).map(|ch| cut(ch, len)).collect()
+}
+
 fn cut_shapes() -> Vec<Shape> {
-    let all = |len: u16| -> Vec<Command> { (0..255).map(|ch| cut(ch, len)).collect() };
+    let one = [cut(1, 100)];
+    let all = cuts_on_all(100);
     let asked = on_all(|ch| {
         let mut commands = few(ch);
         commands.extend((2..=21).map(|sid| request(ch, sid, 3, 990)));
         commands
     });
+    let mut timed = vec![channel(1)];
+    timed.extend((0..8191).map(|tag| ugs(1, tag, 4, 1_000_000, 1000 + 122 * u64::from(tag))));
+    let few_on_all = on_all(few);
+    vec![
+        apply("cut, few there", 2, 3000, &few(1), &one),
+        apply("cut, few on each of 255 channels", 2, 20, &few_on_all, &all),
+        apply(
+            "cut, 20 requests granted, 255 channels",
+            10,
+            1,
+            &asked,
+            &all,
+        ),
+        apply("cut, 8,191 there", 2, 1000, &many(1, 8191), &one),
+        apply("cut, 8,191 with due times", 2, 500, &timed, &one),
+    ]
+}
+
+fn crowded_shapes() -> Vec<Shape> {
     let granted = on_all(|ch| {
         let mut commands = crowded(ch);
         commands.truncate(119);
         commands.extend((1..=118).map(|sid| request(ch, sid, 3, 990)));
         commands
     });
-    let mut timed = vec![channel(1)];
-    timed.extend((0..8191).map(|tag| ugs(1, tag, 4, 1_000_000, 1000 + 122 * u64::from(tag))));
+    let granting = cuts_on_all(200);
+    let full_on_all = on_all(full);
+    let filling = cuts_on_all(240);
+    let (one, longer) = ([cut(1, 100)], [cut(1, 240)]);
     vec![
-        apply("cut, few there", 2, 3000, &few(1), &[cut(1, 100)]),
+        apply("cut, 118 wait", 2, 1000, &crowded(1), &one),
         apply(
-            "cut, few on each of 255 channels",
-            2,
-            20,
-            &on_all(few),
-            &all(100),
-        ),
-        apply(
-            "cut, 20 requests granted on each of 255 channels",
-            10,
-            1,
-            &asked,
-            &all(100),
-        ),
-        apply(
-            "cut, 60 of 118 granted on each of 255 channels",
+            "cut, 60 of 118 granted, 255 channels",
             5,
             1,
             &granted,
-            &all(200),
+            &granting,
         ),
-        apply("cut, 8,191 there", 2, 1000, &many(1, 8191), &[cut(1, 100)]),
-        apply("cut, 8,191 with due times", 2, 500, &timed, &[cut(1, 100)]),
-        apply("cut, 118 wait", 2, 1000, &crowded(1), &[cut(1, 100)]),
         apply(
             "cut, 60 placements and 118 wait",
             2,
             1000,
             &full(1),
-            &[cut(1, 240)],
+            &longer,
         ),
-        apply(
-            "cut, the same on each of 255 channels",
-            2,
-            4,
-            &on_all(full),
-            &all(240),
-        ),
+        apply("cut, the same, 255 channels", 2, 4, &full_on_all, &filling),
     ]
 }
 
@@ -516,71 +519,93 @@ fn leading(place: u64) -> Vec<Vec<u8>> {
     vec![lead_record(1), promise(0, 9, place), promise(2, 9, place)]
 }
 
-fn node_shapes(behind: u64, rounds: u32) -> Vec<Shape> {
-    let mut before = Vec::new();
-    for place in 1..=behind {
-        before.push(accept_at(place));
-        before.push(known_at(place));
+/// Node 1 after it has voted at so many places and learned them.
+struct Behind {
+    places: u64,
+    rounds: u32,
+    before: Vec<Vec<u8>>,
+}
+
+impl Behind {
+    fn new(places: u64, rounds: u32) -> Behind {
+        let before = (1..=places).flat_map(|place| [accept_at(place), known_at(place)]);
+        Behind {
+            places,
+            rounds,
+            before: before.collect(),
+        }
     }
-    let next = behind + 1;
-    let shape = |name: &str, further: Vec<Vec<u8>>, timed: Vec<Vec<u8>>| Shape {
-        name: format!("{name}, {behind} places behind"),
-        kind: NODE,
-        rounds,
-        repeats: 1,
-        before: before.iter().cloned().chain(further).collect(),
-        timed,
-    };
-    let calls = next..next + 1000;
-    let leads = (0..300).flat_map(|k| {
-        let ballot = 9 + 8 * k;
-        [
-            lead_record(1),
-            promise(0, ballot, next),
-            promise(2, ballot, next),
+
+    fn shape(&self, name: &str, further: Vec<Vec<u8>>, timed: Vec<Vec<u8>>) -> Shape {
+        Shape {
+            name: format!("{name}, {} places behind", self.places),
+            kind: NODE,
+            rounds: self.rounds,
+            repeats: 1,
+            before: self.before.iter().cloned().chain(further).collect(),
+            timed,
+        }
+    }
+
+    /// The next thousand places.
+    fn next(&self) -> std::ops::Range<u64> {
+        self.places + 1..self.places + 1001
+    }
+
+    fn acceptor_shapes(&self) -> Vec<Shape> {
+        let first = self.places + 1;
+        let prepares = (2..500).map(|k| prepare(8 * k, first)).collect();
+        let early = (2..12).map(|k| prepare(8 * k, 1)).collect();
+        let accepts: Vec<Vec<u8>> = self.next().map(accept_at).collect();
+        vec![
+            self.shape("prepare", vec![], prepares),
+            self.shape("prepare from place 1", vec![], early),
+            self.shape("accept", vec![], accepts.clone()),
+            self.shape("accept again", accepts.clone(), accepts),
         ]
-    });
-    let votes = calls
-        .clone()
-        .flat_map(|place| [voted_at(0, place), voted_at(1, place)]);
-    let offers = calls.clone().map(|place| offer_record(1, &value_at(place)));
-    let higher = |k: u64| letter(0, Note::Higher { ballot: 16 + 8 * k });
-    let learned = |places: std::ops::Range<u64>| places.map(known_at).collect::<Vec<_>>();
-    let mut released = vec![release_record(1, 0)];
-    released.extend(learned(calls.clone()));
-    vec![
-        shape(
-            "prepare",
-            vec![],
-            (2..500).map(|k| prepare(8 * k, next)).collect(),
-        ),
-        shape(
-            "prepare from place 1",
-            vec![],
-            (2..12).map(|k| prepare(8 * k, 1)).collect(),
-        ),
-        shape(
-            "lead and two promises",
-            vec![accept_at(next)],
-            leads.collect(),
-        ),
-        shape("accept", vec![], calls.clone().map(accept_at).collect()),
-        shape(
-            "accept again",
-            calls.clone().map(accept_at).collect(),
-            calls.clone().map(accept_at).collect(),
-        ),
-        shape("voted", vec![], votes.collect()),
-        shape("known", vec![], calls.clone().map(known_at).collect()),
-        shape("higher", vec![], (0..1000).map(higher).collect()),
-        shape("lead", vec![], (0..500).map(|_| lead_record(1)).collect()),
-        shape("offer", leading(next), offers.collect()),
-        shape(
-            "release of 1,000 places",
-            released,
-            vec![release_record(1, 0)],
-        ),
-    ]
+    }
+
+    fn learner_shapes(&self) -> Vec<Shape> {
+        let votes = self.next().flat_map(|p| [voted_at(0, p), voted_at(1, p)]);
+        let known: Vec<Vec<u8>> = self.next().map(known_at).collect();
+        let mut learned = vec![release_record(1, 0)];
+        learned.extend_from_slice(&known);
+        let release = vec![release_record(1, 0)];
+        vec![
+            self.shape("voted", vec![], votes.collect()),
+            self.shape("known", vec![], known),
+            self.shape("release of 1,000 places", learned, release),
+        ]
+    }
+
+    fn proposer_shapes(&self) -> Vec<Shape> {
+        let first = self.places + 1;
+        let led = (0..300).flat_map(|k| {
+            let ballot = 9 + 8 * k;
+            let promised = |from| promise(from, ballot, first);
+            [lead_record(1), promised(0), promised(2)]
+        });
+        let leads = (0..500).map(|_| lead_record(1));
+        let offers = self.next().map(|p| offer_record(1, &value_at(p)));
+        let higher = (2..1002).map(|k| letter(0, Note::Higher { ballot: 8 * k }));
+        vec![
+            self.shape("lead", vec![], leads.collect()),
+            self.shape(
+                "lead and two promises",
+                vec![accept_at(first)],
+                led.collect(),
+            ),
+            self.shape("offer", leading(first), offers.collect()),
+            self.shape("higher", vec![], higher.collect()),
+        ]
+    }
+
+    fn shapes(&self) -> Vec<Shape> {
+        let mut shapes = self.acceptor_shapes();
+        shapes.extend(self.learner_shapes());
+        shapes.extend(self.proposer_shapes());
+        shapes
+    }
 }
 
 /// All kinds of work.
@@ -589,10 +614,11 @@ pub fn shapes() -> Vec<Shape> {
     shapes.extend(flow_shapes());
     shapes.extend(request_shapes());
     shapes.extend(cut_shapes());
+    shapes.extend(crowded_shapes());
     shapes.extend(hear_shapes());
     shapes.extend(tick_shapes());
     shapes.extend(want_shapes());
-    shapes.extend(node_shapes(10, 5));
-    shapes.extend(node_shapes(100_000, 1));
+    shapes.extend(Behind::new(10, 5).shapes());
+    shapes.extend(Behind::new(100_000, 1).shapes());
     shapes
 }
