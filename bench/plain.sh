@@ -22,8 +22,9 @@ count=25000 runs=9 rounds=1000
 [ "$mode" != quick ] || count=2500 runs=3 rounds=1
 [ "$mode" != unproved ] || count=250
 
-CARGO_TARGET_DIR=$made/target cargo build --quiet --release --manifest-path "$root/bench/plain/Cargo.toml"
-CARGO_TARGET_DIR=$made/target cargo test --quiet --release --manifest-path "$root/bench/plain/Cargo.toml" >"$made/tests"
+export CARGO_TARGET_DIR=$made/target
+cargo build --quiet --release --manifest-path "$root/bench/plain/Cargo.toml"
+cargo test --quiet --release --manifest-path "$root/bench/plain/Cargo.toml" >"$made/tests"
 plain=$made/target/release/plain
 workspace_over plain_side node acceptor ballots command_log grant_machine flow_state map_body minislot_time modem \
     byteorder hex anyhow
