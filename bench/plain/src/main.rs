@@ -1,0 +1,63 @@
+//! Makes inputs, plays them, and times calls.
+
+use plain::made::{commands, made};
+use plain::replay::replay;
+use plain::shapes::shapes;
+use plain::timing::time;
+use std::io::{Read, Write};
+use std::process::ExitCode;
+use std::{fs, io};
+
+const WORDS: &str = "plain made KIND SEED COUNT >FILE      inputs: commands, bodies, modems or nodes
+plain plan <FILE >PLAN               a file of commands as a plan
+plain replay KIND <FILE >ANSWERS
+plain shapes FOLDER                  a file for each kind of work that is timed; their names by lines
+plain time ROUNDS <SHAPE             how many calls were made, in at most so many rounds, and their nanoseconds
+plain before ROUNDS <SHAPE           the same without these calls
+";
+
+fn given() -> io::Result<Vec<u8>> {
+    let mut file = Vec::new();
+    io::stdin().lock().read_to_end(&mut file)?;
+    Ok(file)
+}
+
+fn write_shapes(folder: &str) -> io::Result<String> {
+    let mut names = String::new();
+    for (number, shape) in shapes().iter().enumerate() {
+        fs::write(format!("{folder}/{number}"), shape.file())?;
+        names.push_str(&format!("{number} {}\n", shape.name));
+    }
+    Ok(names)
+}
+
+fn timed(rounds: &str, is_whole: bool) -> Option<String> {
+    let (calls, nanos) = time(&given().ok()?, rounds.parse().ok()?, is_whole)?;
+    Some(format!("{calls} {nanos}\n"))
+}
+
+/// What the words ask for, or none where they aren't understood or what is given isn't.
+fn answer(words: &[&str]) -> Option<Vec<u8>> {
+    match words {
+        ["made", kind, seed, count] => made(kind, seed.parse().ok()?, count.parse().ok()?),
+        ["plan"] => Some(commands::plan(&given().ok()?).into_bytes()),
+        ["replay", kind] => Some(replay(kind, &given().ok()?)?.into_bytes()),
+        ["shapes", folder] => Some(write_shapes(folder).ok()?.into_bytes()),
+        ["time", rounds] => Some(timed(rounds, true)?.into_bytes()),
+        ["before", rounds] => Some(timed(rounds, false)?.into_bytes()),
+        _ => None,
+    }
+}
+
+fn main() -> ExitCode {
+    let words: Vec<String> = std::env::args().skip(1).collect();
+    let words: Vec<&str> = words.iter().map(String::as_str).collect();
+    match answer(&words) {
+        Some(bytes) if io::stdout().write_all(&bytes).is_ok() => ExitCode::SUCCESS,
+        Some(_) => ExitCode::from(1),
+        None => {
+            eprint!("{WORDS}");
+            ExitCode::from(2)
+        }
+    }
+}
