@@ -15,7 +15,8 @@ fn fails(alloc: Global, records: &mut FaultyRecords) -> Result<bool, Fail> {
     Ok(accept(records, ballot, place, value).is_err())
 }
 
-/// How many calls came on the records until the vote was told, after its write, their third call, failed and they were opened again.
+/// How many calls came on the records until the vote was told, after its write, their third call, failed and they
+/// were opened again.
 fn calls_until_told(alloc: Global, failure: Failure) -> Result<u64, Fail> {
     let trouble = Trouble {
         failure,

@@ -15,18 +15,20 @@ const LEADS: &str =
     "{kind = 'lead', node = 0}, {kind = 'deliver', letter = 0}, {kind = 'deliver', letter = 1},";
 
 const OFFERS: &str = "{kind = 'deliver', letter = 3}, {kind = 'deliver', letter = 4},
-{kind = 'offer', node = 0, command = {kind = 'channel', ch = 1, ucd = 7, short_max = 16, ranging = [2, 5], data = [3, 8], base = 1000}},
+{kind = 'offer', node = 0, value = '01010700100205030800000000000003e8'},
 {kind = 'deliver', letter = 5},";
 
 // Node 1 votes too.
 const VOTES: &str = "{kind = 'deliver', letter = 6},";
 
 // Nodes 0 and 1 learn it, and then a MAP, and release both.
-const LEARN: &str =
-    "{kind = 'deliver', letter = 8}, {kind = 'deliver', letter = 11}, {kind = 'deliver', letter = 9}, {kind = 'deliver', letter = 12},
+const LEARN: &str = "{kind = 'deliver', letter = 8}, {kind = 'deliver', letter = 11},
+{kind = 'deliver', letter = 9}, {kind = 'deliver', letter = 12},
 {kind = 'offer', node = 0, command = {kind = 'cut', ch = 1, len = 1, not_before = 0, ack = 0}},
-{kind = 'deliver', letter = 14}, {kind = 'deliver', letter = 15}, {kind = 'deliver', letter = 17}, {kind = 'deliver', letter = 20},
-{kind = 'deliver', letter = 18}, {kind = 'deliver', letter = 21}, {kind = 'release', node = 0, now = 0}, {kind = 'release', node = 1, now = 0},";
+{kind = 'deliver', letter = 14}, {kind = 'deliver', letter = 15},
+{kind = 'deliver', letter = 17}, {kind = 'deliver', letter = 20},
+{kind = 'deliver', letter = 18}, {kind = 'deliver', letter = 21},
+{kind = 'release', node = 0, now = 0}, {kind = 'release', node = 1, now = 0},";
 
 /// What the world answers to these parts.
 const LED: [Answer; 3] = [Answer::Sent(3), Answer::Sent(1), Answer::Sent(1)];
@@ -120,7 +122,8 @@ const FIRST_LEARNED: u64 = 7;
 
 /// Node 1's vote is refused.
 const REFUSED_VOTE: Between<'static> = Between {
-    events: "{kind = 'deliver', letter = 6}, {kind = 'deliver', letter = 6}, {kind = 'restart', node = 1}, {kind = 'deliver', letter = 6},",
+    events: "{kind = 'deliver', letter = 6}, {kind = 'deliver', letter = 6}, {kind = 'restart', node = 1},
+{kind = 'deliver', letter = 6},",
     answers: &[
         Answer::Fault(NodeFault::StoreRefused),
         Answer::Refused(Refusal::NodeDown),
@@ -164,9 +167,11 @@ const BREAKS: Between<'static> = Between {
 };
 
 const LEARNS: &str =
-    "{kind = 'deliver', letter = 6}, {kind = 'deliver', letter = 9}, {kind = 'deliver', letter = 12}, {kind = 'restart', node = 1},";
+    "{kind = 'deliver', letter = 6}, {kind = 'deliver', letter = 9}, {kind = 'deliver', letter = 12},
+{kind = 'restart', node = 1},";
 
-/// The write of node 1's first learned row fails, and the node restarts: it has learned the value or hears of the votes again.
+/// The write of node 1's first learned row fails, and the node restarts: it has learned the value or hears of the
+/// votes again.
 const REFUSED_ROW: Between<'static> = Between {
     events: LEARNS,
     answers: &[

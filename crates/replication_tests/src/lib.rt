@@ -1,6 +1,6 @@
-//! Tests of ballots, of records that keep what is written and records that fail, of counted votes and of nodes, by the public calls of
-//! `ballots`, `acceptor`, `faulty_records`, `learner`, `node`, `network_script_parts` and `network_script`. What scripts print
-//! stands as data in examples/.
+//! Tests of ballots, of records that keep what is written and records that fail, of counted votes and of nodes, by
+//! the public calls of `ballots`, `acceptor`, `faulty_records`, `learner`, `node`, `network_script_parts` and
+//! `network_script`. What scripts print stands as data in examples/.
 #![tactic(auto)]
 
 #[cfg(test)]

@@ -308,8 +308,8 @@ fn channel(base: u64) -> Command {
     })
 }
 
-/// Whether a step gives these elements by the machine, in a MAP that ends at this time where there are any. A step that the machine
-/// refuses isn't compared.
+/// Whether a step gives these elements by the machine, in a MAP that ends at this time where there are any. A step
+/// that the machine refuses isn't compared.
 fn is_alike(output: &Output, end: u64, told: &[u8]) -> bool {
     match output {
         Output::Map {
@@ -325,8 +325,8 @@ fn is_alike(output: &Output, end: u64, told: &[u8]) -> bool {
     }
 }
 
-/// How many steps of a channel whose first MAP begins at a time are alike by the machine and by the first body, up to the first that
-/// isn't, and how many the machine refuses.
+/// How many steps of a channel whose first MAP begins at a time are alike by the machine and by the first body, up
+/// to the first that isn't, and how many the machine refuses.
 fn alike(alloc: Global, base: u64, steps: &[Step]) -> Result<(usize, usize), AllocError> {
     let mut machine = Machine::new(alloc);
     let mut plain = Plain {

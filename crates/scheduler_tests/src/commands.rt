@@ -92,8 +92,8 @@ fn commands_to_bytes_and_back(rt: HostRuntime) -> Result<(), Fail> {
     Ok(())
 }
 
-/// No bytes, a noop and one more, a channel without its last byte, with one more, and with another first one; and a flow whose lease
-/// ends at the last time of all, which isn't written.
+/// No bytes, a noop and one more, a channel without its last byte, with one more, and with another first one; and a
+/// flow whose lease ends at the last time of all, which isn't written.
 const NO_COMMANDS: [&[u8]; 6] = [
     &[],
     &[0, 0],

@@ -1,4 +1,5 @@
-//! What a modem answers where no script shows it: to outputs that aren't for it or can't be read, and as its leases begin and end.
+//! What a modem answers where no script shows it: to outputs that aren't for it or can't be read, and as its leases
+//! begin and end.
 
 use grant_machine::{MapBytes, Output};
 use minislot_time::Slot;
