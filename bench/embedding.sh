@@ -1,16 +1,21 @@
 #!/usr/bin/env bash
-# Runs the program that docs/embedding.md shows in parts (bench/embedding/main.rt.in), and compares what it prints with
-# bench/embedding/stdout. It ends with status 1 where they differ.
+# Runs the two programs of docs/embedding.md, bench/embedding and bench/simulator, and compares what each prints with
+# the file `stdout` beside it. The status is 1 where they differ.
 # What it builds is proved first, in a temporary workspace; with `unproved` it is built without proof, by `rt try`.
 #
 # Usage: bench/embedding.sh [unproved]
 set -euo pipefail
 . "$(dirname -- "${BASH_SOURCE[0]}")/common.sh"
-crates=(node acceptor ballots command_log modem grant_machine flow_state map_body minislot_time anyhow)
+how=run_over
+[ "${1-}" != unproved ] || how=try_over
 arguments=()
-if [ "${1-}" = unproved ]; then
-    try_over embedding "${crates[@]}" >"$made/stdout"
-else
-    run_over embedding "${crates[@]}" >"$made/stdout"
-fi
-diff "$root/bench/embedding/stdout" "$made/stdout" && echo "the embedding prints what it should"
+
+# compare NAME DEP..: runs bench/NAME over these crates and libraries, and compares what it prints.
+compare() {
+    rm -rf "$made"/crates*
+    "$how" "$@" >"$made/stdout"
+    diff "$root/bench/$1/stdout" "$made/stdout" && echo "bench/$1 prints what it should"
+}
+
+compare embedding node acceptor ballots command_log modem grant_machine flow_state map_body minislot_time anyhow
+compare simulator modem grant_machine flow_state minislot_time anyhow

@@ -2,8 +2,9 @@ pub mod Keyed
 pub mod Freed
 pub mod Soundness
 pub mod DueTimes
+pub mod DueBounds
+pub mod Noted
 pub mod Places
-pub mod Timed
 pub mod Stored
 pub mod Requests
 pub mod Adding

@@ -31,7 +31,7 @@ rise_filter p (f ∷ fs) low high r =
       | false ↦ rise_below low f.sid (sids (filter p fs)) high (omega arith) (rise_filter p fs f.sid high r.2)
     ]
 
-rise_higher : (xs : List ℕ) (low high more : ℕ) → high ≤ more → Rise low xs high → Rise low xs more
+pub rise_higher : (xs : List ℕ) (low high more : ℕ) → high ≤ more → Rise low xs high → Rise low xs more
 rise_higher [] low high more le r = tt
 rise_higher (x ∷ xs) low high more le r = (r.0, omega (arith, r.1), rise_higher xs x high more le r.2)
 

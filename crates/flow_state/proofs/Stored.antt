@@ -15,13 +15,12 @@ use Rattle.flow_state.specs.Limits.{is_good_kind, due_time}
 use Rattle.flow_state.specs.Rows.{Table, FlowRow, Lease, is_flow, is_ended, insert_flow, lent_flow}
 use Rattle.flow_state.specs.Changes.{new_flow}
 use Rattle.flow_state.specs.Sound.{Rise, IsSound}
-use Rattle.flow_state.specs.StoredTable.{IsStoredFlow, IsStored, EndFrom, is_ended_in}
+use Rattle.flow_state.specs.StoredTable.{IsStoredFlow, IsStored, EndFrom, AreNoted, is_ended_in}
 use Rattle.flow_state.specs.View.{flow_view, table_view}
 use Rattle.flow_state.proofs.Keyed.{AreKeyed, All-set_value, seen_found, seen_written, seen_absent, seen_removed}
 use Rattle.flow_state.proofs.Soundness.{sids, AreGood, all_filter}
 use Rattle.flow_state.proofs.DueTimes.{due_named, first_index}
 use Rattle.flow_state.proofs.Members.{Has}
-use Rattle.flow_state.proofs.Timed.{timed_sids}
 
 abbrev pub Flows : Type 0
 Flows = List (ℕ × Flow)
@@ -33,8 +32,8 @@ abbrev pub rows : Flows → List FlowRow
 rows es = map (λ e. flow_view e.1) es
 
 -- a stored table by the table that it means
-pub stored_as : (b : Inside) (t : Table) → AreStored b.flows.entries → IsUnique nat_eq b.flows → b.timed.items ≡ timed_sids t.flows → table_view b ≡ t → IsSound t → EndFrom b.first_end b.flows.entries → IsStored b
-stored_as b t flows unique timed is sound ends = record { flows = flows; unique = unique; sound = subst IsSound (sym is) sound; ends = ends; timed_are = timed ∙ ap (λ (u : Table). timed_sids u.flows) (sym is) }
+pub stored_as : (b : Inside) (t : Table) → AreStored b.flows.entries → IsUnique nat_eq b.flows → AreNoted b.dues b.flows.entries → table_view b ≡ t → IsSound t → EndFrom b.first_end b.flows.entries → IsStored b
+stored_as b t flows unique noted is sound ends = record { flows = flows; unique = unique; sound = subst IsSound (sym is) sound; ends = ends; noted = noted }
 
 pub with_parts : (t : Table) (fs gs : List FlowRow) (vs ws : List Waiting) → fs ≡ gs → vs ≡ ws → record t { flows = fs; waiting = vs } ≡ record t { flows = gs; waiting = ws }
 with_parts t fs gs vs ws f w = cc

@@ -6,5 +6,6 @@ pub mod View
 pub mod Sound
 pub mod StoredTable
 pub mod StoredLeases
+pub mod StoredDues
 pub mod Entries
 pub mod Kept

@@ -52,9 +52,13 @@ is_flow sid f = f.sid == sid
 abbrev pub flow_of : Table → ℕ → Option FlowRow
 flow_of t sid = find (is_flow sid) t.flows
 
--- the flows for which something comes by itself
-abbrev pub timed : List FlowRow → List FlowRow
-timed fs = filter (λ f. is_timed f.kind) fs
+-- something comes by itself for the flow, next before a time
+abbrev pub is_due : ℕ → FlowRow → Bool
+is_due end f = is_timed f.kind && nat_lt (due_time f.kind f.index) end
+
+-- the flows for which it does
+abbrev pub due_flows : ℕ → List FlowRow → List FlowRow
+due_flows end fs = filter (is_due end) fs
 
 -- the table with the flow changed
 abbrev pub change_flow : Table → ℕ → (FlowRow → FlowRow) → Table
@@ -134,9 +138,6 @@ channel_at rows ch = option_map (λ t. t.row) (table_of rows ch)
 
 abbrev pub flow_at : Rows → ℕ → ℕ → Option Flow
 flow_at rows ch k = option_map lent_flow (option_and_then (λ t. slice_get t.flows k) (table_of rows ch))
-
-abbrev pub timed_at : Rows → ℕ → ℕ → Option Flow
-timed_at rows ch k = option_map lent_flow (option_and_then (λ t. slice_get (timed t.flows) k) (table_of rows ch))
 
 abbrev pub waiting_at : Rows → ℕ → ℕ → Option Waiting
 waiting_at rows ch k = option_and_then (λ t. slice_get t.waiting k) (table_of rows ch)

@@ -1,17 +1,26 @@
 -- What is always true of a stored table.
-use Rattle.std.specs.Prelude.{◌≡◌, ℕ, ◌≤◌, nat_eq, nat_lt, Bool, false, List, map, Some}
+use Rattle.std.specs.Prelude.{◌≡◌, ℕ, ◌≤◌, nat_eq, nat_lt, Bool, true, false, ◌&&◌, List, Some}
 use Rattle.std.specs.List.{AllByRecursion}
 use Rattle.std.specs.Option.{option_map_or}
 use Rattle.std.specs.Map.{lookup}
 use Rattle.indexmap.specs.IndexMap.{IsUnique}
 use Rattle.flow_state.specs.declared.flow.Flow.{Flow}
 use Rattle.flow_state.specs.declared.table.ChannelTable.TheInside.{Inside}
-use Rattle.flow_state.specs.Limits.{due_time, due_index}
-use Rattle.flow_state.specs.Rows.{timed}
+use Rattle.flow_state.specs.declared.dues.Dues.{Dues}
+use Rattle.flow_state.specs.Limits.{due_time, due_index, is_timed}
+use Rattle.flow_state.specs.StoredDues.{IsDueFrom}
 use Rattle.flow_state.specs.Sound.{IsSound}
 use Rattle.flow_state.specs.View.{table_view}
 
 -- a flow stands under its SID, and its next due time is one of its due times
+-- each timed flow is due no earlier than what is kept of its SID says
+abbrev pub AreNoted : Dues → List (ℕ × Flow) → Type 0
+AreNoted ds es = AllByRecursion (λ e. is_timed e.1.kind ≡ true → IsDueFrom ds e.0 e.1.due) es
+
+-- a stored flow for which something comes by itself, next before a time
+abbrev pub is_due_stored : ℕ → Flow → Bool
+is_due_stored end f = is_timed f.kind && nat_lt f.due end
+
 pub record IsStoredFlow (e : ℕ × Flow) : Type 0 where
   pub key : e.1.sid ≡ e.0
   pub due : e.1.due ≡ due_time e.1.kind (due_index e.1.kind e.1.due)
@@ -25,7 +34,7 @@ pub record IsStored (a : Inside) : Type 0 where
   pub unique : IsUnique nat_eq a.flows
   pub sound : IsSound (table_view a)
   pub ends : EndFrom a.first_end a.flows.entries
-  pub timed_are : a.timed.items ≡ map (λ f. f.sid) (timed (table_view a).flows)
+  pub noted : AreNoted a.dues a.flows.entries
 
 -- a stored flow whose last accepted request was sent at this time
 abbrev pub with_sent : Flow → ℕ → Flow

@@ -1,4 +1,4 @@
-ghost use Rattle.std.specs.Prelude.{◌≡◌, None};
+ghost use Rattle.std.specs.Prelude.{◌≡◌, None, IsTrue};
 ghost use Rattle.flow_state.specs.Limits.{is_size as size_fits, is_schedule as schedule_fits, is_good_kind, is_ugs, is_timed, due_time};
 ghost use Rattle.flow_state.specs.Refusals.{is_repeated, is_old, first_refusal};
 ghost use Rattle.flow_state.specs.View.{flow_view};
@@ -130,6 +130,17 @@ impl Flow {
             kind,
             due: kind.first_due(),
             last_sent: None,
+        }
+    }
+
+    /// Nothing comes by itself for it before this: the next due time, or the last time of all where it has none.
+    pub(crate) fn due_from(&self) -> u64
+        ensures { IsTrue (is_timed self.now.kind) → result ≡ self.now.due }
+    {
+        if self.kind.is_timed() {
+            self.due
+        } else {
+            u64::MAX
         }
     }
 

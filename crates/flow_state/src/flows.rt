@@ -34,7 +34,7 @@ impl Flows {
     ghost use Rattle.std.specs.Option.{option_copied, option_map};
     ghost use Rattle.flow_state.specs.Limits.{IsDueTime, is_good_kind, last_sid, most_waiting};
     ghost use Rattle.flow_state.specs.Sound.{IsSound};
-    ghost use Rattle.flow_state.specs.Rows.{FlowRow, table_of, lent_flow, channel_at, flow_at, timed_at, waiting_at};
+    ghost use Rattle.flow_state.specs.Rows.{FlowRow, table_of, lent_flow, channel_at, flow_at, waiting_at};
     ghost use Rattle.flow_state.specs.Refusals.{Refuses, set_channel_refusal, add_flow_refusal, drop_flow_refusal, request_refusal};
     ghost use Rattle.flow_state.specs.Changes.{with_channel, is_known, lease_given, with_flow, without_flow, with_request, is_waiting, without_waiting, with_waiting, waiting_of, flow_row, with_due, with_cut_closed};
 
@@ -122,14 +122,11 @@ impl Flows {
         }
     }
 
-    /// The channel's timed flow number k, by SID, from 0: those of unsolicited grants or polls alone.
-    pub fn timed_flow(&self, ch: u8, k: usize) -> Option<&Flow>
-        ensures { option_copied result ≡ timed_at self.now ch k }
+    /// The channel's table, for reading. What holds of every table holds of it.
+    pub fn table(&self, ch: u8) -> Option<&ChannelTable>
+        ensures { option_copied result ≡ table_of self.now ch }
     {
-        match self.tables.get(&ch) {
-            Some(table) => table.timed_flow(k),
-            None => None,
-        }
+        self.tables.get(&ch)
     }
 
     /// The channel's flow that has the SID.

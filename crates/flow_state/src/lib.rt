@@ -4,6 +4,7 @@
 mod at_channel;
 mod blocks;
 mod channel;
+mod dues;
 mod flow;
 mod flows;
 mod holders;
@@ -17,3 +18,4 @@ pub use flow::{Flow, FlowKind, Lease, Waiting};
 pub use flows::Flows;
 pub use limits::{LAST_SID, LAST_TIME, LONGEST_INTERVAL, MOST_MINISLOTS};
 pub use refusal::Refusal;
+pub use table::ChannelTable;

@@ -1,18 +1,20 @@
-ghost use Rattle.std.specs.Prelude.{◌≡◌, List, ◌∷◌, ◌++◌, ◌==◌, not, filter, if◌then◌else◌, vec_len, vec_capacity, is_some, slice_get, Some, None, IsOk, IsTrue, IsSome, OnErr, IfOk, OnOk, IfErr, IfSome, IfNone, nat_eq, nat_le, ◌<◌, ◌≤◌};
+ghost use Rattle.std.specs.Prelude.{◌≡◌, ℕ, List, map, length, option_to_list, ◌∷◌, ◌++◌, ◌==◌, not, filter, if◌then◌else◌, is_some, slice_get, Some, None, IsOk, IsTrue, IsSome, OnErr, IfOk, OnOk, IfErr, IfSome, IfNone, nat_eq, nat_le, ◌<◌, ◌≤◌};
 ghost use Rattle.std.specs.Fn.{CalledAt};
 ghost use Rattle.std.specs.List.Retain.{IsFiltered};
 ghost use Rattle.std.specs.List.Sorted.{IsNonDecreasingBy};
 ghost use Rattle.std.specs.Map.{set_value};
 ghost use Rattle.std.specs.Option.{option_copied, option_map};
 ghost use Rattle.indexmap.specs.IndexMap.{get, spare, IsUnique};
-ghost use Rattle.flow_state.specs.Limits.{IsDueTime, is_good_kind, is_timed, last_sid, most_waiting};
-ghost use Rattle.flow_state.specs.Sound.{IsSound};
-ghost use Rattle.flow_state.specs.Rows.{FlowRow, lent_flow, timed, flow_of, waits, without_request, free_sid, lease_of};
+ghost use Rattle.flow_state.specs.Limits.{IsDueTime, is_good_kind, last_sid, most_waiting};
+ghost use Rattle.flow_state.specs.Sound.{IsSound, Rise};
+ghost use Rattle.flow_state.specs.Rows.{FlowRow, lent_flow, due_flows, flow_of, waits, without_request, free_sid, lease_of};
 ghost use Rattle.flow_state.specs.Refusals.{Refuses, is_good_last, table_flow_refusal, table_drop_refusal, table_request_refusal, is_busy};
-ghost use Rattle.flow_state.specs.StoredTable.{with_sent, with_next_due, is_ended_in, EndFrom};
+ghost use Rattle.flow_state.specs.StoredTable.{with_sent, with_next_due, is_ended_in, EndFrom, AreNoted, is_due_stored};
+ghost use Rattle.flow_state.specs.StoredDues.{IsDueFrom};
 ghost use Rattle.flow_state.specs.Changes.{new_table, lease_for, flow_in_table, add_to_table, drop_in_table, request_in_table, waiting_in_table, due_in_table, close_table};
 
 use crate::channel::{Channel, ChannelRow};
+use crate::dues::Dues;
 use crate::flow::{Flow, FlowKind, Lease, Waiting};
 use crate::leases::Leases;
 use crate::limits::{LAST_TIME, MOST_WAITING};
@@ -21,15 +23,15 @@ use indexmap::IndexMap;
 use std::alloc::{AllocError, Global};
 use std::marker::Model;
 
-/// All that is kept of a channel. Flows are in the order of their SIDs, and `timed` has the SIDs of
-/// those that have due times. No flow's lease ends before `first_end`.
+/// All that is kept of a channel. Flows are in the order of their SIDs, and `dues` has a time for each SID before
+/// which nothing is due for its flow. No flow's lease ends before `first_end`.
 #[derive(Drop)]
 pub struct ChannelTable {
     row: ChannelRow,
     leases: Leases,
     flows: IndexMap<u16, Flow>,
     first_end: u64,
-    timed: Vec<u16>,
+    dues: Dues,
     waiting: Vec<Waiting>,
 }
 
@@ -60,13 +62,13 @@ impl ChannelTable {
             leases: Leases::new(alloc),
             flows: IndexMap::new(alloc),
             first_end: LAST_TIME,
-            timed: Vec::new(alloc),
+            dues: Dues::new(alloc),
             waiting: Vec::new(alloc),
         }
     }
 
     /// The channel's row.
-    pub(crate) fn row(&self) -> &ChannelRow
+    pub fn row(&self) -> &ChannelRow
         ensures row { result.now ≡ self.now.row }
         ensures sound { IsSound self.now }
     {
@@ -85,21 +87,27 @@ impl ChannelTable {
         }
     }
 
-    /// Timed flow number k, by SID.
-    pub(crate) fn timed_flow(&self, k: usize) -> Option<&Flow>
-        ensures { option_copied result ≡ option_map lent_flow (slice_get (timed self.now.flows) k) }
-    {
-        match self.timed.get(k) {
-            Some(sid) => self.flows.get(sid),
-            None => None,
-        }
-    }
-
     /// The flow that has the SID.
-    pub(crate) fn flow_of(&self, sid: u16) -> Option<&Flow>
+    pub fn flow_of(&self, sid: u16) -> Option<&Flow>
         ensures { option_copied result ≡ option_map lent_flow (flow_of self.now sid) }
     {
-        self.flows.get(&sid)
+        find_flow(&self.flows, sid)
+    }
+
+    /// Copies the flows of unsolicited grants or polls that are due before an end, by SID, over what is there. It
+    /// takes time for those that are due, and for the SIDs near them.
+    pub fn copy_due(&self, end: u64, copied: &mut Vec<Flow>) -> Result<(), AllocError>
+        ensures { OnOk result (copied.new.items ≡ map lent_flow (due_flows end self.now.flows)) }
+    {
+        copy_due(&self.dues, &self.flows, end, copied)
+    }
+
+    /// The waiting requests, by arrival, at most 118.
+    pub fn requests(&self) -> &[Waiting]
+        ensures row { result.now ≡ self.now.waiting }
+        ensures few { length result.now ≤ most_waiting }
+    {
+        &self.waiting
     }
 
     /// Waiting request number k, by arrival.
@@ -119,11 +127,12 @@ impl ChannelTable {
         ensures err { OnErr result (self.new ≡ self.old) }
     {
         self.flows.reserve(1)?;
-        self.timed.reserve(1)?;
+        self.dues.make_room(lease.sid)?;
         self.leases.put(lease)?;
         self.first_end = self.first_end.min(lease.last);
-        put_flow(&mut self.flows, lease.sid, Flow::new(lease, kind));
-        note_timed(&mut self.timed, lease.sid, kind);
+        let flow = Flow::new(lease, kind);
+        self.dues.set(lease.sid, flow.due_from());
+        put_flow(&mut self.flows, lease.sid, flow);
         Ok(())
     }
 
@@ -178,7 +187,7 @@ impl ChannelTable {
     {
         match self.flows.shift_remove(&sid) {
             Some(_) => {
-                forget_timed(&mut self.timed, sid);
+                self.dues.forget(sid);
                 self.waiting.retain(|w| w.sid != sid);
                 Ok(())
             }
@@ -190,7 +199,7 @@ impl ChannelTable {
     fn request_refusal(&self, sid: u16, n: u16, sent: u64) -> Option<Refusal>
         ensures { result ≡ table_request_refusal self.now sid n sent }
     {
-        match self.flows.get(&sid) {
+        match find_flow(&self.flows, sid) {
             Some(flow) => flow.request_refusal(n, sent, self.is_busy(sid)),
             None => Some(Refusal::NoFlow),
         }
@@ -222,6 +231,7 @@ impl ChannelTable {
         ensures found { result ≡ is_some (flow_of self.old sid) }
         ensures table { self.new ≡ due_in_table self.old sid due }
     {
+        self.dues.set(sid, due);
         note_due(&mut self.flows, sid, due)
     }
 
@@ -257,14 +267,28 @@ impl ChannelTable {
     {
         self.first_end = forget_all_ended(
             &mut self.waiting,
-            &mut self.timed,
+            &mut self.dues,
             &mut self.flows,
             self.first_end,
             end,
         );
+        self.dues.settle(end);
         self.row.next_start = end;
         self.row.ack = ack;
     }
+}
+
+/// The flow of a SID. Where no flow of a lower SID is gone, it stands at the place one below its SID.
+fn find_flow(flows: &IndexMap<u16, Flow>, sid: u16) -> Option<&Flow>
+    requires { Rise 0 (map (λ e. e.0) flows.now.entries) last_sid }
+    ensures { option_copied result ≡ get nat_eq flows.now sid }
+{
+    if let Some((other, flow)) = flows.get_index(usize::from(sid.saturating_sub(1))) {
+        if *other == sid {
+            return Some(flow);
+        }
+    }
+    flows.get(&sid)
 }
 
 /// Puts a flow in its place by SID. No flow has the SID, and there is room for one.
@@ -280,24 +304,53 @@ fn put_flow(flows: &mut IndexMap<u16, Flow>, sid: u16, flow: Flow)
     prove!(put.is_ok());
 }
 
-/// Notes the SID of an added flow in its place, where it is a timed one. There is room for it.
-fn note_timed(timed: &mut Vec<u16>, sid: u16, kind: FlowKind)
-    requires room { vec_len timed.old < vec_capacity timed.old }
-    requires rising { IsNonDecreasingBy (λ n. n) timed.old.items }
-    ensures { timed.new.items ≡ (if is_timed kind then filter (λ n. nat_le n sid) timed.old.items ++ sid ∷ filter (λ n. not (nat_le n sid)) timed.old.items else timed.old.items) }
+/// Copies the flow of a SID, where something comes by itself for it before an end.
+fn copy_if_due(
+    flows: &IndexMap<u16, Flow>,
+    sid: u16,
+    end: u64,
+    copied: &mut Vec<Flow>,
+) -> Result<(), AllocError>
+    requires { Rise 0 (map (λ e. e.0) flows.now.entries) last_sid }
+    ensures { OnOk result (copied.new.items ≡ copied.old.items ++ filter (is_due_stored end) (option_to_list (get nat_eq flows.now sid))) }
 {
-    if kind.is_timed() {
-        let place = timed.partition_point(|other| *other <= sid);
-        let put = timed.insert(place, sid);
-        prove!(put.is_ok());
+    if let Some(flow) = find_flow(flows, sid) {
+        if flow.kind.is_timed() && flow.due < end {
+            copied.push(*flow)?;
+        }
     }
+    Ok(())
 }
 
-/// Forgets the SID of a dropped flow, where it is a timed one's.
-fn forget_timed(timed: &mut Vec<u16>, sid: u16)
-    ensures { timed.new.items ≡ filter (λ n. not (n == sid)) timed.old.items }
+/// Copies the flows for which something comes by itself before an end, in order, over what is there.
+fn copy_due(
+    dues: &Dues,
+    flows: &IndexMap<u16, Flow>,
+    end: u64,
+    copied: &mut Vec<Flow>,
+) -> Result<(), AllocError>
+    requires noted { AreNoted dues.now flows.now.entries }
+    requires rising { Rise 0 (map (λ e. e.0) flows.now.entries) last_sid }
+    ensures { OnOk result (copied.new.items ≡ filter (is_due_stored end) (map (λ e. e.1) flows.now.entries)) }
 {
-    timed.retain(|other| *other != sid);
+    copied.clear();
+    let mut from = 0;
+    while let Some(sid) = dues.next_before(from, end) {
+        copy_if_due(flows, sid as u16, end, copied)?;
+        from = sid + 1;
+    }
+    Ok(())
+}
+
+/// Forgets the due times of SIDs that have no flow.
+fn forget_absent(dues: &mut Dues, flows: &IndexMap<u16, Flow>)
+    ensures { (sid due : ℕ) → IsSome (get nat_eq flows.now sid) → IsDueFrom dues.old sid due → IsDueFrom dues.new sid due }
+{
+    for sid in 0..dues.sids() {
+        if !flows.contains_key(&sid) {
+            dues.forget(sid);
+        }
+    }
 }
 
 /// Has the flow of this SID a lease that ends before this time?
@@ -318,17 +371,6 @@ fn forget_ended_requests(waiting: &mut Vec<Waiting>, flows: &IndexMap<u16, Flow>
         |w: &Waiting| -> bool
             ensures { result ≡ not (is_ended_in flows.entry.now.entries end w.now.sid) }
         { !has_ended(flows, w.sid, end) },
-    );
-}
-
-/// Forgets the SIDs of flows whose leases end before this time.
-fn forget_ended_timed(timed: &mut Vec<u16>, flows: &IndexMap<u16, Flow>, end: u64)
-    ensures { timed.new.items ≡ filter (λ sid. not (is_ended_in flows.now.entries end sid)) timed.old.items }
-{
-    timed.retain(
-        |sid: &u16| -> bool
-            ensures { result ≡ not (is_ended_in flows.entry.now.entries end sid.now) }
-        { !has_ended(flows, *sid, end) },
     );
 }
 
@@ -357,14 +399,14 @@ fn first_end(flows: &IndexMap<u16, Flow>) -> u64
 /// the given time, and then before the result, so that they aren't looked at where none ends.
 fn forget_all_ended(
     waiting: &mut Vec<Waiting>,
-    timed: &mut Vec<u16>,
+    dues: &mut Dues,
     flows: &mut IndexMap<u16, Flow>,
     first_end_before: u64,
     end: u64,
 ) -> u64
     requires { EndFrom first_end_before flows.old.entries }
     ensures requests { waiting.new.items ≡ filter (λ w. not (is_ended_in flows.old.entries end w.sid)) waiting.old.items }
-    ensures timed { timed.new.items ≡ filter (λ sid. not (is_ended_in flows.old.entries end sid)) timed.old.items }
+    ensures dues { (sid due : ℕ) → IsSome (get nat_eq flows.new sid) → IsDueFrom dues.old sid due → IsDueFrom dues.new sid due }
     ensures kept { flows.new.entries ≡ filter (λ e. nat_le end e.1.last) flows.old.entries }
     ensures unique { IsUnique nat_eq flows.old → IsUnique nat_eq flows.new }
     ensures ends { EndFrom result flows.new.entries }
@@ -373,8 +415,8 @@ fn forget_all_ended(
         return first_end_before;
     }
     forget_ended_requests(waiting, flows, end);
-    forget_ended_timed(timed, flows, end);
     forget_ended(flows, end);
+    forget_absent(dues, flows);
     first_end(flows)
 }
 

@@ -1,7 +1,7 @@
 -- The rows after a MAP is closed, and the elements of its body.
-use Rattle.std.proofs.Common.{◌≡◌, ℕ, ◌+◌, ◌<◌, ◌≤◌, Bool, true, false, cond, not, ◌&&◌, max, min, List, [], ◌∷◌, ◌++◌, map, filter, length, Option, Some, None, refl, sym, ap, subst, ◌∙◌, arith, inl, inr, eqb, leb, ltb, ◌^◌}
+use Rattle.std.proofs.Common.{◌≡◌, ℕ, ◌+◌, ◌<◌, ◌≤◌, Bool, true, false, cond, not, ◌&&◌, max, min, List, [], ◌∷◌, ◌++◌, map, filter, length, Option, Some, None, refl, sym, ap, subst, ◌∙◌, arith, inl, inr, eqb, leb, ltb, ◌^◌, Bor}
 use Rattle.std.specs.List.{find, list_any, filter_map, flat_map, range_with_len, AllByRecursion, AllZip}
-use Rattle.std.specs.Option.{option_map, option_and_then, option_map_or}
+use Rattle.std.specs.Option.{option_map, option_and_then, option_map_or, option_copied, IsSome}
 use Rattle.std.specs.Prelude.{IfSome}
 use Rattle.std.proofs.lemmas.Bool.{eqb-true, le-leb}
 use Rattle.minislot_time.specs.Extent.{Extent}
@@ -16,10 +16,9 @@ use Rattle.flow_state.specs.declared.channel.Channel.{Channel}
 use Rattle.flow_state.specs.declared.channel.ChannelRow.{ChannelRow}
 use Rattle.flow_state.specs.declared.flow.Flow.{Flow}
 use Rattle.flow_state.specs.declared.flow.FlowKind.{FlowKind}
-use Rattle.flow_state.specs.declared.flow.FlowKind.TheVariants.{BestEffort, Ugs, Poll}
 use Rattle.flow_state.specs.declared.flow.Waiting.{Waiting}
-use Rattle.flow_state.specs.Limits.{last_time, due_index, is_timed}
-use Rattle.flow_state.specs.Rows.{Rows, Table, FlowRow, is_table, table_of, change_table, is_flow, flow_of, timed, channel_at, last_in, last_of, is_ended, has_ended}
+use Rattle.flow_state.specs.Limits.{last_time, due_index}
+use Rattle.flow_state.specs.Rows.{Rows, Table, FlowRow, is_table, table_of, change_table, is_flow, flow_of, channel_at, last_in, last_of, is_ended, has_ended}
 use Rattle.flow_state.specs.Changes.{with_due, waiting_of, waiting_in_table, with_cut_closed, close_table}
 use Rattle.grant_machine.specs.declared.cut.Filled.{Filled}
 use Rattle.grant_machine_parts.specs.declared.placing.Placement.{Placement}
@@ -27,7 +26,7 @@ use Rattle.grant_machine_parts.specs.Cutting.{Filled as FilledMap, fill, fill_re
 use Rattle.grant_machine_parts.specs.Drawing.{begins_at, null_element, pending_element, elements_of, head_of, bytes_of}
 use Rattle.grant_machine.specs.Runs.{IsReached}
 use Rattle.grant_machine_parts.specs.Lent.{IsUnicast}
-use Rattle.grant_machine.specs.CutRows.{IsOfKind, due_times_set, requests_taken}
+use Rattle.grant_machine.specs.CutRows.{IsOfKind, was_due, due_ones, due_times_set, requests_taken}
 use Rattle.grant_machine_parts.specs.Ranks.{requests_in, going_on, IsOfLast}
 use Rattle.grant_machine_parts.specs.declared.waiting.Ranked.{Ranked}
 use Rattle.grant_machine.specs.Plans.{IsFilledBy, elements_in}
@@ -39,9 +38,9 @@ use Rattle.flow_state.proofs.Callers.{IsWell, RisingFrom, one_flow}
 use Rattle.flow_state.specs.View.{flow_view}
 use Rattle.grant_machine_parts.proofs.Callers.{Moves, fill_moves, served_from, is_cut}
 use Rattle.grant_machine.proofs.Reached.{reached_is_well}
-use Rattle.grant_machine.proofs.Standing.{Apart, IsIdle, idle, served_idle, reached_apart, reached_idle}
+use Rattle.grant_machine.proofs.Standing.{Apart, reached_apart}
 use Rattle.grant_machine.proofs.Lending.{due_set}
-use Rattle.grant_machine.proofs.Settling.{unicast}
+use Rattle.grant_machine.proofs.Settling.{Stays, stays_served, unicast}
 use Rattle.grant_machine_parts.proofs.Callers.{cut_elements, cut_few}
 
 -- ---- changes of one channel's table
@@ -124,45 +123,6 @@ above_weaker low more (s ∷ ss) le a = (omega (arith, a.0), above_weaker low mo
 moved_sid : (f : FlowRow) (s : Flow) → IsMoved f (flow_view s) → s.sid ≡ f.sid
 moved_sid f s m = ap (λ (g : FlowRow). g.sid) m.1
 
--- the timed flows of those that moved, one by one
-untimed : (g : FlowRow) (gs : List FlowRow) → is_timed g.kind ≡ false → timed (g ∷ gs) ≡ timed gs
-untimed g gs e = ap (λ b. cond b (g ∷ timed gs) (timed gs)) e
-
-first_timed : (g : FlowRow) (gs : List FlowRow) → is_timed g.kind ≡ true → timed (g ∷ gs) ≡ g ∷ timed gs
-first_timed g gs e = ap (λ b. cond b (g ∷ timed gs) (timed gs)) e
-
-above : (low : ℕ) (fs gs : List FlowRow) (ss : List Flow) → RisingFrom low fs → AllZip IsMoved fs gs → timed gs ≡ map flow_view ss → AreAbove low ss
-above low [] [] [] r z e = tt
-above low [] [] (s ∷ ss) r z e = absurd cc
-above low [] (g ∷ gs) ss r z e = absurd z
-above low (f ∷ fs) [] ss r z e = absurd z
-above low (f ∷ fs) (g ∷ gs) ss r z e = by (λ us h. above (f.sid + 1) fs gs us r.1 z.1 h) (is_timed g.kind) refl ss e
-  where
-    by : ((us : List Flow) → timed gs ≡ map flow_view us → AreAbove (f.sid + 1) us) → (b : Bool) → is_timed g.kind ≡ b → (us : List Flow) → timed (g ∷ gs) ≡ map flow_view us → AreAbove low us
-    by rest false k us h = above_weaker low (f.sid + 1) us (omega (arith, r.0)) (rest us (sym (untimed g gs k) ∙ h))
-    by rest true k [] h = absurd (let there : g ∷ timed gs ≡ [] = sym (first_timed g gs k) ∙ h in cc)
-    by rest true k (u ∷ us) h =
-        let there : g ∷ timed gs ≡ flow_view u ∷ map flow_view us = sym (first_timed g gs k) ∙ h in
-        let first : g ≡ flow_view u = cc in
-        let others : timed gs ≡ map flow_view us = cc in
-        let same : u.sid ≡ f.sid = ap (λ (x : FlowRow). x.sid) (sym first) ∙ ap (λ (x : FlowRow). x.sid) z.0.1 in
-        (omega (arith, r.0, same), above_weaker low (f.sid + 1) us (omega (arith, r.0)) (rest us others))
-
--- a best-effort flow stays as it is
-stays_idle : (f g : FlowRow) → IsMoved f g → IsIdle f → IsIdle g → is_timed g.kind ≡ false → g ≡ f
-stays_idle f g m from to e =
-    let kind : g.kind ≡ f.kind = ap (λ (x : FlowRow). x.kind) m.1 in
-    let index : g.index ≡ m.0 = ap (λ (x : FlowRow). x.index) m.1 in
-    let now : g.index ≡ 0 = idle_is g.kind g.index e to in
-    let before : f.index ≡ 0 = idle_is f.kind f.index (ap is_timed (sym kind) ∙ e) from in
-    let same : m.0 ≡ f.index = omega arith in
-    m.1 ∙ ap (λ i. record f { index = i }) same
-  where
-    idle_is : (kind : FlowKind) (i : ℕ) → is_timed kind ≡ false → idle kind i → i ≡ 0
-    idle_is (BestEffort priority) i e h = h
-    idle_is (Ugs size interval jitter base) i e h = absurd cc
-    idle_is (Poll interval jitter base) i e h = absurd cc
-
 -- the first flow stays, where all others are above it
 head_stays : (g : FlowRow) (ss : List Flow) (fs : List FlowRow) → AreAbove (g.sid + 1) ss → set_flows ss (g ∷ fs) ≡ g ∷ set_flows ss fs
 head_stays g [] fs a = refl
@@ -183,30 +143,56 @@ is_set f s m =
     ∙ ap (λ i. record f { index = i }) index
     ∙ sym m.1
 
-all_set : (low : ℕ) (fs gs : List FlowRow) (ss : List Flow) → RisingFrom low fs → AllZip IsMoved fs gs → AllByRecursion IsIdle fs → AllByRecursion IsIdle gs → timed gs ≡ map flow_view ss → set_flows ss fs ≡ gs
-all_set low [] [] [] r z from to e = refl
-all_set low [] [] (s ∷ ss) r z from to e = absurd cc
-all_set low [] (g ∷ gs) ss r z from to e = absurd z
-all_set low (f ∷ fs) [] ss r z from to e = absurd z
-all_set low (f ∷ fs) (g ∷ gs) ss r z from to e = by (λ us h. all_set (f.sid + 1) fs gs us r.1 z.1 from.1 to.1 h) (is_timed g.kind) refl ss e
-  where
-    by : ((us : List Flow) → timed gs ≡ map flow_view us → set_flows us fs ≡ gs) → (b : Bool) → is_timed g.kind ≡ b → (us : List Flow) → timed (g ∷ gs) ≡ map flow_view us → set_flows us (f ∷ fs) ≡ g ∷ gs
-    by rest false k us h =
-        let others : timed gs ≡ map flow_view us = sym (untimed g gs k) ∙ h in
-        let same : g ≡ f = stays_idle f g z.0 from.0 to.0 k in
-        head_stays f us fs (above (f.sid + 1) fs gs us r.1 z.1 others) ∙ ap (λ (hs : List FlowRow). f ∷ hs) (rest us others) ∙ ap (λ (x : FlowRow). x ∷ gs) (sym same)
-    by rest true k [] h = absurd (let there : g ∷ timed gs ≡ [] = sym (first_timed g gs k) ∙ h in cc)
-    by rest true k (u ∷ us) h =
-        let there : g ∷ timed gs ≡ flow_view u ∷ map flow_view us = sym (first_timed g gs k) ∙ h in
-        let first : g ≡ flow_view u = cc in
-        let others : timed gs ≡ map flow_view us = cc in
-        let moved : IsMoved f (flow_view u) = subst (IsMoved f) first z.0 in
-        let same = moved_sid f u moved in
-        ap (λ (x : FlowRow). set_flows us (x ∷ map (due_set u.sid u.due) fs)) (is_set f u moved)
-        ∙ ap (λ (xs : List FlowRow). set_flows us (flow_view u ∷ xs)) (unset u.sid u.due (f.sid + 1) fs r.1 (omega arith))
-        ∙ head_stays (flow_view u) us fs (above_weaker (u.sid + 1) (f.sid + 1) us (omega arith) (above (f.sid + 1) fs gs us r.1 z.1 others))
-        ∙ ap (λ (xs : List FlowRow). flow_view u ∷ xs) (rest us others)
-        ∙ ap (λ (x : FlowRow). x ∷ gs) (sym first)
+-- those that were due of the flows that moved, one by one
+module _ (was : FlowRow → Bool) (keeps : (f : FlowRow) (i : ℕ) → was (record f { index = i }) ≡ was f) where
+  passed : (g : FlowRow) (gs : List FlowRow) → was g ≡ false → filter was (g ∷ gs) ≡ filter was gs
+  passed g gs e = ap (λ b. cond b (g ∷ filter was gs) (filter was gs)) e
+
+  first_due : (g : FlowRow) (gs : List FlowRow) → was g ≡ true → filter was (g ∷ gs) ≡ g ∷ filter was gs
+  first_due g gs e = ap (λ b. cond b (g ∷ filter was gs) (filter was gs)) e
+
+  above : (low : ℕ) (fs gs : List FlowRow) (ss : List Flow) → RisingFrom low fs → AllZip IsMoved fs gs → filter was gs ≡ map flow_view ss → AreAbove low ss
+  above low [] [] [] r z e = tt
+  above low [] [] (s ∷ ss) r z e = absurd cc
+  above low [] (g ∷ gs) ss r z e = absurd z
+  above low (f ∷ fs) [] ss r z e = absurd z
+  above low (f ∷ fs) (g ∷ gs) ss r z e = by (λ us h. above (f.sid + 1) fs gs us r.1 z.1 h) (was g) refl ss e
+    where
+      by : ((us : List Flow) → filter was gs ≡ map flow_view us → AreAbove (f.sid + 1) us) → (b : Bool) → was g ≡ b → (us : List Flow) → filter was (g ∷ gs) ≡ map flow_view us → AreAbove low us
+      by rest false k us h = above_weaker low (f.sid + 1) us (omega (arith, r.0)) (rest us (sym (passed g gs k) ∙ h))
+      by rest true k [] h = absurd (let there : g ∷ filter was gs ≡ [] = sym (first_due g gs k) ∙ h in cc)
+      by rest true k (u ∷ us) h =
+          let there : g ∷ filter was gs ≡ flow_view u ∷ map flow_view us = sym (first_due g gs k) ∙ h in
+          let first : g ≡ flow_view u = cc in
+          let others : filter was gs ≡ map flow_view us = cc in
+          let same : u.sid ≡ f.sid = ap (λ (x : FlowRow). x.sid) (sym first) ∙ ap (λ (x : FlowRow). x.sid) z.0.1 in
+          (omega (arith, r.0, same), above_weaker low (f.sid + 1) us (omega (arith, r.0)) (rest us others))
+
+  all_set : (low : ℕ) (fs gs : List FlowRow) (ss : List Flow) → RisingFrom low fs → AllZip IsMoved fs gs → AllZip (Stays was) fs gs → filter was gs ≡ map flow_view ss → set_flows ss fs ≡ gs
+  all_set low [] [] [] r z st e = refl
+  all_set low [] [] (s ∷ ss) r z st e = absurd cc
+  all_set low [] (g ∷ gs) ss r z st e = absurd z
+  all_set low (f ∷ fs) [] ss r z st e = absurd z
+  all_set low (f ∷ fs) (g ∷ gs) ss r z st e = by (λ us h. all_set (f.sid + 1) fs gs us r.1 z.1 st.1 h) (was g) refl ss e
+    where
+      by : ((us : List Flow) → filter was gs ≡ map flow_view us → set_flows us fs ≡ gs) → (b : Bool) → was g ≡ b → (us : List Flow) → filter was (g ∷ gs) ≡ map flow_view us → set_flows us (f ∷ fs) ≡ g ∷ gs
+      by rest false k us h =
+          let others : filter was gs ≡ map flow_view us = sym (passed g gs k) ∙ h in
+          let moved : IsMoved f g = z.0 in
+          let same : g ≡ f = st.0 (sym (keeps f moved.0) ∙ ap was (sym moved.1) ∙ k) in
+          head_stays f us fs (above (f.sid + 1) fs gs us r.1 z.1 others) ∙ ap (λ (hs : List FlowRow). f ∷ hs) (rest us others) ∙ ap (λ (x : FlowRow). x ∷ gs) (sym same)
+      by rest true k [] h = absurd (let there : g ∷ filter was gs ≡ [] = sym (first_due g gs k) ∙ h in cc)
+      by rest true k (u ∷ us) h =
+          let there : g ∷ filter was gs ≡ flow_view u ∷ map flow_view us = sym (first_due g gs k) ∙ h in
+          let first : g ≡ flow_view u = cc in
+          let others : filter was gs ≡ map flow_view us = cc in
+          let moved : IsMoved f (flow_view u) = subst (IsMoved f) first z.0 in
+          let same = moved_sid f u moved in
+          ap (λ (x : FlowRow). set_flows us (x ∷ map (due_set u.sid u.due) fs)) (is_set f u moved)
+          ∙ ap (λ (xs : List FlowRow). set_flows us (flow_view u ∷ xs)) (unset u.sid u.due (f.sid + 1) fs r.1 (omega arith))
+          ∙ head_stays (flow_view u) us fs (above_weaker (u.sid + 1) (f.sid + 1) us (omega arith) (above (f.sid + 1) fs gs us r.1 z.1 others))
+          ∙ ap (λ (xs : List FlowRow). flow_view u ∷ xs) (rest us others)
+          ∙ ap (λ (x : FlowRow). x ∷ gs) (sym first)
 
 -- ---- requests
 
@@ -297,9 +283,7 @@ module _ (rows : Rows) (ch : ℕ) (t : Table) (len not_before ack : ℕ) (x : Fi
   placed = by.placements filled.ack
 
   rows_set : set_flows x.flows.items t.flows ≡ flows_served t span
-  rows_set =
-      let idle_before = reached_idle rows reached ch t found in
-      all_set 1 t.flows (flows_served t span) x.flows.items well.rising (moved_rows t span ended) idle_before (served_idle t span idle_before) (sym by.flows)
+  rows_set = all_set (was_due t (end_of span)) (λ f i. refl) 1 t.flows (flows_served t span) x.flows.items well.rising (moved_rows t span ended) (stays_served t span well) (sym by.flows)
 
   abbrev set_all : Table → Table
   set_all u = record u { flows = set_flows x.flows.items u.flows }
@@ -344,8 +328,8 @@ module _ (rows : Rows) (ch : ℕ) (t : Table) (len not_before ack : ℕ) (x : Fi
   -- the flows' kinds are those of the rows
   pub kinds_are : AllByRecursion (IsOfKind rows ch) x.flows.items
   kinds_are = all_has (IsOfKind rows ch) x.flows.items (λ f h row e.
-      let kept : Has (timed (flows_served t span)) (flow_view f) = subst (λ (gs : List FlowRow). Has gs (flow_view f)) by.flows (map_has flow_view x.flows.items f h) in
-      let there : Has (flows_served t span) (flow_view f) = (has_filter (λ g. is_timed g.kind) (flows_served t span) (flow_view f) kept).0 in
+      let kept : Has (due_ones t (end_of span) (flows_served t span)) (flow_view f) = subst (λ (gs : List FlowRow). Has gs (flow_view f)) by.flows (map_has flow_view x.flows.items f h) in
+      let there : Has (flows_served t span) (flow_view f) = (has_filter (was_due t (end_of span)) (flows_served t span) (flow_view f) kept).0 in
       let from = served_from t (flows_served t span) (flow_view f) (fill_moves t span ended) there in
       let at : flow_of t f.sid ≡ Some row = sym (ap (λ o. option_and_then (λ u. flow_of u f.sid) o) found) ∙ e in
       let has = found_has (is_flow f.sid) t.flows row at in
@@ -439,6 +423,18 @@ is_made rows ch row len not_before ack start x there ok begun by =
       good = ap (λ (r : ChannelRow). fill_refusal r len not_before ack) at.row_is ∙ ok;
       by = subst (λ (s : Extent). IsFilledBy at.table s x) span (by at.table at.found);
     }
+
+-- the same of the table itself
+pub made_of : (rows : Rows) (ch : ℕ) (row : ChannelRow) (len not_before ack start : ℕ) (x : Filled) (t : Table) → channel_at rows ch ≡ Some row → fill_refusal row len not_before ack ≡ None → start ≡ max row.next_start not_before
+    → table_of rows ch ≡ Some t → IsFilledBy t (record { start = start; len = len }) x → IsMade rows ch row len not_before ack x
+made_of rows ch row len not_before ack start x t there ok begun found by =
+    is_made rows ch row len not_before ack start x there ok begun
+    (λ u e. let same : t ≡ u = (let two : Some t ≡ Some u = sym found ∙ e in cc) in subst (λ (v : Table). IsFilledBy v (record { start = start; len = len }) x) same by)
+
+-- what is lent of a table that is there
+pub lent_some : {X : Type 0} (o : Option (Bor X)) (p : Option X) (x : X) → option_copied o ≡ p → p ≡ Some x → IsSome o
+lent_some (Some b) p x e f = refl
+lent_some None p x e f = absurd (let two : None ≡ Some x = e ∙ f in cc)
 
 module _ (rows : Rows) (ch : ℕ) (row : ChannelRow) (len not_before ack : ℕ) (x : Filled) (reached : IsReached rows) (m : IsMade rows ch row len not_before ack x) where
   abbrev made : FilledMap

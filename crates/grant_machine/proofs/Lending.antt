@@ -1,53 +1,15 @@
--- What is lent of a channel, place by place, and what its due times' changes keep.
-use Rattle.std.proofs.Common.{◌≡◌, ℕ, zero, suc, Bool, true, false, cond, List, [], ◌∷◌, ◌++◌, length, map, take, Option, Some, None, refl, sym, ap, subst, ◌∙◌, slice_get, add-one, eqb}
+-- What the changes of due times keep.
+use Rattle.std.proofs.Common.{◌≡◌, ℕ, Bool, true, false, cond, List, [], ◌∷◌, map, Option, Some, None, refl, sym, ap, ◌∙◌, eqb}
 use Rattle.std.specs.List.{find, AllByRecursion}
 use Rattle.std.specs.Option.{option_map}
-use Rattle.std.proofs.lemmas.List.{length_push}
-use Rattle.std.proofs.lemmas.Option.{slice_get-map}
 use Rattle.flow_state.specs.declared.flow.Flow.{Flow}
 use Rattle.flow_state.specs.declared.flow.FlowKind.{FlowKind}
-use Rattle.flow_state.specs.Rows.{Rows, Table, FlowRow, table_of, flow_of, is_flow, lent_flow, timed, timed_at, waiting_at}
-use Rattle.flow_state.specs.Changes.{with_due, waiting_of, flow_row}
+use Rattle.flow_state.specs.Rows.{Rows, Table, FlowRow, table_of, flow_of, is_flow}
+use Rattle.flow_state.specs.Changes.{with_due, flow_row}
 use Rattle.flow_state.specs.Limits.{due_index}
-use Rattle.grant_machine.specs.CutRows.{timed_on, IsOfKind}
+use Rattle.grant_machine.specs.CutRows.{IsOfKind}
 use Rattle.flow_state.proofs.Callers.{found_before}
 use Rattle.flow_state.proofs.Callers.{is_found}
-
-pub timed_at_is : (rows : Rows) (ch k : ℕ) → timed_at rows ch k ≡ slice_get (timed_on (table_of rows ch)) k
-timed_at_is rows ch k = by (table_of rows ch) refl
-  where
-    by : (o : Option Table) → table_of rows ch ≡ o → timed_at rows ch k ≡ slice_get (timed_on (table_of rows ch)) k
-    by (Some t) e = rw e (sym (slice_get-map lent_flow (timed t.flows) k))
-    by None e = rw e refl
-
-pub waiting_at_is : (rows : Rows) (ch k : ℕ) → waiting_at rows ch k ≡ slice_get (waiting_of (table_of rows ch)) k
-waiting_at_is rows ch k = by (table_of rows ch) refl
-  where
-    by : (o : Option Table) → table_of rows ch ≡ o → waiting_at rows ch k ≡ slice_get (waiting_of (table_of rows ch)) k
-    by (Some t) e = rw e refl
-    by None e = rw e refl
-
-take_next : {X : Type 0} (xs : List X) (k : ℕ) (x : X) → slice_get xs k ≡ Some x → take k xs ++ x ∷ [] ≡ take (suc k) xs
-take_next [] k x e = absurd cc
-take_next (y ∷ xs) zero x e = let same : x ≡ y = cc in ap (λ z. z ∷ []) same
-take_next (y ∷ xs) (suc k) x e = ap (λ zs. y ∷ zs) (take_next xs k x e)
-
-take_end : {X : Type 0} (xs : List X) (k : ℕ) → slice_get xs k ≡ None → take k xs ≡ xs
-take_end [] zero e = refl
-take_end [] (suc k) e = refl
-take_end (y ∷ xs) zero e = absurd cc
-take_end (y ∷ xs) (suc k) e = ap (λ zs. y ∷ zs) (take_end xs k e)
-
--- a copy of the first elements, and the next one
-pub copied_more : {X : Type 0} (xs ys : List X) (k : ℕ) (x : X) → ys ≡ take (length ys) xs → k ≡ length ys → slice_get xs k ≡ Some x → ys ++ x ∷ [] ≡ take (length (ys ++ x ∷ [])) xs
-copied_more {X} xs ys k x is at found =
-    let here : slice_get xs (length ys) ≡ Some x = subst (λ n. slice_get xs n ≡ Some x) at found in
-    ap (λ (zs : List X). zs ++ x ∷ []) is ∙ take_next xs (length ys) x here ∙ ap (λ n. take n xs) (sym (length_push ys x ∙ add-one (length ys)))
-
-pub copied_all : {X : Type 0} (xs ys : List X) (k : ℕ) → ys ≡ take (length ys) xs → k ≡ length ys → slice_get xs k ≡ None → ys ≡ xs
-copied_all xs ys k is at none = is ∙ take_end xs (length ys) (subst (λ n. slice_get xs n ≡ None) at none)
-
--- ---- kinds stay
 
 find_map : {X : Type 0} (p : X → Bool) (f : X → X) → ((x : X) → p (f x) ≡ p x) → (xs : List X) → find p (map f xs) ≡ option_map f (find p xs)
 find_map p f same [] = refl

@@ -1,8 +1,8 @@
 -- What a filled MAP is made of, and its flows as they are lent.
-use Rattle.std.proofs.Common.{◌≡◌, ℕ, ◌≤◌, Bool, true, false, cond, List, [], ◌∷◌, ◌++◌, map, filter, eqb, Option, Some, None, refl, sym, ap, subst, ◌∙◌}
-use Rattle.std.specs.List.{AllByRecursion, flat_map}
-use Rattle.std.specs.Option.{option_and_then, option_map}
-use Rattle.std.proofs.lemmas.Bool.{and_parts}
+use Rattle.std.proofs.Common.{◌≡◌, ℕ, ◌+◌, ◌-◌, ◌/◌, ◌≤◌, Bool, true, false, cond, ◌&&◌, ltb, inl, inr, List, [], ◌∷◌, ◌++◌, map, filter, eqb, Option, Some, None, refl, sym, ap, subst, ◌∙◌}
+use Rattle.std.specs.List.{AllByRecursion, AllZip, flat_map}
+use Rattle.std.specs.Option.{option_map, option_map_or}
+use Rattle.std.proofs.lemmas.Bool.{and_parts, eqb-true}
 use Rattle.minislot_time.specs.Extent.{Extent}
 use Rattle.flow_state.specs.declared.channel.Channel.{Channel}
 use Rattle.flow_state.specs.declared.flow.Flow.{Flow}
@@ -10,19 +10,18 @@ use Rattle.flow_state.specs.declared.flow.FlowKind.{FlowKind}
 use Rattle.flow_state.specs.declared.flow.FlowKind.TheVariants.{BestEffort, Ugs, Poll}
 use Rattle.flow_state.specs.declared.flow.Waiting.{Waiting}
 use Rattle.flow_state.specs.Limits.{last_sid, last_time, is_good_kind, is_timed, due_time, due_index}
-use Rattle.flow_state.specs.Rows.{Rows, Table, FlowRow, table_of, timed, lent_flow, flow_of, last_in, last_of}
-use Rattle.flow_state.specs.Changes.{waiting_of}
+use Rattle.flow_state.specs.Rows.{Rows, Table, FlowRow, table_of, is_due, due_flows, is_flow, lent_flow, last_in, last_of}
 use Rattle.grant_machine_parts.specs.declared.services.Service.TheVariants.{Grants, Polls}
 use Rattle.grant_machine_parts.specs.declared.placing.Placement.{Placement}
-use Rattle.grant_machine_parts.specs.Cutting.{kind_priority, flow_priority, priority_of, Passed, pass, in_order, place_requests, fill_span, fill_polls, grants_of_flow, polls_of_flow, grants_of_kind, polls_of_kind, run_flow, with_first, flows_served}
+use Rattle.grant_machine_parts.specs.Cutting.{kind_priority, flow_priority, priority_of, Passed, Ran, pass, in_order, place_requests, fill_span, fill_polls, grants_of_flow, polls_of_flow, grants_of_kind, polls_of_kind, unsolicited_iuc, poll_iuc, due_at, end_of, run_due_times, run_flow, with_first, flows_served}
 use Rattle.grant_machine_parts.specs.declared.due_times.Periodic.{Periodic}
 use Rattle.grant_machine.specs.Runs.{IsReached}
 use Rattle.grant_machine_parts.specs.Filling.{PartMap}
 use Rattle.grant_machine_parts.specs.Lent.{IsLent, IsUnicast, given_to}
 use Rattle.grant_machine_parts.specs.Ranks.{of_priority, by_priority, requests_in, IsOfLast}
 use Rattle.grant_machine_parts.specs.declared.waiting.Ranked.{Ranked}
-use Rattle.grant_machine.specs.CutRows.{IsOfTable, timed_on, ranked_on}
-use Rattle.flow_state.proofs.Callers.{Has, all_has, map_has, has_map, has_filter, has_flat_map}
+use Rattle.grant_machine.specs.CutRows.{IsOfTable, IsReachedTable, was_due, due_ones, rank_in}
+use Rattle.flow_state.proofs.Callers.{Has, all_has, has_all, map_has, has_map, has_filter, has_flat_map, found_has, has_found, eqb_same, one_flow}
 use Rattle.flow_state.proofs.Callers.{IsWell, IsWellFlow}
 use Rattle.flow_state.specs.View.{flow_view}
 use Rattle.grant_machine.proofs.Reached.{reached_is_well}
@@ -59,80 +58,76 @@ lent_all (f ∷ fs) w h = (lent_one f w.0 h.0, lent_all fs w.1 h.1)
 well_flows : (rows : Rows) (ch : ℕ) (t : Table) → IsReached rows → table_of rows ch ≡ Some t → AllByRecursion IsWellFlow t.flows
 well_flows rows ch t r e = all_has IsWellFlow t.flows (reached_is_well rows r ch t e).flows
 
--- a channel's flows, as they would be lent
-abbrev pub flows_on : Option Table → List Flow
-flows_on (Some t) = map lent_flow t.flows
-flows_on None = []
+-- ---- the flows that are due
 
-lent_timed : (fs : List FlowRow) → map lent_flow (timed fs) ≡ filter (λ f. is_timed f.kind) (map lent_flow fs)
-lent_timed [] = refl
-lent_timed (f ∷ fs) = elim (is_timed f.kind) as (λ b. map lent_flow (cond b (f ∷ timed fs) (timed fs)) ≡ cond b (lent_flow f ∷ filter (λ g. is_timed g.kind) (map lent_flow fs)) (filter (λ g. is_timed g.kind) (map lent_flow fs))) [
-  | true ↦ ap (λ (gs : List Flow). lent_flow f ∷ gs) (lent_timed fs)
-  | false ↦ lent_timed fs
-]
+filtered : (P : FlowRow → Type 0) (p : FlowRow → Bool) (fs : List FlowRow) → AllByRecursion P fs → AllByRecursion P (filter p fs)
+filtered P p fs all = all_has P (filter p fs) (λ f h. has_all P fs f all (has_filter p fs f h).0)
 
--- the timed ones of them are those that are lent
-pub timed_of : (o : Option Table) → timed_on o ≡ filter (λ f. is_timed f.kind) (flows_on o)
-timed_of (Some t) = lent_timed t.flows
-timed_of None = refl
+filter_alike : (p q : FlowRow → Bool) (fs : List FlowRow) → ((f : FlowRow) → Has fs f → p f ≡ q f) → filter p fs ≡ filter q fs
+filter_alike p q [] same = refl
+filter_alike p q (f ∷ fs) same =
+    ap (λ b. cond b (f ∷ filter p fs) (filter p fs)) (same f (inl refl)) ∙ ap (λ (gs : List FlowRow). cond (q f) (f ∷ gs) gs) (filter_alike p q fs (λ g h. same g (inr h)))
 
--- what is lent of the channel's flows
-pub flows_lent : (rows : Rows) (ch : ℕ) → IsReached rows → AllByRecursion IsLent (flows_on (table_of rows ch))
-flows_lent rows ch r = by (table_of rows ch) refl
-  where
-    by : (o : Option Table) → table_of rows ch ≡ o → AllByRecursion IsLent (flows_on (table_of rows ch))
-    by (Some t) e = rw e (lent_all t.flows (well_flows rows ch t r e) (reached_idle rows r ch t e))
-    by None e = rw e tt
+-- a flow of the table is the one of its SID
+was_here : (t : Table) (end : ℕ) → IsWell t → (f : FlowRow) → Has t.flows f → was_due t end f ≡ is_due end f
+was_here t end w f h =
+    let found = has_found (is_flow f.sid) t.flows f h (eqb_same f.sid) in
+    let there = found_has (is_flow f.sid) t.flows found.0 found.1 in
+    let same : found.0 ≡ f = one_flow 1 t.flows found.0 f w.rising there.0 h (eqb-true _ _ there.1) in
+    ap (λ (o : Option FlowRow). option_map_or (is_due end) o false) (found.1 ∙ ap (λ (g : FlowRow). Some g) same)
 
-pub flows_back : (rows : Rows) (ch : ℕ) (t : Table) → IsReached rows → table_of rows ch ≡ Some t → map flow_view (flows_on (table_of rows ch)) ≡ t.flows
-flows_back rows ch t r e = ap (λ o. map flow_view (flows_on o)) e ∙ rows_back t.flows (well_flows rows ch t r e) (reached_idle rows r ch t e)
+well_of : (t : Table) → IsReachedTable t → IsWell t
+well_of t r = reached_is_well r.rows r.reached r.channel t r.found
+
+wells : (t : Table) → IsReachedTable t → AllByRecursion IsWellFlow t.flows
+wells t r = well_flows r.rows r.channel t r.reached r.found
+
+idles : (t : Table) → IsReachedTable t → AllByRecursion IsIdle t.flows
+idles t r = reached_idle r.rows r.reached r.channel t r.found
+
+-- what is lent of them
+pub due_lent : (t : Table) (end : ℕ) → IsReachedTable t → AllByRecursion IsLent (map lent_flow (due_flows end t.flows))
+due_lent t end r = lent_all (due_flows end t.flows) (filtered IsWellFlow (is_due end) t.flows (wells t r)) (filtered IsIdle (is_due end) t.flows (idles t r))
+
+pub due_back : (t : Table) (end : ℕ) → IsReachedTable t → map flow_view (map lent_flow (due_flows end t.flows)) ≡ due_ones t end t.flows
+due_back t end r =
+    rows_back (due_flows end t.flows) (filtered IsWellFlow (is_due end) t.flows (wells t r)) (filtered IsIdle (is_due end) t.flows (idles t r))
+    ∙ filter_alike (is_due end) (was_due t end) t.flows (λ f h. sym (was_here t end (well_of t r) f h))
 
 -- the requests by the priority of their flows
-abbrev pub rank_in : Table → Waiting → Ranked
-rank_in t w = record { priority = priority_of t w; last = last_of t w.sid; request = w }
-
-of_number : (t : Table) (n : ℕ) (rank : Waiting → Ranked) → ((w : Waiting) → rank w ≡ rank_in t w) → (ws : List Waiting)
-    → requests_in (of_priority (map rank ws) n) ≡ filter (λ w. eqb (priority_of t w) n) ws
-of_number t n rank is [] = refl
-of_number t n rank is (w ∷ ws) =
-    ap (λ (r : Ranked). requests_in (cond (eqb r.priority n) (r ∷ of_priority (map rank ws) n) (of_priority (map rank ws) n))) (is w)
-    ∙ elim (eqb (priority_of t w) n) as (λ b. requests_in (cond b (rank_in t w ∷ of_priority (map rank ws) n) (of_priority (map rank ws) n)) ≡ cond b (w ∷ filter (λ u. eqb (priority_of t u) n) ws) (filter (λ u. eqb (priority_of t u) n) ws)) [
-      | true ↦ ap (λ (us : List Waiting). w ∷ us) (of_number t n rank is ws)
-      | false ↦ of_number t n rank is ws
+of_number : (t : Table) (n : ℕ) (ws : List Waiting) → requests_in (of_priority (map (rank_in t) ws) n) ≡ filter (λ w. eqb (priority_of t w) n) ws
+of_number t n [] = refl
+of_number t n (w ∷ ws) =
+    elim (eqb (priority_of t w) n) as (λ b. requests_in (cond b (rank_in t w ∷ of_priority (map (rank_in t) ws) n) (of_priority (map (rank_in t) ws) n)) ≡ cond b (w ∷ filter (λ u. eqb (priority_of t u) n) ws) (filter (λ u. eqb (priority_of t u) n) ws)) [
+      | true ↦ ap (λ (us : List Waiting). w ∷ us) (of_number t n ws)
+      | false ↦ of_number t n ws
     ]
 
 requests_append : (rs qs : List Ranked) → requests_in (rs ++ qs) ≡ requests_in rs ++ requests_in qs
 requests_append [] qs = refl
 requests_append (r ∷ rs) qs = ap (λ (ws : List Waiting). r.request ∷ ws) (requests_append rs qs)
 
-of_numbers : (t : Table) (rank : Waiting → Ranked) → ((w : Waiting) → rank w ≡ rank_in t w) → (ws : List Waiting) (ns : List ℕ)
-    → requests_in (flat_map (of_priority (map rank ws)) ns) ≡ flat_map (λ n. filter (λ w. eqb (priority_of t w) n) ws) ns
-of_numbers t rank is ws [] = refl
-of_numbers t rank is ws (n ∷ ns) =
-    requests_append (of_priority (map rank ws) n) (flat_map (of_priority (map rank ws)) ns)
-    ∙ ap (λ (us : List Waiting). us ++ requests_in (flat_map (of_priority (map rank ws)) ns)) (of_number t n rank is ws)
-    ∙ ap (λ (us : List Waiting). filter (λ w. eqb (priority_of t w) n) ws ++ us) (of_numbers t rank is ws ns)
+of_numbers : (t : Table) (ws : List Waiting) (ns : List ℕ) → requests_in (flat_map (of_priority (map (rank_in t) ws)) ns) ≡ flat_map (λ n. filter (λ w. eqb (priority_of t w) n) ws) ns
+of_numbers t ws [] = refl
+of_numbers t ws (n ∷ ns) =
+    requests_append (of_priority (map (rank_in t) ws) n) (flat_map (of_priority (map (rank_in t) ws)) ns)
+    ∙ ap (λ (us : List Waiting). us ++ requests_in (flat_map (of_priority (map (rank_in t) ws)) ns)) (of_number t n ws)
+    ∙ ap (λ (us : List Waiting). filter (λ w. eqb (priority_of t w) n) ws ++ us) (of_numbers t ws ns)
 
--- what the rows have of a request is what the table has
-ranked_at : (rows : Rows) (ch : ℕ) (t : Table) → table_of rows ch ≡ Some t → (w : Waiting) → ranked_on rows ch w ≡ rank_in t w
-ranked_at rows ch t e w = ap (λ o. record { priority = flow_priority (option_and_then (λ u. flow_of u w.sid) o); last = last_in (option_and_then (λ u. flow_of u w.sid) o); request = w }) e
+-- the table's requests by priority
+abbrev pub ranked_there : Table → List Ranked
+ranked_there t = by_priority (map (rank_in t) t.waiting)
 
--- the channel's requests by priority
-abbrev pub ranked_there : Rows → ℕ → List Ranked
-ranked_there rows ch = by_priority (map (ranked_on rows ch) (waiting_of (table_of rows ch)))
-
-pub ordered : (rows : Rows) (ch : ℕ) (t : Table) → table_of rows ch ≡ Some t → requests_in (ranked_there rows ch) ≡ in_order t t.waiting
-ordered rows ch t e =
-    ap (λ o. requests_in (by_priority (map (ranked_on rows ch) (waiting_of o)))) e
-    ∙ of_numbers t (ranked_on rows ch) (ranked_at rows ch t e) t.waiting (7 ∷ 6 ∷ 5 ∷ 4 ∷ 3 ∷ 2 ∷ 1 ∷ 0 ∷ [])
+pub ordered : (t : Table) → requests_in (ranked_there t) ≡ in_order t t.waiting
+ordered t = of_numbers t t.waiting (7 ∷ 6 ∷ 5 ∷ 4 ∷ 3 ∷ 2 ∷ 1 ∷ 0 ∷ [])
 
 -- each has the last minislot of its flow's lease
-pub lasts : (rows : Rows) (ch : ℕ) (t : Table) → table_of rows ch ≡ Some t → AllByRecursion (IsOfLast (last_of t)) (ranked_there rows ch)
-lasts rows ch t e = all_has (IsOfLast (last_of t)) (ranked_there rows ch) (λ r h.
-    let by = has_flat_map (of_priority (map (ranked_on rows ch) (waiting_of (table_of rows ch)))) (7 ∷ 6 ∷ 5 ∷ 4 ∷ 3 ∷ 2 ∷ 1 ∷ 0 ∷ []) r h in
-    let one = has_filter (λ (x : Ranked). eqb x.priority by.0) (map (ranked_on rows ch) (waiting_of (table_of rows ch))) r by.2 in
-    let m = has_map (ranked_on rows ch) (waiting_of (table_of rows ch)) r one.0 in
-    subst (IsOfLast (last_of t)) (sym (ranked_at rows ch t e m.0) ∙ m.2) refl)
+pub lasts : (t : Table) → AllByRecursion (IsOfLast (last_of t)) (ranked_there t)
+lasts t = all_has (IsOfLast (last_of t)) (ranked_there t) (λ r h.
+    let by = has_flat_map (of_priority (map (rank_in t) t.waiting)) (7 ∷ 6 ∷ 5 ∷ 4 ∷ 3 ∷ 2 ∷ 1 ∷ 0 ∷ []) r h in
+    let one = has_filter (λ (x : Ranked). eqb x.priority by.0) (map (rank_in t) t.waiting) r by.2 in
+    let m = has_map (rank_in t) t.waiting r one.0 in
+    subst (IsOfLast (last_of t)) m.2 refl)
 
 pub unicast : (t : Table) → IsWell t → (rs : List Ranked) → requests_in rs ≡ in_order t t.waiting → AllByRecursion IsUnicast rs
 unicast t w rs is = all_has IsUnicast rs (λ r h.
@@ -140,78 +135,118 @@ unicast t w rs is = all_has IsUnicast rs (λ r h.
     let asked = w.requests r.request (in_order_has t t.waiting r.request there) in
     subst (λ n. n ≤ last_sid) asked.sid (w.flows asked.flow asked.there).last)
 
-pub requests_unicast : (rows : Rows) (ch : ℕ) → IsReached rows → AllByRecursion IsUnicast (ranked_there rows ch)
-requests_unicast rows ch r = by (table_of rows ch) refl
+pub requests_unicast : (t : Table) → IsReachedTable t → AllByRecursion IsUnicast (ranked_there t)
+requests_unicast t r = unicast t (well_of t r) (ranked_there t) (ordered t)
+
+-- ---- a pass over flows that are due, and over all
+
+-- a flow that wasn't due isn't; and it is left as it is
+abbrev NotDue : (FlowRow → Bool) → ℕ → FlowRow → Type 0
+NotDue was end f = was f ≡ false → is_due end f ≡ false
+
+abbrev pub Stays : (FlowRow → Bool) → FlowRow → FlowRow → Type 0
+Stays was f g = was f ≡ false → g ≡ f
+
+abbrev of_due : (FlowRow → Bool) → Passed → Passed
+of_due was p = record { flows = filter was p.flows; placements = p.placements }
+
+-- what isn't due gets nothing
+late : (span : Extent) (p : Periodic) (i : ℕ) (ps : List Placement) → ltb (due_at p i) (end_of span) ≡ false → run_flow span (Some p) i ps ≡ record { placements = ps; index = i }
+late span p i ps h = ap (λ b. run_due_times span p (cond b ((end_of span - 1 - due_at p i) / p.interval + 1) 0) i ps) h
+
+unserved_grants : (c : Channel) (span : Extent) (f : FlowRow) (ps : List Placement) → is_due (end_of span) f ≡ false → run_flow span (grants_of_flow c f) f.index ps ≡ record { placements = ps; index = f.index }
+unserved_grants c span f ps e = by f.kind e
   where
-    by : (o : Option Table) → table_of rows ch ≡ o → AllByRecursion IsUnicast (ranked_there rows ch)
-    by (Some t) e = unicast t (reached_is_well rows r ch t e) (ranked_there rows ch) (ordered rows ch t e)
-    by None e = rw e tt
+    by : (kind : FlowKind) → (is_timed kind && ltb (due_time kind f.index) (end_of span)) ≡ false → run_flow span (grants_of_kind c f.sid f.last kind) f.index ps ≡ record { placements = ps; index = f.index }
+    by (BestEffort priority) h = refl
+    by (Ugs size interval jitter base) h = late span (record { sid = f.sid; iuc = unsolicited_iuc c size; size = size; interval = interval; jitter = jitter; base = base; last = f.last }) f.index ps h
+    by (Poll interval jitter base) h = refl
 
--- the timed flows of a pass, and what a pass over them alone gives
-abbrev of_timed : Passed → Passed
-of_timed p = record { flows = timed p.flows; placements = p.placements }
-
-pass_timed : (span : Extent) (what : FlowRow → Option Periodic) → ((f : FlowRow) → is_timed f.kind ≡ false → what f ≡ None) → (fs : List FlowRow) (ps : List Placement)
-    → pass span what (timed fs) ps ≡ of_timed (pass span what fs ps)
-pass_timed span what none [] ps = refl
-pass_timed span what none (f ∷ fs) ps = by (pass_timed span what none fs) (is_timed f.kind) refl
+unserved_polls : (c : Channel) (span : Extent) (f : FlowRow) (ps : List Placement) → is_due (end_of span) f ≡ false → run_flow span (polls_of_flow c f) f.index ps ≡ record { placements = ps; index = f.index }
+unserved_polls c span f ps e = by f.kind e
   where
-    by : ((qs : List Placement) → pass span what (timed fs) qs ≡ of_timed (pass span what fs qs)) → (b : Bool) → is_timed f.kind ≡ b → pass span what (cond b (f ∷ timed fs) (timed fs)) ps
-        ≡ record {
-          flows = cond b (record f { index = (run_flow span (what f) f.index ps).index } ∷ timed (pass span what fs (run_flow span (what f) f.index ps).placements).flows) (timed (pass span what fs (run_flow span (what f) f.index ps).placements).flows);
-          placements = (pass span what fs (run_flow span (what f) f.index ps).placements).placements;
-        }
-    by rest true e = ap (with_first (record f { index = (run_flow span (what f) f.index ps).index })) (rest (run_flow span (what f) f.index ps).placements)
-    by rest false e = rest ps ∙ ap (λ (o : Option Periodic). of_timed (pass span what fs (run_flow span o f.index ps).placements)) (sym (none f e))
+    by : (kind : FlowKind) → (is_timed kind && ltb (due_time kind f.index) (end_of span)) ≡ false → run_flow span (polls_of_kind c f.sid f.last kind) f.index ps ≡ record { placements = ps; index = f.index }
+    by (BestEffort priority) h = refl
+    by (Ugs size interval jitter base) h = refl
+    by (Poll interval jitter base) h = late span (record { sid = f.sid; iuc = poll_iuc; size = 1; interval = interval; jitter = jitter; base = base; last = f.last }) f.index ps h
 
-no_grants : (c : Channel) (f : FlowRow) → is_timed f.kind ≡ false → grants_of_flow c f ≡ None
-no_grants c f e = by f.kind e
-  where
-    by : (kind : FlowKind) → is_timed kind ≡ false → grants_of_kind c f.sid f.last kind ≡ None
-    by (BestEffort priority) e = refl
-    by (Ugs size interval jitter base) e = absurd cc
-    by (Poll interval jitter base) e = absurd cc
+module _ (span : Extent) (what : FlowRow → Option Periodic) (was : FlowRow → Bool) (keeps : (f : FlowRow) (i : ℕ) → was (record f { index = i }) ≡ was f)
+    (unserved : (f : FlowRow) (ps : List Placement) → is_due (end_of span) f ≡ false → run_flow span (what f) f.index ps ≡ record { placements = ps; index = f.index }) where
+  pass_due : (fs : List FlowRow) (ps : List Placement) → AllByRecursion (NotDue was (end_of span)) fs → pass span what (filter was fs) ps ≡ of_due was (pass span what fs ps)
+  pass_due [] ps all = refl
+  pass_due (f ∷ fs) ps all = by (λ qs. pass_due fs qs all.1) (was f) refl
+    where
+      by : ((qs : List Placement) → pass span what (filter was fs) qs ≡ of_due was (pass span what fs qs)) → (b : Bool) → was f ≡ b → pass span what (cond b (f ∷ filter was fs) (filter was fs)) ps
+          ≡ of_due was (with_first (record f { index = (run_flow span (what f) f.index ps).index }) (pass span what fs (run_flow span (what f) f.index ps).placements))
+      by rest true e =
+          let ran : Ran = run_flow span (what f) f.index ps in
+          let more : Passed = pass span what fs ran.placements in
+          ap (with_first (record f { index = ran.index })) (rest ran.placements)
+          ∙ ap (λ b. record { flows = cond b (record f { index = ran.index } ∷ filter was more.flows) (filter was more.flows); placements = more.placements }) (sym (keeps f ran.index ∙ e))
+      by rest false e =
+          let ran : Ran = run_flow span (what f) f.index ps in
+          let more : Passed = pass span what fs ran.placements in
+          rest ps
+          ∙ ap (λ (qs : List Placement). of_due was (pass span what fs qs)) (sym (ap (λ (r : Ran). r.placements) (unserved f ps (all.0 e))))
+          ∙ ap (λ b. record { flows = cond b (record f { index = ran.index } ∷ filter was more.flows) (filter was more.flows); placements = more.placements }) (sym (keeps f ran.index ∙ e))
 
-no_polls : (c : Channel) (f : FlowRow) → is_timed f.kind ≡ false → polls_of_flow c f ≡ None
-no_polls c f e = by f.kind e
-  where
-    by : (kind : FlowKind) → is_timed kind ≡ false → polls_of_kind c f.sid f.last kind ≡ None
-    by (BestEffort priority) e = refl
-    by (Ugs size interval jitter base) e = absurd cc
-    by (Poll interval jitter base) e = absurd cc
+  pass_stays : (fs : List FlowRow) (ps : List Placement) → AllByRecursion (NotDue was (end_of span)) fs → AllZip (Stays was) fs (pass span what fs ps).flows
+  pass_stays [] ps all = tt
+  pass_stays (f ∷ fs) ps all =
+      ((λ e. ap (λ i. record f { index = i }) (ap (λ (r : Ran). r.index) (unserved f ps (all.0 e)))), pass_stays fs (run_flow span (what f) f.index ps).placements all.1)
 
--- the rows of timed flows as they are lent
-pub timed_rows : (fs : List Flow) → map flow_view (filter (λ f. is_timed f.kind) fs) ≡ timed (map flow_view fs)
-timed_rows [] = refl
-timed_rows (f ∷ fs) = elim (is_timed f.kind) as (λ b. map flow_view (cond b (f ∷ filter (λ g. is_timed g.kind) fs) (filter (λ g. is_timed g.kind) fs)) ≡ cond b (flow_view f ∷ timed (map flow_view fs)) (timed (map flow_view fs))) [
-  | true ↦ ap (λ (rs : List FlowRow). flow_view f ∷ rs) (timed_rows fs)
-  | false ↦ timed_rows fs
-]
+  pass_not_due : (fs : List FlowRow) (ps : List Placement) → AllByRecursion (NotDue was (end_of span)) fs → AllByRecursion (NotDue was (end_of span)) (pass span what fs ps).flows
+  pass_not_due [] ps all = tt
+  pass_not_due (f ∷ fs) ps all = (
+    (λ e.
+        let before : was f ≡ false = sym (keeps f (run_flow span (what f) f.index ps).index) ∙ e in
+        ap (λ i. is_due (end_of span) (record f { index = i })) (ap (λ (r : Ran). r.index) (unserved f ps (all.0 before))) ∙ all.0 before),
+    pass_not_due fs (run_flow span (what f) f.index ps).placements all.1,
+  )
 
-pub timed_lent : (fs : List Flow) → AllByRecursion IsLent fs → AllByRecursion IsLent (filter (λ f. is_timed f.kind) fs)
-timed_lent [] all = tt
-timed_lent (f ∷ fs) all = elim (is_timed f.kind) as (λ b. AllByRecursion IsLent (cond b (f ∷ filter (λ g. is_timed g.kind) fs) (filter (λ g. is_timed g.kind) fs))) [
-  | true ↦ (all.0, timed_lent fs all.1)
-  | false ↦ timed_lent fs all.1
-]
+-- the flows of a table
+abbrev was : Table → Extent → FlowRow → Bool
+was t span f = was_due t (end_of span) f
+
+not_due : (t : Table) (span : Extent) → IsWell t → AllByRecursion (NotDue (was t span) (end_of span)) t.flows
+not_due t span w = all_has (NotDue (was t span) (end_of span)) t.flows (λ f h e. sym (was_here t (end_of span) w f h) ∙ e)
+
+stays_twice : (d : FlowRow → Bool) (fs bs gs : List FlowRow) → AllZip (Stays d) fs bs → AllZip (Stays d) bs gs → AllZip (Stays d) fs gs
+stays_twice d [] [] [] a b = tt
+stays_twice d (f ∷ fs) (c ∷ bs) (g ∷ gs) a b = ((λ e. let first = a.0 e in b.0 (ap d first ∙ e) ∙ first), stays_twice d fs bs gs a.1 b.1)
+stays_twice d [] [] (g ∷ gs) a b = absurd b
+stays_twice d [] (c ∷ bs) gs a b = absurd a
+stays_twice d (f ∷ fs) [] gs a b = absurd a
+stays_twice d (f ∷ fs) (c ∷ bs) [] a b = absurd b
+
+-- those that weren't due are served nothing
+pub stays_served : (t : Table) (span : Extent) → IsWell t → AllZip (Stays (was_due t (end_of span))) t.flows (flows_served t span)
+stays_served t span w =
+    let c = t.row.channel in
+    let first : Passed = pass span (grants_of_flow c) t.flows [] in
+    stays_twice (was t span) t.flows first.flows (flows_served t span)
+    (pass_stays span (grants_of_flow c) (was t span) (λ f i. refl) (unserved_grants c span) t.flows [] (not_due t span w))
+    (pass_stays span (polls_of_flow c) (was t span) (λ f i. refl) (unserved_polls c span) first.flows first.placements
+    (pass_not_due span (grants_of_flow c) (was t span) (λ f i. refl) (unserved_grants c span) t.flows [] (not_due t span w)))
 
 -- two services and then the requests fill a MAP
-pub served_filled : (t : Table) (span : Extent) (ack : ℕ) (c : Channel) (f0 f1 f2 : List Flow) (rs : List Waiting) (p1 p2 p3 : List Placement) → t.row.channel ≡ c → map flow_view f0 ≡ timed t.flows
+pub served_filled : (t : Table) (span : Extent) (ack : ℕ) → IsWell t → (c : Channel) (f0 f1 f2 : List Flow) (rs : List Waiting) (p1 p2 p3 : List Placement) → t.row.channel ≡ c → map flow_view f0 ≡ due_ones t (end_of span) t.flows
     → p1 ≡ (pass span (given_to Grants c) (map flow_view f0) []).placements → map flow_view f1 ≡ (pass span (given_to Grants c) (map flow_view f0) []).flows
     → p2 ≡ (pass span (given_to Polls c) (map flow_view f1) p1).placements → map flow_view f2 ≡ (pass span (given_to Polls c) (map flow_view f1) p1).flows
     → rs ≡ in_order t t.waiting → p3 ≡ place_requests span c (last_of t) rs p2
-    → (p3 ≡ (fill_span t span ack).placements) × (map flow_view f2 ≡ timed (flows_served t span))
-served_filled t span ack c f0 f1 f2 rs p1 p2 p3 row start placed1 flows1 placed2 flows2 order placed3 =
+    → (p3 ≡ (fill_span t span ack).placements) × (map flow_view f2 ≡ due_ones t (end_of span) (flows_served t span))
+served_filled t span ack w c f0 f1 f2 rs p1 p2 p3 row start placed1 flows1 placed2 flows2 order placed3 =
     let first : Passed = pass span (grants_of_flow t.row.channel) t.flows [] in
-    let one : pass span (given_to Grants c) (map flow_view f0) [] ≡ of_timed first =
+    let one : pass span (given_to Grants c) (map flow_view f0) [] ≡ of_due (was t span) first =
     ap (λ d. pass span (grants_of_flow d) (map flow_view f0) []) (sym row) ∙ ap (λ (fs : List FlowRow). pass span (grants_of_flow t.row.channel) fs []) start
-    ∙ pass_timed span (grants_of_flow t.row.channel) (no_grants t.row.channel) t.flows [] in
+    ∙ pass_due span (grants_of_flow t.row.channel) (was t span) (λ f i. refl) (unserved_grants t.row.channel span) t.flows [] (not_due t span w) in
     let p1_is : p1 ≡ first.placements = placed1 ∙ ap (λ (p : Passed). p.placements) one in
-    let f1_is : map flow_view f1 ≡ timed first.flows = flows1 ∙ ap (λ (p : Passed). p.flows) one in
-    let two : pass span (given_to Polls c) (map flow_view f1) p1 ≡ of_timed (fill_polls t span first) =
+    let f1_is : map flow_view f1 ≡ due_ones t (end_of span) first.flows = flows1 ∙ ap (λ (p : Passed). p.flows) one in
+    let two : pass span (given_to Polls c) (map flow_view f1) p1 ≡ of_due (was t span) (fill_polls t span first) =
     ap (λ d. pass span (polls_of_flow d) (map flow_view f1) p1) (sym row) ∙ ap (λ (fs : List FlowRow). pass span (polls_of_flow t.row.channel) fs p1) f1_is
-    ∙ ap (λ (ps : List Placement). pass span (polls_of_flow t.row.channel) (timed first.flows) ps) p1_is
-    ∙ pass_timed span (polls_of_flow t.row.channel) (no_polls t.row.channel) first.flows first.placements in
+    ∙ ap (λ (ps : List Placement). pass span (polls_of_flow t.row.channel) (due_ones t (end_of span) first.flows) ps) p1_is
+    ∙ pass_due span (polls_of_flow t.row.channel) (was t span) (λ f i. refl) (unserved_polls t.row.channel span) first.flows first.placements
+    (pass_not_due span (grants_of_flow t.row.channel) (was t span) (λ f i. refl) (unserved_grants t.row.channel span) t.flows [] (not_due t span w)) in
     let p2_is : p2 ≡ (fill_polls t span first).placements = placed2 ∙ ap (λ (p : Passed). p.placements) two in (
       placed3 ∙ ap (λ d. place_requests span d (last_of t) rs p2) (sym row) ∙ ap (λ (ws : List Waiting). place_requests span t.row.channel (last_of t) ws p2) order
           ∙ ap (λ (ps : List Placement). place_requests span t.row.channel (last_of t) (in_order t t.waiting) ps) p2_is,
@@ -219,15 +254,15 @@ served_filled t span ack c f0 f1 f2 rs p1 p2 p3 row start placed1 flows1 placed2
     )
 
 -- the same of a MAP that is filled step by step
-pub parts_filled : (t : Table) (ack : ℕ) (c : Channel) (a b d e : PartMap) (f0 f1 f2 : List Flow) (rs : List Ranked) → IsOfTable t c f0 rs → a.placements ≡ [] → b.span ≡ a.span → d.span ≡ b.span
+pub parts_filled : (t : Table) (ack : ℕ) (c : Channel) (a b d e : PartMap) (f0 f1 f2 : List Flow) (rs : List Ranked) → IsOfTable t (end_of a.span) c f0 rs → a.placements ≡ [] → b.span ≡ a.span → d.span ≡ b.span
     → b.placements ≡ (pass a.span (given_to Grants c) (map flow_view f0) a.placements).placements → map flow_view f1 ≡ (pass a.span (given_to Grants c) (map flow_view f0) a.placements).flows
     → d.placements ≡ (pass b.span (given_to Polls c) (map flow_view f1) b.placements).placements → map flow_view f2 ≡ (pass b.span (given_to Polls c) (map flow_view f1) b.placements).flows
     → ((last : ℕ → ℕ) → AllByRecursion (IsOfLast last) rs → e.placements ≡ place_requests d.span c last (requests_in rs) d.placements)
-    → (e.placements ≡ (fill_span t a.span ack).placements) × (map flow_view f2 ≡ timed (flows_served t a.span))
+    → (e.placements ≡ (fill_span t a.span ack).placements) × (map flow_view f2 ≡ due_ones t (end_of a.span) (flows_served t a.span))
 parts_filled t ack c a b d e f0 f1 f2 rs of empty same1 same2 placed1 flows1 placed2 flows2 placed3 =
     let grants : pass a.span (given_to Grants c) (map flow_view f0) a.placements ≡ pass a.span (given_to Grants c) (map flow_view f0) [] = ap (λ (ps : List Placement). pass a.span (given_to Grants c) (map flow_view f0) ps) empty in
     let polls : pass b.span (given_to Polls c) (map flow_view f1) b.placements ≡ pass a.span (given_to Polls c) (map flow_view f1) b.placements = ap (λ (s : Extent). pass s (given_to Polls c) (map flow_view f1) b.placements) same1 in
-    served_filled t a.span ack c f0 f1 f2 (requests_in rs) b.placements d.placements e.placements of.channel of.flows_are
+    served_filled t a.span ack (well_of t of.reached) c f0 f1 f2 (requests_in rs) b.placements d.placements e.placements of.channel of.flows_are
     (placed1 ∙ ap (λ (p : Passed). p.placements) grants) (flows1 ∙ ap (λ (p : Passed). p.flows) grants)
     (placed2 ∙ ap (λ (p : Passed). p.placements) polls) (flows2 ∙ ap (λ (p : Passed). p.flows) polls)
     of.requests_are (placed3 (last_of t) of.lasts_are ∙ ap (λ (s : Extent). place_requests s c (last_of t) (requests_in rs) d.placements) (same2 ∙ same1))

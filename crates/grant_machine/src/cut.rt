@@ -2,10 +2,9 @@
 
 ghost use Rattle.std.specs.Prelude.{◌≡◌, ℕ, ◌+◌, ◌≤◌, [], Some, None, length, map, is_none, IsOk, IsSome, IfOk, OnOk, OnErr};
 ghost use Rattle.std.specs.List.{AllByRecursion};
-ghost use Rattle.map_body.specs.Rules.{AreElements};
 ghost use Rattle.map_body.specs.Layout.{layout};
 ghost use Rattle.flow_state.specs.Limits.{last_time, most_minislots};
-ghost use Rattle.flow_state.specs.Rows.{Table, table_of, timed, channel_at};
+ghost use Rattle.flow_state.specs.Rows.{Table, channel_at};
 ghost use Rattle.flow_state.specs.Changes.{with_cut_closed};
 ghost use Rattle.flow_state.specs.View.{flow_view};
 ghost use Rattle.grant_machine.specs.declared.command.Command.TheVariants as commands;
@@ -15,22 +14,50 @@ ghost use Rattle.grant_machine.specs.Steps.{step, refusal_of};
 ghost use Rattle.grant_machine.specs.Fits.{FitsCommand};
 ghost use Rattle.grant_machine.specs.Runs.{IsReached};
 ghost use Rattle.grant_machine_parts.specs.Lent.{IsLent, IsUnicast};
-ghost use Rattle.grant_machine.specs.CutRows.{IsOfTable, IsOfKind, due_times_set, requests_taken};
+ghost use Rattle.grant_machine.specs.CutRows.{IsOfTable, IsOfKind, IsReachedTable, due_ones, due_times_set, requests_taken};
 ghost use Rattle.grant_machine.specs.Plans.{IsFilledBy, elements_in};
 
 use crate::output::{MapBytes, Output};
-use crate::rows::{copy_requests, copy_timed, rank_requests, set_due_times, take_granted};
-use flow_state::{Channel, ChannelRow, Flow, Flows, LAST_TIME, MOST_MINISLOTS, Refusal};
+use crate::rows::{rank_requests, set_due_times, take_granted};
+use flow_state::{
+    Channel, ChannelRow, ChannelTable, Flow, Flows, LAST_TIME, MOST_MINISLOTS, Refusal,
+};
 use grant_machine_parts::{Filling, Ranked, Service, by_priority, drawing, place_requests, serve};
+use map_body::{Element, lay_out};
 use minislot_time::Slot;
 use std::alloc::{AllocError, Global};
 
-/// A channel's next MAP, filled; its timed flows with their next due times; its requests by priority.
+/// A channel's next MAP, filled; its flows that were due before its end, with their next due times; its requests by
+/// priority.
 #[derive(Drop)]
 pub struct Filled {
     filling: Filling,
     flows: Vec<Flow>,
     ranked: Vec<Ranked>,
+}
+
+/// What cuts fill. Its room stays between them, so that a cut takes memory only for its MAP, and where more is
+/// due or waits than before.
+#[derive(Drop)]
+pub struct Desk {
+    filled: Filled,
+    by_arrival: Vec<Ranked>,
+    elements: Vec<Element>,
+}
+
+impl Desk {
+    /// Nothing was cut. It takes no memory.
+    pub fn new(alloc: Global) -> Desk {
+        Desk {
+            filled: Filled {
+                filling: Filling::new(alloc),
+                flows: Vec::new(alloc),
+                ranked: Vec::new(alloc),
+            },
+            by_arrival: Vec::new(alloc),
+            elements: Vec::new(alloc),
+        }
+    }
 }
 
 /// May a channel's next MAP have this length, start and Ack Time?
@@ -57,8 +84,8 @@ fn place_all(
     requires lent { AllByRecursion IsLent flows.old }
     requires unicast { AllByRecursion IsUnicast ranked.now }
     ensures span { filling.new.span ≡ filling.old.span }
-    ensures placed { OnOk result ((t : Table) (ack : ℕ) → IsOfTable t channel.now flows.old ranked.now → filling.new.placements ≡ (fill_span t filling.old.span ack).placements) }
-    ensures flows { OnOk result ((t : Table) → IsOfTable t channel.now flows.old ranked.now → map flow_view flows.new ≡ timed (flows_served t filling.old.span)) }
+    ensures placed { OnOk result ((t : Table) (ack : ℕ) → IsOfTable t (end_of filling.old.span) channel.now flows.old ranked.now → filling.new.placements ≡ (fill_span t filling.old.span ack).placements) }
+    ensures flows { OnOk result ((t : Table) → IsOfTable t (end_of filling.old.span) channel.now flows.old ranked.now → map flow_view flows.new ≡ due_ones t (end_of filling.old.span) (flows_served t filling.old.span)) }
     ensures lent { OnOk result (AllByRecursion IsLent flows.new) }
 {
     serve(Service::Grants, channel, filling, flows)?;
@@ -69,30 +96,29 @@ fn place_all(
 
 /// Fills a channel's next MAP.
 fn fill(
-    alloc: Global,
-    flows: &Flows,
-    ch: u8,
-    channel: &Channel,
+    table: &ChannelTable,
+    filled: &mut Filled,
+    by_arrival: &mut Vec<Ranked>,
     start: u64,
     len: u16,
-) -> Result<Filled, AllocError>
-    requires reached { IsReached flows.now }
-    requires channel { (t : Table) → table_of flows.now ch ≡ Some t → t.row.channel ≡ channel.now }
+) -> Result<(), AllocError>
+    requires reached { IsReachedTable table.now }
     requires short { len ≤ most_minislots }
     requires early { start + len ≤ last_time }
-    ensures { IfOk result (λ filled. (t : Table) → table_of flows.now ch ≡ Some t → IsFilledBy t (record { start = start; len = len }) filled) }
+    ensures { OnOk result (IsFilledBy table.now (record { start = start; len = len }) filled.new) }
 {
-    let mut served = copy_timed(alloc, flows, ch)?;
-    let waiting = copy_requests(alloc, flows, ch)?;
-    let by_arrival = rank_requests(alloc, flows, ch, &waiting)?;
-    let ranked = by_priority(alloc, &by_arrival)?;
-    let mut filling = Filling::new(alloc, start, len)?;
-    place_all(channel, &mut filling, &mut served, &ranked)?;
-    Ok(Filled {
-        filling,
-        flows: served,
-        ranked,
-    })
+    filled.filling.open(start, len)?;
+    table.copy_due(start + u64::from(len), &mut filled.flows)?;
+    rank_requests(table, by_arrival)?;
+    by_priority(&mut filled.ranked, by_arrival)?;
+    let channel = &table.row().channel;
+    place_all(
+        channel,
+        &mut filled.filling,
+        &mut filled.flows,
+        &filled.ranked,
+    )?;
+    Ok(())
 }
 
 /// Sets the due times, takes the granted requests out, and closes the MAP: flows whose leases end before its end are gone, with
@@ -112,22 +138,23 @@ fn draw(
     alloc: Global,
     channel: &Channel,
     filled: &Filled,
+    elements: &mut Vec<Element>,
     start: Slot,
     ack: Slot,
 ) -> Result<Vec<u8>, AllocError>
     requires unicast { AllByRecursion IsUnicast filled.now.ranked.items }
-    requires sound { AreElements (elements_in channel.now filled.now) }
     requires few { length (elements_in channel.now filled.now) ≤ 255 }
     ensures { IfOk result (λ bytes. bytes.items ≡ layout (head_of channel.now start ack) (elements_in channel.now filled.now) 0) }
 {
-    let elements = drawing::elements_of(alloc, channel, &filled.filling, &filled.ranked)?;
+    drawing::draw(elements, channel, &filled.filling, &filled.ranked)?;
     let head = drawing::head_of(channel, start, ack);
-    drawing::bytes_of(alloc, head, elements)
+    lay_out(alloc, &head, elements)
 }
 
 /// Makes a channel's next MAP, which is within the limits.
 fn cut_row(
     flows: &mut Flows,
+    desk: &mut Desk,
     alloc: Global,
     ch: u8,
     row: ChannelRow,
@@ -144,16 +171,18 @@ fn cut_row(
 {
     let start = row.next_start.max(not_before);
     let ack_time = row.ack.max(ack.min(start));
-    let filled = fill(alloc, flows, ch, &row.channel, start, len)?;
+    let table = flows.table(ch).unwrap();
+    fill(table, &mut desk.filled, &mut desk.by_arrival, start, len)?;
     let slot = Slot::new(start).unwrap();
     let bytes = draw(
         alloc,
         &row.channel,
-        &filled,
+        &desk.filled,
+        &mut desk.elements,
         slot,
         Slot::new(ack_time).unwrap(),
     )?;
-    close(flows, ch, &filled, ack_time);
+    close(flows, ch, &desk.filled, ack_time);
     Ok(Output::Map {
         ch,
         start: slot,
@@ -165,6 +194,7 @@ fn cut_row(
 /// Makes a channel's next MAP.
 pub fn cut(
     flows: &mut Flows,
+    desk: &mut Desk,
     alloc: Global,
     ch: u8,
     len: u16,
@@ -185,5 +215,5 @@ pub fn cut(
     if !is_within_limits(&row, len, not_before, ack) {
         return Ok(Output::Refused(Refusal::BadValue.number()));
     }
-    cut_row(flows, alloc, ch, row, len, not_before, ack)
+    cut_row(flows, desk, alloc, ch, row, len, not_before, ack)
 }

@@ -1,5 +1,5 @@
 use crate::command::Command;
-use crate::cut;
+use crate::cut::{self, Desk};
 use crate::output::Output;
 use crate::refusals::{add_flow, drop_flow, request, set_channel};
 use flow_state::Flows;
@@ -10,6 +10,7 @@ use std::marker::Model;
 #[derive(Drop)]
 pub struct Machine {
     flows: Flows,
+    desk: Desk,
     alloc: Global,
 }
 
@@ -36,6 +37,7 @@ impl Machine {
     {
         Machine {
             flows: Flows::new(alloc),
+            desk: Desk::new(alloc),
             alloc,
         }
     }
@@ -68,7 +70,7 @@ impl Machine {
                 len,
                 not_before,
                 ack,
-            } => cut::cut(flows, self.alloc, ch, len, not_before, ack),
+            } => cut::cut(flows, &mut self.desk, self.alloc, ch, len, not_before, ack),
         }
     }
 }

@@ -1,9 +1,7 @@
 //! The MAP body that tells modems of a filled MAP.
 
-ghost use Rattle.std.specs.Prelude.{◌≡◌, ◌^◌, ◌<◌, ◌≤◌, ◌∷◌, ◌++◌, length, map, IfOk, OnOk};
+ghost use Rattle.std.specs.Prelude.{◌≡◌, ◌^◌, ◌<◌, ◌≤◌, ◌∷◌, ◌++◌, map, OnOk};
 ghost use Rattle.std.specs.List.{filter_map, range_with_len};
-ghost use Rattle.map_body.specs.Rules.{AreElements};
-ghost use Rattle.map_body.specs.Layout.{layout};
 ghost use Rattle.flow_state.specs.Limits.{most_minislots};
 ghost use Rattle.std.specs.List.{AllByRecursion};
 ghost use Rattle.grant_machine_parts.specs.Placing.{holds, holder};
@@ -16,11 +14,11 @@ ghost use Rattle.grant_machine_parts.specs.Cutting.{end_of};
 
 use crate::placing::{Filling, Placement};
 use crate::services::grant_iuc;
-use crate::waiting::{Ranked, is_granted};
+use crate::waiting::{Ranked, is_granted, requested};
 use flow_state::Channel;
-use map_body::{Element, Head, Iuc, MapBody, Offset, Sid, encode};
+use map_body::{Element, Head, Iuc, Offset, Sid};
 use minislot_time::{Slot, wire};
-use std::alloc::{AllocError, Global};
+use std::alloc::AllocError;
 
 /// Does the placement hold the minislot at this offset?
 fn holds(x: u16, placement: &Placement) -> bool
@@ -134,7 +132,7 @@ fn put_pending(
     requires { AllByRecursion IsUnicast ranked.now }
     ensures { OnOk result (elements.new.items ≡ elements.old.items ++ map (pending_element channel.now filling.now.span.len) (still_waiting filling.now.placements (requests_in (going_on (end_of filling.now.span) ranked.now)))) }
 {
-    let placements = filling.placements();
+    let placements = requested(filling.placements());
     let len = filling.len();
     let end = filling.end();
     for one in ranked {
@@ -149,27 +147,27 @@ fn put_pending(
     Ok(())
 }
 
-/// The elements of a filled MAP: those by offset, the Null at its length, then those of the
-/// requests that still wait and whose leases go on to the MAP's end.
-pub fn elements_of(
-    alloc: Global,
+/// Puts the elements of a filled MAP, over what is there: those by offset, the Null at its length, then
+/// those of the requests that still wait and whose leases go on to the MAP's end.
+pub fn draw(
+    elements: &mut Vec<Element>,
     channel: &Channel,
     filling: &Filling,
     ranked: &[Ranked],
-) -> Result<Vec<Element>, AllocError>
+) -> Result<(), AllocError>
     requires { AllByRecursion IsUnicast ranked.now }
-    ensures { IfOk result (λ elements. elements.items ≡ filter_map (begins_at filling.now.placements) (range_with_len 0 filling.now.span.len) ++ null_element filling.now.span.len ∷ map (pending_element channel.now filling.now.span.len) (still_waiting filling.now.placements (requests_in (going_on (end_of filling.now.span) ranked.now)))) }
+    ensures { OnOk result (elements.new.items ≡ filter_map (begins_at filling.now.placements) (range_with_len 0 filling.now.span.len) ++ null_element filling.now.span.len ∷ map (pending_element channel.now filling.now.span.len) (still_waiting filling.now.placements (requests_in (going_on (end_of filling.now.span) ranked.now)))) }
 {
     let len = filling.len();
-    let mut elements = Vec::new(alloc);
-    put_intervals(&mut elements, filling.placements(), len)?;
+    elements.clear();
+    put_intervals(elements, filling.placements(), len)?;
     elements.push(Element {
         sid: Sid::NOBODY,
         iuc: Iuc::NULL,
         offset: Offset::new(len).unwrap(),
     })?;
-    put_pending(&mut elements, channel, filling, ranked)?;
-    Ok(elements)
+    put_pending(elements, channel, filling, ranked)?;
+    Ok(())
 }
 
 /// The head of a channel's MAP.
@@ -183,20 +181,5 @@ pub fn head_of(channel: &Channel, start: Slot, ack: Slot) -> Head
         ack: wire(ack),
         ranging_backoff: channel.ranging_backoff,
         data_backoff: channel.data_backoff,
-    }
-}
-
-/// The bytes of a MAP body.
-pub fn bytes_of(alloc: Global, head: Head, elements: Vec<Element>) -> Result<Vec<u8>, AllocError>
-    requires sound { AreElements elements.items }
-    requires few { length elements.items ≤ 255 }
-    ensures { IfOk result (λ bytes. bytes.items ≡ layout head elements.items 0) }
-{
-    match MapBody::new(head, elements) {
-        Ok(map) => match encode(alloc, &map) {
-            Ok(bytes) => Ok(bytes),
-            Err(_) => Err(AllocError),
-        },
-        Err(_) => unreachable!(),
     }
 }

@@ -36,8 +36,8 @@ pub struct Placement {
     pub cause: Cause,
 }
 
-/// A MAP's minislots: the placements that hold some of them, and the gaps between these. Room for all that it may have is
-/// taken when it is made, and the gaps after a placement are put beside those before it.
+/// A MAP's minislots: the placements that hold some of them, and the gaps between these. Room for all that it may have
+/// is taken when it is first opened, and the gaps after a placement are put beside those before it.
 #[derive(Drop)]
 pub struct Filling {
     start: u64,
@@ -60,21 +60,38 @@ impl Model for Filling {
 }
 
 impl Filling {
-    /// All of the minislots free.
-    pub fn new(alloc: Global, start: u64, len: u16) -> Result<Filling, AllocError>
+    /// No minislots.
+    pub fn new(alloc: Global) -> Filling
+        ensures { result ≡ record { span = record { start = 0; len = 0 }; placements = [] } }
+    {
+        Filling {
+            start: 0,
+            len: 0,
+            gaps: Vec::new(alloc),
+            next_gaps: Vec::new(alloc),
+            placements: Vec::new(alloc),
+        }
+    }
+
+    /// Begins with other minislots, all of them free. It takes memory only where there isn't yet room for all that a
+    /// MAP may have; without it there are no minislots.
+    pub fn open(&mut self, start: u64, len: u16) -> Result<(), AllocError>
         requires short { len ≤ most_minislots }
         requires early { start + len ≤ last_time }
-        ensures { IfOk result (λ f. f ≡ record { span = record { start = start; len = len }; placements = [] }) }
+        ensures { OnOk result (self.new ≡ record { span = record { start = start; len = len }; placements = [] }) }
     {
-        let mut gaps = Vec::with_capacity(alloc, MOST_GAPS)?;
-        gaps.push(Gap { from: 0, to: len })?;
-        Ok(Filling {
-            start,
-            len,
-            gaps,
-            next_gaps: Vec::with_capacity(alloc, MOST_GAPS)?,
-            placements: Vec::with_capacity(alloc, MOST_PLACEMENTS)?,
-        })
+        self.start = 0;
+        self.len = 0;
+        self.gaps.clear();
+        self.next_gaps.clear();
+        self.placements.clear();
+        self.gaps.reserve(MOST_GAPS)?;
+        self.next_gaps.reserve(MOST_GAPS)?;
+        self.placements.reserve(MOST_PLACEMENTS)?;
+        self.gaps.push(Gap { from: 0, to: len })?;
+        self.start = start;
+        self.len = len;
+        Ok(())
     }
 
     /// Its first minislot.

@@ -1,8 +1,9 @@
 //! Requests that wait, by priority.
 
-ghost use Rattle.std.specs.Prelude.{◌≡◌, ℕ, ◌++◌, IfOk, OnOk};
+ghost use Rattle.std.specs.Prelude.{◌≡◌, ℕ, ◌++◌, OnOk, IsFalse, false};
 ghost use Rattle.std.specs.List.{list_any, AllByRecursion};
 ghost use Rattle.grant_machine_parts.specs.Cutting.{kind_priority, is_cause_sent, is_grant_of, place_requests};
+ghost use Rattle.flow_state.specs.declared.flow.Waiting.{Waiting};
 ghost use Rattle.grant_machine_parts.specs.Lent.{IsUnicast};
 ghost use Rattle.grant_machine_parts.specs.Ranks.{of_priority, by_priority, requests_in, IsOfLast};
 
@@ -10,7 +11,7 @@ use crate::placing::{Cause, Filling, Placement};
 use crate::services::grant_iuc;
 use flow_state::{Channel, FlowKind, Waiting};
 use map_body::{Offset, Sid};
-use std::alloc::{AllocError, Global};
+use std::alloc::AllocError;
 
 /// A request with its flow's priority and the last minislot of its flow's lease.
 #[derive(Clone, Copy, Debug)]
@@ -47,15 +48,15 @@ fn add_priority(
     Ok(())
 }
 
-/// The waiting requests by priority, greater first, and then by arrival.
-pub fn by_priority(alloc: Global, ranked: &[Ranked]) -> Result<Vec<Ranked>, AllocError>
-    ensures { IfOk result (λ ordered. ordered.items ≡ by_priority ranked.now) }
+/// Puts the waiting requests by priority, greater first, and then by arrival, over what is there.
+pub fn by_priority(ordered: &mut Vec<Ranked>, ranked: &[Ranked]) -> Result<(), AllocError>
+    ensures { OnOk result (ordered.new.items ≡ by_priority ranked.now) }
 {
-    let mut ordered = Vec::new(alloc);
+    ordered.clear();
     for priority in [7, 6, 5, 4, 3, 2, 1, 0] {
-        add_priority(&mut ordered, ranked, priority)?;
+        add_priority(ordered, ranked, priority)?;
     }
-    Ok(ordered)
+    Ok(())
 }
 
 /// Places each request whole at its first fit within its lease, where there is one.
@@ -116,6 +117,25 @@ fn is_cause_sent(cause: Cause, time: u64) -> bool
         Cause::Window(_) => false,
         Cause::Sent(sent) => sent == time,
     }
+}
+
+/// Is it a request?
+fn is_sent(cause: Cause) -> bool
+    ensures { IsFalse result → (time : ℕ) → is_cause_sent cause time ≡ false }
+{
+    matches!(cause, Cause::Sent(_))
+}
+
+/// The placements from the first on that serves a request. Those before it grant none.
+pub fn requested(placements: &[Placement]) -> &[Placement]
+    ensures { (w : Waiting) → list_any (is_grant_of w) result.now ≡ list_any (is_grant_of w) placements.now }
+{
+    for (i, placement) in placements.iter().enumerate() {
+        if is_sent(placement.cause) {
+            return &placements[i..];
+        }
+    }
+    &placements[placements.len()..]
 }
 
 /// Is the request granted by one of the placements?

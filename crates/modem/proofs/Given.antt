@@ -137,11 +137,9 @@ Takes-made old new c near map₀ start ack found same_id made same_leases grants
         let moved : clock_of new.channels map₀.head.channel ≤ m = rw same late in
         omega arith
 
--- what is let go of and added makes what is kept
-pub KeepsWith-made : (was mid now : List Kept) (ch clock : ℕ) (given : List KeptInterval) → ((at_ch m sid iuc : ℕ) → (ch ≡ at_ch → clock ≤ m) → HasAt mid at_ch m sid iuc ↔ HasAt was at_ch m sid iuc) → ((at_ch m sid iuc : ℕ) → HasAt now at_ch m sid iuc ↔ (HasAt mid at_ch m sid iuc ⊎ HasAt (map kept_interval given) at_ch m sid iuc)) → KeepsWith was ch clock given now
-KeepsWith-made was mid now ch clock given left added = λ at_ch m sid iuc late.
+-- what is added, and then let go of, makes what is kept
+pub KeepsWith-made : (was mid now : List Kept) (ch clock : ℕ) (given : List KeptInterval) → ((at_ch m sid iuc : ℕ) → HasAt mid at_ch m sid iuc ↔ (HasAt was at_ch m sid iuc ⊎ HasAt (map kept_interval given) at_ch m sid iuc)) → ((at_ch m sid iuc : ℕ) → (ch ≡ at_ch → clock ≤ m) → HasAt now at_ch m sid iuc ↔ HasAt mid at_ch m sid iuc) → KeepsWith was ch clock given now
+KeepsWith-made was mid now ch clock given added left = λ at_ch m sid iuc late.
     let go = left at_ch m sid iuc late in
-    let come = added at_ch m sid iuc in (
-      λ h. elim (come.0 h) [ inl a ↦ inl (go.0 a) | inr b ↦ inr b ],
-      λ h. elim h [ inl a ↦ come.1 (inl (go.1 a)) | inr b ↦ come.1 (inr b) ],
-    )
+    let come = added at_ch m sid iuc in
+    (λ h. come.0 (go.0 h), λ h. go.1 (come.1 h))

@@ -7,7 +7,11 @@ mod AtKept
 mod Order
 mod Pieces
 mod Clocks
+mod Old
 mod Stands
 mod Given
 mod Owned
 mod Transmits
+mod Quiet
+mod NextEdges
+mod LeftOut

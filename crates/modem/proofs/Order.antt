@@ -16,14 +16,14 @@ use Rattle.modem.specs.State.{Kept, IsAt, HasAt}
 use Rattle.modem.specs.KeptIntervals.{kept_interval, place, place_of, IsShort, AreKept, is_live}
 
 -- what is at a minislot stands at an index
-record Found (ks : List KeptInterval) (ch m sid iuc : ℕ) : Type 0 where
-  index : ℕ
-  one : KeptInterval
-  within : index < length ks
-  is : get_or ks index one ≡ one
-  at_m : IsAt (kept_interval one) ch m sid iuc
+pub record Found (ks : List KeptInterval) (ch m sid iuc : ℕ) : Type 0 where
+  pub index : ℕ
+  pub one : KeptInterval
+  pub within : index < length ks
+  pub is : get_or ks index one ≡ one
+  pub at_m : IsAt (kept_interval one) ch m sid iuc
 
-HasAt-found : (ks : List KeptInterval) (ch m sid iuc : ℕ) → HasAt (map kept_interval ks) ch m sid iuc → Found ks ch m sid iuc
+pub HasAt-found : (ks : List KeptInterval) (ch m sid iuc : ℕ) → HasAt (map kept_interval ks) ch m sid iuc → Found ks ch m sid iuc
 HasAt-found [] ch m sid iuc h = absurd h
 HasAt-found (k ∷ ks) ch m sid iuc h =
     elim h [

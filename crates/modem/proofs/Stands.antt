@@ -22,7 +22,7 @@ use Rattle.grant_machine.specs.declared.output.Output.TheVariants.{Nothing, Chan
 use Rattle.modem.specs.declared.types.Heard.{Heard}
 use Rattle.modem.specs.declared.types.Heard.TheVariants.{Taken, NotMine, OtherUcd, Past, Unreadable}
 use Rattle.modem.specs.Held.{StandsFor, Hearing, Gives, GivesCell, Leases, WasLeased, HeldBy}
-use Rattle.modem.specs.Hears.{Hears, Reads, Takes}
+use Rattle.modem.specs.Hears.{Hears, Reads, Takes, Passes, KeepsHeld}
 
 -- a state with the same id and leases, no lower clock and what was held from there on stands for the same hearings
 pub StandsFor-kept : (old new : State) (hearings : List Hearing) → new.id ≡ old.id → new.leases ≡ old.leases → ((ch : ℕ) → clock_of old.channels ch ≤ clock_of new.channels ch) → ((ch m sid iuc : ℕ) → clock_of new.channels ch ≤ m → HasAt new.grants ch m sid iuc ↔ HasAt old.grants ch m sid iuc) → StandsFor old hearings → StandsFor new hearings
@@ -77,24 +77,41 @@ StandsFor-taken old new hearings ch₀ start₀ len₀ bytes near c map start st
 abbrev pub KeepsFrom : List Kept → ℕ → ℕ → List Kept → Type 0
 KeepsFrom was ch clock now = (at_ch m sid iuc : ℕ) → (ch ≡ at_ch → clock ≤ m) → HasAt now at_ch m sid iuc ↔ HasAt was at_ch m sid iuc
 
+-- a state whose channel's clock was moved and whose lists have let go of what ended by then
+pub KeepsHeld-made : (old new : State) (c : Channel) (ch clock : ℕ) (backoff : ℕ × ℕ) → channel_of old.channels ch ≡ Some c → new.channels ≡ with_channel (record { id = c.id; ucd = c.ucd; clock = clock; backoff = backoff }) old.channels → KeepsFrom old.grants c.id clock new.grants → KeepsFrom old.open_to_all c.id clock new.open_to_all → KeepsHeld old new
+KeepsHeld-made old new c ch clock backoff found made grants open_to_all = record {
+  grants = λ at_ch m sid iuc late. grants at_ch m sid iuc (later at_ch m late);
+  open_to_all = λ at_ch m late. open_to_all at_ch m everybody 1 (later at_ch m late);
+}
+  where
+    here : channel_of old.channels c.id ≡ Some c
+    here = ap (channel_of old.channels) (found_id old.channels ch c found) ∙ found
+
+    later : (at_ch m : ℕ) → clock_of new.channels at_ch ≤ m → c.id ≡ at_ch → clock ≤ m
+    later at_ch m late same =
+        let placed : clock_of new.channels c.id ≡ clock = rw made (clock_of-placed c clock backoff old.channels c.id here) in
+        let moved : clock_of new.channels c.id ≤ m = rw same late in
+        omega arith
+
 -- a tick at a state from which what has ended may go
 pub Ticks-made : (old new : State) (c : Channel) (ch slot random : ℕ) (sending : Option Sending) (counted : Option (ℕ × ℕ)) (is_open : Bool) (wants : List Want) → channel_of old.channels ch ≡ Some c → new.id ≡ old.id → new.leases ≡ old.leases → KeepsFrom old.grants c.id (slot + 1) new.grants → KeepsFrom old.open_to_all c.id (slot + 1) new.open_to_all → new.channels ≡ with_channel (record c { clock = slot + 1 }) old.channels → Counts old.grants c.id slot counted → ((is_open ≡ true) ↔ HasAt old.open_to_all c.id slot everybody 1) → SendsBy old.leases old.wants c slot random is_open sending wants counted → new.wants ≡ lasting old.leases c.id (slot + 1) wants → Ticks old c slot random sending new
 Ticks-made old new c ch slot random sending counted is_open wants found same_id same_leases grants open_to_all made counts opens sends lasts = record {
   id = same_id;
   channels = made;
   leases = same_leases;
-  held = record { grants = λ at_ch m sid iuc late. grants at_ch m sid iuc (later at_ch m late); open_to_all = λ at_ch m late. open_to_all at_ch m everybody 1 (later at_ch m late) };
+  held = KeepsHeld-made old new c ch (slot + 1) c.backoff found made grants open_to_all;
   sends = (counted, counts, is_open, opens, wants, sends, lasts);
 }
-  where
-    here : channel_of old.channels c.id ≡ Some c
-    here = ap (channel_of old.channels) (found_id old.channels ch c found) ∙ found
 
-    later : (at_ch m : ℕ) → clock_of new.channels at_ch ≤ m → c.id ≡ at_ch → slot + 1 ≤ m
-    later at_ch m late same =
-        let placed : clock_of new.channels c.id ≡ slot + 1 = rw made (clock_of-placed c (slot + 1) c.backoff old.channels c.id here) in
-        let moved : clock_of new.channels c.id ≤ m = rw same late in
-        omega arith
+-- a map that is heard too late
+pub Passes-made : (old new : State) (c : Channel) (ch near : ℕ) → channel_of old.channels ch ≡ Some c → new.id ≡ old.id → new.leases ≡ old.leases → KeepsFrom old.grants c.id (max c.clock near) new.grants → KeepsFrom old.open_to_all c.id (max c.clock near) new.open_to_all → new.channels ≡ with_channel (record c { clock = max c.clock near }) old.channels → new.wants ≡ lasting old.leases c.id (max c.clock near) old.wants → Passes old c near new
+Passes-made old new c ch near found same_id same_leases grants open_to_all made lasts = record {
+  id = same_id;
+  channels = made;
+  leases = same_leases;
+  held = KeepsHeld-made old new c ch (max c.clock near) c.backoff found made grants open_to_all;
+  wants = lasts;
+}
 
 same_output : (a b c x y z first last : ℕ) → a ≡ x → b ≡ y → c ≡ z → Assigned a b c first last ≡ Assigned x y z first last
 same_output a b c x y z first last p q r = cc

@@ -1,11 +1,11 @@
 -- What a list of kept intervals stands for, and its order.
-use Rattle.std.specs.Prelude.{ℕ, ◌+◌, ◌*◌, ◌^◌, ◌<◌, Bool, not, ◌==◌, ◌||◌, nat_lt, if◌then◌else◌, min, max, List, All, Option, Some, None}
+use Rattle.std.specs.Prelude.{◌≡◌, ◌↔◌, ℕ, ◌+◌, ◌*◌, ◌^◌, ◌<◌, Bool, not, ◌==◌, ◌||◌, nat_lt, if◌then◌else◌, min, max, List, All, Option, Some, None}
 use Rattle.std.specs.List.{flat_map, filter_map}
 use Rattle.std.specs.List.Sorted.{IsNonDecreasingBy}
 use Rattle.map_body.specs.declared.interval.Interval.{Interval}
 use Rattle.modem.specs.declared.kept.KeptInterval.{KeptInterval}
 use Rattle.modem.specs.declared.known.Lease.{Lease}
-use Rattle.modem.specs.State.{Kept, is_of}
+use Rattle.modem.specs.State.{Kept, HasAt, is_of}
 
 -- a kept interval is itself
 abbrev pub kept_interval : KeptInterval → Kept
@@ -43,3 +43,8 @@ covered leases ks = flat_map (λ k. filter_map (piece k) leases) ks
 -- it is of another channel or ends after the clock
 abbrev pub is_live : ℕ → ℕ → KeptInterval → Bool
 is_live ch clock k = not (k.channel == ch) || nat_lt clock k.stop
+
+-- a list has in each 64-bit minislot what another one has of a channel, and nothing of any other channel
+abbrev pub IsOfChannel : ℕ → List Kept → List Kept → Type 0
+IsOfChannel ch all part =
+    (at_ch m sid iuc : ℕ) → m < 2 ^ 64 → HasAt part at_ch m sid iuc ↔ ((at_ch ≡ ch) × HasAt all ch m sid iuc)

@@ -5,5 +5,8 @@ pub mod Intervals
 pub mod Held
 pub mod Hears
 pub mod Ticks
+pub mod LetsGo
+pub mod NextEvent
+pub mod Idle
 pub mod Steps
 pub mod Owner

@@ -1,16 +1,21 @@
 //! Intervals that a modem keeps: one for each element that a map gave, in the order of their channels and,
 //! of one channel, of their starts.
 
-ghost use Rattle.std.specs.Prelude.{◌≡◌, ℕ, ◌+◌, ◌<◌, ◌≤◌, ◌^◌, ◌↔◌, ◌⊎◌, ◌++◌, map, take, drop, true, false, length, vec_len, vec_capacity, ltb, leb};
-ghost use Rattle.std.specs.Prelude.{IfOk, OnOk};
+ghost use Rattle.std.specs.Prelude.{◌≡◌, ℕ, ◌+◌, ◌*◌, ◌<◌, ◌≤◌, ◌^◌, ◌↔◌, ◌⊎◌, ◌++◌, [], map, take, drop, true, false, length, vec_len, vec_capacity, ltb, leb};
+ghost use Rattle.std.specs.Prelude.{IfOk, OnOk, IfSome, IfNone, Contains};
 ghost use Rattle.std.specs.List.{All, list_any, filter_map, AllWithin};
 ghost use Rattle.map_body.specs.Iucs as iucs;
 ghost use Rattle.map_body.specs.Sids.{everybody};
+ghost use Rattle.std.proofs.Common.{get_or};
+ghost use Rattle.modem.specs.declared.kept.KeptInterval.{KeptInterval};
+ghost use Rattle.modem.specs.LetsGo.{old_intervals};
 ghost use Rattle.modem.specs.State.{HasAt, IsAt};
-ghost use Rattle.modem.specs.KeptIntervals.{kept_interval, interval_of, place, place_of, AreKept, IsShort, is_live, piece, covered};
+ghost use Rattle.modem.specs.Idle.{HasSame, IsBefore};
+ghost use Rattle.modem.specs.KeptIntervals.{kept_interval, interval_of, place, place_of, AreKept, IsShort, is_live, piece, covered, IsOfChannel};
 ghost use Rattle.modem.specs.Steps.{first_at, is_at};
 ghost use Rattle.modem.specs.Ticks.{Counts};
 
+use crate::edges::sooner;
 use crate::known::Lease;
 use crate::leases::is_of;
 use map_body::{Interval, Iuc, Sid};
@@ -19,9 +24,9 @@ use std::alloc::{AllocError, Global};
 /// An interval that covers a minislot began at most so many minislots before: an offset in a MAP has 14 bits.
 const REACH: u64 = 0x3FFF;
 
-/// An element's minislots of a channel, from `start` up to `stop`.
+/// An element's minislots of a channel that a modem keeps, from `start` up to `stop`.
 #[derive(Clone, Copy, PartialEq, Eq)]
-pub(crate) struct KeptInterval {
+pub struct KeptInterval {
     pub channel: u8,
     pub sid: u16,
     pub iuc: Iuc,
@@ -48,7 +53,8 @@ fn begins_by(interval: &KeptInterval, ch: u8, at: u64) -> bool
 // Those that may cover a minislot of a channel: they begin there, or at most REACH before.
 fn around(kept: &[KeptInterval], ch: u8, at: u64) -> &[KeptInterval]
     requires { AreKept kept.now }
-    ensures { (sid iuc : ℕ) → HasAt (map kept_interval result.now) ch at sid iuc ↔ HasAt (map kept_interval kept.now) ch at sid iuc }
+    ensures same { (sid iuc : ℕ) → HasAt (map kept_interval result.now) ch at sid iuc ↔ HasAt (map kept_interval kept.now) ch at sid iuc }
+    ensures part { (before count : ℕ) × (result.now ≡ take count (drop before kept.now)) }
 {
     let first = at.saturating_sub(REACH);
     let before = kept.partition_point(|k| begins_before(k, ch, first));
@@ -98,11 +104,17 @@ pub(crate) fn counted(kept: &[KeptInterval], ch: u8, at: u64) -> Option<(u16, Iu
     counted_of(around(kept, ch, at), ch, at)
 }
 
+fn is_at(interval: &KeptInterval, ch: u8, at: u64, sid: u16, iuc: Iuc) -> bool
+    ensures { result ≡ is_at ch at sid iuc (kept_interval interval.now) }
+{
+    (interval.channel == ch && (interval.start <= at && at < interval.stop))
+        && (interval.sid == sid && interval.iuc == iuc)
+}
+
 fn has_at(kept: &[KeptInterval], ch: u8, at: u64, sid: Sid, iuc: Iuc) -> bool
     ensures { result ≡ list_any (λ k. is_at ch at sid iuc (kept_interval k)) kept.now }
 {
-    kept.iter().any(|k| (k.channel == ch && (k.start <= at && at < k.stop))
-        && (k.sid == sid.get() && k.iuc == iuc))
+    kept.iter().any(|k| is_at(k, ch, at, sid.get(), iuc))
 }
 
 /// Whether a minislot is a request minislot that is open to all, at the same cost.
@@ -113,8 +125,9 @@ pub(crate) fn is_open(kept: &[KeptInterval], ch: u8, at: u64) -> bool
     has_at(around(kept, ch, at), ch, at, Sid::EVERYBODY, Iuc::REQUEST)
 }
 
-fn is_live(interval: &KeptInterval, ch: u8, clock: u64) -> bool
-    ensures { result ≡ is_live ch clock interval.now }
+fn is_live(interval: KeptInterval, ch: u8, clock: u64) -> bool
+    ensures live { result ≡ is_live ch clock interval }
+    ensures range { interval.start < 2 ^ 64 }
 {
     !(interval.channel == ch) || clock < interval.stop
 }
@@ -123,9 +136,10 @@ fn is_live(interval: &KeptInterval, ch: u8, clock: u64) -> bool
 fn ended(kept: &[KeptInterval], ch: u8, clock: u64) -> usize
     ensures bound { result ≤ length kept.now }
     ensures ended { AllWithin (λ k. is_live ch clock k ≡ false) kept.now 0 result }
+    ensures next { (d : KeptInterval) → result < length kept.now → (is_live ch clock (get_or kept.now result d) ≡ true) × ((get_or kept.now result d).start < 2 ^ 64) }
 {
     for (i, interval) in kept.iter().enumerate() {
-        if is_live(interval, ch, clock) {
+        if is_live(*interval, ch, clock) {
             return i;
         }
     }
@@ -135,9 +149,7 @@ fn ended(kept: &[KeptInterval], ch: u8, clock: u64) -> usize
 fn cut(kept: &mut Vec<KeptInterval>, from: usize, to: usize)
     requires order { from ≤ to }
     requires within { to ≤ vec_len kept.old }
-    ensures items { kept.new.items ≡ take from kept.old.items ++ drop to kept.old.items }
-    ensures fewer { vec_len kept.new ≤ vec_len kept.old }
-    ensures room { vec_capacity kept.new ≡ vec_capacity kept.old }
+    ensures { kept.new.items ≡ take from kept.old.items ++ drop to kept.old.items }
 {
     kept.drain(from..to);
 }
@@ -147,8 +159,7 @@ pub(crate) fn let_go(kept: &mut Vec<KeptInterval>, ch: u8, clock: u64)
     requires { AreKept kept.old.items }
     ensures kept { AreKept kept.new.items }
     ensures held { (at_ch m sid iuc : ℕ) → (ch ≡ at_ch → clock ≤ m) → HasAt (map kept_interval kept.new.items) at_ch m sid iuc ↔ HasAt (map kept_interval kept.old.items) at_ch m sid iuc }
-    ensures fewer { vec_len kept.new ≤ vec_len kept.old }
-    ensures room { vec_capacity kept.new ≡ vec_capacity kept.old }
+    ensures none_old { old_intervals ch clock (map kept_interval kept.new.items) ≡ [] }
 {
     let before = kept.partition_point(|k| begins_before(k, ch, 0));
     let count = ended(&kept[before..], ch, clock);
@@ -158,7 +169,10 @@ pub(crate) fn let_go(kept: &mut Vec<KeptInterval>, ch: u8, clock: u64)
 // Whether a channel's intervals that began more than REACH before the clock, and so have ended, are many: of so
 // many channels, one's share of half of what is kept. It costs the logarithm of what is kept, and a list in
 // which no channel has many is at most twice what hasn't ended or began since.
-fn has_many_old(kept: &[KeptInterval], ch: u8, clock: u64, channels: usize) -> bool {
+fn has_many_old(kept: &[KeptInterval], ch: u8, clock: u64, channels: usize) -> bool
+    requires { AreKept kept.now }
+    ensures { result ≡ false → 2 * (channels + 1) * length (old_intervals ch clock (map kept_interval kept.now)) ≤ length kept.now }
+{
     let first = clock.saturating_sub(REACH);
     let before = kept.partition_point(|k| begins_before(k, ch, 0));
     let old = kept[before..].partition_point(|k| begins_before(k, ch, first));
@@ -171,6 +185,7 @@ pub(crate) fn let_go_of_many(kept: &mut Vec<KeptInterval>, ch: u8, clock: u64, c
     requires { AreKept kept.old.items }
     ensures kept { AreKept kept.new.items }
     ensures held { (at_ch m sid iuc : ℕ) → (ch ≡ at_ch → clock ≤ m) → HasAt (map kept_interval kept.new.items) at_ch m sid iuc ↔ HasAt (map kept_interval kept.old.items) at_ch m sid iuc }
+    ensures few { 2 * (channels + 1) * length (old_intervals ch clock (map kept_interval kept.new.items)) ≤ length kept.new.items }
 {
     if has_many_old(kept.as_slice(), ch, clock, channels) {
         let_go(kept, ch, clock);
@@ -312,4 +327,98 @@ pub(crate) fn own(
     let given = of_map(alloc, ch, start, intervals)?;
     let own = covered(alloc, given.as_slice(), leases)?;
     Ok(own)
+}
+
+/// Those of a channel, in the order of their starts.
+pub(crate) fn of_channel(kept: &[KeptInterval], ch: u8) -> &[KeptInterval]
+    requires { AreKept kept.now }
+    ensures { IsOfChannel ch (map kept_interval kept.now) (map kept_interval result.now) }
+{
+    let before = kept.partition_point(|k| begins_before(k, ch, 0));
+    let rest = &kept[before..];
+    let count = rest.partition_point(|k| begins_by(k, ch, u64::MAX));
+    &rest[..count]
+}
+
+fn start_in(interval: KeptInterval, ch: u8) -> Option<u64>
+    ensures some { IfSome result (λ n. (interval.channel ≡ ch) × (n ≡ interval.start)) }
+    ensures range { interval.start < 2 ^ 64 }
+    ensures first { (x : ℕ) → IsBefore result x → interval.channel ≡ ch → x < interval.start }
+{
+    if interval.channel == ch {
+        Some(interval.start)
+    } else {
+        None
+    }
+}
+
+// The start of the first interval of a channel that begins after a minislot.
+fn next_start(kept: &[KeptInterval], ch: u8, at: u64) -> Option<u64>
+    requires { AreKept kept.now }
+    ensures after { IfSome result (λ n. at < n) }
+    ensures first { (x : ℕ) → x < 2 ^ 63 → IsBefore result x → All (λ k. k.channel ≡ ch → at < k.start → x < k.start) kept.now }
+{
+    let later = kept.partition_point(|k| begins_by(k, ch, at));
+    if later < kept.len() {
+        start_in(kept[later], ch)
+    } else {
+        None
+    }
+}
+
+fn stop_of(interval: KeptInterval, ch: u8, at: u64) -> Option<u64>
+    ensures after { IfSome result (λ n. at < n) }
+    ensures stop { (x : ℕ) → IsBefore result x → interval.channel ≡ ch → interval.start ≤ at → at < interval.stop → x < interval.stop }
+{
+    if interval.channel == ch && (interval.start <= at && at < interval.stop) {
+        Some(interval.stop)
+    } else {
+        None
+    }
+}
+
+// The first minislot after one that a channel's intervals cover at which one of them doesn't.
+fn least_stop(kept: &[KeptInterval], ch: u8, at: u64) -> Option<u64>
+    ensures after { IfSome result (λ n. at < n) }
+    ensures least { (x : ℕ) → IsBefore result x → All (λ k. k.channel ≡ ch → k.start ≤ at → at < k.stop → x < k.stop) kept.now }
+{
+    let mut least: Option<u64> = None;
+    for interval in kept {
+        least = sooner(least, stop_of(*interval, ch, at));
+    }
+    least
+}
+
+/// The next minislot of a channel at which one of its intervals begins, or one that covers `at` is over. It costs
+/// as much as a look at a minislot.
+pub(crate) fn next_edge(kept: &[KeptInterval], ch: u8, at: u64) -> Option<u64>
+    requires { AreKept kept.now }
+    ensures after { IfSome result (λ n. at < n) }
+    ensures same { (x : ℕ) → at ≤ x → x < 2 ^ 63 → IsBefore result x → HasSame (map kept_interval kept.now) ch at x }
+{
+    sooner(
+        next_start(kept, ch, at),
+        least_stop(around(kept, ch, at), ch, at),
+    )
+}
+
+/// An interval of a SID and IUC that covers a minislot.
+pub(crate) fn covering(
+    kept: &[KeptInterval],
+    ch: u8,
+    at: u64,
+    sid: u16,
+    iuc: Iuc,
+) -> Option<KeptInterval>
+    requires { AreKept kept.now }
+    ensures some { IfSome result (λ k. Contains kept.now k × IsAt (kept_interval k) ch at sid iuc) }
+    ensures none { IfNone result (¬ HasAt (map kept_interval kept.now) ch at sid iuc) }
+{
+    let near = around(kept, ch, at);
+    for interval in near {
+        if is_at(interval, ch, at, sid, iuc) {
+            return Some(*interval);
+        }
+    }
+    None
 }

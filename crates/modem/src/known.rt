@@ -1,4 +1,5 @@
-//! What a modem knows of a channel, the leases of its SIDs and its wants. Crates above see them by the functions of `specs/` alone.
+//! What a modem knows of a channel, the leases of its SIDs and its wants. Crates above see channels and leases by the
+//! functions of `specs/` alone.
 
 /// A channel that the modem knows: its UCD Count, its clock (a minislot) and the latest data back-offs, start
 /// and end.
@@ -20,17 +21,17 @@ pub(crate) struct Lease {
 }
 
 /// How far a want has come.
-#[derive(Clone, Copy)]
-pub(crate) enum Progress {
+#[derive(Clone, Copy, Debug, PartialEq, Eq)]
+pub enum Progress {
     /// Not sent; the request minislots that it still lets pass, once drawn.
     Unsent(Option<u16>),
     /// Sent at this minislot.
     Sent(u64),
 }
 
-/// A request that the modem wants to send, or has sent.
-#[derive(Clone, Copy)]
-pub(crate) struct Want {
+/// A request that the modem wants to send, or has sent: `n` minislots for a SID of a channel, after so many tries.
+#[derive(Clone, Copy, Debug, PartialEq, Eq)]
+pub struct Want {
     pub channel: u8,
     pub sid: u16,
     pub n: u16,

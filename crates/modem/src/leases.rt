@@ -1,8 +1,10 @@
 //! The leases of a modem's SIDs, over slices.
 
-ghost use Rattle.std.specs.Prelude.{◌≡◌};
+ghost use Rattle.std.specs.Prelude.{◌≡◌, ℕ, ◌<◌, ◌≤◌, ◌^◌, IfSome};
 ghost use Rattle.modem.specs.State.{is_of, is_lease, covers, has_lease, is_own_at, is_own_from};
+ghost use Rattle.modem.specs.Idle.{IsBefore, IsSameIn, CoverSame};
 
+use crate::edges::sooner;
 use crate::known::Lease;
 
 /// A lease of this SID of a channel.
@@ -44,4 +46,41 @@ pub(crate) fn is_own_from(leases: &[Lease], ch: u8, sid: u16, clock: u64) -> boo
     ensures { result ≡ is_own_from leases.now ch sid clock }
 {
     leases.iter().any(|l| is_of(l, ch, sid) && clock <= l.last)
+}
+
+// The next minislot at which a lease begins, is in its last minislot, or is over.
+fn edge_of(lease: Lease, ch: u8, at: u64) -> Option<u64>
+    requires { at < 2 ^ 63 }
+    ensures after { IfSome result (λ n. at < n) }
+    ensures same { (x : ℕ) → at ≤ x → IsBefore result x → IsSameIn ch at x lease }
+{
+    if lease.channel != ch {
+        return None;
+    }
+    let begins = if at < lease.first {
+        Some(lease.first)
+    } else {
+        None
+    };
+    let ends = if at < lease.last {
+        Some(lease.last)
+    } else if at == lease.last {
+        Some(at + 1)
+    } else {
+        None
+    };
+    sooner(begins, ends)
+}
+
+/// The next minislot at which a lease of a channel begins, is in its last minislot, or is over.
+pub(crate) fn next_edge(leases: &[Lease], ch: u8, at: u64) -> Option<u64>
+    requires { at < 2 ^ 63 }
+    ensures after { IfSome result (λ n. at < n) }
+    ensures same { (x : ℕ) → at ≤ x → IsBefore result x → CoverSame leases.now ch at x }
+{
+    let mut next: Option<u64> = None;
+    for lease in leases {
+        next = sooner(next, edge_of(*lease, ch, at));
+    }
+    next
 }

@@ -1,16 +1,23 @@
 //! A cable modem's part in upstream bandwidth allocation: it hears MAPs, keeps what they give it, and says what it sends at each minislot.
 #![tactic(auto)]
 
+mod action;
 mod channels;
+mod edges;
 mod intervals;
 mod kept;
 mod known;
 mod leases;
 mod modem;
 mod owner;
+mod skipped;
 mod types;
 mod wants;
 
-pub use modem::Modem;
+pub use action::{Action, NextEvent};
+pub use kept::KeptInterval;
+pub use known::{Progress, Want};
+pub use modem::{Modem, OfChannel};
 pub use owner::one_owner;
+pub use skipped::quiet_ticks;
 pub use types::{Heard, Sending, TimeBack, WantFault};

@@ -1,23 +1,33 @@
 //! The modem core, which keeps one interval for each element that it was given, and lets go of those that have ended.
 
-ghost use Rattle.std.specs.Prelude.{◌≡◌, ℕ, ◌<◌, ◌≤◌, None, Some, Ok, Err, OnOk, OnErr, IfOk, IfErr, IfSome, IsOkAnd, IsErr, List, false, ◌∷◌, ◌++◌, [], ◌⊎◌, ◌==◌, MatchBool};
+ghost use Rattle.std.specs.Prelude.{◌≡◌, ℕ, ◌+◌, ◌^◌, ◌<◌, ◌≤◌, ◌↔◌, map, None, Some, Ok, Err, OnOk, OnErr, IfOk, IfErr, IfSome, IfNone, IsOkAnd, IsErr, List, Option, true, false, ◌∷◌, ◌++◌, [], ◌⊎◌, ◌==◌, MatchBool};
 ghost use Rattle.std.specs.Option.{option_map};
-ghost use Rattle.modem.specs.State.{new_modem, channel_clock, channel_of, has_lease, with_ucd, with_lease};
+ghost use Rattle.std.specs.List.{list_any};
+ghost use Rattle.modem.specs.State.{new_modem, channel_clock, channel_of, has_lease, is_own_from, with_ucd, with_lease, HasAt};
 ghost use Rattle.modem.specs.Held.{StandsFor, Hearing, Held, unicast_sid};
-ghost use Rattle.modem.specs.Hears.{Hears, HearsMap, IsDue, MayGrow, Takes};
-ghost use Rattle.modem.specs.Wants.{is_own_now, want_refusal, new_want};
-ghost use Rattle.modem.specs.Ticks.{Ticks};
+ghost use Rattle.modem.specs.Hears.{Hears, HearsMap, IsDue, MayGrow, Passes, Takes};
+ghost use Rattle.modem.specs.Wants.{is_own_now, is_want, lasting, want_refusal, new_want};
+ghost use Rattle.modem.specs.Ticks.{Ticks, Counts};
+ghost use Rattle.modem.specs.KeptIntervals.{kept_interval, IsOfChannel};
+ghost use Rattle.modem.specs.NextEvent.{Acts, AreQuiet, IsNext};
+ghost use Rattle.modem.specs.Idle.{SendsAt, SharesAt, IsIdle, IsSame, IsBefore};
+ghost use Rattle.modem.specs.LetsGo.{HasNoOld, HasFewOld, LetsGo, LetsGoAfter};
 
+use crate::action::{Action, NextEvent};
+use crate::edges::sooner;
 use crate::intervals::HeardMap;
 use crate::kept::{self, KeptInterval};
 use crate::known::{Channel, Lease, Progress, Want};
 use crate::types::{Heard, Sending, TimeBack, WantFault};
 use crate::{channels, intervals, leases, wants};
 use grant_machine::Output;
-use map_body::{MapBody, decode};
+use map_body::{Iuc, MapBody, decode};
 use minislot_time::Slot;
 use std::alloc::{AllocError, Global};
 use std::marker::Model;
+
+/// The first number that is no minislot.
+const LIMIT: u64 = 1 << 63;
 
 /// A modem: it hears outputs, takes wants, and answers each tick with what it sends.
 #[derive(Drop)]
@@ -28,6 +38,13 @@ pub struct Modem {
     grants: Vec<KeptInterval>,
     open_to_all: Vec<KeptInterval>,
     wants: Vec<Want>,
+}
+
+/// What a modem keeps of a channel: the intervals of its own SIDs, and those in which all may send a request.
+#[derive(Clone, Copy)]
+pub struct OfChannel<'a> {
+    pub grants: &'a [KeptInterval],
+    pub open_to_all: &'a [KeptInterval],
 }
 
 impl Model for Modem {
@@ -66,6 +83,25 @@ impl Modem {
             Some(channel) => Some(channel.clock),
             None => None,
         }
+    }
+
+    /// The intervals that the modem keeps of a channel, in the order of their starts. Some of them may have ended. It
+    /// takes no memory.
+    pub fn kept(&self, ch: u8) -> OfChannel<'_>
+        ensures grants { IsOfChannel ch self.now.grants (map kept_interval result.grants.now) }
+        ensures open_to_all { IsOfChannel ch self.now.open_to_all (map kept_interval result.open_to_all.now) }
+    {
+        OfChannel {
+            grants: kept::of_channel(self.grants.as_slice(), ch),
+            open_to_all: kept::of_channel(self.open_to_all.as_slice(), ch),
+        }
+    }
+
+    /// The modem's wants, of all channels.
+    pub fn wants(&self) -> &[Want]
+        ensures { result.now ≡ self.now.wants }
+    {
+        self.wants.as_slice()
     }
 
     /// Takes a request of n minislots, 1 to 255, for a SID of which a lease ends at the channel's clock or later.
@@ -115,6 +151,7 @@ impl Modem {
         ensures unknown { channel_of self.old.channels ch ≡ None → (result ≡ Ok None) × (self.new ≡ self.old) }
         ensures back { IfSome (channel_of self.old.channels ch) (λ c. slot < channel_clock c → IsErr result × (self.new ≡ self.old)) }
         ensures ticks { IfSome (channel_of self.old.channels ch) (λ c. channel_clock c ≤ slot → IsOkAnd result (λ sending. Ticks self.old c slot random sending self.new)) }
+        ensures lets_go { IfSome (channel_of self.old.channels ch) (λ c. channel_clock c ≤ slot → HasFewOld self.new ch) }
         ensures held { IfOk result (λ sending. (hearings : List Hearing) (sid : ℕ) → StandsFor self.old hearings → unicast_sid sending ≡ Some sid → Held self.old.id hearings ch slot sid) }
         ensures stands { (hearings : List Hearing) → StandsFor self.old hearings → StandsFor self.new hearings }
     {
@@ -146,6 +183,7 @@ impl Modem {
         ensures ok { IfOk result (λ answer. Hears self.old output.now near answer self.new) }
         ensures err { OnErr result (self.new ≡ self.old) }
         ensures memory { IsErr result → MayGrow self.old output.now near }
+        ensures lets_go { IfOk result (λ answer. LetsGo output.now answer self.new) }
         ensures stands { IfOk result (λ answer. (hearings : List Hearing) → StandsFor self.old hearings → StandsFor self.new (record { output = output.now; near = near; answer = answer } ∷ hearings)) }
     {
         match output {
@@ -213,11 +251,14 @@ impl Modem {
         Ok(Heard::Taken)
     }
 
-    // Nothing is read into memory but a map that is taken.
-    fn hear_map(&mut self, bytes: &[u8], near: Slot) -> Result<Heard, AllocError>
+    /// Hears the bytes of a map near a time, as `hear` does where an output has them. Nothing is read into memory but
+    /// a map that is taken.
+    pub fn hear_map(&mut self, bytes: &[u8], near: Slot) -> Result<Heard, AllocError>
         ensures ok { IfOk result (λ answer. HearsMap self.old bytes.now near answer self.new) }
         ensures err { OnErr result (self.new ≡ self.old) }
         ensures memory { IsErr result → IsDue self.old bytes.now near }
+        ensures lets_go { IfOk result (λ answer. LetsGoAfter bytes.now answer self.new) }
+        ensures stands { IfOk result (λ answer. (hearings : List Hearing) (ch start len : ℕ) → StandsFor self.old hearings → StandsFor self.new (record { output = Output.Map ch start len bytes.now; near = near; answer = answer } ∷ hearings)) }
     {
         let Some(heard) = intervals::heard_near(bytes, near) else {
             return Ok(Heard::Unreadable);
@@ -229,10 +270,8 @@ impl Modem {
         if channel.ucd != head.ucd {
             return Ok(Heard::OtherUcd);
         }
-        let clock = channel.clock.max(near.get());
-        if stop <= clock {
-            wants::keep_lasting(&mut self.wants, self.leases.as_slice(), channel.id, clock);
-            channels::set(&mut self.channels, Channel { clock, ..channel });
+        if stop <= channel.clock.max(near.get()) {
+            self.pass(channel, near);
             return Ok(Heard::Past);
         }
         let alloc = *self.wants.allocator();
@@ -241,6 +280,19 @@ impl Modem {
         };
         self.take(&map, start, channel, near)?;
         Ok(Heard::Taken)
+    }
+
+    // Moves the clock of a channel, and lets go of what has ended.
+    fn pass(&mut self, channel: Channel, near: Slot)
+        requires { channel_of self.old.channels channel.id ≡ Some channel }
+        ensures passes { Passes self.old channel near self.new }
+        ensures lets_go { HasNoOld self.new channel.id }
+    {
+        let clock = channel.clock.max(near.get());
+        kept::let_go(&mut self.grants, channel.id, clock);
+        kept::let_go(&mut self.open_to_all, channel.id, clock);
+        wants::keep_lasting(&mut self.wants, self.leases.as_slice(), channel.id, clock);
+        channels::set(&mut self.channels, Channel { clock, ..channel });
     }
 
     // Keeps what a map gives, lets go of what has ended, and lets the map decide wants. All that takes memory
@@ -255,6 +307,7 @@ impl Modem {
         requires { channel_of self.old.channels map.now.head.channel ≡ Some channel }
         ensures ok { OnOk result (Takes self.old channel near map.now start self.new) }
         ensures err { OnErr result (self.new ≡ self.old) }
+        ensures lets_go { OnOk result (HasNoOld self.new map.now.head.channel) }
     {
         let alloc = *self.wants.allocator();
         let head = *map.head();
@@ -270,10 +323,10 @@ impl Modem {
         self.grants.reserve(own.len())?;
         self.open_to_all.reserve(open.len())?;
         let clock = channel.clock.max(near.get());
-        kept::let_go(&mut self.grants, head.channel, clock);
-        kept::let_go(&mut self.open_to_all, head.channel, clock);
         kept::add_all(&mut self.grants, own.as_slice());
         kept::add_all(&mut self.open_to_all, open.as_slice());
+        kept::let_go(&mut self.grants, head.channel, clock);
+        kept::let_go(&mut self.open_to_all, head.channel, clock);
         self.wants = wants;
         wants::keep_lasting(&mut self.wants, leases, channel.id, clock);
         channels::set(
@@ -285,5 +338,109 @@ impl Modem {
             },
         );
         Ok(())
+    }
+}
+
+impl Modem {
+    /// The first minislot of a channel, from its clock and from `from` on, whose tick answers something or changes more
+    /// than the clock, and what that tick does. None where no tick from there on does, or the channel isn't known. Each
+    /// tick before it is quiet, and may be left out (`quiet_ticks`). It takes no memory. It costs what a tick looks at,
+    /// for each interval and lease that begins or ends before.
+    pub fn next_event(&self, ch: u8, from: Slot) -> Option<NextEvent>
+        ensures unknown { channel_of self.now.channels ch ≡ None → result ≡ None }
+        ensures next { IfSome result (λ e. IfSome (channel_of self.now.channels ch) (λ c. IsNext self.now c from e.slot e.action)) }
+        ensures never { IfNone result (IfSome (channel_of self.now.channels ch) (λ c. AreQuiet self.now c from (2 ^ 63))) }
+    {
+        let channel = channels::find(self.channels.as_slice(), ch)?;
+        let mut at = from.get().max(channel.clock);
+        while at < LIMIT {
+            match self.action_at(channel, at) {
+                Some(action) => return Some(NextEvent { slot: at, action }),
+                None => at = self.next_edge(channel.id, at)?,
+            }
+        }
+        None
+    }
+
+    // What a tick at a minislot does.
+    fn action_at(&self, channel: Channel, at: u64) -> Option<Action>
+        requires { at < 2 ^ 63 }
+        ensures some { IfSome result (Acts self.now channel at) }
+        ensures none { IfNone result (IsIdle self.now channel.id at) }
+    {
+        match self.sending_at(channel.id, at) {
+            Some(action) => Some(action),
+            None => self.lease_end_at(channel.id, at),
+        }
+    }
+
+    // What is sent, or may be, at a minislot.
+    fn sending_at(&self, ch: u8, at: u64) -> Option<Action>
+        ensures { (counted : Option (ℕ × ℕ)) × Counts self.now.grants ch at counted × SendsAt self.now ch at counted result }
+    {
+        match kept::counted(self.grants.as_slice(), ch, at) {
+            Some((sid, iuc)) => self.sending_by(ch, at, sid, iuc),
+            None => self.contention_at(ch, at),
+        }
+    }
+
+    // The same by a SID and IUC that count.
+    fn sending_by(&self, ch: u8, at: u64, sid: u16, iuc: Iuc) -> Option<Action>
+        requires { HasAt self.now.grants ch at sid iuc }
+        ensures { SendsAt self.now ch at (Some (sid, iuc)) result }
+    {
+        if iuc.lets_transmit() {
+            let grant = kept::covering(self.grants.as_slice(), ch, at, sid, iuc)?;
+            let first = grant.start;
+            let last = grant.stop - 1;
+            Some(Action::Grant {
+                sid,
+                iuc,
+                first,
+                last,
+            })
+        } else if iuc.lets_request() {
+            let want = wants::unsent(self.wants.as_slice(), ch, sid)?;
+            Some(Action::Poll { sid, n: want.n })
+        } else {
+            self.contention_at(ch, at)
+        }
+    }
+
+    // The unsent want that takes part in a minislot that is open to all.
+    fn contention_at(&self, ch: u8, at: u64) -> Option<Action>
+        ensures { SharesAt self.now ch at result }
+    {
+        if !kept::is_open(self.open_to_all.as_slice(), ch, at) {
+            return None;
+        }
+        let wants = self.wants.as_slice();
+        let want = wants::least_unsent(wants, self.leases.as_slice(), ch, at)?;
+        Some(Action::Contention {
+            sid: want.sid,
+            n: want.n,
+        })
+    }
+
+    // A want that goes after a minislot.
+    fn lease_end_at(&self, ch: u8, at: u64) -> Option<Action>
+        requires { at < 2 ^ 63 }
+        ensures some { IfSome result (λ a. (sid : ℕ) × (a ≡ Action.LeaseEnd sid) × (list_any (is_want ch sid) self.now.wants ≡ true) × (is_own_from self.now.leases ch sid (at + 1) ≡ false)) }
+        ensures none { IfNone result (lasting self.now.leases ch (at + 1) self.now.wants ≡ self.now.wants) }
+    {
+        let sid = wants::first_over(self.wants.as_slice(), self.leases.as_slice(), ch, at + 1)?;
+        Some(Action::LeaseEnd { sid })
+    }
+
+    // The next minislot at which something that a tick looks at is other than at this one.
+    fn next_edge(&self, ch: u8, at: u64) -> Option<u64>
+        requires { at < 2 ^ 63 }
+        ensures after { IfSome result (λ n. at < n) }
+        ensures same { (x : ℕ) → at ≤ x → x < 2 ^ 63 → IsBefore result x → IsSame self.now ch at x }
+    {
+        let own = kept::next_edge(self.grants.as_slice(), ch, at);
+        let open = kept::next_edge(self.open_to_all.as_slice(), ch, at);
+        let lease = leases::next_edge(self.leases.as_slice(), ch, at);
+        sooner(sooner(own, open), lease)
     }
 }

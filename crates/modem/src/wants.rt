@@ -1,9 +1,9 @@
 //! A modem's wants, over slices.
 
-ghost use Rattle.std.specs.Prelude.{◌≡◌, ◌+◌, ◌-◌, ◌<◌, ◌==◌, ◌&&◌, if◌then◌else◌, IfOk, Option, Some, None};
+ghost use Rattle.std.specs.Prelude.{◌≡◌, ◌+◌, ◌-◌, ◌<◌, ◌==◌, ◌&&◌, if◌then◌else◌, true, false, IfOk, IfSome, IfNone, Option, Some, None};
 ghost use Rattle.std.specs.List.{filter_map, list_any};
 ghost use Rattle.modem.specs.declared.known.Want.{Want};
-ghost use Rattle.modem.specs.State.{is_own_at};
+ghost use Rattle.modem.specs.State.{is_own_at, is_own_from};
 ghost use Rattle.modem.specs.Wants.{is_want, is_unsent, unsent_of, with_want, IsLeastUnsent, own_wants, is_lasting, lasting};
 ghost use Rattle.map_body.specs.Intervals.{intervals};
 ghost use Rattle.modem.specs.Intervals.{is_granted, is_pending, is_acknowledged, lost, decided};
@@ -37,7 +37,7 @@ pub(crate) fn has_want(wants: &[Want], ch: u8, sid: u16) -> bool
     wants.iter().any(|w| is_of(w, ch, sid))
 }
 
-fn unsent(wants: &[Want], ch: u8, sid: u16) -> Option<Want>
+pub(crate) fn unsent(wants: &[Want], ch: u8, sid: u16) -> Option<Want>
     ensures { result ≡ unsent_of wants.now ch sid }
 {
     for want in wants {
@@ -75,7 +75,7 @@ fn lesser_own(leases: &[Lease], ch: u8, at: u64, least: Option<Want>, want: Want
     }
 }
 
-fn least_unsent(wants: &[Want], leases: &[Lease], ch: u8, at: u64) -> Option<Want>
+pub(crate) fn least_unsent(wants: &[Want], leases: &[Lease], ch: u8, at: u64) -> Option<Want>
     ensures { IsLeastUnsent (own_wants leases.now ch at wants.now) ch result }
 {
     let mut least: Option<Want> = None;
@@ -318,4 +318,17 @@ pub(crate) fn keep_lasting(wants: &mut Vec<Want>, leases: &[Lease], ch: u8, cloc
     ensures { wants.new.items ≡ lasting leases.now ch clock wants.old.items }
 {
     wants.retain(|w| is_lasting(w, leases, ch, clock));
+}
+
+/// The SID of the first of the channel's wants whose leases have all ended before the clock.
+pub(crate) fn first_over(wants: &[Want], leases: &[Lease], ch: u8, clock: u64) -> Option<u16>
+    ensures some { IfSome result (λ sid. (list_any (is_want ch sid) wants.now ≡ true) × (is_own_from leases.now ch sid clock ≡ false)) }
+    ensures none { IfNone result (lasting leases.now ch clock wants.now ≡ wants.now) }
+{
+    for want in wants {
+        if !is_lasting(want, leases, ch, clock) {
+            return Some(want.sid);
+        }
+    }
+    None
 }

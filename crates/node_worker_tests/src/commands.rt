@@ -138,8 +138,8 @@ fn help_and_version(rt: HostRuntime) -> Result<(), Fail> {
             verbose.as_slice(),
             "on standard error; what is printed stays the same",
         ),
-        (["--help"].as_slice(), "docs/RULES.md"),
-        (["--help"].as_slice(), "docs/SCRIPTS.md"),
+        (["--help"].as_slice(), "docs/formats.md"),
+        (["--help"].as_slice(), "docs/node.md"),
     ] {
         assert!(rt; prints(rt.alloc(), words, part)?, "{part}");
     }

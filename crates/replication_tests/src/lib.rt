@@ -1,12 +1,14 @@
-//! Tests of ballots, of records that keep what is written and records that fail, of counted votes and of nodes, by
-//! the public calls of `ballots`, `acceptor`, `faulty_records`, `learner`, `node`, `network_script_parts` and
-//! `network_script`. What scripts print stands as data in examples/.
+//! Tests of ballots, of letters as bytes and lines, of records that keep what is written and records that fail, of
+//! counted votes and of nodes, by the public calls of `ballots`, `letter_bytes`, `node_lines`, `acceptor`,
+//! `faulty_records`, `learner`, `node`, `network_script_parts` and `network_script`. What scripts print stands as data in examples/.
 #![tactic(auto)]
 
 #[cfg(test)]
 mod failing_records;
 #[cfg(test)]
 mod failing_runs;
+#[cfg(test)]
+mod letter_lines;
 #[cfg(test)]
 mod letters;
 #[cfg(test)]

@@ -67,13 +67,15 @@ const VERSION: &str = "0.1.0";
 const TURNS_NOT_GIVEN: &str = "2000";
 
 /// What the help ends with.
-const WHERE_TO_READ_ON: &str = "docs/RULES.md tells how plans and scripts are written and what is \
-printed, docs/SCRIPTS.md what the events of a script do. examples/ has some of each.";
+const WHERE_TO_READ_ON: &str = "docs/formats.md tells how plans and scripts are written, \
+docs/scheduler.md what commands do, docs/node.md what events do, docs/cli.md what is printed. \
+examples/ has some of each.";
+
+/// What the help says of a plan's path.
+const PLAN_HELP: &str = "A file of commands in TOML (docs/formats.md, \"Plans\")";
 
 fn maps_command<'a>(alloc: Global) -> Result<Command<'a>, Error> {
-    let plan = Arg::new(alloc, "PLAN")
-        .required(true)
-        .help("A file of commands in TOML (docs/RULES.md, \"Plans\")");
+    let plan = Arg::new(alloc, "PLAN").required(true).help(PLAN_HELP);
     let maps = Command::new(alloc, "maps")
         .about("Applies a plan's commands to one scheduler and prints their outputs")
         .arg(plan)?;
@@ -82,7 +84,7 @@ fn maps_command<'a>(alloc: Global) -> Result<Command<'a>, Error> {
 
 fn run_command<'a>(alloc: Global) -> Result<Command<'a>, Error> {
     let script = Arg::new(alloc, "SCRIPT").required(true).help(
-        "A file of events in TOML (docs/RULES.md, \"Scripts\", and docs/SCRIPTS.md)",
+        "A file of events in TOML (docs/formats.md, \"Scripts\", and docs/node.md, \"Events\")",
     );
     let verbose = Arg::new(alloc, "verbose")
         .long("verbose")
@@ -115,9 +117,7 @@ fn show_command<'a>(alloc: Global) -> Result<Command<'a>, Error> {
 }
 
 fn live_command<'a>(alloc: Global) -> Result<Command<'a>, Error> {
-    let plan = Arg::new(alloc, "PLAN")
-        .required(true)
-        .help("A file of commands in TOML (docs/RULES.md, \"Plans\")");
+    let plan = Arg::new(alloc, "PLAN").required(true).help(PLAN_HELP);
     let turns = Arg::new(alloc, "turns")
         .long("turns")
         .value_name("T")

@@ -1,4 +1,4 @@
-use Rattle.std.proofs.Common.{ℕ, ◌≤◌, sym, arith}
+use Rattle.std.proofs.Common.{◌≤◌, sym, arith}
 use Rattle.flow_state.specs.declared.flow.Waiting.{Waiting}
 use Rattle.flow_state.specs.StoredTable.{is_ended_in}
 use Rattle.flow_state.proofs.Stored.{none_ended, not_ended, filter_kept}
@@ -8,11 +8,6 @@ pub returns-then-end-first_end_before-clause-requests : goal.returns-then-end-fi
 returns-then-end-first_end_before-clause-requests c =
     let early : c.args.end ≤ c.args.first_end_before = omega arith in
     sym (filter_kept (λ (w : Waiting). is_ended_in c.args.flows.now.entries c.args.end w.sid) c.args.waiting.now.items (λ w. not_ended c.args.flows.now.entries c.args.first_end_before c.args.end w.sid c.requires early))
-
-pub returns-then-end-first_end_before-clause-timed : goal.returns-then-end-first_end_before-clause-timed
-returns-then-end-first_end_before-clause-timed c =
-    let early : c.args.end ≤ c.args.first_end_before = omega arith in
-    sym (filter_kept (λ (sid : ℕ). is_ended_in c.args.flows.now.entries c.args.end sid) c.args.timed.now.items (λ sid. not_ended c.args.flows.now.entries c.args.first_end_before c.args.end sid c.requires early))
 
 pub returns-then-end-first_end_before-clause-kept : goal.returns-then-end-first_end_before-clause-kept
 returns-then-end-first_end_before-clause-kept c =

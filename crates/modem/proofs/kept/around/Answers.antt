@@ -8,8 +8,8 @@ use Rattle.modem.specs.KeptIntervals.{place, place_of}
 use Rattle.modem.proofs.Order.{HasAt-around}
 use Rattle.modem.proofs.kept.around.Goals as goal
 
-pub returns : goal.returns
-returns c = λ sid iuc.
+pub returns-clause-same : goal.returns-clause-same
+returns-clause-same c = λ sid iuc.
     let ks = c.args.kept.now in
     let before = c.partition_point-before.result in
     let rest = take_rest ks before in

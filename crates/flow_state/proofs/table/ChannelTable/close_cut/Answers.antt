@@ -1,13 +1,12 @@
-use Rattle.std.proofs.Common.{◌≡◌, ℕ, false, not, filter, leb, ltb, length, List, Option, ap, sym, ◌∙◌, subst, arith}
-use Rattle.std.specs.Option.{option_map_or}
+use Rattle.std.proofs.Common.{◌≡◌, ℕ, not, filter, leb, ltb, List, ap, sym, ◌∙◌, subst, arith}
 use Rattle.flow_state.specs.declared.flow.Waiting.{Waiting}
 use Rattle.flow_state.specs.Rows.{Table, FlowRow, is_ended}
 use Rattle.flow_state.specs.Changes.{close_table}
-use Rattle.flow_state.specs.StoredTable.{IsStoredFlow, is_ended_in}
+use Rattle.flow_state.specs.StoredTable.{IsStoredFlow, AreNoted}
 use Rattle.flow_state.specs.View.{table_view}
 use Rattle.flow_state.proofs.Soundness.{all_filter, sound_closed}
 use Rattle.flow_state.proofs.Stored.{AreStored, rows, stored_as, rows_filter, ended_is}
-use Rattle.flow_state.proofs.Timed.{timed_sids, timed_ended, found_rising}
+use Rattle.flow_state.proofs.Noted.{noted_from, noted_there, noted_filter}
 use Rattle.flow_state.proofs.table.ChannelTable.close_cut.Goals as goal
 
 -- the table with these flows and requests left
@@ -20,26 +19,21 @@ left_same t end ack fs gs vs ws f w = ap (λ (hs : List FlowRow). with_left t en
 goes_on : (end last : ℕ) → leb end last ≡ not (ltb last end)
 goes_on end last = grind arith
 
-closed : (c : goal.After-self-3-1) → table_view (record { row = record c.self.inside.row { next_start = c.args.end; ack = c.args.ack }; leases = c.self.inside.leases; flows = c.forget_all_ended-self-inside.new.flows; first_end = c.forget_all_ended-self-inside.result; timed = c.forget_all_ended-self-inside.new.timed; waiting = c.forget_all_ended-self-inside.new.waiting })
+closed : (c : goal.After-self-3-1) → table_view (record { row = record c.self.inside.row { next_start = c.args.end; ack = c.args.ack }; leases = c.self.inside.leases; flows = c.forget_all_ended-self-inside.new.flows; first_end = c.forget_all_ended-self-inside.result; dues = c.settle.new.self; waiting = c.forget_all_ended-self-inside.new.waiting })
     ≡ close_table (table_view c.self.inside) c.args.end c.args.ack
 closed c =
     left_same (table_view c.self.inside) c.args.end c.args.ack _ _ _ _
     (ap rows c.forget_all_ended-self-inside.ensures.kept ∙ rows_filter (λ e. leb c.args.end e.1.last) (λ f. not (is_ended c.args.end f)) c.self.inside.flows.entries (λ e s. goes_on c.args.end e.1.last) c.self.invariant.flows)
     (c.forget_all_ended-self-inside.ensures.requests ∙ (λ i. filter (λ w. not (ended_is c.self.inside.flows.entries c.args.end w.sid c.self.invariant.flows i)) c.self.inside.waiting.items))
 
-timed_after : (c : goal.After-self-3-1) → c.forget_all_ended-self-inside.new.timed.items ≡ timed_sids (close_table (table_view c.self.inside) c.args.end c.args.ack).flows
-timed_after c =
-    c.forget_all_ended-self-inside.ensures.timed ∙ ap (filter (λ sid. not (is_ended_in c.self.inside.flows.entries c.args.end sid))) c.self.invariant.timed_are
-    ∙ sym (timed_ended (table_view c.self.inside).flows c.args.end (is_ended_in c.self.inside.flows.entries c.args.end) (λ f h.
-    ended_is c.self.inside.flows.entries c.args.end f.sid c.self.invariant.flows
-    ∙ ap (λ (o : Option FlowRow). option_map_or (is_ended c.args.end) o false) (found_rising (table_view c.self.inside).flows f 0 (length (table_view c.self.inside).leases) c.self.invariant.sound.rising h)))
-
 pub invariant_of-self : goal.invariant_of-self
 invariant_of-self c =
     stored_as _ (close_table (table_view c.self.inside) c.args.end c.args.ack)
     (subst AreStored (sym c.forget_all_ended-self-inside.ensures.kept) (all_filter IsStoredFlow IsStoredFlow (λ e. leb c.args.end e.1.last) c.self.inside.flows.entries (λ e k s. s) c.self.invariant.flows))
     (c.forget_all_ended-self-inside.ensures.unique c.self.invariant.unique)
-    (timed_after c)
+    (noted_from c.forget_all_ended-self-inside.new.dues c.settle.new.self c.forget_all_ended-self-inside.new.flows.entries c.settle.ensures
+    (noted_there c.self.inside.dues c.forget_all_ended-self-inside.new.dues c.forget_all_ended-self-inside.new.flows.entries c.forget_all_ended-self-inside.ensures.dues
+    (subst (AreNoted c.self.inside.dues) (sym c.forget_all_ended-self-inside.ensures.kept) (noted_filter c.self.inside.dues (λ e. leb c.args.end e.1.last) c.self.inside.flows.entries c.self.invariant.noted))))
     (closed c)
     (sound_closed (table_view c.self.inside) c.args.end c.args.ack c.self.invariant.sound)
     c.forget_all_ended-self-inside.ensures.ends

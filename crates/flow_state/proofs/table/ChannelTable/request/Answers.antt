@@ -8,10 +8,10 @@ use Rattle.flow_state.specs.View.{table_view}
 use Rattle.flow_state.proofs.Requests.{request_room}
 use Rattle.flow_state.proofs.Soundness.{sound_requested}
 use Rattle.flow_state.proofs.Stored.{stored_as, with_parts, stored_written, ends_written, flow_written}
-use Rattle.flow_state.proofs.Timed.{timed_changed}
+use Rattle.flow_state.proofs.Noted.{noted_sent}
 use Rattle.flow_state.proofs.table.ChannelTable.request.Goals as goal
 
-written : (c : goal.After-note_sent) → table_view (record { row = c.self.inside.row; leases = c.self.inside.leases; flows = c.note_sent.new.flows; first_end = c.self.inside.first_end; timed = c.self.inside.timed; waiting = c.push.new.self }) ≡ request_in_table (table_view c.self.inside) c.args.sid c.args.n c.args.sent
+written : (c : goal.After-note_sent) → table_view (record { row = c.self.inside.row; leases = c.self.inside.leases; flows = c.note_sent.new.flows; first_end = c.self.inside.first_end; dues = c.self.inside.dues; waiting = c.push.new.self }) ≡ request_in_table (table_view c.self.inside) c.args.sid c.args.n c.args.sent
 written c =
     with_parts (table_view c.self.inside) _ _ _ _
     (flow_written c.self.inside.flows.entries c.note_sent.new.flows.entries c.args.sid (λ f. with_sent f c.args.sent) (λ f. record f { last_sent = Some c.args.sent })
@@ -28,7 +28,7 @@ invariant_of-self-2 c =
     (stored_written c.self.inside.flows.entries c.note_sent.new.flows.entries c.args.sid (λ f. with_sent f c.args.sent) c.self.invariant.flows
     (λ f e k s. record { key = s.key; due = s.due }) c.note_sent.ensures.written c.note_sent.ensures.absent)
     (c.note_sent.ensures.unique c.self.invariant.unique)
-    (c.self.invariant.timed_are ∙ sym (timed_changed (table_view c.self.inside).flows c.args.sid (λ f. record f { last_sent = Some c.args.sent }) (λ f. refl) (λ f. refl)))
+    (noted_sent c.self.inside.dues c.self.inside.flows.entries c.note_sent.new.flows.entries c.args.sid c.args.sent c.self.invariant.noted c.note_sent.ensures.written c.note_sent.ensures.absent)
     (written c)
     (sound_requested (table_view c.self.inside) c.args.sid c.args.n c.args.sent c.self.invariant.sound room)
     (ends_written c.self.inside.flows.entries c.note_sent.new.flows.entries c.args.sid c.self.inside.first_end (λ f. with_sent f c.args.sent) c.self.invariant.ends (λ f. refl) c.note_sent.ensures.written c.note_sent.ensures.absent)

@@ -1,4 +1,4 @@
-use Rattle.std.proofs.Common.{◌≡◌, ap, sym, ◌∙◌, Option, Some, None, refl, is_some}
+use Rattle.std.proofs.Common.{◌≡◌, length, ap, sym, ◌∙◌, Option, Some, None, refl, is_some}
 use Rattle.std.specs.Option.{option_map}
 use Rattle.flow_state.specs.declared.flow.Flow.{Flow}
 use Rattle.flow_state.specs.Limits.{due_index}
@@ -9,14 +9,14 @@ use Rattle.flow_state.specs.View.{flow_view, table_view}
 use Rattle.flow_state.proofs.DueTimes.{due_named}
 use Rattle.flow_state.proofs.Soundness.{sound_changed}
 use Rattle.flow_state.proofs.Stored.{stored_as, with_parts, stored_written, ends_written, flow_found, flow_written, good_found}
-use Rattle.flow_state.proofs.Timed.{timed_changed}
+use Rattle.flow_state.proofs.Noted.{noted_due, keys_rise}
 use Rattle.flow_state.proofs.table.ChannelTable.set_due.Goals as goal
 
 is_some_map : (o : Option Flow) → is_some o ≡ is_some (option_map flow_view o)
 is_some_map (Some f) = refl
 is_some_map None = refl
 
-written : (c : goal.After-note_due) → table_view (record { row = c.self.inside.row; leases = c.self.inside.leases; flows = c.note_due.new.flows; first_end = c.self.inside.first_end; timed = c.self.inside.timed; waiting = c.self.inside.waiting }) ≡ due_in_table (table_view c.self.inside) c.args.sid c.args.due
+written : (c : goal.After-note_due) → table_view (record { row = c.self.inside.row; leases = c.self.inside.leases; flows = c.note_due.new.flows; first_end = c.self.inside.first_end; dues = c.set.new.self; waiting = c.self.inside.waiting }) ≡ due_in_table (table_view c.self.inside) c.args.sid c.args.due
 written c =
     with_parts (table_view c.self.inside) _ _ _ _
     (flow_written c.self.inside.flows.entries c.note_due.new.flows.entries c.args.sid (λ f. with_next_due f c.args.due) (λ f. record f { index = due_index f.kind c.args.due })
@@ -34,7 +34,7 @@ invariant_of-self c =
     })
     c.note_due.ensures.written c.note_due.ensures.absent)
     (c.note_due.ensures.unique c.self.invariant.unique)
-    (c.self.invariant.timed_are ∙ sym (timed_changed (table_view c.self.inside).flows c.args.sid (λ f. record f { index = due_index f.kind c.args.due }) (λ f. refl) (λ f. refl)))
+    (noted_due c.self.inside.dues c.set.new.self c.self.inside.flows.entries c.note_due.new.flows.entries c.args.sid c.args.due 0 (length (table_view c.self.inside).leases) (keys_rise c.self.inside.flows.entries _ _ c.self.invariant.flows c.self.invariant.sound.rising) c.set.ensures.set c.set.ensures.kept c.self.invariant.noted c.note_due.ensures.written c.note_due.ensures.absent)
     (written c)
     (sound_changed (table_view c.self.inside) c.args.sid (λ f. record f { index = due_index f.kind c.args.due }) (λ f. refl) (λ f. refl) (λ f g. record { lease = g.lease; goes_on = g.goes_on }) c.self.invariant.sound)
     (ends_written c.self.inside.flows.entries c.note_due.new.flows.entries c.args.sid c.self.inside.first_end (λ f. with_next_due f c.args.due) c.self.invariant.ends (λ f. refl) c.note_due.ensures.written c.note_due.ensures.absent)

@@ -1,26 +1,33 @@
-use Rattle.std.proofs.Common.{◌≡◌, sym, subst}
 use Rattle.grant_machine.specs.declared.command.Command.TheVariants as commands
-use Rattle.grant_machine.specs.declared.machine.Machine.TheInside.{Inside}
-use Rattle.grant_machine.specs.Runs.{IsReached}
 use Rattle.grant_machine.proofs.Reaching.{reached_call, reached_ok}
 use Rattle.grant_machine.proofs.machine.Machine.apply.Goals as goal
-use Rattle.grant_machine.proofs.machine.Machine.apply.Goals.{in-Noop, in-Channel, in-Flow, in-Drop, in-Request, in-Cut}
 
-reached : (a b : Inside) → a ≡ b → IsReached b.flows → IsReached a.flows
-reached a b is r = subst (λ (x : Inside). IsReached x.flows) (sym is) r
+pub invariant_of-self-in-Channel : goal.invariant_of-self-in-Channel
+invariant_of-self-in-Channel c = reached_call c.set_channel.result _ _ (commands.Channel c.in-Channel.channel) c.self.invariant c.set_channel.ensures.fits c.set_channel.ensures.rows c.set_channel.ensures.err
 
-here : (c : goal.Joined-command) → IsReached c.match-command.self-inside.flows
-here c = elim c.match-command.branch [
-  | in-Noop w ↦ reached _ _ w.self-inside-is c.self.invariant
-  | in-Channel w ↦ reached _ _ w.self-inside-is (reached_call w.set_channel.result _ _ (commands.Channel w.in-Channel.channel) c.self.invariant w.set_channel.ensures.fits w.set_channel.ensures.rows w.set_channel.ensures.err)
-  | in-Flow w ↦ reached _ _ w.self-inside-is (reached_call w.add_flow.result _ _ (commands.Flow w.in-Flow.ch w.in-Flow.modem w.in-Flow.tag w.in-Flow.last w.in-Flow.kind) c.self.invariant w.add_flow.ensures.fits w.add_flow.ensures.rows w.add_flow.ensures.err)
-  | in-Drop w ↦ reached _ _ w.self-inside-is (reached_ok w.drop_flow.result _ _ (commands.Drop w.in-Drop.ch w.in-Drop.sid) c.self.invariant w.drop_flow.ensures.fits w.drop_flow.ensures.rows w.drop_flow.ensures.ok)
-  | in-Request w ↦ reached _ _ w.self-inside-is (reached_call w.request.result _ _ (commands.Request w.in-Request.ch w.in-Request.sid w.in-Request.n w.in-Request.sent) c.self.invariant w.request.ensures.fits w.request.ensures.rows w.request.ensures.err)
-  | in-Cut w ↦ reached _ _ w.self-inside-is (reached_call w.cut.result _ _ (commands.Cut w.in-Cut.ch w.in-Cut.len w.in-Cut.not_before w.in-Cut.ack) c.self.invariant w.cut.ensures.fits w.cut.ensures.rows w.cut.ensures.err)
-]
+pub returns-in-Channel-clause-reached : goal.returns-in-Channel-clause-reached
+returns-in-Channel-clause-reached c = reached_call c.set_channel.result _ _ (commands.Channel c.in-Channel.channel) c.self.invariant c.set_channel.ensures.fits c.set_channel.ensures.rows c.set_channel.ensures.err
 
-pub invariant_of-self : goal.invariant_of-self
-invariant_of-self c = here c
+pub invariant_of-self-in-Flow : goal.invariant_of-self-in-Flow
+invariant_of-self-in-Flow c = reached_call c.add_flow.result _ _ (commands.Flow c.in-Flow.ch c.in-Flow.modem c.in-Flow.tag c.in-Flow.last c.in-Flow.kind) c.self.invariant c.add_flow.ensures.fits c.add_flow.ensures.rows c.add_flow.ensures.err
 
-pub returns-clause-reached : goal.returns-clause-reached
-returns-clause-reached c = here c
+pub returns-in-Flow-clause-reached : goal.returns-in-Flow-clause-reached
+returns-in-Flow-clause-reached c = reached_call c.add_flow.result _ _ (commands.Flow c.in-Flow.ch c.in-Flow.modem c.in-Flow.tag c.in-Flow.last c.in-Flow.kind) c.self.invariant c.add_flow.ensures.fits c.add_flow.ensures.rows c.add_flow.ensures.err
+
+pub invariant_of-self-in-Drop : goal.invariant_of-self-in-Drop
+invariant_of-self-in-Drop c = reached_ok c.drop_flow.result _ _ (commands.Drop c.in-Drop.ch c.in-Drop.sid) c.self.invariant c.drop_flow.ensures.fits c.drop_flow.ensures.rows c.drop_flow.ensures.ok
+
+pub returns-in-Drop-clause-reached : goal.returns-in-Drop-clause-reached
+returns-in-Drop-clause-reached c = reached_ok c.drop_flow.result _ _ (commands.Drop c.in-Drop.ch c.in-Drop.sid) c.self.invariant c.drop_flow.ensures.fits c.drop_flow.ensures.rows c.drop_flow.ensures.ok
+
+pub invariant_of-self-in-Request : goal.invariant_of-self-in-Request
+invariant_of-self-in-Request c = reached_call c.request.result _ _ (commands.Request c.in-Request.ch c.in-Request.sid c.in-Request.n c.in-Request.sent) c.self.invariant c.request.ensures.fits c.request.ensures.rows c.request.ensures.err
+
+pub returns-in-Request-clause-reached : goal.returns-in-Request-clause-reached
+returns-in-Request-clause-reached c = reached_call c.request.result _ _ (commands.Request c.in-Request.ch c.in-Request.sid c.in-Request.n c.in-Request.sent) c.self.invariant c.request.ensures.fits c.request.ensures.rows c.request.ensures.err
+
+pub invariant_of-self-in-Cut : goal.invariant_of-self-in-Cut
+invariant_of-self-in-Cut c = reached_call c.cut.result _ _ (commands.Cut c.in-Cut.ch c.in-Cut.len c.in-Cut.not_before c.in-Cut.ack) c.self.invariant c.cut.ensures.fits c.cut.ensures.rows c.cut.ensures.err
+
+pub returns-in-Cut-clause-reached : goal.returns-in-Cut-clause-reached
+returns-in-Cut-clause-reached c = reached_call c.cut.result _ _ (commands.Cut c.in-Cut.ch c.in-Cut.len c.in-Cut.not_before c.in-Cut.ack) c.self.invariant c.cut.ensures.fits c.cut.ensures.rows c.cut.ensures.err

@@ -13,3 +13,6 @@ returns-in-Assigned-clause-stands c =
 pub returns-in-Map-clause-stands : goal.returns-in-Map-clause-stands
 returns-in-Map-clause-stands c =
     rw c.in-Map.is (stands_if_ok c.hear_map.result c.args.self.now c.hear_map.new.self (MapOutput c.in-Map.ch c.in-Map.start c.in-Map.len c.in-Map.bytes) c.args.near (rw c.as_slice.ensures at c.hear_map.ensures.ok))
+
+pub returns-in-Map-clause-lets_go : goal.returns-in-Map-clause-lets_go
+returns-in-Map-clause-lets_go c = rw c.in-Map.is (rw c.as_slice.ensures at c.hear_map.ensures.lets_go)

@@ -1,4 +1,8 @@
-use Rattle.std.proofs.Common.{◌≡◌, ◌≤◌, Some, map, refl, sym}
+use Rattle.std.proofs.Common.{◌≡◌, ◌+◌, ◌*◌, ◌≤◌, List, Some, length, vec_len, map, refl, sym}
+use Rattle.std.proofs.lemmas.List.{length-map}
+use Rattle.modem.specs.declared.kept.KeptInterval.{KeptInterval}
+use Rattle.modem.specs.LetsGo.{old_intervals}
+use Rattle.modem.proofs.Old.{HasFewOld-made}
 use Rattle.modem.specs.State.{State, channel_of}
 use Rattle.modem.specs.KeptIntervals.{kept_interval}
 use Rattle.modem.specs.contracts.modem.Modem.{the_view}
@@ -51,3 +55,13 @@ returns-clause-held c hearings sid h is =
     let new : State = record { id = old.id; channels = c.set.new.channels.items; leases = old.leases; grants = map kept_interval c.let_go_of_many.new.kept.items; open_to_all = map kept_interval c.let_go_of_many-2.new.kept.items; wants = c.keep_lasting.new.wants.items } in
     let ticks = Ticks-made old new c.in-Some.channel c.args.ch c.args.slot c.args.random c.send-sending.result c.counted-counted.result c.is_open-open.result c.send-sending.new.wants.items found refl refl grants open_to_all made counts opens sends lasts in
     rw (← c.self.view_is) (Ticks-held old new c.in-Some.channel c.args.ch c.args.slot c.args.random c.send-sending.result hearings sid found late ticks was is)
+
+pub returns-clause-lets_go : goal.returns-clause-lets_go
+returns-clause-lets_go c =
+    let found : channel_of c.self.inside.channels.items c.args.ch ≡ Some c.in-Some.channel = rw c.as_slice.ensures.value at (sym c.in-Some.ensures) in
+    let few : (ks : List KeptInterval) → 2 * (length c.self.inside.channels.items + 1) * length (old_intervals c.in-Some.channel.id (c.args.slot + 1) (map kept_interval ks)) ≤ length ks → 2 * (length c.self.inside.channels.items + 1) * length (old_intervals c.in-Some.channel.id (c.args.slot + 1) (map kept_interval ks)) ≤ length (map kept_interval ks) = λ ks h. rw (length-map ks kept_interval) h in
+    let size : vec_len c.self.inside.channels ≡ length c.self.inside.channels.items = c.self.inside.channels.ok.0 in
+    let grants = rw (c.get-at.ensures.same, c.len-count.ensures, size) at c.let_go_of_many.ensures.few in
+    let open_to_all = rw (c.get-at.ensures.same, c.len-count.ensures, size) at c.let_go_of_many-2.ensures.few in
+    let made = rw c.get-at.ensures.same at c.set.ensures in
+    rw (← c.self.view_is, found) (λ late. HasFewOld-made (the_view c.self.inside) _ c.in-Some.channel c.args.ch (c.args.slot + 1) found made (few _ grants) (few _ open_to_all))

@@ -1,0 +1,233 @@
+-- What each tick at a minislot does, from what counts there.
+use Rattle.std.proofs.Common.{◌≡◌, ℕ, ◌+◌, ◌≤◌, Bool, true, false, cond, ◌==◌, ◌||◌, not, List, [], ◌∷◌, Option, Some, None, refl, sym, subst, ◌∙◌, ap, arith, inl, inr, ◌↔◌, MatchBool}
+use Rattle.std.specs.List.{filter, list_any}
+use Rattle.std.proofs.lemmas.Map.Views.{any-filter_same}
+use Rattle.std.proofs.lemmas.Bool.{and_parts, eqb-true}
+use Rattle.map_body.specs.Iucs as iucs
+use Rattle.map_body.specs.Sids.{everybody}
+use Rattle.modem.proofs.Parts.{no_true}
+use Rattle.modem.specs.declared.known.Channel.{Channel}
+use Rattle.modem.specs.declared.known.Lease.{Lease}
+use Rattle.modem.specs.declared.known.Want.{Want}
+use Rattle.modem.specs.declared.types.Sending.{Sending}
+use Rattle.modem.specs.declared.types.Sending.TheVariants.{Unicast, Polled}
+use Rattle.modem.specs.State.{State, Kept, HasAt, is_own_from}
+use Rattle.modem.specs.Wants.{is_want, unsent_of, IsLeastUnsent, own_wants, is_lasting, lasting}
+use Rattle.modem.specs.Ticks.{Ticks, Counts, IsNotAfter, Silent, Polls, Contends, Shares, SendsBy}
+use Rattle.modem.specs.NextEvent.{IsQuiet, EachTick, IsPartOf, Acts}
+use Rattle.modem.specs.Idle.{NoneShares, IsShared, NothingBy, SharesAt, SendsAt, IsIdle, IsSame}
+use Rattle.modem.specs.declared.action.Action.{Action}
+use Rattle.modem.specs.declared.action.Action.TheVariants.{Grant, Poll, Contention, LeaseEnd}
+
+pair : (p q : ℕ × ℕ) → p.0 ≡ q.0 → p.1 ≡ q.1 → p ≡ q
+pair (a, b) (x, y) e f = ap (λ n. (n, b)) e ∙ ap (λ n. (x, n)) f
+
+-- one SID and IUC counts
+pub Counts-once : (ks : List Kept) (ch m : ℕ) (a b : Option (ℕ × ℕ)) → Counts ks ch m a → Counts ks ch m b → a ≡ b
+Counts-once ks ch m None None h k = refl
+Counts-once ks ch m None (Some q) h k = absurd (h q.0 q.1 k.0)
+Counts-once ks ch m (Some p) None h k = absurd (k p.0 p.1 h.0)
+Counts-once ks ch m (Some p) (Some q) h k = ap (λ r. Some r) (same (h.1 q.0 q.1 k.0) (k.1 p.0 p.1 h.0))
+  where
+    same : IsNotAfter p q.0 q.1 → IsNotAfter q p.0 p.1 → p ≡ q
+    same (inl a) (inl b) = absurd (omega (arith, a, b))
+    same (inl a) (inr b) = absurd (omega (arith, a, b.0))
+    same (inr a) (inl b) = absurd (omega (arith, a.0, b))
+    same (inr a) (inr b) = pair p q a.0 (omega (arith, a.1, b.1))
+
+pub least_once : (wants : List Want) (ch : ℕ) (a b : Option Want) → IsLeastUnsent wants ch a → IsLeastUnsent wants ch b → a ≡ b
+least_once wants ch None None h k = refl
+least_once wants ch None (Some w) h k = absurd (let e = sym (h w.sid) ∙ k.0 in cc)
+least_once wants ch (Some v) None h k = absurd (let e = sym (k v.sid) ∙ h.0 in cc)
+least_once wants ch (Some v) (Some w) h k =
+    let up : v.sid ≤ w.sid = h.1 w.sid (λ none. let e = sym none ∙ k.0 in cc) in
+    let down : w.sid ≤ v.sid = k.1 v.sid (λ none. let e = sym none ∙ h.0 in cc) in
+    let one : v.sid ≡ w.sid = omega (arith, up, down) in
+    sym h.0 ∙ ap (λ n. unsent_of wants ch n) one ∙ k.0
+
+module _ (v : State) (c : Channel) (m random : ℕ) (sending : Option Sending) (new : State) (ticks : Ticks v c m random sending new) where
+  -- what a tick does by what counts
+  record By (counted : Option (ℕ × ℕ)) : Type 0 where
+    is_open : Bool
+    opens : (is_open ≡ true) ↔ HasAt v.open_to_all c.id m everybody 1
+    wants : List Want
+    sends : SendsBy v.leases v.wants c m random is_open sending wants counted
+    lasts : new.wants ≡ lasting v.leases c.id (m + 1) wants
+
+  by : (counted : Option (ℕ × ℕ)) → Counts v.grants c.id m counted → By counted
+  by counted counts = record {
+    is_open = ticks.sends.2;
+    opens = ticks.sends.3;
+    wants = ticks.sends.4;
+    sends = subst (λ o. SendsBy v.leases v.wants c m random ticks.sends.2 sending ticks.sends.4 o) (Counts-once v.grants c.id m ticks.sends.0 counted ticks.sends.1 counts) ticks.sends.5;
+    lasts = ticks.sends.6;
+  }
+
+  -- nobody takes part
+  silent : (is_open : Bool) (wants : List Want) → ((is_open ≡ true) ↔ HasAt v.open_to_all c.id m everybody 1) → NoneShares v c.id m → Shares v.leases v.wants c m random is_open sending wants → Silent v.wants sending wants
+  silent false wants opens none h = h
+  silent true wants opens (inl shut) h = absurd (shut (opens.0 refl))
+  silent true wants opens (inr nobody) (least, is_least, contends) =
+      subst (λ o. Contends v.wants c m random sending wants o) (least_once _ c.id least None is_least nobody) contends
+
+  silent_by : (counted : Option (ℕ × ℕ)) (is_open : Bool) (wants : List Want) → ((is_open ≡ true) ↔ HasAt v.open_to_all c.id m everybody 1) → NothingBy v c.id m counted → SendsBy v.leases v.wants c m random is_open sending wants counted → Silent v.wants sending wants
+  silent_by None is_open wants opens none h = silent is_open wants opens none h
+  silent_by (Some p) is_open wants opens none h = by_grant (iucs.lets_transmit p.1) none h
+    where
+      by_poll : (b : Bool) → MatchBool b (unsent_of v.wants c.id p.0 ≡ None) (NoneShares v c.id m) → MatchBool b (Polls v.wants p.0 m sending wants (unsent_of v.wants c.id p.0)) (Shares v.leases v.wants c m random is_open sending wants) → Silent v.wants sending wants
+      by_poll true none h = subst (λ o. Polls v.wants p.0 m sending wants o) none h
+      by_poll false none h = silent is_open wants opens none h
+
+      by_grant : (b : Bool) → MatchBool b ⊥ (MatchBool (iucs.lets_request p.1) (unsent_of v.wants c.id p.0 ≡ None) (NoneShares v c.id m)) → MatchBool b ((sending ≡ Some (Unicast p.0)) × (wants ≡ v.wants)) (MatchBool (iucs.lets_request p.1) (Polls v.wants p.0 m sending wants (unsent_of v.wants c.id p.0)) (Shares v.leases v.wants c m random is_open sending wants)) → Silent v.wants sending wants
+      by_grant true none h = absurd none
+      by_grant false none h = by_poll (iucs.lets_request p.1) none h
+
+-- where nothing comes, and all wants stay
+pub idle_quiet : (v : State) (c : Channel) (m : ℕ) → IsIdle v c.id m → IsQuiet v c m
+idle_quiet v c m idle random sending new ticks =
+    let b = by v c m random sending new ticks idle.counted idle.counts in
+    let s = silent_by v c m random sending new ticks idle.counted b.is_open b.wants b.opens idle.nothing b.sends in
+    (s.0, b.lasts ∙ ap (λ ws. lasting v.leases c.id (m + 1) ws) s.1 ∙ idle.stay)
+
+-- a grant that counts is used
+pub granted : (v : State) (c : Channel) (m sid iuc : ℕ) → Counts v.grants c.id m (Some (sid, iuc)) → iucs.lets_transmit iuc ≡ true → EachTick v c m (λ random sending wants. sending ≡ Some (Unicast sid))
+granted v c m sid iuc counts lets random sending new ticks =
+    let b = by v c m random sending new ticks (Some (sid, iuc)) counts in
+    go b.is_open b.wants (iucs.lets_transmit iuc) lets b.sends
+  where
+    go : (is_open : Bool) (wants : List Want) (lets : Bool) → lets ≡ true → MatchBool lets ((sending ≡ Some (Unicast sid)) × (wants ≡ v.wants)) (MatchBool (iucs.lets_request iuc) (Polls v.wants sid m sending wants (unsent_of v.wants c.id sid)) (Shares v.leases v.wants c m random is_open sending wants)) → sending ≡ Some (Unicast sid)
+    go is_open wants true e h = h.0
+    go is_open wants false e h = no_true e
+
+-- a poll that counts
+pub polled : (v : State) (c : Channel) (m sid iuc : ℕ) (w : Want) → Counts v.grants c.id m (Some (sid, iuc)) → iucs.lets_transmit iuc ≡ false → iucs.lets_request iuc ≡ true → unsent_of v.wants c.id sid ≡ Some w → EachTick v c m (λ random sending wants. sending ≡ Some (Polled sid w.n))
+polled v c m sid iuc w counts no_grant lets found random sending new ticks =
+    let b = by v c m random sending new ticks (Some (sid, iuc)) counts in
+    go b.is_open b.wants (iucs.lets_transmit iuc) no_grant b.sends
+  where
+    at_poll : (is_open : Bool) (wants : List Want) (lets : Bool) → lets ≡ true → MatchBool lets (Polls v.wants sid m sending wants (unsent_of v.wants c.id sid)) (Shares v.leases v.wants c m random is_open sending wants) → sending ≡ Some (Polled sid w.n)
+    at_poll is_open wants true e h = (subst (λ o. Polls v.wants sid m sending wants o) found h).0
+    at_poll is_open wants false e h = no_true e
+
+    go : (is_open : Bool) (wants : List Want) (b : Bool) → b ≡ false → MatchBool b ((sending ≡ Some (Unicast sid)) × (wants ≡ v.wants)) (MatchBool (iucs.lets_request iuc) (Polls v.wants sid m sending wants (unsent_of v.wants c.id sid)) (Shares v.leases v.wants c m random is_open sending wants)) → sending ≡ Some (Polled sid w.n)
+    go is_open wants true e h = no_true (sym e)
+    go is_open wants false e h = at_poll is_open wants (iucs.lets_request iuc) lets h
+
+-- where no grant or poll counts
+to_shares : (leases : List Lease) (wants : List Want) (c : Channel) (m random : ℕ) (is_open : Bool) (sending : Option Sending) (new : List Want) (counted : Option (ℕ × ℕ)) → IsShared counted → SendsBy leases wants c m random is_open sending new counted → Shares leases wants c m random is_open sending new
+to_shares leases wants c m random is_open sending new None shared h = h
+to_shares leases wants c m random is_open sending new (Some p) shared h = by_grant (iucs.lets_transmit p.1) shared.0 h
+  where
+    by_poll : (b : Bool) → b ≡ false → MatchBool b (Polls wants p.0 m sending new (unsent_of wants c.id p.0)) (Shares leases wants c m random is_open sending new) → Shares leases wants c m random is_open sending new
+    by_poll true e h = no_true (sym e)
+    by_poll false e h = h
+
+    by_grant : (b : Bool) → b ≡ false → MatchBool b ((sending ≡ Some (Unicast p.0)) × (new ≡ wants)) (MatchBool (iucs.lets_request p.1) (Polls wants p.0 m sending new (unsent_of wants c.id p.0)) (Shares leases wants c m random is_open sending new)) → Shares leases wants c m random is_open sending new
+    by_grant true e h = no_true (sym e)
+    by_grant false e h = by_poll (iucs.lets_request p.1) shared.1 h
+
+-- the least unsent want takes part
+pub contended : (v : State) (c : Channel) (m : ℕ) (counted : Option (ℕ × ℕ)) (w : Want) → Counts v.grants c.id m counted → IsShared counted → HasAt v.open_to_all c.id m everybody 1 → IsLeastUnsent (own_wants v.leases c.id m v.wants) c.id (Some w) → EachTick v c m (IsPartOf v c m w)
+contended v c m counted w counts shared shares least random sending new ticks =
+    let b = by v c m random sending new ticks counted counts in
+    go b.is_open b.wants (b.opens.1 shares) (to_shares v.leases v.wants c m random b.is_open sending b.wants counted shared b.sends) b.lasts
+  where
+    go : (is_open : Bool) (wants : List Want) → is_open ≡ true → Shares v.leases v.wants c m random is_open sending wants → new.wants ≡ lasting v.leases c.id (m + 1) wants → IsPartOf v c m w random sending new.wants
+    go true wants e (some, is_least, contends) lasts =
+        (wants, subst (λ o. Contends v.wants c m random sending wants o) (least_once _ c.id some (Some w) is_least least) contends, lasts)
+    go false wants e h lasts = no_true e
+
+-- a want goes whose leases end
+pub ended : (v : State) (c : Channel) (m : ℕ) (counted : Option (ℕ × ℕ)) (sid : ℕ) → Counts v.grants c.id m counted → NothingBy v c.id m counted → is_own_from v.leases c.id sid (m + 1) ≡ false → EachTick v c m (λ random sending wants. (sending ≡ None) × (list_any (is_want c.id sid) wants ≡ false))
+ended v c m counted sid counts nothing over random sending new ticks =
+    let b = by v c m random sending new ticks counted counts in
+    let s = silent_by v c m random sending new ticks counted b.is_open b.wants b.opens nothing b.sends in
+    let same : new.wants ≡ lasting v.leases c.id (m + 1) v.wants = b.lasts ∙ ap (λ ws. lasting v.leases c.id (m + 1) ws) s.1 in
+    (s.0, ap (λ ws. list_any (is_want c.id sid) ws) same ∙ any-filter_same (is_want c.id sid) (is_lasting v.leases c.id (m + 1)) false goes v.wants)
+  where
+    goes : (w : Want) → is_want c.id sid w ≡ true → is_lasting v.leases c.id (m + 1) w ≡ false
+    goes w is =
+        let parts = and_parts (w.channel == c.id) (w.sid == sid) is in
+        let here : not (w.channel == c.id) ≡ false = ap not parts.0 in
+        let one : w.sid ≡ sid = eqb-true w.sid sid parts.1 in
+        let past : is_own_from v.leases c.id w.sid (m + 1) ≡ false = ap (λ n. is_own_from v.leases c.id n (m + 1)) one ∙ over in
+        ap (λ b. b || is_own_from v.leases c.id w.sid (m + 1)) here ∙ past
+
+-- equal tests leave equal lists
+filter_same : (p q : Want → Bool) → ((w : Want) → p w ≡ q w) → (ws : List Want) → filter p ws ≡ filter q ws
+filter_same p q same [] = refl
+filter_same p q same (w ∷ ws) = ap (λ b. cond b (w ∷ filter p ws) (filter p ws)) (same w) ∙ ap (λ us. cond (q w) (w ∷ us) us) (filter_same p q same ws)
+
+counts_at : (ks : List Kept) (ch m x : ℕ) (counted : Option (ℕ × ℕ)) → ((sid iuc : ℕ) → HasAt ks ch x sid iuc ↔ HasAt ks ch m sid iuc) → Counts ks ch m counted → Counts ks ch x counted
+counts_at ks ch m x None same h = λ sid iuc there. h sid iuc ((same sid iuc).0 there)
+counts_at ks ch m x (Some p) same h = ((same p.0 p.1).1 h.0, λ sid iuc there. h.1 sid iuc ((same sid iuc).0 there))
+
+-- where what a tick looks at is the same, nothing comes either
+pub idle_same : (v : State) (ch m x : ℕ) → IsSame v ch m x → IsIdle v ch m → IsIdle v ch x
+idle_same v ch m x same idle = record {
+  counted = idle.counted;
+  counts = counts_at v.grants ch m x idle.counted same.grants idle.counts;
+  nothing = at_counted idle.counted idle.nothing;
+  stay = sym (filter_same _ _ lasts v.wants) ∙ idle.stay;
+}
+  where
+    lasts : (w : Want) → is_lasting v.leases ch (m + 1) w ≡ is_lasting v.leases ch (x + 1) w
+    lasts w = ap (λ b. not (w.channel == ch) || b) (sym (same.leases.lasts w.sid))
+
+    own : own_wants v.leases ch m v.wants ≡ own_wants v.leases ch x v.wants
+    own = filter_same _ _ (λ w. sym (same.leases.own w.sid)) v.wants
+
+    shares : NoneShares v ch m → NoneShares v ch x
+    shares (inl shut) = inl (λ h. shut ((same.open_to_all everybody 1).0 h))
+    shares (inr nobody) = inr (subst (λ ws. IsLeastUnsent ws ch None) own nobody)
+
+    at_counted : (counted : Option (ℕ × ℕ)) → NothingBy v ch m counted → NothingBy v ch x counted
+    at_counted None none = shares none
+    at_counted (Some p) none = by_grant (iucs.lets_transmit p.1) none
+      where
+        by_poll : (b : Bool) → MatchBool b (unsent_of v.wants ch p.0 ≡ None) (NoneShares v ch m) → MatchBool b (unsent_of v.wants ch p.0 ≡ None) (NoneShares v ch x)
+        by_poll true h = h
+        by_poll false h = shares h
+
+        by_grant : (b : Bool) → MatchBool b ⊥ (MatchBool (iucs.lets_request p.1) (unsent_of v.wants ch p.0 ≡ None) (NoneShares v ch m)) → MatchBool b ⊥ (MatchBool (iucs.lets_request p.1) (unsent_of v.wants ch p.0 ≡ None) (NoneShares v ch x))
+        by_grant true h = h
+        by_grant false h = by_poll (iucs.lets_request p.1) h
+
+-- what is sent by what counts, done by each tick
+pub acts_sent : (v : State) (c : Channel) (m : ℕ) (counted : Option (ℕ × ℕ)) (a : Action) → Counts v.grants c.id m counted → SendsAt v c.id m counted (Some a) → Acts v c m a
+acts_sent v c m counted (Grant sid iuc first last) counts (is, lets, from, to, kept) =
+    (lets, from, to, kept, granted v c m sid iuc (subst (λ o. Counts v.grants c.id m o) is counts) lets)
+acts_sent v c m counted (Poll sid n) counts (iuc, is, no_grant, lets, w, found, of_n) =
+    subst (λ k. EachTick v c m (λ random sending wants. sending ≡ Some (Polled sid k))) of_n (polled v c m sid iuc w (subst (λ o. Counts v.grants c.id m o) is counts) no_grant lets found)
+acts_sent v c m counted (Contention sid n) counts (shared, (shares, w, least, of_sid, of_n)) =
+    (w, of_sid, of_n, contended v c m counted w counts shared shares least)
+acts_sent v c m counted (LeaseEnd sid) counts none = absurd none
+
+-- who takes part where no grant or poll counts
+pub sends_shared : (v : State) (ch m : ℕ) (counted : Option (ℕ × ℕ)) (r : Option Action) → IsShared counted → SharesAt v ch m r → SendsAt v ch m counted r
+sends_shared v ch m None None shared h = h
+sends_shared v ch m (Some p) None shared h = by_grant (iucs.lets_transmit p.1) shared.0
+  where
+    by_poll : (b : Bool) → b ≡ false → MatchBool b (unsent_of v.wants ch p.0 ≡ None) (NoneShares v ch m)
+    by_poll true e = no_true (sym e)
+    by_poll false e = h
+
+    by_grant : (b : Bool) → b ≡ false → MatchBool b ⊥ (MatchBool (iucs.lets_request p.1) (unsent_of v.wants ch p.0 ≡ None) (NoneShares v ch m))
+    by_grant true e = no_true (sym e)
+    by_grant false e = by_poll (iucs.lets_request p.1) shared.1
+sends_shared v ch m counted (Some (Contention sid n)) shared h = (shared, h)
+sends_shared v ch m counted (Some (Grant sid iuc first last)) shared h = absurd h
+sends_shared v ch m counted (Some (Poll sid n)) shared h = absurd h
+sends_shared v ch m counted (Some (LeaseEnd sid)) shared h = absurd h
+
+-- a poll of a SID without an unsent want
+pub polls_none : (v : State) (ch m sid iuc : ℕ) → iucs.lets_transmit iuc ≡ false → iucs.lets_request iuc ≡ true → unsent_of v.wants ch sid ≡ None → NothingBy v ch m (Some (sid, iuc))
+polls_none v ch m sid iuc no_grant lets none = by_grant (iucs.lets_transmit iuc) no_grant
+  where
+    by_poll : (b : Bool) → b ≡ true → MatchBool b (unsent_of v.wants ch sid ≡ None) (NoneShares v ch m)
+    by_poll true e = none
+    by_poll false e = no_true e
+
+    by_grant : (b : Bool) → b ≡ false → MatchBool b ⊥ (MatchBool (iucs.lets_request iuc) (unsent_of v.wants ch sid ≡ None) (NoneShares v ch m))
+    by_grant true e = no_true (sym e)
+    by_grant false e = by_poll (iucs.lets_request iuc) lets

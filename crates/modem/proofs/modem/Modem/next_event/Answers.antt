@@ -1,0 +1,56 @@
+use Rattle.std.proofs.Common.{◌≡◌, ℕ, ◌<◌, ◌≤◌, ◌^◌, ◌⊎◌, inl, inr, Some, IfSome, sym, arith}
+use Rattle.std.proofs.lemmas.Bool.{cases_lt}
+use Rattle.modem.specs.State.{State, channel_of}
+use Rattle.modem.specs.NextEvent.{AreQuiet}
+use Rattle.modem.specs.Idle.{IsIdle, IsSame}
+use Rattle.modem.proofs.NextEdges.{if_none}
+use Rattle.modem.proofs.Quiet.{idle_quiet, idle_same}
+use Rattle.modem.proofs.modem.Modem.next_event.Goals as goal
+
+-- nothing comes up to the next edge
+idle_on : (v : State) (ch «at» m : ℕ) → (m < «at» → IsIdle v ch m) → («at» ≤ m → IsSame v ch «at» m) → IsIdle v ch «at» → IsIdle v ch m
+idle_on v ch «at» m before same idle = by_side (cases_lt m «at»)
+  where
+    by_side : (m < «at») ⊎ («at» ≤ m) → IsIdle v ch m
+    by_side (inl early) = before early
+    by_side (inr late) = idle_same v ch «at» m (same late) idle
+
+pub loop-at-init : goal.loop-at-init
+loop-at-init c =
+    let top = c.max-at.ensures in
+    let from = c.get.ensures.same in
+    (omega (arith, top, from), λ m late before limit. absurd (omega (arith, top, from, late, before)))
+
+pub loop-at-preserved : goal.loop-at-preserved
+loop-at-preserved c =
+    let on = c.in_ok-at-in-None.ensures.after in
+    let so_far = c.loop-at.invariant.0 in (
+      omega (arith, on, so_far),
+      λ m late before limit.
+          idle_on c.args.self.now c.in_ok-channel.channel.id c.loop-at.«at» m (λ early. c.loop-at.invariant.1 m late early limit) (λ later. c.in_ok-at-in-None.ensures.same m later limit before) c.in-None.ensures.none,
+    )
+
+pub returns-in-Some-clause-next : goal.returns-in-Some-clause-next
+returns-in-Some-clause-next c =
+    let found : channel_of c.self.inside.channels.items c.args.ch ≡ Some c.in_ok-channel.channel = rw c.as_slice.ensures.value at (sym c.in_ok-channel.ensures) in
+    let known : channel_of c.args.self.now.channels c.args.ch ≡ Some c.in_ok-channel.channel = rw (← c.self.view_is) found in
+    let limit = c.loop-at-test.true in
+    rw known (record {
+      from_on = c.loop-at.invariant.0;
+      below = limit;
+      before = λ m late lt. idle_quiet c.args.self.now c.in_ok-channel.channel m (c.loop-at.invariant.1 m late lt (omega (arith, lt, limit)));
+      acts = c.in-Some.ensures.some;
+    })
+
+pub returns-in_err-at-in-None-clause-never : goal.returns-in_err-at-in-None-clause-never
+returns-in_err-at-in-None-clause-never c =
+    let found : channel_of c.self.inside.channels.items c.args.ch ≡ Some c.in_ok-channel.channel = rw c.as_slice.ensures.value at (sym c.in_ok-channel.ensures) in
+    let known : channel_of c.args.self.now.channels c.args.ch ≡ Some c.in_ok-channel.channel = rw (← c.self.view_is) found in
+    if_none (IfSome (channel_of c.args.self.now.channels c.args.ch) (λ k. AreQuiet c.args.self.now k c.args.from (2 ^ 63))) c.from_residual-in_err-at-in-None.result (rw known (λ m late limit. idle_quiet c.args.self.now c.in_ok-channel.channel m (idle_on c.args.self.now c.in_ok-channel.channel.id c.loop-at.«at» m (λ early. c.loop-at.invariant.1 m late early limit) (λ later. c.in_err-at-in-None.ensures.same m later limit tt) c.in-None.ensures.none)))
+
+pub returns-clause-never : goal.returns-clause-never
+returns-clause-never c =
+    let found : channel_of c.self.inside.channels.items c.args.ch ≡ Some c.in_ok-channel.channel = rw c.as_slice.ensures.value at (sym c.in_ok-channel.ensures) in
+    let known : channel_of c.args.self.now.channels c.args.ch ≡ Some c.in_ok-channel.channel = rw (← c.self.view_is) found in
+    let past = c.loop-at-test.false in
+    rw known (λ m late limit. idle_quiet c.args.self.now c.in_ok-channel.channel m (c.loop-at.invariant.1 m late (omega (arith, past, limit)) limit))

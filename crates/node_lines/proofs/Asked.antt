@@ -1,0 +1,132 @@
+-- What a line asks that is refused, and that it asks one thing at most.
+use Rattle.std.proofs.Common.{◌≡◌, ◌≢◌, ℕ, List, ◌++◌, Result, Ok, Err, inl, inr, refl, sym, ap, subst, ◌∙◌, get_or, arith}
+use Rattle.std.specs.Prelude.{IfErr, IsErr, codes}
+use Rattle.hex.specs.Hex.{decode_of}
+use Rattle.hex.specs.declared.error.FromHexError.{FromHexError}
+use Rattle.ballots.specs.declared.letters.Letter.{Letter}
+use Rattle.letter_bytes.specs.Reading.{letter_of}
+use Rattle.letter_bytes.specs.Spelling.{spelling}
+use Rattle.std.specs.Str.Parse.{digits_value, without_leading_plus}
+use Rattle.letter_bytes.proofs.Callers.{read_again}
+use Rattle.node_lines.specs.declared.fault.LineFault.{LineFault}
+use Rattle.node_lines.specs.declared.fault.LineFault.TheVariants as fault
+use Rattle.node_lines.specs.declared.request.Request.{Request}
+use Rattle.node_lines.specs.declared.request.Request.TheVariants as request
+use Rattle.node_lines.specs.Lines.{Asks, AsksNothing, IsLetterText, IsNoLetter, IsNoLine, IsNumberText, IsRefused, letter_word, offer_word, release_word}
+
+same_offer : (a b : List ℕ) → offer_word ++ a ≡ offer_word ++ b → a ≡ b
+same_offer a b e = cc
+
+same_release : (a b : List ℕ) → release_word ++ a ≡ release_word ++ b → a ≡ b
+same_release a b e = cc
+
+same_letter : (a b : List ℕ) → letter_word ++ a ≡ letter_word ++ b → a ≡ b
+same_letter a b e = cc
+
+-- two lines that differ in a byte
+differ : (i : ℕ) (a b : List ℕ) → (get_or a i 0 ≡ get_or b i 0 → ⊥) → a ≡ b → ⊥
+differ i a b other same = other (ap (λ (x : List ℕ). get_or x i 0) same)
+
+offer_is_no_release : (a b : List ℕ) → offer_word ++ a ≡ release_word ++ b → ⊥
+offer_is_no_release a b = differ 0 (offer_word ++ a) (release_word ++ b) (λ same. absurd (omega (arith, same)))
+
+offer_is_no_letter : (a b : List ℕ) → offer_word ++ a ≡ letter_word ++ b → ⊥
+offer_is_no_letter a b = differ 0 (offer_word ++ a) (letter_word ++ b) (λ same. absurd (omega (arith, same)))
+
+release_is_no_letter : (a b : List ℕ) → release_word ++ a ≡ letter_word ++ b → ⊥
+release_is_no_letter a b = differ 0 (release_word ++ a) (letter_word ++ b) (λ same. absurd (omega (arith, same)))
+
+lead_is_no_offer : (a : List ℕ) → codes "lead" ≡ offer_word ++ a → ⊥
+lead_is_no_offer a = differ 0 (codes "lead") (offer_word ++ a) (λ same. absurd (omega (arith, same)))
+
+lead_is_no_release : (a : List ℕ) → codes "lead" ≡ release_word ++ a → ⊥
+lead_is_no_release a = differ 0 (codes "lead") (release_word ++ a) (λ same. absurd (omega (arith, same)))
+
+lead_is_no_letter : (a : List ℕ) → codes "lead" ≡ letter_word ++ a → ⊥
+lead_is_no_letter a = differ 2 (codes "lead") (letter_word ++ a) (λ same. absurd (omega (arith, same)))
+
+not_both : (bytes : List ℕ) (r : Result (List ℕ) FromHexError) → IsErr r → r ≡ Ok bytes → ⊥
+not_both bytes (Ok other) fails is = absurd cc
+not_both bytes (Err e) fails is = absurd cc
+
+-- digits that are refused so are no letter's
+no_letter : (digits : List ℕ) (why : LineFault) (l : Letter) → IsNoLetter digits why → why ≢ fault.OutOfMemory → IsLetterText digits l → ⊥
+no_letter digits fault.NoLine l refused other text = refused
+no_letter digits fault.NoHex l refused other text = not_both text.bytes (decode_of digits) refused text.decoded
+no_letter digits fault.NoNumber l refused other text = refused
+no_letter digits (fault.NoLetter why) l refused other text =
+    let same : refused.0 ≡ text.bytes = cc (refused.1, text.decoded) in
+    let read : letter_of refused.0 ≡ Ok l = ap letter_of (same ∙ text.spells.1) ∙ read_again l text.spells.0 in
+    absurd (cc (read, refused.2))
+no_letter digits fault.OutOfMemory l refused other text = other refl
+no_letter digits fault.TooLong l refused other text = refused
+
+is_offer : (line digits : List ℕ) → line ≡ offer_word ++ digits → ((value : List ℕ) → decode_of digits ≡ Ok value → ⊥) → AsksNothing line
+is_offer line digits is none request.Lead asks = lead_is_no_offer digits (sym asks ∙ is)
+is_offer line digits is none (request.Offer value) asks = none value (ap decode_of (same_offer digits asks.0 (sym is ∙ asks.1)) ∙ asks.2)
+is_offer line digits is none (request.Release now) asks = offer_is_no_release digits asks.0 (sym is ∙ asks.1)
+is_offer line digits is none (request.Letter l) asks = offer_is_no_letter digits asks.0 (sym is ∙ asks.1)
+
+is_release : (line digits : List ℕ) → line ≡ release_word ++ digits → ((n : ℕ) → IsNumberText digits n → ⊥) → AsksNothing line
+is_release line digits is none request.Lead asks = lead_is_no_release digits (sym asks ∙ is)
+is_release line digits is none (request.Offer value) asks = offer_is_no_release asks.0 digits (sym asks.1 ∙ is)
+is_release line digits is none (request.Release now) asks = none now (subst (λ (d : List ℕ). IsNumberText d now) (sym (same_release digits asks.0 (sym is ∙ asks.1))) asks.2)
+is_release line digits is none (request.Letter l) asks = release_is_no_letter digits asks.0 (sym is ∙ asks.1)
+
+is_letter : (line digits : List ℕ) → line ≡ letter_word ++ digits → ((l : Letter) → IsLetterText digits l → ⊥) → AsksNothing line
+is_letter line digits is none request.Lead asks = lead_is_no_letter digits (sym asks ∙ is)
+is_letter line digits is none (request.Offer value) asks = offer_is_no_letter asks.0 digits (sym asks.1 ∙ is)
+is_letter line digits is none (request.Release now) asks = release_is_no_letter asks.0 digits (sym asks.1 ∙ is)
+is_letter line digits is none (request.Letter l) asks = none l (subst (λ (d : List ℕ). IsLetterText d l) (sym (same_letter digits asks.0 (sym is ∙ asks.1))) asks.2)
+
+is_no_line : (line : List ℕ) → IsNoLine line → AsksNothing line
+is_no_line line none request.Lead asks = none.lead asks
+is_no_line line none (request.Offer value) asks = none.offer asks.0 asks.1
+is_no_line line none (request.Release now) asks = none.release asks.0 asks.1
+is_no_line line none (request.Letter l) asks = none.letter asks.0 asks.1
+
+pub refused_asks_nothing : (line : List ℕ) (why : LineFault) → IsRefused line why → why ≢ fault.OutOfMemory → AsksNothing line
+refused_asks_nothing line fault.NoLine refused other = is_no_line line refused
+refused_asks_nothing line fault.NoHex (inl refused) other = is_offer line refused.0 refused.1 (λ value. not_both value (decode_of refused.0) refused.2)
+refused_asks_nothing line fault.NoHex (inr refused) other = is_letter line refused.0 refused.1 (λ l. no_letter refused.0 fault.NoHex l refused.2 other)
+refused_asks_nothing line fault.NoNumber refused other = is_release line refused.0 refused.1 refused.2
+refused_asks_nothing line (fault.NoLetter why) refused other = is_letter line refused.0 refused.1 (λ l. no_letter refused.0 (fault.NoLetter why) l refused.2 other)
+refused_asks_nothing line fault.OutOfMemory refused other = absurd (other refl)
+refused_asks_nothing line fault.TooLong refused other = absurd refused
+
+pub refusals_ask_nothing : {X : Type 0} (line : List ℕ) (r : Result X LineFault) → IfErr r (IsRefused line) → IfErr r (λ why. why ≢ fault.OutOfMemory → AsksNothing line)
+refusals_ask_nothing line (Ok x) refused = tt
+refusals_ask_nothing line (Err why) refused = refused_asks_nothing line why refused
+
+same_value : (digits more : List ℕ) (v w : List ℕ) → digits ≡ more → decode_of digits ≡ Ok v → decode_of more ≡ Ok w → v ≡ w
+same_value digits more v w same first second = cc
+
+same_text : (digits more : List ℕ) (l m : Letter) → digits ≡ more → IsLetterText digits l → IsLetterText more m → l ≡ m
+same_text digits more l m same first second =
+    let bytes : first.bytes ≡ second.bytes = same_value digits more first.bytes second.bytes same first.decoded second.decoded in
+    let spelled : spelling l ≡ spelling m = sym first.spells.1 ∙ bytes ∙ second.spells.1 in
+    let read : letter_of (spelling l) ≡ letter_of (spelling m) = ap letter_of spelled in
+    let one = read_again l first.spells.0 in
+    let other = read_again m second.spells.0 in
+    cc (one, other, read)
+
+-- a line asks one thing at most
+pub one_thing : (line : List ℕ) (r s : Request) → Asks line r → Asks line s → r ≡ s
+one_thing line request.Lead request.Lead a b = refl
+one_thing line request.Lead (request.Offer w) a b = absurd (lead_is_no_offer b.0 (sym a ∙ b.1))
+one_thing line request.Lead (request.Release n) a b = absurd (lead_is_no_release b.0 (sym a ∙ b.1))
+one_thing line request.Lead (request.Letter m) a b = absurd (lead_is_no_letter b.0 (sym a ∙ b.1))
+one_thing line (request.Offer v) request.Lead a b = absurd (lead_is_no_offer a.0 (sym b ∙ a.1))
+one_thing line (request.Offer v) (request.Offer w) a b = ap (λ (x : List ℕ). request.Offer x) (same_value a.0 b.0 v w (same_offer a.0 b.0 (sym a.1 ∙ b.1)) a.2 b.2)
+one_thing line (request.Offer v) (request.Release n) a b = absurd (offer_is_no_release a.0 b.0 (sym a.1 ∙ b.1))
+one_thing line (request.Offer v) (request.Letter m) a b = absurd (offer_is_no_letter a.0 b.0 (sym a.1 ∙ b.1))
+one_thing line (request.Release k) request.Lead a b = absurd (lead_is_no_release a.0 (sym b ∙ a.1))
+one_thing line (request.Release k) (request.Offer w) a b = absurd (offer_is_no_release b.0 a.0 (sym b.1 ∙ a.1))
+one_thing line (request.Release k) (request.Release n) a b =
+    let same = same_release a.0 b.0 (sym a.1 ∙ b.1) in
+    ap (λ (x : ℕ). request.Release x) (sym a.2.value ∙ ap (λ (d : List ℕ). digits_value 10 (without_leading_plus d)) same ∙ b.2.value)
+one_thing line (request.Release k) (request.Letter m) a b = absurd (release_is_no_letter a.0 b.0 (sym a.1 ∙ b.1))
+one_thing line (request.Letter l) request.Lead a b = absurd (lead_is_no_letter a.0 (sym b ∙ a.1))
+one_thing line (request.Letter l) (request.Offer w) a b = absurd (offer_is_no_letter b.0 a.0 (sym b.1 ∙ a.1))
+one_thing line (request.Letter l) (request.Release n) a b = absurd (release_is_no_letter b.0 a.0 (sym b.1 ∙ a.1))
+one_thing line (request.Letter l) (request.Letter m) a b = ap (λ (x : Letter). request.Letter x) (same_text a.0 b.0 l m (same_letter a.0 b.0 (sym a.1 ∙ b.1)) a.2 b.2)

@@ -1,0 +1,5 @@
+mod Asked
+mod Consumed
+mod InPlace
+mod Words
+mod Written

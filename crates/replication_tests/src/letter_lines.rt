@@ -1,0 +1,225 @@
+//! Letters as bytes and as lines of a node, both ways, and lines that ask nothing.
+
+use ballots::{Ballot, Bytes, Cast, Letter, NodeId, Note, Votes};
+use letter_bytes::LetterFault;
+use node_lines::{LineFault, Next, Request, next_line, read_line, write_letters};
+use std::alloc::Global;
+use std::test::Fail;
+
+/// The kind of a letter's note, its sender, its receiver, its ballot, its place, and how many votes or bytes it has.
+type Fields = (char, u8, u8, u64, u64, usize);
+
+/// A letter of each kind, by its digits.
+const SAMPLES: [(&str, Fields); 6] = [
+    (
+        "01010200000000000000090000000000000001",
+        ('p', 1, 2, 9, 1, 0),
+    ),
+    (
+        "02000100000000000000090000000000000001000000000000000100000000000000010000000000000008000000000000000100",
+        ('P', 0, 1, 9, 1, 1),
+    ),
+    (
+        "03000200000000000000080000000000000001000000000000000100",
+        ('a', 0, 2, 8, 1, 1),
+    ),
+    (
+        "04020000000000000000080000000000000001000000000000000100",
+        ('v', 2, 0, 8, 1, 1),
+    ),
+    ("0502000000000000000009", ('h', 2, 0, 9, 0, 0)),
+    (
+        "0600010000000000000001000000000000000100",
+        ('k', 0, 1, 0, 1, 1),
+    ),
+];
+
+/// Lines that ask nothing, and why.
+const REFUSED: [(&str, LineFault); 10] = [
+    ("", LineFault::NoLine),
+    ("lead ", LineFault::NoLine),
+    ("offer 0", LineFault::NoHex),
+    ("letter 0g", LineFault::NoHex),
+    ("release 18446744073709551616", LineFault::NoNumber),
+    ("letter 05", LineFault::NoLetter(LetterFault::Short)),
+    ("letter 0705", LineFault::NoLetter(LetterFault::NoNote)),
+    ("letter 0505", LineFault::NoLetter(LetterFault::NoNode)),
+    (
+        "letter 0502000000000000000001",
+        LineFault::NoLetter(LetterFault::NoBallot),
+    ),
+    (
+        "letter 050200000000000000000900",
+        LineFault::NoLetter(LetterFault::Trailing),
+    ),
+];
+
+/// Lines that ask something: the first letter of what, and a value's length or a time.
+const ASKED: [(&str, (char, u64)); 5] = [
+    ("lead", ('l', 0)),
+    ("offer ", ('o', 0)),
+    ("offer 00fF", ('o', 2)),
+    ("release +7", ('r', 7)),
+    ("release 18446744073709551615", ('r', u64::MAX)),
+];
+
+fn fields(letter: &Letter) -> Fields {
+    let (from, to) = (letter.from.number(), letter.to.number());
+    match &letter.note {
+        Note::Prepare { ballot, place } => ('p', from, to, ballot.number(), *place, 0),
+        Note::Promise {
+            ballot,
+            place,
+            votes,
+        } => ('P', from, to, ballot.number(), *place, votes.rows().len()),
+        Note::Accept {
+            ballot,
+            place,
+            value,
+        } => (
+            'a',
+            from,
+            to,
+            ballot.number(),
+            *place,
+            value.as_slice().len(),
+        ),
+        Note::Voted {
+            ballot,
+            place,
+            value,
+        } => (
+            'v',
+            from,
+            to,
+            ballot.number(),
+            *place,
+            value.as_slice().len(),
+        ),
+        Note::Higher { ballot } => ('h', from, to, ballot.number(), 0, 0),
+        Note::Known { place, value } => ('k', from, to, 0, *place, value.as_slice().len()),
+    }
+}
+
+/// The letter of an input's next line.
+fn letter_in(alloc: Global, mut input: &[u8]) -> Result<Letter, Fail> {
+    let Next::Line(line) = next_line(alloc, &mut input)? else {
+        return Err("a line".into());
+    };
+    match read_line(alloc, line) {
+        Ok(Request::Letter(letter)) => Ok(letter),
+        _ => Err("a letter".into()),
+    }
+}
+
+/// A letter's line as it goes out, without the receiver: as the receiver reads it.
+fn line_for_receiver(alloc: Global, letter: Letter) -> Result<Vec<u8>, Fail> {
+    let mut sent = Vec::new(alloc);
+    write_letters(alloc, &[letter], &mut sent)?;
+    let mut line = Vec::from_slice(alloc, b"letter ")?;
+    line.extend_from_slice(sent.get(9..).ok_or("a line")?)?;
+    Ok(line)
+}
+
+/// An `Accept` of 64 bytes where it has no votes, and else a promise that reports so many of such values.
+fn long_letter(alloc: Global, votes: u64) -> Result<Letter, Fail> {
+    let ballot = Ballot::new(8).ok_or("ballot")?;
+    let mut rows = Vec::new(alloc);
+    for place in 1..=votes {
+        let value = Bytes::new(Vec::from_elem(alloc, 7, 64)?);
+        rows.push((place, Cast { ballot, value }))?;
+    }
+    let note = if votes == 0 {
+        Note::Accept {
+            ballot,
+            place: 1,
+            value: Bytes::new(Vec::from_elem(alloc, 7, 64)?),
+        }
+    } else {
+        Note::Promise {
+            ballot,
+            place: 1,
+            votes: Votes::new(rows),
+        }
+    };
+    Ok(Letter {
+        from: NodeId::new(0).ok_or("node")?,
+        to: NodeId::new(1).ok_or("node")?,
+        note,
+    })
+}
+
+fn asked(request: Request) -> (char, u64) {
+    match request {
+        Request::Lead => ('l', 0),
+        Request::Offer(value) => ('o', value.as_slice().len() as u64),
+        Request::Release(now) => ('r', now),
+        Request::Letter(_) => ('t', 0),
+    }
+}
+
+/// How long each line of an input is, up to its end or a line that is refused.
+fn lengths(alloc: Global, mut input: &[u8]) -> Result<Vec<usize>, Fail> {
+    let mut lengths = Vec::new(alloc);
+    for _ in 0..input.len() {
+        match next_line(alloc, &mut input)? {
+            Next::Line(line) => lengths.push(line.as_slice().len())?,
+            _ => break,
+        }
+    }
+    Ok(lengths)
+}
+
+#[test]
+fn a_letter_of_each_kind(rt: HostRuntime) -> Result<(), Fail> {
+    let alloc = rt.alloc();
+    for (digits, want) in SAMPLES {
+        let line = format!(in alloc; "letter {digits}\n")?;
+        let letter = letter_in(alloc, line.as_bytes())?;
+        assert_eq!(rt; fields(&letter), want);
+        assert_eq!(rt;
+            line_for_receiver(alloc, letter)?.as_slice(),
+            line.as_bytes()
+        );
+    }
+    Ok(())
+}
+
+#[test]
+fn lines_that_ask_nothing(rt: HostRuntime) -> Result<(), Fail> {
+    for (text, want) in REFUSED {
+        let line = Bytes::new(Vec::from_slice(rt.alloc(), text.as_bytes())?);
+        assert_eq!(rt; read_line(rt.alloc(), line).err(), Some(want), "{text}");
+    }
+    Ok(())
+}
+
+#[test]
+fn lines_that_ask_something(rt: HostRuntime) -> Result<(), Fail> {
+    for (text, want) in ASKED {
+        let line = Bytes::new(Vec::from_slice(rt.alloc(), text.as_bytes())?);
+        assert_eq!(rt; asked(read_line(rt.alloc(), line)?), want, "{text}");
+    }
+    Ok(())
+}
+
+#[test]
+fn half_a_line_is_none(rt: HostRuntime) -> Result<(), Fail> {
+    assert_eq!(rt;
+        lengths(rt.alloc(), b"lead\n\nrelease 0\nof")?.as_slice(),
+        [4, 0, 9].as_slice()
+    );
+    Ok(())
+}
+
+#[test]
+fn long_letters(rt: HostRuntime) -> Result<(), Fail> {
+    let alloc = rt.alloc();
+    for (votes, len) in [(0, 190), (1_000, 176_062)] {
+        let letter = long_letter(alloc, votes)?;
+        let line = line_for_receiver(alloc, letter.copy(alloc)?)?;
+        assert_eq!(rt; line.len(), len);
+        assert!(rt; letter_in(alloc, &line)?.is_same(&letter));
+    }
+    Ok(())
+}
