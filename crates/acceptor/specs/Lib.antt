@@ -1,4 +1,5 @@
 pub mod Answers
+pub mod Calls
 pub mod Content
 pub mod Faults
 pub mod Found

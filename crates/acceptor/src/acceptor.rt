@@ -7,7 +7,8 @@ ghost use Rattle.acceptor.specs.Content.{Content, Write, promised, after_write};
 ghost use Rattle.acceptor.specs.Content.Write.{Votes as Casts};
 ghost use Rattle.acceptor.specs.Found.{FindsSame, HasMade, Holds, Keeps, MayHaveMade};
 ghost use Rattle.acceptor.specs.declared.records.RecordsFault.TheVariants.{OutOfMemory};
-ghost use Rattle.acceptor.specs.Faults.{BreaksBy, CountsFaults, IsHarmless};
+ghost use Rattle.acceptor.specs.Calls.{Accounts, KeepsTrust};
+ghost use Rattle.acceptor.specs.Faults.{IsHarmless};
 
 use crate::records::{Records, RecordsFault};
 use ballots::{Ballot, Bytes, Cast, Place, Value, Votes};
@@ -81,9 +82,8 @@ pub fn greatest_used<R: Records>(records: &mut R) -> Result<u64, RecordsFault>
     ensures value { IsTrue (R.is_honest records.new) → IfOk result (λ b. (c : Content) → Holds (R.may_find records.old) c → b ≡ max c.tried (promised c)) }
     ensures memory { IfErr result (λ e. e ≡ OutOfMemory → (mid : R) × R.finds_no_memory mid records.new) }
     ensures kept { IsTrue (R.is_honest records.new) → Keeps result (R.may_find records.old) (R.may_find records.new) }
-    ensures honest { IsTrue (R.is_honest records.new) → IsTrue (R.is_honest records.old) }
-    ensures count { CountsFaults result (R.count_of records.old) (R.count_of records.new) }
-    ensures broken { BreaksBy result (R.is_broken records.old) (R.is_broken records.new) }
+    ensures trust { KeepsTrust R.is_honest R.is_clean records.old records.new }
+    ensures account { Accounts R.count_of R.is_broken records.old result records.new }
 {
     let tried = records.tried()?;
     let promised = records.promised()?;
@@ -102,9 +102,8 @@ pub fn prepare<R: Records>(
     ensures doubt { IsTrue (R.is_honest records.new) → OnErr result ((c : Content) → Holds (R.may_find records.old) c → MayHavePromised c ballot (R.may_find records.new)) }
     ensures memory { IsTrue (R.is_honest records.new) → IfErr result (λ e. e ≡ OutOfMemory → ((mid : R) × R.finds_no_memory mid records.new)
         ⊎ ((c : Content) → Holds (R.may_find records.old) c → promised c < ballot)) }
-    ensures honest { IsTrue (R.is_honest records.new) → IsTrue (R.is_honest records.old) }
-    ensures count { CountsFaults result (R.count_of records.old) (R.count_of records.new) }
-    ensures broken { BreaksBy result (R.is_broken records.old) (R.is_broken records.new) }
+    ensures trust { KeepsTrust R.is_honest R.is_clean records.old records.new }
+    ensures account { Accounts R.count_of R.is_broken records.old result records.new }
 {
     let promised = records.promised()?;
     if let Some(other) = at_least(promised, ballot) {
@@ -128,9 +127,8 @@ pub fn accept<R: Records>(
     ensures doubt { IsTrue (R.is_honest records.new) → OnErr result ((c : Content) → Holds (R.may_find records.old) c → MayHaveVoted c ballot place value (R.may_find records.new)) }
     ensures memory { IsTrue (R.is_honest records.new) → IfErr result (λ e. e ≡ OutOfMemory → ((mid : R) × R.finds_no_memory mid records.new)
         ⊎ ((c : Content) → Holds (R.may_find records.old) c → IsNewVote c ballot place)) }
-    ensures honest { IsTrue (R.is_honest records.new) → IsTrue (R.is_honest records.old) }
-    ensures count { CountsFaults result (R.count_of records.old) (R.count_of records.new) }
-    ensures broken { BreaksBy result (R.is_broken records.old) (R.is_broken records.new) }
+    ensures trust { KeepsTrust R.is_honest R.is_clean records.old records.new }
+    ensures account { Accounts R.count_of R.is_broken records.old result records.new }
 {
     let promised = records.promised()?;
     if let Some(other) = above(promised, ballot) {
@@ -154,9 +152,8 @@ fn vote_now<R: Records>(
     ensures ok { IsTrue (R.is_honest records.new) → OnOk result (HasMade (R.may_find records.old) (R.may_find records.new) (Casts place record { ballot = ballot; value = value })) }
     ensures harmless { IsTrue (R.is_honest records.new) → IfErr result (λ e. IsHarmless e → FindsSame (R.may_find records.old) (R.may_find records.new)) }
     ensures doubt { IsTrue (R.is_honest records.new) → MayHaveMade (R.may_find records.old) (R.may_find records.new) (Casts place record { ballot = ballot; value = value }) }
-    ensures honest { IsTrue (R.is_honest records.new) → IsTrue (R.is_honest records.old) }
-    ensures count { CountsFaults result (R.count_of records.old) (R.count_of records.new) }
-    ensures broken { BreaksBy result (R.is_broken records.old) (R.is_broken records.new) }
+    ensures trust { KeepsTrust R.is_honest R.is_clean records.old records.new }
+    ensures account { Accounts R.count_of R.is_broken records.old result records.new }
 {
     records.put_vote(place, ballot, &value)?;
     Ok(value.into_bytes())
@@ -190,9 +187,8 @@ impl<R: Records> Acceptor<R> {
         ensures doubt { IsTrue (R.is_honest self.new) → OnErr result ((c : Content) → Holds (R.may_find self.old) c → MayHavePromised c ballot (R.may_find self.new)) }
         ensures memory { IsTrue (R.is_honest self.new) → IfErr result (λ e. e ≡ OutOfMemory → ((mid : R) × R.finds_no_memory mid self.new)
             ⊎ ((c : Content) → Holds (R.may_find self.old) c → promised c < ballot)) }
-        ensures honest { IsTrue (R.is_honest self.new) → IsTrue (R.is_honest self.old) }
-        ensures count { CountsFaults result (R.count_of self.old) (R.count_of self.new) }
-        ensures broken { BreaksBy result (R.is_broken self.old) (R.is_broken self.new) }
+        ensures trust { KeepsTrust R.is_honest R.is_clean self.old self.new }
+        ensures account { Accounts R.count_of R.is_broken self.old result self.new }
     {
         prepare(&mut self.records, ballot, place)
     }
@@ -210,9 +206,8 @@ impl<R: Records> Acceptor<R> {
         ensures doubt { IsTrue (R.is_honest self.new) → OnErr result ((c : Content) → Holds (R.may_find self.old) c → MayHaveVoted c ballot place value (R.may_find self.new)) }
         ensures memory { IsTrue (R.is_honest self.new) → IfErr result (λ e. e ≡ OutOfMemory → ((mid : R) × R.finds_no_memory mid self.new)
             ⊎ ((c : Content) → Holds (R.may_find self.old) c → IsNewVote c ballot place)) }
-        ensures honest { IsTrue (R.is_honest self.new) → IsTrue (R.is_honest self.old) }
-        ensures count { CountsFaults result (R.count_of self.old) (R.count_of self.new) }
-        ensures broken { BreaksBy result (R.is_broken self.old) (R.is_broken self.new) }
+        ensures trust { KeepsTrust R.is_honest R.is_clean self.old self.new }
+        ensures account { Accounts R.count_of R.is_broken self.old result self.new }
     {
         accept(&mut self.records, ballot, place, value)
     }

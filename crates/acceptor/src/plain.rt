@@ -195,6 +195,8 @@ impl Records for PlainRecords {
 
     ghost is_honest = { λ _. true };
 
+    ghost is_clean = { λ _. true };
+
     ghost count_of = { λ _. 0 };
 
     ghost is_broken = { λ _. false };

@@ -1,6 +1,7 @@
 //! What a node has learned, and what it releases of it.
 
 ghost use Rattle.std.specs.Prelude.{◌≡◌, ◌+◌, ◌<◌, ◌≤◌, ◌↔◌, IfOk, IfErr, IsTrue, [], Some, None, OnOk, OnErr, OnSome, is_some, option_copied, length};
+ghost use Rattle.acceptor.specs.Calls.{KeepsTrust};
 ghost use Rattle.acceptor.specs.Content.{Content};
 ghost use Rattle.acceptor.specs.Content.Write.{Learns};
 ghost use Rattle.acceptor.specs.Found.{FindsSame, HasMade, Holds, Keeps, MayHaveMade};
@@ -105,7 +106,7 @@ impl Knowledge {
     ) -> Result<Knowledge, RecordsFault>
         ensures value { IsTrue (R.is_honest records.new) → IfOk result (λ k. (c : Content) → Holds (R.may_find records.old) c → k ≡ record { tally = record { counted = []; learned = c.learned }; cursor = 0 }) }
         ensures kept { IsTrue (R.is_honest records.new) → Keeps result (R.may_find records.old) (R.may_find records.new) }
-        ensures honest { IsTrue (R.is_honest records.new) → IsTrue (R.is_honest records.old) }
+        ensures trust { KeepsTrust R.is_honest R.is_clean records.old records.new }
         ensures count { CountsFaults result (R.count_of records.old) (R.count_of records.new) }
         ensures broken { BreaksBy result (R.is_broken records.old) (R.is_broken records.new) }
     {
@@ -168,7 +169,7 @@ impl Knowledge {
         ensures ok { IsTrue (R.is_honest records.new) → OnOk result (HasMade (R.may_find records.old) (R.may_find records.new) (Learns place value.now)) }
         ensures harmless { IsTrue (R.is_honest records.new) → IfErr result (λ fault. IsHarmlessStop fault → FindsSame (R.may_find records.old) (R.may_find records.new)) }
         ensures doubt { IsTrue (R.is_honest records.new) → OnErr result (MayHaveMade (R.may_find records.old) (R.may_find records.new) (Learns place value.now)) }
-        ensures honest { IsTrue (R.is_honest records.new) → IsTrue (R.is_honest records.old) }
+        ensures trust { KeepsTrust R.is_honest R.is_clean records.old records.new }
         ensures count { CountsStops result (R.count_of records.old) (R.count_of records.new) }
         ensures broken { BreaksByStop result (R.is_broken records.old) (R.is_broken records.new) }
     {

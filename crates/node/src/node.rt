@@ -1,6 +1,7 @@
 //! A node, by what its calls do.
 
 ghost use Rattle.std.specs.Prelude.{◌≡◌, ◌⊎◌, ℕ, Bool, false, [], IfErr, IfOk, IsOkAnd, IsTrue, OnOk, Option, option_copied};
+ghost use Rattle.acceptor.specs.Calls.{KeepsTrust};
 ghost use Rattle.acceptor.specs.Content.{no_content};
 ghost use Rattle.ballots.specs.Ballots.{IsLeastAbove};
 ghost use Rattle.ballots.specs.Members.{member_count};
@@ -25,6 +26,9 @@ pub trait Node: Drop {
 
     // Its records have returned what was committed so far.
     ghost honest: { Self → Bool };
+
+    // Nothing below its records has failed silently so far: a premise, which no code here can make false.
+    ghost clean: { Self → Bool };
 
     // Where it may stand.
     ghost stands: { Self → Standing → Type 0 };
@@ -55,7 +59,7 @@ pub trait Node: Drop {
 
     /// A letter comes. One that isn't from a member to this one, or says what no member may say, is passed over, without memory and whatever the records do.
     fn receive(&mut self, letter: &Letter) -> Result<Vec<Letter>, NodeFault>
-        ensures honesty { IsTrue (honest self.new) → IsTrue (honest self.old) }
+        ensures trust { KeepsTrust honest clean self.old self.new }
         ensures kept { Kept (who self.old) result (who self.new) }
         ensures passed_over { (who self.old).down ≡ false → is_heeded (who self.old).members (who self.old).id letter.now ≡ false → IsOkAnd result (λ letters. letters.items ≡ []) }
         ensures done { IsTrue (honest self.new) → (s : Standing) → stands self.old s
@@ -63,7 +67,7 @@ pub trait Node: Drop {
 
     /// The node is asked to lead.
     fn lead(&mut self) -> Result<Vec<Letter>, NodeFault>
-        ensures honesty { IsTrue (honest self.new) → IsTrue (honest self.old) }
+        ensures trust { KeepsTrust honest clean self.old self.new }
         ensures kept { Kept (who self.old) result (who self.new) }
         ensures done { IsTrue (honest self.new) → (s : Standing) → stands self.old s
             → (t : Standing) × Called (who self.old).members (who self.old).id s Lead (answer result) t × stands self.new t }
@@ -74,7 +78,7 @@ pub trait Node: Drop {
 
     /// A value is offered.
     fn offer(&mut self, value: &[u8]) -> Result<Vec<Letter>, NodeFault>
-        ensures honesty { IsTrue (honest self.new) → IsTrue (honest self.old) }
+        ensures trust { KeepsTrust honest clean self.old self.new }
         ensures kept { Kept (who self.old) result (who self.new) }
         ensures done { IsTrue (honest self.new) → (s : Standing) → stands self.old s
             → (t : Standing) × Called (who self.old).members (who self.old).id s (Offer value.now) (answer result) t × stands self.new t }
@@ -84,7 +88,7 @@ pub trait Node: Drop {
 
     /// The outputs of its gapless learned values behind those that it released before, in order, without the MAPs that end at `now` (in minislots) or before.
     fn release(&mut self, now: u64) -> Result<Vec<Numbered>, NodeFault>
-        ensures honesty { IsTrue (honest self.new) → IsTrue (honest self.old) }
+        ensures trust { KeepsTrust honest clean self.old self.new }
         ensures kept { Kept (who self.old) result (who self.new) }
         ensures done { IsTrue (honest self.new) → (s : Standing) → stands self.old s
             → (t : Standing) × Releases s now (outputs result) t × stands self.new t };
@@ -92,6 +96,8 @@ pub trait Node: Drop {
     /// Starts over its records.
     fn restart(&mut self) -> Result<(), NodeFault>
         ensures honesty { IsTrue (honest self.new) → IsTrue (honest self.old) }
+        ensures clean { IsTrue (clean self.new) → IsTrue (clean self.old) }
+        ensures trust { OnOk result (KeepsTrust honest clean self.old self.new) }
         ensures kept { KeptByRestart (who self.old) result (who self.new) }
         ensures done { IsTrue (honest self.new) → (s : Standing) → stands self.old s
             → (t : Standing) × Restarts s result t × stands self.new t }
@@ -99,7 +105,7 @@ pub trait Node: Drop {
 
     /// Whether its records are empty and it has heard nothing.
     fn is_fresh(&mut self) -> Result<bool, NodeFault>
-        ensures honesty { IsTrue (honest self.new) → IsTrue (honest self.old) }
+        ensures trust { KeepsTrust honest clean self.old self.new }
         ensures kept { Kept (who self.old) result (who self.new) }
         ensures done { IsTrue (honest self.new) → (s : Standing) → stands self.old s
             → (t : Standing) × TellsFresh s result t × stands self.new t }

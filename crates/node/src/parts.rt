@@ -6,6 +6,7 @@ ghost use Rattle.ballots.specs.Members.{member_count};
 ghost use Rattle.ballots.specs.Rows.{at, rows_from};
 ghost use Rattle.ballots.specs.declared.letters.Note.TheVariants.{Higher as HigherNote, Voted as VotedNote};
 ghost use Rattle.node.specs.Answers.{accepted_letters, WroteNothing};
+ghost use Rattle.acceptor.specs.Calls.{KeepsTrust};
 ghost use Rattle.acceptor.specs.Content.{Content};
 ghost use Rattle.node.specs.Calls.{Kept, KeptByRestart, Restarts, StopsLast, TakesTurn, TellsFresh, answer};
 ghost use Rattle.node.specs.Calls.Cause.{Lead, Offer};
@@ -99,7 +100,7 @@ impl<R: Records> Parts<R> {
         place: Place,
     ) -> Result<Vec<Letter>, NodeFault>
         requires { self.old.is_down ≡ false }
-        ensures honesty { IsTrue (R.is_honest self.new.records) → IsTrue (R.is_honest self.old.records) }
+        ensures trust { KeepsTrust R.is_honest R.is_clean self.old.records self.new.records }
         ensures kept { Kept (who_of R.count_of R.is_broken self.old) result (who_of R.count_of R.is_broken self.new) }
         ensures done { IsTrue (R.is_honest self.new.records)
             → Does R.may_find self.old (λ view course. course ≡ Ok (prepare self.old.proposer.id view ballot place from)) result self.new }
@@ -128,7 +129,7 @@ impl<R: Records> Parts<R> {
     ) -> Result<Vec<Letter>, NodeFault>
         requires up { self.old.is_down ≡ false }
         requires sound { are_votes ballot place votes.now ≡ true }
-        ensures honesty { IsTrue (R.is_honest self.new.records) → IsTrue (R.is_honest self.old.records) }
+        ensures trust { KeepsTrust R.is_honest R.is_clean self.old.records self.new.records }
         ensures kept { Kept (who_of R.count_of R.is_broken self.old) result (who_of R.count_of R.is_broken self.new) }
         ensures done { IsTrue (R.is_honest self.new.records)
             → Does R.may_find self.old (λ view course. course ≡ Ok (promise (member_count self.old.proposer.members) self.old.proposer.id view view.role ballot place votes.now from)) result self.new }
@@ -205,7 +206,7 @@ impl<R: Records> Parts<R> {
     ) -> Result<Vec<Letter>, NodeFault>
         requires up { self.old.is_down ≡ false }
         requires short { IsValue value.now }
-        ensures honesty { IsTrue (R.is_honest self.new.records) → IsTrue (R.is_honest self.old.records) }
+        ensures trust { KeepsTrust R.is_honest R.is_clean self.old.records self.new.records }
         ensures kept { Kept (who_of R.count_of R.is_broken self.old) result (who_of R.count_of R.is_broken self.new) }
         ensures done { IsTrue (R.is_honest self.new.records)
             → Does R.may_find self.old (λ view course. course ≡ Ok (accept (member_count self.old.proposer.members) self.old.proposer.id view ballot place value.now from)) result self.new }
@@ -222,7 +223,7 @@ impl<R: Records> Parts<R> {
     fn learn(&mut self, place: Place, value: Value) -> Result<Vec<Letter>, NodeFault>
         requires up { self.old.is_down ≡ false }
         requires unlearned { at self.old.knowledge.tally.learned place ≡ None }
-        ensures honesty { IsTrue (R.is_honest self.new.records) → IsTrue (R.is_honest self.old.records) }
+        ensures trust { KeepsTrust R.is_honest R.is_clean self.old.records self.new.records }
         ensures kept { Kept (who_of R.count_of R.is_broken self.old) result (who_of R.count_of R.is_broken self.new) }
         ensures done { IsTrue (R.is_honest self.new.records)
             → Does R.may_find self.old (λ view course. course ≡ Ok (learns view place value)) result self.new }
@@ -247,7 +248,7 @@ impl<R: Records> Parts<R> {
     ) -> Result<Vec<Letter>, NodeFault>
         requires up { self.old.is_down ≡ false }
         requires short { IsValue value.now }
-        ensures honesty { IsTrue (R.is_honest self.new.records) → IsTrue (R.is_honest self.old.records) }
+        ensures trust { KeepsTrust R.is_honest R.is_clean self.old.records self.new.records }
         ensures kept { Kept (who_of R.count_of R.is_broken self.old) result (who_of R.count_of R.is_broken self.new) }
         ensures done { IsTrue (R.is_honest self.new.records)
             → Does R.may_find self.old (λ view course. course ≡ Ok (voted (member_count self.old.proposer.members) view (at view.tally.learned place) ballot place value.now from)) result self.new }
@@ -265,7 +266,7 @@ impl<R: Records> Parts<R> {
     fn take_known(&mut self, place: Place, value: &Bytes) -> Result<Vec<Letter>, NodeFault>
         requires up { self.old.is_down ≡ false }
         requires short { IsValue value.now }
-        ensures honesty { IsTrue (R.is_honest self.new.records) → IsTrue (R.is_honest self.old.records) }
+        ensures trust { KeepsTrust R.is_honest R.is_clean self.old.records self.new.records }
         ensures kept { Kept (who_of R.count_of R.is_broken self.old) result (who_of R.count_of R.is_broken self.new) }
         ensures done { IsTrue (R.is_honest self.new.records)
             → Does R.may_find self.old (λ view course. course ≡ Ok (known view (at view.tally.learned place) place value.now)) result self.new }
@@ -280,7 +281,7 @@ impl<R: Records> Parts<R> {
     /// A higher ballot was heard of.
     fn take_higher(&mut self, ballot: Ballot) -> Result<Vec<Letter>, NodeFault>
         requires { self.old.is_down ≡ false }
-        ensures honesty { IsTrue (R.is_honest self.new.records) → IsTrue (R.is_honest self.old.records) }
+        ensures trust { KeepsTrust R.is_honest R.is_clean self.old.records self.new.records }
         ensures kept { Kept (who_of R.count_of R.is_broken self.old) result (who_of R.count_of R.is_broken self.new) }
         ensures done { IsTrue (R.is_honest self.new.records)
             → Does R.may_find self.old (λ view course. course ≡ Ok (nothing (after_higher view ballot))) result self.new }
@@ -292,7 +293,7 @@ impl<R: Records> Parts<R> {
     /// A value is offered to a node that is up.
     pub(crate) fn propose(&mut self, value: &[u8]) -> Result<Vec<Letter>, NodeFault>
         requires { self.old.is_down ≡ false }
-        ensures honesty { IsTrue (R.is_honest self.new.records) → IsTrue (R.is_honest self.old.records) }
+        ensures trust { KeepsTrust R.is_honest R.is_clean self.old.records self.new.records }
         ensures kept { Kept (who_of R.count_of R.is_broken self.old) result (who_of R.count_of R.is_broken self.new) }
         ensures done { IsTrue (R.is_honest self.new.records)
             → Does R.may_find self.old (λ view course. course ≡ offer (member_count self.old.proposer.members) self.old.proposer.id view view.role value.now) result self.new }
@@ -305,7 +306,7 @@ impl<R: Records> Parts<R> {
     /// A node that is up is asked to lead.
     pub(crate) fn lead_up(&mut self) -> Result<Vec<Letter>, NodeFault>
         requires { self.old.is_down ≡ false }
-        ensures honesty { IsTrue (R.is_honest self.new.records) → IsTrue (R.is_honest self.old.records) }
+        ensures trust { KeepsTrust R.is_honest R.is_clean self.old.records self.new.records }
         ensures kept { Kept (who_of R.count_of R.is_broken self.old) result (who_of R.count_of R.is_broken self.new) }
         ensures done { IsTrue (R.is_honest self.new.records)
             → Does R.may_find self.old (λ view course. Leads (member_count self.old.proposer.members) self.old.proposer.id view course) result self.new }
@@ -325,7 +326,7 @@ impl<R: Records> Parts<R> {
     pub(crate) fn heed(&mut self, letter: &Letter) -> Result<Vec<Letter>, NodeFault>
         requires up { self.old.is_down ≡ false }
         requires sound { is_sound letter.now letter.now.note ≡ true }
-        ensures honesty { IsTrue (R.is_honest self.new.records) → IsTrue (R.is_honest self.old.records) }
+        ensures trust { KeepsTrust R.is_honest R.is_clean self.old.records self.new.records }
         ensures kept { Kept (who_of R.count_of R.is_broken self.old) result (who_of R.count_of R.is_broken self.new) }
         ensures done { IsTrue (R.is_honest self.new.records)
             → Does R.may_find self.old (λ view course. course ≡ Ok (heed (member_count self.old.proposer.members) self.old.proposer.id view letter.now.from letter.now.note)) result self.new }
@@ -357,7 +358,7 @@ impl<R: Records> Parts<R> {
     /// Outputs are released by a node that is up.
     pub(crate) fn release_up(&mut self, now: u64) -> Result<Vec<Numbered>, NodeFault>
         requires { self.old.is_down ≡ false }
-        ensures honesty { IsTrue (R.is_honest self.new.records) → IsTrue (R.is_honest self.old.records) }
+        ensures trust { KeepsTrust R.is_honest R.is_clean self.old.records self.new.records }
         ensures kept { Kept (who_of R.count_of R.is_broken self.old) result (who_of R.count_of R.is_broken self.new) }
         ensures done { IsTrue (R.is_honest self.new.records) → (s : Standing) → Stands R.may_find self.old s
             → (t : Standing) × Releases s now (outputs result) t × Stands R.may_find self.new t }
@@ -368,6 +369,8 @@ impl<R: Records> Parts<R> {
     /// Starts over its records, and reads what it had learned.
     pub(crate) fn start_over(&mut self) -> Result<(), NodeFault>
         ensures honesty { IsTrue (R.is_honest self.new.records) → IsTrue (R.is_honest self.old.records) }
+        ensures clean { IsTrue (R.is_clean self.new.records) → IsTrue (R.is_clean self.old.records) }
+        ensures trust { OnOk result (KeepsTrust R.is_honest R.is_clean self.old.records self.new.records) }
         ensures kept { KeptByRestart (who_of R.count_of R.is_broken self.old) result (who_of R.count_of R.is_broken self.new) }
         ensures done { IsTrue (R.is_honest self.new.records) → (s : Standing) → Stands R.may_find self.old s
             → (t : Standing) × Restarts s result t × Stands R.may_find self.new t }
@@ -399,7 +402,7 @@ impl<R: Records> Parts<R> {
     /// Whether its records are empty and it is untouched.
     pub(crate) fn tells_fresh(&mut self) -> Result<bool, NodeFault>
         requires { self.old.is_down ≡ false }
-        ensures honesty { IsTrue (R.is_honest self.new.records) → IsTrue (R.is_honest self.old.records) }
+        ensures trust { KeepsTrust R.is_honest R.is_clean self.old.records self.new.records }
         ensures kept { Kept (who_of R.count_of R.is_broken self.old) result (who_of R.count_of R.is_broken self.new) }
         ensures done { IsTrue (R.is_honest self.new.records) → (s : Standing) → Stands R.may_find self.old s
             → (t : Standing) × TellsFresh s result t × Stands R.may_find self.new t }

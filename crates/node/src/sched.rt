@@ -32,6 +32,7 @@ impl<R: Records + Drop> SchedNode<R> {
         requires certain { IsTrue (R.is_honest records) → ∥ ((c : Content) × Holds (R.may_find records) c) ∥₁ }
         ensures who { ⟦<SchedNode<R> as Node>⟧.who result ≡ record { id = id; members = member_count members; failures = R.count_of records; broken = R.is_broken records; down = false } }
         ensures honest { ⟦<SchedNode<R> as Node>⟧.honest result ≡ R.is_honest records }
+        ensures clean { ⟦<SchedNode<R> as Node>⟧.clean result ≡ R.is_clean records }
         ensures stands { (c : Content) → Holds (R.may_find records) c → ⟦<SchedNode<R> as Node>⟧.stands result (Running (made c)) }
     {
         SchedNode {
@@ -52,6 +53,8 @@ impl<R: Records + Drop> Node for SchedNode<R> {
     ghost who = { λ n. who_of R.count_of R.is_broken n.parts };
 
     ghost honest = { λ n. R.is_honest n.parts.records };
+
+    ghost clean = { λ n. R.is_clean n.parts.records };
 
     ghost stands = { λ n s. Stands R.may_find n.parts s };
 

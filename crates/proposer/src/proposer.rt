@@ -3,6 +3,7 @@
 ghost use Rattle.std.specs.Prelude.{◌≡◌, ◌⊎◌, ◌↔◌, ℕ, ◌+◌, ◌-◌, ◌<◌, max, IsTrue, Some, Ok, Err, IfOk, IfErr, OnOk, OnErr, is_ok, MatchOption};
 ghost use Rattle.ballots.specs.Limits.{most_places};
 ghost use Rattle.ballots.specs.Members.{member_count};
+ghost use Rattle.acceptor.specs.Calls.{KeepsTrust};
 ghost use Rattle.acceptor.specs.Content.Write.{Tries};
 ghost use Rattle.acceptor.specs.Found.{FindsSame, HasMade};
 ghost use Rattle.proposer.specs.Bounds.{in_log};
@@ -224,7 +225,7 @@ impl Proposer {
         ensures declined { IsTrue (R.is_honest records.new) → IfErr result (DeclinesToLead (R.may_find records.old) self.old.hint self.old.id prefix) }
         ensures harmless { IsTrue (R.is_honest records.new) → IfErr result (λ fault. IsHarmlessStop fault → FindsSame (R.may_find records.old) (R.may_find records.new)) }
         ensures doubt { IsTrue (R.is_honest records.new) → OnErr result (MayHaveTried (R.may_find records.old) (R.may_find records.new) self.old.hint self.old.id) }
-        ensures honest { IsTrue (R.is_honest records.new) → IsTrue (R.is_honest records.old) }
+        ensures trust { KeepsTrust R.is_honest R.is_clean records.old records.new }
         ensures memory { IsTrue (R.is_honest records.new) → IfErr result (λ fault. fault ≡ NodeFault.OutOfMemory
             → ((mid : R) × R.finds_no_memory mid records.new) ⊎ ((b : ℕ) × IsNextBallot (R.may_find records.old) self.old.hint self.old.id b)) }
         ensures count { CountsStops result (R.count_of records.old) (R.count_of records.new) }

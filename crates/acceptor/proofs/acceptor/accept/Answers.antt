@@ -15,7 +15,7 @@ returns-in-Some-clause-ok g c honest d holds =
 
 pub returns-in-Some-value_for-clause-ok : goal.returns-in-Some-value_for-clause-ok
 returns-in-Some-value_for-clause-ok g c honest d holds =
-    let first = c.vote.ensures.honest honest in
+    let first = c.vote.ensures.trust.honest honest in
     let read = c.in_ok-promised.ensures.value first d holds in
     let low : promised d ≤ c.args.ballot = rw read at c.in_default.ensures.none in
     let mid = still_holds _ _ d (c.in_ok-promised.ensures.kept first) holds in
@@ -26,8 +26,8 @@ pub returns-in_err-vote_now-clause-doubt : goal.returns-in_err-vote_now-clause-d
 returns-in_err-vote_now-clause-doubt g c honest =
     let may = g.R.Records.may_find c.vote_now.new.records in
     let all : (d : Content) → Holds (g.R.Records.may_find c.args.records.now) d → MayHaveVoted d c.args.ballot c.args.place c.args.value may = λ d holds.
-    let before = c.vote_now.ensures.honest honest in
-    let first = c.vote.ensures.honest before in
+    let before = c.vote_now.ensures.trust.honest honest in
+    let first = c.vote.ensures.trust.honest before in
     let read = c.in_ok-promised.ensures.value first d holds in
     let low : promised d ≤ c.args.ballot = rw read at c.in_default.ensures.none in
     let mid = still_holds _ _ d (c.in_ok-promised.ensures.kept first) holds in
@@ -38,8 +38,8 @@ returns-in_err-vote_now-clause-doubt g c honest =
 
 pub returns-clause-ok : goal.returns-clause-ok
 returns-clause-ok g c honest d holds =
-    let before = c.vote_now.ensures.honest honest in
-    let first = c.vote.ensures.honest before in
+    let before = c.vote_now.ensures.trust.honest honest in
+    let first = c.vote.ensures.trust.honest before in
     let read = c.in_ok-promised.ensures.value first d holds in
     let low : promised d ≤ c.args.ballot = rw read at c.in_default.ensures.none in
     let mid = still_holds _ _ d (c.in_ok-promised.ensures.kept first) holds in
@@ -51,8 +51,8 @@ returns-clause-ok g c honest d holds =
 pub returns-in_err-vote_now-clause-memory : goal.returns-in_err-vote_now-clause-memory
 returns-in_err-vote_now-clause-memory g c honest =
     let all : (d : Content) → Holds (g.R.Records.may_find c.args.records.now) d → IsNewVote d c.args.ballot c.args.place = λ d holds.
-    let before = c.vote_now.ensures.honest honest in
-    let first = c.vote.ensures.honest before in
+    let before = c.vote_now.ensures.trust.honest honest in
+    let first = c.vote.ensures.trust.honest before in
     let read = c.in_ok-promised.ensures.value first d holds in
     let low : promised d ≤ c.args.ballot = rw read at c.in_default.ensures.none in
     let mid = still_holds _ _ d (c.in_ok-promised.ensures.kept first) holds in

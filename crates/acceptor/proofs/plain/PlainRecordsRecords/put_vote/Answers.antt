@@ -7,7 +7,7 @@ use Rattle.acceptor.proofs.Greatest.{replaced}
 use Rattle.acceptor.proofs.SoundRows.{rows_put}
 use Rattle.acceptor.specs.Content.{Content, after_write}
 use Rattle.acceptor.specs.Content.Write.{Votes}
-use Rattle.acceptor.proofs.Certain.{wrote, doubted}
+use Rattle.acceptor.proofs.Certain.{wrote, doubted, added}
 use Rattle.acceptor.proofs.plain.PlainRecordsRecords.put_vote.Goals as goal
 
 pub invariant_of-self-2 : goal.invariant_of-self-2
@@ -21,18 +21,10 @@ invariant_of-self-2 c =
     let after = ap (greatest row) now ∙ others.2 in
     (c.highest_after-self-inside.ensures others.0 before after, (subst (AreRowsFrom 1) (sym now) (rows_put 1 c.number.result cast votes c.number.ensures.fits.0 c.number.ensures.fits.1 c.self.invariant.1.0), c.self.invariant.1.1, c.self.invariant.1.2))
 
-pub returns-clause-ok : goal.returns-clause-ok
-returns-clause-ok c _ =
+pub returns-clause-writes : goal.returns-clause-writes
+returns-clause-writes c _ =
     let write : Content → Content = λ d. after_write d (Some (Votes c.args.place record { ballot = c.args.ballot; value = c.args.value.now })) in
     let votes : c.put_at.new.votes.entries ≡ put c.self.inside.votes.entries c.args.place record { ballot = c.args.ballot; value = c.args.value.now } = search rules in
     let old : Content = record { tried = number_of c.self.inside.tried; row = number_of c.self.inside.row; votes = c.self.inside.votes.entries; learned = c.self.inside.learned.entries } in
     let is : record old { votes = c.put_at.new.votes.entries } ≡ write c.args.self.now = ap (λ (v : List (ℕ × Cast)). record old { votes = v }) votes ∙ ap write c.self.view_is in
-    wrote c.args.self.now _ write is
-
-pub returns-clause-doubt : goal.returns-clause-doubt
-returns-clause-doubt c _ =
-    let write : Content → Content = λ d. after_write d (Some (Votes c.args.place record { ballot = c.args.ballot; value = c.args.value.now })) in
-    let votes : c.put_at.new.votes.entries ≡ put c.self.inside.votes.entries c.args.place record { ballot = c.args.ballot; value = c.args.value.now } = search rules in
-    let old : Content = record { tried = number_of c.self.inside.tried; row = number_of c.self.inside.row; votes = c.self.inside.votes.entries; learned = c.self.inside.learned.entries } in
-    let is : record old { votes = c.put_at.new.votes.entries } ≡ write c.args.self.now = ap (λ (v : List (ℕ × Cast)). record old { votes = v }) votes ∙ ap write c.self.view_is in
-    doubted c.args.self.now _ write is
+    record { ok = wrote c.args.self.now _ write is; harmless = tt; doubt = doubted c.args.self.now _ write is; only = added c.args.self.now _ write is }

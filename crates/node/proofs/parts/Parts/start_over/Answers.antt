@@ -17,7 +17,7 @@ pub returns-in-Err-read-clause-done : goal.returns-in-Err-read-clause-done
 returns-in-Err-read-clause-done g c honest s stands =
     let old = c.args.self.now in
     let before = subst (λ (a : g.row.R.Denot). IsTrue (g.R.Records.is_honest a)) c.fail-in-Err-read.ensures.records honest in
-    let first = c.read.ensures.honest before in
+    let first = c.read.ensures.trust.honest before in
     let found = g.R.Records.may_find old.records in
     let mid = g.R.Records.may_find c.reopen.new.self in
     let last = g.R.Records.may_find c.read.new.records in
@@ -27,7 +27,7 @@ returns-in-Err-read-clause-done g c honest s stands =
 pub returns-clause-done : goal.returns-clause-done
 returns-clause-done g c honest s stands =
     let old = c.args.self.now in
-    let first = c.read.ensures.honest honest in
+    let first = c.read.ensures.trust.honest honest in
     let mid = g.R.Records.may_find c.reopen.new.self in
     let last = g.R.Records.may_find c.read.new.records in
     let kept = c.in-Ok.ensures.kept honest in

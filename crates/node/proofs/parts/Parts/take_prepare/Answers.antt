@@ -44,4 +44,4 @@ returns-clause-done g c honest content holds =
     (ap Ok (sym so)) sent refl wrote.2
 
 pub returns-in-Err-clause-kept : goal.returns-in-Err-clause-kept
-returns-in-Err-clause-kept g c = failed g.R.Records.count_of g.R.Records.is_broken c.args.self.now c.prepare.new.records c.in-Err.fault c.fail.result c.fail.new.self c.requires c.fail.ensures.fails c.in-Err.ensures.count c.in-Err.ensures.broken
+returns-in-Err-clause-kept g c = failed g.R.Records.count_of g.R.Records.is_broken c.args.self.now c.prepare.new.records c.in-Err.fault c.fail.result c.fail.new.self c.requires c.fail.ensures.fails c.in-Err.ensures.account.count c.in-Err.ensures.account.broken

@@ -17,29 +17,29 @@ returns-in-Err-clause-done g c honest =
 pub returns-in-Err-votes_from-clause-done : goal.returns-in-Err-votes_from-clause-done
 returns-in-Err-votes_from-clause-done g c honest =
     let before = subst (λ (a : g.row.R.Denot). IsTrue (g.R.Records.is_honest a)) c.fail-in-Err-votes_from.ensures.records honest in
-    let first = c.votes_from.ensures.honest before in
+    let first = c.votes_from.ensures.trust.honest before in
     tell_fails g.R.Records.may_find c.args.self.now c.requires c.votes_from.new.self Votes (g.R.Records.may_find c.greatest_used.new.records) c.in-Err-votes_from.fault c.fail-in-Err-votes_from.result c.fail-in-Err-votes_from.new.self
     (c.in-Ok.ensures.kept first) (c.in-Err-votes_from.ensures.kept before) c.fail-in-Err-votes_from.ensures.fails
 
 pub returns-in-Err-learned_from-clause-done : goal.returns-in-Err-learned_from-clause-done
 returns-in-Err-learned_from-clause-done g c honest =
     let before = subst (λ (a : g.row.R.Denot). IsTrue (g.R.Records.is_honest a)) c.fail-in-Err-learned_from.ensures.records honest in
-    let second = c.learned_from.ensures.honest before in
-    let first = c.votes_from.ensures.honest second in
+    let second = c.learned_from.ensures.trust.honest before in
+    let first = c.votes_from.ensures.trust.honest second in
     tell_fails g.R.Records.may_find c.args.self.now c.requires c.learned_from.new.self Votes (g.R.Records.may_find c.votes_from.new.self) c.in-Err-learned_from.fault c.fail-in-Err-learned_from.result c.fail-in-Err-learned_from.new.self
     (same_then _ _ _ (c.in-Ok.ensures.kept first) (c.in-Ok-votes_from.ensures.kept second)) (c.in-Err-learned_from.ensures.kept before) c.fail-in-Err-learned_from.ensures.fails
 
 pub returns-then-used-ne0-clause-done : goal.returns-then-used-ne0-clause-done
 returns-then-used-ne0-clause-done g c honest =
-    let second = c.learned_from.ensures.honest honest in
-    let first = c.votes_from.ensures.honest second in
+    let second = c.learned_from.ensures.trust.honest honest in
+    let first = c.votes_from.ensures.trust.honest second in
     tells g.R.Records.may_find c.args.self.now c.requires c.learned_from.new.self (same_then _ _ _ (c.in-Ok.ensures.kept first) (same_then _ _ _ (c.in-Ok-votes_from.ensures.kept second) (c.in-Ok-learned_from.ensures.kept honest))) _
     (λ content holds. no_tell _ (used_content g.R.Records.may_find c.args.self.now c.requires content c.in-Ok.used (c.in-Ok.ensures.value first content holds) (λ none. absurd (omega (arith, none)))))
 
 pub returns-then-not-is_empty-clause-done : goal.returns-then-not-is_empty-clause-done
 returns-then-not-is_empty-clause-done g c honest =
-    let second = c.learned_from.ensures.honest honest in
-    let first = c.votes_from.ensures.honest second in
+    let second = c.learned_from.ensures.trust.honest honest in
+    let first = c.votes_from.ensures.trust.honest second in
     let votes : c.in-Ok-votes_from.votes ≡ [] → ⊥ = λ none. absurd (cc (eq-eqb (length c.rows.result.now) 0 (ap length (c.rows.ensures ∙ none)), c.if-not-is_empty.ensures)) in
     tells g.R.Records.may_find c.args.self.now c.requires c.learned_from.new.self (same_then _ _ _ (c.in-Ok.ensures.kept first) (same_then _ _ _ (c.in-Ok-votes_from.ensures.kept second) (c.in-Ok-learned_from.ensures.kept honest))) _
     (λ content holds. no_tell _ (voted_content g.R.Records.may_find c.args.self.now c.requires content c.in-Ok-votes_from.votes
@@ -47,8 +47,8 @@ returns-then-not-is_empty-clause-done g c honest =
 
 pub returns-then-not-is_empty-2-clause-done : goal.returns-then-not-is_empty-2-clause-done
 returns-then-not-is_empty-2-clause-done g c honest =
-    let second = c.learned_from.ensures.honest honest in
-    let first = c.votes_from.ensures.honest second in
+    let second = c.learned_from.ensures.trust.honest honest in
+    let first = c.votes_from.ensures.trust.honest second in
     let kept = same_then _ _ _ (c.in-Ok.ensures.kept first) (c.in-Ok-votes_from.ensures.kept second) in
     tells g.R.Records.may_find c.args.self.now c.requires c.learned_from.new.self (same_then _ _ _ kept (c.in-Ok-learned_from.ensures.kept honest)) _
     (λ content holds. no_tell _ (learned_content g.R.Records.may_find c.args.self.now c.requires content c.in-Ok-learned_from.learned.items
@@ -56,8 +56,8 @@ returns-then-not-is_empty-2-clause-done g c honest =
 
 pub returns-clause-done : goal.returns-clause-done
 returns-clause-done g c honest =
-    let second = c.learned_from.ensures.honest honest in
-    let first = c.votes_from.ensures.honest second in
+    let second = c.learned_from.ensures.trust.honest honest in
+    let first = c.votes_from.ensures.trust.honest second in
     let kept = same_then _ _ _ (c.in-Ok.ensures.kept first) (c.in-Ok-votes_from.ensures.kept second) in
     let votes : c.in-Ok-votes_from.votes ≡ [] = sym c.rows.ensures ∙ nil_from_length c.rows.result.now (eqb-true (length c.rows.result.now) 0 (sym c.if-not-is_empty.ensures)) in
     let learned : c.in-Ok-learned_from.learned.items ≡ [] = sym c.as_slice.ensures.value ∙ nil_from_length c.as_slice.result.now (eqb-true (length c.as_slice.result.now) 0 (sym c.if-not-is_empty-2.ensures)) in
@@ -71,14 +71,14 @@ returns-clause-done g c honest =
 
 pub returns-in-Err-clause-kept : goal.returns-in-Err-clause-kept
 returns-in-Err-clause-kept g c =
-    failed g.R.Records.count_of g.R.Records.is_broken c.args.self.now c.greatest_used.new.records c.in-Err.fault c.fail.result c.fail.new.self c.requires c.fail.ensures.fails c.in-Err.ensures.count c.in-Err.ensures.broken
+    failed g.R.Records.count_of g.R.Records.is_broken c.args.self.now c.greatest_used.new.records c.in-Err.fault c.fail.result c.fail.new.self c.requires c.fail.ensures.fails c.in-Err.ensures.account.count c.in-Err.ensures.account.broken
 
 pub returns-in-Err-votes_from-clause-kept : goal.returns-in-Err-votes_from-clause-kept
 returns-in-Err-votes_from-clause-kept g c =
     failed g.R.Records.count_of g.R.Records.is_broken c.args.self.now c.votes_from.new.self c.in-Err-votes_from.fault c.fail-in-Err-votes_from.result c.fail-in-Err-votes_from.new.self c.requires c.fail-in-Err-votes_from.ensures.fails
-    (counts_then _ _ _ c.in-Err-votes_from.fault (c.in-Ok.ensures.count.2 tt) c.in-Err-votes_from.ensures.count) (breaks_then _ _ _ c.in-Err-votes_from.fault c.in-Ok.ensures.broken.0 c.in-Err-votes_from.ensures.broken)
+    (counts_then _ _ _ c.in-Err-votes_from.fault (c.in-Ok.ensures.account.count.2 tt) c.in-Err-votes_from.ensures.account.count) (breaks_then _ _ _ c.in-Err-votes_from.fault c.in-Ok.ensures.account.broken.0 c.in-Err-votes_from.ensures.account.broken)
 
 pub returns-in-Err-learned_from-clause-kept : goal.returns-in-Err-learned_from-clause-kept
 returns-in-Err-learned_from-clause-kept g c =
     failed g.R.Records.count_of g.R.Records.is_broken c.args.self.now c.learned_from.new.self c.in-Err-learned_from.fault c.fail-in-Err-learned_from.result c.fail-in-Err-learned_from.new.self c.requires c.fail-in-Err-learned_from.ensures.fails
-    (counts_then _ _ _ c.in-Err-learned_from.fault (c.in-Ok-votes_from.ensures.count.2 tt ∙ c.in-Ok.ensures.count.2 tt) c.in-Err-learned_from.ensures.count) (breaks_then _ _ _ c.in-Err-learned_from.fault c.in-Ok.ensures.broken.0 c.in-Err-learned_from.ensures.broken)
+    (counts_then _ _ _ c.in-Err-learned_from.fault (c.in-Ok-votes_from.ensures.account.count.2 tt ∙ c.in-Ok.ensures.account.count.2 tt) c.in-Err-learned_from.ensures.account.count) (breaks_then _ _ _ c.in-Err-learned_from.fault c.in-Ok.ensures.account.broken.0 c.in-Err-learned_from.ensures.account.broken)

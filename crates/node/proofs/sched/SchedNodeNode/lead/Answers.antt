@@ -10,7 +10,7 @@ use Rattle.node.proofs.sched.SchedNodeNode.lead.Goals as goal
 pub invariant_of-self : goal.invariant_of-self
 invariant_of-self g c = record {
   somewhere = let old = c.args.self.now.parts in
-      does_on g.R.Records.may_find g.R.Records.is_honest old c.lead_up.new.self c.if-self.false (λ view course. Leads (member_count old.proposer.members) old.proposer.id view course) c.lead_up.result c.args.self.now.somewhere c.lead_up.ensures.honesty c.lead_up.ensures.done;
+      does_on g.R.Records.may_find g.R.Records.is_honest old c.lead_up.new.self c.if-self.false (λ view course. Leads (member_count old.proposer.members) old.proposer.id view course) c.lead_up.result c.args.self.now.somewhere c.lead_up.ensures.trust.honest c.lead_up.ensures.done;
 }
 
 pub returns-then-self-clause-order : goal.returns-then-self-clause-order

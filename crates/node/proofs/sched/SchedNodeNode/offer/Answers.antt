@@ -10,7 +10,7 @@ use Rattle.node.proofs.sched.SchedNodeNode.offer.Goals as goal
 pub invariant_of-self : goal.invariant_of-self
 invariant_of-self g c = record {
   somewhere = let old = c.args.self.now.parts in
-      does_on g.R.Records.may_find g.R.Records.is_honest old c.propose.new.self c.if-self.false (λ view course. course ≡ offer (member_count old.proposer.members) old.proposer.id view view.role c.args.value.now) c.propose.result c.args.self.now.somewhere c.propose.ensures.honesty c.propose.ensures.done;
+      does_on g.R.Records.may_find g.R.Records.is_honest old c.propose.new.self c.if-self.false (λ view course. course ≡ offer (member_count old.proposer.members) old.proposer.id view view.role c.args.value.now) c.propose.result c.args.self.now.somewhere c.propose.ensures.trust.honest c.propose.ensures.done;
 }
 
 pub returns-then-self-clause-order : goal.returns-then-self-clause-order

@@ -20,5 +20,5 @@ returns-clause-done g c honest =
 pub invariant_of-self : goal.invariant_of-self
 invariant_of-self g c = record {
   somewhere = let old = c.args.self.now.parts in
-      does_on g.R.Records.may_find g.R.Records.is_honest old c.heed.new.self c.if-self.false (λ view course. course ≡ Ok (heed (member_count old.proposer.members) old.proposer.id view c.args.letter.now.from c.args.letter.now.note)) c.heed.result c.args.self.now.somewhere c.heed.ensures.honesty c.heed.ensures.done;
+      does_on g.R.Records.may_find g.R.Records.is_honest old c.heed.new.self c.if-self.false (λ view course. course ≡ Ok (heed (member_count old.proposer.members) old.proposer.id view c.args.letter.now.from c.args.letter.now.note)) c.heed.result c.args.self.now.somewhere c.heed.ensures.trust.honest c.heed.ensures.done;
 }
