@@ -157,7 +157,6 @@ pub trait Records {
         ensures harmless { IsTrue (is_honest self.new) → IfErr result (λ e. IsHarmless e → FindsSame (may_find self.old) (may_find self.new)) }
         ensures kept { IsTrue (is_honest self.new) → AddsNothing (may_find self.old) (may_find self.new) }
         ensures honest { IsTrue (is_honest self.new) → IsTrue (is_honest self.old) }
-        ensures clean { IsTrue (is_clean self.new) → IsTrue (is_clean self.old) }
         ensures trust { OnOk result (KeepsTrust is_honest is_clean self.old self.new) }
         ensures count { CountsFaults result (count_of self.old) (count_of self.new) }
         ensures broken { BreaksByReopen result (is_broken self.old) (is_broken self.new) };

@@ -11,11 +11,12 @@ use Rattle.ballots.specs.Ballots.{number_of}
 use Rattle.acceptor.proofs.Callers.{greatest_apart, replaced}
 use Rattle.acceptor.specs.Content.{Content, Write, after_write, promised}
 use Rattle.acceptor.specs.Content.Write.{Promises, Votes}
+use Rattle.acceptor.specs.Calls.{KeepsTrust}
 use Rattle.acceptor.specs.Faults.{IsHarmless}
 use Rattle.acceptor.specs.Found.{Findable, Holds, AddsNothing, AddsOnly, FindsSame, Keeps, HasMade, MayHaveMade}
 use Rattle.acceptor.specs.declared.records.RecordsFault.{RecordsFault}
 use Rattle.acceptor_store_parts.specs.Serves.{Serves, StillServes, HasWritten, MayHaveWritten}
-use Rattle.acceptor_store.specs.Linked.{Linked, MayFind, MayFindIn, IsHonest, IsLinked, Knows}
+use Rattle.acceptor_store.specs.Linked.{Linked, MayFind, MayFindIn, IsHonest, is_clean_in, is_honest, IsLinked, Knows}
 use Rattle.acceptor_store.proofs.Found.{served, now_holds, may_hold, only_adds, same_found, no_more, keeps_err}
 
 -- the records have this connection, and what is known of it
@@ -52,6 +53,16 @@ module _ {S : Type 0} (g : Ghosts S) (settled : (s : S) (db : Trees) → IsTrue 
       let sure : IsTrue self.is_sure = subst IsTrue (sym it.sure) (and_parts is_sure _ h).0 in
       let clean : IsTrue (state g old).is_clean = clean_of _ (clean_then h) in
       subst (λ (held : Option (Held S)). IsHonest g (record self { held = held })) (sym it.at) (and_from _ _ sure clean)
+
+  pub sure : IsTrue (state g new).is_clean → IsHonest g self → IsTrue (is_sure && (state g new).is_clean)
+  sure clean h = and_from _ _ (subst IsTrue it.sure (and_parts self.is_sure _ h).0) clean
+
+  pub clean : IsTrue (state g new).is_clean → IsTrue (is_clean_in g self.held)
+  clean now = subst (λ held. IsTrue (is_clean_in g held)) (sym it.at) (clean_of _ (omega (arith, survives.clean, no_doubt _ now)))
+
+  pub trust : (up : Bool) (highest : Option (Option ℕ)) (failures : ℕ)
+      → KeepsTrust (is_honest g) (λ r. is_clean_in g r.held) self (record { held = Some new; is_up = up; is_sure = is_sure; highest = highest; failures = failures })
+  trust up highest failures = record { honest = honest; clean = clean; sure = sure }
 
   pub value : (V : Content → Type 0) → (HasCleanDisk (state g new) → (c : Content) → Serves (state g old) c → V c) → IsTrue (is_sure && (state g new).is_clean)
       → (c : Content) → Holds (MayFind g self.held) c → V c

@@ -1,5 +1,5 @@
 -- What is known of a connection that was opened anew.
-use Rattle.std.proofs.Common.{◌≡◌, ◌⊎◌, inl, inr, ℕ, true, false, ◌&&◌, List, [], ◌∷◌, map, slice_get, Some, None, Option, Ok, Err, Result, IfErr, IfOk, OnOk, IsTrue, codes, refl, sym, ap, subst, subst₂, ◌∙◌, arith}
+use Rattle.std.proofs.Common.{◌≡◌, ◌⊎◌, inl, inr, ℕ, true, false, ◌&&◌, List, [], ◌∷◌, map, slice_get, Some, None, Option, Ok, Err, Result, IfErr, IfOk, IfSome, OnOk, IsTrue, codes, refl, sym, ap, subst, subst₂, ◌∙◌}
 use Rattle.std.proofs.lemmas.Bool.{and_from, and_parts}
 use Rattle.std.proofs.Math.Logic.{∥∥₁_map, ∥∥₁_elim, ∥∥₁_prop}
 use base.Stored.{Coded-set}
@@ -36,7 +36,7 @@ use Rattle.acceptor_store_parts.specs.Tables.{store_schema, schema_of, blank_sch
 use Rattle.acceptor_store_parts.specs.Stored.{AreTables, AreTablesOf, HasLearned, IsNumber, IsCast, IsLearned, vote_row}
 use Rattle.acceptor_store_parts.specs.Serves.{Serves, ServesAs, StillServes, DoesNotServe, HasRaised}
 use Rattle.acceptor_store_parts.proofs.Callers.{tables_prop, one_content}
-use Rattle.acceptor_store.specs.Linked.{Linked, MayFind, MayFindIn, IsHonest, IsLinked, Stands, IsTested, Tells, Reopens, Examines, Had, IsIn, IsFoundIn, Prepares, SeesForeign, HasNumbers, StaysAs, Finds as Found}
+use Rattle.acceptor_store.specs.Linked.{Linked, MayFind, MayFindIn, IsHonest, is_clean_in, IsLinked, Stands, IsTested, CannotBeRead, Tells, Leaves, Reopens, Examines, Had, IsIn, IsFoundIn, Prepares, SeesForeign, HasNumbers, StaysAs, Finds as Found}
 use Rattle.sqlite_trees.proofs.Doubt.{no_doubt, clean_of}
 use Rattle.acceptor_store.proofs.Found.{found_is, found_it}
 
@@ -54,36 +54,26 @@ serves_prop s c x y =
     λ i. record { is_open = opened i; autocommit = auto i; settled = λ j. record { schema = schemas i j; trees = trees i j }; schema = schema i; tables = tables i }
 
 module _ {S : Type 0} (g : Ghosts S) (settled : (s : S) (db : Trees) → IsTrue (g.view s).is_open → g.recovers s db → db ≡ (g.view s).committed)
-    (stays : (s : S) → IsTrue (g.view s).is_open → g.recovers s (g.view s).committed) (old mid new : Held S) (tried row highest : Option ℕ) (votes : List (ℕ × Cast)) where
-  pub tells : (state g old).now.schema ≡ store_schema → HasCleanDisk (state g new) → ((c : Content) → Serves (state g old) c → (number_of tried ≡ c.tried) × (number_of row ≡ c.row))
-      → StillServes (state g old) (state g mid) → ((c : Content) → Serves (state g mid) c → votes ≡ c.votes) → StillServes (state g mid) (state g new)
-      → Survives (state g old) (state g mid) (λ _. DoesNotServe (state g old)) → Survives (state g mid) (state g new) (λ _. DoesNotServe (state g mid))
-      → number_of highest ≡ greatest (number_of row) votes → Tells g old new highest
-  tells schema clean numbers first votes_are second one two most = (
+    (stays : (s : S) → IsTrue (g.view s).is_open → g.recovers s (g.view s).committed) (old new : Held S) (highest : Option ℕ) where
+  pub tells : (state g old).now.schema ≡ store_schema → HasCleanDisk (state g new) → ((c : Content) → Serves (state g old) c → number_of highest ≡ promised c)
+      → StillServes (state g old) (state g new) → Survives (state g old) (state g new) (λ _. DoesNotServe (state g old)) → Tells g old new highest
+  tells schema clean value still survives = (
     schema,
     λ c was.
-        let before : HasCleanDisk (state g mid) = omega (arith, two.clean, clean) in
-        let middle = first c was in
-        let now = second c middle in
-        let read = numbers c was in
-        let all = votes_are c middle in
-        let top : number_of highest ≡ promised c = most ∙ (ap (λ n. greatest n votes) read.1 ∙ ap (greatest c.row) all) in
-        let left : (db : Trees) → (state g new).may_leave db → db ≡ (state g old).committed.trees = λ db may. elim (two.crash clean db may) [
-          | inl then ↦ elim (one.crash before db then) [ inl there ↦ settled old.store db was.is_open there | inr wrote ↦ absurd (wrote c was) ]
-          | inr wrote ↦ absurd (wrote c middle)
-        ] in
+        let now = still c was in
+        let left : (db : Trees) → (state g new).may_leave db → db ≡ (state g old).committed.trees =
+        λ db may. elim (survives.crash clean db may) [ inl there ↦ settled old.store db was.is_open there | inr none ↦ absurd (none c was) ] in
         let stand : Stands g new = λ db may. ∣ (c, subst (λ t. AreTables t c) (ap (λ (d : Database). d.trees) now.settled ∙ sym (settled new.store db now.is_open may)) now.tables) ∣₁ in
-        (now, top, stand, (∣ found_it g settled stays new c now ∣₁, found_is g settled stays new c now), left),
+        (now, value c was, stand, (∣ found_it g settled stays new c now ∣₁, found_is g settled stays new c now), left),
   )
 
-module _ {S : Type 0} (g : Ghosts S) (old mid new : Held S) (highest : Option ℕ) (clean : HasCleanDisk (state g old)) (opens : Opens (state g mid))
-    (found : ∥ (state g old).may_leave (state g mid).committed.trees ∥₁) (told : Tells g mid new highest) where
-  serves_mid : (c : Content) → AreTables (state g mid).committed.trees c → Serves (state g mid) c
-  serves_mid c tables = record {
+module _ {S : Type 0} (g : Ghosts S) (old mid new : Held S) (opens : Opens (state g mid)) (found : ∥ (state g old).may_leave (state g mid).committed.trees ∥₁) where
+  serves_mid : (state g mid).now.schema ≡ store_schema → (c : Content) → AreTables (state g mid).committed.trees c → Serves (state g mid) c
+  serves_mid schema c tables = record {
     is_open = opens.is_open;
     autocommit = opens.autocommit;
     settled = opens.clean;
-    schema = told.0;
+    schema = schema;
     tables = subst (λ (d : Database). AreTables d.trees c) (sym opens.clean) tables;
   }
 
@@ -91,55 +81,83 @@ module _ {S : Type 0} (g : Ghosts S) (old mid new : Held S) (highest : Option �
   held : Stands g old → (c : Content) × AreTables (state g mid).committed.trees c
   held before = ∥∥₁_elim found (one_content (state g mid).committed.trees) (λ may. ∥∥₁_elim (before _ may) (one_content (state g mid).committed.trees) (λ it. it))
 
-  tested : (before : Stands g old) → IsTested g mid new highest (held before).0
-  tested before = told.1 (held before).0 (serves_mid (held before).0 (held before).1)
+  module _ (highest : Option ℕ) (told : Tells g mid new highest) where
+    tested : (before : Stands g old) → IsTested g mid new highest (held before).0
+    tested before = told.1 (held before).0 (serves_mid told.0 (held before).0 (held before).1)
 
-  pub reopens : Reopens g old new highest
-  reopens = record {
-    was_clean = clean;
-    knows = λ before. ((held before).0, (tested before).0, (tested before).1);
-    stands = λ before. (tested before).2;
-    holds = λ before. (tested before).3;
-    adds_nothing = λ before d known. ∥∥₁_elim known ∥∥₁_prop (λ it. ∥∥₁_map found (λ may. (it.0, subst (state g old).may_leave (sym ((tested before).4 it.0 it.1)) may, it.2)));
-  }
+    pub reopens : Reopens g old new highest
+    reopens = record { knows = λ before. ((held before).0, (tested before).0, (tested before).1); holds = λ before. (tested before).3 }
+
+  module _ (settled : (s : S) (db : Trees) → IsTrue (g.view s).is_open → g.recovers s db → db ≡ (g.view s).committed) (clean : HasCleanDisk (state g old)) (now : HasCleanDisk (state g new))
+      (survives : Survives (state g mid) (state g new) (λ _. CannotBeRead (state g mid))) where
+    -- a crash leaves what was found, whether it was read or not
+    there : Stands g old → (db : Trees) → (state g new).may_leave db → db ≡ (state g mid).committed.trees
+    there before db may = elim (survives.crash now db may) [
+      | inl same ↦ settled mid.store db opens.is_open same
+      | inr unread ↦ absurd (unread.1 (held before).0 (serves_mid unread.0 (held before).0 (held before).1))
+    ]
+
+    pub leaves : Leaves g old new
+    leaves = record {
+      was_clean = clean;
+      stands = λ before db may. ∣ ((held before).0, subst (λ t. AreTables t (held before).0) (sym (there before db may)) (held before).1) ∣₁;
+      adds_nothing = λ before d known. ∥∥₁_elim known ∥∥₁_prop (λ it. ∥∥₁_map found (λ may. (it.0, subst (state g old).may_leave (sym (there before it.0 it.1)) may, it.2)));
+    }
+
+pub all_reopen : {S : Type 0} (g : Ghosts S) (old mid new : Held S) → Opens (state g mid) → ∥ (state g old).may_leave (state g mid).committed.trees ∥₁ → (highest : Option (Option ℕ)) → IfSome highest (Tells g mid new)
+    → IfSome highest (Reopens g old new)
+all_reopen g old mid new opens found None told = tt
+all_reopen g old mid new opens found (Some highest) told = reopens g old mid new opens found highest told
 
 -- of two contents that it may be it is one
-pub one_of : {S : Type 0} (g : Ghosts S) (old new : Held S) (highest : Option ℕ) → Reopens g old new highest → Stands g old → (a b : Content) → HoldsEither (MayFindIn g old) a b → Holds (MayFindIn g new) a ⊎ Holds (MayFindIn g new) b
-one_of g old new highest it before a b either =
+pub one_of : {S : Type 0} (g : Ghosts S) (old new : Held S) (highest : Option ℕ) → Leaves g old new → Reopens g old new highest → Stands g old → (a b : Content) → HoldsEither (MayFindIn g old) a b
+    → Holds (MayFindIn g new) a ⊎ Holds (MayFindIn g new) b
+one_of g old new highest left it before a b either =
     let here = it.holds before in
-    elim (either (it.knows before).0 (it.adds_nothing before _ (∥∥₁_elim here.0 ∥∥₁_prop (λ x. x)))) [
+    elim (either (it.knows before).0 (left.adds_nothing before _ (∥∥₁_elim here.0 ∥∥₁_prop (λ x. x)))) [
       | inl is ↦ inl (subst (Holds (MayFindIn g new)) is here)
       | inr is ↦ inr (subst (Holds (MayFindIn g new)) is here)
     ]
 
--- the records after a reopen that is Ok
-module _ {S : Type 0} (g : Ghosts S) (self inside : Linked S) (old new : Held S) (highest : Option ℕ) (view : inside ≡ self) (some : inside.held ≡ Some old)
-    (linked : IsLinked g inside.held inside.is_up inside.is_sure inside.highest) (it : HasCleanDisk (state g new) → Reopens g old new highest) where
+-- the records after a reopen that found a connection
+module _ {S : Type 0} (g : Ghosts S) (self inside : Linked S) (old new : Held S) (view : inside ≡ self) (some : inside.held ≡ Some old)
+    (linked : IsLinked g inside.held inside.is_up inside.is_sure inside.highest) (left : HasCleanDisk (state g new) → Leaves g old new) where
   at : self.held ≡ Some old
   at = sym (ap (λ (r : Linked S). r.held) view) ∙ some
 
   before : IsTrue inside.is_sure → HasCleanDisk (state g new) → Stands g old
-  before sure clean = (subst (λ h. IsLinked g h inside.is_up inside.is_sure inside.highest) some linked sure (it clean).was_clean).0
+  before sure clean = (subst (λ h. IsLinked g h inside.is_up inside.is_sure inside.highest) some linked sure (left clean).was_clean).0
 
-  pub reopen_linked : IsLinked g (Some new) true inside.is_sure (Some highest)
-  reopen_linked sure clean = ((it clean).stands (before sure clean), λ up. (it clean).knows (before sure clean))
-
-  pub reopen_ok : IsTrue (inside.is_sure && (state g new).is_clean) → (a b : Content) → HoldsEither (MayFind g self.held) a b → Holds (MayFindIn g new) a ⊎ Holds (MayFindIn g new) b
-  reopen_ok h a b either =
-      let clean : HasCleanDisk (state g new) = no_doubt _ (and_parts inside.is_sure _ h).1 in
-      one_of g old new highest (it clean) (before (and_parts inside.is_sure _ h).0 clean) a b (subst (λ held. HoldsEither (MayFind g held) a b) at either)
+  -- and couldn't read its tables
+  pub left_linked : (highest : Option (Option ℕ)) → IsLinked g (Some new) false inside.is_sure highest
+  left_linked highest sure clean = ((left clean).stands (before sure clean), λ up. absurd (let e : false ≡ true = up in cc))
 
   pub reopen_kept : IsTrue (inside.is_sure && (state g new).is_clean) → AddsNothing (MayFind g self.held) (MayFindIn g new)
   reopen_kept h =
       let clean : HasCleanDisk (state g new) = no_doubt _ (and_parts inside.is_sure _ h).1 in
-      subst (λ held. AddsNothing (MayFind g held) (MayFindIn g new)) (sym at) ((it clean).adds_nothing (before (and_parts inside.is_sure _ h).0 clean))
+      subst (λ held. AddsNothing (MayFind g held) (MayFindIn g new)) (sym at) ((left clean).adds_nothing (before (and_parts inside.is_sure _ h).0 clean))
 
   pub reopen_honest : IsTrue (inside.is_sure && (state g new).is_clean) → IsHonest g self
   reopen_honest h =
       let clean : HasCleanDisk (state g new) = no_doubt _ (and_parts inside.is_sure _ h).1 in
       let sure : IsTrue self.is_sure = subst IsTrue (ap (λ (r : Linked S). r.is_sure) view) (and_parts inside.is_sure _ h).0 in
-      let was : IsTrue (state g old).is_clean = clean_of _ (it clean).was_clean in
+      let was : IsTrue (state g old).is_clean = clean_of _ (left clean).was_clean in
       subst (λ (held : Option (Held S)). IsHonest g (record self { held = held })) (sym at) (and_from _ _ sure was)
+
+  pub reopen_clean : IsTrue (state g new).is_clean → IsTrue (is_clean_in g self.held)
+  reopen_clean now = subst (λ held. IsTrue (is_clean_in g held)) (sym at) (clean_of _ (left (no_doubt _ now)).was_clean)
+
+  pub reopen_sure : IsTrue (state g new).is_clean → IsHonest g self → IsTrue (inside.is_sure && (state g new).is_clean)
+  reopen_sure clean h = and_from _ _ (subst IsTrue (sym (ap (λ (r : Linked S). r.is_sure) view)) (and_parts self.is_sure _ h).0) clean
+
+  module _ (highest : Option ℕ) (it : HasCleanDisk (state g new) → Reopens g old new highest) where
+    pub reopen_linked : IsLinked g (Some new) true inside.is_sure (Some highest)
+    reopen_linked sure clean = ((left clean).stands (before sure clean), λ up. (it clean).knows (before sure clean))
+
+    pub reopen_ok : IsTrue (inside.is_sure && (state g new).is_clean) → (a b : Content) → HoldsEither (MayFind g self.held) a b → Holds (MayFindIn g new) a ⊎ Holds (MayFindIn g new) b
+    reopen_ok h a b either =
+        let clean : HasCleanDisk (state g new) = no_doubt _ (and_parts inside.is_sure _ h).1 in
+        one_of g old new highest (left clean) (it clean) (before (and_parts inside.is_sure _ h).0 clean) a b (subst (λ held. HoldsEither (MayFind g held) a b) at either)
 
 -- a read that changed nothing
 pub stays_as : (version : Version) (old new : State) → IsUnchanged old new → StaysAs version old new

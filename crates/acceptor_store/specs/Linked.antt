@@ -1,5 +1,5 @@
 -- Records over a connection.
-use Rattle.std.specs.Prelude.{◌≡◌, ◌≢◌, ℕ, map, Bool, true, false, ◌&&◌, Option, Some, None, ◌⊎◌, IfSome, IsTrue, refl}
+use Rattle.std.specs.Prelude.{◌≡◌, ◌≢◌, ℕ, map, Bool, true, ◌&&◌, Option, Some, None, ◌⊎◌, IfSome, IsTrue, refl}
 use Rattle.std.specs.Coded.{Coded, code_by, coded×, coded_bool, coded_ℕ, coded_option}
 use Rattle.ballots.specs.Ballots.{number_of}
 use Rattle.sqlite_disk.specs.declared.Disk as disk
@@ -21,7 +21,7 @@ use Rattle.acceptor_store_parts.specs.Tables.{store_schema, schema_of, blank_sch
 use Rattle.acceptor_store_parts.specs.Rowids.{IsReread}
 use Rattle.acceptor_store_parts.specs.Stored.{AreTables, AreTablesOf, IsOfNode, number_row, numbers_of}
 use Rattle.acceptor_store_parts.specs.Foreign.{IsForeign, IsForeignSchema}
-use Rattle.acceptor_store_parts.specs.Serves.{Serves, ServesAs}
+use Rattle.acceptor_store_parts.specs.Serves.{Serves, ServesAs, DoesNotServe}
 
 -- records as their contracts see them
 pub record Linked (S : Type 0) : Type 0 where
@@ -52,9 +52,9 @@ abbrev pub MayFind : {S : Type 0} → Ghosts S → Option (Held S) → Content �
 MayFind g None c = Unit {0}
 MayFind g (Some h) c = MayFindIn g h c
 
--- the library has the disk clean
+-- the library has the disk clean, where there is a connection
 abbrev pub is_clean_in : {S : Type 0} → Ghosts S → Option (Held S) → Bool
-is_clean_in g None = false
+is_clean_in g None = true
 is_clean_in g (Some h) = (state g h).is_clean
 
 -- no reopen has failed, and the disk is clean
@@ -87,13 +87,20 @@ IsTested g old new highest c =
 abbrev pub Tells : {S : Type 0} → Ghosts S → Held S → Held S → Option ℕ → Type 0
 Tells g old new highest = ((state g old).now.schema ≡ store_schema) × ((c : Content) → Serves (state g old) c → IsTested g old new highest c)
 
+-- its tables are those of the records, and serve no content
+abbrev pub CannotBeRead : State → Type 0
+CannotBeRead s = (s.now.schema ≡ store_schema) × DoesNotServe s
+
+-- a connection opened anew, read or not, which leaves what the old one may have left
+pub record Leaves {S : Type 0} (g : Ghosts S) (old new : Held S) : Type 0 where
+  pub was_clean : HasCleanDisk (state g old)
+  pub stands : Stands g old → Stands g new
+  pub adds_nothing : Stands g old → AddsNothing (MayFindIn g old) (MayFindIn g new)
+
 -- a connection opened anew serves what the old one may have left
 pub record Reopens {S : Type 0} (g : Ghosts S) (old new : Held S) (highest : Option ℕ) : Type 0 where
-  pub was_clean : HasCleanDisk (state g old)
   pub knows : Stands g old → Knows g new (Some highest)
-  pub stands : Stands g old → Stands g new
   pub holds : (before : Stands g old) → Holds (MayFindIn g new) (knows before).0
-  pub adds_nothing : Stands g old → AddsNothing (MayFindIn g old) (MayFindIn g new)
 
 -- the table of numbers has these
 abbrev pub HasNumbers : Version → Trees → ℕ → ℕ → Type 0

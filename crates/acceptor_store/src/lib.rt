@@ -5,12 +5,13 @@ mod opening;
 
 ghost use Rattle.std.specs.Prelude.{◌≡◌, ◌≤◌, Err, false, not, if◌then◌else◌, IfOk, IfErr, IfSome, IsErrAnd, IsSome, IsSomeAnd, OnOk, Some, IsTrue, ◌↔◌, ◌⊎◌, ◌&&◌};
 ghost use Rattle.ballots.specs.Ballots.{number_of};
-ghost use Rattle.acceptor.specs.Faults.{BreaksBy, CountsFaults, HasRisen, IsHarmless, IsStoreFault};
+ghost use Rattle.acceptor.specs.Calls.{Accounts, KeepsTrust, Writes};
+ghost use Rattle.acceptor.specs.Faults.{HasRisen, IsHarmless, IsStoreFault};
 ghost use Rattle.acceptor.specs.declared.records.RecordsFault.TheVariants.{OutOfMemory};
 ghost use Rattle.acceptor.specs.Content.{Content, IsSound, promised, greatest};
 ghost use Rattle.ballots.specs.Rows.{at, rows_from};
 ghost use Rattle.acceptor.specs.Content.Write.{Tries, Promises, Votes as Casts, Learns};
-ghost use Rattle.acceptor.specs.Found.{Holds, AddsNothing, AddsOnly, FindsSame, HasMade, Keeps, MayHaveMade};
+ghost use Rattle.acceptor.specs.Found.{Holds, AddsNothing, Keeps};
 ghost use Rattle.sqlite.specs.Files.{over_files, file_state};
 ghost use Rattle.sqlite.specs.Tree.{Trees};
 ghost use Rattle.sqlite.specs.State.{HasCleanDisk, Survives};
@@ -19,7 +20,7 @@ ghost use Rattle.sqlite_trees.specs.View.{IsClean, doubt};
 ghost use Rattle.acceptor_store_parts.specs.Foreign.{IsForeignSchema};
 ghost use Rattle.acceptor_store_parts.specs.Serves.{Serves, StillServes, DoesNotServe, StaysOpen};
 ghost use Rattle.acceptor_store_parts.specs.Stops.{LeavesOpen, leaves_open};
-ghost use Rattle.acceptor_store.specs.Linked.{MayFind, IsHonest, is_honest, Tells, Reopens, Had, HasFurther, IsFoundIn, IsLeftWhole, SeesForeign};
+ghost use Rattle.acceptor_store.specs.Linked.{MayFind, IsHonest, is_clean_in, is_honest, CannotBeRead, Tells, Leaves, Reopens, Had, HasFurther, IsFoundIn, IsLeftWhole, SeesForeign};
 
 use acceptor::{Records, RecordsFault};
 use acceptor_store_parts::{Stop, Version};
@@ -133,37 +134,28 @@ fn promised_in<S: Alter>(alloc: Global, conn: &mut Connection<S>) -> Result<Opti
 /// are none of the records, or can't be read.
 fn tested<S: Alter>(alloc: Global, conn: &mut Connection<S>) -> Option<Option<Ballot>>
     ensures tells { HasCleanDisk (state S.Store conn.new) → IfSome result (Tells S.Store conn.old conn.new) }
-    ensures clean { doubt (state S.Store conn.old).is_clean ≤ doubt (state S.Store conn.new).is_clean }
+    ensures survives { Survives (state S.Store conn.old) (state S.Store conn.new) (λ _. CannotBeRead (state S.Store conn.old)) }
 {
     match opening::is_of(alloc, conn.schema(), Version::Second) {
         Ok(true) => {}
         _ => return None,
     }
-    let Ok(numbers) = acceptor_store_parts::read_numbers(conn) else {
-        return None;
-    };
-    let numbers = numbers?;
-    let first = Place::new(1)?;
-    let Ok(votes) = acceptor_store_parts::votes_from(alloc, conn, first) else {
-        return None;
-    };
-    Some(greatest_of(numbers.1, votes.rows()))
+    promised_in(alloc, conn).ok()
 }
 
 // The salts of a log need no secret here.
 const SEED: u64 = 0x5eed;
 
-/// Opens the files of the connection anew, and tests the tables again.
+/// Opens the files of the connection anew, and tests the tables again, which may fail.
 fn opened_anew<D: Disk + Drop>(
     alloc: Global,
     conn: Connection<FileStore<D>>,
-) -> Option<(Connection<FileStore<D>>, Option<Ballot>)>
-    ensures { IfSome result (λ r. HasCleanDisk (file_state r.0) → Reopens over_files conn r.0 r.1) }
+) -> Option<(Connection<FileStore<D>>, Option<Option<Ballot>>)>
+    ensures leaves { IfSome result (λ r. HasCleanDisk (file_state r.0) → Leaves over_files conn r.0) }
+    ensures reopens { IfSome result (λ r. HasCleanDisk (file_state r.0) → IfSome r.1 (Reopens over_files conn r.0)) }
 {
-    let Ok(mut fresh) = acceptor_store_parts::reopened(alloc, conn, Options::new(SEED)) else {
-        return None;
-    };
-    let highest = tested(alloc, &mut fresh)?;
+    let mut fresh = acceptor_store_parts::reopened(alloc, conn, Options::new(SEED)).ok()?;
+    let highest = tested(alloc, &mut fresh);
     Some((fresh, highest))
 }
 
@@ -202,6 +194,7 @@ impl<S: Alter + Drop> SqlRecords<S> {
     pub fn open(alloc: Global, conn: Connection<S>) -> Result<SqlRecords<S>, (OpenFault, S)>
         ensures holds { IfOk result (λ r. IsHonest S.Store r → (c : Content) × Had S.Store conn c × Holds (MayFind S.Store r.held) c) }
         ensures clean { IfOk result (λ r. IsHonest S.Store r → HasCleanDisk (state S.Store conn)) }
+        ensures sure { IfOk result (λ r. IsTrue (is_clean_in S.Store r.held) → IsHonest S.Store r) }
         ensures own { IfOk result (λ r. IsHonest S.Store r → SeesForeign S.Store conn → ⊥) }
         ensures whole { IfErr result (λ e. IsClean (S.Store.view e.1) → (db : Trees) → S.Store.recovers e.1 db → IsLeftWhole S.Store conn db) }
         ensures foreign { IfErr result (λ e. e.0 ≡ OpenFault.Foreign → IsClean (S.Store.view e.1) → SeesForeign S.Store conn) }
@@ -266,6 +259,7 @@ pub fn open_files<D: Disk + Drop>(
     files: Files<D>,
 ) -> Result<SqlRecords<FileStore<D>>, OpenFault>
     ensures holds { IfOk result (λ r. IsHonest over_files r → (c : Content) × Holds (MayFind over_files r.held) c × IsFoundIn D.Disk files c) }
+    ensures sure { IfOk result (λ r. IsTrue (is_clean_in over_files r.held) → IsHonest over_files r) }
     ensures broken { (D.Disk.is_usable files.log && D.Disk.is_usable files.db) ≡ false → result ≡ Err OpenFault.Broken }
 {
     if !files.may_be_used() {
@@ -287,9 +281,8 @@ impl<S: Alter> SqlRecords<S> {
     fn find_tried(&mut self) -> Result<Option<Ballot>, RecordsFault>
         ensures value { IsHonest S.Store self.new → IfOk result (λ b. (c : Content) → Holds (MayFind S.Store self.old.held) c → number_of b ≡ c.tried) }
         ensures kept { IsHonest S.Store self.new → Keeps result (MayFind S.Store self.old.held) (MayFind S.Store self.new.held) }
-        ensures honest { IsHonest S.Store self.new → IsHonest S.Store self.old }
-        ensures count { CountsFaults result self.old.failures self.new.failures }
-        ensures broken { BreaksBy result (not self.old.is_up) (not self.new.is_up) }
+        ensures trust { KeepsTrust (is_honest S.Store) (λ r. is_clean_in S.Store r.held) self.old self.new }
+        ensures account { Accounts (λ r. r.failures) (λ r. not r.is_up) self.old result self.new }
     {
         if !self.is_up {
             return Err(end(&mut self.is_up, &mut self.failures, Stop::Down));
@@ -306,9 +299,8 @@ impl<S: Alter> SqlRecords<S> {
     fn find_vote(&mut self, place: Place) -> Result<Option<Cast>, RecordsFault>
         ensures value { IsHonest S.Store self.new → IfOk result (λ v. (c : Content) → Holds (MayFind S.Store self.old.held) c → v ≡ at c.votes place) }
         ensures kept { IsHonest S.Store self.new → Keeps result (MayFind S.Store self.old.held) (MayFind S.Store self.new.held) }
-        ensures honest { IsHonest S.Store self.new → IsHonest S.Store self.old }
-        ensures count { CountsFaults result self.old.failures self.new.failures }
-        ensures broken { BreaksBy result (not self.old.is_up) (not self.new.is_up) }
+        ensures trust { KeepsTrust (is_honest S.Store) (λ r. is_clean_in S.Store r.held) self.old self.new }
+        ensures account { Accounts (λ r. r.failures) (λ r. not r.is_up) self.old result self.new }
     {
         let alloc = self.alloc;
         if !self.is_up {
@@ -327,9 +319,8 @@ impl<S: Alter> SqlRecords<S> {
         ensures value { IsHonest S.Store self.new → IfOk result (λ votes. (c : Content) → Holds (MayFind S.Store self.old.held) c → votes ≡ rows_from c.votes place) }
         ensures sound { IsHonest S.Store self.new → OnOk result ((c : Content) → Holds (MayFind S.Store self.old.held) c → IsSound c) }
         ensures kept { IsHonest S.Store self.new → Keeps result (MayFind S.Store self.old.held) (MayFind S.Store self.new.held) }
-        ensures honest { IsHonest S.Store self.new → IsHonest S.Store self.old }
-        ensures count { CountsFaults result self.old.failures self.new.failures }
-        ensures broken { BreaksBy result (not self.old.is_up) (not self.new.is_up) }
+        ensures trust { KeepsTrust (is_honest S.Store) (λ r. is_clean_in S.Store r.held) self.old self.new }
+        ensures account { Accounts (λ r. r.failures) (λ r. not r.is_up) self.old result self.new }
     {
         let alloc = self.alloc;
         if !self.is_up {
@@ -347,9 +338,8 @@ impl<S: Alter> SqlRecords<S> {
     fn find_learned_row(&mut self, place: Place) -> Result<Option<Value>, RecordsFault>
         ensures value { IsHonest S.Store self.new → IfOk result (λ v. (c : Content) → Holds (MayFind S.Store self.old.held) c → v ≡ at c.learned place) }
         ensures kept { IsHonest S.Store self.new → Keeps result (MayFind S.Store self.old.held) (MayFind S.Store self.new.held) }
-        ensures honest { IsHonest S.Store self.new → IsHonest S.Store self.old }
-        ensures count { CountsFaults result self.old.failures self.new.failures }
-        ensures broken { BreaksBy result (not self.old.is_up) (not self.new.is_up) }
+        ensures trust { KeepsTrust (is_honest S.Store) (λ r. is_clean_in S.Store r.held) self.old self.new }
+        ensures account { Accounts (λ r. r.failures) (λ r. not r.is_up) self.old result self.new }
     {
         let alloc = self.alloc;
         if !self.is_up {
@@ -368,9 +358,8 @@ impl<S: Alter> SqlRecords<S> {
         ensures value { IsHonest S.Store self.new → IfOk result (λ learned. (c : Content) → Holds (MayFind S.Store self.old.held) c → learned.items ≡ rows_from c.learned place) }
         ensures sound { IsHonest S.Store self.new → OnOk result ((c : Content) → Holds (MayFind S.Store self.old.held) c → IsSound c) }
         ensures kept { IsHonest S.Store self.new → Keeps result (MayFind S.Store self.old.held) (MayFind S.Store self.new.held) }
-        ensures honest { IsHonest S.Store self.new → IsHonest S.Store self.old }
-        ensures count { CountsFaults result self.old.failures self.new.failures }
-        ensures broken { BreaksBy result (not self.old.is_up) (not self.new.is_up) }
+        ensures trust { KeepsTrust (is_honest S.Store) (λ r. is_clean_in S.Store r.held) self.old self.new }
+        ensures account { Accounts (λ r. r.failures) (λ r. not r.is_up) self.old result self.new }
     {
         let alloc = self.alloc;
         if !self.is_up {
@@ -388,9 +377,8 @@ impl<S: Alter> SqlRecords<S> {
     fn find_promised(&mut self) -> Result<Option<Ballot>, RecordsFault>
         ensures value { IsHonest S.Store self.new → IfOk result (λ b. (c : Content) → Holds (MayFind S.Store self.old.held) c → number_of b ≡ promised c) }
         ensures kept { IsHonest S.Store self.new → Keeps result (MayFind S.Store self.old.held) (MayFind S.Store self.new.held) }
-        ensures honest { IsHonest S.Store self.new → IsHonest S.Store self.old }
-        ensures count { CountsFaults result self.old.failures self.new.failures }
-        ensures broken { BreaksBy result (not self.old.is_up) (not self.new.is_up) }
+        ensures trust { KeepsTrust (is_honest S.Store) (λ r. is_clean_in S.Store r.held) self.old self.new }
+        ensures account { Accounts (λ r. r.failures) (λ r. not r.is_up) self.old result self.new }
     {
         let alloc = self.alloc;
         if !self.is_up {
@@ -409,13 +397,10 @@ impl<S: Alter> SqlRecords<S> {
     }
 
     fn set_tried(&mut self, ballot: Ballot) -> Result<(), RecordsFault>
-        ensures ok { IsHonest S.Store self.new → OnOk result (HasMade (MayFind S.Store self.old.held) (MayFind S.Store self.new.held) (Tries ballot)) }
-        ensures harmless { IsHonest S.Store self.new → IfErr result (λ e. IsHarmless e → FindsSame (MayFind S.Store self.old.held) (MayFind S.Store self.new.held)) }
-        ensures doubt { IsHonest S.Store self.new → MayHaveMade (MayFind S.Store self.old.held) (MayFind S.Store self.new.held) (Tries ballot) }
-        ensures only { IsHonest S.Store self.new → AddsOnly (MayFind S.Store self.old.held) (MayFind S.Store self.new.held) (Tries ballot) }
-        ensures honest { IsHonest S.Store self.new → IsHonest S.Store self.old }
-        ensures count { CountsFaults result self.old.failures self.new.failures }
-        ensures broken { BreaksBy result (not self.old.is_up) (not self.new.is_up) }
+        ensures writes { IsHonest S.Store self.new → Writes result (MayFind S.Store self.old.held) (MayFind S.Store self.new.held)
+            (Tries ballot) }
+        ensures trust { KeepsTrust (is_honest S.Store) (λ r. is_clean_in S.Store r.held) self.old self.new }
+        ensures account { Accounts (λ r. r.failures) (λ r. not r.is_up) self.old result self.new }
     {
         if !self.is_up {
             return Err(end(&mut self.is_up, &mut self.failures, Stop::Down));
@@ -430,13 +415,10 @@ impl<S: Alter> SqlRecords<S> {
     }
 
     fn set_promised(&mut self, ballot: Ballot) -> Result<(), RecordsFault>
-        ensures ok { IsHonest S.Store self.new → OnOk result (HasMade (MayFind S.Store self.old.held) (MayFind S.Store self.new.held) (Promises ballot)) }
-        ensures harmless { IsHonest S.Store self.new → IfErr result (λ e. IsHarmless e → FindsSame (MayFind S.Store self.old.held) (MayFind S.Store self.new.held)) }
-        ensures doubt { IsHonest S.Store self.new → MayHaveMade (MayFind S.Store self.old.held) (MayFind S.Store self.new.held) (Promises ballot) }
-        ensures only { IsHonest S.Store self.new → AddsOnly (MayFind S.Store self.old.held) (MayFind S.Store self.new.held) (Promises ballot) }
-        ensures honest { IsHonest S.Store self.new → IsHonest S.Store self.old }
-        ensures count { CountsFaults result self.old.failures self.new.failures }
-        ensures broken { BreaksBy result (not self.old.is_up) (not self.new.is_up) }
+        ensures writes { IsHonest S.Store self.new → Writes result (MayFind S.Store self.old.held) (MayFind S.Store self.new.held)
+            (Promises ballot) }
+        ensures trust { KeepsTrust (is_honest S.Store) (λ r. is_clean_in S.Store r.held) self.old self.new }
+        ensures account { Accounts (λ r. r.failures) (λ r. not r.is_up) self.old result self.new }
     {
         if !self.is_up {
             return Err(end(&mut self.is_up, &mut self.failures, Stop::Down));
@@ -454,13 +436,10 @@ impl<S: Alter> SqlRecords<S> {
     }
 
     fn set_vote(&mut self, place: Place, ballot: Ballot, value: &Value) -> Result<(), RecordsFault>
-        ensures ok { IsHonest S.Store self.new → OnOk result (HasMade (MayFind S.Store self.old.held) (MayFind S.Store self.new.held) (Casts place record { ballot = ballot; value = value.now })) }
-        ensures harmless { IsHonest S.Store self.new → IfErr result (λ e. IsHarmless e → FindsSame (MayFind S.Store self.old.held) (MayFind S.Store self.new.held)) }
-        ensures doubt { IsHonest S.Store self.new → MayHaveMade (MayFind S.Store self.old.held) (MayFind S.Store self.new.held) (Casts place record { ballot = ballot; value = value.now }) }
-        ensures only { IsHonest S.Store self.new → AddsOnly (MayFind S.Store self.old.held) (MayFind S.Store self.new.held) (Casts place record { ballot = ballot; value = value.now }) }
-        ensures honest { IsHonest S.Store self.new → IsHonest S.Store self.old }
-        ensures count { CountsFaults result self.old.failures self.new.failures }
-        ensures broken { BreaksBy result (not self.old.is_up) (not self.new.is_up) }
+        ensures writes { IsHonest S.Store self.new → Writes result (MayFind S.Store self.old.held) (MayFind S.Store self.new.held)
+            (Casts place record { ballot = ballot; value = value.now }) }
+        ensures trust { KeepsTrust (is_honest S.Store) (λ r. is_clean_in S.Store r.held) self.old self.new }
+        ensures account { Accounts (λ r. r.failures) (λ r. not r.is_up) self.old result self.new }
     {
         if !self.is_up {
             return Err(end(&mut self.is_up, &mut self.failures, Stop::Down));
@@ -478,13 +457,10 @@ impl<S: Alter> SqlRecords<S> {
     }
 
     fn set_learned(&mut self, place: Place, value: &Value) -> Result<(), RecordsFault>
-        ensures ok { IsHonest S.Store self.new → OnOk result (HasMade (MayFind S.Store self.old.held) (MayFind S.Store self.new.held) (Learns place value.now)) }
-        ensures harmless { IsHonest S.Store self.new → IfErr result (λ e. IsHarmless e → FindsSame (MayFind S.Store self.old.held) (MayFind S.Store self.new.held)) }
-        ensures doubt { IsHonest S.Store self.new → MayHaveMade (MayFind S.Store self.old.held) (MayFind S.Store self.new.held) (Learns place value.now) }
-        ensures only { IsHonest S.Store self.new → AddsOnly (MayFind S.Store self.old.held) (MayFind S.Store self.new.held) (Learns place value.now) }
-        ensures honest { IsHonest S.Store self.new → IsHonest S.Store self.old }
-        ensures count { CountsFaults result self.old.failures self.new.failures }
-        ensures broken { BreaksBy result (not self.old.is_up) (not self.new.is_up) }
+        ensures writes { IsHonest S.Store self.new → Writes result (MayFind S.Store self.old.held) (MayFind S.Store self.new.held)
+            (Learns place value.now) }
+        ensures trust { KeepsTrust (is_honest S.Store) (λ r. is_clean_in S.Store r.held) self.old self.new }
+        ensures account { Accounts (λ r. r.failures) (λ r. not r.is_up) self.old result self.new }
     {
         if !self.is_up {
             return Err(end(&mut self.is_up, &mut self.failures, Stop::Down));
@@ -503,6 +479,8 @@ impl<D: Disk + Drop> Records for SqlRecords<FileStore<D>> {
     ghost may_find = { λ r. MayFind over_files r.held };
 
     ghost is_honest = { λ r. is_honest over_files r };
+
+    ghost is_clean = { λ r. is_clean_in over_files r.held };
 
     ghost count_of = { λ r. r.failures };
 
@@ -574,6 +552,11 @@ impl<D: Disk + Drop> Records for SqlRecords<FileStore<D>> {
             return Err(RecordsFault::Broken);
         };
         self.conn = Some(fresh);
+        let Some(highest) = highest else {
+            self.is_up = false;
+            self.failures = risen(self.failures);
+            return Err(RecordsFault::Broken);
+        };
         self.is_up = true;
         self.highest = Some(highest);
         Ok(())

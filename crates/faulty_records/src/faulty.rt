@@ -138,6 +138,8 @@ impl Records for FaultyRecords {
 
     ghost is_honest = { λ _. true };
 
+    ghost is_clean = { λ _. true };
+
     ghost count_of = { λ r. r.faults.failures };
 
     ghost is_broken = { λ r. r.faults.is_broken };

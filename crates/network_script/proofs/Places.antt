@@ -12,8 +12,14 @@ use Rattle.node.specs.View.Standing.{Running}
 use Rattle.acceptor.specs.Content.{no_content}
 use Rattle.network_script_parts.specs.declared.seat.Seat.{Seat}
 use Rattle.network_script_parts.specs.Seat.{SameMember, Shown}
-use Rattle.network_script.specs.Seats.{Each, AreStandings, IsNumbered, AllHonest}
-use Rattle.network_script_parts.specs.Occupant.{Stands, member, node_of, IsHonest, is_up}
+use Rattle.acceptor.specs.Calls.{KeepsTrust}
+use Rattle.network_script_parts.specs.Occupant.{Stands, member, node_of, IsClean, IsHonest, is_up}
+use Rattle.network_script_parts.specs.declared.event.Event.{Event}
+use Rattle.network_script_parts.specs.declared.event.Answer.{Answer}
+use Rattle.network_script.specs.Seats.{Each, AreStandings, IsNumbered, AllHonest, AllKeepTrust}
+use Rattle.network_script.specs.Trust.{NoFailedRestart, NoRestartFailed}
+use Rattle.map_body.proofs.Callers.{get_behind}
+use Rattle.network_script.proofs.Lists.{get_left}
 
 -- what is there stays there, if it is written again
 pub set_same : {A : Type 0} (xs : List A) (k : ℕ) (x : A) → x ≡ get_or xs k x → set xs k x ≡ xs
@@ -46,12 +52,15 @@ who_at {N} {g} seats k seat lt is numbered =
     ∙ (ap (λ ms. get_or ms k (0, 0)) numbered
     ∙ get_or-map-range_with_len (λ j. (j, length seats)) 0 (length seats) k k (0, 0) lt (omega arith)))
 
+-- the one that was written is so if all are
+pub one_of : {A : Type 0} (P : A → Type 0) (xs : List A) (k : ℕ) (x : A) → k < length xs → All P (slice_set xs k x) → P x
+one_of P xs k x lt all =
+    let within : k < length (set xs k x) = omega (arith, length-set xs k x) in
+    subst P (get_or-set_same xs k x x lt) (all k x within)
+
 -- the one that was written is honest if all are
 pub honest_at : {N : Type 0} {g : Ghosts N} (seats : List (Seat N g)) (k : ℕ) (seat' : Seat N g) → k < length seats → AllHonest (slice_set seats k seat') → IsHonest seat'
-honest_at {N} {g} seats k seat' lt all =
-    let P : Seat N g → Type 0 = IsHonest in
-    let within : k < length (set seats k seat') = omega (arith, length-set seats k seat') in
-    subst P (get_or-set_same seats k seat' seat' lt) (all k seat' within)
+honest_at {N} {g} seats k seat' lt all = one_of (IsHonest {N = N} {g = g}) seats k seat' lt all
 
 -- all were honest before
 pub honest_before : {N : Type 0} {g : Ghosts N} (seats : List (Seat N g)) (k : ℕ) (seat seat' : Seat N g) → k < length seats → seat ≡ get_or seats k seat → (IsHonest seat' → IsHonest seat) → AllHonest (slice_set seats k seat') → AllHonest seats
@@ -59,6 +68,35 @@ honest_before {N} {g} seats k seat seat' lt is before all =
     let P : Seat N g → Type 0 = IsHonest in
     let there = before (honest_at seats k seat' lt all) in
     subst (All P) (set_back seats k seat seat' is) (All-set P (set seats k seat') k seat there all)
+
+-- a call that keeps trust at one place keeps it at all
+pub trust_at : {N : Type 0} {g : Ghosts N} (seats : List (Seat N g)) (k : ℕ) (seat seat' : Seat N g) → k < length seats → seat ≡ get_or seats k seat → KeepsTrust g.honest g.clean (node_of seat) (node_of seat') → AllKeepTrust seats (slice_set seats k seat')
+trust_at {N} {g} seats k seat seat' lt is trust =
+    let H : Seat N g → Type 0 = IsHonest in
+    let C : Seat N g → Type 0 = IsClean in
+    record {
+      clean = λ all. subst (All C) (set_back seats k seat seat' is) (All-set C (set seats k seat') k seat (trust.clean (one_of C seats k seat' lt all)) all);
+      sure = λ clean all. All-set H seats k seat' (trust.sure (one_of C seats k seat' lt clean) (subst H (sym is) (all k seat lt))) all;
+    }
+
+-- where nothing is written it is kept
+pub trust_same : {N : Type 0} {g : Ghosts N} (seats : List (Seat N g)) → AllKeepTrust seats seats
+trust_same seats = record { clean = λ all. all; sure = λ clean all. all }
+
+-- one event after another keeps it
+pub trust_then : {N : Type 0} {g : Ghosts N} (old mid new : List (Seat N g)) → AllKeepTrust old mid → AllKeepTrust mid new → AllKeepTrust old new
+trust_then old mid new first second = record {
+  clean = λ all. first.clean (second.clean all);
+  sure = λ clean all. second.sure clean (first.sure (second.clean clean) all);
+}
+
+-- no restart failed in the events before
+pub none_before : (events : List Event) (answers more : List Answer) → NoRestartFailed events (answers ++ more) → NoRestartFailed events answers
+none_before events answers more none i event answer here there = none i event answer here (get_left answers more i answer there)
+
+-- and the last event was none
+pub not_the_last : (events : List Event) (answers : List Answer) (i : ℕ) (event : Event) (answer : Answer) → length answers ≡ i → slice_get events i ≡ Some event → NoRestartFailed events (answers ++ answer ∷ []) → NoFailedRestart event answer
+not_the_last events answers i event answer is here none = none i event answer here (get_behind answers (answer ∷ []) 0 i (omega (arith, is)))
 
 -- one more is seen, and one less is left
 pub grown : {A B : Type 0} (f : A → B) (xs new : List A) (x : A) (b : B) (rest left all : List B) → new ≡ xs ++ x ∷ [] → f x ≡ b → rest ≡ b ∷ left → map f xs ++ rest ≡ all → map f new ++ left ≡ all
@@ -125,7 +163,7 @@ numbered_seats {N} {g} nodes seats seated numbered =
     seen_through f seats ∙ (ap (map f) seated ∙ (numbered ∙ ap (λ n. map (λ k. (k, n)) (range_with_len 0 n)) (sym size)))
 
 -- what an event of one node keeps
-pub ruleset one_node = (numbered_set, honest_before)
+pub ruleset one_node = (numbered_set, honest_before, trust_at, trust_same)
 
 -- there are as many standings as nodes
 pub standings_length : {N : Type 0} {g : Ghosts N} (seats : List (Seat N g)) (nodes : List Standing) → AreStandings seats nodes → length nodes ≡ length seats

@@ -8,7 +8,7 @@ use Rattle.node.specs.View.Standing.{Stopped}
 use Rattle.network_script_parts.specs.declared.event.Refusal.{Refusal}
 use Rattle.network_script_parts.specs.declared.event.Refusal.TheVariants.{NodeDown, NoNode}
 use Rattle.network_script_parts.specs.declared.seat.Seat.{Seat}
-use Rattle.network_script_parts.specs.Occupant.{Stands, IsHonest, is_up, member, node_of}
+use Rattle.network_script_parts.specs.Occupant.{Stands, IsClean, IsHonest, is_up, member, node_of}
 
 -- two lists go together, place by place
 abbrev pub Each : {A B : Type 0} → (A → B → Type 0) → List A → List B → Type 0
@@ -27,6 +27,14 @@ IsNumbered {N} {g} seats = map (member {N = N} {g = g}) seats ≡ map (λ k. (k,
 -- all of them
 abbrev pub AllHonest : {N : Type 0} {g : Ghosts N} → List (Seat N g) → Type 0
 AllHonest {N} {g} seats = All (IsHonest {N = N} {g = g}) seats
+
+abbrev pub AllClean : {N : Type 0} {g : Ghosts N} → List (Seat N g) → Type 0
+AllClean {N} {g} seats = All (IsClean {N = N} {g = g}) seats
+
+-- stores that aren't all clean don't become so, and while all are clean honest nodes stay honest
+pub record AllKeepTrust {N : Type 0} {g : Ghosts N} (old new : List (Seat N g)) : Type 0 where
+  pub clean : AllClean new → AllClean old
+  pub sure : AllClean new → AllHonest old → AllHonest new
 
 -- which of them are up
 abbrev pub ups : {N : Type 0} {g : Ghosts N} → List (Seat N g) → List Bool

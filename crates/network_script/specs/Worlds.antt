@@ -15,7 +15,7 @@ use Rattle.network_script_parts.specs.declared.receivers.Receivers.{Receivers}
 use Rattle.network_script_parts.specs.declared.seat.Seat.{Seat}
 use Rattle.network_script.specs.declared.world.World.{World}
 use Rattle.network_script_parts.specs.Seat.{crashed}
-use Rattle.network_script.specs.Seats.{AllHonest, AreStandings}
+use Rattle.network_script.specs.Seats.{AllClean, AllHonest, AreStandings}
 use Rattle.network_script.specs.World.{Written, released_by}
 use Rattle.network_script_parts.specs.Receiver.{Receiver}
 use Rattle.network_script_parts.specs.Receiving.{Hold, sent_by}
@@ -44,6 +44,10 @@ transmissions_of world = sent_by (receivers_of world)
 -- the records of each of its nodes have returned what they committed
 abbrev pub AreHonest : {N : Type 0} {g : Ghosts N} → World N g → Type 0
 AreHonest world = AllHonest (seats_of world)
+
+-- the stores of its nodes failed nowhere silently
+abbrev pub AreClean : {N : Type 0} {g : Ghosts N} → World N g → Type 0
+AreClean world = AllClean (seats_of world)
 
 -- how many nodes it has
 abbrev pub node_count : {N : Type 0} {g : Ghosts N} → World N g → ℕ

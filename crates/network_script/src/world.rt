@@ -120,8 +120,10 @@ impl<N: Node> World<N> {
     ghost use Rattle.network_script.specs.Next.{Goes};
     ghost use Rattle.network_script.specs.Counts.{CountNext, CountRun, counts};
     ghost use Rattle.network_script.specs.Outward.{Seen, SeenAll};
+    ghost use Rattle.network_script.specs.Seats.{AllKeepTrust};
+    ghost use Rattle.network_script.specs.Trust.{NoFailedRestart, NoRestartFailed};
     ghost use Rattle.network_script.specs.World.{Written};
-    ghost use Rattle.network_script.specs.Worlds.{AreHonest, StandsFor, Happens, Posted, Lost, Keeps, left, up_after, letters_of, node_count, outputs_of, transmissions_of};
+    ghost use Rattle.network_script.specs.Worlds.{AreHonest, StandsFor, Happens, Posted, Lost, Keeps, left, up_after, letters_of, node_count, outputs_of, seats_of, transmissions_of};
 
     /// Sends what a node gave. Where there is no room it is lost, and the node crashes.
     fn post(
@@ -169,6 +171,7 @@ impl<N: Node> World<N> {
     /// Node `k` is asked to lead.
     fn lead(&mut self, k: usize) -> Answer
         ensures honesty { AreHonest self.new → AreHonest self.old }
+        ensures trust { AllKeepTrust (seats_of self.old) (seats_of self.new) }
         ensures members { node_count self.new ≡ node_count self.old }
         ensures next { AreHonest self.new → Happens self.old (event.Lead k) result self.new }
         ensures counted { CountNext (counts self.old) (event.Lead k) result (counts self.new) }
@@ -185,6 +188,7 @@ impl<N: Node> World<N> {
     /// Node `k` is offered a value.
     fn offer(&mut self, k: usize, value: &[u8]) -> Answer
         ensures honesty { AreHonest self.new → AreHonest self.old }
+        ensures trust { AllKeepTrust (seats_of self.old) (seats_of self.new) }
         ensures members { node_count self.new ≡ node_count self.old }
         ensures next { AreHonest self.new → Happens self.old (event.Offer k value.now) result self.new }
         ensures counted { CountNext (counts self.old) (event.Offer k value.now) result (counts self.new) }
@@ -201,6 +205,7 @@ impl<N: Node> World<N> {
     /// Letter `i` comes to the node that it is to.
     fn deliver(&mut self, i: usize) -> Answer
         ensures honesty { AreHonest self.new → AreHonest self.old }
+        ensures trust { AllKeepTrust (seats_of self.old) (seats_of self.new) }
         ensures members { node_count self.new ≡ node_count self.old }
         ensures next { AreHonest self.new → Happens self.old (event.Deliver i) result self.new }
         ensures counted { CountNext (counts self.old) (event.Deliver i) result (counts self.new) }
@@ -222,6 +227,7 @@ impl<N: Node> World<N> {
     /// Letter `i` comes to the node that it is to, its answer is thrown away, and the node crashes.
     fn deliver_then_crash(&mut self, i: usize) -> Answer
         ensures honesty { AreHonest self.new → AreHonest self.old }
+        ensures trust { AllKeepTrust (seats_of self.old) (seats_of self.new) }
         ensures members { node_count self.new ≡ node_count self.old }
         ensures next { AreHonest self.new → Happens self.old (event.DeliverThenCrash i) result self.new }
         ensures counted { CountNext (counts self.old) (event.DeliverThenCrash i) result (counts self.new) }
@@ -243,6 +249,7 @@ impl<N: Node> World<N> {
     /// Node `k` crashes.
     fn crash(&mut self, k: usize) -> Answer
         ensures honesty { AreHonest self.new → AreHonest self.old }
+        ensures trust { AllKeepTrust (seats_of self.old) (seats_of self.new) }
         ensures members { node_count self.new ≡ node_count self.old }
         ensures next { AreHonest self.new → Happens self.old (event.Crash k) result self.new }
         ensures counted { CountNext (counts self.old) (event.Crash k) result (counts self.new) }
@@ -259,6 +266,7 @@ impl<N: Node> World<N> {
     /// Node `k`, which crashed, starts over its records.
     fn restart(&mut self, k: usize) -> Answer
         ensures honesty { AreHonest self.new → AreHonest self.old }
+        ensures trust { NoFailedRestart (event.Restart k) result → AllKeepTrust (seats_of self.old) (seats_of self.new) }
         ensures members { node_count self.new ≡ node_count self.old }
         ensures next { AreHonest self.new → Happens self.old (event.Restart k) result self.new }
         ensures counted { CountNext (counts self.old) (event.Restart k) result (counts self.new) }
@@ -309,6 +317,7 @@ impl<N: Node> World<N> {
     /// Node `k` releases what it can, at a minislot time.
     fn release(&mut self, k: usize, now: u64) -> Answer
         ensures honesty { AreHonest self.new → AreHonest self.old }
+        ensures trust { AllKeepTrust (seats_of self.old) (seats_of self.new) }
         ensures members { node_count self.new ≡ node_count self.old }
         ensures next { AreHonest self.new → Happens self.old (event.Release k now) result self.new }
         ensures counted { CountNext (counts self.old) (event.Release k now) result (counts self.new) }
@@ -326,6 +335,7 @@ impl<N: Node> World<N> {
     /// One event.
     fn happen(&mut self, event: &Event) -> Answer
         ensures honesty { AreHonest self.new → AreHonest self.old }
+        ensures trust { NoFailedRestart event.now result → AllKeepTrust (seats_of self.old) (seats_of self.new) }
         ensures members { node_count self.new ≡ node_count self.old }
         ensures next { AreHonest self.new → Happens self.old event.now result self.new }
         ensures counted { CountNext (counts self.old) event.now result (counts self.new) }
@@ -348,6 +358,7 @@ impl<N: Node> World<N> {
     /// The events one after another. Room for their answers is taken first; later nothing stops a run.
     pub fn run(&mut self, events: &[Event]) -> Result<Report, OutOfMemory>
         ensures honesty { AreHonest self.new → AreHonest self.old }
+        ensures trust { IfOk result (λ report. NoRestartFailed events.now report → AllKeepTrust (seats_of self.old) (seats_of self.new)) }
         ensures run { IfOk result (λ report. AreHonest self.new → (w : Written) → StandsFor self.old w →
             (w' : Written) × Goes (length w.nodes) w events.now report w' × StandsFor self.new w') }
         ensures members { node_count self.new ≡ node_count self.old }

@@ -26,6 +26,10 @@ member {N} {g} seat = ((who_of seat).id, (who_of seat).members)
 abbrev pub IsHonest : {N : Type 0} {g : Ghosts N} → Seat N g → Type 0
 IsHonest {N} {g} seat = IsTrue (g.honest (node_of seat))
 
+-- nothing below its records has failed silently
+abbrev pub IsClean : {N : Type 0} {g : Ghosts N} → Seat N g → Type 0
+IsClean {N} {g} seat = IsTrue (g.clean (node_of seat))
+
 -- it may stand so in the world
 abbrev pub Stands : {N : Type 0} {g : Ghosts N} → Seat N g → Standing → Type 0
 Stands {N} {g} seat s = Shown (is_up seat) (g.stands (node_of seat)) s

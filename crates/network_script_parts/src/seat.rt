@@ -36,7 +36,8 @@ fn stays_up<T>(ended: &Result<T, NodeFault>) -> bool
 }
 
 impl<N: Node> Seat<N> {
-    ghost use Rattle.std.specs.Prelude.{◌≡◌, true, false, is_ok};
+    ghost use Rattle.std.specs.Prelude.{◌≡◌, true, false, is_ok, OnOk};
+    ghost use Rattle.acceptor.specs.Calls.{KeepsTrust};
     ghost use Rattle.node.specs.View.{View, Standing};
     ghost use Rattle.node.specs.View.Standing.{Running};
     ghost use Rattle.node.specs.Calls.{Kept, KeptByRestart, StopsLast, answer};
@@ -73,7 +74,7 @@ impl<N: Node> Seat<N> {
         requires { is_up self.old ≡ true }
         ensures who { SameMember (who_of self.old) (who_of self.new) }
         ensures kept { Kept (who_of self.old) result (who_of self.new) }
-        ensures honesty { IsHonest self.new → IsHonest self.old }
+        ensures trust { KeepsTrust N.honest N.clean (node_of self.old) (node_of self.new) }
         ensures called { IsHonest self.new → CalledIn (who_of self.old) (Stands self.old) Lead (answer result) (Stands self.new) }
         ensures up { is_up self.new ≡ stays_up result }
         ensures order { IsHonest self.new → (view : View) → Stands self.old (Running view) → StopsLast (who_of self.old).members (who_of self.old).id view Lead (answer result) }
@@ -88,7 +89,7 @@ impl<N: Node> Seat<N> {
         requires { is_up self.old ≡ true }
         ensures who { SameMember (who_of self.old) (who_of self.new) }
         ensures kept { Kept (who_of self.old) result (who_of self.new) }
-        ensures honesty { IsHonest self.new → IsHonest self.old }
+        ensures trust { KeepsTrust N.honest N.clean (node_of self.old) (node_of self.new) }
         ensures called { IsHonest self.new → CalledIn (who_of self.old) (Stands self.old) (Offer value.now) (answer result) (Stands self.new) }
         ensures up { is_up self.new ≡ stays_up result }
         ensures order { IsHonest self.new → (view : View) → Stands self.old (Running view) → StopsLast (who_of self.old).members (who_of self.old).id view (Offer value.now) (answer result) }
@@ -103,7 +104,7 @@ impl<N: Node> Seat<N> {
         requires { is_up self.old ≡ true }
         ensures who { SameMember (who_of self.old) (who_of self.new) }
         ensures kept { Kept (who_of self.old) result (who_of self.new) }
-        ensures honesty { IsHonest self.new → IsHonest self.old }
+        ensures trust { KeepsTrust N.honest N.clean (node_of self.old) (node_of self.new) }
         ensures called { IsHonest self.new → CalledIn (who_of self.old) (Stands self.old) (Receive letter.now) (answer result) (Stands self.new) }
         ensures up { is_up self.new ≡ stays_up result }
     {
@@ -117,7 +118,7 @@ impl<N: Node> Seat<N> {
         requires { is_up self.old ≡ true }
         ensures who { SameMember (who_of self.old) (who_of self.new) }
         ensures kept { Kept (who_of self.old) result (who_of self.new) }
-        ensures honesty { IsHonest self.new → IsHonest self.old }
+        ensures trust { KeepsTrust N.honest N.clean (node_of self.old) (node_of self.new) }
         ensures called { IsHonest self.new → ReleasedIn (Stands self.old) now (outputs result) (Stands self.new) }
         ensures up { is_up self.new ≡ stays_up result }
     {
@@ -132,6 +133,7 @@ impl<N: Node> Seat<N> {
         ensures who { SameMember (who_of self.old) (who_of self.new) }
         ensures kept { KeptByRestart (who_of self.old) result (who_of self.new) }
         ensures honesty { IsHonest self.new → IsHonest self.old }
+        ensures trust { OnOk result (KeepsTrust N.honest N.clean (node_of self.old) (node_of self.new)) }
         ensures restarted { IsHonest self.new → RestartedIn (Stands self.old) result (Stands self.new) }
         ensures up { is_up self.new ≡ is_ok result }
     {

@@ -96,7 +96,6 @@ pub trait Node: Drop {
     /// Starts over its records.
     fn restart(&mut self) -> Result<(), NodeFault>
         ensures honesty { IsTrue (honest self.new) → IsTrue (honest self.old) }
-        ensures clean { IsTrue (clean self.new) → IsTrue (clean self.old) }
         ensures trust { OnOk result (KeepsTrust honest clean self.old self.new) }
         ensures kept { KeptByRestart (who self.old) result (who self.new) }
         ensures done { IsTrue (honest self.new) → (s : Standing) → stands self.old s

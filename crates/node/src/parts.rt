@@ -369,7 +369,6 @@ impl<R: Records> Parts<R> {
     /// Starts over its records, and reads what it had learned.
     pub(crate) fn start_over(&mut self) -> Result<(), NodeFault>
         ensures honesty { IsTrue (R.is_honest self.new.records) → IsTrue (R.is_honest self.old.records) }
-        ensures clean { IsTrue (R.is_clean self.new.records) → IsTrue (R.is_clean self.old.records) }
         ensures trust { OnOk result (KeepsTrust R.is_honest R.is_clean self.old.records self.new.records) }
         ensures kept { KeptByRestart (who_of R.count_of R.is_broken self.old) result (who_of R.count_of R.is_broken self.new) }
         ensures done { IsTrue (R.is_honest self.new.records) → (s : Standing) → Stands R.may_find self.old s

@@ -1,7 +1,7 @@
 use Rattle.std.proofs.Common.{◌≡◌, ℕ, List, Option}
 use Rattle.ballots.specs.Rows.{at}
 use Rattle.acceptor.specs.Content.{Content}
-use Rattle.acceptor_store.proofs.Calls.{entered, value, same, kept, honest}
+use Rattle.acceptor_store.proofs.Calls.{entered, value, same, kept, trust}
 use Rattle.acceptor_store.proofs.SqlRecords.find_learned_row.Goals as goal
 
 pub returns-in-Ok-clause-value : goal.returns-in-Ok-clause-value
@@ -14,17 +14,17 @@ returns-in-Ok-clause-kept g c =
     same g.S.Store g.met.S.Store.settled g.met.S.Store.stays c.args.self.now c.in-Some.conn c.learned_row.new.conn c.self.inside.is_sure
     (entered g.S.Store c.args.self.now (record { held = c.self.inside.conn; is_up = c.self.inside.is_up; is_sure = c.self.inside.is_sure; highest = c.self.inside.highest; failures = c.self.inside.failures }) c.in-Some.conn c.self.view_is c.in-Some.is c.self.invariant c.if-not-self.false) _ c.learned_row.ensures.survives (λ clean. c.in-Ok.ensures.stays clean tt)
 
-pub returns-in-Ok-clause-honest : goal.returns-in-Ok-clause-honest
-returns-in-Ok-clause-honest g c =
-    honest g.S.Store g.met.S.Store.settled g.met.S.Store.stays c.args.self.now c.in-Some.conn c.learned_row.new.conn c.self.inside.is_sure
-    (entered g.S.Store c.args.self.now (record { held = c.self.inside.conn; is_up = c.self.inside.is_up; is_sure = c.self.inside.is_sure; highest = c.self.inside.highest; failures = c.self.inside.failures }) c.in-Some.conn c.self.view_is c.in-Some.is c.self.invariant c.if-not-self.false) _ c.learned_row.ensures.survives
-
 pub returns-in-Err-clause-kept : goal.returns-in-Err-clause-kept
 returns-in-Err-clause-kept g c =
     kept g.S.Store g.met.S.Store.settled g.met.S.Store.stays c.args.self.now c.in-Some.conn c.learned_row.new.conn c.self.inside.is_sure
     (entered g.S.Store c.args.self.now (record { held = c.self.inside.conn; is_up = c.self.inside.is_up; is_sure = c.self.inside.is_sure; highest = c.self.inside.highest; failures = c.self.inside.failures }) c.in-Some.conn c.self.view_is c.in-Some.is c.self.invariant c.if-not-self.false) _ c.learned_row.ensures.survives (Option (List ℕ)) c.end-in-Err.result (λ harmless clean. c.in-Err.ensures.stays clean (c.end-in-Err.ensures.harmless harmless)) (λ x db was none. none x was)
 
-pub returns-in-Err-clause-honest : goal.returns-in-Err-clause-honest
-returns-in-Err-clause-honest g c =
-    honest g.S.Store g.met.S.Store.settled g.met.S.Store.stays c.args.self.now c.in-Some.conn c.learned_row.new.conn c.self.inside.is_sure
-    (entered g.S.Store c.args.self.now (record { held = c.self.inside.conn; is_up = c.self.inside.is_up; is_sure = c.self.inside.is_sure; highest = c.self.inside.highest; failures = c.self.inside.failures }) c.in-Some.conn c.self.view_is c.in-Some.is c.self.invariant c.if-not-self.false) _ c.learned_row.ensures.survives
+pub returns-in-Ok-clause-trust : goal.returns-in-Ok-clause-trust
+returns-in-Ok-clause-trust g c =
+    trust g.S.Store g.met.S.Store.settled g.met.S.Store.stays c.args.self.now c.in-Some.conn c.learned_row.new.conn c.self.inside.is_sure
+    (entered g.S.Store c.args.self.now (record { held = c.self.inside.conn; is_up = c.self.inside.is_up; is_sure = c.self.inside.is_sure; highest = c.self.inside.highest; failures = c.self.inside.failures }) c.in-Some.conn c.self.view_is c.in-Some.is c.self.invariant c.if-not-self.false) _ c.learned_row.ensures.survives _ _ _
+
+pub returns-in-Err-clause-trust : goal.returns-in-Err-clause-trust
+returns-in-Err-clause-trust g c =
+    trust g.S.Store g.met.S.Store.settled g.met.S.Store.stays c.args.self.now c.in-Some.conn c.learned_row.new.conn c.self.inside.is_sure
+    (entered g.S.Store c.args.self.now (record { held = c.self.inside.conn; is_up = c.self.inside.is_up; is_sure = c.self.inside.is_sure; highest = c.self.inside.highest; failures = c.self.inside.failures }) c.in-Some.conn c.self.view_is c.in-Some.is c.self.invariant c.if-not-self.false) _ c.learned_row.ensures.survives _ _ _

@@ -5,6 +5,7 @@ use Rattle.network_script_parts.specs.Modems.{ModemNext}
 use Rattle.network_script.specs.Worlds.{written}
 use Rattle.network_script.specs.Outward.{outward}
 use Rattle.network_script.proofs.Counted.{count_still}
+use Rattle.network_script.proofs.Places.{trust_same}
 use Rattle.network_script.proofs.world.World.happen.Goals as goal
 
 pub returns-in-Lead-clause-next : goal.returns-in-Lead-clause-next
@@ -118,3 +119,33 @@ returns-in-Tick-clause-seen g c = rw c.in-Tick.is (λ modems hold.
     let o = outward c.args.self.now modems in
     let r = c.tick.ensures.next modems c.args.self.now.outputs.items hold in
     (r.0, (r.0, r.1, λ i. record o { modems = r.0; transmissions = c.tick.ensures.sent i }), r.2))
+
+pub returns-in-Lead-clause-trust : goal.returns-in-Lead-clause-trust
+returns-in-Lead-clause-trust g c = λ well. c.lead.ensures.trust
+
+pub returns-in-Deliver-clause-trust : goal.returns-in-Deliver-clause-trust
+returns-in-Deliver-clause-trust g c = λ well. c.deliver.ensures.trust
+
+pub returns-in-DeliverThenCrash-clause-trust : goal.returns-in-DeliverThenCrash-clause-trust
+returns-in-DeliverThenCrash-clause-trust g c = λ well. c.deliver_then_crash.ensures.trust
+
+pub returns-in-Crash-clause-trust : goal.returns-in-Crash-clause-trust
+returns-in-Crash-clause-trust g c = λ well. c.crash.ensures.trust
+
+pub returns-in-Release-clause-trust : goal.returns-in-Release-clause-trust
+returns-in-Release-clause-trust g c = λ well. c.release.ensures.trust
+
+pub returns-in-Offer-clause-trust : goal.returns-in-Offer-clause-trust
+returns-in-Offer-clause-trust g c = λ well. c.offer.ensures.trust
+
+pub returns-in-Restart-clause-trust : goal.returns-in-Restart-clause-trust
+returns-in-Restart-clause-trust g c = rw c.in-Restart.is c.restart.ensures.trust
+
+pub returns-in-Hear-clause-trust : goal.returns-in-Hear-clause-trust
+returns-in-Hear-clause-trust g c = λ well. trust_same _
+
+pub returns-in-Want-clause-trust : goal.returns-in-Want-clause-trust
+returns-in-Want-clause-trust g c = λ well. trust_same _
+
+pub returns-in-Tick-clause-trust : goal.returns-in-Tick-clause-trust
+returns-in-Tick-clause-trust g c = λ well. trust_same _

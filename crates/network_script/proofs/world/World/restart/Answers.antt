@@ -5,7 +5,7 @@ use Rattle.network_script_parts.specs.declared.event.Answer.TheVariants.{Finishe
 use Rattle.network_script_parts.specs.declared.event.Refusal.TheVariants.{NoNode, NodeUp}
 use Rattle.network_script_parts.specs.Occupant.{is_up}
 use Rattle.network_script.specs.Worlds.{written}
-use Rattle.network_script.proofs.Places.{honest_at}
+use Rattle.network_script.proofs.Places.{honest_at, trust_at}
 use Rattle.network_script.proofs.Acts.{seen_none, seen_up, seen_down, same_at, moves, unmoved, starts, asks, stays, no_node}
 use Rattle.network_script_parts.specs.Moves.Ask.{Restart}
 use Rattle.acceptor.specs.Content.{record_write}
@@ -112,3 +112,9 @@ returns-in-Err-clause-seen g c = λ modems hold.
       rises_seen o seats c.args.k c.index_mut-seat.result.now c.restart.new.self false (λ up. record o { up = up }) (Rises o c.args.k) (Fault c.in-Err.fault) refl lt c.index_mut-seat.ensures.value down c.in-Err.ensures.up refl,
       hold,
     )
+
+pub returns-in-Ok-clause-trust : goal.returns-in-Ok-clause-trust
+returns-in-Ok-clause-trust g c = λ well. trust_at c.args.self.now.seats.items c.args.k c.index_mut-seat.result.now c.restart.new.self (search rules) c.index_mut-seat.ensures.value c.in-Ok.ensures.trust
+
+pub returns-in-Err-clause-trust : goal.returns-in-Err-clause-trust
+returns-in-Err-clause-trust g c = λ well. absurd (well c.args.k c.in-Err.fault refl refl)
