@@ -140,7 +140,10 @@ fn tested<S: Alter>(alloc: Global, conn: &mut Connection<S>) -> Option<Option<Ba
         Ok(true) => {}
         _ => return None,
     }
-    promised_in(alloc, conn).ok()
+    match promised_in(alloc, conn) {
+        Ok(highest) => Some(highest),
+        Err(_) => None,
+    }
 }
 
 // The salts of a log need no secret here.
@@ -154,7 +157,9 @@ fn opened_anew<D: Disk + Drop>(
     ensures leaves { IfSome result (λ r. HasCleanDisk (file_state r.0) → Leaves over_files conn r.0) }
     ensures reopens { IfSome result (λ r. HasCleanDisk (file_state r.0) → IfSome r.1 (Reopens over_files conn r.0)) }
 {
-    let mut fresh = acceptor_store_parts::reopened(alloc, conn, Options::new(SEED)).ok()?;
+    let Ok(mut fresh) = acceptor_store_parts::reopened(alloc, conn, Options::new(SEED)) else {
+        return None;
+    };
     let highest = tested(alloc, &mut fresh);
     Some((fresh, highest))
 }

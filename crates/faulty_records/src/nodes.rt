@@ -13,12 +13,18 @@ use std::alloc::{AllocError, Global};
 /// A node over records whose calls fail where they are told to.
 pub type FaultyNode = SchedNode<FaultyRecords>;
 
-/// A fresh node, with a member's number.
-fn faulty_node(alloc: Global, id: NodeId, members: Members, trouble: Trouble) -> FaultyNode
+/// A fresh node, with a member's number, as `nodes_by_number` asks for it: this one needs no room.
+fn faulty_node(
+    alloc: Global,
+    id: NodeId,
+    members: Members,
+    trouble: Trouble,
+) -> Result<FaultyNode, AllocError>
     requires { id < member_count members }
-    ensures { IsFreshAt ⟦<SchedNode<FaultyRecords> as Node>⟧.who ⟦<SchedNode<FaultyRecords> as Node>⟧.honest ⟦<SchedNode<FaultyRecords> as Node>⟧.stands (member_count members) id result }
+    ensures { IfOk result (λ node. IsFreshAt ⟦<SchedNode<FaultyRecords> as Node>⟧.who ⟦<SchedNode<FaultyRecords> as Node>⟧.honest ⟦<SchedNode<FaultyRecords> as Node>⟧.stands (member_count members) id node) }
 {
-    SchedNode::new(alloc, id, members, FaultyRecords::new(alloc, trouble))
+    let records = FaultyRecords::new(alloc, trouble);
+    Ok(SchedNode::new(alloc, id, members, records))
 }
 
 /// The fresh nodes of so many members, by number. One of them has the trouble, and the others have none.
@@ -37,6 +43,6 @@ pub fn faulty_nodes(
         } else {
             Trouble::none()
         };
-        Ok(faulty_node(alloc, id, members, given))
+        faulty_node(alloc, id, members, given)
     })
 }

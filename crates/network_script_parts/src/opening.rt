@@ -37,12 +37,13 @@ pub fn nodes_by_number<N: Node, E: From<AllocError>, F: FnMut(NodeId, Members) -
     Ok(nodes)
 }
 
-/// A fresh node, with a member's number.
-fn plain_node(alloc: Global, id: NodeId, members: Members) -> PlainNode
+/// A fresh node, with a member's number, as `nodes_by_number` asks for it: this one needs no room.
+fn plain_node(alloc: Global, id: NodeId, members: Members) -> Result<PlainNode, AllocError>
     requires { id < member_count members }
-    ensures { IsFreshAt ⟦<SchedNode<PlainRecords> as Node>⟧.who ⟦<SchedNode<PlainRecords> as Node>⟧.honest ⟦<SchedNode<PlainRecords> as Node>⟧.stands (member_count members) id result }
+    ensures { IfOk result (λ node. IsFreshAt ⟦<SchedNode<PlainRecords> as Node>⟧.who ⟦<SchedNode<PlainRecords> as Node>⟧.honest ⟦<SchedNode<PlainRecords> as Node>⟧.stands (member_count members) id node) }
 {
-    SchedNode::new(alloc, id, members, PlainRecords::new(alloc))
+    let records = PlainRecords::new(alloc);
+    Ok(SchedNode::new(alloc, id, members, records))
 }
 
 /// The fresh nodes of so many members, by number.
@@ -50,9 +51,7 @@ pub fn plain_nodes(alloc: Global, members: Members) -> Result<Vec<PlainNode>, Al
     ensures fresh { IfOk result (λ nodes. AreFresh ⟦<SchedNode<PlainRecords> as Node>⟧.who ⟦<SchedNode<PlainRecords> as Node>⟧.honest ⟦<SchedNode<PlainRecords> as Node>⟧.stands nodes.items) }
     ensures count { IfOk result (λ nodes. length nodes.items ≡ member_count members) }
 {
-    nodes_by_number(alloc, members, |id, members| {
-        Ok(plain_node(alloc, id, members))
-    })
+    nodes_by_number(alloc, members, |id, members| plain_node(alloc, id, members))
 }
 
 /// New modems of these ids.

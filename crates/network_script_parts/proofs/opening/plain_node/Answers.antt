@@ -5,8 +5,8 @@ use Rattle.network_script_parts.proofs.opening.plain_node.Goals as goal
 
 pub returns : goal.returns
 returns c = record {
-  id = ap (λ (w : Who). w.id) c.new-2.ensures.who;
-  members = ap (λ (w : Who). w.members) c.new-2.ensures.who;
-  up = ap (λ (w : Who). w.down) c.new-2.ensures.who;
-  fresh = λ honest. c.new-2.ensures.stands no_content (∣ sym c.new.ensures ∣₁, λ d is. is ∙ c.new.ensures);
+  id = ap (λ (w : Who). w.id) c.new.ensures.who;
+  members = ap (λ (w : Who). w.members) c.new.ensures.who;
+  up = ap (λ (w : Who). w.down) c.new.ensures.who;
+  fresh = λ honest. c.new.ensures.stands no_content (∣ sym c.new-records.ensures ∣₁, λ d is. is ∙ c.new-records.ensures);
 }
