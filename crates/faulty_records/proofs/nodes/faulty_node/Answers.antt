@@ -3,7 +3,7 @@ use Rattle.acceptor.specs.Content.{no_content}
 use Rattle.node.specs.Calls.{Who}
 use Rattle.faulty_records.proofs.nodes.faulty_node.Goals as goal
 
-pub new-requires-clause-certain : goal.new-requires-2-clause-certain
+pub new-requires-clause-certain : goal.new-requires-clause-certain
 new-requires-clause-certain c _ = ∣ (no_content, (∣ sym c.new-records.ensures.empty ∣₁, λ d is. is ∙ c.new-records.ensures.empty)) ∣₁
 
 pub returns : goal.returns
