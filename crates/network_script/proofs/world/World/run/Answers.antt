@@ -1,4 +1,4 @@
-use Rattle.std.proofs.Common.{◌≡◌, ◌∷◌, [], Some, slice_get, subst, sym, refl, rules, take, length, ◌∙◌, is_ok, true, ap, ◌+◌}
+use Rattle.std.proofs.Common.{◌≡◌, ◌∷◌, [], Some, slice_get, subst, sym, refl, rules, take, length, ◌∙◌, is_ok, true, ap, ◌+◌, arith}
 use Rattle.std.proofs.lemmas.List.{take_all}
 use Rattle.network_script.proofs.Joining.{along_on}
 use Rattle.std.proofs.lemmas.Option.{slice_get_read}
@@ -34,7 +34,8 @@ loop-event-preserved g c =
           let items = rw ok at c.push.ensures.items in
           let whole = subst (NoRestartFailed c.args.events.now) items none in
           let here : slice_get c.args.events.now c.loop-event.event-index ≡ Some c.event-item.result = slice_get_read _ _ _ _ refl c.loop-event-test.true c.event-item.is in
-          let well = not_the_last c.args.events.now c.loop-event.answers.items c.loop-event.event-index c.event-item.result c.happen-answer.result c.loop-event.invariant.count here whole in
+          let size : length c.loop-event.answers.items ≡ c.loop-event.event-index = omega (arith, c.loop-event.answers.ok.0, c.loop-event.invariant.count) in
+          let well = not_the_last c.args.events.now c.loop-event.answers.items c.loop-event.event-index c.event-item.result c.happen-answer.result size here whole in
           trust_then _ _ _ (c.loop-event.invariant.trust (none_before c.args.events.now c.loop-event.answers.items (c.happen-answer.result ∷ []) whole)) (c.happen-answer.ensures.trust well);
       members = c.happen-answer.ensures.members ∙ c.loop-event.invariant.members;
       run = λ all nodes modems history each hold.
