@@ -8,9 +8,22 @@ use Rattle.acceptor.specs.Faults.{HasRisen}
 use Rattle.world_events.specs.declared.event.Event.{Event}
 use Rattle.world_events.specs.declared.event.Event.TheVariants as event
 use Rattle.seats.specs.declared.answer.Answer.{Answer}
-use Rattle.network_script.proofs.Lists.{get_same, get_other}
+use Rattle.network_script.proofs.Lists.{get_same, get_other, set_again}
 use Rattle.network_script.specs.Counts.{Counts, CountNext, CountRun, called_by, is_node, faults_of, FewFaults}
 use Rattle.seats.specs.StoreFaults.{is_store_fault}
+
+-- a store's fault is counted, and nothing else is
+abbrev pub Accounts : Bool → ℕ → ℕ → Type 0
+Accounts true before after = HasRisen before after
+Accounts false before after = after ≡ before
+
+accounts_loud : (b : Bool) (before after : ℕ) → Accounts b before after → b ≡ true → HasRisen before after
+accounts_loud true before after account loud = account
+accounts_loud false before after account loud = absurd (false≢true loud)
+
+accounts_quiet : (b : Bool) (before after : ℕ) → Accounts b before after → b ≡ false → after ≡ before
+accounts_quiet true before after account quiet = absurd (false≢true (sym quiet))
+accounts_quiet false before after account quiet = account
 
 -- nothing was counted
 pub count_still : (c : Counts) (event : Event) (answer : Answer) → is_store_fault answer ≡ false → CountNext c event answer c
@@ -18,15 +31,16 @@ count_still c event answer quiet = record {
   letters = λ i n at. at;
   grow = λ k before at. (before, at, omega arith);
   cause = λ loud. absurd (false≢true (sym quiet ∙ loud));
+  still = λ calm. refl;
 }
 
 -- node k's count went on
 pub count_one : (old new : Counts) (event : Event) (answer : Answer) (k before after : ℕ)
     → ((i n : ℕ) → slice_get old.addressees i ≡ Some n → slice_get new.addressees i ≡ Some n)
     → slice_get old.failures k ≡ Some before → new.failures ≡ slice_set old.failures k after → before ≤ after
-    → (is_store_fault answer ≡ true → (called_by old.addressees event ≡ Some k) × HasRisen before after)
+    → called_by old.addressees event ≡ Some k → Accounts (is_store_fault answer) before after
     → CountNext old event answer new
-count_one old new event answer k before after letters at is le cause =
+count_one old new event answer k before after letters at is le called account =
     let there : slice_get new.failures k ≡ Some after = ap (λ fs. slice_get fs k) is ∙ get_same old.failures k after (slice_get_within old.failures k before at) in
     record {
       letters = letters;
@@ -38,7 +52,8 @@ count_one old new event answer k before after letters at is le cause =
             (after, there_j, rw b_is le)
         | inr (_, apart) ↦ (b, ap (λ fs. slice_get fs j) is ∙ (get_other old.failures k j after apart ∙ at_j), omega arith)
       ];
-      cause = λ loud. (k, before, after, (cause loud).0, at, there, (cause loud).1);
+      cause = λ loud. (k, before, after, called, at, there, accounts_loud (is_store_fault answer) before after account loud);
+      still = λ calm. is ∙ (ap (λ n. slice_set old.failures k n) (accounts_quiet (is_store_fault answer) before after account calm) ∙ set_again old.failures k before at);
     }
 
 -- letters stay through a run

@@ -1,5 +1,4 @@
 use Rattle.std.proofs.Common.{false, refl, sym, length, slice_set, arith}
-use Rattle.std.proofs.lemmas.Bool.{false≢true}
 use Rattle.node.specs.View.Standing.{Running}
 use Rattle.seats.specs.declared.answer.Answer.TheVariants.{Finished}
 use Rattle.seats.specs.Seat.{crashed}
@@ -42,7 +41,7 @@ returns-in-Some-clause-counted g c = count_still _ _ _ refl
 pub returns-clause-counted : goal.returns-clause-counted
 returns-clause-counted g c =
     counted_seat c.args.self.now.seats.items c.args.k c.index_mut-seat.result.now c.crash.new.self (event.Crash c.args.k) Finished _ _
-    c.in_default.ensures.up.0 c.index_mut-seat.ensures.value (λ i n at. at) refl (rw c.crash.ensures.node (omega arith)) (λ loud. absurd (false≢true loud))
+    c.in_default.ensures.up.0 c.index_mut-seat.ensures.value (λ i n at. at) refl (rw c.crash.ensures.node (omega arith)) (rw c.crash.ensures.node refl)
 
 pub returns-in-Some-clause-seen : goal.returns-in-Some-clause-seen
 returns-in-Some-clause-seen g c = λ modems hold.

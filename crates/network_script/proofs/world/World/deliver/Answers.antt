@@ -12,7 +12,7 @@ use Rattle.network_script.proofs.Acts.{called_at, receives_last, moves, sends, a
 use Rattle.world_events.specs.declared.event.Event.TheVariants as event
 use Rattle.network_script.proofs.Places.{seen_at}
 use Rattle.network_script.proofs.Counted.{count_still}
-use Rattle.network_script.proofs.Tallied.{counted_call, posted_letters, posted_rose}
+use Rattle.network_script.proofs.Tallied.{counted_call, posted_letters, posted_accounts}
 use Rattle.network_script.specs.Worlds.{up_after}
 use Rattle.network_script.specs.Outward.{outward, Sends}
 use Rattle.network_script.proofs.Outwardly.{missed_seen, goes_seen, comes_seen, no_letter_seen, sends_seen, answer_stays}
@@ -61,7 +61,7 @@ returns-clause-counted g c =
     let lt : c.args.i < length c.args.self.now.letters.items = search rules in
     let called = seen_at (λ (letter : Letter). letter.to) c.args.self.now.letters.items c.args.i c.index-letter.result.now lt c.index-letter.ensures ∙ ap Some (sym (c.from-k.ensures ∙ c.number.ensures.same)) in
     counted_call c.args.self.now.seats.items c.from-k.result c.index_mut-seat.result.now c.receive-given.new.self c.post.new.seat c.receive-given.result (event.Deliver c.args.i) c.post.result _ _
-    c.in_default.ensures.up c.index_mut-seat.ensures.value (posted_letters c.receive-given.result _ c.post.result _ c.post.ensures.posted) called c.receive-given.ensures.kept c.post.ensures.node (posted_rose c.receive-given.result _ c.post.result _ c.post.ensures.posted)
+    c.in_default.ensures.up c.index_mut-seat.ensures.value (posted_letters c.receive-given.result _ c.post.result _ c.post.ensures.posted) called c.receive-given.ensures.kept c.post.ensures.node (posted_accounts c.receive-given.result _ c.post.result _ c.post.ensures.posted)
 
 pub returns-then-i-len-clause-seen : goal.returns-then-i-len-clause-seen
 returns-then-i-len-clause-seen g c = λ modems hold.

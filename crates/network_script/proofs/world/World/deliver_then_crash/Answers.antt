@@ -12,7 +12,7 @@ use Rattle.network_script.proofs.Acts.{called_at, receives_last, moves, loses, a
 use Rattle.world_events.specs.declared.event.Event.TheVariants as event
 use Rattle.network_script.proofs.Places.{seen_at}
 use Rattle.network_script.proofs.Counted.{count_still}
-use Rattle.network_script.proofs.Tallied.{counted_call, lost_rose}
+use Rattle.network_script.proofs.Tallied.{counted_call, lost_accounts}
 use Rattle.network_script.specs.Worlds.{up_after}
 use Rattle.network_script.specs.Outward.{outward, Loses}
 use Rattle.network_script.proofs.Outwardly.{missed_seen, goes_seen, comes_seen, no_letter_seen, loses_seen, answer_stays}
@@ -61,7 +61,7 @@ returns-clause-counted g c =
     let lt : c.args.i < length c.args.self.now.letters.items = search rules in
     let called = seen_at (λ (letter : Letter). letter.to) c.args.self.now.letters.items c.args.i c.index-letter.result.now lt c.index-letter.ensures ∙ ap Some (sym (c.from-k.ensures ∙ c.number.ensures.same)) in
     counted_call c.args.self.now.seats.items c.from-k.result c.index_mut-seat.result.now c.receive-lost.new.self c.lose.new.seat c.receive-lost.result (event.DeliverThenCrash c.args.i) c.lose.result _ _
-    c.in_default.ensures.up c.index_mut-seat.ensures.value (λ i n at. at) called c.receive-lost.ensures.kept c.lose.ensures.node (lost_rose c.receive-lost.result c.lose.result c.lose.ensures.lost)
+    c.in_default.ensures.up c.index_mut-seat.ensures.value (λ i n at. at) called c.receive-lost.ensures.kept c.lose.ensures.node (lost_accounts c.receive-lost.result c.lose.result c.lose.ensures.lost)
 
 pub returns-then-i-len-clause-seen : goal.returns-then-i-len-clause-seen
 returns-then-i-len-clause-seen g c = λ modems hold.

@@ -10,7 +10,7 @@ use Rattle.node.specs.View.Standing.{Running}
 use Rattle.network_script.proofs.Acts.{called_at, moves, sends, asks, misses, told_last}
 use Rattle.world_events.specs.declared.event.Event.TheVariants as event
 use Rattle.network_script.proofs.Counted.{count_still}
-use Rattle.network_script.proofs.Tallied.{counted_call, posted_letters, posted_rose}
+use Rattle.network_script.proofs.Tallied.{counted_call, posted_letters, posted_accounts}
 use Rattle.network_script.specs.Worlds.{up_after}
 use Rattle.network_script.specs.Outward.{outward, Sends}
 use Rattle.network_script.proofs.Outwardly.{missed_seen, goes_seen, sends_seen, answer_stays}
@@ -45,7 +45,7 @@ returns-in-Some-clause-counted g c = count_still _ _ _ refl
 pub returns-clause-counted : goal.returns-clause-counted
 returns-clause-counted g c =
     counted_call c.args.self.now.seats.items c.args.k c.index_mut-seat.result.now c.offer-given.new.self c.post.new.seat c.offer-given.result (event.Offer c.args.k c.args.value.now) c.post.result _ _
-    c.in_default.ensures.up c.index_mut-seat.ensures.value (posted_letters c.offer-given.result _ c.post.result _ c.post.ensures.posted) refl c.offer-given.ensures.kept c.post.ensures.node (posted_rose c.offer-given.result _ c.post.result _ c.post.ensures.posted)
+    c.in_default.ensures.up c.index_mut-seat.ensures.value (posted_letters c.offer-given.result _ c.post.result _ c.post.ensures.posted) refl c.offer-given.ensures.kept c.post.ensures.node (posted_accounts c.offer-given.result _ c.post.result _ c.post.ensures.posted)
 
 pub returns-in-Some-clause-seen : goal.returns-in-Some-clause-seen
 returns-in-Some-clause-seen g c = λ modems hold.

@@ -8,7 +8,7 @@ use Rattle.node.specs.View.Standing.{Running}
 use Rattle.network_script.proofs.Acts.{released_at, moves, releases, asks, misses}
 use Rattle.world_events.specs.declared.event.Event.TheVariants as event
 use Rattle.network_script.proofs.Counted.{count_still}
-use Rattle.network_script.proofs.Tallied.{counted_call, keeps_rose}
+use Rattle.network_script.proofs.Tallied.{counted_call, keeps_accounts}
 use Rattle.network_script.specs.Worlds.{up_after}
 use Rattle.network_script.specs.Outward.{outward, Gives}
 use Rattle.network_script.proofs.Outwardly.{missed_seen, goes_seen, gives_seen, outputs_stay}
@@ -42,7 +42,7 @@ returns-in-Some-clause-counted g c = count_still _ _ _ refl
 pub returns-clause-counted : goal.returns-clause-counted
 returns-clause-counted g c =
     counted_call c.args.self.now.seats.items c.args.k c.index_mut-seat.result.now c.release-given.new.self c.keep.new.seat c.release-given.result (event.Release c.args.k c.args.now) c.keep.result _ _
-    c.in_default.ensures.up c.index_mut-seat.ensures.value (λ i n at. at) refl c.release-given.ensures.kept c.keep.ensures.node (keeps_rose c.release-given.result c.args.k _ c.keep.result _ c.keep.ensures.keeps)
+    c.in_default.ensures.up c.index_mut-seat.ensures.value (λ i n at. at) refl c.release-given.ensures.kept c.keep.ensures.node (keeps_accounts c.release-given.result c.args.k _ c.keep.result _ c.keep.ensures.keeps)
 
 pub returns-in-Some-clause-seen : goal.returns-in-Some-clause-seen
 returns-in-Some-clause-seen g c = λ modems hold.

@@ -1,5 +1,4 @@
 use Rattle.std.proofs.Common.{◌≡◌, ◌<◌, ◌∙◌, sym, refl, rules, length, true, false, None, Some, slice_set}
-use Rattle.std.proofs.lemmas.Bool.{false≢true}
 use Rattle.node.specs.View.Standing.{Running, Stopped}
 use Rattle.seats.specs.declared.answer.Answer.TheVariants.{Finished, Refused, Fault}
 use Rattle.world_events.specs.declared.refusal.Refusal.TheVariants.{NoNode, NodeUp}
@@ -11,7 +10,7 @@ use Rattle.seats.specs.Moves.Ask.{Restart}
 use Rattle.acceptor.specs.Content.{record_write}
 use Rattle.world_events.specs.declared.event.Event.TheVariants as event
 use Rattle.network_script.proofs.Counted.{count_still}
-use Rattle.network_script.proofs.Tallied.{counted_seat, restart_rose}
+use Rattle.network_script.proofs.Tallied.{counted_seat, restart_accounts}
 use Rattle.network_script.specs.Outward.{outward, Rises}
 use Rattle.network_script.proofs.Outwardly.{no_seat, seat_is, rises_seen, unrisen_seen}
 use Rattle.network_script.proofs.world.World.restart.Goals as goal
@@ -71,12 +70,12 @@ returns-then-is_up-clause-counted g c = count_still _ _ _ refl
 pub returns-in-Ok-clause-counted : goal.returns-in-Ok-clause-counted
 returns-in-Ok-clause-counted g c =
     counted_seat c.args.self.now.seats.items c.args.k c.index_mut-seat.result.now c.restart.new.self (event.Restart c.args.k) Finished _ _
-    (search rules) c.index_mut-seat.ensures.value (λ i n at. at) refl c.in-Ok.ensures.kept.2 (λ loud. absurd (false≢true loud))
+    (search rules) c.index_mut-seat.ensures.value (λ i n at. at) refl c.in-Ok.ensures.kept.2 c.in-Ok.ensures.kept.3.0
 
 pub returns-in-Err-clause-counted : goal.returns-in-Err-clause-counted
 returns-in-Err-clause-counted g c =
     counted_seat c.args.self.now.seats.items c.args.k c.index_mut-seat.result.now c.restart.new.self (event.Restart c.args.k) (Fault c.in-Err.fault) _ _
-    (search rules) c.index_mut-seat.ensures.value (λ i n at. at) refl c.in-Err.ensures.kept.2 (restart_rose (Unit {0}) _ _ c.in-Err.fault c.in-Err.ensures.kept)
+    (search rules) c.index_mut-seat.ensures.value (λ i n at. at) refl c.in-Err.ensures.kept.2 (restart_accounts (Unit {0}) _ _ c.in-Err.fault c.in-Err.ensures.kept)
 
 pub returns-then-k-len-clause-seen : goal.returns-then-k-len-clause-seen
 returns-then-k-len-clause-seen g c = λ modems hold.
