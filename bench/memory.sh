@@ -21,7 +21,7 @@ if [ "${1-}" = unproved ]; then
 fi
 [ $# -gt 0 ] || set -- plans/{first_grant,fullest_map,wider_jitter}.toml scripts/{one_leader,wrapped_time,missed_map}.toml
 
-workspace_over memory network_script network_script_parts node ballots grant_machine upsched_parts
+workspace_over memory network_script script_text seats world_events node ballots grant_machine upsched_map_parts
 if [ -z "$proves" ]; then
     mkdir "$made/cases"
     for text in "$@"; do

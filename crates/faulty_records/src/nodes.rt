@@ -2,12 +2,12 @@
 
 ghost use Rattle.std.specs.Prelude.{◌≡◌, ◌<◌, IfOk, length};
 ghost use Rattle.ballots.specs.Members.{member_count};
-ghost use Rattle.network_script_parts.specs.Fresh.{AreFresh, IsFreshAt};
+ghost use Rattle.seats.specs.Fresh.{AreFresh, IsFreshAt};
 
 use crate::faulty::{FaultyRecords, Trouble};
 use ballots::{Members, NodeId};
-use network_script_parts::nodes_by_number;
 use node::{Node, SchedNode};
+use seats::nodes_by_number;
 use std::alloc::{AllocError, Global};
 
 /// A node over records whose calls fail where they are told to.

@@ -13,18 +13,18 @@ use Rattle.node.specs.Releases.{Releases as NodeReleases}
 use Rattle.node.specs.Step.{Outcome, nothing}
 use Rattle.proposer.specs.declared.fault.NodeFault.{NodeFault}
 use Rattle.proposer.specs.declared.fault.NodeFault.TheVariants as fault
-use Rattle.network_script_parts.specs.declared.event.Answer.{Answer}
-use Rattle.network_script_parts.specs.declared.event.Answer.TheVariants.{Sent, Released, Finished, Refused, Fault, Crashed}
-use Rattle.network_script_parts.specs.declared.event.Refusal.{Refusal}
-use Rattle.network_script_parts.specs.declared.event.Refusal.TheVariants.{NoLetter, NodeDown, NoNode}
-use Rattle.network_script_parts.specs.declared.event.ReleasedOutput.{ReleasedOutput}
-use Rattle.network_script_parts.specs.declared.seat.Seat.{Seat}
-use Rattle.network_script_parts.specs.Seat.{CalledIn, ReleasedIn, RestartsWith, Shown, shown, stays_up, survives, crashed}
+use Rattle.seats.specs.declared.answer.Answer.{Answer}
+use Rattle.seats.specs.declared.answer.Answer.TheVariants.{Sent, Released, Finished, Refused, Fault, Crashed}
+use Rattle.world_events.specs.declared.refusal.Refusal.{Refusal}
+use Rattle.world_events.specs.declared.refusal.Refusal.TheVariants.{NoLetter, NodeDown, NoNode}
+use Rattle.seats.specs.declared.answer.ReleasedOutput.{ReleasedOutput}
+use Rattle.seats.specs.declared.seat.Seat.{Seat}
+use Rattle.seats.specs.Seat.{CalledIn, ReleasedIn, RestartsWith, Shown, shown, stays_up, survives, crashed}
 use Rattle.network_script.specs.Seats.{Each, AreStandings, IsNumbered, AllHonest, IsUpAt, IsMissed}
-use Rattle.network_script_parts.specs.Occupant.{Stands, member, IsHonest}
-use Rattle.network_script_parts.specs.Release.{released_all}
+use Rattle.seats.specs.Occupant.{Stands, member, IsHonest}
+use Rattle.seats.specs.Release.{released_all}
 use Rattle.network_script.specs.World.{Written, released_by}
-use Rattle.network_script_parts.specs.Moves.{Ask, Move, quiet, whole, lost, gives, Ends, EndsInCrash, Fails, IsToldLast, Releases, Starts, Moves}
+use Rattle.seats.specs.Moves.{Ask, Move, quiet, whole, lost, gives, Ends, EndsInCrash, Fails, IsToldLast, Releases, Starts, Moves}
 use Rattle.network_script.specs.Next.{OfNode, Comes, after}
 use Rattle.network_script.proofs.After.{set_got, after_same}
 use Rattle.network_script.specs.Worlds.{Posted, Lost, Keeps, left}

@@ -4,8 +4,8 @@ use Rattle.acceptor.specs.Content.{Write, record_write}
 use Rattle.node.specs.View.{View, Standing}
 use Rattle.node.specs.View.Standing.{Running, Stopped}
 use Rattle.node.specs.Step.{Outcome}
-use Rattle.network_script_parts.specs.Release.{released, released_all}
-use Rattle.network_script_parts.specs.Moves.{quiet, whole, lost, gives}
+use Rattle.seats.specs.Release.{released, released_all}
+use Rattle.seats.specs.Moves.{quiet, whole, lost, gives}
 use Rattle.network_script.specs.World.{Written, released_by}
 use Rattle.network_script.specs.Next.{after}
 

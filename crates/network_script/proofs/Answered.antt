@@ -15,16 +15,16 @@ use Rattle.node.specs.Step.{Outcome, receive, offer, limit, sends, to_all, Leads
 use Rattle.proposer.specs.declared.role.Role.{Role}
 use Rattle.proposer.specs.declared.role.Role.TheVariants.{Idle, Preparing, Leading}
 use Rattle.ballots.specs.declared.letters.Note.TheVariants.{Accept}
-use Rattle.network_script_parts.specs.declared.event.Event.TheVariants as event
-use Rattle.network_script_parts.specs.declared.event.Answer.{Answer}
-use Rattle.network_script_parts.specs.declared.event.Answer.TheVariants as answer
-use Rattle.network_script_parts.specs.declared.event.Refusal.TheVariants as refusal
-use Rattle.network_script_parts.specs.declared.event.Transmission.{Transmission}
+use Rattle.world_events.specs.declared.event.Event.TheVariants as event
+use Rattle.seats.specs.declared.answer.Answer.{Answer}
+use Rattle.seats.specs.declared.answer.Answer.TheVariants as answer
+use Rattle.world_events.specs.declared.refusal.Refusal.TheVariants as refusal
+use Rattle.seats.specs.declared.answer.Transmission.{Transmission}
 use Rattle.network_script.specs.World.{Written}
-use Rattle.network_script_parts.specs.Receiver.{Receiver}
-use Rattle.network_script_parts.specs.Modems.{OfModem}
-use Rattle.network_script_parts.specs.Moves.{Ask, Move, quiet, whole, lost, gives, Fails, Ends, IsToldLast, MovesUp, Moves}
-use Rattle.network_script_parts.specs.Moves.Ask.{Call, TakeThenCrash, Release as ReleaseAt, Crash, Restart}
+use Rattle.seats.specs.Receiver.{Receiver}
+use Rattle.seats.specs.Modems.{OfModem}
+use Rattle.seats.specs.Moves.{Ask, Move, quiet, whole, lost, gives, Fails, Ends, IsToldLast, MovesUp, Moves}
+use Rattle.seats.specs.Moves.Ask.{Call, TakeThenCrash, Release as ReleaseAt, Crash, Restart}
 use Rattle.network_script.specs.Next.{OfNode, after, Next}
 use Rattle.network_script.proofs.After.{after_same}
 use Rattle.network_script.specs.Plain as plain

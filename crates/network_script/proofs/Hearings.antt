@@ -13,15 +13,15 @@ use Rattle.modem.specs.Held.{Hearing, Held, StandsFor, unicast_sid}
 use Rattle.modem.specs.Hears.{Hears}
 use Rattle.modem.specs.Ticks.{Ticks}
 use Rattle.modem.specs.Owner.{IsTimely}
-use Rattle.network_script_parts.specs.declared.event.Event.{Event}
-use Rattle.network_script_parts.specs.declared.event.Event.TheVariants as event
-use Rattle.network_script_parts.specs.declared.event.Answer.{Answer}
-use Rattle.network_script_parts.specs.declared.event.Answer.TheVariants as answer
-use Rattle.network_script_parts.specs.declared.event.Refusal.TheVariants as refusal
-use Rattle.network_script_parts.specs.declared.event.ReleasedOutput.{ReleasedOutput}
-use Rattle.network_script_parts.specs.declared.event.Transmission.{Transmission}
-use Rattle.network_script_parts.specs.Receiver.{Receiver}
-use Rattle.network_script_parts.specs.Modems.{HearsOutput, Listens, Wants, ComesToKnown, ComesToUnknown, ComesTo, OfModem, ModemNext, sent_at}
+use Rattle.world_events.specs.declared.event.Event.{Event}
+use Rattle.world_events.specs.declared.event.Event.TheVariants as event
+use Rattle.seats.specs.declared.answer.Answer.{Answer}
+use Rattle.seats.specs.declared.answer.Answer.TheVariants as answer
+use Rattle.world_events.specs.declared.refusal.Refusal.TheVariants as refusal
+use Rattle.seats.specs.declared.answer.ReleasedOutput.{ReleasedOutput}
+use Rattle.seats.specs.declared.answer.Transmission.{Transmission}
+use Rattle.seats.specs.Receiver.{Receiver}
+use Rattle.seats.specs.Modems.{HearsOutput, Listens, Wants, ComesToKnown, ComesToUnknown, ComesTo, OfModem, ModemNext, sent_at}
 use Rattle.network_script.proofs.Lists.{in_append, get_same, get_other, get_set, get_in}
 
 -- each output that was heard was released, and each MAP was heard near its start

@@ -1,8 +1,8 @@
 -- A run may be cut in two, whatever its steps are: what is reached from where the first part ended is reached by the whole.
 use Rattle.std.proofs.Common.{◌≡◌, ◌<◌, ◌+◌, ℕ, List, [], ◌∷◌, ◌++◌, refl, subst, length, take, get_or}
 use Rattle.std.proofs.lemmas.List.{take_more}
-use Rattle.network_script_parts.specs.declared.event.Event.{Event}
-use Rattle.network_script_parts.specs.declared.event.Answer.{Answer}
+use Rattle.world_events.specs.declared.event.Event.{Event}
+use Rattle.seats.specs.declared.answer.Answer.{Answer}
 use Rattle.network_script.specs.Along.{Along}
 use Rattle.network_script.specs.Next.{Next}
 use Rattle.network_script.specs.Headline.{RunsJoin}

@@ -14,17 +14,17 @@ use Rattle.node.specs.View.Standing.{Running, Stopped}
 use Rattle.proposer.specs.declared.fault.NodeFault.{NodeFault as Fault}
 use Rattle.proposer.specs.declared.fault.NodeFault.TheVariants as fault
 use Rattle.node.specs.Step.{Outcome, nothing, is_heeded, is_sound, heed, receive, offer, Leads}
-use Rattle.network_script_parts.specs.declared.event.Event.{Event}
-use Rattle.network_script_parts.specs.declared.event.Event.TheVariants as event
-use Rattle.network_script_parts.specs.declared.event.Answer.{Answer}
-use Rattle.network_script_parts.specs.declared.event.Answer.TheVariants as answer
-use Rattle.network_script_parts.specs.declared.event.ReleasedOutput.{ReleasedOutput}
+use Rattle.world_events.specs.declared.event.Event.{Event}
+use Rattle.world_events.specs.declared.event.Event.TheVariants as event
+use Rattle.seats.specs.declared.answer.Answer.{Answer}
+use Rattle.seats.specs.declared.answer.Answer.TheVariants as answer
+use Rattle.seats.specs.declared.answer.ReleasedOutput.{ReleasedOutput}
 use Rattle.map_release.specs.Released.{numbered, has_ended}
-use Rattle.network_script_parts.specs.Release.{released, released_all}
+use Rattle.seats.specs.Release.{released, released_all}
 use Rattle.network_script.specs.World.{Written, released_by}
-use Rattle.network_script_parts.specs.Modems.{ModemNext, sent_at}
-use Rattle.network_script_parts.specs.Moves.{Ask, Move, quiet, whole, lost, Fails, Ends, EndsInCrash, Releases, Starts, MovesUp, MovesDown}
-use Rattle.network_script_parts.specs.Moves.Ask.{Call, TakeThenCrash, Release as ReleaseAt, Crash as CrashNow, Restart as StartAgain}
+use Rattle.seats.specs.Modems.{ModemNext, sent_at}
+use Rattle.seats.specs.Moves.{Ask, Move, quiet, whole, lost, Fails, Ends, EndsInCrash, Releases, Starts, MovesUp, MovesDown}
+use Rattle.seats.specs.Moves.Ask.{Call, TakeThenCrash, Release as ReleaseAt, Crash as CrashNow, Restart as StartAgain}
 use Rattle.network_script.specs.Next.{after, OfNode, Comes, OnModems, Next}
 use Rattle.network_script.proofs.After.{after_quiet, after_same, after_write_alone, after_lost, after_whole, after_gives}
 use Rattle.network_script.proofs.Invariant.{IsProposed, WriteOk, UpOk, DownOk, LetterOk, Invariant}

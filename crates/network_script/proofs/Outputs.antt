@@ -10,7 +10,7 @@ use Rattle.grant_machine.specs.declared.output.Output.{Output}
 use Rattle.command_log.specs.Values.{outputs_of_values}
 use Rattle.node.specs.View.{View, gapless, values_from}
 use Rattle.map_release.specs.declared.numbered.Numbered.{Numbered}
-use Rattle.network_script_parts.specs.declared.event.ReleasedOutput.{ReleasedOutput}
+use Rattle.seats.specs.declared.answer.ReleasedOutput.{ReleasedOutput}
 use Rattle.map_release.specs.Released.{numbered}
 use Rattle.network_script.specs.World.{released_by}
 use Rattle.network_script.specs.Headline.{IsBeginning, IsSchedule}

@@ -8,14 +8,14 @@ use Rattle.node.specs.declared.node.Node.{Ghosts}
 use Rattle.node.specs.Calls.{answer}
 use Rattle.node.specs.Releases.{outputs as outputs_given}
 use Rattle.proposer.specs.declared.fault.NodeFault.{NodeFault}
-use Rattle.network_script_parts.specs.declared.event.Answer.{Answer}
-use Rattle.network_script_parts.specs.declared.event.Answer.TheVariants.{Sent, Released, Finished, Refused, Fault, Crashed}
-use Rattle.network_script_parts.specs.declared.event.Refusal.{Refusal}
-use Rattle.network_script_parts.specs.declared.event.Refusal.TheVariants.{NoLetter, NodeDown, NoNode}
-use Rattle.network_script_parts.specs.declared.event.ReleasedOutput.{ReleasedOutput}
-use Rattle.network_script_parts.specs.declared.seat.Seat.{Seat}
-use Rattle.network_script_parts.specs.Occupant.{is_up}
-use Rattle.network_script_parts.specs.Seat.{stays_up, survives}
+use Rattle.seats.specs.declared.answer.Answer.{Answer}
+use Rattle.seats.specs.declared.answer.Answer.TheVariants.{Sent, Released, Finished, Refused, Fault, Crashed}
+use Rattle.world_events.specs.declared.refusal.Refusal.{Refusal}
+use Rattle.world_events.specs.declared.refusal.Refusal.TheVariants.{NoLetter, NodeDown, NoNode}
+use Rattle.seats.specs.declared.answer.ReleasedOutput.{ReleasedOutput}
+use Rattle.seats.specs.declared.seat.Seat.{Seat}
+use Rattle.seats.specs.Occupant.{is_up}
+use Rattle.seats.specs.Seat.{stays_up, survives}
 use Rattle.network_script.specs.Seats.{IsUpAt, IsNotUp, ups}
 use Rattle.network_script.specs.Worlds.{Posted, Lost, Keeps, up_after}
 use Rattle.network_script.specs.Outward.{Outward, IfUp, IfDown, IfSent, Sends, Loses, Gives}

@@ -19,14 +19,14 @@ use Rattle.modem.specs.Hears.{Hears}
 use Rattle.modem.specs.Ticks.{Ticks}
 use Rattle.modem.specs.Owner.{IsTimely}
 use Rattle.modem.proofs.Callers.{near_once}
-use Rattle.network_script_parts.specs.declared.event.Event.{Event}
-use Rattle.network_script_parts.specs.declared.event.Answer.{Answer}
-use Rattle.network_script_parts.specs.declared.event.ReleasedOutput.{ReleasedOutput}
-use Rattle.network_script_parts.specs.declared.event.Transmission.{Transmission}
+use Rattle.world_events.specs.declared.event.Event.{Event}
+use Rattle.seats.specs.declared.answer.Answer.{Answer}
+use Rattle.seats.specs.declared.answer.ReleasedOutput.{ReleasedOutput}
+use Rattle.seats.specs.declared.answer.Transmission.{Transmission}
 use Rattle.network_script.specs.World.{Written, opening}
-use Rattle.network_script_parts.specs.Receiver.{Receiver, new_receiver}
-use Rattle.network_script_parts.specs.Modems.{sent_at}
-use Rattle.network_script_parts.proofs.Callers.{new_stands}
+use Rattle.seats.specs.Receiver.{Receiver, new_receiver}
+use Rattle.seats.specs.Modems.{sent_at}
+use Rattle.seats.proofs.Callers.{new_stands}
 use Rattle.network_script.specs.Next.{Goes, Run}
 use Rattle.network_script.specs.Headline.{OfEveryRun, WithSchedule, HeldIsOwned, ModemsAreNamed, OwnersAreOne, SentIsHeld}
 use Rattle.network_script.proofs.Drawn.{is_drawn}

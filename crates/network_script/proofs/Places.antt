@@ -10,12 +10,12 @@ use Rattle.node.specs.declared.node.Node.{Ghosts}
 use Rattle.node.specs.View.{Standing, started}
 use Rattle.node.specs.View.Standing.{Running}
 use Rattle.acceptor.specs.Content.{no_content}
-use Rattle.network_script_parts.specs.declared.seat.Seat.{Seat}
-use Rattle.network_script_parts.specs.Seat.{SameMember, Shown}
+use Rattle.seats.specs.declared.seat.Seat.{Seat}
+use Rattle.seats.specs.Seat.{SameMember, Shown}
 use Rattle.acceptor.specs.Calls.{KeepsTrust}
-use Rattle.network_script_parts.specs.Occupant.{Stands, member, node_of, IsClean, IsHonest, is_up}
-use Rattle.network_script_parts.specs.declared.event.Event.{Event}
-use Rattle.network_script_parts.specs.declared.event.Answer.{Answer}
+use Rattle.seats.specs.Occupant.{Stands, member, node_of, IsClean, IsHonest, is_up}
+use Rattle.world_events.specs.declared.event.Event.{Event}
+use Rattle.seats.specs.declared.answer.Answer.{Answer}
 use Rattle.network_script.specs.Seats.{Each, AreStandings, IsNumbered, AllHonest, AllKeepTrust}
 use Rattle.network_script.specs.Trust.{NoFailedRestart, NoRestartFailed}
 use Rattle.map_body.proofs.Callers.{get_behind}

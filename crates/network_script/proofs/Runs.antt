@@ -4,9 +4,9 @@ use Rattle.ballots.specs.Voting.{Entry, IsIn, IsChosen}
 use Rattle.acceptor.specs.Content.{no_content}
 use Rattle.node.specs.View.{Standing, started}
 use Rattle.node.specs.View.Standing.{Running}
-use Rattle.network_script_parts.specs.declared.event.Event.{Event}
-use Rattle.network_script_parts.specs.declared.event.Answer.{Answer}
-use Rattle.network_script_parts.specs.declared.event.ReleasedOutput.{ReleasedOutput}
+use Rattle.world_events.specs.declared.event.Event.{Event}
+use Rattle.seats.specs.declared.answer.Answer.{Answer}
+use Rattle.seats.specs.declared.answer.ReleasedOutput.{ReleasedOutput}
 use Rattle.network_script.specs.World.{Written, opening}
 use Rattle.network_script.specs.Next.{Goes, Run}
 use Rattle.network_script.specs.Headline.{OfEveryRun, Passes, HistoryIsLegal, LearnedIsChosen, LearnedIsWritten}

@@ -12,8 +12,8 @@ use Rattle.command_log.proofs.Callers.{outputs_append}
 use Rattle.node.specs.View.{gapless}
 use Rattle.node.specs.View.Standing.{Running}
 use Rattle.map_release.specs.declared.numbered.Numbered.{Numbered}
-use Rattle.network_script_parts.specs.declared.event.Event.{Event}
-use Rattle.network_script_parts.specs.declared.event.Answer.{Answer}
+use Rattle.world_events.specs.declared.event.Event.{Event}
+use Rattle.seats.specs.declared.answer.Answer.{Answer}
 use Rattle.map_body.proofs.Callers.{get_behind}
 use Rattle.network_script.proofs.Lists.{get_left}
 use Rattle.network_script.specs.World.{Written}

@@ -11,16 +11,16 @@ use Rattle.acceptor.specs.Faults.{HasRisen}
 use Rattle.map_release.specs.declared.numbered.Numbered.{Numbered}
 use Rattle.node.specs.Calls.{Who, Kept, KeptByRestart, answer}
 use Rattle.node.specs.Releases.{outputs}
-use Rattle.network_script_parts.specs.declared.event.ReleasedOutput.{ReleasedOutput}
-use Rattle.network_script_parts.specs.declared.event.Event.{Event}
-use Rattle.network_script_parts.specs.declared.event.Answer.{Answer}
-use Rattle.network_script_parts.specs.declared.event.Answer.TheVariants.{Sent, Released, Finished, Fault, Crashed}
-use Rattle.network_script_parts.specs.declared.seat.Seat.{Seat}
+use Rattle.seats.specs.declared.answer.ReleasedOutput.{ReleasedOutput}
+use Rattle.world_events.specs.declared.event.Event.{Event}
+use Rattle.seats.specs.declared.answer.Answer.{Answer}
+use Rattle.seats.specs.declared.answer.Answer.TheVariants.{Sent, Released, Finished, Fault, Crashed}
+use Rattle.seats.specs.declared.seat.Seat.{Seat}
 use Rattle.network_script.proofs.Lists.{get_left}
 use Rattle.network_script.specs.Seats.{IsUpAt}
 use Rattle.network_script.specs.Worlds.{Posted, Lost, Keeps}
 use Rattle.network_script.specs.Counts.{CountNext, called_by}
-use Rattle.network_script_parts.specs.StoreFaults.{is_store_fault}
+use Rattle.seats.specs.StoreFaults.{is_store_fault}
 use Rattle.network_script.proofs.Places.{seen_at}
 use Rattle.network_script.proofs.Counted.{count_one}
 

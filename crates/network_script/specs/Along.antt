@@ -1,7 +1,7 @@
 -- A run, whatever its steps are: of the written world, of what is seen of it, of counts.
 use Rattle.std.specs.Prelude.{◌≡◌, List, [], ◌∷◌}
-use Rattle.network_script_parts.specs.declared.event.Event.{Event}
-use Rattle.network_script_parts.specs.declared.event.Answer.{Answer}
+use Rattle.world_events.specs.declared.event.Event.{Event}
+use Rattle.seats.specs.declared.answer.Answer.{Answer}
 
 -- by steps of this kind, these events may be answered so, one after another
 abbrev pub Along : {S : Type 0} → (S → Event → Answer → S → Type 0) → S → List Event → List Answer → S → Type 0

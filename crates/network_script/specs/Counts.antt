@@ -2,14 +2,14 @@
 use Rattle.std.specs.Prelude.{◌≡◌, ◌≤◌, ◌+◌, ◌-◌, ◌^◌, ◌⊎◌, ℕ, List, ◌∷◌, Option, Some, None, Bool, true, false, map, slice_get, if◌then◌else◌, ◌==◌, ◌&&◌}
 use Rattle.acceptor.specs.Faults.{HasRisen}
 use Rattle.node.specs.declared.node.Node.{Ghosts}
-use Rattle.network_script_parts.specs.declared.event.Event.{Event}
-use Rattle.network_script_parts.specs.declared.event.Event.TheVariants as event
-use Rattle.network_script_parts.specs.declared.event.Answer.{Answer}
+use Rattle.world_events.specs.declared.event.Event.{Event}
+use Rattle.world_events.specs.declared.event.Event.TheVariants as event
+use Rattle.seats.specs.declared.answer.Answer.{Answer}
 use Rattle.network_script.specs.declared.world.World.{World}
-use Rattle.network_script_parts.specs.Occupant.{who_of}
+use Rattle.seats.specs.Occupant.{who_of}
 use Rattle.network_script.specs.Worlds.{seats_of, letters_of}
 use Rattle.network_script.specs.Along.{Along}
-use Rattle.network_script_parts.specs.StoreFaults.{is_store_fault}
+use Rattle.seats.specs.StoreFaults.{is_store_fault}
 
 -- each node's count of failures, and whom each letter is to
 pub record Counts : Type 0 where

@@ -5,12 +5,12 @@ use Rattle.grant_machine.specs.declared.output.Output.{Output}
 use Rattle.grant_machine.specs.declared.output.Output.TheVariants.{ChannelSet, Map}
 use Rattle.proposer.specs.Letters.{letter}
 use Rattle.proposer.specs.declared.fault.NodeFault.TheVariants.{NotLeading}
-use Rattle.network_script_parts.specs.declared.event.Event.{Event}
-use Rattle.network_script_parts.specs.declared.event.Event.TheVariants.{Lead, Offer, Deliver, DeliverThenCrash, Crash, Restart, Release}
-use Rattle.network_script_parts.specs.declared.event.Answer.{Answer}
-use Rattle.network_script_parts.specs.declared.event.Answer.TheVariants.{Sent, Finished, Released, Refused, Fault}
-use Rattle.network_script_parts.specs.declared.event.Refusal.TheVariants.{NoLetter, NodeDown, NodeUp, NoNode}
-use Rattle.network_script_parts.specs.declared.event.ReleasedOutput.{ReleasedOutput}
+use Rattle.world_events.specs.declared.event.Event.{Event}
+use Rattle.world_events.specs.declared.event.Event.TheVariants.{Lead, Offer, Deliver, DeliverThenCrash, Crash, Restart, Release}
+use Rattle.seats.specs.declared.answer.Answer.{Answer}
+use Rattle.seats.specs.declared.answer.Answer.TheVariants.{Sent, Finished, Released, Refused, Fault}
+use Rattle.world_events.specs.declared.refusal.Refusal.TheVariants.{NoLetter, NodeDown, NodeUp, NoNode}
+use Rattle.seats.specs.declared.answer.ReleasedOutput.{ReleasedOutput}
 use Rattle.network_script.specs.World.{Written, opening}
 use Rattle.network_script.specs.Plain.{acts, least_ballot}
 

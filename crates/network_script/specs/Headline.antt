@@ -7,12 +7,12 @@ use Rattle.command_log.specs.Values.{outputs_of_values, Owner}
 use Rattle.modem.specs.Held.{Held, unicast_sid}
 use Rattle.node.specs.View.{View, gapless}
 use Rattle.node.specs.View.Standing.{Running}
-use Rattle.network_script_parts.specs.declared.event.Event.{Event}
-use Rattle.network_script_parts.specs.declared.event.Answer.{Answer}
-use Rattle.network_script_parts.specs.declared.event.ReleasedOutput.{ReleasedOutput}
-use Rattle.network_script_parts.specs.declared.event.Transmission.{Transmission}
+use Rattle.world_events.specs.declared.event.Event.{Event}
+use Rattle.seats.specs.declared.answer.Answer.{Answer}
+use Rattle.seats.specs.declared.answer.ReleasedOutput.{ReleasedOutput}
+use Rattle.seats.specs.declared.answer.Transmission.{Transmission}
 use Rattle.network_script.specs.World.{Written}
-use Rattle.network_script_parts.specs.Receiver.{Receiver}
+use Rattle.seats.specs.Receiver.{Receiver}
 use Rattle.network_script.specs.Next.{Goes, Run}
 
 -- it holds of every run over so many nodes and modems with these ids, and of the world that the run leaves

@@ -4,15 +4,15 @@ use Rattle.ballots.specs.declared.letters.Letter.{Letter}
 use Rattle.acceptor.specs.Content.{record_write}
 use Rattle.node.specs.View.{Standing}
 use Rattle.node.specs.Calls.Cause.{Lead as AskedToLead, Offer as Offered, Receive as Received}
-use Rattle.network_script_parts.specs.declared.event.Event.{Event}
-use Rattle.network_script_parts.specs.declared.event.Event.TheVariants.{Lead, Offer, Deliver, DeliverThenCrash, Crash, Restart, Release, Hear, Want, Tick}
-use Rattle.network_script_parts.specs.declared.event.Answer.{Answer}
-use Rattle.network_script_parts.specs.declared.event.Answer.TheVariants.{Refused}
-use Rattle.network_script_parts.specs.declared.event.Refusal.TheVariants.{NoLetter, NoNode}
-use Rattle.network_script_parts.specs.Moves.{Ask, Move, Moves}
-use Rattle.network_script_parts.specs.Moves.Ask.{Call, TakeThenCrash, Release as ReleaseAt, Crash as CrashNow, Restart as StartAgain}
-use Rattle.network_script_parts.specs.Receiver.{Receiver}
-use Rattle.network_script_parts.specs.Modems.{ModemNext, sent_at}
+use Rattle.world_events.specs.declared.event.Event.{Event}
+use Rattle.world_events.specs.declared.event.Event.TheVariants.{Lead, Offer, Deliver, DeliverThenCrash, Crash, Restart, Release, Hear, Want, Tick}
+use Rattle.seats.specs.declared.answer.Answer.{Answer}
+use Rattle.seats.specs.declared.answer.Answer.TheVariants.{Refused}
+use Rattle.world_events.specs.declared.refusal.Refusal.TheVariants.{NoLetter, NoNode}
+use Rattle.seats.specs.Moves.{Ask, Move, Moves}
+use Rattle.seats.specs.Moves.Ask.{Call, TakeThenCrash, Release as ReleaseAt, Crash as CrashNow, Restart as StartAgain}
+use Rattle.seats.specs.Receiver.{Receiver}
+use Rattle.seats.specs.Modems.{ModemNext, sent_at}
 use Rattle.network_script.specs.World.{Written, released_by, opening}
 use Rattle.network_script.specs.Along.{Along}
 

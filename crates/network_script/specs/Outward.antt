@@ -3,18 +3,18 @@ use Rattle.std.specs.Prelude.{◌≡◌, ℕ, List, ◌++◌, Bool, true, false,
 use Rattle.ballots.specs.declared.letters.Letter.{Letter}
 use Rattle.map_release.specs.declared.numbered.Numbered.{Numbered}
 use Rattle.node.specs.declared.node.Node.{Ghosts}
-use Rattle.network_script_parts.specs.declared.event.Event.{Event}
-use Rattle.network_script_parts.specs.declared.event.Event.TheVariants.{Lead, Offer, Deliver, DeliverThenCrash, Crash, Restart, Release, Hear, Want, Tick}
-use Rattle.network_script_parts.specs.declared.event.Answer.{Answer}
-use Rattle.network_script_parts.specs.declared.event.Answer.TheVariants.{Sent, Finished, Released, Refused, Fault, Crashed}
-use Rattle.network_script_parts.specs.declared.event.Refusal.TheVariants.{NoLetter, NodeDown, NodeUp, NoNode}
-use Rattle.network_script_parts.specs.declared.event.ReleasedOutput.{ReleasedOutput}
-use Rattle.network_script_parts.specs.declared.event.Transmission.{Transmission}
-use Rattle.network_script_parts.specs.Modems.{ModemNext, sent_at}
+use Rattle.world_events.specs.declared.event.Event.{Event}
+use Rattle.world_events.specs.declared.event.Event.TheVariants.{Lead, Offer, Deliver, DeliverThenCrash, Crash, Restart, Release, Hear, Want, Tick}
+use Rattle.seats.specs.declared.answer.Answer.{Answer}
+use Rattle.seats.specs.declared.answer.Answer.TheVariants.{Sent, Finished, Released, Refused, Fault, Crashed}
+use Rattle.world_events.specs.declared.refusal.Refusal.TheVariants.{NoLetter, NodeDown, NodeUp, NoNode}
+use Rattle.seats.specs.declared.answer.ReleasedOutput.{ReleasedOutput}
+use Rattle.seats.specs.declared.answer.Transmission.{Transmission}
+use Rattle.seats.specs.Modems.{ModemNext, sent_at}
 use Rattle.network_script.specs.Seats.{ups}
-use Rattle.network_script_parts.specs.Receiver.{Receiver}
-use Rattle.network_script_parts.specs.Receiving.{Hold}
-use Rattle.network_script_parts.specs.Seat.{survives}
+use Rattle.seats.specs.Receiver.{Receiver}
+use Rattle.seats.specs.Receiving.{Hold}
+use Rattle.seats.specs.Seat.{survives}
 use Rattle.network_script.specs.declared.world.World.{World}
 use Rattle.network_script.specs.World.{released_by}
 use Rattle.network_script.specs.Along.{Along}

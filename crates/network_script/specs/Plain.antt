@@ -7,13 +7,13 @@ use Rattle.node.specs.View.Standing.{Running, Stopped}
 use Rattle.proposer.specs.declared.fault.NodeFault.{NodeFault as Fault}
 use Rattle.proposer.specs.declared.fault.NodeFault.TheVariants as fault
 use Rattle.node.specs.Step.{Outcome, receive, offer, limit, lead_with}
-use Rattle.network_script_parts.specs.declared.event.Event.{Event}
-use Rattle.network_script_parts.specs.declared.event.Event.TheVariants.{Lead, Offer, Deliver, DeliverThenCrash, Crash, Restart, Release}
-use Rattle.network_script_parts.specs.declared.event.Answer.{Answer}
-use Rattle.network_script_parts.specs.declared.event.Answer.TheVariants as answer
-use Rattle.network_script_parts.specs.declared.event.Refusal.TheVariants.{NoLetter, NodeDown, NodeUp, NoNode, NoModem}
-use Rattle.network_script_parts.specs.Release.{released}
-use Rattle.network_script_parts.specs.Moves.{quiet, whole, lost, gives}
+use Rattle.world_events.specs.declared.event.Event.{Event}
+use Rattle.world_events.specs.declared.event.Event.TheVariants.{Lead, Offer, Deliver, DeliverThenCrash, Crash, Restart, Release}
+use Rattle.seats.specs.declared.answer.Answer.{Answer}
+use Rattle.seats.specs.declared.answer.Answer.TheVariants as answer
+use Rattle.world_events.specs.declared.refusal.Refusal.TheVariants.{NoLetter, NodeDown, NodeUp, NoNode, NoModem}
+use Rattle.seats.specs.Release.{released}
+use Rattle.seats.specs.Moves.{quiet, whole, lost, gives}
 use Rattle.network_script.specs.World.{Written}
 use Rattle.network_script.specs.Next.{Next, after}
 

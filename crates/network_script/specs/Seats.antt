@@ -5,10 +5,10 @@ use Rattle.node.specs.declared.node.Node.{Ghosts}
 use Rattle.acceptor.specs.Content.{Content, Write}
 use Rattle.node.specs.View.{Standing}
 use Rattle.node.specs.View.Standing.{Stopped}
-use Rattle.network_script_parts.specs.declared.event.Refusal.{Refusal}
-use Rattle.network_script_parts.specs.declared.event.Refusal.TheVariants.{NodeDown, NoNode}
-use Rattle.network_script_parts.specs.declared.seat.Seat.{Seat}
-use Rattle.network_script_parts.specs.Occupant.{Stands, IsClean, IsHonest, is_up, member, node_of}
+use Rattle.world_events.specs.declared.refusal.Refusal.{Refusal}
+use Rattle.world_events.specs.declared.refusal.Refusal.TheVariants.{NodeDown, NoNode}
+use Rattle.seats.specs.declared.seat.Seat.{Seat}
+use Rattle.seats.specs.Occupant.{Stands, IsClean, IsHonest, is_up, member, node_of}
 
 -- two lists go together, place by place
 abbrev pub Each : {A B : Type 0} → (A → B → Type 0) → List A → List B → Type 0

@@ -6,9 +6,9 @@ use Rattle.acceptor.specs.Content.{no_content}
 use Rattle.node.specs.View.{Standing, started}
 use Rattle.node.specs.View.Standing.{Running}
 use Rattle.map_release.specs.declared.numbered.Numbered.{Numbered}
-use Rattle.network_script_parts.specs.declared.event.ReleasedOutput.{ReleasedOutput}
-use Rattle.network_script_parts.specs.declared.event.Transmission.{Transmission}
-use Rattle.network_script_parts.specs.Receiver.{Receiver, new_receiver}
+use Rattle.seats.specs.declared.answer.ReleasedOutput.{ReleasedOutput}
+use Rattle.seats.specs.declared.answer.Transmission.{Transmission}
+use Rattle.seats.specs.Receiver.{Receiver, new_receiver}
 
 pub record Written : Type 0 where
   -- where each node stands, by its number

@@ -6,19 +6,19 @@ use Rattle.map_release.specs.declared.numbered.Numbered.{Numbered}
 use Rattle.node.specs.declared.node.Node.{Ghosts}
 use Rattle.node.specs.View.{Standing}
 use Rattle.proposer.specs.declared.fault.NodeFault.{NodeFault}
-use Rattle.network_script_parts.specs.declared.event.Event.{Event}
-use Rattle.network_script_parts.specs.declared.event.Answer.{Answer}
-use Rattle.network_script_parts.specs.declared.event.Answer.TheVariants.{Sent, Finished, Released, Fault, Crashed}
-use Rattle.network_script_parts.specs.declared.event.ReleasedOutput.{ReleasedOutput}
-use Rattle.network_script_parts.specs.declared.event.Transmission.{Transmission}
-use Rattle.network_script_parts.specs.declared.receivers.Receivers.{Receivers}
-use Rattle.network_script_parts.specs.declared.seat.Seat.{Seat}
+use Rattle.world_events.specs.declared.event.Event.{Event}
+use Rattle.seats.specs.declared.answer.Answer.{Answer}
+use Rattle.seats.specs.declared.answer.Answer.TheVariants.{Sent, Finished, Released, Fault, Crashed}
+use Rattle.seats.specs.declared.answer.ReleasedOutput.{ReleasedOutput}
+use Rattle.seats.specs.declared.answer.Transmission.{Transmission}
+use Rattle.seats.specs.declared.receivers.Receivers.{Receivers}
+use Rattle.seats.specs.declared.seat.Seat.{Seat}
 use Rattle.network_script.specs.declared.world.World.{World}
-use Rattle.network_script_parts.specs.Seat.{crashed}
+use Rattle.seats.specs.Seat.{crashed}
 use Rattle.network_script.specs.Seats.{AllClean, AllHonest, AreStandings}
 use Rattle.network_script.specs.World.{Written, released_by}
-use Rattle.network_script_parts.specs.Receiver.{Receiver}
-use Rattle.network_script_parts.specs.Receiving.{Hold, sent_by}
+use Rattle.seats.specs.Receiver.{Receiver}
+use Rattle.seats.specs.Receiving.{Hold, sent_by}
 use Rattle.network_script.specs.Next.{Next}
 
 -- the nodes of a world, each in its seat, by number

@@ -8,11 +8,10 @@ ghost use Rattle.network_script.specs.Seats.{IsNumbered, IsNotUp, IsUpAt, IsMiss
 use ballots::Letter;
 use map_release::Numbered;
 use modem::Modem;
-use network_script_parts::{
-    Answer, Event, OutOfMemory, Receivers, Refusal, ReleasedOutput, Report, Seat, Transmission,
-};
 use node::{Node, NodeFault};
+use seats::{Answer, OutOfMemory, Receivers, ReleasedOutput, Report, Seat, Transmission};
 use std::alloc::{AllocError, Global};
+use world_events::{Event, Refusal};
 
 /// What node `k` released, each with its number.
 fn with_node(
@@ -85,8 +84,8 @@ impl<N: Node> World<N> {
     ghost use Rattle.std.specs.Prelude.{◌≡◌, length, map, All, IfOk};
     ghost use Rattle.network_script.specs.World.{opening};
     ghost use Rattle.network_script.specs.Seats.{AreSeated};
-    ghost use Rattle.network_script_parts.specs.Receiving.{AreNew};
-    ghost use Rattle.network_script_parts.specs.Fresh.{AreFresh};
+    ghost use Rattle.seats.specs.Receiving.{AreNew};
+    ghost use Rattle.seats.specs.Fresh.{AreFresh};
     ghost use Rattle.network_script.specs.Worlds.{AreHonest, StandsFor, seats_of};
 
     /// The opening world of these nodes and modems.
@@ -113,10 +112,10 @@ impl<N: Node> World<N> {
     ghost use Rattle.node.specs.Calls.{answer};
     ghost use Rattle.node.specs.Releases.{outputs as outputs_given};
     ghost use Rattle.node.specs.View.{Standing};
-    ghost use Rattle.network_script_parts.specs.declared.event.Event.TheVariants as event;
-    ghost use Rattle.network_script_parts.specs.declared.event.Answer.{Answer};
-    ghost use Rattle.network_script_parts.specs.Seat.{crashed};
-    ghost use Rattle.network_script_parts.specs.Occupant.{Stands, is_up, node_of};
+    ghost use Rattle.world_events.specs.declared.event.Event.TheVariants as event;
+    ghost use Rattle.seats.specs.declared.answer.Answer.{Answer};
+    ghost use Rattle.seats.specs.Seat.{crashed};
+    ghost use Rattle.seats.specs.Occupant.{Stands, is_up, node_of};
     ghost use Rattle.network_script.specs.Next.{Goes};
     ghost use Rattle.network_script.specs.Counts.{CountNext, CountRun, counts};
     ghost use Rattle.network_script.specs.Outward.{Seen, SeenAll};

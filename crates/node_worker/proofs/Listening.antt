@@ -1,16 +1,16 @@
 -- What modems have listened to stays so where more was released.
 use Rattle.std.proofs.Common.{◌≡◌, ℕ, zero, suc, ◌<◌, ◌+◌, Some, get_or, take, drop, List, [], ◌∷◌, ◌++◌, length, length-append, map, Option, refl, sym, ap, subst, ◌∙◌, arith, slice_get}
 use Rattle.modem.specs.State.{State}
-use Rattle.network_script_parts.specs.declared.event.Event.{Event}
-use Rattle.network_script_parts.specs.declared.event.Event.TheVariants as event
-use Rattle.network_script_parts.specs.declared.event.Answer.{Answer}
-use Rattle.network_script_parts.specs.declared.event.ReleasedOutput.{ReleasedOutput}
-use Rattle.network_script_parts.specs.declared.event.Transmission.{Transmission}
+use Rattle.world_events.specs.declared.event.Event.{Event}
+use Rattle.world_events.specs.declared.event.Event.TheVariants as event
+use Rattle.seats.specs.declared.answer.Answer.{Answer}
+use Rattle.seats.specs.declared.answer.ReleasedOutput.{ReleasedOutput}
+use Rattle.seats.specs.declared.answer.Transmission.{Transmission}
 use Rattle.network_script.specs.World.{released_by}
 use Rattle.network_script.proofs.Callers.{along_joins, get_front, get_behind}
-use Rattle.network_script_parts.specs.Receiver.{Receiver, new_receiver}
-use Rattle.network_script_parts.specs.Modems.{ModemNext, OfModem, Listens as ListensTo}
-use Rattle.network_script_parts.specs.Receiving.{AreReceivers}
+use Rattle.seats.specs.Receiver.{Receiver, new_receiver}
+use Rattle.seats.specs.Modems.{ModemNext, OfModem, Listens as ListensTo}
+use Rattle.seats.specs.Receiving.{AreReceivers}
 use Rattle.node_worker.specs.Legal.{outputs_of}
 use Rattle.node_worker.specs.Places.{IsPlaceOf}
 use Rattle.node_worker.specs.Runs.{IsOfModem, IsOutputAt, ListensNext, Listens, HaveListened, sent_by}

@@ -3,13 +3,13 @@ use Rattle.std.proofs.Common.{◌≡◌, ℕ, List, ◌++◌, Option, Some, slic
 use Rattle.ballots.specs.declared.letters.Letter.{Letter}
 use Rattle.map_release.specs.declared.numbered.Numbered.{Numbered}
 use Rattle.node.specs.View.{Standing}
-use Rattle.network_script_parts.specs.declared.event.Event.{Event}
-use Rattle.network_script_parts.specs.declared.event.Answer.{Answer}
-use Rattle.network_script_parts.specs.Moves.{Ask, Move, Moves}
+use Rattle.world_events.specs.declared.event.Event.{Event}
+use Rattle.seats.specs.declared.answer.Answer.{Answer}
+use Rattle.seats.specs.Moves.{Ask, Move, Moves}
 use Rattle.network_script.specs.World.{Written, released_by}
 use Rattle.network_script.specs.Next.{Next, OfNode, Comes, after}
 use Rattle.node.specs.Calls.Cause.{Receive as Received}
-use Rattle.network_script_parts.specs.Moves.Ask.{Call}
+use Rattle.seats.specs.Moves.Ask.{Call}
 use Rattle.node_worker.specs.declared.entry.Ask.TheVariants.{Lead, Offer, Release, Crash, Restart}
 use Rattle.node_worker.specs.declared.entry.Cause.{Cause}
 use Rattle.node_worker.specs.declared.entry.Cause.TheVariants.{Ask as Asked, Letter as Came}

@@ -7,21 +7,21 @@ use Rattle.ballots.specs.declared.letters.Letter.{Letter}
 use Rattle.flow_state.proofs.Callers.{contains_at}
 use Rattle.modem.specs.State.{State}
 use Rattle.node.specs.View.{Standing}
-use Rattle.network_script_parts.specs.declared.event.Event.{Event}
-use Rattle.network_script_parts.specs.declared.event.Event.TheVariants as event
-use Rattle.network_script_parts.specs.declared.event.Answer.{Answer}
-use Rattle.network_script_parts.specs.declared.event.ReleasedOutput.{ReleasedOutput}
-use Rattle.network_script_parts.specs.declared.event.Transmission.{Transmission}
-use Rattle.network_script_parts.specs.declared.event.Answer.TheVariants as answer
+use Rattle.world_events.specs.declared.event.Event.{Event}
+use Rattle.world_events.specs.declared.event.Event.TheVariants as event
+use Rattle.seats.specs.declared.answer.Answer.{Answer}
+use Rattle.seats.specs.declared.answer.ReleasedOutput.{ReleasedOutput}
+use Rattle.seats.specs.declared.answer.Transmission.{Transmission}
+use Rattle.seats.specs.declared.answer.Answer.TheVariants as answer
 use Rattle.network_script.proofs.Callers.{headline, modems_are_named, get_some}
 use Rattle.command_log.specs.Values.{Owner}
 use Rattle.network_script.proofs.Callers.{in_right, get_same, get_other}
 use Rattle.ballots.specs.Voting.{IsIn}
 use Rattle.network_script.specs.World.{Written, released_by, opening as opening_world}
-use Rattle.network_script_parts.specs.Receiver.{Receiver, new_receiver}
-use Rattle.network_script_parts.specs.Modems.{sent_at, ModemNext}
+use Rattle.seats.specs.Receiver.{Receiver, new_receiver}
+use Rattle.seats.specs.Modems.{sent_at, ModemNext}
 use Rattle.network_script.specs.Next.{Goes}
-use Rattle.network_script_parts.specs.Receiving.{AreReceivers}
+use Rattle.seats.specs.Receiving.{AreReceivers}
 use Rattle.node_worker.specs.declared.entry.Ask.TheVariants.{Lead, Offer, Release, Crash, Restart}
 use Rattle.node_worker.specs.declared.entry.Cause.{Cause}
 use Rattle.node_worker.specs.declared.entry.Cause.TheVariants.{Ask as Asked, Letter as Came}

@@ -9,13 +9,13 @@ use Rattle.node.specs.Calls.{Cause as Call, Course, Ends, StopsLast}
 use Rattle.node.specs.Releases.{Releases}
 use Rattle.proposer.specs.declared.fault.NodeFault.{NodeFault}
 use Rattle.proposer.specs.declared.fault.NodeFault.TheVariants.{OutOfMemory, StoreRefused, Down}
-use Rattle.network_script_parts.specs.declared.event.Answer.{Answer}
-use Rattle.network_script_parts.specs.declared.event.Answer.TheVariants as answer
-use Rattle.network_script_parts.specs.declared.event.Refusal.TheVariants.{NodeDown, NodeUp}
-use Rattle.network_script_parts.specs.Moves.{Move, Moves, gives, lost, quiet, whole}
-use Rattle.network_script_parts.specs.Moves.Ask.{Call as IsCalled, Release as ReleaseAt, Crash as CrashNow, Restart as StartAgain}
-use Rattle.network_script_parts.specs.Release.{released}
-use Rattle.network_script_parts.specs.Seat.{RestartedIn, RestartsWith, crashed, shown, stays_up}
+use Rattle.seats.specs.declared.answer.Answer.{Answer}
+use Rattle.seats.specs.declared.answer.Answer.TheVariants as answer
+use Rattle.world_events.specs.declared.refusal.Refusal.TheVariants.{NodeDown, NodeUp}
+use Rattle.seats.specs.Moves.{Move, Moves, gives, lost, quiet, whole}
+use Rattle.seats.specs.Moves.Ask.{Call as IsCalled, Release as ReleaseAt, Crash as CrashNow, Restart as StartAgain}
+use Rattle.seats.specs.Release.{released}
+use Rattle.seats.specs.Seat.{RestartedIn, RestartsWith, crashed, shown, stays_up}
 use Rattle.node_worker.specs.declared.entry.Ask.TheVariants.{Lead, Offer, Release, Crash, Restart}
 use Rattle.node_worker.specs.declared.entry.Cause.{Cause}
 use Rattle.node_worker.specs.declared.entry.Cause.TheVariants.{Ask as Asked, Letter as Came}

@@ -5,7 +5,7 @@ use Rattle.map_release.specs.declared.numbered.Numbered.{Numbered}
 use Rattle.node.specs.View.{Standing}
 use Rattle.proposer.specs.declared.fault.NodeFault.{NodeFault}
 use Rattle.proposer.specs.declared.fault.NodeFault.TheVariants.{OutOfMemory, StoreRefused, Down}
-use Rattle.network_script_parts.specs.Seat.{crashed}
+use Rattle.seats.specs.Seat.{crashed}
 use Rattle.node_worker.specs.declared.acting.Outcome.{Outcome}
 use Rattle.node_worker.specs.declared.entry.Ended.{Ended}
 use Rattle.node_worker.specs.declared.entry.Ended.TheVariants.{Whole, Fault, FailedBefore, FailedEither, Lost}

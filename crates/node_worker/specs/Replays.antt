@@ -7,11 +7,11 @@ use Rattle.proposer.specs.declared.fault.NodeFault.TheVariants.{OutOfMemory, Dow
 use Rattle.node.specs.View.{Standing, started}
 use Rattle.node.specs.View.Standing.{Running}
 use Rattle.node.specs.Calls.Cause.{Lead as AskedToLead, Offer as Offered, Receive as Received}
-use Rattle.network_script_parts.specs.declared.event.Answer.{Answer}
-use Rattle.network_script_parts.specs.declared.event.Answer.TheVariants as answer
-use Rattle.network_script_parts.specs.Moves.{Ask, Move, Moves}
-use Rattle.network_script_parts.specs.Moves.Ask.{Call as IsCalled, Release as ReleaseAt, Crash as CrashNow, Restart as StartAgain}
-use Rattle.network_script_parts.specs.Seat.{survives}
+use Rattle.seats.specs.declared.answer.Answer.{Answer}
+use Rattle.seats.specs.declared.answer.Answer.TheVariants as answer
+use Rattle.seats.specs.Moves.{Ask, Move, Moves}
+use Rattle.seats.specs.Moves.Ask.{Call as IsCalled, Release as ReleaseAt, Crash as CrashNow, Restart as StartAgain}
+use Rattle.seats.specs.Seat.{survives}
 use Rattle.node_worker.specs.declared.entry.Ask.TheVariants.{Lead, Offer, Release, Crash, Restart}
 use Rattle.node_worker.specs.declared.entry.Cause.{Cause}
 use Rattle.node_worker.specs.declared.entry.Cause.TheVariants.{Ask as Asked, Letter as Came}

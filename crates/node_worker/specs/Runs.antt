@@ -3,19 +3,19 @@ use Rattle.std.specs.Prelude.{◌≡◌, ℕ, ◌<◌, List, [], ◌∷◌, ◌+
 use Rattle.ballots.specs.declared.letters.Letter.{Letter}
 use Rattle.grant_machine.specs.declared.output.Output.{Output}
 use Rattle.modem.specs.State.{State}
-use Rattle.network_script_parts.specs.declared.event.Event.{Event}
-use Rattle.network_script_parts.specs.declared.event.Event.TheVariants as event
-use Rattle.network_script_parts.specs.declared.event.Answer.{Answer}
-use Rattle.network_script_parts.specs.declared.event.Answer.TheVariants as answer
-use Rattle.network_script_parts.specs.declared.event.ReleasedOutput.{ReleasedOutput}
-use Rattle.network_script_parts.specs.declared.event.Transmission.{Transmission}
+use Rattle.world_events.specs.declared.event.Event.{Event}
+use Rattle.world_events.specs.declared.event.Event.TheVariants as event
+use Rattle.seats.specs.declared.answer.Answer.{Answer}
+use Rattle.seats.specs.declared.answer.Answer.TheVariants as answer
+use Rattle.seats.specs.declared.answer.ReleasedOutput.{ReleasedOutput}
+use Rattle.seats.specs.declared.answer.Transmission.{Transmission}
 use Rattle.modem.specs.Held.{unicast_sid}
 use Rattle.command_log.specs.Values.{Owner}
 use Rattle.network_script.specs.Along.{Along}
 use Rattle.network_script.specs.World.{Written}
-use Rattle.network_script_parts.specs.Receiver.{Receiver, new_receiver}
-use Rattle.network_script_parts.specs.Modems.{ModemNext, sent_at}
-use Rattle.network_script_parts.specs.Receiving.{AreReceivers}
+use Rattle.seats.specs.Receiver.{Receiver, new_receiver}
+use Rattle.seats.specs.Modems.{ModemNext, sent_at}
+use Rattle.seats.specs.Receiving.{AreReceivers}
 use Rattle.network_script.specs.Next.{Run}
 use Rattle.network_script.specs.Headline.{FollowsOneSchedule}
 use Rattle.node_worker.specs.declared.entry.Ask.TheVariants.{Lead, Offer, Release, Crash, Restart}

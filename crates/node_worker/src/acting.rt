@@ -5,8 +5,8 @@ ghost use Rattle.acceptor.specs.Faults.{HasRisen};
 ghost use Rattle.node.specs.Calls.{answer};
 ghost use Rattle.node.specs.Releases.{outputs as outputs_of};
 ghost use Rattle.node.specs.View.{Standing};
-ghost use Rattle.network_script_parts.specs.Seat.{SameMember};
-ghost use Rattle.network_script_parts.specs.Occupant.{Stands, IsHonest, is_up, node_of, who_of};
+ghost use Rattle.seats.specs.Seat.{SameMember};
+ghost use Rattle.seats.specs.Occupant.{Stands, IsHonest, is_up, node_of, who_of};
 ghost use Rattle.node_worker.specs.Entries.{entry};
 ghost use Rattle.node_worker.specs.Replays.{Carries};
 ghost use Rattle.node_worker.specs.Ends.{Posted, Kept, left, ended_of, restart_ended, SameOutcome};
@@ -18,9 +18,10 @@ use crate::compare::{copy_letters, copy_outputs};
 use crate::entry::{Ask, Cause, Ended, Entry};
 use ballots::{Bytes, Letter};
 use map_release::Numbered;
-use network_script_parts::{Refusal, Seat};
 use node::{Node, NodeFault};
+use seats::Seat;
 use std::alloc::Global;
+use world_events::Refusal;
 
 /// What came of a cause.
 #[derive(Drop)]

@@ -5,8 +5,8 @@ ghost use Rattle.std.specs.Prelude.{◌≡◌, ◌<◌, ◌+◌};
 use crate::entry::{Cause, Record};
 use crate::plant::Plant;
 use ballots::NodeId;
-use network_script_parts::OutOfMemory;
 use node::Node;
+use seats::OutOfMemory;
 use std::sync::{Mutex, Wait};
 use std::time::Clock;
 

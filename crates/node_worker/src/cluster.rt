@@ -2,8 +2,8 @@
 
 ghost use Rattle.std.specs.Prelude.{◌≡◌, All, IfOk, IsTrue, length, map};
 ghost use Rattle.std.specs.List.{range_with_len};
-ghost use Rattle.network_script_parts.specs.Fresh.{AreFresh};
-ghost use Rattle.network_script_parts.specs.Receiving.{AreNew};
+ghost use Rattle.seats.specs.Fresh.{AreFresh};
+ghost use Rattle.seats.specs.Receiving.{AreNew};
 ghost use Rattle.node_worker.specs.Audits.{IsCluster};
 ghost use Rattle.node_worker.specs.KeptView.{AreTrusted, member_of};
 ghost use Rattle.node_worker.specs.Runs.{IsLegal};
@@ -14,8 +14,8 @@ use crate::plant::Plant;
 use crate::worker::work_in_threads;
 use ballots::Members;
 use modem::Modem;
-use network_script_parts::OutOfMemory;
 use node::Node;
+use seats::OutOfMemory;
 use std::alloc::{AllocError, Global};
 use std::sync::{Mutex, Wait};
 use std::thread::Threads;

@@ -5,10 +5,10 @@ ghost use Rattle.std.specs.Prelude.{◌≡◌, IfOk, IsTrue, ◌↔◌};
 use crate::compare::{are_same_letters, are_same_outputs};
 use ballots::{Bytes, Letter, NodeId};
 use map_release::Numbered;
-use network_script_parts::Refusal;
 use node::NodeFault;
 use std::alloc::{AllocError, Global};
 use std::marker::Model;
+use world_events::Refusal;
 
 /// What a node is asked from outside.
 #[derive(Drop)]

@@ -2,10 +2,10 @@
 
 ghost use Rattle.std.specs.Prelude.{◌≡◌, ◌↔◌, [], ◌∷◌, ◌++◌, length, IsTrue, IfOk, IfErr, OnErr, IsOk, true, ◌≤◌, ◌<◌, false, All, map};
 ghost use Rattle.std.specs.List.{range_with_len};
-ghost use Rattle.network_script_parts.specs.Fresh.{AreFresh};
+ghost use Rattle.seats.specs.Fresh.{AreFresh};
 ghost use Rattle.acceptor.specs.Faults.{HasRisen};
 ghost use Rattle.ballots.specs.Members.{member_count};
-ghost use Rattle.network_script_parts.specs.Seat.{Shown};
+ghost use Rattle.seats.specs.Seat.{Shown};
 ghost use Rattle.node_worker.specs.declared.entry.Ended.TheVariants.{FailedEither};
 ghost use Rattle.node_worker.specs.KeptView.{AreTrusted, IsReplay, IsStepOf, SameNode, member_of};
 ghost use Rattle.node_worker.specs.Replays.{IsKept, opening};
@@ -13,8 +13,8 @@ ghost use Rattle.node_worker.specs.Replays.{IsKept, opening};
 use crate::acting::act;
 use crate::entry::{Cause, Done, Entry};
 use ballots::{Members, NodeId};
-use network_script_parts::{OutOfMemory, Seat};
 use node::Node;
+use seats::{OutOfMemory, Seat};
 use std::alloc::Global;
 use std::marker::Model;
 
@@ -41,7 +41,7 @@ impl<N: Node> Model for Kept<N> {
     ghost Value = { KeptView };
 
     ghost use Rattle.std.specs.Prelude.{IsTrue, ◌≤◌, vec_len};
-    ghost use Rattle.network_script_parts.specs.Occupant.{Stands, IsHonest, is_up, node_of, who_of};
+    ghost use Rattle.seats.specs.Occupant.{Stands, IsHonest, is_up, node_of, who_of};
     ghost use Rattle.node_worker.specs.Replays.{IsKept};
 
     ghost view = { λ k. record { node = (who_of k.seat).id; members = (who_of k.seat).members; quota = k.quota; entries = k.entries.items; up = is_up k.seat; failures = (who_of k.seat).failures; honest = N.honest (node_of k.seat) } };

@@ -2,11 +2,11 @@
 
 ghost use Rattle.std.specs.Prelude.{◌≡◌, ◌↔◌, [], ◌∷◌, ◌++◌, length, IfOk, IfErr, OnOk, OnErr, IsOk, IsTrue, List, ◌≤◌, ◌<◌, ◌⊎◌};
 ghost use Rattle.ballots.specs.Members.{member_count};
-ghost use Rattle.network_script_parts.specs.declared.event.Event.TheVariants as event;
-ghost use Rattle.network_script_parts.specs.declared.event.ReleasedOutput.{ReleasedOutput};
-ghost use Rattle.network_script_parts.specs.Receiver.{Receiver};
-ghost use Rattle.network_script_parts.specs.Modems.{ModemNext};
-ghost use Rattle.network_script_parts.specs.Receiving.{AreNew, AreReceivers};
+ghost use Rattle.world_events.specs.declared.event.Event.TheVariants as event;
+ghost use Rattle.seats.specs.declared.answer.ReleasedOutput.{ReleasedOutput};
+ghost use Rattle.seats.specs.Receiver.{Receiver};
+ghost use Rattle.seats.specs.Modems.{ModemNext};
+ghost use Rattle.seats.specs.Receiving.{AreNew, AreReceivers};
 ghost use Rattle.node_worker.specs.KeptView.{AreTrusted, SameNode};
 ghost use Rattle.node_worker.specs.Steps.{DoneBy, Recorded};
 ghost use Rattle.node_worker.specs.declared.entry.Done.{Done as Noted};
@@ -21,10 +21,11 @@ use crate::sent::{LetterPlace, was_sent};
 use ballots::Members;
 use minislot_time::Slot;
 use modem::Modem;
-use network_script_parts::{Answer, Event, OutOfMemory, Refusal, ask, hear_near, tick_at};
 use node::Node;
+use seats::{Answer, OutOfMemory, ask, hear_near, tick_at};
 use std::alloc::Global;
 use std::marker::{Model, PhantomData};
+use world_events::{Event, Refusal};
 
 /// The records of all nodes, in one order, and modems that hear what was released. It names the type of the
 /// nodes, since what a lock holds is known by its type alone.

@@ -4,8 +4,8 @@ ghost use Rattle.std.specs.Prelude.{◌≡◌, IfOk, length};
 
 use crate::driving::{Leads, Meeting, Open};
 use ballots::Members;
-use network_script_parts::{OutOfMemory, PlainNode, plain_nodes};
 use node_worker::{Ended, Gate, Kept, Plant, Record, Torn, audit, run_cluster};
+use seats::{OutOfMemory, PlainNode, plain_nodes};
 use std::alloc::Global;
 use std::sync::Wait;
 use std::test::*;

@@ -6,7 +6,8 @@ use std::alloc::Global;
 use std::io;
 use std::io::Write;
 use std::test::Fail;
-use upsched_parts::{MapsWords, RunWords, Status, maps, read_words, refused, run_script};
+use upsched_map_parts::{MapsWords, RunWords, Status, maps, read_words, refused};
+use upsched_parts::run_script;
 
 /// A writer that is full.
 #[derive(Drop)]

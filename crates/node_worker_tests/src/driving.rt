@@ -3,9 +3,9 @@
 ghost use Rattle.std.specs.Prelude.{◌<◌};
 
 use ballots::NodeId;
-use network_script_parts::OutOfMemory;
 use node::Node;
 use node_worker::{Ask, Carrier, Cause, Gate, Plant, Point, Record};
+use seats::OutOfMemory;
 use std::sync::atomic::{AtomicBool, Ordering};
 use std::sync::{Mutex, Wait};
 use std::thread;

@@ -1,8 +1,8 @@
 //! What may be recorded, and what an audit says of it.
 
 use ballots::{Bytes, Members};
-use network_script_parts::{PlainNode, plain_nodes};
 use node_worker::{Ask, Cause, Done, Kept, Plant, Torn, WorkFault, audit, keep_all};
+use seats::{PlainNode, plain_nodes};
 use std::alloc::Global;
 use std::test::*;
 

@@ -3,10 +3,11 @@
 use ballots::{Bytes, Letter, Members};
 use minislot_time::Slot;
 use modem::{Heard, WantFault};
-use network_script_parts::{Answer, Event, PlainNode, Refusal, new_modems, plain_nodes};
 use node_worker::{Ask, Cause, Kept, Plant, Record, keep_all, step};
+use seats::{Answer, PlainNode, new_modems, plain_nodes};
 use std::alloc::Global;
 use std::test::*;
+use world_events::{Event, Refusal};
 
 /// What node 0 is asked, what a node is asked to release, or which of all letters that were sent comes to its node.
 #[derive(Clone, Copy)]

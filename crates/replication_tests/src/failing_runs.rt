@@ -3,10 +3,12 @@
 use ballots::Members;
 use faulty_records::{Failure, FaultyNode, Trouble, faulty_nodes};
 use network_script::World;
-use network_script_parts::{Answer, Event, OutOfMemory, Refusal, read_script};
 use node::NodeFault;
+use script_text::read_script;
+use seats::{Answer, OutOfMemory};
 use std::alloc::Global;
 use std::test::Fail;
+use world_events::{Event, Refusal};
 
 type FaultyWorld = World<FaultyNode>;
 

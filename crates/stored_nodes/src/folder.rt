@@ -2,7 +2,7 @@
 
 ghost use Rattle.std.specs.Prelude.{◌≡◌, IfOk, length};
 ghost use Rattle.ballots.specs.Members.{member_count};
-ghost use Rattle.network_script_parts.specs.Fresh.{AreFresh};
+ghost use Rattle.seats.specs.Fresh.{AreFresh};
 
 use crate::fault::StoreFault;
 use crate::stored::{StoredNode, stored_nodes};

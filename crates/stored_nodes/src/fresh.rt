@@ -4,7 +4,7 @@ ghost use Rattle.std.specs.Prelude.{◌<◌, IfOk, IsTrue};
 ghost use Rattle.acceptor.specs.Content.{Content};
 ghost use Rattle.acceptor.specs.Found.{Holds};
 ghost use Rattle.ballots.specs.Members.{member_count};
-ghost use Rattle.network_script_parts.specs.Fresh.{IsFreshAt};
+ghost use Rattle.seats.specs.Fresh.{IsFreshAt};
 
 use crate::fault::StoreFault;
 use acceptor::Records;

@@ -2,7 +2,7 @@
 
 ghost use Rattle.std.specs.Prelude.{◌≡◌, ◌<◌, IsTrue, IfOk, length};
 ghost use Rattle.ballots.specs.Members.{member_count};
-ghost use Rattle.network_script_parts.specs.Fresh.{AreFresh, IsFreshAt};
+ghost use Rattle.seats.specs.Fresh.{AreFresh, IsFreshAt};
 
 use crate::fault::StoreFault;
 use crate::fresh::{examine_records, fresh_node};

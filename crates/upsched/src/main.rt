@@ -3,7 +3,7 @@
 
 use std::io::BufWriter;
 use std::process::ExitCode;
-use upsched_parts::Fault;
+use upsched_map_parts::Fault;
 use upsched_store_parts::run;
 
 fn main(rt: HostRuntime) -> ExitCode {

@@ -17,7 +17,8 @@ use std::sync::Wait;
 use std::thread::Threads;
 use std::time::Clock;
 use std::{fs, io};
-use upsched_parts::{Fault, Status, script_of};
+use upsched_map_parts::{Fault, Status};
+use upsched_parts::script_of;
 use upsched_store_parts::{print_over, run_words};
 
 /// A folder of examples of one command.

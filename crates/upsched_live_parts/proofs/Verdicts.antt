@@ -2,8 +2,8 @@
 use Rattle.std.proofs.Common.{◌≡◌, ℕ, List, Option, Result, Ok, Err, sym, ◌∙◌}
 use Rattle.std.specs.Io.KnownBytes.{Appends}
 use Rattle.node_worker.specs.declared.audits.Torn.{Torn}
-use Rattle.upsched_parts.specs.declared.status.Status.{Status}
-use Rattle.upsched_parts.specs.declared.status.Status.TheVariants.{Done}
+use Rattle.upsched_map_parts.specs.declared.status.Status.{Status}
+use Rattle.upsched_map_parts.specs.declared.status.Status.TheVariants.{Done}
 use Rattle.upsched_live_parts.specs.Verdict.{verdict_line, verdict_status}
 
 -- a program that ends as done has printed that the audit found no fault

@@ -1,8 +1,8 @@
 -- What `live` says of an audit.
 use Rattle.std.specs.Prelude.{ℕ, List, [], ◌∷◌, ◌++◌, Result, Ok, Err, codes, decimal}
 use Rattle.node_worker.specs.declared.audits.Torn.{Torn}
-use Rattle.upsched_parts.specs.declared.status.Status.{Status}
-use Rattle.upsched_parts.specs.declared.status.Status.TheVariants.{Done, Faulted}
+use Rattle.upsched_map_parts.specs.declared.status.Status.{Status}
+use Rattle.upsched_map_parts.specs.declared.status.Status.TheVariants.{Done, Faulted}
 
 -- the line of what an audit found
 abbrev pub verdict_line : Result (Unit {0}) Torn → List ℕ

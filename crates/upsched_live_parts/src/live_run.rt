@@ -4,22 +4,22 @@ ghost use Rattle.std.specs.Prelude.{◌≡◌, ◌≢◌, ◌↔◌, All, Ok, If
 ghost use Rattle.std.specs.Io.KnownBytes.{Appends};
 ghost use Rattle.node_worker.specs.Audits.{IsCluster, IsWhole};
 ghost use Rattle.node_worker.specs.Runs.{IsLegal};
-ghost use Rattle.upsched_parts.specs.declared.status.Status.TheVariants.{Done, NotUnderstood};
-ghost use Rattle.upsched_parts.specs.Plan.{NoPlan};
+ghost use Rattle.upsched_map_parts.specs.declared.status.Status.TheVariants.{Done, NotUnderstood};
+ghost use Rattle.upsched_map_parts.specs.Plan.{NoPlan};
 ghost use Rattle.upsched_live_parts.specs.Verdict.{verdict_line};
 
 use crate::cluster::live_cluster;
 use crate::driver::LiveCarrier;
 use crate::verdict::{print_audit, status_of};
 use log::{Log, info};
-use network_script_parts::PlainNode;
 use node::Node;
 use node_worker::{Kept, Plant, Record, Torn};
+use seats::PlainNode;
 use std::io::{Read, Write};
 use std::sync::Wait;
 use std::thread::Threads;
 use std::time::Clock;
-use upsched_parts::{Fault, LiveWords, Status, plan_of};
+use upsched_map_parts::{Fault, LiveWords, Status, plan_of};
 
 /// How many of the first places a node has learned.
 fn learned_count<N: Node>(node: &N, places: usize) -> usize {

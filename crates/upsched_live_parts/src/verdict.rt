@@ -10,7 +10,7 @@ use node::Node;
 use node_worker::{Kept, Record, Torn, audit};
 use std::io;
 use std::io::Write;
-use upsched_parts::{Fault, Status};
+use upsched_map_parts::{Fault, Status};
 
 // Writes the line of what an audit found.
 fn write_verdict<O: Write>(verdict: Result<(), Torn>, output: &mut O) -> io::Result<()>

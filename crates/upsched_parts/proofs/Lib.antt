@@ -1,4 +1,2 @@
 pub mod Callers
-mod Printed
-mod Taken
 mod Told

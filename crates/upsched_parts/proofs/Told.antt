@@ -4,17 +4,17 @@ use Rattle.std.proofs.lemmas.List.{drop_all, length-replicate}
 use Rattle.std.proofs.Math.Seq.{drop-cons}
 use Rattle.std.specs.Io.KnownBytes.{Appends}
 use Rattle.std.proofs.KnownBytes.{Appends-nil, Appends-trans}
-use Rattle.network_script_parts.specs.declared.event.Answer.{Answer}
+use Rattle.seats.specs.declared.answer.Answer.{Answer}
 use Rattle.ballots.specs.declared.letters.Letter.{Letter}
 use Rattle.ballots.specs.declared.members.Members.{Members}
-use Rattle.network_script_parts.specs.declared.event.Event.{Event}
-use Rattle.network_script_parts.specs.declared.event.ReleasedOutput.{ReleasedOutput}
-use Rattle.network_script_parts.specs.declared.event.Transmission.{Transmission}
+use Rattle.world_events.specs.declared.event.Event.{Event}
+use Rattle.seats.specs.declared.answer.ReleasedOutput.{ReleasedOutput}
+use Rattle.seats.specs.declared.answer.Transmission.{Transmission}
 use Rattle.acceptor.specs.Content.{no_content}
 use Rattle.node.specs.View.{started}
 use Rattle.node.specs.View.Standing.{Running}
 use Rattle.network_script.specs.Next.{Goes, Run}
-use Rattle.network_script_parts.specs.Script.{IsScript}
+use Rattle.script_text.specs.Script.{IsScript}
 use Rattle.network_script.specs.World.{Written, opening}
 use Rattle.upsched_parts.specs.RunLines.{answer_line, answer_lines, place_lines, released_count, counts_line}
 use Rattle.ballots.specs.Members.{member_count}

@@ -1,6 +1,2 @@
-pub mod Status
-pub mod Lines
-pub mod Plan
-pub mod Show
 pub mod RunLines
 pub mod Run

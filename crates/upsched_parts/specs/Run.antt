@@ -3,10 +3,10 @@ use Rattle.std.specs.Prelude.{ℕ, List, Option, Some, None}
 use Rattle.std.specs.Io.KnownBytes.{Appends}
 use Rattle.ballots.specs.declared.members.Members.{Members}
 use Rattle.ballots.specs.Members.{member_count}
-use Rattle.network_script_parts.specs.declared.event.Answer.{Answer}
-use Rattle.network_script_parts.specs.declared.event.Event.{Event}
+use Rattle.seats.specs.declared.answer.Answer.{Answer}
+use Rattle.world_events.specs.declared.event.Event.{Event}
 use Rattle.network_script.specs.Next.{Run}
-use Rattle.network_script_parts.specs.Script.{IsScript}
+use Rattle.script_text.specs.Script.{IsScript}
 use Rattle.network_script.specs.World.{Written}
 use Rattle.upsched_parts.specs.RunLines.{run_lines}
 

@@ -4,12 +4,12 @@ ghost use Rattle.std.specs.Prelude.{◌≡◌, OnOk, take, drop};
 ghost use Rattle.std.specs.Io.KnownBytes.{Appends};
 ghost use Rattle.upsched_parts.specs.RunLines.{answer_line, answer_lines, place_line, place_lines, released_count, counts_line};
 
-use crate::fault::Fault;
-use crate::lines::output_text;
-use crate::run_lines::answer_text;
-use network_script_parts::{Answer, ReleasedOutput};
+use printed_answers::answer_text;
+use printed_outputs::output_text;
+use seats::{Answer, ReleasedOutput};
 use std::alloc::Global;
 use std::io::Write;
+use upsched_map_parts::Fault;
 
 /// How many outputs an answer tells.
 fn released_count(answer: Answer) -> usize

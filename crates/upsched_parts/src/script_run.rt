@@ -2,26 +2,25 @@
 
 ghost use Rattle.std.specs.Prelude.{◌≡◌, ◌≢◌, IfOk, IfSome, OnOk, length, map};
 ghost use Rattle.ballots.specs.Members.{member_count};
-ghost use Rattle.network_script_parts.specs.Receiving.{AreNew};
-ghost use Rattle.network_script_parts.specs.Fresh.{AreFresh};
-ghost use Rattle.network_script_parts.specs.Script.{IsScript};
+ghost use Rattle.seats.specs.Receiving.{AreNew};
+ghost use Rattle.seats.specs.Fresh.{AreFresh};
+ghost use Rattle.script_text.specs.Script.{IsScript};
 ghost use Rattle.network_script.specs.Worlds.{AreHonest};
-ghost use Rattle.upsched_parts.specs.declared.status.Status.TheVariants.{Done, NotUnderstood};
+ghost use Rattle.upsched_map_parts.specs.declared.status.Status.TheVariants.{Done, NotUnderstood};
 ghost use Rattle.upsched_parts.specs.Run.{NoScript, PrintsEvents, PrintsScript};
 
-use crate::fault::Fault;
 use crate::report::{print_answers, print_counts};
-use crate::run_lines::fault_name;
-use crate::status::Status;
-use crate::text::text_of;
-use crate::words::RunWords;
 use log::{Log, warn};
 use modem::Modem;
 use network_script::World;
-use network_script_parts::{Answer, Event, Script, new_modems, plain_nodes, read_script};
 use node::Node;
+use printed_answers::fault_name;
+use script_text::{Script, read_script};
+use seats::{Answer, new_modems, plain_nodes};
 use std::alloc::Global;
 use std::io::{Read, Write};
+use upsched_map_parts::{Fault, RunWords, Status, text_of};
+use world_events::Event;
 
 /// Logs each answer that is a node's fault or a crash.
 fn warn_of<R: Log>(rt: &R, answers: &[Answer]) {

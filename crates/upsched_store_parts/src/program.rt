@@ -9,10 +9,10 @@ use std::thread::Threads;
 use std::time::Clock;
 use std::{env, fs};
 use upsched_live_parts::live;
-use upsched_parts::{
-    Fault, LiveWords, MapsWords, RunWords, Status, Words, maps, read_words, refused, run_script,
-    show,
+use upsched_map_parts::{
+    Fault, LiveWords, MapsWords, RunWords, Status, Words, maps, read_words, refused, show,
 };
+use upsched_parts::run_script;
 
 /// Opens the plan and ends as `maps` does.
 fn run_maps<R: Files + AllocGlobal, O: Write, E: Write>(

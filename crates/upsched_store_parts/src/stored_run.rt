@@ -1,19 +1,20 @@
 //! `upsched run SCRIPT --store DIR`: the nodes keep their records in files.
 
 ghost use Rattle.std.specs.Prelude.{◌≡◌, ◌≢◌};
-ghost use Rattle.network_script_parts.specs.Fresh.{AreFresh};
-ghost use Rattle.upsched_parts.specs.declared.status.Status.TheVariants.{NotUnderstood};
+ghost use Rattle.seats.specs.Fresh.{AreFresh};
+ghost use Rattle.upsched_map_parts.specs.declared.status.Status.TheVariants.{NotUnderstood};
 ghost use Rattle.upsched_parts.specs.Run.{NoScript};
 
 use acceptor_store::SqlRecords;
 use log::Log;
-use network_script_parts::Script;
 use node::{Node, SchedNode};
+use script_text::Script;
 use sqlite::{FileStore, Files};
 use sqlite_disk::Disk;
 use std::io::{Read, Write};
 use stored_nodes::{StoreFault, StoredNode, nodes_in, stored_nodes};
-use upsched_parts::{Fault, RunWords, Status, print_script, script_of};
+use upsched_map_parts::{Fault, RunWords, Status};
+use upsched_parts::{print_script, script_of};
 
 /// What is told of nodes that don't start over files.
 fn fault_of<'a>(fault: StoreFault) -> Fault<'a> {

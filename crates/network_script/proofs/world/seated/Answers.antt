@@ -1,7 +1,7 @@
 use Rattle.std.proofs.Common.{◌≡◌, true, false, sym}
 use Rattle.std.proofs.lemmas.List.Elements.{All-head, All-tail, All-same, All-push}
-use Rattle.network_script_parts.specs.declared.seat.Seat.{Seat}
-use Rattle.network_script_parts.specs.Occupant.{is_up, node_of}
+use Rattle.seats.specs.declared.seat.Seat.{Seat}
+use Rattle.seats.specs.Occupant.{is_up, node_of}
 use Rattle.network_script.proofs.Places.{grown}
 use Rattle.network_script.proofs.world.seated.Goals as goal
 

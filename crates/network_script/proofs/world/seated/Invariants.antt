@@ -1,6 +1,6 @@
 use Rattle.std.proofs.Common.{◌≡◌, ◌++◌, map, true, false, All}
 use Rattle.std.specs.Vec.Iter.{into_iter_items}
-use Rattle.network_script_parts.specs.Occupant.{is_up, node_of}
+use Rattle.seats.specs.Occupant.{is_up, node_of}
 use Rattle.network_script.proofs.world.seated.Given as goal
 
 abbrev pub invariant-loop-node : goal.invariant-loop-node

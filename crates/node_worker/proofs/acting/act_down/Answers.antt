@@ -1,6 +1,6 @@
 use Rattle.std.proofs.Common.{Bool, subst}
-use Rattle.network_script_parts.specs.Seat.{Shown}
-use Rattle.network_script_parts.specs.Occupant.{Stands, node_of, who_of}
+use Rattle.seats.specs.Seat.{Shown}
+use Rattle.seats.specs.Occupant.{Stands, node_of, who_of}
 use Rattle.node_worker.proofs.Received.{down_at, stays_down}
 use Rattle.node_worker.proofs.acting.act_down.Goals as goal
 

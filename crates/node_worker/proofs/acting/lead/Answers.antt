@@ -1,8 +1,8 @@
 use Rattle.std.proofs.Common.{Bool, IsTrue, refl, subst}
 use Rattle.node.specs.Calls.{answer}
 use Rattle.node.specs.Calls.Cause.{Lead as CallLead}
-use Rattle.network_script_parts.specs.Seat.{Shown}
-use Rattle.network_script_parts.specs.Occupant.{Stands, node_of, who_of}
+use Rattle.seats.specs.Seat.{Shown}
+use Rattle.seats.specs.Occupant.{Stands, node_of, who_of}
 use Rattle.node_worker.specs.declared.entry.Ask.TheVariants as ask
 use Rattle.node_worker.specs.declared.entry.Cause.TheVariants as cause
 use Rattle.node_worker.proofs.Received.{received}

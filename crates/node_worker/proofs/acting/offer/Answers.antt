@@ -1,9 +1,9 @@
 use Rattle.std.proofs.Common.{Bool, IsTrue, ap, refl, subst, sym}
 use Rattle.node.specs.Calls.{answer}
 use Rattle.node.specs.Calls.Cause.{Offer as CallOffer}
-use Rattle.network_script_parts.specs.Moves.Ask.{Call as IsCalled}
-use Rattle.network_script_parts.specs.Seat.{Shown}
-use Rattle.network_script_parts.specs.Occupant.{Stands, node_of, who_of}
+use Rattle.seats.specs.Moves.Ask.{Call as IsCalled}
+use Rattle.seats.specs.Seat.{Shown}
+use Rattle.seats.specs.Occupant.{Stands, node_of, who_of}
 use Rattle.node_worker.specs.declared.entry.Ask.TheVariants as ask
 use Rattle.node_worker.specs.declared.entry.Cause.TheVariants as cause
 use Rattle.node_worker.proofs.Received.{received}

@@ -2,8 +2,8 @@ use Rattle.std.proofs.Common.{Bool, IsTrue, refl, subst}
 use Rattle.network_script.proofs.Callers.{receives_last}
 use Rattle.node.specs.Calls.{answer}
 use Rattle.node.specs.Calls.Cause.{Receive as CallReceive}
-use Rattle.network_script_parts.specs.Seat.{Shown}
-use Rattle.network_script_parts.specs.Occupant.{Stands, node_of, who_of}
+use Rattle.seats.specs.Seat.{Shown}
+use Rattle.seats.specs.Occupant.{Stands, node_of, who_of}
 use Rattle.node_worker.specs.declared.entry.Cause.TheVariants as cause
 use Rattle.node_worker.proofs.Received.{received}
 use Rattle.node_worker.proofs.acting.receive.Goals as goal

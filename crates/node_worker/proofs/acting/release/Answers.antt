@@ -1,7 +1,7 @@
 use Rattle.std.proofs.Common.{Bool, IsTrue, subst}
 use Rattle.node.specs.Releases.{outputs}
-use Rattle.network_script_parts.specs.Seat.{Shown}
-use Rattle.network_script_parts.specs.Occupant.{Stands, node_of, who_of}
+use Rattle.seats.specs.Seat.{Shown}
+use Rattle.seats.specs.Occupant.{Stands, node_of, who_of}
 use Rattle.node_worker.proofs.Received.{released_so}
 use Rattle.node_worker.proofs.acting.release.Goals as goal
 

@@ -1,8 +1,8 @@
 use Rattle.std.proofs.Common.{sym, subst, List}
-use Rattle.network_script_parts.specs.declared.event.Event.{Event}
-use Rattle.network_script_parts.specs.Receiver.{Receiver}
-use Rattle.network_script_parts.specs.Modems.{ModemNext}
-use Rattle.network_script_parts.specs.Receiving.{AreReceivers}
+use Rattle.world_events.specs.declared.event.Event.{Event}
+use Rattle.seats.specs.Receiver.{Receiver}
+use Rattle.seats.specs.Modems.{ModemNext}
+use Rattle.seats.specs.Receiving.{AreReceivers}
 use Rattle.node_worker.specs.Legal.{outputs_of}
 use Rattle.node_worker.proofs.plant.go_on.Goals as goal
 

@@ -1,9 +1,9 @@
 use Rattle.std.proofs.Common.{arith, subst, sym, Option, slice_get, inr}
 use Rattle.std.proofs.lemmas.Option.{slice_get_within}
 use Rattle.grant_machine.specs.declared.output.Output.{Output}
-use Rattle.network_script_parts.specs.declared.event.ReleasedOutput.{ReleasedOutput}
-use Rattle.network_script_parts.specs.Modems.{Listens, HearsOutput}
-use Rattle.network_script_parts.proofs.Callers.{one_does, one_stays, none_does, hears_none}
+use Rattle.seats.specs.declared.answer.ReleasedOutput.{ReleasedOutput}
+use Rattle.seats.specs.Modems.{Listens, HearsOutput}
+use Rattle.seats.proofs.Callers.{one_does, one_stays, none_does, hears_none}
 use Rattle.node_worker.specs.Legal.{outputs_of}
 use Rattle.node_worker.proofs.plant.hear.Goals as goal
 

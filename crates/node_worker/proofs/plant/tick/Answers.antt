@@ -1,7 +1,7 @@
 use Rattle.std.proofs.Common.{arith}
 use Rattle.modem.specs.State.{channel_of}
-use Rattle.network_script_parts.specs.Modems.{ComesTo}
-use Rattle.network_script_parts.proofs.Callers.{one_does, none_does, comes_at}
+use Rattle.seats.specs.Modems.{ComesTo}
+use Rattle.seats.proofs.Callers.{one_does, none_does, comes_at}
 use Rattle.node_worker.proofs.plant.tick.Goals as goal
 
 pub returns-then-m-len : goal.returns-then-m-len

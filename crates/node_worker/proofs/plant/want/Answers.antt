@@ -1,6 +1,6 @@
 use Rattle.std.proofs.Common.{arith}
-use Rattle.network_script_parts.specs.Modems.{Wants}
-use Rattle.network_script_parts.proofs.Callers.{one_does, none_does}
+use Rattle.seats.specs.Modems.{Wants}
+use Rattle.seats.proofs.Callers.{one_does, none_does}
 use Rattle.node_worker.proofs.plant.want.Goals as goal
 
 pub returns-then-m-len : goal.returns-then-m-len

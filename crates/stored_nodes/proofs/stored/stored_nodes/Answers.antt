@@ -1,6 +1,6 @@
 use Rattle.std.proofs.Common.{◌∙◌}
 use Rattle.ballots.specs.Members.{member_count}
-use Rattle.network_script_parts.proofs.Callers.{none_first, next_first, all_first}
+use Rattle.seats.proofs.Callers.{none_first, next_first, all_first}
 use Rattle.stored_nodes.proofs.Counts.{reached, none_below, more_below}
 use Rattle.stored_nodes.proofs.stored.stored_nodes.Goals as goal
 

@@ -3,7 +3,7 @@ use Rattle.ballots.specs.Members.{member_count}
 use Rattle.sqlite.specs.Files.{over_files}
 use Rattle.acceptor_store.specs.Linked.{MayFind, is_honest}
 use Rattle.node.specs.Sched.{Stands, who_of}
-use Rattle.network_script_parts.proofs.Callers.{AreFirst}
+use Rattle.seats.proofs.Callers.{AreFirst}
 use Rattle.stored_nodes.proofs.stored.stored_nodes.Given as goal
 
 abbrev pub invariant-loop-number : goal.invariant-loop-number

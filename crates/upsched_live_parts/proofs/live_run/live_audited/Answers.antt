@@ -1,4 +1,4 @@
-use Rattle.upsched_parts.proofs.Callers.{no_plan_read}
+use Rattle.upsched_map_parts.proofs.Callers.{no_plan_read}
 use Rattle.upsched_live_parts.proofs.live_run.live_audited.Goals as goal
 
 pub returns-clause-no_plan : goal.returns-clause-no_plan

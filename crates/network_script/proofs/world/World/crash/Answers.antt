@@ -1,14 +1,14 @@
 use Rattle.std.proofs.Common.{false, refl, sym, length, slice_set, arith}
 use Rattle.std.proofs.lemmas.Bool.{false≢true}
 use Rattle.node.specs.View.Standing.{Running}
-use Rattle.network_script_parts.specs.declared.event.Answer.TheVariants.{Finished}
-use Rattle.network_script_parts.specs.Seat.{crashed}
+use Rattle.seats.specs.declared.answer.Answer.TheVariants.{Finished}
+use Rattle.seats.specs.Seat.{crashed}
 use Rattle.network_script.specs.Worlds.{written}
-use Rattle.network_script_parts.specs.Moves.{quiet}
-use Rattle.network_script_parts.specs.Moves.Ask.{Crash}
+use Rattle.seats.specs.Moves.{quiet}
+use Rattle.seats.specs.Moves.Ask.{Crash}
 use Rattle.network_script.proofs.After.{after_quiet}
 use Rattle.network_script.proofs.Acts.{seen_up, moves, asks, misses}
-use Rattle.network_script_parts.specs.declared.event.Event.TheVariants as event
+use Rattle.world_events.specs.declared.event.Event.TheVariants as event
 use Rattle.network_script.proofs.Counted.{count_still}
 use Rattle.network_script.proofs.Tallied.{counted_seat}
 use Rattle.network_script.specs.Outward.{outward, Falls}

@@ -2,14 +2,14 @@ use Rattle.std.proofs.Common.{◌<◌, ◌∙◌, rules, length, slice_set, refl
 use Rattle.ballots.specs.declared.letters.Letter.{Letter}
 use Rattle.node.specs.Calls.{Course, answer}
 use Rattle.node.specs.Calls.Cause.{Receive}
-use Rattle.network_script_parts.specs.declared.event.Answer.TheVariants.{Refused}
-use Rattle.network_script_parts.specs.Seat.{shown, stays_up}
+use Rattle.seats.specs.declared.answer.Answer.TheVariants.{Refused}
+use Rattle.seats.specs.Seat.{shown, stays_up}
 use Rattle.network_script.specs.Worlds.{written, left}
-use Rattle.network_script_parts.specs.Moves.Ask.{Call}
+use Rattle.seats.specs.Moves.Ask.{Call}
 use Rattle.acceptor.specs.Content.{record_write}
 use Rattle.node.specs.View.Standing.{Running}
 use Rattle.network_script.proofs.Acts.{called_at, receives_last, moves, sends, asks, misses, comes, no_letter, told_last}
-use Rattle.network_script_parts.specs.declared.event.Event.TheVariants as event
+use Rattle.world_events.specs.declared.event.Event.TheVariants as event
 use Rattle.network_script.proofs.Places.{seen_at}
 use Rattle.network_script.proofs.Counted.{count_still}
 use Rattle.network_script.proofs.Tallied.{counted_call, posted_letters, posted_rose}

@@ -1,7 +1,7 @@
 use Rattle.std.proofs.Common.{◌≡◌, List, subst}
-use Rattle.network_script_parts.specs.declared.event.Event.TheVariants.{Hear}
-use Rattle.network_script_parts.specs.declared.event.ReleasedOutput.{ReleasedOutput}
-use Rattle.network_script_parts.specs.Modems.{ModemNext}
+use Rattle.world_events.specs.declared.event.Event.TheVariants.{Hear}
+use Rattle.seats.specs.declared.answer.ReleasedOutput.{ReleasedOutput}
+use Rattle.seats.specs.Modems.{ModemNext}
 use Rattle.network_script.specs.Worlds.{written}
 use Rattle.network_script.specs.Outward.{outward}
 use Rattle.network_script.proofs.Counted.{count_still}

@@ -2,7 +2,7 @@ use Rattle.std.proofs.Common.{◌≡◌, ℕ, IsTrue, replicate, length, refl, s
 use Rattle.std.proofs.lemmas.List.{length-map}
 use Rattle.std.proofs.lemmas.List.Elements.{All-same}
 use Rattle.network_script.specs.Seats.{AreStandings}
-use Rattle.network_script_parts.specs.Occupant.{node_of}
+use Rattle.seats.specs.Occupant.{node_of}
 use Rattle.network_script.proofs.Same.{same_world}
 use Rattle.network_script.proofs.Places.{numbered_seats, opened_stand, fresh_standing}
 use Rattle.network_script.proofs.world.World.new.Goals as goal

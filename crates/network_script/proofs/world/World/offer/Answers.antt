@@ -2,13 +2,13 @@ use Rattle.std.proofs.Common.{length, slice_set, refl, ◌∙◌, ap}
 use Rattle.node.specs.View.{View}
 use Rattle.node.specs.Calls.{Course, answer}
 use Rattle.node.specs.Calls.Cause.{Offer}
-use Rattle.network_script_parts.specs.Seat.{shown, stays_up}
+use Rattle.seats.specs.Seat.{shown, stays_up}
 use Rattle.network_script.specs.Worlds.{written, left}
-use Rattle.network_script_parts.specs.Moves.Ask.{Call}
+use Rattle.seats.specs.Moves.Ask.{Call}
 use Rattle.acceptor.specs.Content.{record_write}
 use Rattle.node.specs.View.Standing.{Running}
 use Rattle.network_script.proofs.Acts.{called_at, moves, sends, asks, misses, told_last}
-use Rattle.network_script_parts.specs.declared.event.Event.TheVariants as event
+use Rattle.world_events.specs.declared.event.Event.TheVariants as event
 use Rattle.network_script.proofs.Counted.{count_still}
 use Rattle.network_script.proofs.Tallied.{counted_call, posted_letters, posted_rose}
 use Rattle.network_script.specs.Worlds.{up_after}

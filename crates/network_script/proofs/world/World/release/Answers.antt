@@ -1,12 +1,12 @@
 use Rattle.std.proofs.Common.{length, ◌∙◌, ap, slice_set, refl}
 use Rattle.node.specs.Releases.{outputs}
-use Rattle.network_script_parts.specs.Seat.{shown, stays_up}
+use Rattle.seats.specs.Seat.{shown, stays_up}
 use Rattle.network_script.specs.Worlds.{written, left}
-use Rattle.network_script_parts.specs.Moves.Ask.{Release}
+use Rattle.seats.specs.Moves.Ask.{Release}
 use Rattle.acceptor.specs.Content.{record_write}
 use Rattle.node.specs.View.Standing.{Running}
 use Rattle.network_script.proofs.Acts.{released_at, moves, releases, asks, misses}
-use Rattle.network_script_parts.specs.declared.event.Event.TheVariants as event
+use Rattle.world_events.specs.declared.event.Event.TheVariants as event
 use Rattle.network_script.proofs.Counted.{count_still}
 use Rattle.network_script.proofs.Tallied.{counted_call, keeps_rose}
 use Rattle.network_script.specs.Worlds.{up_after}

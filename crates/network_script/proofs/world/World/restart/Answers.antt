@@ -1,15 +1,15 @@
 use Rattle.std.proofs.Common.{◌≡◌, ◌<◌, ◌∙◌, sym, refl, rules, length, true, false, None, Some, slice_set}
 use Rattle.std.proofs.lemmas.Bool.{false≢true}
 use Rattle.node.specs.View.Standing.{Running, Stopped}
-use Rattle.network_script_parts.specs.declared.event.Answer.TheVariants.{Finished, Refused, Fault}
-use Rattle.network_script_parts.specs.declared.event.Refusal.TheVariants.{NoNode, NodeUp}
-use Rattle.network_script_parts.specs.Occupant.{is_up}
+use Rattle.seats.specs.declared.answer.Answer.TheVariants.{Finished, Refused, Fault}
+use Rattle.world_events.specs.declared.refusal.Refusal.TheVariants.{NoNode, NodeUp}
+use Rattle.seats.specs.Occupant.{is_up}
 use Rattle.network_script.specs.Worlds.{written}
 use Rattle.network_script.proofs.Places.{honest_at, trust_at}
 use Rattle.network_script.proofs.Acts.{seen_none, seen_up, seen_down, same_at, moves, unmoved, starts, asks, stays, no_node}
-use Rattle.network_script_parts.specs.Moves.Ask.{Restart}
+use Rattle.seats.specs.Moves.Ask.{Restart}
 use Rattle.acceptor.specs.Content.{record_write}
-use Rattle.network_script_parts.specs.declared.event.Event.TheVariants as event
+use Rattle.world_events.specs.declared.event.Event.TheVariants as event
 use Rattle.network_script.proofs.Counted.{count_still}
 use Rattle.network_script.proofs.Tallied.{counted_seat, restart_rose}
 use Rattle.network_script.specs.Outward.{outward, Rises}

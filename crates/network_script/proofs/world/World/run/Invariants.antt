@@ -2,8 +2,8 @@ use Rattle.std.proofs.Common.{◌≡◌, ◌≤◌, List, length, take, vec_len}
 use Rattle.std.specs.Vec.{vec_capacity}
 use Rattle.ballots.specs.Voting.{Entry}
 use Rattle.node.specs.View.{Standing}
-use Rattle.network_script_parts.specs.Receiver.{Receiver}
-use Rattle.network_script_parts.specs.Receiving.{Hold}
+use Rattle.seats.specs.Receiver.{Receiver}
+use Rattle.seats.specs.Receiving.{Hold}
 use Rattle.network_script.specs.Seats.{AllHonest, AllKeepTrust, AreStandings}
 use Rattle.network_script.specs.Trust.{NoRestartFailed}
 use Rattle.network_script.specs.Next.{Goes}

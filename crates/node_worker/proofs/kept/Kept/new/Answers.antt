@@ -1,8 +1,8 @@
 use Rattle.std.proofs.Common.{Bool, IsTrue, List, arith, refl, subst, sym}
 use Rattle.acceptor.specs.Content.{no_content}
 use Rattle.node.specs.View.{started}
-use Rattle.network_script_parts.specs.Seat.{Shown}
-use Rattle.network_script_parts.specs.Occupant.{node_of, who_of}
+use Rattle.seats.specs.Seat.{Shown}
+use Rattle.seats.specs.Occupant.{node_of, who_of}
 use Rattle.node_worker.specs.Entries.{EntryView}
 use Rattle.node_worker.specs.Replays.{ReplaysTo, opening}
 use Rattle.node_worker.proofs.kept.Kept.new.Goals as goal

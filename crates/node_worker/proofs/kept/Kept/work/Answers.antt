@@ -1,5 +1,5 @@
 use Rattle.std.proofs.Common.{◌≡◌, ◌∙◌, ◌++◌, ◌∷◌, [], ap, arith, subst}
-use Rattle.network_script_parts.specs.Occupant.{Stands}
+use Rattle.seats.specs.Occupant.{Stands}
 use Rattle.node_worker.specs.Entries.{EntryView, entry}
 use Rattle.node_worker.specs.KeptView.{KeptView, IsStepOf}
 use Rattle.node_worker.proofs.Rounds.{work_keeps, work_steps}

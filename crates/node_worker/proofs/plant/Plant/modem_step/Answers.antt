@@ -1,8 +1,8 @@
 use Rattle.std.proofs.Common.{subst, List}
 use Rattle.ballots.specs.Members.{member_count}
-use Rattle.network_script_parts.specs.Receiver.{Receiver}
-use Rattle.network_script_parts.specs.Modems.{ModemNext}
-use Rattle.network_script_parts.specs.Receiving.{AreReceivers}
+use Rattle.seats.specs.Receiver.{Receiver}
+use Rattle.seats.specs.Modems.{ModemNext}
+use Rattle.seats.specs.Receiving.{AreReceivers}
 use Rattle.node_worker.specs.Legal.{outputs_of}
 use Rattle.node_worker.specs.Places.{IsPlaceOf}
 use Rattle.node_worker.specs.declared.entry.Done.{Done}

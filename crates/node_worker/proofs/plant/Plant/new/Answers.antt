@@ -1,7 +1,7 @@
 use Rattle.std.proofs.Common.{List, [], map, sym, subst, refl, arith}
 use Rattle.ballots.specs.Members.{member_count}
 use Rattle.modem.specs.State.{State}
-use Rattle.network_script_parts.proofs.Callers.{new_are}
+use Rattle.seats.proofs.Callers.{new_are}
 use Rattle.node_worker.specs.Legal.{IsSound, outputs_of}
 use Rattle.node_worker.specs.Places.{IsPlaceOf}
 use Rattle.node_worker.specs.Runs.{HaveListened}

@@ -1,9 +1,0 @@
-pub mod Callers
-mod AtModem
-mod Calling
-mod Channels
-mod Flows
-mod Fresh
-mod Pairs
-mod ScriptFaults
-mod Keys

@@ -1,6 +1,0 @@
-use Rattle.std.proofs.Common.{take}
-use Rattle.network_script_parts.proofs.Fresh.{AreModems}
-use Rattle.network_script_parts.proofs.opening.new_modems.Given as goal
-
-abbrev pub invariant-loop-id : goal.invariant-loop-id
-invariant-loop-id l = AreModems l.modems.items (take l.id-index l.ids)

@@ -1,6 +1,0 @@
-use Rattle.ballots.specs.Members.{member_count}
-use Rattle.network_script_parts.proofs.Fresh.{AreFirst}
-use Rattle.network_script_parts.proofs.opening.nodes_by_number.Given as goal
-
-abbrev pub invariant-loop-number : goal.invariant-loop-number
-invariant-loop-number g l = AreFirst g.N.Node.who g.N.Node.honest g.N.Node.stands (member_count l.fn.members) l.number l.nodes.items

@@ -1,5 +1,0 @@
-use Rattle.network_script_parts.proofs.AtModem.{new_are}
-use Rattle.network_script_parts.proofs.receivers.Receivers.new.Goals as goal
-
-pub returns-clause-holds : goal.returns-clause-holds
-returns-clause-holds c = new_are c.args.modems.items c.requires

@@ -1,0 +1,6 @@
+//! The scheduler's outputs as text.
+#![tactic(auto)]
+
+mod texts;
+
+pub use texts::output_text;

@@ -1,0 +1,7 @@
+pub mod Callers
+mod Channels
+mod Flows
+mod Pairs
+mod ScriptFaults
+mod Keys
+mod Reading

@@ -1,0 +1,5 @@
+pub mod Fields
+pub mod Items
+pub mod CommandTable
+pub mod EventTable
+pub mod Script

@@ -1,0 +1,4 @@
+pub mod Callers
+mod AtModem
+mod Calling
+mod Fresh

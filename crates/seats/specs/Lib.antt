@@ -1,0 +1,9 @@
+pub mod Receiver
+pub mod Modems
+pub mod Receiving
+pub mod Seat
+pub mod Occupant
+pub mod Fresh
+pub mod StoreFaults
+pub mod Release
+pub mod Moves

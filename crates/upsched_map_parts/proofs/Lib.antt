@@ -1,0 +1,3 @@
+pub mod Callers
+mod Printed
+mod Taken

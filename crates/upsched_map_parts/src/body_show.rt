@@ -1,0 +1,106 @@
+//! `upsched show HEX`: a MAP body in words.
+
+ghost use Rattle.std.specs.Prelude.{◌≡◌, ◌≢◌, Ok, IfOk, OnOk};
+ghost use Rattle.std.specs.Io.KnownBytes.{Appends};
+ghost use Rattle.map_body.specs.Body.{Body};
+ghost use Rattle.upsched_map_parts.specs.declared.status.Status.TheVariants.{Done, NotUnderstood};
+ghost use Rattle.upsched_map_parts.specs.Lines.{element_line, element_lines, body_lines};
+ghost use Rattle.upsched_map_parts.specs.Show.{IsHexBody};
+
+use crate::fault::Fault;
+use crate::lines::{element_text, head_text};
+use crate::status::Status;
+use crate::words::ShowWords;
+use hex::FromHexError;
+use map_body::{Element, MapBody};
+use std::alloc::Global;
+use std::io::Write;
+
+/// The body that hexadecimal digits give.
+fn body_of<'a>(alloc: Global, hex: &str) -> Result<MapBody, Fault<'a>>
+    ensures { IfOk result (IsHexBody hex.now) }
+{
+    let bytes = match hex::decode(alloc, hex) {
+        Ok(bytes) => bytes,
+        Err(FromHexError::OutOfMemory) => return Err(Fault::Memory),
+        Err(_) => return Err(Fault::Hex),
+    };
+    match map_body::decode(alloc, bytes.as_slice()) {
+        Ok(map) => Ok(map),
+        Err(fault) => Err(Fault::Body {
+            number: fault.number(),
+            fault,
+        }),
+    }
+}
+
+fn print_element<'a, O: Write>(
+    alloc: Global,
+    element: &Element,
+    output: &mut O,
+) -> Result<(), Fault<'a>>
+    ensures { OnOk result (Appends (O.contents output.old) (O.contents output.new) (element_line element.now)) }
+{
+    let Ok(text) = element_text(alloc, element) else {
+        return Err(Fault::Memory);
+    };
+    match writeln!(output, "{text}") {
+        Ok(()) => Ok(()),
+        Err(_) => Err(Fault::Output),
+    }
+}
+
+fn print_elements<'a, O: Write>(
+    alloc: Global,
+    elements: &[Element],
+    output: &mut O,
+) -> Result<(), Fault<'a>>
+    ensures { OnOk result (Appends (O.contents output.old) (O.contents output.new) (element_lines elements.now)) }
+{
+    for element in elements {
+        print_element(alloc, element, output)?;
+    }
+    match output.flush() {
+        Ok(()) => Ok(()),
+        Err(_) => Err(Fault::Output),
+    }
+}
+
+fn print_body<'a, O: Write>(alloc: Global, map: &MapBody, output: &mut O) -> Result<(), Fault<'a>>
+    ensures { OnOk result (Appends (O.contents output.old) (O.contents output.new) (body_lines map.now)) }
+{
+    let Ok(head) = head_text(alloc, map.head()) else {
+        return Err(Fault::Memory);
+    };
+    match writeln!(output, "{head}") {
+        Ok(()) => print_elements(alloc, map.elements(), output),
+        Err(_) => Err(Fault::Output),
+    }
+}
+
+fn print_hex<'a, O: Write>(alloc: Global, hex: &str, output: &mut O) -> Result<(), Fault<'a>>
+    ensures printed { OnOk result ((map : Body) × IsHexBody hex.now map × Appends (O.contents output.old) (O.contents output.new) (body_lines map)) }
+    ensures no_body { ((map : Body) → ¬ IsHexBody hex.now map) → output.new ≡ output.old }
+{
+    let map = body_of(alloc, hex)?;
+    print_body(alloc, &map, output)
+}
+
+/// Prints a MAP body: a line for the head and one for each element. Digits of either case.
+pub fn show<O: Write, E: Write>(
+    alloc: Global,
+    words: &ShowWords<'_>,
+    output: &mut O,
+    errors: &mut E,
+) -> Status
+    ensures printed { result ≡ Done → (map : Body) × IsHexBody words.now.hex.now map
+        × Appends (O.contents output.old) (O.contents output.new) (body_lines map) }
+    ensures quiet { result ≡ Done → errors.new ≡ errors.old }
+    ensures no_body { ((map : Body) → ¬ IsHexBody words.now.hex.now map) → output.new ≡ output.old }
+    ensures understood { result ≢ NotUnderstood }
+{
+    match print_hex(alloc, words.hex, output) {
+        Ok(()) => Status::Done,
+        Err(fault) => fault.told(errors),
+    }
+}

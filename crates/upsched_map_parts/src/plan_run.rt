@@ -1,0 +1,111 @@
+//! `upsched maps PLAN`: from a plan to outputs.
+
+ghost use Rattle.std.specs.Prelude.{◌≡◌, ◌≢◌, IfOk, IfSome, OnOk};
+ghost use Rattle.std.specs.Io.KnownBytes.{Appends};
+ghost use Rattle.grant_machine.specs.declared.command.Command.{Command};
+ghost use Rattle.grant_machine.specs.Steps.{step};
+ghost use Rattle.grant_machine.specs.Runs.{outputs_of};
+ghost use Rattle.upsched_map_parts.specs.declared.status.Status.TheVariants.{Done, NotUnderstood};
+ghost use Rattle.upsched_map_parts.specs.Lines.{output_line, output_lines};
+ghost use Rattle.upsched_map_parts.specs.Plan.{IsPlan, NoPlan, PrintsPlan};
+
+use crate::fault::Fault;
+use crate::plan::read_plan;
+use crate::status::Status;
+use crate::text::text_of;
+use crate::words::MapsWords;
+use grant_machine::{Command, Machine};
+use printed_outputs::output_text;
+use std::alloc::Global;
+use std::io::{Read, Write};
+
+/// Applies a command and writes the line of its output.
+fn print_output<'a, O: Write>(
+    alloc: Global,
+    machine: &mut Machine,
+    number: usize,
+    command: &Command,
+    output: &mut O,
+) -> Result<(), Fault<'a>>
+    ensures rows { OnOk result (machine.new ≡ (step machine.old command.now).rows) }
+    ensures printed { OnOk result (Appends (O.contents output.old) (O.contents output.new)
+        (output_line number (step machine.old command.now).output)) }
+{
+    let Ok(answer) = machine.apply(command) else {
+        return Err(Fault::Memory);
+    };
+    let Ok(text) = output_text(alloc, &answer) else {
+        return Err(Fault::Memory);
+    };
+    match writeln!(output, "{number} {text}") {
+        Ok(()) => Ok(()),
+        Err(_) => Err(Fault::Output),
+    }
+}
+
+/// Applies commands one after another to one scheduler, and writes a line for each.
+fn print_outputs<'a, O: Write>(
+    alloc: Global,
+    commands: &[Command],
+    output: &mut O,
+) -> Result<(), Fault<'a>>
+    ensures { OnOk result (Appends (O.contents output.old) (O.contents output.new)
+        (output_lines 1 (outputs_of commands.now))) }
+{
+    let mut machine = Machine::new(alloc);
+    for (i, command) in commands.iter().enumerate() {
+        print_output(alloc, &mut machine, i + 1, command, output)?;
+    }
+    match output.flush() {
+        Ok(()) => Ok(()),
+        Err(_) => Err(Fault::Output),
+    }
+}
+
+/// The commands of the plan that a text is.
+pub fn plan_of<'a, R: Read>(
+    alloc: Global,
+    plan: &mut R,
+    path: &'a str,
+) -> Result<Vec<Command>, Fault<'a>>
+    ensures { IfOk result (λ commands. IfSome (R.remaining plan.old) (λ bytes. IsPlan bytes commands.items)) }
+{
+    let text = text_of(alloc, plan, path)?;
+    match read_plan(alloc, text.as_str()) {
+        Ok(commands) => Ok(commands),
+        Err(fault) => Err(Fault::Plan(fault)),
+    }
+}
+
+fn print_plan<'a, R: Read, O: Write>(
+    alloc: Global,
+    plan: &mut R,
+    path: &'a str,
+    output: &mut O,
+) -> Result<(), Fault<'a>>
+    ensures printed { OnOk result (PrintsPlan (R.remaining plan.old) (O.contents output.old) (O.contents output.new)) }
+    ensures no_plan { NoPlan (R.remaining plan.old) → output.new ≡ output.old }
+{
+    let commands = plan_of(alloc, plan, path)?;
+    print_outputs(alloc, commands.as_slice(), output)
+}
+
+/// Applies a plan's commands to one scheduler and prints for each its number and its output. A
+/// fault of the plan is found before anything is applied or printed, and is told in one line.
+pub fn maps<R: Read, O: Write, E: Write>(
+    alloc: Global,
+    plan: &mut R,
+    words: &MapsWords<'_>,
+    output: &mut O,
+    errors: &mut E,
+) -> Status
+    ensures printed { result ≡ Done → PrintsPlan (R.remaining plan.old) (O.contents output.old) (O.contents output.new) }
+    ensures quiet { result ≡ Done → errors.new ≡ errors.old }
+    ensures no_plan { NoPlan (R.remaining plan.old) → output.new ≡ output.old }
+    ensures understood { result ≢ NotUnderstood }
+{
+    match print_plan(alloc, plan, words.plan, output) {
+        Ok(()) => Status::Done,
+        Err(fault) => fault.told(errors),
+    }
+}
