@@ -1,6 +1,6 @@
 pub mod Carved
 pub mod Windows
-pub mod Edges
+pub mod Drawn
 pub mod Passing
 pub mod Giving
 pub mod Served

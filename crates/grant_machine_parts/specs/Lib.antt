@@ -1,7 +1,6 @@
 pub mod Placing
 pub mod Cutting
 pub mod Drawing
-pub mod Edges
 pub mod Gaps
 pub mod Filling
 pub mod Kept
