@@ -1,6 +1,6 @@
 -- The elements of a MAP: those of placements where minislots are held, and one for each longest free run.
 use Rattle.std.proofs.Common.{◌≡◌, ◌⊎◌, ℕ, zero, suc, ◌+◌, ◌-◌, ◌<◌, ◌≤◌, ◌^◌, Bool, true, false, cond, ◌||◌, List, [], ◌∷◌, ◌++◌, Option, Some, None, is_none, is_some, length, get_or, drop, inl, inr, refl, sym, ap, subst, ◌∙◌, arith, eqb, leb, ltb, append_assoc}
-use Rattle.std.specs.List.{filter_map, range_with_len}
+use Rattle.std.specs.List.{filter_map, range_with_len, AllByRecursion}
 use Rattle.std.proofs.lemmas.Bool.{cases_lt, ltb-true, ltb-false, leb-true, le-leb, lt-ltb, and_parts}
 use Rattle.std.proofs.lemmas.List.{append-nil, drop_more}
 use Rattle.std.proofs.lemmas.List.Elements.{filter_map-append}
@@ -70,6 +70,18 @@ inside_begins ps p x z apart e gt lt =
   where
     off : (m n : ℕ) → m < n → eqb m n ≡ false
     off m n below = grind arith
+
+-- a placement that holds x is its holder, where each alone holds its minislots
+pub holder_at : (ps : List Placement) (p : Placement) (k x : ℕ) → AreApart ps → true ≡ ltb k (length ps) → p ≡ get_or ps k p → holds x p ≡ true → Some p ≡ holder ps x
+holder_at ps p k x apart within is on = sym (subst Alone (sym is) (all_at ps k p (ltb-true k (length ps) (sym within)) apart) x on)
+  where
+    Alone : Placement → Type 0
+    Alone q = (y : ℕ) → holds y q ≡ true → holder ps y ≡ Some q
+
+    all_at : (qs : List Placement) (i : ℕ) (d : Placement) → i < length qs → AllByRecursion Alone qs → Alone (get_or qs i d)
+    all_at [] i d lt all = absurd (omega arith)
+    all_at (q ∷ qs) zero d lt all = all.0
+    all_at (q ∷ qs) (suc i) d lt all = all_at qs i d (omega arith) all.1
 
 -- one more placement
 pub placement_more : (ps : List Placement) (p : Placement) (from x y : ℕ) (old now new : List Element) → from ≤ x → x < y → holder ps x ≡ Some p → ((z : ℕ) → x < z → z < y → begins_at ps z ≡ None)

@@ -1,5 +1,6 @@
 pub mod Placing
 pub mod Cutting
+pub mod Granted
 pub mod Drawing
 pub mod Gaps
 pub mod Filling

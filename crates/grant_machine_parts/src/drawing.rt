@@ -16,7 +16,7 @@ ghost use Rattle.grant_machine_parts.specs.Cutting.{end_of};
 use crate::gaps::Gap;
 use crate::placing::{Filling, Placement};
 use crate::services::grant_iuc;
-use crate::waiting::{Ranked, is_granted, requested};
+use crate::waiting::{Grants, Ranked};
 use flow_state::Channel;
 use map_body::{Element, Head, Iuc, Offset, Sid};
 use minislot_time::{Slot, wire};
@@ -41,6 +41,21 @@ fn holder(placements: &[Placement], x: u16) -> Option<Placement>
         }
     }
     None
+}
+
+/// The placement that holds the minislot at this offset. A number tells which one to look at first.
+fn holder_near(placements: &[Placement], is_apart: bool, number: usize, x: u16) -> Option<Placement>
+    requires { IsTrue is_apart → AreApart placements.now }
+    ensures { result ≡ holder placements.now x }
+{
+    if is_apart {
+        if let Some(placement) = placements.get(number) {
+            if holds(x, placement) {
+                return Some(*placement);
+            }
+        }
+    }
+    holder(placements, x)
 }
 
 /// Adds the element of a placement, where it begins at this offset.
@@ -94,26 +109,29 @@ fn behind(placement: &Placement, is_apart: bool, x: u16, end: u16) -> u16
 }
 
 /// Adds an element for each placement that begins among held minislots, from an offset on and before another, by
-/// offset.
+/// offset. So many placements were drawn before, and so many are then: most stand by offset.
 fn put_placements(
     elements: &mut Vec<Element>,
     placements: &[Placement],
     is_apart: bool,
+    drawn: usize,
     from: u16,
     to: u16,
-) -> Result<(), AllocError>
+) -> Result<usize, AllocError>
     requires order { from ≤ to }
     requires held { (x : ℕ) → from ≤ x → x < to → is_free placements.now x ≡ false }
     requires alone { IsTrue is_apart → AreApart placements.now }
     ensures { OnOk result (elements.new.items ≡ elements.old.items ++ filter_map (begins_at placements.now) (range_with_len from (to - from))) }
 {
+    let mut drawn = drawn;
     let mut x = from;
     while x < to {
-        let placement = holder(placements, x).unwrap();
+        let placement = holder_near(placements, is_apart, drawn, x).unwrap();
         put_placement(elements, &placement, x)?;
         x = behind(&placement, is_apart, x, to);
+        drawn = drawn.wrapping_add(1);
     }
-    Ok(())
+    Ok(drawn)
 }
 
 /// Adds an element for each placement and each longest free run, by offset.
@@ -129,13 +147,14 @@ fn put_intervals(
     requires alone { IsTrue is_apart → AreApart placements.now }
     ensures { OnOk result (elements.new.items ≡ elements.old.items ++ filter_map (begins_at placements.now) (range_with_len 0 len)) }
 {
+    let mut drawn = 0;
     let mut x = 0;
     for gap in gaps {
-        put_placements(elements, placements, is_apart, x, gap.from)?;
+        drawn = put_placements(elements, placements, is_apart, drawn, x, gap.from)?;
         put_gap(elements, gap)?;
         x = gap.to;
     }
-    put_placements(elements, placements, is_apart, x, len)?;
+    put_placements(elements, placements, is_apart, drawn, x, len)?;
     Ok(())
 }
 
@@ -149,11 +168,12 @@ fn put_pending(
     requires { AllByRecursion IsUnicast ranked.now }
     ensures { OnOk result (elements.new.items ≡ elements.old.items ++ map (pending_element channel.now filling.now.span.len) (still_waiting filling.now.placements (requests_in (going_on (end_of filling.now.span) ranked.now)))) }
 {
-    let placements = requested(filling.placements());
+    let placements = filling.placements();
+    let grants = Grants::of(placements);
     let len = filling.len();
     let end = filling.end();
     for one in ranked {
-        if end <= one.last && !is_granted(placements, &one.request) {
+        if end <= one.last && !grants.have(placements, &one.request) {
             elements.push(Element {
                 sid: Sid::new(one.request.sid).unwrap(),
                 iuc: grant_iuc(channel, one.request.n),

@@ -26,7 +26,7 @@ loop-gap-preserved c =
       anew = inr gap.0.behind;
       within = gap.0.within;
       put = gap_more c.args.placements.now c.args.len c.loop-gap.x (get_or c.args.gaps.now c.loop-gap.gap-index blank) c.args.elements.now.items c.loop-gap.elements.items c.put_placements.new.elements.items c.put_gap.new.elements.items gap.0 c.loop-gap.invariant.anew
-          c.loop-gap.invariant.put c.in_ok-put_placements.ensures c.in_ok-put_gap.ensures;
+          c.loop-gap.invariant.put c.in_ok-drawn.ensures c.in_ok-put_gap.ensures;
     }
 
 pub put_placements-requires-2 : goal.put_placements-requires-2
@@ -37,4 +37,4 @@ put_placements-requires-2 c = record {
 }
 
 pub returns : goal.returns
-returns c = c.in_ok-put_placements-2.ensures ∙ placements_more (begins_at c.args.placements.now) c.loop-gap.x c.args.len c.args.elements.now.items c.loop-gap.elements.items c.loop-gap.invariant.within c.loop-gap.invariant.put
+returns c = c.in_ok-put_placements.ensures ∙ placements_more (begins_at c.args.placements.now) c.loop-gap.x c.args.len c.args.elements.now.items c.loop-gap.elements.items c.loop-gap.invariant.within c.loop-gap.invariant.put

@@ -13,10 +13,10 @@ some_held None p e held = absurd cc
 some_held (Some q) p e held = subst (λ (r : Option Placement). IsSome r) (sym e) refl
 
 pub unwrap-placement-requires : goal.unwrap-placement-requires
-unwrap-placement-requires c = some_held (holder c.args.placements.now c.loop-x.x) c.holder.result c.holder.ensures (c.requires.held c.loop-x.x c.loop-x.invariant.least c.loop-x-test.true)
+unwrap-placement-requires c = some_held (holder c.args.placements.now c.loop-x.x) c.holder_near.result c.holder_near.ensures (c.requires.held c.loop-x.x c.loop-x.invariant.least c.loop-x-test.true)
 
 pub behind-x-requires-clause-held : goal.behind-x-requires-clause-held
-behind-x-requires-clause-held c = (found_has (holds c.loop-x.x) c.args.placements.now c.unwrap-placement.result (sym c.holder.ensures ∙ c.unwrap-placement.ensures)).1
+behind-x-requires-clause-held c = (found_has (holds c.loop-x.x) c.args.placements.now c.unwrap-placement.result (sym c.holder_near.ensures ∙ c.unwrap-placement.ensures)).1
 
 pub loop-x-init : goal.loop-x-init
 loop-x-init c =
@@ -32,7 +32,7 @@ loop-x-preserved c =
     let ps = c.args.placements.now in
     let x = c.loop-x.x in
     let p = c.unwrap-placement.result in
-    let held : holder ps x ≡ Some p = sym c.holder.ensures ∙ c.unwrap-placement.ensures in
+    let held : holder ps x ≡ Some p = sym c.holder_near.ensures ∙ c.unwrap-placement.ensures in
     let b = c.behind-x.ensures in
     let more : x < c.behind-x.result = b.more in
     record {
