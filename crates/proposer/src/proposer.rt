@@ -140,7 +140,7 @@ impl Proposer {
         place: u64,
         votes: &[(u64, Cast)],
     ) -> Result<Option<(Nodes, Joined)>, AllocError>
-        ensures { IfOk result (λ counted. MatchOption counted
+        ensures counted { IfOk result (λ counted. MatchOption counted
             (promise (member_count self.now.members) self.now.id self.now.role ballot place (in_log votes.now) from ≡ stays self.now.role)
             (λ both. promise (member_count self.now.members) self.now.id self.now.role ballot place (in_log votes.now) from ≡ after_promise (member_count self.now.members) self.now.id ballot place both.0 both.1)) }
         ensures uncounted { is_counted self.now.role ballot place from ≡ false → result ≡ Ok None }
