@@ -1,6 +1,6 @@
 //! What a node is made of, and what its parts do with letters.
 
-ghost use Rattle.std.specs.Prelude.{◌≡◌, ◌++◌, ◌∷◌, [], ◌<◌, ◌↔◌, Ok, true, false, IsTrue, IfErr, IfOk, OnErr, OnOk, ℕ, ◌⊎◌, take};
+ghost use Rattle.std.specs.Prelude.{◌≡◌, ◌≢◌, ◌++◌, ◌∷◌, [], ◌<◌, ◌↔◌, Ok, true, false, IsTrue, IfErr, IfOk, IsOk, None, OnErr, OnOk, ℕ, ◌⊎◌, take};
 ghost use Rattle.ballots.specs.Limits.{IsPlace, IsValue};
 ghost use Rattle.ballots.specs.Members.{member_count};
 ghost use Rattle.ballots.specs.Rows.{at, rows_from};
@@ -8,12 +8,12 @@ ghost use Rattle.ballots.specs.declared.letters.Note.TheVariants.{Higher as High
 ghost use Rattle.node.specs.Answers.{accepted_letters, WroteNothing};
 ghost use Rattle.acceptor.specs.Calls.{KeepsTrust};
 ghost use Rattle.acceptor.specs.Content.{Content};
-ghost use Rattle.node.specs.Calls.{Kept, KeptByRestart, Restarts, StopsLast, TakesTurn, TellsFresh, answer};
+ghost use Rattle.node.specs.Calls.{IsNothingNew, Kept, KeptByRestart, Restarts, StopsLast, TakesTurn, TellsFresh, answer};
 ghost use Rattle.node.specs.Calls.Cause.{Lead, Offer};
 ghost use Rattle.node.specs.Releases.{Releases, outputs};
 ghost use Rattle.node.specs.View.{Standing};
 ghost use Rattle.proposer.specs.Turns as turn;
-ghost use Rattle.proposer.specs.Turns.{IsNextBallot};
+ghost use Rattle.proposer.specs.Turns.{IsNextBallot, is_counted};
 ghost use Rattle.node.specs.Step.{Leads, accept, after_higher, are_votes, heed, is_sound, known, known_letters, learns, letter, nothing, offer, prepare, promise, to_all, voted};
 
 use crate::knowledge::Knowledge;
@@ -133,6 +133,7 @@ impl<R: Records> Parts<R> {
         ensures kept { Kept (who_of R.count_of R.is_broken self.old) result (who_of R.count_of R.is_broken self.new) }
         ensures done { IsTrue (R.is_honest self.new.records)
             → Does R.may_find self.old (λ view course. course ≡ Ok (promise (member_count self.old.proposer.members) self.old.proposer.id view view.role ballot place votes.now from)) result self.new }
+        ensures no_memory { is_counted self.old.proposer.role ballot place from ≡ false → IsOk result }
     {
         Ok(self.proposer.promise(from, ballot, place, votes.rows())?)
     }
@@ -252,7 +253,11 @@ impl<R: Records> Parts<R> {
         ensures kept { Kept (who_of R.count_of R.is_broken self.old) result (who_of R.count_of R.is_broken self.new) }
         ensures done { IsTrue (R.is_honest self.new.records)
             → Does R.may_find self.old (λ view course. course ≡ Ok (voted (member_count self.old.proposer.members) view (at view.tally.learned place) ballot place value.now from)) result self.new }
+        ensures no_memory { at self.old.knowledge.tally.learned place ≢ None → IsOk result }
     {
+        if self.knowledge.learned(place.number()).is_some() {
+            return Ok(Vec::new(self.alloc));
+        }
         let members = self.proposer.members();
         let value = value.copy(self.alloc)?;
         let taught = self.knowledge.voted(members, ballot, place, value, from)?;
@@ -270,6 +275,7 @@ impl<R: Records> Parts<R> {
         ensures kept { Kept (who_of R.count_of R.is_broken self.old) result (who_of R.count_of R.is_broken self.new) }
         ensures done { IsTrue (R.is_honest self.new.records)
             → Does R.may_find self.old (λ view course. course ≡ Ok (known view (at view.tally.learned place) place value.now)) result self.new }
+        ensures no_memory { at self.old.knowledge.tally.learned place ≢ None → IsOk result }
     {
         if self.knowledge.learned(place.number()).is_some() {
             return Ok(Vec::new(self.alloc));
@@ -285,6 +291,7 @@ impl<R: Records> Parts<R> {
         ensures kept { Kept (who_of R.count_of R.is_broken self.old) result (who_of R.count_of R.is_broken self.new) }
         ensures done { IsTrue (R.is_honest self.new.records)
             → Does R.may_find self.old (λ view course. course ≡ Ok (nothing (after_higher view ballot))) result self.new }
+        ensures no_memory { IsOk result }
     {
         self.proposer.higher(ballot);
         Ok(Vec::new(self.alloc))
@@ -330,6 +337,7 @@ impl<R: Records> Parts<R> {
         ensures kept { Kept (who_of R.count_of R.is_broken self.old) result (who_of R.count_of R.is_broken self.new) }
         ensures done { IsTrue (R.is_honest self.new.records)
             → Does R.may_find self.old (λ view course. course ≡ Ok (heed (member_count self.old.proposer.members) self.old.proposer.id view letter.now.from letter.now.note)) result self.new }
+        ensures no_memory { IsNothingNew self.old.proposer.role self.old.knowledge.tally.learned letter.now.from letter.now.note → IsOk result }
     {
         match &letter.note {
             Note::Prepare { ballot, place } => {
