@@ -7,3 +7,5 @@ pub mod Fresh
 pub mod StoreFaults
 pub mod Release
 pub mod Moves
+pub mod Acted
+pub mod Acts
