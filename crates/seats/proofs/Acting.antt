@@ -1,5 +1,5 @@
 -- What a call of a node is, as its seat shows it.
-use Rattle.std.proofs.Common.{◌≡◌, ◌<◌, ◌≤◌, inl, inr, ⊎_elim, ℕ, List, [], length, None, Option, Ok, Err, Result, Bool, true, false, IsTrue, Vec, is_ok, nat_lt, refl, sym, ap, ◌∙◌, subst, arith}
+use Rattle.std.proofs.Common.{◌≡◌, inl, inr, ⊎_elim, ℕ, ◌+◌, List, [], length, None, Option, Ok, Err, Result, Bool, true, false, IsTrue, Vec, is_ok, nat_lt, if◌then◌else◌, refl, sym, ap, ◌∙◌, subst, arith}
 use Rattle.std.specs.Prelude.{IfErr, OnOk}
 use Rattle.std.specs.declared.alloc.Global.{Global}
 use Rattle.std.proofs.lemmas.Bool.{cond_both, false≢true}
@@ -17,13 +17,13 @@ use Rattle.node.specs.Calls.{Called, Cause, Course, Ends, IsStop, Kept, KeptByRe
 use Rattle.node.specs.Calls.Cause.{Lead as AskedToLead, Offer as Offered, Receive as Received}
 use Rattle.node.specs.Releases.{Releases, outputs, released_all}
 use Rattle.node.specs.Step.{Outcome, nothing}
-use Rattle.proposer.specs.Faults.{IsOfLead, IsOfOffer}
+use Rattle.proposer.specs.Faults.{IsOfOffer}
 use Rattle.proposer.specs.Letters.{to_all}
 use Rattle.proposer.specs.Turns.{Turn, offer}
 use Rattle.proposer.specs.declared.role.Role.{Role}
 use Rattle.proposer.specs.declared.role.Role.TheVariants.{Idle, Preparing, Leading}
 use Rattle.proposer.specs.declared.fault.NodeFault.{NodeFault}
-use Rattle.proposer.specs.declared.fault.NodeFault.TheVariants.{NotLeading, LogFull, RoundsSpent, ValueTooLong, OutOfMemory, StoreRefused, Down}
+use Rattle.proposer.specs.declared.fault.NodeFault.TheVariants.{NotLeading, LogFull, ValueTooLong, OutOfMemory, StoreRefused, Down}
 use Rattle.seats.specs.Acted.{ask_of, letters_of, of_call, of_lost_call, of_release, of_restart, outputs_of, told}
 use Rattle.seats.specs.Acts.{Acts, AnswersDown, GoOut, GoesTo, IsNoFailedRestart, MayAnswer, MayFail, MovesBy, TellsStoreOf}
 use Rattle.seats.specs.Moves.{Ask, Move, Moves, Fails, gives, lost, quiet, whole}
@@ -40,16 +40,16 @@ use Rattle.seats.specs.declared.seat.Seat.{Seat}
 use Rattle.world_events.specs.declared.refusal.Refusal.TheVariants.{NodeDown, NodeUp}
 
 -- a node doesn't survive want of memory, and a store that failed
-stop_falls : (told : NodeFault) → IsStop told → survives told ≡ false
+stop_falls : (failed : NodeFault) → IsStop failed → survives failed ≡ false
 stop_falls OutOfMemory stop = refl
 stop_falls StoreRefused stop = refl
 stop_falls Down stop = refl
 stop_falls declined stop = absurd stop
 
 -- a fault of a call of a node that runs
-fails : (view : View) (IsCourse : Result Outcome NodeFault → Type 0) (told : NodeFault) (may : Standing → Type 0) (t : Standing)
-    → Ends IsCourse view (Err told) t → may t
-    → (m : Move) × Fails view IsCourse told m × (m.letters ≡ []) × (m.outputs ≡ []) × Shown (survives told) may m.standing
+fails : (view : View) (IsCourse : Result Outcome NodeFault → Type 0) (failed : NodeFault) (may : Standing → Type 0) (t : Standing)
+    → Ends IsCourse view (Err failed) t → may t
+    → (m : Move) × Fails view IsCourse failed m × (m.letters ≡ []) × (m.outputs ≡ []) × Shown (survives failed) may m.standing
 fails view IsCourse OutOfMemory may t is at = (quiet (Stopped view.content None), refl, refl, refl, (t, at, sym (ap crashed is)))
 fails view IsCourse StoreRefused may t is at = (quiet (Stopped view.content None), refl, refl, refl, (t, at, sym (ap crashed is)))
 fails view IsCourse Down may t (inl is) at = (quiet (Stopped view.content None), inl refl, refl, refl, (t, at, sym (ap crashed is)))
@@ -57,7 +57,7 @@ fails view IsCourse Down may t (inr (o, course, is)) at = (quiet (Stopped view.c
 fails view IsCourse declined may t ends at = (quiet (Running view), (ends.0, refl), refl, refl, (subst may ends.1 at, view, refl))
 
 -- the same of a call that writes nothing
-store_ends : (view : View) (IsCourse : Result Outcome NodeFault → Type 0) (told : NodeFault) (t : Standing) → StoreFails view told t → Ends IsCourse view (Err told) t
+store_ends : (view : View) (IsCourse : Result Outcome NodeFault → Type 0) (failed : NodeFault) (t : Standing) → StoreFails view failed t → Ends IsCourse view (Err failed) t
 store_ends view IsCourse OutOfMemory t is = is
 store_ends view IsCourse StoreRefused t is = is
 store_ends view IsCourse Down t is = inl is
@@ -68,8 +68,8 @@ called : (members me : ℕ) (view : View) (cause : Cause) (may : Standing → Ty
     → Ends (Course members me view cause) view (answer given) t → StopsLast members me view cause (answer given) → may t
     → GoesTo members me (Running view) (Call cause) (told (of_call given)) (letters_of (of_call given)) (outputs_of (of_call given)) (Shown (stays_up given) may)
 called members me view cause may (Ok letters) t (o, course, same, is) last at = (whole o, (tt, (o, course, ap length same, refl)), sym same, refl, (subst may is at, o.view, refl))
-called members me view cause may (Err told) t ends last at =
-    let r = fails view (Course members me view cause) told may t ends at in
+called members me view cause may (Err failed) t ends last at =
+    let r = fails view (Course members me view cause) failed may t ends at in
     (r.0, (last, r.1), r.2, r.3, r.4)
 
 -- one whose letters are thrown away, and after which it crashes
@@ -77,26 +77,26 @@ called_last : (members me : ℕ) (view : View) (l : Letter) (may : Standing → 
     → Ends (Course members me view (Received l)) view (answer given) t → IfErr given IsStop → may t
     → GoesTo members me (Running view) (TakeThenCrash l) (told (of_lost_call given)) (letters_of (of_lost_call given)) (outputs_of (of_lost_call given)) (Shown false may)
 called_last members me view l may (Ok letters) t (o, course, same, is) stop at = (lost o, (o, course, refl), refl, refl, (t, at, sym (ap crashed is)))
-called_last members me view l may (Err told) t ends stop at =
-    let r = fails view (Course members me view (Received l)) told may t ends at in
-    (r.0, r.1, r.2, r.3, subst (λ (up : Bool). Shown up may r.0.standing) (stop_falls told stop) r.4)
+called_last members me view l may (Err failed) t ends stop at =
+    let r = fails view (Course members me view (Received l)) failed may t ends at in
+    (r.0, r.1, r.2, r.3, subst (λ (up : Bool). Shown up may r.0.standing) (stop_falls failed stop) r.4)
 
 -- a release
 gave : (members me now : ℕ) (view : View) (may : Standing → Type 0) (given : Result (Vec Numbered Global) NodeFault) (t : Standing)
     → Releases (Running view) now (outputs given) t → may t
     → GoesTo members me (Running view) (Release now) (told (of_release given)) (letters_of (of_release given)) (outputs_of (of_release given)) (Shown (stays_up given) may)
 gave members me now view may (Ok released) t (same, is) at = (gives view now, (ap length same, refl), refl, sym same, (subst may is at, released_all view, refl))
-gave members me now view may (Err told) t ends at =
+gave members me now view may (Err failed) t ends at =
     let course : Result Outcome NodeFault → Type 0 = λ made. made ≡ Ok (nothing (released_all view)) in
-    fails view course told may t (store_ends view course told t ends) at
+    fails view course failed may t (store_ends view course failed t ends) at
 
 -- a restart that failed left the node down as it was
-failed_stops : (s : Standing) (told : NodeFault) (t : Standing) → Restarts s (Err told) t → IsStop told × (crashed s ≡ crashed t)
+failed_stops : (s : Standing) (failed : NodeFault) (t : Standing) → Restarts s (Err failed) t → IsStop failed × (crashed s ≡ crashed t)
 failed_stops (Running view) OutOfMemory t failed = (tt, sym (ap crashed failed))
 failed_stops (Running view) StoreRefused t failed = (tt, sym (ap crashed failed))
 failed_stops (Running view) Down t failed = (tt, sym (ap crashed failed))
 failed_stops (Running view) declined t failed = absurd failed
-failed_stops (Stopped c doubt) told t failed = (failed.0, sym (ap crashed failed.1))
+failed_stops (Stopped c doubt) fault t failed = (failed.0, sym (ap crashed failed.1))
 
 starts : (members me : ℕ) (s : Standing) (may : Standing → Type 0) (given : Result (Unit {0}) NodeFault) (t : Standing)
     → Restarts s given t → may t
@@ -105,26 +105,26 @@ starts members me (Running view) may (Ok done) t is at = (quiet (Running (starte
 starts members me (Stopped c doubt) may (Ok done) t (inl is) at = (quiet (Running (started c)), inl refl, refl, refl, (subst may is at, started c, refl))
 starts members me (Stopped c doubt) may (Ok done) t (inr is) at =
     (record { standing = Running (started (after_write c doubt)); letters = []; outputs = []; write = doubt }, inr refl, refl, refl, (subst may is at, started (after_write c doubt), refl))
-starts members me (Running view) may (Err told) t failed at =
-    let stop = failed_stops (Running view) told t failed in
+starts members me (Running view) may (Err fault) t failed at =
+    let stop = failed_stops (Running view) fault t failed in
     (quiet (Stopped view.content None), (stop.0, refl), refl, refl, (t, at, stop.1))
-starts members me (Stopped c doubt) may (Err told) t failed at =
-    let stop = failed_stops (Stopped c doubt) told t failed in
+starts members me (Stopped c doubt) may (Err fault) t failed at =
+    let stop = failed_stops (Stopped c doubt) fault t failed in
     (quiet (Stopped c doubt), (stop.0, refl), refl, refl, (t, at, stop.1))
 
 -- a fault of the store of a node that was up comes only where its count rose
-err_rose : (T : Type 0) (old new : Who) (told : NodeFault) → old.down ≡ false → Kept {T = T} old (Err told) new → is_store_fault (Fault told) ≡ true → HasRisen old.failures new.failures
+err_rose : (T : Type 0) (old new : Who) (failed : NodeFault) → old.down ≡ false → Kept {T = T} old (Err failed) new → is_store_fault (Fault failed) ≡ true → HasRisen old.failures new.failures
 err_rose T old new StoreRefused up kept loud = kept.3.0
 err_rose T old new Down up kept loud = ⊎_elim (λ failed. failed.0) (λ was. absurd (false≢true (sym up ∙ was.0))) kept.3
 err_rose T old new declined up kept loud = absurd (false≢true loud)
 
-restart_rose : (old new : Who) (told : NodeFault) → KeptByRestart {T = Unit {0}} old (Err told) new → is_store_fault (Fault told) ≡ true → HasRisen old.failures new.failures
+restart_rose : (old new : Who) (failed : NodeFault) → KeptByRestart {T = Unit {0}} old (Err failed) new → is_store_fault (Fault failed) ≡ true → HasRisen old.failures new.failures
 restart_rose old new StoreRefused kept loud = kept.3.0
 restart_rose old new Down kept loud = kept.3.0
 restart_rose old new declined kept loud = absurd (false≢true loud)
 
 -- what a node tells of its store
-err_tells : (T : Type 0) (ask : Ask) (old new : Who) (told : NodeFault) → (ask ≡ Restart → ⊥) → Kept {T = T} old (Err told) new → TellsStoreOf (Fault told) ask old new
+err_tells : (T : Type 0) (ask : Ask) (old new : Who) (failed : NodeFault) → (ask ≡ Restart → ⊥) → Kept {T = T} old (Err failed) new → TellsStoreOf (Fault failed) ask old new
 err_tells T (Call cause) old new StoreRefused other kept = kept.3
 err_tells T (Call cause) old new Down other kept = kept.3
 err_tells T (Call cause) old new declined other kept = kept.3
@@ -137,14 +137,14 @@ err_tells T (Release now) old new declined other kept = kept.3
 err_tells T Crash old new StoreRefused other kept = kept.3
 err_tells T Crash old new Down other kept = kept.3
 err_tells T Crash old new declined other kept = kept.3
-err_tells T Restart old new told other kept = absurd (other refl)
+err_tells T Restart old new failed other kept = absurd (other refl)
 
 -- an offer fails as its proposer's turn says
 pub turn_fails : (members me : ℕ) (role : Role) (value : List ℕ) (given : Result (Vec Letter Global) NodeFault) → TakesTurn (offer members me role value) (answer given) → IfErr given IsOfOffer
 turn_fails members me role value (Ok letters) turn = tt
-turn_fails members me Idle value (Err told) turn = let same : told ≡ NotLeading = cc in subst IsOfOffer (sym same) tt
-turn_fails members me (Preparing b q counted joined) value (Err told) turn = let same : told ≡ NotLeading = cc in subst IsOfOffer (sym same) tt
-turn_fails members me (Leading b next) value (Err told) turn =
+turn_fails members me Idle value (Err failed) turn = let same : failed ≡ NotLeading = cc in subst IsOfOffer (sym same) tt
+turn_fails members me (Preparing b q counted joined) value (Err failed) turn = let same : failed ≡ NotLeading = cc in subst IsOfOffer (sym same) tt
+turn_fails members me (Leading b next) value (Err failed) turn =
     cond_both (nat_lt longest_value (length value)) (Err ValueTooLong) (if nat_lt most_places next then Err LogFull else Ok taken) Told
     (λ long. told_is ValueTooLong tt)
     (λ short. cond_both (nat_lt most_places next) (Err LogFull) (Ok taken) Told (λ full. told_is LogFull tt) (λ room turned. subst IsOfOffer (sym turned) tt))
@@ -154,15 +154,15 @@ turn_fails members me (Leading b next) value (Err told) turn =
     taken = record { role = Leading b (next + 1); letters = to_all members me (Accept b next value) }
 
     Told : Result Turn NodeFault → Type 0
-    Told result = TakesTurn result (Err told) → IsOfOffer told
+    Told result = TakesTurn result (Err failed) → IsOfOffer failed
 
     told_is : (declined : NodeFault) → IsOfOffer declined → Told (Err declined)
-    told_is declined of_offer turned = let same : told ≡ declined = cc in subst IsOfOffer (sym same) of_offer
+    told_is declined of_offer turned = let same : failed ≡ declined = cc in subst IsOfOffer (sym same) of_offer
 
 -- nothing declines a letter
 pub receives_last : (members me : ℕ) (view : View) (l : Letter) (given : Result (List Letter) NodeFault) → StopsLast members me view (Received l) given
 receives_last members me view l (Ok letters) = tt
-receives_last members me view l (Err told) = λ stop. tt
+receives_last members me view l (Err failed) = λ stop. tt
 
 module _ {N : Type 0} {g : Ghosts N} (old : Seat N g) where
   -- where a node that is up may stand
@@ -172,16 +172,16 @@ module _ {N : Type 0} {g : Ghosts N} (old : Seat N g) where
       (was.1, was.2, subst (g.stands old.node) was.2 was.0)
 
   -- nothing changed
-  pub still : (ask : Ask) (told : Answer) (up : Bool) → old.up ≡ up → is_store_fault told ≡ false → GoOut told [] [] → MayAnswer up ask told up → TellsStoreOf told ask (g.who old.node) (g.who old.node)
-      → ((s : Standing) → Shown up (g.stands old.node) s → Moves (g.who old.node).members (g.who old.node).id s ask told (quiet s)) → Acts old ask told [] [] old
-  still ask told up is quiet_answer none may tells moves = record {
+  pub still : (ask : Ask) (reply : Answer) (up : Bool) → old.up ≡ up → is_store_fault reply ≡ false → GoOut reply [] [] → MayAnswer up ask reply up → TellsStoreOf reply ask (g.who old.node) (g.who old.node)
+      → ((s : Standing) → Shown up (g.stands old.node) s → Moves (g.who old.node).members (g.who old.node).id s ask reply (quiet s)) → Acts old ask reply [] [] old
+  still ask reply up is quiet_answer none may tells moves = record {
     same = (refl, refl);
     grows = omega arith;
     tells = tells;
     rose = λ loud. absurd (false≢true (sym quiet_answer ∙ loud));
     honesty = λ honest. honest;
     trust = λ well. record { honest = λ honest. honest; clean = λ clean. clean; sure = λ clean honest. honest };
-    answers = subst (λ (b : Bool). MayAnswer b ask told b) (sym is) may;
+    answers = subst (λ (b : Bool). MayAnswer b ask reply b) (sym is) may;
     goes_out = none;
     moves = λ honest s shown. (quiet s, moves s (subst (λ (b : Bool). Shown b (g.stands old.node) s) is shown), refl, refl, shown);
   }
@@ -228,13 +228,13 @@ module _ {N : Type 0} {g : Ghosts N} (old : Seat N g) where
 
   module _ (new : Seat N g) where
     -- it goes on from where it runs
-    from_running : (ask : Ask) (told : Answer) (letters : List Letter) (outs : List Numbered) (up : Bool) → old.up ≡ true → new.up ≡ up
-        → ((view : View) → g.stands old.node (Running view) → GoesTo (g.who old.node).members (g.who old.node).id (Running view) ask told letters outs (Shown up (g.stands new.node)))
-        → MovesBy (g.who old.node).members (g.who old.node).id (Stands old) ask told letters outs (Stands new)
-    from_running ask told letters outs up was is goes s shown =
+    from_running : (ask : Ask) (reply : Answer) (letters : List Letter) (outs : List Numbered) (up : Bool) → old.up ≡ true → new.up ≡ up
+        → ((view : View) → g.stands old.node (Running view) → GoesTo (g.who old.node).members (g.who old.node).id (Running view) ask reply letters outs (Shown up (g.stands new.node)))
+        → MovesBy (g.who old.node).members (g.who old.node).id (Stands old) ask reply letters outs (Stands new)
+    from_running ask reply letters outs up was is goes s shown =
         let at = runs_at s was shown in
-        subst (λ (x : Standing). GoesTo (g.who old.node).members (g.who old.node).id x ask told letters outs (Stands new)) (sym at.1)
-        (subst (λ (b : Bool). GoesTo (g.who old.node).members (g.who old.node).id (Running at.0) ask told letters outs (Shown b (g.stands new.node))) (sym is) (goes at.0 at.2))
+        subst (λ (x : Standing). GoesTo (g.who old.node).members (g.who old.node).id x ask reply letters outs (Stands new)) (sym at.1)
+        (subst (λ (b : Bool). GoesTo (g.who old.node).members (g.who old.node).id (Running at.0) ask reply letters outs (Shown b (g.stands new.node))) (sym is) (goes at.0 at.2))
 
     -- a call whose letters go out
     pub calls : (cause : Cause) (given : Result (Vec Letter Global) NodeFault) (a : Acted) → a ≡ of_call given → old.up ≡ true → new.up ≡ stays_up given

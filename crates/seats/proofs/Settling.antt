@@ -1,17 +1,18 @@
 -- Where there is no room for what goes out, it is lost and the node crashes.
-use Rattle.std.proofs.Common.{◌≡◌, ◌≢◌, ◌<◌, ℕ, zero, suc, List, [], ◌∷◌, length, None, Bool, true, false, nat_lt, refl, sym, ap, ◌∙◌, subst, arith}
+use Rattle.std.proofs.Common.{◌≡◌, ◌≢◌, ◌<◌, ℕ, List, [], ◌∷◌, length, None, Bool, true, false, nat_lt, refl, sym, ap, ◌∙◌, subst, arith}
 use Rattle.std.proofs.lemmas.Bool.{false≢true, ltb-true, ltb-false}
 use Rattle.ballots.specs.declared.letters.Letter.{Letter}
 use Rattle.map_release.specs.declared.numbered.Numbered.{Numbered}
 use Rattle.node.specs.declared.node.Node.{Ghosts}
 use Rattle.node.specs.View.{Standing}
 use Rattle.node.specs.View.Standing.{Running, Stopped}
-use Rattle.seats.specs.Acts.{Acts, GoOut, MayAnswer, Settles, TellsStoreOf, gives}
+use Rattle.seats.specs.Acts.{Acts, GoOut, MayAnswer, Settles, TellsStoreOf}
+use Rattle.seats.specs.Gives.{gives}
 use Rattle.seats.specs.Moves.{Ask, Move, Moves, lost, quiet}
 use Rattle.seats.specs.Moves.Ask.{Call, TakeThenCrash, Release, Crash, Restart}
 use Rattle.seats.specs.Seat.{Shown, crashed}
 use Rattle.seats.specs.declared.answer.Answer.{Answer}
-use Rattle.seats.specs.declared.answer.Answer.TheVariants.{Sent, Released, Finished, Refused, Fault, Crashed}
+use Rattle.seats.specs.declared.answer.Answer.TheVariants.{Sent, Released, Crashed}
 use Rattle.seats.specs.declared.seat.Seat.{Seat}
 
 -- a list with something in it
@@ -60,7 +61,7 @@ may_crash was ask answer up more may = absurd (false≢true more)
 -- a move with letters or outputs, and the one that lost them and crashed
 loses : (members me : ℕ) (s : Standing) (ask : Ask) (answer : Answer) (m : Move) (was up : Bool) → gives answer ≡ true → MayAnswer was ask answer up → Moves members me s ask answer m
     → (n : Move) × Moves members me s ask Crashed n × (n.letters ≡ []) × (n.outputs ≡ []) × (n.standing ≡ crashed m.standing)
-loses members me (Running view) (Call cause) (Sent n) m true up more may (last, o, course, count, is) =
+loses members me (Running view) (Call cause) (Sent n) m true up more may (last, (o, course, count, is)) =
     (lost o, (tt, (o, course, some_in o.letters n count more, refl)), refl, refl, sym (ap (λ (x : Move). crashed x.standing) is))
 loses members me (Running view) (Release now) (Released n) m true up more may (count, is) =
     (quiet (Stopped view.content None), (some_in _ n count more, refl), refl, refl, sym (ap (λ (x : Move). crashed x.standing) is))

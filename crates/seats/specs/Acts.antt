@@ -1,5 +1,5 @@
 -- What a node in its seat owes where it does what it is asked.
-use Rattle.std.specs.Prelude.{◌≡◌, ◌≤◌, ℕ, List, [], length, nat_lt, Bool, true, false, ◌&&◌, not, if◌then◌else◌, Result, Ok, Err}
+use Rattle.std.specs.Prelude.{◌≡◌, ◌≤◌, ℕ, List, [], length, Bool, true, false, if◌then◌else◌, Ok, Err}
 use Rattle.ballots.specs.declared.letters.Letter.{Letter}
 use Rattle.acceptor.specs.Calls.{KeepsTrust}
 use Rattle.acceptor.specs.Faults.{HasRisen}
@@ -13,6 +13,7 @@ use Rattle.proposer.specs.declared.fault.NodeFault.{NodeFault}
 use Rattle.seats.specs.declared.answer.Answer.{Answer}
 use Rattle.seats.specs.declared.answer.Answer.TheVariants.{Sent, Released, Finished, Refused, Fault, Crashed}
 use Rattle.seats.specs.declared.seat.Seat.{Seat}
+use Rattle.seats.specs.Gives.{gives}
 use Rattle.seats.specs.Moves.{Ask, Move, Moves}
 use Rattle.seats.specs.Moves.Ask.{Call, TakeThenCrash, Release, Crash, Restart}
 use Rattle.seats.specs.Occupant.{Stands, IsHonest, is_up, node_of, who_of}
@@ -94,12 +95,6 @@ pub record Acts {N : Type 0} {g : Ghosts N} (old : Seat N g) (ask : Ask) (answer
   pub goes_out : GoOut answer letters outputs
   -- and it moved so
   pub moves : IsHonest new → MovesBy (who_of old).members (who_of old).id (Stands old) ask answer letters outputs (Stands new)
-
--- whether letters or outputs go out
-abbrev pub gives : Answer → Bool
-gives (Sent n) = nat_lt 0 n
-gives (Released n) = nat_lt 0 n
-gives answer = false
 
 -- the answer where there is room for what goes out, or there is none
 abbrev pub settled : Answer → Bool → Answer

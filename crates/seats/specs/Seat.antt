@@ -1,5 +1,5 @@
 -- A node with its flag, as the written world sees it.
-use Rattle.std.specs.Prelude.{◌≡◌, ℕ, None, Result, Ok, Err, Bool, true, false}
+use Rattle.std.specs.Prelude.{◌≡◌, None, Result, Ok, Err, Bool, true, false}
 use Rattle.node.specs.View.{View, Standing}
 use Rattle.node.specs.View.Standing.{Running, Stopped}
 use Rattle.node.specs.Calls.{Who}

@@ -1,7 +1,6 @@
 //! A node with a flag of its own: whether it is up.
 
 ghost use Rattle.std.specs.Prelude.{◌≡◌, true, false};
-ghost use Rattle.seats.specs.Acts.{gives as gives_lem};
 ghost use Rattle.seats.specs.Seat.{stays_up as stays_up_lem, survives as survives_lem};
 
 use crate::acted::{Acted, Asked};
@@ -38,17 +37,6 @@ fn stays_up<T>(ended: &Result<T, NodeFault>) -> bool
     }
 }
 
-/// Whether letters or outputs go out after an answer.
-fn gives(answer: Answer) -> bool
-    ensures { result ≡ gives_lem answer }
-{
-    match answer {
-        Answer::Sent(count) => count > 0,
-        Answer::Released(count) => count > 0,
-        _ => false,
-    }
-}
-
 impl<N: Node> Seat<N> {
     ghost use Rattle.std.specs.Prelude.{◌≡◌, true, false, is_ok};
     ghost use Rattle.seats.specs.Acted.{ask_of, letters_of, outputs_of, told};
@@ -80,7 +68,7 @@ impl<N: Node> Seat<N> {
 
     /// The node does what it is asked. It crashes where it lacks memory or its store fails.
     pub fn act(&mut self, asked: Asked) -> Acted
-        ensures { Acts self.old (ask_of asked) (told result) (letters_of result) (outputs_of result) self.new }
+        ensures { Acts self.old (ask_of asked.entry) (told result) (letters_of result) (outputs_of result) self.new }
     {
         if self.up {
             self.act_up(asked)
@@ -92,7 +80,7 @@ impl<N: Node> Seat<N> {
     /// The same of a node that is up.
     fn act_up(&mut self, asked: Asked) -> Acted
         requires { is_up self.old ≡ true }
-        ensures { Acts self.old (ask_of asked) (told result) (letters_of result) (outputs_of result) self.new }
+        ensures { Acts self.old (ask_of asked.entry) (told result) (letters_of result) (outputs_of result) self.new }
     {
         match asked {
             Asked::Lead => {
@@ -131,7 +119,7 @@ impl<N: Node> Seat<N> {
     /// The same of a node that crashed.
     fn act_down(&mut self, asked: Asked) -> Acted
         requires { is_up self.old ≡ false }
-        ensures { Acts self.old (ask_of asked) (told result) (letters_of result) (outputs_of result) self.new }
+        ensures { Acts self.old (ask_of asked.entry) (told result) (letters_of result) (outputs_of result) self.new }
     {
         match asked {
             Asked::Restart => {
@@ -151,7 +139,7 @@ impl<N: Node> Seat<N> {
         if kept.is_ok() {
             return answer;
         }
-        if !gives(answer) {
+        if !answer.gives() {
             return answer;
         }
         self.up = false;
