@@ -8,10 +8,11 @@ ghost use Rattle.ballots.specs.declared.letters.Note.TheVariants.{Higher as High
 ghost use Rattle.node.specs.Answers.{accepted_letters, WroteNothing};
 ghost use Rattle.acceptor.specs.Calls.{KeepsTrust};
 ghost use Rattle.acceptor.specs.Content.{Content};
-ghost use Rattle.node.specs.Calls.{IsNothingNew, Kept, KeptByRestart, Restarts, StopsLast, TakesTurn, TellsFresh, answer};
+ghost use Rattle.node.specs.Calls.{IsNothingNew, Kept, KeptByRestart, Restarts, StopsLast, TakesTurn, TellsFresh, answer, IsStop};
 ghost use Rattle.node.specs.Calls.Cause.{Lead, Offer};
 ghost use Rattle.node.specs.Releases.{Releases, outputs};
 ghost use Rattle.node.specs.View.{Standing};
+ghost use Rattle.proposer.specs.Faults.{IsOfLead};
 ghost use Rattle.proposer.specs.Turns as turn;
 ghost use Rattle.proposer.specs.Turns.{IsNextBallot, is_counted};
 ghost use Rattle.node.specs.Step.{Leads, accept, after_higher, are_votes, heed, is_sound, known, known_letters, learns, letter, nothing, offer, prepare, promise, to_all, voted};
@@ -56,6 +57,7 @@ impl<R: Records> Parts<R> {
     /// The store failed.
     pub(crate) fn fail(&mut self, fault: RecordsFault) -> NodeFault
         ensures fails { Fails self.old fault result self.new }
+        ensures tells { IsStop result }
         ensures records { self.new.records ≡ self.old.records }
     {
         self.stop(NodeFault::from(fault))
@@ -102,6 +104,7 @@ impl<R: Records> Parts<R> {
         requires { self.old.is_down ≡ false }
         ensures trust { KeepsTrust R.is_honest R.is_clean self.old.records self.new.records }
         ensures kept { Kept (who_of R.count_of R.is_broken self.old) result (who_of R.count_of R.is_broken self.new) }
+        ensures tells { IfErr result IsStop }
         ensures done { IsTrue (R.is_honest self.new.records)
             → Does R.may_find self.old (λ view course. course ≡ Ok (prepare self.old.proposer.id view ballot place from)) result self.new }
     {
@@ -131,6 +134,7 @@ impl<R: Records> Parts<R> {
         requires sound { are_votes ballot place votes.now ≡ true }
         ensures trust { KeepsTrust R.is_honest R.is_clean self.old.records self.new.records }
         ensures kept { Kept (who_of R.count_of R.is_broken self.old) result (who_of R.count_of R.is_broken self.new) }
+        ensures tells { IfErr result IsStop }
         ensures done { IsTrue (R.is_honest self.new.records)
             → Does R.may_find self.old (λ view course. course ≡ Ok (promise (member_count self.old.proposer.members) self.old.proposer.id view view.role ballot place votes.now from)) result self.new }
         ensures no_memory { is_counted self.old.proposer.role ballot place from ≡ false → IsOk result }
@@ -209,6 +213,7 @@ impl<R: Records> Parts<R> {
         requires short { IsValue value.now }
         ensures trust { KeepsTrust R.is_honest R.is_clean self.old.records self.new.records }
         ensures kept { Kept (who_of R.count_of R.is_broken self.old) result (who_of R.count_of R.is_broken self.new) }
+        ensures tells { IfErr result IsStop }
         ensures done { IsTrue (R.is_honest self.new.records)
             → Does R.may_find self.old (λ view course. course ≡ Ok (accept (member_count self.old.proposer.members) self.old.proposer.id view ballot place value.now from)) result self.new }
     {
@@ -226,6 +231,7 @@ impl<R: Records> Parts<R> {
         requires unlearned { at self.old.knowledge.tally.learned place ≡ None }
         ensures trust { KeepsTrust R.is_honest R.is_clean self.old.records self.new.records }
         ensures kept { Kept (who_of R.count_of R.is_broken self.old) result (who_of R.count_of R.is_broken self.new) }
+        ensures tells { IfErr result IsStop }
         ensures done { IsTrue (R.is_honest self.new.records)
             → Does R.may_find self.old (λ view course. course ≡ Ok (learns view place value)) result self.new }
     {
@@ -251,6 +257,7 @@ impl<R: Records> Parts<R> {
         requires short { IsValue value.now }
         ensures trust { KeepsTrust R.is_honest R.is_clean self.old.records self.new.records }
         ensures kept { Kept (who_of R.count_of R.is_broken self.old) result (who_of R.count_of R.is_broken self.new) }
+        ensures tells { IfErr result IsStop }
         ensures done { IsTrue (R.is_honest self.new.records)
             → Does R.may_find self.old (λ view course. course ≡ Ok (voted (member_count self.old.proposer.members) view (at view.tally.learned place) ballot place value.now from)) result self.new }
         ensures no_memory { at self.old.knowledge.tally.learned place ≢ None → IsOk result }
@@ -273,6 +280,7 @@ impl<R: Records> Parts<R> {
         requires short { IsValue value.now }
         ensures trust { KeepsTrust R.is_honest R.is_clean self.old.records self.new.records }
         ensures kept { Kept (who_of R.count_of R.is_broken self.old) result (who_of R.count_of R.is_broken self.new) }
+        ensures tells { IfErr result IsStop }
         ensures done { IsTrue (R.is_honest self.new.records)
             → Does R.may_find self.old (λ view course. course ≡ Ok (known view (at view.tally.learned place) place value.now)) result self.new }
         ensures no_memory { at self.old.knowledge.tally.learned place ≢ None → IsOk result }
@@ -289,6 +297,7 @@ impl<R: Records> Parts<R> {
         requires { self.old.is_down ≡ false }
         ensures trust { KeepsTrust R.is_honest R.is_clean self.old.records self.new.records }
         ensures kept { Kept (who_of R.count_of R.is_broken self.old) result (who_of R.count_of R.is_broken self.new) }
+        ensures tells { IfErr result IsStop }
         ensures done { IsTrue (R.is_honest self.new.records)
             → Does R.may_find self.old (λ view course. course ≡ Ok (nothing (after_higher view ballot))) result self.new }
         ensures no_memory { IsOk result }
@@ -315,6 +324,7 @@ impl<R: Records> Parts<R> {
         requires { self.old.is_down ≡ false }
         ensures trust { KeepsTrust R.is_honest R.is_clean self.old.records self.new.records }
         ensures kept { Kept (who_of R.count_of R.is_broken self.old) result (who_of R.count_of R.is_broken self.new) }
+        ensures tells { IfErr result IsOfLead }
         ensures done { IsTrue (R.is_honest self.new.records)
             → Does R.may_find self.old (λ view course. Leads (member_count self.old.proposer.members) self.old.proposer.id view course) result self.new }
         ensures order { IsTrue (R.is_honest self.new.records)
@@ -335,6 +345,7 @@ impl<R: Records> Parts<R> {
         requires sound { is_sound letter.now letter.now.note ≡ true }
         ensures trust { KeepsTrust R.is_honest R.is_clean self.old.records self.new.records }
         ensures kept { Kept (who_of R.count_of R.is_broken self.old) result (who_of R.count_of R.is_broken self.new) }
+        ensures tells { IfErr result IsStop }
         ensures done { IsTrue (R.is_honest self.new.records)
             → Does R.may_find self.old (λ view course. course ≡ Ok (heed (member_count self.old.proposer.members) self.old.proposer.id view letter.now.from letter.now.note)) result self.new }
         ensures no_memory { IsNothingNew self.old.proposer.role self.old.knowledge.tally.learned letter.now.from letter.now.note → IsOk result }
@@ -368,6 +379,7 @@ impl<R: Records> Parts<R> {
         requires { self.old.is_down ≡ false }
         ensures trust { KeepsTrust R.is_honest R.is_clean self.old.records self.new.records }
         ensures kept { Kept (who_of R.count_of R.is_broken self.old) result (who_of R.count_of R.is_broken self.new) }
+        ensures tells { IfErr result IsStop }
         ensures done { IsTrue (R.is_honest self.new.records) → (s : Standing) → Stands R.may_find self.old s
             → (t : Standing) × Releases s now (outputs result) t × Stands R.may_find self.new t }
     {
@@ -379,6 +391,7 @@ impl<R: Records> Parts<R> {
         ensures honesty { IsTrue (R.is_honest self.new.records) → IsTrue (R.is_honest self.old.records) }
         ensures trust { OnOk result (KeepsTrust R.is_honest R.is_clean self.old.records self.new.records) }
         ensures kept { KeptByRestart (who_of R.count_of R.is_broken self.old) result (who_of R.count_of R.is_broken self.new) }
+        ensures tells { IfErr result IsStop }
         ensures done { IsTrue (R.is_honest self.new.records) → (s : Standing) → Stands R.may_find self.old s
             → (t : Standing) × Restarts s result t × Stands R.may_find self.new t }
         ensures reopened { OnOk result ((mid : R) × R.reopens self.old.records mid) }
@@ -411,6 +424,7 @@ impl<R: Records> Parts<R> {
         requires { self.old.is_down ≡ false }
         ensures trust { KeepsTrust R.is_honest R.is_clean self.old.records self.new.records }
         ensures kept { Kept (who_of R.count_of R.is_broken self.old) result (who_of R.count_of R.is_broken self.new) }
+        ensures tells { IfErr result IsStop }
         ensures done { IsTrue (R.is_honest self.new.records) → (s : Standing) → Stands R.may_find self.old s
             → (t : Standing) × TellsFresh s result t × Stands R.may_find self.new t }
         ensures untouched { IfOk result (λ fresh. IsTrue fresh → IsUntouched self.new) }

@@ -7,7 +7,7 @@ ghost use Rattle.acceptor.specs.Calls.{KeepsTrust};
 ghost use Rattle.acceptor.specs.Content.Write.{Tries};
 ghost use Rattle.acceptor.specs.Found.{FindsSame, HasMade};
 ghost use Rattle.proposer.specs.Bounds.{in_log};
-ghost use Rattle.proposer.specs.Faults.{BreaksByStop, CountsStops, IsHarmlessStop};
+ghost use Rattle.proposer.specs.Faults.{BreaksByStop, CountsStops, IsHarmlessStop, IsOfLead};
 ghost use Rattle.proposer.specs.Letters.{proposals};
 ghost use Rattle.proposer.specs.Roles.{role_after};
 ghost use Rattle.proposer.specs.Turns.{promise, after_promise, is_counted, stays, offer, tries, IsNextBallot, DeclinesToLead, MayHaveTried};
@@ -224,6 +224,7 @@ impl Proposer {
         ensures ok { IsTrue (R.is_honest records.new) → IfOk result (λ letters. (b : ℕ) × IsNextBallot (R.may_find records.old) self.old.hint self.old.id b
             × (tries (member_count self.old.members) self.old.id b (prefix + 1) ≡ record { role = self.new.role; letters = letters.items }) × HasMade (R.may_find records.old) (R.may_find records.new) (Tries b)) }
         ensures room { OnOk result (prefix < most_places) }
+        ensures tells { IfErr result IsOfLead }
         ensures declined { IsTrue (R.is_honest records.new) → IfErr result (DeclinesToLead (R.may_find records.old) self.old.hint self.old.id prefix) }
         ensures harmless { IsTrue (R.is_honest records.new) → IfErr result (λ fault. IsHarmlessStop fault → FindsSame (R.may_find records.old) (R.may_find records.new)) }
         ensures doubt { IsTrue (R.is_honest records.new) → OnErr result (MayHaveTried (R.may_find records.old) (R.may_find records.new) self.old.hint self.old.id) }
