@@ -1,9 +1,8 @@
 -- What an event owes, by what it asks of a node.
-use Rattle.std.proofs.Common.{◌≡◌, ◌<◌, ◌≤◌, ◌++◌, ◌⊎◌, inl, inr, ℕ, List, [], ◌∷◌, Option, Some, None, Bool, true, false, map, length, get_or, slice_get, slice_set, refl, sym, ap, ◌∙◌, subst, arith, rules, is_ok, Result, append_assoc, append-nil}
-use Rattle.std.proofs.lemmas.Bool.{false≢true}
+use Rattle.std.proofs.Common.{◌≡◌, ◌<◌, ◌≤◌, ◌++◌, inl, inr, ℕ, List, [], ◌∷◌, Option, Some, None, Bool, true, false, map, length, get_or, slice_get, slice_set, refl, sym, ap, ◌∙◌, subst, arith, is_ok, if◌then◌else◌, Result, Ok, Err, append_assoc, append-nil}
+use Rattle.std.specs.Prelude.{OnErr, OnOk}
 use Rattle.std.proofs.lemmas.List.{map-set, map-append, length-map, length-set}
 use Rattle.std.proofs.lemmas.Option.{slice_get_past, slice_get_read}
-use Rattle.ballots.specs.Voting.{Entry}
 use Rattle.ballots.specs.declared.letters.Letter.{Letter}
 use Rattle.acceptor.specs.Content.{record_write}
 use Rattle.map_release.specs.declared.numbered.Numbered.{Numbered}
@@ -28,9 +27,9 @@ use Rattle.world_events.specs.declared.event.Event.{Event}
 use Rattle.world_events.specs.declared.event.Event.TheVariants as event
 use Rattle.world_events.specs.declared.refusal.Refusal.TheVariants.{NoLetter, NoNode}
 use Rattle.network_script.specs.declared.world.World.{World}
-use Rattle.network_script.specs.Asking.{Asks, Delivers, HappensTo, Went, taking}
+use Rattle.network_script.specs.Asking.{Asks, Delivers, HappensTo, IsUnchanged, Went}
 use Rattle.network_script.specs.Counts.{CountNext, Counts, called_by, counts}
-use Rattle.network_script.specs.Next.{Comes, Next, OfNode, OnModems, after}
+use Rattle.network_script.specs.Next.{Comes, Next, OfNode, OnModems, after, taking}
 use Rattle.network_script.specs.Outward.{OfModems, Outward, SeenNext, SeenOfNode, SeenToCome, outward}
 use Rattle.network_script.specs.Seats.{AllHonest, AllKeepTrust, AreStandings, ups}
 use Rattle.network_script.specs.Trust.{NoFailedRestart}
@@ -48,6 +47,23 @@ numbered_more outputs new k x rest left all more is whole =
     ap (λ (xs : List ReleasedOutput). xs ++ released_by k left) more
     ∙ (append_assoc outputs (record { node = k; numbered = x } ∷ []) (released_by k left) ∙ (sym (ap (λ (r : List Numbered). outputs ++ released_by k r) is) ∙ whole))
 
+-- what is kept is added
+pub kept_more : {A : Type 0} (xs new more : List A) (kept : Bool) → new ≡ (if kept then xs ++ more else xs) → new ≡ xs ++ kept_of kept more
+kept_more xs new more true is = is
+kept_more xs new more false is = is ∙ sym (append-nil xs)
+
+pub none_kept : {A : Type 0} (xs : List A) (kept : Bool) → xs ≡ xs ++ kept_of {A = A} kept []
+none_kept xs true = sym (append-nil xs)
+none_kept xs false = sym (append-nil xs)
+
+pub released_more : {T E : Type 0} (xs new : List ReleasedOutput) (k : ℕ) (more : List Numbered) (result : Result T E) → OnOk result (new ≡ xs ++ released_by k more) → OnErr result (new ≡ xs) → new ≡ xs ++ released_by k (kept_of (is_ok result) more)
+released_more xs new k more (Ok done) ok err = ok
+released_more xs new k more (Err failed) ok err = err ∙ sym (append-nil xs)
+
+pub none_released : (xs : List ReleasedOutput) (k : ℕ) (kept : Bool) → xs ≡ xs ++ released_by k (kept_of kept [])
+none_released xs k true = sym (append-nil xs)
+none_released xs k false = sym (append-nil xs)
+
 module _ {N : Type 0} {g : Ghosts N} (old : World N g) where
   -- an event asks node k so: what that is in a written world, and from without
   pub record Calls (event : Event) (k : ℕ) (ask : Ask) : Type 0 where
@@ -57,24 +73,41 @@ module _ {N : Type 0} {g : Ghosts N} (old : World N g) where
     pub well : (answer : Answer) → NoFailedRestart event answer → (fault : NodeFault) → ask ≡ Restart → answer ≡ Fault fault → ⊥
 
   -- nothing changed
-  pub unchanged : (event : Event) (answer : Answer) → is_store_fault answer ≡ false
+  unchanged : (new : World N g) (event : Event) (answer : Answer) → IsUnchanged old new → is_store_fault answer ≡ false
       → ((members : ℕ) (w : Written) → w.letters ≡ letters_of old → length w.nodes ≡ length (seats_of old) → Next members w event answer w)
       → ((o : Outward) → o.letters ≡ letters_of old → o.up ≡ ups (seats_of old) → SeenNext o event answer o)
-      → HappensTo old event answer old
-  unchanged event answer quiet next seen = record {
-    honesty = λ honest. honest;
-    trust = λ well. trust_same (seats_of old);
-    members = refl;
+      → HappensTo old event answer new
+  unchanged new event answer same quiet next seen = record {
+    honesty = λ honest. subst (λ (ss : List (Seat N g)). AllHonest ss) same.0 honest;
+    trust = λ well. subst (λ (ss : List (Seat N g)). AllKeepTrust (seats_of old) ss) (sym same.0) (trust_same (seats_of old));
+    members = ap (λ (ss : List (Seat N g)). length ss) same.0;
     next = λ honest nodes modems history each hold.
         let R : Seat N g → Standing → Type 0 = Stands in
-        (nodes, modems, history, each, hold, next (length nodes) (written old nodes modems history) refl (each_length R (seats_of old) nodes each));
-    counted = count_still (counts old) event answer quiet;
-    seen = λ modems hold. (modems, seen (outward old modems) refl refl, hold);
+        let w = written old nodes modems history in
+        let is : written new nodes modems history ≡ w = same_world (written new nodes modems history) w refl same.1 same.2 refl (ap (λ (r : Receivers). sent_by r) same.3) refl in (
+          nodes,
+          modems,
+          history,
+          subst (λ (ss : List (Seat N g)). AreStandings ss nodes) (sym same.0) each,
+          subst (λ (r : Receivers). Hold r modems) (sym same.3) hold,
+          subst (λ (v : Written). Next (length nodes) w event answer v) (sym is) (next (length nodes) w refl (each_length R (seats_of old) nodes each)),
+        );
+    counted =
+        let F : Seat N g → ℕ = λ seat. (g.who seat.node).failures in
+        let is : counts new ≡ counts old = λ i. record { failures = map F (same.0 i); addressees = map (λ (letter : Letter). letter.to) (same.1 i) } in
+        subst (λ (n : Counts). CountNext (counts old) event answer n) (sym is) (count_still (counts old) event answer quiet);
+    seen = λ modems hold.
+        let f : Seat N g → Bool = is_up in
+        let is : outward new modems ≡ outward old modems = λ i. record { up = map f (same.0 i); letters = same.1 i; outputs = same.2 i; modems = modems; transmissions = sent_by (same.3 i) } in (
+          modems,
+          subst (λ (o : Outward). SeenNext (outward old modems) event answer o) (sym is) (seen (outward old modems) refl refl),
+          subst (λ (r : Receivers). Hold r modems) (sym same.3) hold,
+        );
   }
 
   -- there is no node k
-  missing : (event : Event) (k : ℕ) (ask : Ask) → Calls event k ask → length (seats_of old) ≤ k → HappensTo old event (Refused NoNode) old
-  missing event k ask calls past = unchanged event (Refused NoNode) refl
+  missing : (new : World N g) (event : Event) (k : ℕ) (ask : Ask) → Calls event k ask → IsUnchanged old new → length (seats_of old) ≤ k → HappensTo old event (Refused NoNode) new
+  missing new event k ask calls same past = unchanged new event (Refused NoNode) same refl
       (λ members w letters size. calls.next members w w (Refused NoNode) letters
           (subst (λ (s : Option Standing). OfNode members w k s ask (Refused NoNode) w) (sym (slice_get_past w.nodes k (omega (arith, size, past)))) (refl, refl)))
       (λ o letters up. calls.seen o o (Refused NoNode) letters
@@ -155,7 +188,7 @@ module _ {N : Type 0} {g : Ghosts N} (old : World N g) where
   -- an event that asks node k
   pub asked : (new : World N g) (event : Event) (k : ℕ) (ask : Ask) (answer : Answer) → Calls event k ask → Asks old k ask answer new → HappensTo old event answer new
   asked new event k ask answer calls (inl (past, told, same)) =
-      subst (λ (a : Answer). HappensTo old event a new) (sym told) (subst (λ (w : World N g). HappensTo old event (Refused NoNode) w) (sym same) (missing event k ask calls past))
+      subst (λ (a : Answer). HappensTo old event a new) (sym told) (missing new event k ask calls same past)
   asked new event k ask answer calls (inr went) = goes new event k ask answer calls went
 
   -- one that asks by number
@@ -214,11 +247,11 @@ module _ {N : Type 0} {g : Ghosts N} (old : World N g) where
         no_restart is = cc
 
   -- there is no letter i
-  no_letter : (event : Event) (ask : Letter → Ask) (i : ℕ)
+  no_letter : (new : World N g) (event : Event) (ask : Letter → Ask) (i : ℕ) → IsUnchanged old new
       → ((members : ℕ) (w w' : Written) (answer : Answer) → Comes members w (slice_get w.letters i) ask answer w' → Next members w event answer w')
       → ((o o' : Outward) (answer : Answer) → SeenToCome o (slice_get o.letters i) ask answer o' → SeenNext o event answer o')
-      → length (letters_of old) ≤ i → HappensTo old event (Refused NoLetter) old
-  no_letter event ask i next seen past = unchanged event (Refused NoLetter) refl
+      → length (letters_of old) ≤ i → HappensTo old event (Refused NoLetter) new
+  no_letter new event ask i same next seen past = unchanged new event (Refused NoLetter) same refl
       (λ members w letters size. next members w w (Refused NoLetter) (subst (λ (found : Option Letter). Comes members w found ask (Refused NoLetter) w) (sym (none w.letters letters)) (refl, refl)))
       (λ o letters up. seen o o (Refused NoLetter) (subst (λ (found : Option Letter). SeenToCome o found ask (Refused NoLetter) o) (sym (none o.letters letters)) (refl, refl)))
     where
@@ -227,15 +260,17 @@ module _ {N : Type 0} {g : Ghosts N} (old : World N g) where
 
   pub delivered : (new : World N g) (i : ℕ) (answer : Answer) → Delivers old i (taking false) answer new → HappensTo old (event.Deliver i) answer new
   delivered new i answer (inl (past, told, same)) =
-      subst (λ (a : Answer). HappensTo old (event.Deliver i) a new) (sym told) (subst (λ (w : World N g). HappensTo old (event.Deliver i) (Refused NoLetter) w) (sym same)
-      (no_letter (event.Deliver i) (λ l. Call (Received l)) i (λ members w w' a of. of) (λ o o' a of. of) past))
-  delivered new i answer (inr (l, within, at, asks)) = asked new (event.Deliver i) l.to (Call (Received l)) answer (to_take i l within at) asks
+      subst (λ (a : Answer). HappensTo old (event.Deliver i) a new) (sym told)
+      (no_letter new (event.Deliver i) (λ l. Call (Received l)) i same (λ members w w' a of. of) (λ o o' a of. of) past)
+  delivered new i answer (inr (l, k, within, at, to, asks)) =
+      asked new (event.Deliver i) l.to (Call (Received l)) answer (to_take i l within at) (subst (λ (n : ℕ). Asks old n (Call (Received l)) answer new) to asks)
 
   pub delivered_last : (new : World N g) (i : ℕ) (answer : Answer) → Delivers old i (taking true) answer new → HappensTo old (event.DeliverThenCrash i) answer new
   delivered_last new i answer (inl (past, told, same)) =
-      subst (λ (a : Answer). HappensTo old (event.DeliverThenCrash i) a new) (sym told) (subst (λ (w : World N g). HappensTo old (event.DeliverThenCrash i) (Refused NoLetter) w) (sym same)
-      (no_letter (event.DeliverThenCrash i) TakeThenCrash i (λ members w w' a of. of) (λ o o' a of. of) past))
-  delivered_last new i answer (inr (l, within, at, asks)) = asked new (event.DeliverThenCrash i) l.to (TakeThenCrash l) answer (to_take_last i l within at) asks
+      subst (λ (a : Answer). HappensTo old (event.DeliverThenCrash i) a new) (sym told)
+      (no_letter new (event.DeliverThenCrash i) TakeThenCrash i same (λ members w w' a of. of) (λ o o' a of. of) past)
+  delivered_last new i answer (inr (l, k, within, at, to, asks)) =
+      asked new (event.DeliverThenCrash i) l.to (TakeThenCrash l) answer (to_take_last i l within at) (subst (λ (n : ℕ). Asks old n (TakeThenCrash l) answer new) to asks)
 
   -- an event of a modem
   pub listened : (new : World N g) (event : Event) (answer : Answer)

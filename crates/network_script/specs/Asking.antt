@@ -1,12 +1,10 @@
 -- What an event does to a world, by what it asks of a node.
-use Rattle.std.specs.Prelude.{◌≡◌, ◌<◌, ◌≤◌, ◌++◌, ◌⊎◌, ℕ, List, Bool, true, false, length, slice_index_or, slice_set}
+use Rattle.std.specs.Prelude.{◌≡◌, ◌<◌, ◌≤◌, ◌++◌, ◌⊎◌, ℕ, List, length, slice_index_or, slice_set}
 use Rattle.ballots.specs.declared.letters.Letter.{Letter}
 use Rattle.map_release.specs.declared.numbered.Numbered.{Numbered}
 use Rattle.node.specs.declared.node.Node.{Ghosts}
-use Rattle.node.specs.Calls.Cause.{Receive as Received}
 use Rattle.seats.specs.Acts.{Acts}
 use Rattle.seats.specs.Moves.{Ask}
-use Rattle.seats.specs.Moves.Ask.{Call, TakeThenCrash}
 use Rattle.seats.specs.declared.answer.Answer.{Answer}
 use Rattle.seats.specs.declared.answer.Answer.TheVariants.{Refused}
 use Rattle.seats.specs.declared.seat.Seat.{Seat}
@@ -34,20 +32,20 @@ pub record Went {N : Type 0} {g : Ghosts N} (old : World N g) (k : ℕ) (ask : A
   pub released : outputs_of new ≡ outputs_of old ++ released_by k outputs
   pub receivers : receivers_of new ≡ receivers_of old
 
+-- a world has the nodes, letters, outputs and modems that it had
+abbrev pub IsUnchanged : {N : Type 0} {g : Ghosts N} → World N g → World N g → Type 0
+IsUnchanged old new =
+    (seats_of new ≡ seats_of old) × (letters_of new ≡ letters_of old) × (outputs_of new ≡ outputs_of old) × (receivers_of new ≡ receivers_of old)
+
 -- node k, if there is one, is asked so
 abbrev pub Asks : {N : Type 0} {g : Ghosts N} → World N g → ℕ → Ask → Answer → World N g → Type 0
-Asks old k ask answer new = ((length (seats_of old) ≤ k) × (answer ≡ Refused NoNode) × (new ≡ old)) ⊎ Went old k ask answer new
+Asks old k ask answer new = ((length (seats_of old) ≤ k) × (answer ≡ Refused NoNode) × IsUnchanged old new) ⊎ Went old k ask answer new
 
 -- letter i, if there is one, comes to the node that it is to, of which it asks so
 abbrev pub Delivers : {N : Type 0} {g : Ghosts N} → World N g → ℕ → (Letter → Ask) → Answer → World N g → Type 0
 Delivers old i ask answer new =
-    ((length (letters_of old) ≤ i) × (answer ≡ Refused NoLetter) × (new ≡ old))
-    ⊎ ((l : Letter) × (i < length (letters_of old)) × (l ≡ slice_index_or (letters_of old) i l) × Asks old l.to (ask l) answer new)
-
--- what a letter asks, that is taken before a crash or is not
-abbrev pub taking : Bool → Letter → Ask
-taking true l = TakeThenCrash l
-taking false l = Call (Received l)
+    ((length (letters_of old) ≤ i) × (answer ≡ Refused NoLetter) × IsUnchanged old new)
+    ⊎ ((l : Letter) × (k : ℕ) × (i < length (letters_of old)) × (l ≡ slice_index_or (letters_of old) i l) × (k ≡ l.to) × Asks old k (ask l) answer new)
 
 -- what an event owes
 pub record HappensTo {N : Type 0} {g : Ghosts N} (old : World N g) (event : Event) (answer : Answer) (new : World N g) : Type 0 where

@@ -1,5 +1,5 @@
 -- The nodes of a world, as a list.
-use Rattle.std.specs.Prelude.{◌≡◌, ℕ, List, [], ◌∷◌, Bool, true, map, length, All}
+use Rattle.std.specs.Prelude.{◌≡◌, List, [], ◌∷◌, Bool, true, map, length, All}
 use Rattle.std.specs.List.{range_with_len}
 use Rattle.node.specs.declared.node.Node.{Ghosts}
 use Rattle.node.specs.View.{Standing}

@@ -3,7 +3,7 @@
 ghost use Rattle.std.specs.Prelude.{◌≡◌, ◌++◌, false, is_ok, All, OnOk, OnErr, IfOk};
 ghost use Rattle.seats.specs.Acted.{ask_of, letters_of as letters_given, outputs_of as outputs_given};
 ghost use Rattle.seats.specs.Acts.{kept_of};
-ghost use Rattle.network_script.specs.Asking.{taking as taking_lem};
+ghost use Rattle.network_script.specs.Next.{taking as taking_lem};
 ghost use Rattle.network_script.specs.World.{released_by};
 ghost use Rattle.network_script.specs.Seats.{IsNumbered, AreSeated};
 
@@ -137,7 +137,7 @@ impl<N: Node> World<N> {
 
     /// Node `k`, if there is one, does what it is asked, and what it gives is kept.
     fn ask(&mut self, k: usize, asked: Asked) -> Answer
-        ensures { Asks self.old k (ask_of asked) result self.new }
+        ensures { Asks self.old k (ask_of asked.entry) result self.new }
     {
         if k >= self.seats.len() {
             return Answer::Refused(Refusal::NoNode);

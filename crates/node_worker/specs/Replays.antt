@@ -28,23 +28,24 @@ ask_of (Asked Crash) = CrashNow
 ask_of (Asked Restart) = StartAgain
 ask_of (Came l) = IsCalled (Received l)
 
--- the answer to a cause that ended whole
-abbrev pub whole_answer : Cause → List Letter → List Numbered → Answer
-whole_answer (Asked Lead) letters outputs = answer.Sent (length letters)
-whole_answer (Asked (Offer value)) letters outputs = answer.Sent (length letters)
-whole_answer (Asked (Release now)) letters outputs = answer.Released (length outputs)
-whole_answer (Asked Crash) letters outputs = answer.Finished
-whole_answer (Asked Restart) letters outputs = answer.Finished
-whole_answer (Came l) letters outputs = answer.Sent (length letters)
+-- the answer to what was asked and ended whole
+abbrev pub whole_answer : Ask → List Letter → List Numbered → Answer
+whole_answer (IsCalled call) letters outputs = answer.Sent (length letters)
+whole_answer (ReleaseAt now) letters outputs = answer.Released (length outputs)
+whole_answer ask letters outputs = answer.Finished
 
--- how a cause ended, read as an answer: a crash before the write as want of memory, one with the write in doubt as a broken store
+-- how it ended, read as an answer: a crash before the write as want of memory, one with the write in doubt as a broken store
+abbrev pub answer_to : Ask → Ended → List Letter → List Numbered → Answer
+answer_to ask Whole letters outputs = whole_answer ask letters outputs
+answer_to ask (Fault fault) letters outputs = answer.Fault fault
+answer_to ask (Refused refusal) letters outputs = answer.Refused refusal
+answer_to ask FailedBefore letters outputs = answer.Fault OutOfMemory
+answer_to ask FailedEither letters outputs = answer.Fault Down
+answer_to ask Lost letters outputs = answer.Crashed
+
+-- the same of a cause
 abbrev pub answer_of : Cause → Ended → List Letter → List Numbered → Answer
-answer_of cause Whole letters outputs = whole_answer cause letters outputs
-answer_of cause (Fault fault) letters outputs = answer.Fault fault
-answer_of cause (Refused refusal) letters outputs = answer.Refused refusal
-answer_of cause FailedBefore letters outputs = answer.Fault OutOfMemory
-answer_of cause FailedEither letters outputs = answer.Fault Down
-answer_of cause Lost letters outputs = answer.Crashed
+answer_of cause ended letters outputs = answer_to (ask_of cause) ended letters outputs
 
 -- a fault that is told as one is one that the node survives
 abbrev pub IsSurvived : Ended → Type 0
