@@ -42,5 +42,5 @@ returns-in-None-clause-done g c honest content holds =
     let not_so : false ≡ teaches members tally (at tally.learned c.args.place) c.args.ballot c.args.place c.args.value.now c.args.from = ap is_some (sym none) ∙ rw (c.in_ok-value.ensures, c.members-members.ensures) at c.in_ok-taught.ensures.taught in
     let is : c.voted.new.self ≡ record old.knowledge { tally = counts tally (at tally.learned c.args.place) c.args.ballot c.args.place c.args.value.now c.args.from } = rw c.in_ok-value.ensures at c.in_ok-taught.ensures.counted none in
     turns g.R.Records.may_find old c.requires.up content holds (λ course. course ≡ Ok (voted members (view_over old content) (at tally.learned c.args.place) c.args.ballot c.args.place c.args.value.now c.args.from)) record old { knowledge = c.voted.new.self }
-    (nothing record (view_over old content) { tally = counts tally (at tally.learned c.args.place) c.args.ballot c.args.place c.args.value.now c.args.from }) c.new.result.items c.requires.up
-    (ap (λ (l : Learned). record (view_over old content) { tally = l.tally; cursor = l.cursor }) is) refl (ap Ok (voted_counts members (view_over old content) (at tally.learned c.args.place) c.args.ballot c.args.place c.args.value.now c.args.from not_so)) c.new.ensures.items
+    (nothing record (view_over old content) { tally = counts tally (at tally.learned c.args.place) c.args.ballot c.args.place c.args.value.now c.args.from }) c.new-in-None.result.items c.requires.up
+    (ap (λ (l : Learned). record (view_over old content) { tally = l.tally; cursor = l.cursor }) is) refl (ap Ok (voted_counts members (view_over old content) (at tally.learned c.args.place) c.args.ballot c.args.place c.args.value.now c.args.from not_so)) c.new-in-None.ensures.items
