@@ -35,7 +35,7 @@ use Rattle.network_script.specs.Seats.{AllHonest, AllKeepTrust, AreStandings, up
 use Rattle.network_script.specs.Trust.{NoFailedRestart}
 use Rattle.network_script.specs.World.{Written, released_by}
 use Rattle.network_script.specs.Worlds.{AreHonest, Happens, letters_of, outputs_of, receivers_of, seats_of, transmissions_of, written}
-use Rattle.network_script.proofs.Counted.{count_one, count_still}
+use Rattle.network_script.proofs.Counted.{acted_accounts, count_one, count_still}
 use Rattle.network_script.proofs.Lists.{get_left}
 use Rattle.network_script.proofs.Places.{each_at, each_length, each_set, honest_at, honest_before, seen_at, trust_at, trust_same, who_at}
 use Rattle.network_script.proofs.Same.{same_world}
@@ -173,7 +173,7 @@ module _ {N : Type 0} {g : Ghosts N} (old : World N g) where
             rw (went.sent, map-append) (get_left (map To (letters_of old)) (map To went.letters) i n at) in
         count_one (counts old) (counts new) event answer k (F went.before) (F went.after) letters
         (seen_at F seats k went.before went.within went.at) (ap (λ (ss : List (Seat N g)). map F ss) went.seats ∙ map-set F seats k went.after)
-        acts.grows (λ loud. (calls.called, acts.rose loud))
+        acts.grows calls.called (acted_accounts answer ask (g.who went.before.node) (g.who went.after.node) acts.tells acts.rose)
 
     goes : HappensTo old event answer new
     goes = record {

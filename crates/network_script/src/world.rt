@@ -99,12 +99,12 @@ pub struct World<N: Node> {
 }
 
 impl<N: Node> World<N> {
-    ghost use Rattle.std.specs.Prelude.{◌≡◌, length, map, All, IfOk};
+    ghost use Rattle.std.specs.Prelude.{◌≡◌, [], length, map, All, IfOk};
     ghost use Rattle.network_script.specs.World.{opening};
     ghost use Rattle.network_script.specs.Seats.{AreSeated};
-    ghost use Rattle.seats.specs.Receiving.{AreNew};
+    ghost use Rattle.seats.specs.Receiving.{AreNew, Hold, new_receivers};
     ghost use Rattle.seats.specs.Fresh.{AreFresh};
-    ghost use Rattle.network_script.specs.Worlds.{AreHonest, StandsFor, seats_of};
+    ghost use Rattle.network_script.specs.Worlds.{AreHonest, StandsFor, letters_of, outputs_of, receivers_of, seats_of, transmissions_of};
 
     /// The opening world of these nodes and modems.
     pub fn new(alloc: Global, nodes: Vec<N>, modems: Vec<Modem>) -> Result<World<N>, OutOfMemory>
@@ -112,6 +112,7 @@ impl<N: Node> World<N> {
         requires modems { AreNew modems.items }
         ensures seated { IfOk result (λ world. AreSeated nodes.items (seats_of world)) }
         ensures opens { IfOk result (λ world. AreHonest world → StandsFor world (opening (length nodes.items) (map (λ modem. modem.id) modems.items))) }
+        ensures nothing { IfOk result (λ world. (letters_of world ≡ []) × (outputs_of world ≡ []) × (transmissions_of world ≡ []) × Hold (receivers_of world) (new_receivers modems.items)) }
     {
         let seats = seated(alloc, nodes)?;
         Ok(World {

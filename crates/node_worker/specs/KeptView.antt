@@ -19,6 +19,10 @@ pub record KeptView : Type 0 where
 abbrev pub member_of : KeptView → ℕ × ℕ
 member_of k = (k.node, k.members)
 
+-- who it is, and how much it may do
+abbrev pub made_as : KeptView → (ℕ × ℕ) × ℕ
+made_as k = (member_of k, k.quota)
+
 -- each node of a type has returned what its store committed
 abbrev pub AreTrusted : {N : Type 0} → (N → Bool) → Type 0
 AreTrusted {N} honest = (n : N) → IsTrue (honest n)

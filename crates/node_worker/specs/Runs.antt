@@ -74,6 +74,11 @@ IsModemEvent (event.Want m ch sid n) = Unit {0}
 IsModemEvent (event.Tick m ch slot random) = Unit {0}
 IsModemEvent other = ⊥
 
+-- a modem comes to a minislot
+abbrev pub IsTick : Event → Type 0
+IsTick (event.Tick m ch slot random) = Unit {0}
+IsTick other = ⊥
+
 -- an event of a modem, where these outputs were released
 abbrev pub ListensNext : List ReleasedOutput → List Receiver → Event → Answer → List Receiver → Type 0
 ListensNext outputs rs e told rs' = IsOfModem (length outputs) e × ModemNext rs outputs e told rs'

@@ -17,6 +17,9 @@ pub trait Carrier: Drop {
     // How many turns are left.
     ghost left: { Self → ℕ };
 
+    // How many turns it was given in all, which no turn changes.
+    ghost given: { Self → ℕ };
+
     /// How many turns are left.
     fn turns(&self) -> u64
         ensures { result ≡ left self.now };
@@ -25,7 +28,8 @@ pub trait Carrier: Drop {
     /// while a turn is left. Want of memory counts as none.
     fn pick(&mut self, records: &[Record]) -> Result<Option<Cause>, OutOfMemory>
         requires { 0 < left self.old }
-        ensures { left self.new + 1 ≡ left self.old };
+        ensures left { left self.new + 1 ≡ left self.old }
+        ensures given { given self.new ≡ given self.old };
 }
 
 /// Where a worker stands when its gate is called.

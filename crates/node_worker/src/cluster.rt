@@ -5,7 +5,7 @@ ghost use Rattle.std.specs.List.{range_with_len};
 ghost use Rattle.seats.specs.Fresh.{AreFresh};
 ghost use Rattle.seats.specs.Receiving.{AreNew};
 ghost use Rattle.node_worker.specs.Audits.{IsCluster};
-ghost use Rattle.node_worker.specs.KeptView.{AreTrusted, member_of};
+ghost use Rattle.node_worker.specs.KeptView.{AreTrusted, made_as, member_of};
 ghost use Rattle.node_worker.specs.Runs.{IsLegal};
 
 use crate::carrier::{Carrier, Gate};
@@ -29,7 +29,8 @@ fn paired<N: Node, C: Carrier>(
 ) -> Result<Vec<(Kept<N>, C)>, AllocError>
     requires one_each { length carriers.items ≡ length kepts.items }
     requires trusted { AreTrusted N.honest → All (λ k. IsTrue k.honest) kepts.items }
-    ensures same { IfOk result (λ pairs. map (λ p. member_of p.0) pairs.items ≡ map member_of kepts.items) }
+    ensures same { IfOk result (λ pairs. map (λ p. made_as p.0) pairs.items ≡ map made_as kepts.items) }
+    ensures given { IfOk result (λ pairs. map (λ p. C.given p.1) pairs.items ≡ map C.given carriers.items) }
     ensures trusted { IfOk result (λ pairs. AreTrusted N.honest → All (λ p. IsTrue p.0.honest) pairs.items) }
 {
     let mut pairs = Vec::with_capacity(alloc, kepts.len())?;
@@ -65,8 +66,10 @@ pub fn run_cluster<
     requires modems { AreNew modems.items }
     requires one_each { length carriers.items ≡ length nodes.items }
     ensures members { IfOk result (λ back. map member_of back.0.items ≡ map (λ k. (k, length nodes.items)) (range_with_len 0 (length nodes.items))) }
+    ensures quotas { IfOk result (λ back. All (λ k. k.quota ≡ quota) back.0.items) }
     ensures cluster { IfOk result (λ back. AreTrusted N.honest → IsCluster back.0.items) }
     ensures carriers { IfOk result (λ back. (length back.1.items ≡ length nodes.items) × All (λ c. C.left c ≡ 0) back.1.items) }
+    ensures given { IfOk result (λ back. map C.given back.1.items ≡ map C.given carriers.items) }
     ensures legal { IfOk result (λ back. AreTrusted N.honest → IsLegal back.2.members back.2.records back.2.modems) }
 {
     let members = match nodes.first() {

@@ -74,7 +74,11 @@ impl<N: Node> Kept<N> {
 
     /// The node. It stands where its entries bring a fresh one, one that is down with its content alone.
     pub fn node(&self) -> &N
-        ensures { IsTrue (N.honest result.now) → IsKept (N.who result.now).members (N.who result.now).id (Shown self.now.up (N.stands result.now)) self.now.entries }
+        ensures id { (N.who result.now).id ≡ self.now.node }
+        ensures members { (N.who result.now).members ≡ self.now.members }
+        ensures failures { (N.who result.now).failures ≡ self.now.failures }
+        ensures honest { N.honest result.now ≡ self.now.honest }
+        ensures replay { IsTrue (N.honest result.now) → IsKept (N.who result.now).members (N.who result.now).id (Shown self.now.up (N.stands result.now)) self.now.entries }
     {
         self.seat.node()
     }

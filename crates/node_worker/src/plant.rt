@@ -1,8 +1,10 @@
 //! The records of all nodes, in one order.
 
-ghost use Rattle.std.specs.Prelude.{◌≡◌, ◌↔◌, [], ◌∷◌, ◌++◌, length, IfOk, IfErr, OnOk, OnErr, IsOk, IsTrue, List, ◌≤◌, ◌<◌, ◌⊎◌};
+ghost use Rattle.std.specs.Prelude.{◌≡◌, ◌≢◌, ◌↔◌, [], ◌∷◌, ◌++◌, length, ℕ, IfOk, IfErr, OnOk, OnErr, IsOk, IsTrue, List, ◌≤◌, ◌<◌, ◌⊎◌};
 ghost use Rattle.ballots.specs.Members.{member_count};
 ghost use Rattle.world_events.specs.declared.event.Event.TheVariants as event;
+ghost use Rattle.seats.specs.declared.answer.Answer.TheVariants.{Refused};
+ghost use Rattle.world_events.specs.declared.refusal.Refusal.TheVariants.{OutOfMemory};
 ghost use Rattle.seats.specs.declared.answer.ReleasedOutput.{ReleasedOutput};
 ghost use Rattle.seats.specs.Receiver.{Receiver};
 ghost use Rattle.seats.specs.Modems.{ModemNext};
@@ -10,9 +12,9 @@ ghost use Rattle.seats.specs.Receiving.{AreNew, AreReceivers};
 ghost use Rattle.node_worker.specs.KeptView.{AreTrusted, SameNode};
 ghost use Rattle.node_worker.specs.Steps.{DoneBy, Recorded};
 ghost use Rattle.node_worker.specs.declared.entry.Done.{Done as Noted};
-ghost use Rattle.node_worker.specs.Runs.{IsLegal, IsModemEvent, IsOfModem, IsSilent, SendsAsOwner};
+ghost use Rattle.node_worker.specs.Runs.{IsLegal, IsModemEvent, IsOfModem, IsSilent, IsTick, Listened, SendsAsOwner};
 ghost use Rattle.node_worker.specs.Places.{IsPlaceOf};
-ghost use Rattle.node_worker.specs.Legal.{entries_of, letters_of, outputs_of, Comes, Begins, MayRecord};
+ghost use Rattle.node_worker.specs.Legal.{entries_of, letters_of, outputs_of, Comes, Begins, IsSound, MayRecord};
 
 use crate::entry::{Cause, Done, Entry, Record};
 use crate::kept::{Kept, WorkFault};
@@ -89,11 +91,12 @@ impl<N: Node> Plant<N> {
         })
     }
 
-    /// The records, in order. Where each node of this type has returned what its store committed, whoever holds the
-    /// plant has a legal one.
+    /// The records, in order. The modems have heard what they released. Where each node of this type has returned what
+    /// its store committed, whoever holds the plant has a legal one.
     pub fn records(&self) -> &[Record]
         ensures records { result.now ≡ self.now.records }
         ensures legal { AreTrusted N.honest → IsLegal self.now.members self.now.records self.now.modems }
+        ensures listened { Listened (outputs_of self.now.records) self.now.modems }
     {
         self.records.as_slice()
     }
@@ -121,12 +124,15 @@ impl<N: Node> Plant<N> {
         Ok(())
     }
 
-    /// A modem hears an output that a record released, wants to send, or comes to a minislot. Where it sends by a grant or at a poll, it is the minislot's one owner.
+    /// A modem hears an output that a record released, wants to send, or comes to a minislot, which takes no memory. Where
+    /// it sends by a grant or at a poll, it is the minislot's one owner, if the records are sound.
     pub fn modem_step(&mut self, event: &Event) -> Answer
         requires { IsModemEvent event.now }
         ensures same { self.new ≡ record self.old { modems = self.new.modems } }
         ensures next { (rs : List Receiver) → AreReceivers self.old.modems rs → (after : List Receiver) × ModemNext rs (outputs_of self.old.records) event.now result after × AreReceivers self.new.modems after }
+        ensures memory { IsTick event.now → result ≢ Refused OutOfMemory }
         ensures owner { AreTrusted N.honest → SendsAsOwner self.new.members self.new.records self.new.modems event.now result }
+        ensures sound { (members : ℕ) → IsSound members self.new.records → SendsAsOwner members self.new.records self.new.modems event.now result }
     {
         go_on(
             &mut self.modems,
@@ -144,7 +150,11 @@ pub fn step<N: Node>(
     cause: Cause,
 ) -> Result<Result<(), Done>, WorkFault>
     ensures same { SameNode kept.old kept.new }
+    ensures honest { IsTrue kept.new.honest → IsTrue kept.old.honest }
+    ensures trusted { AreTrusted N.honest → IsTrue kept.new.honest }
     ensures worked { IfOk result (λ told. (d : Noted) × DoneBy kept.old cause d kept.new × Recorded plant.old kept.new d told plant.new) }
+    ensures room { IsOk result → length kept.old.entries < kept.old.quota }
+    ensures full { IfErr result (λ e. e ≡ WorkFault.Full ↔ length kept.old.entries ≡ kept.old.quota) }
     ensures err { OnErr result ((kept.new ≡ kept.old) × (plant.new ≡ plant.old)) }
 {
     match kept.work(cause) {
@@ -163,6 +173,7 @@ pub(crate) fn go_on(
     requires event { IsModemEvent event.now }
     requires place { IsPlaceOf records.now place.old.record place.old.before }
     ensures next { (rs : List Receiver) → AreReceivers modems.old.items rs → (after : List Receiver) × ModemNext rs (outputs_of records.now) event.now result after × AreReceivers modems.new.items after }
+    ensures memory { IsTick event.now → result ≢ Refused OutOfMemory }
     ensures within { (modems.new.items ≡ modems.old.items) × IsSilent result ⊎ IsOfModem (length (outputs_of records.now)) event.now }
     ensures place { IsPlaceOf records.now place.new.record place.new.before }
 {
@@ -212,6 +223,7 @@ fn want(modems: &mut Vec<Modem>, m: usize, ch: u8, sid: u16, n: u16) -> Answer
 // Modem m comes to a minislot of a channel.
 fn tick(modems: &mut Vec<Modem>, m: usize, ch: u8, slot: Slot, random: u64) -> Answer
     ensures next { (rs : List Receiver) (outputs : List ReleasedOutput) → AreReceivers modems.old.items rs → (after : List Receiver) × ModemNext rs outputs (event.Tick m ch slot random) result after × AreReceivers modems.new.items after }
+    ensures memory { result ≢ Refused OutOfMemory }
 {
     if m >= modems.len() {
         return Answer::Refused(Refusal::NoModem);

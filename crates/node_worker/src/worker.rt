@@ -1,31 +1,32 @@
 //! A worker for each node, in a thread of its own.
 
-ghost use Rattle.std.specs.Prelude.{◌≡◌, ◌<◌, ◌+◌, All, IfOk, IsTrue, length, map};
-ghost use Rattle.node_worker.specs.KeptView.{AreTrusted, SameNode, member_of};
-ghost use Rattle.node_worker.specs.Members.{promised};
+ghost use Rattle.std.specs.Prelude.{◌≡◌, ◌<◌, ◌+◌, All, IfOk, IsTrue, map};
+ghost use Rattle.node_worker.specs.KeptView.{AreTrusted, SameNode, made_as};
 
 use crate::carrier::{Carrier, Gate, Point};
 use crate::entry::Cause;
 use crate::kept::Kept;
 use crate::plant::Plant;
-use ballots::{Members, NodeId};
+use ballots::NodeId;
 use node::Node;
 use seats::OutOfMemory;
 use std::alloc::Global;
+use std::snapshot::Snapshot;
 use std::sync::{Mutex, Wait};
 use std::thread;
 use std::thread::{Promise, Threads};
 use std::time::Clock;
 
-// What a worker gives back: the node that it was given, and a carrier with no turn left.
-#[derive(Clone, Copy, Drop)]
-struct Returned {
-    node: NodeId,
-    members: Members,
+// What a worker gives back: the node and the carrier that it was given, the carrier with no turn left.
+#[derive(Drop)]
+struct Returned<N: Node, C: Carrier> {
+    kept: Snapshot<Kept<N>>,
+    carrier: Snapshot<C>,
 }
 
-impl<N: Node, C: Carrier> Promise<(Kept<N>, C)> for Returned {
-    ghost kept_by = { λ p back. (member_of back.0 ≡ promised p) × (AreTrusted N.honest → IsTrue back.0.honest) × (C.left back.1 ≡ 0) };
+impl<N: Node, C: Carrier> Promise<(Kept<N>, C)> for Returned<N, C> {
+    ghost kept_by = { λ p back. (made_as back.0 ≡ made_as p.kept.value) × (AreTrusted N.honest → IsTrue back.0.honest)
+        × (C.left back.1 ≡ 0) × (C.given back.1 ≡ C.given p.carrier.value) };
 }
 
 // Whether the cause may be worked at the node: a letter to another is passed over.
@@ -46,6 +47,7 @@ fn turn<N: Node, C: Carrier, G: Gate<N>, R: Wait + Clock>(
 )
     requires left { 0 < C.left carrier.old }
     ensures left { C.left carrier.new + 1 ≡ C.left carrier.old }
+    ensures given { C.given carrier.new ≡ C.given carrier.old }
     ensures same { SameNode kept.old kept.new }
     ensures trusted { AreTrusted N.honest → IsTrue kept.old.honest → IsTrue kept.new.honest }
 {
@@ -74,9 +76,10 @@ fn work_through<N: Node, C: Carrier, G: Gate<N>, R: Wait + Clock>(
     plant: &Mutex<Plant<N>>,
     gate: &G,
 ) -> (Kept<N>, C)
-    ensures same { member_of result.0 ≡ member_of kept }
+    ensures same { made_as result.0 ≡ made_as kept }
     ensures trusted { AreTrusted N.honest → IsTrue kept.honest → IsTrue result.0.honest }
     ensures left { C.left result.1 ≡ 0 }
+    ensures given { C.given result.1 ≡ C.given carrier }
 {
     while carrier.turns() > 0 {
         turn(rt, &mut kept, &mut carrier, plant, gate);
@@ -99,32 +102,35 @@ pub fn work_in_threads<
     gate: &G,
 ) -> Result<(Vec<Kept<N>>, Vec<C>), OutOfMemory>
     requires trusted { AreTrusted N.honest → All (λ p. IsTrue p.0.honest) pairs.items }
-    ensures same { IfOk result (λ back. map member_of back.0.items ≡ map (λ p. member_of p.0) pairs.items) }
+    ensures same { IfOk result (λ back. map made_as back.0.items ≡ map (λ p. made_as p.0) pairs.items) }
     ensures trusted { IfOk result (λ back. AreTrusted N.honest → All (λ k. IsTrue k.honest) back.0.items) }
-    ensures carriers { IfOk result (λ back. (length back.1.items ≡ length pairs.items) × All (λ c. C.left c ≡ 0) back.1.items) }
+    ensures left { IfOk result (λ back. All (λ c. C.left c ≡ 0) back.1.items) }
+    ensures given { IfOk result (λ back. map C.given back.1.items ≡ map (λ p. C.given p.1) pairs.items) }
 {
     thread::scope(
         thread::scope_env(),
         rt,
         |scope| -> Result<(Vec<Kept<N>>, Vec<C>), OutOfMemory>
             requires { AreTrusted N.honest → All (λ p. IsTrue p.0.honest) pairs.items }
-            ensures same { IfOk result (λ back. map member_of back.0.items ≡ map (λ p. member_of p.0) pairs.items) }
+            ensures same { IfOk result (λ back. map made_as back.0.items ≡ map (λ p. made_as p.0) pairs.items) }
             ensures trusted { IfOk result (λ back. AreTrusted N.honest → All (λ k. IsTrue k.honest) back.0.items) }
-            ensures carriers { IfOk result (λ back. (length back.1.items ≡ length pairs.items) × All (λ c. C.left c ≡ 0) back.1.items) }
+            ensures left { IfOk result (λ back. All (λ c. C.left c ≡ 0) back.1.items) }
+            ensures given { IfOk result (λ back. map C.given back.1.items ≡ map (λ p. C.given p.1) pairs.items) }
         {
             let mut kepts = Vec::with_capacity(alloc, pairs.len())?;
             let mut carriers = Vec::with_capacity(alloc, pairs.len())?;
             let mut handles = Vec::with_capacity(alloc, pairs.len())?;
             for (kept, carrier) in pairs {
                 let promise = Returned {
-                    node: kept.id(),
-                    members: kept.members(),
+                    kept: Snapshot::of(&kept),
+                    carrier: Snapshot::of(&carrier),
                 };
                 let Ok(handle) = scope.spawn_with(
                     promise,
                     move || -> (Kept<N>, C)
                         requires { AreTrusted N.honest → IsTrue kept.honest }
-                        ensures { (member_of result.0 ≡ member_of kept) × (AreTrusted N.honest → IsTrue result.0.honest) × (C.left result.1 ≡ 0) }
+                        ensures { (made_as result.0 ≡ made_as kept) × (AreTrusted N.honest → IsTrue result.0.honest)
+                            × (C.left result.1 ≡ 0) × (C.given result.1 ≡ C.given carrier) }
                     { work_through(rt, kept, carrier, plant, gate) },
                 ) else {
                     return Err(OutOfMemory);

@@ -60,9 +60,9 @@ fn is_done(
 }
 
 /// A channel, and a cut of one minislot.
-const CHANNEL: &[u8] = &[1, 1, 7, 0, 16, 2, 5, 3, 8, 0, 0, 0, 0, 0, 0, 3, 232];
+pub const CHANNEL: &[u8] = &[1, 1, 7, 0, 16, 2, 5, 3, 8, 0, 0, 0, 0, 0, 0, 3, 232];
 
-const CUT: &[u8] = &[5, 1, 0, 1, 0, 0, 0, 0, 0, 0, 0, 0, 0, 0, 0, 0, 0, 0, 0, 0];
+pub const CUT: &[u8] = &[5, 1, 0, 1, 0, 0, 0, 0, 0, 0, 0, 0, 0, 0, 0, 0, 0, 0, 0, 0];
 
 /// Nodes 0 and 1 agree on a channel and a cut, and release two outputs each.
 const ACTS: [Act; 21] = [

@@ -33,7 +33,9 @@ fn carrier_of(
     number: u8,
     turns: u64,
     commands: &[Command],
-) -> Result<LiveCarrier, OutOfMemory> {
+) -> Result<LiveCarrier, OutOfMemory>
+    ensures { IfOk result (λ carrier. carrier.given ≡ turns) }
+{
     let Some(node) = NodeId::new(number) else {
         return Err(OutOfMemory);
     };
@@ -50,7 +52,8 @@ fn carriers_of(
     turns: u64,
     commands: &[Command],
 ) -> Result<Vec<LiveCarrier>, OutOfMemory>
-    ensures { IfOk result (λ carriers. vec_len carriers ≡ 3) }
+    ensures count { IfOk result (λ carriers. vec_len carriers ≡ 3) }
+    ensures given { IfOk result (λ carriers. All (λ c. c.given ≡ turns) carriers.items) }
 {
     let mut carriers = Vec::new(alloc);
     for number in 0..MEMBERS.count() {
@@ -61,14 +64,16 @@ fn carriers_of(
 
 /// Runs three fresh nodes with a thread and so many turns each, and gives back what `run_cluster` gives: node 0 is
 /// asked to lead, to propose the commands in order once a majority follows it, and to release, and each node gets the
-/// letters to it. How much of that happens isn't promised.
+/// letters to it. How much of that happens isn't promised, but that each carrier was asked in each of its turns.
 pub fn live_cluster<R: Threads + Wait + Clock + Sync + AllocGlobal>(
     rt: &R,
     commands: &[Command],
     turns: u32,
 ) -> Result<(Vec<Kept<PlainNode>>, Vec<LiveCarrier>, Plant<PlainNode>), OutOfMemory>
     ensures cluster { IfOk result (λ back. (length back.0.items ≡ 3) × IsCluster back.0.items) }
+    ensures quotas { IfOk result (λ back. All (λ k. k.quota ≡ turns) back.0.items) }
     ensures carriers { IfOk result (λ back. (length back.1.items ≡ 3) × All (λ c. c.turns ≡ 0) back.1.items) }
+    ensures given { IfOk result (λ back. All (λ c. c.given ≡ turns) back.1.items) }
     ensures legal { IfOk result (λ back. IsLegal back.2.members back.2.records back.2.modems) }
 {
     let alloc = rt.alloc();

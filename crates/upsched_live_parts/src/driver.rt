@@ -64,7 +64,9 @@ impl Agenda {
 #[derive(Drop)]
 pub struct LiveCarrier {
     alloc: Global,
+    // The turns that are left, of those that it was given.
     turns: u64,
+    given: u64,
     inbox: Inbox,
     agenda: Option<Agenda>,
 }
@@ -72,11 +74,13 @@ pub struct LiveCarrier {
 impl LiveCarrier {
     /// A carrier of a node with so many turns.
     pub fn new(alloc: Global, node: NodeId, turns: u64, agenda: Option<Agenda>) -> LiveCarrier
-        ensures { result.turns ≡ turns }
+        ensures turns { result.turns ≡ turns }
+        ensures given { result.given ≡ turns }
     {
         LiveCarrier {
             alloc,
             turns,
+            given: turns,
             inbox: Inbox::new(node),
             agenda,
         }
@@ -84,7 +88,8 @@ impl LiveCarrier {
 
     // What is asked before all letters.
     fn first_ask(&mut self) -> Option<Ask>
-        ensures { self.new.turns ≡ self.old.turns }
+        ensures turns { self.new.turns ≡ self.old.turns }
+        ensures given { self.new.given ≡ self.old.given }
     {
         match &mut self.agenda {
             Some(agenda) => agenda.first(),
@@ -94,7 +99,8 @@ impl LiveCarrier {
 
     // What is asked where no letter is left.
     fn next_ask(&mut self, records: &[Record]) -> Option<Ask>
-        ensures { self.new.turns ≡ self.old.turns }
+        ensures turns { self.new.turns ≡ self.old.turns }
+        ensures given { self.new.given ≡ self.old.given }
     {
         match &mut self.agenda {
             Some(agenda) => agenda.next(records),
@@ -105,6 +111,8 @@ impl LiveCarrier {
 
 impl Carrier for LiveCarrier {
     ghost left = { λ c. c.turns };
+
+    ghost given = { λ c. c.given };
 
     fn turns(&self) -> u64 {
         self.turns

@@ -1,12 +1,12 @@
 //! `upsched live PLAN`: a plan's commands, worked on by three nodes with a thread each.
 
-ghost use Rattle.std.specs.Prelude.{◌≡◌, ◌≢◌, ◌↔◌, All, Ok, IfOk, IsOk, length};
+ghost use Rattle.std.specs.Prelude.{◌≡◌, ◌≢◌, Ok, IfOk, IsOk};
 ghost use Rattle.std.specs.Io.KnownBytes.{Appends};
-ghost use Rattle.node_worker.specs.Audits.{IsCluster, IsWhole};
-ghost use Rattle.node_worker.specs.Runs.{IsLegal};
 ghost use Rattle.upsched_map_parts.specs.declared.status.Status.TheVariants.{Done, NotUnderstood};
 ghost use Rattle.upsched_map_parts.specs.Plan.{NoPlan};
+ghost use Rattle.upsched_live_parts.specs.Audited.{IsAudited};
 ghost use Rattle.upsched_live_parts.specs.Verdict.{verdict_line};
+ghost use Rattle.upsched_live_parts.specs.declared.live_run.Audited.{Audited as Found};
 
 use crate::cluster::live_cluster;
 use crate::driver::LiveCarrier;
@@ -65,11 +65,7 @@ pub fn live_audited<'a, R: Log, T: Threads + Wait + Clock + Sync + AllocGlobal, 
     words: &LiveWords<'a>,
     output: &mut O,
 ) -> Result<Audited, Fault<'a>>
-    ensures cluster { IfOk result (λ a. (length a.kepts.items ≡ 3) × IsCluster a.kepts.items) }
-    ensures turns { IfOk result (λ a. (length a.carriers.items ≡ 3) × All (λ c. c.turns ≡ 0) a.carriers.items) }
-    ensures legal { IfOk result (λ a. IsLegal a.plant.members a.plant.records a.plant.modems) }
-    ensures whole { IfOk result (λ a. IsOk a.verdict ↔ IsWhole a.kepts.items a.plant.records) }
-    ensures printed { IfOk result (λ a. Appends (O.contents output.old) (O.contents output.new) (verdict_line a.verdict)) }
+    ensures audited { IfOk result (λ a. IsAudited words.now.turns a (O.contents output.old) (O.contents output.new)) }
     ensures no_plan { NoPlan (F.remaining plan.old) → output.new ≡ output.old }
 {
     let commands = plan_of(threads.alloc(), plan, words.plan)?;
@@ -100,6 +96,7 @@ pub fn live<R: Log, T: Threads + Wait + Clock + Sync + AllocGlobal, F: Read, O: 
     output: &mut O,
     errors: &mut E,
 ) -> Status
+    ensures audited { result ≡ Done → (a : Found) × IsAudited words.now.turns a (O.contents output.old) (O.contents output.new) × IsOk a.verdict }
     ensures printed { result ≡ Done → Appends (O.contents output.old) (O.contents output.new) (verdict_line (Ok tt)) }
     ensures quiet { result ≡ Done → errors.new ≡ errors.old }
     ensures no_plan { NoPlan (F.remaining plan.old) → output.new ≡ output.old }

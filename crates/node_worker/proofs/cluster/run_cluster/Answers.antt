@@ -1,23 +1,33 @@
 use Rattle.std.proofs.Common.{◌∙◌, ap, length, sym}
 use Rattle.std.proofs.lemmas.List.{length-map}
-use Rattle.std.proofs.lemmas.List.FromFn.{length-map-range_with_len}
-use Rattle.node_worker.specs.KeptView.{member_of}
-use Rattle.node_worker.proofs.Clusters.{cluster_of, counted}
+use Rattle.std.proofs.lemmas.List.Elements.{All-weaker}
+use Rattle.node_worker.proofs.Clusters.{cluster_of, counted, same_members, same_quotas}
 use Rattle.node_worker.proofs.cluster.run_cluster.Goals as goal
 
 pub paired-requires-clause-one_each : goal.paired-requires-clause-one_each
 paired-requires-clause-one_each g c = c.requires.one_each ∙ sym (counted c.in_ok-kepts.kepts.items (length c.args.nodes.items) c.in_ok-kepts.ensures.members)
 
+pub returns-clause-members : goal.returns-clause-members
+returns-clause-members g c =
+    same_members c.in_ok-kepts-2.kepts.items c.in_ok-kepts.kepts.items (c.in_ok-kepts-2.ensures.same ∙ c.in_ok-pairs.ensures.same) ∙ c.in_ok-kepts.ensures.members
+
+pub returns-clause-quotas : goal.returns-clause-quotas
+returns-clause-quotas g c =
+    same_quotas c.in_ok-kepts-2.kepts.items c.in_ok-kepts.kepts.items c.args.quota (c.in_ok-kepts-2.ensures.same ∙ c.in_ok-pairs.ensures.same)
+    (All-weaker _ _ (λ k is. is.1) c.in_ok-kepts.kepts.items c.in_ok-kepts.ensures.nothing)
+
 pub returns-clause-cluster : goal.returns-clause-cluster
 returns-clause-cluster g c = λ trusted.
     cluster_of c.in_ok-kepts-2.kepts.items (length c.args.nodes.items)
-    (c.in_ok-kepts-2.ensures.same ∙ (c.in_ok-pairs.ensures.same ∙ c.in_ok-kepts.ensures.members)) (c.in_ok-kepts-2.ensures.trusted trusted)
+    (same_members c.in_ok-kepts-2.kepts.items c.in_ok-kepts.kepts.items (c.in_ok-kepts-2.ensures.same ∙ c.in_ok-pairs.ensures.same) ∙ c.in_ok-kepts.ensures.members)
+    (c.in_ok-kepts-2.ensures.trusted trusted)
+
+pub returns-clause-given : goal.returns-clause-given
+returns-clause-given g c = c.in_ok-kepts-2.ensures.given ∙ c.in_ok-pairs.ensures.given
 
 pub returns-clause-carriers : goal.returns-clause-carriers
-returns-clause-carriers g c =
-    let n = length c.args.nodes.items in (
-      c.in_ok-kepts-2.ensures.carriers.0
-          ∙ (sym (length-map c.in_ok-pairs.pairs.items (λ p. member_of p.0))
-          ∙ (ap length (c.in_ok-pairs.ensures.same ∙ c.in_ok-kepts.ensures.members) ∙ length-map-range_with_len (λ k. (k, n)) 0 n)),
-      c.in_ok-kepts-2.ensures.carriers.1,
-    )
+returns-clause-carriers g c = (
+  sym (length-map c.in_ok-kepts-2.carriers.items g.C.Carrier.given)
+      ∙ (ap length (c.in_ok-kepts-2.ensures.given ∙ c.in_ok-pairs.ensures.given) ∙ (length-map c.args.carriers.items g.C.Carrier.given ∙ c.requires.one_each)),
+  c.in_ok-kepts-2.ensures.left,
+)

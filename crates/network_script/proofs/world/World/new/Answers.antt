@@ -17,3 +17,6 @@ returns-clause-opens g c = λ honest.
     let size : length seats ≡ length c.args.nodes.items = sym (length-map seats node_of) ∙ ap length c.in_ok-seats.ensures.0 in
     let stand = subst (λ (n : ℕ). AreStandings seats (replicate n fresh_standing)) size (opened_stand seats fresh c.in_ok-seats.ensures.1 honest) in
     (same_world _ _ refl (sym c.new.ensures.items) (sym c.new-2.ensures.items) refl (sym c.new-3.ensures.sent) refl, stand, c.new-3.ensures.holds)
+
+pub returns-clause-nothing : goal.returns-clause-nothing
+returns-clause-nothing g c = (c.new.ensures.items, c.new-2.ensures.items, c.new-3.ensures.sent, c.new-3.ensures.holds)

@@ -34,3 +34,8 @@ pub returns-clause-owner : goal.returns-clause-owner
 returns-clause-owner g c = λ trusted.
     (modem_keeps (member_count c.self.inside.members) c.self.inside.records.items c.as_slice.result.now c.self.inside.modems.items c.go_on.new.modems.items c.args.event.now c.go_on.result
     c.as_slice.ensures.value (c.self.invariant.1 trusted) c.self.invariant.2 c.go_on.ensures.next c.go_on.ensures.within).1
+
+pub returns-clause-sound : goal.returns-clause-sound
+returns-clause-sound g c = λ members sound.
+    (modem_keeps members c.self.inside.records.items c.as_slice.result.now c.self.inside.modems.items c.go_on.new.modems.items c.args.event.now c.go_on.result
+    c.as_slice.ensures.value sound c.self.invariant.2 c.go_on.ensures.next c.go_on.ensures.within).1
