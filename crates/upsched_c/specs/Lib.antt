@@ -6,3 +6,4 @@ pub mod Handles
 pub mod Commands
 pub mod Machines
 pub mod Modems
+pub mod Samples

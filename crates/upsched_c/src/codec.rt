@@ -58,7 +58,7 @@ fn read_body(
 
 /// Reads a body: its head, its elements into the front of the room for them, and their number.
 #[unsafe(no_mangle)]
-pub extern "C" fn upsched_map_decode(
+pub extern "C" fn upsched_c_map_decode(
     alloc: Global,
     bytes: &[u8],
     head: &mut MapHead,
@@ -130,7 +130,7 @@ fn write_body(
 
 /// Writes the body of a head and elements into the front of the room for it, and the number of its bytes.
 #[unsafe(no_mangle)]
-pub extern "C" fn upsched_map_encode(
+pub extern "C" fn upsched_c_map_encode(
     alloc: Global,
     head: &MapHead,
     elements: &[MapElement],
@@ -162,7 +162,7 @@ fn look_up(alloc: Global, bytes: &[u8], minislot: u16, cell: &mut MapCell) -> St
 
 /// Whose a minislot of a body is, counted from its start, and for what.
 #[unsafe(no_mangle)]
-pub extern "C" fn upsched_map_cell_at(
+pub extern "C" fn upsched_c_map_cell_at(
     alloc: Global,
     bytes: &[u8],
     minislot: u16,

@@ -26,7 +26,7 @@ pub(crate) fn open(alloc: Global, handle: &mut Handle, value: Held) -> Status
 
 /// Closes a handle, and lets go of what it holds.
 #[unsafe(no_mangle)]
-pub extern "C" fn upsched_close(alloc: Global, handle: &mut Handle)
+pub extern "C" fn upsched_c_close(alloc: Global, handle: &mut Handle)
     ensures { held handle.new ≡ None }
 {
     let _ = handle.take(alloc);

@@ -1,5 +1,5 @@
-//! What C calls of upsched: the MAP codec, the scheduler, the modem. `upsched.h` declares each function that is exported
-//! here, and says what a caller owes.
+//! What C calls of upsched: the MAP codec, the scheduler, the modem. `include/upsched.h` declares each function that is
+//! exported here, and says what a caller owes.
 #![tactic(auto)]
 
 pub mod codec;
@@ -10,6 +10,7 @@ mod loose;
 pub mod machine;
 pub mod modem_calls;
 pub mod output;
+pub mod samples;
 pub mod sending;
 pub mod status;
 pub mod structs;

@@ -17,7 +17,7 @@ use std::alloc::Global;
 
 /// Opens a handle with a scheduler that has no channel.
 #[unsafe(no_mangle)]
-pub extern "C" fn upsched_machine_open(alloc: Global, handle: &mut Handle) -> i32
+pub extern "C" fn upsched_c_machine_open(alloc: Global, handle: &mut Handle) -> i32
     ensures { Answers result (Opens (Held.Machine []) (held handle.old) (held handle.new)) }
 {
     open(alloc, handle, Held::Machine(Machine::new(alloc))).number()
@@ -64,7 +64,7 @@ fn apply_to(
 
 /// Applies the command that the fields are.
 #[unsafe(no_mangle)]
-pub extern "C" fn upsched_machine_apply(
+pub extern "C" fn upsched_c_machine_apply(
     alloc: Global,
     handle: &mut Handle,
     command: &CommandFields,
@@ -85,7 +85,7 @@ fn reading(bytes: &[u8]) -> Option<Command>
 
 /// Applies the command that the bytes spell.
 #[unsafe(no_mangle)]
-pub extern "C" fn upsched_machine_apply_bytes(
+pub extern "C" fn upsched_c_machine_apply_bytes(
     alloc: Global,
     handle: &mut Handle,
     command: &[u8],

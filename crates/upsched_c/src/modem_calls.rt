@@ -17,7 +17,7 @@ use std::alloc::Global;
 
 /// Opens a handle with a modem that has heard nothing.
 #[unsafe(no_mangle)]
-pub extern "C" fn upsched_modem_open(alloc: Global, handle: &mut Handle, id: u32) -> i32
+pub extern "C" fn upsched_c_modem_open(alloc: Global, handle: &mut Handle, id: u32) -> i32
     ensures { Answers result (Opens (Held.Modem (new_modem id)) (held handle.old) (held handle.new)) }
 {
     open(alloc, handle, Held::Modem(Modem::new(alloc, id))).number()
@@ -52,7 +52,7 @@ fn listen_by(alloc: Global, handle: &mut Handle, output: &Output, heard: &mut u3
 
 /// Hears that a channel is set.
 #[unsafe(no_mangle)]
-pub extern "C" fn upsched_modem_hear_channel(
+pub extern "C" fn upsched_c_modem_hear_channel(
     alloc: Global,
     handle: &mut Handle,
     ch: u8,
@@ -66,7 +66,7 @@ pub extern "C" fn upsched_modem_hear_channel(
 
 /// Hears that a SID is a modem's, from a first minislot to a last one.
 #[unsafe(no_mangle)]
-pub extern "C" fn upsched_modem_hear_assigned(
+pub extern "C" fn upsched_c_modem_hear_assigned(
     alloc: Global,
     handle: &mut Handle,
     modem: u32,
@@ -123,7 +123,7 @@ fn hear_body_by(
 
 /// Hears the body of a MAP near a time.
 #[unsafe(no_mangle)]
-pub extern "C" fn upsched_modem_hear_map(
+pub extern "C" fn upsched_c_modem_hear_map(
     alloc: Global,
     handle: &mut Handle,
     body: &[u8],
@@ -161,7 +161,7 @@ fn want_by(alloc: Global, handle: &mut Handle, ch: u8, sid: u16, minislots: u16)
 
 /// Takes a want of so many minislots for a SID of the modem's.
 #[unsafe(no_mangle)]
-pub extern "C" fn upsched_modem_want(
+pub extern "C" fn upsched_c_modem_want(
     alloc: Global,
     handle: &mut Handle,
     ch: u8,
@@ -209,7 +209,7 @@ fn tick_by(
 
 /// What the modem sends at a minislot of a channel.
 #[unsafe(no_mangle)]
-pub extern "C" fn upsched_modem_tick(
+pub extern "C" fn upsched_c_modem_tick(
     alloc: Global,
     handle: &mut Handle,
     ch: u8,
@@ -257,7 +257,7 @@ fn tell_next_by(
 
 /// The first minislot of a channel, from one on, whose tick answers something or changes more than the clock.
 #[unsafe(no_mangle)]
-pub extern "C" fn upsched_modem_next(
+pub extern "C" fn upsched_c_modem_next(
     alloc: Global,
     handle: &mut Handle,
     ch: u8,
@@ -295,7 +295,7 @@ fn tell_clock_by(alloc: Global, handle: &mut Handle, ch: u8, clock: &mut u64) ->
 
 /// The modem's clock on a channel that it knows: no tick before this minislot is taken.
 #[unsafe(no_mangle)]
-pub extern "C" fn upsched_modem_clock(
+pub extern "C" fn upsched_c_modem_clock(
     alloc: Global,
     handle: &mut Handle,
     ch: u8,
