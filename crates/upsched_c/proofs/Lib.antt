@@ -1,0 +1,4 @@
+pub mod Fields
+pub mod Handles
+pub mod Known
+pub mod Values
