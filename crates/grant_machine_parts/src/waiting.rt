@@ -145,15 +145,15 @@ fn is_grant(placement: &Placement, request: &Waiting) -> bool
     placement.sid.get() == request.sid && is_cause_sent(placement.cause, request.sent)
 }
 
-/// Where a request's grant is looked for first among some placements: for the SIDs of each remainder by 256 the number, from 1, of
-/// one that serves a request of such a SID, and 0 where none does.
+/// Where a request's grant is looked for first among some placements: for the SIDs of each remainder by 256 the number,
+/// from 1, of one that serves a request of such a SID, and 0 where none does.
 #[derive(Clone, Copy)]
 pub struct Grants {
     pub(crate) numbers: [u8; 256],
 }
 
 impl Grants {
-    /// Those of some placements.
+    /// The numbers of these placements.
     pub fn of(placements: &[Placement]) -> Grants
         ensures { AreNumbered result placements.now }
     {
@@ -167,7 +167,7 @@ impl Grants {
         Grants { numbers }
     }
 
-    /// Is the request granted by one of those placements?
+    /// Is the request granted by one of the placements that these are the numbers of?
     pub fn have(&self, placements: &[Placement], request: &Waiting) -> bool
         requires { AreNumbered self.now placements.now }
         ensures { result ≡ list_any (is_grant_of request.now) placements.now }
