@@ -4,7 +4,7 @@ ghost use Rattle.std.specs.Prelude.{◌≡◌, ◌≢◌, ◌↔◌, [], ◌∷�
 ghost use Rattle.ballots.specs.Members.{member_count};
 ghost use Rattle.world_events.specs.declared.event.Event.TheVariants as event;
 ghost use Rattle.seats.specs.declared.answer.Answer.TheVariants.{Refused};
-ghost use Rattle.world_events.specs.declared.refusal.Refusal.TheVariants.{OutOfMemory};
+ghost use Rattle.world_events.specs.declared.refusal.Refusal.TheVariants as refusal;
 ghost use Rattle.seats.specs.declared.answer.ReleasedOutput.{ReleasedOutput};
 ghost use Rattle.seats.specs.Receiver.{Receiver};
 ghost use Rattle.seats.specs.Modems.{ModemNext};
@@ -130,7 +130,7 @@ impl<N: Node> Plant<N> {
         requires { IsModemEvent event.now }
         ensures same { self.new ≡ record self.old { modems = self.new.modems } }
         ensures next { (rs : List Receiver) → AreReceivers self.old.modems rs → (after : List Receiver) × ModemNext rs (outputs_of self.old.records) event.now result after × AreReceivers self.new.modems after }
-        ensures memory { IsTick event.now → result ≢ Refused OutOfMemory }
+        ensures memory { IsTick event.now → result ≢ Refused refusal.OutOfMemory }
         ensures owner { AreTrusted N.honest → SendsAsOwner self.new.members self.new.records self.new.modems event.now result }
         ensures sound { (members : ℕ) → IsSound members self.new.records → SendsAsOwner members self.new.records self.new.modems event.now result }
     {
@@ -173,7 +173,7 @@ pub(crate) fn go_on(
     requires event { IsModemEvent event.now }
     requires place { IsPlaceOf records.now place.old.record place.old.before }
     ensures next { (rs : List Receiver) → AreReceivers modems.old.items rs → (after : List Receiver) × ModemNext rs (outputs_of records.now) event.now result after × AreReceivers modems.new.items after }
-    ensures memory { IsTick event.now → result ≢ Refused OutOfMemory }
+    ensures memory { IsTick event.now → result ≢ Refused refusal.OutOfMemory }
     ensures within { (modems.new.items ≡ modems.old.items) × IsSilent result ⊎ IsOfModem (length (outputs_of records.now)) event.now }
     ensures place { IsPlaceOf records.now place.new.record place.new.before }
 {
@@ -223,7 +223,7 @@ fn want(modems: &mut Vec<Modem>, m: usize, ch: u8, sid: u16, n: u16) -> Answer
 // Modem m comes to a minislot of a channel.
 fn tick(modems: &mut Vec<Modem>, m: usize, ch: u8, slot: Slot, random: u64) -> Answer
     ensures next { (rs : List Receiver) (outputs : List ReleasedOutput) → AreReceivers modems.old.items rs → (after : List Receiver) × ModemNext rs outputs (event.Tick m ch slot random) result after × AreReceivers modems.new.items after }
-    ensures memory { result ≢ Refused OutOfMemory }
+    ensures memory { result ≢ Refused refusal.OutOfMemory }
 {
     if m >= modems.len() {
         return Answer::Refused(Refusal::NoModem);

@@ -14,7 +14,7 @@ loop-kept-preserved-in-Continue-branch-2 g c =
       one_over (λ p. made_as p.0) made_as c.loop-kept.pairs.items _ c.loop-kept.kept-iterator.rest.items _ (c.in-Some.kept, c.in-Some-next.carrier) c.in-Some.kept _
           c.in_ok-push.ensures.items taken refl was.0,
       one_over (λ p. g.C.Carrier.given p.1) g.C.Carrier.given c.loop-kept.pairs.items _ c.loop-kept.rest.rest.items _ (c.in-Some.kept, c.in-Some-next.carrier) c.in-Some-next.carrier _
-          c.in_ok-push.ensures.items c.in-Some-next.ensures.steps.0 refl was.1,
+          c.in_ok-push.ensures.items c.in-Some-next.ensures.items refl was.1,
       search rules,
       λ trusted. (
         subst P (sym c.in_ok-push.ensures.items) (All-push (λ p. IsTrue p.0.honest) c.loop-kept.pairs.items (c.in-Some.kept, c.in-Some-next.carrier) (was.3 trusted).0

@@ -1,6 +1,5 @@
 use Rattle.std.proofs.Common.{◌∙◌, ap, length, sym}
 use Rattle.std.proofs.lemmas.List.{length-map}
-use Rattle.std.proofs.lemmas.List.Elements.{All-weaker}
 use Rattle.node_worker.proofs.Clusters.{cluster_of, counted, same_members, same_quotas}
 use Rattle.node_worker.proofs.cluster.run_cluster.Goals as goal
 
@@ -14,7 +13,7 @@ returns-clause-members g c =
 pub returns-clause-quotas : goal.returns-clause-quotas
 returns-clause-quotas g c =
     same_quotas c.in_ok-kepts-2.kepts.items c.in_ok-kepts.kepts.items c.args.quota (c.in_ok-kepts-2.ensures.same ∙ c.in_ok-pairs.ensures.same)
-    (All-weaker _ _ (λ k is. is.1) c.in_ok-kepts.kepts.items c.in_ok-kepts.ensures.nothing)
+    (λ i d lt. (c.in_ok-kepts.ensures.nothing i d lt).1)
 
 pub returns-clause-cluster : goal.returns-clause-cluster
 returns-clause-cluster g c = λ trusted.

@@ -1,4 +1,4 @@
-use Rattle.std.proofs.Common.{rules, ◌≡◌, ◌∙◌, ◌+◌, ◌++◌, All, IsTrue, List, ap, sym, subst, map, arith}
+use Rattle.std.proofs.Common.{rules, ◌≡◌, ◌∙◌, ◌++◌, All, IsTrue, List, ap, sym, subst, map, arith}
 use Rattle.std.proofs.lemmas.List.Elements.{All-push, All-head, All-tail}
 use Rattle.std.proofs.lemmas.List.{nil_from_length}
 use Rattle.node_worker.specs.KeptView.{KeptView, made_as}
