@@ -95,10 +95,11 @@ static void run(void)
         upsched_map_element elements[UPSCHED_ELEMENTS];
         size_t count = 0, written = 0;
         room again;
-        upsched_map_cell cell = {0, 0};
+        upsched_map_cell cell;
         memset(&head, 0, sizeof head);
         memset(elements, 0, sizeof elements);
         memset(&again, 0, sizeof again);
+        memset(&cell, 0, sizeof cell);
         CALL(upsched_map_decode(body.bytes, o.body_len, &head, elements, UPSCHED_ELEMENTS, &count), &elements);
         CALL(upsched_map_encode(&head, elements, count, again.bytes, sizeof again.bytes, &written), &again);
         CALL(upsched_map_cell_at(again.bytes, written, 3, &cell), &cell);
