@@ -1,5 +1,5 @@
 -- What a node that does one thing leaves of an entry.
-use Rattle.std.proofs.Common.{◌≡◌, ◌⊎◌, ⊎_elim, inl, inr, ℕ, List, [], length, Bool, true, false, refl, sym, ap, ◌∙◌, subst}
+use Rattle.std.proofs.Common.{◌≡◌, ◌⊎◌, ⊎_elim, inl, inr, ℕ, List, Bool, true, false, refl, sym, ap, ◌∙◌, subst}
 use Rattle.ballots.specs.declared.letters.Letter.{Letter}
 use Rattle.acceptor.specs.Faults.{HasRisen}
 use Rattle.map_release.specs.declared.numbered.Numbered.{Numbered}

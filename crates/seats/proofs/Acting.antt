@@ -24,14 +24,14 @@ use Rattle.proposer.specs.declared.role.Role.{Role}
 use Rattle.proposer.specs.declared.role.Role.TheVariants.{Idle, Preparing, Leading}
 use Rattle.proposer.specs.declared.fault.NodeFault.{NodeFault}
 use Rattle.proposer.specs.declared.fault.NodeFault.TheVariants.{NotLeading, LogFull, ValueTooLong, OutOfMemory, StoreRefused, Down}
-use Rattle.seats.specs.Acted.{ask_of, letters_of, of_call, of_lost_call, of_release, of_restart, outputs_of, told}
-use Rattle.seats.specs.Acts.{Acts, AnswersDown, GoOut, GoesTo, IsNoFailedRestart, MayAnswer, MayFail, MovesBy, TellsStoreOf}
+use Rattle.seats.specs.Acted.{ask_of, come_of, letters_of, outputs_of, told}
+use Rattle.seats.specs.Acts.{Acts, AnswersDown, GoOut, GoesTo, MayAnswer, MayFail, MovesBy, TellsStoreOf}
 use Rattle.seats.specs.Moves.{Ask, Move, Moves, Fails, gives, lost, quiet, whole}
 use Rattle.seats.specs.Moves.Ask.{Call, TakeThenCrash, Release, Crash, Restart}
 use Rattle.seats.specs.Occupant.{Stands}
 use Rattle.seats.specs.Seat.{Shown, crashed, stays_up, survives}
 use Rattle.seats.specs.StoreFaults.{is_store_fault}
-use Rattle.seats.specs.declared.acted.Acted.{Acted}
+use Rattle.seats.specs.declared.acted.Acted.TheVariants as acted
 use Rattle.seats.specs.declared.acted.Asked.{Asked}
 use Rattle.seats.specs.declared.acted.Asked.TheVariants as asked
 use Rattle.seats.specs.declared.answer.Answer.{Answer}
@@ -66,7 +66,7 @@ store_ends view IsCourse declined t is = absurd is
 -- a call whose letters go out
 called : (members me : ℕ) (view : View) (cause : Cause) (may : Standing → Type 0) (given : Result (Vec Letter Global) NodeFault) (t : Standing)
     → Ends (Course members me view cause) view (answer given) t → StopsLast members me view cause (answer given) → may t
-    → GoesTo members me (Running view) (Call cause) (told (of_call given)) (letters_of (of_call given)) (outputs_of (of_call given)) (Shown (stays_up given) may)
+    → GoesTo members me (Running view) (Call cause) (told (come_of acted.Sent given)) (letters_of (come_of acted.Sent given)) (outputs_of (come_of acted.Sent given)) (Shown (stays_up given) may)
 called members me view cause may (Ok letters) t (o, course, same, is) last at = (whole o, (tt, (o, course, ap length same, refl)), sym same, refl, (subst may is at, o.view, refl))
 called members me view cause may (Err failed) t ends last at =
     let r = fails view (Course members me view cause) failed may t ends at in
@@ -75,7 +75,7 @@ called members me view cause may (Err failed) t ends last at =
 -- one whose letters are thrown away, and after which it crashes
 called_last : (members me : ℕ) (view : View) (l : Letter) (may : Standing → Type 0) (given : Result (Vec Letter Global) NodeFault) (t : Standing)
     → Ends (Course members me view (Received l)) view (answer given) t → IfErr given IsStop → may t
-    → GoesTo members me (Running view) (TakeThenCrash l) (told (of_lost_call given)) (letters_of (of_lost_call given)) (outputs_of (of_lost_call given)) (Shown false may)
+    → GoesTo members me (Running view) (TakeThenCrash l) (told (come_of (λ letters. acted.Finished) given)) (letters_of (come_of (λ letters. acted.Finished) given)) (outputs_of (come_of (λ letters. acted.Finished) given)) (Shown false may)
 called_last members me view l may (Ok letters) t (o, course, same, is) stop at = (lost o, (o, course, refl), refl, refl, (t, at, sym (ap crashed is)))
 called_last members me view l may (Err failed) t ends stop at =
     let r = fails view (Course members me view (Received l)) failed may t ends at in
@@ -84,7 +84,7 @@ called_last members me view l may (Err failed) t ends stop at =
 -- a release
 gave : (members me now : ℕ) (view : View) (may : Standing → Type 0) (given : Result (Vec Numbered Global) NodeFault) (t : Standing)
     → Releases (Running view) now (outputs given) t → may t
-    → GoesTo members me (Running view) (Release now) (told (of_release given)) (letters_of (of_release given)) (outputs_of (of_release given)) (Shown (stays_up given) may)
+    → GoesTo members me (Running view) (Release now) (told (come_of acted.Released given)) (letters_of (come_of acted.Released given)) (outputs_of (come_of acted.Released given)) (Shown (stays_up given) may)
 gave members me now view may (Ok released) t (same, is) at = (gives view now, (ap length same, refl), refl, sym same, (subst may is at, released_all view, refl))
 gave members me now view may (Err failed) t ends at =
     let course : Result Outcome NodeFault → Type 0 = λ made. made ≡ Ok (nothing (released_all view)) in
@@ -100,7 +100,7 @@ failed_stops (Stopped c doubt) fault t failed = (failed.0, sym (ap crashed faile
 
 starts : (members me : ℕ) (s : Standing) (may : Standing → Type 0) (given : Result (Unit {0}) NodeFault) (t : Standing)
     → Restarts s given t → may t
-    → GoesTo members me (crashed s) Restart (told (of_restart given)) (letters_of (of_restart given)) (outputs_of (of_restart given)) (Shown (is_ok given) may)
+    → GoesTo members me (crashed s) Restart (told (come_of (λ done. acted.Finished) given)) (letters_of (come_of (λ done. acted.Finished) given)) (outputs_of (come_of (λ done. acted.Finished) given)) (Shown (is_ok given) may)
 starts members me (Running view) may (Ok done) t is at = (quiet (Running (started view.content)), inl refl, refl, refl, (subst may is at, started view.content, refl))
 starts members me (Stopped c doubt) may (Ok done) t (inl is) at = (quiet (Running (started c)), inl refl, refl, refl, (subst may is at, started c, refl))
 starts members me (Stopped c doubt) may (Ok done) t (inr is) at =
@@ -226,160 +226,102 @@ module _ {N : Type 0} {g : Ghosts N} (old : Seat N g) where
         (quiet (Stopped at.0.content None), subst (λ (x : Standing). Moves (g.who old.node).members (g.who old.node).id x Crash Finished (quiet (Stopped at.0.content None))) (sym at.1) (refl, refl), refl, refl, (Running at.0, at.2, refl));
   }
 
-  module _ (new : Seat N g) where
-    -- it goes on from where it runs
-    from_running : (ask : Ask) (reply : Answer) (letters : List Letter) (outs : List Numbered) (up : Bool) → old.up ≡ true → new.up ≡ up
-        → ((view : View) → g.stands old.node (Running view) → GoesTo (g.who old.node).members (g.who old.node).id (Running view) ask reply letters outs (Shown up (g.stands new.node)))
-        → MovesBy (g.who old.node).members (g.who old.node).id (Stands old) ask reply letters outs (Stands new)
-    from_running ask reply letters outs up was is goes s shown =
-        let at = runs_at s was shown in
-        subst (λ (x : Standing). GoesTo (g.who old.node).members (g.who old.node).id x ask reply letters outs (Stands new)) (sym at.1)
-        (subst (λ (b : Bool). GoesTo (g.who old.node).members (g.who old.node).id (Running at.0) ask reply letters outs (Shown b (g.stands new.node))) (sym is) (goes at.0 at.2))
+  -- a call of a node that is up
+  built : (new : Seat N g) (ask : Ask) (answer : Answer) (letters : List Letter) (outs : List Numbered) (b : Bool) {T : Type 0} (given : Result T NodeFault) → old.up ≡ true → new.up ≡ b
+      → KeepsTrust g.honest g.clean old.node new.node → Kept (g.who old.node) given (g.who new.node)
+      → TellsStoreOf answer ask (g.who old.node) (g.who new.node) → (is_store_fault answer ≡ true → HasRisen (g.who old.node).failures (g.who new.node).failures)
+      → MayAnswer true ask answer new.up → GoOut answer letters outs
+      → (IsTrue (g.honest new.node) → (view : View) → g.stands old.node (Running view) → GoesTo (g.who old.node).members (g.who old.node).id (Running view) ask answer letters outs (Shown b (g.stands new.node)))
+      → Acts old ask answer letters outs new
+  built new ask answer letters outs b given up turned trust kept tells rose may out goes = record {
+    same = (kept.0, kept.1);
+    grows = kept.2;
+    tells = tells;
+    rose = rose;
+    honesty = trust.honest;
+    trust = λ well. trust;
+    answers = subst (λ (was : Bool). MayAnswer was ask answer new.up) (sym up) may;
+    goes_out = out;
+    moves = λ honest s shown.
+        let at = runs_at s up shown in
+        subst (λ (x : Standing). GoesTo (g.who old.node).members (g.who old.node).id x ask answer letters outs (Stands new)) (sym at.1)
+        (subst (λ (now : Bool). GoesTo (g.who old.node).members (g.who old.node).id (Running at.0) ask answer letters outs (Shown now (g.stands new.node))) (sym turned) (goes honest at.0 at.2));
+  }
 
-    -- a call whose letters go out
-    pub calls : (cause : Cause) (given : Result (Vec Letter Global) NodeFault) (a : Acted) → a ≡ of_call given → old.up ≡ true → new.up ≡ stays_up given
-        → KeepsTrust g.honest g.clean old.node new.node → Kept (g.who old.node) given (g.who new.node) → IfErr given (MayFail cause)
-        → (IsTrue (g.honest new.node) → (s : Standing) → g.stands old.node s → (t : Standing) × Called (g.who old.node).members (g.who old.node).id s cause (answer given) t × g.stands new.node t)
-        → (IsTrue (g.honest new.node) → (view : View) → g.stands old.node (Running view) → StopsLast (g.who old.node).members (g.who old.node).id view cause (answer given))
-        → Acts old (Call cause) (told a) (letters_of a) (outputs_of a) new
-    calls cause given a is up turned trust kept may done order = subst (λ (x : Acted). Acts old (Call cause) (told x) (letters_of x) (outputs_of x) new) (sym is) (record {
-      same = (kept.0, kept.1);
-      grows = kept.2;
-      tells = told_so given kept;
-      rose = rose_so given kept;
-      honesty = trust.honest;
-      trust = λ well. trust;
-      answers = subst (λ (b : Bool). MayAnswer b (Call cause) (told (of_call given)) new.up) (sym up) (answers_so given turned may);
-      goes_out = goes_out_so given;
-      moves = λ honest. from_running (Call cause) (told (of_call given)) (letters_of (of_call given)) (outputs_of (of_call given)) (stays_up given) up turned (λ view runs.
-          let one = done honest (Running view) runs in
-          called (g.who old.node).members (g.who old.node).id view cause (g.stands new.node) given one.0 one.1 (order honest view runs) one.2);
-    })
-      where
-        told_so : (given : Result (Vec Letter Global) NodeFault) → Kept (g.who old.node) given (g.who new.node) → TellsStoreOf (told (of_call given)) (Call cause) (g.who old.node) (g.who new.node)
-        told_so (Ok letters) kept = kept.3
-        told_so (Err fault) kept = err_tells (Vec Letter Global) (Call cause) (g.who old.node) (g.who new.node) fault (λ e. cc) kept
+  -- one whose letters go out
+  pub calls : (new : Seat N g) (cause : Cause) (given : Result (Vec Letter Global) NodeFault) → old.up ≡ true → new.up ≡ stays_up given
+      → KeepsTrust g.honest g.clean old.node new.node → Kept (g.who old.node) given (g.who new.node) → IfErr given (MayFail cause)
+      → (IsTrue (g.honest new.node) → (s : Standing) → g.stands old.node s → (t : Standing) × Called (g.who old.node).members (g.who old.node).id s cause (answer given) t × g.stands new.node t)
+      → (IsTrue (g.honest new.node) → (view : View) → g.stands old.node (Running view) → StopsLast (g.who old.node).members (g.who old.node).id view cause (answer given))
+      → Acts old (Call cause) (told (come_of acted.Sent given)) (letters_of (come_of acted.Sent given)) (outputs_of (come_of acted.Sent given)) new
+  calls new cause (Ok letters) up turned trust kept may done order = built new (Call cause) _ _ _ true (Ok letters) up turned trust kept kept.3 (λ loud. absurd (false≢true loud)) turned (refl, refl) (λ honest view runs.
+      let one = done honest (Running view) runs in
+      called (g.who old.node).members (g.who old.node).id view cause (g.stands new.node) (Ok letters) one.0 one.1 (order honest view runs) one.2)
+  calls new cause (Err failed) up turned trust kept may done order = built new (Call cause) _ _ _ (survives failed) {T = Vec Letter Global} (Err failed) up turned trust kept
+      (err_tells (Vec Letter Global) (Call cause) (g.who old.node) (g.who new.node) failed (λ e. cc) kept) (err_rose (Vec Letter Global) (g.who old.node) (g.who new.node) failed (old.runs up) kept) (may, turned) (refl, refl) (λ honest view runs.
+      let one = done honest (Running view) runs in
+      called (g.who old.node).members (g.who old.node).id view cause (g.stands new.node) (Err failed) one.0 one.1 (order honest view runs) one.2)
 
-        rose_so : (given : Result (Vec Letter Global) NodeFault) → Kept (g.who old.node) given (g.who new.node) → is_store_fault (told (of_call given)) ≡ true → HasRisen (g.who old.node).failures (g.who new.node).failures
-        rose_so (Ok letters) kept loud = absurd (false≢true loud)
-        rose_so (Err fault) kept loud = err_rose (Vec Letter Global) (g.who old.node) (g.who new.node) fault (old.runs up) kept loud
+  -- a letter that is taken before a crash
+  pub takes : (new : Seat N g) (l : Letter) (given : Result (Vec Letter Global) NodeFault) → old.up ≡ true → new.up ≡ false
+      → KeepsTrust g.honest g.clean old.node new.node → Kept (g.who old.node) given (g.who new.node) → IfErr given IsStop
+      → (IsTrue (g.honest new.node) → (s : Standing) → g.stands old.node s → (t : Standing) × Called (g.who old.node).members (g.who old.node).id s (Received l) (answer given) t × g.stands new.node t)
+      → Acts old (TakeThenCrash l) (told (come_of (λ letters. acted.Finished) given)) (letters_of (come_of (λ letters. acted.Finished) given)) (outputs_of (come_of (λ letters. acted.Finished) given)) new
+  takes new l (Ok letters) up turned trust kept stop done = built new (TakeThenCrash l) _ _ _ false (Ok letters) up turned trust kept kept.3 (λ loud. absurd (false≢true loud)) turned (refl, refl) (λ honest view runs.
+      let one = done honest (Running view) runs in
+      called_last (g.who old.node).members (g.who old.node).id view l (g.stands new.node) (Ok letters) one.0 one.1 stop one.2)
+  takes new l (Err failed) up turned trust kept stop done = built new (TakeThenCrash l) _ _ _ false {T = Vec Letter Global} (Err failed) up turned trust kept
+      (err_tells (Vec Letter Global) (TakeThenCrash l) (g.who old.node) (g.who new.node) failed (λ e. cc) kept) (err_rose (Vec Letter Global) (g.who old.node) (g.who new.node) failed (old.runs up) kept) (stop, turned) (refl, refl) (λ honest view runs.
+      let one = done honest (Running view) runs in
+      called_last (g.who old.node).members (g.who old.node).id view l (g.stands new.node) (Err failed) one.0 one.1 stop one.2)
 
-        answers_so : (given : Result (Vec Letter Global) NodeFault) → new.up ≡ stays_up given → IfErr given (MayFail cause) → MayAnswer true (Call cause) (told (of_call given)) new.up
-        answers_so (Ok letters) turned may = turned
-        answers_so (Err fault) turned may = (may, turned)
+  -- a release
+  pub releases : (new : Seat N g) (now : ℕ) (given : Result (Vec Numbered Global) NodeFault) → old.up ≡ true → new.up ≡ stays_up given
+      → KeepsTrust g.honest g.clean old.node new.node → Kept (g.who old.node) given (g.who new.node) → IfErr given IsStop
+      → (IsTrue (g.honest new.node) → (s : Standing) → g.stands old.node s → (t : Standing) × Releases s now (outputs given) t × g.stands new.node t)
+      → Acts old (Release now) (told (come_of acted.Released given)) (letters_of (come_of acted.Released given)) (outputs_of (come_of acted.Released given)) new
+  releases new now (Ok released) up turned trust kept stop done = built new (Release now) _ _ _ true (Ok released) up turned trust kept kept.3 (λ loud. absurd (false≢true loud)) turned (refl, refl) (λ honest view runs.
+      let one = done honest (Running view) runs in
+      gave (g.who old.node).members (g.who old.node).id now view (g.stands new.node) (Ok released) one.0 one.1 one.2)
+  releases new now (Err failed) up turned trust kept stop done = built new (Release now) _ _ _ (survives failed) {T = Vec Numbered Global} (Err failed) up turned trust kept
+      (err_tells (Vec Numbered Global) (Release now) (g.who old.node) (g.who new.node) failed (λ e. cc) kept) (err_rose (Vec Numbered Global) (g.who old.node) (g.who new.node) failed (old.runs up) kept) (stop, turned ∙ stop_falls failed stop) (refl, refl) (λ honest view runs.
+      let one = done honest (Running view) runs in
+      gave (g.who old.node).members (g.who old.node).id now view (g.stands new.node) (Err failed) one.0 one.1 one.2)
 
-        goes_out_so : (given : Result (Vec Letter Global) NodeFault) → GoOut (told (of_call given)) (letters_of (of_call given)) (outputs_of (of_call given))
-        goes_out_so (Ok letters) = (refl, refl)
-        goes_out_so (Err fault) = (refl, refl)
+  -- a restart of a node that crashed
+  rises : (new : Seat N g) (given : Result (Unit {0}) NodeFault) → old.up ≡ false → new.up ≡ is_ok given
+      → (IsTrue (g.honest new.node) → (s : Standing) → g.stands old.node s → (t : Standing) × Restarts s given t × g.stands new.node t)
+      → IsTrue (g.honest new.node) → MovesBy (g.who old.node).members (g.who old.node).id (Stands old) Restart (told (come_of (λ done. acted.Finished) given)) (letters_of (come_of (λ done. acted.Finished) given)) (outputs_of (come_of (λ done. acted.Finished) given)) (Stands new)
+  rises new given down turned done honest s shown =
+      let was = subst (λ (b : Bool). Shown b (g.stands old.node) s) down shown in
+      let one = done honest was.0 was.1 in
+      subst (λ (x : Standing). GoesTo (g.who old.node).members (g.who old.node).id x Restart (told (come_of (λ done. acted.Finished) given)) (letters_of (come_of (λ done. acted.Finished) given)) (outputs_of (come_of (λ done. acted.Finished) given)) (Stands new)) (sym was.2)
+      (subst (λ (b : Bool). GoesTo (g.who old.node).members (g.who old.node).id (crashed was.0) Restart (told (come_of (λ done. acted.Finished) given)) (letters_of (come_of (λ done. acted.Finished) given)) (outputs_of (come_of (λ done. acted.Finished) given)) (Shown b (g.stands new.node))) (sym turned)
+      (starts (g.who old.node).members (g.who old.node).id was.0 (g.stands new.node) given one.0 one.1 one.2))
 
-    -- a letter that is taken before a crash
-    pub takes : (l : Letter) (given : Result (Vec Letter Global) NodeFault) (a : Acted) → a ≡ of_lost_call given → old.up ≡ true → new.up ≡ false
-        → KeepsTrust g.honest g.clean old.node new.node → Kept (g.who old.node) given (g.who new.node) → IfErr given IsStop
-        → (IsTrue (g.honest new.node) → (s : Standing) → g.stands old.node s → (t : Standing) × Called (g.who old.node).members (g.who old.node).id s (Received l) (answer given) t × g.stands new.node t)
-        → Acts old (TakeThenCrash l) (told a) (letters_of a) (outputs_of a) new
-    takes l given a is up turned trust kept stop done = subst (λ (x : Acted). Acts old (TakeThenCrash l) (told x) (letters_of x) (outputs_of x) new) (sym is) (record {
-      same = (kept.0, kept.1);
-      grows = kept.2;
-      tells = told_so given kept;
-      rose = rose_so given kept;
-      honesty = trust.honest;
-      trust = λ well. trust;
-      answers = subst (λ (b : Bool). MayAnswer b (TakeThenCrash l) (told (of_lost_call given)) new.up) (sym up) (answers_so given stop);
-      goes_out = goes_out_so given;
-      moves = λ honest. from_running (TakeThenCrash l) (told (of_lost_call given)) (letters_of (of_lost_call given)) (outputs_of (of_lost_call given)) false up turned (λ view runs.
-          let one = done honest (Running view) runs in
-          called_last (g.who old.node).members (g.who old.node).id view l (g.stands new.node) given one.0 one.1 stop one.2);
-    })
-      where
-        told_so : (given : Result (Vec Letter Global) NodeFault) → Kept (g.who old.node) given (g.who new.node) → TellsStoreOf (told (of_lost_call given)) (TakeThenCrash l) (g.who old.node) (g.who new.node)
-        told_so (Ok letters) kept = kept.3
-        told_so (Err fault) kept = err_tells (Vec Letter Global) (TakeThenCrash l) (g.who old.node) (g.who new.node) fault (λ e. cc) kept
-
-        rose_so : (given : Result (Vec Letter Global) NodeFault) → Kept (g.who old.node) given (g.who new.node) → is_store_fault (told (of_lost_call given)) ≡ true → HasRisen (g.who old.node).failures (g.who new.node).failures
-        rose_so (Ok letters) kept loud = absurd (false≢true loud)
-        rose_so (Err fault) kept loud = err_rose (Vec Letter Global) (g.who old.node) (g.who new.node) fault (old.runs up) kept loud
-
-        answers_so : (given : Result (Vec Letter Global) NodeFault) → IfErr given IsStop → MayAnswer true (TakeThenCrash l) (told (of_lost_call given)) new.up
-        answers_so (Ok letters) stop = turned
-        answers_so (Err fault) stop = (stop, turned)
-
-        goes_out_so : (given : Result (Vec Letter Global) NodeFault) → GoOut (told (of_lost_call given)) (letters_of (of_lost_call given)) (outputs_of (of_lost_call given))
-        goes_out_so (Ok letters) = (refl, refl)
-        goes_out_so (Err fault) = (refl, refl)
-
-    -- a release
-    pub releases : (now : ℕ) (given : Result (Vec Numbered Global) NodeFault) (a : Acted) → a ≡ of_release given → old.up ≡ true → new.up ≡ stays_up given
-        → KeepsTrust g.honest g.clean old.node new.node → Kept (g.who old.node) given (g.who new.node) → IfErr given IsStop
-        → (IsTrue (g.honest new.node) → (s : Standing) → g.stands old.node s → (t : Standing) × Releases s now (outputs given) t × g.stands new.node t)
-        → Acts old (Release now) (told a) (letters_of a) (outputs_of a) new
-    releases now given a is up turned trust kept stop done = subst (λ (x : Acted). Acts old (Release now) (told x) (letters_of x) (outputs_of x) new) (sym is) (record {
-      same = (kept.0, kept.1);
-      grows = kept.2;
-      tells = told_so given kept;
-      rose = rose_so given kept;
-      honesty = trust.honest;
-      trust = λ well. trust;
-      answers = subst (λ (b : Bool). MayAnswer b (Release now) (told (of_release given)) new.up) (sym up) (answers_so given turned stop);
-      goes_out = goes_out_so given;
-      moves = λ honest. from_running (Release now) (told (of_release given)) (letters_of (of_release given)) (outputs_of (of_release given)) (stays_up given) up turned (λ view runs.
-          let one = done honest (Running view) runs in
-          gave (g.who old.node).members (g.who old.node).id now view (g.stands new.node) given one.0 one.1 one.2);
-    })
-      where
-        told_so : (given : Result (Vec Numbered Global) NodeFault) → Kept (g.who old.node) given (g.who new.node) → TellsStoreOf (told (of_release given)) (Release now) (g.who old.node) (g.who new.node)
-        told_so (Ok released) kept = kept.3
-        told_so (Err fault) kept = err_tells (Vec Numbered Global) (Release now) (g.who old.node) (g.who new.node) fault (λ e. cc) kept
-
-        rose_so : (given : Result (Vec Numbered Global) NodeFault) → Kept (g.who old.node) given (g.who new.node) → is_store_fault (told (of_release given)) ≡ true → HasRisen (g.who old.node).failures (g.who new.node).failures
-        rose_so (Ok released) kept loud = absurd (false≢true loud)
-        rose_so (Err fault) kept loud = err_rose (Vec Numbered Global) (g.who old.node) (g.who new.node) fault (old.runs up) kept loud
-
-        answers_so : (given : Result (Vec Numbered Global) NodeFault) → new.up ≡ stays_up given → IfErr given IsStop → MayAnswer true (Release now) (told (of_release given)) new.up
-        answers_so (Ok released) turned stop = turned
-        answers_so (Err fault) turned stop = (stop, turned ∙ stop_falls fault stop)
-
-        goes_out_so : (given : Result (Vec Numbered Global) NodeFault) → GoOut (told (of_release given)) (letters_of (of_release given)) (outputs_of (of_release given))
-        goes_out_so (Ok released) = (refl, refl)
-        goes_out_so (Err fault) = (refl, refl)
-
-    -- a restart of a node that crashed
-    pub restarts : (given : Result (Unit {0}) NodeFault) (a : Acted) → a ≡ of_restart given → old.up ≡ false → new.up ≡ is_ok given
-        → (IsTrue (g.honest new.node) → IsTrue (g.honest old.node)) → OnOk given (KeepsTrust g.honest g.clean old.node new.node) → KeptByRestart (g.who old.node) given (g.who new.node) → IfErr given IsStop
-        → (IsTrue (g.honest new.node) → (s : Standing) → g.stands old.node s → (t : Standing) × Restarts s given t × g.stands new.node t)
-        → Acts old Restart (told a) (letters_of a) (outputs_of a) new
-    restarts given a is down turned honesty trust kept stop done = subst (λ (x : Acted). Acts old Restart (told x) (letters_of x) (outputs_of x) new) (sym is) (record {
-      same = (kept.0, kept.1);
-      grows = kept.2;
-      tells = told_so given kept;
-      rose = rose_so given kept;
-      honesty = honesty;
-      trust = trusts given trust;
-      answers = subst (λ (b : Bool). MayAnswer b Restart (told (of_restart given)) new.up) (sym down) (answers_so given turned stop);
-      goes_out = goes_out_so given;
-      moves = λ honest s shown.
-          let was = subst (λ (b : Bool). Shown b (g.stands old.node) s) down shown in
-          let one = done honest was.0 was.1 in
-          subst (λ (x : Standing). GoesTo (g.who old.node).members (g.who old.node).id x Restart (told (of_restart given)) (letters_of (of_restart given)) (outputs_of (of_restart given)) (Stands new)) (sym was.2)
-          (subst (λ (b : Bool). GoesTo (g.who old.node).members (g.who old.node).id (crashed was.0) Restart (told (of_restart given)) (letters_of (of_restart given)) (outputs_of (of_restart given)) (Shown b (g.stands new.node))) (sym turned)
-          (starts (g.who old.node).members (g.who old.node).id was.0 (g.stands new.node) given one.0 one.1 one.2));
-    })
-      where
-        told_so : (given : Result (Unit {0}) NodeFault) → KeptByRestart (g.who old.node) given (g.who new.node) → TellsStoreOf (told (of_restart given)) Restart (g.who old.node) (g.who new.node)
-        told_so (Ok done) kept = kept.3
-        told_so (Err fault) kept = kept.3
-
-        rose_so : (given : Result (Unit {0}) NodeFault) → KeptByRestart (g.who old.node) given (g.who new.node) → is_store_fault (told (of_restart given)) ≡ true → HasRisen (g.who old.node).failures (g.who new.node).failures
-        rose_so (Ok done) kept loud = absurd (false≢true loud)
-        rose_so (Err fault) kept loud = restart_rose (g.who old.node) (g.who new.node) fault kept loud
-
-        trusts : (given : Result (Unit {0}) NodeFault) → OnOk given (KeepsTrust g.honest g.clean old.node new.node) → IsNoFailedRestart Restart (told (of_restart given)) → KeepsTrust g.honest g.clean old.node new.node
-        trusts (Ok done) trust well = trust
-        trusts (Err fault) trust well = absurd (well fault refl refl)
-
-        answers_so : (given : Result (Unit {0}) NodeFault) → new.up ≡ is_ok given → IfErr given IsStop → MayAnswer false Restart (told (of_restart given)) new.up
-        answers_so (Ok done) turned stop = turned
-        answers_so (Err fault) turned stop = (stop, turned)
-
-        goes_out_so : (given : Result (Unit {0}) NodeFault) → GoOut (told (of_restart given)) (letters_of (of_restart given)) (outputs_of (of_restart given))
-        goes_out_so (Ok done) = (refl, refl)
-        goes_out_so (Err fault) = (refl, refl)
+  pub restarts : (new : Seat N g) (given : Result (Unit {0}) NodeFault) → old.up ≡ false → new.up ≡ is_ok given
+      → (IsTrue (g.honest new.node) → IsTrue (g.honest old.node)) → OnOk given (KeepsTrust g.honest g.clean old.node new.node) → KeptByRestart (g.who old.node) given (g.who new.node) → IfErr given IsStop
+      → (IsTrue (g.honest new.node) → (s : Standing) → g.stands old.node s → (t : Standing) × Restarts s given t × g.stands new.node t)
+      → Acts old Restart (told (come_of (λ done. acted.Finished) given)) (letters_of (come_of (λ done. acted.Finished) given)) (outputs_of (come_of (λ done. acted.Finished) given)) new
+  restarts new (Ok finished) down turned honesty trust kept stop done = record {
+    same = (kept.0, kept.1);
+    grows = kept.2;
+    tells = kept.3;
+    rose = λ loud. absurd (false≢true loud);
+    honesty = honesty;
+    trust = λ well. trust;
+    answers = subst (λ (b : Bool). MayAnswer b Restart Finished new.up) (sym down) turned;
+    goes_out = (refl, refl);
+    moves = rises new (Ok finished) down turned done;
+  }
+  restarts new (Err failed) down turned honesty trust kept stop done = record {
+    same = (kept.0, kept.1);
+    grows = kept.2;
+    tells = kept.3;
+    rose = restart_rose (g.who old.node) (g.who new.node) failed kept;
+    honesty = honesty;
+    trust = λ well. absurd (well failed refl refl);
+    answers = subst (λ (b : Bool). MayAnswer b Restart (Fault failed) new.up) (sym down) (stop, turned);
+    goes_out = (refl, refl);
+    moves = rises new (Err failed) down turned done;
+  }

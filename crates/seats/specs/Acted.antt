@@ -1,6 +1,5 @@
 -- What a node is asked, and what comes of it.
-use Rattle.std.specs.Prelude.{List, [], length, Result, Ok, Err, Vec}
-use Rattle.std.specs.declared.alloc.Global.{Global}
+use Rattle.std.specs.Prelude.{List, [], length, Result, Ok, Err}
 use Rattle.ballots.specs.declared.letters.Letter.{Letter}
 use Rattle.map_release.specs.declared.numbered.Numbered.{Numbered}
 use Rattle.node.specs.Calls.Cause.{Lead as AskedToLead, Offer as Offered, Receive as Received}
@@ -24,22 +23,10 @@ ask_of (asked.Release now) = Release now
 ask_of asked.Crash = Crash
 ask_of asked.Restart = Restart
 
--- what comes of a call whose letters go out, of one whose letters are thrown away, of a release and of a restart
-abbrev pub of_call : Result (Vec Letter Global) NodeFault → Acted
-of_call (Ok letters) = acted.Sent letters
-of_call (Err fault) = acted.Fault fault
-
-abbrev pub of_lost_call : Result (Vec Letter Global) NodeFault → Acted
-of_lost_call (Ok letters) = acted.Finished
-of_lost_call (Err fault) = acted.Fault fault
-
-abbrev pub of_release : Result (Vec Numbered Global) NodeFault → Acted
-of_release (Ok outputs) = acted.Released outputs
-of_release (Err fault) = acted.Fault fault
-
-abbrev pub of_restart : Result (Unit {0}) NodeFault → Acted
-of_restart (Ok done) = acted.Finished
-of_restart (Err fault) = acted.Fault fault
+-- what comes of a call: what it gave, or its fault
+abbrev pub come_of : {T : Type 0} → (T → Acted) → Result T NodeFault → Acted
+come_of whole (Ok given) = whole given
+come_of whole (Err fault) = acted.Fault fault
 
 -- the answer, if there is room for what the node gave
 abbrev pub told : Acted → Answer

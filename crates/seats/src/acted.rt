@@ -1,7 +1,8 @@
 //! What a node is asked, and what comes of it.
 
 ghost use Rattle.std.specs.Prelude.{◌≡◌};
-ghost use Rattle.seats.specs.Acted.{of_call, of_lost_call, of_release, of_restart, told};
+ghost use Rattle.seats.specs.Acted.{come_of, told};
+ghost use Rattle.seats.specs.declared.acted.Acted.TheVariants as acted;
 
 use crate::answer::Answer;
 use ballots::Letter;
@@ -44,7 +45,7 @@ pub enum Acted {
 impl Acted {
     /// What comes of a call whose letters go out.
     pub(crate) fn of_call(given: Result<Vec<Letter>, NodeFault>) -> Acted
-        ensures { result ≡ of_call given }
+        ensures { result ≡ come_of acted.Sent given }
     {
         match given {
             Ok(letters) => Acted::Sent(letters),
@@ -54,7 +55,7 @@ impl Acted {
 
     /// What comes of a call whose letters are thrown away.
     pub(crate) fn of_lost_call(given: Result<Vec<Letter>, NodeFault>) -> Acted
-        ensures { result ≡ of_lost_call given }
+        ensures { result ≡ come_of (λ letters. acted.Finished) given }
     {
         match given {
             Ok(_) => Acted::Finished,
@@ -64,7 +65,7 @@ impl Acted {
 
     /// What comes of a release.
     pub(crate) fn of_release(given: Result<Vec<Numbered>, NodeFault>) -> Acted
-        ensures { result ≡ of_release given }
+        ensures { result ≡ come_of acted.Released given }
     {
         match given {
             Ok(outputs) => Acted::Released(outputs),
@@ -74,7 +75,7 @@ impl Acted {
 
     /// What comes of a restart.
     pub(crate) fn of_restart(given: Result<(), NodeFault>) -> Acted
-        ensures { result ≡ of_restart given }
+        ensures { result ≡ come_of (λ done. acted.Finished) given }
     {
         match given {
             Ok(()) => Acted::Finished,

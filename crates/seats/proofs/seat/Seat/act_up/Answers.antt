@@ -5,33 +5,33 @@ use Rattle.seats.proofs.Acting.{calls, crashes, receives_last, releases, stays_u
 use Rattle.seats.proofs.seat.Seat.act_up.Goals as goal
 
 pub returns-in-Lead : goal.returns-in-Lead
-returns-in-Lead g c = rw c.in-Lead.is (calls c.args.self.now _ Lead c.lead-given.result c.of_call.result c.of_call.ensures c.requires c.stays_up-self.ensures
-    c.lead-given.ensures.trust c.lead-given.ensures.kept c.lead-given.ensures.tells c.lead-given.ensures.done c.lead-given.ensures.order)
+returns-in-Lead g c = rw (c.in-Lead.is, c.of_call.ensures) (
+    let call = c.lead-given.ensures in
+    calls c.args.self.now _ Lead c.lead-given.result c.requires c.stays_up-self.ensures call.trust call.kept call.tells call.done call.order)
 
 pub returns-in-Offer : goal.returns-in-Offer
-returns-in-Offer g c = rw c.in-Offer.is (
+returns-in-Offer g c = rw (c.in-Offer.is, c.of_call-in-Offer.ensures) (
     let was = c.args.self.now in
-    calls was _ (Offer c.in-Offer.value.now) c.offer-given.result c.of_call-in-Offer.result c.of_call-in-Offer.ensures c.requires c.stays_up-self-in-Offer.ensures
-    c.offer-given.ensures.trust c.offer-given.ensures.kept
-    (turn_fails (g.N.Node.who was.node).members (g.N.Node.who was.node).id (g.N.Node.role was.node) c.in-Offer.value.now c.offer-given.result (c.offer-given.ensures.turn (was.runs c.requires)))
-    c.offer-given.ensures.done c.offer-given.ensures.order)
+    let call = c.offer-given.ensures in
+    let fails = turn_fails (g.N.Node.who was.node).members (g.N.Node.who was.node).id (g.N.Node.role was.node) c.in-Offer.value.now c.offer-given.result (call.turn (was.runs c.requires)) in
+    calls was _ (Offer c.in-Offer.value.now) c.offer-given.result c.requires c.stays_up-self-in-Offer.ensures call.trust call.kept fails call.done call.order)
 
 pub returns-in-Receive : goal.returns-in-Receive
-returns-in-Receive g c = rw c.in-Receive.is (
+returns-in-Receive g c = rw (c.in-Receive.is, c.of_call-in-Receive.ensures) (
     let was = c.args.self.now in
-    calls was _ (Receive c.in-Receive.letter.now) c.receive-given.result c.of_call-in-Receive.result c.of_call-in-Receive.ensures c.requires c.stays_up-self-in-Receive.ensures
-    c.receive-given.ensures.trust c.receive-given.ensures.kept c.receive-given.ensures.tells c.receive-given.ensures.done
+    let call = c.receive-given.ensures in
+    calls was _ (Receive c.in-Receive.letter.now) c.receive-given.result c.requires c.stays_up-self-in-Receive.ensures call.trust call.kept call.tells call.done
     (λ honest view stands. receives_last (g.N.Node.who was.node).members (g.N.Node.who was.node).id view c.in-Receive.letter.now (answer c.receive-given.result)))
 
 pub returns-in-ReceiveThenCrash : goal.returns-in-ReceiveThenCrash
-returns-in-ReceiveThenCrash g c = rw c.in-ReceiveThenCrash.is (
-    let given = c.receive-given-in-ReceiveThenCrash in
-    takes c.args.self.now _ c.in-ReceiveThenCrash.letter.now given.result c.of_lost_call.result c.of_lost_call.ensures c.requires refl
-    given.ensures.trust given.ensures.kept given.ensures.tells given.ensures.done)
+returns-in-ReceiveThenCrash g c = rw (c.in-ReceiveThenCrash.is, c.of_lost_call.ensures) (
+    let call = c.receive-given-in-ReceiveThenCrash.ensures in
+    takes c.args.self.now _ c.in-ReceiveThenCrash.letter.now c.receive-given-in-ReceiveThenCrash.result c.requires refl call.trust call.kept call.tells call.done)
 
 pub returns-in-Release : goal.returns-in-Release
-returns-in-Release g c = rw c.in-Release.is (releases c.args.self.now _ c.in-Release.now c.release-given.result c.of_release.result c.of_release.ensures c.requires c.stays_up-self-in-Release.ensures
-    c.release-given.ensures.trust c.release-given.ensures.kept c.release-given.ensures.tells c.release-given.ensures.done)
+returns-in-Release g c = rw (c.in-Release.is, c.of_release.ensures) (
+    let call = c.release-given.ensures in
+    releases c.args.self.now _ c.in-Release.now c.release-given.result c.requires c.stays_up-self-in-Release.ensures call.trust call.kept call.tells call.done)
 
 pub returns-in-Crash : goal.returns-in-Crash
 returns-in-Crash g c = rw c.in-Crash.is (crashes c.args.self.now _ c.requires)
