@@ -109,9 +109,9 @@ module _ {N : Type 0} {g : Ghosts N} (old : World N g) where
   missing : (new : World N g) (event : Event) (k : ℕ) (ask : Ask) → Calls event k ask → IsUnchanged old new → length (seats_of old) ≤ k → HappensTo old event (Refused NoNode) new
   missing new event k ask calls same past = unchanged new event (Refused NoNode) same refl
       (λ members w letters size. calls.next members w w (Refused NoNode) letters
-          (subst (λ (s : Option Standing). OfNode members w k s ask (Refused NoNode) w) (sym (slice_get_past w.nodes k (omega (arith, size, past)))) (refl, refl)))
+      (subst (λ (s : Option Standing). OfNode members w k s ask (Refused NoNode) w) (sym (slice_get_past w.nodes k (omega (arith, size, past)))) (refl, refl)))
       (λ o letters up. calls.seen o o (Refused NoNode) letters
-          (subst (λ (b : Option Bool). SeenOfNode o k b ask (Refused NoNode) o) (sym (none o up)) (refl, refl)))
+      (subst (λ (b : Option Bool). SeenOfNode o k b ask (Refused NoNode) o) (sym (none o up)) (refl, refl)))
     where
       none : (o : Outward) → o.up ≡ ups (seats_of old) → slice_get o.up k ≡ None
       none o up =
@@ -140,9 +140,9 @@ module _ {N : Type 0} {g : Ghosts N} (old : World N g) where
         let moved = subst (λ (who : ℕ × ℕ). Moves who.1 who.0 there.0 ask answer m) named to.1 in
         let w' = written new (slice_set nodes k m.standing) modems (record_write k m.write history) in
         let is : w' ≡ after w k m = same_world w' (after w k m) refl
-            (went.sent ∙ ap (λ (ls : List Letter). letters_of old ++ ls) (sym to.2))
-            (went.released ∙ ap (λ (xs : List Numbered). outputs_of old ++ released_by k xs) (sym to.3))
-            refl (ap (λ (r : Receivers). sent_by r) went.receivers) refl in (
+        (went.sent ∙ ap (λ (ls : List Letter). letters_of old ++ ls) (sym to.2))
+        (went.released ∙ ap (λ (xs : List Numbered). outputs_of old ++ released_by k xs) (sym to.3))
+        refl (ap (λ (r : Receivers). sent_by r) went.receivers) refl in (
           slice_set nodes k m.standing,
           modems,
           record_write k m.write history,
@@ -159,7 +159,7 @@ module _ {N : Type 0} {g : Ghosts N} (old : World N g) where
         let there : slice_get o.up k ≡ Some (is_up went.before) = seen_at f seats k went.before went.within went.at in
         let up : o'.up ≡ slice_set o.up k (is_up went.after) = ap (λ (ss : List (Seat N g)). map f ss) went.seats ∙ map-set f seats k went.after in
         let is : o' ≡ record o { up = slice_set o.up k (is_up went.after); letters = o.letters ++ went.letters; outputs = o.outputs ++ released_by k went.outputs } =
-            λ i. record { up = up i; letters = went.sent i; outputs = went.released i; modems = modems; transmissions = sent_by (went.receivers i) } in (
+        λ i. record { up = up i; letters = went.sent i; outputs = went.released i; modems = modems; transmissions = sent_by (went.receivers i) } in (
           modems,
           calls.seen o o' answer refl (subst (λ (b : Option Bool). SeenOfNode o k b ask answer o') (sym there) (is_up went.after, went.letters, went.outputs, acts.answers, acts.goes_out, is)),
           subst (λ (r : Receivers). Hold r modems) (sym went.receivers) hold,
@@ -170,7 +170,7 @@ module _ {N : Type 0} {g : Ghosts N} (old : World N g) where
         let F : Seat N g → ℕ = λ seat. (g.who seat.node).failures in
         let To : Letter → ℕ = λ letter. letter.to in
         let letters : (i n : ℕ) → slice_get (map To (letters_of old)) i ≡ Some n → slice_get (map To (letters_of new)) i ≡ Some n = λ i n at.
-            rw (went.sent, map-append) (get_left (map To (letters_of old)) (map To went.letters) i n at) in
+        rw (went.sent, map-append) (get_left (map To (letters_of old)) (map To went.letters) i n at) in
         count_one (counts old) (counts new) event answer k (F went.before) (F went.after) letters
         (seen_at F seats k went.before went.within went.at) (ap (λ (ss : List (Seat N g)). map F ss) went.seats ∙ map-set F seats k went.after)
         acts.grows calls.called (acted_accounts answer ask (g.who went.before.node) (g.who went.after.node) acts.tells acts.rose)
@@ -298,6 +298,6 @@ module _ {N : Type 0} {g : Ghosts N} (old : World N g) where
         let f : Seat N g → Bool = is_up in
         let r = next modems hold in
         let is : outward new r.0 ≡ record (outward old modems) { modems = r.0; transmissions = transmissions_of old ++ sent_at event answer } =
-            λ i. record { up = map f (seats i); letters = letters i; outputs = outputs i; modems = r.0; transmissions = transmissions i } in
+        λ i. record { up = map f (seats i); letters = letters i; outputs = outputs i; modems = r.0; transmissions = transmissions i } in
         (r.0, to_seen (outward old modems) (outward new r.0) (r.0, r.1, is), r.2);
   }

@@ -11,7 +11,9 @@ use ballots::Letter;
 use map_release::Numbered;
 use modem::Modem;
 use node::Node;
-use seats::{Acted, Answer, Asked, OutOfMemory, Receivers, ReleasedOutput, Report, Seat, Transmission};
+use seats::{
+    Acted, Answer, Asked, OutOfMemory, Receivers, ReleasedOutput, Report, Seat, Transmission,
+};
 use std::alloc::{AllocError, Global};
 use world_events::{Event, Refusal};
 

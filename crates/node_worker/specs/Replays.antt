@@ -4,6 +4,7 @@ use Rattle.ballots.specs.declared.letters.Letter.{Letter}
 use Rattle.acceptor.specs.Content.{no_content}
 use Rattle.map_release.specs.declared.numbered.Numbered.{Numbered}
 use Rattle.proposer.specs.declared.fault.NodeFault.TheVariants.{OutOfMemory, Down}
+use Rattle.node.specs.declared.node.Node.{Ghosts}
 use Rattle.node.specs.View.{Standing, started}
 use Rattle.node.specs.View.Standing.{Running}
 use Rattle.node.specs.Calls.Cause.{Lead as AskedToLead, Offer as Offered, Receive as Received}
@@ -11,7 +12,9 @@ use Rattle.seats.specs.declared.answer.Answer.{Answer}
 use Rattle.seats.specs.declared.answer.Answer.TheVariants as answer
 use Rattle.seats.specs.Moves.{Ask, Move, Moves}
 use Rattle.seats.specs.Moves.Ask.{Call as IsCalled, Release as ReleaseAt, Crash as CrashNow, Restart as StartAgain}
+use Rattle.seats.specs.Occupant.{Stands, who_of}
 use Rattle.seats.specs.Seat.{survives}
+use Rattle.seats.specs.declared.seat.Seat.{Seat}
 use Rattle.node_worker.specs.declared.entry.Ask.TheVariants.{Lead, Offer, Release, Crash, Restart}
 use Rattle.node_worker.specs.declared.entry.Cause.{Cause}
 use Rattle.node_worker.specs.declared.entry.Cause.TheVariants.{Ask as Asked, Letter as Came}
@@ -79,3 +82,7 @@ IsKept members k Stands entries = (s : Standing) × Stands s × ReplaysTo member
 -- wherever the node may have stood, the entry brings it to where it now may stand
 abbrev pub Carries : ℕ → ℕ → (Standing → Type 0) → EntryView → (Standing → Type 0) → Type 0
 Carries members k Old e New = (s : Standing) → Old s → (t : Standing) × EntryStep members k s e t × New t
+
+-- the same of a node in its seat
+abbrev pub CarriesSeat : {N : Type 0} {g : Ghosts N} → Seat N g → EntryView → Seat N g → Type 0
+CarriesSeat old e new = Carries (who_of old).members (who_of old).id (Stands old) e (Stands new)

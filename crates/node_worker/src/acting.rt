@@ -4,9 +4,9 @@ ghost use Rattle.std.specs.Prelude.{◌≡◌, [], IfOk};
 ghost use Rattle.acceptor.specs.Faults.{HasRisen};
 ghost use Rattle.seats.specs.Acted.{ask_of as asked_of, letters_of as letters_given, outputs_of as outputs_given};
 ghost use Rattle.seats.specs.Seat.{SameMember};
-ghost use Rattle.seats.specs.Occupant.{Stands, IsHonest, who_of};
+ghost use Rattle.seats.specs.Occupant.{IsHonest, who_of};
 ghost use Rattle.node_worker.specs.Entries.{entry};
-ghost use Rattle.node_worker.specs.Replays.{Carries, ask_of};
+ghost use Rattle.node_worker.specs.Replays.{CarriesSeat, ask_of};
 ghost use Rattle.node_worker.specs.Ends.{SameOutcome, ended_of};
 ghost use Rattle.node_worker.specs.declared.entry.Ended.TheVariants.{FailedEither};
 
@@ -125,7 +125,7 @@ fn asked(cause: &Cause) -> Asked<'_>
 pub fn act<N: Node>(alloc: Global, seat: &mut Seat<N>, cause: &Cause) -> (Outcome, Outcome)
     ensures who { SameMember (who_of seat.old) (who_of seat.new) }
     ensures honesty { IsHonest seat.new → IsHonest seat.old }
-    ensures carries { IsHonest seat.new → Carries (who_of seat.old).members (who_of seat.old).id (Stands seat.old) (entry (cause.now) result.0.ended result.0.letters.items result.0.outputs.items) (Stands seat.new) }
+    ensures carries { IsHonest seat.new → CarriesSeat seat.old (entry cause.now result.0.ended result.0.letters.items result.0.outputs.items) seat.new }
     ensures rose { result.0.ended ≡ FailedEither → HasRisen (who_of seat.old).failures (who_of seat.new).failures }
     ensures same { SameOutcome result.0 result.1 }
 {

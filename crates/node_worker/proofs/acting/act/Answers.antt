@@ -30,7 +30,7 @@ pub returns-in-Err-clause-who : goal.returns-in-Err-clause-who
 returns-in-Err-clause-who g c =
     let acted = c.act-acted.result in
     let done = acts_as c.args.seat.now c.act-acted.new.self (asked_of c.asked.result) (ask_of c.args.cause.now) (told acted) c.told-told.result (letters_of acted) (letters_of acted) (outputs_of acted) (outputs_of acted)
-        c.asked.ensures c.told-told.ensures refl refl c.act-acted.ensures in
+    c.asked.ensures c.told-told.ensures refl refl c.act-acted.ensures in
     let settled = c.settle.ensures.settles c.args.seat.now (ask_of c.args.cause.now) (letters_of acted) (outputs_of acted) done in
     settled.same
 
@@ -38,7 +38,7 @@ pub returns-in-Err-clause-honesty : goal.returns-in-Err-clause-honesty
 returns-in-Err-clause-honesty g c =
     let acted = c.act-acted.result in
     let done = acts_as c.args.seat.now c.act-acted.new.self (asked_of c.asked.result) (ask_of c.args.cause.now) (told acted) c.told-told.result (letters_of acted) (letters_of acted) (outputs_of acted) (outputs_of acted)
-        c.asked.ensures c.told-told.ensures refl refl c.act-acted.ensures in
+    c.asked.ensures c.told-told.ensures refl refl c.act-acted.ensures in
     let settled = c.settle.ensures.settles c.args.seat.now (ask_of c.args.cause.now) (letters_of acted) (outputs_of acted) done in
     settled.honesty
 
@@ -46,7 +46,7 @@ pub returns-in-Err-clause-carries : goal.returns-in-Err-clause-carries
 returns-in-Err-clause-carries g c =
     let acted = c.act-acted.result in
     let done = acts_as c.args.seat.now c.act-acted.new.self (asked_of c.asked.result) (ask_of c.args.cause.now) (told acted) c.told-told.result (letters_of acted) (letters_of acted) (outputs_of acted) (outputs_of acted)
-        c.asked.ensures c.told-told.ensures refl refl c.act-acted.ensures in
+    c.asked.ensures c.told-told.ensures refl refl c.act-acted.ensures in
     let settled = c.settle.ensures.settles c.args.seat.now (ask_of c.args.cause.now) (letters_of acted) (outputs_of acted) done in
     let first = c.silent.result in
     carries c.args.seat.now c.settle.new.self c.args.cause.now c.settle.result first.letters.items first.outputs.items first.ended (c.silent.ensures.ended ∙ c.ended_by-ended.ensures)
@@ -56,7 +56,7 @@ pub returns-in-Err-clause-rose : goal.returns-in-Err-clause-rose
 returns-in-Err-clause-rose g c =
     let acted = c.act-acted.result in
     let done = acts_as c.args.seat.now c.act-acted.new.self (asked_of c.asked.result) (ask_of c.args.cause.now) (told acted) c.told-told.result (letters_of acted) (letters_of acted) (outputs_of acted) (outputs_of acted)
-        c.asked.ensures c.told-told.ensures refl refl c.act-acted.ensures in
+    c.asked.ensures c.told-told.ensures refl refl c.act-acted.ensures in
     let settled = c.settle.ensures.settles c.args.seat.now (ask_of c.args.cause.now) (letters_of acted) (outputs_of acted) done in
     let first = c.silent.result in
     rises c.args.seat.now c.settle.new.self c.args.cause.now c.settle.result first.letters.items first.outputs.items first.ended (c.silent.ensures.ended ∙ c.ended_by-ended.ensures)
