@@ -13,8 +13,9 @@
  * HANDLES   A handle is a struct of yours, all zero at first, which is closed. An open call opens it, upsched_close closes
  *           it and lets go of what it holds; closing a closed one does nothing. Write nothing into it. It may be moved by
  *           memcpy, if the old copy isn't used again. A handle that is copied, or not initialised, is undefined.
- * THREADS   There is no global state: two threads may use two handles at once. A handle stays on the thread that opened
- *           it. No call from a signal handler, or from the forked child of a process with threads.
+ * THREADS   There is no global state: two threads may use two handles at once. A handle may go from one thread to another,
+ *           by a lock, a thread's start or join, or a sequentially consistent atomic; one call at a time uses it. No call
+ *           from a signal handler, or from the forked child of a process with threads.
  * MEMORY    malloc, realloc and free. A call that lacks memory says so, and changes nothing.
  * STATUS    A call answers UPSCHED_OK, or the first status below that applies, by which nothing changes. Arguments are
  *           written with OK, else only as a call says. The handle is judged first, then the fields, then memory.

@@ -1,5 +1,5 @@
 -- The command that a struct of C's stands for, and the struct that an output is told by.
-use Rattle.std.specs.Prelude.{ℕ, ◌==◌, nat_le, if◌then◌else◌, List, length, Option, Some, None}
+use Rattle.std.specs.Prelude.{ℕ, ◌==◌, ◌≤◌, if◌then◌else◌, List, length, Option, Some, None}
 use Rattle.std.specs.Option.{option_map}
 use Rattle.flow_state.specs.declared.channel.Channel.{Channel}
 use Rattle.flow_state.specs.declared.channel.Phy.{Phy}
@@ -60,10 +60,18 @@ output_fields (outputs.Assigned modem ch sid first last) = record no_fields { ki
 output_fields (outputs.Map ch start len bytes) = record no_fields { kind = 3; ch = ch; start = start; minislots = len; body_len = length bytes }
 output_fields (outputs.Refused number) = record no_fields { kind = 4; refusal = number }
 
--- the room for a body after an output: a MAP's bytes at its front, where they fit
+-- a MAP's bytes are no more than there is room for
+abbrev pub FitsRoom : Output → Type 0
+FitsRoom outputs.Nothing = Unit {0}
+FitsRoom (outputs.ChannelSet _ _) = Unit {0}
+FitsRoom (outputs.Assigned _ _ _ _ _) = Unit {0}
+FitsRoom (outputs.Map _ _ _ bytes) = length bytes ≤ 1036
+FitsRoom (outputs.Refused _) = Unit {0}
+
+-- the room for a body after an output: a MAP's bytes at its front
 abbrev pub body_after : Output → List ℕ → List ℕ
 body_after outputs.Nothing room = room
 body_after (outputs.ChannelSet _ _) room = room
 body_after (outputs.Assigned _ _ _ _ _) room = room
-body_after (outputs.Map _ _ _ bytes) room = if nat_le (length bytes) (length room) then over_front bytes room else room
+body_after (outputs.Map _ _ _ bytes) room = over_front bytes room
 body_after (outputs.Refused _) room = room

@@ -10,7 +10,7 @@ use Rattle.upsched_c.specs.declared.handle.Held.TheVariants as holds
 use Rattle.upsched_c.specs.declared.output.OutputFields.{OutputFields}
 use Rattle.upsched_c.specs.declared.status.Status.{Status}
 use Rattle.upsched_c.specs.declared.status.Status.TheVariants as statuses
-use Rattle.upsched_c.specs.Commands.{output_fields, body_after}
+use Rattle.upsched_c.specs.Commands.{output_fields, body_after, FitsRoom}
 use Rattle.upsched_c.specs.Handles.{Asks}
 
 -- where an output is told: its fields, and room for the body of a MAP
@@ -30,10 +30,10 @@ pub record WantsMemory (rows : Rows) (command : Command) : Type 0 where
   pub not_refused : ¬ IsSome (refusal_of rows command)
   pub takes_some : ¬ TakesNoMemory rows command
 
--- a scheduler is given a command, if there is one: it makes one step, and its output is told
+-- a scheduler is given a command, if there is one: it makes one step, and its output is told, the body whole
 abbrev pub Applies : Option Command → Rows → Told → Rows → Told → Status → Type 0
 Applies (Some command) rows old after new statuses.Done =
-    (after ≡ (step rows command).rows) × (new ≡ tell (step rows command).output old)
+    (after ≡ (step rows command).rows) × (new ≡ tell (step rows command).output old) × FitsRoom (step rows command).output
 Applies (Some command) rows old after new statuses.OutOfMemory = WantsMemory rows command × (after ≡ rows) × (new ≡ old)
 Applies (Some command) rows old after new _ = ⊥
 Applies None rows old after new status = (status ≡ statuses.BadField) × (after ≡ rows) × (new ≡ old)

@@ -4,7 +4,7 @@ ghost use Rattle.std.specs.Prelude.{◌≡◌, Option, Some, None, IsSome, is_so
 ghost use Rattle.upsched_c.specs.declared.handle.Held.{Held};
 
 use crate::loose::Loose;
-use grant_machine::Machine;
+use crate::scheduler::Scheduler;
 use modem::Modem;
 use std::alloc::Global;
 use std::marker::Model;
@@ -14,7 +14,7 @@ use std::ptr::null_mut;
 /// What a handle can hold.
 #[derive(Drop)]
 pub enum Held {
-    Machine(Machine),
+    Machine(Scheduler),
     Modem(Modem),
 }
 
@@ -58,6 +58,8 @@ impl Owner {
         }
     }
 }
+
+unsafe impl Send for Owner {}
 
 /// What C keeps. It is open where its number is 1, and all zero is closed.
 #[repr(C)]
@@ -107,4 +109,11 @@ impl Handle {
             },
         );
     }
+}
+
+fn goes_to_a_thread<T: Send>() {}
+
+/// A handle may go from one thread to another.
+pub fn handles_go_to_threads() {
+    goes_to_a_thread::<Handle>();
 }

@@ -11,6 +11,7 @@ pub mod machine;
 pub mod modem_calls;
 pub mod output;
 pub mod samples;
+pub mod scheduler;
 pub mod sending;
 pub mod status;
 pub mod structs;

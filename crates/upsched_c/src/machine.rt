@@ -10,9 +10,10 @@ use crate::command::{CommandFields, command_of};
 use crate::handle::{Handle, Held};
 use crate::handle_calls::open;
 use crate::output::{OutputFields, output_fields, put_body};
+use crate::scheduler::Scheduler;
 use crate::status::Status;
 use command_log::read_command;
-use grant_machine::{Command, Machine};
+use grant_machine::Command;
 use std::alloc::Global;
 
 /// Opens a handle with a scheduler that has no channel.
@@ -20,7 +21,7 @@ use std::alloc::Global;
 pub extern "C" fn upsched_c_machine_open(alloc: Global, handle: &mut Handle) -> i32
     ensures { Answers result (Opens (Held.Machine []) (held handle.old) (held handle.new)) }
 {
-    open(alloc, handle, Held::Machine(Machine::new(alloc))).number()
+    open(alloc, handle, Held::Machine(Scheduler::new(alloc))).number()
 }
 
 fn apply(
@@ -31,13 +32,13 @@ fn apply(
 ) -> Status
     ensures { AsMachine (Applies command) value.old (told output.old body.old) value.new (told output.new body.new) result }
 {
-    let Held::Machine(machine) = value else {
+    let Held::Machine(scheduler) = value else {
         return Status::OtherKind;
     };
     let Some(command) = command else {
         return Status::BadField;
     };
-    let Ok(answer) = machine.apply(&command) else {
+    let Ok(answer) = scheduler.apply(command) else {
         return Status::OutOfMemory;
     };
     *output = output_fields(&answer);

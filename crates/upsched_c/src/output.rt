@@ -1,7 +1,7 @@
 //! Outputs as structs that C shares.
 
 ghost use Rattle.std.specs.Prelude.{◌≡◌};
-ghost use Rattle.upsched_c.specs.Commands.{body_after, output_fields as output_fields_lem};
+ghost use Rattle.upsched_c.specs.Commands.{body_after, FitsRoom, output_fields as output_fields_lem};
 
 use crate::codec::put_front;
 use grant_machine::Output;
@@ -87,6 +87,7 @@ pub fn output_fields(output: &Output) -> OutputFields
 
 /// Writes a MAP's body over the front of the room for it. Of another output nothing is written.
 pub fn put_body(output: &Output, room: &mut [u8; 1036])
+    requires { FitsRoom output.now }
     ensures { room.new ≡ body_after output.now room.old }
 {
     if let Output::Map {
@@ -96,9 +97,6 @@ pub fn put_body(output: &Output, room: &mut [u8; 1036])
         bytes,
     } = output
     {
-        let bytes = bytes.as_slice();
-        if bytes.len() <= 1036 {
-            put_front(bytes, room);
-        }
+        put_front(bytes.as_slice(), room);
     }
 }
