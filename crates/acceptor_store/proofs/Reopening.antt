@@ -1,5 +1,5 @@
 -- What is known of a connection that was opened anew.
-use Rattle.std.proofs.Common.{◌≡◌, ◌⊎◌, inl, inr, ℕ, true, false, ◌&&◌, List, length, map, Some, None, Option, Ok, Err, Result, IfErr, IfOk, IfSome, OnOk, IsTrue, codes, refl, sym, ap, subst, subst₂, ◌∙◌}
+use Rattle.std.proofs.Common.{◌≡◌, ◌⊎◌, inl, inr, ℕ, true, false, ◌&&◌, List, [], ◌∷◌, length, map, Some, None, Option, Ok, Err, Result, IfErr, IfOk, IfSome, OnOk, IsTrue, codes, refl, sym, ap, subst, subst₂, ◌∙◌}
 use Rattle.std.proofs.lemmas.Bool.{and_from, and_parts}
 use Rattle.std.proofs.Math.Logic.{∥∥₁_map, ∥∥₁_elim, ∥∥₁_prop}
 use Rattle.ballots.specs.declared.letters.Cast.{Cast}
@@ -262,7 +262,7 @@ blank_schema_is_own (inr (inr (inr (inl h)))) = none_there blank_schema (codes "
 blank_schema_is_own (inr (inr (inr (inr h)))) = none_there blank_schema (codes "learned") LacksLearned refl h
 
 -- how many tables a version has
-table_count : Version → ℕ
+abbrev table_count : Version → ℕ
 table_count First = 2
 table_count Second = 3
 table_count Third = 4
@@ -298,6 +298,10 @@ third_has_facts = refl
 
 pub not_third : (s : Schema) (version : Version) → s ≡ schema_of version → (IsForeignSchema s → ⊥) → version ≡ Third → ⊥
 not_third s version is ours third = ours (inl (subst HasFacts (sym (is ∙ ap schema_of third)) third_has_facts))
+
+pub always : {T E A : Type 0} (r : Result T E) → A → OnOk r A
+always (Ok x) a = a
+always (Err e) a = tt
 
 -- rows that no node wrote, in its tables
 pub told_rows : {S : Type 0} (g : Ghosts S) (version : Version) (conn : Held S) {X : Type 0} (r : Result X (OpenFault × S)) → (state g conn).now.schema ≡ schema_of version

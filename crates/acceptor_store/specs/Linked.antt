@@ -42,19 +42,19 @@ pub record Linked (S : Type 0) : Type 0 where
   pub owner : Option Owner
 
 -- an owner is stored as its node's number, and whether it is one of five
-abbrev is_five : Members → Bool
+abbrev pub is_five : Members → Bool
 is_five Three = false
 is_five Five = true
 
-abbrev members_by : Bool → Members
+abbrev pub members_by : Bool → Members
 members_by false = Three
 members_by true = Five
 
-members_back : (members : Members) → members_by (is_five members) ≡ members
+pub members_back : (members : Members) → members_by (is_five members) ≡ members
 members_back Three = refl
 members_back Five = refl
 
-owner_back : (owner : Owner) → ◌≡◌ {A = Owner} (record { node = owner.node; members = members_by (is_five owner.members) }) owner
+pub owner_back : (owner : Owner) → ◌≡◌ {A = Owner} (record { node = owner.node; members = members_by (is_five owner.members) }) owner
 owner_back owner = λ i. record { node = owner.node; members = members_back owner.members i }
 
 abbrev pub owner_code : Coded Owner

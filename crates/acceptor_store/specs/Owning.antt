@@ -18,7 +18,7 @@ use Rattle.acceptor_store_parts.specs.Serves.{ServesFor}
 use Rattle.acceptor_store.specs.declared.OpenFault.TheVariants.{Refused, Broken, OutOfMemory, Foreign}
 use Rattle.acceptor_store.specs.declared.owned.OwnerFault.{OwnerFault}
 use Rattle.acceptor_store.specs.declared.owned.OwnerFault.TheVariants.{Open, Blank, Unowned, OtherNode, OtherMembers}
-use Rattle.acceptor_store.specs.Linked.{Had, HadIn}
+use Rattle.acceptor_store.specs.Linked.{Had, HadIn, SeesForeign}
 
 -- the last commit holds this content, which a node wrote, in tables of this owner
 abbrev pub HadFor : {S : Type 0} → Ghosts S → Owner → Held S → Content → Type 0
@@ -36,7 +36,7 @@ IsLeftAs g owner is_new conn db = (state g conn).may_leave db ⊎ (((state g con
 abbrev pub HadBefore : {S : Type 0} → Ghosts S → Owner → Held S → Content → Type 0
 HadBefore g owner conn c = ((HasFacts (state g conn).now.schema → ⊥) × (version : Version) × HadIn g version conn c) ⊎ HadFor g owner conn c
 
--- a crash left it before too, or these are tables of version 2, or of this owner, of the content that the connection had
+-- a crash left it before too, or these are tables of version 2, or of this owner, of the content that it had
 abbrev pub IsLeftBefore : {S : Type 0} → Ghosts S → Owner → Held S → Trees → Type 0
 IsLeftBefore g owner conn db = (state g conn).may_leave db ⊎ ((c : Content) × Had g conn c × (AreTablesFor None db c ⊎ AreTablesFor (Some owner) db c))
 
@@ -72,3 +72,18 @@ FindsFor g owner old new highest = (c : Content) × HadFor g owner old c × Serv
 -- the same of a database that may be new
 abbrev pub PreparesFor : {S : Type 0} → Ghosts S → Owner → Bool → Held S → Held S → Option ℕ → Type 0
 PreparesFor g owner is_new old new highest = (c : Content) × HadAs g owner is_new old c × ServesFor (Some owner) (state g new) c × (number_of highest ≡ promised c)
+
+-- what each fault says of a database that is to be adopted
+abbrev pub IsDueBefore : {S : Type 0} → Ghosts S → Owner → Held S → OwnerFault → Type 0
+IsDueBefore g owner conn Blank = (state g conn).now.schema ≡ blank_schema
+IsDueBefore g owner conn Unowned = ⊥
+IsDueBefore g owner conn OtherNode = IsDue g owner false conn OtherNode
+IsDueBefore g owner conn OtherMembers = IsDue g owner false conn OtherMembers
+IsDueBefore g owner conn (Open Foreign) = IsForeignOwned (state g conn).now.schema (state g conn).committed.trees ⊎ ((HasFacts (state g conn).now.schema → ⊥) × SeesForeign g conn)
+IsDueBefore g owner conn (Open Refused) = Unit {0}
+IsDueBefore g owner conn (Open Broken) = Unit {0}
+IsDueBefore g owner conn (Open OutOfMemory) = Unit {0}
+
+-- it serves for this owner what the older one had, without an owner or for this one, of which this is the promised ballot
+abbrev pub AdoptsFor : {S : Type 0} → Ghosts S → Owner → Held S → Held S → Option ℕ → Type 0
+AdoptsFor g owner old new highest = (c : Content) × HadBefore g owner old c × ServesFor (Some owner) (state g new) c × (number_of highest ≡ promised c)

@@ -27,13 +27,12 @@ ghost use Rattle.acceptor_store.specs.Linked.{MayFind, IsHonest, is_clean_in, is
 use acceptor::{Records, RecordsFault};
 use acceptor_store_parts::{Owner, Stop, version_of_owner};
 use ballots::{Ballot, Cast, Place, Value, Votes, higher};
+pub use owned::OwnerFault;
 use sqlite::{Alter, Connection, Error as SqlError, ErrorCode, FileStore, Files, Options};
 use sqlite_disk::Disk;
 use std::alloc::Global;
 use std::marker::Model;
 use thiserror::Error;
-
-pub use owned::OwnerFault;
 
 /// Records in tables, which this connection alone writes.
 #[derive(Drop)]
@@ -129,8 +128,7 @@ fn promised_in<S: Alter>(
     ensures stays { HasCleanDisk (state S.Store conn.new) → StaysOpen result → StillServes (state S.Store conn.old) (state S.Store conn.new) }
     ensures survives { Survives (state S.Store conn.old) (state S.Store conn.new) (λ _. DoesNotServe (state S.Store conn.old)) }
 {
-    let Some(numbers) = acceptor_store_parts::read_numbers(conn, version_of_owner(owner))?
-    else {
+    let Some(numbers) = acceptor_store_parts::read_numbers(conn, version_of_owner(owner))? else {
         return Err(Stop::Down);
     };
     let Some(first) = Place::new(1) else {
@@ -160,19 +158,19 @@ fn is_owned<S: Alter>(conn: &mut Connection<S>, owner: Option<Owner>) -> bool
 fn tested<S: Alter>(
     alloc: Global,
     conn: &mut Connection<S>,
-    owner: Option<Owner>,
+    owner: &Option<Owner>,
 ) -> Option<Option<Ballot>>
-    ensures tells { HasCleanDisk (state S.Store conn.new) → IfSome result (Tells S.Store owner conn.old conn.new) }
-    ensures survives { Survives (state S.Store conn.old) (state S.Store conn.new) (λ _. CannotBeRead owner (state S.Store conn.old)) }
+    ensures tells { HasCleanDisk (state S.Store conn.new) → IfSome result (Tells S.Store owner.now conn.old conn.new) }
+    ensures survives { Survives (state S.Store conn.old) (state S.Store conn.new) (λ _. CannotBeRead owner.now (state S.Store conn.old)) }
 {
-    match opening::is_of(alloc, conn.schema(), version_of_owner(owner)) {
+    match opening::is_of(alloc, conn.schema(), version_of_owner(*owner)) {
         Ok(true) => {}
         _ => return None,
     }
-    if !is_owned(conn, owner) {
+    if !is_owned(conn, *owner) {
         return None;
     }
-    match promised_in(alloc, conn, owner) {
+    match promised_in(alloc, conn, *owner) {
         Ok(highest) => Some(highest),
         Err(_) => None,
     }
@@ -193,7 +191,7 @@ fn opened_anew<D: Disk + Drop>(
     let Ok(mut fresh) = acceptor_store_parts::reopened(alloc, conn, Options::new(SEED)) else {
         return None;
     };
-    let highest = tested(alloc, &mut fresh, owner);
+    let highest = tested(alloc, &mut fresh, &owner);
     Some((fresh, highest))
 }
 

@@ -13,7 +13,7 @@ ghost use Rattle.acceptor_store_parts.specs.Rowids.{AreByRowid, IsReread};
 ghost use Rattle.acceptor_store_parts.specs.Serves.{HasOwned, MayHaveOwned};
 ghost use Rattle.acceptor_store_parts.specs.Tables.{blank_schema, schema_of};
 ghost use Rattle.acceptor_store.specs.Linked.{IsHonest, MayFind, StaysAs, is_clean_in};
-ghost use Rattle.acceptor_store.specs.Owning.{ExaminesFor, FindsFor, HadAs, HadBefore, HasFurtherAs, IsDue, IsLeftAs, IsLeftBefore, PreparesFor};
+ghost use Rattle.acceptor_store.specs.Owning.{AdoptsFor, ExaminesFor, FindsFor, HadAs, HadBefore, HasFurtherAs, IsDue, IsDueBefore, IsLeftAs, IsLeftBefore, PreparesFor};
 
 use crate::opening::{examined, is_of, prepared, stopped};
 use crate::{OpenFault, SqlRecords};
@@ -94,7 +94,8 @@ fn judged(alloc: Global, schema: &Schema) -> Result<(), OwnerFault>
 
 /// The owner, where the table of facts has what an owner writes.
 fn owner_in<S: Alter>(conn: &mut Connection<S>) -> Result<Owner, OpenFault>
-    ensures held { HasCleanDisk (state S.Store conn.new) → IfOk result (λ owner. AreByRowid Version.Third (state S.Store conn.old) → OwnedBy owner (state S.Store conn.old).now.trees) }
+    ensures held { HasCleanDisk (state S.Store conn.new) → IfOk result (λ owner. AreByRowid Version.Third (state S.Store conn.old)
+        → OwnedBy owner (state S.Store conn.old).now.trees) }
     ensures fits { IfOk result IsOwner }
     ensures same { HasCleanDisk (state S.Store conn.new) → (state S.Store conn.old).now.schema ≡ schema_of Version.Third
         → OnOk result (StaysAs Version.Third (state S.Store conn.old) (state S.Store conn.new)) }
@@ -123,9 +124,14 @@ fn examined_owned<S: Alter>(
         → IsReread Version.Third (state S.Store conn.old) → HoldsNoneOwned (state S.Store conn.old).now.trees }
     ensures survives { Survives (state S.Store conn.old) (state S.Store conn.new) (λ _. (state S.Store conn.old).now.schema ≡ schema_of Version.Third → ⊥) }
 {
-    let highest = examined(alloc, conn, Version::Third)?;
-    let owner = owner_in(conn)?;
-    Ok((owner, highest))
+    let highest = match examined(alloc, conn, Version::Third) {
+        Ok(highest) => highest,
+        Err(fault) => return Err(fault),
+    };
+    match owner_in(conn) {
+        Ok(owner) => Ok((owner, highest)),
+        Err(fault) => Err(fault),
+    }
 }
 
 /// The connection over its own store, with the rows of version 3 tested, the owner and the promised
@@ -134,7 +140,8 @@ fn reread_owned<S: Alter + Drop>(
     alloc: Global,
     conn: Connection<S>,
 ) -> Result<(Connection<S>, Owner, Option<Ballot>), (OpenFault, S)>
-    ensures tables { IfOk result (λ r. HasCleanDisk (state S.Store r.0) → (state S.Store conn).now.schema ≡ schema_of Version.Third → FindsFor S.Store r.1 conn r.0 r.2) }
+    ensures tables { IfOk result (λ r. HasCleanDisk (state S.Store r.0) → (state S.Store conn).now.schema ≡ schema_of Version.Third
+        → FindsFor S.Store r.1 conn r.0 r.2) }
     ensures clean { IfOk result (λ r. doubt (state S.Store conn).is_clean ≤ doubt (state S.Store r.0).is_clean) }
     ensures leaves { IfOk result (λ r. HasCleanDisk (state S.Store r.0) → (db : Trees) → (state S.Store r.0).may_leave db → (state S.Store conn).may_leave db) }
     ensures left { IfErr result (λ e. IsClean (S.Store.view e.1) → (db : Trees) → S.Store.recovers e.1 db → (state S.Store conn).may_leave db) }
@@ -163,10 +170,12 @@ fn claimed<S: Alter + Drop>(
     conn: Connection<S>,
     owner: Owner,
 ) -> Result<(Connection<S>, Option<Ballot>), (OwnerFault, S)>
-    ensures tables { IfOk result (λ r. HasCleanDisk (state S.Store r.0) → (state S.Store conn).now.schema ≡ schema_of Version.Third → FindsFor S.Store owner conn r.0 r.1) }
+    ensures tables { IfOk result (λ r. HasCleanDisk (state S.Store r.0) → (state S.Store conn).now.schema ≡ schema_of Version.Third
+        → FindsFor S.Store owner conn r.0 r.1) }
     ensures clean { IfOk result (λ r. doubt (state S.Store conn).is_clean ≤ doubt (state S.Store r.0).is_clean) }
     ensures left { IfErr result (λ e. IsClean (S.Store.view e.1) → (db : Trees) → S.Store.recovers e.1 db → (state S.Store conn).may_leave db) }
-    ensures due { IfErr result (λ e. IsClean (S.Store.view e.1) → (state S.Store conn).now.schema ≡ schema_of Version.Third → (is_new : _) → IsDue S.Store owner is_new conn e.0) }
+    ensures due { IfErr result (λ e. IsClean (S.Store.view e.1) → (state S.Store conn).now.schema ≡ schema_of Version.Third → (is_new : _)
+        → IsDue S.Store owner is_new conn e.0) }
 {
     let (again, found, highest) = match reread_owned(alloc, conn) {
         Ok(found) => found,
@@ -182,17 +191,20 @@ fn claimed<S: Alter + Drop>(
 fn prepared_for<S: Alter + Drop>(
     alloc: Global,
     mut conn: Connection<S>,
-    owner: Owner,
+    owner: &Owner,
     is_new: bool,
 ) -> Result<(Connection<S>, Option<Ballot>), (OwnerFault, S)>
-    ensures tables { IfOk result (λ r. HasCleanDisk (state S.Store r.0) → PreparesFor S.Store owner is_new conn r.0 r.1) }
+    ensures tables { IfOk result (λ r. HasCleanDisk (state S.Store r.0) → PreparesFor S.Store owner.now is_new conn r.0 r.1) }
     ensures clean { IfOk result (λ r. doubt (state S.Store conn).is_clean ≤ doubt (state S.Store r.0).is_clean) }
-    ensures whole { IfErr result (λ e. IsClean (S.Store.view e.1) → (db : Trees) → S.Store.recovers e.1 db → IsLeftAs S.Store owner is_new conn db) }
-    ensures due { IfErr result (λ e. IsClean (S.Store.view e.1) → IsDue S.Store owner is_new conn e.0) }
+    ensures whole { IfErr result (λ e. IsClean (S.Store.view e.1) → (db : Trees) → S.Store.recovers e.1 db → IsLeftAs S.Store owner.now is_new conn db) }
+    ensures due { IfErr result (λ e. IsClean (S.Store.view e.1) → IsDue S.Store owner.now is_new conn e.0) }
     ensures used { IsTrue (state S.Store conn).in_transaction → IsErrAnd result (λ e. e.0 ≡ OwnerFault.Open OpenFault.Refused) }
-    ensures blank { (state S.Store conn).in_transaction ≡ false → (state S.Store conn).now.schema ≡ blank_schema → is_new ≡ false → IsErrAnd result (λ e. e.0 ≡ OwnerFault.Blank) }
-    ensures broken { (state S.Store conn).in_transaction ≡ false → IsBroken (state S.Store conn).now.schema → IsErrAnd result (λ e. e.0 ≡ OwnerFault.Open OpenFault.Foreign) }
-    ensures unowned { (state S.Store conn).in_transaction ≡ false → IsUnowned (state S.Store conn).now.schema → IsErrAnd result (λ e. e.0 ≡ OwnerFault.Unowned) }
+    ensures blank { (state S.Store conn).in_transaction ≡ false → (state S.Store conn).now.schema ≡ blank_schema → is_new ≡ false
+        → IsErrAnd result (λ e. e.0 ≡ OwnerFault.Blank) }
+    ensures broken { (state S.Store conn).in_transaction ≡ false → IsBroken (state S.Store conn).now.schema
+        → IsErrAnd result (λ e. e.0 ≡ OwnerFault.Open OpenFault.Foreign) }
+    ensures unowned { (state S.Store conn).in_transaction ≡ false → IsUnowned (state S.Store conn).now.schema
+        → IsErrAnd result (λ e. e.0 ≡ OwnerFault.Unowned) }
     ensures further { (state S.Store conn).in_transaction ≡ false → HasFurtherAs (state S.Store conn).now.schema
         → IsErrAnd result (λ e. (e.0 ≡ OwnerFault.Open OpenFault.Refused) ⊎ (e.0 ≡ OwnerFault.Open OpenFault.OutOfMemory)) }
 {
@@ -203,14 +215,48 @@ fn prepared_for<S: Alter + Drop>(
         if !is_new {
             return Err((OwnerFault::Blank, conn.into_store()));
         }
-        return match acceptor_store_parts::make_owned_tables(&mut conn, owner) {
+        return match acceptor_store_parts::make_owned_tables(&mut conn, *owner) {
             Ok(()) => Ok((conn, None)),
             Err(stop) => Err((OwnerFault::Open(stopped(stop)), conn.into_store())),
         };
     }
     match judged(alloc, conn.schema()) {
-        Ok(()) => claimed(alloc, conn, owner),
+        Ok(()) => claimed(alloc, conn, *owner),
         Err(fault) => Err((fault, conn.into_store())),
+    }
+}
+
+/// The connection over this owner's tables, where it had those of an older version or this owner's,
+/// and the promised ballot.
+fn adopted<S: Alter + Drop>(
+    alloc: Global,
+    conn: Connection<S>,
+    owner: &Owner,
+) -> Result<(Connection<S>, Option<Ballot>), (OwnerFault, S)>
+    ensures tables { IfOk result (λ r. HasCleanDisk (state S.Store r.0) → AdoptsFor S.Store owner.now conn r.0 r.1) }
+    ensures clean { IfOk result (λ r. doubt (state S.Store conn).is_clean ≤ doubt (state S.Store r.0).is_clean) }
+    ensures whole { IfErr result (λ e. IsClean (S.Store.view e.1) → (db : Trees) → S.Store.recovers e.1 db → IsLeftBefore S.Store owner.now conn db) }
+    ensures due { IfErr result (λ e. IsClean (S.Store.view e.1) → IsDueBefore S.Store owner.now conn e.0) }
+    ensures used { IsTrue (state S.Store conn).in_transaction → IsErrAnd result (λ e. e.0 ≡ OwnerFault.Open OpenFault.Refused) }
+    ensures blank { (state S.Store conn).in_transaction ≡ false → (state S.Store conn).now.schema ≡ blank_schema
+        → IsErrAnd result (λ e. e.0 ≡ OwnerFault.Blank) }
+{
+    if !conn.is_autocommit() {
+        return Err((OwnerFault::Open(OpenFault::Refused), conn.into_store()));
+    }
+    if acceptor_store_parts::is_blank(conn.schema()) {
+        return Err((OwnerFault::Blank, conn.into_store()));
+    }
+    if acceptor_store_parts::has_facts(conn.schema()) {
+        return prepared_for(alloc, conn, owner, false);
+    }
+    let found = match prepared(alloc, conn) {
+        Ok(found) => found,
+        Err((fault, store)) => return Err((OwnerFault::Open(fault), store)),
+    };
+    match acceptor_store_parts::own(found.0, *owner) {
+        Ok(owned) => Ok((owned, found.1)),
+        Err((stop, store)) => Err((OwnerFault::Open(stopped(stop)), store)),
     }
 }
 
@@ -243,14 +289,59 @@ impl<S: Alter + Drop> SqlRecords<S> {
             → IsLeftAs S.Store (record { node = node; members = members }) is_new conn db) }
         ensures due { IfErr result (λ e. IsClean (S.Store.view e.1) → IsDue S.Store (record { node = node; members = members }) is_new conn e.0) }
         ensures used { IsTrue (state S.Store conn).in_transaction → IsErrAnd result (λ e. e.0 ≡ OwnerFault.Open OpenFault.Refused) }
-        ensures blank { (state S.Store conn).in_transaction ≡ false → (state S.Store conn).now.schema ≡ blank_schema → is_new ≡ false → IsErrAnd result (λ e. e.0 ≡ OwnerFault.Blank) }
-        ensures broken { (state S.Store conn).in_transaction ≡ false → IsBroken (state S.Store conn).now.schema → IsErrAnd result (λ e. e.0 ≡ OwnerFault.Open OpenFault.Foreign) }
-        ensures unowned { (state S.Store conn).in_transaction ≡ false → IsUnowned (state S.Store conn).now.schema → IsErrAnd result (λ e. e.0 ≡ OwnerFault.Unowned) }
+        ensures blank { (state S.Store conn).in_transaction ≡ false → (state S.Store conn).now.schema ≡ blank_schema → is_new ≡ false
+            → IsErrAnd result (λ e. e.0 ≡ OwnerFault.Blank) }
+        ensures broken { (state S.Store conn).in_transaction ≡ false → IsBroken (state S.Store conn).now.schema
+            → IsErrAnd result (λ e. e.0 ≡ OwnerFault.Open OpenFault.Foreign) }
+        ensures unowned { (state S.Store conn).in_transaction ≡ false → IsUnowned (state S.Store conn).now.schema
+            → IsErrAnd result (λ e. e.0 ≡ OwnerFault.Unowned) }
         ensures further { (state S.Store conn).in_transaction ≡ false → HasFurtherAs (state S.Store conn).now.schema
             → IsErrAnd result (λ e. (e.0 ≡ OwnerFault.Open OpenFault.Refused) ⊎ (e.0 ≡ OwnerFault.Open OpenFault.OutOfMemory)) }
     {
         let owner = Owner { node, members };
-        let found = match prepared_for(alloc, conn, owner, is_new) {
+        let found = match prepared_for(alloc, conn, &owner, is_new) {
+            Ok(found) => found,
+            Err(refused) => return Err(refused),
+        };
+        Ok(SqlRecords {
+            alloc,
+            conn: Some(found.0),
+            is_up: true,
+            is_sure: true,
+            highest: Some(found.1),
+            failures: 0,
+            owner: Some(owner),
+        })
+    }
+
+    /// The same over a database of an older version, which nobody owns: its tables are made into
+    /// this owner's, with equal content, after they were made into those of version 2 where they
+    /// are of version 1, each in one transaction. A database that is this owner's is opened, and
+    /// that of another is refused, as by `open_as`.
+    ///
+    /// A connection in a transaction is Refused, and then a database without tables is Blank. What
+    /// `SqlRecords::open` refuses is refused as there. Where it fails the store comes back, and
+    /// holds what it held, or that in version 2, or in this owner's tables.
+    pub fn adopt(
+        alloc: Global,
+        conn: Connection<S>,
+        node: NodeId,
+        members: Members,
+    ) -> Result<SqlRecords<S>, (OwnerFault, S)>
+        ensures holds { IfOk result (λ r. IsHonest S.Store r → (c : Content) × HadBefore S.Store (record { node = node; members = members }) conn c
+            × Holds (MayFind S.Store r.owner r.held) c) }
+        ensures owner { IfOk result (λ r. r.owner ≡ Some (record { node = node; members = members })) }
+        ensures clean { IfOk result (λ r. IsHonest S.Store r → HasCleanDisk (state S.Store conn)) }
+        ensures sure { IfOk result (λ r. IsTrue (is_clean_in S.Store r.held) → IsHonest S.Store r) }
+        ensures whole { IfErr result (λ e. IsClean (S.Store.view e.1) → (db : Trees) → S.Store.recovers e.1 db
+            → IsLeftBefore S.Store (record { node = node; members = members }) conn db) }
+        ensures due { IfErr result (λ e. IsClean (S.Store.view e.1) → IsDueBefore S.Store (record { node = node; members = members }) conn e.0) }
+        ensures used { IsTrue (state S.Store conn).in_transaction → IsErrAnd result (λ e. e.0 ≡ OwnerFault.Open OpenFault.Refused) }
+        ensures blank { (state S.Store conn).in_transaction ≡ false → (state S.Store conn).now.schema ≡ blank_schema
+            → IsErrAnd result (λ e. e.0 ≡ OwnerFault.Blank) }
+    {
+        let owner = Owner { node, members };
+        let found = match adopted(alloc, conn, &owner) {
             Ok(found) => found,
             Err(refused) => return Err(refused),
         };

@@ -1,5 +1,5 @@
 -- Tables for an owner are tables of its version.
-use Rattle.std.proofs.Common.{◌≡◌, List, [], ◌∷◌, map, Option, Some, None, Result, IfOk, refl, sym, subst}
+use Rattle.std.proofs.Common.{◌≡◌, List, [], ◌∷◌, Option, Some, None, Result, IfOk, refl, sym, subst}
 use Rattle.std.proofs.lemmas.Result.{IfOk-weaker}
 use Rattle.acceptor.specs.Content.{Content}
 use Rattle.sqlite.specs.Schema.{Schema}

@@ -2,7 +2,6 @@
 use Rattle.std.proofs.Common.{◌≡◌, ◌≢◌, inl, inr, ℕ, ℤ, pos, List, [], ◌∷◌, ◌++◌, map, filter, nat_lt, Some, None, Option, Ok, refl, ap, subst, ◌∙◌}
 use Rattle.ballots.specs.declared.letters.Cast.{Cast}
 use Rattle.ballots.specs.Limits.{IsPlace, IsValue}
-use Rattle.ballots.specs.Rows.{put}
 use Rattle.acceptor.proofs.Callers.{rows_put, values_put}
 use Rattle.acceptor.specs.Content.{Content, after_write}
 use Rattle.acceptor.specs.Content.Write.{Tries as Tried, Promises, Votes, Learns}

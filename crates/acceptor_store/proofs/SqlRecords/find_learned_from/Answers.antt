@@ -1,6 +1,7 @@
 use Rattle.std.proofs.Common.{◌≡◌, ℕ, List}
 use Rattle.ballots.specs.Rows.{rows_from}
 use Rattle.acceptor.specs.Content.{Content, IsSound}
+use Rattle.acceptor_store.proofs.Failing.{linked_unread}
 use Rattle.acceptor_store.proofs.Calls.{entered, value, same, kept, trust}
 use Rattle.acceptor_store.proofs.SqlRecords.find_learned_from.Goals as goal
 
@@ -22,7 +23,7 @@ returns-in-Err-clause-kept g c =
 pub returns-in-Ok-clause-sound : goal.returns-in-Ok-clause-sound
 returns-in-Ok-clause-sound g c =
     value g.S.Store g.met.S.Store.settled g.met.S.Store.stays c.args.self.now c.in-Some.conn c.learned_from.new.conn c.self.inside.is_sure
-    (entered g.S.Store c.args.self.now (record { held = c.self.inside.conn; is_up = c.self.inside.is_up; is_sure = c.self.inside.is_sure; highest = c.self.inside.highest; failures = c.self.inside.failures; owner = c.self.inside.owner }) c.in-Some.conn c.self.view_is c.in-Some.is c.self.invariant c.if-not-self.false) _ c.learned_from.ensures.survives IsSound (λ clean x was. was.tables.sound)
+    (entered g.S.Store c.args.self.now (record { held = c.self.inside.conn; is_up = c.self.inside.is_up; is_sure = c.self.inside.is_sure; highest = c.self.inside.highest; failures = c.self.inside.failures; owner = c.self.inside.owner }) c.in-Some.conn c.self.view_is c.in-Some.is c.self.invariant c.if-not-self.false) _ c.learned_from.ensures.survives IsSound (λ clean x was. was.1.tables.sound)
 
 pub returns-in-Ok-clause-trust : goal.returns-in-Ok-clause-trust
 returns-in-Ok-clause-trust g c =
@@ -33,3 +34,8 @@ pub returns-in-Err-clause-trust : goal.returns-in-Err-clause-trust
 returns-in-Err-clause-trust g c =
     trust g.S.Store g.met.S.Store.settled g.met.S.Store.stays c.args.self.now c.in-Some.conn c.learned_from.new.conn c.self.inside.is_sure
     (entered g.S.Store c.args.self.now (record { held = c.self.inside.conn; is_up = c.self.inside.is_up; is_sure = c.self.inside.is_sure; highest = c.self.inside.highest; failures = c.self.inside.failures; owner = c.self.inside.owner }) c.in-Some.conn c.self.view_is c.in-Some.is c.self.invariant c.if-not-self.false) _ c.learned_from.ensures.survives _ _ _
+
+pub invariant_of-self-in-Err : goal.invariant_of-self-in-Err
+invariant_of-self-in-Err g c =
+    linked_unread g.S.Store c.self.inside.owner c.self.inside.conn c.in-Some.conn c.learned_from.new.conn c.self.inside.is_up c.end-in-Err.new.is_up c.self.inside.is_sure c.self.inside.highest c.in-Err.stop c.in-Some.is c.self.invariant
+    c.if-not-self.false c.end-in-Err.ensures.up c.learned_from.ensures.survives (λ clean leaves. c.in-Err.ensures.stays clean leaves)

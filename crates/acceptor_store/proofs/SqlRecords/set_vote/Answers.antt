@@ -1,5 +1,6 @@
 use Rattle.std.proofs.Common.{refl}
 use Rattle.acceptor.specs.Content.Write.{Votes}
+use Rattle.acceptor_store.proofs.Failing.{linked_unwritten}
 use Rattle.acceptor_store.proofs.Calls.{entered, made, same, in_doubt, adds_only, trust, linked_made, raised_vote}
 use Rattle.acceptor_store.proofs.SqlRecords.set_vote.Goals as goal
 
@@ -40,3 +41,8 @@ returns-in-Err-clause-writes g c honest =
       only = adds_only g.S.Store g.met.S.Store.settled g.met.S.Store.stays c.args.self.now c.in-Some.conn c.put_vote.new.conn c.self.inside.is_sure
           (entered g.S.Store c.args.self.now (record { held = c.self.inside.conn; is_up = c.self.inside.is_up; is_sure = c.self.inside.is_sure; highest = c.self.inside.highest; failures = c.self.inside.failures; owner = c.self.inside.owner }) c.in-Some.conn c.self.view_is c.in-Some.is c.self.invariant c.if-not-self.false) (Votes c.args.place (record { ballot = c.args.ballot; value = c.args.value.now })) c.put_vote.ensures.survives honest;
     }
+
+pub invariant_of-self-in-Err : goal.invariant_of-self-in-Err
+invariant_of-self-in-Err g c =
+    linked_unwritten g.S.Store c.self.inside.owner c.self.inside.conn c.in-Some.conn c.put_vote.new.conn c.self.inside.is_up c.end-in-Err.new.is_up c.self.inside.is_sure c.self.inside.highest c.in-Err.stop c.in-Some.is c.self.invariant
+    c.if-not-self.false c.end-in-Err.ensures.up (Votes c.args.place (record { ballot = c.args.ballot; value = c.args.value.now })) c.put_vote.ensures.survives (λ clean leaves. c.in-Err.ensures.err clean leaves)
