@@ -1,10 +1,13 @@
 //! Records in memory.
 
-ghost use Rattle.std.specs.Prelude.{◌≡◌, ℕ, max, Option, Some, None, IfOk, IfSome, IsTrue, OnOk, OnErr, ◌↔◌, true, false};
+ghost use Rattle.std.specs.Prelude.{◌≡◌, ℕ, max, Option, Some, None, IfOk, IfSome, IsOk, IsTrue, OnOk, OnErr, ◌↔◌, ◌⊎◌};
 ghost use Rattle.ballots.specs.Rows.{at, put, rows_from};
 ghost use Rattle.ballots.specs.Ballots.{number_of};
-ghost use Rattle.acceptor.specs.Content.{AreRowsFrom, Content, IsSound, no_content, greatest};
-ghost use Rattle.acceptor.specs.Kept.{ballot_in};
+ghost use Rattle.acceptor.specs.Content.{AreRowsFrom, Content, IsSound, no_content, greatest, promised};
+ghost use Rattle.acceptor.specs.Kept.{ballot_in, is_it, never_lie, no_failures, no_break};
+ghost use Rattle.acceptor.specs.Calls.{Accounts, KeepsTrust};
+ghost use Rattle.acceptor.specs.Faults.{BreaksByReopen, CountsFaults};
+ghost use Rattle.acceptor.specs.Found.{AddsNothing, Holds, HoldsEither, Keeps};
 
 use crate::records::{Records, RecordsFault};
 use ballots::{Ballot, Cast, Place, Value, Votes, higher};
@@ -191,15 +194,15 @@ fn put_value(learned: &mut BTreeMap<u64, Value>, place: u64, value: Value) -> Re
 }
 
 impl Records for PlainRecords {
-    ghost may_find = { λ r c. c ≡ r };
+    ghost may_find = { is_it };
 
-    ghost is_honest = { λ _. true };
+    ghost is_honest = { never_lie };
 
-    ghost is_clean = { λ _. true };
+    ghost is_clean = { never_lie };
 
-    ghost count_of = { λ _. 0 };
+    ghost count_of = { no_failures };
 
-    ghost is_broken = { λ _. false };
+    ghost is_broken = { no_break };
 
     ghost finds_no_memory = { λ _ _. Unit {0} };
 
@@ -209,11 +212,23 @@ impl Records for PlainRecords {
         0
     }
 
-    fn tried(&mut self) -> Result<Option<Ballot>, RecordsFault> {
+    fn tried(&mut self) -> Result<Option<Ballot>, RecordsFault>
+        ensures no_memory { IsOk result }
+        ensures value { IsTrue (never_lie self.new) → IfOk result (λ b. (c : Content) → Holds (is_it self.old) c → number_of b ≡ c.tried) }
+        ensures kept { IsTrue (never_lie self.new) → Keeps result (is_it self.old) (is_it self.new) }
+        ensures trust { KeepsTrust never_lie never_lie self.old self.new }
+        ensures account { Accounts no_failures no_break self.old result self.new }
+    {
         Ok(self.tried)
     }
 
-    fn promised(&mut self) -> Result<Option<Ballot>, RecordsFault> {
+    fn promised(&mut self) -> Result<Option<Ballot>, RecordsFault>
+        ensures no_memory { IsOk result }
+        ensures value { IsTrue (never_lie self.new) → IfOk result (λ b. (c : Content) → Holds (is_it self.old) c → number_of b ≡ promised c) }
+        ensures kept { IsTrue (never_lie self.new) → Keeps result (is_it self.old) (is_it self.new) }
+        ensures trust { KeepsTrust never_lie never_lie self.old self.new }
+        ensures account { Accounts no_failures no_break self.old result self.new }
+    {
         Ok(self.highest)
     }
 
@@ -262,7 +277,16 @@ impl Records for PlainRecords {
         Ok(put_value(&mut self.learned, place.number(), value)?)
     }
 
-    fn reopen(&mut self) -> Result<(), RecordsFault> {
+    fn reopen(&mut self) -> Result<(), RecordsFault>
+        ensures no_memory { IsOk result }
+        ensures ok { IsTrue (never_lie self.new) → OnOk result ((a b : Content) → HoldsEither (is_it self.old) a b → Holds (is_it self.new) a ⊎ Holds (is_it self.new) b) }
+        ensures reopened { OnOk result (self.new ≡ self.old) }
+        ensures kept { IsTrue (never_lie self.new) → AddsNothing (is_it self.old) (is_it self.new) }
+        ensures trust { OnOk result (KeepsTrust never_lie never_lie self.old self.new) }
+        ensures count { CountsFaults result (no_failures self.old) (no_failures self.new) }
+        ensures broken { BreaksByReopen result (no_break self.old) (no_break self.new) }
+    {
+        // All that was committed is there.
         Ok(())
     }
 }

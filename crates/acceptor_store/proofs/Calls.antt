@@ -1,5 +1,5 @@
 -- What a call on the records does, by what its statement did.
-use Rattle.std.proofs.Common.{◌≡◌, inl, inr, ℕ, ◌≤◌, Bool, true, ◌&&◌, Some, None, Option, Err, IsTrue, IfSome, sym, ap, subst, ◌∙◌, arith}
+use Rattle.std.proofs.Common.{◌≡◌, inl, inr, ℕ, ◌≤◌, Bool, true, ◌&&◌, Some, None, Option, Err, IsTrue, IfSome, sym, ap, subst, subst₂, ◌∙◌, arith}
 use Rattle.std.proofs.lemmas.Bool.{and_from, and_parts}
 use Rattle.sqlite_trees.proofs.Doubt.{no_doubt, clean_of}
 use Rattle.sqlite.specs.Store.{Ghosts}
@@ -15,26 +15,29 @@ use Rattle.acceptor.specs.Calls.{KeepsTrust}
 use Rattle.acceptor.specs.Faults.{IsHarmless}
 use Rattle.acceptor.specs.Found.{Findable, Holds, AddsNothing, AddsOnly, FindsSame, Keeps, HasMade, MayHaveMade}
 use Rattle.acceptor.specs.declared.records.RecordsFault.{RecordsFault}
-use Rattle.acceptor_store_parts.specs.Serves.{Serves, StillServes, HasWritten, MayHaveWritten}
+use Rattle.acceptor_store_parts.specs.declared.owner.Owner.{Owner}
+use Rattle.acceptor_store_parts.specs.Serves.{Serves, ServesFor, StillServes, HasWritten, MayHaveWritten}
 use Rattle.acceptor_store.specs.Linked.{Linked, MayFind, MayFindIn, IsHonest, is_clean_in, is_honest, IsLinked, Knows}
 use Rattle.acceptor_store.proofs.Found.{served, now_holds, may_hold, only_adds, same_found, no_more, keeps_err}
 
 -- the records have this connection, and what is known of it
-pub record Entered {S : Type 0} (g : Ghosts S) (self : Linked S) (old : Held S) (is_sure : Bool) : Type 0 where
+pub record Entered {S : Type 0} (g : Ghosts S) (self : Linked S) (old : Held S) (is_sure : Bool) (owner : Option Owner) : Type 0 where
   pub at : self.held ≡ Some old
   pub sure : self.is_sure ≡ is_sure
-  pub known : IsTrue is_sure → HasCleanDisk (state g old) → Knows g old self.highest
+  pub own : self.owner ≡ owner
+  pub known : IsTrue is_sure → HasCleanDisk (state g old) → Knows g owner old self.highest
 
-pub entered : {S : Type 0} (g : Ghosts S) (self inside : Linked S) (old : Held S) → inside ≡ self → inside.held ≡ Some old → IsLinked g inside.held inside.is_up inside.is_sure inside.highest → inside.is_up ≡ true
-    → Entered g self old inside.is_sure
+pub entered : {S : Type 0} (g : Ghosts S) (self inside : Linked S) (old : Held S) → inside ≡ self → inside.held ≡ Some old → IsLinked g inside.owner inside.held inside.is_up inside.is_sure inside.highest → inside.is_up ≡ true
+    → Entered g self old inside.is_sure inside.owner
 entered g self inside old view some linked up = record {
   at = sym (ap (λ (r : Linked _). r.held) view) ∙ some;
   sure = sym (ap (λ (r : Linked _). r.is_sure) view);
-  known = λ sure clean. subst (λ (r : Linked _). Knows g old r.highest) view (((subst (λ h. IsLinked g h inside.is_up inside.is_sure inside.highest) some linked sure clean).1 up));
+  own = sym (ap (λ (r : Linked _). r.owner) view);
+  known = λ sure clean. subst (λ (r : Linked _). Knows g inside.owner old r.highest) view (((subst (λ h. IsLinked g inside.owner h inside.is_up inside.is_sure inside.highest) some linked sure clean).1 up));
 }
 
 module _ {S : Type 0} (g : Ghosts S) (settled : (s : S) (db : Trees) → IsTrue (g.view s).is_open → g.recovers s db → db ≡ (g.view s).committed)
-    (stays : (s : S) → IsTrue (g.view s).is_open → g.recovers s (g.view s).committed) (self : Linked S) (old new : Held S) (is_sure : Bool) (it : Entered g self old is_sure)
+    (stays : (s : S) → IsTrue (g.view s).is_open → g.recovers s (g.view s).committed) (self : Linked S) (old new : Held S) (is_sure : Bool) {owner : Option Owner} (it : Entered g self old is_sure owner)
     (Commits : Trees → Type 0) (survives : Survives (state g old) (state g new) Commits) where
   clean_now : IsTrue (is_sure && (state g new).is_clean) → HasCleanDisk (state g new)
   clean_now h = no_doubt _ (and_parts is_sure _ h).1
@@ -42,11 +45,11 @@ module _ {S : Type 0} (g : Ghosts S) (settled : (s : S) (db : Trees) → IsTrue 
   clean_then : IsTrue (is_sure && (state g new).is_clean) → HasCleanDisk (state g old)
   clean_then h = omega (arith, survives.clean, clean_now h)
 
-  from_self : (P : Findable → Type 0) → P (MayFindIn g old) → P (MayFind g self.held)
-  from_self P p = subst (λ h. P (MayFind g h)) (sym it.at) p
+  from_self : (P : Findable → Type 0) → P (MayFindIn g owner old) → P (MayFind g self.owner self.held)
+  from_self P p = subst₂ (λ o h. P (MayFind g o h)) (sym it.own) (sym it.at) p
 
-  to_old : (P : Findable → Type 0) → P (MayFind g self.held) → P (MayFindIn g old)
-  to_old P p = subst (λ h. P (MayFind g h)) it.at p
+  to_old : (P : Findable → Type 0) → P (MayFind g self.owner self.held) → P (MayFindIn g owner old)
+  to_old P p = subst₂ (λ o h. P (MayFind g o h)) it.own it.at p
 
   pub honest : IsTrue (is_sure && (state g new).is_clean) → IsHonest g self
   honest h =
@@ -61,60 +64,64 @@ module _ {S : Type 0} (g : Ghosts S) (settled : (s : S) (db : Trees) → IsTrue 
   clean now = subst (λ held. IsTrue (is_clean_in g held)) (sym it.at) (clean_of _ (omega (arith, survives.clean, no_doubt _ now)))
 
   pub trust : (up : Bool) (highest : Option (Option ℕ)) (failures : ℕ)
-      → KeepsTrust (is_honest g) (λ r. is_clean_in g r.held) self (record { held = Some new; is_up = up; is_sure = is_sure; highest = highest; failures = failures })
+      → KeepsTrust (is_honest g) (λ r. is_clean_in g r.held) self (record { held = Some new; is_up = up; is_sure = is_sure; highest = highest; failures = failures; owner = owner })
   trust up highest failures = record { honest = honest; clean = clean; sure = sure }
 
-  pub value : (V : Content → Type 0) → (HasCleanDisk (state g new) → (c : Content) → Serves (state g old) c → V c) → IsTrue (is_sure && (state g new).is_clean)
-      → (c : Content) → Holds (MayFind g self.held) c → V c
-  value V read h c holds =
+  pub value_for : (V : Content → Type 0) → (HasCleanDisk (state g new) → (c : Content) → ServesFor owner (state g old) c → V c) → IsTrue (is_sure && (state g new).is_clean)
+      → (c : Content) → Holds (MayFind g self.owner self.held) c → V c
+  value_for V read h c holds =
       let was = it.known (and_parts is_sure _ h).0 (clean_then h) in
-      subst V (served g settled stays old new was.0 was.1 c (to_old (λ f. Holds f c) holds)) (read (clean_now h) was.0 was.1)
+      subst V (served g settled stays owner old new was.0 was.1 c (to_old (λ f. Holds f c) holds)) (read (clean_now h) was.0 was.1)
 
-  pub same : (HasCleanDisk (state g new) → StillServes (state g old) (state g new)) → IsTrue (is_sure && (state g new).is_clean) → FindsSame (MayFind g self.held) (MayFindIn g new)
+  pub value : (V : Content → Type 0) → (HasCleanDisk (state g new) → (c : Content) → Serves (state g old) c → V c) → IsTrue (is_sure && (state g new).is_clean)
+      → (c : Content) → Holds (MayFind g self.owner self.held) c → V c
+  value V read = value_for V (λ clean c was. read clean c (owner, was))
+
+  pub same : (HasCleanDisk (state g new) → StillServes (state g old) (state g new)) → IsTrue (is_sure && (state g new).is_clean) → FindsSame (MayFind g self.owner self.held) (MayFindIn g owner new)
   same still h =
       let was = it.known (and_parts is_sure _ h).0 (clean_then h) in
-      from_self (λ f. FindsSame f (MayFindIn g new)) (same_found g settled stays old new was.0 was.1 (still (clean_now h) was.0 was.1))
+      from_self (λ f. FindsSame f (MayFindIn g owner new)) (same_found g settled stays owner old new was.0 was.1 (still (clean_now h) owner was.0 was.1))
 
   pub kept : (T : Type 0) (e : RecordsFault) → (IsHarmless e → HasCleanDisk (state g new) → StillServes (state g old) (state g new)) → ((c : Content) (db : Trees) → Serves (state g old) c → Commits db → ⊥)
-      → IsTrue (is_sure && (state g new).is_clean) → Keeps {T = T} (Err e) (MayFind g self.held) (MayFindIn g new)
+      → IsTrue (is_sure && (state g new).is_clean) → Keeps {T = T} (Err e) (MayFind g self.owner self.held) (MayFindIn g owner new)
   kept T e still none h =
       let was = it.known (and_parts is_sure _ h).0 (clean_then h) in
-      keeps_err T e (MayFind g self.held) (MayFindIn g new) (λ harmless. same (still harmless) h)
-      (from_self (λ f. AddsNothing f (MayFindIn g new)) (no_more g old new Commits (λ db. none was.0 db was.1) (clean_now h) survives))
+      keeps_err T e (MayFind g self.owner self.held) (MayFindIn g owner new) (λ harmless. same (still harmless) h)
+      (from_self (λ f. AddsNothing f (MayFindIn g owner new)) (no_more g owner old new Commits (λ db. none was.0 db (owner, was.1)) (clean_now h) survives))
 
-  pub made : (w : Write) → (HasCleanDisk (state g new) → HasWritten (state g old) (state g new) w) → IsTrue (is_sure && (state g new).is_clean) → HasMade (MayFind g self.held) (MayFindIn g new) w
+  pub made : (w : Write) → (HasCleanDisk (state g new) → HasWritten (state g old) (state g new) w) → IsTrue (is_sure && (state g new).is_clean) → HasMade (MayFind g self.owner self.held) (MayFindIn g owner new) w
   made w written h =
       let was = it.known (and_parts is_sure _ h).0 (clean_then h) in
-      from_self (λ f. HasMade f (MayFindIn g new) w) (now_holds g settled stays old new was.0 was.1 w (written (clean_now h) was.0 was.1))
+      from_self (λ f. HasMade f (MayFindIn g owner new) w) (now_holds g settled stays owner old new was.0 was.1 w (written (clean_now h) owner was.0 was.1))
 
 module _ {S : Type 0} (g : Ghosts S) (settled : (s : S) (db : Trees) → IsTrue (g.view s).is_open → g.recovers s db → db ≡ (g.view s).committed)
-    (stays : (s : S) → IsTrue (g.view s).is_open → g.recovers s (g.view s).committed) (self : Linked S) (old new : Held S) (is_sure : Bool) (it : Entered g self old is_sure)
+    (stays : (s : S) → IsTrue (g.view s).is_open → g.recovers s (g.view s).committed) (self : Linked S) (old new : Held S) (is_sure : Bool) {owner : Option Owner} (it : Entered g self old is_sure owner)
     (w : Write) (survives : Survives (state g old) (state g new) (MayHaveWritten (state g old) w)) where
-  pub in_doubt : IsTrue (is_sure && (state g new).is_clean) → MayHaveMade (MayFind g self.held) (MayFindIn g new) w
+  pub in_doubt : IsTrue (is_sure && (state g new).is_clean) → MayHaveMade (MayFind g self.owner self.held) (MayFindIn g owner new) w
   in_doubt h =
       let clean : HasCleanDisk (state g new) = no_doubt _ (and_parts is_sure _ h).1 in
       let before : HasCleanDisk (state g old) = omega (arith, survives.clean, clean) in
       let was = it.known (and_parts is_sure _ h).0 before in
-      subst (λ held. MayHaveMade (MayFind g held) (MayFindIn g new) w) (sym it.at) (may_hold g settled stays old new was.0 was.1 w clean survives)
+      subst₂ (λ o held. MayHaveMade (MayFind g o held) (MayFindIn g owner new) w) (sym it.own) (sym it.at) (may_hold g settled stays owner old new was.0 was.1 w clean survives)
 
-  pub adds_only : IsTrue (is_sure && (state g new).is_clean) → AddsOnly (MayFind g self.held) (MayFindIn g new) w
+  pub adds_only : IsTrue (is_sure && (state g new).is_clean) → AddsOnly (MayFind g self.owner self.held) (MayFindIn g owner new) w
   adds_only h =
       let clean : HasCleanDisk (state g new) = no_doubt _ (and_parts is_sure _ h).1 in
       let before : HasCleanDisk (state g old) = omega (arith, survives.clean, clean) in
       let was = it.known (and_parts is_sure _ h).0 before in
-      subst (λ held. AddsOnly (MayFind g held) (MayFindIn g new) w) (sym it.at) (only_adds g settled stays old new was.0 was.1 w clean survives)
+      subst₂ (λ o held. AddsOnly (MayFind g o held) (MayFindIn g owner new) w) (sym it.own) (sym it.at) (only_adds g settled stays owner old new was.0 was.1 w clean survives)
 
 -- what stays true of the fields where a write was made
-pub linked_made : {S : Type 0} (g : Ghosts S) (held : Option (Held S)) (old new : Held S) (is_up is_sure : Bool) (hi hi′ : Option (Option ℕ)) (w : Write) → held ≡ Some old → IsLinked g held is_up is_sure hi → is_up ≡ true
+pub linked_made : {S : Type 0} (g : Ghosts S) (owner : Option Owner) (held : Option (Held S)) (old new : Held S) (is_up is_sure : Bool) (hi hi′ : Option (Option ℕ)) (w : Write) → held ≡ Some old → IsLinked g owner held is_up is_sure hi → is_up ≡ true
     → Survives (state g old) (state g new) (MayHaveWritten (state g old) w) → (HasCleanDisk (state g new) → HasWritten (state g old) (state g new) w)
     → ((c : Content) → IfSome hi (λ b. number_of b ≡ promised c) → IfSome hi′ (λ b. number_of b ≡ promised (after_write c (Some w))))
-    → IsLinked g (Some new) is_up is_sure hi′
-linked_made g held old new is_up is_sure hi hi′ w some linked up survives written higher sure clean =
+    → IsLinked g owner (Some new) is_up is_sure hi′
+linked_made g owner held old new is_up is_sure hi hi′ w some linked up survives written higher sure clean =
     let before : HasCleanDisk (state g old) = omega (arith, survives.clean, clean) in
-    let it = subst (λ h. IsLinked g h is_up is_sure hi) some linked sure before in
+    let it = subst (λ h. IsLinked g owner h is_up is_sure hi) some linked sure before in
     let was = it.1 up in (
-      λ db may. elim (survives.crash clean db may) [ inl stood ↦ it.0 db stood | inr wrote ↦ ∣ (after_write was.0 (Some w), wrote was.0 was.1) ∣₁ ],
-      λ _. (after_write was.0 (Some w), written clean was.0 was.1, higher was.0 was.2),
+      λ db may. elim (survives.crash clean db may) [ inl stood ↦ it.0 db stood | inr wrote ↦ ∣ (after_write was.0 (Some w), wrote owner was.0 was.1) ∣₁ ],
+      λ _. (after_write was.0 (Some w), written clean owner was.0 was.1, higher was.0 was.2),
     )
 
 abbrev pub IsRaised : Option (Option ℕ) → ℕ → Option (Option ℕ) → Type 0
@@ -136,9 +143,9 @@ raised_vote ballot place cast c hi (Some b) same raised known =
 
 -- the promised ballot, where it is known
 pub value_known : {S : Type 0} (g : Ghosts S) (settled : (s : S) (db : Trees) → IsTrue (g.view s).is_open → g.recovers s db → db ≡ (g.view s).committed)
-    (stays : (s : S) → IsTrue (g.view s).is_open → g.recovers s (g.view s).committed) (self : Linked S) (old : Held S) (is_sure : Bool) → Entered g self old is_sure → (highest : Option ℕ) → self.highest ≡ Some highest
-    → IsTrue (is_sure && (state g old).is_clean) → (c : Content) → Holds (MayFind g self.held) c → number_of highest ≡ promised c
-value_known g settled stays self old is_sure it highest is h c holds =
+    (stays : (s : S) → IsTrue (g.view s).is_open → g.recovers s (g.view s).committed) (self : Linked S) (old : Held S) (is_sure : Bool) {owner : Option Owner} → Entered g self old is_sure owner → (highest : Option ℕ) → self.highest ≡ Some highest
+    → IsTrue (is_sure && (state g old).is_clean) → (c : Content) → Holds (MayFind g self.owner self.held) c → number_of highest ≡ promised c
+value_known g settled stays self old is_sure {owner} it highest is h c holds =
     let was = it.known (and_parts is_sure _ h).0 (no_doubt _ (and_parts is_sure _ h).1) in
     let known = subst (λ hi. IfSome hi (λ b. number_of b ≡ promised was.0)) is was.2 in
-    known ∙ ap promised (served g settled stays old old was.0 was.1 c (subst (λ held. Holds (MayFind g held) c) it.at holds))
+    known ∙ ap promised (served g settled stays owner old old was.0 was.1 c (subst₂ (λ o held. Holds (MayFind g o held) c) it.own it.at holds))

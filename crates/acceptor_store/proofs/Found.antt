@@ -1,5 +1,5 @@
 -- What an open after a crash finds of a connection that serves the records.
-use Rattle.std.proofs.Common.{◌≡◌, inl, inr, IsTrue, Some, Err, sym, ap, subst, ◌∙◌}
+use Rattle.std.proofs.Common.{◌≡◌, inl, inr, IsTrue, Option, Some, Err, sym, ap, subst, ◌∙◌}
 use Rattle.std.proofs.Math.Logic.{∥∥₁_map}
 use Rattle.sqlite.specs.Store.{Ghosts}
 use Rattle.sqlite.specs.Tree.{Trees}
@@ -11,8 +11,9 @@ use Rattle.acceptor.specs.Faults.{IsHarmless}
 use Rattle.acceptor.specs.Found.{Findable, Holds, AddsNothing, AddsOnly, FindsSame, Keeps, HasMade, MayHaveMade}
 use Rattle.acceptor.specs.declared.records.RecordsFault.{RecordsFault}
 use Rattle.acceptor.specs.declared.records.RecordsFault.TheVariants.{Refused, Broken, OutOfMemory}
-use Rattle.acceptor_store_parts.specs.Stored.{AreTables}
-use Rattle.acceptor_store_parts.specs.Serves.{Serves, MayHaveWritten}
+use Rattle.acceptor_store_parts.specs.declared.owner.Owner.{Owner}
+use Rattle.acceptor_store_parts.specs.Owned.{AreTablesFor}
+use Rattle.acceptor_store_parts.specs.Serves.{ServesFor, MayHaveWritten}
 use Rattle.acceptor_store_parts.proofs.Callers.{content_once}
 use Rattle.acceptor_store.specs.Linked.{MayFindIn}
 use Rattle.acceptor_store.proofs.Same.{which}
@@ -27,50 +28,50 @@ pub certain : (d c : Content) → ∥ d ≡ c ∥₁ → d ≡ c
 certain d c known = elim (which c c d (∥∥₁_map known (λ e. inl e))) [ inl e ↦ e | inr e ↦ e ]
 
 module _ {S : Type 0} (g : Ghosts S) (settled : (s : S) (db : Trees) → IsTrue (g.view s).is_open → g.recovers s db → db ≡ (g.view s).committed)
-    (stays : (s : S) → IsTrue (g.view s).is_open → g.recovers s (g.view s).committed) (h : Held S) (c : Content) (serves : Serves (state g h) c) where
-  pub found_is : (d : Content) → MayFindIn g h d → d ≡ c
+    (stays : (s : S) → IsTrue (g.view s).is_open → g.recovers s (g.view s).committed) (owner : Option Owner) (h : Held S) (c : Content) (serves : ServesFor owner (state g h) c) where
+  pub found_is : (d : Content) → MayFindIn g owner h d → d ≡ c
   found_is d known = certain d c (∥∥₁_map known (λ it.
       let db : it.0 ≡ (state g h).now.trees = settled h.store it.0 serves.is_open it.1 ∙ ap (λ (x : Database). x.trees) (sym serves.settled) in
-      content_once (state g h).now.trees d c (subst (λ x. AreTables x d) db it.2) serves.tables))
+      content_once owner (state g h).now.trees d c (subst (λ x. AreTablesFor owner x d) db it.2) serves.tables))
 
-  pub found_it : MayFindIn g h c
-  found_it = ∣ ((state g h).committed.trees, stays h.store serves.is_open, subst (λ (x : Database). AreTables x.trees c) serves.settled serves.tables) ∣₁
+  pub found_it : MayFindIn g owner h c
+  found_it = ∣ ((state g h).committed.trees, stays h.store serves.is_open, subst (λ (x : Database). AreTablesFor owner x.trees c) serves.settled serves.tables) ∣₁
 
 module _ {S : Type 0} (g : Ghosts S) (settled : (s : S) (db : Trees) → IsTrue (g.view s).is_open → g.recovers s db → db ≡ (g.view s).committed)
-    (stays : (s : S) → IsTrue (g.view s).is_open → g.recovers s (g.view s).committed) (old new : Held S) (was : Content) (serves : Serves (state g old) was) where
+    (stays : (s : S) → IsTrue (g.view s).is_open → g.recovers s (g.view s).committed) (owner : Option Owner) (old new : Held S) (was : Content) (serves : ServesFor owner (state g old) was) where
   -- the content that is held is the one that is served
-  pub served : (c : Content) → Holds (MayFindIn g old) c → was ≡ c
-  served c holds = holds.1 was (found_it g settled stays old was serves)
+  pub served : (c : Content) → Holds (MayFindIn g owner old) c → was ≡ c
+  served c holds = holds.1 was (found_it g settled stays owner old was serves)
 
   -- a write that was made
-  pub now_holds : (w : Write) → Serves (state g new) (after_write was (Some w)) → HasMade (MayFindIn g old) (MayFindIn g new) w
+  pub now_holds : (w : Write) → ServesFor owner (state g new) (after_write was (Some w)) → HasMade (MayFindIn g owner old) (MayFindIn g owner new) w
   now_holds w serves_now c holds =
       let now = after_write was (Some w) in
       let same : now ≡ after_write c (Some w) = ap (λ (x : Content). after_write x (Some w)) (served c holds) in
-      (∣ subst (MayFindIn g new) same (found_it g settled stays new now serves_now) ∣₁, λ d it. found_is g settled stays new now serves_now d it ∙ same)
+      (∣ subst (MayFindIn g owner new) same (found_it g settled stays owner new now serves_now) ∣₁, λ d it. found_is g settled stays owner new now serves_now d it ∙ same)
 
   -- a write in doubt
-  pub may_hold : (w : Write) → HasCleanDisk (state g new) → Survives (state g old) (state g new) (MayHaveWritten (state g old) w) → MayHaveMade (MayFindIn g old) (MayFindIn g new) w
+  pub may_hold : (w : Write) → HasCleanDisk (state g new) → Survives (state g old) (state g new) (MayHaveWritten (state g old) w) → MayHaveMade (MayFindIn g owner old) (MayFindIn g owner new) w
   may_hold w clean survives c holds d known = which c (after_write c (Some w)) d (∥∥₁_map known (λ it. elim (survives.crash clean it.0 it.1) [
     | inl before ↦ inl (holds.1 d ∣ (it.0, before, it.2) ∣₁)
-    | inr wrote ↦ inr (content_once it.0 d (after_write was (Some w)) it.2 (wrote was serves) ∙ ap (λ (x : Content). after_write x (Some w)) (served c holds))
+    | inr wrote ↦ inr (content_once owner it.0 d (after_write was (Some w)) it.2 (wrote owner was serves) ∙ ap (λ (x : Content). after_write x (Some w)) (served c holds))
   ]))
 
   -- it adds nothing but its own content
-  pub only_adds : (w : Write) → HasCleanDisk (state g new) → Survives (state g old) (state g new) (MayHaveWritten (state g old) w) → AddsOnly (MayFindIn g old) (MayFindIn g new) w
+  pub only_adds : (w : Write) → HasCleanDisk (state g new) → Survives (state g old) (state g new) (MayHaveWritten (state g old) w) → AddsOnly (MayFindIn g owner old) (MayFindIn g owner new) w
   only_adds w clean survives d known = ∥∥₁_map known (λ it. elim (survives.crash clean it.0 it.1) [
     | inl before ↦ inl ∣ (it.0, before, it.2) ∣₁
-    | inr wrote ↦ inr (was, found_it g settled stays old was serves, content_once it.0 d (after_write was (Some w)) it.2 (wrote was serves))
+    | inr wrote ↦ inr (was, found_it g settled stays owner old was serves, content_once owner it.0 d (after_write was (Some w)) it.2 (wrote owner was serves))
   ])
 
   -- a call that left it open and changed nothing
-  pub same_found : Serves (state g new) was → FindsSame (MayFindIn g old) (MayFindIn g new)
+  pub same_found : ServesFor owner (state g new) was → FindsSame (MayFindIn g owner old) (MayFindIn g owner new)
   same_found serves_now d = (
-    λ it. subst (MayFindIn g new) (sym (found_is g settled stays old was serves d it)) (found_it g settled stays new was serves_now),
-    λ it. subst (MayFindIn g old) (sym (found_is g settled stays new was serves_now d it)) (found_it g settled stays old was serves),
+    λ it. subst (MayFindIn g owner new) (sym (found_is g settled stays owner old was serves d it)) (found_it g settled stays owner new was serves_now),
+    λ it. subst (MayFindIn g owner old) (sym (found_is g settled stays owner new was serves_now d it)) (found_it g settled stays owner old was serves),
   )
 
 -- a call that commits nothing
-pub no_more : {S : Type 0} (g : Ghosts S) (old new : Held S) (Commits : Trees → Type 0) → ((db : Trees) → Commits db → ⊥) → HasCleanDisk (state g new) → Survives (state g old) (state g new) Commits
-    → AddsNothing (MayFindIn g old) (MayFindIn g new)
-no_more g old new Commits none clean survives d known = ∥∥₁_map known (λ it. (it.0, elim (survives.crash clean it.0 it.1) [ inl before ↦ before | inr wrote ↦ absurd (none it.0 wrote) ], it.2))
+pub no_more : {S : Type 0} (g : Ghosts S) (owner : Option Owner) (old new : Held S) (Commits : Trees → Type 0) → ((db : Trees) → Commits db → ⊥) → HasCleanDisk (state g new) → Survives (state g old) (state g new) Commits
+    → AddsNothing (MayFindIn g owner old) (MayFindIn g owner new)
+no_more g owner old new Commits none clean survives d known = ∥∥₁_map known (λ it. (it.0, elim (survives.crash clean it.0 it.1) [ inl before ↦ before | inr wrote ↦ absurd (none it.0 wrote) ], it.2))

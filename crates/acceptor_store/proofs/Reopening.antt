@@ -1,15 +1,11 @@
 -- What is known of a connection that was opened anew.
-use Rattle.std.proofs.Common.{◌≡◌, ◌⊎◌, inl, inr, ℕ, true, false, ◌&&◌, List, [], ◌∷◌, map, slice_get, Some, None, Option, Ok, Err, Result, IfErr, IfOk, IfSome, OnOk, IsTrue, codes, refl, sym, ap, subst, subst₂, ◌∙◌}
+use Rattle.std.proofs.Common.{◌≡◌, ◌⊎◌, inl, inr, ℕ, true, false, ◌&&◌, List, [], ◌∷◌, length, map, Some, None, Option, Ok, Err, Result, IfErr, IfOk, IfSome, OnOk, IsTrue, codes, refl, sym, ap, subst, subst₂, ◌∙◌}
 use Rattle.std.proofs.lemmas.Bool.{and_from, and_parts}
 use Rattle.std.proofs.Math.Logic.{∥∥₁_map, ∥∥₁_elim, ∥∥₁_prop}
-use base.Stored.{Coded-set}
-use mathlib.Core.Bool.{Bool-set}
 use Rattle.ballots.specs.declared.letters.Cast.{Cast}
 use Rattle.ballots.specs.Ballots.{number_of}
 use Rattle.acceptor.specs.Content.{Content, AreRowsFrom, AreValues, greatest, promised}
 use Rattle.acceptor.specs.Found.{Holds, HoldsEither, AddsNothing}
-use Rattle.sqlite_trees.specs.Props.{Trees-set}
-use Rattle.sqlite_schema.specs.contracts.schema.Schema as schema_row
 use Rattle.sqlite_schema.specs.declared.schema.Schema.{Schema}
 use Rattle.sqlite_disk.specs.declared.Disk as disk
 use Rattle.sqlite_disk.specs.declared.Files.{Files}
@@ -21,121 +17,113 @@ use Rattle.sqlite.specs.Tree.{Trees}
 use Rattle.sqlite.specs.Effect.{Database, IsDatabase}
 use Rattle.sqlite.specs.State.{State, HasCleanDisk, Survives, Opens, IsUnchanged}
 use Rattle.acceptor_store_parts.specs.declared.Version.{Version}
-use Rattle.acceptor_store_parts.specs.declared.Version.TheVariants.{First, Second}
+use Rattle.acceptor_store_parts.specs.declared.Version.TheVariants.{First, Second, Third}
 use Rattle.acceptor_store_parts.specs.Rowids.{AreByRowid, AreShaped, Rereads}
 use Rattle.sqlite.specs.Held.{Held, state}
 use Rattle.sqlite_schema.specs.Names.{same_name, table_named}
 use Rattle.sqlite.specs.Table.{Table}
 use Rattle.std.specs.List.{AllByRecursion}
-use Rattle.acceptor_store_parts.specs.Foreign.{HoldsNone, IsForeignSchema, IsThereWithout, LacksNumbers, LacksVotes, LacksLearned}
+use Rattle.acceptor_store_parts.specs.Foreign.{HasFacts, HoldsNone, IsForeignSchema, IsThereWithout, LacksNumbers, LacksVotes, LacksLearned}
 use Rattle.sqlite_trees.specs.View.{IsClean}
 use Rattle.acceptor_store.specs.declared.OpenFault.{OpenFault}
 use Rattle.acceptor_store.specs.declared.OpenFault.TheVariants.{Foreign}
 use Rattle.acceptor_store_parts.specs.Rowids.{IsReread}
-use Rattle.acceptor_store_parts.specs.Tables.{store_schema, schema_of, blank_schema, ballot_table, vote_table, learned_table}
-use Rattle.acceptor_store_parts.specs.Stored.{AreTables, AreTablesOf, HasLearned, IsNumber, IsCast, IsLearned, vote_row}
-use Rattle.acceptor_store_parts.specs.Serves.{Serves, ServesAs, StillServes, DoesNotServe, HasRaised}
-use Rattle.acceptor_store_parts.proofs.Callers.{tables_prop, one_content}
-use Rattle.acceptor_store.specs.Linked.{Linked, MayFind, MayFindIn, IsHonest, is_clean_in, IsLinked, Stands, IsTested, CannotBeRead, Tells, Leaves, Reopens, Examines, Had, IsIn, IsFoundIn, Prepares, SeesForeign, HasNumbers, StaysAs, Finds as Found}
+use Rattle.acceptor_store_parts.specs.declared.owner.Owner.{Owner}
+use Rattle.acceptor_store_parts.specs.Tables.{schema_of, blank_schema}
+use Rattle.acceptor_store_parts.specs.Stored.{AreTablesOf, HasLearned, KeepsLearned, IsNumber, IsCast, IsLearned, vote_row, learned_row}
+use Rattle.acceptor_store_parts.specs.Owned.{AreTablesFor, schema_for}
+use Rattle.acceptor_store_parts.specs.Serves.{ServesFor, ServesAs, StillServes, HasRaised}
+use Rattle.acceptor_store_parts.proofs.Callers.{one_content, serves_for}
+use Rattle.acceptor_store.specs.Linked.{Linked, MayFind, MayFindIn, IsHonest, is_clean_in, IsLinked, Stands, IsTested, ServesNone, CannotBeRead, Tells, Leaves, Reopens, Examines, Had, IsIn, IsFoundIn, Prepares, SeesForeign, HasNumbers, StaysAs, Finds as Found}
 use Rattle.sqlite_trees.proofs.Doubt.{no_doubt, clean_of}
 use Rattle.acceptor_store.proofs.Found.{found_is, found_it}
 
-schema_set : IsSet Schema
-schema_set = Coded-set schema_row.the_row.coded
-
-pub serves_prop : (s : State) (c : Content) → IsProp (Serves s c)
-serves_prop s c x y =
-    let opened = Bool-set _ _ x.is_open y.is_open in
-    let auto = Bool-set _ _ x.autocommit y.autocommit in
-    let schemas = schema_set _ _ (ap (λ (d : Database). d.schema) x.settled) (ap (λ (d : Database). d.schema) y.settled) in
-    let trees = Trees-set _ _ (ap (λ (d : Database). d.trees) x.settled) (ap (λ (d : Database). d.trees) y.settled) in
-    let schema = schema_set _ _ x.schema y.schema in
-    let tables = tables_prop s.now.trees c x.tables y.tables in
-    λ i. record { is_open = opened i; autocommit = auto i; settled = λ j. record { schema = schemas i j; trees = trees i j }; schema = schema i; tables = tables i }
-
 module _ {S : Type 0} (g : Ghosts S) (settled : (s : S) (db : Trees) → IsTrue (g.view s).is_open → g.recovers s db → db ≡ (g.view s).committed)
-    (stays : (s : S) → IsTrue (g.view s).is_open → g.recovers s (g.view s).committed) (old new : Held S) (highest : Option ℕ) where
-  pub tells : (state g old).now.schema ≡ store_schema → HasCleanDisk (state g new) → ((c : Content) → Serves (state g old) c → number_of highest ≡ promised c)
-      → StillServes (state g old) (state g new) → Survives (state g old) (state g new) (λ _. DoesNotServe (state g old)) → Tells g old new highest
+    (stays : (s : S) → IsTrue (g.view s).is_open → g.recovers s (g.view s).committed) (owner : Option Owner) (old new : Held S) (highest : Option ℕ) where
+  pub tells : (state g old).now.schema ≡ schema_for owner → HasCleanDisk (state g new) → ((c : Content) → ServesFor owner (state g old) c → number_of highest ≡ promised c)
+      → StillServes (state g old) (state g new) → Survives (state g old) (state g new) (λ _. ServesNone owner (state g old)) → Tells g owner old new highest
   tells schema clean value still survives = (
     schema,
     λ c was.
-        let now = still c was in
+        let now = still owner c was in
         let left : (db : Trees) → (state g new).may_leave db → db ≡ (state g old).committed.trees =
         λ db may. elim (survives.crash clean db may) [ inl there ↦ settled old.store db was.is_open there | inr none ↦ absurd (none c was) ] in
-        let stand : Stands g new = λ db may. ∣ (c, subst (λ t. AreTables t c) (ap (λ (d : Database). d.trees) now.settled ∙ sym (settled new.store db now.is_open may)) now.tables) ∣₁ in
-        (now, value c was, stand, (∣ found_it g settled stays new c now ∣₁, found_is g settled stays new c now), left),
+        let stand : Stands g owner new = λ db may. ∣ (c, subst (λ t. AreTablesFor owner t c) (ap (λ (d : Database). d.trees) now.settled ∙ sym (settled new.store db now.is_open may)) now.tables) ∣₁ in
+        (now, value c was, stand, (∣ found_it g settled stays owner new c now ∣₁, found_is g settled stays owner new c now), left),
   )
 
-module _ {S : Type 0} (g : Ghosts S) (old mid new : Held S) (opens : Opens (state g mid)) (found : ∥ (state g old).may_leave (state g mid).committed.trees ∥₁) where
-  serves_mid : (state g mid).now.schema ≡ store_schema → (c : Content) → AreTables (state g mid).committed.trees c → Serves (state g mid) c
+module _ {S : Type 0} (g : Ghosts S) (owner : Option Owner) (old mid new : Held S) (opens : Opens (state g mid)) (found : ∥ (state g old).may_leave (state g mid).committed.trees ∥₁) where
+  serves_mid : (state g mid).now.schema ≡ schema_for owner → (c : Content) → AreTablesFor owner (state g mid).committed.trees c → ServesFor owner (state g mid) c
   serves_mid schema c tables = record {
     is_open = opens.is_open;
     autocommit = opens.autocommit;
     settled = opens.clean;
     schema = schema;
-    tables = subst (λ (d : Database). AreTables d.trees c) (sym opens.clean) tables;
+    tables = subst (λ (d : Database). AreTablesFor owner d.trees c) (sym opens.clean) tables;
   }
 
   -- what is there is one content
-  held : Stands g old → (c : Content) × AreTables (state g mid).committed.trees c
-  held before = ∥∥₁_elim found (one_content (state g mid).committed.trees) (λ may. ∥∥₁_elim (before _ may) (one_content (state g mid).committed.trees) (λ it. it))
+  held : Stands g owner old → (c : Content) × AreTablesFor owner (state g mid).committed.trees c
+  held before = ∥∥₁_elim found (one_content owner (state g mid).committed.trees) (λ may. ∥∥₁_elim (before _ may) (one_content owner (state g mid).committed.trees) (λ it. it))
 
-  module _ (highest : Option ℕ) (told : Tells g mid new highest) where
-    tested : (before : Stands g old) → IsTested g mid new highest (held before).0
+  module _ (highest : Option ℕ) (told : Tells g owner mid new highest) where
+    tested : (before : Stands g owner old) → IsTested g owner mid new highest (held before).0
     tested before = told.1 (held before).0 (serves_mid told.0 (held before).0 (held before).1)
 
-    pub reopens : Reopens g old new highest
+    pub reopens : Reopens g owner old new highest
     reopens = record { knows = λ before. ((held before).0, (tested before).0, (tested before).1); holds = λ before. (tested before).3 }
 
   module _ (settled : (s : S) (db : Trees) → IsTrue (g.view s).is_open → g.recovers s db → db ≡ (g.view s).committed) (clean : HasCleanDisk (state g old)) (now : HasCleanDisk (state g new))
-      (survives : Survives (state g mid) (state g new) (λ _. CannotBeRead (state g mid))) where
+      (survives : Survives (state g mid) (state g new) (λ _. CannotBeRead owner (state g mid))) where
     -- a crash leaves what was found, whether it was read or not
-    there : Stands g old → (db : Trees) → (state g new).may_leave db → db ≡ (state g mid).committed.trees
+    there : Stands g owner old → (db : Trees) → (state g new).may_leave db → db ≡ (state g mid).committed.trees
     there before db may = elim (survives.crash now db may) [
       | inl same ↦ settled mid.store db opens.is_open same
       | inr unread ↦ absurd (unread.1 (held before).0 (serves_mid unread.0 (held before).0 (held before).1))
     ]
 
-    pub leaves : Leaves g old new
+    pub leaves : Leaves g owner old new
     leaves = record {
       was_clean = clean;
-      stands = λ before db may. ∣ ((held before).0, subst (λ t. AreTables t (held before).0) (sym (there before db may)) (held before).1) ∣₁;
+      stands = λ before db may. ∣ ((held before).0, subst (λ t. AreTablesFor owner t (held before).0) (sym (there before db may)) (held before).1) ∣₁;
       adds_nothing = λ before d known. ∥∥₁_elim known ∥∥₁_prop (λ it. ∥∥₁_map found (λ may. (it.0, subst (state g old).may_leave (sym (there before it.0 it.1)) may, it.2)));
     }
 
-pub all_reopen : {S : Type 0} (g : Ghosts S) (old mid new : Held S) → Opens (state g mid) → ∥ (state g old).may_leave (state g mid).committed.trees ∥₁ → (highest : Option (Option ℕ)) → IfSome highest (Tells g mid new)
-    → IfSome highest (Reopens g old new)
-all_reopen g old mid new opens found None told = tt
-all_reopen g old mid new opens found (Some highest) told = reopens g old mid new opens found highest told
+pub all_reopen : {S : Type 0} (g : Ghosts S) (owner : Option Owner) (old mid new : Held S) → Opens (state g mid) → ∥ (state g old).may_leave (state g mid).committed.trees ∥₁ → (highest : Option (Option ℕ))
+    → IfSome highest (Tells g owner mid new) → IfSome highest (Reopens g owner old new)
+all_reopen g owner old mid new opens found None told = tt
+all_reopen g owner old mid new opens found (Some highest) told = reopens g owner old mid new opens found highest told
 
 -- of two contents that it may be it is one
-pub one_of : {S : Type 0} (g : Ghosts S) (old new : Held S) (highest : Option ℕ) → Leaves g old new → Reopens g old new highest → Stands g old → (a b : Content) → HoldsEither (MayFindIn g old) a b
-    → Holds (MayFindIn g new) a ⊎ Holds (MayFindIn g new) b
-one_of g old new highest left it before a b either =
+pub one_of : {S : Type 0} (g : Ghosts S) (owner : Option Owner) (old new : Held S) (highest : Option ℕ) → Leaves g owner old new → Reopens g owner old new highest → Stands g owner old → (a b : Content)
+    → HoldsEither (MayFindIn g owner old) a b → Holds (MayFindIn g owner new) a ⊎ Holds (MayFindIn g owner new) b
+one_of g owner old new highest left it before a b either =
     let here = it.holds before in
     elim (either (it.knows before).0 (left.adds_nothing before _ (∥∥₁_elim here.0 ∥∥₁_prop (λ x. x)))) [
-      | inl is ↦ inl (subst (Holds (MayFindIn g new)) is here)
-      | inr is ↦ inr (subst (Holds (MayFindIn g new)) is here)
+      | inl is ↦ inl (subst (Holds (MayFindIn g owner new)) is here)
+      | inr is ↦ inr (subst (Holds (MayFindIn g owner new)) is here)
     ]
 
 -- the records after a reopen that found a connection
 module _ {S : Type 0} (g : Ghosts S) (self inside : Linked S) (old new : Held S) (view : inside ≡ self) (some : inside.held ≡ Some old)
-    (linked : IsLinked g inside.held inside.is_up inside.is_sure inside.highest) (left : HasCleanDisk (state g new) → Leaves g old new) where
+    (linked : IsLinked g inside.owner inside.held inside.is_up inside.is_sure inside.highest) (left : HasCleanDisk (state g new) → Leaves g inside.owner old new) where
+  own_is : self.owner ≡ inside.owner
+  own_is = sym (ap (λ (r : Linked S). r.owner) view)
+
   at : self.held ≡ Some old
   at = sym (ap (λ (r : Linked S). r.held) view) ∙ some
 
-  before : IsTrue inside.is_sure → HasCleanDisk (state g new) → Stands g old
-  before sure clean = (subst (λ h. IsLinked g h inside.is_up inside.is_sure inside.highest) some linked sure (left clean).was_clean).0
+  before : IsTrue inside.is_sure → HasCleanDisk (state g new) → Stands g inside.owner old
+  before sure clean = (subst (λ h. IsLinked g inside.owner h inside.is_up inside.is_sure inside.highest) some linked sure (left clean).was_clean).0
 
   -- and couldn't read its tables
-  pub left_linked : (highest : Option (Option ℕ)) → IsLinked g (Some new) false inside.is_sure highest
+  pub left_linked : (highest : Option (Option ℕ)) → IsLinked g inside.owner (Some new) false inside.is_sure highest
   left_linked highest sure clean = ((left clean).stands (before sure clean), λ up. absurd (let e : false ≡ true = up in cc))
 
-  pub reopen_kept : IsTrue (inside.is_sure && (state g new).is_clean) → AddsNothing (MayFind g self.held) (MayFindIn g new)
+  pub reopen_kept : IsTrue (inside.is_sure && (state g new).is_clean) → AddsNothing (MayFind g self.owner self.held) (MayFindIn g inside.owner new)
   reopen_kept h =
       let clean : HasCleanDisk (state g new) = no_doubt _ (and_parts inside.is_sure _ h).1 in
-      subst (λ held. AddsNothing (MayFind g held) (MayFindIn g new)) (sym at) ((left clean).adds_nothing (before (and_parts inside.is_sure _ h).0 clean))
+      subst₂ (λ o held. AddsNothing (MayFind g o held) (MayFindIn g inside.owner new)) (sym own_is) (sym at) ((left clean).adds_nothing (before (and_parts inside.is_sure _ h).0 clean))
 
   pub reopen_honest : IsTrue (inside.is_sure && (state g new).is_clean) → IsHonest g self
   reopen_honest h =
@@ -150,14 +138,15 @@ module _ {S : Type 0} (g : Ghosts S) (self inside : Linked S) (old new : Held S)
   pub reopen_sure : IsTrue (state g new).is_clean → IsHonest g self → IsTrue (inside.is_sure && (state g new).is_clean)
   reopen_sure clean h = and_from _ _ (subst IsTrue (sym (ap (λ (r : Linked S). r.is_sure) view)) (and_parts self.is_sure _ h).0) clean
 
-  module _ (highest : Option ℕ) (it : HasCleanDisk (state g new) → Reopens g old new highest) where
-    pub reopen_linked : IsLinked g (Some new) true inside.is_sure (Some highest)
+  module _ (highest : Option ℕ) (it : HasCleanDisk (state g new) → Reopens g inside.owner old new highest) where
+    pub reopen_linked : IsLinked g inside.owner (Some new) true inside.is_sure (Some highest)
     reopen_linked sure clean = ((left clean).stands (before sure clean), λ up. (it clean).knows (before sure clean))
 
-    pub reopen_ok : IsTrue (inside.is_sure && (state g new).is_clean) → (a b : Content) → HoldsEither (MayFind g self.held) a b → Holds (MayFindIn g new) a ⊎ Holds (MayFindIn g new) b
+    pub reopen_ok : IsTrue (inside.is_sure && (state g new).is_clean) → (a b : Content) → HoldsEither (MayFind g self.owner self.held) a b
+        → Holds (MayFindIn g inside.owner new) a ⊎ Holds (MayFindIn g inside.owner new) b
     reopen_ok h a b either =
         let clean : HasCleanDisk (state g new) = no_doubt _ (and_parts inside.is_sure _ h).1 in
-        one_of g old new highest (left clean) (it clean) (before (and_parts inside.is_sure _ h).0 clean) a b (subst (λ held. HoldsEither (MayFind g held) a b) at either)
+        one_of g inside.owner old new highest (left clean) (it clean) (before (and_parts inside.is_sure _ h).0 clean) a b (subst₂ (λ o held. HoldsEither (MayFind g o held) a b) own_is at either)
 
 -- a read that changed nothing
 pub stays_as : (version : Version) (old new : State) → IsUnchanged old new → StaysAs version old new
@@ -193,6 +182,28 @@ still_by_rowid version old new same it = record {
 all_values : (rows : List (ℕ × List ℕ)) → AllByRecursion IsLearned rows → AreValues rows
 all_values [] all = tt
 all_values (row ∷ rows) all = (all.0.1, all_values rows all.1)
+
+-- what a read that changed nothing serves still
+pub unchanged_serves : (old new : State) → IsUnchanged old new → StillServes old new
+unchanged_serves old new same = λ owner c was. record {
+  is_open = same.0.is_open;
+  autocommit = same.0.mode ∙ was.autocommit;
+  settled = same.0.now_is ∙ was.settled ∙ sym same.0.committed_is;
+  schema = ap (λ (d : Database). d.schema) same.0.now_is ∙ was.schema;
+  tables = subst (λ (d : Database). AreTablesFor owner d.trees c) (sym same.0.now_is) was.tables;
+}
+
+-- the table of learned values, in each version that has one
+learned_there : (version : Version) → KeepsLearned version → (db : Trees) (c : Content) → db 2 ≡ map learned_row c.learned → HasLearned version db c
+learned_there First keeps db c h = absurd keeps
+learned_there Second keeps db c h = h
+learned_there Third keeps db c h = h
+
+pub learned_held : (version : Version) → KeepsLearned version → (old : State) {X E : Type 0} (r : Result X E) (items : X → List (ℕ × List ℕ))
+    → IfOk r (λ x. (v : Version) → KeepsLearned v → AreByRowid v old → old.now.trees 2 ≡ map learned_row (items x))
+    → IfOk r (λ x. AreByRowid version old → (c : Content) → c.learned ≡ items x → HasLearned version old.now.trees c)
+learned_held version keeps old (Err e) items h = tt
+learned_held version keeps old (Ok x) items h = λ by c is. learned_there version keeps old.now.trees c (h version keeps by ∙ ap (map learned_row) (sym is))
 
 -- what a connection whose tables were all read serves
 module _ {S : Type 0} (g : Ghosts S) (version : Version) (old mid late new : Held S) (tried row highest : Option ℕ) (votes : List (ℕ × Cast)) (learned : List (ℕ × List ℕ)) where
@@ -232,74 +243,65 @@ all_prepare g conn Known (Ok x) known h = λ clean. h clean known
 all_prepare g conn Known (Err e) known h = tt
 
 pub prepares_second : {S : Type 0} (g : Ghosts S) (version : Version) (old new : Held S) (highest : Option ℕ) → version ≡ Second → Found g version old new highest → Prepares g old new highest
-prepares_second g version old new highest is f = (f.0, inr (version, f.1), subst (λ v. ServesAs v (state g new) f.0) is f.2, f.3)
+prepares_second g version old new highest is f = (f.0, inr (version, f.1), serves_for None (state g new) f.0 (subst (λ v. ServesAs v (state g new) f.0) is f.2) tt, f.3)
 
 pub prepares_first : {S : Type 0} (g : Ghosts S) (version : Version) (old mid new : Held S) (highest : Option ℕ) → version ≡ First → Found g version old mid highest → HasRaised (state g mid) (state g new) → Prepares g old new highest
 prepares_first g version old mid new highest is f raised = (f.0, inr (version, f.1), raised f.0 (subst (λ v. ServesAs v (state g mid) f.0) is f.2), f.3)
 
--- no node wrote a database that has no tables, or one that holds what a node writes
-lacks_none : (s : Schema) (name : List ℕ) (i : ℕ) (table : Table) (Wants : Table → Type 0) → table_named s name ≡ Some i → slice_get s.tables i ≡ Some table → (Wants table → ⊥) → IsThereWithout s name Wants → ⊥
-lacks_none s name i table Wants at there none h =
-    let same : Some i ≡ Some h.0 = sym at ∙ h.2 in
-    let is : i ≡ h.0 = cc in
-    let two : Some table ≡ Some h.1 = sym there ∙ subst (λ k. slice_get s.tables k ≡ Some h.1) (sym is) h.3 in
-    let tables : table ≡ h.1 = cc in
-    none (subst Wants (sym tables) h.4)
-
-has_numbers : LacksNumbers ballot_table → ⊥
-unfolding same_name
-has_numbers (inl id) = absurd (let e : Some 0 ≡ None = id in cc)
-has_numbers (inr number) = absurd (let e : Some 1 ≡ None = number in cc)
-
-has_votes : LacksVotes vote_table → ⊥
-unfolding same_name
-has_votes (inl place) = absurd (let e : Some 0 ≡ None = place in cc)
-has_votes (inr (inl ballot)) = absurd (let e : Some 1 ≡ None = ballot in cc)
-has_votes (inr (inr value)) = absurd (let e : Some 2 ≡ None = value in cc)
-
-has_learned : LacksLearned learned_table → ⊥
-unfolding same_name
-has_learned (inl place) = absurd (let e : Some 0 ≡ None = place in cc)
-has_learned (inr value) = absurd (let e : Some 1 ≡ None = value in cc)
-
+-- a database without tables has none of facts, and no part of the others
 none_there : (s : Schema) (name : List ℕ) (Wants : Table → Type 0) → table_named s name ≡ None → IsThereWithout s name Wants → ⊥
 none_there s name Wants none h = absurd (let e : None ≡ Some h.0 = sym none ∙ h.2 in cc)
 
-pub own_schema : (version : Version) → IsForeignSchema (schema_of version) → ⊥
-unfolding same_name
-own_schema First (inl (inl h)) = absurd (let e : Some 0 ≡ None = h.0 in cc)
-own_schema First (inl (inr (inl h))) = absurd (let e : Some 1 ≡ None = h.1 in cc)
-own_schema First (inl (inr (inr h))) = absurd (let e : Some 0 ≡ None = h.0 in cc)
-own_schema First (inr (inl h)) = lacks_none (schema_of First) (codes "ballot") 0 ballot_table LacksNumbers refl refl has_numbers h
-own_schema First (inr (inr (inl h))) = lacks_none (schema_of First) (codes "vote") 1 vote_table LacksVotes refl refl has_votes h
-own_schema First (inr (inr (inr h))) = none_there (schema_of First) (codes "learned") LacksLearned refl h
-own_schema Second (inl (inl h)) = absurd (let e : Some 0 ≡ None = h.0 in cc)
-own_schema Second (inl (inr (inl h))) = absurd (let e : Some 1 ≡ None = h.1 in cc)
-own_schema Second (inl (inr (inr h))) = absurd (let e : Some 0 ≡ None = h.0 in cc)
-own_schema Second (inr (inl h)) = lacks_none (schema_of Second) (codes "ballot") 0 ballot_table LacksNumbers refl refl has_numbers h
-own_schema Second (inr (inr (inl h))) = lacks_none (schema_of Second) (codes "vote") 1 vote_table LacksVotes refl refl has_votes h
-own_schema Second (inr (inr (inr h))) = lacks_none (schema_of Second) (codes "learned") 2 learned_table LacksLearned refl refl has_learned h
+pub blank_schema_is_own : IsForeignSchema blank_schema → ⊥
+blank_schema_is_own (inl h) = absurd (let e : false ≡ true = h in cc)
+blank_schema_is_own (inr (inl (inl h))) = absurd (let e : false ≡ true = h.1 in cc)
+blank_schema_is_own (inr (inl (inr (inl h)))) = absurd (let e : false ≡ true = h.0 in cc)
+blank_schema_is_own (inr (inl (inr (inr h)))) = absurd (let e : false ≡ true = h.2 in cc)
+blank_schema_is_own (inr (inr (inl h))) = none_there blank_schema (codes "ballot") LacksNumbers refl h
+blank_schema_is_own (inr (inr (inr (inl h)))) = none_there blank_schema (codes "vote") LacksVotes refl h
+blank_schema_is_own (inr (inr (inr (inr h)))) = none_there blank_schema (codes "learned") LacksLearned refl h
 
-blank_schema_is_own : IsForeignSchema blank_schema → ⊥
-blank_schema_is_own (inl (inl h)) = absurd (let e : false ≡ true = h.1 in cc)
-blank_schema_is_own (inl (inr (inl h))) = absurd (let e : false ≡ true = h.0 in cc)
-blank_schema_is_own (inl (inr (inr h))) = absurd (let e : false ≡ true = h.2 in cc)
-blank_schema_is_own (inr (inl h)) = none_there blank_schema (codes "ballot") LacksNumbers refl h
-blank_schema_is_own (inr (inr (inl h))) = none_there blank_schema (codes "vote") LacksVotes refl h
-blank_schema_is_own (inr (inr (inr h))) = none_there blank_schema (codes "learned") LacksLearned refl h
+-- how many tables a version has
+abbrev table_count : Version → ℕ
+table_count First = 2
+table_count Second = 3
+table_count Third = 4
+
+count_is : (version : Version) → length (schema_of version).tables ≡ table_count version
+count_is First = refl
+count_is Second = refl
+count_is Third = refl
 
 not_blank : (version : Version) → schema_of version ≡ blank_schema → ⊥
-not_blank First e = absurd (let t : ballot_table ∷ vote_table ∷ [] ≡ [] = ap (λ (s : Schema). s.tables) e in cc)
-not_blank Second e = absurd (let t : ballot_table ∷ vote_table ∷ learned_table ∷ [] ≡ [] = ap (λ (s : Schema). s.tables) e in cc)
+not_blank First e = absurd (let t : 2 ≡ 0 = ap (λ (s : Schema). length s.tables) e in cc)
+not_blank Second e = absurd (let t : 3 ≡ 0 = ap (λ (s : Schema). length s.tables) e in cc)
+not_blank Third e = absurd (let t : 4 ≡ 0 = ap (λ (s : Schema). length s.tables) e in cc)
 
-two_versions : schema_of First ≡ schema_of Second → ⊥
-two_versions e = absurd (let t : ballot_table ∷ vote_table ∷ [] ≡ ballot_table ∷ vote_table ∷ learned_table ∷ [] = ap (λ (s : Schema). s.tables) e in cc)
+of_count : (v w : Version) → table_count v ≡ table_count w → v ≡ w
+of_count First First e = refl
+of_count First Second e = absurd cc
+of_count First Third e = absurd cc
+of_count Second First e = absurd cc
+of_count Second Second e = refl
+of_count Second Third e = absurd cc
+of_count Third First e = absurd cc
+of_count Third Second e = absurd cc
+of_count Third Third e = refl
 
-one_version : (v w : Version) → schema_of v ≡ schema_of w → v ≡ w
-one_version First First e = refl
-one_version First Second e = absurd (two_versions e)
-one_version Second First e = absurd (two_versions (sym e))
-one_version Second Second e = refl
+pub one_version : (v w : Version) → schema_of v ≡ schema_of w → v ≡ w
+one_version v w e = of_count v w (sym (count_is v) ∙ ap (λ (s : Schema). length s.tables) e ∙ count_is w)
+
+-- a schema of version 3 has a table of facts
+pub third_has_facts : HasFacts (schema_of Third)
+unfolding same_name
+third_has_facts = refl
+
+pub not_third : (s : Schema) (version : Version) → s ≡ schema_of version → (IsForeignSchema s → ⊥) → version ≡ Third → ⊥
+not_third s version is ours third = ours (inl (subst HasFacts (sym (is ∙ ap schema_of third)) third_has_facts))
+
+pub always : {T E A : Type 0} (r : Result T E) → A → OnOk r A
+always (Ok x) a = a
+always (Err e) a = tt
 
 -- rows that no node wrote, in its tables
 pub told_rows : {S : Type 0} (g : Ghosts S) (version : Version) (conn : Held S) {X : Type 0} (r : Result X (OpenFault × S)) → (state g conn).now.schema ≡ schema_of version
@@ -307,26 +309,26 @@ pub told_rows : {S : Type 0} (g : Ghosts S) (version : Version) (conn : Held S) 
 told_rows g version conn (Ok x) schema h = tt
 told_rows g version conn (Err e) schema h = λ foreign clean. inr (version, schema, h foreign clean)
 
-pub own : {S : Type 0} (g : Ghosts S) (conn : Held S) (c : Content) → Had g conn c → SeesForeign g conn → ⊥
-own g conn c (inl blank) (inl schema) = blank_schema_is_own (subst IsForeignSchema blank.0 schema)
-own g conn c (inl blank) (inr rows) = not_blank rows.0 (sym rows.1 ∙ blank.0)
-own g conn c (inr there) (inl schema) = own_schema there.0 (subst IsForeignSchema there.1.0 schema)
-own g conn c (inr there) (inr rows) = rows.2 c (subst (λ v. AreTablesOf v (state g conn).committed.trees c) (one_version there.0 rows.0 (sym there.1.0 ∙ rows.1)) there.1.1) there.1.2
+pub own : {S : Type 0} (g : Ghosts S) (conn : Held S) (c : Content) → (IsForeignSchema (state g conn).now.schema → ⊥) → Had g conn c → SeesForeign g conn → ⊥
+own g conn c ours had (inl schema) = ours schema
+own g conn c ours (inl blank) (inr rows) = not_blank rows.0 (sym rows.1 ∙ blank.0)
+own g conn c ours (inr there) (inr rows) = rows.2 c (subst (λ v. AreTablesOf v (state g conn).committed.trees c) (one_version there.0 rows.0 (sym there.1.0 ∙ rows.1)) there.1.1) there.1.2
 
 -- the records over tables that serve a content
 module _ {S : Type 0} (g : Ghosts S) (settled : (s : S) (db : Trees) → IsTrue (g.view s).is_open → g.recovers s db → db ≡ (g.view s).committed)
-    (stays : (s : S) → IsTrue (g.view s).is_open → g.recovers s (g.view s).committed) (old new : Held S) (highest : Option ℕ) (it : HasCleanDisk (state g new) → Prepares g old new highest) where
-  pub opened_linked : IsLinked g (Some new) true true (Some highest)
+    (stays : (s : S) → IsTrue (g.view s).is_open → g.recovers s (g.view s).committed) (owner : Option Owner) (Was : Content → Type 0) (new : Held S) (highest : Option ℕ)
+    (it : HasCleanDisk (state g new) → (c : Content) × Was c × ServesFor owner (state g new) c × (number_of highest ≡ promised c)) where
+  pub opened_linked : IsLinked g owner (Some new) true true (Some highest)
   opened_linked sure clean =
       let now = it clean in (
-        λ db may. ∣ (now.0, subst (λ t. AreTables t now.0) (ap (λ (d : Database). d.trees) now.2.settled ∙ sym (settled new.store db now.2.is_open may)) now.2.tables) ∣₁,
+        λ db may. ∣ (now.0, subst (λ t. AreTablesFor owner t now.0) (ap (λ (d : Database). d.trees) now.2.settled ∙ sym (settled new.store db now.2.is_open may)) now.2.tables) ∣₁,
         λ up. (now.0, now.2, now.3),
       )
 
-  pub opened_holds : IsTrue (true && (state g new).is_clean) → (c : Content) × Had g old c × Holds (MayFindIn g new) c
+  pub opened_holds : IsTrue (true && (state g new).is_clean) → (c : Content) × Was c × Holds (MayFindIn g owner new) c
   opened_holds h =
       let now = it (no_doubt _ (and_parts true _ h).1) in
-      (now.0, now.1, (∣ found_it g settled stays new now.0 now.2 ∣₁, found_is g settled stays new now.0 now.2))
+      (now.0, now.1, (∣ found_it g settled stays owner new now.0 now.2 ∣₁, found_is g settled stays owner new now.0 now.2))
 
 -- what an open of files had is in them
 pub is_in : {D : Type 0} {g : disk.Ghosts D} (files : Files D) (conn : Held (FileStore D g)) (c : Content) → IsOpened conn → Finds files conn → Had over_files conn c → IsIn g files c
@@ -345,8 +347,8 @@ found_also : {D : Type 0} {g : disk.Ghosts D} (files : Files D) (c : Content) �
 found_also {g = g} files c is = (is, λ it might. ∥∥₁_map (opens_again it might.numbered might.sound (image_of g files) might.left) (λ db. (db.0, db.1, is db.0 db.2)))
 
 pub found_in : {D : Type 0} {g : disk.Ghosts D} (files : Files D) (conn : Held (FileStore D g)) {E : Type 0} (r : Result (Linked (FileStore D g)) E) → (HasCleanDisk (file_state conn) → IsOpened conn) → (HasCleanDisk (file_state conn) → Finds files conn)
-    → IfOk r (λ x. IsHonest over_files x → (c : Content) × Had over_files conn c × Holds (MayFind over_files x.held) c) → IfOk r (λ x. IsHonest over_files x → HasCleanDisk (file_state conn))
-    → IfOk r (λ x. IsHonest over_files x → (c : Content) × Holds (MayFind over_files x.held) c × IsFoundIn g files c)
+    → IfOk r (λ x. IsHonest over_files x → (c : Content) × Had over_files conn c × Holds (MayFind over_files x.owner x.held) c) → IfOk r (λ x. IsHonest over_files x → HasCleanDisk (file_state conn))
+    → IfOk r (λ x. IsHonest over_files x → (c : Content) × Holds (MayFind over_files x.owner x.held) c × IsFoundIn g files c)
 found_in files conn (Err e) opened finds holds clean = tt
 found_in {g = g} files conn (Ok x) opened finds holds clean = λ honest.
     let now = holds honest in

@@ -1,5 +1,5 @@
 -- Records over a connection.
-use Rattle.std.specs.Prelude.{◌≡◌, ◌≢◌, ℕ, map, Bool, true, ◌&&◌, Option, Some, None, ◌⊎◌, IfSome, IsTrue, refl}
+use Rattle.std.specs.Prelude.{◌≡◌, ◌≢◌, ℕ, map, Bool, true, false, ◌&&◌, Option, Some, None, ◌⊎◌, IfSome, IsTrue, refl}
 use Rattle.std.specs.Coded.{Coded, code_by, coded×, coded_bool, coded_ℕ, coded_option}
 use Rattle.ballots.specs.Ballots.{number_of}
 use Rattle.sqlite_disk.specs.declared.Disk as disk
@@ -16,12 +16,16 @@ use Rattle.sqlite_store.specs.FileStore.{recovers, view, state as store_state}
 use Rattle.sqlite_wal.specs.Recovery.{Image}
 use Rattle.acceptor.specs.Content.{Content, no_content, promised}
 use Rattle.acceptor.specs.Found.{Holds, AddsNothing}
+use Rattle.ballots.specs.declared.members.Members.{Members}
+use Rattle.ballots.specs.declared.members.Members.TheVariants.{Three, Five}
 use Rattle.acceptor_store_parts.specs.declared.Version.{Version}
-use Rattle.acceptor_store_parts.specs.Tables.{store_schema, schema_of, blank_schema}
+use Rattle.acceptor_store_parts.specs.declared.owner.Owner.{Owner}
+use Rattle.acceptor_store_parts.specs.Tables.{schema_of, blank_schema}
 use Rattle.acceptor_store_parts.specs.Rowids.{IsReread}
-use Rattle.acceptor_store_parts.specs.Stored.{AreTables, AreTablesOf, IsOfNode, number_row, numbers_of}
+use Rattle.acceptor_store_parts.specs.Stored.{AreTablesOf, IsOfNode, number_row, numbers_of}
+use Rattle.acceptor_store_parts.specs.Owned.{AreTablesFor, schema_for}
 use Rattle.acceptor_store_parts.specs.Foreign.{IsForeign, IsForeignSchema}
-use Rattle.acceptor_store_parts.specs.Serves.{Serves, ServesAs, DoesNotServe}
+use Rattle.acceptor_store_parts.specs.Serves.{ServesFor, ServesAs}
 
 -- records as their contracts see them
 pub record Linked (S : Type 0) : Type 0 where
@@ -34,23 +38,45 @@ pub record Linked (S : Type 0) : Type 0 where
   -- the promised ballot, where it is known
   pub highest : Option (Option ℕ)
   pub failures : ℕ
+  -- whose they are, where they have an owner
+  pub owner : Option Owner
+
+-- an owner is stored as its node's number, and whether it is one of five
+abbrev pub is_five : Members → Bool
+is_five Three = false
+is_five Five = true
+
+abbrev pub members_by : Bool → Members
+members_by false = Three
+members_by true = Five
+
+pub members_back : (members : Members) → members_by (is_five members) ≡ members
+members_back Three = refl
+members_back Five = refl
+
+pub owner_back : (owner : Owner) → ◌≡◌ {A = Owner} (record { node = owner.node; members = members_by (is_five owner.members) }) owner
+owner_back owner = λ i. record { node = owner.node; members = members_back owner.members i }
+
+abbrev pub owner_code : Coded Owner
+owner_code = code_by (ℕ × Bool) (coded× coded_ℕ coded_bool) (λ o. (o.node, is_five o.members)) (λ p. record { node = p.0; members = members_by p.1 }) owner_back
 
 -- they are stored as the tuple of their fields
 abbrev pub linked_code : {S : Type 0} → Coded S → Coded (Linked S)
 linked_code {S} store =
-    code_by (Option (Held S) × (Bool × (Bool × (Option (Option ℕ) × ℕ)))) (coded× (coded_option (held_code store)) (coded× coded_bool (coded× coded_bool (coded× (coded_option (coded_option coded_ℕ)) coded_ℕ))))
-    (λ r. (r.held, (r.is_up, (r.is_sure, (r.highest, r.failures)))))
-    (λ p. record { held = p.0; is_up = p.1.0; is_sure = p.1.1.0; highest = p.1.1.1.0; failures = p.1.1.1.1 })
+    code_by (Option (Held S) × (Bool × (Bool × (Option (Option ℕ) × (ℕ × Option Owner)))))
+    (coded× (coded_option (held_code store)) (coded× coded_bool (coded× coded_bool (coded× (coded_option (coded_option coded_ℕ)) (coded× coded_ℕ (coded_option owner_code))))))
+    (λ r. (r.held, (r.is_up, (r.is_sure, (r.highest, (r.failures, r.owner))))))
+    (λ p. record { held = p.0; is_up = p.1.0; is_sure = p.1.1.0; highest = p.1.1.1.0; failures = p.1.1.1.1.0; owner = p.1.1.1.1.1 })
     (λ _. refl)
 
--- what an open after a crash at this moment may find
-abbrev pub MayFindIn : {S : Type 0} → Ghosts S → Held S → Content → Type 0
-MayFindIn g h c = ∥ ((db : Trees) × (state g h).may_leave db × AreTables db c) ∥₁
+-- what an open after a crash at this moment may find, in tables of this owner
+abbrev pub MayFindIn : {S : Type 0} → Ghosts S → Option Owner → Held S → Content → Type 0
+MayFindIn g owner h c = ∥ ((db : Trees) × (state g h).may_leave db × AreTablesFor owner db c) ∥₁
 
 -- and with no connection anything
-abbrev pub MayFind : {S : Type 0} → Ghosts S → Option (Held S) → Content → Type 0
-MayFind g None c = Unit {0}
-MayFind g (Some h) c = MayFindIn g h c
+abbrev pub MayFind : {S : Type 0} → Ghosts S → Option Owner → Option (Held S) → Content → Type 0
+MayFind g owner None c = Unit {0}
+MayFind g owner (Some h) c = MayFindIn g owner h c
 
 -- the library has the disk clean, where there is a connection
 abbrev pub is_clean_in : {S : Type 0} → Ghosts S → Option (Held S) → Bool
@@ -66,41 +92,46 @@ abbrev pub IsHonest : {S : Type 0} → Ghosts S → Linked S → Type 0
 IsHonest g r = IsTrue (is_honest g r)
 
 -- it serves some content, whose promised ballot is this one where it is known
-abbrev pub Knows : {S : Type 0} → Ghosts S → Held S → Option (Option ℕ) → Type 0
-Knows g h highest = (c : Content) × Serves (state g h) c × IfSome highest (λ b. number_of b ≡ promised c)
+abbrev pub Knows : {S : Type 0} → Ghosts S → Option Owner → Held S → Option (Option ℕ) → Type 0
+Knows g owner h highest = (c : Content) × ServesFor owner (state g h) c × IfSome highest (λ b. number_of b ≡ promised c)
 
--- whatever a crash leaves holds some content
-abbrev pub Stands : {S : Type 0} → Ghosts S → Held S → Type 0
-Stands g h = (db : Trees) → (state g h).may_leave db → ∥ ((c : Content) × AreTables db c) ∥₁
+-- whatever a crash leaves holds some content, and is this owner's
+abbrev pub Stands : {S : Type 0} → Ghosts S → Option Owner → Held S → Type 0
+Stands g owner h = (db : Trees) → (state g h).may_leave db → ∥ ((c : Content) × AreTablesFor owner db c) ∥₁
 
 -- an honest connection stands, and while it is up it serves some content
-abbrev pub IsLinked : {S : Type 0} → Ghosts S → Option (Held S) → Bool → Bool → Option (Option ℕ) → Type 0
-IsLinked g None is_up is_sure highest = Unit {0}
-IsLinked g (Some h) is_up is_sure highest = IsTrue is_sure → HasCleanDisk (state g h) → Stands g h × (is_up ≡ true → Knows g h highest)
+abbrev pub IsLinked : {S : Type 0} → Ghosts S → Option Owner → Option (Held S) → Bool → Bool → Option (Option ℕ) → Type 0
+IsLinked g owner None is_up is_sure highest = Unit {0}
+IsLinked g owner (Some h) is_up is_sure highest = IsTrue is_sure → HasCleanDisk (state g h) → Stands g owner h × (is_up ≡ true → Knows g owner h highest)
 
 -- a connection that was tested serves this content, and a crash leaves that
-abbrev pub IsTested : {S : Type 0} → Ghosts S → Held S → Held S → Option ℕ → Content → Type 0
-IsTested g old new highest c =
-    Serves (state g new) c × (number_of highest ≡ promised c) × Stands g new × Holds (MayFindIn g new) c × ((db : Trees) → (state g new).may_leave db → db ≡ (state g old).committed.trees)
+abbrev pub IsTested : {S : Type 0} → Ghosts S → Option Owner → Held S → Held S → Option ℕ → Content → Type 0
+IsTested g owner old new highest c =
+    ServesFor owner (state g new) c × (number_of highest ≡ promised c) × Stands g owner new × Holds (MayFindIn g owner new) c
+    × ((db : Trees) → (state g new).may_leave db → db ≡ (state g old).committed.trees)
+
+-- it serves no content for this owner
+abbrev pub ServesNone : Option Owner → State → Type 0
+ServesNone owner s = (c : Content) → ServesFor owner s c → ⊥
 
 -- what tests of the tables told
-abbrev pub Tells : {S : Type 0} → Ghosts S → Held S → Held S → Option ℕ → Type 0
-Tells g old new highest = ((state g old).now.schema ≡ store_schema) × ((c : Content) → Serves (state g old) c → IsTested g old new highest c)
+abbrev pub Tells : {S : Type 0} → Ghosts S → Option Owner → Held S → Held S → Option ℕ → Type 0
+Tells g owner old new highest = ((state g old).now.schema ≡ schema_for owner) × ((c : Content) → ServesFor owner (state g old) c → IsTested g owner old new highest c)
 
--- its tables are those of the records, and serve no content
-abbrev pub CannotBeRead : State → Type 0
-CannotBeRead s = (s.now.schema ≡ store_schema) × DoesNotServe s
+-- its tables are those of this owner's records, and serve no content
+abbrev pub CannotBeRead : Option Owner → State → Type 0
+CannotBeRead owner s = (s.now.schema ≡ schema_for owner) × ServesNone owner s
 
 -- a connection opened anew, read or not, which leaves what the old one may have left
-pub record Leaves {S : Type 0} (g : Ghosts S) (old new : Held S) : Type 0 where
+pub record Leaves {S : Type 0} (g : Ghosts S) (owner : Option Owner) (old new : Held S) : Type 0 where
   pub was_clean : HasCleanDisk (state g old)
-  pub stands : Stands g old → Stands g new
-  pub adds_nothing : Stands g old → AddsNothing (MayFindIn g old) (MayFindIn g new)
+  pub stands : Stands g owner old → Stands g owner new
+  pub adds_nothing : Stands g owner old → AddsNothing (MayFindIn g owner old) (MayFindIn g owner new)
 
 -- a connection opened anew serves what the old one may have left
-pub record Reopens {S : Type 0} (g : Ghosts S) (old new : Held S) (highest : Option ℕ) : Type 0 where
-  pub knows : Stands g old → Knows g new (Some highest)
-  pub holds : (before : Stands g old) → Holds (MayFindIn g new) (knows before).0
+pub record Reopens {S : Type 0} (g : Ghosts S) (owner : Option Owner) (old new : Held S) (highest : Option ℕ) : Type 0 where
+  pub knows : Stands g owner old → Knows g owner new (Some highest)
+  pub holds : (before : Stands g owner old) → Holds (MayFindIn g owner new) (knows before).0
 
 -- the table of numbers has these
 abbrev pub HasNumbers : Version → Trees → ℕ → ℕ → Type 0
@@ -126,14 +157,14 @@ Had g conn c = (((state g conn).now.schema ≡ blank_schema) × (c ≡ no_conten
 
 -- a crash left it before too, or these are tables of version 2 of the content that the connection had, which a node wrote: of a database that no node wrote nothing else is left
 abbrev pub IsLeftWhole : {S : Type 0} → Ghosts S → Held S → Trees → Type 0
-IsLeftWhole g conn db = (state g conn).may_leave db ⊎ ((c : Content) × Had g conn c × AreTables db c)
+IsLeftWhole g conn db = (state g conn).may_leave db ⊎ ((c : Content) × Had g conn c × AreTablesFor None db c)
 
 -- it serves in this version what the older one had, of which this is the promised ballot
 abbrev pub Finds : {S : Type 0} → Ghosts S → Version → Held S → Held S → Option ℕ → Type 0
 Finds g version old new highest =
     (c : Content) × HadIn g version old c × ServesAs version (state g new) c × (number_of highest ≡ promised c)
 
--- no node wrote the database that the connection sees
+-- no node without an owner wrote the database that the connection sees
 abbrev pub SeesForeign : {S : Type 0} → Ghosts S → Held S → Type 0
 SeesForeign g conn = IsForeign (state g conn).now.schema (state g conn).committed.trees
 
@@ -143,7 +174,7 @@ HasFurther s = (IsForeignSchema s → ⊥) × ((version : Version) → s ≢ sch
 
 -- it serves what the older one had, and this is the promised ballot
 abbrev pub Prepares : {S : Type 0} → Ghosts S → Held S → Held S → Option ℕ → Type 0
-Prepares g old new highest = (c : Content) × Had g old c × Serves (state g new) c × (number_of highest ≡ promised c)
+Prepares g old new highest = (c : Content) × Had g old c × ServesFor None (state g new) c × (number_of highest ≡ promised c)
 
 -- the trees are those of the content in one of the versions, or of a database without tables, and the content is none
 abbrev pub IsKeptIn : Trees → Content → Type 0

@@ -2,8 +2,9 @@
 #![tactic(auto)]
 
 mod opening;
+mod owned;
 
-ghost use Rattle.std.specs.Prelude.{◌≡◌, ◌≤◌, Err, false, not, if◌then◌else◌, IfOk, IfErr, IfSome, IsErrAnd, IsSome, IsSomeAnd, OnOk, Some, IsTrue, ◌↔◌, ◌⊎◌, ◌&&◌};
+ghost use Rattle.std.specs.Prelude.{◌≡◌, ◌≤◌, Err, false, not, if◌then◌else◌, IfOk, IfErr, IfSome, IsErrAnd, IsSome, IsSomeAnd, None, OnOk, Some, IsTrue, ◌↔◌, ◌⊎◌, ◌&&◌};
 ghost use Rattle.ballots.specs.Ballots.{number_of};
 ghost use Rattle.acceptor.specs.Calls.{Accounts, KeepsTrust, Writes};
 ghost use Rattle.acceptor.specs.Faults.{HasRisen, IsHarmless, IsStoreFault};
@@ -18,13 +19,15 @@ ghost use Rattle.sqlite.specs.State.{HasCleanDisk, Survives};
 ghost use Rattle.sqlite.specs.Held.{AreDatabases, state};
 ghost use Rattle.sqlite_trees.specs.View.{IsClean, doubt};
 ghost use Rattle.acceptor_store_parts.specs.Foreign.{IsForeignSchema};
-ghost use Rattle.acceptor_store_parts.specs.Serves.{Serves, StillServes, DoesNotServe, StaysOpen};
+ghost use Rattle.acceptor_store_parts.specs.Owned.{schema_for};
+ghost use Rattle.acceptor_store_parts.specs.Serves.{Serves, ServesFor, StillServes, DoesNotServe, StaysOpen};
 ghost use Rattle.acceptor_store_parts.specs.Stops.{LeavesOpen, leaves_open};
 ghost use Rattle.acceptor_store.specs.Linked.{MayFind, IsHonest, is_clean_in, is_honest, CannotBeRead, Tells, Leaves, Reopens, Had, HasFurther, IsFoundIn, IsLeftWhole, SeesForeign};
 
 use acceptor::{Records, RecordsFault};
-use acceptor_store_parts::{Stop, Version};
+use acceptor_store_parts::{Owner, Stop, version_of_owner};
 use ballots::{Ballot, Cast, Place, Value, Votes, higher};
+pub use owned::OwnerFault;
 use sqlite::{Alter, Connection, Error as SqlError, ErrorCode, FileStore, Files, Options};
 use sqlite_disk::Disk;
 use std::alloc::Global;
@@ -40,6 +43,7 @@ pub struct SqlRecords<S: Alter> {
     is_sure: bool,
     highest: Option<Option<Ballot>>,
     failures: u64,
+    owner: Option<Owner>,
 }
 
 impl<S: Alter> Model for SqlRecords<S> {
@@ -49,9 +53,9 @@ impl<S: Alter> Model for SqlRecords<S> {
 
     ghost coded = { linked_code S.code };
 
-    ghost view = { λ r. record { held = r.conn; is_up = r.is_up; is_sure = r.is_sure; highest = r.highest; failures = r.failures } };
+    ghost view = { λ r. record { held = r.conn; is_up = r.is_up; is_sure = r.is_sure; highest = r.highest; failures = r.failures; owner = r.owner } };
 
-    ghost invariant = { λ r. IsLinked S.Store r.conn r.is_up r.is_sure r.highest };
+    ghost invariant = { λ r. IsLinked S.Store r.owner r.conn r.is_up r.is_sure r.highest };
 }
 
 /// The count after one more failure. At the top it stays.
@@ -115,12 +119,16 @@ fn greatest_of(ballot: Option<Ballot>, votes: &[(u64, Cast)]) -> Option<Ballot>
 }
 
 /// The promised ballot, as the tables have it.
-fn promised_in<S: Alter>(alloc: Global, conn: &mut Connection<S>) -> Result<Option<Ballot>, Stop>
-    ensures value { HasCleanDisk (state S.Store conn.new) → IfOk result (λ b. (c : Content) → Serves (state S.Store conn.old) c → number_of b ≡ promised c) }
+fn promised_in<S: Alter>(
+    alloc: Global,
+    conn: &mut Connection<S>,
+    owner: Option<Owner>,
+) -> Result<Option<Ballot>, Stop>
+    ensures value { HasCleanDisk (state S.Store conn.new) → IfOk result (λ b. (c : Content) → ServesFor owner (state S.Store conn.old) c → number_of b ≡ promised c) }
     ensures stays { HasCleanDisk (state S.Store conn.new) → StaysOpen result → StillServes (state S.Store conn.old) (state S.Store conn.new) }
     ensures survives { Survives (state S.Store conn.old) (state S.Store conn.new) (λ _. DoesNotServe (state S.Store conn.old)) }
 {
-    let Some(numbers) = acceptor_store_parts::read_numbers(conn)? else {
+    let Some(numbers) = acceptor_store_parts::read_numbers(conn, version_of_owner(owner))? else {
         return Err(Stop::Down);
     };
     let Some(first) = Place::new(1) else {
@@ -130,17 +138,39 @@ fn promised_in<S: Alter>(alloc: Global, conn: &mut Connection<S>) -> Result<Opti
     Ok(greatest_of(numbers.1, votes.rows()))
 }
 
-/// Tests the tables of a connection that was opened, and gives the promised ballot. None where they
-/// are none of the records, or can't be read.
-fn tested<S: Alter>(alloc: Global, conn: &mut Connection<S>) -> Option<Option<Ballot>>
-    ensures tells { HasCleanDisk (state S.Store conn.new) → IfSome result (Tells S.Store conn.old conn.new) }
-    ensures survives { Survives (state S.Store conn.old) (state S.Store conn.new) (λ _. CannotBeRead (state S.Store conn.old)) }
+/// Whether the table of facts names this owner. Without one there is no such table.
+fn is_owned<S: Alter>(conn: &mut Connection<S>, owner: Option<Owner>) -> bool
+    ensures stays { HasCleanDisk (state S.Store conn.new) → (state S.Store conn.old).now.schema ≡ schema_for owner → IsTrue result
+        → StillServes (state S.Store conn.old) (state S.Store conn.new) }
+    ensures survives { Survives (state S.Store conn.old) (state S.Store conn.new) (λ _. (state S.Store conn.old).now.schema ≡ schema_for owner → ⊥) }
 {
-    match opening::is_of(alloc, conn.schema(), Version::Second) {
+    let Some(owner) = owner else {
+        return true;
+    };
+    match acceptor_store_parts::query_facts(conn) {
+        Ok(rows) => acceptor_store_parts::read_owner(rows.as_slice()) == Some(owner),
+        Err(_) => false,
+    }
+}
+
+/// Tests the tables of a connection that was opened, and gives the promised ballot. None where they
+/// are none of this owner's records, or can't be read.
+fn tested<S: Alter>(
+    alloc: Global,
+    conn: &mut Connection<S>,
+    owner: &Option<Owner>,
+) -> Option<Option<Ballot>>
+    ensures tells { HasCleanDisk (state S.Store conn.new) → IfSome result (Tells S.Store owner.now conn.old conn.new) }
+    ensures survives { Survives (state S.Store conn.old) (state S.Store conn.new) (λ _. CannotBeRead owner.now (state S.Store conn.old)) }
+{
+    match opening::is_of(alloc, conn.schema(), version_of_owner(*owner)) {
         Ok(true) => {}
         _ => return None,
     }
-    match promised_in(alloc, conn) {
+    if !is_owned(conn, *owner) {
+        return None;
+    }
+    match promised_in(alloc, conn, *owner) {
         Ok(highest) => Some(highest),
         Err(_) => None,
     }
@@ -153,14 +183,15 @@ const SEED: u64 = 0x5eed;
 fn opened_anew<D: Disk + Drop>(
     alloc: Global,
     conn: Connection<FileStore<D>>,
+    owner: Option<Owner>,
 ) -> Option<(Connection<FileStore<D>>, Option<Option<Ballot>>)>
-    ensures leaves { IfSome result (λ r. HasCleanDisk (file_state r.0) → Leaves over_files conn r.0) }
-    ensures reopens { IfSome result (λ r. HasCleanDisk (file_state r.0) → IfSome r.1 (Reopens over_files conn r.0)) }
+    ensures leaves { IfSome result (λ r. HasCleanDisk (file_state r.0) → Leaves over_files owner conn r.0) }
+    ensures reopens { IfSome result (λ r. HasCleanDisk (file_state r.0) → IfSome r.1 (Reopens over_files owner conn r.0)) }
 {
     let Ok(mut fresh) = acceptor_store_parts::reopened(alloc, conn, Options::new(SEED)) else {
         return None;
     };
-    let highest = tested(alloc, &mut fresh);
+    let highest = tested(alloc, &mut fresh, &owner);
     Some((fresh, highest))
 }
 
@@ -177,7 +208,7 @@ pub enum OpenFault {
     /// Memory was refused.
     #[error("OutOfMemory")]
     OutOfMemory,
-    /// Some of the tables are there, and no node wrote them.
+    /// Some of the tables are there, and no node without an owner wrote them.
     #[error("Foreign")]
     Foreign,
 }
@@ -197,7 +228,8 @@ impl<S: Alter + Drop> SqlRecords<S> {
     /// Want of memory and faults of the store come where they are met. Where it fails the store
     /// comes back, and holds what it held, whole, in the older version or in version 2.
     pub fn open(alloc: Global, conn: Connection<S>) -> Result<SqlRecords<S>, (OpenFault, S)>
-        ensures holds { IfOk result (λ r. IsHonest S.Store r → (c : Content) × Had S.Store conn c × Holds (MayFind S.Store r.held) c) }
+        ensures holds { IfOk result (λ r. IsHonest S.Store r → (c : Content) × Had S.Store conn c × Holds (MayFind S.Store r.owner r.held) c) }
+        ensures owner { IfOk result (λ r. r.owner ≡ None) }
         ensures clean { IfOk result (λ r. IsHonest S.Store r → HasCleanDisk (state S.Store conn)) }
         ensures sure { IfOk result (λ r. IsTrue (is_clean_in S.Store r.held) → IsHonest S.Store r) }
         ensures own { IfOk result (λ r. IsHonest S.Store r → SeesForeign S.Store conn → ⊥) }
@@ -218,6 +250,7 @@ impl<S: Alter + Drop> SqlRecords<S> {
             is_sure: true,
             highest: Some(found.1),
             failures: 0,
+            owner: None,
         })
     }
 }
@@ -238,6 +271,7 @@ impl<S: Alter + Drop> SqlRecords<S> {
             is_sure: _,
             highest: _,
             failures: _,
+            owner: _,
         } = self;
         match conn {
             Some(conn) => Some(conn.into_store()),
@@ -263,7 +297,8 @@ pub fn open_files<D: Disk + Drop>(
     alloc: Global,
     files: Files<D>,
 ) -> Result<SqlRecords<FileStore<D>>, OpenFault>
-    ensures holds { IfOk result (λ r. IsHonest over_files r → (c : Content) × Holds (MayFind over_files r.held) c × IsFoundIn D.Disk files c) }
+    ensures holds { IfOk result (λ r. IsHonest over_files r → (c : Content) × Holds (MayFind over_files r.owner r.held) c × IsFoundIn D.Disk files c) }
+    ensures owner { IfOk result (λ r. r.owner ≡ None) }
     ensures sure { IfOk result (λ r. IsTrue (is_clean_in over_files r.held) → IsHonest over_files r) }
     ensures broken { (D.Disk.is_usable files.log && D.Disk.is_usable files.db) ≡ false → result ≡ Err OpenFault.Broken }
 {
@@ -284,8 +319,8 @@ pub fn open_files<D: Disk + Drop>(
 
 impl<S: Alter> SqlRecords<S> {
     fn find_tried(&mut self) -> Result<Option<Ballot>, RecordsFault>
-        ensures value { IsHonest S.Store self.new → IfOk result (λ b. (c : Content) → Holds (MayFind S.Store self.old.held) c → number_of b ≡ c.tried) }
-        ensures kept { IsHonest S.Store self.new → Keeps result (MayFind S.Store self.old.held) (MayFind S.Store self.new.held) }
+        ensures value { IsHonest S.Store self.new → IfOk result (λ b. (c : Content) → Holds (MayFind S.Store self.old.owner self.old.held) c → number_of b ≡ c.tried) }
+        ensures kept { IsHonest S.Store self.new → Keeps result (MayFind S.Store self.old.owner self.old.held) (MayFind S.Store self.new.owner self.new.held) }
         ensures trust { KeepsTrust (is_honest S.Store) (λ r. is_clean_in S.Store r.held) self.old self.new }
         ensures account { Accounts (λ r. r.failures) (λ r. not r.is_up) self.old result self.new }
     {
@@ -302,8 +337,8 @@ impl<S: Alter> SqlRecords<S> {
     }
 
     fn find_vote(&mut self, place: Place) -> Result<Option<Cast>, RecordsFault>
-        ensures value { IsHonest S.Store self.new → IfOk result (λ v. (c : Content) → Holds (MayFind S.Store self.old.held) c → v ≡ at c.votes place) }
-        ensures kept { IsHonest S.Store self.new → Keeps result (MayFind S.Store self.old.held) (MayFind S.Store self.new.held) }
+        ensures value { IsHonest S.Store self.new → IfOk result (λ v. (c : Content) → Holds (MayFind S.Store self.old.owner self.old.held) c → v ≡ at c.votes place) }
+        ensures kept { IsHonest S.Store self.new → Keeps result (MayFind S.Store self.old.owner self.old.held) (MayFind S.Store self.new.owner self.new.held) }
         ensures trust { KeepsTrust (is_honest S.Store) (λ r. is_clean_in S.Store r.held) self.old self.new }
         ensures account { Accounts (λ r. r.failures) (λ r. not r.is_up) self.old result self.new }
     {
@@ -321,9 +356,9 @@ impl<S: Alter> SqlRecords<S> {
     }
 
     fn find_votes_from(&mut self, place: Place) -> Result<Votes, RecordsFault>
-        ensures value { IsHonest S.Store self.new → IfOk result (λ votes. (c : Content) → Holds (MayFind S.Store self.old.held) c → votes ≡ rows_from c.votes place) }
-        ensures sound { IsHonest S.Store self.new → OnOk result ((c : Content) → Holds (MayFind S.Store self.old.held) c → IsSound c) }
-        ensures kept { IsHonest S.Store self.new → Keeps result (MayFind S.Store self.old.held) (MayFind S.Store self.new.held) }
+        ensures value { IsHonest S.Store self.new → IfOk result (λ votes. (c : Content) → Holds (MayFind S.Store self.old.owner self.old.held) c → votes ≡ rows_from c.votes place) }
+        ensures sound { IsHonest S.Store self.new → OnOk result ((c : Content) → Holds (MayFind S.Store self.old.owner self.old.held) c → IsSound c) }
+        ensures kept { IsHonest S.Store self.new → Keeps result (MayFind S.Store self.old.owner self.old.held) (MayFind S.Store self.new.owner self.new.held) }
         ensures trust { KeepsTrust (is_honest S.Store) (λ r. is_clean_in S.Store r.held) self.old self.new }
         ensures account { Accounts (λ r. r.failures) (λ r. not r.is_up) self.old result self.new }
     {
@@ -341,8 +376,8 @@ impl<S: Alter> SqlRecords<S> {
     }
 
     fn find_learned_row(&mut self, place: Place) -> Result<Option<Value>, RecordsFault>
-        ensures value { IsHonest S.Store self.new → IfOk result (λ v. (c : Content) → Holds (MayFind S.Store self.old.held) c → v ≡ at c.learned place) }
-        ensures kept { IsHonest S.Store self.new → Keeps result (MayFind S.Store self.old.held) (MayFind S.Store self.new.held) }
+        ensures value { IsHonest S.Store self.new → IfOk result (λ v. (c : Content) → Holds (MayFind S.Store self.old.owner self.old.held) c → v ≡ at c.learned place) }
+        ensures kept { IsHonest S.Store self.new → Keeps result (MayFind S.Store self.old.owner self.old.held) (MayFind S.Store self.new.owner self.new.held) }
         ensures trust { KeepsTrust (is_honest S.Store) (λ r. is_clean_in S.Store r.held) self.old self.new }
         ensures account { Accounts (λ r. r.failures) (λ r. not r.is_up) self.old result self.new }
     {
@@ -360,9 +395,9 @@ impl<S: Alter> SqlRecords<S> {
     }
 
     fn find_learned_from(&mut self, place: Place) -> Result<Vec<(Place, Value)>, RecordsFault>
-        ensures value { IsHonest S.Store self.new → IfOk result (λ learned. (c : Content) → Holds (MayFind S.Store self.old.held) c → learned.items ≡ rows_from c.learned place) }
-        ensures sound { IsHonest S.Store self.new → OnOk result ((c : Content) → Holds (MayFind S.Store self.old.held) c → IsSound c) }
-        ensures kept { IsHonest S.Store self.new → Keeps result (MayFind S.Store self.old.held) (MayFind S.Store self.new.held) }
+        ensures value { IsHonest S.Store self.new → IfOk result (λ learned. (c : Content) → Holds (MayFind S.Store self.old.owner self.old.held) c → learned.items ≡ rows_from c.learned place) }
+        ensures sound { IsHonest S.Store self.new → OnOk result ((c : Content) → Holds (MayFind S.Store self.old.owner self.old.held) c → IsSound c) }
+        ensures kept { IsHonest S.Store self.new → Keeps result (MayFind S.Store self.old.owner self.old.held) (MayFind S.Store self.new.owner self.new.held) }
         ensures trust { KeepsTrust (is_honest S.Store) (λ r. is_clean_in S.Store r.held) self.old self.new }
         ensures account { Accounts (λ r. r.failures) (λ r. not r.is_up) self.old result self.new }
     {
@@ -380,8 +415,8 @@ impl<S: Alter> SqlRecords<S> {
     }
 
     fn find_promised(&mut self) -> Result<Option<Ballot>, RecordsFault>
-        ensures value { IsHonest S.Store self.new → IfOk result (λ b. (c : Content) → Holds (MayFind S.Store self.old.held) c → number_of b ≡ promised c) }
-        ensures kept { IsHonest S.Store self.new → Keeps result (MayFind S.Store self.old.held) (MayFind S.Store self.new.held) }
+        ensures value { IsHonest S.Store self.new → IfOk result (λ b. (c : Content) → Holds (MayFind S.Store self.old.owner self.old.held) c → number_of b ≡ promised c) }
+        ensures kept { IsHonest S.Store self.new → Keeps result (MayFind S.Store self.old.owner self.old.held) (MayFind S.Store self.new.owner self.new.held) }
         ensures trust { KeepsTrust (is_honest S.Store) (λ r. is_clean_in S.Store r.held) self.old self.new }
         ensures account { Accounts (λ r. r.failures) (λ r. not r.is_up) self.old result self.new }
     {
@@ -395,14 +430,14 @@ impl<S: Alter> SqlRecords<S> {
         if let Some(highest) = self.highest {
             return Ok(highest);
         }
-        match promised_in(alloc, conn) {
+        match promised_in(alloc, conn, self.owner) {
             Ok(found) => Ok(found),
             Err(stop) => Err(end(&mut self.is_up, &mut self.failures, stop)),
         }
     }
 
     fn set_tried(&mut self, ballot: Ballot) -> Result<(), RecordsFault>
-        ensures writes { IsHonest S.Store self.new → Writes result (MayFind S.Store self.old.held) (MayFind S.Store self.new.held)
+        ensures writes { IsHonest S.Store self.new → Writes result (MayFind S.Store self.old.owner self.old.held) (MayFind S.Store self.new.owner self.new.held)
             (Tries ballot) }
         ensures trust { KeepsTrust (is_honest S.Store) (λ r. is_clean_in S.Store r.held) self.old self.new }
         ensures account { Accounts (λ r. r.failures) (λ r. not r.is_up) self.old result self.new }
@@ -420,7 +455,7 @@ impl<S: Alter> SqlRecords<S> {
     }
 
     fn set_promised(&mut self, ballot: Ballot) -> Result<(), RecordsFault>
-        ensures writes { IsHonest S.Store self.new → Writes result (MayFind S.Store self.old.held) (MayFind S.Store self.new.held)
+        ensures writes { IsHonest S.Store self.new → Writes result (MayFind S.Store self.old.owner self.old.held) (MayFind S.Store self.new.owner self.new.held)
             (Promises ballot) }
         ensures trust { KeepsTrust (is_honest S.Store) (λ r. is_clean_in S.Store r.held) self.old self.new }
         ensures account { Accounts (λ r. r.failures) (λ r. not r.is_up) self.old result self.new }
@@ -441,7 +476,7 @@ impl<S: Alter> SqlRecords<S> {
     }
 
     fn set_vote(&mut self, place: Place, ballot: Ballot, value: &Value) -> Result<(), RecordsFault>
-        ensures writes { IsHonest S.Store self.new → Writes result (MayFind S.Store self.old.held) (MayFind S.Store self.new.held)
+        ensures writes { IsHonest S.Store self.new → Writes result (MayFind S.Store self.old.owner self.old.held) (MayFind S.Store self.new.owner self.new.held)
             (Casts place record { ballot = ballot; value = value.now }) }
         ensures trust { KeepsTrust (is_honest S.Store) (λ r. is_clean_in S.Store r.held) self.old self.new }
         ensures account { Accounts (λ r. r.failures) (λ r. not r.is_up) self.old result self.new }
@@ -462,7 +497,7 @@ impl<S: Alter> SqlRecords<S> {
     }
 
     fn set_learned(&mut self, place: Place, value: &Value) -> Result<(), RecordsFault>
-        ensures writes { IsHonest S.Store self.new → Writes result (MayFind S.Store self.old.held) (MayFind S.Store self.new.held)
+        ensures writes { IsHonest S.Store self.new → Writes result (MayFind S.Store self.old.owner self.old.held) (MayFind S.Store self.new.owner self.new.held)
             (Learns place value.now) }
         ensures trust { KeepsTrust (is_honest S.Store) (λ r. is_clean_in S.Store r.held) self.old self.new }
         ensures account { Accounts (λ r. r.failures) (λ r. not r.is_up) self.old result self.new }
@@ -481,7 +516,7 @@ impl<S: Alter> SqlRecords<S> {
 }
 
 impl<D: Disk + Drop> Records for SqlRecords<FileStore<D>> {
-    ghost may_find = { λ r. MayFind over_files r.held };
+    ghost may_find = { λ r. MayFind over_files r.owner r.held };
 
     ghost is_honest = { λ r. is_honest over_files r };
 
@@ -493,7 +528,7 @@ impl<D: Disk + Drop> Records for SqlRecords<FileStore<D>> {
 
     ghost finds_no_memory = { λ _ _. Unit {0} };
 
-    ghost reopens = { λ old new. IsHonest over_files new → AddsNothing (MayFind over_files old.held) (MayFind over_files new.held) };
+    ghost reopens = { λ old new. IsHonest over_files new → AddsNothing (MayFind over_files old.owner old.held) (MayFind over_files new.owner new.held) };
 
     fn failures(&self) -> u64 {
         self.failures
@@ -550,7 +585,7 @@ impl<D: Disk + Drop> Records for SqlRecords<FileStore<D>> {
             self.failures = risen(self.failures);
             return Err(RecordsFault::Broken);
         };
-        let Some((fresh, highest)) = opened_anew(self.alloc, conn) else {
+        let Some((fresh, highest)) = opened_anew(self.alloc, conn, self.owner) else {
             self.is_sure = false;
             self.is_up = false;
             self.failures = risen(self.failures);

@@ -10,9 +10,9 @@ ghost use Rattle.sqlite.specs.Held.{state};
 ghost use Rattle.sqlite_trees.specs.View.{IsClean, doubt};
 ghost use Rattle.acceptor_store_parts.specs.Foreign.{HoldsNone, IsForeignSchema};
 ghost use Rattle.acceptor_store_parts.specs.Rowids.{AreByRowid, IsReread};
-ghost use Rattle.acceptor_store_parts.specs.Tables.{schema_of, store_schema};
-ghost use Rattle.acceptor_store_parts.specs.Stored.{HasLearned, IsCast, IsLearned, IsNumber, IsOfNode, learned_row, vote_row};
-ghost use Rattle.acceptor_store_parts.specs.Serves.{Serves, ServesAs, IsOther, HasRaised, MayHaveRaised};
+ghost use Rattle.acceptor_store_parts.specs.Tables.{schema_of};
+ghost use Rattle.acceptor_store_parts.specs.Stored.{HasLearned, KeepsLearned, IsCast, IsLearned, IsNumber, IsOfNode, learned_row, vote_row};
+ghost use Rattle.acceptor_store_parts.specs.Serves.{ServesAs, IsOther, HasRaised, MayHaveRaised};
 ghost use Rattle.acceptor_store.specs.Linked.{HasFurther, Examines, Prepares, SeesForeign, HasNumbers, StaysAs, Finds, IsLeftWhole};
 
 use crate::{OpenFault, greatest_of};
@@ -22,7 +22,7 @@ use sqlite::{Alter, Connection};
 use sqlite_schema::schema::Schema;
 use std::alloc::Global;
 
-fn stopped(stop: Stop) -> OpenFault
+pub fn stopped(stop: Stop) -> OpenFault
     ensures { result ≢ OpenFault.Foreign }
 {
     match stop {
@@ -37,6 +37,7 @@ fn judged(alloc: Global, schema: &Schema) -> Result<Version, OpenFault>
     ensures unowned { IsForeignSchema schema.now → IsErrAnd result (λ e. e ≡ OpenFault.Foreign) }
     ensures further { (IsForeignSchema schema.now → ⊥) → ((version : _) → schema.now ≢ schema_of version) → IsErrAnd result (λ e. (e ≡ OpenFault.Refused) ⊎ (e ≡ OpenFault.OutOfMemory)) }
     ensures own { IfOk result (λ version. schema.now ≡ schema_of version) }
+    ensures ours { OnOk result (IsForeignSchema schema.now → ⊥) }
     ensures foreign { result ≡ Err OpenFault.Foreign → IsForeignSchema schema.now }
 {
     if acceptor_store_parts::is_foreign(schema) {
@@ -94,16 +95,20 @@ fn votes_in<S: Alter>(alloc: Global, conn: &mut Connection<S>) -> Result<Votes, 
     Ok(votes)
 }
 
-/// The learned values, where their table in version 2 has what a node writes.
-fn second_learned<S: Alter>(
+/// The learned values, where their table has what a node writes.
+fn kept_learned<S: Alter>(
     alloc: Global,
     conn: &mut Connection<S>,
 ) -> Result<Vec<(Place, Value)>, OpenFault>
-    ensures held { HasCleanDisk (state S.Store conn.new) → IfOk result (λ learned. AreByRowid Version.Second (state S.Store conn.old) → (state S.Store conn.old).now.trees 2 ≡ map learned_row learned.items) }
+    ensures held { HasCleanDisk (state S.Store conn.new) → IfOk result (λ learned. (version : _) → KeepsLearned version → AreByRowid version (state S.Store conn.old)
+        → (state S.Store conn.old).now.trees 2 ≡ map learned_row learned.items) }
     ensures fits { IfOk result (λ learned. AllByRecursion IsLearned learned.items × AreRowsFrom 1 learned.items) }
-    ensures same { HasCleanDisk (state S.Store conn.new) → (state S.Store conn.old).now.schema ≡ store_schema → OnOk result (StaysAs Version.Second (state S.Store conn.old) (state S.Store conn.new)) }
-    ensures foreign { HasCleanDisk (state S.Store conn.new) → result ≡ Err OpenFault.Foreign → (c : Content) → Serves (state S.Store conn.old) c → IsOfNode c → ⊥ }
-    ensures survives { Survives (state S.Store conn.old) (state S.Store conn.new) (λ _. (state S.Store conn.old).now.schema ≡ store_schema → ⊥) }
+    ensures same { HasCleanDisk (state S.Store conn.new) → (version : _) → KeepsLearned version → (state S.Store conn.old).now.schema ≡ schema_of version
+        → OnOk result (StaysAs version (state S.Store conn.old) (state S.Store conn.new)) }
+    ensures foreign { HasCleanDisk (state S.Store conn.new) → result ≡ Err OpenFault.Foreign → (version : _) → KeepsLearned version
+        → (c : Content) → ServesAs version (state S.Store conn.old) c → IsOfNode c → ⊥ }
+    ensures survives { Survives (state S.Store conn.old) (state S.Store conn.new)
+        (λ _. (version : _) → KeepsLearned version → (state S.Store conn.old).now.schema ≡ schema_of version → ⊥) }
 {
     let rows = match acceptor_store_parts::query_all_learned(conn) {
         Ok(rows) => rows,
@@ -134,17 +139,20 @@ fn learned_in<S: Alter>(
 {
     match version {
         Version::First => Ok(Vec::new(alloc)),
-        Version::Second => second_learned(alloc, conn),
+        Version::Second => kept_learned(alloc, conn),
+        Version::Third => kept_learned(alloc, conn),
     }
 }
 
 /// Tests the rows of the version's tables, and gives the promised ballot.
-fn examined<S: Alter>(
+pub fn examined<S: Alter>(
     alloc: Global,
     conn: &mut Connection<S>,
     version: Version,
 ) -> Result<Option<Ballot>, OpenFault>
     ensures tables { HasCleanDisk (state S.Store conn.new) → (state S.Store conn.old).now.schema ≡ schema_of version → IfOk result (Examines S.Store version conn.old conn.new) }
+    ensures same { HasCleanDisk (state S.Store conn.new) → (state S.Store conn.old).now.schema ≡ schema_of version
+        → OnOk result (StaysAs version (state S.Store conn.old) (state S.Store conn.new)) }
     ensures foreign { HasCleanDisk (state S.Store conn.new) → (state S.Store conn.old).now.schema ≡ schema_of version → result ≡ Err OpenFault.Foreign → IsReread version (state S.Store conn.old) → HoldsNone version (state S.Store conn.old).now.trees }
     ensures survives { Survives (state S.Store conn.old) (state S.Store conn.new) (λ _. (state S.Store conn.old).now.schema ≡ schema_of version → ⊥) }
 {
@@ -162,6 +170,7 @@ pub fn is_of(alloc: Global, schema: &Schema, version: Version) -> Result<bool, O
     match (acceptor_store_parts::version_of(alloc, schema), version) {
         (Ok(Some(Version::First)), Version::First) => Ok(true),
         (Ok(Some(Version::Second)), Version::Second) => Ok(true),
+        (Ok(Some(Version::Third)), Version::Third) => Ok(true),
         (Ok(_), _) => Ok(false),
         (Err(_), _) => Err(OpenFault::OutOfMemory),
     }
@@ -196,13 +205,14 @@ fn reread<S: Alter + Drop>(
     }
 }
 
-/// The connection over the tables of version 2, where it had those of this version, and the
-/// promised ballot.
+/// The connection over the tables of version 2, where it had those of this version, which isn't
+/// the third, and the promised ballot.
 fn brought_up<S: Alter + Drop>(
     alloc: Global,
     version: Version,
     conn: Connection<S>,
 ) -> Result<(Connection<S>, Option<Ballot>), (OpenFault, S)>
+    requires unowned { version ≢ Version.Third }
     ensures tables { IfOk result (λ r. HasCleanDisk (state S.Store r.0) → (state S.Store conn).now.schema ≡ schema_of version → Prepares S.Store conn r.0 r.1) }
     ensures clean { IfOk result (λ r. doubt (state S.Store conn).is_clean ≤ doubt (state S.Store r.0).is_clean) }
     ensures whole { IfErr result (λ e. IsClean (S.Store.view e.1) → (state S.Store conn).now.schema ≡ schema_of version → (db : Trees) → S.Store.recovers e.1 db → IsLeftWhole S.Store conn db) }
@@ -218,6 +228,7 @@ fn brought_up<S: Alter + Drop>(
             Ok(raised) => Ok((raised, found.1)),
             Err(refused) => Err((stopped(refused.0), refused.1)),
         },
+        Version::Third => unreachable!(),
     }
 }
 
@@ -227,6 +238,7 @@ pub fn prepared<S: Alter + Drop>(
     mut conn: Connection<S>,
 ) -> Result<(Connection<S>, Option<Ballot>), (OpenFault, S)>
     ensures tables { IfOk result (λ r. HasCleanDisk (state S.Store r.0) → Prepares S.Store conn r.0 r.1) }
+    ensures ours { OnOk result (IsForeignSchema (state S.Store conn).now.schema → ⊥) }
     ensures clean { IfOk result (λ r. doubt (state S.Store conn).is_clean ≤ doubt (state S.Store r.0).is_clean) }
     ensures whole { IfErr result (λ e. IsClean (S.Store.view e.1) → (db : Trees) → S.Store.recovers e.1 db → IsLeftWhole S.Store conn db) }
     ensures foreign { IfErr result (λ e. e.0 ≡ OpenFault.Foreign → IsClean (S.Store.view e.1) → SeesForeign S.Store conn) }

@@ -1,4 +1,6 @@
--- What crates above cite: tables hold one content, in one way, all rows are those from place 1 on, and votes and learned values are shown in one way.
+-- What crates above cite: tables hold one content, in one way, all rows are those from place 1 on, votes and learned values are shown in one way, and tables for an owner are those of its version.
 pub use Rattle.acceptor_store_parts.proofs.Once.{content_once, tables_prop, one_content}
 pub use Rattle.acceptor_store_parts.proofs.Places.{all_rows}
 pub use Rattle.acceptor_store_parts.proofs.Shapes.{all_shown, all_learned_shown}
+pub use Rattle.acceptor_store_parts.proofs.LearnedRows.{table_of_learned}
+pub use Rattle.acceptor_store_parts.proofs.Owners.{as_version, keeps_learned, serves_as, serves_for, tables_as, tables_for}

@@ -11,11 +11,9 @@ use Rattle.sqlite.specs.Listing.{understood}
 use Rattle.sqlite_resolve.specs.declared.compiled.Compiled.{Compiled}
 use Rattle.sqlite.specs.State.{State, Executes, ExecutesIn, QueriesRow, FailsToQuery, IsNotRun, RunsCommand, shows_rows, Shown, ShowsRows, IsUnchanged, IsRolledBack}
 use Rattle.sqlite.proofs.Callers.{IsPlain}
-use Rattle.acceptor_store_parts.specs.Tables.{store_schema}
-use Rattle.acceptor_store_parts.specs.Stored.{AreTablesOf}
-use Rattle.acceptor_store_parts.specs.declared.Version.{Version}
-use Rattle.acceptor_store_parts.specs.declared.Version.TheVariants.{Second}
-use Rattle.acceptor_store_parts.specs.Serves.{Serves, ServesAs, StillServes, Stays}
+use Rattle.acceptor_store_parts.specs.declared.owner.Owner.{Owner}
+use Rattle.acceptor_store_parts.specs.Owned.{AreTablesFor, schema_for}
+use Rattle.acceptor_store_parts.specs.Serves.{ServesFor, StillServes, Stays}
 
 -- as it was, or back at the last commit
 abbrev pub Keeps : State → State → Type 0
@@ -38,27 +36,28 @@ failed_keeps sql params old new e (inr h) = elim (cases_Bool (shows_rows false h
   | inr runs ↦ not_done old new sql h.0 _ e (rw runs at h.2)
 ]
 
-module _ (version : Version) (old new : State) (c : Content) (was : ServesAs version old c) where
-  pub still_serves_as : Keeps old new → IsTrue new.is_open → ServesAs version new c
-  still_serves_as (inl h) opened = record {
+module _ (owner : Option Owner) (old new : State) (c : Content) (was : ServesFor owner old c) where
+  pub still_serves : Keeps old new → IsTrue new.is_open → ServesFor owner new c
+  still_serves (inl h) opened = record {
     is_open = opened;
     autocommit = h.0.mode ∙ was.autocommit;
     settled = h.0.now_is ∙ was.settled ∙ sym h.0.committed_is;
     schema = ap (λ (d : Database). d.schema) h.0.now_is ∙ was.schema;
-    tables = subst (λ (d : Database). AreTablesOf version d.trees c) (sym h.0.now_is) was.tables;
+    tables = subst (λ (d : Database). AreTablesFor owner d.trees c) (sym h.0.now_is) was.tables;
   }
-  still_serves_as (inr h) opened =
+  still_serves (inr h) opened =
       let now = (h.undone opened).0 ∙ sym was.settled in
       record {
         is_open = opened;
         autocommit = h.autocommit;
         settled = (h.undone opened).0 ∙ sym (h.undone opened).1;
         schema = ap (λ (d : Database). d.schema) now ∙ was.schema;
-        tables = subst (λ (d : Database). AreTablesOf version d.trees c) (sym now) was.tables;
+        tables = subst (λ (d : Database). AreTablesFor owner d.trees c) (sym now) was.tables;
       }
 
-pub still_serves : (old new : State) (c : Content) (was : Serves old c) → Keeps old new → IsTrue new.is_open → Serves new c
-still_serves old new c was = still_serves_as Second old new c was
+-- what a statement means of the tables of each owner
+abbrev pub AlwaysPlain : List ℕ → Type 0
+AlwaysPlain sql = (owner : Option Owner) → IsPlain (understood (schema_for owner) sql)
 
 module _ (sql : List ℕ) (params : Row) (old new : State) (schema : Schema) (has : old.now.schema ≡ schema) (plain : IsPlain (understood schema sql)) where
   shown_keeps : (rows : List Row) → Shown sql params old new rows → Keeps old new
@@ -101,38 +100,38 @@ unfolding QueriesRow Shown
 query_was_open sql params old new row (inl h) = h.1.0.was_open
 query_was_open sql params old new row (inr h) = shown_open sql _ old new h.0 h.1.0 h.1.0.returning h.1.2
 
-pub query_ok : (sql : List ℕ) (params : Row) (old new : State) → IsPlain (understood store_schema sql) → (r : Result Row Error) → QueriesRow sql params old new r → OnOk r (Stays old new)
+pub query_ok : (sql : List ℕ) (params : Row) (old new : State) → AlwaysPlain sql → (r : Result Row Error) → QueriesRow sql params old new r → OnOk r (Stays old new)
 query_ok sql params old new plain (Err e) h = tt
 query_ok sql params old new plain (Ok row) h = (
   query_was_open sql params old new row h,
-  λ c was.
-      let same = query_stays sql params old new store_schema was.schema plain row h in
-      still_serves old new c was (inl same) same.0.is_open,
+  λ owner c was.
+      let same = query_stays sql params old new (schema_for owner) was.schema (plain owner) row h in
+      still_serves owner old new c was (inl same) same.0.is_open,
 )
 
 pub failed_serves : (sql : List ℕ) (params : Row) (old new : State) (r : Result ℕ Error) → Executes sql params old new r → OnErr r (IsTrue new.is_open → StillServes old new)
 failed_serves sql params old new (Ok count) h = tt
-failed_serves sql params old new (Err e) h = λ opened c was. still_serves old new c was (failed_keeps sql params old new e h) opened
+failed_serves sql params old new (Err e) h = λ opened owner c was. still_serves owner old new c was (failed_keeps sql params old new e h) opened
 
-pub all_ok : (sql : List ℕ) (params : Row) (old new : State) → IsPlain (understood store_schema sql) → (rows : List Row) → Shown sql params old new rows → Stays old new
+pub all_ok : (sql : List ℕ) (params : Row) (old new : State) → AlwaysPlain sql → (rows : List Row) → Shown sql params old new rows → Stays old new
 unfolding Shown
 all_ok sql params old new plain rows h = (
   shown_open sql _ old new rows h.0 h.0.returning h.2,
-  λ c was.
+  λ owner c was.
       let known = sym h.1.is ∙ ap (λ s. understood s sql) was.schema in
-      let bare = subst IsPlain (sym known) plain in
+      let bare = subst IsPlain (sym known) (plain owner) in
       let same = (rw bare.0 at h.2).3 in
-      still_serves old new c was (inl same) same.0.is_open,
+      still_serves owner old new c was (inl same) same.0.is_open,
 )
 
-pub all_err : (sql : List ℕ) (params : Row) (old new : State) → IsPlain (understood store_schema sql) → (e : Error) → FailsToQuery sql params old new e → IsTrue new.is_open → StillServes old new
-all_err sql params old new plain e h opened c was = still_serves old new c was (fails_keeps sql params old new store_schema was.schema plain e h) opened
+pub all_err : (sql : List ℕ) (params : Row) (old new : State) → AlwaysPlain sql → (e : Error) → FailsToQuery sql params old new e → IsTrue new.is_open → StillServes old new
+all_err sql params old new plain e h opened owner c was = still_serves owner old new c was (fails_keeps sql params old new (schema_for owner) was.schema (plain owner) e h) opened
 
-pub all_result : (sql : List ℕ) (params : Row) (old new : State) → IsPlain (understood store_schema sql) → {X : Type 0} (r : Result X Error) (rows : X → List Row) → IfOk r (λ x. Shown sql params old new (rows x)) → OnOk r (Stays old new)
+pub all_result : (sql : List ℕ) (params : Row) (old new : State) → AlwaysPlain sql → {X : Type 0} (r : Result X Error) (rows : X → List Row) → IfOk r (λ x. Shown sql params old new (rows x)) → OnOk r (Stays old new)
 all_result sql params old new plain (Ok x) rows h = all_ok sql params old new plain (rows x) h
 all_result sql params old new plain (Err e) rows h = tt
 
-pub all_failed : (sql : List ℕ) (params : Row) (old new : State) → IsPlain (understood store_schema sql) → {X : Type 0} (r : Result X Error) (rows : X → List Row) → IfOk r (λ x. Shown sql params old new (rows x)) → IfErr r (FailsToQuery sql params old new)
+pub all_failed : (sql : List ℕ) (params : Row) (old new : State) → AlwaysPlain sql → {X : Type 0} (r : Result X Error) (rows : X → List Row) → IfOk r (λ x. Shown sql params old new (rows x)) → IfErr r (FailsToQuery sql params old new)
     → IsTrue new.is_open → StillServes old new
 all_failed sql params old new plain (Ok x) rows h g opened = (all_ok sql params old new plain (rows x) h).1
 all_failed sql params old new plain (Err e) rows h g opened = all_err sql params old new plain e g opened

@@ -24,3 +24,4 @@ pub mod Makes
 pub mod Held
 pub mod Raw
 pub mod Casts
+pub mod Owners

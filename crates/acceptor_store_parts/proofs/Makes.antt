@@ -1,9 +1,11 @@
 -- What the texts make that make the tables.
-use Rattle.std.proofs.Common.{◌≡◌, ℕ, List, [], ◌∷◌, map, false, None, Ok, Err, Result, OnOk, refl, sym, ap, subst, ◌∙◌}
+use Rattle.std.proofs.Common.{◌≡◌, ℕ, List, [], ◌∷◌, map, pos, false, Option, Some, None, Ok, Err, Result, OnOk, refl, sym, ap, subst, ◌∙◌}
 use Rattle.sqlite.specs.Order.{Row}
 use Rattle.sqlite.specs.Schema.{Schema}
 use Rattle.sqlite.specs.Source.TheVariants.{Values}
-use Rattle.sqlite.specs.Command.TheVariants.{Insert, CreateTable}
+use Rattle.sqlite_schema.specs.declared.command.Conflict.TheVariants.{Replace}
+use Rattle.sqlite.specs.declared.types.Value.TheVariants.{Int}
+use Rattle.sqlite.specs.Command.TheVariants.{Insert, InsertOr, CreateTable}
 use Rattle.sqlite.specs.Change.{created, next_tree, KeepsRows}
 use Rattle.sqlite.specs.Does.{Tally, Does, lacks_sequence}
 use Rattle.sqlite.specs.Tree.{Trees, put_row}
@@ -18,13 +20,17 @@ use Rattle.sqlite.specs.Rowids.TheVariants.{Chosen}
 use Rattle.sqlite.specs.Rows.{Written}
 use Rattle.sqlite_value.proofs.OrderLemmas.{value_cmp-Int}
 use Rattle.acceptor.specs.Content.{Content, no_content}
-use Rattle.acceptor_store_parts.specs.Stored.{number_row, learned_row, AreTables, AreTablesOf}
+use Rattle.acceptor_store_parts.specs.declared.owner.Owner.{Owner}
+use Rattle.acceptor_store_parts.specs.Stored.{number_row, learned_row, fact_row, fact_shown, AreTablesOf}
+use Rattle.acceptor_store_parts.specs.Owned.{AreTablesFor, owner_bytes, schema_for}
 use Rattle.sqlite.proofs.Callers.{runs_as, one_step, statement_of}
-use Rattle.acceptor_store_parts.specs.Tables.{store_schema, schema_of, blank_schema, ballot_table, vote_table, learned_table, ballot_text, vote_text, learned_text}
+use Rattle.acceptor_store_parts.specs.Tables.{schema_of, blank_schema, ballot_table, vote_table, learned_table, fact_table, ballot_text, vote_text, learned_text, fact_text, fact_put, version_put}
 use Rattle.acceptor_store_parts.proofs.Meaning.{
   ballot_schema,
   numbers_put,
+  number_terms,
   numbers_terms,
+  learned_terms,
   second_put,
   second_terms,
   create_ballot_is,
@@ -37,10 +43,16 @@ use Rattle.acceptor_store_parts.proofs.Meaning.{
   create_learned_plain,
   numbers_put_plain,
   second_put_plain,
+  create_fact_is,
+  create_fact_plain,
+  fact_put_is,
+  fact_put_plain,
+  version_put_is,
+  version_put_plain,
 }
-use Rattle.acceptor_store_parts.specs.declared.Version.TheVariants.{First}
-use Rattle.acceptor_store_parts.proofs.Writes.{cast_number}
-use Rattle.acceptor_store_parts.specs.Serves.{Serves}
+use Rattle.acceptor_store_parts.specs.declared.Version.TheVariants.{First, Second, Third}
+use Rattle.acceptor_store_parts.proofs.Writes.{PutsRow, cast_number, put_number, put_fact, first_fact, puts_version}
+use Rattle.acceptor_store_parts.specs.Serves.{ServesFor}
 use Rattle.acceptor_store_parts.proofs.Puts.{went, same_value}
 
 -- the trees that the list of objects doesn't keep, but for one that is made empty
@@ -75,7 +87,7 @@ makes_vote old new count has none h =
     )
 
 pub makes_learned : (old new : State) (count : ℕ) → old.now.schema ≡ schema_of First → Executes learned_text [] old new (Ok count)
-    → (new.now.schema ≡ store_schema) × (new.now.trees 0 ≡ old.now.trees 0) × (new.now.trees 1 ≡ old.now.trees 1) × (new.now.trees 2 ≡ [])
+    → (new.now.schema ≡ schema_of Second) × (new.now.trees 0 ≡ old.now.trees 0) × (new.now.trees 1 ≡ old.now.trees 1) × (new.now.trees 2 ≡ [])
 makes_learned old new count has h =
     let w = subst (λ t. Writes old new None CreateTable t [] count) create_learned_is.1 (runs_as learned_text [] old new (schema_of First) has CreateTable create_learned_is.0 create_learned_plain count h) in
     let all = went w.changed in
@@ -83,7 +95,7 @@ makes_learned old new count has h =
     let made = first.1 in
     let both : Ok made.table ≡ Ok (record learned_table { tree = 0 }) = sym made.defined ∙ create_learned_is.2 in
     let same : made.table ≡ record learned_table { tree = 0 } = cc in
-    let schema : first.0.schema ≡ store_schema = made.is ∙ ap (λ s. created s made.table) has ∙ ap (created (schema_of First)) same in
+    let schema : first.0.schema ≡ schema_of Second = made.is ∙ ap (λ s. created s made.table) has ∙ ap (created (schema_of First)) same in
     let plain : lacks_sequence first.0.schema ≡ false = ap lacks_sequence schema in
     let now : new.now ≡ first.0 = ap (λ (p : Tally × Database). p.1) (same_value all.2) ∙ same_value (rw plain at first.2) in
     let kept : KeepsRows (ballot_table ∷ vote_table ∷ []) old.now.trees first.0.trees = subst (λ (s : Schema). KeepsRows s.tables old.now.trees first.0.trees) has made.others in (
@@ -91,6 +103,26 @@ makes_learned old new count has h =
       ap (λ (d : Database). d.trees 0) now ∙ kept.0,
       ap (λ (d : Database). d.trees 1) now ∙ kept.1.0,
       ap (λ (d : Database). d.trees 2) now ∙ subst (λ s. first.0.trees (next_tree s) ≡ []) has made.empty,
+    )
+
+pub makes_fact : (old new : State) (count : ℕ) → old.now.schema ≡ schema_of Second → Executes fact_text [] old new (Ok count)
+    → (new.now.schema ≡ schema_of Third) × (new.now.trees 0 ≡ old.now.trees 0) × (new.now.trees 1 ≡ old.now.trees 1) × (new.now.trees 2 ≡ old.now.trees 2) × (new.now.trees 3 ≡ [])
+makes_fact old new count has h =
+    let w = subst (λ t. Writes old new None CreateTable t [] count) create_fact_is.1 (runs_as fact_text [] old new (schema_of Second) has CreateTable create_fact_is.0 create_fact_plain count h) in
+    let all = went w.changed in
+    let first = went all.1 in
+    let made = first.1 in
+    let both : Ok made.table ≡ Ok (record fact_table { tree = 0 }) = sym made.defined ∙ create_fact_is.2 in
+    let same : made.table ≡ record fact_table { tree = 0 } = cc in
+    let schema : first.0.schema ≡ schema_of Third = made.is ∙ ap (λ s. created s made.table) has ∙ ap (created (schema_of Second)) same in
+    let plain : lacks_sequence first.0.schema ≡ false = ap lacks_sequence schema in
+    let now : new.now ≡ first.0 = ap (λ (p : Tally × Database). p.1) (same_value all.2) ∙ same_value (rw plain at first.2) in
+    let kept : KeepsRows (ballot_table ∷ vote_table ∷ learned_table ∷ []) old.now.trees first.0.trees = subst (λ (s : Schema). KeepsRows s.tables old.now.trees first.0.trees) has made.others in (
+      ap (λ (d : Database). d.schema) now ∙ schema,
+      ap (λ (d : Database). d.trees 0) now ∙ kept.0,
+      ap (λ (d : Database). d.trees 1) now ∙ kept.1.0,
+      ap (λ (d : Database). d.trees 2) now ∙ kept.1.1.0,
+      ap (λ (d : Database). d.trees 3) now ∙ subst (λ s. first.0.trees (next_tree s) ≡ []) has made.empty,
     )
 
 -- a row put after the others
@@ -128,19 +160,20 @@ other_tree same = absurd cc
 another_tree : ◌≡◌ {A = ℕ} 2 0 → ⊥
 another_tree same = absurd cc
 
-puts_numbers : (old new : State) (count : ℕ) → old.now.schema ≡ store_schema → old.now.trees 0 ≡ [] → old.now.trees 1 ≡ [] → old.now.trees 2 ≡ [] → Executes numbers_put [] old new (Ok count) → (new.now.schema ≡ store_schema) × AreTables new.now.trees no_content
+puts_numbers : (old new : State) (count : ℕ) → old.now.schema ≡ schema_of Second → old.now.trees 0 ≡ [] → old.now.trees 1 ≡ [] → old.now.trees 2 ≡ [] → Executes numbers_put [] old new (Ok count)
+    → (new.now.schema ≡ schema_of Second) × AreTablesFor None new.now.trees no_content
 puts_numbers old new count has none empty blank h =
     let db = old.now.trees in
     let command = Insert 0 (Values numbers_terms 3) in
-    let w = runs_as numbers_put [] old new store_schema has command numbers_put_is numbers_put_plain count h in
-    let text = statement_of numbers_put (understood store_schema numbers_put) in
+    let w = runs_as numbers_put [] old new (schema_of Second) has command numbers_put_is numbers_put_plain count h in
+    let text = statement_of numbers_put (understood (schema_of Second) numbers_put) in
     let done = went (subst (λ s. Does old.step_limit (mode_of old) [] (record old.now { schema = s }) text None command (Ok (w.tally, new.now))) has w.changed) in
     let now = ap (λ (p : Tally × Database). p.1) (same_value (went (went done.2).2).2) in
     let given = went done.1 in
     let written = went (went given.2).2 in
     let counted = went written.2 in
     let trees : done.0.trees ≡ written.0 = ap (λ (it : Written). it.trees) (same_value counted.2) ∙ same_value counted.1 in
-    let step = one_step store_schema _ db written.0 (edit_of db ballot_table [] Chosen 0 given.0) refl written.1 in
+    let step = one_step (schema_of Second) _ db written.0 (edit_of db ballot_table [] Chosen 0 given.0) refl written.1 in
     let rows_are : given.0 ≡ news = given.1.1 in
     let edit : edited db (edit_of db ballot_table [] Chosen 0 given.0) ≡ news = ap (λ all. edited db (edit_of db ballot_table [] Chosen 0 all)) rows_are ∙ all_rows db none in (
       ap (λ (d : Database). d.schema) now,
@@ -149,22 +182,24 @@ puts_numbers old new count has none empty blank h =
         votes_are = ap (λ (d : Database). d.trees 1) now ∙ (ap (λ (t : Trees). t 1) trees ∙ (step.others 1 other_tree tt ∙ empty));
         learned_are = ap (λ (d : Database). d.trees 2) now ∙ (ap (λ (t : Trees). t 2) trees ∙ (step.others 2 another_tree tt ∙ blank));
         sound = (tt, tt, tt);
+        owned = tt;
       },
     )
 
-puts_third : (old new : State) (c : Content) (count : ℕ) → old.now.schema ≡ store_schema → AreTablesOf First old.now.trees c → old.now.trees 2 ≡ [] → Executes second_put [] old new (Ok count) → (new.now.schema ≡ store_schema) × AreTables new.now.trees c
+puts_third : (old new : State) (c : Content) (count : ℕ) → old.now.schema ≡ schema_of Second → AreTablesOf First old.now.trees c → old.now.trees 2 ≡ [] → Executes second_put [] old new (Ok count)
+    → (new.now.schema ≡ schema_of Second) × AreTablesFor None new.now.trees c
 puts_third old new c count has was blank h =
     let db = old.now.trees in
     let command = Insert 0 (Values second_terms 3) in
-    let w = runs_as second_put [] old new store_schema has command second_put_is second_put_plain count h in
-    let text = statement_of second_put (understood store_schema second_put) in
+    let w = runs_as second_put [] old new (schema_of Second) has command second_put_is second_put_plain count h in
+    let text = statement_of second_put (understood (schema_of Second) second_put) in
     let done = went (subst (λ s. Does old.step_limit (mode_of old) [] (record old.now { schema = s }) text None command (Ok (w.tally, new.now))) has w.changed) in
     let now = ap (λ (p : Tally × Database). p.1) (same_value (went (went done.2).2).2) in
     let given = went done.1 in
     let written = went (went given.2).2 in
     let counted = went written.2 in
     let trees : done.0.trees ≡ written.0 = ap (λ (it : Written). it.trees) (same_value counted.2) ∙ same_value counted.1 in
-    let step = one_step store_schema _ db written.0 (edit_of db ballot_table [] Chosen 0 given.0) refl written.1 in
+    let step = one_step (schema_of Second) _ db written.0 (edit_of db ballot_table [] Chosen 0 given.0) refl written.1 in
     let rows_are : given.0 ≡ number_row 2 2 ∷ [] = given.1.1 in
     let edit = ap (λ all. edited db (edit_of db ballot_table [] Chosen 0 all)) rows_are ∙ third_row db c.tried c.row was.numbers in (
       ap (λ (d : Database). d.schema) now,
@@ -173,12 +208,32 @@ puts_third old new c count has was blank h =
         votes_are = ap (λ (d : Database). d.trees 1) now ∙ (ap (λ (t : Trees). t 1) trees ∙ (step.others 1 other_tree tt ∙ was.votes_are));
         learned_are = ap (λ (d : Database). d.trees 2) now ∙ (ap (λ (t : Trees). t 2) trees ∙ (step.others 2 another_tree tt ∙ (blank ∙ ap (map learned_row) (sym was.learned_are))));
         sound = was.sound;
+        owned = tt;
       },
     )
 
+-- a row that one statement puts into a table, in version 3
+module _ (owner : Owner) (old new : State) (count : ℕ) (has : old.now.schema ≡ schema_of Third) where
+  pub puts_fact : Executes fact_put (fact_shown (0, owner_bytes owner)) old new (Ok count) → (new.now.schema ≡ schema_of Third) × PutsRow fact_table old.now.trees new.now.trees (fact_row (0, owner_bytes owner))
+  puts_fact h =
+      let command = InsertOr 3 Replace (Values learned_terms 3) [] in
+      let row = fact_shown (0, owner_bytes owner) in
+      let w = runs_as fact_put row old new (schema_of Third) has command fact_put_is fact_put_plain count h in
+      let text = statement_of fact_put (understood (schema_of Third) fact_put) in
+      let does = subst (λ s. Does old.step_limit (mode_of old) row (record old.now { schema = s }) text None command (Ok (w.tally, new.now))) has w.changed in
+      put_fact owner old.step_limit (mode_of old) old.now.trees text w.tally new.now (0, owner_bytes owner) does
+
+  pub puts_third_number : Executes version_put (Int (pos 3) ∷ []) old new (Ok count) → (new.now.schema ≡ schema_of Third) × PutsRow ballot_table old.now.trees new.now.trees (number_row 2 3)
+  puts_third_number h =
+      let command = InsertOr 0 Replace (Values (number_terms 2) 3) [] in
+      let w = runs_as version_put (Int (pos 3) ∷ []) old new (schema_of Third) has command version_put_is version_put_plain count h in
+      let text = statement_of version_put (understood (schema_of Third) version_put) in
+      let does = subst (λ s. Does old.step_limit (mode_of old) (Int (pos 3) ∷ []) (record old.now { schema = s }) text None command (Ok (w.tally, new.now))) has w.changed in
+      put_number (Some owner) old.step_limit (mode_of old) old.now.trees text w.tally new.now 2 3 does
+
 -- the tables that are made in a database without any
 pub made_after : (s₀ s₁ s₂ s₃ s₄ : State) (m n k l : ℕ) → s₀.now.schema ≡ blank_schema → Executes ballot_text [] s₀ s₁ (Ok m) → Executes vote_text [] s₁ s₂ (Ok n) → Executes learned_text [] s₂ s₃ (Ok k) → Executes numbers_put [] s₃ s₄ (Ok l)
-    → (s₄.now.schema ≡ store_schema) × AreTables s₄.now.trees no_content
+    → (s₄.now.schema ≡ schema_for None) × AreTablesFor None s₄.now.trees no_content
 made_after s₀ s₁ s₂ s₃ s₄ m n k l has one two three four =
     let a = makes_ballot s₀ s₁ m has one in
     let b = makes_vote s₁ s₂ n a.0 a.1 two in
@@ -187,20 +242,36 @@ made_after s₀ s₁ s₂ s₃ s₄ m n k l has one two three four =
 
 -- the tables of version 2 that are made of those of version 1
 pub raised_after : (s₀ s₁ s₂ : State) (c : Content) (m n : ℕ) → s₀.now.schema ≡ schema_of First → AreTablesOf First s₀.now.trees c → Executes learned_text [] s₀ s₁ (Ok m) → Executes second_put [] s₁ s₂ (Ok n)
-    → (s₂.now.schema ≡ store_schema) × AreTables s₂.now.trees c
+    → (s₂.now.schema ≡ schema_for None) × AreTablesFor None s₂.now.trees c
 raised_after s₀ s₁ s₂ c m n has was one two =
     let a = makes_learned s₀ s₁ m has one in
     let kept : AreTablesOf First s₁.now.trees c = record { numbers = a.1 ∙ was.numbers; votes_are = a.2 ∙ was.votes_are; learned_are = was.learned_are; sound = was.sound } in
     puts_third s₁ s₂ c n a.0 kept a.3 two
 
+-- the tables of version 3 that are made of those of version 2
+pub owned_after : (owner : Owner) (s₀ s₁ s₂ s₃ : State) (c : Content) (m n k : ℕ) → s₀.now.schema ≡ schema_for None → AreTablesFor None s₀.now.trees c → Executes fact_text [] s₀ s₁ (Ok m)
+    → Executes fact_put (fact_shown (0, owner_bytes owner)) s₁ s₂ (Ok n) → Executes version_put (Int (pos 3) ∷ []) s₂ s₃ (Ok k) → (s₃.now.schema ≡ schema_for (Some owner)) × AreTablesFor (Some owner) s₃.now.trees c
+owned_after owner s₀ s₁ s₂ s₃ c m n k has was one two three =
+    let a = makes_fact s₀ s₁ m has one in
+    let b = puts_fact owner s₁ s₂ n a.0 two in
+    let put = puts_third_number owner s₂ s₃ k b.0 three in
+    let kept : AreTablesFor None s₂.now.trees c = record {
+      numbers = b.1.others 0 (λ same. absurd cc) ∙ (a.1 ∙ was.numbers);
+      votes_are = b.1.others 1 (λ same. absurd cc) ∙ (a.2 ∙ was.votes_are);
+      learned_are = b.1.others 2 (λ same. absurd cc) ∙ (a.3 ∙ was.learned_are);
+      sound = was.sound;
+      owned = tt;
+    } in
+    (put.0, puts_version owner s₂.now.trees s₃.now.trees c kept (first_fact s₁.now.trees s₂.now.trees (0, owner_bytes owner) a.4 b.1) put.1)
+
 -- tables that were committed are served
-pub served_after : (last end : State) (c : Content) → (last.now.schema ≡ store_schema) × AreTables last.now.trees c → Shows last end last.now last.now false → Serves end c
-served_after last end c made shows = record {
+pub served_after : (owner : Option Owner) (last end : State) (c : Content) → (last.now.schema ≡ schema_for owner) × AreTablesFor owner last.now.trees c → Shows last end last.now last.now false → ServesFor owner end c
+served_after owner last end c made shows = record {
   is_open = shows.is_open;
   autocommit = shows.mode;
   settled = shows.now_is ∙ sym shows.committed_is;
   schema = ap (λ (d : Database). d.schema) shows.now_is ∙ made.0;
-  tables = subst (λ (d : Database). AreTables d.trees c) (sym shows.now_is) made.1;
+  tables = subst (λ (d : Database). AreTablesFor owner d.trees c) (sym shows.now_is) made.1;
 }
 
 pub on_ok : {T E A B : Type 0} (r : Result T E) → OnOk r A → (A → B) → OnOk r B

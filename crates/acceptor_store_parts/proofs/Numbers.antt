@@ -9,9 +9,9 @@ use Rattle.sqlite.specs.Program.{overlay}
 use Rattle.sqlite.specs.State.{State, Shown}
 use Rattle.sqlite.proofs.Callers.{reads_as}
 use Rattle.acceptor_store_parts.specs.declared.Version.{Version}
-use Rattle.acceptor_store_parts.specs.declared.Version.TheVariants.{First, Second}
+use Rattle.acceptor_store_parts.specs.declared.Version.TheVariants.{First, Second, Third}
 use Rattle.acceptor_store_parts.specs.Tables.{schema_of, numbers_query}
-use Rattle.acceptor_store_parts.specs.Stored.{number_shown, numbers_of, numbers_shown}
+use Rattle.acceptor_store_parts.specs.Stored.{number_shown, numbers_of, numbers_shown, three}
 use Rattle.acceptor_store_parts.specs.Serves.{ServesAs}
 use Rattle.acceptor_store_parts.proofs.Meaning.{two_columns, numbers_query_is, numbers_query_plain}
 use Rattle.acceptor_store_parts.proofs.Rising.{IsRisingBy}
@@ -21,9 +21,13 @@ use Rattle.acceptor_store_parts.proofs.RowsShown.{shown_all}
 abbrev rest : ℕ × ℕ → Row
 rest e = Null ∷ Int (pos e.1) ∷ []
 
+pub three_rise : (n tried row : ℕ) → IsRisingBy (λ (e : ℕ × ℕ). e.0) (three n tried row)
+three_rise n tried row = ((lit< tt, (lit< tt, tt)), ((lit< tt, tt), (tt, tt)))
+
 pub numbers_rise : (version : Version) (tried row : ℕ) → IsRisingBy (λ (e : ℕ × ℕ). e.0) (numbers_of version tried row)
 numbers_rise First tried row = ((lit< tt, tt), (tt, tt))
-numbers_rise Second tried row = ((lit< tt, (lit< tt, tt)), ((lit< tt, tt), (tt, tt)))
+numbers_rise Second tried row = three_rise 2 tried row
+numbers_rise Third tried row = three_rise 3 tried row
 
 reads_numbers : (version : Version) (old new : State) (c : Content) (was : ServesAs version old c) (rows : List Row) → Shown numbers_query [] old new rows → rows ≡ numbers_shown version c.tried c.row
 reads_numbers version old new c was rows h =
@@ -40,6 +44,10 @@ same_numbers First a b tried row e =
     let two : b ≡ row = cc in
     (one, two)
 same_numbers Second a b tried row e =
+    let one : a ≡ tried = cc in
+    let two : b ≡ row = cc in
+    (one, two)
+same_numbers Third a b tried row e =
     let one : a ≡ tried = cc in
     let two : b ≡ row = cc in
     (one, two)

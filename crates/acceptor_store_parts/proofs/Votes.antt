@@ -1,5 +1,5 @@
 -- The votes, as queries show them.
-use Rattle.std.proofs.Common.{◌≡◌, ℕ, ℤ, pos, ◌==◌, List, [], ◌∷◌, map, filter, Result, IfOk, refl, subst}
+use Rattle.std.proofs.Common.{◌≡◌, ℕ, ℤ, pos, ◌==◌, List, [], ◌∷◌, map, filter, Option, Result, IfOk, refl, subst}
 use Rattle.std.proofs.lemmas.Result.{IfOk-weaker}
 use Rattle.ballots.specs.declared.letters.Cast.{Cast}
 use Rattle.ballots.specs.Rows.{rows_from}
@@ -11,9 +11,11 @@ use Rattle.sqlite.specs.Program.{overlay}
 use Rattle.sqlite.specs.State.{State, Shown}
 use Rattle.sqlite.proofs.Callers.{reads_as}
 use Rattle.acceptor_store_parts.specs.declared.Version.{Version}
-use Rattle.acceptor_store_parts.specs.Tables.{store_schema, schema_of, votes_query, vote_query, all_votes_query}
+use Rattle.acceptor_store_parts.specs.declared.owner.Owner.{Owner}
+use Rattle.acceptor_store_parts.specs.Tables.{schema_of, votes_query, vote_query, all_votes_query}
 use Rattle.acceptor_store_parts.specs.Stored.{vote_shown}
-use Rattle.acceptor_store_parts.specs.Serves.{Serves, ServesAs}
+use Rattle.acceptor_store_parts.specs.Owned.{schema_for}
+use Rattle.acceptor_store_parts.specs.Serves.{Serves, ServesFor, ServesAs}
 use Rattle.acceptor_store_parts.proofs.Meaning.{three_columns, votes_query_is, votes_query_plain, vote_query_is, vote_query_plain, all_votes_query_is, all_votes_query_plain}
 use Rattle.acceptor_store_parts.proofs.Places.{rising}
 use Rattle.acceptor_store_parts.proofs.RowsShown.{shown_from, shown_at, shown_all}
@@ -22,15 +24,15 @@ use Rattle.acceptor_store_parts.proofs.RowsShown.{shown_from, shown_at, shown_al
 abbrev rest : ℕ × Cast → Row
 rest v = Null ∷ Int (pos v.1.ballot) ∷ Blob v.1.value ∷ []
 
-module _ (old new : State) (c : Content) (q : ℕ) (was : Serves old c) where
+module _ (owner : Option Owner) (old new : State) (c : Content) (q : ℕ) (was : ServesFor owner old c) where
   reads_votes : (rows : List Row) → Shown votes_query (Int (pos q) ∷ []) old new rows → rows ≡ map vote_shown (rows_from c.votes q)
   reads_votes rows h =
-      let got = reads_as votes_query (Int (pos q) ∷ []) old new store_schema was.schema _ votes_query_is.0 votes_query_plain votes_query_is.1 rows h in
+      let got = reads_as votes_query (Int (pos q) ∷ []) old new (schema_for owner) was.schema _ (votes_query_is owner).0 (votes_query_plain owner) (votes_query_is owner).1 rows h in
       shown_from rest vote_shown 1 three_columns c.votes (rising 1 c.votes was.tables.sound.0) (overlay old.now.trees []) was.tables.votes_are q (λ v. refl) rows (got.answer Null)
 
   reads_vote : (rows : List Row) → Shown vote_query (Int (pos q) ∷ []) old new rows → rows ≡ map vote_shown (filter (λ v. v.0 == q) c.votes)
   reads_vote rows h =
-      let got = reads_as vote_query (Int (pos q) ∷ []) old new store_schema was.schema _ vote_query_is.0 vote_query_plain vote_query_is.1 rows h in
+      let got = reads_as vote_query (Int (pos q) ∷ []) old new (schema_for owner) was.schema _ (vote_query_is owner).0 (vote_query_plain owner) (vote_query_is owner).1 rows h in
       shown_at rest vote_shown 1 three_columns c.votes (rising 1 c.votes was.tables.sound.0) (overlay old.now.trees []) was.tables.votes_are q (λ v. refl) rows (got.answer Null)
 
 reads_all : (version : Version) (old new : State) (c : Content) (was : ServesAs version old c) (rows : List Row) → Shown all_votes_query [] old new rows → rows ≡ map vote_shown c.votes
@@ -40,11 +42,11 @@ reads_all version old new c was rows h =
 
 pub votes_found : (old new : State) (n : ℤ) {X : Type 0} (r : Result X Error) (items : X → List Row) → IfOk r (λ x. Shown votes_query (Int n ∷ []) old new (items x))
     → IfOk r (λ x. (q : ℕ) (c : Content) → n ≡ pos q → Serves old c → items x ≡ map vote_shown (rows_from c.votes q))
-votes_found old new n r items = IfOk-weaker r _ _ (λ x h. λ q c is was. reads_votes old new c q was (items x) (subst (λ k. Shown votes_query (Int k ∷ []) old new (items x)) is h))
+votes_found old new n r items = IfOk-weaker r _ _ (λ x h. λ q c is was. reads_votes was.0 old new c q was.1 (items x) (subst (λ k. Shown votes_query (Int k ∷ []) old new (items x)) is h))
 
 pub vote_found : (old new : State) (n : ℤ) {X : Type 0} (r : Result X Error) (items : X → List Row) → IfOk r (λ x. Shown vote_query (Int n ∷ []) old new (items x))
     → IfOk r (λ x. (q : ℕ) (c : Content) → n ≡ pos q → Serves old c → items x ≡ map vote_shown (filter (λ v. v.0 == q) c.votes))
-vote_found old new n r items = IfOk-weaker r _ _ (λ x h. λ q c is was. reads_vote old new c q was (items x) (subst (λ k. Shown vote_query (Int k ∷ []) old new (items x)) is h))
+vote_found old new n r items = IfOk-weaker r _ _ (λ x h. λ q c is was. reads_vote was.0 old new c q was.1 (items x) (subst (λ k. Shown vote_query (Int k ∷ []) old new (items x)) is h))
 
 pub all_found : (old new : State) {X : Type 0} (r : Result X Error) (items : X → List Row) → IfOk r (λ x. Shown all_votes_query [] old new (items x))
     → IfOk r (λ x. (version : Version) (c : Content) → ServesAs version old c → items x ≡ map vote_shown c.votes)

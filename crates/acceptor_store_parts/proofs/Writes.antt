@@ -2,7 +2,6 @@
 use Rattle.std.proofs.Common.{◌≡◌, ◌≢◌, inl, inr, ℕ, ℤ, pos, List, [], ◌∷◌, ◌++◌, map, filter, nat_lt, Some, None, Option, Ok, refl, ap, subst, ◌∙◌}
 use Rattle.ballots.specs.declared.letters.Cast.{Cast}
 use Rattle.ballots.specs.Limits.{IsPlace, IsValue}
-use Rattle.ballots.specs.Rows.{put}
 use Rattle.acceptor.proofs.Callers.{rows_put, values_put}
 use Rattle.acceptor.specs.Content.{Content, after_write}
 use Rattle.acceptor.specs.Content.Write.{Tries as Tried, Promises, Votes, Learns}
@@ -23,13 +22,14 @@ use Rattle.sqlite.specs.Tree.{Trees, put_row}
 use Rattle.sqlite.specs.Effect.{Database}
 use Rattle.sqlite.specs.Does.{Tally, Does}
 use Rattle.sqlite.specs.Rows.{Written, Task, Judged, Upserts, Tries, TriesEach, nothing, count_of}
-use Rattle.acceptor_store_parts.specs.Tables.{store_schema, ballot_table, vote_table, learned_table}
-use Rattle.acceptor_store_parts.specs.Stored.{number_row, vote_row, learned_row, numbers_of, AreTables, vote_shown, learned_shown}
+use Rattle.acceptor_store_parts.specs.declared.owner.Owner.{Owner}
+use Rattle.acceptor_store_parts.specs.Tables.{ballot_table, vote_table, learned_table, fact_table}
+use Rattle.acceptor_store_parts.specs.Stored.{number_row, vote_row, learned_row, fact_row, vote_shown, learned_shown, fact_shown, three}
+use Rattle.acceptor_store_parts.specs.Owned.{AreTablesFor, IsOwnedBy, owner_bytes, number_for, schema_for}
 use Rattle.acceptor_store_parts.proofs.Meaning.{number_terms, vote_terms, learned_terms}
 use Rattle.acceptor_store_parts.proofs.Rows.{replaced}
 use Rattle.acceptor_store_parts.proofs.Places.{rising, placed_is}
-use Rattle.acceptor_store_parts.specs.declared.Version.TheVariants.{Second}
-use Rattle.acceptor_store_parts.proofs.Numbers.{numbers_rise}
+use Rattle.acceptor_store_parts.proofs.Numbers.{three_rise}
 use Rattle.acceptor_store_parts.proofs.Puts.{went, same_value, cast_int, cast_null, clears}
 
 module _ (task : Task) (new : Row) (db : Trees) (w : Written) where
@@ -52,15 +52,15 @@ pub record PutsRow (table : Table) (db next : Trees) (row : Row) : Type 0 where
   pub rows : next table.tree ≡ put_row row (without_all (db table.tree) (ids_of found))
   pub others : (t : ℕ) → t ≢ table.tree → next t ≡ db t
 
-module _ (limit : Option ℕ) (mode : Mode) (db : Trees) (text : List ℕ) (tally : Tally) (after : Database) (id b : ℕ) where
-  pub put_number : Does limit mode (Int (pos b) ∷ []) (record { schema = store_schema; trees = db }) text None (InsertOr 0 Replace (Values (number_terms id) 3) []) (Ok (tally, after))
-      → (after.schema ≡ store_schema) × PutsRow ballot_table db after.trees (number_row id b)
+module _ (owner : Option Owner) (limit : Option ℕ) (mode : Mode) (db : Trees) (text : List ℕ) (tally : Tally) (after : Database) (id b : ℕ) where
+  pub put_number : Does limit mode (Int (pos b) ∷ []) (record { schema = schema_for owner; trees = db }) text None (InsertOr 0 Replace (Values (number_terms id) 3) []) (Ok (tally, after))
+      → (after.schema ≡ schema_for owner) × PutsRow ballot_table db after.trees (number_row id b)
   put_number h =
       let params = Int (pos b) ∷ [] in
-      let it : Task = record { limit = limit; keys = mode.keys; schema = store_schema; table = ballot_table; params = params } in
+      let it : Task = record { limit = limit; keys = mode.keys; schema = schema_for owner; table = ballot_table; params = params } in
       let done = went h in
       let concl = went (went done.2).2 in
-      let now : after ≡ record { schema = store_schema; trees = done.0.trees } = ap (λ (x : Tally × Database). x.1) (same_value concl.2) in
+      let now : after ≡ record { schema = schema_for owner; trees = done.0.trees } = ap (λ (x : Tally × Database). x.1) (same_value concl.2) in
       let sourced = went done.1 in
       let countered = went sourced.2 in
       let tries = went countered.2 in
@@ -69,7 +69,7 @@ module _ (limit : Option ℕ) (mode : Mode) (db : Trees) (text : List ℕ) (tall
       let one = went each in
       let new_is : with_rowid Chosen (db 0) (cast_row ballot_table (number_row id b)) ≡ number_row id b = ap (with_rowid Chosen (db 0)) (cast_number id b) in
       let put = subst (λ n. Upserts it Replace n db [] (Ok one.0)) new_is (tried it _ db one.0 one.1) in
-      let set = clears mode.keys ballot_table params limit (number_row id b) db put.0 one.0 put.2 in
+      let set = clears owner mode.keys ballot_table params limit (number_row id b) db put.0 one.0 put.2 in
       let trees : done.0.trees ≡ one.0.trees =
       ap (λ (x : Written). x.trees) (same_value counts.2) ∙ (same_value counts.1 ∙ ap (λ (x : Written × ℤ). x.0.trees) (same_value one.2)) in
       let all : after.trees ≡ one.0.trees = ap (λ (d : Database). d.trees) now ∙ trees in (
@@ -82,33 +82,50 @@ module _ (limit : Option ℕ) (mode : Mode) (db : Trees) (text : List ℕ) (tall
         },
       )
 
-module _ (db next : Trees) (c : Content) (was : AreTables db c) where
-  -- the rows of the numbers, once one was put
-  numbers_put : (id b : ℕ) → PutsRow ballot_table db next (number_row id b) → (let xs = numbers_of Second c.tried c.row in
-      next 0 ≡ map (λ e. number_row e.0 e.1) (filter (λ y. nat_lt y.0 id) xs ++ (id, b) ∷ filter (λ y. nat_lt id y.0) xs))
-  numbers_put id b h =
-      let xs = numbers_of Second c.tried c.row in
-      let all = subst (λ rows. AreConflicts None [] ballot_table rows (number_row id b) h.found) was.numbers h.conflict in
-      h.rows ∙ (ap (λ rows. put_row (number_row id b) (without_all rows (ids_of h.found))) was.numbers
-      ∙ replaced (λ (e : ℕ × ℕ). e.0) (λ e. number_row e.0 e.1) (λ e. refl) ballot_table (id, b) xs h.found (numbers_rise Second c.tried c.row) all)
+-- another tree keeps the owner's row
+still_owned : (owner : Option Owner) (db next : Trees) → next 3 ≡ db 3 → IsOwnedBy owner db → IsOwnedBy owner next
+still_owned None db next same was = tt
+still_owned (Some owner) db next same was = same ∙ was
 
-  pub puts_tried : (b : ℕ) → PutsRow ballot_table db next (number_row 0 b) → AreTables next (after_write c (Some (Tried b)))
-  puts_tried b h = record { numbers = numbers_put 0 b h; votes_are = h.others 1 (λ same. absurd cc) ∙ was.votes_are; learned_are = h.others 2 (λ same. absurd cc) ∙ was.learned_are; sound = was.sound }
+-- the rows of the numbers, once one was put
+numbers_put : (n : ℕ) (db next : Trees) (tried row id b : ℕ) → db 0 ≡ map (λ e. number_row e.0 e.1) (three n tried row) → PutsRow ballot_table db next (number_row id b)
+    → (let xs = three n tried row in next 0 ≡ map (λ e. number_row e.0 e.1) (filter (λ y. nat_lt y.0 id) xs ++ (id, b) ∷ filter (λ y. nat_lt id y.0) xs))
+numbers_put n db next tried row id b was h =
+    let xs = three n tried row in
+    let all = subst (λ rows. AreConflicts None [] ballot_table rows (number_row id b) h.found) was h.conflict in
+    h.rows ∙ (ap (λ rows. put_row (number_row id b) (without_all rows (ids_of h.found))) was
+    ∙ replaced (λ (e : ℕ × ℕ). e.0) (λ e. number_row e.0 e.1) (λ e. refl) ballot_table (id, b) xs h.found (three_rise n tried row) all)
 
-  pub puts_promised : (b : ℕ) → PutsRow ballot_table db next (number_row 1 b) → AreTables next (after_write c (Some (Promises b)))
-  puts_promised b h = record { numbers = numbers_put 1 b h; votes_are = h.others 1 (λ same. absurd cc) ∙ was.votes_are; learned_are = h.others 2 (λ same. absurd cc) ∙ was.learned_are; sound = was.sound }
+module _ (owner : Option Owner) (db next : Trees) (c : Content) (was : AreTablesFor owner db c) where
+  pub puts_tried : (b : ℕ) → PutsRow ballot_table db next (number_row 0 b) → AreTablesFor owner next (after_write c (Some (Tried b)))
+  puts_tried b h = record {
+    numbers = numbers_put (number_for owner) db next c.tried c.row 0 b was.numbers h;
+    votes_are = h.others 1 (λ same. absurd cc) ∙ was.votes_are;
+    learned_are = h.others 2 (λ same. absurd cc) ∙ was.learned_are;
+    sound = was.sound;
+    owned = still_owned owner db next (h.others 3 (λ same. absurd cc)) was.owned;
+  }
+
+  pub puts_promised : (b : ℕ) → PutsRow ballot_table db next (number_row 1 b) → AreTablesFor owner next (after_write c (Some (Promises b)))
+  puts_promised b h = record {
+    numbers = numbers_put (number_for owner) db next c.tried c.row 1 b was.numbers h;
+    votes_are = h.others 1 (λ same. absurd cc) ∙ was.votes_are;
+    learned_are = h.others 2 (λ same. absurd cc) ∙ was.learned_are;
+    sound = was.sound;
+    owned = still_owned owner db next (h.others 3 (λ same. absurd cc)) was.owned;
+  }
 
 pub cast_vote : (v : ℕ × Cast) → cast_row vote_table (vote_row v) ≡ vote_row v
 cast_vote v = rw (cast_int, cast_int, cast_null)
 
-module _ (limit : Option ℕ) (mode : Mode) (db : Trees) (text : List ℕ) (tally : Tally) (after : Database) (v : ℕ × Cast) where
-  pub put_vote : Does limit mode (vote_shown v) (record { schema = store_schema; trees = db }) text None (InsertOr 1 Replace (Values vote_terms 4) []) (Ok (tally, after))
-      → (after.schema ≡ store_schema) × PutsRow vote_table db after.trees (vote_row v)
+module _ (owner : Option Owner) (limit : Option ℕ) (mode : Mode) (db : Trees) (text : List ℕ) (tally : Tally) (after : Database) (v : ℕ × Cast) where
+  pub put_vote : Does limit mode (vote_shown v) (record { schema = schema_for owner; trees = db }) text None (InsertOr 1 Replace (Values vote_terms 4) []) (Ok (tally, after))
+      → (after.schema ≡ schema_for owner) × PutsRow vote_table db after.trees (vote_row v)
   put_vote h =
-      let it : Task = record { limit = limit; keys = mode.keys; schema = store_schema; table = vote_table; params = vote_shown v } in
+      let it : Task = record { limit = limit; keys = mode.keys; schema = schema_for owner; table = vote_table; params = vote_shown v } in
       let done = went h in
       let concl = went (went done.2).2 in
-      let now : after ≡ record { schema = store_schema; trees = done.0.trees } = ap (λ (x : Tally × Database). x.1) (same_value concl.2) in
+      let now : after ≡ record { schema = schema_for owner; trees = done.0.trees } = ap (λ (x : Tally × Database). x.1) (same_value concl.2) in
       let sourced = went done.1 in
       let countered = went sourced.2 in
       let tries = went countered.2 in
@@ -117,7 +134,7 @@ module _ (limit : Option ℕ) (mode : Mode) (db : Trees) (text : List ℕ) (tall
       let one = went each in
       let new_is : with_rowid Chosen (db 1) (cast_row vote_table (vote_row v)) ≡ vote_row v = ap (with_rowid Chosen (db 1)) (cast_vote v) in
       let put = subst (λ n. Upserts it Replace n db [] (Ok one.0)) new_is (tried it _ db one.0 one.1) in
-      let set = clears mode.keys vote_table (vote_shown v) limit (vote_row v) db put.0 one.0 put.2 in
+      let set = clears owner mode.keys vote_table (vote_shown v) limit (vote_row v) db put.0 one.0 put.2 in
       let trees : done.0.trees ≡ one.0.trees =
       ap (λ (x : Written). x.trees) (same_value counts.2) ∙ (same_value counts.1 ∙ ap (λ (x : Written × ℤ). x.0.trees) (same_value one.2)) in
       let all : after.trees ≡ one.0.trees = ap (λ (d : Database). d.trees) now ∙ trees in (
@@ -130,8 +147,8 @@ module _ (limit : Option ℕ) (mode : Mode) (db : Trees) (text : List ℕ) (tall
         },
       )
 
-module _ (db next : Trees) (c : Content) (p : ℕ) (cast : Cast) (was : AreTables db c) where
-  pub puts_vote : IsPlace p → PutsRow vote_table db next (vote_row (p, cast)) → AreTables next (after_write c (Some (Votes p cast)))
+module _ (owner : Option Owner) (db next : Trees) (c : Content) (p : ℕ) (cast : Cast) (was : AreTablesFor owner db c) where
+  pub puts_vote : IsPlace p → PutsRow vote_table db next (vote_row (p, cast)) → AreTablesFor owner next (after_write c (Some (Votes p cast)))
   puts_vote fits h =
       let all = subst (λ rows. AreConflicts None [] vote_table rows (vote_row (p, cast)) h.found) was.votes_are h.conflict in
       record {
@@ -141,19 +158,20 @@ module _ (db next : Trees) (c : Content) (p : ℕ) (cast : Cast) (was : AreTable
             ∙ ap (map vote_row) (placed_is p cast 1 c.votes was.sound.0)));
         learned_are = h.others 2 (λ same. absurd cc) ∙ was.learned_are;
         sound = (rows_put 1 p cast c.votes fits.0 fits.1 was.sound.0, was.sound.1, was.sound.2);
+        owned = still_owned owner db next (h.others 3 (λ same. absurd cc)) was.owned;
       }
 
 pub cast_learned : (v : ℕ × List ℕ) → cast_row learned_table (learned_row v) ≡ learned_row v
 cast_learned v = rw (cast_int, cast_null)
 
-module _ (limit : Option ℕ) (mode : Mode) (db : Trees) (text : List ℕ) (tally : Tally) (after : Database) (v : ℕ × List ℕ) where
-  pub put_learned : Does limit mode (learned_shown v) (record { schema = store_schema; trees = db }) text None (InsertOr 2 Replace (Values learned_terms 3) []) (Ok (tally, after))
-      → (after.schema ≡ store_schema) × PutsRow learned_table db after.trees (learned_row v)
+module _ (owner : Option Owner) (limit : Option ℕ) (mode : Mode) (db : Trees) (text : List ℕ) (tally : Tally) (after : Database) (v : ℕ × List ℕ) where
+  pub put_learned : Does limit mode (learned_shown v) (record { schema = schema_for owner; trees = db }) text None (InsertOr 2 Replace (Values learned_terms 3) []) (Ok (tally, after))
+      → (after.schema ≡ schema_for owner) × PutsRow learned_table db after.trees (learned_row v)
   put_learned h =
-      let it : Task = record { limit = limit; keys = mode.keys; schema = store_schema; table = learned_table; params = learned_shown v } in
+      let it : Task = record { limit = limit; keys = mode.keys; schema = schema_for owner; table = learned_table; params = learned_shown v } in
       let done = went h in
       let concl = went (went done.2).2 in
-      let now : after ≡ record { schema = store_schema; trees = done.0.trees } = ap (λ (x : Tally × Database). x.1) (same_value concl.2) in
+      let now : after ≡ record { schema = schema_for owner; trees = done.0.trees } = ap (λ (x : Tally × Database). x.1) (same_value concl.2) in
       let sourced = went done.1 in
       let countered = went sourced.2 in
       let tries = went countered.2 in
@@ -162,7 +180,7 @@ module _ (limit : Option ℕ) (mode : Mode) (db : Trees) (text : List ℕ) (tall
       let one = went each in
       let new_is : with_rowid Chosen (db 2) (cast_row learned_table (learned_row v)) ≡ learned_row v = ap (with_rowid Chosen (db 2)) (cast_learned v) in
       let put = subst (λ n. Upserts it Replace n db [] (Ok one.0)) new_is (tried it _ db one.0 one.1) in
-      let set = clears mode.keys learned_table (learned_shown v) limit (learned_row v) db put.0 one.0 put.2 in
+      let set = clears owner mode.keys learned_table (learned_shown v) limit (learned_row v) db put.0 one.0 put.2 in
       let trees : done.0.trees ≡ one.0.trees =
       ap (λ (x : Written). x.trees) (same_value counts.2) ∙ (same_value counts.1 ∙ ap (λ (x : Written × ℤ). x.0.trees) (same_value one.2)) in
       let all : after.trees ≡ one.0.trees = ap (λ (d : Database). d.trees) now ∙ trees in (
@@ -175,8 +193,8 @@ module _ (limit : Option ℕ) (mode : Mode) (db : Trees) (text : List ℕ) (tall
         },
       )
 
-module _ (db next : Trees) (c : Content) (p : ℕ) (value : List ℕ) (was : AreTables db c) where
-  pub puts_learned : IsPlace p → IsValue value → PutsRow learned_table db next (learned_row (p, value)) → AreTables next (after_write c (Some (Learns p value)))
+module _ (owner : Option Owner) (db next : Trees) (c : Content) (p : ℕ) (value : List ℕ) (was : AreTablesFor owner db c) where
+  pub puts_learned : IsPlace p → IsValue value → PutsRow learned_table db next (learned_row (p, value)) → AreTablesFor owner next (after_write c (Some (Learns p value)))
   puts_learned fits short h =
       let all = subst (λ rows. AreConflicts None [] learned_table rows (learned_row (p, value)) h.found) was.learned_are h.conflict in
       record {
@@ -186,4 +204,54 @@ module _ (db next : Trees) (c : Content) (p : ℕ) (value : List ℕ) (was : Are
             ∙ (replaced (λ (w : ℕ × List ℕ). w.0) learned_row (λ w. refl) learned_table (p, value) c.learned h.found (rising 1 c.learned was.sound.1) all
             ∙ ap (map learned_row) (placed_is p value 1 c.learned was.sound.1)));
         sound = (was.sound.0, rows_put 1 p value c.learned fits.0 fits.1 was.sound.1, values_put p value c.learned short was.sound.2);
+        owned = still_owned owner db next (h.others 3 (λ same. absurd cc)) was.owned;
       }
+
+cast_fact : (v : ℕ × List ℕ) → cast_row fact_table (fact_row v) ≡ fact_row v
+cast_fact v = rw (cast_int, cast_null)
+
+module _ (owner : Owner) (limit : Option ℕ) (mode : Mode) (db : Trees) (text : List ℕ) (tally : Tally) (after : Database) (v : ℕ × List ℕ) where
+  pub put_fact : Does limit mode (fact_shown v) (record { schema = schema_for (Some owner); trees = db }) text None (InsertOr 3 Replace (Values learned_terms 3) []) (Ok (tally, after))
+      → (after.schema ≡ schema_for (Some owner)) × PutsRow fact_table db after.trees (fact_row v)
+  put_fact h =
+      let it : Task = record { limit = limit; keys = mode.keys; schema = schema_for (Some owner); table = fact_table; params = fact_shown v } in
+      let done = went h in
+      let concl = went (went done.2).2 in
+      let now : after ≡ record { schema = schema_for (Some owner); trees = done.0.trees } = ap (λ (x : Tally × Database). x.1) (same_value concl.2) in
+      let sourced = went done.1 in
+      let countered = went sourced.2 in
+      let tries = went countered.2 in
+      let counts = went tries.2 in
+      let each = subst (λ rs. TriesEach it Replace [] rs (count_of countered.0) (nothing db) (Ok tries.0)) sourced.1.1 tries.1 in
+      let one = went each in
+      let new_is : with_rowid Chosen (db 3) (cast_row fact_table (fact_row v)) ≡ fact_row v = ap (with_rowid Chosen (db 3)) (cast_fact v) in
+      let put = subst (λ n. Upserts it Replace n db [] (Ok one.0)) new_is (tried it _ db one.0 one.1) in
+      let set = clears (Some owner) mode.keys fact_table (fact_shown v) limit (fact_row v) db put.0 one.0 put.2 in
+      let trees : done.0.trees ≡ one.0.trees =
+      ap (λ (x : Written). x.trees) (same_value counts.2) ∙ (same_value counts.1 ∙ ap (λ (x : Written × ℤ). x.0.trees) (same_value one.2)) in
+      let all : after.trees ≡ one.0.trees = ap (λ (d : Database). d.trees) now ∙ trees in (
+        ap (λ (d : Database). d.schema) now,
+        record {
+          found = put.0;
+          conflict = put.1;
+          rows = ap (λ (x : Trees). x 3) all ∙ (set.0 ∙ ap (λ r. put_row r (without_all (db 3) (ids_of put.0))) (cast_fact v));
+          others = λ t other. ap (λ (x : Trees). x t) all ∙ set.1 t other;
+        },
+      )
+
+-- a row that is put into a table without any
+pub first_fact : (db next : Trees) (v : ℕ × List ℕ) → db 3 ≡ [] → PutsRow fact_table db next (fact_row v) → next 3 ≡ fact_row v ∷ []
+first_fact db next v none h =
+    let all = subst (λ rows. AreConflicts None [] fact_table rows (fact_row v) h.found) none h.conflict in
+    h.rows ∙ (ap (λ rows. put_row (fact_row v) (without_all rows (ids_of h.found))) none
+    ∙ replaced (λ (w : ℕ × List ℕ). w.0) fact_row (λ w. refl) fact_table v [] h.found tt all)
+
+-- version 2 becomes version 3
+pub puts_version : (owner : Owner) (db next : Trees) (c : Content) → AreTablesFor None db c → db 3 ≡ fact_row (0, owner_bytes owner) ∷ [] → PutsRow ballot_table db next (number_row 2 3) → AreTablesFor (Some owner) next c
+puts_version owner db next c was owned h = record {
+  numbers = numbers_put 2 db next c.tried c.row 2 3 was.numbers h;
+  votes_are = h.others 1 (λ same. absurd cc) ∙ was.votes_are;
+  learned_are = h.others 2 (λ same. absurd cc) ∙ was.learned_are;
+  sound = was.sound;
+  owned = h.others 3 (λ same. absurd cc) ∙ owned;
+}

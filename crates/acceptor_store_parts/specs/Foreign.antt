@@ -6,8 +6,11 @@ use Rattle.sqlite.specs.Table.{Table}
 use Rattle.sqlite.specs.Schema.{Schema}
 use Rattle.sqlite_schema.specs.Names.{table_named, column_named}
 use Rattle.acceptor_store_parts.specs.declared.Version.{Version}
+use Rattle.acceptor_store_parts.specs.declared.Version.TheVariants.{Third}
+use Rattle.acceptor_store_parts.specs.declared.owner.Owner.{Owner}
 use Rattle.acceptor_store_parts.specs.Tables.{schema_of}
 use Rattle.acceptor_store_parts.specs.Stored.{AreTablesOf, IsOfNode}
+use Rattle.acceptor_store_parts.specs.Owned.{AreTablesFor, IsOwner}
 
 -- a table of this name is there, or none is
 abbrev pub HasTable : Schema → List ℕ → Type 0
@@ -42,16 +45,36 @@ abbrev pub IsThereWithout : Schema → List ℕ → (Table → Type 0) → Type 
 IsThereWithout s name Wants = (at : ℕ) × (t : Table) × (table_named s name ≡ Some at) × (slice_get s.tables at ≡ Some t) × Wants t
 
 -- the schema has only a part of the tables, or one of them lacks a column
-abbrev pub IsForeignSchema : Schema → Type 0
-IsForeignSchema s =
+abbrev pub IsBroken : Schema → Type 0
+IsBroken s =
     IsPart s
     ⊎ (IsThereWithout s (codes "ballot") LacksNumbers
     ⊎ (IsThereWithout s (codes "vote") LacksVotes ⊎ IsThereWithout s (codes "learned") LacksLearned))
+
+-- a table of facts is there, as where the database has an owner
+abbrev pub HasFacts : Schema → Type 0
+HasFacts s = HasTable s (codes "fact")
+
+-- no node without an owner made the schema
+abbrev pub IsForeignSchema : Schema → Type 0
+IsForeignSchema s = HasFacts s ⊎ IsBroken s
 
 -- the tables hold no content that a node writes in this version
 abbrev pub HoldsNone : Version → Trees → Type 0
 HoldsNone version db = (c : Content) → AreTablesOf version db c → IsOfNode c → ⊥
 
--- no node wrote it, by its schema, or by its rows where the schema is that of a version
+-- no node without an owner wrote it, by its schema, or by its rows where the schema is that of a version
 abbrev pub IsForeign : Schema → Trees → Type 0
 IsForeign s db = IsForeignSchema s ⊎ ((version : Version) × (s ≡ schema_of version) × HoldsNone version db)
+
+-- the tables of ballots and votes are there, and none of facts: a node without an owner may have made them
+abbrev pub IsUnowned : Schema → Type 0
+IsUnowned s = HasNone s (codes "fact") × (IsBroken s → ⊥) × HasTable s (codes "ballot")
+
+-- the tables hold no content that a node writes as its owner
+abbrev pub HoldsNoneOwned : Trees → Type 0
+HoldsNoneOwned db = (owner : Owner) (c : Content) → IsOwner owner → AreTablesFor (Some owner) db c → IsOfNode c → ⊥
+
+-- no node wrote it as its owner: by its schema, or by its rows where the schema is that of version 3
+abbrev pub IsForeignOwned : Schema → Trees → Type 0
+IsForeignOwned s db = IsBroken s ⊎ ((s ≡ schema_of Third) × HoldsNoneOwned db)

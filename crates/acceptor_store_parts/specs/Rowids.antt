@@ -6,14 +6,15 @@ use Rattle.sqlite.specs.Effect.{IsDatabase}
 use Rattle.sqlite.specs.State.{State, Opens, IsLive}
 use Rattle.sqlite_trees.specs.Tree.{Trees, IsTable}
 use Rattle.acceptor_store_parts.specs.declared.Version.{Version}
-use Rattle.acceptor_store_parts.specs.declared.Version.TheVariants.{First, Second}
+use Rattle.acceptor_store_parts.specs.declared.Version.TheVariants.{First, Second, Third}
 use Rattle.acceptor_store_parts.specs.Tables.{schema_of}
-use Rattle.acceptor_store_parts.specs.Stored.{number_row, number_shown, vote_row, vote_shown, learned_row, learned_shown}
+use Rattle.acceptor_store_parts.specs.Stored.{number_row, number_shown, vote_row, vote_shown, learned_row, learned_shown, fact_row, fact_shown, KeepsLearned}
 
 -- the trees of the version's tables are tables
 abbrev pub AreShaped : Version → Trees → Type 0
 AreShaped First db = IsTable (db 0) × IsTable (db 1)
 AreShaped Second db = IsTable (db 0) × IsTable (db 1) × IsTable (db 2)
+AreShaped Third db = IsTable (db 0) × IsTable (db 1) × IsTable (db 2) × IsTable (db 3)
 
 -- a connection was opened over its store, where the trees of the version's tables are tables
 pub record IsReread (version : Version) (s : State) : Type 0 where
@@ -41,4 +42,9 @@ ShowsVotes s rows = (version : Version) → AreByRowid version s → (votes : Li
 
 -- where what is shown is learned values, the table holds them
 abbrev pub ShowsLearned : State → List Row → Type 0
-ShowsLearned s rows = AreByRowid Second s → (learned : List (ℕ × List ℕ)) → rows ≡ map learned_shown learned → s.now.trees 2 ≡ map learned_row learned
+ShowsLearned s rows =
+    (version : Version) → KeepsLearned version → AreByRowid version s → (learned : List (ℕ × List ℕ)) → rows ≡ map learned_shown learned → s.now.trees 2 ≡ map learned_row learned
+
+-- where what is shown is facts, the table holds them
+abbrev pub ShowsFacts : State → List Row → Type 0
+ShowsFacts s rows = AreByRowid Third s → (facts : List (ℕ × List ℕ)) → rows ≡ map fact_shown facts → s.now.trees 3 ≡ map fact_row facts

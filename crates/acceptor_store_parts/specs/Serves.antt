@@ -1,5 +1,5 @@
 -- A connection that serves the records.
-use Rattle.std.specs.Prelude.{◌≡◌, false, IsTrue, Some, Result, Ok, Err}
+use Rattle.std.specs.Prelude.{◌≡◌, false, IsTrue, Option, Some, None, Result, Ok, Err}
 use Rattle.sqlite.specs.State.{State}
 use Rattle.sqlite.specs.Tree.{Trees}
 use Rattle.acceptor.specs.Content.{Content, Write, after_write}
@@ -7,8 +7,10 @@ use Rattle.acceptor_store_parts.specs.Tables.{schema_of}
 use Rattle.acceptor_store_parts.specs.declared.Stop.{Stop}
 use Rattle.acceptor_store_parts.specs.Stops.{LeavesOpen}
 use Rattle.acceptor_store_parts.specs.declared.Version.{Version}
-use Rattle.acceptor_store_parts.specs.declared.Version.TheVariants.{First, Second}
-use Rattle.acceptor_store_parts.specs.Stored.{AreTables, AreTablesOf}
+use Rattle.acceptor_store_parts.specs.declared.Version.TheVariants.{First}
+use Rattle.acceptor_store_parts.specs.declared.owner.Owner.{Owner}
+use Rattle.acceptor_store_parts.specs.Stored.{AreTablesOf}
+use Rattle.acceptor_store_parts.specs.Owned.{AreTablesFor, schema_for}
 
 -- it is open, outside a transaction, and its tables of this version hold the content
 pub record ServesAs (version : Version) (s : State) (c : Content) : Type 0 where
@@ -18,13 +20,21 @@ pub record ServesAs (version : Version) (s : State) (c : Content) : Type 0 where
   pub schema : s.now.schema ≡ schema_of version
   pub tables : AreTablesOf version s.now.trees c
 
--- the same of version 2, from which records are served
-abbrev pub Serves : State → Content → Type 0
-Serves = ServesAs Second
+-- the same of the tables that records of this owner, or of none, are served from
+pub record ServesFor (owner : Option Owner) (s : State) (c : Content) : Type 0 where
+  pub is_open : IsTrue s.is_open
+  pub autocommit : s.in_transaction ≡ false
+  pub settled : s.now ≡ s.committed
+  pub schema : s.now.schema ≡ schema_for owner
+  pub tables : AreTablesFor owner s.now.trees c
 
--- what it served before, it serves
+-- whoever's the records are
+abbrev pub Serves : State → Content → Type 0
+Serves s c = (owner : Option Owner) × ServesFor owner s c
+
+-- what it served before, it serves, and for the same owner
 abbrev pub StillServes : State → State → Type 0
-StillServes old new = (c : Content) → Serves old c → Serves new c
+StillServes old new = (owner : Option Owner) (c : Content) → ServesFor owner old c → ServesFor owner new c
 
 -- it serves no content
 abbrev pub DoesNotServe : State → Type 0
@@ -36,23 +46,31 @@ IsOther s = (version : Version) → s.now.schema ≡ schema_of version → ⊥
 
 -- what it served in version 1, it serves in version 2
 abbrev pub HasRaised : State → State → Type 0
-HasRaised old new = (c : Content) → ServesAs First old c → Serves new c
+HasRaised old new = (c : Content) → ServesAs First old c → ServesFor None new c
 
 -- the trees are what it served in version 1, in tables of version 2
 abbrev pub MayHaveRaised : State → Trees → Type 0
-MayHaveRaised old db = (c : Content) → ServesAs First old c → AreTables db c
+MayHaveRaised old db = (c : Content) → ServesAs First old c → AreTablesFor None db c
+
+-- what it served for no owner, it serves for this one
+abbrev pub HasOwned : Owner → State → State → Type 0
+HasOwned owner old new = (c : Content) → ServesFor None old c → ServesFor (Some owner) new c
+
+-- the trees are what it served for no owner, in tables of this one
+abbrev pub MayHaveOwned : Owner → State → Trees → Type 0
+MayHaveOwned owner old db = (c : Content) → ServesFor None old c → AreTablesFor (Some owner) db c
 
 -- the connection was open, and serves what it served
 abbrev pub Stays : State → State → Type 0
 Stays old new = IsTrue old.is_open × StillServes old new
 
--- it serves what it served, with this write
+-- it serves what it served, with this write, and for the same owner
 abbrev pub HasWritten : State → State → Write → Type 0
-HasWritten old new write = (c : Content) → Serves old c → Serves new (after_write c (Some write))
+HasWritten old new write = (owner : Option Owner) (c : Content) → ServesFor owner old c → ServesFor owner new (after_write c (Some write))
 
--- the trees are what it served, with this write
+-- the trees are what it served, with this write, and of the same owner
 abbrev pub MayHaveWritten : State → Write → Trees → Type 0
-MayHaveWritten old write db = (c : Content) → Serves old c → AreTables db (after_write c (Some write))
+MayHaveWritten old write db = (owner : Option Owner) (c : Content) → ServesFor owner old c → AreTablesFor owner db (after_write c (Some write))
 
 -- the connection is open still
 abbrev pub StaysOpen : {T : Type 0} → Result T Stop → Type 0

@@ -9,7 +9,7 @@ use Rattle.sqlite.specs.declared.types.Value.TheVariants.{Null, Int, Blob}
 use Rattle.sqlite.specs.Order.{Row}
 use Rattle.sqlite.specs.Tree.{Trees}
 use Rattle.acceptor_store_parts.specs.declared.Version.{Version}
-use Rattle.acceptor_store_parts.specs.declared.Version.TheVariants.{First, Second}
+use Rattle.acceptor_store_parts.specs.declared.Version.TheVariants.{First, Second, Third}
 
 -- the key of a row is its rowid, and the column of the key is NULL
 abbrev pub number_row : ℕ → ℕ → Row
@@ -35,30 +35,46 @@ learned_row v = Int (pos v.0) ∷ Null ∷ Blob v.1 ∷ []
 abbrev pub learned_shown : ℕ × List ℕ → Row
 learned_shown v = Int (pos v.0) ∷ Blob v.1 ∷ []
 
--- the table of numbers: row 0 is the ballot tried, row 1 the promised row, and in version 2 row 2 the number 2
+-- a fact
+abbrev pub fact_row : ℕ × List ℕ → Row
+fact_row v = Int (pos v.0) ∷ Null ∷ Blob v.1 ∷ []
+
+-- a fact as a query shows it
+abbrev pub fact_shown : ℕ × List ℕ → Row
+fact_shown v = Int (pos v.0) ∷ Blob v.1 ∷ []
+
+-- numbers with that of a version behind them
+abbrev pub three : ℕ → ℕ → ℕ → List (ℕ × ℕ)
+three number tried row = (0, tried) ∷ (1, row) ∷ (2, number) ∷ []
+
+-- the table of numbers: row 0 is the ballot tried, row 1 the promised row, and from version 2 on row 2 the version's number
 abbrev pub numbers_of : Version → ℕ → ℕ → List (ℕ × ℕ)
 numbers_of First tried row = (0, tried) ∷ (1, row) ∷ []
-numbers_of Second tried row = (0, tried) ∷ (1, row) ∷ (2, 2) ∷ []
+numbers_of Second tried row = three 2 tried row
+numbers_of Third tried row = three 3 tried row
 
 -- the same as a query shows them
 abbrev pub numbers_shown : Version → ℕ → ℕ → List Row
 numbers_shown version tried row = map (λ e. number_shown e.0 e.1) (numbers_of version tried row)
 
--- in version 1 nothing is learned, and in version 2 tree 2 is the table of learned values
+-- the version has a table of learned values
+abbrev pub KeepsLearned : Version → Type 0
+KeepsLearned First = ⊥
+KeepsLearned Second = Unit {0}
+KeepsLearned Third = Unit {0}
+
+-- in version 1 nothing is learned, and from version 2 on tree 2 is the table of learned values
 abbrev pub HasLearned : Version → Trees → Content → Type 0
 HasLearned First db c = c.learned ≡ []
 HasLearned Second db c = db 2 ≡ map learned_row c.learned
+HasLearned Third db c = db 2 ≡ map learned_row c.learned
 
--- tables of a version: tree 0 is that of numbers, and tree 1 that of votes
+-- tables of a version: tree 0 is that of numbers, and tree 1 that of votes; of facts it says nothing
 pub record AreTablesOf (version : Version) (db : Trees) (c : Content) : Type 0 where
   pub numbers : db 0 ≡ map (λ e. number_row e.0 e.1) (numbers_of version c.tried c.row)
   pub votes_are : db 1 ≡ map vote_row c.votes
   pub learned_are : HasLearned version db c
   pub sound : IsSound c
-
--- the tables that records are served from
-abbrev pub AreTables : Trees → Content → Type 0
-AreTables = AreTablesOf Second
 
 -- what the first row of a list has at its place
 abbrev pub first_of : {V : Type 0} → List (ℕ × V) → Option V

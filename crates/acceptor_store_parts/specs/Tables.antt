@@ -1,4 +1,4 @@
--- The tables of a node's records, in both versions.
+-- The tables of a node's records, by version.
 use Rattle.std.specs.Prelude.{◌≡◌, Bool, true, false, [], ◌∷◌, Some, codes, List, ℕ}
 use Rattle.sqlite.specs.Collation.TheVariants.{Binary}
 use Rattle.sqlite.specs.declared.types.Value.TheVariants.{Null}
@@ -8,7 +8,7 @@ use Rattle.sqlite.specs.Kind.{Kind}
 use Rattle.sqlite.specs.Kind.TheVariants.{Integer, Blob}
 use Rattle.sqlite_schema.specs.declared.schema.Column.{Column}
 use Rattle.acceptor_store_parts.specs.declared.Version.{Version}
-use Rattle.acceptor_store_parts.specs.declared.Version.TheVariants.{First, Second}
+use Rattle.acceptor_store_parts.specs.declared.Version.TheVariants.{First, Second, Third}
 
 -- the texts that make the tables
 abbrev pub ballot_text : List ℕ
@@ -19,6 +19,9 @@ vote_text = codes "CREATE TABLE vote (place INTEGER PRIMARY KEY, ballot INTEGER 
 
 abbrev pub learned_text : List ℕ
 learned_text = codes "CREATE TABLE learned (place INTEGER PRIMARY KEY, value BLOB NOT NULL) STRICT"
+
+abbrev pub fact_text : List ℕ
+fact_text = codes "CREATE TABLE fact (id INTEGER PRIMARY KEY, bytes BLOB NOT NULL) STRICT"
 
 -- a column of a STRICT table
 abbrev pub column : List ℕ → Kind → Bool → Column
@@ -51,15 +54,16 @@ vote_table = strict_table (codes "vote") 1 (column (codes "place") Integer false
 abbrev pub learned_table : Table
 learned_table = strict_table (codes "learned") 2 (column (codes "place") Integer false ∷ column (codes "value") Blob true ∷ [])
 
--- version 1 has the tables of ballots and votes alone, and version 2 that of learned values beside them
+abbrev pub fact_table : Table
+fact_table = strict_table (codes "fact") 3 (column (codes "id") Integer false ∷ column (codes "bytes") Blob true ∷ [])
+
+-- version 1 has the tables of ballots and votes alone, version 2 that of learned values beside them, and version 3 that of facts too
 abbrev pub schema_of : Version → Schema
 schema_of First = record { tables = ballot_table ∷ vote_table ∷ []; indexes = []; views = [] }
 schema_of Second = record { tables = ballot_table ∷ vote_table ∷ learned_table ∷ []; indexes = []; views = [] }
+schema_of Third = record { tables = ballot_table ∷ vote_table ∷ learned_table ∷ fact_table ∷ []; indexes = []; views = [] }
 
--- the schema that records are served from, and the one of no table
-abbrev pub store_schema : Schema
-store_schema = schema_of Second
-
+-- the schema of no table
 abbrev pub blank_schema : Schema
 blank_schema = record { tables = []; indexes = []; views = [] }
 
@@ -99,6 +103,15 @@ all_learned_query = codes "SELECT place, value FROM learned ORDER BY place"
 
 abbrev pub learned_put : List ℕ
 learned_put = codes "INSERT OR REPLACE INTO learned (place, value) VALUES (?1, ?2)"
+
+abbrev pub facts_query : List ℕ
+facts_query = codes "SELECT id, bytes FROM fact ORDER BY id"
+
+abbrev pub fact_put : List ℕ
+fact_put = codes "INSERT OR REPLACE INTO fact (id, bytes) VALUES (?1, ?2)"
+
+abbrev pub version_put : List ℕ
+version_put = codes "INSERT OR REPLACE INTO ballot (id, number) VALUES (2, ?1)"
 
 -- no rule beside those of the columns, and the first column is the rowid
 pub record IsPlainTable (t : Table) : Type 0 where

@@ -1,7 +1,7 @@
 //! Whether a schema is one that no node made.
 
 ghost use Rattle.std.specs.Prelude.{◌↔◌, IsTrue, codes};
-ghost use Rattle.acceptor_store_parts.specs.Foreign.{IsForeignSchema, IsPart, IsThereWithout, LacksNumbers, LacksVotes, LacksLearned};
+ghost use Rattle.acceptor_store_parts.specs.Foreign.{HasFacts, IsBroken, IsForeignSchema, IsPart, IsThereWithout, IsUnowned, LacksNumbers, LacksVotes, LacksLearned};
 
 use sqlite_schema::schema::{Schema, Table};
 
@@ -65,9 +65,33 @@ fn has_bad_learned(schema: &Schema) -> bool
 }
 
 /// Whether only a part of the tables is there, or one of them lacks a column.
+pub fn is_broken(schema: &Schema) -> bool
+    ensures yes { IsTrue result → IsBroken schema.now }
+    ensures all { IsBroken schema.now → IsTrue result }
+{
+    is_part(schema) || has_bad_numbers(schema) || has_bad_votes(schema) || has_bad_learned(schema)
+}
+
+/// Whether there is a table of facts, as where the database has an owner.
+pub fn has_facts(schema: &Schema) -> bool
+    ensures yes { IsTrue result → HasFacts schema.now }
+    ensures all { HasFacts schema.now → IsTrue result }
+{
+    schema.table_named(b"fact").is_some()
+}
+
+/// Whether no node without an owner made the schema.
 pub fn is_foreign(schema: &Schema) -> bool
     ensures yes { IsTrue result → IsForeignSchema schema.now }
     ensures all { IsForeignSchema schema.now → IsTrue result }
 {
-    is_part(schema) || has_bad_numbers(schema) || has_bad_votes(schema) || has_bad_learned(schema)
+    has_facts(schema) || is_broken(schema)
+}
+
+/// Whether a node without an owner may have made the schema.
+pub fn is_unowned(schema: &Schema) -> bool
+    ensures yes { IsTrue result → IsUnowned schema.now }
+    ensures all { IsUnowned schema.now → IsTrue result }
+{
+    !has_facts(schema) && !is_broken(schema) && schema.table_named(b"ballot").is_some()
 }

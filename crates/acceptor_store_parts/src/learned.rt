@@ -7,10 +7,10 @@ ghost use Rattle.acceptor.specs.Content.{AreRowsFrom, Content};
 ghost use Rattle.acceptor.specs.Content.Write.{Learns};
 ghost use Rattle.sqlite.specs.State.{HasCleanDisk, Survives, IsUnchanged};
 ghost use Rattle.sqlite.specs.Held.{state};
-ghost use Rattle.acceptor_store_parts.specs.Stored.{IsLearned, learned_shown, first_of};
-ghost use Rattle.acceptor_store_parts.specs.Serves.{Serves, StillServes, DoesNotServe, HasWritten, MayHaveWritten, Stays, StaysOpen};
+ghost use Rattle.acceptor_store_parts.specs.Stored.{IsLearned, KeepsLearned, learned_shown, first_of};
+ghost use Rattle.acceptor_store_parts.specs.Serves.{Serves, ServesAs, StillServes, DoesNotServe, HasWritten, MayHaveWritten, Stays, StaysOpen};
 ghost use Rattle.acceptor_store_parts.specs.Stops.{LeavesOpen};
-ghost use Rattle.acceptor_store_parts.specs.Tables.{store_schema};
+ghost use Rattle.acceptor_store_parts.specs.Tables.{schema_of};
 ghost use Rattle.acceptor_store_parts.specs.Rowids.{ShowsLearned};
 
 use crate::reads::{Unread, bytes_at, ended, place_at};
@@ -102,9 +102,12 @@ fn query_learned_row<S: Alter>(conn: &mut Connection<S>, place: i64) -> Result<V
 /// All rows of the table of learned values, whatever they are.
 pub fn query_all_learned<S: Alter>(conn: &mut Connection<S>) -> Result<Vec<Row>, Error>
     ensures held { HasCleanDisk (state S.Store conn.new) → IfOk result (λ rows. ShowsLearned (state S.Store conn.old) rows.items) }
-    ensures value { HasCleanDisk (state S.Store conn.new) → IfOk result (λ rows. (c : Content) → Serves (state S.Store conn.old) c → rows.items ≡ map learned_shown c.learned) }
-    ensures same { HasCleanDisk (state S.Store conn.new) → (state S.Store conn.old).now.schema ≡ store_schema → OnOk result (IsUnchanged (state S.Store conn.old) (state S.Store conn.new)) }
-    ensures survives { Survives (state S.Store conn.old) (state S.Store conn.new) (λ _. (state S.Store conn.old).now.schema ≡ store_schema → ⊥) }
+    ensures value { HasCleanDisk (state S.Store conn.new) → IfOk result (λ rows. (version : _) → KeepsLearned version → (c : Content)
+        → ServesAs version (state S.Store conn.old) c → rows.items ≡ map learned_shown c.learned) }
+    ensures same { HasCleanDisk (state S.Store conn.new) → (version : _) → KeepsLearned version → (state S.Store conn.old).now.schema ≡ schema_of version
+        → OnOk result (IsUnchanged (state S.Store conn.old) (state S.Store conn.new)) }
+    ensures survives { Survives (state S.Store conn.old) (state S.Store conn.new)
+        (λ _. (version : _) → KeepsLearned version → (state S.Store conn.old).now.schema ≡ schema_of version → ⊥) }
 {
     conn.query_all("SELECT place, value FROM learned ORDER BY place", &[])
 }

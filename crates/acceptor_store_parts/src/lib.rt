@@ -2,10 +2,12 @@
 #![tactic(auto)]
 
 mod declared;
+mod facts;
 mod foreign;
 mod learned;
 mod making;
 mod opening;
+mod owner;
 mod reads;
 mod reopening;
 mod rereading;
@@ -25,12 +27,14 @@ ghost use Rattle.acceptor_store_parts.specs.Stored.{IsNumber};
 
 use ballots::{Ballot, Place, Value};
 pub use declared::is_column;
-pub use foreign::is_foreign;
+pub use facts::{query_facts, read_owner};
+pub use foreign::{has_facts, is_broken, is_foreign, is_unowned};
 pub use learned::{
     are_rising, learned_from, learned_row, put_learned, query_all_learned, read_learned,
 };
-pub use making::{is_blank, make_tables, raise_version};
+pub use making::{is_blank, make_owned_tables, make_tables, own, raise_version};
 pub use opening::{both_numbers, read_numbers, version_of};
+pub use owner::{Owner, bytes_of, owner_of, version_of_owner};
 pub use reads::{
     Unread, query_all_votes, query_numbers, query_votes, read_votes, vote, votes_from,
 };
@@ -39,12 +43,13 @@ pub use rereading::{are_in_order, reread};
 use sqlite::types::ValueRef;
 use sqlite::{Alter, Connection, Error, ErrorCode, Row};
 
-/// What tables there are: those of ballots and votes alone in the first version, and that of
-/// learned values beside them in the second.
+/// What tables there are: those of ballots and votes alone in the first version, that of learned
+/// values beside them in the second, and in the third that of facts, which tells the owner.
 #[derive(Clone, Copy, Debug, PartialEq, Eq)]
 pub enum Version {
     First,
     Second,
+    Third,
 }
 
 fn signed(ballot: Ballot) -> i64

@@ -38,6 +38,12 @@ LearnFault v place value BeyondLimit = ¬ IsTrue (is_place place)
 LearnFault v place value Contradiction = IsTrue (is_place place) × ((other : List ℕ) × (value_at v.learned place ≡ Some other) × (other ≢ value))
 LearnFault v place value OutOfMemory = IsTrue (is_place place) × (value_at v.learned place ≡ None)
 
+-- the number of a fault
+abbrev pub number_of_fault : LogFault → ℕ
+number_of_fault Contradiction = 1
+number_of_fault BeyondLimit = 2
+number_of_fault OutOfMemory = 3
+
 -- a value may be learned where nothing was or the same
 abbrev pub CanLearn : LogView → ℕ → List ℕ → Type 0
 CanLearn v place value = IsTrue (is_place place) × ((other : List ℕ) → value_at v.learned place ≡ Some other → other ≡ value)

@@ -1,4 +1,6 @@
+ghost use Rattle.std.specs.Prelude.{◌≡◌};
 ghost use Rattle.ballots.specs.Limits.{most_places};
+ghost use Rattle.command_log.specs.View.{number_of_fault};
 
 use crate::reading::read_command;
 use ballots::{Bytes, MOST_PLACES};
@@ -19,6 +21,19 @@ pub enum LogFault {
     BeyondLimit,
     #[error("OutOfMemory")]
     OutOfMemory,
+}
+
+impl LogFault {
+    /// The number of the fault, from 1.
+    pub fn number(self) -> u8
+        ensures { result ≡ number_of_fault self }
+    {
+        match self {
+            LogFault::Contradiction => 1,
+            LogFault::BeyondLimit => 2,
+            LogFault::OutOfMemory => 3,
+        }
+    }
 }
 
 impl From<AllocError> for LogFault {

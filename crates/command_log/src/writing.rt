@@ -1,6 +1,7 @@
 ghost use Rattle.std.specs.Prelude.{◌≡◌, ◌++◌, IfOk, OnOk};
 ghost use Rattle.std.specs.Int.{w32, w64, to_be_bytes};
 ghost use Rattle.grant_machine.specs.declared.command.Command.TheVariants as commands;
+ghost use Rattle.grant_machine.specs.Fits.{FitsCommand};
 ghost use Rattle.command_log.specs.Spelling.{phy_byte, channel_spelling, flow_spelling, kind_spelling, spelling};
 
 use flow_state::{Channel, FlowKind, LAST_TIME, Phy};
@@ -77,6 +78,15 @@ fn put_flow_head(out: &mut Vec<u8>, ch: u8, modem: u32, tag: u32) -> Result<(), 
     Ok(())
 }
 
+/// A channel's first byte and what follows it.
+fn put_setting(out: &mut Vec<u8>, channel: Channel) -> Result<(), AllocError>
+    ensures spelled { OnOk result (out.new.items ≡ out.old.items ++ spelling (commands.Channel channel)) }
+    ensures fits { FitsCommand (commands.Channel channel) }
+{
+    out.extend_from_slice(&[phy_byte(channel.phy)])?;
+    put_channel(out, channel)
+}
+
 /// A flow. The last minislot of its lease is written where it isn't the last time of all.
 fn put_flow(
     out: &mut Vec<u8>,
@@ -86,7 +96,8 @@ fn put_flow(
     last: u64,
     kind: FlowKind,
 ) -> Result<(), AllocError>
-    ensures { OnOk result (out.new.items ≡ out.old.items ++ spelling (commands.Flow ch modem tag last kind)) }
+    ensures spelled { OnOk result (out.new.items ≡ out.old.items ++ spelling (commands.Flow ch modem tag last kind)) }
+    ensures fits { FitsCommand (commands.Flow ch modem tag last kind) }
 {
     if last == LAST_TIME {
         out.extend_from_slice(&[2])?;
@@ -99,46 +110,72 @@ fn put_flow(
     put_kind(out, kind)
 }
 
-/// The bytes of a command: most significant byte first, of a length that its first byte tells, and of
-/// a flow its kind's byte too.
-pub fn command_bytes(alloc: Global, command: &Command) -> Result<Vec<u8>, AllocError>
-    ensures { IfOk result (λ bytes. bytes.items ≡ spelling command.now) }
+fn put_drop(out: &mut Vec<u8>, ch: u8, sid: u16) -> Result<(), AllocError>
+    ensures spelled { OnOk result (out.new.items ≡ out.old.items ++ spelling (commands.Drop ch sid)) }
+    ensures fits { FitsCommand (commands.Drop ch sid) }
 {
-    let mut out = Vec::new(alloc);
+    out.extend_from_slice(&[3, ch])?;
+    out.extend_from_slice(&sid.to_be_bytes())?;
+    Ok(())
+}
+
+fn put_request(out: &mut Vec<u8>, ch: u8, sid: u16, n: u16, sent: u64) -> Result<(), AllocError>
+    ensures spelled { OnOk result (out.new.items ≡ out.old.items ++ spelling (commands.Request ch sid n sent)) }
+    ensures fits { FitsCommand (commands.Request ch sid n sent) }
+{
+    out.extend_from_slice(&[4, ch])?;
+    out.extend_from_slice(&sid.to_be_bytes())?;
+    out.extend_from_slice(&n.to_be_bytes())?;
+    out.extend_from_slice(&sent.to_be_bytes())?;
+    Ok(())
+}
+
+fn put_cut(out: &mut Vec<u8>, ch: u8, len: u16, not_before: u64, ack: u64) -> Result<(), AllocError>
+    ensures spelled { OnOk result (out.new.items ≡ out.old.items ++ spelling (commands.Cut ch len not_before ack)) }
+    ensures fits { FitsCommand (commands.Cut ch len not_before ack) }
+{
+    out.extend_from_slice(&[5, ch])?;
+    out.extend_from_slice(&len.to_be_bytes())?;
+    out.extend_from_slice(&not_before.to_be_bytes())?;
+    out.extend_from_slice(&ack.to_be_bytes())?;
+    Ok(())
+}
+
+fn put(out: &mut Vec<u8>, command: &Command) -> Result<(), AllocError>
+    ensures spelled { OnOk result (out.new.items ≡ out.old.items ++ spelling command.now) }
+    ensures fits { FitsCommand command.now }
+{
     match *command {
-        Command::Noop => out.extend_from_slice(&[0])?,
-        Command::Channel(channel) => {
-            out.extend_from_slice(&[phy_byte(channel.phy)])?;
-            put_channel(&mut out, channel)?;
+        Command::Noop => {
+            out.extend_from_slice(&[0])?;
+            Ok(())
         }
+        Command::Channel(channel) => put_setting(out, channel),
         Command::Flow {
             ch,
             modem,
             tag,
             last,
             kind,
-        } => put_flow(&mut out, ch, modem, tag, last, kind)?,
-        Command::Drop { ch, sid } => {
-            out.extend_from_slice(&[3, ch])?;
-            out.extend_from_slice(&sid.to_be_bytes())?;
-        }
-        Command::Request { ch, sid, n, sent } => {
-            out.extend_from_slice(&[4, ch])?;
-            out.extend_from_slice(&sid.to_be_bytes())?;
-            out.extend_from_slice(&n.to_be_bytes())?;
-            out.extend_from_slice(&sent.to_be_bytes())?;
-        }
+        } => put_flow(out, ch, modem, tag, last, kind),
+        Command::Drop { ch, sid } => put_drop(out, ch, sid),
+        Command::Request { ch, sid, n, sent } => put_request(out, ch, sid, n, sent),
         Command::Cut {
             ch,
             len,
             not_before,
             ack,
-        } => {
-            out.extend_from_slice(&[5, ch])?;
-            out.extend_from_slice(&len.to_be_bytes())?;
-            out.extend_from_slice(&not_before.to_be_bytes())?;
-            out.extend_from_slice(&ack.to_be_bytes())?;
-        }
+        } => put_cut(out, ch, len, not_before, ack),
     }
+}
+
+/// The bytes of a command: most significant byte first, of a length that its first byte tells, and of
+/// a flow its kind's byte too.
+pub fn command_bytes(alloc: Global, command: &Command) -> Result<Vec<u8>, AllocError>
+    ensures spelled { IfOk result (λ bytes. bytes.items ≡ spelling command.now) }
+    ensures fits { FitsCommand command.now }
+{
+    let mut out = Vec::new(alloc);
+    put(&mut out, command)?;
     Ok(out)
 }

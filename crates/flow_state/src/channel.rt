@@ -1,7 +1,7 @@
 ghost use Rattle.std.specs.Prelude.{◌≡◌};
 ghost use Rattle.flow_state.specs.Limits.{is_good_channel};
 
-use crate::limits::LAST_TIME;
+use crate::limits::{LAST_BACKOFF, LAST_TIME};
 
 /// Which bursts an upstream channel has (CM-SP-MULPIv3.1, MAP message: interval usage codes): by it grants
 /// have the codes of data grants, or those of Advanced PHY grants.
@@ -34,9 +34,9 @@ impl Channel {
         let (ranging_start, ranging_end) = self.ranging_backoff;
         let (data_start, data_end) = self.data_backoff;
         ranging_start <= ranging_end
-            && ranging_end <= 15
+            && ranging_end <= LAST_BACKOFF
             && data_start <= data_end
-            && data_end <= 15
+            && data_end <= LAST_BACKOFF
             && self.short_max > 0
             && self.base <= LAST_TIME
     }

@@ -3,7 +3,7 @@ ghost use Rattle.flow_state.specs.Limits.{is_size as size_fits, is_schedule as s
 ghost use Rattle.flow_state.specs.Refusals.{is_repeated, is_old, first_refusal};
 ghost use Rattle.flow_state.specs.View.{flow_view};
 
-use crate::limits::{LAST_TIME, LONGEST_INTERVAL};
+use crate::limits::{HIGHEST_PRIORITY, LARGEST_SIZE, LAST_TIME, LONGEST_INTERVAL};
 use crate::refusal::Refusal;
 
 /// How a service flow is scheduled (CM-SP-MULPIv3.1, Upstream Service Flow Scheduling Services).
@@ -32,7 +32,7 @@ pub enum FlowKind {
 pub(crate) fn is_size(n: u16) -> bool
     ensures { result ≡ size_fits n }
 {
-    1 <= n && n <= 255
+    1 <= n && n <= LARGEST_SIZE
 }
 
 /// Can grants or polls be due so? An interval is 1 to 1,000,000, a jitter below it, a base at most 2^62.
@@ -48,7 +48,7 @@ impl FlowKind {
         ensures { result ≡ is_good_kind self }
     {
         match self {
-            FlowKind::BestEffort(priority) => priority <= 7,
+            FlowKind::BestEffort(priority) => priority <= HIGHEST_PRIORITY,
             FlowKind::Ugs {
                 size,
                 interval,

@@ -16,6 +16,6 @@ mod table;
 pub use channel::{Channel, ChannelRow, Phy};
 pub use flow::{Flow, FlowKind, Lease, Waiting};
 pub use flows::Flows;
-pub use limits::{LAST_SID, LAST_TIME, LONGEST_INTERVAL, MOST_MINISLOTS};
+pub use limits::{LARGEST_SIZE, LAST_SID, LAST_TIME, LONGEST_INTERVAL, MOST_MINISLOTS};
 pub use refusal::Refusal;
 pub use table::ChannelTable;

@@ -9,8 +9,9 @@ use Rattle.map_body.specs.Cell.{IsCell}
 use Rattle.map_body.proofs.Callers.{one_body}
 use Rattle.std.proofs.lemmas.Bool.{eqb-true}
 use Rattle.flow_state.specs.declared.channel.Channel.{Channel}
+use Rattle.flow_state.specs.declared.flow.FlowKind.{FlowKind}
 use Rattle.flow_state.specs.declared.refusal.Refusal.{Refusal}
-use Rattle.flow_state.specs.Rows.{Rows, Table}
+use Rattle.flow_state.specs.Rows.{Rows, Table, table_of}
 use Rattle.grant_machine.specs.declared.command.Command.{Command}
 use Rattle.grant_machine.specs.declared.command.Command.TheVariants as commands
 use Rattle.grant_machine.specs.declared.output.Output.{Output}
@@ -22,8 +23,9 @@ use Rattle.grant_machine_parts.specs.Drawing.{placed_element, body_of, bytes_of}
 use Rattle.grant_machine.specs.Steps.{step, step_on, refusal_of, accepted, map_output}
 use Rattle.grant_machine.specs.Runs.{outputs_from, grants_from, Grant, grant_of, step_grants}
 use Rattle.grant_machine.specs.Fits.{FitsCommand}
-use Rattle.grant_machine_parts.specs.Filling.{IsUseFor}
-use Rattle.grant_machine.specs.Laws.{IsSetAt, GrantsAreTold, CellsAreGranted}
+use Rattle.grant_machine_parts.specs.declared.placing.Cause.{Cause}
+use Rattle.grant_machine_parts.specs.declared.placing.Cause.TheVariants.{Window, Sent}
+use Rattle.grant_machine.specs.Laws.{IsSetAt, IsUseOf, GrantsAreTold, CellsAreGranted}
 use Rattle.flow_state.proofs.Callers.{Has, has_at, place_of, has_left, has_right, has_either, has_map, map_has, is_found}
 use Rattle.grant_machine.proofs.Maps.{output_is}
 use Rattle.flow_state.proofs.Callers.{IsWell}
@@ -31,6 +33,8 @@ use Rattle.grant_machine_parts.proofs.Callers.{it_holds, holds_from, holds_below
 use Rattle.grant_machine_parts.proofs.Callers.{pending, cut_placed, cut_most, pending_plain, cut_written}
 use Rattle.grant_machine.proofs.Reached.{At, at_step, OfChannel, channel_kept, AllWell, none_well, well_step, AllFit, none_fit, fit_step}
 use Rattle.grant_machine.proofs.Cuts.{cut_of_grant, cut_of_map}
+use Rattle.grant_machine.proofs.Leases.{AllLeadBack, step_keeps}
+use Rattle.grant_machine.proofs.Timely.{IsUseBy, IsServed, IsGranted, grant_at, served_now, served_later, granted_by, flow_of_grant}
 
 -- ---- channels as they were set
 
@@ -73,17 +77,20 @@ module _ (IsSet : Channel → Type 0) where
     pub set : IsSet channel
     pub id : channel.id ≡ g.channel
     pub iuc : ℕ
-    pub use_is : IsUseFor channel.phy g.cause iuc
+    pub kind : FlowKind
+    pub serves : IsServed rows cs g kind
+    pub use_is : IsUseBy channel kind g.size iuc g.cause
     pub cell : (m : ℕ) → g.start ≤ m → m < g.start + g.size → IsCell map (m - start) (record { sid = g.sid; iuc = iuc; offset = g.start - start })
 
   -- a MAP tells of its grants
   told_by : (rows : Rows) (cs : List Command) (ch len not_before ack : ℕ) (t : Table) (p : Placement) → IsWell t → t.row.channel.id < 2 ^ 8 → t.row.channel.ucd < 2 ^ 8 → fill_refusal t.row len not_before ack ≡ None
-      → IsSetTable t → t.row.channel.id ≡ ch
+      → IsSetTable t → t.row.channel.id ≡ ch → table_of rows ch ≡ Some t
       → Has (fill t len not_before ack).placements p → slice_get (outputs_from rows cs) 0 ≡ Some (map_output ch t (fill t len not_before ack)) → IsToldFrom rows cs (grant_of ch (fill t len not_before ack).span.start p)
-  told_by rows cs ch len not_before ack t p w id ucd ok set same h out =
+  told_by rows cs ch len not_before ack t p w id ucd ok set same found h out =
       let f : Filled = fill t len not_before ack in
       let a = cut_placed t len not_before ack w ok in
       let within = (a.each p h).within in
+      let given = grant_at rows ch len not_before ack t p found w ok h in
       record {
         place = 0;
         start = f.span.start;
@@ -98,7 +105,9 @@ module _ (IsSet : Channel → Type 0) where
         set = set;
         id = same;
         iuc = p.iuc;
-        use_is = (a.each p h).use_is;
+        kind = given.kind;
+        serves = served_now rows cs t.row.channel p.iuc (grant_of ch f.span.start p) given;
+        use_is = given.use_is;
         cell = λ m from below.
             let offset : f.span.start + p.offset - f.span.start ≡ p.offset = omega arith in
             subst (λ (x : ℕ). IsCell (body_of t f) (m - f.span.start) (record { sid = p.sid; iuc = p.iuc; offset = x })) (sym offset)
@@ -106,27 +115,32 @@ module _ (IsSet : Channel → Type 0) where
             (it_holds (m - f.span.start) p (omega arith) (omega arith)));
       }
 
-  told_later : (rows : Rows) (c : Command) (cs : List Command) (g : Grant) → IsToldFrom (step rows c).rows cs g → IsToldFrom rows (c ∷ cs) g
-  told_later rows c cs g t = record { place = suc t.place; start = t.start; len = t.len; bytes = t.bytes; map = t.map; told = t.told; body = t.body; begun = t.begun; ended = t.ended; channel = t.channel; set = t.set; id = t.id; iuc = t.iuc; use_is = t.use_is; cell = t.cell }
+  told_later : (rows : Rows) (c : Command) (cs : List Command) (g : Grant) → AllLeadBack rows → IsToldFrom (step rows c).rows cs g → IsToldFrom rows (c ∷ cs) g
+  told_later rows c cs g good t = record { place = suc t.place; start = t.start; len = t.len; bytes = t.bytes; map = t.map; told = t.told; body = t.body; begun = t.begun; ended = t.ended; channel = t.channel; set = t.set; id = t.id; iuc = t.iuc; kind = t.kind; serves = served_later rows c cs g t.kind good t.serves; use_is = t.use_is; cell = t.cell }
 
-  told_from : (rows : Rows) (cs : List Command) (g : Grant) → AllWell rows → AllFit rows → AllSet rows → SetBy rows cs → AllByRecursion FitsCommand cs → Has (grants_from rows cs) g → IsToldFrom rows cs g
-  told_from rows [] g w fits set new all h = absurd h
-  told_from rows (c ∷ cs) g w fits set new all h = elim (has_either (step_grants rows c) (grants_from (step rows c).rows cs) g h) [
+  told_from : (rows : Rows) (cs : List Command) (g : Grant) → AllWell rows → AllLeadBack rows → AllFit rows → AllSet rows → SetBy rows cs → AllByRecursion FitsCommand cs → Has (grants_from rows cs) g → IsToldFrom rows cs g
+  told_from rows [] g w good fits set new all h = absurd h
+  told_from rows (c ∷ cs) g w good fits set new all h = elim (has_either (step_grants rows c) (grants_from (step rows c).rows cs) g h) [
     | inl now ↦
         let cut = cut_of_grant rows c g now in
         let t : Table = cut.table in
         let m = has_map (grant_of cut.channel (fill t cut.len cut.not_before cut.ack).span.start) (fill t cut.len cut.not_before cut.ack).placements g (subst (λ (gs : List Grant). Has gs g) cut.grants_are now) in
-        let good = fits cut.channel t cut.found in
+        let small = fits cut.channel t cut.found in
         subst (IsToldFrom rows (c ∷ cs)) m.2
-        (told_by rows (c ∷ cs) cut.channel cut.len cut.not_before cut.ack t m.0 (w cut.channel t cut.found) good.id good.ucd cut.ok (set cut.channel t cut.found) (eqb-true _ _ (is_found rows cut.channel t cut.found)) m.1 (ap (λ (o : Output). Some o) cut.output_is))
-    | inr later ↦ told_later rows c cs g (told_from (step rows c).rows cs g (well_step rows c w) (fit_step rows c all.0 fits) (set_step rows c cs new set) (λ k n. new (suc k) n) all.1 later)
+        (told_by rows (c ∷ cs) cut.channel cut.len cut.not_before cut.ack t m.0 (w cut.channel t cut.found) small.id small.ucd cut.ok (set cut.channel t cut.found) (eqb-true _ _ (is_found rows cut.channel t cut.found)) cut.found m.1 (ap (λ (o : Output). Some o) cut.output_is))
+    | inr later ↦ told_later rows c cs g good (told_from (step rows c).rows cs g (well_step rows c w) (step_keeps rows c good).back (fit_step rows c all.0 fits) (set_step rows c cs new set) (λ k n. new (suc k) n) all.1 later)
   ]
+
+-- the use by what is served, with the flow that is
+use_of : (cs : List Command) (c : Channel) (g : Grant) (iuc : ℕ) (kind : FlowKind) (served : IsGranted cs g kind) (cause : Cause) → g.cause ≡ cause → IsUseBy c kind g.size iuc cause → IsUseOf cs c g iuc cause
+use_of cs c g iuc kind served (Sent time) e use_is = use_is
+use_of cs c g iuc kind served (Window i) e use_is = (flow_of_grant cs i g kind served e, use_is)
 
 -- each grant is told by the MAP that placed it
 pub grants_are_told : GrantsAreTold
 grants_are_told cs k g all at =
-    let t = told_from (λ n. (j : ℕ) × IsSetAt cs j n) [] cs g none_well none_fit (λ ch t e. absurd cc) (λ j n asked set. (j, record { asked = asked; set = set })) all (has_at (grants_from [] cs) k g at) in
-    record { place = t.place; start = t.start; len = t.len; bytes = t.bytes; map = t.map; told = t.told; body = t.body; begun = t.begun; ended = t.ended; channel = t.channel; set_by = t.set.0; set = t.set.1; id = t.id; iuc = t.iuc; use_is = t.use_is; cell = t.cell }
+    let t = told_from (λ n. (j : ℕ) × IsSetAt cs j n) [] cs g none_well (λ ch t e. absurd cc) none_fit (λ ch t e. absurd cc) (λ j n asked set. (j, record { asked = asked; set = set })) all (has_at (grants_from [] cs) k g at) in
+    record { place = t.place; start = t.start; len = t.len; bytes = t.bytes; map = t.map; told = t.told; body = t.body; begun = t.begun; ended = t.ended; channel = t.channel; set_by = t.set.0; set = t.set.1; id = t.id; iuc = t.iuc; use_is = use_of cs t.channel g t.iuc t.kind (granted_by cs g t.kind t.serves) g.cause refl t.use_is; cell = t.cell }
 
 -- ---- whose a minislot is
 

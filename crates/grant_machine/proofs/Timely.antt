@@ -23,10 +23,10 @@ use Rattle.grant_machine_parts.specs.declared.placing.Cause.{Cause}
 use Rattle.grant_machine_parts.specs.declared.placing.Placement.{Placement}
 use Rattle.grant_machine_parts.specs.declared.placing.Cause.TheVariants.{Window, Sent}
 use Rattle.grant_machine_parts.specs.declared.due_times.Periodic.{Periodic}
-use Rattle.grant_machine_parts.specs.Cutting.{due_at, end_of, Missed, Placed, Kept, verdict, placement_at, Ran, run_due_times, run_flow, due_before, Passed, pass, grants_of_kind, polls_of_kind, grants_of_flow, polls_of_flow, in_order, placement_for, Filled, fill, fill_span, fill_refusal, span_of, ack_of, table_after}
+use Rattle.grant_machine_parts.specs.Cutting.{grant_iuc, due_at, end_of, Missed, Placed, Kept, verdict, placement_at, Ran, run_due_times, run_flow, due_before, Passed, pass, grants_of_kind, polls_of_kind, grants_of_flow, polls_of_flow, in_order, placement_for, Filled, fill, fill_span, fill_refusal, span_of, ack_of, table_after}
 use Rattle.grant_machine.specs.Steps.{step, step_on, refusal_of, accepted, cut_on, lease_output}
 use Rattle.grant_machine.specs.Runs.{outputs_from, outputs_of, grants_from, grants_of, Grant, grant_of, step_grants}
-use Rattle.grant_machine.specs.Laws.{LeasedSid, IsWithin, IsServedAt, OtherGrantsAreDue, GrantsAreLeased}
+use Rattle.grant_machine.specs.Laws.{LeasedSid, IsWithin, IsServedAt, IsDueUseOf, IsOfFlow, OtherGrantsAreDue, GrantsAreLeased}
 use Rattle.flow_state.proofs.Callers.{Has, has_at, has_either, has_pushed, has_map, has_filter, found_has}
 use Rattle.flow_state.proofs.Callers.{some_is, changed, KeepsId, found_before, at_same, flow_keeps_id, refusal_there}
 use Rattle.flow_state.proofs.Callers.{IsWell, has_inserted, asked, one_flow, flow_lease}
@@ -50,17 +50,17 @@ IsPlacedAt span (BestEffort priority) q i = ⊥
 IsPlacedAt span (Ugs size interval jitter base) q i = AtDue span size (base + i * interval) jitter q
 IsPlacedAt span (Poll interval jitter base) q i = AtDue span 1 (base + i * interval) jitter q
 
--- what serves a due time is a flow's among these
-abbrev WasDue : List FlowRow → Extent → Placement → Cause → Type 0
-WasDue fs span q (Sent s) = Unit {0}
-WasDue fs span q (Window i) = (f : FlowRow) × Has fs f × (f.sid ≡ q.sid) × IsPlacedAt span f.kind q i
+-- what serves a due time is a flow's among these, and has its use; what serves a request has that of its size
+abbrev WasDue : Channel → List FlowRow → Extent → Placement → Cause → Type 0
+WasDue c fs span q (Sent s) = q.iuc ≡ grant_iuc c q.size
+WasDue c fs span q (Window i) = (f : FlowRow) × Has fs f × (f.sid ≡ q.sid) × IsPlacedAt span f.kind q i × IsDueUseOf c f.kind q.size q.iuc
 
-abbrev AllDue : List FlowRow → Extent → List Placement → Type 0
-AllDue fs span ps = (q : Placement) → Has ps q → WasDue fs span q q.cause
+abbrev AllDue : Channel → List FlowRow → Extent → List Placement → Type 0
+AllDue c fs span ps = (q : Placement) → Has ps q → WasDue c fs span q q.cause
 
--- what a kind asks for is placed at its due times
-abbrev PlacesAt : Extent → FlowKind → Periodic → Type 0
-PlacesAt span kind p = (ps : List Placement) (i x : ℕ) → verdict span ps p i ≡ Placed x → IsPlacedAt span kind (placement_at p i x) i
+-- what a kind asks for is placed at its due times, and has its use
+abbrev PlacesAt : Channel → Extent → FlowKind → Periodic → Type 0
+PlacesAt c span kind p = ((ps : List Placement) (i x : ℕ) → verdict span ps p i ≡ Placed x → IsPlacedAt span kind (placement_at p i x) i) × IsDueUseOf c kind p.size p.iuc
 
 at_due : (span : Extent) (ps : List Placement) (p : Periodic) (i x : ℕ) → verdict span ps p i ≡ Placed x → AtDue span p.size (due_at p i) p.jitter (placement_at p i x)
 at_due span ps p i x e =
@@ -68,61 +68,61 @@ at_due span ps p i x e =
     let early = t.not_early in
     record { whole = refl; not_early = omega arith; not_late = t.not_late }
 
-grants_at : (span : Extent) (c : Channel) (sid last : ℕ) (kind : FlowKind) (p : Periodic) → grants_of_kind c sid last kind ≡ Some p → PlacesAt span kind p × (sid ≡ p.sid)
+grants_at : (span : Extent) (c : Channel) (sid last : ℕ) (kind : FlowKind) (p : Periodic) → grants_of_kind c sid last kind ≡ Some p → PlacesAt c span kind p × (sid ≡ p.sid)
 grants_at span c sid last (BestEffort priority) p e = absurd cc
 grants_at span c sid last (Poll interval jitter base) p e = absurd cc
 grants_at span c sid last (Ugs size interval jitter base) p e =
-    subst (λ (q : Periodic). PlacesAt span (Ugs size interval jitter base) q × (sid ≡ q.sid)) (same_Some _ p e) ((λ ps i x v. at_due span ps _ i x v), refl)
+    subst (λ (q : Periodic). PlacesAt c span (Ugs size interval jitter base) q × (sid ≡ q.sid)) (same_Some _ p e) (((λ ps i x v. at_due span ps _ i x v), refl), refl)
 
-polls_at : (span : Extent) (c : Channel) (sid last : ℕ) (kind : FlowKind) (p : Periodic) → polls_of_kind c sid last kind ≡ Some p → PlacesAt span kind p × (sid ≡ p.sid)
+polls_at : (span : Extent) (c : Channel) (sid last : ℕ) (kind : FlowKind) (p : Periodic) → polls_of_kind c sid last kind ≡ Some p → PlacesAt c span kind p × (sid ≡ p.sid)
 polls_at span c sid last (BestEffort priority) p e = absurd cc
 polls_at span c sid last (Ugs size interval jitter base) p e = absurd cc
 polls_at span c sid last (Poll interval jitter base) p e =
-    subst (λ (q : Periodic). PlacesAt span (Poll interval jitter base) q × (sid ≡ q.sid)) (same_Some _ p e) ((λ ps i x v. at_due span ps _ i x v), refl)
+    subst (λ (q : Periodic). PlacesAt c span (Poll interval jitter base) q × (sid ≡ q.sid)) (same_Some _ p e) (((λ ps i x v. at_due span ps _ i x v), refl), refl)
 
-module _ (all : List FlowRow) (span : Extent) where
+module _ (c : Channel) (all : List FlowRow) (span : Extent) where
   abbrev RanDue : Ran → Type 0
-  RanDue ran = AllDue all span ran.placements
+  RanDue ran = AllDue c all span ran.placements
 
-  run_due : (f : FlowRow) (p : Periodic) → Has all f → f.sid ≡ p.sid → PlacesAt span f.kind p → (k i : ℕ) (ps : List Placement) → AllDue all span ps → AllDue all span (run_due_times span p k i ps).placements
+  run_due : (f : FlowRow) (p : Periodic) → Has all f → f.sid ≡ p.sid → PlacesAt c span f.kind p → (k i : ℕ) (ps : List Placement) → AllDue c all span ps → AllDue c all span (run_due_times span p k i ps).placements
   run_due f p there sid places zero i ps due = due
   run_due f p there sid places (suc k) i ps due =
       elim (verdict span ps p i) as (λ v. verdict span ps p i ≡ v → RanDue (elim v [ Missed ↦ run_due_times span p k (i + 1) ps | Placed x ↦ run_due_times span p k (i + 1) (ps ++ placement_at p i x ∷ []) | Kept ↦ record { placements = ps; index = i } ])) [
         | Missed ↦ λ e. run_due f p there sid places k (i + 1) ps due
         | Placed x ↦ λ e. run_due f p there sid places k (i + 1) (ps ++ placement_at p i x ∷ []) (λ q h. elim (has_pushed ps (placement_at p i x) q h) [
           | inl old ↦ due q old
-          | inr new ↦ subst (λ (r : Placement). WasDue all span r r.cause) new (f, there, sid, places ps i x e)
+          | inr new ↦ subst (λ (r : Placement). WasDue c all span r r.cause) new (f, there, sid, places.0 ps i x e, places.1)
         ])
         | Kept ↦ λ e. due
       ] refl
 
-  flow_due : (f : FlowRow) (o : Option Periodic) (i : ℕ) → Has all f → ((p : Periodic) → o ≡ Some p → PlacesAt span f.kind p × (f.sid ≡ p.sid)) → (ps : List Placement) → AllDue all span ps → AllDue all span (run_flow span o i ps).placements
+  flow_due : (f : FlowRow) (o : Option Periodic) (i : ℕ) → Has all f → ((p : Periodic) → o ≡ Some p → PlacesAt c span f.kind p × (f.sid ≡ p.sid)) → (ps : List Placement) → AllDue c all span ps → AllDue c all span (run_flow span o i ps).placements
   flow_due f None i there asks ps due = due
   flow_due f (Some p) i there asks ps due = let a = asks p refl in run_due f p there a.1 a.0 (due_before p i (end_of span)) i ps due
 
   -- flows of a pass are these, but for their due times
   pass_due : (what : FlowRow → Option Periodic) (fs : List FlowRow) → ((g : FlowRow) → Has fs g → (f : FlowRow) × Has all f × (f.sid ≡ g.sid) × (f.kind ≡ g.kind))
-      → ((g : FlowRow) (p : Periodic) → what g ≡ Some p → PlacesAt span g.kind p × (g.sid ≡ p.sid)) → (ps : List Placement) → AllDue all span ps → AllDue all span (pass span what fs ps).placements
+      → ((g : FlowRow) (p : Periodic) → what g ≡ Some p → PlacesAt c span g.kind p × (g.sid ≡ p.sid)) → (ps : List Placement) → AllDue c all span ps → AllDue c all span (pass span what fs ps).placements
   pass_due what [] from asks ps due = due
   pass_due what (g ∷ fs) from asks ps due =
       let here = from g (inl refl) in
       pass_due what fs (λ h k. from h (inr k)) asks (run_flow span (what g) g.index ps).placements
-      (flow_due here.0 (what g) g.index here.1 (λ p e. let a = asks g p e in (subst (λ (k : FlowKind). PlacesAt span k p) (sym here.3) a.0, here.2 ∙ a.1)) ps due)
+      (flow_due here.0 (what g) g.index here.1 (λ p e. let a = asks g p e in (subst (λ (k : FlowKind). PlacesAt c span k p) (sym here.3) a.0, here.2 ∙ a.1)) ps due)
 
-fill_due : (t : Table) (span : Extent) (ack : ℕ) → end_of span ≤ last_time → AllDue t.flows span (fill_span t span ack).placements
+fill_due : (t : Table) (span : Extent) (ack : ℕ) → end_of span ≤ last_time → AllDue t.row.channel t.flows span (fill_span t span ack).placements
 fill_due t span ack le =
     let c : Channel = t.row.channel in
     let first : Passed = pass span (grants_of_flow c) t.flows [] in
     let second : Passed = pass span (polls_of_flow c) first.flows first.placements in
     let moves = pass_moves span (grants_of_flow c) t.flows [] le (grants_ask_well c) in
-    let granted : AllDue t.flows span first.placements = pass_due t.flows span (grants_of_flow c) t.flows (λ g h. (g, h, refl, refl)) (λ g p e. grants_at span c g.sid g.last g.kind p e) [] (λ q h. absurd h) in
-    let polled : AllDue t.flows span second.placements = pass_due t.flows span (polls_of_flow c) first.flows
+    let granted : AllDue c t.flows span first.placements = pass_due c t.flows span (grants_of_flow c) t.flows (λ g h. (g, h, refl, refl)) (λ g p e. grants_at span c g.sid g.last g.kind p e) [] (λ q h. absurd h) in
+    let polled : AllDue c t.flows span second.placements = pass_due c t.flows span (polls_of_flow c) first.flows
     (λ g h. let m = moved_from t.flows first.flows g moves h in (m.0, m.1, ap (λ (x : FlowRow). x.sid) (sym m.2.is), ap (λ (x : FlowRow). x.kind) (sym m.2.is)))
     (λ g p e. polls_at span c g.sid g.last g.kind p e) first.placements granted in
-    requests_keep (AllDue t.flows span) span c (last_of t) (in_order t t.waiting)
+    requests_keep (AllDue c t.flows span) span c (last_of t) (in_order t t.waiting)
     (λ w h ps x due fit q k. elim (has_pushed ps (placement_for c w x) q k) [
       | inl old ↦ due q old
-      | inr new ↦ subst (λ (r : Placement). WasDue t.flows span r r.cause) new tt
+      | inr new ↦ subst (λ (r : Placement). WasDue c t.flows span r r.cause) new refl
     ]) second.placements polled
 
 -- ---- the flow of a grant
@@ -146,19 +146,30 @@ served_at span ch i (BestEffort priority) p d = d
 served_at span ch i (Ugs size interval jitter base) p d = record { whole = d.whole; not_early = d.not_early; not_late = d.not_late }
 served_at span ch i (Poll interval jitter base) p d = record { whole = d.whole; not_early = d.not_early; not_late = d.not_late }
 
--- a grant in a step: the flow under whose lease it is, and where it comes of itself, of which due time
-pub record IsGrantOf (rows : Rows) (g : Grant) : Type 0 where
+-- the use of a grant of this size, by what it serves: a request, or a flow of this kind
+abbrev pub IsUseBy : Channel → FlowKind → (size iuc : ℕ) → Cause → Type 0
+IsUseBy c kind size iuc (Sent s) = iuc ≡ grant_iuc c size
+IsUseBy c kind size iuc (Window i) = IsDueUseOf c kind size iuc
+
+-- a grant in a step: the flow under whose lease it is, its use, and where it comes of itself, of which due time
+pub record IsGrantOf (rows : Rows) (c : Channel) (iuc : ℕ) (g : Grant) : Type 0 where
   pub kind : FlowKind
   pub lease : LeasedSid
   pub flow : IsFlowOf rows lease kind
   pub within : IsWithin lease g
   pub served : (i : ℕ) → g.cause ≡ Window i → IsServedAt kind g i
+  pub use_is : IsUseBy c kind g.size iuc g.cause
 
 -- the flow that is due is the one in whose lease the placement lies
-due_flow : (t : Table) (span : Extent) (f : FlowRow) (q : Placement) (i : ℕ) → IsWell t → Has t.flows f → f.sid ≡ q.sid → WasDue t.flows span q (Window i) → IsPlacedAt span f.kind q i
-due_flow t span f q i w h same (g, there, sid, placed) = subst (λ (x : FlowRow). IsPlacedAt span x.kind q i) (one_flow 1 t.flows g f w.rising there h (sid ∙ sym same)) placed
+due_flow : (t : Table) (span : Extent) (f : FlowRow) (q : Placement) (i : ℕ) → IsWell t → Has t.flows f → f.sid ≡ q.sid → WasDue t.row.channel t.flows span q (Window i) → IsPlacedAt span f.kind q i × IsDueUseOf t.row.channel f.kind q.size q.iuc
+due_flow t span f q i w h same (g, there, sid, placed, use_is) =
+    subst (λ (x : FlowRow). IsPlacedAt span x.kind q i × IsDueUseOf t.row.channel x.kind q.size q.iuc) (one_flow 1 t.flows g f w.rising there h (sid ∙ sym same)) (placed, use_is)
 
-grant_by : (rows : Rows) (ch : ℕ) (t : Table) (span : Extent) (q : Placement) → table_of rows ch ≡ Some t → IsWell t → t.row.next_start ≤ span.start → IsLeased t span q → WasDue t.flows span q q.cause → IsGrantOf rows (grant_of ch span.start q)
+used_by : (t : Table) (span : Extent) (f : FlowRow) (q : Placement) (cause : Cause) → IsWell t → Has t.flows f → f.sid ≡ q.sid → WasDue t.row.channel t.flows span q cause → IsUseBy t.row.channel f.kind q.size q.iuc cause
+used_by t span f q (Sent s) w h same due = due
+used_by t span f q (Window i) w h same due = (due_flow t span f q i w h same due).1
+
+grant_by : (rows : Rows) (ch : ℕ) (t : Table) (span : Extent) (q : Placement) → table_of rows ch ≡ Some t → IsWell t → t.row.next_start ≤ span.start → IsLeased t span q → WasDue t.row.channel t.flows span q q.cause → IsGrantOf rows t.row.channel q.iuc (grant_of ch span.start q)
 grant_by rows ch t span q found w begun leased due =
     let f : FlowRow = leased.0 in
     let h : Has t.flows f = leased.1 in
@@ -169,20 +180,30 @@ grant_by rows ch t span q found w begun leased due =
       lease = lease_at ch f;
       flow = record { table = t; found = found; flow = f; there = h; lease_is = refl; kind_is = refl };
       within = record { channel = refl; sid_is = sym sid; begun = omega arith; ended = leased.3 };
-      served = λ i e. served_at span ch i f.kind q (due_flow t span f q i w h sid (subst (WasDue t.flows span q) e due));
+      served = λ i e. served_at span ch i f.kind q (due_flow t span f q i w h sid (subst (WasDue t.row.channel t.flows span q) e due)).0;
+      use_is = used_by t span f q q.cause w h sid due;
     }
 
-grant_now : (rows : Rows) (c : Command) (g : Grant) → AllWell rows → Has (step_grants rows c) g → IsGrantOf rows g
+-- a placement of a cut
+pub grant_at : (rows : Rows) (ch len not_before ack : ℕ) (t : Table) (p : Placement) → table_of rows ch ≡ Some t → IsWell t → fill_refusal t.row len not_before ack ≡ None
+    → Has (fill t len not_before ack).placements p → IsGrantOf rows t.row.channel p.iuc (grant_of ch (fill t len not_before ack).span.start p)
+grant_at rows ch len not_before ack t p found well ok h =
+    let span : Extent = span_of t.row len not_before in
+    let used : ℕ = ack_of t.row ack span.start in
+    let end = (is_cut t len not_before ack ok).end in
+    grant_by rows ch t span p found well (omega arith) ((fill_placed t span used well end).each p h).leased (fill_due t span used end p h)
+
+-- a grant of a command that is a cut
+grant_now : (rows : Rows) (c : Command) (g : Grant) → AllWell rows → Has (step_grants rows c) g → (channel : Channel) × (iuc : ℕ) × IsGrantOf rows channel iuc g
 grant_now rows c g w h =
     let cut = cut_of_grant rows c g h in
     let t : Table = cut.table in
-    let span : Extent = span_of t.row cut.len cut.not_before in
-    let ack : ℕ = ack_of t.row cut.ack span.start in
     let f : Filled = fill t cut.len cut.not_before cut.ack in
-    let m = has_map (grant_of cut.channel f.span.start) f.placements g (subst (λ (gs : List Grant). Has gs g) cut.grants_are h) in
-    let end = (is_cut t cut.len cut.not_before cut.ack cut.ok).end in
-    let well = w cut.channel t cut.found in
-    subst (IsGrantOf rows) m.2 (grant_by rows cut.channel t span m.0 cut.found well (omega arith) ((fill_placed t span ack well end).each m.0 m.1).leased (fill_due t span ack end m.0 m.1))
+    let m = has_map (grant_of cut.channel f.span.start) f.placements g (subst (λ (gs : List Grant). Has gs g) cut.grants_are h) in (
+      t.row.channel,
+      m.0.iuc,
+      subst (IsGrantOf rows t.row.channel m.0.iuc) m.2 (grant_at rows cut.channel cut.len cut.not_before cut.ack t m.0 cut.found (w cut.channel t cut.found) cut.ok m.1),
+    )
 
 -- ---- where a flow comes from
 
@@ -355,63 +376,70 @@ flow_step rows c cs lease kind f =
     ]
 
 -- the flow of a grant is of the rows, or is added later
-pub record IsServed (rows : Rows) (cs : List Command) (g : Grant) : Type 0 where
-  pub kind : FlowKind
+pub record IsServed (rows : Rows) (cs : List Command) (g : Grant) (kind : FlowKind) : Type 0 where
   pub lease : LeasedSid
   pub within : IsWithin lease g
   pub served : (i : ℕ) → g.cause ≡ Window i → IsServedAt kind g i
   pub flow : IsFlowOf rows lease kind ⊎ AddedLater rows cs lease kind
 
-served_from : (rows : Rows) (cs : List Command) (g : Grant) → AllWell rows → AllLeadBack rows → Has (grants_from rows cs) g → IsServed rows cs g
+pub served_now : (rows : Rows) (cs : List Command) (c : Channel) (iuc : ℕ) (g : Grant) (d : IsGrantOf rows c iuc g) → IsServed rows cs g d.kind
+served_now rows cs c iuc g d = record { lease = d.lease; within = d.within; served = d.served; flow = inl d.flow }
+
+pub served_later : (rows : Rows) (c : Command) (cs : List Command) (g : Grant) (kind : FlowKind) → AllLeadBack rows → IsServed (step rows c).rows cs g kind → IsServed rows (c ∷ cs) g kind
+served_later rows c cs g kind good s = record {
+  lease = s.lease;
+  within = s.within;
+  served = s.served;
+  flow = elim s.flow [
+    | inl flow ↦ flow_step rows c cs s.lease kind flow
+    | inr added ↦ inr (added_back rows c cs s.lease kind good added)
+  ];
+}
+
+served_from : (rows : Rows) (cs : List Command) (g : Grant) → AllWell rows → AllLeadBack rows → Has (grants_from rows cs) g → (kind : FlowKind) × IsServed rows cs g kind
 served_from rows [] g w good h = absurd h
 served_from rows (c ∷ cs) g w good h = elim (has_either (step_grants rows c) (grants_from (step rows c).rows cs) g h) [
-  | inl now ↦ let d = grant_now rows c g w now in record { kind = d.kind; lease = d.lease; within = d.within; served = d.served; flow = inl d.flow }
+  | inl now ↦ let d = grant_now rows c g w now in (d.2.kind, served_now rows (c ∷ cs) d.0 d.1 g d.2)
   | inr later ↦
       let s = served_from (step rows c).rows cs g (well_step rows c w) (step_keeps rows c good).back later in
-      record {
-        kind = s.kind;
-        lease = s.lease;
-        within = s.within;
-        served = s.served;
-        flow = elim s.flow [
-          | inl flow ↦ flow_step rows c cs s.lease s.kind flow
-          | inr added ↦ inr (added_back rows c cs s.lease s.kind good added)
-        ];
-      }
+      (s.0, served_later rows c cs g s.0 good s.1)
 ]
 
 -- a grant of a list of commands, and the command that added its flow
-pub record IsGranted (cs : List Command) (g : Grant) : Type 0 where
-  pub kind : FlowKind
+pub record IsGranted (cs : List Command) (g : Grant) (kind : FlowKind) : Type 0 where
   pub lease : LeasedSid
   pub within : IsWithin lease g
   pub served : (i : ℕ) → g.cause ≡ Window i → IsServedAt kind g i
   pub flow : AddedLater [] cs lease kind
 
-granted : (cs : List Command) (k : ℕ) (g : Grant) → slice_get (grants_of cs) k ≡ Some g → IsGranted cs g
+-- a table that no command set has no flow
+pub granted_by : (cs : List Command) (g : Grant) (kind : FlowKind) → IsServed [] cs g kind → IsGranted cs g kind
+granted_by cs g kind s = record {
+  lease = s.lease;
+  within = s.within;
+  served = s.served;
+  flow = elim s.flow [ inl flow ↦ absurd (let found = flow.found in cc) | inr a ↦ a ];
+}
+
+granted : (cs : List Command) (k : ℕ) (g : Grant) → slice_get (grants_of cs) k ≡ Some g → (kind : FlowKind) × IsGranted cs g kind
 granted cs k g at =
     let s = served_from [] cs g none_well (λ ch t e. absurd cc) (has_at (grants_from [] cs) k g at) in
-    record {
-      kind = s.kind;
-      lease = s.lease;
-      within = s.within;
-      served = s.served;
-      flow = elim s.flow [ inl flow ↦ absurd (let found = flow.found in cc) | inr a ↦ a ];
-    }
+    (s.0, granted_by cs g s.0 s.1)
+
+-- the flow of a grant at a due time
+abbrev pub flow_of_grant : (cs : List Command) (i : ℕ) (g : Grant) (kind : FlowKind) → IsGranted cs g kind → g.cause ≡ Window i → IsOfFlow cs g i
+flow_of_grant cs i g kind s cause = record {
+  place = s.flow.place;
+  lease = s.lease;
+  kind = kind;
+  added = record { modem = s.flow.modem; tag = s.flow.tag; asked = s.flow.asked; added = s.flow.added; new = s.flow.new };
+  within = s.within;
+  served = s.served i cause;
+}
 
 -- what isn't granted to a request is granted at a due time
 pub other_grants_are_due : OtherGrantsAreDue
-other_grants_are_due cs k i g at cause =
-    let s = granted cs k g at in
-    let a = s.flow in
-    record {
-      place = a.place;
-      lease = s.lease;
-      kind = s.kind;
-      added = record { modem = a.modem; tag = a.tag; asked = a.asked; added = a.added; new = a.new };
-      within = s.within;
-      served = s.served i cause;
-    }
+other_grants_are_due cs k i g at cause = let s = granted cs k g at in flow_of_grant cs i g s.0 s.1 cause
 
 at_contains : (xs : List Output) (k : ℕ) (x : Output) → slice_get xs k ≡ Some x → Contains xs x
 at_contains [] k x e = absurd cc
@@ -421,6 +449,6 @@ at_contains (y ∷ ys) (suc k) x e = let c = at_contains ys k x e in (suc c.0, o
 -- each grant lies within a lease that was told
 pub grants_are_leased : GrantsAreLeased
 grants_are_leased cs k g at =
-    let s = granted cs k g at in
+    let (kind, s) = granted cs k g at in
     let a = s.flow in
     (s.lease, a.modem, s.within, at_contains (outputs_of cs) a.place (outputs.Assigned a.modem s.lease.channel s.lease.sid s.lease.first s.lease.last) a.added)

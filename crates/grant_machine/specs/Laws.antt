@@ -15,7 +15,8 @@ use Rattle.grant_machine.specs.declared.command.Command.{Command}
 use Rattle.grant_machine.specs.declared.command.Command.TheVariants as commands
 use Rattle.grant_machine.specs.declared.output.Output.{Output}
 use Rattle.grant_machine.specs.declared.output.Output.TheVariants as outputs
-use Rattle.grant_machine_parts.specs.Filling.{IsUseFor}
+use Rattle.grant_machine_parts.specs.Cutting.{grant_iuc, unsolicited_iuc, poll_iuc}
+use Rattle.grant_machine_parts.specs.declared.placing.Cause.{Cause}
 use Rattle.grant_machine_parts.specs.declared.placing.Cause.TheVariants.{Window, Sent}
 use Rattle.grant_machine.specs.Fits.{FitsCommand}
 use Rattle.grant_machine.specs.Runs.{outputs_of, Grant, grants_of}
@@ -146,7 +147,18 @@ pub record IsSetAt (cs : List Command) (k : ℕ) (c : Channel) : Type 0 where
   pub asked : slice_get cs k ≡ Some (commands.Channel c)
   pub set : slice_get (outputs_of cs) k ≡ Some (outputs.ChannelSet c.id c.ucd)
 
--- the grant is told: a MAP's body gives each of its minislots to its SID by one element, of a use for what it serves on its channel as it was set
+-- the use of a grant of this size at a due time of a flow of this kind: an unsolicited grant's by its size, or a poll's
+abbrev pub IsDueUseOf : Channel → FlowKind → (size iuc : ℕ) → Type 0
+IsDueUseOf c (BestEffort priority) size iuc = ⊥
+IsDueUseOf c (Ugs flow_size interval jitter base) size iuc = iuc ≡ unsolicited_iuc c size
+IsDueUseOf c (Poll interval jitter base) size iuc = iuc ≡ poll_iuc
+
+-- the use of a grant on its channel: to a request by its size, at a due time by the kind of the flow that it serves
+abbrev pub IsUseOf : List Command → Channel → Grant → (iuc : ℕ) → Cause → Type 0
+IsUseOf cs c g iuc (Sent time) = iuc ≡ grant_iuc c g.size
+IsUseOf cs c g iuc (Window i) = (served : IsOfFlow cs g i) × IsDueUseOf c served.kind g.size iuc
+
+-- the grant is told: a MAP's body gives each of its minislots to its SID by one element, of the one use of what it serves on its channel as it was set
 pub record IsTold (cs : List Command) (g : Grant) : Type 0 where
   pub place : ℕ
   pub start : ℕ
@@ -162,7 +174,7 @@ pub record IsTold (cs : List Command) (g : Grant) : Type 0 where
   pub set : IsSetAt cs set_by channel
   pub id : channel.id ≡ g.channel
   pub iuc : ℕ
-  pub use_is : IsUseFor channel.phy g.cause iuc
+  pub use_is : IsUseOf cs channel g iuc g.cause
   pub cell : (m : ℕ) → g.start ≤ m → m < g.start + g.size
       → IsCell map (m - start) (record { sid = g.sid; iuc = iuc; offset = g.start - start })
 

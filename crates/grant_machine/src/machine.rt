@@ -30,6 +30,7 @@ impl Machine {
     ghost use Rattle.std.specs.Prelude.{◌≡◌, [], IsOk, IsSome, IfOk, OnOk, OnErr};
     ghost use Rattle.grant_machine.specs.Steps.{step, refusal_of, TakesNoMemory};
     ghost use Rattle.grant_machine.specs.Runs.{IsReached};
+    ghost use Rattle.grant_machine.specs.Fits.{FitsCommand};
 
     /// No channel is set.
     pub fn new(alloc: Global) -> Machine
@@ -50,6 +51,7 @@ impl Machine {
         ensures err { OnErr result (self.new ≡ self.old) }
         ensures declined { IsSome (refusal_of self.old command.now) → IsOk result }
         ensures reached { IsReached self.new }
+        ensures fits { FitsCommand command.now }
         ensures no_memory { TakesNoMemory self.old command.now → IsOk result }
     {
         let flows = &mut self.flows;

@@ -1,12 +1,14 @@
 //! What a cut reads of the rows, and writes back.
 
-ghost use Rattle.std.specs.Prelude.{◌≡◌, map, OnOk};
-ghost use Rattle.std.specs.List.{AllByRecursion};
+ghost use Rattle.std.specs.Prelude.{◌≡◌, not, map, OnOk};
+ghost use Rattle.std.specs.List.{list_any, AllByRecursion};
+ghost use Rattle.grant_machine_parts.specs.Cutting.{is_grant_of};
+ghost use Rattle.grant_machine_parts.specs.Granted.{AreNumbered};
 ghost use Rattle.grant_machine_parts.specs.Lent.{IsLent};
 ghost use Rattle.grant_machine.specs.CutRows.{rank_in, due_times_set, requests_taken, IsOfKind};
 
 use flow_state::{ChannelTable, Flow, Flows, LAST_TIME, Waiting};
-use grant_machine_parts::{Placement, Ranked, is_granted, kind_priority, requested};
+use grant_machine_parts::{Grants, Placement, Ranked, kind_priority};
 use std::alloc::AllocError;
 
 /// A request with the priority of its flow and the last minislot of the flow's lease.
@@ -54,6 +56,12 @@ pub fn set_due_times(flows: &mut Flows, ch: u8, served: &[Flow])
 pub fn take_granted(flows: &mut Flows, ch: u8, placements: &[Placement])
     ensures { flows.new ≡ requests_taken flows.old ch placements.now }
 {
-    let placements = requested(placements);
-    flows.keep_waiting(ch, |request| !is_granted(placements, request));
+    let grants = Grants::of(placements);
+    flows.keep_waiting(
+        ch,
+        |request: &Waiting| -> bool
+            requires { AreNumbered grants placements.now }
+            ensures { result ≡ not (list_any (is_grant_of request.now) placements.entry.now) }
+        { !grants.have(placements, request) },
+    );
 }

@@ -1,11 +1,12 @@
 -- The gaps between placements: which are left once minislots are held, and the first that is wide enough.
-use Rattle.std.proofs.Common.{◌≡◌, ◌⊎◌, ℕ, zero, suc, ◌+◌, ◌-◌, ◌<◌, ◌≤◌, Bool, true, false, cond, not, ◌&&◌, min, max, List, [], ◌∷◌, ◌++◌, Option, Some, None, is_none, IfSome, ⊎_elim, inl, inr, refl, sym, ap, subst, ◌∙◌, arith, leb, ltb, append_assoc}
-use Rattle.std.specs.List.{find, list_all, range_with_len, AllByRecursion}
-use Rattle.std.proofs.lemmas.Bool.{cases_lt, ltb-true, ltb-false, leb-true, leb-false, lt-ltb, lt-leb, le-leb, le-ltb}
+use Rattle.std.proofs.Common.{◌≡◌, ◌⊎◌, ℕ, zero, suc, ◌+◌, ◌-◌, ◌<◌, ◌≤◌, Bool, true, false, cond, not, ◌&&◌, ◌||◌, min, max, List, [], ◌∷◌, ◌++◌, Option, Some, None, is_none, IfSome, ⊎_elim, inl, inr, refl, sym, ap, subst, ◌∙◌, arith, leb, ltb, append_assoc}
+use Rattle.std.specs.List.{find, list_all, list_any, range_with_len, AllByRecursion}
+use Rattle.std.proofs.lemmas.Bool.{cases_lt, ltb-true, ltb-false, leb-true, leb-false, lt-ltb, lt-leb, le-leb, le-ltb, and_parts}
 use Rattle.minislot_time.specs.Extent.{Extent}
 use Rattle.grant_machine_parts.specs.Placing.{Placement, holds, holder, is_free, fits_at, first_fit}
-use Rattle.grant_machine_parts.specs.Filling.{PartMap, has_use}
-use Rattle.grant_machine_parts.specs.Gaps.{Gap, IsGap, AreGaps, left_of, right_of, carved, gap_in}
+use Rattle.grant_machine_parts.specs.Filling.{PartMap, has_use, AreApart}
+use Rattle.grant_machine_parts.specs.Gaps.{Gap, IsGap, AreGaps, covers, left_of, right_of, carved, gap_in}
+use Rattle.flow_state.proofs.Callers.{Has, all_has, has_all, has_pushed, find_kept}
 use Rattle.grant_machine_parts.proofs.Windows.{first_fit_tells}
 
 -- ---- carving
@@ -136,6 +137,50 @@ gaps_added ps p len from to gs at ends are = carved_are (is_free ps) (is_free (p
 
     else : (x : ℕ) → (x < from) ⊎ (to ≤ x) → is_free (ps ++ p ∷ []) x ≡ is_free ps x
     else x out = free_added ps p x ∙ ap (λ b. is_free ps x && not b) (beside x out) ∙ and_true (is_free ps x)
+
+-- minislots that a gap covers are free
+covered_free : (f : ℕ → Bool) (from to a len : ℕ) (gs : List Gap) → list_any (covers from to) gs ≡ true → AreGaps f a len gs → (x : ℕ) → from ≤ x → x < to → f x ≡ true
+covered_free f from to a len [] e are x ge lt = absurd cc
+covered_free f from to a len (g ∷ gs) e are x ge lt = by (covered_free f from to g.to len gs) (covers from to g) refl
+  where
+    by : (list_any (covers from to) gs ≡ true → AreGaps f g.to len gs → (y : ℕ) → from ≤ y → y < to → f y ≡ true) → (c : Bool) → covers from to g ≡ c → f x ≡ true
+    by later true h =
+        let parts = and_parts (leb g.from from) (leb to g.to) h in
+        let first : g.from ≤ from = leb-true g.from from parts.0 in
+        let last : to ≤ g.to = leb-true to g.to parts.1 in
+        are.0.inside x (omega arith) (omega arith)
+    by later false h = later (sym (ap (λ c. c || list_any (covers from to) gs) h) ∙ e) are.1 x ge lt
+
+-- a placement where minislots were free is their holder
+last_holds : (ps : List Placement) (p : Placement) (x : ℕ) → is_free ps x ≡ true → holds x p ≡ true → holder (ps ++ p ∷ []) x ≡ Some p
+last_holds [] p x free on = ap (λ c. cond c (Some p) None) on
+last_holds (q ∷ ps) p x free on =
+    elim (holds x q) as (λ c. is_none (cond c (Some q) (holder ps x)) ≡ true → cond c (Some q) (holder (ps ++ p ∷ []) x) ≡ Some p) [ true ↦ λ e. absurd cc | false ↦ λ e. last_holds ps p x e on ] free
+
+-- the placement is the holder of what it holds
+abbrev IsHolder : List Placement → Placement → Type 0
+IsHolder qs q = (x : ℕ) → holds x q ≡ true → holder qs x ≡ Some q
+
+-- placements are apart with one more, where its minislots were free
+pub apart_added : (ps : List Placement) (p : Placement) (len from to : ℕ) (gs : List Gap) (were : Bool) → from ≡ p.offset → to ≡ p.offset + p.size → AreGaps (is_free ps) 0 len gs
+    → (were ≡ true → AreApart ps) → (were && list_any (covers from to) gs) ≡ true → AreApart (ps ++ p ∷ [])
+apart_added ps p len from to gs were at ends are apart still = all_has (IsHolder (ps ++ p ∷ [])) (ps ++ p ∷ []) (λ q h. each q (has_pushed ps p q h))
+  where
+    tests : (were ≡ true) × (list_any (covers from to) gs ≡ true)
+    tests = and_parts were (list_any (covers from to) gs) still
+
+    held_from : (x : ℕ) → holds x p ≡ true → from ≤ x
+    held_from x on = let least : p.offset ≤ x = leb-true p.offset x (and_parts (leb p.offset x) (ltb x (p.offset + p.size)) on).0 in omega arith
+
+    held_below : (x : ℕ) → holds x p ≡ true → x < to
+    held_below x on = let below : x < p.offset + p.size = ltb-true x (p.offset + p.size) (and_parts (leb p.offset x) (ltb x (p.offset + p.size)) on).1 in omega arith
+
+    new : (x : ℕ) → holds x p ≡ true → holder (ps ++ p ∷ []) x ≡ Some p
+    new x on = last_holds ps p x (covered_free (is_free ps) from to 0 len gs tests.1 are x (held_from x on) (held_below x on)) on
+
+    each : (q : Placement) → Has ps q ⊎ (p ≡ q) → IsHolder (ps ++ p ∷ []) q
+    each q (inl old) = λ x on. find_kept (holds x) ps q p (has_all (IsHolder ps) ps q (apart tests.0) old x on)
+    each q (inr same) = subst (IsHolder (ps ++ p ∷ [])) same new
 
 -- one gap is all of the minislots where nothing is placed
 pub all_free : (len : ℕ) → AreGaps (is_free []) 0 len (record { from = 0; to = len } ∷ [])

@@ -1,6 +1,7 @@
 pub mod Carved
 pub mod Windows
-pub mod Edges
+pub mod Drawn
+pub mod Numbered
 pub mod Passing
 pub mod Giving
 pub mod Served

@@ -1,11 +1,12 @@
 -- A MAP while it is filled, and what is known of what is placed in it.
-use Rattle.std.specs.Prelude.{◌≡◌, ◌⊎◌, ℕ, ◌+◌, ◌<◌, ◌≤◌, Bool, true, false, List, [], ◌∷◌, ◌++◌}
+use Rattle.std.specs.Prelude.{◌≡◌, ◌⊎◌, ℕ, ◌+◌, ◌<◌, ◌≤◌, Bool, true, false, List, [], ◌∷◌, ◌++◌, Some}
+use Rattle.std.specs.List.{AllByRecursion}
 use Rattle.minislot_time.specs.Extent.{Extent}
 use Rattle.map_body.specs.Iucs as iucs
 use Rattle.flow_state.specs.declared.channel.Phy.{Phy}
 use Rattle.flow_state.specs.declared.channel.Phy.TheVariants.{Tdma, Advanced}
 use Rattle.flow_state.specs.Limits.{last_time, longest_interval}
-use Rattle.grant_machine_parts.specs.Placing.{Cause, Window, Sent, Placement}
+use Rattle.grant_machine_parts.specs.Placing.{Cause, Window, Sent, Placement, holds, holder}
 use Rattle.grant_machine_parts.specs.Cutting.{Periodic, Verdict, Missed, Placed, Kept, placement_at}
 
 -- a MAP in part: its minislots, and the placements so far
@@ -16,6 +17,10 @@ pub record PartMap : Type 0 where
 -- a placement's use is no expansion element's
 abbrev pub has_use : Placement → Type 0
 has_use p = p.iuc < iucs.expansion
+
+-- each placement is the holder of what it holds: no minislot is in two
+abbrev pub AreApart : List Placement → Type 0
+AreApart ps = AllByRecursion (λ p. (x : ℕ) → holds x p ≡ true → holder ps x ≡ Some p) ps
 
 -- next due times are at most this
 abbrev pub last_due : ℕ

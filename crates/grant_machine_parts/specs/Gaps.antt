@@ -17,6 +17,10 @@ abbrev pub AreGaps : (ℕ → Bool) → (a len : ℕ) → List Gap → Type 0
 AreGaps free a len [] = (x : ℕ) → a ≤ x → x < len → free x ≡ false
 AreGaps free a len (g ∷ gs) = IsGap free a len g × AreGaps free g.to len gs
 
+-- the minislots between two offsets are a gap's
+abbrev pub covers : (from to : ℕ) → Gap → Bool
+covers from to g = nat_le g.from from && nat_le to g.to
+
 -- what is left of a gap once the minislots between two offsets are held
 abbrev pub left_of : (from to : ℕ) → Gap → List Gap
 left_of from to g = if nat_lt g.from from then record { from = g.from; to = from } ∷ [] else []

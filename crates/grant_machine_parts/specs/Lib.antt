@@ -1,7 +1,7 @@
 pub mod Placing
 pub mod Cutting
+pub mod Granted
 pub mod Drawing
-pub mod Edges
 pub mod Gaps
 pub mod Filling
 pub mod Kept

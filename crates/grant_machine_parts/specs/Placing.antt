@@ -2,6 +2,7 @@
 use Rattle.std.specs.Prelude.{ℕ, ◌+◌, Bool, ◌&&◌, if◌then◌else◌, nat_lt, nat_le, List, length, map, Option, None, is_none}
 use Rattle.std.specs.List.{find, list_all, range_with_len}
 use Rattle.minislot_time.specs.Extent.{Extent}
+use Rattle.grant_machine_parts.specs.declared.placing.TheConstants.{MOST_PLACEMENTS}
 -- what a placement serves (the due time of this number, or the request that was sent at this time), and a placement: minislots that are given to a SID, so many from an offset on
 pub use Rattle.grant_machine_parts.specs.declared.placing.Cause.{Cause}
 pub use Rattle.grant_machine_parts.specs.declared.placing.Cause.TheVariants.{Window, Sent}
@@ -30,7 +31,7 @@ fits_at span ps n lo hi last x =
 
 -- a MAP has at most so many placements
 abbrev pub most_placements : ℕ
-most_placements = 60
+most_placements = MOST_PLACEMENTS
 
 -- the least offset where n minislots fit that begin from lo to hi and end by the last one; none once there are 60 placements
 abbrev pub first_fit : Extent → List Placement → (n lo hi last : ℕ) → Option ℕ

@@ -1,20 +1,22 @@
 //! The MAP body that tells modems of a filled MAP.
 
-ghost use Rattle.std.specs.Prelude.{◌≡◌, ◌^◌, ◌<◌, ◌≤◌, ◌∷◌, ◌++◌, map, OnOk};
+ghost use Rattle.std.specs.Prelude.{◌≡◌, ℕ, ◌+◌, ◌-◌, ◌^◌, ◌<◌, ◌≤◌, ◌==◌, nat_lt, false, if◌then◌else◌, [], ◌∷◌, ◌++◌, map, IsTrue, OnOk};
 ghost use Rattle.std.specs.List.{filter_map, range_with_len};
 ghost use Rattle.flow_state.specs.Limits.{most_minislots};
 ghost use Rattle.std.specs.List.{AllByRecursion};
-ghost use Rattle.grant_machine_parts.specs.Placing.{holds, holder};
+ghost use Rattle.grant_machine_parts.specs.Placing.{holds, holder, is_free};
+ghost use Rattle.grant_machine_parts.specs.Gaps.{AreGaps};
+ghost use Rattle.grant_machine_parts.specs.Filling.{AreApart};
 ghost use Rattle.grant_machine_parts.specs.Cutting.{still_waiting};
-ghost use Rattle.grant_machine_parts.specs.Drawing.{free_element, null_element, pending_element, begins_at, head_of};
-ghost use Rattle.grant_machine_parts.specs.Edges.{nearer, next_edge};
+ghost use Rattle.grant_machine_parts.specs.Drawing.{placed_element, free_element, null_element, pending_element, begins_at, head_of};
 ghost use Rattle.grant_machine_parts.specs.Lent.{IsUnicast};
 ghost use Rattle.grant_machine_parts.specs.Ranks.{requests_in, going_on};
 ghost use Rattle.grant_machine_parts.specs.Cutting.{end_of};
 
+use crate::gaps::Gap;
 use crate::placing::{Filling, Placement};
 use crate::services::grant_iuc;
-use crate::waiting::{Ranked, is_granted, requested};
+use crate::waiting::{Grants, Ranked};
 use flow_state::Channel;
 use map_body::{Element, Head, Iuc, Offset, Sid};
 use minislot_time::{Slot, wire};
@@ -41,84 +43,118 @@ fn holder(placements: &[Placement], x: u16) -> Option<Placement>
     None
 }
 
-/// The element of free minislots, which all modems may use for requests.
-fn free_element(x: u16) -> Element
-    requires { x < 2 ^ 14 }
-    ensures { result ≡ free_element x }
+/// The placement that holds the minislot at this offset. A number tells which one to look at first.
+fn holder_near(placements: &[Placement], is_apart: bool, number: usize, x: u16) -> Option<Placement>
+    requires { IsTrue is_apart → AreApart placements.now }
+    ensures { result ≡ holder placements.now x }
 {
-    Element {
-        sid: Sid::EVERYBODY,
-        iuc: Iuc::REQUEST,
-        offset: Offset::new(x).unwrap(),
-    }
-}
-
-/// The element that begins at this offset.
-fn begins_at(placements: &[Placement], x: u16) -> Option<Element>
-    requires { x < 2 ^ 14 }
-    ensures { result ≡ begins_at placements.now x }
-{
-    match holder(placements, x) {
-        Some(placement) => {
-            if placement.offset.get() != x {
-                return None;
+    if is_apart {
+        if let Some(placement) = placements.get(number) {
+            if holds(x, placement) {
+                return Some(*placement);
             }
-            Some(Element {
-                sid: placement.sid,
-                iuc: placement.iuc,
-                offset: placement.offset,
-            })
-        }
-        None => {
-            if x != 0 && holder(placements, x - 1).is_none() {
-                return None;
-            }
-            Some(free_element(x))
         }
     }
+    holder(placements, x)
 }
 
-/// The edge, where it lies behind x and before the next one so far.
-fn nearer(x: u16, edge: u32, next: u16) -> u16
-    ensures { result ≡ nearer x edge next }
+/// Adds the element of a placement, where it begins at this offset.
+fn put_placement(
+    elements: &mut Vec<Element>,
+    placement: &Placement,
+    x: u16,
+) -> Result<(), AllocError>
+    ensures { OnOk result (elements.new.items ≡ elements.old.items ++ (if placement.now.offset == x then placed_element placement.now ∷ [] else [])) }
 {
-    if u32::from(x) < edge && edge < u32::from(next) {
-        edge as u16
+    if placement.offset.get() == x {
+        elements.push(Element {
+            sid: placement.sid,
+            iuc: placement.iuc,
+            offset: placement.offset,
+        })?;
+    }
+    Ok(())
+}
+
+/// Adds the element of free minislots, which all modems may use for requests, where there are some.
+fn put_gap(elements: &mut Vec<Element>, gap: &Gap) -> Result<(), AllocError>
+    requires { gap.now.from < 2 ^ 14 }
+    ensures { OnOk result (elements.new.items ≡ elements.old.items ++ (if nat_lt gap.now.from gap.now.to then free_element gap.now.from ∷ [] else [])) }
+{
+    if gap.from < gap.to {
+        elements.push(Element {
+            sid: Sid::EVERYBODY,
+            iuc: Iuc::REQUEST,
+            offset: Offset::new(gap.from).unwrap(),
+        })?;
+    }
+    Ok(())
+}
+
+/// The offset behind a placement that holds x, and at most an end. Where a minislot may be in two placements, it is
+/// the next one.
+fn behind(placement: &Placement, is_apart: bool, x: u16, end: u16) -> u16
+    requires more { x < end }
+    requires held { IsTrue (holds x placement.now) }
+    ensures more { x < result }
+    ensures most { result ≤ end }
+    ensures inside { (z : ℕ) → x < z → z < result → IsTrue is_apart × (z < placement.now.offset + placement.now.size) }
+{
+    if is_apart {
+        let to = u32::from(placement.offset.get()) + u32::from(placement.size);
+        to.min(u32::from(end)) as u16
     } else {
-        next
+        x + 1
     }
 }
 
-/// The first offset behind x where a placement begins or ends, and at most len.
-fn next_edge(placements: &[Placement], x: u16, len: u16) -> u16
-    ensures { result ≡ next_edge placements.now x len }
+/// Adds an element for each placement that begins among held minislots, from an offset on and before another, by
+/// offset. So many placements were drawn before, and so many are then: most stand by offset.
+fn put_placements(
+    elements: &mut Vec<Element>,
+    placements: &[Placement],
+    is_apart: bool,
+    drawn: usize,
+    from: u16,
+    to: u16,
+) -> Result<usize, AllocError>
+    requires order { from ≤ to }
+    requires held { (x : ℕ) → from ≤ x → x < to → is_free placements.now x ≡ false }
+    requires alone { IsTrue is_apart → AreApart placements.now }
+    ensures { OnOk result (elements.new.items ≡ elements.old.items ++ filter_map (begins_at placements.now) (range_with_len from (to - from))) }
 {
-    let mut next = len;
-    for placement in placements {
-        let from = u32::from(placement.offset.get());
-        let to = from + u32::from(placement.size);
-        next = nearer(x, to, nearer(x, from, next));
+    let mut drawn = drawn;
+    let mut x = from;
+    while x < to {
+        let placement = holder_near(placements, is_apart, drawn, x).unwrap();
+        put_placement(elements, &placement, x)?;
+        x = behind(&placement, is_apart, x, to);
+        drawn = drawn.wrapping_add(1);
     }
-    next
+    Ok(drawn)
 }
 
-/// Adds an element for each placement and each longest free run, by offset. Between two edges no
-/// element begins.
+/// Adds an element for each placement and each longest free run, by offset.
 fn put_intervals(
     elements: &mut Vec<Element>,
     placements: &[Placement],
+    gaps: &[Gap],
+    is_apart: bool,
     len: u16,
 ) -> Result<(), AllocError>
-    requires { len ≤ most_minislots }
+    requires short { len ≤ most_minislots }
+    requires free { AreGaps (is_free placements.now) 0 len gaps.now }
+    requires alone { IsTrue is_apart → AreApart placements.now }
     ensures { OnOk result (elements.new.items ≡ elements.old.items ++ filter_map (begins_at placements.now) (range_with_len 0 len)) }
 {
+    let mut drawn = 0;
     let mut x = 0;
-    while x < len {
-        if let Some(element) = begins_at(placements, x) {
-            elements.push(element)?;
-        }
-        x = next_edge(placements, x, len);
+    for gap in gaps {
+        drawn = put_placements(elements, placements, is_apart, drawn, x, gap.from)?;
+        put_gap(elements, gap)?;
+        x = gap.to;
     }
+    put_placements(elements, placements, is_apart, drawn, x, len)?;
     Ok(())
 }
 
@@ -132,11 +168,12 @@ fn put_pending(
     requires { AllByRecursion IsUnicast ranked.now }
     ensures { OnOk result (elements.new.items ≡ elements.old.items ++ map (pending_element channel.now filling.now.span.len) (still_waiting filling.now.placements (requests_in (going_on (end_of filling.now.span) ranked.now)))) }
 {
-    let placements = requested(filling.placements());
+    let placements = filling.placements();
+    let grants = Grants::of(placements);
     let len = filling.len();
     let end = filling.end();
     for one in ranked {
-        if end <= one.last && !is_granted(placements, &one.request) {
+        if end <= one.last && !grants.have(placements, &one.request) {
             elements.push(Element {
                 sid: Sid::new(one.request.sid).unwrap(),
                 iuc: grant_iuc(channel, one.request.n),
@@ -160,7 +197,13 @@ pub fn draw(
 {
     let len = filling.len();
     elements.clear();
-    put_intervals(elements, filling.placements(), len)?;
+    put_intervals(
+        elements,
+        filling.placements(),
+        filling.gaps(),
+        filling.is_apart(),
+        len,
+    )?;
     elements.push(Element {
         sid: Sid::NOBODY,
         iuc: Iuc::NULL,

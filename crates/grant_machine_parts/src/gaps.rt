@@ -1,9 +1,9 @@
 //! The free minislots of a MAP: the gaps between its placements.
 
-ghost use Rattle.std.specs.Prelude.{◌≡◌, ◌⊎◌, ℕ, ◌+◌, ◌^◌, ◌<◌, ◌≤◌, ◌++◌, List, OnOk};
-ghost use Rattle.std.specs.List.{find, range_with_len};
+ghost use Rattle.std.specs.Prelude.{◌≡◌, ◌⊎◌, ℕ, ◌+◌, ◌^◌, ◌<◌, ◌≤◌, ◌++◌, ◌&&◌, List, OnOk};
+ghost use Rattle.std.specs.List.{find, list_any, range_with_len};
 ghost use Rattle.grant_machine_parts.specs.Placing.{Placement, is_free, fits_at};
-ghost use Rattle.grant_machine_parts.specs.Gaps.{AreGaps, carved_gap, carved, gap_in};
+ghost use Rattle.grant_machine_parts.specs.Gaps.{AreGaps, covers, carved_gap, carved, gap_in};
 
 use std::alloc::AllocError;
 
@@ -46,6 +46,20 @@ pub fn carve(left: &mut Vec<Gap>, gaps: &[Gap], from: u16, to: u16) -> Result<()
         put_left(left, *gap, from, to)?;
     }
     Ok(())
+}
+
+/// Are the minislots from an offset to another those of a gap?
+fn are_covered(gaps: &[Gap], from: u16, to: u16) -> bool
+    ensures { result ≡ list_any (covers from to) gaps.now }
+{
+    gaps.iter().any(|gap| gap.from <= from && to <= gap.to)
+}
+
+/// Are placements apart once the minislots from an offset to another are held too, where they were before?
+pub fn stay_apart(were_apart: bool, gaps: &[Gap], from: u16, to: u16) -> bool
+    ensures { result ≡ (were_apart && list_any (covers from to) gaps.now) }
+{
+    were_apart && are_covered(gaps, from, to)
 }
 
 /// The least offset from first on and before behind where n minislots of a gap begin.

@@ -10,4 +10,4 @@ mod waiting;
 
 pub use placing::{Cause, Filling, Placement};
 pub use services::{Service, serve};
-pub use waiting::{Ranked, by_priority, is_granted, kind_priority, place_requests, requested};
+pub use waiting::{Grants, Ranked, by_priority, kind_priority, place_requests};

@@ -1,11 +1,12 @@
 //! A MAP while it is filled.
 
-ghost use Rattle.std.specs.Prelude.{◌≡◌, ◌+◌, ◌<◌, ◌≤◌, not, nat_lt, [], ◌∷◌, ◌++◌, length, IfOk, OnOk, IfSome};
+ghost use Rattle.std.specs.Prelude.{◌≡◌, ◌+◌, ◌<◌, ◌≤◌, not, nat_lt, [], ◌∷◌, ◌++◌, length, IsTrue, IfOk, OnOk, IfSome};
 ghost use Rattle.std.specs.List.{AllByRecursion};
 ghost use Rattle.flow_state.specs.Limits.{last_time, most_minislots};
-ghost use Rattle.grant_machine_parts.specs.Placing.{most_placements, first_fit};
+ghost use Rattle.grant_machine_parts.specs.Placing.{most_placements, is_free, first_fit};
+ghost use Rattle.grant_machine_parts.specs.Gaps.{AreGaps};
 ghost use Rattle.grant_machine_parts.specs.Cutting.{end_of};
-ghost use Rattle.grant_machine_parts.specs.Filling.{has_use};
+ghost use Rattle.grant_machine_parts.specs.Filling.{has_use, AreApart};
 
 use crate::gaps::{self, Gap};
 use map_body::{Iuc, Offset, Sid};
@@ -36,8 +37,9 @@ pub struct Placement {
     pub cause: Cause,
 }
 
-/// A MAP's minislots: the placements that hold some of them, and the gaps between these. Room for all that it may have
-/// is taken when it is first opened, and the gaps after a placement are put beside those before it.
+/// A MAP's minislots: the placements that hold some of them, and the gaps between these. Where `is_apart`, no minislot
+/// is in two placements. Room for all that it may have is taken when it is first opened, and the gaps after a placement
+/// are put beside those before it.
 #[derive(Drop)]
 pub struct Filling {
     start: u64,
@@ -45,6 +47,7 @@ pub struct Filling {
     gaps: Vec<Gap>,
     next_gaps: Vec<Gap>,
     placements: Vec<Placement>,
+    is_apart: bool,
 }
 
 impl Model for Filling {
@@ -70,6 +73,7 @@ impl Filling {
             gaps: Vec::new(alloc),
             next_gaps: Vec::new(alloc),
             placements: Vec::new(alloc),
+            is_apart: true,
         }
     }
 
@@ -89,6 +93,7 @@ impl Filling {
         self.next_gaps.reserve(MOST_GAPS)?;
         self.placements.reserve(MOST_PLACEMENTS)?;
         self.gaps.push(Gap { from: 0, to: len })?;
+        self.is_apart = true;
         self.start = start;
         self.len = len;
         Ok(())
@@ -133,6 +138,20 @@ impl Filling {
         &self.placements
     }
 
+    /// The gaps between placements, by offset.
+    pub(crate) fn gaps(&self) -> &[Gap]
+        ensures { AreGaps (is_free self.now.placements) 0 self.now.span.len result.now }
+    {
+        &self.gaps
+    }
+
+    /// Is it known that no minislot is in two placements?
+    pub(crate) fn is_apart(&self) -> bool
+        ensures { IsTrue result → AreApart self.now.placements }
+    {
+        self.is_apart
+    }
+
     /// The least offset where n minislots fit that begin from lo to hi and end by a last one.
     pub fn first_fit(&self, n: u16, lo: u64, hi: u64, last: u64) -> Option<usize>
         ensures same { result ≡ first_fit self.now.span self.now.placements n lo hi last }
@@ -154,9 +173,13 @@ impl Filling {
         ensures placed { OnOk result (self.new.placements ≡ self.old.placements ++ placement ∷ []) }
     {
         let from = placement.offset.get();
-        gaps::carve(&mut self.next_gaps, &self.gaps, from, from + placement.size)?;
+        let were_apart = self.is_apart;
+        let to = from + placement.size;
+        let is_apart = gaps::stay_apart(were_apart, &self.gaps, from, to);
+        gaps::carve(&mut self.next_gaps, &self.gaps, from, to)?;
         self.placements.push(placement)?;
         mem::swap(&mut self.gaps, &mut self.next_gaps);
+        self.is_apart = is_apart;
         Ok(())
     }
 }

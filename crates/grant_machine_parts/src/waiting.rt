@@ -6,6 +6,7 @@ ghost use Rattle.grant_machine_parts.specs.Cutting.{kind_priority, is_cause_sent
 ghost use Rattle.flow_state.specs.declared.flow.Waiting.{Waiting};
 ghost use Rattle.grant_machine_parts.specs.Lent.{IsUnicast};
 ghost use Rattle.grant_machine_parts.specs.Ranks.{of_priority, by_priority, requests_in, IsOfLast};
+ghost use Rattle.grant_machine_parts.specs.Granted.{AreNumbered};
 
 use crate::placing::{Cause, Filling, Placement};
 use crate::services::grant_iuc;
@@ -126,20 +127,8 @@ fn is_sent(cause: Cause) -> bool
     matches!(cause, Cause::Sent(_))
 }
 
-/// The placements from the first on that serves a request. Those before it grant none.
-pub fn requested(placements: &[Placement]) -> &[Placement]
-    ensures { (w : Waiting) → list_any (is_grant_of w) result.now ≡ list_any (is_grant_of w) placements.now }
-{
-    for (i, placement) in placements.iter().enumerate() {
-        if is_sent(placement.cause) {
-            return &placements[i..];
-        }
-    }
-    &placements[placements.len()..]
-}
-
 /// Is the request granted by one of the placements?
-pub fn is_granted(placements: &[Placement], request: &Waiting) -> bool
+fn is_granted(placements: &[Placement], request: &Waiting) -> bool
     ensures { result ≡ list_any (is_grant_of request.now) placements.now }
 {
     let sid = request.sid;
@@ -147,4 +136,51 @@ pub fn is_granted(placements: &[Placement], request: &Waiting) -> bool
     placements
         .iter()
         .any(|p| p.sid.get() == sid && is_cause_sent(p.cause, sent))
+}
+
+/// Is the placement the request's grant?
+fn is_grant(placement: &Placement, request: &Waiting) -> bool
+    ensures { result ≡ is_grant_of request.now placement.now }
+{
+    placement.sid.get() == request.sid && is_cause_sent(placement.cause, request.sent)
+}
+
+/// Where a request's grant is looked for first among some placements: for the SIDs of each remainder by 256 the number,
+/// from 1, of one that serves a request of such a SID, and 0 where none does.
+#[derive(Clone, Copy)]
+pub struct Grants {
+    pub(crate) numbers: [u8; 256],
+}
+
+impl Grants {
+    /// The numbers of these placements.
+    pub fn of(placements: &[Placement]) -> Grants
+        ensures { AreNumbered result placements.now }
+    {
+        let mut numbers = [0u8; 256];
+        for i in 0..placements.len() {
+            let placement = placements[i];
+            if is_sent(placement.cause) {
+                numbers[usize::from(placement.sid.get() % 256)] = i.min(254) as u8 + 1;
+            }
+        }
+        Grants { numbers }
+    }
+
+    /// Is the request granted by one of the placements that these are the numbers of?
+    pub fn have(&self, placements: &[Placement], request: &Waiting) -> bool
+        requires { AreNumbered self.now placements.now }
+        ensures { result ≡ list_any (is_grant_of request.now) placements.now }
+    {
+        let number = usize::from(self.numbers[usize::from(request.sid % 256)]);
+        if number == 0 {
+            return false;
+        }
+        if let Some(placement) = placements.get(number - 1) {
+            if is_grant(placement, request) {
+                return true;
+            }
+        }
+        is_granted(placements, request)
+    }
 }

@@ -9,7 +9,7 @@ use Rattle.modem.proofs.CellList.{Cell, Covers, cell_in, cell_of}
 use Rattle.map_body.specs.declared.interval.Interval.{Interval}
 use Rattle.modem.specs.declared.known.Channel.{Channel}
 use Rattle.modem.specs.declared.kept.KeptInterval.{KeptInterval}
-use Rattle.modem.specs.State.{State, Kept, HasAt, channel_of, clock_of, with_channel}
+use Rattle.modem.specs.State.{State, Kept, HasAt, channel_of, clock_of, with_channel, recent}
 use Rattle.modem.specs.KeptIntervals.{kept_interval, interval_of, covered}
 use Rattle.modem.specs.Wants.{lasting}
 use Rattle.modem.proofs.Pieces.{HasAt-covered}
@@ -110,11 +110,11 @@ abbrev pub of_map : Body → ℕ → List Interval → List KeptInterval
 of_map map₀ start is = map (interval_of map₀.head.channel start) is
 
 -- intervals that make a state take a map
-pub Takes-made : (old new : State) (c : Channel) (near : ℕ) (map₀ : Body) (start : ℕ) (ack : Option ℕ) → channel_of old.channels map₀.head.channel ≡ Some c → new.id ≡ old.id → new.channels ≡ with_channel (record c { clock = max c.clock near; backoff = map₀.head.data_backoff }) old.channels → new.leases ≡ old.leases → KeepsWith old.grants map₀.head.channel (max c.clock near) (covered old.leases (of_map map₀ start (intervals map₀.elements))) new.grants → KeepsWith old.open_to_all map₀.head.channel (max c.clock near) (of_map map₀ start (filter (λ i. (i.sid == everybody) && (i.iuc == 1)) (intervals map₀.elements))) new.open_to_all → IsAckTime map₀.head.ack start ack → new.wants ≡ lasting old.leases c.id (max c.clock near) (filter_map (decided old.leases map₀ start ack) old.wants) → Takes old c near map₀ start new
-Takes-made old new c near map₀ start ack found same_id made same_leases grants opens ack_time wants = record {
+pub Takes-made : (old new : State) (c : Channel) (near : ℕ) (map₀ : Body) (start : ℕ) (ack : Option ℕ) → channel_of old.channels map₀.head.channel ≡ Some c → new.id ≡ old.id → new.channels ≡ with_channel (record c { clock = max c.clock near; backoff = map₀.head.data_backoff }) old.channels → new.leases ≡ recent c.id (max c.clock near) old.leases → KeepsWith old.grants map₀.head.channel (max c.clock near) (covered old.leases (of_map map₀ start (intervals map₀.elements))) new.grants → KeepsWith old.open_to_all map₀.head.channel (max c.clock near) (of_map map₀ start (filter (λ i. (i.sid == everybody) && (i.iuc == 1)) (intervals map₀.elements))) new.open_to_all → IsAckTime map₀.head.ack start ack → new.wants ≡ lasting old.leases c.id (max c.clock near) (filter_map (decided old.leases map₀ start ack) old.wants) → Takes old c near map₀ start new
+Takes-made old new c near map₀ start ack found same_id made gone grants opens ack_time wants = record {
   id = same_id;
   channels = made;
-  leases = same_leases;
+  leases = gone;
   grants = λ ch m sid iuc late.
       let kept = grants ch m sid iuc (later ch m late) in
       let own = HasAt-covered old.leases (of_map map₀ start (intervals map₀.elements)) ch m sid iuc in

@@ -8,6 +8,7 @@ mod Order
 mod Pieces
 mod Clocks
 mod Old
+mod Recent
 mod Stands
 mod Given
 mod Owned

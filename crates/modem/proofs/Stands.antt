@@ -1,11 +1,11 @@
 -- What a modem stands for is kept.
-use Rattle.std.proofs.Common.{◌≡◌, ℕ, ◌+◌, ◌≤◌, List, ◌∷◌, Option, Some, Bool, true, ◌⊎◌, inl, inr, refl, sym, subst, ap, ◌∙◌, max, arith, ◌==◌, ◌&&◌, nat_le, if◌then◌else◌, false, [], ◌++◌, Result, Ok, Err, IfOk, MatchBool, ◌↔◌}
+use Rattle.std.proofs.Common.{◌≡◌, ℕ, ◌+◌, ◌≤◌, List, ◌∷◌, Option, Some, Bool, true, inl, inr, refl, sym, subst, ap, ◌∙◌, max, arith, ◌==◌, ◌&&◌, nat_le, false, Result, Ok, Err, IfOk, MatchBool, ◌↔◌}
 use Rattle.modem.specs.declared.known.Channel.{Channel}
 use Rattle.modem.specs.declared.known.Lease.{Lease}
 use Rattle.modem.specs.declared.types.Sending.{Sending}
 use Rattle.modem.specs.declared.known.Want.{Want}
 use Rattle.map_body.specs.Sids.{everybody}
-use Rattle.modem.specs.State.{State, Kept, HasAt, covers, is_own_at, is_lease, has_lease, with_lease, lease_of, channel_of, clock_of, with_channel}
+use Rattle.modem.specs.State.{State, Kept, HasAt, is_of, covers, is_own_at, is_own_from, recent, with_lease, lease_of, channel_of, clock_of, with_channel, with_ucd}
 use Rattle.modem.specs.Wants.{lasting}
 use Rattle.std.proofs.lemmas.Bool.Decides.{nat_tests}
 use Rattle.modem.specs.Ticks.{Ticks, Counts, SendsBy}
@@ -13,21 +13,29 @@ use Rattle.minislot_time.specs.Wire.{IsNear}
 use Rattle.modem.proofs.Times.{near_once}
 use Rattle.map_body.specs.Body.{Body}
 use Rattle.map_body.proofs.Callers.{one_body}
-use Rattle.std.proofs.lemmas.List.Folds.{list_any-append}
-use Rattle.std.proofs.lemmas.Bool.{and_parts, or_cases, or_left, or_right, and_from, eqb-true, eq-eqb}
+use Rattle.std.proofs.lemmas.Bool.{and_parts, and_from, eqb-true, eq-eqb}
 use Rattle.modem.proofs.Parts.{no_true}
 use Rattle.modem.proofs.Clocks.{clock_of-row, clock_of-placed, clock_of-with_ucd, found_id}
 use Rattle.grant_machine.specs.declared.output.Output.{Output}
 use Rattle.grant_machine.specs.declared.output.Output.TheVariants.{Nothing, ChannelSet, Assigned, Map as MapOutput, Refused}
 use Rattle.modem.specs.declared.types.Heard.{Heard}
 use Rattle.modem.specs.declared.types.Heard.TheVariants.{Taken, NotMine, OtherUcd, Past, Unreadable}
-use Rattle.modem.specs.Held.{StandsFor, Hearing, Gives, GivesCell, Leases, WasLeased, HeldBy}
-use Rattle.modem.specs.Hears.{Hears, Reads, Takes, Passes, KeepsHeld}
+use Rattle.modem.specs.Held.{StandsFor, Hearing, Gives, GivesCell, Leases, WasLeased, LeasesFrom, WasLeasedFrom, HeldBy}
+use Rattle.modem.specs.Hears.{Hears, Reads, Takes, Passes, KeepsHeld, leases_heard}
+use Rattle.modem.specs.OldLeases.{CoverAlike}
+use Rattle.modem.proofs.Recent.{recent_alike, same_alike, gone_alike, same_covers, same_lasts, any_with}
 
--- a state with the same id and leases, no lower clock and what was held from there on stands for the same hearings
-pub StandsFor-kept : (old new : State) (hearings : List Hearing) → new.id ≡ old.id → new.leases ≡ old.leases → ((ch : ℕ) → clock_of old.channels ch ≤ clock_of new.channels ch) → ((ch m sid iuc : ℕ) → clock_of new.channels ch ≤ m → HasAt new.grants ch m sid iuc ↔ HasAt old.grants ch m sid iuc) → StandsFor old hearings → StandsFor new hearings
-StandsFor-kept old new hearings same_id same_leases rises held h = record {
-  leases = λ ch sid m. rw (same_leases, same_id) (h.leases ch sid m);
+-- a state with the same id, leases that count for the same, no lower clock and what was held from there on stands for the same hearings
+pub StandsFor-kept : (old new : State) (hearings : List Hearing) → new.id ≡ old.id → ((ch : ℕ) → CoverAlike ch (clock_of new.channels ch) new.leases old.leases) → ((ch : ℕ) → clock_of old.channels ch ≤ clock_of new.channels ch) → ((ch m sid iuc : ℕ) → clock_of new.channels ch ≤ m → HasAt new.grants ch m sid iuc ↔ HasAt old.grants ch m sid iuc) → StandsFor old hearings → StandsFor new hearings
+StandsFor-kept old new hearings same_id alike rises held h = record {
+  leases = λ ch sid m late.
+      let was = h.leases ch sid m (omega (arith, rises ch, late)) in
+      let same = (alike ch).covers sid m late in
+      rw same_id (λ own. was.0 (sym same ∙ own), λ leased. same ∙ was.1 leased);
+  lasts = λ ch sid m late.
+      let was = h.lasts ch sid m (omega (arith, rises ch, late)) in
+      let same = (alike ch).lasts sid m late in
+      rw same_id (λ own. was.0 (sym same ∙ own), λ leased. same ∙ was.1 leased);
   holds = λ ch m sid iuc late.
       let was = h.holds ch m sid iuc (omega (arith, rises ch)) in
       let is = held ch m sid iuc late in
@@ -35,25 +43,38 @@ StandsFor-kept old new hearings same_id same_leases rises held h = record {
 }
 
 -- one more hearing that assigns nothing to the modem and gives nothing
-StandsFor-quiet : (v : State) (h : Hearing) (hearings : List Hearing) → ((ch sid m : ℕ) → Leases v.id h.output ch sid m → ⊥) → ((ch m sid iuc : ℕ) → h.answer ≡ Taken → Gives h.output h.near ch m sid iuc → ⊥) → StandsFor v hearings → StandsFor v (h ∷ hearings)
-StandsFor-quiet v h hearings none_leased gives_none was = record {
-  leases = λ ch sid m. (λ own. inr ((was.leases ch sid m).0 own), λ heard. elim heard [ inl e ↦ absurd (none_leased ch sid m e) | inr e ↦ (was.leases ch sid m).1 e ]);
+StandsFor-quiet : (v : State) (h : Hearing) (hearings : List Hearing) → ((ch sid first last : ℕ) → h.output ≡ Assigned v.id ch sid first last → ⊥) → ((ch m sid iuc : ℕ) → h.answer ≡ Taken → Gives h.output h.near ch m sid iuc → ⊥) → StandsFor v hearings → StandsFor v (h ∷ hearings)
+StandsFor-quiet v h hearings none gives_none was = record {
+  leases = λ ch sid m late.
+      let known = was.leases ch sid m late in
+      (λ own. inr (known.0 own), λ heard. elim heard [ inl l ↦ absurd (none ch sid l.first l.last l.assigned) | inr before ↦ known.1 before ]);
+  lasts = λ ch sid m late.
+      let known = was.lasts ch sid m late in
+      (λ own. inr (known.0 own), λ heard. elim heard [ inl l ↦ absurd (none ch sid l.first l.last l.assigned) | inr before ↦ known.1 before ]);
   holds = λ ch m sid iuc late. (λ has. inr ((was.holds ch m sid iuc late).0 has), λ held. elim held [ inl now ↦ absurd (gives_none ch m sid iuc now.0 now.1) | inr before ↦ (was.holds ch m sid iuc late).1 before ]);
 }
 
 -- a map that is taken
 StandsFor-taken : (old new : State) (hearings : List Hearing) (ch₀ start₀ len₀ : ℕ) (bytes : List ℕ) (near : ℕ) (c : Channel) (map : Body) (start stop : ℕ) → Reads bytes near map start stop → channel_of old.channels map.head.channel ≡ Some c → Takes old c near map start new → StandsFor old hearings → StandsFor new (record { output = MapOutput ch₀ start₀ len₀ bytes; near = near; answer = Taken } ∷ hearings)
 StandsFor-taken old new hearings ch₀ start₀ len₀ bytes near c map start stop reads found takes was = record {
-  leases = λ ch sid m.
+  leases = λ ch sid m late.
       let P : ℕ → Type 0 = λ id. (is_own_at new.leases ch sid m ≡ true) ↔ WasLeased id (here ∷ hearings) ch sid m in
-      subst P (sym takes.id) (rw takes.leases (λ own. inr ((was.leases ch sid m).0 own), λ heard. elim heard [ inl e ↦ absurd (not_map e.assigned) | inr e ↦ (was.leases ch sid m).1 e ]));
+      let known = was.leases ch sid m (omega (arith, rises ch, late)) in
+      let same = (alike ch).covers sid m late in
+      subst P (sym takes.id) (λ own. inr (known.0 (sym same ∙ own)), λ heard. elim heard [ inl e ↦ absurd (not_map e.assigned) | inr e ↦ same ∙ known.1 e ]);
+  lasts = λ ch sid m late.
+      let P : ℕ → Type 0 = λ id. (is_own_from new.leases ch sid m ≡ true) ↔ WasLeasedFrom id (here ∷ hearings) ch sid m in
+      let known = was.lasts ch sid m (omega (arith, rises ch, late)) in
+      let same = (alike ch).lasts sid m late in
+      subst P (sym takes.id) (λ own. inr (known.0 (sym same ∙ own)), λ heard. elim heard [ inl e ↦ absurd (not_map e.assigned) | inr e ↦ same ∙ known.1 e ]);
   holds = λ ch m sid iuc late.
       let before = was.holds ch m sid iuc (omega (arith, rises ch)) in
+      let leased = was.leases ch sid m (omega (arith, rises ch, late)) in
       let now = takes.grants ch m sid iuc late in
       let P : ℕ → Type 0 = λ id. HasAt new.grants ch m sid iuc ↔ HeldBy id (here ∷ hearings) ch m sid iuc in
       subst P (sym takes.id) (
-        λ has. elim (now.0 has) [ inl a ↦ inr (before.0 a) | inr b ↦ inl (refl, (map, start, record { body = reads.body; extension = reads.extent.extension }, b.1), (was.leases ch sid m).0 b.0) ],
-        λ held. elim held [ inl h ↦ now.1 (inr ((was.leases ch sid m).1 h.2, gave ch m sid iuc h.1)) | inr b ↦ now.1 (inl (before.1 b)) ],
+        λ has. elim (now.0 has) [ inl a ↦ inr (before.0 a) | inr b ↦ inl (refl, (map, start, record { body = reads.body; extension = reads.extent.extension }, b.1), leased.0 b.0) ],
+        λ held. elim held [ inl h ↦ now.1 (inr (leased.1 h.2, gave ch m sid iuc h.1)) | inr b ↦ now.1 (inl (before.1 b)) ],
       );
 }
   where
@@ -65,6 +86,9 @@ StandsFor-taken old new hearings ch₀ start₀ len₀ bytes near c map start st
 
     rises : (ch : ℕ) → clock_of old.channels ch ≤ clock_of new.channels ch
     rises ch = rw takes.channels (clock_of-row c (max c.clock near) map.head.data_backoff old.channels map.head.channel ch found (omega arith))
+
+    alike : (ch : ℕ) → CoverAlike ch (clock_of new.channels ch) new.leases old.leases
+    alike ch = gone_alike old new c map.head.channel (max c.clock near) map.head.data_backoff found takes.channels takes.leases ch
 
     gave : (ch m sid iuc : ℕ) → Gives (MapOutput ch₀ start₀ len₀ bytes) near ch m sid iuc → GivesCell map start ch m sid iuc
     gave ch m sid iuc (other, begin, starts, cell) =
@@ -104,11 +128,11 @@ Ticks-made old new c ch slot random sending counted is_open wants found same_id 
 }
 
 -- a map that is heard too late
-pub Passes-made : (old new : State) (c : Channel) (ch near : ℕ) → channel_of old.channels ch ≡ Some c → new.id ≡ old.id → new.leases ≡ old.leases → KeepsFrom old.grants c.id (max c.clock near) new.grants → KeepsFrom old.open_to_all c.id (max c.clock near) new.open_to_all → new.channels ≡ with_channel (record c { clock = max c.clock near }) old.channels → new.wants ≡ lasting old.leases c.id (max c.clock near) old.wants → Passes old c near new
-Passes-made old new c ch near found same_id same_leases grants open_to_all made lasts = record {
+pub Passes-made : (old new : State) (c : Channel) (ch near : ℕ) → channel_of old.channels ch ≡ Some c → new.id ≡ old.id → new.leases ≡ recent c.id (max c.clock near) old.leases → KeepsFrom old.grants c.id (max c.clock near) new.grants → KeepsFrom old.open_to_all c.id (max c.clock near) new.open_to_all → new.channels ≡ with_channel (record c { clock = max c.clock near }) old.channels → new.wants ≡ lasting old.leases c.id (max c.clock near) old.wants → Passes old c near new
+Passes-made old new c ch near found same_id gone grants open_to_all made lasts = record {
   id = same_id;
   channels = made;
-  leases = same_leases;
+  leases = gone;
   held = KeepsHeld-made old new c ch (max c.clock near) c.backoff found made grants open_to_all;
   wants = lasts;
 }
@@ -118,37 +142,6 @@ same_output a b c x y z first last p q r = cc
 
 same_parts : (a b c d e x y z u v : ℕ) → Assigned a b c d e ≡ Assigned x y z u v → (a ≡ x) × (b ≡ y) × (c ≡ z) × (d ≡ u) × (e ≡ v)
 same_parts a b c d e x y z u v same = (cc, cc, cc, cc, cc)
-
--- an equal lease covers the same
-same_covers : (l lease : Lease) (ch sid m : ℕ) → is_lease lease l ≡ true → covers ch sid m lease ≡ true → covers ch sid m l ≡ true
-same_covers l lease ch sid m same c =
-    let parts = and_parts _ _ same in
-    let name = and_parts _ _ parts.0 in
-    let range = and_parts _ _ parts.1 in
-    let test : ℕ → ℕ → ℕ → ℕ → Bool = λ a b f t. ((a == ch) && (b == sid)) && (nat_le f m && nat_le m t) in
-    ap (λ a. test a l.sid l.first l.last) (eqb-true _ _ name.0)
-    ∙ ap (λ b. test lease.channel b l.first l.last) (eqb-true _ _ name.1)
-    ∙ ap (λ f. test lease.channel lease.sid f l.last) (eqb-true _ _ range.0)
-    ∙ ap (λ t. test lease.channel lease.sid lease.first t) (eqb-true _ _ range.1)
-    ∙ c
-
--- what a lease covers that is one of them is covered already
-covered_before : (leases : List Lease) (lease : Lease) (ch sid m : ℕ) → has_lease leases lease ≡ true → covers ch sid m lease ≡ true → is_own_at leases ch sid m ≡ true
-covered_before [] lease ch sid m there c = no_true there
-covered_before (l ∷ ls) lease ch sid m there c =
-    elim (or_cases _ _ there) [ inl this ↦ or_left _ _ (same_covers l lease ch sid m this c) | inr more ↦ or_right _ _ (covered_before ls lease ch sid m more c) ]
-
--- the leases with one more
-own_with : (leases : List Lease) (lease : Lease) (ch sid m : ℕ) → (is_own_at (with_lease leases lease) ch sid m ≡ true) ↔ ((covers ch sid m lease ≡ true) ⊎ (is_own_at leases ch sid m ≡ true))
-own_with leases lease ch sid m = go (has_lease leases lease) refl
-  where
-    go : (b : Bool) → has_lease leases lease ≡ b → (is_own_at (if b then leases else leases ++ lease ∷ []) ch sid m ≡ true) ↔ ((covers ch sid m lease ≡ true) ⊎ (is_own_at leases ch sid m ≡ true))
-    go true there = (λ own. inr own, λ h. elim h [ inl c ↦ covered_before leases lease ch sid m there c | inr own ↦ own ])
-    go false e =
-        let joined = list_any-append (covers ch sid m) leases (lease ∷ []) in (
-          λ own. elim (or_cases _ _ (sym joined ∙ own)) [ inl was ↦ inr was | inr new ↦ elim (or_cases _ _ new) [ inl this ↦ inl this | inr none ↦ no_true none ] ],
-          λ h. joined ∙ elim h [ inl this ↦ or_right _ _ (or_left _ _ this) | inr own ↦ or_left _ _ own ],
-        )
 
 -- the lease of an Assigned covers what it leases
 leased : (modem id ch sid first last at_ch at_sid m : ℕ) → modem ≡ id → covers at_ch at_sid m (lease_of ch sid first last) ≡ true → Leases id (Assigned modem ch sid first last) at_ch at_sid m
@@ -169,21 +162,54 @@ covering modem id ch sid first last at_ch at_sid m l =
     let high : nat_le m last ≡ true = grind (arith, nat_tests) in
     and_from _ _ (and_from _ _ (eq-eqb _ _ same_ch) (eq-eqb _ _ same_sid)) (and_from _ _ low high)
 
+-- the lease of an Assigned goes on as long as it leases
+leased_from : (modem id ch sid first last at_ch at_sid m : ℕ) → modem ≡ id → (is_of at_ch at_sid (lease_of ch sid first last) && nat_le m last) ≡ true → LeasesFrom id (Assigned modem ch sid first last) at_ch at_sid m
+leased_from modem id ch sid first last at_ch at_sid m mine c =
+    let parts : (((ch == at_ch) && (sid == at_sid)) ≡ true) × (nat_le m last ≡ true) = and_parts _ _ c in
+    let name : ((ch == at_ch) ≡ true) × ((sid == at_sid) ≡ true) = and_parts _ _ parts.0 in
+    let high : nat_le m last ≡ true = parts.1 in
+    record { first = first; last = last; assigned = same_output _ _ _ _ _ _ _ _ mine (eqb-true _ _ name.0) (eqb-true _ _ name.1); goes_on = grind (arith, nat_tests) }
+
+going_on : (modem id ch sid first last at_ch at_sid m : ℕ) → LeasesFrom id (Assigned modem ch sid first last) at_ch at_sid m → (is_of at_ch at_sid (lease_of ch sid first last) && nat_le m last) ≡ true
+going_on modem id ch sid first last at_ch at_sid m l =
+    let (_, same_ch, same_sid, same_first, same_last) = same_parts modem ch sid first last id at_ch at_sid l.first l.last l.assigned in
+    let to : m ≤ l.last = l.goes_on in
+    let high : nat_le m last ≡ true = grind (arith, nat_tests) in
+    and_from _ _ (and_from _ _ (eq-eqb _ _ same_ch) (eq-eqb _ _ same_sid)) high
+
 -- an Assigned that is heard
-Assigned-stands : (old new : State) (modem ch sid first last near : ℕ) (answer : Heard) (hearings : List Hearing) (mine : Bool) → (modem == old.id) ≡ mine → MatchBool mine ((answer ≡ Taken) × (new ≡ record old { leases = with_lease old.leases (lease_of ch sid first last) })) ((answer ≡ NotMine) × (new ≡ old)) → StandsFor old hearings → StandsFor new (record { output = Assigned modem ch sid first last; near = near; answer = answer } ∷ hearings)
+Assigned-stands : (old new : State) (modem ch sid first last near : ℕ) (answer : Heard) (hearings : List Hearing) (mine : Bool) → (modem == old.id) ≡ mine → MatchBool mine ((answer ≡ Taken) × (new ≡ record old { leases = leases_heard old (lease_of ch sid first last) })) ((answer ≡ NotMine) × (new ≡ old)) → StandsFor old hearings → StandsFor new (record { output = Assigned modem ch sid first last; near = near; answer = answer } ∷ hearings)
 Assigned-stands old new modem ch sid first last near answer hearings true mine h was = rw h.1 (record {
-  leases = λ ch' sid' m.
-      let own = own_with old.leases (lease_of ch sid first last) ch' sid' m in
-      let known = was.leases ch' sid' m in (
-        λ is. elim (own.0 is) [ inl c ↦ inl (leased modem old.id ch sid first last ch' sid' m (eqb-true _ _ mine) c) | inr before ↦ inr (known.0 before) ],
-        λ heard. own.1 (elim heard [ inl l ↦ inl (covering modem old.id ch sid first last ch' sid' m l) | inr before ↦ inr (known.1 before) ]),
+  leases = λ ch' sid' m late.
+      let same = (alike ch').covers sid' m late in
+      let own = any_with (covers ch' sid' m) (same_covers ch' sid' m) old.leases lease in
+      let known = was.leases ch' sid' m late in (
+        λ is. elim (own.0 (sym same ∙ is)) [ inl c ↦ inl (leased modem old.id ch sid first last ch' sid' m (eqb-true _ _ mine) c) | inr before ↦ inr (known.0 before) ],
+        λ heard. same ∙ own.1 (elim heard [ inl l ↦ inl (covering modem old.id ch sid first last ch' sid' m l) | inr before ↦ inr (known.1 before) ]),
+      );
+  lasts = λ ch' sid' m late.
+      let same = (alike ch').lasts sid' m late in
+      let own = any_with (λ l. is_of ch' sid' l && nat_le m l.last) (same_lasts ch' sid' m) old.leases lease in
+      let known = was.lasts ch' sid' m late in (
+        λ is. elim (own.0 (sym same ∙ is)) [ inl c ↦ inl (leased_from modem old.id ch sid first last ch' sid' m (eqb-true _ _ mine) c) | inr before ↦ inr (known.0 before) ],
+        λ heard. same ∙ own.1 (elim heard [ inl l ↦ inl (going_on modem old.id ch sid first last ch' sid' m l) | inr before ↦ inr (known.1 before) ]),
       );
   holds = λ ch m sid iuc late.
       let before = was.holds ch m sid iuc late in
       (λ has. inr (before.0 has), λ held. elim held [ inl now ↦ absurd now.1 | inr b ↦ before.1 b ]);
 })
+  where
+    lease : Lease
+    lease = lease_of ch sid first last
+
+    -- the old ones that go
+    alike : (at_ch : ℕ) → CoverAlike at_ch (clock_of old.channels at_ch) (leases_heard old lease) (with_lease old.leases lease)
+    alike at_ch =
+        recent_alike (with_lease old.leases lease) ch (clock_of old.channels ch) at_ch (clock_of old.channels at_ch) (λ same.
+        let one : clock_of old.channels at_ch ≡ clock_of old.channels ch = ap (clock_of old.channels) same in
+        omega (arith, one))
 Assigned-stands old new modem ch sid first last near answer hearings false other h was =
-    StandsFor-quiet new _ hearings (λ ch' sid' m l. stranger ch' sid' l.first l.last l.assigned) (λ ch m sid iuc _ gives. gives) (rw h.1 was)
+    StandsFor-quiet new _ hearings stranger (λ ch m sid iuc _ gives. gives) (rw h.1 was)
   where
     stranger : (ch' sid' first' last' : ℕ) → Assigned modem ch sid first last ≡ Assigned new.id ch' sid' first' last' → ⊥
     stranger ch' sid' first' last' e =
@@ -194,24 +220,24 @@ Assigned-stands old new modem ch sid first last near answer hearings false other
 -- what hearing an output makes a modem stand for: the hearing is added
 pub Hears-stands : (old new : State) (output : Output) (near : ℕ) (answer : Heard) (hearings : List Hearing) → Hears old output near answer new → StandsFor old hearings → StandsFor new (record { output = output; near = near; answer = answer } ∷ hearings)
 Hears-stands old new Nothing near answer hearings h was =
-    StandsFor-quiet new _ hearings (λ ch sid m l. let e = l.assigned in cc) (λ ch m sid iuc _ gives. gives) (rw h.1 was)
+    StandsFor-quiet new _ hearings (λ ch sid first last e. cc) (λ ch m sid iuc _ gives. gives) (rw h.1 was)
 Hears-stands old new (Refused n) near answer hearings h was =
-    StandsFor-quiet new _ hearings (λ ch sid m l. let e = l.assigned in cc) (λ ch m sid iuc _ gives. gives) (rw h.1 was)
+    StandsFor-quiet new _ hearings (λ ch sid first last e. cc) (λ ch m sid iuc _ gives. gives) (rw h.1 was)
 Hears-stands old new (ChannelSet ch ucd) near answer hearings h was =
-    StandsFor-quiet new _ hearings (λ ch sid m l. let e = l.assigned in cc) (λ ch m sid iuc _ gives. gives)
-    (rw h.1 (StandsFor-kept old _ hearings refl refl (λ other. clock_of-with_ucd old.channels ch ucd other) (λ ch m sid iuc _. (λ a. a, λ a. a)) was))
+    StandsFor-quiet new _ hearings (λ ch sid first last e. cc) (λ ch m sid iuc _ gives. gives)
+    (rw h.1 (StandsFor-kept old _ hearings refl (λ other. same_alike other (clock_of (with_ucd old.channels ch ucd (channel_of old.channels ch)) other) old.leases old.leases refl) (λ other. clock_of-with_ucd old.channels ch ucd other) (λ ch m sid iuc _. (λ a. a, λ a. a)) was))
 Hears-stands old new (Assigned modem ch sid first last) near answer hearings h was =
     Assigned-stands old new modem ch sid first last near answer hearings (modem == old.id) refl h was
 Hears-stands old new (MapOutput ch₀ start₀ len₀ bytes) near Taken hearings (map, start, stop, reads, c, found, same_ucd, late, takes) was =
     StandsFor-taken old new hearings ch₀ start₀ len₀ bytes near c map start stop reads found takes was
 Hears-stands old new (MapOutput ch₀ start₀ len₀ bytes) near NotMine hearings h was = absurd h
 Hears-stands old new (MapOutput ch₀ start₀ len₀ bytes) near OtherUcd hearings (map, start, stop, reads, other, same) was =
-    StandsFor-quiet new _ hearings (λ ch sid m l. let e = l.assigned in cc) (λ ch m sid iuc e gives. cc) (rw same was)
+    StandsFor-quiet new _ hearings (λ ch sid first last e. cc) (λ ch m sid iuc e gives. cc) (rw same was)
 Hears-stands old new (MapOutput ch₀ start₀ len₀ bytes) near Past hearings (map, start, stop, reads, c, found, same_ucd, late, passes) was =
-    StandsFor-quiet new _ hearings (λ ch sid m l. let e = l.assigned in cc) (λ ch m sid iuc e gives. cc)
-    (StandsFor-kept old new hearings passes.id passes.leases (λ ch. rw passes.channels (clock_of-row c (max c.clock near) c.backoff old.channels map.head.channel ch found (omega arith))) passes.held.grants was)
+    StandsFor-quiet new _ hearings (λ ch sid first last e. cc) (λ ch m sid iuc e gives. cc)
+    (StandsFor-kept old new hearings passes.id (gone_alike old new c map.head.channel (max c.clock near) c.backoff found passes.channels passes.leases) (λ ch. rw passes.channels (clock_of-row c (max c.clock near) c.backoff old.channels map.head.channel ch found (omega arith))) passes.held.grants was)
 Hears-stands old new (MapOutput ch₀ start₀ len₀ bytes) near Unreadable hearings h was =
-    StandsFor-quiet new _ hearings (λ ch sid m l. let e = l.assigned in cc) (λ ch m sid iuc e gives. cc) (rw h.1 was)
+    StandsFor-quiet new _ hearings (λ ch sid first last e. cc) (λ ch m sid iuc e gives. cc) (rw h.1 was)
 
 -- the same where the answer may be want of memory
 pub stands_if_ok : {E : Type 0} (r : Result Heard E) (old new : State) (output : Output) (near : ℕ) → IfOk r (λ answer. Hears old output near answer new) → IfOk r (λ answer. (hearings : List Hearing) → StandsFor old hearings → StandsFor new (record { output = output; near = near; answer = answer } ∷ hearings))
@@ -221,8 +247,8 @@ stands_if_ok (Err e) old new output near h = tt
 -- a tick keeps what a modem stands for
 pub Ticks-stands : (old new : State) (c : Channel) (ch slot random : ℕ) (sending : Option Sending) (hearings : List Hearing) → channel_of old.channels ch ≡ Some c → c.clock ≤ slot → Ticks old c slot random sending new → StandsFor old hearings → StandsFor new hearings
 Ticks-stands old new c ch slot random sending hearings found late ticks was =
-    StandsFor-kept old new hearings ticks.id ticks.leases (λ other. rw ticks.channels (clock_of-row c (slot + 1) c.backoff old.channels ch other found (omega arith))) ticks.held.grants was
+    StandsFor-kept old new hearings ticks.id (λ other. same_alike other (clock_of new.channels other) new.leases old.leases ticks.leases) (λ other. rw ticks.channels (clock_of-row c (slot + 1) c.backoff old.channels ch other found (omega arith))) ticks.held.grants was
 
 -- a change of the wants alone keeps it
 pub wants_stand : (old : State) (wants : List Want) (hearings : List Hearing) → StandsFor old hearings → StandsFor (record old { wants = wants }) hearings
-wants_stand old wants hearings was = record { leases = was.leases; holds = was.holds }
+wants_stand old wants hearings was = record { leases = was.leases; lasts = was.lasts; holds = was.holds }

@@ -1,5 +1,5 @@
 -- What a modem has heard, and what that gives its SIDs.
-use Rattle.std.specs.Prelude.{◌≡◌, ℕ, ◌-◌, ◌≤◌, true, List, [], ◌∷◌, ◌⊎◌, ◌↔◌, Option, Some, None}
+use Rattle.std.specs.Prelude.{◌≡◌, ℕ, ◌+◌, ◌-◌, ◌^◌, ◌<◌, ◌≤◌, true, List, [], ◌∷◌, ◌⊎◌, ◌↔◌, Option, Some, None}
 use Rattle.minislot_time.specs.Wire.{IsNear}
 use Rattle.map_body.specs.declared.element.Element.{Element}
 use Rattle.map_body.specs.Cell.{IsCell}
@@ -11,7 +11,7 @@ use Rattle.modem.specs.declared.types.Heard.{Heard}
 use Rattle.modem.specs.declared.types.Heard.TheVariants.{Taken}
 use Rattle.modem.specs.declared.types.Sending.{Sending}
 use Rattle.modem.specs.declared.types.Sending.TheVariants.{Unicast, Polled, Request}
-use Rattle.modem.specs.State.{State, HasAt, is_own_at, clock_of}
+use Rattle.modem.specs.State.{State, HasAt, is_own_at, is_own_from, clock_of}
 
 -- an output that was heard near a time, and what the modem answered to it
 pub record Hearing : Type 0 where
@@ -55,6 +55,18 @@ abbrev pub WasLeased : ℕ → List Hearing → ℕ → ℕ → ℕ → Type 0
 WasLeased id [] ch sid m = ⊥
 WasLeased id (h ∷ earlier) ch sid m = Leases id h.output ch sid m ⊎ WasLeased id earlier ch sid m
 
+-- the output assigns the SID to the modem for a lease that ends at minislot m or later
+pub record LeasesFrom (id : ℕ) (output : Output) (ch sid m : ℕ) : Type 0 where
+  pub first : ℕ
+  pub last : ℕ
+  pub assigned : output ≡ Assigned id ch sid first last
+  pub goes_on : m ≤ last
+
+-- the hearings, the newest first, have a lease of the SID to the modem that ends at minislot m or later
+abbrev pub WasLeasedFrom : ℕ → List Hearing → ℕ → ℕ → ℕ → Type 0
+WasLeasedFrom id [] ch sid m = ⊥
+WasLeasedFrom id (h ∷ earlier) ch sid m = LeasesFrom id h.output ch sid m ⊎ WasLeasedFrom id earlier ch sid m
+
 -- some map that the modem heard as Taken gives the SID minislot m, and a lease that it had heard before covers it; the newest hearing first
 abbrev pub HeldBy : ℕ → List Hearing → ℕ → ℕ → ℕ → ℕ → Type 0
 HeldBy id [] ch m sid iuc = ⊥
@@ -64,9 +76,14 @@ HeldBy id (h ∷ earlier) ch m sid iuc = ((h.answer ≡ Taken) × Gives h.output
 abbrev pub Held : ℕ → List Hearing → ℕ → ℕ → ℕ → Type 0
 Held id hearings ch m sid = (iuc : ℕ) × HeldBy id hearings ch m sid iuc
 
--- a modem in this state may have heard just this, the newest first: its leases cover what was leased to it, and from its clock on what it holds is exactly what was held
+-- minislot m isn't 2^14 minislots or more before the modem's clock on the channel
+abbrev pub IsLate : State → ℕ → ℕ → Type 0
+IsLate v ch m = clock_of v.channels ch < m + 2 ^ 14
+
+-- a modem in this state may have heard just this, the newest first: but for what is long past its leases cover what was leased to it and go on as long, and from its clock on what it holds is exactly what was held
 pub record StandsFor (v : State) (hearings : List Hearing) : Type 0 where
-  pub leases : (ch sid m : ℕ) → (is_own_at v.leases ch sid m ≡ true) ↔ WasLeased v.id hearings ch sid m
+  pub leases : (ch sid m : ℕ) → IsLate v ch m → (is_own_at v.leases ch sid m ≡ true) ↔ WasLeased v.id hearings ch sid m
+  pub lasts : (ch sid m : ℕ) → IsLate v ch m → (is_own_from v.leases ch sid m ≡ true) ↔ WasLeasedFrom v.id hearings ch sid m
   pub holds : (ch m sid iuc : ℕ) → clock_of v.channels ch ≤ m → HasAt v.grants ch m sid iuc ↔ HeldBy v.id hearings ch m sid iuc
 
 -- the SID of a unicast transmission

@@ -6,6 +6,7 @@ pub mod Held
 pub mod Hears
 pub mod Ticks
 pub mod LetsGo
+pub mod OldLeases
 pub mod NextEvent
 pub mod Idle
 pub mod Steps

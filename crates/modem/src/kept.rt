@@ -22,7 +22,7 @@ use map_body::{Interval, Iuc, Sid};
 use std::alloc::{AllocError, Global};
 
 /// An interval that covers a minislot began at most so many minislots before: an offset in a MAP has 14 bits.
-const REACH: u64 = 0x3FFF;
+pub(crate) const REACH: u64 = 0x3FFF;
 
 /// An element's minislots of a channel that a modem keeps, from `start` up to `stop`.
 #[derive(Clone, Copy, PartialEq, Eq)]

@@ -1,5 +1,5 @@
-//! What a modem knows of a channel, the leases of its SIDs and its wants. Crates above see channels and leases by the
-//! functions of `specs/` alone.
+//! What a modem knows of a channel, the leases of its SIDs and its wants. Crates above see channels by the functions of
+//! `specs/` alone.
 
 /// A channel that the modem knows: its UCD Count, its clock (a minislot) and the latest data back-offs, start
 /// and end.
@@ -12,8 +12,8 @@ pub(crate) struct Channel {
 }
 
 /// A lease: a SID of a channel is the modem's from the minislot `first` to the minislot `last`.
-#[derive(Clone, Copy)]
-pub(crate) struct Lease {
+#[derive(Clone, Copy, Debug, PartialEq, Eq)]
+pub struct Lease {
     pub channel: u8,
     pub sid: u16,
     pub first: u64,

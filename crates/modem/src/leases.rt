@@ -1,11 +1,13 @@
 //! The leases of a modem's SIDs, over slices.
 
-ghost use Rattle.std.specs.Prelude.{◌≡◌, ℕ, ◌<◌, ◌≤◌, ◌^◌, IfSome};
-ghost use Rattle.modem.specs.State.{is_of, is_lease, covers, has_lease, is_own_at, is_own_from};
+ghost use Rattle.std.specs.Prelude.{◌≡◌, ℕ, ◌<◌, ◌≤◌, ◌^◌, IfSome, IsErr, OnErr, OnOk, false, true};
+ghost use Rattle.modem.specs.State.{is_of, is_lease, covers, has_lease, is_own_at, is_own_from, is_recent, recent, with_lease};
 ghost use Rattle.modem.specs.Idle.{IsBefore, IsSameIn, CoverSame};
 
 use crate::edges::sooner;
+use crate::kept::REACH;
 use crate::known::Lease;
+use std::alloc::AllocError;
 
 /// A lease of this SID of a channel.
 pub(crate) fn is_of(lease: &Lease, ch: u8, sid: u16) -> bool
@@ -21,8 +23,8 @@ fn is_lease(lease: &Lease, other: Lease) -> bool
         && (lease.first == other.first && lease.last == other.last)
 }
 
-/// Whether the lease is one of them.
-pub(crate) fn has_lease(leases: &[Lease], lease: Lease) -> bool
+// Whether the lease is one of them.
+fn has_lease(leases: &[Lease], lease: Lease) -> bool
     ensures { result ≡ has_lease leases.now lease }
 {
     leases.iter().any(|l| is_lease(l, lease))
@@ -46,6 +48,35 @@ pub(crate) fn is_own_from(leases: &[Lease], ch: u8, sid: u16, clock: u64) -> boo
     ensures { result ≡ is_own_from leases.now ch sid clock }
 {
     leases.iter().any(|l| is_of(l, ch, sid) && clock <= l.last)
+}
+
+// Whether it is of another channel, or ended at most REACH before the channel's clock, if at all.
+fn is_recent(lease: &Lease, ch: u8, clock: u64) -> bool
+    ensures { result ≡ is_recent ch clock lease.now }
+{
+    !(lease.channel == ch) || clock.saturating_sub(REACH) <= lease.last
+}
+
+/// Lets go of the channel's leases that ended more than REACH before its clock. It takes no memory.
+pub(crate) fn keep_recent(leases: &mut Vec<Lease>, ch: u8, clock: u64)
+    ensures { leases.new.items ≡ recent ch clock leases.old.items }
+{
+    leases.retain(|l| is_recent(l, ch, clock));
+}
+
+/// Keeps one more lease, once, and lets go of the old ones of its channel. It takes no memory for a lease that is there
+/// or old.
+pub(crate) fn add(leases: &mut Vec<Lease>, lease: Lease, clock: u64) -> Result<(), AllocError>
+    ensures ok { OnOk result (leases.new.items ≡ recent lease.channel clock (with_lease leases.old.items lease)) }
+    ensures err { OnErr result (leases.new.items ≡ leases.old.items) }
+    ensures known { IsErr result → has_lease leases.old.items lease ≡ false }
+    ensures young { IsErr result → is_recent lease.channel clock lease ≡ true }
+{
+    if !has_lease(leases.as_slice(), lease) && is_recent(&lease, lease.channel, clock) {
+        leases.push(lease)?;
+    }
+    keep_recent(leases, lease.channel, clock);
+    Ok(())
 }
 
 // The next minislot at which a lease begins, is in its last minislot, or is over.

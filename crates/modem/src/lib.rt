@@ -4,6 +4,7 @@
 mod action;
 mod channels;
 mod edges;
+mod forgotten;
 mod intervals;
 mod kept;
 mod known;
@@ -15,8 +16,9 @@ mod types;
 mod wants;
 
 pub use action::{Action, NextEvent};
+pub use forgotten::old_leases;
 pub use kept::KeptInterval;
-pub use known::{Progress, Want};
+pub use known::{Lease, Progress, Want};
 pub use modem::{Modem, OfChannel};
 pub use owner::one_owner;
 pub use skipped::quiet_ticks;

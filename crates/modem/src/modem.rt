@@ -3,9 +3,9 @@
 ghost use Rattle.std.specs.Prelude.{◌≡◌, ℕ, ◌+◌, ◌^◌, ◌<◌, ◌≤◌, ◌↔◌, map, None, Some, Ok, Err, OnOk, OnErr, IfOk, IfErr, IfSome, IfNone, IsOkAnd, IsErr, List, Option, true, false, ◌∷◌, ◌++◌, [], ◌⊎◌, ◌==◌, MatchBool};
 ghost use Rattle.std.specs.Option.{option_map};
 ghost use Rattle.std.specs.List.{list_any};
-ghost use Rattle.modem.specs.State.{new_modem, channel_clock, channel_of, has_lease, is_own_from, with_ucd, with_lease, HasAt};
+ghost use Rattle.modem.specs.State.{new_modem, channel_clock, channel_of, clock_of, has_lease, is_own_from, is_recent, with_ucd, HasAt};
 ghost use Rattle.modem.specs.Held.{StandsFor, Hearing, Held, unicast_sid};
-ghost use Rattle.modem.specs.Hears.{Hears, HearsMap, IsDue, MayGrow, Passes, Takes};
+ghost use Rattle.modem.specs.Hears.{Hears, HearsMap, IsDue, MayGrow, Passes, Takes, leases_heard};
 ghost use Rattle.modem.specs.Wants.{is_own_now, is_want, lasting, want_refusal, new_want};
 ghost use Rattle.modem.specs.Ticks.{Ticks, Counts};
 ghost use Rattle.modem.specs.KeptIntervals.{kept_interval, IsOfChannel};
@@ -104,6 +104,14 @@ impl Modem {
         self.wants.as_slice()
     }
 
+    /// The leases that the modem keeps, of all channels. One that ended 2^14 minislots or more before its channel's clock
+    /// goes as the modem hears a lease of its own, or a MAP of the channel that is Taken or Past.
+    pub fn leases(&self) -> &[Lease]
+        ensures { result.now ≡ self.now.leases }
+    {
+        self.leases.as_slice()
+    }
+
     /// Takes a request of n minislots, 1 to 255, for a SID of which a lease ends at the channel's clock or later.
     /// Want of memory never comes in place of another refusal.
     pub fn want(&mut self, ch: u8, sid: u16, n: u16) -> Result<(), WantFault>
@@ -176,7 +184,7 @@ impl Modem {
     }
 
     /// Hears an output near a time. Of a Map only the bytes are looked at. It takes memory only for a channel
-    /// that wasn't known, for a new SID of its own, and for a map that is taken; every other answer is given
+    /// that wasn't known, for a new lease of its own, and for a map that is taken; every other answer is given
     /// however little there is. It costs the map's elements times the modem's SIDs and wants, and for each element that is
     /// kept the logarithm of what is kept, whatever was heard before.
     pub fn hear(&mut self, output: &Output, near: Slot) -> Result<Heard, AllocError>
@@ -237,17 +245,16 @@ impl Modem {
     }
 
     fn hear_assigned(&mut self, modem: u32, lease: Lease) -> Result<Heard, AllocError>
-        ensures ok { IfOk result (λ answer. MatchBool (modem == self.old.id) ((answer ≡ Heard.Taken) × (self.new ≡ record self.old { leases = with_lease self.old.leases lease })) ((answer ≡ Heard.NotMine) × (self.new ≡ self.old))) }
+        ensures ok { IfOk result (λ answer. MatchBool (modem == self.old.id) ((answer ≡ Heard.Taken) × (self.new ≡ record self.old { leases = leases_heard self.old lease })) ((answer ≡ Heard.NotMine) × (self.new ≡ self.old))) }
         ensures err { OnErr result (self.new ≡ self.old) }
-        ensures memory { IsErr result → (modem ≡ self.old.id) × (has_lease self.old.leases lease ≡ false) }
+        ensures memory { IsErr result → (modem ≡ self.old.id) × (has_lease self.old.leases lease ≡ false)
+            × (is_recent lease.channel (clock_of self.old.channels lease.channel) lease ≡ true) }
     {
         if modem != self.id {
             return Ok(Heard::NotMine);
         }
-        if leases::has_lease(self.leases.as_slice(), lease) {
-            return Ok(Heard::Taken);
-        }
-        self.leases.push(lease)?;
+        let clock = channels::clock_of(self.channels.as_slice(), lease.channel);
+        leases::add(&mut self.leases, lease, clock)?;
         Ok(Heard::Taken)
     }
 
@@ -292,6 +299,7 @@ impl Modem {
         kept::let_go(&mut self.grants, channel.id, clock);
         kept::let_go(&mut self.open_to_all, channel.id, clock);
         wants::keep_lasting(&mut self.wants, self.leases.as_slice(), channel.id, clock);
+        leases::keep_recent(&mut self.leases, channel.id, clock);
         channels::set(&mut self.channels, Channel { clock, ..channel });
     }
 
@@ -329,6 +337,7 @@ impl Modem {
         kept::let_go(&mut self.open_to_all, head.channel, clock);
         self.wants = wants;
         wants::keep_lasting(&mut self.wants, leases, channel.id, clock);
+        leases::keep_recent(&mut self.leases, channel.id, clock);
         channels::set(
             &mut self.channels,
             Channel {

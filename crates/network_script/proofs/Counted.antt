@@ -1,10 +1,17 @@
 -- The counts of failures, event by event.
-use Rattle.std.proofs.Common.{◌≡◌, ◌≤◌, ◌+◌, ◌-◌, ◌^◌, ◌⊎◌, inl, inr, ℕ, List, [], ◌∷◌, Option, Some, None, Bool, true, false, slice_get, slice_set, refl, sym, ap, ◌∙◌, subst, arith, ◌&&◌, if◌then◌else◌}
+use Rattle.std.proofs.Common.{◌≡◌, ◌≤◌, ◌+◌, ◌-◌, ◌^◌, ◌⊎◌, inl, inr, ℕ, List, [], ◌∷◌, Option, Some, None, Bool, true, false, Result, Ok, Err, slice_get, slice_set, refl, sym, ap, ◌∙◌, subst, arith, ◌&&◌, if◌then◌else◌}
 use Rattle.std.proofs.lemmas.Bool.Decides.{eqb_tells}
 use Rattle.std.proofs.lemmas.Bool.{cases_lt, and_parts, false≢true}
 use Rattle.std.proofs.lemmas.Option.{slice_get_within}
 use Rattle.std.proofs.Math.Nat.{min-eq_left, min-eq_right}
 use Rattle.acceptor.specs.Faults.{HasRisen}
+use Rattle.node.specs.Calls.{TellsStore, TellsStoreOfRestart, Who}
+use Rattle.proposer.specs.declared.fault.NodeFault.{NodeFault}
+use Rattle.proposer.specs.declared.fault.NodeFault.TheVariants.{NotLeading, LogFull, RoundsSpent, ValueTooLong, OutOfMemory, StoreRefused, Down}
+use Rattle.seats.specs.Acts.{TellsStoreOf}
+use Rattle.seats.specs.Moves.{Ask}
+use Rattle.seats.specs.Moves.Ask.{Call, TakeThenCrash, Release, Crash, Restart}
+use Rattle.seats.specs.declared.answer.Answer.TheVariants.{Sent, Finished, Released, Refused, Fault, Crashed}
 use Rattle.world_events.specs.declared.event.Event.{Event}
 use Rattle.world_events.specs.declared.event.Event.TheVariants as event
 use Rattle.seats.specs.declared.answer.Answer.{Answer}
@@ -24,6 +31,51 @@ accounts_loud false before after account loud = absurd (false≢true loud)
 accounts_quiet : (b : Bool) (before after : ℕ) → Accounts b before after → b ≡ false → after ≡ before
 accounts_quiet true before after account quiet = absurd (false≢true (sym quiet))
 accounts_quiet false before after account quiet = account
+
+-- what an answer tells of a store, where it is no fault of that
+quiet_fault : (fault : NodeFault) (old new : Who) → TellsStore {T = Unit {0}} old (Err fault) new → is_store_fault (Fault fault) ≡ false → new.failures ≡ old.failures
+quiet_fault StoreRefused old new tells quiet = absurd (false≢true (sym quiet))
+quiet_fault Down old new tells quiet = absurd (false≢true (sym quiet))
+quiet_fault NotLeading old new tells quiet = tells.0
+quiet_fault LogFull old new tells quiet = tells.0
+quiet_fault RoundsSpent old new tells quiet = tells.0
+quiet_fault ValueTooLong old new tells quiet = tells.0
+quiet_fault OutOfMemory old new tells quiet = tells.0
+
+quiet_restart : (fault : NodeFault) (old new : Who) → TellsStoreOfRestart {T = Unit {0}} old (Err fault) new → is_store_fault (Fault fault) ≡ false → new.failures ≡ old.failures
+quiet_restart StoreRefused old new tells quiet = absurd (false≢true (sym quiet))
+quiet_restart Down old new tells quiet = absurd (false≢true (sym quiet))
+quiet_restart NotLeading old new tells quiet = tells.0
+quiet_restart LogFull old new tells quiet = tells.0
+quiet_restart RoundsSpent old new tells quiet = tells.0
+quiet_restart ValueTooLong old new tells quiet = tells.0
+quiet_restart OutOfMemory old new tells quiet = tells.0
+
+quiet_answer : (answer : Answer) (ask : Ask) (old new : Who) → TellsStoreOf answer ask old new → is_store_fault answer ≡ false → new.failures ≡ old.failures
+quiet_answer (Fault fault) Restart old new tells quiet = quiet_restart fault old new tells quiet
+quiet_answer (Fault fault) (Call cause) old new tells quiet = quiet_fault fault old new tells quiet
+quiet_answer (Fault fault) (TakeThenCrash l) old new tells quiet = quiet_fault fault old new tells quiet
+quiet_answer (Fault fault) (Release now) old new tells quiet = quiet_fault fault old new tells quiet
+quiet_answer (Fault fault) Crash old new tells quiet = quiet_fault fault old new tells quiet
+quiet_answer Finished Restart old new tells quiet = tells.0
+quiet_answer Finished (Call cause) old new tells quiet = tells.0
+quiet_answer Finished (TakeThenCrash l) old new tells quiet = tells.0
+quiet_answer Finished (Release now) old new tells quiet = tells.0
+quiet_answer Finished Crash old new tells quiet = tells.0
+quiet_answer (Sent n) ask old new tells quiet = tells.0
+quiet_answer (Released n) ask old new tells quiet = tells.0
+quiet_answer (Refused why) ask old new tells quiet = tells.0
+quiet_answer Crashed ask old new tells quiet = tells.0
+quiet_answer other ask old new tells quiet = tells.0
+
+accounts_by : (b : Bool) (before after : ℕ) → (b ≡ true → HasRisen before after) → (b ≡ false → after ≡ before) → Accounts b before after
+accounts_by true before after loud quiet = loud refl
+accounts_by false before after loud quiet = quiet refl
+
+-- the count of a node that answers so goes on as the answer tells
+pub acted_accounts : (answer : Answer) (ask : Ask) (old new : Who) → TellsStoreOf answer ask old new → (is_store_fault answer ≡ true → HasRisen old.failures new.failures)
+    → Accounts (is_store_fault answer) old.failures new.failures
+acted_accounts answer ask old new tells rose = accounts_by (is_store_fault answer) old.failures new.failures rose (quiet_answer answer ask old new tells)
 
 -- nothing was counted
 pub count_still : (c : Counts) (event : Event) (answer : Answer) → is_store_fault answer ≡ false → CountNext c event answer c

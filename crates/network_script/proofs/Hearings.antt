@@ -8,9 +8,9 @@ use Rattle.grant_machine.specs.declared.output.Output.TheVariants as output
 use Rattle.modem.specs.declared.types.Heard.{Heard}
 use Rattle.modem.specs.declared.types.Heard.TheVariants as heard
 use Rattle.modem.specs.declared.types.Sending.{Sending}
-use Rattle.modem.specs.State.{KnownChannel, channel_clock, State, channel_of, with_lease, lease_of}
+use Rattle.modem.specs.State.{KnownChannel, channel_clock, State, channel_of, lease_of}
 use Rattle.modem.specs.Held.{Hearing, Held, StandsFor, unicast_sid}
-use Rattle.modem.specs.Hears.{Hears}
+use Rattle.modem.specs.Hears.{Hears, leases_heard}
 use Rattle.modem.specs.Ticks.{Ticks}
 use Rattle.modem.specs.Owner.{IsTimely}
 use Rattle.world_events.specs.declared.event.Event.{Event}
@@ -53,7 +53,7 @@ hears_id old new (output.Refused n) near h is = ap (λ (s : State). s.id) is.1
 hears_id old new (output.ChannelSet ch ucd) near h is = ap (λ (s : State). s.id) is.1
 hears_id old new (output.Assigned modem ch sid first last) near h is = go (modem == old.id) is
   where
-    go : (mine : Bool) → MatchBool mine ((h ≡ heard.Taken) × (new ≡ record old { leases = with_lease old.leases (lease_of ch sid first last) })) ((h ≡ heard.NotMine) × (new ≡ old)) → new.id ≡ old.id
+    go : (mine : Bool) → MatchBool mine ((h ≡ heard.Taken) × (new ≡ record old { leases = leases_heard old (lease_of ch sid first last) })) ((h ≡ heard.NotMine) × (new ≡ old)) → new.id ≡ old.id
     go true is = ap (λ (s : State). s.id) is.1
     go false is = ap (λ (s : State). s.id) is.1
 hears_id old new (output.Map ch start len bytes) near heard.Taken is = is.8.id
@@ -130,7 +130,7 @@ ok_set ids outputs modems sent m r r' here goes ok = record {
         still x sid old.0 old.1 old.2 (set_forth modems m x.modem r' old.0 r here old.1)
 
 wants_follow : (outputs : List ReleasedOutput) (r r' : Receiver) (ch sid n : ℕ) (told : Answer) → Wants r ch sid n told r' → Follows outputs r r'
-wants_follow outputs r r' ch sid n answer.Finished is = subst (λ (x : Receiver). Follows outputs r x) (sym is.1) record { id = refl; stands = λ s. record { leases = s.leases; holds = s.holds }; heard = λ a. a; held = λ k c m x h. h }
+wants_follow outputs r r' ch sid n answer.Finished is = subst (λ (x : Receiver). Follows outputs r x) (sym is.1) record { id = refl; stands = λ s. record { leases = s.leases; lasts = s.lasts; holds = s.holds }; heard = λ a. a; held = λ k c m x h. h }
 wants_follow outputs r r' ch sid n (answer.WantRefused fault) is = follows_same outputs r r' is.1
 wants_follow outputs r r' ch sid n (answer.Refused refusal.OutOfMemory) is = follows_same outputs r r' is.1
 wants_follow outputs r r' ch sid n told none = absurd none

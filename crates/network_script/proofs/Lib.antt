@@ -24,8 +24,6 @@ pub mod Whole
 pub mod Joining
 mod Answered
 pub mod Places
-mod Outwardly
-pub mod Acts
+pub mod Asking
 pub mod Same
 pub mod Counted
-pub mod Tallied

@@ -23,7 +23,7 @@ use Rattle.map_release.specs.Released.{numbered, has_ended}
 use Rattle.seats.specs.Release.{released, released_all}
 use Rattle.network_script.specs.World.{Written, released_by}
 use Rattle.seats.specs.Modems.{ModemNext, sent_at}
-use Rattle.seats.specs.Moves.{Ask, Move, quiet, whole, lost, Fails, Ends, EndsInCrash, Releases, Starts, MovesUp, MovesDown}
+use Rattle.seats.specs.Moves.{Ask, Move, quiet, lost, Fails, Ends, EndsInCrash, Releases, Starts, MovesUp, MovesDown}
 use Rattle.seats.specs.Moves.Ask.{Call, TakeThenCrash, Release as ReleaseAt, Crash as CrashNow, Restart as StartAgain}
 use Rattle.network_script.specs.Next.{after, OfNode, Comes, OnModems, Next}
 use Rattle.network_script.proofs.After.{after_quiet, after_same, after_write_alone, after_lost, after_whole, after_gives}

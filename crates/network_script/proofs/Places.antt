@@ -162,9 +162,6 @@ numbered_seats {N} {g} nodes seats seated numbered =
     let size : length seats ≡ length nodes = sym (length-map seats (node_of {N = N} {g = g})) ∙ ap length seated in
     seen_through f seats ∙ (ap (map f) seated ∙ (numbered ∙ ap (λ n. map (λ k. (k, n)) (range_with_len 0 n)) (sym size)))
 
--- what an event of one node keeps
-pub ruleset one_node = (numbered_set, honest_before, trust_at, trust_same)
-
 -- there are as many standings as nodes
 pub standings_length : {N : Type 0} {g : Ghosts N} (seats : List (Seat N g)) (nodes : List Standing) → AreStandings seats nodes → length nodes ≡ length seats
 standings_length {N} {g} seats nodes each = each_length (Stands {N = N} {g = g}) seats nodes each

@@ -6,6 +6,7 @@ pub mod Trust
 pub mod Worlds
 pub mod Outward
 pub mod Counts
+pub mod Asking
 pub mod Headline
 pub mod Plain
 pub mod Examples

@@ -1,5 +1,5 @@
 -- What each event does to the written world, by cases, and whole runs.
-use Rattle.std.specs.Prelude.{◌≡◌, ℕ, List, ◌++◌, Option, Some, None, slice_get, slice_set}
+use Rattle.std.specs.Prelude.{◌≡◌, ℕ, Bool, true, false, List, ◌++◌, Option, Some, None, slice_get, slice_set}
 use Rattle.ballots.specs.declared.letters.Letter.{Letter}
 use Rattle.acceptor.specs.Content.{record_write}
 use Rattle.node.specs.View.{Standing}
@@ -33,6 +33,11 @@ after w k m = record w {
 abbrev pub OfNode : ℕ → Written → ℕ → Option Standing → Ask → Answer → Written → Type 0
 OfNode members w k None ask answer w' = Unmoved w (Refused NoNode) answer w'
 OfNode members w k (Some s) ask answer w' = (m : Move) × Moves members k s ask answer m × (w' ≡ after w k m)
+
+-- what a letter asks, that is taken before a crash or is not
+abbrev pub taking : Bool → Letter → Ask
+taking true l = TakeThenCrash l
+taking false l = Call (Received l)
 
 -- a letter, if there is one, comes to the node that it is to, of which it asks so
 abbrev pub Comes : ℕ → Written → Option Letter → (Letter → Ask) → Answer → Written → Type 0

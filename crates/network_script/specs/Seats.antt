@@ -1,12 +1,8 @@
 -- The nodes of a world, as a list.
-use Rattle.std.specs.Prelude.{◌≡◌, ◌<◌, ◌≤◌, ℕ, List, [], ◌∷◌, Option, Some, None, Bool, true, false, map, length, All, slice_get, slice_index_or}
+use Rattle.std.specs.Prelude.{◌≡◌, List, [], ◌∷◌, Bool, true, map, length, All}
 use Rattle.std.specs.List.{range_with_len}
 use Rattle.node.specs.declared.node.Node.{Ghosts}
-use Rattle.acceptor.specs.Content.{Content, Write}
 use Rattle.node.specs.View.{Standing}
-use Rattle.node.specs.View.Standing.{Stopped}
-use Rattle.world_events.specs.declared.refusal.Refusal.{Refusal}
-use Rattle.world_events.specs.declared.refusal.Refusal.TheVariants.{NodeDown, NoNode}
 use Rattle.seats.specs.declared.seat.Seat.{Seat}
 use Rattle.seats.specs.Occupant.{Stands, IsClean, IsHonest, is_up, member, node_of}
 
@@ -40,26 +36,6 @@ pub record AllKeepTrust {N : Type 0} {g : Ghosts N} (old new : List (Seat N g)) 
 abbrev pub ups : {N : Type 0} {g : Ghosts N} → List (Seat N g) → List Bool
 ups {N} {g} seats = map (is_up {N = N} {g = g}) seats
 
--- why a node can't be called, where these are up: there is no node k, or it has crashed
-abbrev pub IsNotUp : List Bool → ℕ → Refusal → Type 0
-IsNotUp up k NoNode = slice_get up k ≡ None
-IsNotUp up k NodeDown = slice_get up k ≡ Some false
-IsNotUp up k other = ⊥
-
--- the node at place k is up
-abbrev pub IsUpAt : {N : Type 0} {g : Ghosts N} → List (Seat N g) → ℕ → Type 0
-IsUpAt {N} {g} seats k = (k < length seats) × ((seat : Seat N g) → seat ≡ slice_index_or seats k seat → is_up seat ≡ true)
-
 -- a seat for each node, in order, and each is up
 abbrev pub AreSeated : {N : Type 0} {g : Ghosts N} → List N → List (Seat N g) → Type 0
 AreSeated {N} {g} nodes seats = (map (node_of {N = N} {g = g}) seats ≡ nodes) × All (λ seat. is_up seat ≡ true) seats
-
--- node k is there and crashed
-abbrev pub IsDownAt : List Standing → ℕ → Type 0
-IsDownAt nodes k = (c : Content) × (doubt : Option Write) × (slice_get nodes k ≡ Some (Stopped c doubt))
-
--- why node k can't be called: there is no such node, or it has crashed
-abbrev pub IsMissed : List Standing → ℕ → Refusal → Type 0
-IsMissed nodes k NoNode = length nodes ≤ k
-IsMissed nodes k NodeDown = IsDownAt nodes k
-IsMissed nodes k other = ⊥

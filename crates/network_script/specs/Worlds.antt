@@ -1,22 +1,18 @@
 -- Which written worlds a world stands for.
-use Rattle.std.specs.Prelude.{◌≡◌, ◌≢◌, ◌++◌, ℕ, List, [], length, Result, Ok, Err, Bool, false}
+use Rattle.std.specs.Prelude.{◌≡◌, ℕ, List, length}
 use Rattle.ballots.specs.declared.letters.Letter.{Letter}
 use Rattle.ballots.specs.Voting.{Entry}
-use Rattle.map_release.specs.declared.numbered.Numbered.{Numbered}
 use Rattle.node.specs.declared.node.Node.{Ghosts}
 use Rattle.node.specs.View.{Standing}
-use Rattle.proposer.specs.declared.fault.NodeFault.{NodeFault}
 use Rattle.world_events.specs.declared.event.Event.{Event}
 use Rattle.seats.specs.declared.answer.Answer.{Answer}
-use Rattle.seats.specs.declared.answer.Answer.TheVariants.{Sent, Finished, Released, Fault, Crashed}
 use Rattle.seats.specs.declared.answer.ReleasedOutput.{ReleasedOutput}
 use Rattle.seats.specs.declared.answer.Transmission.{Transmission}
 use Rattle.seats.specs.declared.receivers.Receivers.{Receivers}
 use Rattle.seats.specs.declared.seat.Seat.{Seat}
 use Rattle.network_script.specs.declared.world.World.{World}
-use Rattle.seats.specs.Seat.{crashed}
 use Rattle.network_script.specs.Seats.{AllClean, AllHonest, AreStandings}
-use Rattle.network_script.specs.World.{Written, released_by}
+use Rattle.network_script.specs.World.{Written}
 use Rattle.seats.specs.Receiver.{Receiver}
 use Rattle.seats.specs.Receiving.{Hold, sent_by}
 use Rattle.network_script.specs.Next.{Next}
@@ -76,35 +72,3 @@ Happens old event answer new =
     → (nodes' : List Standing) × (modems' : List Receiver) × (history' : List Entry)
     × AreStandings (seats_of new) nodes' × Hold (receivers_of new) modems'
     × Next (length nodes) (written old nodes modems history) event answer (written new nodes' modems' history')
-
--- where an answer leaves a node: it crashes for want of room, or since the event says so
-abbrev pub left : Answer → Standing → Standing
-left Crashed s = crashed s
-left Finished s = crashed s
-left answer s = s
-
--- and whether a node that was up stays so
-abbrev pub up_after : Answer → Bool → Bool
-up_after Crashed was = false
-up_after Finished was = false
-up_after answer was = was
-
--- what becomes of the letters that a node gave: they are sent, or there is no room for them
-abbrev pub Posted : Result (List Letter) NodeFault → List Letter → Answer → List Letter → Type 0
-Posted (Ok given) letters (Sent n) letters' = (n ≡ length given) × (letters' ≡ letters ++ given)
-Posted (Ok given) letters Crashed letters' = (given ≢ []) × (letters' ≡ letters)
-Posted (Err fault) letters (Fault told) letters' = (told ≡ fault) × (letters' ≡ letters)
-Posted result letters answer letters' = ⊥
-
--- they are thrown away
-abbrev pub Lost : Result (List Letter) NodeFault → Answer → Type 0
-Lost (Ok given) Finished = Unit {0}
-Lost (Err fault) (Fault told) = told ≡ fault
-Lost result answer = ⊥
-
--- what becomes of the outputs that node k gave, likewise
-abbrev pub Keeps : Result (List Numbered) NodeFault → ℕ → List ReleasedOutput → Answer → List ReleasedOutput → Type 0
-Keeps (Ok given) k outputs (Released n) outputs' = (n ≡ length given) × (outputs' ≡ outputs ++ released_by k given)
-Keeps (Ok given) k outputs Crashed outputs' = (given ≢ []) × (outputs' ≡ outputs)
-Keeps (Err fault) k outputs (Fault told) outputs' = (told ≡ fault) × (outputs' ≡ outputs)
-Keeps result k outputs answer outputs' = ⊥

@@ -1,15 +1,19 @@
 //! Nodes and modems, what they sent and what was released, one event at a time.
 
-ghost use Rattle.std.specs.Prelude.{◌≡◌, ◌++◌, List, false, All, map, OnOk, OnErr, IfOk, IfSome, IfNone};
-ghost use Rattle.node.specs.View.{Standing};
+ghost use Rattle.std.specs.Prelude.{◌≡◌, ◌++◌, false, is_ok, All, OnOk, OnErr, IfOk};
+ghost use Rattle.seats.specs.Acted.{ask_of, letters_of as letters_given, outputs_of as outputs_given};
+ghost use Rattle.seats.specs.Acts.{kept_of};
+ghost use Rattle.network_script.specs.Next.{taking as taking_lem};
 ghost use Rattle.network_script.specs.World.{released_by};
-ghost use Rattle.network_script.specs.Seats.{IsNumbered, IsNotUp, IsUpAt, IsMissed, AreSeated, AreStandings, ups};
+ghost use Rattle.network_script.specs.Seats.{IsNumbered, AreSeated};
 
 use ballots::Letter;
 use map_release::Numbered;
 use modem::Modem;
-use node::{Node, NodeFault};
-use seats::{Answer, OutOfMemory, Receivers, ReleasedOutput, Report, Seat, Transmission};
+use node::Node;
+use seats::{
+    Acted, Answer, Asked, OutOfMemory, Receivers, ReleasedOutput, Report, Seat, Transmission,
+};
 use std::alloc::{AllocError, Global};
 use world_events::{Event, Refusal};
 
@@ -42,19 +46,35 @@ fn add_outputs(
     outputs.append(&mut more)
 }
 
-/// Why node `k` can't be called: there is none, or it has crashed.
-fn missed<N: Node>(seats: &Vec<Seat<N>>, k: usize) -> Option<Refusal>
-    ensures missed { IfSome result (λ refusal. (nodes : List Standing) → AreStandings seats.now.items nodes → IsMissed nodes k refusal) }
-    ensures seen { IfSome result (IsNotUp (ups seats.now.items) k) }
-    ensures up { IfNone result (IsUpAt seats.now.items k) }
+/// Keeps what node `k` gave, all of it or nothing.
+fn keep(
+    alloc: Global,
+    letters: &mut Vec<Letter>,
+    outputs: &mut Vec<ReleasedOutput>,
+    k: usize,
+    acted: Acted,
+) -> Result<(), AllocError>
+    ensures sent { letters.new.items ≡ letters.old.items ++ kept_of (is_ok result) (letters_given acted) }
+    ensures released { outputs.new.items ≡ outputs.old.items ++ released_by k (kept_of (is_ok result) (outputs_given acted)) }
 {
-    if k >= seats.len() {
-        return Some(Refusal::NoNode);
+    match acted {
+        Acted::Sent(mut sent) => letters.append(&mut sent),
+        Acted::Released(released) => add_outputs(alloc, outputs, k, released),
+        Acted::Finished => Ok(()),
+        Acted::Refused(_) => Ok(()),
+        Acted::Fault(_) => Ok(()),
     }
-    if !seats[k].is_up() {
-        return Some(Refusal::NodeDown);
+}
+
+/// What a letter asks, that is taken before a crash or is not.
+fn taking(letter: &Letter, crashes: bool) -> Asked<'_>
+    ensures { ask_of result ≡ taking_lem crashes letter.now }
+{
+    if crashes {
+        Asked::ReceiveThenCrash(letter)
+    } else {
+        Asked::Receive(letter)
     }
-    None
 }
 
 /// A seat for each node, in order.
@@ -107,248 +127,64 @@ impl<N: Node> World<N> {
     }
 }
 
-#[tactic(auto, using(crate::proofs::Places::one_node))]
 impl<N: Node> World<N> {
-    ghost use Rattle.std.specs.Prelude.{◌≡◌, List, length, IfOk, OnErr};
-    ghost use Rattle.node.specs.Calls.{answer};
-    ghost use Rattle.node.specs.Releases.{outputs as outputs_given};
-    ghost use Rattle.node.specs.View.{Standing};
-    ghost use Rattle.world_events.specs.declared.event.Event.TheVariants as event;
-    ghost use Rattle.seats.specs.declared.answer.Answer.{Answer};
-    ghost use Rattle.seats.specs.Seat.{crashed};
-    ghost use Rattle.seats.specs.Occupant.{Stands, is_up, node_of};
+    ghost use Rattle.std.specs.Prelude.{◌≡◌, length, IfOk, OnErr};
+    ghost use Rattle.network_script.specs.Asking.{Asks, Delivers, HappensTo};
+    ghost use Rattle.network_script.specs.Counts.{CountRun, counts};
     ghost use Rattle.network_script.specs.Next.{Goes};
-    ghost use Rattle.network_script.specs.Counts.{CountNext, CountRun, counts};
-    ghost use Rattle.network_script.specs.Outward.{Seen, SeenAll};
+    ghost use Rattle.network_script.specs.Outward.{SeenAll};
     ghost use Rattle.network_script.specs.Seats.{AllKeepTrust};
-    ghost use Rattle.network_script.specs.Trust.{NoFailedRestart, NoRestartFailed};
+    ghost use Rattle.network_script.specs.Trust.{NoRestartFailed};
     ghost use Rattle.network_script.specs.World.{Written};
-    ghost use Rattle.network_script.specs.Worlds.{AreHonest, StandsFor, Happens, Posted, Lost, Keeps, left, up_after, letters_of, node_count, outputs_of, seats_of, transmissions_of};
+    ghost use Rattle.network_script.specs.Worlds.{AreHonest, StandsFor, letters_of, node_count, outputs_of, seats_of, transmissions_of};
 
-    /// Sends what a node gave. Where there is no room it is lost, and the node crashes.
-    fn post(
-        seat: &mut Seat<N>,
-        letters: &mut Vec<Letter>,
-        given: Result<Vec<Letter>, NodeFault>,
-    ) -> Answer
-        ensures node { node_of seat.new ≡ node_of seat.old }
-        ensures up { is_up seat.new ≡ up_after result (is_up seat.old) }
-        ensures stands { (s : Standing) → Stands seat.old s → Stands seat.new (left result s) }
-        ensures posted { Posted (answer given) letters.old.items result letters.new.items }
-    {
-        match given {
-            Ok(mut sent) => {
-                if sent.is_empty() {
-                    return Answer::Sent(0);
-                }
-                let count = sent.len();
-                if letters.append(&mut sent).is_err() {
-                    seat.crash();
-                    return Answer::Crashed;
-                }
-                Answer::Sent(count)
-            }
-            Err(fault) => Answer::Fault(fault),
-        }
-    }
-
-    /// Throws away what a node gave, and the node crashes. One that refused only goes on as it is.
-    fn lose(seat: &mut Seat<N>, given: Result<Vec<Letter>, NodeFault>) -> Answer
-        ensures node { node_of seat.new ≡ node_of seat.old }
-        ensures up { is_up seat.new ≡ up_after result (is_up seat.old) }
-        ensures stands { (s : Standing) → Stands seat.old s → Stands seat.new (left result s) }
-        ensures lost { Lost (answer given) result }
-    {
-        match given {
-            Ok(_) => {
-                seat.crash();
-                Answer::Finished
-            }
-            Err(fault) => Answer::Fault(fault),
-        }
-    }
-
-    /// Node `k` is asked to lead.
-    fn lead(&mut self, k: usize) -> Answer
-        ensures honesty { AreHonest self.new → AreHonest self.old }
-        ensures trust { AllKeepTrust (seats_of self.old) (seats_of self.new) }
-        ensures members { node_count self.new ≡ node_count self.old }
-        ensures next { AreHonest self.new → Happens self.old (event.Lead k) result self.new }
-        ensures counted { CountNext (counts self.old) (event.Lead k) result (counts self.new) }
-        ensures seen { Seen self.old (event.Lead k) result self.new }
-    {
-        if let Some(refusal) = missed(&self.seats, k) {
-            return Answer::Refused(refusal);
-        }
-        let seat = &mut self.seats[k];
-        let given = seat.lead();
-        World::post(seat, &mut self.letters, given)
-    }
-
-    /// Node `k` is offered a value.
-    fn offer(&mut self, k: usize, value: &[u8]) -> Answer
-        ensures honesty { AreHonest self.new → AreHonest self.old }
-        ensures trust { AllKeepTrust (seats_of self.old) (seats_of self.new) }
-        ensures members { node_count self.new ≡ node_count self.old }
-        ensures next { AreHonest self.new → Happens self.old (event.Offer k value.now) result self.new }
-        ensures counted { CountNext (counts self.old) (event.Offer k value.now) result (counts self.new) }
-        ensures seen { Seen self.old (event.Offer k value.now) result self.new }
-    {
-        if let Some(refusal) = missed(&self.seats, k) {
-            return Answer::Refused(refusal);
-        }
-        let seat = &mut self.seats[k];
-        let given = seat.offer(value);
-        World::post(seat, &mut self.letters, given)
-    }
-
-    /// Letter `i` comes to the node that it is to.
-    fn deliver(&mut self, i: usize) -> Answer
-        ensures honesty { AreHonest self.new → AreHonest self.old }
-        ensures trust { AllKeepTrust (seats_of self.old) (seats_of self.new) }
-        ensures members { node_count self.new ≡ node_count self.old }
-        ensures next { AreHonest self.new → Happens self.old (event.Deliver i) result self.new }
-        ensures counted { CountNext (counts self.old) (event.Deliver i) result (counts self.new) }
-        ensures seen { Seen self.old (event.Deliver i) result self.new }
-    {
-        if i >= self.letters.len() {
-            return Answer::Refused(Refusal::NoLetter);
-        }
-        let letter = &self.letters[i];
-        let k = usize::from(letter.to.number());
-        if let Some(refusal) = missed(&self.seats, k) {
-            return Answer::Refused(refusal);
-        }
-        let seat = &mut self.seats[k];
-        let given = seat.receive(letter);
-        World::post(seat, &mut self.letters, given)
-    }
-
-    /// Letter `i` comes to the node that it is to, its answer is thrown away, and the node crashes.
-    fn deliver_then_crash(&mut self, i: usize) -> Answer
-        ensures honesty { AreHonest self.new → AreHonest self.old }
-        ensures trust { AllKeepTrust (seats_of self.old) (seats_of self.new) }
-        ensures members { node_count self.new ≡ node_count self.old }
-        ensures next { AreHonest self.new → Happens self.old (event.DeliverThenCrash i) result self.new }
-        ensures counted { CountNext (counts self.old) (event.DeliverThenCrash i) result (counts self.new) }
-        ensures seen { Seen self.old (event.DeliverThenCrash i) result self.new }
-    {
-        if i >= self.letters.len() {
-            return Answer::Refused(Refusal::NoLetter);
-        }
-        let letter = &self.letters[i];
-        let k = usize::from(letter.to.number());
-        if let Some(refusal) = missed(&self.seats, k) {
-            return Answer::Refused(refusal);
-        }
-        let seat = &mut self.seats[k];
-        let lost = seat.receive(letter);
-        World::lose(seat, lost)
-    }
-
-    /// Node `k` crashes.
-    fn crash(&mut self, k: usize) -> Answer
-        ensures honesty { AreHonest self.new → AreHonest self.old }
-        ensures trust { AllKeepTrust (seats_of self.old) (seats_of self.new) }
-        ensures members { node_count self.new ≡ node_count self.old }
-        ensures next { AreHonest self.new → Happens self.old (event.Crash k) result self.new }
-        ensures counted { CountNext (counts self.old) (event.Crash k) result (counts self.new) }
-        ensures seen { Seen self.old (event.Crash k) result self.new }
-    {
-        if let Some(refusal) = missed(&self.seats, k) {
-            return Answer::Refused(refusal);
-        }
-        let seat = &mut self.seats[k];
-        seat.crash();
-        Answer::Finished
-    }
-
-    /// Node `k`, which crashed, starts over its records.
-    fn restart(&mut self, k: usize) -> Answer
-        ensures honesty { AreHonest self.new → AreHonest self.old }
-        ensures trust { NoFailedRestart (event.Restart k) result → AllKeepTrust (seats_of self.old) (seats_of self.new) }
-        ensures members { node_count self.new ≡ node_count self.old }
-        ensures next { AreHonest self.new → Happens self.old (event.Restart k) result self.new }
-        ensures counted { CountNext (counts self.old) (event.Restart k) result (counts self.new) }
-        ensures seen { Seen self.old (event.Restart k) result self.new }
+    /// Node `k`, if there is one, does what it is asked, and what it gives is kept.
+    fn ask(&mut self, k: usize, asked: Asked) -> Answer
+        ensures { Asks self.old k (ask_of asked.entry) result self.new }
     {
         if k >= self.seats.len() {
             return Answer::Refused(Refusal::NoNode);
         }
-        if self.seats[k].is_up() {
-            return Answer::Refused(Refusal::NodeUp);
-        }
+        let alloc = self.alloc;
         let seat = &mut self.seats[k];
-        match seat.restart() {
-            Ok(()) => Answer::Finished,
-            Err(fault) => Answer::Fault(fault),
-        }
+        let acted = seat.act(asked);
+        let told = acted.told();
+        let kept = keep(alloc, &mut self.letters, &mut self.outputs, k, acted);
+        seat.settle(told, kept)
     }
 
-    /// Keeps what node `k` released. Where there is no room it is lost, and the node crashes.
-    fn keep(
-        alloc: Global,
-        seat: &mut Seat<N>,
-        k: usize,
-        outputs: &mut Vec<ReleasedOutput>,
-        given: Result<Vec<Numbered>, NodeFault>,
-    ) -> Answer
-        ensures node { node_of seat.new ≡ node_of seat.old }
-        ensures up { is_up seat.new ≡ up_after result (is_up seat.old) }
-        ensures stands { (s : Standing) → Stands seat.old s → Stands seat.new (left result s) }
-        ensures keeps { Keeps (outputs_given given) k outputs.old.items result outputs.new.items }
+    /// Letter `i`, if there is one, comes to the node that it is to, which crashes then or does not.
+    fn deliver(&mut self, i: usize, crashes: bool) -> Answer
+        ensures { Delivers self.old i (taking_lem crashes) result self.new }
     {
-        match given {
-            Ok(released) => {
-                if released.is_empty() {
-                    return Answer::Released(0);
-                }
-                let count = released.len();
-                if add_outputs(alloc, outputs, k, released).is_err() {
-                    seat.crash();
-                    return Answer::Crashed;
-                }
-                Answer::Released(count)
-            }
-            Err(fault) => Answer::Fault(fault),
+        if i >= self.letters.len() {
+            return Answer::Refused(Refusal::NoLetter);
         }
-    }
-
-    /// Node `k` releases what it can, at a minislot time.
-    fn release(&mut self, k: usize, now: u64) -> Answer
-        ensures honesty { AreHonest self.new → AreHonest self.old }
-        ensures trust { AllKeepTrust (seats_of self.old) (seats_of self.new) }
-        ensures members { node_count self.new ≡ node_count self.old }
-        ensures next { AreHonest self.new → Happens self.old (event.Release k now) result self.new }
-        ensures counted { CountNext (counts self.old) (event.Release k now) result (counts self.new) }
-        ensures seen { Seen self.old (event.Release k now) result self.new }
-    {
-        if let Some(refusal) = missed(&self.seats, k) {
-            return Answer::Refused(refusal);
+        let letter = &self.letters[i];
+        let k = usize::from(letter.to.number());
+        if k >= self.seats.len() {
+            return Answer::Refused(Refusal::NoNode);
         }
         let alloc = self.alloc;
         let seat = &mut self.seats[k];
-        let given = seat.release(now);
-        World::keep(alloc, seat, k, &mut self.outputs, given)
+        let acted = seat.act(taking(letter, crashes));
+        let told = acted.told();
+        let kept = keep(alloc, &mut self.letters, &mut self.outputs, k, acted);
+        seat.settle(told, kept)
     }
 
     /// One event.
     fn happen(&mut self, event: &Event) -> Answer
-        ensures honesty { AreHonest self.new → AreHonest self.old }
-        ensures trust { NoFailedRestart event.now result → AllKeepTrust (seats_of self.old) (seats_of self.new) }
-        ensures members { node_count self.new ≡ node_count self.old }
-        ensures next { AreHonest self.new → Happens self.old event.now result self.new }
-        ensures counted { CountNext (counts self.old) event.now result (counts self.new) }
-        ensures seen { Seen self.old event.now result self.new }
+        ensures { HappensTo self.old event.now result self.new }
     {
         match event {
-            Event::Lead(k) => self.lead(*k),
-            Event::Offer(k, value) => self.offer(*k, value.as_slice()),
-            Event::Deliver(i) => self.deliver(*i),
-            Event::DeliverThenCrash(i) => self.deliver_then_crash(*i),
-            Event::Crash(k) => self.crash(*k),
-            Event::Restart(k) => self.restart(*k),
-            Event::Release(k, now) => self.release(*k, *now),
+            Event::Lead(k) => self.ask(*k, Asked::Lead),
+            Event::Offer(k, value) => self.ask(*k, Asked::Offer(value.as_slice())),
+            Event::Deliver(i) => self.deliver(*i, false),
+            Event::DeliverThenCrash(i) => self.deliver(*i, true),
+            Event::Crash(k) => self.ask(*k, Asked::Crash),
+            Event::Restart(k) => self.ask(*k, Asked::Restart),
+            Event::Release(k, now) => self.ask(*k, Asked::Release(*now)),
             Event::Hear(m, i, near) => self.receivers.hear(&self.outputs, *m, *i, *near),
             Event::Want(m, ch, sid, n) => self.receivers.want(*m, *ch, *sid, *n),
             Event::Tick(m, ch, slot, random) => self.receivers.tick(*m, *ch, *slot, *random),

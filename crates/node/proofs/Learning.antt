@@ -43,6 +43,11 @@ pub known_there : (view : View) (o : Option (List ℕ)) (p : ℕ) (v : List ℕ)
 known_there view (Some w) p v some = refl
 known_there view None p v some = absurd (cc (some))
 
+-- nor does a vote there, which isn't counted
+pub voted_there : (members : ℕ) (view : View) (o : Option (List ℕ)) (b p : ℕ) (v : List ℕ) (n : ℕ) → is_some o ≡ true → nothing view ≡ voted members view o b p v n
+voted_there members view (Some w) b p v n some = refl
+voted_there members view None b p v n some = absurd (cc (some))
+
 -- a vote that teaches nothing is counted
 pub voted_counts : (members : ℕ) (view : View) (o : Option (List ℕ)) (b p : ℕ) (v : List ℕ) (n : ℕ) → false ≡ teaches members view.tally o b p v n
     → nothing (record view { tally = counts view.tally o b p v n }) ≡ voted members view o b p v n

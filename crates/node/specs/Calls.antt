@@ -1,13 +1,17 @@
 -- How the calls of a node end.
-use Rattle.std.specs.Prelude.{◌≡◌, ◌⊎◌, ◌↔◌, ℕ, ◌≤◌, Bool, true, false, IsTrue, List, None, Result, Ok, Err, is_ok, Vec, ◌<◌, length}
+use Rattle.std.specs.Prelude.{◌≡◌, ◌≢◌, ◌⊎◌, ◌↔◌, ℕ, ◌≤◌, Bool, true, false, IsTrue, List, None, Result, Ok, Err, is_ok, Vec, ◌<◌, length}
 use Rattle.std.specs.declared.alloc.Global.{Global}
 use Rattle.ballots.specs.Limits.{most_places}
+use Rattle.ballots.specs.Rows.{at}
 use Rattle.ballots.specs.declared.letters.Letter.{Letter}
+use Rattle.ballots.specs.declared.letters.Note.{Note}
+use Rattle.ballots.specs.declared.letters.Note.TheVariants.{Prepare, Promise, Accept, Voted, Higher, Known}
 use Rattle.acceptor.specs.Content.{no_content, after_write}
 use Rattle.acceptor.specs.Faults.{HasRisen}
 use Rattle.node.specs.View.{View, Standing, started, gapless}
 use Rattle.node.specs.View.Standing.{Running, Stopped}
-use Rattle.proposer.specs.Turns.{Turn}
+use Rattle.proposer.specs.Turns.{Turn, is_counted}
+use Rattle.proposer.specs.declared.role.Role.{Role}
 use Rattle.proposer.specs.declared.fault.NodeFault.{NodeFault as Fault}
 use Rattle.proposer.specs.declared.fault.NodeFault.TheVariants.{OutOfMemory, StoreRefused, Down}
 use Rattle.node.specs.Step.{Outcome, receive, offer, Leads}
@@ -49,6 +53,15 @@ Ends IsCourse view (Err declined) new = IsCourse (Err declined) × (new ≡ Runn
 abbrev pub Called : ℕ → ℕ → Standing → Cause → Result (List Letter) Fault → Standing → Type 0
 Called members me (Running view) cause result new = Ends (Course members me view cause) view result new
 Called members me (Stopped c doubt) cause result new = (result ≡ Err Down) × (new ≡ Stopped c doubt)
+
+-- a letter from node n says nothing new to a node with this role and these learned values: a higher ballot, a promise that isn't counted, or a value at a place that is learned
+abbrev pub IsNothingNew : Role → List (ℕ × List ℕ) → ℕ → Note → Type 0
+IsNothingNew role learned n (Higher b) = Unit {0}
+IsNothingNew role learned n (Promise b q votes) = is_counted role b q n ≡ false
+IsNothingNew role learned n (Voted b p v) = at learned p ≢ None
+IsNothingNew role learned n (Known p v) = at learned p ≢ None
+IsNothingNew role learned n (Prepare b q) = ⊥
+IsNothingNew role learned n (Accept b p v) = ⊥
 
 -- a call that writes nothing fails so
 abbrev pub StoreFails : View → Fault → Standing → Type 0

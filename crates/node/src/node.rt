@@ -1,17 +1,18 @@
 //! A node, by what its calls do.
 
-ghost use Rattle.std.specs.Prelude.{◌≡◌, ◌⊎◌, ℕ, Bool, false, [], IfErr, IfOk, IsOkAnd, IsTrue, OnOk, Option, option_copied};
+ghost use Rattle.std.specs.Prelude.{◌≡◌, ◌⊎◌, ℕ, Bool, List, false, [], IfErr, IfOk, IsOk, IsOkAnd, IsTrue, OnOk, Option, option_copied, true, Err};
 ghost use Rattle.acceptor.specs.Calls.{KeepsTrust};
 ghost use Rattle.acceptor.specs.Content.{no_content};
 ghost use Rattle.ballots.specs.Ballots.{IsLeastAbove};
 ghost use Rattle.ballots.specs.Members.{member_count};
 ghost use Rattle.ballots.specs.Rows.{at};
+ghost use Rattle.proposer.specs.Faults.{IsOfLead};
 ghost use Rattle.proposer.specs.Turns.{offer};
 ghost use Rattle.proposer.specs.declared.role.Role.{Role};
 ghost use Rattle.node.specs.Step.{is_heeded, limit};
 ghost use Rattle.node.specs.View.{View, Standing, started};
 ghost use Rattle.node.specs.View.Standing.{Running};
-ghost use Rattle.node.specs.Calls.{Who, Called, Kept, KeptByRestart, Restarts, StopsLast, TakesTurn, TellsFresh, answer};
+ghost use Rattle.node.specs.Calls.{Who, Called, IsNothingNew, Kept, KeptByRestart, Restarts, StopsLast, TakesTurn, TellsFresh, answer, IsStop};
 ghost use Rattle.node.specs.Releases.{Releases, outputs};
 ghost use Rattle.node.specs.Calls.Cause.{Receive, Lead, Offer};
 
@@ -36,6 +37,9 @@ pub trait Node: Drop {
     // Its role as a proposer, which nothing in its records decides.
     ghost role: { Self → Role };
 
+    // What it has learned, by place, as far as it knows without its records.
+    ghost values: { Self → List (ℕ × List ℕ) };
+
     // The last read of its records may have found no memory.
     ghost found_no_memory: { Self → Type 0 };
 
@@ -55,13 +59,17 @@ pub trait Node: Drop {
 
     /// The value that is learned at a place.
     fn learned(&self, place: u64) -> Option<&Bytes>
-        ensures { (view : View) → stands self.now (Running view) → option_copied result ≡ at view.tally.learned place };
+        ensures value { option_copied result ≡ at (values self.now) place }
+        ensures values { (view : View) → stands self.now (Running view) → view.tally.learned ≡ values self.now };
 
-    /// A letter comes. One that isn't from a member to this one, or says what no member may say, is passed over, without memory and whatever the records do.
+    /// A letter comes. One that isn't from a member to this one, or says what no member may say, is passed over, without memory and whatever the records do. One that says nothing new takes no memory either.
     fn receive(&mut self, letter: &Letter) -> Result<Vec<Letter>, NodeFault>
         ensures trust { KeepsTrust honest clean self.old self.new }
         ensures kept { Kept (who self.old) result (who self.new) }
+        ensures down { (who self.old).down ≡ true → result ≡ Err NodeFault.Down }
+        ensures tells { IfErr result IsStop }
         ensures passed_over { (who self.old).down ≡ false → is_heeded (who self.old).members (who self.old).id letter.now ≡ false → IsOkAnd result (λ letters. letters.items ≡ []) }
+        ensures no_memory { (who self.old).down ≡ false → IsNothingNew (role self.old) (values self.old) letter.now.from letter.now.note → IsOk result }
         ensures done { IsTrue (honest self.new) → (s : Standing) → stands self.old s
             → (t : Standing) × Called (who self.old).members (who self.old).id s (Receive letter.now) (answer result) t × stands self.new t };
 
@@ -69,6 +77,8 @@ pub trait Node: Drop {
     fn lead(&mut self) -> Result<Vec<Letter>, NodeFault>
         ensures trust { KeepsTrust honest clean self.old self.new }
         ensures kept { Kept (who self.old) result (who self.new) }
+        ensures down { (who self.old).down ≡ true → result ≡ Err NodeFault.Down }
+        ensures tells { IfErr result IsOfLead }
         ensures done { IsTrue (honest self.new) → (s : Standing) → stands self.old s
             → (t : Standing) × Called (who self.old).members (who self.old).id s Lead (answer result) t × stands self.new t }
         ensures order { IsTrue (honest self.new) → (view : View) → stands self.old (Running view)
@@ -80,6 +90,7 @@ pub trait Node: Drop {
     fn offer(&mut self, value: &[u8]) -> Result<Vec<Letter>, NodeFault>
         ensures trust { KeepsTrust honest clean self.old self.new }
         ensures kept { Kept (who self.old) result (who self.new) }
+        ensures down { (who self.old).down ≡ true → result ≡ Err NodeFault.Down }
         ensures done { IsTrue (honest self.new) → (s : Standing) → stands self.old s
             → (t : Standing) × Called (who self.old).members (who self.old).id s (Offer value.now) (answer result) t × stands self.new t }
         ensures order { IsTrue (honest self.new) → (view : View) → stands self.old (Running view)
@@ -90,6 +101,8 @@ pub trait Node: Drop {
     fn release(&mut self, now: u64) -> Result<Vec<Numbered>, NodeFault>
         ensures trust { KeepsTrust honest clean self.old self.new }
         ensures kept { Kept (who self.old) result (who self.new) }
+        ensures down { (who self.old).down ≡ true → result ≡ Err NodeFault.Down }
+        ensures tells { IfErr result IsStop }
         ensures done { IsTrue (honest self.new) → (s : Standing) → stands self.old s
             → (t : Standing) × Releases s now (outputs result) t × stands self.new t };
 
@@ -98,6 +111,7 @@ pub trait Node: Drop {
         ensures honesty { IsTrue (honest self.new) → IsTrue (honest self.old) }
         ensures trust { OnOk result (KeepsTrust honest clean self.old self.new) }
         ensures kept { KeptByRestart (who self.old) result (who self.new) }
+        ensures tells { IfErr result IsStop }
         ensures done { IsTrue (honest self.new) → (s : Standing) → stands self.old s
             → (t : Standing) × Restarts s result t × stands self.new t }
         ensures reopened { OnOk result (reopens self.old self.new) };
@@ -106,6 +120,8 @@ pub trait Node: Drop {
     fn is_fresh(&mut self) -> Result<bool, NodeFault>
         ensures trust { KeepsTrust honest clean self.old self.new }
         ensures kept { Kept (who self.old) result (who self.new) }
+        ensures down { (who self.old).down ≡ true → result ≡ Err NodeFault.Down }
+        ensures tells { IfErr result IsStop }
         ensures done { IsTrue (honest self.new) → (s : Standing) → stands self.old s
             → (t : Standing) × TellsFresh s result t × stands self.new t }
         ensures fresh { IsTrue (honest self.new) → IfOk result (λ fresh. IsTrue fresh → stands self.new (Running (started no_content))) };

@@ -1,6 +1,6 @@
 //! What a node is made of, and what its parts do with letters.
 
-ghost use Rattle.std.specs.Prelude.{◌≡◌, ◌++◌, ◌∷◌, [], ◌<◌, ◌↔◌, Ok, true, false, IsTrue, IfErr, IfOk, OnErr, OnOk, ℕ, ◌⊎◌, take};
+ghost use Rattle.std.specs.Prelude.{◌≡◌, ◌≢◌, ◌++◌, ◌∷◌, [], ◌<◌, ◌↔◌, Ok, true, false, IsTrue, IfErr, IfOk, IsOk, None, OnErr, OnOk, ℕ, ◌⊎◌, take};
 ghost use Rattle.ballots.specs.Limits.{IsPlace, IsValue};
 ghost use Rattle.ballots.specs.Members.{member_count};
 ghost use Rattle.ballots.specs.Rows.{at, rows_from};
@@ -8,12 +8,13 @@ ghost use Rattle.ballots.specs.declared.letters.Note.TheVariants.{Higher as High
 ghost use Rattle.node.specs.Answers.{accepted_letters, WroteNothing};
 ghost use Rattle.acceptor.specs.Calls.{KeepsTrust};
 ghost use Rattle.acceptor.specs.Content.{Content};
-ghost use Rattle.node.specs.Calls.{Kept, KeptByRestart, Restarts, StopsLast, TakesTurn, TellsFresh, answer};
+ghost use Rattle.node.specs.Calls.{IsNothingNew, Kept, KeptByRestart, Restarts, StopsLast, TakesTurn, TellsFresh, answer, IsStop};
 ghost use Rattle.node.specs.Calls.Cause.{Lead, Offer};
 ghost use Rattle.node.specs.Releases.{Releases, outputs};
 ghost use Rattle.node.specs.View.{Standing};
+ghost use Rattle.proposer.specs.Faults.{IsOfLead};
 ghost use Rattle.proposer.specs.Turns as turn;
-ghost use Rattle.proposer.specs.Turns.{IsNextBallot};
+ghost use Rattle.proposer.specs.Turns.{IsNextBallot, is_counted};
 ghost use Rattle.node.specs.Step.{Leads, accept, after_higher, are_votes, heed, is_sound, known, known_letters, learns, letter, nothing, offer, prepare, promise, to_all, voted};
 
 use crate::knowledge::Knowledge;
@@ -56,6 +57,7 @@ impl<R: Records> Parts<R> {
     /// The store failed.
     pub(crate) fn fail(&mut self, fault: RecordsFault) -> NodeFault
         ensures fails { Fails self.old fault result self.new }
+        ensures tells { IsStop result }
         ensures records { self.new.records ≡ self.old.records }
     {
         self.stop(NodeFault::from(fault))
@@ -102,6 +104,7 @@ impl<R: Records> Parts<R> {
         requires { self.old.is_down ≡ false }
         ensures trust { KeepsTrust R.is_honest R.is_clean self.old.records self.new.records }
         ensures kept { Kept (who_of R.count_of R.is_broken self.old) result (who_of R.count_of R.is_broken self.new) }
+        ensures tells { IfErr result IsStop }
         ensures done { IsTrue (R.is_honest self.new.records)
             → Does R.may_find self.old (λ view course. course ≡ Ok (prepare self.old.proposer.id view ballot place from)) result self.new }
     {
@@ -131,8 +134,10 @@ impl<R: Records> Parts<R> {
         requires sound { are_votes ballot place votes.now ≡ true }
         ensures trust { KeepsTrust R.is_honest R.is_clean self.old.records self.new.records }
         ensures kept { Kept (who_of R.count_of R.is_broken self.old) result (who_of R.count_of R.is_broken self.new) }
+        ensures tells { IfErr result IsStop }
         ensures done { IsTrue (R.is_honest self.new.records)
             → Does R.may_find self.old (λ view course. course ≡ Ok (promise (member_count self.old.proposer.members) self.old.proposer.id view view.role ballot place votes.now from)) result self.new }
+        ensures no_memory { is_counted self.old.proposer.role ballot place from ≡ false → IsOk result }
     {
         Ok(self.proposer.promise(from, ballot, place, votes.rows())?)
     }
@@ -208,6 +213,7 @@ impl<R: Records> Parts<R> {
         requires short { IsValue value.now }
         ensures trust { KeepsTrust R.is_honest R.is_clean self.old.records self.new.records }
         ensures kept { Kept (who_of R.count_of R.is_broken self.old) result (who_of R.count_of R.is_broken self.new) }
+        ensures tells { IfErr result IsStop }
         ensures done { IsTrue (R.is_honest self.new.records)
             → Does R.may_find self.old (λ view course. course ≡ Ok (accept (member_count self.old.proposer.members) self.old.proposer.id view ballot place value.now from)) result self.new }
     {
@@ -225,6 +231,7 @@ impl<R: Records> Parts<R> {
         requires unlearned { at self.old.knowledge.tally.learned place ≡ None }
         ensures trust { KeepsTrust R.is_honest R.is_clean self.old.records self.new.records }
         ensures kept { Kept (who_of R.count_of R.is_broken self.old) result (who_of R.count_of R.is_broken self.new) }
+        ensures tells { IfErr result IsStop }
         ensures done { IsTrue (R.is_honest self.new.records)
             → Does R.may_find self.old (λ view course. course ≡ Ok (learns view place value)) result self.new }
     {
@@ -250,9 +257,14 @@ impl<R: Records> Parts<R> {
         requires short { IsValue value.now }
         ensures trust { KeepsTrust R.is_honest R.is_clean self.old.records self.new.records }
         ensures kept { Kept (who_of R.count_of R.is_broken self.old) result (who_of R.count_of R.is_broken self.new) }
+        ensures tells { IfErr result IsStop }
         ensures done { IsTrue (R.is_honest self.new.records)
             → Does R.may_find self.old (λ view course. course ≡ Ok (voted (member_count self.old.proposer.members) view (at view.tally.learned place) ballot place value.now from)) result self.new }
+        ensures no_memory { at self.old.knowledge.tally.learned place ≢ None → IsOk result }
     {
+        if self.knowledge.learned(place.number()).is_some() {
+            return Ok(Vec::new(self.alloc));
+        }
         let members = self.proposer.members();
         let value = value.copy(self.alloc)?;
         let taught = self.knowledge.voted(members, ballot, place, value, from)?;
@@ -268,8 +280,10 @@ impl<R: Records> Parts<R> {
         requires short { IsValue value.now }
         ensures trust { KeepsTrust R.is_honest R.is_clean self.old.records self.new.records }
         ensures kept { Kept (who_of R.count_of R.is_broken self.old) result (who_of R.count_of R.is_broken self.new) }
+        ensures tells { IfErr result IsStop }
         ensures done { IsTrue (R.is_honest self.new.records)
             → Does R.may_find self.old (λ view course. course ≡ Ok (known view (at view.tally.learned place) place value.now)) result self.new }
+        ensures no_memory { at self.old.knowledge.tally.learned place ≢ None → IsOk result }
     {
         if self.knowledge.learned(place.number()).is_some() {
             return Ok(Vec::new(self.alloc));
@@ -283,8 +297,10 @@ impl<R: Records> Parts<R> {
         requires { self.old.is_down ≡ false }
         ensures trust { KeepsTrust R.is_honest R.is_clean self.old.records self.new.records }
         ensures kept { Kept (who_of R.count_of R.is_broken self.old) result (who_of R.count_of R.is_broken self.new) }
+        ensures tells { IfErr result IsStop }
         ensures done { IsTrue (R.is_honest self.new.records)
             → Does R.may_find self.old (λ view course. course ≡ Ok (nothing (after_higher view ballot))) result self.new }
+        ensures no_memory { IsOk result }
     {
         self.proposer.higher(ballot);
         Ok(Vec::new(self.alloc))
@@ -308,6 +324,7 @@ impl<R: Records> Parts<R> {
         requires { self.old.is_down ≡ false }
         ensures trust { KeepsTrust R.is_honest R.is_clean self.old.records self.new.records }
         ensures kept { Kept (who_of R.count_of R.is_broken self.old) result (who_of R.count_of R.is_broken self.new) }
+        ensures tells { IfErr result IsOfLead }
         ensures done { IsTrue (R.is_honest self.new.records)
             → Does R.may_find self.old (λ view course. Leads (member_count self.old.proposer.members) self.old.proposer.id view course) result self.new }
         ensures order { IsTrue (R.is_honest self.new.records)
@@ -328,8 +345,10 @@ impl<R: Records> Parts<R> {
         requires sound { is_sound letter.now letter.now.note ≡ true }
         ensures trust { KeepsTrust R.is_honest R.is_clean self.old.records self.new.records }
         ensures kept { Kept (who_of R.count_of R.is_broken self.old) result (who_of R.count_of R.is_broken self.new) }
+        ensures tells { IfErr result IsStop }
         ensures done { IsTrue (R.is_honest self.new.records)
             → Does R.may_find self.old (λ view course. course ≡ Ok (heed (member_count self.old.proposer.members) self.old.proposer.id view letter.now.from letter.now.note)) result self.new }
+        ensures no_memory { IsNothingNew self.old.proposer.role self.old.knowledge.tally.learned letter.now.from letter.now.note → IsOk result }
     {
         match &letter.note {
             Note::Prepare { ballot, place } => {
@@ -360,6 +379,7 @@ impl<R: Records> Parts<R> {
         requires { self.old.is_down ≡ false }
         ensures trust { KeepsTrust R.is_honest R.is_clean self.old.records self.new.records }
         ensures kept { Kept (who_of R.count_of R.is_broken self.old) result (who_of R.count_of R.is_broken self.new) }
+        ensures tells { IfErr result IsStop }
         ensures done { IsTrue (R.is_honest self.new.records) → (s : Standing) → Stands R.may_find self.old s
             → (t : Standing) × Releases s now (outputs result) t × Stands R.may_find self.new t }
     {
@@ -371,6 +391,7 @@ impl<R: Records> Parts<R> {
         ensures honesty { IsTrue (R.is_honest self.new.records) → IsTrue (R.is_honest self.old.records) }
         ensures trust { OnOk result (KeepsTrust R.is_honest R.is_clean self.old.records self.new.records) }
         ensures kept { KeptByRestart (who_of R.count_of R.is_broken self.old) result (who_of R.count_of R.is_broken self.new) }
+        ensures tells { IfErr result IsStop }
         ensures done { IsTrue (R.is_honest self.new.records) → (s : Standing) → Stands R.may_find self.old s
             → (t : Standing) × Restarts s result t × Stands R.may_find self.new t }
         ensures reopened { OnOk result ((mid : R) × R.reopens self.old.records mid) }
@@ -403,6 +424,7 @@ impl<R: Records> Parts<R> {
         requires { self.old.is_down ≡ false }
         ensures trust { KeepsTrust R.is_honest R.is_clean self.old.records self.new.records }
         ensures kept { Kept (who_of R.count_of R.is_broken self.old) result (who_of R.count_of R.is_broken self.new) }
+        ensures tells { IfErr result IsStop }
         ensures done { IsTrue (R.is_honest self.new.records) → (s : Standing) → Stands R.may_find self.old s
             → (t : Standing) × TellsFresh s result t × Stands R.may_find self.new t }
         ensures untouched { IfOk result (λ fresh. IsTrue fresh → IsUntouched self.new) }

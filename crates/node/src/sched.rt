@@ -60,6 +60,8 @@ impl<R: Records + Drop> Node for SchedNode<R> {
 
     ghost role = { λ n. n.parts.proposer.role };
 
+    ghost values = { λ n. n.parts.knowledge.tally.learned };
+
     ghost found_no_memory = { λ n. (mid : R) × R.finds_no_memory mid n.parts.records };
 
     ghost reopens = { λ old _. (mid : R) × R.reopens old.parts.records mid };

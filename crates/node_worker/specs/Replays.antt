@@ -4,6 +4,7 @@ use Rattle.ballots.specs.declared.letters.Letter.{Letter}
 use Rattle.acceptor.specs.Content.{no_content}
 use Rattle.map_release.specs.declared.numbered.Numbered.{Numbered}
 use Rattle.proposer.specs.declared.fault.NodeFault.TheVariants.{OutOfMemory, Down}
+use Rattle.node.specs.declared.node.Node.{Ghosts}
 use Rattle.node.specs.View.{Standing, started}
 use Rattle.node.specs.View.Standing.{Running}
 use Rattle.node.specs.Calls.Cause.{Lead as AskedToLead, Offer as Offered, Receive as Received}
@@ -11,7 +12,9 @@ use Rattle.seats.specs.declared.answer.Answer.{Answer}
 use Rattle.seats.specs.declared.answer.Answer.TheVariants as answer
 use Rattle.seats.specs.Moves.{Ask, Move, Moves}
 use Rattle.seats.specs.Moves.Ask.{Call as IsCalled, Release as ReleaseAt, Crash as CrashNow, Restart as StartAgain}
+use Rattle.seats.specs.Occupant.{Stands, who_of}
 use Rattle.seats.specs.Seat.{survives}
+use Rattle.seats.specs.declared.seat.Seat.{Seat}
 use Rattle.node_worker.specs.declared.entry.Ask.TheVariants.{Lead, Offer, Release, Crash, Restart}
 use Rattle.node_worker.specs.declared.entry.Cause.{Cause}
 use Rattle.node_worker.specs.declared.entry.Cause.TheVariants.{Ask as Asked, Letter as Came}
@@ -28,23 +31,24 @@ ask_of (Asked Crash) = CrashNow
 ask_of (Asked Restart) = StartAgain
 ask_of (Came l) = IsCalled (Received l)
 
--- the answer to a cause that ended whole
-abbrev pub whole_answer : Cause → List Letter → List Numbered → Answer
-whole_answer (Asked Lead) letters outputs = answer.Sent (length letters)
-whole_answer (Asked (Offer value)) letters outputs = answer.Sent (length letters)
-whole_answer (Asked (Release now)) letters outputs = answer.Released (length outputs)
-whole_answer (Asked Crash) letters outputs = answer.Finished
-whole_answer (Asked Restart) letters outputs = answer.Finished
-whole_answer (Came l) letters outputs = answer.Sent (length letters)
+-- the answer to what was asked and ended whole
+abbrev pub whole_answer : Ask → List Letter → List Numbered → Answer
+whole_answer (IsCalled call) letters outputs = answer.Sent (length letters)
+whole_answer (ReleaseAt now) letters outputs = answer.Released (length outputs)
+whole_answer ask letters outputs = answer.Finished
 
--- how a cause ended, read as an answer: a crash before the write as want of memory, one with the write in doubt as a broken store
+-- how it ended, read as an answer: a crash before the write as want of memory, one with the write in doubt as a broken store
+abbrev pub answer_to : Ask → Ended → List Letter → List Numbered → Answer
+answer_to ask Whole letters outputs = whole_answer ask letters outputs
+answer_to ask (Fault fault) letters outputs = answer.Fault fault
+answer_to ask (Refused refusal) letters outputs = answer.Refused refusal
+answer_to ask FailedBefore letters outputs = answer.Fault OutOfMemory
+answer_to ask FailedEither letters outputs = answer.Fault Down
+answer_to ask Lost letters outputs = answer.Crashed
+
+-- the same of a cause
 abbrev pub answer_of : Cause → Ended → List Letter → List Numbered → Answer
-answer_of cause Whole letters outputs = whole_answer cause letters outputs
-answer_of cause (Fault fault) letters outputs = answer.Fault fault
-answer_of cause (Refused refusal) letters outputs = answer.Refused refusal
-answer_of cause FailedBefore letters outputs = answer.Fault OutOfMemory
-answer_of cause FailedEither letters outputs = answer.Fault Down
-answer_of cause Lost letters outputs = answer.Crashed
+answer_of cause ended letters outputs = answer_to (ask_of cause) ended letters outputs
 
 -- a fault that is told as one is one that the node survives
 abbrev pub IsSurvived : Ended → Type 0
@@ -78,3 +82,7 @@ IsKept members k Stands entries = (s : Standing) × Stands s × ReplaysTo member
 -- wherever the node may have stood, the entry brings it to where it now may stand
 abbrev pub Carries : ℕ → ℕ → (Standing → Type 0) → EntryView → (Standing → Type 0) → Type 0
 Carries members k Old e New = (s : Standing) → Old s → (t : Standing) × EntryStep members k s e t × New t
+
+-- the same of a node in its seat
+abbrev pub CarriesSeat : {N : Type 0} {g : Ghosts N} → Seat N g → EntryView → Seat N g → Type 0
+CarriesSeat old e new = Carries (who_of old).members (who_of old).id (Stands old) e (Stands new)

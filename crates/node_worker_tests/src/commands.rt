@@ -6,8 +6,9 @@ use std::alloc::Global;
 use std::io;
 use std::io::Write;
 use std::test::Fail;
-use upsched_map_parts::{MapsWords, RunWords, Status, maps, read_words, refused};
+use upsched_map_parts::{MapsWords, RunWords, Status, maps};
 use upsched_parts::run_script;
+use upsched_words::{read_words, refused};
 
 /// A writer that is full.
 #[derive(Drop)]

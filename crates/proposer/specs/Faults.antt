@@ -32,6 +32,19 @@ abbrev pub IsHarmlessStop : Fault → Type 0
 IsHarmlessStop Fault.Down = ⊥
 IsHarmlessStop other = Unit {0}
 
+-- why a node may not lead: whether it leads, and a value, are no matter
+abbrev pub IsOfLead : Fault → Type 0
+IsOfLead Fault.NotLeading = ⊥
+IsOfLead Fault.ValueTooLong = ⊥
+IsOfLead other = Unit {0}
+
+-- why an offer may fail: it reads no records
+abbrev pub IsOfOffer : Fault → Type 0
+IsOfOffer Fault.RoundsSpent = ⊥
+IsOfOffer Fault.StoreRefused = ⊥
+IsOfOffer Fault.Down = ⊥
+IsOfOffer other = Unit {0}
+
 -- the store didn't fail
 abbrev pub IsQuietStop : {T : Type 0} → Result T Fault → Type 0
 IsQuietStop (Ok _) = Unit {0}

@@ -1,5 +1,5 @@
 -- What a proposer does in a turn.
-use Rattle.std.specs.Prelude.{◌⊎◌, ℕ, ◌+◌, ◌-◌, ◌*◌, ◌<◌, ◌≤◌, max, Bool, ◌&&◌, not, if◌then◌else◌, ◌==◌, nat_eq, nat_lt, List, [], ◌∷◌, length, Some, Result, Ok, Err}
+use Rattle.std.specs.Prelude.{◌⊎◌, ℕ, ◌+◌, ◌-◌, ◌*◌, ◌<◌, ◌≤◌, max, Bool, false, ◌&&◌, not, if◌then◌else◌, ◌==◌, nat_eq, nat_lt, List, [], ◌∷◌, length, Some, Result, Ok, Err}
 use Rattle.std.specs.List.{list_any}
 use Rattle.ballots.specs.Ballots.{IsLeastAbove, NoneAbove}
 use Rattle.ballots.specs.Limits.{most_places, longest_value}
@@ -35,6 +35,12 @@ after_promise members me b q counted joined =
     if are_majority members counted
     then record { role = Leading b (place_after q joined); letters = proposals members me b joined q (place_after q joined - q) }
     else stays (Preparing b q counted joined)
+
+-- whether a promise of ballot b for the places from q on, from node n, is counted: the node's first of the ballot that is prepared
+abbrev pub is_counted : Role → ℕ → ℕ → ℕ → Bool
+is_counted (Preparing c place counted joined) b q n = b == c && q == place && not (list_any (nat_eq n) counted)
+is_counted Idle b q n = false
+is_counted (Leading c next) b q n = false
 
 -- a promise of ballot b for the places from q on, from node n, counts once and only for the ballot that is prepared
 abbrev pub promise : ℕ → ℕ → Role → ℕ → ℕ → List (ℕ × Cast) → ℕ → Turn

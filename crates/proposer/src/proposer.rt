@@ -1,16 +1,16 @@
 //! What a proposer does in each turn.
 
-ghost use Rattle.std.specs.Prelude.{◌≡◌, ◌⊎◌, ◌↔◌, ℕ, ◌+◌, ◌-◌, ◌<◌, max, IsTrue, Some, Ok, Err, IfOk, IfErr, OnOk, OnErr, is_ok, MatchOption};
+ghost use Rattle.std.specs.Prelude.{◌≡◌, ◌⊎◌, ◌↔◌, ℕ, ◌+◌, ◌-◌, ◌<◌, max, false, IsTrue, IsOk, Some, None, Ok, Err, IfOk, IfErr, OnOk, OnErr, is_ok, MatchOption};
 ghost use Rattle.ballots.specs.Limits.{most_places};
 ghost use Rattle.ballots.specs.Members.{member_count};
 ghost use Rattle.acceptor.specs.Calls.{KeepsTrust};
 ghost use Rattle.acceptor.specs.Content.Write.{Tries};
 ghost use Rattle.acceptor.specs.Found.{FindsSame, HasMade};
 ghost use Rattle.proposer.specs.Bounds.{in_log};
-ghost use Rattle.proposer.specs.Faults.{BreaksByStop, CountsStops, IsHarmlessStop};
+ghost use Rattle.proposer.specs.Faults.{BreaksByStop, CountsStops, IsHarmlessStop, IsOfLead};
 ghost use Rattle.proposer.specs.Letters.{proposals};
 ghost use Rattle.proposer.specs.Roles.{role_after};
-ghost use Rattle.proposer.specs.Turns.{promise, after_promise, stays, offer, tries, IsNextBallot, DeclinesToLead, MayHaveTried};
+ghost use Rattle.proposer.specs.Turns.{promise, after_promise, is_counted, stays, offer, tries, IsNextBallot, DeclinesToLead, MayHaveTried};
 ghost use Rattle.proposer.specs.declared.role.Role.TheVariants.{Idle};
 
 use crate::fault::NodeFault;
@@ -140,9 +140,10 @@ impl Proposer {
         place: u64,
         votes: &[(u64, Cast)],
     ) -> Result<Option<(Nodes, Joined)>, AllocError>
-        ensures { IfOk result (λ counted. MatchOption counted
+        ensures counted { IfOk result (λ counted. MatchOption counted
             (promise (member_count self.now.members) self.now.id self.now.role ballot place (in_log votes.now) from ≡ stays self.now.role)
             (λ both. promise (member_count self.now.members) self.now.id self.now.role ballot place (in_log votes.now) from ≡ after_promise (member_count self.now.members) self.now.id ballot place both.0 both.1)) }
+        ensures uncounted { is_counted self.now.role ballot place from ≡ false → result ≡ Ok None }
     {
         let Role::Preparing {
             ballot: own,
@@ -183,7 +184,7 @@ impl Proposer {
         Ok(letters)
     }
 
-    /// A node promised the ballot, and reports its votes from the place on. With a majority the proposer leads: it proposes what was reported again, and the Noop command in gaps. A vote at a place beyond the log is passed over.
+    /// A node promised the ballot, and reports its votes from the place on. With a majority the proposer leads: it proposes what was reported again, and the Noop command in gaps. A vote at a place beyond the log is passed over. A promise that isn't counted takes no memory.
     pub fn promise(
         &mut self,
         from: NodeId,
@@ -192,6 +193,7 @@ impl Proposer {
         votes: &[(u64, Cast)],
     ) -> Result<Vec<Letter>, AllocError>
         ensures ok { IfOk result (λ letters. promise (member_count self.old.members) self.old.id self.old.role ballot place (in_log votes.now) from ≡ record { role = self.new.role; letters = letters.items }) }
+        ensures uncounted { is_counted self.old.role ballot place from ≡ false → IsOk result }
         ensures unchanged { OnErr result (self.new ≡ self.old) }
         ensures rest { self.new ≡ record self.old { role = self.new.role } }
     {
@@ -222,6 +224,7 @@ impl Proposer {
         ensures ok { IsTrue (R.is_honest records.new) → IfOk result (λ letters. (b : ℕ) × IsNextBallot (R.may_find records.old) self.old.hint self.old.id b
             × (tries (member_count self.old.members) self.old.id b (prefix + 1) ≡ record { role = self.new.role; letters = letters.items }) × HasMade (R.may_find records.old) (R.may_find records.new) (Tries b)) }
         ensures room { OnOk result (prefix < most_places) }
+        ensures tells { IfErr result IsOfLead }
         ensures declined { IsTrue (R.is_honest records.new) → IfErr result (DeclinesToLead (R.may_find records.old) self.old.hint self.old.id prefix) }
         ensures harmless { IsTrue (R.is_honest records.new) → IfErr result (λ fault. IsHarmlessStop fault → FindsSame (R.may_find records.old) (R.may_find records.new)) }
         ensures doubt { IsTrue (R.is_honest records.new) → OnErr result (MayHaveTried (R.may_find records.old) (R.may_find records.new) self.old.hint self.old.id) }

@@ -101,6 +101,27 @@ fn learned(records: &mut PlainRecords, number: u64) -> Result<u8, Fail> {
     }
 }
 
+/// How many bytes are kept, as vote and as learned value of a place, of so many that are written.
+fn lengths(alloc: Global, number: u64, len: usize) -> Result<(usize, usize), Fail> {
+    let mut records = PlainRecords::new(alloc);
+    let bytes = Bytes::new(Vec::from_elem(alloc, 7, len)?);
+    let value = Value::new(bytes).ok_or("a value")?;
+    let place = place(number)?;
+    records.put_vote(place, ballot(8)?, &value)?;
+    records.put_learned(place, &value)?;
+    let vote = records.vote(place)?.ok_or("a vote")?;
+    let learned = records.learned_row(place)?.ok_or("a value")?;
+    Ok((vote.value.as_slice().len(), learned.as_slice().len()))
+}
+
+#[test]
+fn the_longest_value_at_the_last_place(rt: HostRuntime) -> Result<(), Fail> {
+    for (number, len) in [(1, 0), (1, 64), (1_000_000, 64)] {
+        assert_eq!(rt; lengths(rt.alloc(), number, len)?, (len, len), "place {number}");
+    }
+    Ok(())
+}
+
 #[test]
 fn learned_rows(rt: HostRuntime) -> Result<(), Fail> {
     let mut records = PlainRecords::new(rt.alloc());

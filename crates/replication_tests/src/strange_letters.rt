@@ -1,4 +1,4 @@
-//! Letters that no member may send to node 0 of three: it passes each over.
+//! Letters that no member may send to node 0 of three, which passes each over; and those that go as far as a member may.
 
 use acceptor::PlainRecords;
 use ballots::{Ballot, Bytes, Cast, Letter, Members, NodeId, Note, Votes};
@@ -80,7 +80,7 @@ fn is_passed_over(alloc: Global, letter: &Letter) -> Result<bool, Fail> {
 }
 
 /// From whom to whom, what, and whether it is passed over.
-const LETTERS: [(u8, u8, Told, bool); 8] = [
+const LETTERS: [(u8, u8, Told, bool); 10] = [
     (4, 0, Told::Promise(8, &[]), true),
     (2, 0, Told::Prepare(9), true),
     (1, 1, Told::Prepare(9), true),
@@ -88,6 +88,8 @@ const LETTERS: [(u8, u8, Told, bool); 8] = [
     (1, 0, Told::Accept(0, 1), true),
     (1, 0, Told::Accept(1, 65), true),
     (1, 0, Told::Accept(1, 64), false),
+    (1, 0, Told::Accept(1_000_000, 64), false),
+    (1, 0, Told::Accept(1_000_001, 64), true),
     (1, 0, Told::Promise(8, &[]), true),
 ];
 
@@ -96,6 +98,25 @@ fn letters_to_a_fresh_node(rt: HostRuntime) -> Result<(), Fail> {
     for (from, to, told, want) in LETTERS {
         let letter = letter(rt.alloc(), from, to, told)?;
         assert_eq!(rt; is_passed_over(rt.alloc(), &letter)?, want, "{from} {to}");
+    }
+    Ok(())
+}
+
+/// What a leader answers to an offer of so many bytes: the number of its fault, 0 where it proposes them to three nodes.
+fn offered(alloc: Global, len: usize) -> Result<u8, Fail> {
+    let mut node = preparing(alloc, 1)?;
+    heard(alloc, &mut node, Told::Promise(8, &[]))?;
+    match node.offer(Vec::from_elem(alloc, 7, len)?.as_slice()) {
+        Ok(letters) if letters.len() == 3 => Ok(0),
+        Ok(_) => Err("letters".into()),
+        Err(fault) => Ok(fault.number()),
+    }
+}
+
+#[test]
+fn offers_to_a_leader(rt: HostRuntime) -> Result<(), Fail> {
+    for (len, want) in [(0, 0), (64, 0), (65, 4)] {
+        assert_eq!(rt; offered(rt.alloc(), len)?, want, "{len} bytes");
     }
     Ok(())
 }

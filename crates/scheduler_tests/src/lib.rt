@@ -1,5 +1,5 @@
-//! Tests of times, MAP bodies and commands as bytes, of a cut beside its first body, and of modems, by the public
-//! calls of `minislot_time`, `map_body`, `grant_machine`, `command_log` and `modem`. What plans print, and what
+//! Tests of times, MAP bodies and commands as bytes, of a cut beside its first body, of modems, and of calls at their
+//! limits, by the public calls of `minislot_time`, `map_body`, `grant_machine`, `command_log` and `modem`. What plans print, and what
 //! modems of a script do, stands as data in examples/.
 #![tactic(auto)]
 
@@ -11,6 +11,8 @@ mod cells;
 mod commands;
 #[cfg(test)]
 mod heard_cells;
+#[cfg(test)]
+mod limits;
 #[cfg(test)]
 mod modems;
 #[cfg(test)]

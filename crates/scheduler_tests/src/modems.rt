@@ -207,6 +207,34 @@ const ROWS: [((u32, u64, u64), &[Act]); 6] = [
     ),
 ];
 
+/// How many leases of SID 1, of 1,000 minislots each, a modem keeps that hears of so many. It hears of each when the one
+/// before begins.
+fn leases_kept(alloc: Global, count: u64) -> Result<usize, Fail> {
+    let mut modem = modem_of(alloc, 50, 0, 999)?;
+    for i in 1..count {
+        let first = i.saturating_mul(1000);
+        let renewed = Output::Assigned {
+            modem: 50,
+            ch: 1,
+            sid: 1,
+            first,
+            last: first.saturating_add(999),
+        };
+        let now = first.saturating_sub(1000);
+        heard(&mut modem, &renewed, now)?;
+        ticked(&mut modem, now)??;
+    }
+    Ok(modem.leases().len())
+}
+
+#[test]
+fn renewed_leases(rt: HostRuntime) -> Result<(), Fail> {
+    for (count, want) in [(1, 1), (10, 10), (1000, 20)] {
+        assert_eq!(rt; leases_kept(rt.alloc(), count)?, want, "{count}");
+    }
+    Ok(())
+}
+
 #[test]
 fn answers_of_modems(rt: HostRuntime) -> Result<(), Fail> {
     for (lease, acts) in ROWS {

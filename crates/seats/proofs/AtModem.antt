@@ -83,7 +83,8 @@ none_does Does vs rs m are past =
 -- a modem that has heard nothing stands for no hearings
 pub new_stands : (id : ℕ) → StandsFor (new_modem id) []
 new_stands id = record {
-  leases = λ ch sid m. ((λ is. absurd (cc (is))), (λ none. absurd none));
+  leases = λ ch sid m late. ((λ is. absurd (cc (is))), (λ none. absurd none));
+  lasts = λ ch sid m late. ((λ is. absurd (cc (is))), (λ none. absurd none));
   holds = λ ch m sid iuc later. ((λ none. absurd none), (λ none. absurd none));
 }
 

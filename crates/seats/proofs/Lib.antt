@@ -1,4 +1,5 @@
 pub mod Callers
 mod AtModem
-mod Calling
+mod Acting
+mod Settling
 mod Fresh

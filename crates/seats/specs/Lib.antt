@@ -7,3 +7,6 @@ pub mod Fresh
 pub mod StoreFaults
 pub mod Release
 pub mod Moves
+pub mod Gives
+pub mod Acted
+pub mod Acts

@@ -32,6 +32,22 @@ pub enum Answer {
     Crashed,
 }
 
+impl Answer {
+    ghost use Rattle.std.specs.Prelude.{◌≡◌};
+    ghost use Rattle.seats.specs.Gives.{gives};
+
+    /// Whether letters or outputs go out with it.
+    pub(crate) fn gives(self) -> bool
+        ensures { result ≡ gives self }
+    {
+        match self {
+            Answer::Sent(count) => count > 0,
+            Answer::Released(count) => count > 0,
+            _ => false,
+        }
+    }
+}
+
 /// One answer an event, in order.
 #[derive(Drop)]
 pub struct Report {

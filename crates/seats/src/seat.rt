@@ -3,9 +3,11 @@
 ghost use Rattle.std.specs.Prelude.{◌≡◌, true, false};
 ghost use Rattle.seats.specs.Seat.{stays_up as stays_up_lem, survives as survives_lem};
 
-use ballots::Letter;
-use map_release::Numbered;
+use crate::acted::{Acted, Asked};
+use crate::answer::Answer;
 use node::{Node, NodeFault};
+use std::alloc::AllocError;
+use world_events::Refusal;
 
 /// A node, and whether it is up. One that is up isn't down for itself.
 #[derive(Drop)]
@@ -36,15 +38,10 @@ fn stays_up<T>(ended: &Result<T, NodeFault>) -> bool
 }
 
 impl<N: Node> Seat<N> {
-    ghost use Rattle.std.specs.Prelude.{◌≡◌, true, false, is_ok, OnOk};
-    ghost use Rattle.acceptor.specs.Calls.{KeepsTrust};
-    ghost use Rattle.node.specs.View.{View, Standing};
-    ghost use Rattle.node.specs.View.Standing.{Running};
-    ghost use Rattle.node.specs.Calls.{Kept, KeptByRestart, StopsLast, answer};
-    ghost use Rattle.node.specs.Calls.Cause.{Receive, Lead, Offer};
-    ghost use Rattle.node.specs.Releases.{outputs};
-    ghost use Rattle.seats.specs.Seat.{CalledIn, ReleasedIn, RestartedIn, SameMember, crashed, stays_up};
-    ghost use Rattle.seats.specs.Occupant.{Stands, IsHonest, is_up, node_of, who_of};
+    ghost use Rattle.std.specs.Prelude.{◌≡◌, true, false, is_ok};
+    ghost use Rattle.seats.specs.Acted.{ask_of, letters_of, outputs_of, told};
+    ghost use Rattle.seats.specs.Acts.{Acts, Settles, settled};
+    ghost use Rattle.seats.specs.Occupant.{is_up, node_of};
 
     /// A seat of a node, which is up.
     pub fn new(node: N) -> Seat<N>
@@ -69,85 +66,83 @@ impl<N: Node> Seat<N> {
         &self.node
     }
 
-    /// The node is asked to lead. It crashes where it lacks memory or its store fails.
-    pub fn lead(&mut self) -> Result<Vec<Letter>, NodeFault>
-        requires { is_up self.old ≡ true }
-        ensures who { SameMember (who_of self.old) (who_of self.new) }
-        ensures kept { Kept (who_of self.old) result (who_of self.new) }
-        ensures trust { KeepsTrust N.honest N.clean (node_of self.old) (node_of self.new) }
-        ensures called { IsHonest self.new → CalledIn (who_of self.old) (Stands self.old) Lead (answer result) (Stands self.new) }
-        ensures up { is_up self.new ≡ stays_up result }
-        ensures order { IsHonest self.new → (view : View) → Stands self.old (Running view) → StopsLast (who_of self.old).members (who_of self.old).id view Lead (answer result) }
+    /// The node does what it is asked. It crashes where it lacks memory or its store fails.
+    pub fn act(&mut self, asked: Asked) -> Acted
+        ensures { Acts self.old (ask_of asked.entry) (told result) (letters_of result) (outputs_of result) self.new }
     {
-        let sent = self.node.lead();
-        self.up = stays_up(&sent);
-        sent
+        if self.up {
+            self.act_up(asked)
+        } else {
+            self.act_down(asked)
+        }
     }
 
-    /// The node is offered a value. It crashes where it lacks memory or its store fails.
-    pub fn offer(&mut self, value: &[u8]) -> Result<Vec<Letter>, NodeFault>
+    /// The same of a node that is up.
+    fn act_up(&mut self, asked: Asked) -> Acted
         requires { is_up self.old ≡ true }
-        ensures who { SameMember (who_of self.old) (who_of self.new) }
-        ensures kept { Kept (who_of self.old) result (who_of self.new) }
-        ensures trust { KeepsTrust N.honest N.clean (node_of self.old) (node_of self.new) }
-        ensures called { IsHonest self.new → CalledIn (who_of self.old) (Stands self.old) (Offer value.now) (answer result) (Stands self.new) }
-        ensures up { is_up self.new ≡ stays_up result }
-        ensures order { IsHonest self.new → (view : View) → Stands self.old (Running view) → StopsLast (who_of self.old).members (who_of self.old).id view (Offer value.now) (answer result) }
+        ensures { Acts self.old (ask_of asked.entry) (told result) (letters_of result) (outputs_of result) self.new }
     {
-        let sent = self.node.offer(value);
-        self.up = stays_up(&sent);
-        sent
+        match asked {
+            Asked::Lead => {
+                let given = self.node.lead();
+                self.up = stays_up(&given);
+                Acted::of_call(given)
+            }
+            Asked::Offer(value) => {
+                let given = self.node.offer(value);
+                self.up = stays_up(&given);
+                Acted::of_call(given)
+            }
+            Asked::Receive(letter) => {
+                let given = self.node.receive(letter);
+                self.up = stays_up(&given);
+                Acted::of_call(given)
+            }
+            Asked::ReceiveThenCrash(letter) => {
+                let given = self.node.receive(letter);
+                self.up = false;
+                Acted::of_lost_call(given)
+            }
+            Asked::Release(now) => {
+                let given = self.node.release(now);
+                self.up = stays_up(&given);
+                Acted::of_release(given)
+            }
+            Asked::Crash => {
+                self.up = false;
+                Acted::Finished
+            }
+            Asked::Restart => Acted::Refused(Refusal::NodeUp),
+        }
     }
 
-    /// A letter comes to the node. It crashes where it lacks memory or its store fails.
-    pub fn receive(&mut self, letter: &Letter) -> Result<Vec<Letter>, NodeFault>
-        requires { is_up self.old ≡ true }
-        ensures who { SameMember (who_of self.old) (who_of self.new) }
-        ensures kept { Kept (who_of self.old) result (who_of self.new) }
-        ensures trust { KeepsTrust N.honest N.clean (node_of self.old) (node_of self.new) }
-        ensures called { IsHonest self.new → CalledIn (who_of self.old) (Stands self.old) (Receive letter.now) (answer result) (Stands self.new) }
-        ensures up { is_up self.new ≡ stays_up result }
-    {
-        let sent = self.node.receive(letter);
-        self.up = stays_up(&sent);
-        sent
-    }
-
-    /// The node releases what it can. It crashes where it lacks memory or its store fails.
-    pub fn release(&mut self, now: u64) -> Result<Vec<Numbered>, NodeFault>
-        requires { is_up self.old ≡ true }
-        ensures who { SameMember (who_of self.old) (who_of self.new) }
-        ensures kept { Kept (who_of self.old) result (who_of self.new) }
-        ensures trust { KeepsTrust N.honest N.clean (node_of self.old) (node_of self.new) }
-        ensures called { IsHonest self.new → ReleasedIn (Stands self.old) now (outputs result) (Stands self.new) }
-        ensures up { is_up self.new ≡ stays_up result }
-    {
-        let released = self.node.release(now);
-        self.up = stays_up(&released);
-        released
-    }
-
-    /// The node, which crashed, starts over its records, where its store lets it.
-    pub fn restart(&mut self) -> Result<(), NodeFault>
+    /// The same of a node that crashed.
+    fn act_down(&mut self, asked: Asked) -> Acted
         requires { is_up self.old ≡ false }
-        ensures who { SameMember (who_of self.old) (who_of self.new) }
-        ensures kept { KeptByRestart (who_of self.old) result (who_of self.new) }
-        ensures honesty { IsHonest self.new → IsHonest self.old }
-        ensures trust { OnOk result (KeepsTrust N.honest N.clean (node_of self.old) (node_of self.new)) }
-        ensures restarted { IsHonest self.new → RestartedIn (Stands self.old) result (Stands self.new) }
-        ensures up { is_up self.new ≡ is_ok result }
+        ensures { Acts self.old (ask_of asked.entry) (told result) (letters_of result) (outputs_of result) self.new }
     {
-        self.node.restart()?;
-        self.up = true;
-        Ok(())
+        match asked {
+            Asked::Restart => {
+                let given = self.node.restart();
+                self.up = given.is_ok();
+                Acted::of_restart(given)
+            }
+            _ => Acted::Refused(Refusal::NodeDown),
+        }
     }
 
-    /// The node crashes: what it didn't write down is lost.
-    pub fn crash(&mut self)
-        ensures node { node_of self.new ≡ node_of self.old }
-        ensures down { is_up self.new ≡ false }
-        ensures stands { (s : Standing) → Stands self.old s → Stands self.new (crashed s) }
+    /// Ends what was done and answered so. Where there was no room for what the node gave, that is lost, and the node crashes.
+    pub fn settle(&mut self, answer: Answer, kept: Result<(), AllocError>) -> Answer
+        ensures answer { result ≡ settled answer (is_ok kept) }
+        ensures settles { Settles answer (is_ok kept) self.old result self.new }
     {
+        if kept.is_ok() {
+            return answer;
+        }
+        if !answer.gives() {
+            return answer;
+        }
         self.up = false;
+        Answer::Crashed
     }
 }

@@ -1,5 +1,5 @@
-//! What the program does with its words where no node is needed: it applies plans to the scheduler, prints MAP bodies,
-//! and tells its words apart. It opens no file.
+//! What the program does with its words where no node is needed: it applies plans to the scheduler, and prints MAP
+//! bodies. It opens no file.
 #![tactic(auto)]
 
 mod body_show;
@@ -17,4 +17,4 @@ pub use plan::{PlanFault, read_plan};
 pub use plan_run::{maps, plan_of};
 pub use status::Status;
 pub use text::text_of;
-pub use words::{LiveWords, MapsWords, RunWords, ShowWords, Words, read_words, refused};
+pub use words::{LiveWords, MapsWords, RunWords, ShowWords};

@@ -9,10 +9,9 @@ use std::thread::Threads;
 use std::time::Clock;
 use std::{env, fs};
 use upsched_live_parts::live;
-use upsched_map_parts::{
-    Fault, LiveWords, MapsWords, RunWords, Status, Words, maps, read_words, refused, show,
-};
+use upsched_map_parts::{Fault, LiveWords, MapsWords, RunWords, Status, maps, show};
 use upsched_parts::run_script;
+use upsched_words::{Words, read_words, refused};
 
 /// Opens the plan and ends as `maps` does.
 fn run_maps<R: Files + AllocGlobal, O: Write, E: Write>(

@@ -1,7 +1,7 @@
 use Rattle.std.proofs.Common.{inl, Err, sym, ap, subst, ◌∙◌}
 use Rattle.acceptor_store_parts.specs.Foreign.{IsForeignSchema}
 use Rattle.acceptor_store.specs.Linked.{HasFurther}
-use Rattle.acceptor_store.proofs.Reopening.{told_rows, own_schema, all_prepare}
+use Rattle.acceptor_store.proofs.Reopening.{always, told_rows, not_third, all_prepare}
 use Rattle.acceptor_store.proofs.Leaving.{left_whole}
 use Rattle.acceptor_store.proofs.opening.prepared.Goals as goal
 
@@ -22,8 +22,14 @@ returns-in-Ok-judged-clause-tables g c =
     all_prepare g.S.Store c.args.conn _ c.brought_up.result (sym c.schema-2.ensures.value ∙ c.in-Ok-judged.ensures.own) c.brought_up.ensures.tables
 
 pub returns-in-Ok-judged-clause-unowned : goal.returns-in-Ok-judged-clause-unowned
-returns-in-Ok-judged-clause-unowned g c free foreign = absurd (own_schema c.in-Ok-judged.version (subst IsForeignSchema (sym c.schema-2.ensures.value ∙ c.in-Ok-judged.ensures.own) foreign))
+returns-in-Ok-judged-clause-unowned g c free foreign = absurd (c.in-Ok-judged.ensures.ours (subst IsForeignSchema (sym c.schema-2.ensures.value) foreign))
 
 pub returns-in-Ok-judged-clause-whole : goal.returns-in-Ok-judged-clause-whole
 returns-in-Ok-judged-clause-whole g c =
     left_whole g.S.Store c.in-Ok-judged.version c.args.conn c.brought_up.result (sym c.schema-2.ensures.value ∙ c.in-Ok-judged.ensures.own) c.brought_up.ensures.whole
+
+pub brought_up-requires : goal.brought_up-requires
+brought_up-requires g c = record { unowned = not_third _ c.in-Ok-judged.version c.in-Ok-judged.ensures.own c.in-Ok-judged.ensures.ours }
+
+pub returns-in-Ok-judged-clause-ours : goal.returns-in-Ok-judged-clause-ours
+returns-in-Ok-judged-clause-ours g c = always c.brought_up.result (λ foreign. c.in-Ok-judged.ensures.ours (subst IsForeignSchema (sym c.schema-2.ensures.value) foreign))

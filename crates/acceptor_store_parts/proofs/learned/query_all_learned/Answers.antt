@@ -3,7 +3,7 @@ use Rattle.sqlite.specs.Listing.{understood}
 use Rattle.sqlite.specs.Held.{state}
 use Rattle.sqlite.proofs.StateLemmas.{survives_weaker}
 use Rattle.sqlite.proofs.Callers.{IsPlain, never_commits}
-use Rattle.acceptor_store_parts.specs.Tables.{all_learned_query, store_schema}
+use Rattle.acceptor_store_parts.specs.Tables.{all_learned_query, schema_of}
 use Rattle.acceptor_store_parts.proofs.Meaning.{all_learned_plain}
 use Rattle.acceptor_store_parts.proofs.LearnedRows.{all_learned_found}
 use Rattle.acceptor_store_parts.proofs.Raw.{learned_are_shown}
@@ -15,14 +15,14 @@ returns-clause-held g c clean =
     learned_are_shown (state g.S.Store c.args.conn.now) (state g.S.Store c.query_all.new.self) c.query_all.result (λ x. x.items) (c.query_all.ensures.ok clean)
 
 pub returns-clause-same : goal.returns-clause-same
-returns-clause-same g c clean has =
-    all_same all_learned_query _ (state g.S.Store c.args.conn.now) (state g.S.Store c.query_all.new.self) store_schema has all_learned_plain c.query_all.result (λ x. x.items) (c.query_all.ensures.ok clean)
+returns-clause-same g c clean version keeps has =
+    all_same all_learned_query _ (state g.S.Store c.args.conn.now) (state g.S.Store c.query_all.new.self) (schema_of version) has (all_learned_plain version keeps) c.query_all.result (λ x. x.items) (c.query_all.ensures.ok clean)
 
 pub returns-clause-survives : goal.returns-clause-survives
 returns-clause-survives g c =
     let old = state g.S.Store c.args.conn.now in
     let new = state g.S.Store c.query_all.new.self in
-    survives_weaker old new _ _ (λ _ db may has. never_commits all_learned_query _ old db (subst (λ s. IsPlain (understood s all_learned_query)) (sym has) all_learned_plain) may) c.query_all.ensures.survives
+    survives_weaker old new _ _ (λ _ db may version keeps has. never_commits all_learned_query _ old db (subst (λ s. IsPlain (understood s all_learned_query)) (sym has) (all_learned_plain version keeps)) may) c.query_all.ensures.survives
 
 pub returns-clause-value : goal.returns-clause-value
 returns-clause-value g c clean =

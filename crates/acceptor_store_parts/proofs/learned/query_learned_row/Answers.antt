@@ -27,4 +27,4 @@ pub returns-clause-survives : goal.returns-clause-survives
 returns-clause-survives g c =
     let old = state g.S.Store c.args.conn.now in
     let new = state g.S.Store c.query_all.new.self in
-    survives_weaker old new _ _ (λ _ db may d was. never_commits learned_row_query _ old db (subst (λ s. IsPlain (understood s learned_row_query)) (sym was.schema) learned_row_plain) may) c.query_all.ensures.survives
+    survives_weaker old new _ _ (λ _ db may d was. never_commits learned_row_query _ old db (subst (λ s. IsPlain (understood s learned_row_query)) (sym was.1.schema) (learned_row_plain was.0)) may) c.query_all.ensures.survives

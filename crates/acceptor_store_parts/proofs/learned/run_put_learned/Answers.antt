@@ -29,4 +29,4 @@ returns-clause-survives g c =
     let old = state g.S.Store c.args.conn.now in
     let new = state g.S.Store c.execute.new.self in
     let crash = rw (to_z-of_z, c.signed_place.ensures.value, c.as_slice.ensures.same) at c.execute.ensures.survives in
-    survives_weaker old new _ _ (λ _ db may d was. put_learned_commits old new c.args.place c.args.value.now c.signed_place.ensures.fits short d was db may) crash
+    survives_weaker old new _ _ (λ _ db may owner d was. put_learned_commits old new c.args.place c.args.value.now c.signed_place.ensures.fits short owner d was db may) crash

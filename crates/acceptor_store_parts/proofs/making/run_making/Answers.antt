@@ -1,13 +1,13 @@
-use Rattle.std.proofs.Common.{◌≡◌, true, OnOk, refl, sym, subst, arith, rules}
+use Rattle.std.proofs.Common.{◌≡◌, true, None, OnOk, refl, sym, subst, arith, rules}
 use Rattle.acceptor.specs.Content.{no_content}
 use Rattle.sqlite.specs.Tree.{Trees}
 use Rattle.sqlite.specs.State.{HasCleanDisk, Survives}
 use Rattle.sqlite.specs.Held.{state}
 use Rattle.sqlite.proofs.StateLemmas.{survives_then}
 use Rattle.sqlite.proofs.Callers.{survives_begin}
-use Rattle.acceptor_store_parts.specs.Stored.{AreTables}
+use Rattle.acceptor_store_parts.specs.Owned.{AreTablesFor}
 use Rattle.acceptor_store_parts.specs.Tables.{blank_schema}
-use Rattle.acceptor_store_parts.specs.Serves.{Serves}
+use Rattle.acceptor_store_parts.specs.Serves.{ServesFor}
 use Rattle.acceptor_store_parts.proofs.Makes.{made_after, served_after, on_ok}
 use Rattle.acceptor_store_parts.proofs.making.run_making.Goals as goal
 
@@ -27,8 +27,8 @@ returns-clause-made g c clean has =
     let four = c.in_ok-execute-4.ensures.runs fourth three.1.mode in
     let made = made_after (state g.S.Store (record c.args.conn.now { in_transaction = true })) (state g.S.Store c.execute.new.self.conn.now) (state g.S.Store c.execute-2.new.self.conn.now)
     (state g.S.Store c.execute-3.new.self.conn.now) (state g.S.Store c.execute-4.new.self.conn.now) c.in_ok-execute.field-0 c.in_ok-execute-2.field-0 c.in_ok-execute-3.field-0 c.in_ok-execute-4.field-0 has (rw begun at one.0) two.0 three.0 four.0 in
-    subst (λ h. OnOk c.commit.result (Serves (state g.S.Store h) no_content)) same
-    (on_ok c.commit.result (c.commit.ensures.ok late) (λ done. served_after (state g.S.Store c.execute-4.new.self.conn.now) (state g.S.Store end) no_content made done.1))
+    subst (λ h. OnOk c.commit.result (ServesFor None (state g.S.Store h) no_content)) same
+    (on_ok c.commit.result (c.commit.ensures.ok late) (λ done. served_after None (state g.S.Store c.execute-4.new.self.conn.now) (state g.S.Store end) no_content made done.1))
 
 pub returns-clause-survives : goal.returns-clause-survives
 returns-clause-survives g c =
@@ -41,7 +41,7 @@ returns-clause-survives g c =
     let s₃ = state g.S.Store c.execute-3.new.self.conn.now in
     let s₄ = state g.S.Store c.execute-4.new.self.conn.now in
     let s₅ = state g.S.Store end in
-    let Wanted : Trees → Type 0 = λ db. s₀.now.schema ≡ blank_schema → AreTables db no_content in
+    let Wanted : Trees → Type 0 = λ db. s₀.now.schema ≡ blank_schema → AreTablesFor None db no_content in
     let Never : Trees → Type 0 = λ _. ⊥ in
     let a : Survives s₀ s₁ Never = survives_begin g.S.Store c.args.conn.now s₁ Never (rw begun at c.execute.ensures.survives) in
     let b : Survives s₀ s₂ Never = survives_then s₀ s₁ s₂ Never Never Never (λ _ db no. no) (λ _ db no. no) a c.execute-2.ensures.survives in
@@ -57,5 +57,5 @@ returns-clause-survives g c =
     let three = c.in_ok-execute-3.ensures.runs third two.1.mode in
     let four = c.in_ok-execute-4.ensures.runs fourth three.1.mode in
     let made = made_after (state g.S.Store (record c.args.conn.now { in_transaction = true })) s₁ s₂ s₃ s₄ c.in_ok-execute.field-0 c.in_ok-execute-2.field-0 c.in_ok-execute-3.field-0 c.in_ok-execute-4.field-0 has (rw begun at one.0) two.0 three.0 four.0 in
-    subst (λ t. AreTables t no_content) (sym is) made.1 in
+    subst (λ t. AreTablesFor None t no_content) (sym is) made.1 in
     subst (λ h. Survives s₀ (state g.S.Store h) Wanted) same (survives_then s₀ s₄ s₅ Never (λ db. db ≡ s₄.now.trees) Wanted (λ _ db no. absurd no) whole e c.commit.ensures.survives)

@@ -1,10 +1,10 @@
-use Rattle.std.proofs.Common.{◌≡◌, true, OnOk, refl, sym, subst, arith, rules}
+use Rattle.std.proofs.Common.{◌≡◌, true, None, OnOk, refl, sym, subst, arith, rules}
 use Rattle.sqlite.specs.Tree.{Trees}
 use Rattle.sqlite.specs.State.{HasCleanDisk, Survives}
 use Rattle.sqlite.specs.Held.{state}
 use Rattle.sqlite.proofs.StateLemmas.{survives_then}
 use Rattle.sqlite.proofs.Callers.{survives_begin}
-use Rattle.acceptor_store_parts.specs.Stored.{AreTables}
+use Rattle.acceptor_store_parts.specs.Owned.{AreTablesFor}
 use Rattle.acceptor_store_parts.specs.Serves.{HasRaised, MayHaveRaised}
 use Rattle.acceptor_store_parts.proofs.Makes.{raised_after, served_after, on_ok}
 use Rattle.acceptor_store_parts.proofs.making.run_raising.Goals as goal
@@ -23,7 +23,7 @@ returns-clause-raised g c clean =
     (on_ok c.commit.result (c.commit.ensures.ok late) (λ done d was.
     let raised = raised_after (state g.S.Store (record c.args.conn.now { in_transaction = true })) (state g.S.Store c.execute.new.self.conn.now) (state g.S.Store c.execute-2.new.self.conn.now) d
     c.in_ok-execute.field-0 c.in_ok-execute-2.field-0 was.schema was.tables (rw begun at one.0) two.0 in
-    served_after (state g.S.Store c.execute-2.new.self.conn.now) (state g.S.Store end) d raised done.1))
+    served_after None (state g.S.Store c.execute-2.new.self.conn.now) (state g.S.Store end) d raised done.1))
 
 pub returns-clause-survives : goal.returns-clause-survives
 returns-clause-survives g c =
@@ -43,5 +43,5 @@ returns-clause-survives g c =
     let one = c.in_ok-execute.ensures.runs first (rw begun refl) in
     let two = c.in_ok-execute-2.ensures.runs second one.1.mode in
     let raised = raised_after (state g.S.Store (record c.args.conn.now { in_transaction = true })) s₁ s₂ d c.in_ok-execute.field-0 c.in_ok-execute-2.field-0 was.schema was.tables (rw begun at one.0) two.0 in
-    subst (λ t. AreTables t d) (sym is) raised.1 in
+    subst (λ t. AreTablesFor None t d) (sym is) raised.1 in
     subst (λ h. Survives s₀ (state g.S.Store h) (MayHaveRaised s₀)) same (survives_then s₀ s₂ s₃ Never (λ db. db ≡ s₂.now.trees) (MayHaveRaised s₀) (λ _ db no. absurd no) whole b c.commit.ensures.survives)

@@ -1,16 +1,15 @@
-use Rattle.std.proofs.Common.{◌≡◌, ℕ, Option, Some, None, IfNone, take, sym, ap, subst}
+use Rattle.std.proofs.Common.{◌≡◌, ℕ, IfNone, sym, subst}
 use Rattle.acceptor_store_parts.specs.Stored.{IsNumber, numbers_shown}
 use Rattle.acceptor_store_parts.proofs.opening.both_numbers.Goals as goal
-
-none_then : {X A B : Type 0} (o : Option X) → IfNone o A → (A → B) → IfNone o B
-none_then None h f = f h
-none_then (Some x) h f = tt
 
 pub returns-in-First-clause-none : goal.returns-in-First-clause-none
 returns-in-First-clause-none c =
     subst (λ v. IfNone c.only_two.result ((tried row : ℕ) → IsNumber tried → IsNumber row → c.args.rows.now ≡ numbers_shown v tried row → ⊥)) (sym c.in-First.is) c.only_two.ensures.none
 
-pub returns-else-not-is_second-clause-none : goal.returns-else-not-is_second-clause-none
-returns-else-not-is_second-clause-none c =
-    none_then c.only_two-in-Second.result c.only_two-in-Second.ensures.none (λ none tried row it ir is.
-    none tried row it ir (ap (take 2) (subst (λ v. c.args.rows.now ≡ numbers_shown v tried row) c.in-Second.is is)))
+pub returns-in-Second-clause-none : goal.returns-in-Second-clause-none
+returns-in-Second-clause-none c =
+    subst (λ v. IfNone c.two_before.result ((tried row : ℕ) → IsNumber tried → IsNumber row → c.args.rows.now ≡ numbers_shown v tried row → ⊥)) (sym c.in-Second.is) c.two_before.ensures.none
+
+pub returns-in-Third-clause-none : goal.returns-in-Third-clause-none
+returns-in-Third-clause-none c =
+    subst (λ v. IfNone c.two_before-in-Third.result ((tried row : ℕ) → IsNumber tried → IsNumber row → c.args.rows.now ≡ numbers_shown v tried row → ⊥)) (sym c.in-Third.is) c.two_before-in-Third.ensures.none

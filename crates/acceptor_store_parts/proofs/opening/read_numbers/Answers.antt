@@ -2,18 +2,19 @@ use Rattle.std.proofs.Common.{sym, ◌∙◌}
 use Rattle.std.proofs.lemmas.Option.{IfSome_then}
 use Rattle.sqlite.specs.Held.{state}
 use Rattle.sqlite.proofs.StateLemmas.{survives_then, survives_weaker}
-use Rattle.acceptor_store_parts.specs.declared.Version.TheVariants.{Second}
+use Rattle.acceptor_store_parts.specs.Owned.{version_for}
 use Rattle.acceptor_store_parts.proofs.Numbers.{same_numbers}
+use Rattle.acceptor_store_parts.proofs.Owners.{as_version}
 use Rattle.acceptor_store_parts.proofs.opening.read_numbers.Goals as goal
 
 pub returns-in-Ok-clause-value : goal.returns-in-Ok-clause-value
 returns-in-Ok-clause-value g c clean =
-    IfSome_then c.both_numbers.result c.both_numbers.ensures.some (λ r some d was. same_numbers Second _ _ d.tried d.row (sym some ∙ (c.as_slice.ensures.value ∙ c.in-Ok.ensures.value clean Second d was)))
+    IfSome_then c.both_numbers.result c.both_numbers.ensures.some (λ r some d was. same_numbers c.args.version _ _ d.tried d.row (sym some ∙ (c.as_slice.ensures.value ∙ c.in-Ok.ensures.value clean c.args.version d was)))
 
 pub returns-in-Ok-clause-survives : goal.returns-in-Ok-clause-survives
 returns-in-Ok-clause-survives g c =
-    survives_weaker (state g.S.Store c.args.conn.now) (state g.S.Store c.query_numbers.new.conn) _ _ (λ _ db other d was. other Second was.schema) c.query_numbers.ensures.survives
+    survives_weaker (state g.S.Store c.args.conn.now) (state g.S.Store c.query_numbers.new.conn) _ _ (λ _ db other d was. other (version_for was.0) (was.1.schema ∙ as_version was.0)) c.query_numbers.ensures.survives
 
 pub returns-in-Err-clause-survives : goal.returns-in-Err-clause-survives
 returns-in-Err-clause-survives g c =
-    survives_then (state g.S.Store c.args.conn.now) (state g.S.Store c.query_numbers.new.conn) (state g.S.Store c.stop_for.new.conn) _ _ _ (λ _ db other d was. other Second was.schema) (λ _ db no. absurd no) c.query_numbers.ensures.survives c.stop_for.ensures.survives
+    survives_then (state g.S.Store c.args.conn.now) (state g.S.Store c.query_numbers.new.conn) (state g.S.Store c.stop_for.new.conn) _ _ _ (λ _ db other d was. other (version_for was.0) (was.1.schema ∙ as_version was.0)) (λ _ db no. absurd no) c.query_numbers.ensures.survives c.stop_for.ensures.survives

@@ -5,14 +5,16 @@ use Rattle.sqlite_trees.specs.View.{IsShaped, IsClean}
 use Rattle.sqlite_trees.specs.declared.store.Shape.TheVariants.{Table}
 use Rattle.sqlite.proofs.StreamLemmas.{is_open_now}
 use Rattle.acceptor_store_parts.specs.declared.Version.{Version}
-use Rattle.acceptor_store_parts.specs.declared.Version.TheVariants.{First, Second}
+use Rattle.acceptor_store_parts.specs.declared.Version.TheVariants.{First, Second, Third}
 use Rattle.acceptor_store_parts.specs.Rowids.{AreShaped}
+use Rattle.acceptor_store_parts.specs.Stored.{KeepsLearned}
 use Rattle.acceptor_store_parts.proofs.rereading.reread.Goals as goal
 
 -- the trees of a version's tables are tables
-shaped : (version : Version) (db : Trees) → IsTable (db 0) → IsTable (db 1) → (version ≡ Second → IsTable (db 2)) → AreShaped version db
-shaped First db numbers votes learned = (numbers, votes)
-shaped Second db numbers votes learned = (numbers, votes, learned refl)
+shaped : (version : Version) (db : Trees) → IsTable (db 0) → IsTable (db 1) → (KeepsLearned version → IsTable (db 2)) → (version ≡ Third → IsTable (db 3)) → AreShaped version db
+shaped First db numbers votes learned facts = (numbers, votes)
+shaped Second db numbers votes learned facts = (numbers, votes, learned tt)
+shaped Third db numbers votes learned facts = (numbers, votes, learned tt, facts refl)
 
 pub returns-in-Ok-clause-committed : goal.returns-in-Ok-clause-committed
 returns-in-Ok-clause-committed g c clean =
@@ -28,8 +30,13 @@ returns-in-Ok-clause-committed g c clean =
     let second : v.shape 1 ≡ Table = c.if-not-are_tables.ensures.votes refl in
     let numbers = subst (λ (t : Trees). IsTable (t 0)) (sym trees) (subst (λ s. IsShaped s (v.trees 0)) first (ordered 0)).0 in
     let votes = subst (λ (t : Trees). IsTable (t 1)) (sym trees) (subst (λ s. IsShaped s (v.trees 1)) second (ordered 1)).0 in
-    let learned = λ (is : c.args.version ≡ Second). subst (λ s. IsShaped s (v.trees 2)) (c.if-not-has_learned.ensures refl is) (ordered 2) in (
-      record { opens = opening.0; live = opening.1; shaped = shaped c.args.version _ numbers votes (λ is. subst (λ (t : Trees). IsTable (t 2)) (sym trees) (learned is).0) },
+    let learned = λ (keeps : KeepsLearned c.args.version). subst (λ s. IsShaped s (v.trees 2)) (c.if-not-has_further.ensures.learned refl keeps) (ordered 2) in
+    let facts = λ (is : c.args.version ≡ Third). subst (λ s. IsShaped s (v.trees 3)) (c.if-not-has_further.ensures.facts refl is) (ordered 3) in (
+      record {
+        opens = opening.0;
+        live = opening.1;
+        shaped = shaped c.args.version _ numbers votes (λ keeps. subst (λ (t : Trees). IsTable (t 2)) (sym trees) (learned keeps).0) (λ is. subst (λ (t : Trees). IsTable (t 3)) (sym trees) (facts is).0);
+      },
       trees ∙ (c.into_store-store.ensures.undone.undone opened).0,
     )
 

@@ -1,5 +1,5 @@
 use Rattle.std.proofs.Common.{rules, ◌≡◌, List, not, ap, ◌∙◌}
-use Rattle.std.specs.List.{list_any, filter}
+use Rattle.std.specs.List.{list_any}
 use Rattle.std.proofs.lemmas.Fn.{filter_same}
 use Rattle.flow_state.specs.declared.flow.Waiting.{Waiting}
 use Rattle.flow_state.specs.Rows.{table_of}
@@ -10,7 +10,6 @@ use Rattle.grant_machine.proofs.rows.take_granted.Goals as goal
 pub returns : goal.returns
 returns c =
     let ws : List Waiting = waiting_of (table_of c.args.flows.now c.args.ch) in
-    let kept : c.keep_waiting.ensures.0 ≡ still_waiting c.requested-placements.result.now ws =
-    filter_same _ (λ w. not (list_any (is_grant_of w) c.requested-placements.result.now)) _ (λ x b f k. search rules) _ _ c.keep_waiting.ensures.1 in
-    let same : still_waiting c.requested-placements.result.now ws ≡ still_waiting c.args.placements.now ws = (λ i. filter (λ w. not (c.requested-placements.ensures w i)) ws) in
-    c.keep_waiting.ensures.2 ∙ ap (λ (us : List Waiting). with_waiting c.args.flows.now c.args.ch us) (kept ∙ same)
+    let kept : c.keep_waiting.ensures.0 ≡ still_waiting c.args.placements.now ws =
+    filter_same _ (λ w. not (list_any (is_grant_of w) c.args.placements.now)) _ (λ x b f k. search rules) _ _ c.keep_waiting.ensures.1 in
+    c.keep_waiting.ensures.2 ∙ ap (λ (us : List Waiting). with_waiting c.args.flows.now c.args.ch us) kept

@@ -1,38 +1,40 @@
-use Rattle.std.proofs.Common.{◌≡◌, ◌<◌, List, ◌∷◌, [], ◌++◌, Some, None, sym, ap, ◌∙◌, arith, append_assoc}
-use Rattle.std.specs.List.{filter_map, range_with_len}
-use Rattle.std.proofs.lemmas.List.{append-nil}
-use Rattle.map_body.specs.declared.element.Element.{Element}
+use Rattle.std.proofs.Common.{◌∙◌, inr, get_or}
+use Rattle.grant_machine_parts.specs.Placing.{is_free}
+use Rattle.grant_machine_parts.specs.Gaps.{Gap}
 use Rattle.grant_machine_parts.specs.Drawing.{begins_at}
-use Rattle.grant_machine_parts.proofs.Edges.{next_is, jumped}
+use Rattle.grant_machine_parts.proofs.Drawn.{first_gap, gap_begins_early, behind_gaps, gap_more, placements_more}
 use Rattle.grant_machine_parts.proofs.drawing.put_intervals.Goals as goal
-use Rattle.grant_machine_parts.proofs.drawing.put_intervals.Goals.{in-Some+in_ok-push, in_default}
 
-pub loop-x-smaller : goal.loop-x-smaller
-loop-x-smaller c =
-    let next = next_is c.args.placements.now c.loop-x.x c.args.len in
-    let is = c.next_edge-x.ensures in
-    let lt : c.loop-x.x < c.args.len = omega arith in
-    omega (arith, next.most, next.more lt)
+abbrev blank : Gap
+blank = record { from = 0; to = 0 }
 
-pub loop-x-preserved : goal.loop-x-preserved
-loop-x-preserved c =
-    let ps = c.args.placements.now in
-    let x = c.loop-x.x in
-    let b = begins_at ps in
-    let is = c.next_edge-x.ensures in
-    let lt : x < c.args.len = omega arith in
-    let old : List Element = c.args.elements.now.items in
-    let fm : List Element = filter_map b (range_with_len 0 x) in
+pub put_placements-requires : goal.put_placements-requires
+put_placements-requires c =
+    let gap = first_gap (is_free c.args.placements.now) c.loop-gap.x c.args.len c.args.gaps.now c.loop-gap.gap-index blank c.loop-gap-test.true c.loop-gap.invariant.free in
+    record { order = gap.0.from; held = gap.0.before; alone = c.requires.alone }
+
+pub put_gap-requires : goal.put_gap-requires
+put_gap-requires c =
+    let gap = first_gap (is_free c.args.placements.now) c.loop-gap.x c.args.len c.args.gaps.now c.loop-gap.gap-index blank c.loop-gap-test.true c.loop-gap.invariant.free in
+    gap_begins_early gap.0 c.requires.short
+
+pub loop-gap-preserved : goal.loop-gap-preserved
+loop-gap-preserved c =
+    let gap = first_gap (is_free c.args.placements.now) c.loop-gap.x c.args.len c.args.gaps.now c.loop-gap.gap-index blank c.loop-gap-test.true c.loop-gap.invariant.free in
     record {
-      within = let most = (next_is ps x c.args.len).most in omega (arith, most);
-      put = rw is (elim c.match-begins_at.branch [
-        | in-Some+in_ok-push w ↦
-            let e = w.in-Some.element in
-            let begins : Some e ≡ b x = w.in-Some.ensures in
-            ap (λ v. v.items) w.elements-is ∙ w.in_ok-push.ensures.items ∙ ap (λ (es : List Element). es ++ e ∷ []) c.loop-x.invariant.put
-            ∙ append_assoc old fm (e ∷ []) ∙ ap (λ (es : List Element). old ++ es) (sym (jumped ps c.args.len x (Some e) lt begins))
-        | in_default w ↦
-            let begins : None ≡ b x = w.in_default.ensures in
-            ap (λ v. v.items) w.elements-is ∙ c.loop-x.invariant.put ∙ ap (λ (es : List Element). old ++ es) (sym (jumped ps c.args.len x None lt begins ∙ append-nil fm))
-      ]);
+      free = gap.1;
+      anew = inr gap.0.behind;
+      within = gap.0.within;
+      put = gap_more c.args.placements.now c.args.len c.loop-gap.x (get_or c.args.gaps.now c.loop-gap.gap-index blank) c.args.elements.now.items c.loop-gap.elements.items c.put_placements.new.elements.items c.put_gap.new.elements.items gap.0 c.loop-gap.invariant.anew
+          c.loop-gap.invariant.put c.in_ok-drawn.ensures c.in_ok-put_gap.ensures;
     }
+
+pub put_placements-requires-2 : goal.put_placements-requires-2
+put_placements-requires-2 c = record {
+  order = c.loop-gap.invariant.within;
+  held = behind_gaps (is_free c.args.placements.now) c.loop-gap.x c.args.len c.args.gaps.now c.loop-gap.gap-index c.loop-gap-test.false c.loop-gap.invariant.free;
+  alone = c.requires.alone;
+}
+
+pub returns : goal.returns
+returns c = c.in_ok-put_placements.ensures ∙ placements_more (begins_at c.args.placements.now) c.loop-gap.x c.args.len c.args.elements.now.items c.loop-gap.elements.items c.loop-gap.invariant.within c.loop-gap.invariant.put

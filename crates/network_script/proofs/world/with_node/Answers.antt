@@ -1,4 +1,4 @@
-use Rattle.network_script.proofs.Acts.{numbered_more}
+use Rattle.network_script.proofs.Asking.{numbered_more}
 use Rattle.network_script.proofs.world.with_node.Goals as goal
 
 pub loop-numbered-preserved : goal.loop-numbered-preserved

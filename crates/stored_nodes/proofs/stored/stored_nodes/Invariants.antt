@@ -8,5 +8,5 @@ use Rattle.stored_nodes.proofs.stored.stored_nodes.Given as goal
 
 abbrev pub invariant-loop-number : goal.invariant-loop-number
 invariant-loop-number g l =
-    (l.number ≤ member_count l.members) × AreFirst (λ n. who_of (λ r. r.failures) (λ r. not r.is_up) n.parts) (λ n. is_honest over_files n.parts.records) (λ n s. Stands (λ r. MayFind over_files r.held) n.parts s)
+    (l.number ≤ member_count l.members) × AreFirst (λ n. who_of (λ r. r.failures) (λ r. not r.is_up) n.parts) (λ n. is_honest over_files n.parts.records) (λ n s. Stands (λ r. MayFind over_files r.owner r.held) n.parts s)
     (member_count l.members) l.number l.nodes.items

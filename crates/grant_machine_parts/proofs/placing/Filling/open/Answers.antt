@@ -1,5 +1,4 @@
-use Rattle.std.proofs.Common.{◌≡◌, List, [], ◌∙◌, arith}
-use Rattle.grant_machine_parts.specs.Placing.{Placement}
+use Rattle.std.proofs.Common.{◌≡◌, [], ◌∙◌, arith}
 use Rattle.grant_machine_parts.proofs.Carved.{all_free}
 use Rattle.grant_machine_parts.proofs.placing.Filling.open.Goals as goal
 
@@ -12,4 +11,5 @@ invariant_of-self-2 c =
       early = c.requires.early;
       few = rw none (omega arith);
       uses = rw none tt;
+      apart = λ still. rw none tt;
     }

@@ -16,3 +16,6 @@ returns-in-Map-clause-stands c =
 
 pub returns-in-Map-clause-lets_go : goal.returns-in-Map-clause-lets_go
 returns-in-Map-clause-lets_go c = rw c.in-Map.is (rw c.as_slice.ensures at c.hear_map.ensures.lets_go)
+
+pub returns-in-Assigned-clause-ok : goal.returns-in-Assigned-clause-ok
+returns-in-Assigned-clause-ok c = rw c.in-Assigned.is c.hear_assigned.ensures.ok

@@ -11,8 +11,9 @@ returns-clause-passes c =
     let grants = rw (c.max-clock.ensures, c.get.ensures.same) at c.let_go.ensures.held in
     let open_to_all = rw (c.max-clock.ensures, c.get.ensures.same) at c.let_go-2.ensures.held in
     let lasts = rw (c.as_slice.ensures.value, c.max-clock.ensures, c.get.ensures.same) at c.keep_lasting.ensures in
+    let gone = rw (c.max-clock.ensures, c.get.ensures.same) at c.keep_recent.ensures in
     let made = rw (c.max-clock.ensures, c.get.ensures.same) at c.set.ensures in
-    rw (← c.self.view_is) (Passes-made (the_view c.self.inside) _ c.args.channel c.args.channel.id c.args.near found refl refl grants open_to_all made lasts)
+    rw (← c.self.view_is) (Passes-made (the_view c.self.inside) _ c.args.channel c.args.channel.id c.args.near found refl gone grants open_to_all made lasts)
 
 pub returns-clause-lets_go : goal.returns-clause-lets_go
 returns-clause-lets_go c =

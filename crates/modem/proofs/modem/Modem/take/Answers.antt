@@ -24,7 +24,7 @@ returns-clause-ok c =
     let lasts : c.keep_lasting.new.wants.items ≡ lasting fields.leases.items c.args.channel.id (max c.args.channel.clock c.args.near) (filter_map (decided fields.leases.items m start c.ack_time-ack.result) fields.wants.items) = rw (c.as_slice-leases.ensures.value, wants, c.max-clock.ensures, c.get.ensures.same) at c.keep_lasting.ensures in
     let grants = KeepsWith-made (map kept_interval fields.grants.items) (map kept_interval c.add_all.new.kept.items) (map kept_interval c.let_go.new.kept.items) m.head.channel (max c.args.channel.clock c.args.near) (covered fields.leases.items (of_map m start (intervals m.elements))) (rw (c.in_ok-reserve.ensures.items, c.as_slice-3.ensures.value, own) at c.add_all.ensures.held) (rw (c.head-head.ensures, c.max-clock.ensures, c.get.ensures.same) at c.let_go.ensures.held) in
     let opens = KeepsWith-made (map kept_interval fields.open_to_all.items) (map kept_interval c.add_all-2.new.kept.items) (map kept_interval c.let_go-2.new.kept.items) m.head.channel (max c.args.channel.clock c.args.near) (of_map m start (filter (λ (i : Interval). (i.sid == everybody) && (i.iuc == 1)) (intervals m.elements))) (rw (c.in_ok-reserve-2.ensures.items, c.as_slice-4.ensures.value, opened) at c.add_all-2.ensures.held) (rw (c.head-head.ensures, c.max-clock.ensures, c.get.ensures.same) at c.let_go-2.ensures.held) in
-    rw (← c.self.view_is) (Takes-made _ _ c.args.channel c.args.near m start c.ack_time-ack.result (rw (← c.self.view_is) at c.requires) refl (rw (c.head-head.ensures, c.max-clock.ensures, c.get.ensures.same) at c.set.ensures) refl grants opens (rw c.head-head.ensures at c.ack_time-ack.ensures) lasts)
+    rw (← c.self.view_is) (Takes-made _ _ c.args.channel c.args.near m start c.ack_time-ack.result (rw (← c.self.view_is) at c.requires) refl (rw (c.head-head.ensures, c.max-clock.ensures, c.get.ensures.same) at c.set.ensures) (rw (c.max-clock.ensures, c.get.ensures.same) at c.keep_recent.ensures) grants opens (rw c.head-head.ensures at c.ack_time-ack.ensures) lasts)
 
 pub returns-clause-lets_go : goal.returns-clause-lets_go
 returns-clause-lets_go c =

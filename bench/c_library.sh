@@ -1,0 +1,79 @@
+#!/usr/bin/env bash
+# The library for C and C++ (crates/upsched_c, include/, c/), tried from C; no part of the gate. It builds the clients with
+# gcc and g++, warnings as errors, and runs them: as they are, under the sanitizers, and under valgrind's memcheck and
+# helgrind; lets each request for memory fail in turn; and compares what it says of spoilt bodies and commands with what
+# the proved program prints, where one is there. The status is 1 where something differs.
+#
+# Usage: bench/c_library.sh [SECONDS [SEED]]: the fuzz target runs so long (5), and 40 times as many inputs are spoilt.
+set -euo pipefail
+top=$(cd -- "$(dirname -- "${BASH_SOURCE[0]}")/.." && pwd)
+seconds=${1:-5}
+seed=${2:-1}
+program=${PROGRAM:-$top/crates/upsched/out/upsched}
+cd "$top/c"
+make -s CC=gcc CXX=g++ check
+work=$(mktemp -d)
+trap 'rm -rf "$work"' EXIT
+lib=out/libupsched.a
+warn=(-Wall -Wextra -pedantic -Werror -I../include)
+
+echo "== sanitizers"
+clean=(-g -O1 -fsanitize=address,undefined -fno-sanitize-recover=all)
+for client in rows agrees codec_fuzz mutate; do
+  gcc -std=c99 "${clean[@]}" "${warn[@]}" "$client.c" "$lib" -o "$work/$client"
+done
+gcc -std=gnu99 "${clean[@]}" "${warn[@]}" threads.c "$lib" -pthread -o "$work/threads"
+g++ -std=c++17 "${clean[@]}" "${warn[@]}" sim.cpp "$lib" -o "$work/sim"
+"$work/agrees"
+"$work/rows" | diff - rows.stdout
+"$work/threads"
+"$work/codec_fuzz" "$seconds" "$seed"
+"$work/sim" 0.05 0.5 events 2>/dev/null > "$work/sim.out"
+
+echo "== each request for memory fails"
+gcc -std=c99 -g -O1 "${warn[@]}" -Wl,--wrap=malloc,--wrap=realloc no_memory.c "$lib" -o "$work/no_memory"
+"$work/no_memory"
+
+echo "== valgrind"
+memcheck=(valgrind -q --leak-check=full --error-exitcode=9)
+"${memcheck[@]}" out/agrees
+"${memcheck[@]}" out/rows | diff - rows.stdout
+"${memcheck[@]}" out/codec_fuzz 1 "$seed"
+"${memcheck[@]}" "$work/no_memory"
+"${memcheck[@]}" out/sim 0.02 0.5 events 2>/dev/null > "$work/sim.out"
+valgrind -q --tool=helgrind --error-exitcode=9 out/threads
+
+if [ ! -x "$program" ]; then
+  echo "no proved program at $program: what it prints of spoilt inputs isn't compared" >&2
+  exit
+fi
+
+# What `upsched show` says of bodies, one after another.
+echo "== spoilt bodies"
+count=$((seconds * 40))
+"$work/mutate" bodies "$seed" "$count" > "$work/bodies"
+grep -E '^[0-9a-f]*$' "$work/bodies" | while IFS= read -r digits; do
+  echo "$digits"
+  "$program" show "$digits" 2>&1 || true
+done > "$work/shown"
+diff "$work/bodies" "$work/shown"
+echo "$count bodies: the same lines as the program's, $(grep -c '^upsched: body' "$work/shown") of them faults"
+
+# A script of one leader that proposes each value, and releases all outputs.
+echo "== spoilt commands"
+count=$((seconds * 40))
+"$work/mutate" values "$seed" "$count" > "$work/outputs" 2> "$work/values"
+{
+  printf 'members = 3\nevent = [{ kind = "lead", node = 0 },'
+  for letter in 0 1 3 4; do printf '{ kind = "deliver", letter = %d },' "$letter"; done
+  base=5
+  while IFS= read -r digits; do
+    printf '\n{ kind = "offer", node = 0, value = "%s" },' "$digits"
+    for step in 0 1 3 6; do printf '{ kind = "deliver", letter = %d },' $((base + step)); done
+    base=$((base + 9))
+  done < "$work/values"
+  printf '\n{ kind = "release", node = 0, now = 0 }]\n'
+} > "$work/script.toml"
+"$program" run "$work/script.toml" | grep '^place ' | sed 's/ *$//' > "$work/released"
+diff "$work/outputs" "$work/released"
+echo "$count commands: the same outputs as the program's, $(grep -c ' refused ' "$work/released") of them refusals"

@@ -1,0 +1,179 @@
+-- What is known of a connection that was opened for an owner.
+use Rattle.std.proofs.Common.{◌≡◌, ◌≢◌, ◌⊎◌, inl, inr, ℕ, true, false, Bool, Option, Some, None, Ok, Err, Result, IfErr, IfOk, IsSome, IsTrue, refl, sym, ap, subst, ◌∙◌}
+use Rattle.acceptor.specs.Content.{Content}
+use Rattle.sqlite.specs.Store.{Ghosts}
+use Rattle.sqlite.specs.Tree.{Trees}
+use Rattle.sqlite.specs.Effect.{Database}
+use Rattle.sqlite.specs.State.{State, HasCleanDisk, Survives}
+use Rattle.sqlite.specs.Held.{Held, state}
+use Rattle.sqlite.proofs.StateLemmas.{survives_then}
+use Rattle.sqlite_trees.specs.View.{IsClean}
+use Rattle.acceptor_store_parts.specs.declared.Version.TheVariants.{Third}
+use Rattle.acceptor_store_parts.specs.declared.owner.Owner.{Owner}
+use Rattle.acceptor_store_parts.specs.Tables.{schema_of, blank_schema}
+use Rattle.acceptor_store_parts.specs.Rowids.{AreByRowid, Rereads}
+use Rattle.acceptor_store_parts.specs.Owned.{AreTablesFor, IsOwner, OwnedBy}
+use Rattle.acceptor_store_parts.specs.Foreign.{HasFacts, HoldsNone, HoldsNoneOwned, IsBroken, IsUnowned}
+use Rattle.acceptor_store_parts.specs.Serves.{HasOwned, MayHaveOwned}
+use Rattle.acceptor_store_parts.proofs.Callers.{serves_for, tables_as, tables_for}
+use Rattle.acceptor_store.specs.declared.OpenFault.{OpenFault}
+use Rattle.acceptor_store.specs.declared.OpenFault.TheVariants.{Refused, Broken, OutOfMemory, Foreign}
+use Rattle.acceptor_store.specs.declared.owned.OwnerFault.{OwnerFault}
+use Rattle.acceptor_store.specs.declared.owned.OwnerFault.TheVariants.{Open, Blank, Unowned, OtherNode, OtherMembers}
+use Rattle.acceptor_store.specs.Linked.{Examines, Had, IsLeftWhole, Prepares, SeesForeign, StaysAs}
+use Rattle.acceptor_store.specs.Owning.{AdoptsFor, ExaminesFor, FindsFor, HadBefore, IsDue, IsDueBefore, IsLeftAs, IsLeftBefore, Names, PreparesFor}
+use Rattle.acceptor_store.proofs.Reopening.{by_rowid, still_by_rowid}
+
+-- what a connection whose tables were all read serves for the owner that they name
+module _ {S : Type 0} (g : Ghosts S) (old mid new : Held S) (owner : Owner) (highest : Option ℕ) (schema : (state g old).now.schema ≡ schema_of Third)
+    (same : StaysAs Third (state g old) (state g mid)) (later : StaysAs Third (state g mid) (state g new)) where
+  pub examines_for : Examines g Third old mid highest → (AreByRowid Third (state g mid) → OwnedBy owner (state g mid).now.trees) → ExaminesFor g owner old new highest
+  examines_for told named it =
+      let ex = told it in
+      let by = still_by_rowid Third (state g old) (state g mid) same.0 (by_rowid g Third old schema it) in
+      let there = named by in
+      let here : OwnedBy owner (state g old).now.trees = subst (λ (d : Database). OwnedBy owner d.trees) same.0 there in
+      let now : OwnedBy owner (state g new).now.trees = subst (λ (d : Database). OwnedBy owner d.trees) (sym later.0) there in (
+        ex.0,
+        tables_for (Some owner) (state g old).now.trees ex.0 ex.1 here,
+        ex.2,
+        serves_for (Some owner) (state g new) ex.0 (later.1 ex.0 ex.3) now,
+        ex.4,
+      )
+
+-- rows that no owner wrote
+pub none_owned : (db : Trees) → HoldsNone Third db → HoldsNoneOwned db
+none_owned db none owner c fits tables ours = none c (tables_as (Some owner) db c tables) ours
+
+pub unnamed : (db : Trees) → ((owner : Owner) → IsOwner owner → OwnedBy owner db → ⊥) → HoldsNoneOwned db
+unnamed db none owner c fits tables ours = none owner fits tables.owned
+
+-- reads of version 3, one after another, commit nothing
+pub two_leave : (old mid new : State) → Survives old mid (λ _. old.now.schema ≡ schema_of Third → ⊥) → Survives mid new (λ _. mid.now.schema ≡ schema_of Third → ⊥)
+    → (HasCleanDisk mid → old.now.schema ≡ schema_of Third → mid.now ≡ old.now) → (HasCleanDisk new → HasCleanDisk mid) → Survives old new (λ _. old.now.schema ≡ schema_of Third → ⊥)
+two_leave old mid new one two same before =
+    survives_then old mid new _ _ _ (λ _ db other. other) (λ clean db other has. other (ap (λ (d : Database). d.schema) (same (before clean) has) ∙ has)) one two
+
+-- what an older connection had, read over its store
+pub finds_for : {S : Type 0} (g : Ghosts S) (owner : Owner) (conn again new : Held S) (highest : Option ℕ) → (state g conn).now.schema ≡ schema_of Third → Rereads Third (state g conn) (state g again)
+    → ExaminesFor g owner again new highest → FindsFor g owner conn new highest
+finds_for g owner conn again new highest schema re ex =
+    let e = ex re.0 in
+    (e.0, (schema, subst (λ t. AreTablesFor (Some owner) t e.0) re.1 e.1, e.2), e.3, e.4)
+
+-- the owner that was found is another
+pub other_due : {S : Type 0} (g : Ghosts S) (wanted found : Owner) (is_new : Bool) (conn : Held S) (fault : OwnerFault)
+    → ((fault ≡ OtherNode) × (found.node ≢ wanted.node)) ⊎ ((fault ≡ OtherMembers) × (found.node ≡ wanted.node) × (found.members ≢ wanted.members)) → Names g conn found → IsDue g wanted is_new conn fault
+other_due g wanted found is_new conn fault (inl other) named = subst (IsDue g wanted is_new conn) (sym other.0) (found, named, other.1)
+other_due g wanted found is_new conn fault (inr other) named = subst (IsDue g wanted is_new conn) (sym other.0) (found, named, other.1, other.2)
+
+-- a fault of an open is due, where Foreign is
+pub open_due : {S : Type 0} (g : Ghosts S) (wanted : Owner) (is_new : Bool) (conn : Held S) (fault : OpenFault) → (state g conn).now.schema ≡ schema_of Third
+    → (fault ≡ Foreign → HoldsNoneOwned (state g conn).committed.trees) → IsDue g wanted is_new conn (Open fault)
+open_due g wanted is_new conn Refused schema foreign = tt
+open_due g wanted is_new conn Broken schema foreign = tt
+open_due g wanted is_new conn OutOfMemory schema foreign = tt
+open_due g wanted is_new conn Foreign schema foreign = inr (schema, foreign refl)
+
+-- and so is a fault of the schema
+pub schema_due : {S : Type 0} (g : Ghosts S) (wanted : Owner) (is_new : Bool) (conn : Held S) (fault : OwnerFault)
+    → ((fault ≡ Open Foreign) × IsBroken (state g conn).now.schema) ⊎ (((fault ≡ Unowned) × IsUnowned (state g conn).now.schema) ⊎ ((fault ≡ Open Refused) ⊎ (fault ≡ Open OutOfMemory)))
+    → IsDue g wanted is_new conn fault
+schema_due g wanted is_new conn fault (inl broken) = subst (IsDue g wanted is_new conn) (sym broken.0) (inl broken.1)
+schema_due g wanted is_new conn fault (inr (inl unowned)) = subst (IsDue g wanted is_new conn) (sym unowned.0) unowned.1
+schema_due g wanted is_new conn fault (inr (inr (inl refused))) = subst (IsDue g wanted is_new conn) (sym refused) tt
+schema_due g wanted is_new conn fault (inr (inr (inr memory))) = subst (IsDue g wanted is_new conn) (sym memory) tt
+
+-- a fault of the store is due
+pub store_due : {S : Type 0} (g : Ghosts S) (wanted : Owner) (is_new : Bool) (conn : Held S) (fault : OpenFault) → fault ≢ Foreign → IsDue g wanted is_new conn (Open fault)
+store_due g wanted is_new conn Refused other = tt
+store_due g wanted is_new conn Broken other = tt
+store_due g wanted is_new conn OutOfMemory other = tt
+store_due g wanted is_new conn Foreign other = absurd (other refl)
+
+-- tables that were found are prepared
+pub prepares_for : {S : Type 0} (g : Ghosts S) (owner : Owner) (is_new : Bool) (old new : Held S) (highest : Option ℕ) → FindsFor g owner old new highest → PreparesFor g owner is_new old new highest
+prepares_for g owner is_new old new highest f = (f.0, inr f.1, f.2, f.3)
+
+pub all_prepare_for : {S E : Type 0} (g : Ghosts S) (owner : Owner) (is_new : Bool) (conn : Held S) (r : Result (Held S × Option ℕ) E) → (state g conn).now.schema ≡ schema_of Third
+    → IfOk r (λ x. HasCleanDisk (state g x.0) → (state g conn).now.schema ≡ schema_of Third → FindsFor g owner conn x.0 x.1) → IfOk r (λ x. HasCleanDisk (state g x.0) → PreparesFor g owner is_new conn x.0 x.1)
+all_prepare_for g owner is_new conn (Ok x) schema h = λ clean. prepares_for g owner is_new conn x.0 x.1 (h clean schema)
+all_prepare_for g owner is_new conn (Err e) schema h = tt
+
+pub all_due : {S X : Type 0} (g : Ghosts S) (owner : Owner) (is_new : Bool) (conn : Held S) (r : Result X (OwnerFault × S)) → (state g conn).now.schema ≡ schema_of Third
+    → IfErr r (λ e. IsClean (g.view e.1) → (state g conn).now.schema ≡ schema_of Third → (b : Bool) → IsDue g owner b conn e.0) → IfErr r (λ e. IsClean (g.view e.1) → IsDue g owner is_new conn e.0)
+all_due g owner is_new conn (Ok x) schema h = tt
+all_due g owner is_new conn (Err e) schema h = λ clean. h clean schema is_new
+
+pub all_left : {S X : Type 0} (g : Ghosts S) (owner : Owner) (is_new : Bool) (conn : Held S) (r : Result X (OwnerFault × S))
+    → IfErr r (λ e. IsClean (g.view e.1) → (db : Trees) → g.recovers e.1 db → (state g conn).may_leave db) → IfErr r (λ e. IsClean (g.view e.1) → (db : Trees) → g.recovers e.1 db → IsLeftAs g owner is_new conn db)
+all_left g owner is_new conn (Ok x) h = tt
+all_left g owner is_new conn (Err e) h = λ clean db may. inl (h clean db may)
+
+-- what a database that was adopted had
+module _ {S : Type 0} (g : Ghosts S) (owner : Owner) (conn : Held S) where
+  adopts_owned : (new : Held S) (highest : Option ℕ) → PreparesFor g owner false conn new highest → AdoptsFor g owner conn new highest
+  adopts_owned new highest it = elim it.1 [
+    | inl blank ↦ absurd (let e : false ≡ true = blank.1 in cc)
+    | inr had ↦ (it.0, inr had, it.2, it.3)
+  ]
+
+  had_before : (c : Content) → (HasFacts (state g conn).now.schema → ⊥) → ((state g conn).now.schema ≡ blank_schema → ⊥) → Had g conn c → HadBefore g owner conn c
+  had_before c none tables (inl blank) = absurd (tables blank.0)
+  had_before c none tables (inr had) = inl (none, had.0, had.1)
+
+  pub adopts_plain : (mid new : Held S) (highest : Option ℕ) → (HasFacts (state g conn).now.schema → ⊥) → ((state g conn).now.schema ≡ blank_schema → ⊥) → Prepares g conn mid highest
+      → HasOwned owner (state g mid) (state g new) → AdoptsFor g owner conn new highest
+  adopts_plain mid new highest none tables it owned = (it.0, had_before it.0 none tables it.1, owned it.0 it.2, it.3)
+
+  left_owned : (db : Trees) → IsLeftAs g owner false conn db → IsLeftBefore g owner conn db
+  left_owned db (inl before) = inl before
+  left_owned db (inr made) = absurd (let e : false ≡ true = made.1 in cc)
+
+  pub left_plain : (db : Trees) → IsLeftWhole g conn db → IsLeftBefore g owner conn db
+  left_plain db (inl before) = inl before
+  left_plain db (inr raised) = inr (raised.0, raised.1, inl raised.2)
+
+  pub left_adopting : ((s : S) (db : Trees) → IsTrue (g.view s).is_open → g.recovers s db → db ≡ (g.view s).committed) → (mid : Held S) (highest : Option ℕ) → Prepares g conn mid highest
+      → (db : Trees) → (state g mid).may_leave db ⊎ MayHaveOwned owner (state g mid) db → IsLeftBefore g owner conn db
+  left_adopting settled mid highest it db (inl may) =
+      let same : db ≡ (state g mid).now.trees = settled mid.store db it.2.is_open may ∙ ap (λ (d : Database). d.trees) (sym it.2.settled) in
+      inr (it.0, it.1, inl (subst (λ t. AreTablesFor None t it.0) (sym same) it.2.tables))
+  left_adopting settled mid highest it db (inr owned) = inr (it.0, it.1, inr (owned it.0 it.2))
+
+  owned_due : (fault : OwnerFault) → HasFacts (state g conn).now.schema → IsDue g owner false conn fault → IsDueBefore g owner conn fault
+  owned_due Blank facts due = due.0
+  owned_due Unowned facts due = absurd (let e : false ≡ true = subst IsSome due.0 facts in cc)
+  owned_due OtherNode facts due = due
+  owned_due OtherMembers facts due = due
+  owned_due (Open Foreign) facts due = inl due
+  owned_due (Open Refused) facts due = tt
+  owned_due (Open Broken) facts due = tt
+  owned_due (Open OutOfMemory) facts due = tt
+
+  pub plain_due : (fault : OpenFault) → (HasFacts (state g conn).now.schema → ⊥) → (fault ≡ Foreign → SeesForeign g conn) → IsDueBefore g owner conn (Open fault)
+  plain_due Refused none foreign = tt
+  plain_due Broken none foreign = tt
+  plain_due OutOfMemory none foreign = tt
+  plain_due Foreign none foreign = inr (none, foreign refl)
+
+  pub store_due_before : (fault : OpenFault) → fault ≢ Foreign → IsDueBefore g owner conn (Open fault)
+  store_due_before Refused other = tt
+  store_due_before Broken other = tt
+  store_due_before OutOfMemory other = tt
+  store_due_before Foreign other = absurd (other refl)
+
+  -- where the database is this owner's already
+  pub all_adopt : {E : Type 0} (r : Result (Held S × Option ℕ) E) → IfOk r (λ x. HasCleanDisk (state g x.0) → PreparesFor g owner false conn x.0 x.1) → IfOk r (λ x. HasCleanDisk (state g x.0) → AdoptsFor g owner conn x.0 x.1)
+  all_adopt (Ok x) h = λ clean. adopts_owned x.0 x.1 (h clean)
+  all_adopt (Err e) h = tt
+
+  pub all_left_owned : {X : Type 0} (r : Result X (OwnerFault × S)) → IfErr r (λ e. IsClean (g.view e.1) → (db : Trees) → g.recovers e.1 db → IsLeftAs g owner false conn db)
+      → IfErr r (λ e. IsClean (g.view e.1) → (db : Trees) → g.recovers e.1 db → IsLeftBefore g owner conn db)
+  all_left_owned (Ok x) h = tt
+  all_left_owned (Err e) h = λ clean db may. left_owned db (h clean db may)
+
+  pub all_owned_due : {X : Type 0} (r : Result X (OwnerFault × S)) → HasFacts (state g conn).now.schema → IfErr r (λ e. IsClean (g.view e.1) → IsDue g owner false conn e.0)
+      → IfErr r (λ e. IsClean (g.view e.1) → IsDueBefore g owner conn e.0)
+  all_owned_due (Ok x) facts h = tt
+  all_owned_due (Err e) facts h = λ clean. owned_due e.0 facts (h clean)

@@ -1,0 +1,38 @@
+use Rattle.std.proofs.Common.{refl, sym, subst, ◌∙◌, arith}
+use Rattle.sqlite.specs.State.{HasCleanDisk}
+use Rattle.sqlite.specs.Held.{state}
+use Rattle.acceptor_store_parts.specs.Foreign.{HasFacts}
+use Rattle.acceptor_store.proofs.Owning.{adopts_plain, all_adopt, all_left_owned, all_owned_due, left_adopting, left_plain, plain_due, store_due_before}
+use Rattle.acceptor_store.proofs.owned.adopted.Goals as goal
+
+pub returns-then-has_facts-clause-tables : goal.returns-then-has_facts-clause-tables
+returns-then-has_facts-clause-tables g c = all_adopt g.S.Store c.args.owner.now c.args.conn c.prepared_for.result c.prepared_for.ensures.tables
+
+pub returns-then-has_facts-clause-whole : goal.returns-then-has_facts-clause-whole
+returns-then-has_facts-clause-whole g c = all_left_owned g.S.Store c.args.owner.now c.args.conn c.prepared_for.result c.prepared_for.ensures.whole
+
+pub returns-then-has_facts-clause-due : goal.returns-then-has_facts-clause-due
+returns-then-has_facts-clause-due g c =
+    all_owned_due g.S.Store c.args.owner.now c.args.conn c.prepared_for.result (subst HasFacts c.schema-2.ensures.value (c.if-has_facts.ensures.yes refl)) c.prepared_for.ensures.due
+
+pub returns-in-Err-clause-due : goal.returns-in-Err-clause-due
+returns-in-Err-clause-due g c sure =
+    plain_due g.S.Store c.args.owner.now c.args.conn c.in-Err.fault (λ facts. absurd (let e = c.if-has_facts.ensures.all (subst HasFacts (sym c.schema-2.ensures.value) facts) in cc)) (λ is. c.in-Err.ensures.foreign is sure)
+
+pub returns-in-Err-clause-whole : goal.returns-in-Err-clause-whole
+returns-in-Err-clause-whole g c sure db may = left_plain g.S.Store c.args.owner.now c.args.conn db (c.in-Err.ensures.whole sure db may)
+
+pub returns-in-Ok-own-clause-tables : goal.returns-in-Ok-own-clause-tables
+returns-in-Ok-own-clause-tables g c clean =
+    let mid : HasCleanDisk (state g.S.Store c.in-Ok.found.0) = omega (arith, c.in-Ok-own.ensures.clean, clean) in
+    adopts_plain g.S.Store c.args.owner.now c.args.conn c.in-Ok.found.0 c.in-Ok-own.owned c.in-Ok.found.1
+    (λ facts. absurd (let e = c.if-has_facts.ensures.all (subst HasFacts (sym c.schema-2.ensures.value) facts) in cc))
+    (λ blank. absurd (let e = c.if-is_blank.ensures.all (c.schema.ensures.value ∙ blank) in cc)) (c.in-Ok.ensures.tables mid) (c.in-Ok-own.ensures.owned clean)
+
+pub returns-in-Err-own-clause-due : goal.returns-in-Err-own-clause-due
+returns-in-Err-own-clause-due g c sure = store_due_before g.S.Store c.args.owner.now c.args.conn c.stopped.result c.stopped.ensures
+
+pub returns-in-Err-own-clause-whole : goal.returns-in-Err-own-clause-whole
+returns-in-Err-own-clause-whole g c sure db may =
+    let mid : HasCleanDisk (state g.S.Store c.in-Ok.found.0) = omega (arith, c.in-Err-own.ensures.trusted, sure) in
+    left_adopting g.S.Store c.args.owner.now c.args.conn g.met.S.Store.settled c.in-Ok.found.0 c.in-Ok.found.1 (c.in-Ok.ensures.tables mid) db (c.in-Err-own.ensures.left sure db may)

@@ -1,0 +1,18 @@
+use Rattle.std.proofs.Common.{[], ◌∷◌, sym, ◌∙◌}
+use Rattle.sqlite.specs.Held.{state}
+use Rattle.sqlite.proofs.StateLemmas.{survives_then}
+use Rattle.acceptor_store_parts.specs.declared.Version.TheVariants.{Third}
+use Rattle.acceptor_store_parts.specs.Owned.{owner_bytes}
+use Rattle.acceptor_store.proofs.Reopening.{stays_as}
+use Rattle.acceptor_store.proofs.owned.owner_in.Goals as goal
+
+pub returns-in-Some-clause-held : goal.returns-in-Some-clause-held
+returns-in-Some-clause-held g c clean by =
+    c.in-Ok.ensures.held clean by ((0, owner_bytes c.in-Some.owner) ∷ []) (sym c.as_slice.ensures.value ∙ c.in-Some.ensures.some)
+
+pub returns-in-Some-clause-same : goal.returns-in-Some-clause-same
+returns-in-Some-clause-same g c clean schema = stays_as Third (state g.S.Store c.args.conn.now) (state g.S.Store c.query_facts.new.conn) (c.in-Ok.ensures.same clean schema)
+
+pub returns-in-Err-clause-survives : goal.returns-in-Err-clause-survives
+returns-in-Err-clause-survives g c =
+    survives_then (state g.S.Store c.args.conn.now) (state g.S.Store c.query_facts.new.conn) (state g.S.Store c.stop_for.new.conn) _ _ _ (λ _ db other. other) (λ _ db no. absurd no) c.query_facts.ensures.survives c.stop_for.ensures.survives

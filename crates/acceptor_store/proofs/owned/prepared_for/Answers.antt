@@ -1,0 +1,39 @@
+use Rattle.std.proofs.Common.{sym, subst, ◌∙◌}
+use Rattle.acceptor_store_parts.specs.Foreign.{IsBroken, IsUnowned}
+use Rattle.acceptor_store.specs.Owning.{HasFurtherAs}
+use Rattle.acceptor_store.proofs.Owning.{all_due, all_left, all_prepare_for, schema_due}
+use Rattle.acceptor_store.proofs.owned.prepared_for.Goals as goal
+
+pub returns-in-Ok-judged-clause-tables : goal.returns-in-Ok-judged-clause-tables
+returns-in-Ok-judged-clause-tables g c =
+    all_prepare_for g.S.Store c.args.owner.now c.args.is_new c.args.conn c.claimed.result (sym c.schema-2.ensures.value ∙ c.in-Ok-judged.ensures.own) c.claimed.ensures.tables
+
+pub returns-in-Ok-judged-clause-due : goal.returns-in-Ok-judged-clause-due
+returns-in-Ok-judged-clause-due g c =
+    all_due g.S.Store c.args.owner.now c.args.is_new c.args.conn c.claimed.result (sym c.schema-2.ensures.value ∙ c.in-Ok-judged.ensures.own) c.claimed.ensures.due
+
+pub returns-in-Ok-judged-clause-whole : goal.returns-in-Ok-judged-clause-whole
+returns-in-Ok-judged-clause-whole g c = all_left g.S.Store c.args.owner.now c.args.is_new c.args.conn c.claimed.result c.claimed.ensures.left
+
+pub returns-in-Ok-judged-clause-broken : goal.returns-in-Ok-judged-clause-broken
+returns-in-Ok-judged-clause-broken g c free broken = absurd (let e = c.in-Ok-judged.ensures.broken (subst IsBroken (sym c.schema-2.ensures.value) broken) in cc)
+
+pub returns-in-Ok-judged-clause-unowned : goal.returns-in-Ok-judged-clause-unowned
+returns-in-Ok-judged-clause-unowned g c free unowned = absurd (let e = c.in-Ok-judged.ensures.unowned (subst IsUnowned (sym c.schema-2.ensures.value) unowned) in cc)
+
+pub returns-in-Ok-judged-clause-further : goal.returns-in-Ok-judged-clause-further
+returns-in-Ok-judged-clause-further g c free further = absurd (further.2 (sym c.schema-2.ensures.value ∙ c.in-Ok-judged.ensures.own))
+
+pub returns-in-Err-judged-clause-due : goal.returns-in-Err-judged-clause-due
+returns-in-Err-judged-clause-due g c clean = schema_due g.S.Store c.args.owner.now c.args.is_new c.args.conn c.in-Err-judged.fault (rw c.schema-2.ensures.value at c.in-Err-judged.ensures.due)
+
+pub returns-in-Err-judged-clause-broken : goal.returns-in-Err-judged-clause-broken
+returns-in-Err-judged-clause-broken g c free broken = let e = c.in-Err-judged.ensures.broken (subst IsBroken (sym c.schema-2.ensures.value) broken) in cc
+
+pub returns-in-Err-judged-clause-unowned : goal.returns-in-Err-judged-clause-unowned
+returns-in-Err-judged-clause-unowned g c free unowned = let e = c.in-Err-judged.ensures.unowned (subst IsUnowned (sym c.schema-2.ensures.value) unowned) in cc
+
+pub returns-in-Err-judged-clause-further : goal.returns-in-Err-judged-clause-further
+returns-in-Err-judged-clause-further g c free further =
+    let it = subst HasFurtherAs (sym c.schema-2.ensures.value) further in
+    c.in-Err-judged.ensures.further it.0 it.1 it.2

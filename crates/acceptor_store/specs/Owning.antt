@@ -1,0 +1,89 @@
+-- Records that are opened for an owner.
+use Rattle.std.specs.Prelude.{◌≡◌, ◌≢◌, ◌⊎◌, ℕ, Bool, true, false, Option, Some, None}
+use Rattle.ballots.specs.Ballots.{number_of}
+use Rattle.acceptor.specs.Content.{Content, no_content, promised}
+use Rattle.sqlite.specs.Store.{Ghosts}
+use Rattle.sqlite.specs.Tree.{Trees}
+use Rattle.sqlite.specs.Schema.{Schema}
+use Rattle.sqlite.specs.Held.{Held, state}
+use Rattle.acceptor_store_parts.specs.declared.Version.{Version}
+use Rattle.acceptor_store_parts.specs.declared.Version.TheVariants.{Third}
+use Rattle.acceptor_store_parts.specs.declared.owner.Owner.{Owner}
+use Rattle.acceptor_store_parts.specs.Tables.{schema_of, blank_schema}
+use Rattle.acceptor_store_parts.specs.Stored.{IsOfNode}
+use Rattle.acceptor_store_parts.specs.Owned.{AreTablesFor, OwnedBy}
+use Rattle.acceptor_store_parts.specs.Rowids.{IsReread}
+use Rattle.acceptor_store_parts.specs.Foreign.{HasFacts, IsBroken, IsForeignOwned, IsUnowned}
+use Rattle.acceptor_store_parts.specs.Serves.{ServesFor}
+use Rattle.acceptor_store.specs.declared.OpenFault.TheVariants.{Refused, Broken, OutOfMemory, Foreign}
+use Rattle.acceptor_store.specs.declared.owned.OwnerFault.{OwnerFault}
+use Rattle.acceptor_store.specs.declared.owned.OwnerFault.TheVariants.{Open, Blank, Unowned, OtherNode, OtherMembers}
+use Rattle.acceptor_store.specs.Linked.{Had, HadIn, SeesForeign}
+
+-- the last commit holds this content, which a node wrote, in tables of this owner
+abbrev pub HadFor : {S : Type 0} → Ghosts S → Owner → Held S → Content → Type 0
+HadFor g owner conn c = ((state g conn).now.schema ≡ schema_of Third) × AreTablesFor (Some owner) (state g conn).committed.trees c × IsOfNode c
+
+-- the same, or it has no tables at all, where the database may be new
+abbrev pub HadAs : {S : Type 0} → Ghosts S → Owner → Bool → Held S → Content → Type 0
+HadAs g owner is_new conn c = (((state g conn).now.schema ≡ blank_schema) × (is_new ≡ true) × (c ≡ no_content)) ⊎ HadFor g owner conn c
+
+-- a crash left it before too, or these are this owner's tables without content, made where there were none
+abbrev pub IsLeftAs : {S : Type 0} → Ghosts S → Owner → Bool → Held S → Trees → Type 0
+IsLeftAs g owner is_new conn db = (state g conn).may_leave db ⊎ (((state g conn).now.schema ≡ blank_schema) × (is_new ≡ true) × AreTablesFor (Some owner) db no_content)
+
+-- the last commit holds this content, which a node wrote, in tables that have no owner, or in those of this one
+abbrev pub HadBefore : {S : Type 0} → Ghosts S → Owner → Held S → Content → Type 0
+HadBefore g owner conn c = ((HasFacts (state g conn).now.schema → ⊥) × (version : Version) × HadIn g version conn c) ⊎ HadFor g owner conn c
+
+-- a crash left it before too, or these are tables of version 2, or of this owner, of the content that it had
+abbrev pub IsLeftBefore : {S : Type 0} → Ghosts S → Owner → Held S → Trees → Type 0
+IsLeftBefore g owner conn db = (state g conn).may_leave db ⊎ ((c : Content) × Had g conn c × (AreTablesFor None db c ⊎ AreTablesFor (Some owner) db c))
+
+-- the last commit names this owner
+abbrev pub Names : {S : Type 0} → Ghosts S → Held S → Owner → Type 0
+Names g conn owner = ((state g conn).now.schema ≡ schema_of Third) × OwnedBy owner (state g conn).committed.trees
+
+-- what each fault says of the database
+abbrev pub IsDue : {S : Type 0} → Ghosts S → Owner → Bool → Held S → OwnerFault → Type 0
+IsDue g owner is_new conn Blank = ((state g conn).now.schema ≡ blank_schema) × (is_new ≡ false)
+IsDue g owner is_new conn Unowned = IsUnowned (state g conn).now.schema
+IsDue g owner is_new conn OtherNode = (other : Owner) × Names g conn other × (other.node ≢ owner.node)
+IsDue g owner is_new conn OtherMembers = (other : Owner) × Names g conn other × (other.node ≡ owner.node) × (other.members ≢ owner.members)
+IsDue g owner is_new conn (Open Foreign) = IsForeignOwned (state g conn).now.schema (state g conn).committed.trees
+IsDue g owner is_new conn (Open Refused) = Unit {0}
+IsDue g owner is_new conn (Open Broken) = Unit {0}
+IsDue g owner is_new conn (Open OutOfMemory) = Unit {0}
+
+-- tables, indexes or views beside those of version 3 or in their place, of which a node made none or all
+abbrev pub HasFurtherAs : Schema → Type 0
+HasFurtherAs s = (IsBroken s → ⊥) × (IsUnowned s → ⊥) × (s ≢ schema_of Third) × (s ≢ blank_schema)
+
+-- it serves what its tables hold, which a node wrote as this owner and of which this is the promised ballot
+abbrev pub ExaminesFor : {S : Type 0} → Ghosts S → Owner → Held S → Held S → Option ℕ → Type 0
+ExaminesFor g owner old new highest =
+    IsReread Third (state g old)
+    → (c : Content) × AreTablesFor (Some owner) (state g old).now.trees c × IsOfNode c × ServesFor (Some owner) (state g new) c × (number_of highest ≡ promised c)
+
+-- it serves for this owner what the older one had, of which this is the promised ballot
+abbrev pub FindsFor : {S : Type 0} → Ghosts S → Owner → Held S → Held S → Option ℕ → Type 0
+FindsFor g owner old new highest = (c : Content) × HadFor g owner old c × ServesFor (Some owner) (state g new) c × (number_of highest ≡ promised c)
+
+-- the same of a database that may be new
+abbrev pub PreparesFor : {S : Type 0} → Ghosts S → Owner → Bool → Held S → Held S → Option ℕ → Type 0
+PreparesFor g owner is_new old new highest = (c : Content) × HadAs g owner is_new old c × ServesFor (Some owner) (state g new) c × (number_of highest ≡ promised c)
+
+-- what each fault says of a database that is to be adopted
+abbrev pub IsDueBefore : {S : Type 0} → Ghosts S → Owner → Held S → OwnerFault → Type 0
+IsDueBefore g owner conn Blank = (state g conn).now.schema ≡ blank_schema
+IsDueBefore g owner conn Unowned = ⊥
+IsDueBefore g owner conn OtherNode = IsDue g owner false conn OtherNode
+IsDueBefore g owner conn OtherMembers = IsDue g owner false conn OtherMembers
+IsDueBefore g owner conn (Open Foreign) = IsForeignOwned (state g conn).now.schema (state g conn).committed.trees ⊎ ((HasFacts (state g conn).now.schema → ⊥) × SeesForeign g conn)
+IsDueBefore g owner conn (Open Refused) = Unit {0}
+IsDueBefore g owner conn (Open Broken) = Unit {0}
+IsDueBefore g owner conn (Open OutOfMemory) = Unit {0}
+
+-- it serves for this owner what the older one had, without an owner or for this one, of which this is the promised ballot
+abbrev pub AdoptsFor : {S : Type 0} → Ghosts S → Owner → Held S → Held S → Option ℕ → Type 0
+AdoptsFor g owner old new highest = (c : Content) × HadBefore g owner old c × ServesFor (Some owner) (state g new) c × (number_of highest ≡ promised c)

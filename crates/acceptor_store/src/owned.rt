@@ -1,0 +1,358 @@
+//! Records that have an owner: whose file it is stands in the file.
+
+ghost use Rattle.std.specs.Prelude.{◌≡◌, ◌≢◌, ◌≤◌, ◌⊎◌, Err, false, IfErr, IfNone, IfOk, IfSome, IsErrAnd, OnOk, IsTrue, Some};
+ghost use Rattle.acceptor.specs.Content.{Content};
+ghost use Rattle.acceptor.specs.Found.{Holds};
+ghost use Rattle.sqlite.specs.State.{HasCleanDisk, Survives};
+ghost use Rattle.sqlite.specs.Tree.{Trees};
+ghost use Rattle.sqlite.specs.Held.{state};
+ghost use Rattle.sqlite_trees.specs.View.{IsClean, doubt};
+ghost use Rattle.acceptor_store_parts.specs.Foreign.{HoldsNoneOwned, IsBroken, IsUnowned};
+ghost use Rattle.acceptor_store_parts.specs.Owned.{IsOwner, OwnedBy};
+ghost use Rattle.acceptor_store_parts.specs.Rowids.{AreByRowid, IsReread};
+ghost use Rattle.acceptor_store_parts.specs.Serves.{HasOwned, MayHaveOwned};
+ghost use Rattle.acceptor_store_parts.specs.Tables.{blank_schema, schema_of};
+ghost use Rattle.acceptor_store.specs.Linked.{IsHonest, MayFind, StaysAs, is_clean_in};
+ghost use Rattle.acceptor_store.specs.Owning.{AdoptsFor, ExaminesFor, FindsFor, HadAs, HadBefore, HasFurtherAs, IsDue, IsDueBefore, IsLeftAs, IsLeftBefore, PreparesFor};
+
+use crate::opening::{examined, is_of, prepared, stopped};
+use crate::{OpenFault, SqlRecords};
+use acceptor_store_parts::{Owner, Version};
+use ballots::{Ballot, Members, NodeId};
+use sqlite::{Alter, Connection};
+use sqlite_schema::schema::Schema;
+use std::alloc::Global;
+use thiserror::Error;
+
+/// Why records weren't opened for their owner.
+#[derive(Clone, Copy, Debug, PartialEq, Eq, Error)]
+pub enum OwnerFault {
+    /// As `SqlRecords::open` says it. Foreign are tables of version 3 too that no owner wrote.
+    #[error(transparent)]
+    Open(OpenFault),
+    /// There are no tables, and the database may not be new.
+    #[error("Blank")]
+    Blank,
+    /// The tables have no owner. `SqlRecords::adopt` gives them one.
+    #[error("Unowned")]
+    Unowned,
+    /// Another node is the owner.
+    #[error("OtherNode")]
+    OtherNode,
+    /// The node is the owner, as one of other members.
+    #[error("OtherMembers")]
+    OtherMembers,
+}
+
+impl From<OpenFault> for OwnerFault {
+    ghost use Rattle.acceptor_store.specs.declared.owned.OwnerFault.TheVariants.{Open};
+
+    ghost from_gives = { λ fault given. given ≡ Open fault };
+
+    fn from(fault: OpenFault) -> OwnerFault {
+        OwnerFault::Open(fault)
+    }
+}
+
+/// What is wrong with the owner that was found, where it isn't the one that is wanted.
+fn differs(found: Owner, wanted: Owner) -> Option<OwnerFault>
+    ensures same { IfNone result (found ≡ wanted) }
+    ensures other { IfSome result (λ e. ((e ≡ OwnerFault.OtherNode) × (found.node ≢ wanted.node))
+        ⊎ ((e ≡ OwnerFault.OtherMembers) × (found.node ≡ wanted.node) × (found.members ≢ wanted.members))) }
+{
+    if found.node != wanted.node {
+        return Some(OwnerFault::OtherNode);
+    }
+    if found.members != wanted.members {
+        return Some(OwnerFault::OtherMembers);
+    }
+    None
+}
+
+/// Refuses any schema but that of version 3.
+fn judged(alloc: Global, schema: &Schema) -> Result<(), OwnerFault>
+    ensures broken { IsBroken schema.now → result ≡ Err (OwnerFault.Open OpenFault.Foreign) }
+    ensures unowned { IsUnowned schema.now → result ≡ Err OwnerFault.Unowned }
+    ensures further { (IsBroken schema.now → ⊥) → (IsUnowned schema.now → ⊥) → schema.now ≢ schema_of Version.Third
+        → IsErrAnd result (λ e. (e ≡ OwnerFault.Open OpenFault.Refused) ⊎ (e ≡ OwnerFault.Open OpenFault.OutOfMemory)) }
+    ensures own { OnOk result (schema.now ≡ schema_of Version.Third) }
+    ensures due { IfErr result (λ e. ((e ≡ OwnerFault.Open OpenFault.Foreign) × IsBroken schema.now) ⊎ (((e ≡ OwnerFault.Unowned) × IsUnowned schema.now)
+        ⊎ ((e ≡ OwnerFault.Open OpenFault.Refused) ⊎ (e ≡ OwnerFault.Open OpenFault.OutOfMemory)))) }
+{
+    if acceptor_store_parts::is_broken(schema) {
+        return Err(OwnerFault::Open(OpenFault::Foreign));
+    }
+    if acceptor_store_parts::is_unowned(schema) {
+        return Err(OwnerFault::Unowned);
+    }
+    if is_of(alloc, schema, Version::Third)? {
+        Ok(())
+    } else {
+        Err(OwnerFault::Open(OpenFault::Refused))
+    }
+}
+
+/// The owner, where the table of facts has what an owner writes.
+fn owner_in<S: Alter>(conn: &mut Connection<S>) -> Result<Owner, OpenFault>
+    ensures held { HasCleanDisk (state S.Store conn.new) → IfOk result (λ owner. AreByRowid Version.Third (state S.Store conn.old)
+        → OwnedBy owner (state S.Store conn.old).now.trees) }
+    ensures fits { IfOk result IsOwner }
+    ensures same { HasCleanDisk (state S.Store conn.new) → (state S.Store conn.old).now.schema ≡ schema_of Version.Third
+        → OnOk result (StaysAs Version.Third (state S.Store conn.old) (state S.Store conn.new)) }
+    ensures foreign { HasCleanDisk (state S.Store conn.new) → result ≡ Err OpenFault.Foreign → (state S.Store conn.old).now.schema ≡ schema_of Version.Third
+        → (owner : Owner) → IsOwner owner → OwnedBy owner (state S.Store conn.old).now.trees → ⊥ }
+    ensures survives { Survives (state S.Store conn.old) (state S.Store conn.new) (λ _. (state S.Store conn.old).now.schema ≡ schema_of Version.Third → ⊥) }
+{
+    let shown = match acceptor_store_parts::query_facts(conn) {
+        Ok(shown) => shown,
+        Err(error) => return Err(stopped(acceptor_store_parts::stop_for(conn, error))),
+    };
+    match acceptor_store_parts::read_owner(shown.as_slice()) {
+        Some(owner) => Ok(owner),
+        None => Err(OpenFault::Foreign),
+    }
+}
+
+/// Tests the rows of version 3, and gives the owner and the promised ballot.
+fn examined_owned<S: Alter>(
+    alloc: Global,
+    conn: &mut Connection<S>,
+) -> Result<(Owner, Option<Ballot>), OpenFault>
+    ensures tables { HasCleanDisk (state S.Store conn.new) → (state S.Store conn.old).now.schema ≡ schema_of Version.Third
+        → IfOk result (λ r. ExaminesFor S.Store r.0 conn.old conn.new r.1) }
+    ensures foreign { HasCleanDisk (state S.Store conn.new) → (state S.Store conn.old).now.schema ≡ schema_of Version.Third → result ≡ Err OpenFault.Foreign
+        → IsReread Version.Third (state S.Store conn.old) → HoldsNoneOwned (state S.Store conn.old).now.trees }
+    ensures survives { Survives (state S.Store conn.old) (state S.Store conn.new) (λ _. (state S.Store conn.old).now.schema ≡ schema_of Version.Third → ⊥) }
+{
+    let highest = match examined(alloc, conn, Version::Third) {
+        Ok(highest) => highest,
+        Err(fault) => return Err(fault),
+    };
+    match owner_in(conn) {
+        Ok(owner) => Ok((owner, highest)),
+        Err(fault) => Err(fault),
+    }
+}
+
+/// The connection over its own store, with the rows of version 3 tested, the owner and the promised
+/// ballot.
+fn reread_owned<S: Alter + Drop>(
+    alloc: Global,
+    conn: Connection<S>,
+) -> Result<(Connection<S>, Owner, Option<Ballot>), (OpenFault, S)>
+    ensures tables { IfOk result (λ r. HasCleanDisk (state S.Store r.0) → (state S.Store conn).now.schema ≡ schema_of Version.Third
+        → FindsFor S.Store r.1 conn r.0 r.2) }
+    ensures clean { IfOk result (λ r. doubt (state S.Store conn).is_clean ≤ doubt (state S.Store r.0).is_clean) }
+    ensures leaves { IfOk result (λ r. HasCleanDisk (state S.Store r.0) → (db : Trees) → (state S.Store r.0).may_leave db → (state S.Store conn).may_leave db) }
+    ensures left { IfErr result (λ e. IsClean (S.Store.view e.1) → (db : Trees) → S.Store.recovers e.1 db → (state S.Store conn).may_leave db) }
+    ensures foreign { IfErr result (λ e. e.0 ≡ OpenFault.Foreign → IsClean (S.Store.view e.1) → HoldsNoneOwned (state S.Store conn).committed.trees) }
+{
+    // Over the store the rows stand by rowid, which no other call tells.
+    let mut again = match acceptor_store_parts::reread(alloc, Version::Third, conn) {
+        Ok(again) => again,
+        Err((stop, store)) => return Err((stopped(stop), store)),
+    };
+    match is_of(alloc, again.schema(), Version::Third) {
+        Ok(true) => {}
+        Ok(false) => return Err((OpenFault::Broken, again.into_store())),
+        Err(fault) => return Err((fault, again.into_store())),
+    }
+    match examined_owned(alloc, &mut again) {
+        Ok((owner, highest)) => Ok((again, owner, highest)),
+        Err(fault) => Err((fault, again.into_store())),
+    }
+}
+
+/// The connection over the tables of version 3, which it had, where they are this owner's, and the
+/// promised ballot.
+fn claimed<S: Alter + Drop>(
+    alloc: Global,
+    conn: Connection<S>,
+    owner: Owner,
+) -> Result<(Connection<S>, Option<Ballot>), (OwnerFault, S)>
+    ensures tables { IfOk result (λ r. HasCleanDisk (state S.Store r.0) → (state S.Store conn).now.schema ≡ schema_of Version.Third
+        → FindsFor S.Store owner conn r.0 r.1) }
+    ensures clean { IfOk result (λ r. doubt (state S.Store conn).is_clean ≤ doubt (state S.Store r.0).is_clean) }
+    ensures left { IfErr result (λ e. IsClean (S.Store.view e.1) → (db : Trees) → S.Store.recovers e.1 db → (state S.Store conn).may_leave db) }
+    ensures due { IfErr result (λ e. IsClean (S.Store.view e.1) → (state S.Store conn).now.schema ≡ schema_of Version.Third → (is_new : _)
+        → IsDue S.Store owner is_new conn e.0) }
+{
+    let (again, found, highest) = match reread_owned(alloc, conn) {
+        Ok(found) => found,
+        Err((fault, store)) => return Err((OwnerFault::Open(fault), store)),
+    };
+    match differs(found, owner) {
+        None => Ok((again, highest)),
+        Some(fault) => Err((fault, again.into_store())),
+    }
+}
+
+/// The connection with this owner's tables tested or made, and the promised ballot.
+fn prepared_for<S: Alter + Drop>(
+    alloc: Global,
+    mut conn: Connection<S>,
+    owner: &Owner,
+    is_new: bool,
+) -> Result<(Connection<S>, Option<Ballot>), (OwnerFault, S)>
+    ensures tables { IfOk result (λ r. HasCleanDisk (state S.Store r.0) → PreparesFor S.Store owner.now is_new conn r.0 r.1) }
+    ensures clean { IfOk result (λ r. doubt (state S.Store conn).is_clean ≤ doubt (state S.Store r.0).is_clean) }
+    ensures whole { IfErr result (λ e. IsClean (S.Store.view e.1) → (db : Trees) → S.Store.recovers e.1 db → IsLeftAs S.Store owner.now is_new conn db) }
+    ensures due { IfErr result (λ e. IsClean (S.Store.view e.1) → IsDue S.Store owner.now is_new conn e.0) }
+    ensures used { IsTrue (state S.Store conn).in_transaction → IsErrAnd result (λ e. e.0 ≡ OwnerFault.Open OpenFault.Refused) }
+    ensures blank { (state S.Store conn).in_transaction ≡ false → (state S.Store conn).now.schema ≡ blank_schema → is_new ≡ false
+        → IsErrAnd result (λ e. e.0 ≡ OwnerFault.Blank) }
+    ensures broken { (state S.Store conn).in_transaction ≡ false → IsBroken (state S.Store conn).now.schema
+        → IsErrAnd result (λ e. e.0 ≡ OwnerFault.Open OpenFault.Foreign) }
+    ensures unowned { (state S.Store conn).in_transaction ≡ false → IsUnowned (state S.Store conn).now.schema
+        → IsErrAnd result (λ e. e.0 ≡ OwnerFault.Unowned) }
+    ensures further { (state S.Store conn).in_transaction ≡ false → HasFurtherAs (state S.Store conn).now.schema
+        → IsErrAnd result (λ e. (e.0 ≡ OwnerFault.Open OpenFault.Refused) ⊎ (e.0 ≡ OwnerFault.Open OpenFault.OutOfMemory)) }
+{
+    if !conn.is_autocommit() {
+        return Err((OwnerFault::Open(OpenFault::Refused), conn.into_store()));
+    }
+    if acceptor_store_parts::is_blank(conn.schema()) {
+        if !is_new {
+            return Err((OwnerFault::Blank, conn.into_store()));
+        }
+        return match acceptor_store_parts::make_owned_tables(&mut conn, *owner) {
+            Ok(()) => Ok((conn, None)),
+            Err(stop) => Err((OwnerFault::Open(stopped(stop)), conn.into_store())),
+        };
+    }
+    match judged(alloc, conn.schema()) {
+        Ok(()) => claimed(alloc, conn, *owner),
+        Err(fault) => Err((fault, conn.into_store())),
+    }
+}
+
+/// The connection over this owner's tables, where it had those of an older version or this owner's,
+/// and the promised ballot.
+fn adopted<S: Alter + Drop>(
+    alloc: Global,
+    conn: Connection<S>,
+    owner: &Owner,
+) -> Result<(Connection<S>, Option<Ballot>), (OwnerFault, S)>
+    ensures tables { IfOk result (λ r. HasCleanDisk (state S.Store r.0) → AdoptsFor S.Store owner.now conn r.0 r.1) }
+    ensures clean { IfOk result (λ r. doubt (state S.Store conn).is_clean ≤ doubt (state S.Store r.0).is_clean) }
+    ensures whole { IfErr result (λ e. IsClean (S.Store.view e.1) → (db : Trees) → S.Store.recovers e.1 db → IsLeftBefore S.Store owner.now conn db) }
+    ensures due { IfErr result (λ e. IsClean (S.Store.view e.1) → IsDueBefore S.Store owner.now conn e.0) }
+    ensures used { IsTrue (state S.Store conn).in_transaction → IsErrAnd result (λ e. e.0 ≡ OwnerFault.Open OpenFault.Refused) }
+    ensures blank { (state S.Store conn).in_transaction ≡ false → (state S.Store conn).now.schema ≡ blank_schema
+        → IsErrAnd result (λ e. e.0 ≡ OwnerFault.Blank) }
+{
+    if !conn.is_autocommit() {
+        return Err((OwnerFault::Open(OpenFault::Refused), conn.into_store()));
+    }
+    if acceptor_store_parts::is_blank(conn.schema()) {
+        return Err((OwnerFault::Blank, conn.into_store()));
+    }
+    if acceptor_store_parts::has_facts(conn.schema()) {
+        return prepared_for(alloc, conn, owner, false);
+    }
+    let found = match prepared(alloc, conn) {
+        Ok(found) => found,
+        Err((fault, store)) => return Err((OwnerFault::Open(fault), store)),
+    };
+    match acceptor_store_parts::own(found.0, *owner) {
+        Ok(owned) => Ok((owned, found.1)),
+        Err((stop, store)) => Err((OwnerFault::Open(stopped(stop)), store)),
+    }
+}
+
+impl<S: Alter + Drop> SqlRecords<S> {
+    /// The records of a node that is one of these members, over the connection, in tables of version
+    /// 3. In a database without tables they are made, in one transaction, where it may be new.
+    ///
+    /// A connection in a transaction is Refused, before anything else is looked at. Then a database
+    /// without tables that may not be new is Blank. A schema that has a part of the tables, or one
+    /// that lacks a column, is Foreign, one of an older version is Unowned, and any other than that
+    /// of version 3 is Refused. Last, rows that no owner wrote are Foreign, those of another node
+    /// OtherNode, and those of the node as one of other members OtherMembers; nothing was changed
+    /// then.
+    ///
+    /// Want of memory and faults of the store come where they are met. Where it fails the store
+    /// comes back, and holds what it held, or this owner's tables without content.
+    pub fn open_as(
+        alloc: Global,
+        conn: Connection<S>,
+        node: NodeId,
+        members: Members,
+        is_new: bool,
+    ) -> Result<SqlRecords<S>, (OwnerFault, S)>
+        ensures holds { IfOk result (λ r. IsHonest S.Store r → (c : Content) × HadAs S.Store (record { node = node; members = members }) is_new conn c
+            × Holds (MayFind S.Store r.owner r.held) c) }
+        ensures owner { IfOk result (λ r. r.owner ≡ Some (record { node = node; members = members })) }
+        ensures clean { IfOk result (λ r. IsHonest S.Store r → HasCleanDisk (state S.Store conn)) }
+        ensures sure { IfOk result (λ r. IsTrue (is_clean_in S.Store r.held) → IsHonest S.Store r) }
+        ensures whole { IfErr result (λ e. IsClean (S.Store.view e.1) → (db : Trees) → S.Store.recovers e.1 db
+            → IsLeftAs S.Store (record { node = node; members = members }) is_new conn db) }
+        ensures due { IfErr result (λ e. IsClean (S.Store.view e.1) → IsDue S.Store (record { node = node; members = members }) is_new conn e.0) }
+        ensures used { IsTrue (state S.Store conn).in_transaction → IsErrAnd result (λ e. e.0 ≡ OwnerFault.Open OpenFault.Refused) }
+        ensures blank { (state S.Store conn).in_transaction ≡ false → (state S.Store conn).now.schema ≡ blank_schema → is_new ≡ false
+            → IsErrAnd result (λ e. e.0 ≡ OwnerFault.Blank) }
+        ensures broken { (state S.Store conn).in_transaction ≡ false → IsBroken (state S.Store conn).now.schema
+            → IsErrAnd result (λ e. e.0 ≡ OwnerFault.Open OpenFault.Foreign) }
+        ensures unowned { (state S.Store conn).in_transaction ≡ false → IsUnowned (state S.Store conn).now.schema
+            → IsErrAnd result (λ e. e.0 ≡ OwnerFault.Unowned) }
+        ensures further { (state S.Store conn).in_transaction ≡ false → HasFurtherAs (state S.Store conn).now.schema
+            → IsErrAnd result (λ e. (e.0 ≡ OwnerFault.Open OpenFault.Refused) ⊎ (e.0 ≡ OwnerFault.Open OpenFault.OutOfMemory)) }
+    {
+        let owner = Owner { node, members };
+        let found = match prepared_for(alloc, conn, &owner, is_new) {
+            Ok(found) => found,
+            Err(refused) => return Err(refused),
+        };
+        Ok(SqlRecords {
+            alloc,
+            conn: Some(found.0),
+            is_up: true,
+            is_sure: true,
+            highest: Some(found.1),
+            failures: 0,
+            owner: Some(owner),
+        })
+    }
+
+    /// The same over a database of an older version, which nobody owns: its tables are made into
+    /// this owner's, with equal content, after they were made into those of version 2 where they
+    /// are of version 1, each in one transaction. A database that is this owner's is opened, and
+    /// that of another is refused, as by `open_as`.
+    ///
+    /// A connection in a transaction is Refused, and then a database without tables is Blank. What
+    /// `SqlRecords::open` refuses is refused as there. Where it fails the store comes back, and
+    /// holds what it held, or that in version 2, or in this owner's tables.
+    pub fn adopt(
+        alloc: Global,
+        conn: Connection<S>,
+        node: NodeId,
+        members: Members,
+    ) -> Result<SqlRecords<S>, (OwnerFault, S)>
+        ensures holds { IfOk result (λ r. IsHonest S.Store r → (c : Content) × HadBefore S.Store (record { node = node; members = members }) conn c
+            × Holds (MayFind S.Store r.owner r.held) c) }
+        ensures owner { IfOk result (λ r. r.owner ≡ Some (record { node = node; members = members })) }
+        ensures clean { IfOk result (λ r. IsHonest S.Store r → HasCleanDisk (state S.Store conn)) }
+        ensures sure { IfOk result (λ r. IsTrue (is_clean_in S.Store r.held) → IsHonest S.Store r) }
+        ensures whole { IfErr result (λ e. IsClean (S.Store.view e.1) → (db : Trees) → S.Store.recovers e.1 db
+            → IsLeftBefore S.Store (record { node = node; members = members }) conn db) }
+        ensures due { IfErr result (λ e. IsClean (S.Store.view e.1) → IsDueBefore S.Store (record { node = node; members = members }) conn e.0) }
+        ensures used { IsTrue (state S.Store conn).in_transaction → IsErrAnd result (λ e. e.0 ≡ OwnerFault.Open OpenFault.Refused) }
+        ensures blank { (state S.Store conn).in_transaction ≡ false → (state S.Store conn).now.schema ≡ blank_schema
+            → IsErrAnd result (λ e. e.0 ≡ OwnerFault.Blank) }
+    {
+        let owner = Owner { node, members };
+        let found = match adopted(alloc, conn, &owner) {
+            Ok(found) => found,
+            Err(refused) => return Err(refused),
+        };
+        Ok(SqlRecords {
+            alloc,
+            conn: Some(found.0),
+            is_up: true,
+            is_sure: true,
+            highest: Some(found.1),
+            failures: 0,
+            owner: Some(owner),
+        })
+    }
+}

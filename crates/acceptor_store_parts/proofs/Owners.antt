@@ -1,0 +1,70 @@
+-- Tables for an owner are tables of its version.
+use Rattle.std.proofs.Common.{◌≡◌, List, [], ◌∷◌, Option, Some, None, Result, IfOk, refl, sym, subst}
+use Rattle.std.proofs.lemmas.Result.{IfOk-weaker}
+use Rattle.acceptor.specs.Content.{Content}
+use Rattle.sqlite.specs.Schema.{Schema}
+use Rattle.sqlite.specs.Tree.{Trees}
+use Rattle.sqlite.specs.declared.error.Error.{Error}
+use Rattle.sqlite.specs.declared.types.Value.TheVariants.{Null, Blob}
+use Rattle.sqlite.specs.Order.{Row}
+use Rattle.sqlite.specs.Program.{overlay}
+use Rattle.sqlite.specs.State.{State, Shown}
+use Rattle.sqlite.specs.Listing.{understood}
+use Rattle.sqlite.proofs.Callers.{IsPlain, reads_as}
+use Rattle.acceptor_store_parts.specs.declared.Version.{Version}
+use Rattle.acceptor_store_parts.specs.declared.Version.TheVariants.{Second, Third}
+use Rattle.acceptor_store_parts.specs.declared.owner.Owner.{Owner}
+use Rattle.acceptor_store_parts.specs.Tables.{schema_of, facts_query}
+use Rattle.acceptor_store_parts.specs.Stored.{AreTablesOf, KeepsLearned, fact_shown}
+use Rattle.acceptor_store_parts.specs.Owned.{AreTablesFor, IsOwnedBy, OwnedBy, owner_bytes, schema_for, version_for}
+use Rattle.acceptor_store_parts.specs.Serves.{ServesAs, ServesFor}
+use Rattle.acceptor_store_parts.proofs.Meaning.{two_columns, facts_is, facts_plain}
+use Rattle.acceptor_store_parts.proofs.RowsShown.{shown_all}
+
+pub as_version : (owner : Option Owner) → schema_for owner ≡ schema_of (version_for owner)
+as_version None = refl
+as_version (Some owner) = refl
+
+pub keeps_learned : (owner : Option Owner) → KeepsLearned (version_for owner)
+keeps_learned None = tt
+keeps_learned (Some owner) = tt
+
+pub always_plain : (sql : List _) → ((version : Version) → IsPlain (understood (schema_of version) sql)) → (owner : Option Owner) → IsPlain (understood (schema_for owner) sql)
+always_plain sql plain None = plain Second
+always_plain sql plain (Some owner) = plain Third
+
+pub tables_as : (owner : Option Owner) (db : Trees) (c : Content) → AreTablesFor owner db c → AreTablesOf (version_for owner) db c
+tables_as None db c it = record { numbers = it.numbers; votes_are = it.votes_are; learned_are = it.learned_are; sound = it.sound }
+tables_as (Some owner) db c it = record { numbers = it.numbers; votes_are = it.votes_are; learned_are = it.learned_are; sound = it.sound }
+
+pub tables_for : (owner : Option Owner) (db : Trees) (c : Content) → AreTablesOf (version_for owner) db c → IsOwnedBy owner db → AreTablesFor owner db c
+tables_for None db c it owned = record { numbers = it.numbers; votes_are = it.votes_are; learned_are = it.learned_are; sound = it.sound; owned = owned }
+tables_for (Some owner) db c it owned = record { numbers = it.numbers; votes_are = it.votes_are; learned_are = it.learned_are; sound = it.sound; owned = owned }
+
+pub serves_as : (owner : Option Owner) (s : State) (c : Content) → ServesFor owner s c → ServesAs (version_for owner) s c
+serves_as owner s c was = record {
+  is_open = was.is_open;
+  autocommit = was.autocommit;
+  settled = was.settled;
+  schema = subst (λ (schema : Schema). s.now.schema ≡ schema) (as_version owner) was.schema;
+  tables = tables_as owner s.now.trees c was.tables;
+}
+
+pub serves_for : (owner : Option Owner) (s : State) (c : Content) → ServesAs (version_for owner) s c → IsOwnedBy owner s.now.trees → ServesFor owner s c
+serves_for owner s c was owned = record {
+  is_open = was.is_open;
+  autocommit = was.autocommit;
+  settled = was.settled;
+  schema = subst (λ (schema : Schema). s.now.schema ≡ schema) (sym (as_version owner)) was.schema;
+  tables = tables_for owner s.now.trees c was.tables owned;
+}
+
+-- the owner's row, as the query shows it
+reads_owner : (old new : State) (owner : Owner) → old.now.schema ≡ schema_of Third → OwnedBy owner old.now.trees → (rows : List Row) → Shown facts_query [] old new rows → rows ≡ fact_shown (0, owner_bytes owner) ∷ []
+reads_owner old new owner schema owned rows h =
+    let got = reads_as facts_query [] old new (schema_of Third) schema _ facts_is.0 facts_plain facts_is.1 rows h in
+    shown_all (λ v. Null ∷ Blob v.1 ∷ []) fact_shown 3 two_columns ((0, owner_bytes owner) ∷ []) (tt, tt) (overlay old.now.trees []) owned (λ v. refl) rows (got.answer Null)
+
+pub owner_shown : (old new : State) {X : Type 0} (r : Result X Error) (items : X → List Row) → IfOk r (λ x. Shown facts_query [] old new (items x))
+    → IfOk r (λ x. (owner : Owner) → old.now.schema ≡ schema_of Third → OwnedBy owner old.now.trees → items x ≡ fact_shown (0, owner_bytes owner) ∷ [])
+owner_shown old new r items = IfOk-weaker r _ _ (λ x h. λ owner schema owned. reads_owner old new owner schema owned (items x) h)

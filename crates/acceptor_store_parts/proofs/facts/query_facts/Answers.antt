@@ -1,0 +1,30 @@
+use Rattle.std.proofs.Common.{sym, subst}
+use Rattle.sqlite.specs.Listing.{understood}
+use Rattle.sqlite.specs.Held.{state}
+use Rattle.sqlite.proofs.StateLemmas.{survives_weaker}
+use Rattle.sqlite.proofs.Callers.{IsPlain, never_commits}
+use Rattle.acceptor_store_parts.specs.declared.Version.TheVariants.{Third}
+use Rattle.acceptor_store_parts.specs.Tables.{facts_query, schema_of}
+use Rattle.acceptor_store_parts.proofs.Meaning.{facts_plain}
+use Rattle.acceptor_store_parts.proofs.Owners.{owner_shown}
+use Rattle.acceptor_store_parts.proofs.Raw.{facts_are_shown}
+use Rattle.acceptor_store_parts.proofs.Kept.{all_same}
+use Rattle.acceptor_store_parts.proofs.facts.query_facts.Goals as goal
+
+pub returns-clause-held : goal.returns-clause-held
+returns-clause-held g c clean =
+    facts_are_shown (state g.S.Store c.args.conn.now) (state g.S.Store c.query_all.new.self) c.query_all.result (λ x. x.items) (c.query_all.ensures.ok clean)
+
+pub returns-clause-value : goal.returns-clause-value
+returns-clause-value g c clean =
+    owner_shown (state g.S.Store c.args.conn.now) (state g.S.Store c.query_all.new.self) c.query_all.result (λ x. x.items) (c.query_all.ensures.ok clean)
+
+pub returns-clause-same : goal.returns-clause-same
+returns-clause-same g c clean has =
+    all_same facts_query _ (state g.S.Store c.args.conn.now) (state g.S.Store c.query_all.new.self) (schema_of Third) has facts_plain c.query_all.result (λ x. x.items) (c.query_all.ensures.ok clean)
+
+pub returns-clause-survives : goal.returns-clause-survives
+returns-clause-survives g c =
+    let old = state g.S.Store c.args.conn.now in
+    let new = state g.S.Store c.query_all.new.self in
+    survives_weaker old new _ _ (λ _ db may has. never_commits facts_query _ old db (subst (λ s. IsPlain (understood s facts_query)) (sym has) facts_plain) may) c.query_all.ensures.survives

@@ -1,0 +1,57 @@
+//! Whose a database of version 3 is.
+
+ghost use Rattle.std.specs.Prelude.{◌≡◌, IfNone, IfSome};
+ghost use Rattle.ballots.specs.Members.{member_count};
+ghost use Rattle.acceptor_store_parts.specs.Owned.{IsOwner, owner_bytes, version_for};
+
+use crate::Version;
+use ballots::{Members, NodeId};
+
+/// A node, and the members that it is one of.
+#[derive(Clone, Copy, Debug, Drop, PartialEq, Eq)]
+pub struct Owner {
+    pub node: NodeId,
+    pub members: Members,
+}
+
+/// The version of the tables that records of this owner, or of none, are served from.
+pub fn version_of_owner(owner: Option<Owner>) -> Version
+    ensures { result ≡ version_for owner }
+{
+    match owner {
+        None => Version::Second,
+        Some(_) => Version::Third,
+    }
+}
+
+/// The bytes that stand for the owner: its node's number, and how many members there are.
+pub fn bytes_of(owner: Owner) -> [u8; 2]
+    ensures { result ≡ owner_bytes owner }
+{
+    [owner.node.number(), owner.members.count()]
+}
+
+fn members_of(count: u8) -> Option<Members>
+    ensures some { IfSome result (λ members. count ≡ member_count members) }
+    ensures none { IfNone result ((members : Members) → count ≡ member_count members → ⊥) }
+{
+    match count {
+        3 => Some(Members::Three),
+        5 => Some(Members::Five),
+        _ => None,
+    }
+}
+
+/// The owner that these bytes stand for, if they are any's.
+pub fn owner_of(bytes: &[u8]) -> Option<Owner>
+    ensures some { IfSome result (λ owner. bytes.now ≡ owner_bytes owner) }
+    ensures fits { IfSome result IsOwner }
+    ensures none { IfNone result ((owner : Owner) → IsOwner owner → bytes.now ≡ owner_bytes owner → ⊥) }
+{
+    if bytes.len() != 2 {
+        return None;
+    }
+    let node = NodeId::new(bytes[0])?;
+    let members = members_of(bytes[1])?;
+    Some(Owner { node, members })
+}

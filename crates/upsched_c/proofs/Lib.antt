@@ -1,0 +1,5 @@
+pub mod Bodies
+pub mod Fields
+pub mod Handles
+pub mod Known
+pub mod Values

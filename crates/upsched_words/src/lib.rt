@@ -1,0 +1,6 @@
+//! The words of the command line, read and refused.
+#![tactic(auto)]
+
+mod words;
+
+pub use words::{Words, read_words, refused};

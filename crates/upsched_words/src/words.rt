@@ -1,0 +1,186 @@
+//! The words of the command line.
+
+ghost use Rattle.std.specs.Prelude.{◌≡◌, ◌≢◌};
+ghost use Rattle.clap.specs.Words.{kind_of};
+ghost use Rattle.upsched_map_parts.specs.declared.status.Status.TheVariants.{Faulted, NotUnderstood};
+
+use clap::error::ErrorKind;
+use clap::{Arg, ArgAction, ArgMatches, Command, Error, value_parser};
+use std::alloc::Global;
+use std::io::Write;
+use upsched_map_parts::{Fault, LiveWords, MapsWords, RunWords, ShowWords, Status};
+
+/// A command of the program.
+#[derive(Clone, Copy, Debug)]
+pub enum Words<'a> {
+    /// Applies a plan's commands and prints their outputs.
+    Maps(MapsWords<'a>),
+    /// Runs a script and prints its answers.
+    Run(RunWords<'a>),
+    /// Prints a MAP body.
+    Show(ShowWords<'a>),
+    /// Works on a plan with a thread for each node, and prints whether the records agree.
+    Live(LiveWords<'a>),
+}
+
+/// The version that `--version` tells.
+const VERSION: &str = "0.1.0";
+
+/// How many turns each node of `live` has where the words don't say.
+const TURNS_NOT_GIVEN: &str = "2000";
+
+/// What the help ends with.
+const WHERE_TO_READ_ON: &str = "docs/formats.md tells how plans and scripts are written, \
+docs/scheduler.md what commands do, docs/node.md what events do, docs/cli.md what is printed. \
+examples/ has some of each.";
+
+/// What the help says of a plan's path.
+const PLAN_HELP: &str = "A file of commands in TOML (docs/formats.md, \"Plans\")";
+
+fn maps_command<'a>(alloc: Global) -> Result<Command<'a>, Error> {
+    let plan = Arg::new(alloc, "PLAN").required(true).help(PLAN_HELP);
+    let maps = Command::new(alloc, "maps")
+        .about("Applies a plan's commands to one scheduler and prints their outputs")
+        .arg(plan)?;
+    Ok(maps)
+}
+
+fn run_command<'a>(alloc: Global) -> Result<Command<'a>, Error> {
+    let script = Arg::new(alloc, "SCRIPT").required(true).help(
+        "A file of events in TOML (docs/formats.md, \"Scripts\", and docs/node.md, \"Events\")",
+    );
+    let verbose = Arg::new(alloc, "verbose")
+        .long("verbose")
+        .action(ArgAction::SetTrue)
+        .help(
+            "Also logs each fault and each crash of a node on standard error; what is printed stays the same",
+        );
+    let store = Arg::new(alloc, "store")
+        .long("store")
+        .value_name("DIR")
+        .help(
+            "Keeps the records of node K in DIR/node-K.db, a SQLite database that is made if it isn't there",
+        );
+    let run = Command::new(alloc, "run")
+        .about("Runs a script over three or five nodes and their modems and prints its answers")
+        .arg(script)?
+        .arg(store)?
+        .arg(verbose)?;
+    Ok(run)
+}
+
+fn show_command<'a>(alloc: Global) -> Result<Command<'a>, Error> {
+    let hex = Arg::new(alloc, "HEX")
+        .required(true)
+        .help("A MAP body in hexadecimal, without spaces");
+    let show = Command::new(alloc, "show")
+        .about("Prints what a MAP body holds")
+        .arg(hex)?;
+    Ok(show)
+}
+
+fn live_command<'a>(alloc: Global) -> Result<Command<'a>, Error> {
+    let plan = Arg::new(alloc, "PLAN").required(true).help(PLAN_HELP);
+    let turns = Arg::new(alloc, "turns")
+        .long("turns")
+        .value_name("T")
+        .value_parser(value_parser!(u32).range(0..=1_000_000))
+        .default_value(TURNS_NOT_GIVEN)
+        .help(
+            "How many turns each node has, 0 to 1000000; one that finds nothing to do sleeps a millisecond",
+        );
+    let verbose = Arg::new(alloc, "verbose")
+        .long("verbose")
+        .action(ArgAction::SetTrue)
+        .help(
+            "Also logs on standard error what each node recorded and learned; what is printed stays the same",
+        );
+    let live = Command::new(alloc, "live")
+        .about(
+            "Has three nodes, each in a thread, work on a plan's commands and audits their records",
+        )
+        .arg(plan)?
+        .arg(turns)?
+        .arg(verbose)?;
+    Ok(live)
+}
+
+fn program<'a>(alloc: Global) -> Result<Command<'a>, Error> {
+    let program = Command::new(alloc, "upsched")
+        .version(VERSION)
+        .about("A DOCSIS upstream scheduler over three or five nodes")
+        .after_help(WHERE_TO_READ_ON)
+        .subcommand_required(true)
+        .subcommand(maps_command(alloc)?)?
+        .subcommand(run_command(alloc)?)?
+        .subcommand(show_command(alloc)?)?
+        .subcommand(live_command(alloc)?)?;
+    Ok(program)
+}
+
+/// What `live` is told.
+fn live_words<'a>(words: &ArgMatches<'a>) -> Option<LiveWords<'a>> {
+    let plan = words.get_str("PLAN")?;
+    let turns = words.get_one::<u32>("turns")?;
+    let verbose = words.get_flag("verbose");
+    Some(LiveWords {
+        plan,
+        turns,
+        verbose,
+    })
+}
+
+/// Reads the words, the program's own name first. What it doesn't understand, and what asks for help or
+/// for the version, is an error, for `refused` to tell.
+pub fn read_words<'a>(alloc: Global, words: &'a [String]) -> Result<Words<'a>, Error> {
+    let mut program = program(alloc)?;
+    let matches = program.try_get_matches_from_mut(words)?;
+    let command = match matches.subcommand() {
+        Some(("maps", words)) => words
+            .get_str("PLAN")
+            .map(|plan| Words::Maps(MapsWords { plan })),
+        Some(("run", words)) => {
+            let verbose = words.get_flag("verbose");
+            let store = words.get_str("store");
+            match words.get_str("SCRIPT") {
+                Some(script) => Some(Words::Run(RunWords {
+                    script,
+                    verbose,
+                    store,
+                })),
+                None => None,
+            }
+        }
+        Some(("show", words)) => words
+            .get_str("HEX")
+            .map(|hex| Words::Show(ShowWords { hex })),
+        Some(("live", words)) => live_words(words).map(|words| Words::Live(words)),
+        _ => None,
+    };
+    match command {
+        Some(command) => Ok(command),
+        None => Err(program.error(ErrorKind::MissingSubcommand, "no command")?),
+    }
+}
+
+/// Writes why the words aren't read on standard error, or on standard output the help or the version that
+/// they ask for.
+pub fn refused<O: Write, E: Write>(error: &Error, output: &mut O, errors: &mut E) -> Status
+    ensures memory { kind_of error.now ≡ ErrorKind.OutOfMemory → result ≡ Faulted }
+    ensures help { kind_of error.now ≡ ErrorKind.DisplayHelp → result ≢ NotUnderstood }
+    ensures version { kind_of error.now ≡ ErrorKind.DisplayVersion → result ≢ NotUnderstood }
+    ensures mistake { kind_of error.now ≢ ErrorKind.OutOfMemory → kind_of error.now ≢ ErrorKind.DisplayHelp
+        → kind_of error.now ≢ ErrorKind.DisplayVersion → result ≡ NotUnderstood }
+{
+    if error.kind() == ErrorKind::OutOfMemory {
+        return Fault::Memory.told(errors);
+    }
+    if error.use_stderr() {
+        let _ = write!(errors, "{error}");
+        return Status::NotUnderstood;
+    }
+    match write!(output, "{error}") {
+        Ok(()) => Status::Done,
+        Err(_) => Fault::Output.told(errors),
+    }
+}

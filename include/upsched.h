@@ -1,0 +1,352 @@
+/*
+ * upsched.h: the upstream scheduler of DOCSIS (CM-SP-MULPIv3.1, MAP version 1) for C and C++: the codec of MAP bodies,
+ * the scheduler and the modem.
+ *
+ * The calls are those of the crate upsched_c, behind a test for NULL. Of each is proved what it answers and changes, that
+ * it returns, and that it is defined for all arguments but those that break a rule below.
+ *
+ * UNITS     A time (uint64_t) is a minislot number of the channel, not wrapped, below 2^63. MAP bodies carry its low 32
+ *           bits; the library makes and restores them. Sizes, lengths and offsets are minislots, unless a name says bytes.
+ *           A back-off is an exponent of two.
+ * POINTERS  NULL is answered as such, but beside a length of 0, where it is good. What a call may write shares no byte
+ *           with another argument of it, and is initialised memory, whatever is in it. No pointer is kept.
+ * HANDLES   A handle is a struct of yours, all zero at first, which is closed. An open call opens it, upsched_close closes
+ *           it and lets go of what it holds; closing a closed one does nothing. Write nothing into it. It may be moved by
+ *           memcpy, if the old copy isn't used again. A handle that is copied, or not initialised, is undefined.
+ * THREADS   There is no global state: two threads may use two handles at once. A handle may go from one thread to another,
+ *           by a lock, a thread's start or join, or a sequentially consistent atomic; one call at a time uses it. No call
+ *           from a signal handler, or from the forked child of a process with threads.
+ * MEMORY    malloc, realloc and free. A call that lacks memory says so, and changes nothing.
+ * STATUS    A call answers UPSCHED_OK, or the first status below that applies, by which nothing changes. Arguments are
+ *           written with OK, else only as a call says. The handle is judged first, then the fields, then memory.
+ * VERSION   Of this header. Numbers are never used again for something else.
+ * NAMES     Each call upsched_X is the archive's upsched_c_X behind a test for NULL. Other languages bind upsched_c_X.
+ */
+#ifndef UPSCHED_H
+#define UPSCHED_H
+
+#include <stddef.h>
+#include <stdint.h>
+
+#define UPSCHED_VERSION "0.1.0"
+#define UPSCHED_VERSION_NUMBER 0x000100
+
+#ifdef __cplusplus
+extern "C" {
+#endif
+
+/* ---- Statuses ---- */
+
+enum {
+    UPSCHED_OK = 0,
+    UPSCHED_CLOSED = 1,        /* the handle is closed */
+    UPSCHED_OTHER_KIND = 2,    /* the handle is open as another kind */
+    UPSCHED_OPEN = 3,          /* the handle is open already */
+    UPSCHED_NO_ROOM = 4,       /* the room given is too small; how much is wanted is told */
+    UPSCHED_BAD_FIELD = 5,     /* a field can't hold that value, or bytes spell no command */
+    UPSCHED_OUT_OF_MEMORY = 6, /* there is no memory */
+    UPSCHED_NONE = 7,          /* there is no such item */
+    UPSCHED_NULL = 8,          /* a pointer is NULL; this comes first of all */
+
+    UPSCHED_MAP_SHORT = 101,        /* fewer bytes than the count asks for, or fewer than 16 */
+    UPSCHED_MAP_TRAILING = 102,     /* more bytes than the count asks for */
+    UPSCHED_MAP_EXPANSION = 103,    /* an element has IUC 15 */
+    UPSCHED_MAP_OUT_OF_ORDER = 104, /* an element up to the Null begins before the one before it */
+    UPSCHED_MAP_NO_NULL = 105,      /* no element has IUC 7 */
+    UPSCHED_MAP_TOO_MANY = 107,     /* more than 255 elements */
+
+    UPSCHED_WANT_NOT_MINE = 301, /* no lease of the SID ends at the channel's clock or later */
+    UPSCHED_WANT_WAITING = 302,  /* a want of the SID is there */
+    UPSCHED_WANT_BAD_SIZE = 303, /* not 1 to 255 minislots */
+
+    UPSCHED_TIME_BACK = 401 /* a tick before the channel's clock */
+};
+
+/* ---- MAP bodies ---- */
+
+#define UPSCHED_BODY_BYTES 1036  /* the most that a body has: 16 + 4 * 255 */
+#define UPSCHED_ELEMENTS 255     /* the most elements of a body */
+#define UPSCHED_EVERYBODY 0x3FFF /* the SID that addresses every modem */
+
+/* Interval usage codes (IUC). */
+enum {
+    UPSCHED_IUC_REQUEST = 1,
+    UPSCHED_IUC_SHORT_GRANT = 5,
+    UPSCHED_IUC_LONG_GRANT = 6,
+    UPSCHED_IUC_NULL = 7,
+    UPSCHED_IUC_ADVANCED_SHORT_GRANT = 9,
+    UPSCHED_IUC_ADVANCED_LONG_GRANT = 10,
+    UPSCHED_IUC_ADVANCED_UNSOLICITED_GRANT = 11
+};
+
+typedef struct upsched_map_head {
+    uint32_t start; /* Alloc Start Time: the low 32 bits of a time */
+    uint32_t ack;   /* Ack Time: likewise */
+    uint8_t channel, ucd;
+    uint8_t ranging_start, ranging_end, data_start, data_end; /* back-offs */
+} upsched_map_head;
+
+/* From its offset on, until the next element's, the minislots are the SID's. */
+typedef struct upsched_map_element {
+    uint16_t sid;    /* 0 to 0x3FFF */
+    uint16_t offset; /* minislots after the start, 0 to 0x3FFF */
+    uint8_t iuc;     /* 0 to 15 */
+} upsched_map_element;
+
+typedef struct upsched_map_cell {
+    uint16_t sid;
+    uint8_t iuc;
+} upsched_map_cell;
+
+/* Reads a body. OK: *head, and the first *count of the elements. NO_ROOM: *count is how many there are. A fault MAP_..:
+ * *count is the element that it is of, from 0, and 0 where it is of none. */
+int32_t upsched_c_map_decode(const uint8_t *bytes, size_t len, upsched_map_head *head, upsched_map_element *elements,
+                             size_t room, size_t *count);
+static inline int32_t upsched_map_decode(const uint8_t *bytes, size_t len, upsched_map_head *head,
+                                         upsched_map_element *elements, size_t room, size_t *count)
+{
+    const uint8_t no_bytes[1] = {0};
+    upsched_map_element no_elements[1] = {{0, 0, 0}};
+    if (!head || !count || (!bytes && len) || (!elements && room)) return UPSCHED_NULL;
+    return upsched_c_map_decode(bytes ? bytes : no_bytes, len, head, elements ? elements : no_elements, room, count);
+}
+
+/* Writes a body. OK: the first *written of the bytes. NO_ROOM: *written is how many there are. BAD_FIELD and a fault
+ * MAP_..: *written is the element that it is of, from 0, and 0 where it is of none. */
+int32_t upsched_c_map_encode(const upsched_map_head *head, const upsched_map_element *elements, size_t count,
+                             uint8_t *bytes, size_t room, size_t *written);
+static inline int32_t upsched_map_encode(const upsched_map_head *head, const upsched_map_element *elements,
+                                         size_t count, uint8_t *bytes, size_t room, size_t *written)
+{
+    const upsched_map_element no_elements[1] = {{0, 0, 0}};
+    uint8_t no_bytes[1] = {0};
+    if (!head || !written || (!elements && count) || (!bytes && room)) return UPSCHED_NULL;
+    return upsched_c_map_encode(head, elements ? elements : no_elements, count, bytes ? bytes : no_bytes, room,
+                                written);
+}
+
+/* Whose minislot x of a body is, counted from its start. NONE: no interval has it. */
+int32_t upsched_c_map_cell_at(const uint8_t *bytes, size_t len, uint16_t x, upsched_map_cell *cell);
+static inline int32_t upsched_map_cell_at(const uint8_t *bytes, size_t len, uint16_t x, upsched_map_cell *cell)
+{
+    const uint8_t no_bytes[1] = {0};
+    if (!cell || (!bytes && len)) return UPSCHED_NULL;
+    return upsched_c_map_cell_at(bytes ? bytes : no_bytes, len, x, cell);
+}
+
+/* ---- Handles ---- */
+
+/* All zero is closed. What is in it is the library's. */
+typedef struct upsched_handle {
+    void *private_at;
+    uint64_t private_state;
+} upsched_handle;
+
+void upsched_c_close(upsched_handle *handle);
+static inline void upsched_close(upsched_handle *handle)
+{
+    if (handle) upsched_c_close(handle);
+}
+
+/* ---- The scheduler ---- */
+
+enum { UPSCHED_NOOP = 0, UPSCHED_CHANNEL = 1, UPSCHED_FLOW = 2, UPSCHED_DROP = 3, UPSCHED_REQUEST = 4, UPSCHED_CUT = 5 };
+enum { UPSCHED_BEST_EFFORT = 0, UPSCHED_UGS = 1, UPSCHED_POLL = 2 };
+enum { UPSCHED_TDMA = 0, UPSCHED_ADVANCED = 1 };
+#define UPSCHED_LAST_TIME (UINT64_C(1) << 62) /* the last minislot of a lease without an end */
+
+/* A command: its kind, and the fields that the kind has. The others aren't read. */
+typedef struct upsched_command {
+    uint32_t kind;
+    uint32_t modem, tag;                /* FLOW */
+    uint32_t interval, jitter;          /* FLOW of UGS or POLL: 1 to 1,000,000 minislots; below the interval */
+    uint64_t base;                      /* CHANNEL: start of its first MAP; FLOW: the first due time */
+    uint64_t last;                      /* FLOW: last minislot of the SID's lease */
+    uint64_t sent;                      /* REQUEST: when the modem sent it */
+    uint64_t not_before, ack;           /* CUT: the MAP starts no earlier; up to when requests were heard */
+    uint16_t sid;                       /* DROP, REQUEST */
+    uint16_t minislots;                 /* FLOW of UGS: a grant; REQUEST: 1 to 255; CUT: the MAP's length, 1 to 4096 */
+    uint16_t short_max;                 /* CHANNEL: up to so many minislots a grant is a short one */
+    uint8_t ch, ucd, phy;               /* all but NOOP; CHANNEL; CHANNEL */
+    uint8_t service, priority;          /* FLOW; FLOW of BEST_EFFORT: 0 to 7 */
+    uint8_t ranging_start, ranging_end; /* CHANNEL: back-offs, 0 to 15 */
+    uint8_t data_start, data_end;       /* CHANNEL: likewise */
+} upsched_command;
+
+enum { UPSCHED_NOTHING = 0, UPSCHED_CHANNEL_SET = 1, UPSCHED_ASSIGNED = 2, UPSCHED_MAP = 3, UPSCHED_REFUSED = 4 };
+
+/* Refusals of a command, which changes nothing then. */
+enum {
+    UPSCHED_NO_CHANNEL = 1,
+    UPSCHED_CHANNEL_THERE = 2,
+    UPSCHED_NO_FLOW = 3,
+    UPSCHED_SIDS_SPENT = 4,
+    UPSCHED_BUSY = 5,
+    UPSCHED_OLD_REQUEST = 6,
+    UPSCHED_BAD_VALUE = 7
+};
+
+/* An output: its kind, and the fields that the kind has. The others are 0. */
+typedef struct upsched_output {
+    uint32_t kind;
+    uint32_t modem;       /* ASSIGNED */
+    uint64_t first, last; /* ASSIGNED: the first and the last minislot of the SID's lease */
+    uint64_t start;       /* MAP */
+    size_t body_len;      /* MAP: bytes of the body */
+    uint16_t sid;         /* ASSIGNED */
+    uint16_t minislots;   /* MAP */
+    uint8_t ch, ucd;      /* CHANNEL_SET, ASSIGNED, MAP; CHANNEL_SET */
+    uint8_t refusal;      /* REFUSED */
+} upsched_output;
+
+/* A scheduler that has no channel. */
+int32_t upsched_c_machine_open(upsched_handle *machine);
+static inline int32_t upsched_machine_open(upsched_handle *machine)
+{
+    if (!machine) return UPSCHED_NULL;
+    return upsched_c_machine_open(machine);
+}
+
+/* Applies a command, once; body has room for UPSCHED_BODY_BYTES. OK: *output, which a refusal is too, and of a MAP the
+ * first output->body_len bytes of body. BAD_FIELD: the kind, the service or the PHY is none. */
+int32_t upsched_c_machine_apply(upsched_handle *machine, const upsched_command *command, upsched_output *output,
+                                uint8_t *body);
+static inline int32_t upsched_machine_apply(upsched_handle *machine, const upsched_command *command,
+                                            upsched_output *output, uint8_t *body)
+{
+    if (!machine || !command || !output || !body) return UPSCHED_NULL;
+    return upsched_c_machine_apply(machine, command, output, body);
+}
+
+/* The same of the command that bytes spell, as in values of the log. BAD_FIELD: they spell none. */
+int32_t upsched_c_machine_apply_bytes(upsched_handle *machine, const uint8_t *command, size_t len,
+                                      upsched_output *output, uint8_t *body);
+static inline int32_t upsched_machine_apply_bytes(upsched_handle *machine, const uint8_t *command, size_t len,
+                                                  upsched_output *output, uint8_t *body)
+{
+    const uint8_t no_command[1] = {0};
+    if (!machine || !output || !body || (!command && len)) return UPSCHED_NULL;
+    return upsched_c_machine_apply_bytes(machine, command ? command : no_command, len, output, body);
+}
+
+/* ---- The modem ---- */
+
+/* How an output was heard. */
+enum { UPSCHED_TAKEN = 0, UPSCHED_NOT_MINE = 1, UPSCHED_OTHER_UCD = 2, UPSCHED_PAST = 3, UPSCHED_UNREADABLE = 4 };
+
+enum { UPSCHED_SENDS_NOTHING = 0, UPSCHED_SENDS_DATA = 1, UPSCHED_SENDS_POLLED = 2, UPSCHED_SENDS_REQUEST = 3 };
+
+typedef struct upsched_sending {
+    uint32_t kind;
+    uint16_t sid;
+    uint16_t minislots; /* POLLED, REQUEST: how many it asks for */
+} upsched_sending;
+
+/* GRANT: it sends data from now to the grant's last minislot. POLLED: it sends a request at a poll. CONTENTION: its
+ * request takes part where all may send one: it is sent, or its number falls by 1. LEASE_END: its want goes. */
+enum { UPSCHED_EVENT_GRANT = 1, UPSCHED_EVENT_POLLED = 2, UPSCHED_EVENT_CONTENTION = 3, UPSCHED_EVENT_LEASE_END = 4 };
+
+typedef struct upsched_event {
+    uint64_t slot;        /* when */
+    uint64_t first, last; /* GRANT: its first and its last minislot */
+    uint32_t kind;
+    uint16_t sid;
+    uint16_t minislots; /* POLLED, CONTENTION */
+    uint8_t iuc;        /* GRANT */
+} upsched_event;
+
+/* A modem that has heard nothing. */
+int32_t upsched_c_modem_open(upsched_handle *modem, uint32_t id);
+static inline int32_t upsched_modem_open(upsched_handle *modem, uint32_t id)
+{
+    if (!modem) return UPSCHED_NULL;
+    return upsched_c_modem_open(modem, id);
+}
+
+/* Hears an output; *heard says how. A MAP's times are restored near a time. */
+int32_t upsched_c_modem_hear_channel(upsched_handle *modem, uint8_t ch, uint8_t ucd, uint32_t *heard);
+static inline int32_t upsched_modem_hear_channel(upsched_handle *modem, uint8_t ch, uint8_t ucd, uint32_t *heard)
+{
+    if (!modem || !heard) return UPSCHED_NULL;
+    return upsched_c_modem_hear_channel(modem, ch, ucd, heard);
+}
+int32_t upsched_c_modem_hear_assigned(upsched_handle *modem, uint32_t id, uint8_t ch, uint16_t sid, uint64_t first,
+                                      uint64_t last, uint32_t *heard);
+static inline int32_t upsched_modem_hear_assigned(upsched_handle *modem, uint32_t id, uint8_t ch, uint16_t sid,
+                                                  uint64_t first, uint64_t last, uint32_t *heard)
+{
+    if (!modem || !heard) return UPSCHED_NULL;
+    return upsched_c_modem_hear_assigned(modem, id, ch, sid, first, last, heard);
+}
+int32_t upsched_c_modem_hear_map(upsched_handle *modem, const uint8_t *body, size_t len, uint64_t near_time,
+                                 uint32_t *heard);
+static inline int32_t upsched_modem_hear_map(upsched_handle *modem, const uint8_t *body, size_t len,
+                                             uint64_t near_time, uint32_t *heard)
+{
+    const uint8_t no_body[1] = {0};
+    if (!modem || !heard || (!body && len)) return UPSCHED_NULL;
+    return upsched_c_modem_hear_map(modem, body ? body : no_body, len, near_time, heard);
+}
+
+/* Takes a want, which the modem asks for until it is granted, or gives it up after 16 tries. Refusals: WANT_.. */
+int32_t upsched_c_modem_want(upsched_handle *modem, uint8_t ch, uint16_t sid, uint16_t minislots);
+static inline int32_t upsched_modem_want(upsched_handle *modem, uint8_t ch, uint16_t sid, uint16_t minislots)
+{
+    if (!modem) return UPSCHED_NULL;
+    return upsched_c_modem_want(modem, ch, sid, minislots);
+}
+
+/* What the modem sends at a minislot. Any number is good as random: the back-off is drawn from it. On a channel that it
+ * doesn't know it sends nothing. BAD_FIELD: the minislot isn't below 2^63. */
+int32_t upsched_c_modem_tick(upsched_handle *modem, uint8_t ch, uint64_t slot, uint64_t random,
+                             upsched_sending *sending);
+static inline int32_t upsched_modem_tick(upsched_handle *modem, uint8_t ch, uint64_t slot, uint64_t random,
+                                         upsched_sending *sending)
+{
+    if (!modem || !sending) return UPSCHED_NULL;
+    return upsched_c_modem_tick(modem, ch, slot, random, sending);
+}
+
+/* The first minislot of a channel, from one on, whose tick sends something or changes more than the clock, and what it
+ * does. The ticks before it may be left out, until the modem hears or wants something. NONE: there is no such minislot,
+ * or the channel isn't known. */
+int32_t upsched_c_modem_next(upsched_handle *modem, uint8_t ch, uint64_t from, upsched_event *event);
+static inline int32_t upsched_modem_next(upsched_handle *modem, uint8_t ch, uint64_t from, upsched_event *event)
+{
+    if (!modem || !event) return UPSCHED_NULL;
+    return upsched_c_modem_next(modem, ch, from, event);
+}
+
+/* The first minislot that a tick may have. NONE: the channel isn't known. */
+int32_t upsched_c_modem_clock(upsched_handle *modem, uint8_t ch, uint64_t *clock);
+static inline int32_t upsched_modem_clock(upsched_handle *modem, uint8_t ch, uint64_t *clock)
+{
+    if (!modem || !clock) return UPSCHED_NULL;
+    return upsched_c_modem_clock(modem, ch, clock);
+}
+
+/* ---- Is this header the archive's? ---- */
+
+/* A struct of each kind. */
+typedef struct upsched_samples_t {
+    upsched_map_head head;
+    upsched_map_element elements[2];
+    upsched_map_cell cell;
+    upsched_command command;
+    upsched_output output;
+    upsched_sending sending;
+    upsched_event event;
+} upsched_samples_t;
+
+/* The version number (0 at NULL), and each struct with its fields numbered from 1 in their order. A client that compares
+ * them sees whether its header and the archive agree. */
+uint32_t upsched_c_samples(upsched_samples_t *samples);
+static inline uint32_t upsched_samples(upsched_samples_t *samples)
+{
+    return samples ? upsched_c_samples(samples) : 0;
+}
+
+#ifdef __cplusplus
+}
+#endif
+#endif

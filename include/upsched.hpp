@@ -1,0 +1,197 @@
+// upsched.hpp: upsched.h for C++17, header only. Handles close themselves; a status other than OK is an exception.
+#ifndef UPSCHED_HPP
+#define UPSCHED_HPP
+
+#include <array>
+#include <cstdint>
+#include <new>
+#include <optional>
+#include <stdexcept>
+#include <string>
+#include <utility>
+#include <vector>
+
+#include "upsched.h"
+
+namespace upsched {
+
+/// A call that answered another status than OK.
+class Error : public std::runtime_error {
+  public:
+    explicit Error(std::int32_t status)
+        : std::runtime_error("upsched status " + std::to_string(status)), status_(status) {}
+    std::int32_t status() const noexcept { return status_; }
+
+  private:
+    std::int32_t status_;
+};
+
+inline void check(std::int32_t status) {
+    if (status == UPSCHED_OUT_OF_MEMORY) throw std::bad_alloc();
+    if (status != UPSCHED_OK) throw Error(status);
+}
+
+/// A handle that is moved and never copied.
+class Handle {
+  public:
+    Handle(Handle &&other) noexcept : handle_(std::exchange(other.handle_, upsched_handle{})) {}
+    Handle &operator=(Handle &&other) noexcept {
+        if (this != &other) {
+            upsched_close(&handle_);
+            handle_ = std::exchange(other.handle_, upsched_handle{});
+        }
+        return *this;
+    }
+    Handle(const Handle &) = delete;
+    Handle &operator=(const Handle &) = delete;
+    ~Handle() { upsched_close(&handle_); }
+    upsched_handle *get() noexcept { return &handle_; }
+
+  protected:
+    Handle() noexcept : handle_{} {}
+    upsched_handle handle_;
+};
+
+/// An output, with the body of its MAP.
+struct Output : upsched_output {
+    std::array<std::uint8_t, UPSCHED_BODY_BYTES> body;
+    Output() : upsched_output{}, body{} {}
+};
+
+struct Map {
+    upsched_map_head head;
+    std::vector<upsched_map_element> elements;
+};
+
+inline Map decode(const std::uint8_t *bytes, std::size_t len) {
+    Map map{{}, std::vector<upsched_map_element>(UPSCHED_ELEMENTS)};
+    std::size_t count = 0;
+    check(upsched_map_decode(bytes, len, &map.head, map.elements.data(), map.elements.size(), &count));
+    map.elements.resize(count);
+    return map;
+}
+
+inline std::vector<std::uint8_t> encode(const Map &map) {
+    std::vector<std::uint8_t> bytes(UPSCHED_BODY_BYTES);
+    std::size_t written = 0;
+    check(upsched_map_encode(&map.head, map.elements.data(), map.elements.size(), bytes.data(), bytes.size(), &written));
+    bytes.resize(written);
+    return bytes;
+}
+
+/// Whose minislot x of a body is, counted from its start.
+inline std::optional<upsched_map_cell> cell_at(const std::uint8_t *bytes, std::size_t len, std::uint16_t x) {
+    upsched_map_cell cell{};
+    const std::int32_t status = upsched_map_cell_at(bytes, len, x, &cell);
+    if (status == UPSCHED_NONE) return std::nullopt;
+    check(status);
+    return cell;
+}
+
+inline upsched_command channel(std::uint8_t ch, std::uint8_t ucd, std::uint64_t base, std::uint16_t short_max = 16) {
+    upsched_command c{};
+    c.kind = UPSCHED_CHANNEL;
+    c.ch = ch;
+    c.ucd = ucd;
+    c.base = base;
+    c.short_max = short_max;
+    c.ranging_start = 2;
+    c.ranging_end = 5;
+    c.data_start = 3;
+    c.data_end = 8;
+    return c;
+}
+
+inline upsched_command best_effort(std::uint8_t ch, std::uint32_t modem, std::uint32_t tag, std::uint8_t priority = 0) {
+    upsched_command c{};
+    c.kind = UPSCHED_FLOW;
+    c.ch = ch;
+    c.modem = modem;
+    c.tag = tag;
+    c.last = UPSCHED_LAST_TIME;
+    c.service = UPSCHED_BEST_EFFORT;
+    c.priority = priority;
+    return c;
+}
+
+inline upsched_command ugs(std::uint8_t ch, std::uint32_t modem, std::uint32_t tag, std::uint16_t size,
+                           std::uint32_t interval, std::uint32_t jitter, std::uint64_t base) {
+    upsched_command c = best_effort(ch, modem, tag);
+    c.service = UPSCHED_UGS;
+    c.minislots = size;
+    c.interval = interval;
+    c.jitter = jitter;
+    c.base = base;
+    return c;
+}
+
+inline upsched_command request(std::uint8_t ch, std::uint16_t sid, std::uint16_t n, std::uint64_t sent) {
+    upsched_command c{};
+    c.kind = UPSCHED_REQUEST;
+    c.ch = ch;
+    c.sid = sid;
+    c.minislots = n;
+    c.sent = sent;
+    return c;
+}
+
+inline upsched_command cut(std::uint8_t ch, std::uint16_t len, std::uint64_t not_before, std::uint64_t ack) {
+    upsched_command c{};
+    c.kind = UPSCHED_CUT;
+    c.ch = ch;
+    c.minislots = len;
+    c.not_before = not_before;
+    c.ack = ack;
+    return c;
+}
+
+class Machine : public Handle {
+  public:
+    Machine() { check(upsched_machine_open(&handle_)); }
+    void apply(const upsched_command &command, Output &output) {
+        check(upsched_machine_apply(&handle_, &command, &output, output.body.data()));
+    }
+    void apply(const std::uint8_t *command, std::size_t len, Output &output) {
+        check(upsched_machine_apply_bytes(&handle_, command, len, &output, output.body.data()));
+    }
+};
+
+class Modem : public Handle {
+  public:
+    explicit Modem(std::uint32_t id) { check(upsched_modem_open(&handle_, id)); }
+    /// Hears any output near a time, and says how.
+    std::uint32_t hear(const Output &o, std::uint64_t near_time) {
+        std::uint32_t heard = UPSCHED_NOT_MINE;
+        if (o.kind == UPSCHED_CHANNEL_SET) {
+            check(upsched_modem_hear_channel(&handle_, o.ch, o.ucd, &heard));
+        } else if (o.kind == UPSCHED_ASSIGNED) {
+            check(upsched_modem_hear_assigned(&handle_, o.modem, o.ch, o.sid, o.first, o.last, &heard));
+        } else if (o.kind == UPSCHED_MAP) {
+            check(upsched_modem_hear_map(&handle_, o.body.data(), o.body_len, near_time, &heard));
+        }
+        return heard;
+    }
+    /// Takes a want; false where one of the SID waits already.
+    bool want(std::uint8_t ch, std::uint16_t sid, std::uint16_t n) {
+        const std::int32_t status = upsched_modem_want(&handle_, ch, sid, n);
+        if (status == UPSCHED_WANT_WAITING) return false;
+        check(status);
+        return true;
+    }
+    upsched_sending tick(std::uint8_t ch, std::uint64_t slot, std::uint64_t random) {
+        upsched_sending sending{};
+        check(upsched_modem_tick(&handle_, ch, slot, random, &sending));
+        return sending;
+    }
+    /// The first minislot from one on whose tick does more than move the clock, and what it does.
+    std::optional<upsched_event> next(std::uint8_t ch, std::uint64_t from) {
+        upsched_event event{};
+        const std::int32_t status = upsched_modem_next(&handle_, ch, from, &event);
+        if (status == UPSCHED_NONE) return std::nullopt;
+        check(status);
+        return event;
+    }
+};
+
+} // namespace upsched
+#endif
