@@ -142,17 +142,17 @@ builds_nothing calls 'a folder' 1 '' 'upsched: cannot read .' maps .
 builds_nothing calls 'a folder for live' 1 '' 'upsched: cannot read st ore' live 'st ore'
 builds_nothing calls 'no text' 1 '' 'upsched: cannot read no_text.toml' run no_text.toml
 builds_nothing calls 'an empty word' 1 '' 'upsched: cannot read ' maps ''
-builds upsched_words calls 'no word' 2 '' '*'
-builds upsched_words calls 'help' 0 'A DOCSIS upstream scheduler*' '' --help
-builds upsched_words calls 'the version' 0 'upsched 0.1.0' '' --version
-builds upsched_words calls 'two files, one of them missing' 2 '' 'error: *' maps nowhere.toml script.toml
-builds upsched_words calls 'too many turns' 2 '' 'error: *' live --turns 1000001 nowhere.toml
-builds upsched_words calls 'live without a plan' 2 '' 'error: *' live
-builds upsched_words calls 'no such option' 2 '' 'error: *' maps --store x nowhere.toml
-builds upsched_words calls 'a store that is none' 2 '' 'error: *' run nowhere.toml --store
-builds upsched_words calls 'a word that is no text' 2 '' "error: a word isn't UTF-8" maps $'\377.toml'
-builds upsched_commands calls 'no array' 1 '' 'upsched: plan 2 BadCommand 1' maps no_array.toml
-builds upsched_commands calls 'a script' 0 '0 sent 3' '' run --verbose script.toml
+builds quick_words calls 'no word' 2 '' '*'
+builds quick_words calls 'help' 0 'A DOCSIS upstream scheduler*' '' --help
+builds quick_words calls 'the version' 0 'upsched 0.1.0' '' --version
+builds quick_words calls 'two files, one of them missing' 2 '' 'error: *' maps nowhere.toml script.toml
+builds quick_words calls 'too many turns' 2 '' 'error: *' live --turns 1000001 nowhere.toml
+builds quick_words calls 'live without a plan' 2 '' 'error: *' live
+builds quick_words calls 'no such option' 2 '' 'error: *' maps --store x nowhere.toml
+builds quick_words calls 'a store that is none' 2 '' 'error: *' run nowhere.toml --store
+builds quick_words calls 'a word that is no text' 2 '' "error: a word isn't UTF-8" maps $'\377.toml'
+builds quick_maps calls 'no array' 1 '' 'upsched: plan 2 BadCommand 1' maps no_array.toml
+builds quick_run calls 'a script' 0 '0 sent 3' '' run --verbose script.toml
 builds upsched calls 'threads' 0 'audit yes' '' live ../above.toml --turns=200
 builds upsched calls 'a store with a space' 0 '0 sent 3' '' run script.toml --store 'st ore'
 builds upsched calls 'the store again' 1 '' 'upsched: store not fresh' run script.toml --store='st ore'
