@@ -1,8 +1,8 @@
 #!/usr/bin/env bash
-# The library for C and C++ (crates/upsched_c, include/, c/), tried from C; no part of the gate. It builds the clients with
-# gcc and g++, warnings as errors, and runs them: as they are, under the sanitizers, and under valgrind's memcheck and
-# helgrind; lets each request for memory fail in turn; and compares what it says of spoilt bodies and commands with what
-# the proved program prints, where one is there. The status is 1 where something differs.
+# The library for C and C++ (crates/upsched_c, include/, c/), tried from C; no part of the gate. It builds the clients
+# with gcc and g++, warnings as errors, and runs them: as they are, under the sanitizers, and under valgrind's memcheck
+# and helgrind; lets each request for memory fail in turn; and compares what it says of spoilt bodies and commands with
+# what the proved program prints, where one is there. The status is 1 where something differs.
 #
 # Usage: bench/c_library.sh [SECONDS [SEED]]: the fuzz target runs so long (5), and 40 times as many inputs are spoilt.
 set -euo pipefail

@@ -42,7 +42,10 @@ int main(void)
     IS(upsched_samples(&s[0]), UPSCHED_VERSION_NUMBER);
     IS(upsched_samples(NULL), 0);
     head(&s[0].head);
-    for (int i = 0; i < 2; i++) IS(s[0].elements[i].sid, 1), IS(s[0].elements[i].offset, 2), IS(s[0].elements[i].iuc, 3);
+    for (int i = 0; i < 2; i++) {
+        const upsched_map_element *e = &s[0].elements[i];
+        IS(e->sid, 1), IS(e->offset, 2), IS(e->iuc, 3);
+    }
     IS(s[0].cell.sid, 1), IS(s[0].cell.iuc, 2);
     command(&s[0].command);
     output(&s[0].output);

@@ -1,7 +1,8 @@
 /* A fuzz target of the codec. What bytes are read as is written again as the same bytes, but for the reserved byte; a
  * status other than OK changes nothing but the count; and each minislot is that of the element that covers it.
  *
- * With libFuzzer: clang -fsanitize=fuzzer -DWITH_LIBFUZZER codec_fuzz.c .. . Without it the program mutates bodies itself.
+ * With libFuzzer: clang -fsanitize=fuzzer -DWITH_LIBFUZZER codec_fuzz.c .. . Without it the program mutates bodies
+ * itself.
  * Usage: codec_fuzz [SECONDS] [SEED]. */
 #include <upsched.h>
 

@@ -59,7 +59,8 @@ static const char *name_of(int32_t status)
 
 static void spoil(uint8_t *bytes, size_t *len)
 {
-    for (uint32_t k = random_number() % 3; k > 0; k--) bytes[random_number() % *len] ^= (uint8_t)(1u << random_number() % 8);
+    for (uint32_t k = random_number() % 3; k > 0; k--)
+        bytes[random_number() % *len] ^= (uint8_t)(1u << random_number() % 8);
     if (random_number() % 6 == 0) *len = random_number() % (*len + 1);
     if (random_number() % 12 == 0) bytes[(*len)++] = 0;
 }

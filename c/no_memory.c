@@ -1,5 +1,5 @@
-/* Each malloc and realloc fails in turn. A call that lacks memory says so and changes nothing: made again it answers what
- * it answers where there is memory. Link with -Wl,--wrap=malloc,--wrap=realloc. */
+/* Each malloc and realloc fails in turn. A call that lacks memory says so and changes nothing: made again it answers
+ * what it answers where there is memory. Link with -Wl,--wrap=malloc,--wrap=realloc. */
 #include <upsched.h>
 
 #include <stdio.h>

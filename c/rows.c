@@ -1,5 +1,5 @@
-/* Plans of examples/plans, and what modems do with their MAPs, through the library. Prints what `upsched maps` prints of
- * the plans, and then what is decoded, heard and sent. c/rows.stdout has the lines that are wanted. */
+/* Plans of examples/plans, and what modems do with their MAPs, through the library. Prints what `upsched maps` prints
+ * of the plans, and then what is decoded, heard and sent. c/rows.stdout has the lines that are wanted. */
 #include "lines.h"
 
 #include <string.h>
@@ -209,7 +209,8 @@ static void modems(void)
 {
     upsched_handle modem = {0}, late = {0};
     const uint64_t end = UINT64_C(1) << 32;
-    const upsched_command wraps[] = {channel(end - 10), best_effort(50), request(1, 20, end - 96), cut(1, 20, 0, end - 16)};
+    const upsched_command wraps[] = {channel(end - 10), best_effort(50), request(1, 20, end - 96),
+                                     cut(1, 20, 0, end - 16)};
     RUN("32 bits wrap", wraps);
     open_modem(&modem);
     hear(&modem, 3, end - 12);

@@ -3,8 +3,8 @@
 // minislots that are open to all, where two that send at once collide and neither is heard.
 //
 // Usage: sim [SECONDS] [LOAD] [ticks|events]. LOAD is what the best-effort packets would take of the channel. By ticks
-// each modem ticks at each minislot; by events only where its tick does something. Both print the same. How long it took
-// goes to standard error.
+// each modem ticks at each minislot; by events only where its tick does something. Both print the same. How long it
+// took goes to standard error.
 #include <algorithm>
 #include <chrono>
 #include <cinttypes>
@@ -130,7 +130,7 @@ struct Channel {
     explicit Channel(double load) {
         upsched::Output set, output;
         machine.apply(upsched::channel(kChannel, 7, kAhead), set);
-        const double mean_gap = static_cast<double>(kModems - kVoices) * 12 / load; // packets of 12 minislots in the mean
+        const double mean_gap = static_cast<double>(kModems - kVoices) * 12 / load; // a packet has 12 in the mean
         for (std::uint32_t i = 0; i < kModems; i++) {
             const bool asks = i >= kVoices;
             machine.apply(asks ? upsched::best_effort(kChannel, i + 1, 1, static_cast<std::uint8_t>(i % 3))
@@ -190,7 +190,8 @@ struct Channel {
                     maps, requests, collisions, refused, twice);
         print("best effort", best_effort);
         print("voice", voice);
-        std::printf("utilisation  %.3f of the minislots\n", static_cast<double>(used) / static_cast<double>(maps * kMapSlots));
+        std::printf("utilisation  %.3f of the minislots\n",
+                    static_cast<double>(used) / static_cast<double>(maps * kMapSlots));
     }
 };
 
@@ -222,6 +223,7 @@ int main(int argc, char **argv) {
     }
     channel.print_all();
     const std::chrono::duration<double> took = std::chrono::steady_clock::now() - began;
-    std::fprintf(stderr, "%s: %.3f s, %.0f times real time\n", by_events ? "events" : "ticks", took.count(), seconds / took.count());
+    std::fprintf(stderr, "%s: %.3f s, %.0f times real time\n", by_events ? "events" : "ticks", took.count(),
+                 seconds / took.count());
     return channel.twice != 0;
 }

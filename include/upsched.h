@@ -2,23 +2,23 @@
  * upsched.h: the upstream scheduler of DOCSIS (CM-SP-MULPIv3.1, MAP version 1) for C and C++: the codec of MAP bodies,
  * the scheduler and the modem.
  *
- * The calls are those of the crate upsched_c, behind a test for NULL. Of each is proved what it answers and changes, that
- * it returns, and that it is defined for all arguments but those that break a rule below.
+ * The calls are those of the crate upsched_c, behind a test for NULL. Of each is proved what it answers and changes,
+ * that it returns, and that it is defined for all arguments but those that break a rule below.
  *
  * UNITS     A time (uint64_t) is a minislot number of the channel, not wrapped, below 2^63. MAP bodies carry its low 32
- *           bits; the library makes and restores them. Sizes, lengths and offsets are minislots, unless a name says bytes.
- *           A back-off is an exponent of two.
+ *           bits; the library makes and restores them. Sizes, lengths and offsets are minislots, unless a name says
+ *           bytes. A back-off is an exponent of two.
  * POINTERS  NULL is answered as such, but beside a length of 0, where it is good. What a call may write shares no byte
  *           with another argument of it, and is initialised memory, whatever is in it. No pointer is kept.
- * HANDLES   A handle is a struct of yours, all zero at first, which is closed. An open call opens it, upsched_close closes
- *           it and lets go of what it holds; closing a closed one does nothing. Write nothing into it. It may be moved by
- *           memcpy, if the old copy isn't used again. A handle that is copied, or not initialised, is undefined.
- * THREADS   There is no global state: two threads may use two handles at once. A handle may go from one thread to another,
- *           by a lock, a thread's start or join, or a sequentially consistent atomic; one call at a time uses it. No call
- *           from a signal handler, or from the forked child of a process with threads.
+ * HANDLES   A handle is a struct of yours, all zero at first, which is closed. An open call opens it, upsched_close
+ *           closes it and lets go of what it holds; closing a closed one does nothing. Write nothing into it. It may be
+ *           moved by memcpy, if the old copy isn't used again. One that is copied, or not initialised, is undefined.
+ * THREADS   There is no global state: two threads may use two handles at once. A handle may go from one thread to
+ *           another, by a lock, a thread's start or join, or a sequentially consistent atomic; one call at a time uses
+ *           it. No call from a signal handler, or from the forked child of a process with threads.
  * MEMORY    malloc, realloc and free. A call that lacks memory says so, and changes nothing.
- * STATUS    A call answers UPSCHED_OK, or the first status below that applies, by which nothing changes. Arguments are
- *           written with OK, else only as a call says. The handle is judged first, then the fields, then memory.
+ * STATUS    A call answers UPSCHED_OK, or why not; what a handle holds is then as it was, and arguments are written
+ *           only as the call says. First comes NULL, then the handle, then the fields, memory, and room.
  * VERSION   Of this header. Numbers are never used again for something else.
  * NAMES     Each call upsched_X is the archive's upsched_c_X behind a test for NULL. Other languages bind upsched_c_X.
  */
@@ -150,7 +150,14 @@ static inline void upsched_close(upsched_handle *handle)
 
 /* ---- The scheduler ---- */
 
-enum { UPSCHED_NOOP = 0, UPSCHED_CHANNEL = 1, UPSCHED_FLOW = 2, UPSCHED_DROP = 3, UPSCHED_REQUEST = 4, UPSCHED_CUT = 5 };
+enum {
+    UPSCHED_NOOP = 0,
+    UPSCHED_CHANNEL = 1,
+    UPSCHED_FLOW = 2,
+    UPSCHED_DROP = 3,
+    UPSCHED_REQUEST = 4,
+    UPSCHED_CUT = 5
+};
 enum { UPSCHED_BEST_EFFORT = 0, UPSCHED_UGS = 1, UPSCHED_POLL = 2 };
 enum { UPSCHED_TDMA = 0, UPSCHED_ADVANCED = 1 };
 #define UPSCHED_LAST_TIME (UINT64_C(1) << 62) /* the last minislot of a lease without an end */
@@ -338,8 +345,8 @@ typedef struct upsched_samples_t {
     upsched_event event;
 } upsched_samples_t;
 
-/* The version number (0 at NULL), and each struct with its fields numbered from 1 in their order. A client that compares
- * them sees whether its header and the archive agree. */
+/* The version number (0 at NULL), and each struct with its fields numbered from 1 in their order. A client that
+ * compares them sees whether its header and the archive agree. */
 uint32_t upsched_c_samples(upsched_samples_t *samples);
 static inline uint32_t upsched_samples(upsched_samples_t *samples)
 {

@@ -74,7 +74,8 @@ inline Map decode(const std::uint8_t *bytes, std::size_t len) {
 inline std::vector<std::uint8_t> encode(const Map &map) {
     std::vector<std::uint8_t> bytes(UPSCHED_BODY_BYTES);
     std::size_t written = 0;
-    check(upsched_map_encode(&map.head, map.elements.data(), map.elements.size(), bytes.data(), bytes.size(), &written));
+    check(upsched_map_encode(&map.head, map.elements.data(), map.elements.size(), bytes.data(), bytes.size(),
+                             &written));
     bytes.resize(written);
     return bytes;
 }
