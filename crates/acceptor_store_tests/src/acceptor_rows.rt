@@ -115,7 +115,8 @@ fn write<R: Records>(rt: &impl Abort, alloc: Global, records: &mut R) -> Result<
     Ok(records.put_promised(ballot(rt, 8))?)
 }
 
-/// Whether these are the tried and the promised ballot, the ballot of the vote at place 2, and how many
+/// Whether these are the tried and the promised ballot, the ballot of the vote at place 2, and how
+/// many
 /// votes there are.
 fn holds<R: Records>(
     rt: &impl Abort,
@@ -210,7 +211,8 @@ fn passes<R: Records + Drop>(
     }
 }
 
-/// Whether fresh records pass. No test holds them itself: the proof of what holds a value of so large a type is dear.
+/// Whether fresh records pass. No test holds them itself: the proof of what holds a value of so
+/// large a type is dear.
 fn passes_afresh(rt: &impl Abort, alloc: Global, trial: Trial) -> Result<bool, Fail> {
     passes(rt, alloc, fresh(alloc)?, trial)
 }

@@ -27,7 +27,8 @@ fn calls_of(stopped: Stopped, calls: u64) -> (u64, u64) {
     }
 }
 
-/// What a stop leaves of a file: each byte that was written, as where the process alone died, or nothing but what was synced.
+/// What a stop leaves of a file: each byte that was written, as where the process alone died, or
+/// nothing but what was synced.
 #[derive(Debug, Drop)]
 pub struct Left {
     pub written: Vec<u8>,
@@ -66,7 +67,8 @@ pub fn left_behind(alloc: Global, mut files: Files<Fused>) -> Result<Bodies, Fai
     Ok(Bodies { log, db })
 }
 
-/// A file of these bytes, all of them synced, that passes so many calls on and fails each one after.
+/// A file of these bytes, all of them synced, that passes so many calls on and fails each one
+/// after.
 fn fused(alloc: Global, bytes: &[u8], calls: u64) -> io::Result<Fused> {
     let mut file = Memory::new(alloc);
     file.write_at(0, bytes)?;
@@ -96,14 +98,16 @@ fn bytes_of(left: &Left, is_written: bool) -> &[u8] {
     }
 }
 
-/// What is found of the files: what was written to the log, or synced, and likewise of the database.
+/// What is found of the files: what was written to the log, or synced, and likewise of the
+/// database.
 pub fn found(alloc: Global, bodies: &Bodies, which: (bool, bool)) -> io::Result<Files<Fused>> {
     let log = bytes_of(&bodies.log, which.0);
     let db = bytes_of(&bodies.db, which.1);
     stopping(alloc, (log, db), Stopped::Log, u64::MAX)
 }
 
-/// A connection to the files, or the files again. Each commit copies the log into the database. With few pages in memory it
+/// A connection to the files, or the files again. Each commit copies the log into the database.
+/// With few pages in memory it
 /// is opened soon.
 pub fn connected<D: Disk + Drop>(
     alloc: Global,

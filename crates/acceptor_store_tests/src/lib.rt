@@ -6,6 +6,8 @@ mod acceptor_rows;
 #[cfg(test)]
 mod files;
 #[cfg(test)]
+mod owners;
+#[cfg(test)]
 mod stops;
 #[cfg(test)]
 mod tables;

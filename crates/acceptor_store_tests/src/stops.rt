@@ -1,4 +1,5 @@
-//! The four writes that a node makes up to its first grant, stopped at each call on one of its files in turn.
+//! The four writes that a node makes up to its first grant, stopped at each call on one of its
+//! files in turn.
 
 use crate::files::{
     Bodies, FOUND, Stopped, closed, content, found, is_again, left_behind, opened, stopping,
@@ -32,7 +33,8 @@ struct Writes {
     cut: Value,
 }
 
-/// How far the writes came: whether the files opened, how many writes were made, and why the next wasn't.
+/// How far the writes came: whether the files opened, how many writes were made, and why the next
+/// wasn't.
 #[derive(Clone, Copy, Debug)]
 struct Reached {
     is_open: bool,
@@ -132,7 +134,8 @@ fn content_of<D: Disk + Drop>(alloc: Global, files: Files<D>) -> Result<String, 
     }
 }
 
-/// What the files hold, by a node's number of writes. Every database that is found opens, and holds one of `CONTENTS`.
+/// What the files hold, by a node's number of writes. Every database that is found opens, and holds
+/// one of `CONTENTS`.
 fn held(alloc: Global, bodies: &Bodies, which: (bool, bool)) -> Result<usize, Fail> {
     let text = content_of(alloc, found(alloc, bodies, which)?)?;
     match made_of(text.as_str()) {
@@ -141,7 +144,8 @@ fn held(alloc: Global, bodies: &Bodies, which: (bool, bool)) -> Result<usize, Fa
     }
 }
 
-/// Whether a stop that came after so many writes may leave so many. A write that was refused isn't there.
+/// Whether a stop that came after so many writes may leave so many. A write that was refused isn't
+/// there.
 fn may_leave(reached: Reached, made: usize) -> bool {
     match reached.fault {
         Some(RecordsFault::Broken) => made == reached.made
@@ -150,7 +154,8 @@ fn may_leave(reached: Reached, made: usize) -> bool {
     }
 }
 
-/// Whatever is found of the files holds what was written before, or that and the one write at which they stopped.
+/// Whatever is found of the files holds what was written before, or that and the one write at which
+/// they stopped.
 fn all_held(alloc: Global, reached: Reached, bodies: &Bodies) -> Result<(), Fail> {
     for which in FOUND {
         if is_again(bodies, which) {
@@ -164,7 +169,8 @@ fn all_held(alloc: Global, reached: Reached, bodies: &Bodies) -> Result<(), Fail
     Ok(())
 }
 
-/// How far the writes come that are stopped after so many calls on a file, where what is left of them is what may be.
+/// How far the writes come that are stopped after so many calls on a file, where what is left of
+/// them is what may be.
 fn stopped_at(
     alloc: Global,
     writes: &Writes,
@@ -178,7 +184,8 @@ fn stopped_at(
     Ok(reached)
 }
 
-/// Where the writes stopped: 0 as the files were opened, and then by the write. None where they went through.
+/// Where the writes stopped: 0 as the files were opened, and then by the write. None where they
+/// went through.
 fn place_of(reached: Reached) -> Option<usize> {
     if !reached.is_open {
         return Some(0);

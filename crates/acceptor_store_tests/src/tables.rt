@@ -89,7 +89,8 @@ fn which_learned_values_are_foreign(rt: HostRuntime) -> Result<(), Fail> {
     Ok(())
 }
 
-/// Tables of version 1 with a part of what version 2 has beside them are foreign, and so is a part of the tables of version 2.
+/// Tables of version 1 with a part of what version 2 has beside them are foreign, and so is a part
+/// of the tables of version 2.
 #[test]
 fn which_mixtures_are_foreign(rt: HostRuntime) -> Result<(), Fail> {
     for [first, then] in [

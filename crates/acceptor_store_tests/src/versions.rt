@@ -13,7 +13,8 @@ use sqlite_disk::Disk;
 use std::alloc::Global;
 use std::test::Fail;
 
-/// Tables of version 1: tried 16, the promised row 18, and a vote of ballot 17 for the byte 65 at place 1.
+/// Tables of version 1: tried 16, the promised row 18, and a vote of ballot 17 for the byte 65 at
+/// place 1.
 const FIRST: &str =
     "CREATE TABLE ballot (id INTEGER PRIMARY KEY, number INTEGER NOT NULL) STRICT; CREATE TABLE vote (place INTEGER PRIMARY KEY, ballot INTEGER NOT NULL, value BLOB NOT NULL) STRICT; INSERT INTO ballot (id, number) VALUES (0, 16), (1, 18); INSERT INTO vote (place, ballot, value) VALUES (1, 17, x'41')";
 
@@ -145,7 +146,8 @@ fn raised<S: Alter + Drop>(
     Ok((version, records_over(alloc, conn)?))
 }
 
-/// Opens the files, and tells which version they were of; with the files again. Whatever that was, they hold the same.
+/// Opens the files, and tells which version they were of; with the files again. Whatever that was,
+/// they hold the same.
 fn reopened<D: Disk + Drop>(alloc: Global, files: Files<D>) -> Result<(Version, Files<D>), Fail> {
     let (version, mut records) = raised(alloc, linked(alloc, files)?)?;
     if !holds_the_first(alloc, &mut records)? {
@@ -154,7 +156,8 @@ fn reopened<D: Disk + Drop>(alloc: Global, files: Files<D>) -> Result<(Version, 
     Ok((version, closed(records)?))
 }
 
-/// A database of version 1 holds the same once it was opened, and nothing learned, in tables of version 2.
+/// A database of version 1 holds the same once it was opened, and nothing learned, in tables of
+/// version 2.
 #[test]
 fn version_one_is_raised(rt: HostRuntime) -> Result<(), Fail> {
     let (first, files) = reopened(rt.alloc(), first_found(rt.alloc())?)?;
@@ -222,7 +225,8 @@ fn tried<D: Disk + Drop>(alloc: Global, files: Files<D>) -> Result<(bool, Files<
     }
 }
 
-/// Opens the files, one of which stops after so many calls: whether that went through, and what the files held then.
+/// Opens the files, one of which stops after so many calls: whether that went through, and what the
+/// files held then.
 fn opened_until(
     alloc: Global,
     bodies: &Bodies,
@@ -250,6 +254,7 @@ fn versions_of(alloc: Global, bodies: &Bodies) -> Result<(bool, bool), Fail> {
         match found_of(alloc, bodies, which)? {
             Version::First => found.0 = true,
             Version::Second => found.1 = true,
+            Version::Third => return Err(Fail::new("it has an owner")),
         }
     }
     Ok(found)
@@ -285,7 +290,8 @@ fn stop_at(alloc: Global, bodies: &Bodies, stopped: Stopped, calls: u64) -> Resu
     }
 }
 
-/// How many stops left version 1 alone, and how many left either. An open that goes through leaves version 2 alone.
+/// How many stops left version 1 alone, and how many left either. An open that goes through leaves
+/// version 2 alone.
 fn stops(alloc: Global, stopped: Stopped) -> Result<(u64, u64), Fail> {
     let bodies = first_files(alloc)?;
     let mut first = 0u64;
