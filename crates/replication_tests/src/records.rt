@@ -117,7 +117,11 @@ fn lengths(alloc: Global, number: u64, len: usize) -> Result<(usize, usize), Fai
 #[test]
 fn the_longest_value_at_the_last_place(rt: HostRuntime) -> Result<(), Fail> {
     for (number, len) in [(1, 0), (1, 64), (1_000_000, 64)] {
-        assert_eq!(rt; lengths(rt.alloc(), number, len)?, (len, len), "place {number}");
+        assert_eq!(rt;
+            lengths(rt.alloc(), number, len)?,
+            (len, len),
+            "place {number}"
+        );
     }
     Ok(())
 }
