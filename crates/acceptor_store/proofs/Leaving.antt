@@ -12,7 +12,7 @@ use Rattle.acceptor_store_parts.specs.declared.Version.TheVariants.{First}
 use Rattle.acceptor_store_parts.specs.Tables.{schema_of}
 use Rattle.acceptor_store_parts.specs.Serves.{ServesAs, IsOther, MayHaveRaised}
 use Rattle.acceptor_store.specs.declared.OpenFault.{OpenFault}
-use Rattle.acceptor_store.specs.Linked.{Finds, IsLeftWhole}
+use Rattle.acceptor_store.specs.Linked.{FindsContent, IsLeftWhole}
 
 -- the reads of a version's tables commit nothing
 pub reads_leave : (version : Version) (old mid late new : State) → Survives old mid (λ _. IsOther old) → Survives mid late (λ _. IsOther mid) → Survives late new (λ _. late.now.schema ≡ schema_of version → ⊥)
@@ -29,7 +29,7 @@ reads_leave version old mid late new one two three same next =
 
 -- a migration that failed leaves the tables of version 1, or those of version 2 with their content
 pub raises_whole : {S : Type 0} (g : Ghosts S) (version : Version) (conn found : Held S) (highest : Option ℕ) (db : Trees) → version ≡ First
-    → (HasCleanDisk (state g found) → (db : Trees) → (state g found).may_leave db → (state g conn).may_leave db) → HasCleanDisk (state g found) → Finds g version conn found highest
+    → (HasCleanDisk (state g found) → (db : Trees) → (state g found).may_leave db → (state g conn).may_leave db) → HasCleanDisk (state g found) → FindsContent g version conn found highest
     → (state g found).may_leave db ⊎ MayHaveRaised (state g found) db → IsLeftWhole g conn db
 raises_whole g version conn found highest db is leaves clean f (inl before) = inl (leaves clean db before)
 raises_whole g version conn found highest db is leaves clean f (inr raised) = inr (f.0, inr (version, f.1), raised f.0 (subst (λ v. ServesAs v (state g found) f.0) is f.2))

@@ -20,7 +20,7 @@ use Rattle.acceptor_store.specs.declared.OpenFault.{OpenFault}
 use Rattle.acceptor_store.specs.declared.OpenFault.TheVariants.{Refused, Broken, OutOfMemory, Foreign}
 use Rattle.acceptor_store.specs.declared.owned.OwnerFault.{OwnerFault}
 use Rattle.acceptor_store.specs.declared.owned.OwnerFault.TheVariants.{Open, Blank, Unowned, OtherNode, OtherMembers}
-use Rattle.acceptor_store.specs.Linked.{Examines, Had, IsLeftWhole, Prepares, SeesForeign, StaysAs}
+use Rattle.acceptor_store.specs.Linked.{Examines, Had, IsLeftWhole, MakesReady, SeesForeign, StaysAs}
 use Rattle.acceptor_store.specs.Owning.{AdoptsFor, ExaminesFor, FindsFor, HadBefore, IsDue, IsDueBefore, IsLeftAs, IsLeftBefore, Names, PreparesFor}
 use Rattle.acceptor_store.proofs.Reopening.{by_rowid, still_by_rowid}
 
@@ -122,7 +122,7 @@ module _ {S : Type 0} (g : Ghosts S) (owner : Owner) (conn : Held S) where
   had_before c none tables (inl blank) = absurd (tables blank.0)
   had_before c none tables (inr had) = inl (none, had.0, had.1)
 
-  pub adopts_plain : (mid new : Held S) (highest : Option ℕ) → (HasFacts (state g conn).now.schema → ⊥) → ((state g conn).now.schema ≡ blank_schema → ⊥) → Prepares g conn mid highest
+  pub adopts_plain : (mid new : Held S) (highest : Option ℕ) → (HasFacts (state g conn).now.schema → ⊥) → ((state g conn).now.schema ≡ blank_schema → ⊥) → MakesReady g conn mid highest
       → HasOwned owner (state g mid) (state g new) → AdoptsFor g owner conn new highest
   adopts_plain mid new highest none tables it owned = (it.0, had_before it.0 none tables it.1, owned it.0 it.2, it.3)
 
@@ -134,7 +134,7 @@ module _ {S : Type 0} (g : Ghosts S) (owner : Owner) (conn : Held S) where
   left_plain db (inl before) = inl before
   left_plain db (inr raised) = inr (raised.0, raised.1, inl raised.2)
 
-  pub left_adopting : ((s : S) (db : Trees) → IsTrue (g.view s).is_open → g.recovers s db → db ≡ (g.view s).committed) → (mid : Held S) (highest : Option ℕ) → Prepares g conn mid highest
+  pub left_adopting : ((s : S) (db : Trees) → IsTrue (g.view s).is_open → g.recovers s db → db ≡ (g.view s).committed) → (mid : Held S) (highest : Option ℕ) → MakesReady g conn mid highest
       → (db : Trees) → (state g mid).may_leave db ⊎ MayHaveOwned owner (state g mid) db → IsLeftBefore g owner conn db
   left_adopting settled mid highest it db (inl may) =
       let same : db ≡ (state g mid).now.trees = settled mid.store db it.2.is_open may ∙ ap (λ (d : Database). d.trees) (sym it.2.settled) in

@@ -34,7 +34,7 @@ use Rattle.acceptor_store_parts.specs.Stored.{AreTablesOf, HasLearned, KeepsLear
 use Rattle.acceptor_store_parts.specs.Owned.{AreTablesFor, schema_for}
 use Rattle.acceptor_store_parts.specs.Serves.{ServesFor, ServesAs, StillServes, HasRaised}
 use Rattle.acceptor_store_parts.proofs.Callers.{one_content, serves_for}
-use Rattle.acceptor_store.specs.Linked.{Linked, MayFind, MayFindIn, IsHonest, is_clean_in, IsLinked, Stands, IsTested, ServesNone, CannotBeRead, Tells, Leaves, Reopens, Examines, Had, IsIn, IsFoundIn, Prepares, SeesForeign, HasNumbers, StaysAs, Finds as Found}
+use Rattle.acceptor_store.specs.Linked.{Linked, MayFind, MayFindIn, IsHonest, is_clean_in, IsLinked, Stands, IsTested, ServesNone, CannotBeRead, Tells, Leaves, Reopens, Examines, Had, IsIn, IsFoundIn, MakesReady, SeesForeign, HasNumbers, StaysAs, FindsContent as Found}
 use Rattle.sqlite_trees.proofs.Doubt.{no_doubt, clean_of}
 use Rattle.acceptor_store.proofs.Found.{found_is, found_it}
 
@@ -237,15 +237,15 @@ finds g version conn again new highest schema re ex =
     let e = ex re.0 in
     (e.0, (schema, subst (λ t. AreTablesOf version t e.0) re.1 e.1, e.2), e.3, e.4)
 
-pub all_prepare : {S E : Type 0} (g : Ghosts S) (conn : Held S) (Known : Type 0) (r : Result (Held S × Option ℕ) E) → Known → IfOk r (λ x. HasCleanDisk (state g x.0) → Known → Prepares g conn x.0 x.1)
-    → IfOk r (λ x. HasCleanDisk (state g x.0) → Prepares g conn x.0 x.1)
+pub all_prepare : {S E : Type 0} (g : Ghosts S) (conn : Held S) (Known : Type 0) (r : Result (Held S × Option ℕ) E) → Known → IfOk r (λ x. HasCleanDisk (state g x.0) → Known → MakesReady g conn x.0 x.1)
+    → IfOk r (λ x. HasCleanDisk (state g x.0) → MakesReady g conn x.0 x.1)
 all_prepare g conn Known (Ok x) known h = λ clean. h clean known
 all_prepare g conn Known (Err e) known h = tt
 
-pub prepares_second : {S : Type 0} (g : Ghosts S) (version : Version) (old new : Held S) (highest : Option ℕ) → version ≡ Second → Found g version old new highest → Prepares g old new highest
+pub prepares_second : {S : Type 0} (g : Ghosts S) (version : Version) (old new : Held S) (highest : Option ℕ) → version ≡ Second → Found g version old new highest → MakesReady g old new highest
 prepares_second g version old new highest is f = (f.0, inr (version, f.1), serves_for None (state g new) f.0 (subst (λ v. ServesAs v (state g new) f.0) is f.2) tt, f.3)
 
-pub prepares_first : {S : Type 0} (g : Ghosts S) (version : Version) (old mid new : Held S) (highest : Option ℕ) → version ≡ First → Found g version old mid highest → HasRaised (state g mid) (state g new) → Prepares g old new highest
+pub prepares_first : {S : Type 0} (g : Ghosts S) (version : Version) (old mid new : Held S) (highest : Option ℕ) → version ≡ First → Found g version old mid highest → HasRaised (state g mid) (state g new) → MakesReady g old new highest
 prepares_first g version old mid new highest is f raised = (f.0, inr (version, f.1), raised f.0 (subst (λ v. ServesAs v (state g mid) f.0) is f.2), f.3)
 
 -- a database without tables has none of facts, and no part of the others

@@ -160,8 +160,8 @@ abbrev pub IsLeftWhole : {S : Type 0} → Ghosts S → Held S → Trees → Type
 IsLeftWhole g conn db = (state g conn).may_leave db ⊎ ((c : Content) × Had g conn c × AreTablesFor None db c)
 
 -- it serves in this version what the older one had, of which this is the promised ballot
-abbrev pub Finds : {S : Type 0} → Ghosts S → Version → Held S → Held S → Option ℕ → Type 0
-Finds g version old new highest =
+abbrev pub FindsContent : {S : Type 0} → Ghosts S → Version → Held S → Held S → Option ℕ → Type 0
+FindsContent g version old new highest =
     (c : Content) × HadIn g version old c × ServesAs version (state g new) c × (number_of highest ≡ promised c)
 
 -- no node without an owner wrote the database that the connection sees
@@ -173,8 +173,8 @@ abbrev pub HasFurther : Schema → Type 0
 HasFurther s = (IsForeignSchema s → ⊥) × ((version : Version) → s ≢ schema_of version) × (s ≢ blank_schema)
 
 -- it serves what the older one had, and this is the promised ballot
-abbrev pub Prepares : {S : Type 0} → Ghosts S → Held S → Held S → Option ℕ → Type 0
-Prepares g old new highest = (c : Content) × Had g old c × ServesFor None (state g new) c × (number_of highest ≡ promised c)
+abbrev pub MakesReady : {S : Type 0} → Ghosts S → Held S → Held S → Option ℕ → Type 0
+MakesReady g old new highest = (c : Content) × Had g old c × ServesFor None (state g new) c × (number_of highest ≡ promised c)
 
 -- the trees are those of the content in one of the versions, or of a database without tables, and the content is none
 abbrev pub IsKeptIn : Trees → Content → Type 0

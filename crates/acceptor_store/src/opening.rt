@@ -13,7 +13,7 @@ ghost use Rattle.acceptor_store_parts.specs.Rowids.{AreByRowid, IsReread};
 ghost use Rattle.acceptor_store_parts.specs.Tables.{schema_of};
 ghost use Rattle.acceptor_store_parts.specs.Stored.{HasLearned, KeepsLearned, IsCast, IsLearned, IsNumber, IsOfNode, learned_row, vote_row};
 ghost use Rattle.acceptor_store_parts.specs.Serves.{ServesAs, IsOther, HasRaised, MayHaveRaised};
-ghost use Rattle.acceptor_store.specs.Linked.{HasFurther, Examines, Prepares, SeesForeign, HasNumbers, StaysAs, Finds, IsLeftWhole};
+ghost use Rattle.acceptor_store.specs.Linked.{HasFurther, Examines, MakesReady, SeesForeign, HasNumbers, StaysAs, FindsContent, IsLeftWhole};
 
 use crate::{OpenFault, greatest_of};
 use acceptor_store_parts::{Stop, Unread, Version};
@@ -183,7 +183,7 @@ fn reread<S: Alter + Drop>(
     version: Version,
     conn: Connection<S>,
 ) -> Result<(Connection<S>, Option<Ballot>), (OpenFault, S)>
-    ensures tables { IfOk result (λ r. HasCleanDisk (state S.Store r.0) → (state S.Store conn).now.schema ≡ schema_of version → Finds S.Store version conn r.0 r.1) }
+    ensures tables { IfOk result (λ r. HasCleanDisk (state S.Store r.0) → (state S.Store conn).now.schema ≡ schema_of version → FindsContent S.Store version conn r.0 r.1) }
     ensures clean { IfOk result (λ r. doubt (state S.Store conn).is_clean ≤ doubt (state S.Store r.0).is_clean) }
     ensures leaves { IfOk result (λ r. HasCleanDisk (state S.Store r.0) → (db : Trees) → (state S.Store r.0).may_leave db → (state S.Store conn).may_leave db) }
     ensures left { IfErr result (λ e. IsClean (S.Store.view e.1) → (db : Trees) → S.Store.recovers e.1 db → (state S.Store conn).may_leave db) }
@@ -213,7 +213,7 @@ fn brought_up<S: Alter + Drop>(
     conn: Connection<S>,
 ) -> Result<(Connection<S>, Option<Ballot>), (OpenFault, S)>
     requires unowned { version ≢ Version.Third }
-    ensures tables { IfOk result (λ r. HasCleanDisk (state S.Store r.0) → (state S.Store conn).now.schema ≡ schema_of version → Prepares S.Store conn r.0 r.1) }
+    ensures tables { IfOk result (λ r. HasCleanDisk (state S.Store r.0) → (state S.Store conn).now.schema ≡ schema_of version → MakesReady S.Store conn r.0 r.1) }
     ensures clean { IfOk result (λ r. doubt (state S.Store conn).is_clean ≤ doubt (state S.Store r.0).is_clean) }
     ensures whole { IfErr result (λ e. IsClean (S.Store.view e.1) → (state S.Store conn).now.schema ≡ schema_of version → (db : Trees) → S.Store.recovers e.1 db → IsLeftWhole S.Store conn db) }
     ensures foreign { IfErr result (λ e. e.0 ≡ OpenFault.Foreign → IsClean (S.Store.view e.1) → HoldsNone version (state S.Store conn).committed.trees) }
@@ -237,7 +237,7 @@ pub fn prepared<S: Alter + Drop>(
     alloc: Global,
     mut conn: Connection<S>,
 ) -> Result<(Connection<S>, Option<Ballot>), (OpenFault, S)>
-    ensures tables { IfOk result (λ r. HasCleanDisk (state S.Store r.0) → Prepares S.Store conn r.0 r.1) }
+    ensures tables { IfOk result (λ r. HasCleanDisk (state S.Store r.0) → MakesReady S.Store conn r.0 r.1) }
     ensures ours { OnOk result (IsForeignSchema (state S.Store conn).now.schema → ⊥) }
     ensures clean { IfOk result (λ r. doubt (state S.Store conn).is_clean ≤ doubt (state S.Store r.0).is_clean) }
     ensures whole { IfErr result (λ e. IsClean (S.Store.view e.1) → (db : Trees) → S.Store.recovers e.1 db → IsLeftWhole S.Store conn db) }

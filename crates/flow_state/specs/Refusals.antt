@@ -84,12 +84,12 @@ Refuses first OldRequest = first ≡ Some OldRequest
 Refuses first BadValue = first ≡ Some BadValue
 
 -- the number of a refusal
-abbrev pub number_of : Refusal → ℕ
-number_of NoChannel = 1
-number_of ChannelThere = 2
-number_of NoFlow = 3
-number_of SidsSpent = 4
-number_of Busy = 5
-number_of OldRequest = 6
-number_of BadValue = 7
-number_of OutOfMemory = 8
+abbrev pub refusal_number : Refusal → ℕ
+refusal_number NoChannel = 1
+refusal_number ChannelThere = 2
+refusal_number NoFlow = 3
+refusal_number SidsSpent = 4
+refusal_number Busy = 5
+refusal_number OldRequest = 6
+refusal_number BadValue = 7
+refusal_number OutOfMemory = 8

@@ -1,5 +1,5 @@
 ghost use Rattle.std.specs.Prelude.{◌≡◌};
-ghost use Rattle.flow_state.specs.Refusals.{number_of};
+ghost use Rattle.flow_state.specs.Refusals.{refusal_number};
 
 use std::alloc::{AllocError, AllocFailed};
 use thiserror::Error;
@@ -36,7 +36,7 @@ pub enum Refusal {
 impl Refusal {
     /// The number that stands for the refusal in outputs.
     pub fn number(self) -> u8
-        ensures { result ≡ number_of self }
+        ensures { result ≡ refusal_number self }
     {
         match self {
             Refusal::NoChannel => 1,

@@ -28,7 +28,7 @@ use Rattle.grant_machine.proofs.Maps.{output_is, command_is, find_pushed, found_
 use Rattle.grant_machine.proofs.Leases.{IsNew, is_new, assigned_fields, put_has}
 use Rattle.grant_machine.proofs.Reached.{Kept, Stands, stands_step, AllWell, none_well, well_step}
 use Rattle.grant_machine.proofs.Cuts.{cut_of_grant}
-use Rattle.grant_machine.proofs.Due.{none_granted, Holds, Serves, AreDue, due_from}
+use Rattle.grant_machine.proofs.Due.{none_granted, Holds, ServesDues, AreDue, due_from}
 
 -- ---- grants so far
 
@@ -224,7 +224,7 @@ module _ (lease : LeasedSid) (size interval jitter base : ℕ) where
       (ap (λ (x : Lease). x.sid) (sym is) ∙ fields.2) (ap (λ (x : Lease). x.first) (sym is) ∙ fields.3) (ap (λ (x : Lease). x.last) (sym is) ∙ fields.4)
 
   -- the flow after it
-  first_serves : (rows : Rows) (modem tag : ℕ) → IsFirst rows modem tag → Serves lease size interval jitter base (change_table rows lease.channel (λ t. flow_in_table t modem tag lease.last ugs_kind)) 0
+  first_serves : (rows : Rows) (modem tag : ℕ) → IsFirst rows modem tag → ServesDues lease size interval jitter base (change_table rows lease.channel (λ t. flow_in_table t modem tag lease.last ugs_kind)) 0
   first_serves rows modem tag f =
       let t : Table = f.table in
       let change : Table → Table = λ v. flow_in_table v modem tag lease.last ugs_kind in
@@ -270,11 +270,11 @@ module _ (lease : LeasedSid) (size interval jitter base : ℕ) where
 
   -- a step that adds the flow, and what was granted before it
   step_adds : (rows : Rows) (modem tag m : ℕ) → AllWell rows → Unheard rows lease → (step rows (commands.Flow lease.channel modem tag lease.last ugs_kind)).output ≡ outputs.Assigned m lease.channel lease.sid lease.first lease.last
-      → IsFirst rows modem tag × Serves lease size interval jitter base (step rows (commands.Flow lease.channel modem tag lease.last ugs_kind)).rows 0 × (step_grants rows (commands.Flow lease.channel modem tag lease.last ugs_kind) ≡ [])
+      → IsFirst rows modem tag × ServesDues lease size interval jitter base (step rows (commands.Flow lease.channel modem tag lease.last ugs_kind)).rows 0 × (step_grants rows (commands.Flow lease.channel modem tag lease.last ugs_kind) ≡ [])
   step_adds rows modem tag m w u e = by (refusal_of rows (commands.Flow lease.channel modem tag lease.last ugs_kind)) refl e
     where
       by : (o : Option Refusal) → refusal_of rows (commands.Flow lease.channel modem tag lease.last ugs_kind) ≡ o → (step_on o rows (commands.Flow lease.channel modem tag lease.last ugs_kind)).output ≡ outputs.Assigned m lease.channel lease.sid lease.first lease.last
-          → IsFirst rows modem tag × Serves lease size interval jitter base (step_on o rows (commands.Flow lease.channel modem tag lease.last ugs_kind)).rows 0 × (step_grants_on o rows (commands.Flow lease.channel modem tag lease.last ugs_kind) ≡ [])
+          → IsFirst rows modem tag × ServesDues lease size interval jitter base (step_on o rows (commands.Flow lease.channel modem tag lease.last ugs_kind)).rows 0 × (step_grants_on o rows (commands.Flow lease.channel modem tag lease.last ugs_kind) ≡ [])
       by (Some r) h f = absurd cc
       by None h f = let first = step_first rows modem tag m ugs_kind w u h f in (first, first_serves rows modem tag first, refl)
 

@@ -20,9 +20,9 @@ use Rattle.flow_state.specs.declared.flow.Waiting.{Waiting}
 use Rattle.flow_state.specs.Limits.{last_time, due_index}
 use Rattle.flow_state.specs.Rows.{Rows, Table, FlowRow, is_table, table_of, change_table, is_flow, flow_of, channel_at, last_in, last_of, is_ended, has_ended}
 use Rattle.flow_state.specs.Changes.{with_due, waiting_of, waiting_in_table, with_cut_closed, close_table}
-use Rattle.grant_machine.specs.declared.cut.Filled.{Filled}
+use Rattle.grant_machine.specs.declared.cut.Draft.{Draft}
 use Rattle.grant_machine_parts.specs.declared.placing.Placement.{Placement}
-use Rattle.grant_machine_parts.specs.Cutting.{Filled as FilledMap, fill, fill_refusal, span_of, end_of, in_order, priority_of, still_waiting, is_grant_of, flows_left, requests_left, table_after, flows_served}
+use Rattle.grant_machine_parts.specs.Cutting.{Filled, fill, fill_refusal, span_of, end_of, in_order, priority_of, still_waiting, is_grant_of, flows_left, requests_left, table_after, flows_served}
 use Rattle.grant_machine_parts.specs.Drawing.{begins_at, null_element, pending_element, elements_of, head_of, bytes_of}
 use Rattle.grant_machine.specs.Runs.{IsReached}
 use Rattle.grant_machine_parts.specs.Lent.{IsUnicast}
@@ -266,8 +266,8 @@ ended_same end sid (f ∷ fs) (g ∷ gs) z =
 abbrev after_of : Table → (end ack : ℕ) → (fs : List FlowRow) → (ws : List Waiting) → Table
 after_of t end ack fs ws = close_table (record t { flows = fs; waiting = ws }) end ack
 
-module _ (rows : Rows) (ch : ℕ) (t : Table) (len not_before ack : ℕ) (x : Filled) (reached : IsReached rows) (found : table_of rows ch ≡ Some t) (ok : fill_refusal t.row len not_before ack ≡ None) (by : IsFilledBy t (span_of t.row len not_before) x) where
-  abbrev filled : FilledMap
+module _ (rows : Rows) (ch : ℕ) (t : Table) (len not_before ack : ℕ) (x : Draft) (reached : IsReached rows) (found : table_of rows ch ≡ Some t) (ok : fill_refusal t.row len not_before ack ≡ None) (by : IsFilledBy t (span_of t.row len not_before) x) where
+  abbrev filled : Filled
   filled = fill t len not_before ack
 
   abbrev span : Extent
@@ -392,9 +392,9 @@ waiting_in_order t span ps rs le is lasts =
 abbrev drawn : Channel → List Placement → ℕ → List Waiting → List Element
 drawn c ps len rs = filter_map (begins_at ps) (range_with_len 0 len) ++ null_element len ∷ map (pending_element c len) rs
 
-pub elements_are : (t : Table) (len not_before ack : ℕ) (x : Filled) (c : Channel) → end_of (span_of t.row len not_before) ≤ last_time → t.row.channel ≡ c → IsFilledBy t (span_of t.row len not_before) x → elements_in c x ≡ elements_of t (fill t len not_before ack)
+pub elements_are : (t : Table) (len not_before ack : ℕ) (x : Draft) (c : Channel) → end_of (span_of t.row len not_before) ≤ last_time → t.row.channel ≡ c → IsFilledBy t (span_of t.row len not_before) x → elements_in c x ≡ elements_of t (fill t len not_before ack)
 elements_are t len not_before ack x c le same by =
-    let f : FilledMap = fill t len not_before ack in
+    let f : Filled = fill t len not_before ack in
     ap (λ (d : Channel). elements_in d x) (sym same)
     ∙ ap (λ (s : Extent). drawn t.row.channel x.filling.placements s.len (still_waiting x.filling.placements (requests_in (going_on (end_of s) x.ranked.items)))) by.span_is
     ∙ ap (λ (ps : List Placement). drawn t.row.channel ps len (still_waiting ps (requests_in (going_on (end_of f.span) x.ranked.items)))) (by.placements f.ack)
@@ -403,14 +403,14 @@ elements_are t len not_before ack x c le same by =
 -- ---- a cut that isn't refused
 
 -- the table that a MAP was filled for
-pub record IsMade (rows : Rows) (ch : ℕ) (row : ChannelRow) (len not_before ack : ℕ) (x : Filled) : Type 0 where
+pub record IsMade (rows : Rows) (ch : ℕ) (row : ChannelRow) (len not_before ack : ℕ) (x : Draft) : Type 0 where
   pub table : Table
   pub found : table_of rows ch ≡ Some table
   pub row_is : table.row ≡ row
   pub good : fill_refusal table.row len not_before ack ≡ None
   pub by : IsFilledBy table (span_of table.row len not_before) x
 
-pub is_made : (rows : Rows) (ch : ℕ) (row : ChannelRow) (len not_before ack start : ℕ) (x : Filled) → channel_at rows ch ≡ Some row → fill_refusal row len not_before ack ≡ None → start ≡ max row.next_start not_before
+pub is_made : (rows : Rows) (ch : ℕ) (row : ChannelRow) (len not_before ack start : ℕ) (x : Draft) → channel_at rows ch ≡ Some row → fill_refusal row len not_before ack ≡ None → start ≡ max row.next_start not_before
     → ((t : Table) → table_of rows ch ≡ Some t → IsFilledBy t (record { start = start; len = len }) x) → IsMade rows ch row len not_before ack x
 is_made rows ch row len not_before ack start x there ok begun by =
     let at = is_there rows ch row there in
@@ -425,7 +425,7 @@ is_made rows ch row len not_before ack start x there ok begun by =
     }
 
 -- the same of the table itself
-pub made_of : (rows : Rows) (ch : ℕ) (row : ChannelRow) (len not_before ack start : ℕ) (x : Filled) (t : Table) → channel_at rows ch ≡ Some row → fill_refusal row len not_before ack ≡ None → start ≡ max row.next_start not_before
+pub made_of : (rows : Rows) (ch : ℕ) (row : ChannelRow) (len not_before ack start : ℕ) (x : Draft) (t : Table) → channel_at rows ch ≡ Some row → fill_refusal row len not_before ack ≡ None → start ≡ max row.next_start not_before
     → table_of rows ch ≡ Some t → IsFilledBy t (record { start = start; len = len }) x → IsMade rows ch row len not_before ack x
 made_of rows ch row len not_before ack start x t there ok begun found by =
     is_made rows ch row len not_before ack start x there ok begun
@@ -436,8 +436,8 @@ pub lent_some : {X : Type 0} (o : Option (Bor X)) (p : Option X) (x : X) → opt
 lent_some (Some b) p x e f = refl
 lent_some None p x e f = absurd (let two : None ≡ Some x = e ∙ f in cc)
 
-module _ (rows : Rows) (ch : ℕ) (row : ChannelRow) (len not_before ack : ℕ) (x : Filled) (reached : IsReached rows) (m : IsMade rows ch row len not_before ack x) where
-  abbrev made : FilledMap
+module _ (rows : Rows) (ch : ℕ) (row : ChannelRow) (len not_before ack : ℕ) (x : Draft) (reached : IsReached rows) (m : IsMade rows ch row len not_before ack x) where
+  abbrev made : Filled
   made = fill m.table len not_before ack
 
   well_table : IsWell m.table

@@ -3,7 +3,7 @@ use Rattle.std.specs.Prelude.{ℕ, IsTrue, Option, Some, None}
 use Rattle.flow_state.specs.declared.refusal.Refusal.{Refusal}
 use Rattle.flow_state.specs.declared.flow.Lease.{Lease}
 use Rattle.flow_state.specs.Rows.{Rows, Table, table_of, change_table}
-use Rattle.flow_state.specs.Refusals.{on_table, set_channel_refusal, add_flow_refusal, drop_flow_refusal, request_refusal, number_of}
+use Rattle.flow_state.specs.Refusals.{on_table, set_channel_refusal, add_flow_refusal, drop_flow_refusal, request_refusal, refusal_number}
 use Rattle.flow_state.specs.Changes.{is_known, with_channel, with_flow, lease_given, without_flow, with_request}
 use Rattle.grant_machine.specs.declared.command.Command.{Command}
 use Rattle.grant_machine.specs.declared.command.Command.TheVariants as commands
@@ -52,7 +52,7 @@ accepted rows (commands.Cut ch len not_before ack) = cut_on (table_of rows ch) r
 
 -- a refusal is told by its number and changes nothing
 abbrev pub step_on : Option Refusal → Rows → Command → Step
-step_on (Some refusal) rows command = record { output = outputs.Refused (number_of refusal); rows = rows }
+step_on (Some refusal) rows command = record { output = outputs.Refused (refusal_number refusal); rows = rows }
 step_on None rows command = accepted rows command
 
 abbrev pub step : Rows → Command → Step

@@ -30,7 +30,7 @@ use std::alloc::{AllocError, Global};
 /// A channel's next MAP, filled; its flows that were due before its end, with their next due times; its requests by
 /// priority.
 #[derive(Drop)]
-pub struct Filled {
+pub struct Draft {
     filling: Filling,
     flows: Vec<Flow>,
     ranked: Vec<Ranked>,
@@ -40,7 +40,7 @@ pub struct Filled {
 /// due or waits than before.
 #[derive(Drop)]
 pub struct Desk {
-    filled: Filled,
+    filled: Draft,
     by_arrival: Vec<Ranked>,
     elements: Vec<Element>,
 }
@@ -49,7 +49,7 @@ impl Desk {
     /// Nothing was cut. It takes no memory.
     pub fn new(alloc: Global) -> Desk {
         Desk {
-            filled: Filled {
+            filled: Draft {
                 filling: Filling::new(alloc),
                 flows: Vec::new(alloc),
                 ranked: Vec::new(alloc),
@@ -97,7 +97,7 @@ fn place_all(
 /// Fills a channel's next MAP.
 fn fill(
     table: &ChannelTable,
-    filled: &mut Filled,
+    filled: &mut Draft,
     by_arrival: &mut Vec<Ranked>,
     start: u64,
     len: u16,
@@ -123,7 +123,7 @@ fn fill(
 
 /// Sets the due times, takes the granted requests out, and closes the MAP: flows whose leases end before its end are gone, with
 /// their requests. It takes no memory.
-fn close(flows: &mut Flows, ch: u8, filled: &Filled, ack: u64)
+fn close(flows: &mut Flows, ch: u8, filled: &Draft, ack: u64)
     requires lent { AllByRecursion IsLent filled.now.flows.items }
     requires kinds { AllByRecursion (IsOfKind flows.old ch) filled.now.flows.items }
     ensures { flows.new ≡ with_cut_closed (requests_taken (due_times_set flows.old ch filled.now.flows.items) ch filled.now.filling.placements) ch (end_of filled.now.filling.span) ack }
@@ -137,7 +137,7 @@ fn close(flows: &mut Flows, ch: u8, filled: &Filled, ack: u64)
 fn draw(
     alloc: Global,
     channel: &Channel,
-    filled: &Filled,
+    filled: &Draft,
     elements: &mut Vec<Element>,
     start: Slot,
     ack: Slot,

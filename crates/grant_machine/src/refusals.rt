@@ -2,7 +2,7 @@
 
 ghost use Rattle.std.specs.Prelude.{◌≡◌, ◌≢◌, IsTrue, IsOk, IsSome, IfOk, OnOk, OnErr};
 ghost use Rattle.flow_state.specs.declared.refusal.Refusal.TheVariants.{OutOfMemory};
-ghost use Rattle.flow_state.specs.Refusals.{number_of};
+ghost use Rattle.flow_state.specs.Refusals.{refusal_number};
 ghost use Rattle.flow_state.specs.Changes.{is_known};
 ghost use Rattle.grant_machine.specs.declared.command.Command.TheVariants as commands;
 ghost use Rattle.grant_machine.specs.declared.output.Output.TheVariants as outputs;
@@ -15,7 +15,7 @@ use std::alloc::AllocError;
 
 /// A refusal as an output. Want of memory has none.
 fn refused(refusal: Refusal) -> Result<Output, AllocError>
-    ensures told { IfOk result (λ output. output ≡ outputs.Refused (number_of refusal)) }
+    ensures told { IfOk result (λ output. output ≡ outputs.Refused (refusal_number refusal)) }
     ensures some { OnOk result (refusal ≢ OutOfMemory) }
     ensures none { OnErr result (refusal ≡ OutOfMemory) }
 {

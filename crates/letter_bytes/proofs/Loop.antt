@@ -5,7 +5,7 @@ use Rattle.std.proofs.lemmas.List.{append-nil}
 use Rattle.ballots.specs.declared.letters.Cast.{Cast}
 use Rattle.letter_bytes.specs.declared.fault.LetterFault.{LetterFault}
 use Rattle.letter_bytes.specs.declared.fault.LetterFault.TheVariants.{Short, NoNote, NoNode, NoBallot, Trailing, OutOfMemory}
-use Rattle.letter_bytes.specs.Reading.{◌>>=◌, Read, Fails, HasVote, vote_at, votes_in}
+use Rattle.letter_bytes.specs.Reading.{◌>>=◌, Read, FailsReading, HasVote, vote_at, votes_in}
 
 abbrev Rows : Type 0
 Rows = List (ℕ × Cast)
@@ -35,7 +35,7 @@ fails_so f front count i bytes total lt h so_far =
     sym so_far ∙ one
 
 pub ends : (e : LetterFault) (front : Rows) (count i : ℕ) (bytes start : List ℕ) (total : Read (Rows × List ℕ)) → i < count → (IsOk (vote_at bytes) → IsOk (vote_at start))
-    → Fails (IsOk (vote_at bytes)) e (vote_at bytes) → with_front front (votes_in (count - i) bytes) ≡ total → Fails (HasVote count start) e total
+    → FailsReading (IsOk (vote_at bytes)) e (vote_at bytes) → with_front front (votes_in (count - i) bytes) ≡ total → FailsReading (HasVote count start) e total
 ends OutOfMemory front count i bytes start total lt first h so_far = (omega arith, first h)
 ends Short front count i bytes start total lt first h so_far = fails_so Short front count i bytes total lt h so_far
 ends NoNote front count i bytes start total lt first h so_far = fails_so NoNote front count i bytes total lt h so_far

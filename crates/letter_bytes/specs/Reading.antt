@@ -20,19 +20,19 @@ abbrev pub ◌>>=◌ : {A B : Type 0} → Read A → (A → Read B) → Read B
 (Err e) >>= f = Err e
 
 -- a fault is the first one, and want of memory comes only so
-abbrev pub Fails : {Y : Type 0} → (lack : Type 0) → LetterFault → Read Y → Type 0
-Fails lack OutOfMemory read = lack
-Fails lack fault read = read ≡ Err fault
+abbrev pub FailsReading : {Y : Type 0} → (lack : Type 0) → LetterFault → Read Y → Type 0
+FailsReading lack OutOfMemory read = lack
+FailsReading lack fault read = read ≡ Err fault
 
 -- an answer is what reading gives
 abbrev pub Gives : {X : Type 0} → (lack : Type 0) → Read X → Read X → Type 0
 Gives lack (Ok x) read = read ≡ Ok x
-Gives lack (Err e) read = Fails lack e read
+Gives lack (Err e) read = FailsReading lack e read
 
 -- the same of a field that is taken off the front of bytes, with the bytes behind it
 abbrev pub Takes : {X : Type 0} → (lack : Type 0) → Read X → List ℕ → Read (X × List ℕ) → Type 0
 Takes lack (Ok x) behind read = read ≡ Ok (x, behind)
-Takes lack (Err e) behind read = Fails lack e read
+Takes lack (Err e) behind read = FailsReading lack e read
 
 -- A field is read as its value and the bytes behind it. A byte
 abbrev pub byte_at : List ℕ → Read (ℕ × List ℕ)

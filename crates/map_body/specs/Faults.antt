@@ -3,11 +3,11 @@ use Rattle.std.specs.Prelude.{ℕ}
 use Rattle.map_body.specs.declared.fault.MapFault.{MapFault}
 use Rattle.map_body.specs.declared.fault.MapFault.TheVariants.{Short, Trailing, Expansion, OutOfOrder, NoNull, OutOfMemory, TooMany}
 
-abbrev pub number_of : MapFault → ℕ
-number_of Short = 1
-number_of Trailing = 2
-number_of (Expansion i) = 3
-number_of (OutOfOrder i) = 4
-number_of NoNull = 5
-number_of OutOfMemory = 6
-number_of TooMany = 7
+abbrev pub map_fault_number : MapFault → ℕ
+map_fault_number Short = 1
+map_fault_number Trailing = 2
+map_fault_number (Expansion i) = 3
+map_fault_number (OutOfOrder i) = 4
+map_fault_number NoNull = 5
+map_fault_number OutOfMemory = 6
+map_fault_number TooMany = 7

@@ -7,7 +7,7 @@ use Rattle.map_body.specs.Iucs as iucs
 use Rattle.map_body.specs.Sids.{everybody}
 use Rattle.modem.proofs.Clocks.{replaced, channel_of-with_channel, clock_of-row, clock_of-placed}
 use Rattle.modem.specs.declared.known.Channel.{Channel}
-use Rattle.modem.specs.declared.known.Lease.{Lease}
+use Rattle.modem.specs.declared.known.OwnLease.{OwnLease}
 use Rattle.modem.specs.declared.known.Progress.{Progress}
 use Rattle.modem.specs.declared.known.Progress.TheVariants.{Unsent, Sent}
 use Rattle.modem.specs.declared.known.Want.{Want}
@@ -16,7 +16,7 @@ use Rattle.modem.specs.declared.types.Sending.TheVariants.{Unicast}
 use Rattle.modem.specs.State.{State, Kept, HasAt, channel_of, clock_of, with_channel}
 use Rattle.modem.specs.Wants.{unsent_of, lasting}
 use Rattle.modem.specs.Hears.{KeepsHeld}
-use Rattle.modem.specs.Ticks.{Ticks, Counts, Polls, TakesPart, Contends, Shares, SendsBy, number_of}
+use Rattle.modem.specs.Ticks.{Ticks, Counts, Polls, TakesPart, Contends, Shares, SendsBy, backoff_number}
 use Rattle.modem.specs.NextEvent.{IsQuiet, AreQuiet, ticked, Runs}
 
 -- a row that is put in the place of one that was put there
@@ -39,7 +39,7 @@ module _ (c : Channel) (clock : ℕ) where
   abbrev at_clock : Channel
   at_clock = record { id = c.id; ucd = c.ucd; clock = clock; backoff = c.backoff }
 
-  number_same : (w : Want) (random : ℕ) (p : Progress) → number_of at_clock w random p ≡ number_of c w random p
+  number_same : (w : Want) (random : ℕ) (p : Progress) → backoff_number at_clock w random p ≡ backoff_number c w random p
   number_same w random (Unsent None) = refl
   number_same w random (Unsent (Some n)) = refl
   number_same w random (Sent t) = refl
@@ -48,7 +48,7 @@ module _ (c : Channel) (clock : ℕ) where
   contends_same wants slot random s new None = refl
   contends_same wants slot random s new (Some w) = ap (λ n. TakesPart wants slot s new w n) (number_same w random w.progress)
 
-  shares_same : (leases : List Lease) (wants : List Want) (slot random : ℕ) (b : Bool) (s : Option Sending) (new : List Want) → Shares leases wants at_clock slot random b s new ↔ Shares leases wants c slot random b s new
+  shares_same : (leases : List OwnLease) (wants : List Want) (slot random : ℕ) (b : Bool) (s : Option Sending) (new : List Want) → Shares leases wants at_clock slot random b s new ↔ Shares leases wants c slot random b s new
   shares_same leases wants slot random false s new = (λ h. h, λ h. h)
   shares_same leases wants slot random true s new = (
     λ (least, is, h). (least, is, coe₀ (contends_same wants slot random s new least) h),
@@ -58,7 +58,7 @@ module _ (c : Channel) (clock : ℕ) where
       coe₀ : {A B : Type 0} → A ≡ B → A → B
       coe₀ e a = subst (λ (X : Type 0). X) e a
 
-  sends_same : (leases : List Lease) (wants : List Want) (slot random : ℕ) (b : Bool) (s : Option Sending) (new : List Want) (counted : Option (ℕ × ℕ)) → SendsBy leases wants at_clock slot random b s new counted ↔ SendsBy leases wants c slot random b s new counted
+  sends_same : (leases : List OwnLease) (wants : List Want) (slot random : ℕ) (b : Bool) (s : Option Sending) (new : List Want) (counted : Option (ℕ × ℕ)) → SendsBy leases wants at_clock slot random b s new counted ↔ SendsBy leases wants c slot random b s new counted
   sends_same leases wants slot random b s new None = shares_same leases wants slot random b s new
   sends_same leases wants slot random b s new (Some p) = by_grant (iucs.lets_transmit p.1)
     where

@@ -9,7 +9,7 @@ use Rattle.std.proofs.lemmas.Bool.{cases_lt, ltb-false, leb-true, leb-false, ltb
 use Rattle.std.proofs.lemmas.Bool.Decides.{nat_tests}
 use Rattle.modem.proofs.Order.{HasAt-found, HasAt-one, HasAt-split}
 use Rattle.modem.specs.declared.kept.KeptInterval.{KeptInterval}
-use Rattle.modem.specs.declared.known.Lease.{Lease}
+use Rattle.modem.specs.declared.known.OwnLease.{OwnLease}
 use Rattle.modem.specs.State.{HasAt, is_of, covers}
 use Rattle.modem.specs.KeptIntervals.{kept_interval, place, place_of}
 use Rattle.modem.specs.Idle.{HasSame, CoverSame, IsSameIn}
@@ -73,7 +73,7 @@ bool_same true b h k = sym (h refl)
 bool_same false true h k = k refl
 bool_same false false h k = refl
 
-covers_same : (l : Lease) (ch sid m x : ℕ) → m ≤ x → IsSameIn ch m x l → covers ch sid x l ≡ covers ch sid m l
+covers_same : (l : OwnLease) (ch sid m x : ℕ) → m ≤ x → IsSameIn ch m x l → covers ch sid x l ≡ covers ch sid m l
 covers_same l ch sid m x le same = bool_same _ _ back on
   where
     back : covers ch sid x l ≡ true → covers ch sid m l ≡ true
@@ -106,7 +106,7 @@ covers_same l ch sid m x le same = bool_same _ _ back on
         let b : nat_le x l.last ≡ true = grind (arith, nat_tests) in
         and_from _ _ parts.0 (and_from _ _ a b)
 
-lasts_same : (l : Lease) (ch sid m x : ℕ) → m ≤ x → IsSameIn ch m x l → (is_of ch sid l && nat_le (x + 1) l.last) ≡ (is_of ch sid l && nat_le (m + 1) l.last)
+lasts_same : (l : OwnLease) (ch sid m x : ℕ) → m ≤ x → IsSameIn ch m x l → (is_of ch sid l && nat_le (x + 1) l.last) ≡ (is_of ch sid l && nat_le (m + 1) l.last)
 lasts_same l ch sid m x le same = bool_same _ _ back on
   where
     back : (is_of ch sid l && nat_le (x + 1) l.last) ≡ true → (is_of ch sid l && nat_le (m + 1) l.last) ≡ true
@@ -129,12 +129,12 @@ lasts_same l ch sid m x le same = bool_same _ _ back on
         and_from _ _ parts.0 a
 
 -- tests that agree on each element find the same
-any_same : (p q : Lease → Bool) (ls : List Lease) → All (λ l. p l ≡ q l) ls → list_any p ls ≡ list_any q ls
+any_same : (p q : OwnLease → Bool) (ls : List OwnLease) → All (λ l. p l ≡ q l) ls → list_any p ls ≡ list_any q ls
 any_same p q [] same = refl
 any_same p q (l ∷ ls) same =
     ap (λ b. b || list_any p ls) (same 0 l (omega arith)) ∙ ap (λ b. q l || b) (any_same p q ls (λ i d lt. same (suc i) d (omega (arith, lt))))
 
-pub CoverSame-made : (ls : List Lease) (ch m x : ℕ) → m ≤ x → All (IsSameIn ch m x) ls → CoverSame ls ch m x
+pub CoverSame-made : (ls : List OwnLease) (ch m x : ℕ) → m ≤ x → All (IsSameIn ch m x) ls → CoverSame ls ch m x
 CoverSame-made ls ch m x le same = record {
   own = λ sid. any_same (covers ch sid x) (covers ch sid m) ls (λ i d lt. covers_same (get_or ls i d) ch sid m x le (same i d lt));
   lasts = λ sid. any_same (λ l. is_of ch sid l && nat_le (x + 1) l.last) (λ l. is_of ch sid l && nat_le (m + 1) l.last) ls (λ i d lt. lasts_same (get_or ls i d) ch sid m x le (same i d lt));

@@ -9,7 +9,7 @@ use Rattle.grant_machine.specs.declared.output.Output.{Output}
 use Rattle.grant_machine.specs.declared.output.Output.TheVariants.{Nothing, ChannelSet, Assigned, Map as MapOutput, Refused}
 use Rattle.grant_machine.specs.Owner.{Owns, IsLeased}
 use Rattle.modem.specs.Held.{Hearing, Held, HeldBy, Gives, WasLeased}
-use Rattle.modem.specs.Owner.{IsSchedule, IsMapOf, IsTimely, HeardFrom}
+use Rattle.modem.specs.Owner.{AreSoundOutputs, IsMapOf, IsTimely, HeardFrom}
 
 -- what was heard to be leased was leased
 leased_of : (outputs : List Output) (id : ℕ) (hearings : List Hearing) (ch sid m : ℕ) → HeardFrom outputs hearings → WasLeased id hearings ch sid m → IsLeased outputs id ch sid m
@@ -18,7 +18,7 @@ leased_of outputs id (h ∷ earlier) ch sid m heard was =
     elim was [ inl l ↦ record { first = l.first; last = l.last; assigned = subst (λ (o : Output). Contains outputs o) l.assigned heard.0; begun = l.begun; not_ended = l.not_ended } | inr before ↦ leased_of outputs id earlier ch sid m heard.2 before ]
 
 -- a Map that gives a cell near its start owns it
-owner_of : (outputs : List Output) (id : ℕ) (o : Output) (near ch m sid iuc : ℕ) → IsSchedule outputs → Contains outputs o → IsTimely o near → Gives o near ch m sid iuc → IsLeased outputs id ch sid m → Owns outputs ch m id
+owner_of : (outputs : List Output) (id : ℕ) (o : Output) (near ch m sid iuc : ℕ) → AreSoundOutputs outputs → Contains outputs o → IsTimely o near → Gives o near ch m sid iuc → IsLeased outputs id ch sid m → Owns outputs ch m id
 owner_of outputs id Nothing near ch m sid iuc schedule is_output timely gives assigned = absurd gives
 owner_of outputs id (Refused n) near ch m sid iuc schedule is_output timely gives assigned = absurd gives
 owner_of outputs id (ChannelSet c u) near ch m sid iuc schedule is_output timely gives assigned = absurd gives
@@ -45,10 +45,10 @@ owner_of outputs id (MapOutput c start len bytes) near ch m sid iuc schedule is_
     }
 
 -- what a modem that heard outputs of a schedule holds, it owns
-pub held_is_owned : (outputs : List Output) (id : ℕ) (hearings : List Hearing) (ch m sid iuc : ℕ) → IsSchedule outputs → HeardFrom outputs hearings → HeldBy id hearings ch m sid iuc → Owns outputs ch m id
+pub held_is_owned : (outputs : List Output) (id : ℕ) (hearings : List Hearing) (ch m sid iuc : ℕ) → AreSoundOutputs outputs → HeardFrom outputs hearings → HeldBy id hearings ch m sid iuc → Owns outputs ch m id
 held_is_owned outputs id [] ch m sid iuc schedule heard held = absurd held
 held_is_owned outputs id (h ∷ earlier) ch m sid iuc schedule heard held =
     elim held [ inl now ↦ owner_of outputs id h.output h.near ch m sid iuc schedule heard.0 heard.1 now.1 (leased_of outputs id earlier ch sid m heard.2 now.2) | inr before ↦ held_is_owned outputs id earlier ch m sid iuc schedule heard.2 before ]
 
-pub all_held_is_owned : (outputs : List Output) (hearings : List Hearing) (id ch m sid : ℕ) → IsSchedule outputs → HeardFrom outputs hearings → Held id hearings ch m sid → Owns outputs ch m id
+pub all_held_is_owned : (outputs : List Output) (hearings : List Hearing) (id ch m sid : ℕ) → AreSoundOutputs outputs → HeardFrom outputs hearings → Held id hearings ch m sid → Owns outputs ch m id
 all_held_is_owned outputs hearings id ch m sid schedule heard held = held_is_owned outputs id hearings ch m sid held.0 schedule heard held.1

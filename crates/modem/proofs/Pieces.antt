@@ -7,12 +7,12 @@ use Rattle.std.proofs.lemmas.Bool.{and_parts, or_cases, or_left, or_right, and_f
 use Rattle.modem.proofs.Parts.{no_true}
 use Rattle.modem.proofs.Order.{HasAt-joined}
 use Rattle.modem.specs.declared.kept.KeptInterval.{KeptInterval}
-use Rattle.modem.specs.declared.known.Lease.{Lease}
+use Rattle.modem.specs.declared.known.OwnLease.{OwnLease}
 use Rattle.modem.specs.State.{IsAt, HasAt, is_of, covers, is_own_at}
 use Rattle.modem.specs.KeptIntervals.{kept_interval, IsShort, piece, covered}
 
 -- the part of an interval that a lease covers
-abbrev cut_to : KeptInterval → Lease → KeptInterval
+abbrev cut_to : KeptInterval → OwnLease → KeptInterval
 cut_to k l = record k { start = max k.start l.first; stop = min k.stop (l.last + 1) }
 
 at_most : (a b : ℕ) → nat_le a b ≡ true → a ≤ b
@@ -22,7 +22,7 @@ is_at_most : (a b : ℕ) → a ≤ b → nat_le a b ≡ true
 is_at_most a b h = grind (arith, nat_tests)
 
 -- a lease of the interval's SID: its part has what the interval has in the lease
-cut_in : (k : KeptInterval) (l : Lease) (ch m sid iuc : ℕ) → is_of k.channel k.sid l ≡ true → IsAt (kept_interval (cut_to k l)) ch m sid iuc → (covers ch sid m l ≡ true) × IsAt (kept_interval k) ch m sid iuc
+cut_in : (k : KeptInterval) (l : OwnLease) (ch m sid iuc : ℕ) → is_of k.channel k.sid l ≡ true → IsAt (kept_interval (cut_to k l)) ch m sid iuc → (covers ch sid m l ≡ true) × IsAt (kept_interval k) ch m sid iuc
 cut_in k l ch m sid iuc of x =
     let parts : ((l.channel == k.channel) ≡ true) × ((l.sid == k.sid) ≡ true) = and_parts _ _ of in
     let from : max k.start l.first ≤ m = x.from in
@@ -35,7 +35,7 @@ cut_in k l ch m sid iuc of x =
       record { same_channel = x.same_channel; same_sid = x.same_sid; same_iuc = x.same_iuc; from = omega arith; to = omega arith },
     )
 
-cut_out : (k : KeptInterval) (l : Lease) (ch m sid iuc : ℕ) → covers ch sid m l ≡ true → IsAt (kept_interval k) ch m sid iuc → IsAt (kept_interval (cut_to k l)) ch m sid iuc
+cut_out : (k : KeptInterval) (l : OwnLease) (ch m sid iuc : ℕ) → covers ch sid m l ≡ true → IsAt (kept_interval k) ch m sid iuc → IsAt (kept_interval (cut_to k l)) ch m sid iuc
 cut_out k l ch m sid iuc c x =
     let parts : (is_of ch sid l ≡ true) × ((nat_le l.first m && nat_le m l.last) ≡ true) = and_parts _ _ c in
     let range : (nat_le l.first m ≡ true) × (nat_le m l.last ≡ true) = and_parts _ _ parts.1 in
@@ -46,14 +46,14 @@ cut_out k l ch m sid iuc c x =
     record { same_channel = x.same_channel; same_sid = x.same_sid; same_iuc = x.same_iuc; from = omega arith; to = omega arith }
 
 -- a lease of another SID covers nothing of the interval
-not_of : (k : KeptInterval) (l : Lease) (ch m sid iuc : ℕ) → is_of k.channel k.sid l ≡ false → covers ch sid m l ≡ true → IsAt (kept_interval k) ch m sid iuc → ⊥
+not_of : (k : KeptInterval) (l : OwnLease) (ch m sid iuc : ℕ) → is_of k.channel k.sid l ≡ false → covers ch sid m l ≡ true → IsAt (kept_interval k) ch m sid iuc → ⊥
 not_of k l ch m sid iuc off c x =
     let parts : (is_of ch sid l ≡ true) × ((nat_le l.first m && nat_le m l.last) ≡ true) = and_parts _ _ c in
     let of : ((l.channel == ch) ≡ true) × ((l.sid == sid) ≡ true) = and_parts _ _ parts.0 in
     no_true (sym off ∙ and_from _ _ (eq-eqb _ _ (eqb-true _ _ of.0 ∙ sym x.same_channel)) (eq-eqb _ _ (eqb-true _ _ of.1 ∙ sym x.same_sid)))
 
 -- the parts of one interval
-HasAt-pieces : (leases : List Lease) (k : KeptInterval) (ch m sid iuc : ℕ) → HasAt (map kept_interval (filter_map (piece k) leases)) ch m sid iuc ↔ ((is_own_at leases ch sid m ≡ true) × IsAt (kept_interval k) ch m sid iuc)
+HasAt-pieces : (leases : List OwnLease) (k : KeptInterval) (ch m sid iuc : ℕ) → HasAt (map kept_interval (filter_map (piece k) leases)) ch m sid iuc ↔ ((is_own_at leases ch sid m ≡ true) × IsAt (kept_interval k) ch m sid iuc)
 HasAt-pieces [] k ch m sid iuc = (λ h. absurd h, λ h. no_true h.0)
 HasAt-pieces (l ∷ ls) k ch m sid iuc = go (HasAt-pieces ls k ch m sid iuc) (is_of k.channel k.sid l) refl
   where
@@ -68,7 +68,7 @@ HasAt-pieces (l ∷ ls) k ch m sid iuc = go (HasAt-pieces ls k ch m sid iuc) (is
     )
 
 -- the parts of all of them
-pub HasAt-covered : (leases : List Lease) (ks : List KeptInterval) (ch m sid iuc : ℕ) → HasAt (map kept_interval (covered leases ks)) ch m sid iuc ↔ ((is_own_at leases ch sid m ≡ true) × HasAt (map kept_interval ks) ch m sid iuc)
+pub HasAt-covered : (leases : List OwnLease) (ks : List KeptInterval) (ch m sid iuc : ℕ) → HasAt (map kept_interval (covered leases ks)) ch m sid iuc ↔ ((is_own_at leases ch sid m ≡ true) × HasAt (map kept_interval ks) ch m sid iuc)
 HasAt-covered leases [] ch m sid iuc = (λ h. absurd h, λ h. absurd h.1)
 HasAt-covered leases (k ∷ ks) ch m sid iuc =
     let this = HasAt-pieces leases k ch m sid iuc in
@@ -78,10 +78,10 @@ HasAt-covered leases (k ∷ ks) ch m sid iuc =
       λ h. elim h.1 [ inl x ↦ joined.1 (inl (this.1 (h.0, x))) | inr y ↦ joined.1 (inr (rest.1 (h.0, y))) ],
     )
 
-short_cut : (k : KeptInterval) (l : Lease) → IsShort k → IsShort (cut_to k l)
+short_cut : (k : KeptInterval) (l : OwnLease) → IsShort k → IsShort (cut_to k l)
 short_cut k l h = let short : k.stop < k.start + 2 ^ 14 = h in omega arith
 
-All-pieces : (leases : List Lease) (k : KeptInterval) → IsShort k → All IsShort (filter_map (piece k) leases)
+All-pieces : (leases : List OwnLease) (k : KeptInterval) → IsShort k → All IsShort (filter_map (piece k) leases)
 All-pieces [] k short = All-nil IsShort
 All-pieces (l ∷ ls) k short = go (All-pieces ls k short) (is_of k.channel k.sid l)
   where
@@ -90,6 +90,6 @@ All-pieces (l ∷ ls) k short = go (All-pieces ls k short) (is_of k.channel k.si
     go rest false = rest
 
 -- parts of short intervals are short
-pub All-covered : (leases : List Lease) (ks : List KeptInterval) → All IsShort ks → All IsShort (covered leases ks)
+pub All-covered : (leases : List OwnLease) (ks : List KeptInterval) → All IsShort ks → All IsShort (covered leases ks)
 All-covered leases [] all = All-nil IsShort
 All-covered leases (k ∷ ks) all = All-append IsShort (filter_map (piece k) leases) (covered leases ks) (All-pieces leases k (all 0 k (omega arith))) (All-covered leases ks (λ i d lt. all (suc i) d (omega (arith, lt))))

@@ -7,7 +7,7 @@ use Rattle.map_body.specs.Iucs as iucs
 use Rattle.map_body.specs.Sids.{everybody}
 use Rattle.modem.proofs.Parts.{no_true}
 use Rattle.modem.specs.declared.known.Channel.{Channel}
-use Rattle.modem.specs.declared.known.Lease.{Lease}
+use Rattle.modem.specs.declared.known.OwnLease.{OwnLease}
 use Rattle.modem.specs.declared.known.Want.{Want}
 use Rattle.modem.specs.declared.types.Sending.{Sending}
 use Rattle.modem.specs.declared.types.Sending.TheVariants.{Unicast, Polled}
@@ -114,7 +114,7 @@ polled v c m sid iuc w counts no_grant lets found random sending new ticks =
     go is_open wants false e h = at_poll is_open wants (iucs.lets_request iuc) lets h
 
 -- where no grant or poll counts
-to_shares : (leases : List Lease) (wants : List Want) (c : Channel) (m random : ℕ) (is_open : Bool) (sending : Option Sending) (new : List Want) (counted : Option (ℕ × ℕ)) → IsShared counted → SendsBy leases wants c m random is_open sending new counted → Shares leases wants c m random is_open sending new
+to_shares : (leases : List OwnLease) (wants : List Want) (c : Channel) (m random : ℕ) (is_open : Bool) (sending : Option Sending) (new : List Want) (counted : Option (ℕ × ℕ)) → IsShared counted → SendsBy leases wants c m random is_open sending new counted → Shares leases wants c m random is_open sending new
 to_shares leases wants c m random is_open sending new None shared h = h
 to_shares leases wants c m random is_open sending new (Some p) shared h = by_grant (iucs.lets_transmit p.1) shared.0 h
   where

@@ -8,7 +8,7 @@ use Rattle.std.proofs.lemmas.Bool.Decides.{nat_tests}
 use Rattle.modem.proofs.Parts.{no_true}
 use Rattle.modem.proofs.Clocks.{clock_of-placed, found_id}
 use Rattle.modem.specs.declared.known.Channel.{Channel}
-use Rattle.modem.specs.declared.known.Lease.{Lease}
+use Rattle.modem.specs.declared.known.OwnLease.{OwnLease}
 use Rattle.modem.specs.State.{State, is_of, covers, is_own_at, is_own_from, is_lease, has_lease, with_lease, is_recent, recent, channel_of, clock_of, with_channel}
 use Rattle.map_body.specs.declared.element.Element.{Element}
 use Rattle.map_body.specs.Rules.{FitsElement}
@@ -19,7 +19,7 @@ use Rattle.modem.specs.Intervals.{is_acknowledged, is_granted, is_pending, lost}
 use Rattle.modem.specs.OldLeases.{CoverAlike, ServeAlike}
 
 -- a lease that goes on to a minislot 2^14 of them before the clock, or later, is recent
-recent_yet : (l : Lease) (ch clock at_ch at_clock m : ℕ) → (at_ch ≡ ch → clock ≤ at_clock) → (l.channel == at_ch) ≡ true → nat_le m l.last ≡ true → at_clock < m + 16384 → is_recent ch clock l ≡ true
+recent_yet : (l : OwnLease) (ch clock at_ch at_clock m : ℕ) → (at_ch ≡ ch → clock ≤ at_clock) → (l.channel == at_ch) ≡ true → nat_le m l.last ≡ true → at_clock < m + 16384 → is_recent ch clock l ≡ true
 recent_yet l ch clock at_ch at_clock m rises here goes_on late = by (l.channel == ch) refl
   where
     last : m ≤ l.last
@@ -35,7 +35,7 @@ recent_yet l ch clock at_ch at_clock m rises here goes_on late = by (l.channel =
         tells
 
 -- the leases without the old ones of a channel
-pub recent_alike : (leases : List Lease) (ch clock at_ch at_clock : ℕ) → (at_ch ≡ ch → clock ≤ at_clock) → CoverAlike at_ch at_clock (recent ch clock leases) leases
+pub recent_alike : (leases : List OwnLease) (ch clock at_ch at_clock : ℕ) → (at_ch ≡ ch → clock ≤ at_clock) → CoverAlike at_ch at_clock (recent ch clock leases) leases
 recent_alike leases ch clock at_ch at_clock rises = record {
   covers = λ sid m late.
       any-filter_same (covers at_ch sid m) (is_recent ch clock) true
@@ -53,10 +53,10 @@ recent_alike leases ch clock at_ch at_clock rises = record {
 }
 
 -- equal leases
-pub same_alike : (ch clock : ℕ) (some other : List Lease) → some ≡ other → CoverAlike ch clock some other
+pub same_alike : (ch clock : ℕ) (some other : List OwnLease) → some ≡ other → CoverAlike ch clock some other
 same_alike ch clock some other same = record {
-  covers = λ sid m late. ap (λ (ls : List Lease). is_own_at ls ch sid m) same;
-  lasts = λ sid m late. ap (λ (ls : List Lease). is_own_from ls ch sid m) same;
+  covers = λ sid m late. ap (λ (ls : List OwnLease). is_own_at ls ch sid m) same;
+  lasts = λ sid m late. ap (λ (ls : List OwnLease). is_own_from ls ch sid m) same;
 }
 
 -- a state whose channel's clock was moved, and which let go of what was old by then
@@ -73,7 +73,7 @@ gone_alike old new c ch clock backoff found made gone at_ch = rw gone (recent_al
         omega (arith, placed, one)
 
 -- an equal lease passes the same tests of its channel, SID, first and last minislot
-alike_test : (test : ℕ → ℕ → ℕ → ℕ → Bool) (l lease : Lease) → is_lease lease l ≡ true → test lease.channel lease.sid lease.first lease.last ≡ true → test l.channel l.sid l.first l.last ≡ true
+alike_test : (test : ℕ → ℕ → ℕ → ℕ → Bool) (l lease : OwnLease) → is_lease lease l ≡ true → test lease.channel lease.sid lease.first lease.last ≡ true → test l.channel l.sid l.first l.last ≡ true
 alike_test test l lease same c =
     let parts = and_parts _ _ same in
     let name = and_parts _ _ parts.0 in
@@ -84,21 +84,21 @@ alike_test test l lease same c =
     ∙ ap (λ t. test lease.channel lease.sid lease.first t) (eqb-true _ _ range.1)
     ∙ c
 
-pub same_covers : (ch sid m : ℕ) (l lease : Lease) → is_lease lease l ≡ true → covers ch sid m lease ≡ true → covers ch sid m l ≡ true
+pub same_covers : (ch sid m : ℕ) (l lease : OwnLease) → is_lease lease l ≡ true → covers ch sid m lease ≡ true → covers ch sid m l ≡ true
 same_covers ch sid m l lease same c = alike_test (λ a b f t. ((a == ch) && (b == sid)) && (nat_le f m && nat_le m t)) l lease same c
 
-pub same_lasts : (ch sid m : ℕ) (l lease : Lease) → is_lease lease l ≡ true → (is_of ch sid lease && nat_le m lease.last) ≡ true → (is_of ch sid l && nat_le m l.last) ≡ true
+pub same_lasts : (ch sid m : ℕ) (l lease : OwnLease) → is_lease lease l ≡ true → (is_of ch sid lease && nat_le m lease.last) ≡ true → (is_of ch sid l && nat_le m l.last) ≡ true
 same_lasts ch sid m l lease same c = alike_test (λ a b f t. ((a == ch) && (b == sid)) && nat_le m t) l lease same c
 
 -- a test that equal leases pass alike
-module _ (test : Lease → Bool) (alike : (l lease : Lease) → is_lease lease l ≡ true → test lease ≡ true → test l ≡ true) where
-  passed_before : (leases : List Lease) (lease : Lease) → has_lease leases lease ≡ true → test lease ≡ true → list_any test leases ≡ true
+module _ (test : OwnLease → Bool) (alike : (l lease : OwnLease) → is_lease lease l ≡ true → test lease ≡ true → test l ≡ true) where
+  passed_before : (leases : List OwnLease) (lease : OwnLease) → has_lease leases lease ≡ true → test lease ≡ true → list_any test leases ≡ true
   passed_before [] lease there c = no_true there
   passed_before (l ∷ ls) lease there c =
       elim (or_cases _ _ there) [ inl this ↦ or_left _ _ (alike l lease this c) | inr more ↦ or_right _ _ (passed_before ls lease more c) ]
 
   -- the leases with one more
-  pub any_with : (leases : List Lease) (lease : Lease) → (list_any test (with_lease leases lease) ≡ true) ↔ ((test lease ≡ true) ⊎ (list_any test leases ≡ true))
+  pub any_with : (leases : List OwnLease) (lease : OwnLease) → (list_any test (with_lease leases lease) ≡ true) ↔ ((test lease ≡ true) ⊎ (list_any test leases ≡ true))
   any_with leases lease = go (has_lease leases lease) refl
     where
       go : (b : Bool) → has_lease leases lease ≡ b → (list_any test (if b then leases else leases ++ lease ∷ []) ≡ true) ↔ ((test lease ≡ true) ⊎ (list_any test leases ≡ true))
@@ -127,7 +127,7 @@ short_map (e ∷ es) len fits null = by (is_null e) null (λ is. short_map es le
     by false is rest = rest is
 
 -- leases that cover alike from 2^14 minislots before a clock on serve alike from it on
-pub serve_alike : (ch clock : ℕ) (some other : List Lease) → CoverAlike ch clock some other → ServeAlike ch clock some other
+pub serve_alike : (ch clock : ℕ) (some other : List OwnLease) → CoverAlike ch clock some other → ServeAlike ch clock some other
 serve_alike ch clock some other alike = record {
   keeps = λ sid m late. alike.covers sid m (omega (arith, late));
   takes = λ sid m late. alike.lasts sid m (omega (arith, late));

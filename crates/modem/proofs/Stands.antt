@@ -1,7 +1,7 @@
 -- What a modem stands for is kept.
 use Rattle.std.proofs.Common.{◌≡◌, ℕ, ◌+◌, ◌≤◌, List, ◌∷◌, Option, Some, Bool, true, inl, inr, refl, sym, subst, ap, ◌∙◌, max, arith, ◌==◌, ◌&&◌, nat_le, false, Result, Ok, Err, IfOk, MatchBool, ◌↔◌}
 use Rattle.modem.specs.declared.known.Channel.{Channel}
-use Rattle.modem.specs.declared.known.Lease.{Lease}
+use Rattle.modem.specs.declared.known.OwnLease.{OwnLease}
 use Rattle.modem.specs.declared.types.Sending.{Sending}
 use Rattle.modem.specs.declared.known.Want.{Want}
 use Rattle.map_body.specs.Sids.{everybody}
@@ -20,13 +20,13 @@ use Rattle.grant_machine.specs.declared.output.Output.{Output}
 use Rattle.grant_machine.specs.declared.output.Output.TheVariants.{Nothing, ChannelSet, Assigned, Map as MapOutput, Refused}
 use Rattle.modem.specs.declared.types.Heard.{Heard}
 use Rattle.modem.specs.declared.types.Heard.TheVariants.{Taken, NotMine, OtherUcd, Past, Unreadable}
-use Rattle.modem.specs.Held.{StandsFor, Hearing, Gives, GivesCell, Leases, WasLeased, LeasesFrom, WasLeasedFrom, HeldBy}
+use Rattle.modem.specs.Held.{HasHeard, Hearing, Gives, GivesCell, Leases, WasLeased, LeasesFrom, WasLeasedFrom, HeldBy}
 use Rattle.modem.specs.Hears.{Hears, Reads, Takes, Passes, KeepsHeld, leases_heard}
 use Rattle.modem.specs.OldLeases.{CoverAlike}
 use Rattle.modem.proofs.Recent.{recent_alike, same_alike, gone_alike, same_covers, same_lasts, any_with}
 
 -- a state with the same id, leases that count for the same, no lower clock and what was held from there on stands for the same hearings
-pub StandsFor-kept : (old new : State) (hearings : List Hearing) → new.id ≡ old.id → ((ch : ℕ) → CoverAlike ch (clock_of new.channels ch) new.leases old.leases) → ((ch : ℕ) → clock_of old.channels ch ≤ clock_of new.channels ch) → ((ch m sid iuc : ℕ) → clock_of new.channels ch ≤ m → HasAt new.grants ch m sid iuc ↔ HasAt old.grants ch m sid iuc) → StandsFor old hearings → StandsFor new hearings
+pub StandsFor-kept : (old new : State) (hearings : List Hearing) → new.id ≡ old.id → ((ch : ℕ) → CoverAlike ch (clock_of new.channels ch) new.leases old.leases) → ((ch : ℕ) → clock_of old.channels ch ≤ clock_of new.channels ch) → ((ch m sid iuc : ℕ) → clock_of new.channels ch ≤ m → HasAt new.grants ch m sid iuc ↔ HasAt old.grants ch m sid iuc) → HasHeard old hearings → HasHeard new hearings
 StandsFor-kept old new hearings same_id alike rises held h = record {
   leases = λ ch sid m late.
       let was = h.leases ch sid m (omega (arith, rises ch, late)) in
@@ -43,7 +43,7 @@ StandsFor-kept old new hearings same_id alike rises held h = record {
 }
 
 -- one more hearing that assigns nothing to the modem and gives nothing
-StandsFor-quiet : (v : State) (h : Hearing) (hearings : List Hearing) → ((ch sid first last : ℕ) → h.output ≡ Assigned v.id ch sid first last → ⊥) → ((ch m sid iuc : ℕ) → h.answer ≡ Taken → Gives h.output h.near ch m sid iuc → ⊥) → StandsFor v hearings → StandsFor v (h ∷ hearings)
+StandsFor-quiet : (v : State) (h : Hearing) (hearings : List Hearing) → ((ch sid first last : ℕ) → h.output ≡ Assigned v.id ch sid first last → ⊥) → ((ch m sid iuc : ℕ) → h.answer ≡ Taken → Gives h.output h.near ch m sid iuc → ⊥) → HasHeard v hearings → HasHeard v (h ∷ hearings)
 StandsFor-quiet v h hearings none gives_none was = record {
   leases = λ ch sid m late.
       let known = was.leases ch sid m late in
@@ -55,7 +55,7 @@ StandsFor-quiet v h hearings none gives_none was = record {
 }
 
 -- a map that is taken
-StandsFor-taken : (old new : State) (hearings : List Hearing) (ch₀ start₀ len₀ : ℕ) (bytes : List ℕ) (near : ℕ) (c : Channel) (map : Body) (start stop : ℕ) → Reads bytes near map start stop → channel_of old.channels map.head.channel ≡ Some c → Takes old c near map start new → StandsFor old hearings → StandsFor new (record { output = MapOutput ch₀ start₀ len₀ bytes; near = near; answer = Taken } ∷ hearings)
+StandsFor-taken : (old new : State) (hearings : List Hearing) (ch₀ start₀ len₀ : ℕ) (bytes : List ℕ) (near : ℕ) (c : Channel) (map : Body) (start stop : ℕ) → Reads bytes near map start stop → channel_of old.channels map.head.channel ≡ Some c → Takes old c near map start new → HasHeard old hearings → HasHeard new (record { output = MapOutput ch₀ start₀ len₀ bytes; near = near; answer = Taken } ∷ hearings)
 StandsFor-taken old new hearings ch₀ start₀ len₀ bytes near c map start stop reads found takes was = record {
   leases = λ ch sid m late.
       let P : ℕ → Type 0 = λ id. (is_own_at new.leases ch sid m ≡ true) ↔ WasLeased id (here ∷ hearings) ch sid m in
@@ -178,7 +178,7 @@ going_on modem id ch sid first last at_ch at_sid m l =
     and_from _ _ (and_from _ _ (eq-eqb _ _ same_ch) (eq-eqb _ _ same_sid)) high
 
 -- an Assigned that is heard
-Assigned-stands : (old new : State) (modem ch sid first last near : ℕ) (answer : Heard) (hearings : List Hearing) (mine : Bool) → (modem == old.id) ≡ mine → MatchBool mine ((answer ≡ Taken) × (new ≡ record old { leases = leases_heard old (lease_of ch sid first last) })) ((answer ≡ NotMine) × (new ≡ old)) → StandsFor old hearings → StandsFor new (record { output = Assigned modem ch sid first last; near = near; answer = answer } ∷ hearings)
+Assigned-stands : (old new : State) (modem ch sid first last near : ℕ) (answer : Heard) (hearings : List Hearing) (mine : Bool) → (modem == old.id) ≡ mine → MatchBool mine ((answer ≡ Taken) × (new ≡ record old { leases = leases_heard old (lease_of ch sid first last) })) ((answer ≡ NotMine) × (new ≡ old)) → HasHeard old hearings → HasHeard new (record { output = Assigned modem ch sid first last; near = near; answer = answer } ∷ hearings)
 Assigned-stands old new modem ch sid first last near answer hearings true mine h was = rw h.1 (record {
   leases = λ ch' sid' m late.
       let same = (alike ch').covers sid' m late in
@@ -199,7 +199,7 @@ Assigned-stands old new modem ch sid first last near answer hearings true mine h
       (λ has. inr (before.0 has), λ held. elim held [ inl now ↦ absurd now.1 | inr b ↦ before.1 b ]);
 })
   where
-    lease : Lease
+    lease : OwnLease
     lease = lease_of ch sid first last
 
     -- the old ones that go
@@ -218,7 +218,7 @@ Assigned-stands old new modem ch sid first last near answer hearings false other
         no_true (sym other ∙ eq-eqb _ _ (one ∙ same))
 
 -- what hearing an output makes a modem stand for: the hearing is added
-pub Hears-stands : (old new : State) (output : Output) (near : ℕ) (answer : Heard) (hearings : List Hearing) → Hears old output near answer new → StandsFor old hearings → StandsFor new (record { output = output; near = near; answer = answer } ∷ hearings)
+pub Hears-stands : (old new : State) (output : Output) (near : ℕ) (answer : Heard) (hearings : List Hearing) → Hears old output near answer new → HasHeard old hearings → HasHeard new (record { output = output; near = near; answer = answer } ∷ hearings)
 Hears-stands old new Nothing near answer hearings h was =
     StandsFor-quiet new _ hearings (λ ch sid first last e. cc) (λ ch m sid iuc _ gives. gives) (rw h.1 was)
 Hears-stands old new (Refused n) near answer hearings h was =
@@ -240,15 +240,15 @@ Hears-stands old new (MapOutput ch₀ start₀ len₀ bytes) near Unreadable hea
     StandsFor-quiet new _ hearings (λ ch sid first last e. cc) (λ ch m sid iuc e gives. cc) (rw h.1 was)
 
 -- the same where the answer may be want of memory
-pub stands_if_ok : {E : Type 0} (r : Result Heard E) (old new : State) (output : Output) (near : ℕ) → IfOk r (λ answer. Hears old output near answer new) → IfOk r (λ answer. (hearings : List Hearing) → StandsFor old hearings → StandsFor new (record { output = output; near = near; answer = answer } ∷ hearings))
+pub stands_if_ok : {E : Type 0} (r : Result Heard E) (old new : State) (output : Output) (near : ℕ) → IfOk r (λ answer. Hears old output near answer new) → IfOk r (λ answer. (hearings : List Hearing) → HasHeard old hearings → HasHeard new (record { output = output; near = near; answer = answer } ∷ hearings))
 stands_if_ok (Ok answer) old new output near h = λ hearings was. Hears-stands old new output near answer hearings h was
 stands_if_ok (Err e) old new output near h = tt
 
 -- a tick keeps what a modem stands for
-pub Ticks-stands : (old new : State) (c : Channel) (ch slot random : ℕ) (sending : Option Sending) (hearings : List Hearing) → channel_of old.channels ch ≡ Some c → c.clock ≤ slot → Ticks old c slot random sending new → StandsFor old hearings → StandsFor new hearings
+pub Ticks-stands : (old new : State) (c : Channel) (ch slot random : ℕ) (sending : Option Sending) (hearings : List Hearing) → channel_of old.channels ch ≡ Some c → c.clock ≤ slot → Ticks old c slot random sending new → HasHeard old hearings → HasHeard new hearings
 Ticks-stands old new c ch slot random sending hearings found late ticks was =
     StandsFor-kept old new hearings ticks.id (λ other. same_alike other (clock_of new.channels other) new.leases old.leases ticks.leases) (λ other. rw ticks.channels (clock_of-row c (slot + 1) c.backoff old.channels ch other found (omega arith))) ticks.held.grants was
 
 -- a change of the wants alone keeps it
-pub wants_stand : (old : State) (wants : List Want) (hearings : List Hearing) → StandsFor old hearings → StandsFor (record old { wants = wants }) hearings
+pub wants_stand : (old : State) (wants : List Want) (hearings : List Hearing) → HasHeard old hearings → HasHeard (record old { wants = wants }) hearings
 wants_stand old wants hearings was = record { leases = was.leases; lasts = was.lasts; holds = was.holds }

@@ -10,7 +10,7 @@ use Rattle.map_body.specs.Layout.{IsBody}
 use Rattle.grant_machine.specs.declared.output.Output.{Output}
 use Rattle.grant_machine.specs.declared.output.Output.TheVariants.{Nothing, ChannelSet, Assigned, Map as MapOutput, Refused}
 use Rattle.modem.specs.declared.known.Channel.{Channel}
-use Rattle.modem.specs.declared.known.Lease.{Lease}
+use Rattle.modem.specs.declared.known.OwnLease.{OwnLease}
 use Rattle.modem.specs.declared.types.Heard.{Heard}
 use Rattle.modem.specs.declared.types.Heard.TheVariants.{Taken, NotMine, OtherUcd, Past, Unreadable}
 use Rattle.modem.specs.State.{State, HasAt, is_own_at, has_lease, with_lease, is_recent, recent, lease_of, with_ucd, with_channel, channel_of, clock_of}
@@ -80,7 +80,7 @@ HearsMap old bytes near Taken new = (map : Body) × (start : ℕ) × («end» : 
 HearsMap old bytes near NotMine new = ⊥
 
 -- the leases after one more of its own was heard: old ones of its channel go
-abbrev pub leases_heard : State → Lease → List Lease
+abbrev pub leases_heard : State → OwnLease → List OwnLease
 leases_heard old lease = recent lease.channel (clock_of old.channels lease.channel) (with_lease old.leases lease)
 
 -- a modem that hears an output near a time gives this answer and becomes new

@@ -81,7 +81,7 @@ abbrev pub IsLate : State → ℕ → ℕ → Type 0
 IsLate v ch m = clock_of v.channels ch < m + 2 ^ 14
 
 -- a modem in this state may have heard just this, the newest first: but for what is long past its leases cover what was leased to it and go on as long, and from its clock on what it holds is exactly what was held
-pub record StandsFor (v : State) (hearings : List Hearing) : Type 0 where
+pub record HasHeard (v : State) (hearings : List Hearing) : Type 0 where
   pub leases : (ch sid m : ℕ) → IsLate v ch m → (is_own_at v.leases ch sid m ≡ true) ↔ WasLeased v.id hearings ch sid m
   pub lasts : (ch sid m : ℕ) → IsLate v ch m → (is_own_from v.leases ch sid m ≡ true) ↔ WasLeasedFrom v.id hearings ch sid m
   pub holds : (ch m sid iuc : ℕ) → clock_of v.channels ch ≤ m → HasAt v.grants ch m sid iuc ↔ HeldBy v.id hearings ch m sid iuc

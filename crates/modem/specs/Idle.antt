@@ -4,7 +4,7 @@ use Rattle.map_body.specs.Iucs as iucs
 use Rattle.map_body.specs.Sids.{everybody}
 use Rattle.modem.specs.declared.action.Action.{Action}
 use Rattle.modem.specs.declared.action.Action.TheVariants.{Grant, Poll, Contention, LeaseEnd}
-use Rattle.modem.specs.declared.known.Lease.{Lease}
+use Rattle.modem.specs.declared.known.OwnLease.{OwnLease}
 use Rattle.modem.specs.declared.known.Want.{Want}
 use Rattle.modem.specs.State.{State, Kept, HasAt, is_own_at, is_own_from}
 use Rattle.modem.specs.Wants.{unsent_of, IsLeastUnsent, own_wants, lasting}
@@ -75,11 +75,11 @@ abbrev pub HasSame : List Kept → ℕ → ℕ → ℕ → Type 0
 HasSame ks ch m x = (sid iuc : ℕ) → HasAt ks ch x sid iuc ↔ HasAt ks ch m sid iuc
 
 -- where the lease is of the channel, minislot x lies in it as m does, and it ends later as it does at m
-abbrev pub IsSameIn : ℕ → ℕ → ℕ → Lease → Type 0
+abbrev pub IsSameIn : ℕ → ℕ → ℕ → OwnLease → Type 0
 IsSameIn ch m x l = l.channel ≡ ch → (l.first ≤ x → l.first ≤ m) × (m ≤ l.last → x ≤ l.last) × (m < l.last → x < l.last)
 
 -- the same SIDs are covered at x as at m, and have a lease that ends later
-pub record CoverSame (leases : List Lease) (ch m x : ℕ) : Type 0 where
+pub record CoverSame (leases : List OwnLease) (ch m x : ℕ) : Type 0 where
   pub own : (sid : ℕ) → is_own_at leases ch sid x ≡ is_own_at leases ch sid m
   pub lasts : (sid : ℕ) → is_own_from leases ch sid (x + 1) ≡ is_own_from leases ch sid (m + 1)
 

@@ -5,7 +5,7 @@ use Rattle.map_body.specs.declared.element.Element.{Element}
 use Rattle.map_body.specs.Intervals.{intervals, after_null}
 use Rattle.map_body.specs.Iucs as iucs
 use Rattle.map_body.specs.Body.{Body}
-use Rattle.modem.specs.declared.known.Lease.{Lease}
+use Rattle.modem.specs.declared.known.OwnLease.{OwnLease}
 use Rattle.modem.specs.State.{is_own_at}
 use Rattle.modem.specs.declared.known.Progress.{Progress}
 use Rattle.modem.specs.declared.known.Progress.TheVariants.{Unsent, Sent}
@@ -30,7 +30,7 @@ abbrev pub lost : Want → Option Want
 lost w = if nat_le 16 (w.tries + 1) then None else Some (record w { tries = w.tries + 1; progress = Unsent None })
 
 -- what a map of this start makes of a want whose SID is the modem's where it starts: granted it is gone, pending it stays, else it is lost
-abbrev pub decided : List Lease → Body → ℕ → Option ℕ → Want → Option Want
+abbrev pub decided : List OwnLease → Body → ℕ → Option ℕ → Want → Option Want
 decided leases map start ack w =
     if is_acknowledged map.head.channel ack w w.progress && is_own_at leases map.head.channel w.sid start
     then (if is_granted map.elements w.sid then None else (if is_pending map.elements w.sid then Some w else lost w))

@@ -4,7 +4,7 @@ use Rattle.std.specs.List.{flat_map, filter_map}
 use Rattle.std.specs.List.Sorted.{IsNonDecreasingBy}
 use Rattle.map_body.specs.declared.interval.Interval.{Interval}
 use Rattle.modem.specs.declared.kept.KeptInterval.{KeptInterval}
-use Rattle.modem.specs.declared.known.Lease.{Lease}
+use Rattle.modem.specs.declared.known.OwnLease.{OwnLease}
 use Rattle.modem.specs.State.{Kept, HasAt, is_of}
 
 -- a kept interval is itself
@@ -33,11 +33,11 @@ pub record AreKept (ks : List KeptInterval) : Type 0 where
   pub short : All IsShort ks
 
 -- the part of an interval that a lease of its SID covers
-abbrev pub piece : KeptInterval → Lease → Option KeptInterval
+abbrev pub piece : KeptInterval → OwnLease → Option KeptInterval
 piece k lease = if is_of k.channel k.sid lease then Some (record k { start = max k.start lease.first; stop = min k.stop (lease.last + 1) }) else None
 
 -- the parts of intervals that leases of their SIDs cover
-abbrev pub covered : List Lease → List KeptInterval → List KeptInterval
+abbrev pub covered : List OwnLease → List KeptInterval → List KeptInterval
 covered leases ks = flat_map (λ k. filter_map (piece k) leases) ks
 
 -- it is of another channel or ends after the clock

@@ -9,7 +9,7 @@ use Rattle.modem.specs.declared.action.Action.TheVariants.{Grant, Poll, Contenti
 use Rattle.modem.specs.declared.known.Want.{Want}
 use Rattle.modem.specs.State.{State, KnownChannel, Kept, channel_clock, channel_of}
 use Rattle.modem.specs.Wants.{is_want, lasting}
-use Rattle.modem.specs.Ticks.{Ticks, TakesPart, number_of}
+use Rattle.modem.specs.Ticks.{Ticks, TakesPart, backoff_number}
 
 -- each tick at a minislot, whatever number is drawn, answers so and leaves such wants
 abbrev pub EachTick : State → KnownChannel → ℕ → (ℕ → Option Sending → List Want → Type 0) → Type 0
@@ -28,7 +28,7 @@ grant ch sid iuc first last = record { channel = ch; sid = sid; iuc = iuc; start
 abbrev pub IsPartOf : State → KnownChannel → ℕ → Want → ℕ → Option Sending → List Want → Type 0
 IsPartOf v c slot w random sending wants =
     (after : List Want)
-    × TakesPart v.wants slot sending after w (number_of c w random w.progress)
+    × TakesPart v.wants slot sending after w (backoff_number c w random w.progress)
     × (wants ≡ lasting v.leases c.id (slot + 1) after)
 
 -- what a tick at a minislot does: it uses a grant that is kept, sends a request at a poll, has a want take part where all may request, or lets a want go

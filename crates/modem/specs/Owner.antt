@@ -16,7 +16,7 @@ pub record IsMapOf (ch start : ℕ) (bytes : List ℕ) (map : Body) : Type 0 whe
   pub bound : start < 2 ^ 63
 
 -- a schedule: each Map's bytes are its map, the SIDs that are assigned are unicast ones, and a minislot has one owner
-pub record IsSchedule (outputs : List Output) : Type 0 where
+pub record AreSoundOutputs (outputs : List Output) : Type 0 where
   pub maps : (ch start len : ℕ) (bytes : List ℕ) → Contains outputs (MapOutput ch start len bytes) → (map : Body) × IsMapOf ch start bytes map
   pub unicast : (modem ch sid first last : ℕ) → Contains outputs (Assigned modem ch sid first last) → (1 ≤ sid) × (sid ≤ 8191)
   pub one_owner : (ch m modem other : ℕ) → Owns outputs ch m modem → Owns outputs ch m other → modem ≡ other

@@ -6,7 +6,7 @@ use Rattle.modem.specs.declared.known.Progress.TheVariants.{Unsent, Sent}
 use Rattle.modem.specs.declared.known.Want.{Want}
 use Rattle.modem.specs.declared.types.WantFault.{WantFault}
 use Rattle.modem.specs.declared.types.WantFault.TheVariants.{NotMine, Waiting, BadSize, OutOfMemory}
-use Rattle.modem.specs.declared.known.Lease.{Lease}
+use Rattle.modem.specs.declared.known.OwnLease.{OwnLease}
 use Rattle.modem.specs.State.{State, is_own_at, is_own_from, clock_of}
 
 abbrev pub is_want : ℕ → ℕ → Want → Bool
@@ -30,15 +30,15 @@ IsLeastUnsent wants ch None = (sid : ℕ) → unsent_of wants ch sid ≡ None
 IsLeastUnsent wants ch (Some w) = (unsent_of wants ch w.sid ≡ Some w) × ((sid : ℕ) → unsent_of wants ch sid ≢ None → w.sid ≤ sid)
 
 -- the wants whose SIDs are the modem's at minislot m
-abbrev pub own_wants : List Lease → ℕ → ℕ → List Want → List Want
+abbrev pub own_wants : List OwnLease → ℕ → ℕ → List Want → List Want
 own_wants leases ch m wants = filter (λ w. is_own_at leases ch w.sid m) wants
 
 -- it is of another channel, or a lease of its SID ends at the channel's clock or later
-abbrev pub is_lasting : List Lease → ℕ → ℕ → Want → Bool
+abbrev pub is_lasting : List OwnLease → ℕ → ℕ → Want → Bool
 is_lasting leases ch clock w = not (w.channel == ch) || is_own_from leases ch w.sid clock
 
 -- the wants that stay when the channel's clock is this
-abbrev pub lasting : List Lease → ℕ → ℕ → List Want → List Want
+abbrev pub lasting : List OwnLease → ℕ → ℕ → List Want → List Want
 lasting leases ch clock wants = filter (is_lasting leases ch clock) wants
 
 -- a request that is wanted anew

@@ -16,7 +16,7 @@ ghost use Rattle.modem.specs.Steps.{first_at, is_at};
 ghost use Rattle.modem.specs.Ticks.{Counts};
 
 use crate::edges::sooner;
-use crate::known::Lease;
+use crate::known::OwnLease;
 use crate::leases::is_of;
 use map_body::{Interval, Iuc, Sid};
 use std::alloc::{AllocError, Global};
@@ -258,7 +258,7 @@ pub(crate) fn of_map(
 }
 
 // The part of an interval that a lease of its SID covers.
-fn piece(lease: Lease, interval: KeptInterval) -> Option<KeptInterval>
+fn piece(lease: OwnLease, interval: KeptInterval) -> Option<KeptInterval>
     ensures { result ≡ piece interval lease }
 {
     if !is_of(&lease, interval.channel, interval.sid) {
@@ -274,7 +274,7 @@ fn piece(lease: Lease, interval: KeptInterval) -> Option<KeptInterval>
 fn pieces(
     alloc: Global,
     interval: KeptInterval,
-    leases: &[Lease],
+    leases: &[OwnLease],
 ) -> Result<Vec<KeptInterval>, AllocError>
     ensures { IfOk result (λ v. v.items ≡ filter_map (piece interval) leases.now) }
 {
@@ -288,7 +288,7 @@ fn pieces(
 fn add_pieces(
     covered: &mut Vec<KeptInterval>,
     interval: KeptInterval,
-    leases: &[Lease],
+    leases: &[OwnLease],
 ) -> Result<(), AllocError>
     ensures { OnOk result (covered.new.items ≡ covered.old.items ++ filter_map (piece interval) leases.now) }
 {
@@ -301,7 +301,7 @@ fn add_pieces(
 fn covered(
     alloc: Global,
     intervals: &[KeptInterval],
-    leases: &[Lease],
+    leases: &[OwnLease],
 ) -> Result<Vec<KeptInterval>, AllocError>
     ensures { IfOk result (λ v. v.items ≡ covered leases.now intervals.now) }
 {
@@ -318,7 +318,7 @@ pub(crate) fn own(
     ch: u8,
     start: u64,
     intervals: &[Interval],
-    leases: &[Lease],
+    leases: &[OwnLease],
 ) -> Result<Vec<KeptInterval>, AllocError>
     requires { start < 2 ^ 63 }
     ensures items { IfOk result (λ v. v.items ≡ covered leases.now (map (interval_of ch start) intervals.now)) }

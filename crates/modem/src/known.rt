@@ -13,7 +13,7 @@ pub(crate) struct Channel {
 
 /// A lease: a SID of a channel is the modem's from the minislot `first` to the minislot `last`.
 #[derive(Clone, Copy, Debug, PartialEq, Eq)]
-pub struct Lease {
+pub struct OwnLease {
     pub channel: u8,
     pub sid: u16,
     pub first: u64,

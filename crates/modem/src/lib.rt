@@ -18,7 +18,7 @@ mod wants;
 pub use action::{Action, NextEvent};
 pub use forgotten::old_leases;
 pub use kept::KeptInterval;
-pub use known::{Lease, Progress, Want};
+pub use known::{OwnLease, Progress, Want};
 pub use modem::{Modem, OfChannel};
 pub use owner::one_owner;
 pub use skipped::quiet_ticks;

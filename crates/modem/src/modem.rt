@@ -4,7 +4,7 @@ ghost use Rattle.std.specs.Prelude.{◌≡◌, ℕ, ◌+◌, ◌^◌, ◌<◌, �
 ghost use Rattle.std.specs.Option.{option_map};
 ghost use Rattle.std.specs.List.{list_any};
 ghost use Rattle.modem.specs.State.{new_modem, channel_clock, channel_of, clock_of, has_lease, is_own_from, is_recent, with_ucd, HasAt};
-ghost use Rattle.modem.specs.Held.{StandsFor, Hearing, Held, unicast_sid};
+ghost use Rattle.modem.specs.Held.{HasHeard, Hearing, Held, unicast_sid};
 ghost use Rattle.modem.specs.Hears.{Hears, HearsMap, IsDue, MayGrow, Passes, Takes, leases_heard};
 ghost use Rattle.modem.specs.Wants.{is_own_now, is_want, lasting, want_refusal, new_want};
 ghost use Rattle.modem.specs.Ticks.{Ticks, Counts};
@@ -17,7 +17,7 @@ use crate::action::{Action, NextEvent};
 use crate::edges::sooner;
 use crate::intervals::HeardMap;
 use crate::kept::{self, KeptInterval};
-use crate::known::{Channel, Lease, Progress, Want};
+use crate::known::{Channel, OwnLease, Progress, Want};
 use crate::types::{Heard, Sending, TimeBack, WantFault};
 use crate::{channels, intervals, leases, wants};
 use grant_machine::Output;
@@ -34,7 +34,7 @@ const LIMIT: u64 = 1 << 63;
 pub struct Modem {
     id: u32,
     channels: Vec<Channel>,
-    leases: Vec<Lease>,
+    leases: Vec<OwnLease>,
     grants: Vec<KeptInterval>,
     open_to_all: Vec<KeptInterval>,
     wants: Vec<Want>,
@@ -63,7 +63,7 @@ impl Modem {
     /// A modem with this id, which has heard nothing.
     pub fn new(alloc: Global, id: u32) -> Modem
         ensures value { result ≡ new_modem id }
-        ensures stands { StandsFor result [] }
+        ensures stands { HasHeard result [] }
     {
         Modem {
             id,
@@ -106,7 +106,7 @@ impl Modem {
 
     /// The leases that the modem keeps, of all channels. One that ended 2^14 minislots or more before its channel's clock
     /// goes as the modem hears a lease of its own, or a MAP of the channel that is Taken or Past.
-    pub fn leases(&self) -> &[Lease]
+    pub fn leases(&self) -> &[OwnLease]
         ensures { result.now ≡ self.now.leases }
     {
         self.leases.as_slice()
@@ -118,7 +118,7 @@ impl Modem {
         ensures ok { OnOk result ((want_refusal self.old ch sid n ≡ None) × (self.new ≡ record self.old { wants = self.old.wants ++ new_want ch sid n ∷ [] })) }
         ensures declined { IfSome (want_refusal self.old ch sid n) (λ fault. result ≡ Err fault) }
         ensures err { IfErr result (λ e. (self.new ≡ self.old) × ((want_refusal self.old ch sid n ≡ Some e) ⊎ ((want_refusal self.old ch sid n ≡ None) × (e ≡ WantFault.OutOfMemory)))) }
-        ensures stands { (hearings : List Hearing) → StandsFor self.old hearings → StandsFor self.new hearings }
+        ensures stands { (hearings : List Hearing) → HasHeard self.old hearings → HasHeard self.new hearings }
     {
         if !self.is_own_now(ch, sid) {
             return Err(WantFault::NotMine);
@@ -160,8 +160,8 @@ impl Modem {
         ensures back { IfSome (channel_of self.old.channels ch) (λ c. slot < channel_clock c → IsErr result × (self.new ≡ self.old)) }
         ensures ticks { IfSome (channel_of self.old.channels ch) (λ c. channel_clock c ≤ slot → IsOkAnd result (λ sending. Ticks self.old c slot random sending self.new)) }
         ensures lets_go { IfSome (channel_of self.old.channels ch) (λ c. channel_clock c ≤ slot → HasFewOld self.new ch) }
-        ensures held { IfOk result (λ sending. (hearings : List Hearing) (sid : ℕ) → StandsFor self.old hearings → unicast_sid sending ≡ Some sid → Held self.old.id hearings ch slot sid) }
-        ensures stands { (hearings : List Hearing) → StandsFor self.old hearings → StandsFor self.new hearings }
+        ensures held { IfOk result (λ sending. (hearings : List Hearing) (sid : ℕ) → HasHeard self.old hearings → unicast_sid sending ≡ Some sid → Held self.old.id hearings ch slot sid) }
+        ensures stands { (hearings : List Hearing) → HasHeard self.old hearings → HasHeard self.new hearings }
     {
         let Some(channel) = channels::find(self.channels.as_slice(), ch) else {
             return Ok(None);
@@ -192,7 +192,7 @@ impl Modem {
         ensures err { OnErr result (self.new ≡ self.old) }
         ensures memory { IsErr result → MayGrow self.old output.now near }
         ensures lets_go { IfOk result (λ answer. LetsGo output.now answer self.new) }
-        ensures stands { IfOk result (λ answer. (hearings : List Hearing) → StandsFor self.old hearings → StandsFor self.new (record { output = output.now; near = near; answer = answer } ∷ hearings)) }
+        ensures stands { IfOk result (λ answer. (hearings : List Hearing) → HasHeard self.old hearings → HasHeard self.new (record { output = output.now; near = near; answer = answer } ∷ hearings)) }
     {
         match output {
             Output::Nothing => Ok(Heard::NotMine),
@@ -205,7 +205,7 @@ impl Modem {
                 first,
                 last,
             } => {
-                let lease = Lease {
+                let lease = OwnLease {
                     channel: *ch,
                     sid: *sid,
                     first: *first,
@@ -244,7 +244,7 @@ impl Modem {
         }
     }
 
-    fn hear_assigned(&mut self, modem: u32, lease: Lease) -> Result<Heard, AllocError>
+    fn hear_assigned(&mut self, modem: u32, lease: OwnLease) -> Result<Heard, AllocError>
         ensures ok { IfOk result (λ answer. MatchBool (modem == self.old.id) ((answer ≡ Heard.Taken) × (self.new ≡ record self.old { leases = leases_heard self.old lease })) ((answer ≡ Heard.NotMine) × (self.new ≡ self.old))) }
         ensures err { OnErr result (self.new ≡ self.old) }
         ensures memory { IsErr result → (modem ≡ self.old.id) × (has_lease self.old.leases lease ≡ false)
@@ -265,7 +265,7 @@ impl Modem {
         ensures err { OnErr result (self.new ≡ self.old) }
         ensures memory { IsErr result → IsDue self.old bytes.now near }
         ensures lets_go { IfOk result (λ answer. LetsGoAfter bytes.now answer self.new) }
-        ensures stands { IfOk result (λ answer. (hearings : List Hearing) (ch start len : ℕ) → StandsFor self.old hearings → StandsFor self.new (record { output = Output.Map ch start len bytes.now; near = near; answer = answer } ∷ hearings)) }
+        ensures stands { IfOk result (λ answer. (hearings : List Hearing) (ch start len : ℕ) → HasHeard self.old hearings → HasHeard self.new (record { output = Output.Map ch start len bytes.now; near = near; answer = answer } ∷ hearings)) }
     {
         let Some(heard) = intervals::heard_near(bytes, near) else {
             return Ok(Heard::Unreadable);

@@ -8,9 +8,9 @@ ghost use Rattle.modem.specs.Wants.{is_want, is_unsent, unsent_of, with_want, Is
 ghost use Rattle.map_body.specs.Intervals.{intervals};
 ghost use Rattle.modem.specs.Intervals.{is_granted, is_pending, is_acknowledged, lost, decided};
 ghost use Rattle.modem.specs.Steps.{lesser};
-ghost use Rattle.modem.specs.Ticks.{number_of, sent_at, Polls, Contends, SendsBy, Shares};
+ghost use Rattle.modem.specs.Ticks.{backoff_number, sent_at, Polls, Contends, SendsBy, Shares};
 
-use crate::known::{Channel, Lease, Progress, Want};
+use crate::known::{Channel, OwnLease, Progress, Want};
 use crate::leases::{is_own_at, is_own_from};
 use crate::types::Sending;
 use map_body::{Interval, Iuc, MapBody};
@@ -65,7 +65,7 @@ fn lesser(ch: u8, least: Option<Want>, want: Want) -> Option<Want>
 }
 
 // The least so far with one more want, which counts only where its SID is the modem's.
-fn lesser_own(leases: &[Lease], ch: u8, at: u64, least: Option<Want>, want: Want) -> Option<Want>
+fn lesser_own(leases: &[OwnLease], ch: u8, at: u64, least: Option<Want>, want: Want) -> Option<Want>
     ensures { result ≡ (if is_own_at leases.now ch want.sid at then lesser ch least want else least) }
 {
     if is_own_at(leases, ch, want.sid, at) {
@@ -75,7 +75,7 @@ fn lesser_own(leases: &[Lease], ch: u8, at: u64, least: Option<Want>, want: Want
     }
 }
 
-pub(crate) fn least_unsent(wants: &[Want], leases: &[Lease], ch: u8, at: u64) -> Option<Want>
+pub(crate) fn least_unsent(wants: &[Want], leases: &[OwnLease], ch: u8, at: u64) -> Option<Want>
     ensures { IsLeastUnsent (own_wants leases.now ch at wants.now) ch result }
 {
     let mut least: Option<Want> = None;
@@ -105,8 +105,8 @@ fn set(wants: &mut [Want], row: Want)
 }
 
 // The number of request minislots that an unsent want lets pass.
-fn number_of(channel: Channel, want: Want, random: u64) -> u16
-    ensures { result ≡ number_of channel want random want.progress }
+fn backoff_number(channel: Channel, want: Want, random: u64) -> u16
+    ensures { result ≡ backoff_number channel want random want.progress }
 {
     match want.progress {
         Progress::Unsent(Some(number)) => number,
@@ -137,7 +137,7 @@ fn wait(wants: &mut [Want], want: Want, number: u16)
 // The unsent want of the least SID that is the modem's there takes part in a request minislot.
 fn share(
     wants: &mut [Want],
-    leases: &[Lease],
+    leases: &[OwnLease],
     channel: Channel,
     at: u64,
     random: u64,
@@ -145,7 +145,7 @@ fn share(
     ensures { (least : Option Want) × IsLeastUnsent (own_wants leases.now channel.id at wants.old) channel.id least × Contends wants.old channel at random result wants.new least }
 {
     let want = least_unsent(wants, leases, channel.id, at)?;
-    let number = number_of(channel, want, random);
+    let number = backoff_number(channel, want, random);
     if number == 0 {
         send_now(wants, want, at);
         Some(Sending::Request(want.sid, want.n))
@@ -166,7 +166,7 @@ fn poll(wants: &mut [Want], channel: Channel, sid: u16, at: u64) -> Option<Sendi
 /// What is sent at a minislot by the SID and IUC that count there, or in a request minislot.
 pub(crate) fn send(
     wants: &mut Vec<Want>,
-    leases: &[Lease],
+    leases: &[OwnLease],
     channel: Channel,
     at: u64,
     random: u64,
@@ -185,7 +185,7 @@ pub(crate) fn send(
 // By an interval of the modem's: its SID and IUC.
 fn send_by(
     wants: &mut [Want],
-    leases: &[Lease],
+    leases: &[OwnLease],
     channel: Channel,
     at: u64,
     random: u64,
@@ -206,7 +206,7 @@ fn send_by(
 
 fn send_shared(
     wants: &mut [Want],
-    leases: &[Lease],
+    leases: &[OwnLease],
     channel: Channel,
     at: u64,
     random: u64,
@@ -270,7 +270,7 @@ fn decide(
     start: u64,
     heard: &[Interval],
     ack: Option<u64>,
-    leases: &[Lease],
+    leases: &[OwnLease],
 ) -> Option<Want>
     requires { heard.now ≡ intervals map.now.elements }
     ensures { result ≡ decided leases.now map.now start ack want }
@@ -295,7 +295,7 @@ pub(crate) fn decided(
     start: u64,
     heard: &[Interval],
     ack: Option<u64>,
-    leases: &[Lease],
+    leases: &[OwnLease],
 ) -> Result<Vec<Want>, AllocError>
     requires { heard.now ≡ intervals map.now.elements }
     ensures { IfOk result (λ v. v.items ≡ filter_map (decided leases.now map.now start ack) wants.now) }
@@ -307,21 +307,21 @@ pub(crate) fn decided(
     Ok(left)
 }
 
-fn is_lasting(want: &Want, leases: &[Lease], ch: u8, clock: u64) -> bool
+fn is_lasting(want: &Want, leases: &[OwnLease], ch: u8, clock: u64) -> bool
     ensures { result ≡ is_lasting leases.now ch clock want.now }
 {
     !(want.channel == ch) || is_own_from(leases, ch, want.sid, clock)
 }
 
 /// Lets go of the channel's wants whose leases have all ended before the clock.
-pub(crate) fn keep_lasting(wants: &mut Vec<Want>, leases: &[Lease], ch: u8, clock: u64)
+pub(crate) fn keep_lasting(wants: &mut Vec<Want>, leases: &[OwnLease], ch: u8, clock: u64)
     ensures { wants.new.items ≡ lasting leases.now ch clock wants.old.items }
 {
     wants.retain(|w| is_lasting(w, leases, ch, clock));
 }
 
 /// The SID of the first of the channel's wants whose leases have all ended before the clock.
-pub(crate) fn first_over(wants: &[Want], leases: &[Lease], ch: u8, clock: u64) -> Option<u16>
+pub(crate) fn first_over(wants: &[Want], leases: &[OwnLease], ch: u8, clock: u64) -> Option<u16>
     ensures some { IfSome result (λ sid. (list_any (is_want ch sid) wants.now ≡ true) × (is_own_from leases.now ch sid clock ≡ false)) }
     ensures none { IfNone result (lasting leases.now ch clock wants.now ≡ wants.now) }
 {

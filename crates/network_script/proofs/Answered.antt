@@ -18,7 +18,7 @@ use Rattle.ballots.specs.declared.letters.Note.TheVariants.{Accept}
 use Rattle.world_events.specs.declared.event.Event.TheVariants as event
 use Rattle.seats.specs.declared.answer.Answer.{Answer}
 use Rattle.seats.specs.declared.answer.Answer.TheVariants as answer
-use Rattle.world_events.specs.declared.refusal.Refusal.TheVariants as refusal
+use Rattle.world_events.specs.declared.refusal.EventRefusal.TheVariants as refusal
 use Rattle.seats.specs.declared.answer.Transmission.{Transmission}
 use Rattle.network_script.specs.World.{Written}
 use Rattle.seats.specs.Receiver.{Receiver}

@@ -25,7 +25,7 @@ use Rattle.seats.specs.declared.seat.Seat.{Seat}
 use Rattle.proposer.specs.declared.fault.NodeFault.{NodeFault}
 use Rattle.world_events.specs.declared.event.Event.{Event}
 use Rattle.world_events.specs.declared.event.Event.TheVariants as event
-use Rattle.world_events.specs.declared.refusal.Refusal.TheVariants.{NoLetter, NoNode}
+use Rattle.world_events.specs.declared.refusal.EventRefusal.TheVariants.{NoLetter, NoNode}
 use Rattle.network_script.specs.declared.world.World.{World}
 use Rattle.network_script.specs.Asking.{Asks, Delivers, HappensTo, IsUnchanged, Went}
 use Rattle.network_script.specs.Counts.{CountNext, Counts, called_by, counts}

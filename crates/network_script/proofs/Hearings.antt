@@ -9,7 +9,7 @@ use Rattle.modem.specs.declared.types.Heard.{Heard}
 use Rattle.modem.specs.declared.types.Heard.TheVariants as heard
 use Rattle.modem.specs.declared.types.Sending.{Sending}
 use Rattle.modem.specs.State.{KnownChannel, channel_clock, State, channel_of, lease_of}
-use Rattle.modem.specs.Held.{Hearing, Held, StandsFor, unicast_sid}
+use Rattle.modem.specs.Held.{Hearing, Held, HasHeard, unicast_sid}
 use Rattle.modem.specs.Hears.{Hears, leases_heard}
 use Rattle.modem.specs.Ticks.{Ticks}
 use Rattle.modem.specs.Owner.{IsTimely}
@@ -17,7 +17,7 @@ use Rattle.world_events.specs.declared.event.Event.{Event}
 use Rattle.world_events.specs.declared.event.Event.TheVariants as event
 use Rattle.seats.specs.declared.answer.Answer.{Answer}
 use Rattle.seats.specs.declared.answer.Answer.TheVariants as answer
-use Rattle.world_events.specs.declared.refusal.Refusal.TheVariants as refusal
+use Rattle.world_events.specs.declared.refusal.EventRefusal.TheVariants as refusal
 use Rattle.seats.specs.declared.answer.ReleasedOutput.{ReleasedOutput}
 use Rattle.seats.specs.declared.answer.Transmission.{Transmission}
 use Rattle.seats.specs.Receiver.{Receiver}
@@ -36,7 +36,7 @@ released_more old new stays (h ∷ earlier) all = ((all.0.0, stays all.0.0 all.0
 -- a modem goes on: its id stays, what it stands for is kept, what it heard was released, and what it held it holds
 pub record Follows (outputs : List ReleasedOutput) (r r' : Receiver) : Type 0 where
   pub id : r'.state.id ≡ r.state.id
-  pub stands : StandsFor r.state r.heard → StandsFor r'.state r'.heard
+  pub stands : HasHeard r.state r.heard → HasHeard r'.state r'.heard
   pub heard : AreReleased outputs r.heard → AreReleased outputs r'.heard
   pub held : (n ch m sid : ℕ) → Held n r.heard ch m sid → Held n r'.heard ch m sid
 
@@ -76,7 +76,7 @@ some_same o x y is also = cc (is, also)
 -- the modems keep their ids, each stands for what it heard, which was released, and what was sent is held
 pub record ModemsOk (ids : List ℕ) (outputs : List ReleasedOutput) (modems : List Receiver) (sent : List Transmission) : Type 0 where
   pub named : (j : ℕ) (r : Receiver) → slice_get modems j ≡ Some r → slice_get ids j ≡ Some r.state.id
-  pub stands : (j : ℕ) (r : Receiver) → slice_get modems j ≡ Some r → StandsFor r.state r.heard
+  pub stands : (j : ℕ) (r : Receiver) → slice_get modems j ≡ Some r → HasHeard r.state r.heard
   pub heard : (j : ℕ) (r : Receiver) → slice_get modems j ≡ Some r → AreReleased outputs r.heard
   pub sends : SendsHeld modems sent
 
@@ -107,8 +107,8 @@ ok_set ids outputs modems sent m r r' here goes ok = record {
         ap (slice_get ids) is.0 ∙ old ∙ ap (λ (n : ℕ). Some n) (sym same)
     named j s (inr there) = ok.named j s there.1
 
-    stands : (j : ℕ) (s : Receiver) → ((j ≡ m) × (s ≡ r')) ⊎ ((j ≢ m) × (slice_get modems j ≡ Some s)) → StandsFor s.state s.heard
-    stands j s (inl is) = subst (λ (x : Receiver). StandsFor x.state x.heard) (sym is.1) (goes.stands (ok.stands m r here))
+    stands : (j : ℕ) (s : Receiver) → ((j ≡ m) × (s ≡ r')) ⊎ ((j ≢ m) × (slice_get modems j ≡ Some s)) → HasHeard s.state s.heard
+    stands j s (inl is) = subst (λ (x : Receiver). HasHeard x.state x.heard) (sym is.1) (goes.stands (ok.stands m r here))
     stands j s (inr there) = ok.stands j s there.1
 
     heard : (j : ℕ) (s : Receiver) → ((j ≡ m) × (s ≡ r')) ⊎ ((j ≢ m) × (slice_get modems j ≡ Some s)) → AreReleased outputs s.heard
@@ -136,13 +136,13 @@ wants_follow outputs r r' ch sid n (answer.Refused refusal.OutOfMemory) is = fol
 wants_follow outputs r r' ch sid n told none = absurd none
 
 -- what is proved of the modem's relations: what a modem stands for is kept by what it hears and by its ticks, and what it sends it holds
-module _ (hears_stand : (old new : State) (o : Output) (near : ℕ) (h : Heard) (hearings : List Hearing) → Hears old o near h new → StandsFor old hearings → StandsFor new (record { output = o; near = near; answer = h } ∷ hearings))
-    (ticks_stand : (old new : State) (c : KnownChannel) (ch slot random : ℕ) (sending : Option Sending) (hearings : List Hearing) → channel_of old.channels ch ≡ Some c → channel_clock c ≤ slot → Ticks old c slot random sending new → StandsFor old hearings → StandsFor new hearings)
-    (ticks_held : (old new : State) (c : KnownChannel) (ch slot random : ℕ) (sending : Option Sending) (hearings : List Hearing) (sid : ℕ) → channel_of old.channels ch ≡ Some c → channel_clock c ≤ slot → Ticks old c slot random sending new → StandsFor old hearings → unicast_sid sending ≡ Some sid → Held old.id hearings ch slot sid) where
+module _ (hears_stand : (old new : State) (o : Output) (near : ℕ) (h : Heard) (hearings : List Hearing) → Hears old o near h new → HasHeard old hearings → HasHeard new (record { output = o; near = near; answer = h } ∷ hearings))
+    (ticks_stand : (old new : State) (c : KnownChannel) (ch slot random : ℕ) (sending : Option Sending) (hearings : List Hearing) → channel_of old.channels ch ≡ Some c → channel_clock c ≤ slot → Ticks old c slot random sending new → HasHeard old hearings → HasHeard new hearings)
+    (ticks_held : (old new : State) (c : KnownChannel) (ch slot random : ℕ) (sending : Option Sending) (hearings : List Hearing) (sid : ℕ) → channel_of old.channels ch ≡ Some c → channel_clock c ≤ slot → Ticks old c slot random sending new → HasHeard old hearings → unicast_sid sending ≡ Some sid → Held old.id hearings ch slot sid) where
   hears_follow : (outputs : List ReleasedOutput) (r r' : Receiver) (x : ReleasedOutput) (near : ℕ) (told : Answer) → IsIn outputs x → HearsOutput r x.numbered.output near told r' → Follows outputs r r'
   hears_follow outputs r r' x near (answer.Heard h) there is = record {
     id = hears_id r.state r'.state x.numbered.output near h is.1;
-    stands = λ s. subst (λ (hs : List Hearing). StandsFor r'.state hs) (sym is.2) (hears_stand r.state r'.state x.numbered.output near h r.heard is.1 s);
+    stands = λ s. subst (λ (hs : List Hearing). HasHeard r'.state hs) (sym is.2) (hears_stand r.state r'.state x.numbered.output near h r.heard is.1 s);
     heard = λ a. subst (AreReleased outputs) (sym is.2) ((x, there, refl), is.0, a);
     held = λ n ch m sid held. subst (λ (hs : List Hearing). Held n hs ch m sid) (sym is.2) (held.0, inr held.1);
   }
@@ -157,7 +157,7 @@ module _ (hears_stand : (old new : State) (o : Output) (near : ℕ) (h : Heard) 
   known_follow : (outputs : List ReleasedOutput) (r r' : Receiver) (ch slot random : ℕ) (c : KnownChannel) (told : Answer) → channel_of r.state.channels ch ≡ Some c → ComesToKnown r slot random c told r' → Follows outputs r r'
   known_follow outputs r r' ch slot random c (answer.Ticked sending) found is = record {
     id = is.1.id;
-    stands = λ s. subst (λ (hs : List Hearing). StandsFor r'.state hs) (sym is.2) (ticks_stand r.state r'.state c ch slot random sending r.heard found is.0 is.1 s);
+    stands = λ s. subst (λ (hs : List Hearing). HasHeard r'.state hs) (sym is.2) (ticks_stand r.state r'.state c ch slot random sending r.heard found is.0 is.1 s);
     heard = λ a. subst (AreReleased outputs) (sym is.2) a;
     held = λ n ch m sid held. subst (λ (hs : List Hearing). Held n hs ch m sid) (sym is.2) held;
   }
@@ -175,13 +175,13 @@ module _ (hears_stand : (old new : State) (o : Output) (near : ℕ) (h : Heard) 
   comes_follow outputs r r' ch slot random told None found is = unknown_follow outputs r r' told is
 
   -- a transmission that a tick made is held
-  known_held : (r r' : Receiver) (ch slot random : ℕ) (c : KnownChannel) (sending : Sending) (sid : ℕ) → channel_of r.state.channels ch ≡ Some c → StandsFor r.state r.heard → ComesToKnown r slot random c (answer.Ticked (Some sending)) r' → unicast_sid (Some sending) ≡ Some sid
+  known_held : (r r' : Receiver) (ch slot random : ℕ) (c : KnownChannel) (sending : Sending) (sid : ℕ) → channel_of r.state.channels ch ≡ Some c → HasHeard r.state r.heard → ComesToKnown r slot random c (answer.Ticked (Some sending)) r' → unicast_sid (Some sending) ≡ Some sid
       → Held r'.state.id r'.heard ch slot sid
   known_held r r' ch slot random c sending sid found stands is unicast =
       let held = ticks_held r.state r'.state c ch slot random (Some sending) r.heard sid found is.0 is.1 stands unicast in
       subst (λ (n : ℕ). Held n r'.heard ch slot sid) (sym is.1.id) (subst (λ (hs : List Hearing). Held r.state.id hs ch slot sid) (sym is.2) held)
 
-  tick_held : (r r' : Receiver) (ch slot random : ℕ) (sending : Sending) (sid : ℕ) (known : Option KnownChannel) → channel_of r.state.channels ch ≡ known → StandsFor r.state r.heard → ComesTo r slot random known (answer.Ticked (Some sending)) r' → unicast_sid (Some sending) ≡ Some sid
+  tick_held : (r r' : Receiver) (ch slot random : ℕ) (sending : Sending) (sid : ℕ) (known : Option KnownChannel) → channel_of r.state.channels ch ≡ known → HasHeard r.state r.heard → ComesTo r slot random known (answer.Ticked (Some sending)) r' → unicast_sid (Some sending) ≡ Some sid
       → Held r'.state.id r'.heard ch slot sid
   tick_held r r' ch slot random sending sid (Some c) found stands is unicast = known_held r r' ch slot random c sending sid found stands is unicast
   tick_held r r' ch slot random sending sid None found stands is unicast = absurd (cc (is.0))

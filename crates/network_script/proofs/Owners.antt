@@ -14,7 +14,7 @@ use Rattle.command_log.specs.Values.{outputs_of_values}
 use Rattle.modem.specs.declared.types.Heard.{Heard}
 use Rattle.modem.specs.declared.types.Sending.{Sending}
 use Rattle.modem.specs.State.{KnownChannel, channel_clock, State, channel_of}
-use Rattle.modem.specs.Held.{Hearing, Gives, WasLeased, HeldBy, Held, StandsFor, unicast_sid}
+use Rattle.modem.specs.Held.{Hearing, Gives, WasLeased, HeldBy, Held, HasHeard, unicast_sid}
 use Rattle.modem.specs.Hears.{Hears}
 use Rattle.modem.specs.Ticks.{Ticks}
 use Rattle.modem.specs.Owner.{IsTimely}
@@ -101,14 +101,14 @@ opening_receiver (id ∷ ids) (suc j) r is = opening_receiver ids j r is
 opening_modems : (ids : List ℕ) → ModemsOk ids [] (map new_receiver ids) []
 opening_modems ids = record {
   named = λ j r is. let o = opening_receiver ids j r is in o.1 ∙ ap (λ (x : Receiver). Some x.state.id) (sym o.2);
-  stands = λ j r is. let o = opening_receiver ids j r is in subst (λ (x : Receiver). StandsFor x.state x.heard) (sym o.2) (new_stands o.0);
+  stands = λ j r is. let o = opening_receiver ids j r is in subst (λ (x : Receiver). HasHeard x.state x.heard) (sym o.2) (new_stands o.0);
   heard = λ j r is. let o = opening_receiver ids j r is in subst (λ (x : Receiver). AreReleased [] x.heard) (sym o.2) tt;
   sends = λ x sid there is. absurd there;
 }
 
-module _ (hears_stand : (old new : State) (o : Output) (near : ℕ) (h : Heard) (hearings : List Hearing) → Hears old o near h new → StandsFor old hearings → StandsFor new (record { output = o; near = near; answer = h } ∷ hearings))
-    (ticks_stand : (old new : State) (c : KnownChannel) (ch slot random : ℕ) (sending : Option Sending) (hearings : List Hearing) → channel_of old.channels ch ≡ Some c → channel_clock c ≤ slot → Ticks old c slot random sending new → StandsFor old hearings → StandsFor new hearings)
-    (ticks_held : (old new : State) (c : KnownChannel) (ch slot random : ℕ) (sending : Option Sending) (hearings : List Hearing) (sid : ℕ) → channel_of old.channels ch ≡ Some c → channel_clock c ≤ slot → Ticks old c slot random sending new → StandsFor old hearings → unicast_sid sending ≡ Some sid → Held old.id hearings ch slot sid)
+module _ (hears_stand : (old new : State) (o : Output) (near : ℕ) (h : Heard) (hearings : List Hearing) → Hears old o near h new → HasHeard old hearings → HasHeard new (record { output = o; near = near; answer = h } ∷ hearings))
+    (ticks_stand : (old new : State) (c : KnownChannel) (ch slot random : ℕ) (sending : Option Sending) (hearings : List Hearing) → channel_of old.channels ch ≡ Some c → channel_clock c ≤ slot → Ticks old c slot random sending new → HasHeard old hearings → HasHeard new hearings)
+    (ticks_held : (old new : State) (c : KnownChannel) (ch slot random : ℕ) (sending : Option Sending) (hearings : List Hearing) (sid : ℕ) → channel_of old.channels ch ≡ Some c → channel_clock c ≤ slot → Ticks old c slot random sending new → HasHeard old hearings → unicast_sid sending ≡ Some sid → Held old.id hearings ch slot sid)
     (scheduled : (cs : List Command) → AreScheduled (outputs_of cs)) where
   abbrev Fine : List ℕ → Written → Type 0
   Fine ids w = ModemsOk ids w.outputs w.modems w.transmissions

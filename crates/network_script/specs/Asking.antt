@@ -9,7 +9,7 @@ use Rattle.seats.specs.declared.answer.Answer.{Answer}
 use Rattle.seats.specs.declared.answer.Answer.TheVariants.{Refused}
 use Rattle.seats.specs.declared.seat.Seat.{Seat}
 use Rattle.world_events.specs.declared.event.Event.{Event}
-use Rattle.world_events.specs.declared.refusal.Refusal.TheVariants.{NoLetter, NoNode}
+use Rattle.world_events.specs.declared.refusal.EventRefusal.TheVariants.{NoLetter, NoNode}
 use Rattle.network_script.specs.declared.world.World.{World}
 use Rattle.network_script.specs.Counts.{CountNext, counts}
 use Rattle.network_script.specs.Outward.{Seen}

@@ -7,7 +7,7 @@ use Rattle.world_events.specs.declared.event.Event.{Event}
 use Rattle.world_events.specs.declared.event.Event.TheVariants.{Lead, Offer, Deliver, DeliverThenCrash, Crash, Restart, Release, Hear, Want, Tick}
 use Rattle.seats.specs.declared.answer.Answer.{Answer}
 use Rattle.seats.specs.declared.answer.Answer.TheVariants.{Refused}
-use Rattle.world_events.specs.declared.refusal.Refusal.TheVariants.{NoLetter, NoNode}
+use Rattle.world_events.specs.declared.refusal.EventRefusal.TheVariants.{NoLetter, NoNode}
 use Rattle.node.specs.Calls.Cause.{Lead as AskedToLead, Offer as Offered, Receive as Received}
 use Rattle.seats.specs.Acts.{GoOut, MayAnswer}
 use Rattle.seats.specs.Moves.{Ask}

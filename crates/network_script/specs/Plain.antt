@@ -11,7 +11,7 @@ use Rattle.world_events.specs.declared.event.Event.{Event}
 use Rattle.world_events.specs.declared.event.Event.TheVariants.{Lead, Offer, Deliver, DeliverThenCrash, Crash, Restart, Release}
 use Rattle.seats.specs.declared.answer.Answer.{Answer}
 use Rattle.seats.specs.declared.answer.Answer.TheVariants as answer
-use Rattle.world_events.specs.declared.refusal.Refusal.TheVariants.{NoLetter, NodeDown, NodeUp, NoNode, NoModem}
+use Rattle.world_events.specs.declared.refusal.EventRefusal.TheVariants.{NoLetter, NodeDown, NodeUp, NoNode, NoModem}
 use Rattle.seats.specs.Release.{released}
 use Rattle.seats.specs.Moves.{quiet, whole, lost, gives}
 use Rattle.network_script.specs.World.{Written}

@@ -15,7 +15,7 @@ use seats::{
     Acted, Answer, Asked, OutOfMemory, Receivers, ReleasedOutput, Report, Seat, Transmission,
 };
 use std::alloc::{AllocError, Global};
-use world_events::{Event, Refusal};
+use world_events::{Event, EventRefusal};
 
 /// What node `k` released, each with its number.
 fn with_node(
@@ -143,7 +143,7 @@ impl<N: Node> World<N> {
         ensures { Asks self.old k (ask_of asked.entry) result self.new }
     {
         if k >= self.seats.len() {
-            return Answer::Refused(Refusal::NoNode);
+            return Answer::Refused(EventRefusal::NoNode);
         }
         let alloc = self.alloc;
         let seat = &mut self.seats[k];
@@ -158,12 +158,12 @@ impl<N: Node> World<N> {
         ensures { Delivers self.old i (taking_lem crashes) result self.new }
     {
         if i >= self.letters.len() {
-            return Answer::Refused(Refusal::NoLetter);
+            return Answer::Refused(EventRefusal::NoLetter);
         }
         let letter = &self.letters[i];
         let k = usize::from(letter.to.number());
         if k >= self.seats.len() {
-            return Answer::Refused(Refusal::NoNode);
+            return Answer::Refused(EventRefusal::NoNode);
         }
         let alloc = self.alloc;
         let seat = &mut self.seats[k];

@@ -14,8 +14,8 @@ use Rattle.node.specs.Step.{Outcome, heed, is_heeded, nothing}
 use Rattle.node.specs.Calls.{Called, Cause, Course}
 use Rattle.node.specs.Calls.Cause.{Receive}
 use Rattle.std.specs.declared.alloc.Global.{Global}
-use Rattle.node.specs.Calls.{Ends, IsStop, Restarts, answer}
-use Rattle.node.specs.Sched.{Stands, Does, Fails, view_over}
+use Rattle.node.specs.Calls.{CallEnds, IsStop, Restarts, answer}
+use Rattle.node.specs.Sched.{Stands, Does, AfterStoreFault, view_over}
 use Rattle.proposer.specs.declared.fault.NodeFault.{NodeFault as Fault}
 use Rattle.node.specs.declared.parts.Parts.{Parts}
 
@@ -25,7 +25,7 @@ either_same found c h d is = inl (h.1 d is)
 module _ {R : Type 0} (may_find : R → Content → Type 0) (old : Parts R) (up : old.is_down ≡ false) (content : Content) (holds : Holds (may_find old.records) content) (IsCourse : Result Outcome Fault → Type 0) where
   -- the call ends so
   abbrev pub EndsSo : Result (List Letter) Fault → Parts R → Type 0
-  EndsSo result new = (t : Standing) × Ends IsCourse (view_over old content) result t × Stands may_find new t
+  EndsSo result new = (t : Standing) × CallEnds IsCourse (view_over old content) result t × Stands may_find new t
 
   pub unchanged : (result : Result (List Letter) Fault) → result ≡ Err Fault.OutOfMemory → EndsSo result old
   unchanged result is = subst (λ r. EndsSo r old) (sym is) (Running (view_over old content), refl, (up, refl, holds))
@@ -51,7 +51,7 @@ module _ {R : Type 0} (may_find : R → Content → Type 0) (old : Parts R) (up 
     pub kept : (result : Result (List Letter) Fault) → result ≡ Err Fault.OutOfMemory → Holds (may_find a) content → EndsSo result later
     kept result is found = subst (λ r. EndsSo r later) (sym is) (Running (view_over old content), refl, (up, refl, found))
 
-    pub fails : (fault : RecordsFault) (told : Fault) (new : Parts R) → Fails later fault told new
+    pub fails : (fault : RecordsFault) (told : Fault) (new : Parts R) → AfterStoreFault later fault told new
         → (IsHarmless fault → FindsSame (may_find old.records) (may_find a))
         → (HoldsEither (may_find a) content content ⊎ ((o : Outcome) × IsCourse (Ok o) × HoldsEither (may_find a) content (after_write content o.write)))
         → EndsSo (Err told) new
@@ -62,15 +62,15 @@ module _ {R : Type 0} (may_find : R → Content → Type 0) (old : Parts R) (up 
 
 -- what a part of a call does, it does for each view that the node stands for
 pub for_view : {R : Type 0} (may_find : R → Content → Type 0) (old new : Parts R) (IsCourse : View → Result Outcome Fault → Type 0) (result : Result (Vec Letter Global) Fault)
-    → Does may_find old IsCourse result new → (view : View) → Stands may_find old (Running view) → (t : Standing) × Ends (IsCourse view) view (answer result) t × Stands may_find new t
-for_view may_find old new IsCourse result does view stands = subst (λ v. (t : Standing) × Ends (IsCourse v) v (answer result) t × Stands may_find new t) (sym stands.1) (does view.content stands.2)
+    → Does may_find old IsCourse result new → (view : View) → Stands may_find old (Running view) → (t : Standing) × CallEnds (IsCourse view) view (answer result) t × Stands may_find new t
+for_view may_find old new IsCourse result does view stands = subst (λ v. (t : Standing) × CallEnds (IsCourse v) v (answer result) t × Stands may_find new t) (sym stands.1) (does view.content stands.2)
 
 -- a restart that failed, where the records found nothing new, and after a harmless fault hold what they held
 module _ {R : Type 0} (may_find : R → Content → Type 0) (old : Parts R) (a : R) (adds : AddsNothing (may_find old.records) (may_find a)) where
   abbrev pub FailsSo : Standing → Fault → Parts R → Type 0
   FailsSo s told new = (t : Standing) × Restarts s (Err told) t × Stands may_find new t
 
-  pub restart_fails : (fault : RecordsFault) (told : Fault) (new : Parts R) → (IsHarmless fault → (c : Content) → Holds (may_find old.records) c → Holds (may_find a) c) → Fails record old { records = a } fault told new → (s : Standing) → Stands may_find old s → FailsSo s told new
+  pub restart_fails : (fault : RecordsFault) (told : Fault) (new : Parts R) → (IsHarmless fault → (c : Content) → Holds (may_find old.records) c → Holds (may_find a) c) → AfterStoreFault record old { records = a } fault told new → (s : Standing) → Stands may_find old s → FailsSo s told new
   restart_fails Refused told new harmless so (Running view) stands = subst (λ n. FailsSo (Running view) told n) (sym so.1) (subst (λ f. FailsSo (Running view) f record old { records = a }) (sym so.0) (Running view, refl, (stands.0, stands.1, harmless tt view.content stands.2)))
   restart_fails OutOfMemory told new harmless so (Running view) stands = subst (λ n. FailsSo (Running view) told n) (sym so.1) (subst (λ f. FailsSo (Running view) f record old { records = a }) (sym so.0) (Running view, refl, (stands.0, stands.1, harmless tt view.content stands.2)))
   restart_fails Broken told new harmless so (Running view) stands = subst (λ n. FailsSo (Running view) told n) (sym so.1) (subst (λ f. FailsSo (Running view) f record old { records = a; is_down = true }) (sym so.0) (Stopped view.content None, refl, (refl, λ d is. inl (stands.2.1 d (adds d is)))))
@@ -136,7 +136,7 @@ pub received : {R : Type 0} (may_find : R → Content → Type 0) (count_of : R 
     → Does may_find old (λ view course. course ≡ Ok (heed (member_count old.proposer.members) old.proposer.id view l.from l.note)) result new
     → (s : Standing) → Stands may_find old s → (t : Standing) × Called (member_count old.proposer.members) old.proposer.id s (Receive l) (answer result) t × Stands may_find new t
 received may_find count_of old new l up so result does (Running view) stands =
-    subst (λ (o : Outcome). (t : Standing) × Ends (λ course. course ≡ Ok o) view (answer result) t × Stands may_find new t)
+    subst (λ (o : Outcome). (t : Standing) × CallEnds (λ course. course ≡ Ok o) view (answer result) t × Stands may_find new t)
     (sym (ap (λ x. cond x (heed (member_count old.proposer.members) old.proposer.id view l.from l.note) (nothing view)) so))
     (for_view may_find old new (λ view course. course ≡ Ok (heed (member_count old.proposer.members) old.proposer.id view l.from l.note)) result does view stands)
 received may_find count_of old new l up so result does (Stopped c doubt) stands = absurd (cc (up, stands.0))

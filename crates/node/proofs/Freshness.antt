@@ -16,7 +16,7 @@ use Rattle.node.specs.View.{View, Standing, started}
 use Rattle.node.specs.View.Standing.{Running, Stopped}
 use Rattle.node.specs.Calls.{TellsFresh, down_after}
 use Rattle.node.specs.Learned.{Learned}
-use Rattle.node.specs.Sched.{Stands, Fails, IsUntouched, view_over}
+use Rattle.node.specs.Sched.{Stands, AfterStoreFault, IsUntouched, view_over}
 use Rattle.node.specs.declared.parts.Parts.{Parts}
 use Rattle.node.proofs.Endings.{still_holds}
 
@@ -66,7 +66,7 @@ module _ {R : Type 0} (may_find : R → Content → Type 0) (old : Parts R) (up 
     abbrev FailsSo : Standing → Fault → Parts R → Type 0
     FailsSo s told new = (t : Standing) × TellsFresh s (Err told) t × Stands may_find new t
 
-    pub tell_fails : (T : Type 0) (mid : Findable) (fault : RecordsFault) (told : Fault) (new : Parts R) → FindsSame (may_find old.records) mid → Keeps {T = T} (Err fault) mid (may_find a) → Fails later fault told new
+    pub tell_fails : (T : Type 0) (mid : Findable) (fault : RecordsFault) (told : Fault) (new : Parts R) → FindsSame (may_find old.records) mid → Keeps {T = T} (Err fault) mid (may_find a) → AfterStoreFault later fault told new
         → (s : Standing) → Stands may_find old s → FailsSo s told new
     tell_fails T mid Refused told new same keeps so (Running view) stands =
         subst (λ n. FailsSo (Running view) told n) (sym so.1) (subst (λ f. FailsSo (Running view) f later) (sym so.0) (Running view, refl, (up, stands.1, still_holds mid (may_find a) view.content keeps (still_holds (may_find old.records) mid view.content same stands.2))))

@@ -16,7 +16,7 @@ use Rattle.proposer.specs.declared.proposer.Proposer.{Proposer}
 use Rattle.node.specs.View.{View, values_from, gapless}
 use Rattle.node.specs.View.Standing.{Running, Stopped}
 use Rattle.node.specs.Step.{Leads, lead_with, limit}
-use Rattle.node.specs.Calls.{Ends}
+use Rattle.node.specs.Calls.{CallEnds}
 use Rattle.node.specs.Sched.{Stands, Stops, view_over}
 use Rattle.node.specs.declared.parts.Parts.{Parts}
 use Rattle.node.proofs.Endings.{EndsSo, still_holds}
@@ -48,7 +48,7 @@ module _ {R : Type 0} (may_find : R → Content → Type 0) (old : Parts R) (up 
   abbrev pub Ended : Result (List Letter) Fault → Parts R → Type 0
   Ended = EndsSo may_find old up content holds (Leads members me view)
 
-  stays : (fault : Fault) → Ends (Leads members me view) view (Err fault) (Running view) → FindsSame (may_find old.records) (may_find records) → (new : Parts R) → new ≡ later → Ended (Err fault) new
+  stays : (fault : Fault) → CallEnds (Leads members me view) view (Err fault) (Running view) → FindsSame (may_find old.records) (may_find records) → (new : Parts R) → new ≡ later → Ended (Err fault) new
   stays fault ends same new is = subst (λ n. Ended (Err fault) n) (sym is) (Running view, ends, (up, refl, still_holds (may_find old.records) (may_find records) content same holds))
 
   is_full : most_places ≤ prefix → Leads members me view (Err Fault.LogFull)

@@ -13,7 +13,7 @@ use Rattle.node.specs.View.{View}
 use Rattle.node.specs.View.Standing.{Running}
 use Rattle.node.specs.Step.{offer, Outcome}
 use Rattle.proposer.specs.declared.role.Role.{Role}
-use Rattle.node.specs.Calls.{Ends, TakesTurn, answer}
+use Rattle.node.specs.Calls.{CallEnds, TakesTurn, answer}
 use Rattle.node.specs.Sched.{view_over}
 use Rattle.node.specs.declared.parts.Parts.{Parts}
 use Rattle.node.proofs.Endings.{EndsSo, turns}
@@ -36,10 +36,10 @@ module _ {R : Type 0} (may_find : R → Content → Type 0) (old : Parts R) (up 
   IsCourse course = course ≡ offer members me view old.proposer.role v
 
   -- a fault of the offer's own
-  declines : (fault : Fault) → turn.offer members me old.proposer.role v ≡ Err fault → Ends IsCourse view (Err fault) (Running view)
+  declines : (fault : Fault) → turn.offer members me old.proposer.role v ≡ Err fault → CallEnds IsCourse view (Err fault) (Running view)
   declines fault is = by_fault fault (sym (offer_so members me view old.proposer.role v ∙ ap (turned_or members me view) is)) is
     where
-      by_fault : (fault : Fault) → Err fault ≡ offer members me view old.proposer.role v → turn.offer members me old.proposer.role v ≡ Err fault → Ends IsCourse view (Err fault) (Running view)
+      by_fault : (fault : Fault) → Err fault ≡ offer members me view old.proposer.role v → turn.offer members me old.proposer.role v ≡ Err fault → CallEnds IsCourse view (Err fault) (Running view)
       by_fault Fault.NotLeading course is = (course, refl)
       by_fault Fault.LogFull course is = (course, refl)
       by_fault Fault.RoundsSpent course is = (course, refl)

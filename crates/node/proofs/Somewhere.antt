@@ -18,9 +18,9 @@ module _ {R : Type 0} (may_find : R → Content → Type 0) (is_honest : R → B
   IsSomewhere n = IsTrue (is_honest n.records) → ∥ ((s : Standing) × Stands may_find n s) ∥₁
 
   -- a call that answers for each standing
-  pub goes_on : (old new : Parts R) → (Ends : Standing → Standing → Type 0) → IsSomewhere old → (IsTrue (is_honest new.records) → IsTrue (is_honest old.records))
-      → (IsTrue (is_honest new.records) → (s : Standing) → Stands may_find old s → (t : Standing) × Ends s t × Stands may_find new t) → IsSomewhere new
-  goes_on old new Ends was honesty done honest = ∥∥₁_map (was (honesty honest)) (λ at. let after = done honest at.0 at.1 in (after.0, after.2))
+  pub goes_on : (old new : Parts R) → (CallEnds : Standing → Standing → Type 0) → IsSomewhere old → (IsTrue (is_honest new.records) → IsTrue (is_honest old.records))
+      → (IsTrue (is_honest new.records) → (s : Standing) → Stands may_find old s → (t : Standing) × CallEnds s t × Stands may_find new t) → IsSomewhere new
+  goes_on old new CallEnds was honesty done honest = ∥∥₁_map (was (honesty honest)) (λ at. let after = done honest at.0 at.1 in (after.0, after.2))
 
   -- a part of a call of a node that is up
   pub does_on : (old new : Parts R) → old.is_down ≡ false → (IsCourse : View → Result Outcome Fault → Type 0) (result : Result (Vec Letter Global) Fault) → IsSomewhere old

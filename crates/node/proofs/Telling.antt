@@ -6,11 +6,11 @@ use Rattle.acceptor.specs.declared.records.RecordsFault.TheVariants.{Refused, Br
 use Rattle.proposer.specs.Faults.{CountsStops, BreaksByStop, told}
 use Rattle.proposer.specs.declared.fault.NodeFault.{NodeFault as Fault}
 use Rattle.node.specs.Calls.{Kept, KeptByRestart}
-use Rattle.node.specs.Sched.{Fails, Stops, who_of}
+use Rattle.node.specs.Sched.{AfterStoreFault, Stops, who_of}
 use Rattle.node.specs.declared.parts.Parts.{Parts}
 
 -- a store's fault, told as the node's, leaves it so
-pub fails_so : {R : Type 0} (old : Parts R) (fault : RecordsFault) (first answer : Fault) (new : Parts R) → first ≡ told fault → answer ≡ first → Stops old first new → Fails old fault answer new
+pub fails_so : {R : Type 0} (old : Parts R) (fault : RecordsFault) (first answer : Fault) (new : Parts R) → first ≡ told fault → answer ≡ first → Stops old first new → AfterStoreFault old fault answer new
 fails_so old Refused first answer new is same stops = (same ∙ is, subst (λ f. Stops old f new) is stops)
 fails_so old OutOfMemory first answer new is same stops = (same ∙ is, subst (λ f. Stops old f new) is stops)
 fails_so old Broken first answer new is same stops = (same ∙ is, subst (λ f. Stops old f new) is stops)
@@ -29,7 +29,7 @@ module _ {R : Type 0} (count_of : R → ℕ) (is_broken : R → Bool) (old : Par
   later = record old { records = a }
 
   -- a call in which the store failed
-  pub failed : (fault : RecordsFault) (answer : Fault) (new : Parts R) → old.is_down ≡ false → Fails later fault answer new
+  pub failed : (fault : RecordsFault) (answer : Fault) (new : Parts R) → old.is_down ≡ false → AfterStoreFault later fault answer new
       → CountsFaults {T = Unit {0}} (Err fault) (count_of old.records) (count_of a) → BreaksBy {T = Unit {0}} (Err fault) (is_broken old.records) (is_broken a)
       → Kept {T = Unit {0}} (who_of count_of is_broken old) (Err answer) (who_of count_of is_broken new)
   failed Refused answer new up so counts breaks =
@@ -43,7 +43,7 @@ module _ {R : Type 0} (count_of : R → ℕ) (is_broken : R → Bool) (old : Par
       (subst (λ f. Kept {T = Unit {0}} (who_of count_of is_broken old) (Err f) (who_of count_of is_broken record later { is_down = true })) (sym so.0) (refl, refl, counts.0, inl (counts.1 tt, breaks), refl))
 
   -- a restart in which the store failed
-  pub restart_failed : (fault : RecordsFault) (answer : Fault) (new : Parts R) → Fails later fault answer new
+  pub restart_failed : (fault : RecordsFault) (answer : Fault) (new : Parts R) → AfterStoreFault later fault answer new
       → CountsFaults {T = Unit {0}} (Err fault) (count_of old.records) (count_of a) → BreaksByReopen {T = Unit {0}} (Err fault) (is_broken old.records) (is_broken a)
       → KeptByRestart {T = Unit {0}} (who_of count_of is_broken old) (Err answer) (who_of count_of is_broken new)
   restart_failed Refused answer new so counts breaks =
@@ -57,7 +57,7 @@ module _ {R : Type 0} (count_of : R → ℕ) (is_broken : R → Bool) (old : Par
       (subst (λ f. KeptByRestart {T = Unit {0}} (who_of count_of is_broken old) (Err f) (who_of count_of is_broken record later { is_down = true })) (sym so.0) (refl, refl, counts.0, (counts.1 tt, breaks), refl))
 
   -- a restart in which the store was reopened, and failed as it was read
-  pub reading_failed : (mid : ℕ) (broken : Bool) (fault : RecordsFault) (answer : Fault) (new : Parts R) → Fails later fault answer new
+  pub reading_failed : (mid : ℕ) (broken : Bool) (fault : RecordsFault) (answer : Fault) (new : Parts R) → AfterStoreFault later fault answer new
       → mid ≡ count_of old.records → CountsFaults {T = Unit {0}} (Err fault) mid (count_of a) → BreaksBy {T = Unit {0}} (Err fault) broken (is_broken a)
       → KeptByRestart {T = Unit {0}} (who_of count_of is_broken old) (Err answer) (who_of count_of is_broken new)
   reading_failed mid broken Refused answer new so same counts breaks =

@@ -42,16 +42,16 @@ answer (Ok letters) = Ok letters.items
 answer (Err fault) = Err fault
 
 -- a call of a running node ends so. Want of memory and a store that refused change nothing, a broken store leaves the node down, the one write of the call there or not, and any other fault is the case's
-abbrev pub Ends : (Result Outcome Fault → Type 0) → View → Result (List Letter) Fault → Standing → Type 0
-Ends IsCourse view (Ok letters) new = (o : Outcome) × IsCourse (Ok o) × (letters ≡ o.letters) × (new ≡ Running o.view)
-Ends IsCourse view (Err OutOfMemory) new = new ≡ Running view
-Ends IsCourse view (Err StoreRefused) new = new ≡ Running view
-Ends IsCourse view (Err Down) new = (new ≡ Stopped view.content None) ⊎ ((o : Outcome) × IsCourse (Ok o) × (new ≡ Stopped view.content o.write))
-Ends IsCourse view (Err declined) new = IsCourse (Err declined) × (new ≡ Running view)
+abbrev pub CallEnds : (Result Outcome Fault → Type 0) → View → Result (List Letter) Fault → Standing → Type 0
+CallEnds IsCourse view (Ok letters) new = (o : Outcome) × IsCourse (Ok o) × (letters ≡ o.letters) × (new ≡ Running o.view)
+CallEnds IsCourse view (Err OutOfMemory) new = new ≡ Running view
+CallEnds IsCourse view (Err StoreRefused) new = new ≡ Running view
+CallEnds IsCourse view (Err Down) new = (new ≡ Stopped view.content None) ⊎ ((o : Outcome) × IsCourse (Ok o) × (new ≡ Stopped view.content o.write))
+CallEnds IsCourse view (Err declined) new = IsCourse (Err declined) × (new ≡ Running view)
 
 -- a call of node me, and where the node then stands. One that is down answers so and changes nothing
 abbrev pub Called : ℕ → ℕ → Standing → Cause → Result (List Letter) Fault → Standing → Type 0
-Called members me (Running view) cause result new = Ends (Course members me view cause) view result new
+Called members me (Running view) cause result new = CallEnds (Course members me view cause) view result new
 Called members me (Stopped c doubt) cause result new = (result ≡ Err Down) × (new ≡ Stopped c doubt)
 
 -- a letter from node n says nothing new to a node with this role and these learned values: a higher ballot, a promise that isn't counted, or a value at a place that is learned

@@ -9,7 +9,7 @@ use Rattle.learner.specs.Tally.{no_tally}
 use Rattle.node.specs.View.{View, Standing}
 use Rattle.node.specs.View.Standing.{Running, Stopped}
 use Rattle.node.specs.Step.{Outcome}
-use Rattle.node.specs.Calls.{Who, answer, Ends}
+use Rattle.node.specs.Calls.{Who, answer, CallEnds}
 use Rattle.proposer.specs.declared.role.Role.TheVariants.{Idle}
 use Rattle.proposer.specs.declared.fault.NodeFault.{NodeFault as Fault}
 use Rattle.node.specs.declared.parts.Parts.{Parts}
@@ -32,13 +32,13 @@ Stands may_find n (Stopped c doubt) = (n.is_down ≡ true) × HoldsEither (may_f
 abbrev pub Does : {R : Type 0} → (R → Content → Type 0) → Parts R → (View → Result Outcome Fault → Type 0) → Result (Vec Letter Global) Fault → Parts R → Type 0
 Does may_find old IsCourse result new =
     (c : Content) → Holds (may_find old.records) c
-    → (t : Standing) × Ends (IsCourse (view_over old c)) (view_over old c) (answer result) t × Stands may_find new t
+    → (t : Standing) × CallEnds (IsCourse (view_over old c)) (view_over old c) (answer result) t × Stands may_find new t
 
 -- the node after a store's fault, and what it answers
-abbrev pub Fails : {R : Type 0} → Parts R → RecordsFault → Fault → Parts R → Type 0
-Fails old Refused fault new = (fault ≡ Fault.StoreRefused) × (new ≡ old)
-Fails old OutOfMemory fault new = (fault ≡ Fault.OutOfMemory) × (new ≡ old)
-Fails old Broken fault new = (fault ≡ Fault.Down) × (new ≡ record old { is_down = true })
+abbrev pub AfterStoreFault : {R : Type 0} → Parts R → RecordsFault → Fault → Parts R → Type 0
+AfterStoreFault old Refused fault new = (fault ≡ Fault.StoreRefused) × (new ≡ old)
+AfterStoreFault old OutOfMemory fault new = (fault ≡ Fault.OutOfMemory) × (new ≡ old)
+AfterStoreFault old Broken fault new = (fault ≡ Fault.Down) × (new ≡ record old { is_down = true })
 
 -- the node after a fault of its own or its store's
 abbrev pub Stops : {R : Type 0} → Parts R → Fault → Parts R → Type 0

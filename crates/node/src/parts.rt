@@ -52,11 +52,11 @@ fn place_of(number: u64) -> Place
 }
 
 impl<R: Records> Parts<R> {
-    ghost use Rattle.node.specs.Sched.{Does, Fails, IsUntouched, Stands, Stops, view_over, who_of};
+    ghost use Rattle.node.specs.Sched.{Does, AfterStoreFault, IsUntouched, Stands, Stops, view_over, who_of};
 
     /// The store failed.
     pub(crate) fn fail(&mut self, fault: RecordsFault) -> NodeFault
-        ensures fails { Fails self.old fault result self.new }
+        ensures fails { AfterStoreFault self.old fault result self.new }
         ensures tells { IsStop result }
         ensures records { self.new.records ≡ self.old.records }
     {

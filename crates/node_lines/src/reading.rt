@@ -58,7 +58,7 @@ fn letter_from(alloc: Global, line: Vec<u8>, place: usize) -> Result<Letter, Lin
     }
 }
 
-fn number_of(digits: &[u8]) -> Option<u64>
+fn number_in(digits: &[u8]) -> Option<u64>
     ensures { MatchOption result ((n : ℕ) → ¬ IsNumberText digits.now n) (IsNumberText digits.now) }
 {
     let Ok(text) = str::from_utf8(digits) else {
@@ -84,7 +84,7 @@ fn request_of(alloc: Global, line: Vec<u8>) -> Result<Request, LineFault>
         return Ok(Request::Offer(Bytes::new(bytes_from(line, place)?)));
     }
     if let Some(place) = behind(&line, b"release ") {
-        return match number_of(&line[place..]) {
+        return match number_in(&line[place..]) {
             Some(now) => Ok(Request::Release(now)),
             None => Err(LineFault::NoNumber),
         };

@@ -9,11 +9,11 @@ use Rattle.seats.specs.declared.answer.Transmission.{Transmission}
 use Rattle.network_script.specs.World.{released_by}
 use Rattle.network_script.proofs.Callers.{along_joins, get_front, get_behind}
 use Rattle.seats.specs.Receiver.{Receiver, new_receiver}
-use Rattle.seats.specs.Modems.{ModemNext, OfModem, Listens as ListensTo}
+use Rattle.seats.specs.Modems.{ModemNext, OfModem, Listens}
 use Rattle.seats.specs.Receiving.{AreReceivers}
 use Rattle.node_worker.specs.Legal.{outputs_of}
 use Rattle.node_worker.specs.Places.{IsPlaceOf}
-use Rattle.node_worker.specs.Runs.{IsOfModem, IsOutputAt, ListensNext, Listens, HaveListened, sent_by}
+use Rattle.node_worker.specs.Runs.{IsOfModem, IsOutputAt, ListensNext, ListensAlong, HaveListened, sent_by}
 use Rattle.node_worker.specs.declared.entry.Done.{Done}
 use Rattle.std.proofs.lemmas.Grind.{flat_map-append}
 use Rattle.std.proofs.lemmas.List.{append-nil, take_more, take-append-le}
@@ -23,12 +23,12 @@ use Rattle.map_release.specs.declared.numbered.Numbered.{Numbered}
 -- a modem's event is the same where more was released
 step_more : (xs ys : List ReleasedOutput) (rs mid : List Receiver) (e : Event) (told : Answer) → IsOfModem (length xs) e → ModemNext rs xs e told mid → ListensNext (xs ++ ys) rs e told mid
 step_more xs ys rs mid (event.Hear m i near) told within next =
-    (omega (arith, within, length-append xs ys), subst (λ (o : Option ReleasedOutput). OfModem rs m (slice_get rs m) (λ r. ListensTo r o near) told mid) (sym (get_front xs ys i within)) next)
+    (omega (arith, within, length-append xs ys), subst (λ (o : Option ReleasedOutput). OfModem rs m (slice_get rs m) (λ r. Listens r o near) told mid) (sym (get_front xs ys i within)) next)
 step_more xs ys rs mid (event.Want m ch sid n) told within next = (tt, next)
 step_more xs ys rs mid (event.Tick m ch slot random) told within next = (tt, next)
 step_more xs ys rs mid other told never next = absurd never
 
-listens_more : (xs ys : List ReleasedOutput) (rs rs' : List Receiver) (events : List Event) (answers : List Answer) → Listens xs rs events answers rs' → Listens (xs ++ ys) rs events answers rs'
+listens_more : (xs ys : List ReleasedOutput) (rs rs' : List Receiver) (events : List Event) (answers : List Answer) → ListensAlong xs rs events answers rs' → ListensAlong (xs ++ ys) rs events answers rs'
 listens_more xs ys rs rs' [] [] same = same
 listens_more xs ys rs rs' (e ∷ events) (told ∷ answers) (mid, (within, next), rest) =
     (mid, step_more xs ys rs mid e told within next, listens_more xs ys mid rs' events answers rest)
@@ -40,7 +40,7 @@ listened_more ids records more modems sent told = record {
   events = told.events;
   answers = told.answers;
   receivers = told.receivers;
-  listened = subst (λ (xs : List ReleasedOutput). Listens xs (map new_receiver ids) told.events told.answers told.receivers) (sym (flat_map-append _ records more)) (listens_more (outputs_of records) (outputs_of more) (map new_receiver ids) told.receivers told.events told.answers told.listened);
+  listened = subst (λ (xs : List ReleasedOutput). ListensAlong xs (map new_receiver ids) told.events told.answers told.receivers) (sym (flat_map-append _ records more)) (listens_more (outputs_of records) (outputs_of more) (map new_receiver ids) told.receivers told.events told.answers told.listened);
   hold = told.hold;
   sends = told.sends;
 }

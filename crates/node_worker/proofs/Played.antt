@@ -29,7 +29,7 @@ use Rattle.node_worker.specs.declared.entry.Done.{Done}
 use Rattle.node_worker.specs.Entries.{EntryView}
 use Rattle.node_worker.specs.Replays.{EntryStep, Replays, answer_of, opening}
 use Rattle.node_worker.specs.Legal.{entries_of, letters_of, outputs_of, Comes, IsSound}
-use Rattle.node_worker.specs.Runs.{IsEvent, ReadAs, Listens, sent_by, IsOfModem, IsSilent, Listened, HaveListened, SoundIsRun, SoundIsLegal, IsLegal, SendsAsOwner}
+use Rattle.node_worker.specs.Runs.{IsEvent, ReadAs, ListensAlong, sent_by, IsOfModem, IsSilent, Listened, HaveListened, SoundIsRun, SoundIsLegal, AreLegal, SendsAsOwner}
 use Rattle.node_worker.proofs.Plants.{entries_of-append, entries_of_one}
 use Rattle.node_worker.proofs.Wholes.{at_one}
 use Rattle.node_worker.proofs.Moving.{entry_moves}
@@ -52,7 +52,7 @@ record Played (members : ℕ) (w : Written) (records : List Done) (rs : List Rec
 abbrev after_modem : Written → List Receiver → Event → Answer → Written
 after_modem w mid e told = record w { modems = mid; transmissions = w.transmissions ++ sent_at e told }
 
-modems_go : (members : ℕ) (w : Written) (events : List Event) (answers : List Answer) (rs : List Receiver) → Listens w.outputs w.modems events answers rs → Played members w [] rs (sent_by events answers)
+modems_go : (members : ℕ) (w : Written) (events : List Event) (answers : List Answer) (rs : List Receiver) → ListensAlong w.outputs w.modems events answers rs → Played members w [] rs (sent_by events answers)
 modems_go members w [] [] rs listens = record { script = []; report = []; world = w; read = refl; goes = refl; letters = sym (append-nil w.letters); outputs = sym (append-nil w.outputs); modems = sym listens; transmissions = sym (append-nil w.transmissions); stand = λ k s at. (s, at, refl) }
 modems_go members w (event.Hear m i near ∷ events) (told ∷ answers) rs (mid, (within, step), listens) =
     let rest = modems_go members (after_modem w mid (event.Hear m i near) told) events answers rs listens in
@@ -130,8 +130,8 @@ reads sent d ds (event.Tick m ch slot random) script report is rest = absurd (no
 
 goes : (members : ℕ) (w : Written) (records : List Done) (events : List Event) (answers : List Answer) (rs : List Receiver)
     → EachGoes members w.nodes records → ComesFrom w.letters records → Within (length w.nodes) records
-    → Listens (w.outputs ++ outputs_of records) w.modems events answers rs → Played members w records rs (sent_by events answers)
-goes members w [] events answers rs each comes named listens = modems_go members w events answers rs (subst (λ (xs : List ReleasedOutput). Listens xs w.modems events answers rs) (append-nil w.outputs) listens)
+    → ListensAlong (w.outputs ++ outputs_of records) w.modems events answers rs → Played members w records rs (sent_by events answers)
+goes members w [] events answers rs each comes named listens = modems_go members w events answers rs (subst (λ (xs : List ReleasedOutput). ListensAlong xs w.modems events answers rs) (append-nil w.outputs) listens)
 goes members w (d ∷ ds) events answers rs each comes named listens =
     let within : d.node < length w.nodes = named zero d refl in
     let s : (s : Standing) × (slice_get w.nodes d.node ≡ Some s) = get_some w.nodes d.node within in
@@ -162,15 +162,15 @@ goes members w (d ∷ ds) events answers rs each comes named listens =
     λ i x at. subst (λ (ls : List Letter). Comes ls x.node x.entry.cause) (sym (append_assoc w.letters d.entry.letters (letters_of (take i ds)))) (comes (suc i) x at) in
     let named' : Within (length nodes) ds = λ i x at. subst (λ (n : ℕ). x.node < n) (sym (length-set w.nodes d.node step.0)) (named (suc i) x at) in
     let given : List ReleasedOutput = released_by d.node d.entry.outputs in
-    let listens' : Listens ((w.outputs ++ given) ++ outputs_of ds) w.modems events answers rs =
-    subst (λ (xs : List ReleasedOutput). Listens xs w.modems events answers rs) (sym (append_assoc w.outputs given (outputs_of ds))) listens in
+    let listens' : ListensAlong ((w.outputs ++ given) ++ outputs_of ds) w.modems events answers rs =
+    subst (λ (xs : List ReleasedOutput). ListensAlong xs w.modems events answers rs) (sym (append_assoc w.outputs given (outputs_of ds))) listens in
     let rest : Played members m.0 ds rs (sent_by events answers) =
     goes members m.0 ds events answers rs
     (subst (λ (ns : List Standing). EachGoes members ns ds) (sym m.2.nodes) each')
     (subst (λ (ls : List Letter). ComesFrom ls ds) (sym m.2.sent) comes')
     (subst (λ (ns : List Standing). Within (length ns) ds) (sym m.2.nodes) named')
-    (subst (λ (xs : List ReleasedOutput). Listens (xs ++ outputs_of ds) m.0.modems events answers rs) (sym m.2.given)
-    (subst (λ (ms : List Receiver). Listens ((w.outputs ++ given) ++ outputs_of ds) ms events answers rs) (sym m.2.modems) listens')) in
+    (subst (λ (xs : List ReleasedOutput). ListensAlong (xs ++ outputs_of ds) m.0.modems events answers rs) (sym m.2.given)
+    (subst (λ (ms : List Receiver). ListensAlong ((w.outputs ++ given) ++ outputs_of ds) ms events answers rs) (sym m.2.modems) listens')) in
     record {
       script = e.0 ∷ rest.script;
       report = answer_of d.entry.cause d.entry.ended d.entry.letters d.entry.outputs ∷ rest.report;
@@ -253,7 +253,7 @@ named_by ids vs rs are named j v at =
     receiver_of (w ∷ vs) (r ∷ rs) (suc j) v are at = receiver_of vs rs j v are.1 at
 
 -- modems that sent this and the records are legal
-abbrev legal_with : (members : ℕ) (ids : List ℕ) (records : List Done) (modems : List State) (sent : List Transmission) → IsSound members records → HaveListened ids (outputs_of records) modems sent → IsLegal members records modems
+abbrev legal_with : (members : ℕ) (ids : List ℕ) (records : List Done) (modems : List State) (sent : List Transmission) → IsSound members records → HaveListened ids (outputs_of records) modems sent → AreLegal members records modems
 legal_with members ids records modems sent sound listened =
     let run = sound_is_run members ids records modems sent sound listened in
     let all = headline members ids run.script run.report run.world run.run in
@@ -263,7 +263,7 @@ pub sound_is_legal : SoundIsLegal
 sound_is_legal members records modems sound listened = legal_with members listened.0 records modems listened.1 sound listened.2
 
 -- with no modem
-pub sound_alone : (members : ℕ) (records : List Done) → IsSound members records → IsLegal members records []
+pub sound_alone : (members : ℕ) (records : List Done) → IsSound members records → AreLegal members records []
 sound_alone members records sound = sound_is_legal members records [] sound ([], [], record { events = []; answers = []; receivers = []; listened = refl; hold = tt; sends = refl })
 
 sent_last : (events : List Event) (answers : List Answer) (e : Event) (told : Answer) → length events ≡ length answers → (x : Transmission) → IsIn (sent_at e told) x → IsIn (sent_by (events ++ e ∷ []) (answers ++ told ∷ [])) x
@@ -272,7 +272,7 @@ sent_last (f ∷ events) (answer ∷ answers) e told same x here = in_right (sen
 sent_last [] (answer ∷ answers) e told same x here = absurd (omega (arith, same))
 sent_last (f ∷ events) [] e told same x here = absurd (omega (arith, same))
 
-listens_length : (xs : List ReleasedOutput) (rs rs' : List Receiver) (events : List Event) (answers : List Answer) → Listens xs rs events answers rs' → length events ≡ length answers
+listens_length : (xs : List ReleasedOutput) (rs rs' : List Receiver) (events : List Event) (answers : List Answer) → ListensAlong xs rs events answers rs' → length events ≡ length answers
 listens_length xs rs rs' [] [] listens = refl
 listens_length xs rs rs' (e ∷ events) (told ∷ answers) (mid, step, rest) = ap suc (listens_length xs mid rs' events answers rest)
 listens_length xs rs rs' [] (told ∷ answers) listens = absurd listens

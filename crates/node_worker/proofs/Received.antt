@@ -16,11 +16,11 @@ use Rattle.seats.specs.StoreFaults.{is_store_fault}
 use Rattle.seats.specs.declared.answer.Answer.{Answer}
 use Rattle.seats.specs.declared.answer.Answer.TheVariants.{Sent, Released, Finished, Refused, Fault, Crashed}
 use Rattle.seats.specs.declared.seat.Seat.{Seat}
-use Rattle.world_events.specs.declared.refusal.Refusal.TheVariants.{NodeDown, NodeUp}
+use Rattle.world_events.specs.declared.refusal.EventRefusal.TheVariants.{NodeDown, NodeUp}
 use Rattle.node_worker.specs.declared.entry.Cause.{Cause}
 use Rattle.node_worker.specs.declared.entry.Ended.{Ended}
 use Rattle.node_worker.specs.declared.entry.Ended.TheVariants.{FailedEither}
-use Rattle.node_worker.specs.Ends.{ended_of}
+use Rattle.node_worker.specs.Outcomes.{ended_of}
 use Rattle.node_worker.specs.Entries.{entry}
 use Rattle.node_worker.specs.Replays.{Carries, IsSurvived, answer_to, ask_of}
 

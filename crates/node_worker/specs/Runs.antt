@@ -84,8 +84,8 @@ abbrev pub ListensNext : List ReleasedOutput → List Receiver → Event → Ans
 ListensNext outputs rs e told rs' = IsOfModem (length outputs) e × ModemNext rs outputs e told rs'
 
 -- modems' events, one after another
-abbrev pub Listens : List ReleasedOutput → List Receiver → List Event → List Answer → List Receiver → Type 0
-Listens outputs = Along (ListensNext outputs)
+abbrev pub ListensAlong : List ReleasedOutput → List Receiver → List Event → List Answer → List Receiver → Type 0
+ListensAlong outputs = Along (ListensNext outputs)
 
 -- what modems sent at their events
 abbrev pub sent_by : List Event → List Answer → List Transmission
@@ -97,7 +97,7 @@ pub record HaveListened (ids : List ℕ) (outputs : List ReleasedOutput) (modems
   pub events : List Event
   pub answers : List Answer
   pub receivers : List Receiver
-  pub listened : Listens outputs (map new_receiver ids) events answers receivers
+  pub listened : ListensAlong outputs (map new_receiver ids) events answers receivers
   pub hold : AreReceivers modems receivers
   pub sends : sent ≡ sent_by events answers
 
@@ -112,7 +112,7 @@ SoundIsRun =
     → IsSound members records → HaveListened ids (outputs_of records) modems sent → IsRun members ids records modems sent
 
 -- records and modems are legal: each node's records are a replay and letters come after they were sent; read as events they are a run; and so they have one schedule, with all that holds of a run
-pub record IsLegal (members : ℕ) (records : List Done) (modems : List State) : Type 0 where
+pub record AreLegal (members : ℕ) (records : List Done) (modems : List State) : Type 0 where
   pub sound : IsSound members records
   pub ids : List ℕ
   pub sent : List Transmission
@@ -123,11 +123,11 @@ pub record IsLegal (members : ℕ) (records : List Done) (modems : List State) :
 
 -- sound records and modems that listened to their outputs are legal
 abbrev pub SoundIsLegal : Type 0
-SoundIsLegal = (members : ℕ) (records : List Done) (modems : List State) → IsSound members records → Listened (outputs_of records) modems → IsLegal members records modems
+SoundIsLegal = (members : ℕ) (records : List Done) (modems : List State) → IsSound members records → Listened (outputs_of records) modems → AreLegal members records modems
 
 -- the records and modems are legal, and modem m is the one owner of a minislot of a channel
 pub record IsOwned (members : ℕ) (records : List Done) (modems : List State) (m ch slot : ℕ) : Type 0 where
-  pub legal : IsLegal members records modems
+  pub legal : AreLegal members records modems
   pub modem : State
   pub there : slice_get modems m ≡ Some modem
   pub owns : Owner legal.values ch slot modem.id

@@ -7,7 +7,7 @@ ghost use Rattle.seats.specs.Seat.{SameMember};
 ghost use Rattle.seats.specs.Occupant.{IsHonest, who_of};
 ghost use Rattle.node_worker.specs.Entries.{entry};
 ghost use Rattle.node_worker.specs.Replays.{CarriesSeat, ask_of};
-ghost use Rattle.node_worker.specs.Ends.{SameOutcome, ended_of};
+ghost use Rattle.node_worker.specs.Outcomes.{SameOutcome, ended_of};
 ghost use Rattle.node_worker.specs.declared.entry.Ended.TheVariants.{FailedEither};
 
 use crate::compare::{copy_letters, copy_outputs};

@@ -3,7 +3,7 @@
 ghost use Rattle.std.specs.Prelude.{◌≡◌, ◌<◌, ◌≤◌, ◌↔◌, ℕ, length, IsTrue, IsOk, IfErr, count_by, ◌==◌, []};
 ghost use Rattle.node_worker.specs.KeptView.{IsReplay};
 ghost use Rattle.node_worker.specs.Legal.{entries_of, letters_of, Comes};
-ghost use Rattle.node_worker.specs.Runs.{IsLegal};
+ghost use Rattle.node_worker.specs.Runs.{AreLegal};
 ghost use Rattle.node_worker.specs.Audits.{FitsAt, IsEntry, AreCounted, IsWhole, IsTorn, IsCluster, AreReplays};
 
 use crate::entry::Record;
@@ -101,7 +101,7 @@ fn are_counted<N: Node>(kepts: &[Kept<N>], records: &[Record]) -> bool
 pub fn audit<N: Node>(kepts: &[Kept<N>], records: &[Record]) -> Result<(), Torn>
     ensures ok { IsOk result ↔ IsWhole kepts.now records.now }
     ensures torn { IfErr result (λ t. IsTorn kepts.now records.now t.0) }
-    ensures legal { IsOk result → IsCluster kepts.now → IsLegal (length kepts.now) records.now [] }
+    ensures legal { IsOk result → IsCluster kepts.now → AreLegal (length kepts.now) records.now [] }
 {
     let count = count_fitting(kepts, records);
     if count < records.len() {

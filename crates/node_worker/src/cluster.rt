@@ -6,7 +6,7 @@ ghost use Rattle.seats.specs.Fresh.{AreFresh};
 ghost use Rattle.seats.specs.Receiving.{AreNew};
 ghost use Rattle.node_worker.specs.Audits.{IsCluster};
 ghost use Rattle.node_worker.specs.KeptView.{AreTrusted, made_as, member_of};
-ghost use Rattle.node_worker.specs.Runs.{IsLegal};
+ghost use Rattle.node_worker.specs.Runs.{AreLegal};
 
 use crate::carrier::{Carrier, Gate};
 use crate::kept::{Kept, keep_all};
@@ -70,7 +70,7 @@ pub fn run_cluster<
     ensures cluster { IfOk result (λ back. AreTrusted N.honest → IsCluster back.0.items) }
     ensures carriers { IfOk result (λ back. (length back.1.items ≡ length nodes.items) × All (λ c. C.left c ≡ 0) back.1.items) }
     ensures given { IfOk result (λ back. map C.given back.1.items ≡ map C.given carriers.items) }
-    ensures legal { IfOk result (λ back. AreTrusted N.honest → IsLegal back.2.members back.2.records back.2.modems) }
+    ensures legal { IfOk result (λ back. AreTrusted N.honest → AreLegal back.2.members back.2.records back.2.modems) }
 {
     let members = match nodes.first() {
         Some(node) => node.members(),

@@ -8,7 +8,7 @@ use map_release::Numbered;
 use node::NodeFault;
 use std::alloc::{AllocError, Global};
 use std::marker::Model;
-use world_events::Refusal;
+use world_events::EventRefusal;
 
 /// What a node is asked from outside.
 #[derive(Drop)]
@@ -37,7 +37,7 @@ pub enum Ended {
     /// The node declined, and changed nothing.
     Fault(NodeFault),
     /// The node is down, or up where it was to restart, and nothing changed.
-    Refused(Refusal),
+    Refused(EventRefusal),
     /// The node crashed before its write.
     FailedBefore,
     /// The node crashed, its write there or not.

@@ -4,7 +4,7 @@ ghost use Rattle.std.specs.Prelude.{◌≡◌, ◌≢◌, ◌↔◌, [], ◌∷�
 ghost use Rattle.ballots.specs.Members.{member_count};
 ghost use Rattle.world_events.specs.declared.event.Event.TheVariants as event;
 ghost use Rattle.seats.specs.declared.answer.Answer.TheVariants.{Refused};
-ghost use Rattle.world_events.specs.declared.refusal.Refusal.TheVariants as refusal;
+ghost use Rattle.world_events.specs.declared.refusal.EventRefusal.TheVariants as refusal;
 ghost use Rattle.seats.specs.declared.answer.ReleasedOutput.{ReleasedOutput};
 ghost use Rattle.seats.specs.Receiver.{Receiver};
 ghost use Rattle.seats.specs.Modems.{ModemNext};
@@ -12,7 +12,7 @@ ghost use Rattle.seats.specs.Receiving.{AreNew, AreReceivers};
 ghost use Rattle.node_worker.specs.KeptView.{AreTrusted, SameNode};
 ghost use Rattle.node_worker.specs.Steps.{DoneBy, Recorded};
 ghost use Rattle.node_worker.specs.declared.entry.Done.{Done as Noted};
-ghost use Rattle.node_worker.specs.Runs.{IsLegal, IsModemEvent, IsOfModem, IsSilent, IsTick, Listened, SendsAsOwner};
+ghost use Rattle.node_worker.specs.Runs.{AreLegal, IsModemEvent, IsOfModem, IsSilent, IsTick, Listened, SendsAsOwner};
 ghost use Rattle.node_worker.specs.Places.{IsPlaceOf};
 ghost use Rattle.node_worker.specs.Legal.{entries_of, letters_of, outputs_of, Comes, Begins, IsSound, MayRecord};
 
@@ -27,7 +27,7 @@ use node::Node;
 use seats::{Answer, OutOfMemory, ask, hear_near, tick_at};
 use std::alloc::Global;
 use std::marker::{Model, PhantomData};
-use world_events::{Event, Refusal};
+use world_events::{Event, EventRefusal};
 
 /// The records of all nodes, in one order, and modems that hear what was released. It names the type of the
 /// nodes, since what a lock holds is known by its type alone.
@@ -95,7 +95,7 @@ impl<N: Node> Plant<N> {
     /// its store committed, whoever holds the plant has a legal one.
     pub fn records(&self) -> &[Record]
         ensures records { result.now ≡ self.now.records }
-        ensures legal { AreTrusted N.honest → IsLegal self.now.members self.now.records self.now.modems }
+        ensures legal { AreTrusted N.honest → AreLegal self.now.members self.now.records self.now.modems }
         ensures listened { Listened (outputs_of self.now.records) self.now.modems }
     {
         self.records.as_slice()
@@ -181,7 +181,7 @@ pub(crate) fn go_on(
         Event::Hear(m, i, near) => hear(modems, records, *m, *i, *near, place),
         Event::Want(m, ch, sid, n) => want(modems, *m, *ch, *sid, *n),
         Event::Tick(m, ch, slot, random) => tick(modems, *m, *ch, *slot, *random),
-        _ => Answer::Refused(Refusal::NoModem),
+        _ => Answer::Refused(EventRefusal::NoModem),
     }
 }
 
@@ -200,10 +200,10 @@ fn hear(
     ensures place { IsPlaceOf records.now place.new.record place.new.before }
 {
     if modems.len() <= m {
-        return Answer::Refused(Refusal::NoModem);
+        return Answer::Refused(EventRefusal::NoModem);
     }
     let Some(output) = output_at(records, i, place) else {
-        return Answer::Refused(Refusal::NoOutput);
+        return Answer::Refused(EventRefusal::NoOutput);
     };
     let modem = &mut modems[m];
     hear_near(modem, output, near)
@@ -214,7 +214,7 @@ fn want(modems: &mut Vec<Modem>, m: usize, ch: u8, sid: u16, n: u16) -> Answer
     ensures next { (rs : List Receiver) (outputs : List ReleasedOutput) → AreReceivers modems.old.items rs → (after : List Receiver) × ModemNext rs outputs (event.Want m ch sid n) result after × AreReceivers modems.new.items after }
 {
     if m >= modems.len() {
-        return Answer::Refused(Refusal::NoModem);
+        return Answer::Refused(EventRefusal::NoModem);
     }
     let modem = &mut modems[m];
     ask(modem, ch, sid, n)
@@ -226,7 +226,7 @@ fn tick(modems: &mut Vec<Modem>, m: usize, ch: u8, slot: Slot, random: u64) -> A
     ensures memory { result ≢ Refused refusal.OutOfMemory }
 {
     if m >= modems.len() {
-        return Answer::Refused(Refusal::NoModem);
+        return Answer::Refused(EventRefusal::NoModem);
     }
     let modem = &mut modems[m];
     tick_at(modem, ch, slot, random)

@@ -13,7 +13,7 @@ use std::sync::Wait;
 use std::test::*;
 use std::thread::Threads;
 use std::time::Clock;
-use world_events::{Event, Refusal};
+use world_events::{Event, EventRefusal};
 
 type Outcome = (Vec<Kept<PlainNode>>, Vec<Errands>, Plant<PlainNode>);
 
@@ -84,7 +84,7 @@ fn five_nodes_and_a_modem(rt: HostRuntime) -> Result<(), Fail> {
     assert_eq!(rt; audit(kepts.as_slice(), plant.records()), Ok(()));
     for (modem, want) in [
         (0, Answer::WantRefused(WantFault::NotMine)),
-        (1, Answer::Refused(Refusal::NoModem)),
+        (1, Answer::Refused(EventRefusal::NoModem)),
     ] {
         assert_eq!(rt; plant.modem_step(&Event::Want(modem, 1, 1, 5)), want);
     }

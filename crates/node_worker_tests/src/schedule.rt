@@ -7,7 +7,7 @@ use node_worker::{Ask, Cause, Kept, Plant, Record, keep_all, step};
 use seats::{Answer, PlainNode, new_modems, plain_nodes};
 use std::alloc::Global;
 use std::test::*;
-use world_events::{Event, Refusal};
+use world_events::{Event, EventRefusal};
 
 /// What node 0 is asked, what a node is asked to release, or which of all letters that were sent comes to its node.
 #[derive(Clone, Copy)]
@@ -126,7 +126,7 @@ const ANSWERS: [(Asked, Answer); 5] = [
     (Asked::Hear(1), Answer::Heard(Heard::Taken)),
     (Asked::Tick, Answer::Ticked(None)),
     (Asked::Want, Answer::WantRefused(WantFault::NotMine)),
-    (Asked::Hear(4), Answer::Refused(Refusal::NoOutput)),
+    (Asked::Hear(4), Answer::Refused(EventRefusal::NoOutput)),
 ];
 
 #[test]

@@ -5,12 +5,12 @@ use Rattle.modem.specs.declared.types.Heard.TheVariants as heard
 use Rattle.modem.specs.declared.types.Sending.{Sending}
 use Rattle.modem.specs.declared.types.Sending.TheVariants.{Unicast, Polled, Request}
 use Rattle.modem.specs.Wants.{number_of_fault}
-use Rattle.proposer.specs.Faults.{number_of as number_of_node_fault}
+use Rattle.proposer.specs.Faults.{node_fault_number}
 use Rattle.proposer.specs.declared.fault.NodeFault.{NodeFault}
 use Rattle.proposer.specs.declared.fault.NodeFault.TheVariants as fault
-use Rattle.world_events.specs.Refusals.{number_of as number_of_refusal}
-use Rattle.world_events.specs.declared.refusal.Refusal.{Refusal}
-use Rattle.world_events.specs.declared.refusal.Refusal.TheVariants as refusal
+use Rattle.world_events.specs.Refusals.{event_refusal_number}
+use Rattle.world_events.specs.declared.refusal.EventRefusal.{EventRefusal}
+use Rattle.world_events.specs.declared.refusal.EventRefusal.TheVariants as refusal
 use Rattle.seats.specs.declared.answer.Answer.{Answer}
 use Rattle.seats.specs.declared.answer.Answer.TheVariants.{Sent, Finished, Released, Heard as HeardSo, Ticked, WantRefused, Refused, Fault, Crashed}
 
@@ -30,7 +30,7 @@ sending_text (Some (Polled sid n)) = codes "polled " ++ (decimal sid ++ (codes "
 sending_text (Some (Request sid n)) = codes "request " ++ (decimal sid ++ (codes " " ++ decimal n))
 
 -- the name of why an event changed nothing
-abbrev pub refusal_name : Refusal → List ℕ
+abbrev pub refusal_name : EventRefusal → List ℕ
 refusal_name refusal.NoLetter = codes "NoLetter"
 refusal_name refusal.NodeDown = codes "NodeDown"
 refusal_name refusal.NodeUp = codes "NodeUp"
@@ -59,6 +59,6 @@ answer_text (Released n) = codes "released " ++ decimal n
 answer_text (HeardSo heard) = codes "heard " ++ heard_text heard
 answer_text (Ticked sending) = sending_text sending
 answer_text (WantRefused fault) = codes "want-refused " ++ decimal (number_of_fault fault)
-answer_text (Refused refusal) = codes "refused " ++ (decimal (number_of_refusal refusal) ++ (codes " " ++ refusal_name refusal))
-answer_text (Fault fault) = codes "fault " ++ (decimal (number_of_node_fault fault) ++ (codes " " ++ fault_name fault))
+answer_text (Refused refusal) = codes "refused " ++ (decimal (event_refusal_number refusal) ++ (codes " " ++ refusal_name refusal))
+answer_text (Fault fault) = codes "fault " ++ (decimal (node_fault_number fault) ++ (codes " " ++ fault_name fault))
 answer_text Crashed = codes "crashed"

@@ -7,7 +7,7 @@ use modem::{Heard, Sending};
 use node::NodeFault;
 use seats::Answer;
 use std::alloc::{AllocError, Global};
-use world_events::Refusal;
+use world_events::EventRefusal;
 
 fn heard_text(heard: Heard) -> &'static str
     ensures { result.now ≡ heard_text heard }
@@ -32,19 +32,19 @@ fn sending_text(alloc: Global, sending: Option<Sending>) -> Result<String, Alloc
     }
 }
 
-fn refusal_name(refusal: Refusal) -> &'static str
+fn refusal_name(refusal: EventRefusal) -> &'static str
     ensures { result.now ≡ refusal_name refusal }
 {
     match refusal {
-        Refusal::NoLetter => "NoLetter",
-        Refusal::NodeDown => "NodeDown",
-        Refusal::NodeUp => "NodeUp",
-        Refusal::NoOutput => "NoOutput",
-        Refusal::TooOld => "TooOld",
-        Refusal::NoModem => "NoModem",
-        Refusal::TimeBack => "TimeBack",
-        Refusal::NoNode => "NoNode",
-        Refusal::OutOfMemory => "OutOfMemory",
+        EventRefusal::NoLetter => "NoLetter",
+        EventRefusal::NodeDown => "NodeDown",
+        EventRefusal::NodeUp => "NodeUp",
+        EventRefusal::NoOutput => "NoOutput",
+        EventRefusal::TooOld => "TooOld",
+        EventRefusal::NoModem => "NoModem",
+        EventRefusal::TimeBack => "TimeBack",
+        EventRefusal::NoNode => "NoNode",
+        EventRefusal::OutOfMemory => "OutOfMemory",
     }
 }
 

@@ -6,14 +6,14 @@ use Rattle.acceptor.specs.declared.records.RecordsFault.TheVariants.{Refused, Br
 use Rattle.proposer.specs.declared.fault.NodeFault.{NodeFault as Fault}
 
 -- the number that stands for a fault
-abbrev pub number_of : Fault → ℕ
-number_of Fault.NotLeading = 1
-number_of Fault.LogFull = 2
-number_of Fault.RoundsSpent = 3
-number_of Fault.ValueTooLong = 4
-number_of Fault.OutOfMemory = 5
-number_of Fault.StoreRefused = 6
-number_of Fault.Down = 7
+abbrev pub node_fault_number : Fault → ℕ
+node_fault_number Fault.NotLeading = 1
+node_fault_number Fault.LogFull = 2
+node_fault_number Fault.RoundsSpent = 3
+node_fault_number Fault.ValueTooLong = 4
+node_fault_number Fault.OutOfMemory = 5
+node_fault_number Fault.StoreRefused = 6
+node_fault_number Fault.Down = 7
 
 -- the fault of a node whose store failed so
 abbrev pub told : RecordsFault → Fault

@@ -1,7 +1,7 @@
 //! Why a node didn't do what it was asked.
 
 ghost use Rattle.std.specs.Prelude.{◌≡◌};
-ghost use Rattle.proposer.specs.Faults.{number_of};
+ghost use Rattle.proposer.specs.Faults.{node_fault_number};
 
 use acceptor::RecordsFault;
 use std::alloc::{AllocError, AllocFailed};
@@ -35,7 +35,7 @@ pub enum NodeFault {
 impl NodeFault {
     /// The number that stands for the fault in reports.
     pub fn number(self) -> u8
-        ensures { result ≡ number_of self }
+        ensures { result ≡ node_fault_number self }
     {
         match self {
             NodeFault::NotLeading => 1,

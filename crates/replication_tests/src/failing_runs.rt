@@ -8,7 +8,7 @@ use script_text::read_script;
 use seats::{Answer, OutOfMemory};
 use std::alloc::Global;
 use std::test::Fail;
-use world_events::{Event, Refusal};
+use world_events::{Event, EventRefusal};
 
 type FaultyWorld = World<FaultyNode>;
 
@@ -128,7 +128,7 @@ const REFUSED_VOTE: Between<'static> = Between {
 {kind = 'deliver', letter = 6},",
     answers: &[
         Answer::Fault(NodeFault::StoreRefused),
-        Answer::Refused(Refusal::NodeDown),
+        Answer::Refused(EventRefusal::NodeDown),
         Answer::Finished,
         Answer::Sent(3),
     ],

@@ -13,7 +13,7 @@ use Rattle.map_release.specs.declared.numbered.Numbered.{Numbered}
 use Rattle.node.specs.declared.node.Node.{Ghosts}
 use Rattle.node.specs.View.{View, Standing, started}
 use Rattle.node.specs.View.Standing.{Running, Stopped}
-use Rattle.node.specs.Calls.{Called, Cause, Course, Ends, IsStop, Kept, KeptByRestart, Restarts, StopsLast, StoreFails, TakesTurn, Who, answer}
+use Rattle.node.specs.Calls.{Called, Cause, Course, CallEnds, IsStop, Kept, KeptByRestart, Restarts, StopsLast, StoreFails, TakesTurn, Who, answer}
 use Rattle.node.specs.Calls.Cause.{Lead as AskedToLead, Offer as Offered, Receive as Received}
 use Rattle.node.specs.Releases.{Releases, outputs, released_all}
 use Rattle.node.specs.Step.{Outcome, nothing}
@@ -37,7 +37,7 @@ use Rattle.seats.specs.declared.acted.Asked.TheVariants as asked
 use Rattle.seats.specs.declared.answer.Answer.{Answer}
 use Rattle.seats.specs.declared.answer.Answer.TheVariants.{Finished, Refused, Fault}
 use Rattle.seats.specs.declared.seat.Seat.{Seat}
-use Rattle.world_events.specs.declared.refusal.Refusal.TheVariants.{NodeDown, NodeUp}
+use Rattle.world_events.specs.declared.refusal.EventRefusal.TheVariants.{NodeDown, NodeUp}
 
 -- a node doesn't survive want of memory, and a store that failed
 stop_falls : (failed : NodeFault) → IsStop failed → survives failed ≡ false
@@ -48,7 +48,7 @@ stop_falls declined stop = absurd stop
 
 -- a fault of a call of a node that runs
 fails : (view : View) (IsCourse : Result Outcome NodeFault → Type 0) (failed : NodeFault) (may : Standing → Type 0) (t : Standing)
-    → Ends IsCourse view (Err failed) t → may t
+    → CallEnds IsCourse view (Err failed) t → may t
     → (m : Move) × Fails view IsCourse failed m × (m.letters ≡ []) × (m.outputs ≡ []) × Shown (survives failed) may m.standing
 fails view IsCourse OutOfMemory may t is at = (quiet (Stopped view.content None), refl, refl, refl, (t, at, sym (ap crashed is)))
 fails view IsCourse StoreRefused may t is at = (quiet (Stopped view.content None), refl, refl, refl, (t, at, sym (ap crashed is)))
@@ -57,7 +57,7 @@ fails view IsCourse Down may t (inr (o, course, is)) at = (quiet (Stopped view.c
 fails view IsCourse declined may t ends at = (quiet (Running view), (ends.0, refl), refl, refl, (subst may ends.1 at, view, refl))
 
 -- the same of a call that writes nothing
-store_ends : (view : View) (IsCourse : Result Outcome NodeFault → Type 0) (failed : NodeFault) (t : Standing) → StoreFails view failed t → Ends IsCourse view (Err failed) t
+store_ends : (view : View) (IsCourse : Result Outcome NodeFault → Type 0) (failed : NodeFault) (t : Standing) → StoreFails view failed t → CallEnds IsCourse view (Err failed) t
 store_ends view IsCourse OutOfMemory t is = is
 store_ends view IsCourse StoreRefused t is = is
 store_ends view IsCourse Down t is = inl is
@@ -65,7 +65,7 @@ store_ends view IsCourse declined t is = absurd is
 
 -- a call whose letters go out
 called : (members me : ℕ) (view : View) (cause : Cause) (may : Standing → Type 0) (given : Result (Vec Letter Global) NodeFault) (t : Standing)
-    → Ends (Course members me view cause) view (answer given) t → StopsLast members me view cause (answer given) → may t
+    → CallEnds (Course members me view cause) view (answer given) t → StopsLast members me view cause (answer given) → may t
     → GoesTo members me (Running view) (Call cause) (told (come_of acted.Sent given)) (letters_of (come_of acted.Sent given)) (outputs_of (come_of acted.Sent given)) (Shown (stays_up given) may)
 called members me view cause may (Ok letters) t (o, course, same, is) last at = (whole o, (tt, (o, course, ap length same, refl)), sym same, refl, (subst may is at, o.view, refl))
 called members me view cause may (Err failed) t ends last at =
@@ -74,7 +74,7 @@ called members me view cause may (Err failed) t ends last at =
 
 -- one whose letters are thrown away, and after which it crashes
 called_last : (members me : ℕ) (view : View) (l : Letter) (may : Standing → Type 0) (given : Result (Vec Letter Global) NodeFault) (t : Standing)
-    → Ends (Course members me view (Received l)) view (answer given) t → IfErr given IsStop → may t
+    → CallEnds (Course members me view (Received l)) view (answer given) t → IfErr given IsStop → may t
     → GoesTo members me (Running view) (TakeThenCrash l) (told (come_of (λ letters. acted.Finished) given)) (letters_of (come_of (λ letters. acted.Finished) given)) (outputs_of (come_of (λ letters. acted.Finished) given)) (Shown false may)
 called_last members me view l may (Ok letters) t (o, course, same, is) stop at = (lost o, (o, course, refl), refl, refl, (t, at, sym (ap crashed is)))
 called_last members me view l may (Err failed) t ends stop at =

@@ -8,13 +8,13 @@ use Rattle.modem.specs.declared.types.Heard.{Heard}
 use Rattle.modem.specs.declared.types.Sending.{Sending}
 use Rattle.modem.specs.declared.types.TimeBack.{TimeBack}
 use Rattle.modem.specs.State.{KnownChannel, channel_clock, State, new_modem, channel_of}
-use Rattle.modem.specs.Held.{Hearing, StandsFor}
+use Rattle.modem.specs.Held.{Hearing, HasHeard}
 use Rattle.modem.specs.Hears.{Hears}
 use Rattle.modem.specs.Owner.{IsTimely}
 use Rattle.modem.specs.Ticks.{Ticks}
 use Rattle.seats.specs.declared.answer.Answer.{Answer}
 use Rattle.seats.specs.declared.answer.Answer.TheVariants.{Refused, Heard as HeardSo, Ticked}
-use Rattle.world_events.specs.declared.refusal.Refusal.TheVariants.{NoModem, NoOutput, TimeBack as ClockPast}
+use Rattle.world_events.specs.declared.refusal.EventRefusal.TheVariants.{NoModem, NoOutput, TimeBack as ClockPast}
 use Rattle.seats.specs.declared.answer.ReleasedOutput.{ReleasedOutput}
 use Rattle.seats.specs.Receiver.{Receiver}
 use Rattle.seats.specs.Modems.{HearsOutput, Listens, ComesTo, OfModem}
@@ -81,7 +81,7 @@ none_does Does vs rs m are past =
     (rs, subst Goes (sym none) (refl, refl), are)
 
 -- a modem that has heard nothing stands for no hearings
-pub new_stands : (id : ℕ) → StandsFor (new_modem id) []
+pub new_stands : (id : ℕ) → HasHeard (new_modem id) []
 new_stands id = record {
   leases = λ ch sid m late. ((λ is. absurd (cc (is))), (λ none. absurd none));
   lasts = λ ch sid m late. ((λ is. absurd (cc (is))), (λ none. absurd none));
@@ -93,10 +93,10 @@ pub new_are : (vs : List State) → AreNew vs → AreReceivers vs (new_receivers
 new_are [] new = tt
 new_are (v ∷ vs) new =
     let here : v ≡ new_modem v.id = All-head IsNew v vs new in
-    (record { state = sym here; heard = subst (λ (x : State). StandsFor x []) (sym here) (new_stands v.id) }, new_are vs (All-tail IsNew v vs new))
+    (record { state = sym here; heard = subst (λ (x : State). HasHeard x []) (sym here) (new_stands v.id) }, new_are vs (All-tail IsNew v vs new))
 
 -- a modem that took an output stands for a receiver that heard it
-pub hears_on : (v v' : State) (o : Output) (near : ℕ) (h : Heard) → IsTimely o near → Hears v o near h v' → ((hearings : List Hearing) → StandsFor v hearings → StandsFor v' (record { output = o; near = near; answer = h } ∷ hearings)) → (r : Receiver) → IsReceiver v r → (after : Receiver) × HearsOutput r o near (HeardSo h) after × IsReceiver v' after
+pub hears_on : (v v' : State) (o : Output) (near : ℕ) (h : Heard) → IsTimely o near → Hears v o near h v' → ((hearings : List Hearing) → HasHeard v hearings → HasHeard v' (record { output = o; near = near; answer = h } ∷ hearings)) → (r : Receiver) → IsReceiver v r → (after : Receiver) × HearsOutput r o near (HeardSo h) after × IsReceiver v' after
 hears_on v v' o near h timely hears stands r is =
     let H = λ (x : State). Hears x o near h v' in
     let after : Receiver = record { state = v'; heard = record { output = o; near = near; answer = h } ∷ r.heard } in
@@ -123,7 +123,7 @@ abbrev the_refusal : TimeBack → Result (Option Sending) TimeBack
 the_refusal fault = Err fault
 
 -- a modem that came to a minislot stands for a receiver that did
-pub comes_on : (v v' : State) (slot random : ℕ) (found : Option KnownChannel) (sending : Option Sending) → (found ≡ None → (the_reply sending ≡ Ok None) × (v' ≡ v)) → IfSome found (λ c. slot < channel_clock c → IsErr (the_reply sending) × (v' ≡ v)) → IfSome found (λ c. channel_clock c ≤ slot → Ticks v c slot random sending v') → ((hearings : List Hearing) → StandsFor v hearings → StandsFor v' hearings) → (r : Receiver) → IsReceiver v r → (after : Receiver) × ComesTo r slot random found (Ticked sending) after × IsReceiver v' after
+pub comes_on : (v v' : State) (slot random : ℕ) (found : Option KnownChannel) (sending : Option Sending) → (found ≡ None → (the_reply sending ≡ Ok None) × (v' ≡ v)) → IfSome found (λ c. slot < channel_clock c → IsErr (the_reply sending) × (v' ≡ v)) → IfSome found (λ c. channel_clock c ≤ slot → Ticks v c slot random sending v') → ((hearings : List Hearing) → HasHeard v hearings → HasHeard v' hearings) → (r : Receiver) → IsReceiver v r → (after : Receiver) × ComesTo r slot random found (Ticked sending) after × IsReceiver v' after
 comes_on v v' slot random None sending unknown back ticks stands r is =
     let same = unknown refl in
     let silent : sending ≡ None = cc (same.0) in

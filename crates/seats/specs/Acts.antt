@@ -19,7 +19,7 @@ use Rattle.seats.specs.Moves.Ask.{Call, TakeThenCrash, Release, Crash, Restart}
 use Rattle.seats.specs.Occupant.{Stands, IsHonest, is_up, node_of, who_of}
 use Rattle.seats.specs.Seat.{SameMember, survives}
 use Rattle.seats.specs.StoreFaults.{is_store_fault}
-use Rattle.world_events.specs.declared.refusal.Refusal.TheVariants.{NodeDown, NodeUp}
+use Rattle.world_events.specs.declared.refusal.EventRefusal.TheVariants.{NodeDown, NodeUp}
 
 -- what a call of a node that is up may fail with, whatever its records do
 abbrev pub MayFail : Cause → NodeFault → Type 0

@@ -12,7 +12,7 @@ use Rattle.proposer.specs.declared.fault.NodeFault.{NodeFault}
 use Rattle.proposer.specs.declared.fault.NodeFault.TheVariants as fault
 use Rattle.seats.specs.declared.answer.Answer.{Answer}
 use Rattle.seats.specs.declared.answer.Answer.TheVariants.{Sent, Finished, Released, Refused, Fault, Crashed}
-use Rattle.world_events.specs.declared.refusal.Refusal.TheVariants.{NodeDown, NodeUp}
+use Rattle.world_events.specs.declared.refusal.EventRefusal.TheVariants.{NodeDown, NodeUp}
 use Rattle.seats.specs.Release.{released, released_all}
 
 -- what an event asks of a node: a call whose letters are sent, to take a letter and then crash, a release at a time, a crash, or a restart

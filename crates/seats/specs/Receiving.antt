@@ -1,7 +1,7 @@
 -- How the modems' cores stand for the written receivers.
 use Rattle.std.specs.Prelude.{◌≡◌, ℕ, ◌<◌, List, [], ◌∷◌, map, All, Option, Some, None}
 use Rattle.modem.specs.State.{State, KnownChannel, channel_clock, new_modem}
-use Rattle.modem.specs.Held.{StandsFor}
+use Rattle.modem.specs.Held.{HasHeard}
 use Rattle.seats.specs.declared.answer.Transmission.{Transmission}
 use Rattle.seats.specs.Receiver.{Receiver, new_receiver}
 use Rattle.seats.specs.declared.receivers.Receivers.{Receivers}
@@ -9,7 +9,7 @@ use Rattle.seats.specs.declared.receivers.Receivers.{Receivers}
 -- a modem stands for a receiver: it is in its state, and may have heard just what it heard
 pub record IsReceiver (v : State) (r : Receiver) : Type 0 where
   pub state : r.state ≡ v
-  pub heard : StandsFor v r.heard
+  pub heard : HasHeard v r.heard
 
 -- modems stand for receivers, place by place
 abbrev pub AreReceivers : List State → List Receiver → Type 0

@@ -8,7 +8,7 @@ use crate::answer::Answer;
 use ballots::Letter;
 use map_release::Numbered;
 use node::NodeFault;
-use world_events::Refusal;
+use world_events::EventRefusal;
 
 /// What a node is asked.
 #[derive(Clone, Copy)]
@@ -37,7 +37,7 @@ pub enum Acted {
     Released(Vec<Numbered>),
     Finished,
     /// The node is down, or up where it was to restart, and nothing changed.
-    Refused(Refusal),
+    Refused(EventRefusal),
     /// The node's fault. Want of memory and the faults of its store are a crash.
     Fault(NodeFault),
 }

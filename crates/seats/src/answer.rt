@@ -7,7 +7,7 @@ use node::NodeFault;
 use std::alloc::{AllocError, AllocFailed};
 use std::marker::Model;
 use thiserror::Error;
-use world_events::Refusal;
+use world_events::EventRefusal;
 
 /// The answer to an event.
 #[derive(Clone, Copy, Debug, PartialEq, Eq)]
@@ -24,7 +24,7 @@ pub enum Answer {
     /// The modem's refusal of a want.
     WantRefused(WantFault),
     /// The event changed nothing.
-    Refused(Refusal),
+    Refused(EventRefusal),
     /// The node's fault. Want of memory and the faults of its store are a crash.
     Fault(NodeFault),
     /// There was no room for the letters or outputs of a whole call: they are lost, and the node

@@ -8,7 +8,7 @@ ghost use Rattle.seats.specs.Modems.{HearsOutput, Wants, ComesTo, ModemNext, sen
 ghost use Rattle.seats.specs.Receiving.{IsReceiver, IsBefore};
 ghost use Rattle.world_events.specs.declared.event.Event.TheVariants as event;
 ghost use Rattle.seats.specs.declared.answer.Answer.TheVariants.{Refused};
-ghost use Rattle.world_events.specs.declared.refusal.Refusal.TheVariants.{OutOfMemory};
+ghost use Rattle.world_events.specs.declared.refusal.EventRefusal.TheVariants.{OutOfMemory};
 ghost use Rattle.seats.specs.declared.answer.ReleasedOutput.{ReleasedOutput};
 ghost use Rattle.seats.specs.StoreFaults.{is_store_fault};
 
@@ -17,7 +17,7 @@ use grant_machine::Output;
 use minislot_time::Slot;
 use modem::{Modem, WantFault};
 use std::alloc::Global;
-use world_events::Refusal;
+use world_events::EventRefusal;
 
 // Whether an output is no MAP, or one that starts less than 2^31 minislots before or after.
 fn is_timely(output: &Output, near: Slot) -> bool
@@ -53,11 +53,11 @@ pub fn hear_near(modem: &mut Modem, output: &Output, near: Slot) -> Answer
     ensures quiet { is_store_fault result ≡ false }
 {
     if !is_timely(output, near) {
-        return Answer::Refused(Refusal::TooOld);
+        return Answer::Refused(EventRefusal::TooOld);
     }
     match modem.hear(output, near) {
         Ok(heard) => Answer::Heard(heard),
-        Err(_) => Answer::Refused(Refusal::OutOfMemory),
+        Err(_) => Answer::Refused(EventRefusal::OutOfMemory),
     }
 }
 
@@ -68,7 +68,7 @@ pub fn ask(modem: &mut Modem, ch: u8, sid: u16, n: u16) -> Answer
 {
     match modem.want(ch, sid, n) {
         Ok(()) => Answer::Finished,
-        Err(WantFault::OutOfMemory) => Answer::Refused(Refusal::OutOfMemory),
+        Err(WantFault::OutOfMemory) => Answer::Refused(EventRefusal::OutOfMemory),
         Err(fault) => Answer::WantRefused(fault),
     }
 }
@@ -91,7 +91,7 @@ pub fn tick_at(modem: &mut Modem, ch: u8, slot: Slot, random: u64) -> Answer
 {
     match modem.tick(ch, slot, random) {
         Ok(sending) => Answer::Ticked(sending),
-        Err(_) => Answer::Refused(Refusal::TimeBack),
+        Err(_) => Answer::Refused(EventRefusal::TimeBack),
     }
 }
 
@@ -124,10 +124,10 @@ fn come_to(
     ensures quiet { is_store_fault result ≡ false }
 {
     if is_past(modem, ch, slot) {
-        return Answer::Refused(Refusal::TimeBack);
+        return Answer::Refused(EventRefusal::TimeBack);
     }
     if transmissions.reserve(1).is_err() {
-        return Answer::Refused(Refusal::OutOfMemory);
+        return Answer::Refused(EventRefusal::OutOfMemory);
     }
     let answer = tick_at(modem, ch, slot, random);
     note(transmissions, m, ch, slot, answer);
@@ -170,10 +170,10 @@ impl Receivers {
         ensures quiet { is_store_fault result ≡ false }
     {
         if self.modems.len() <= m {
-            return Answer::Refused(Refusal::NoModem);
+            return Answer::Refused(EventRefusal::NoModem);
         }
         if outputs.len() <= i {
-            return Answer::Refused(Refusal::NoOutput);
+            return Answer::Refused(EventRefusal::NoOutput);
         }
         let released = &outputs[i];
         let modem = &mut self.modems[m];
@@ -187,7 +187,7 @@ impl Receivers {
         ensures quiet { is_store_fault result ≡ false }
     {
         if m >= self.modems.len() {
-            return Answer::Refused(Refusal::NoModem);
+            return Answer::Refused(EventRefusal::NoModem);
         }
         let modem = &mut self.modems[m];
         ask(modem, ch, sid, n)
@@ -200,7 +200,7 @@ impl Receivers {
         ensures quiet { is_store_fault result ≡ false }
     {
         if m >= self.modems.len() {
-            return Answer::Refused(Refusal::NoModem);
+            return Answer::Refused(EventRefusal::NoModem);
         }
         let modem = &mut self.modems[m];
         come_to(modem, &mut self.transmissions, m, ch, slot, random)

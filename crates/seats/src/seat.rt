@@ -7,7 +7,7 @@ use crate::acted::{Acted, Asked};
 use crate::answer::Answer;
 use node::{Node, NodeFault};
 use std::alloc::AllocError;
-use world_events::Refusal;
+use world_events::EventRefusal;
 
 /// A node, and whether it is up. One that is up isn't down for itself.
 #[derive(Drop)]
@@ -112,7 +112,7 @@ impl<N: Node> Seat<N> {
                 self.up = false;
                 Acted::Finished
             }
-            Asked::Restart => Acted::Refused(Refusal::NodeUp),
+            Asked::Restart => Acted::Refused(EventRefusal::NodeUp),
         }
     }
 
@@ -127,7 +127,7 @@ impl<N: Node> Seat<N> {
                 self.up = given.is_ok();
                 Acted::of_restart(given)
             }
-            _ => Acted::Refused(Refusal::NodeDown),
+            _ => Acted::Refused(EventRefusal::NodeDown),
         }
     }
 

@@ -41,18 +41,18 @@ heard_number Past = 3
 heard_number Unreadable = 4
 
 -- a modem hears an output that is no MAP, and how is told
-abbrev pub Listens : Output → State → ℕ → State → ℕ → Status → Type 0
-Listens output v old after new statuses.Done = (answer : Heard) × Hears v output 0 answer after × (new ≡ heard_number answer)
-Listens output v old after new statuses.OutOfMemory = MayGrow v output 0 × (after ≡ v) × (new ≡ old)
-Listens output v old after new _ = ⊥
+abbrev pub HearsNoMap : Output → State → ℕ → State → ℕ → Status → Type 0
+HearsNoMap output v old after new statuses.Done = (answer : Heard) × Hears v output 0 answer after × (new ≡ heard_number answer)
+HearsNoMap output v old after new statuses.OutOfMemory = MayGrow v output 0 × (after ≡ v) × (new ≡ old)
+HearsNoMap output v old after new _ = ⊥
 
 -- a modem hears the body of a MAP near a time, lets go of what has ended, and how it heard is told
-abbrev pub ListensTo : List ℕ → ℕ → State → ℕ → State → ℕ → Status → Type 0
-ListensTo bytes near v old after new statuses.Done =
+abbrev pub HearsBody : List ℕ → ℕ → State → ℕ → State → ℕ → Status → Type 0
+HearsBody bytes near v old after new statuses.Done =
     (answer : Heard) × (near < 2 ^ 63) × HearsMap v bytes near answer after × LetsGoAfter bytes answer after × (new ≡ heard_number answer)
-ListensTo bytes near v old after new statuses.BadField = (2 ^ 63 ≤ near) × (after ≡ v) × (new ≡ old)
-ListensTo bytes near v old after new statuses.OutOfMemory = (near < 2 ^ 63) × IsDue v bytes near × (after ≡ v) × (new ≡ old)
-ListensTo bytes near v old after new _ = ⊥
+HearsBody bytes near v old after new statuses.BadField = (2 ^ 63 ≤ near) × (after ≡ v) × (new ≡ old)
+HearsBody bytes near v old after new statuses.OutOfMemory = (near < 2 ^ 63) × IsDue v bytes near × (after ≡ v) × (new ≡ old)
+HearsBody bytes near v old after new _ = ⊥
 
 -- a modem takes a want of so many minislots for a SID of a channel, or refuses it
 abbrev pub TakesWant : (ch sid n : ℕ) → State → Unit {0} → State → Unit {0} → Status → Type 0

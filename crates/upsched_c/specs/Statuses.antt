@@ -8,18 +8,18 @@ use Rattle.upsched_c.specs.declared.status.Status.{Status}
 use Rattle.upsched_c.specs.declared.status.Status.TheVariants as statuses
 
 -- the number of a status; a fault of a MAP body or of a want is its own number in a hundred of its own
-abbrev pub number_of : Status → ℕ
-number_of statuses.Done = 0
-number_of statuses.Closed = 1
-number_of statuses.OtherKind = 2
-number_of statuses.Open = 3
-number_of statuses.NoRoom = 4
-number_of statuses.BadField = 5
-number_of statuses.OutOfMemory = 6
-number_of statuses.Absent = 7
-number_of (statuses.Map fault) = 100 + maps.number_of fault
-number_of (statuses.Want fault) = 300 + wants.number_of_fault fault
-number_of statuses.TimeBack = 401
+abbrev pub status_number : Status → ℕ
+status_number statuses.Done = 0
+status_number statuses.Closed = 1
+status_number statuses.OtherKind = 2
+status_number statuses.Open = 3
+status_number statuses.NoRoom = 4
+status_number statuses.BadField = 5
+status_number statuses.OutOfMemory = 6
+status_number statuses.Absent = 7
+status_number (statuses.Map fault) = 100 + maps.map_fault_number fault
+status_number (statuses.Want fault) = 300 + wants.number_of_fault fault
+status_number statuses.TimeBack = 401
 
 -- the element that a fault of a MAP body is of, 0 where it is of none
 abbrev pub place_of : MapFault → ℕ
@@ -33,4 +33,4 @@ place_of TooMany = 0
 
 -- the number that is answered is that of a status of which this holds
 abbrev pub Answers : ℤ → (Status → Type 0) → Type 0
-Answers number Ends = (status : Status) × (number ≡ pos (number_of status)) × Ends status
+Answers number Ends = (status : Status) × (number ≡ pos (status_number status)) × Ends status

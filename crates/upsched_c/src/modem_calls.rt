@@ -3,7 +3,7 @@
 ghost use Rattle.std.specs.Prelude.{◌≡◌};
 ghost use Rattle.modem.specs.State.{new_modem};
 ghost use Rattle.upsched_c.specs.Handles.{held, Opens};
-ghost use Rattle.upsched_c.specs.Modems.{AsksModem, AsModem, Listens, ListensTo, TakesWant, TellsClock, TellsNext, TicksAt};
+ghost use Rattle.upsched_c.specs.Modems.{AsksModem, AsModem, HearsNoMap, HearsBody, TakesWant, TellsClock, TellsNext, TicksAt};
 ghost use Rattle.upsched_c.specs.Statuses.{Answers};
 
 use crate::handle::{Handle, Held};
@@ -24,7 +24,7 @@ pub extern "C" fn upsched_c_modem_open(alloc: Global, handle: &mut Handle, id: u
 }
 
 fn listen(value: &mut Held, output: &Output, heard: &mut u32) -> Status
-    ensures { AsModem (Listens output.now) value.old heard.old value.new heard.new result }
+    ensures { AsModem (HearsNoMap output.now) value.old heard.old value.new heard.new result }
 {
     let Held::Modem(modem) = value else {
         return Status::OtherKind;
@@ -40,7 +40,7 @@ fn listen(value: &mut Held, output: &Output, heard: &mut u32) -> Status
 }
 
 fn listen_by(alloc: Global, handle: &mut Handle, output: &Output, heard: &mut u32) -> Status
-    ensures { AsksModem (Listens output.now) (held handle.old) heard.old (held handle.new) heard.new result }
+    ensures { AsksModem (HearsNoMap output.now) (held handle.old) heard.old (held handle.new) heard.new result }
 {
     let Some(mut value) = handle.take(alloc) else {
         return Status::Closed;
@@ -59,7 +59,7 @@ pub extern "C" fn upsched_c_modem_hear_channel(
     ucd: u8,
     heard: &mut u32,
 ) -> i32
-    ensures { Answers result (AsksModem (Listens (Output.ChannelSet ch ucd)) (held handle.old) heard.old (held handle.new) heard.new) }
+    ensures { Answers result (AsksModem (HearsNoMap (Output.ChannelSet ch ucd)) (held handle.old) heard.old (held handle.new) heard.new) }
 {
     listen_by(alloc, handle, &Output::ChannelSet { ch, ucd }, heard).number()
 }
@@ -76,7 +76,7 @@ pub extern "C" fn upsched_c_modem_hear_assigned(
     last: u64,
     heard: &mut u32,
 ) -> i32
-    ensures { Answers result (AsksModem (Listens (Output.Assigned modem ch sid first last)) (held handle.old) heard.old (held handle.new) heard.new) }
+    ensures { Answers result (AsksModem (HearsNoMap (Output.Assigned modem ch sid first last)) (held handle.old) heard.old (held handle.new) heard.new) }
 {
     let output = Output::Assigned {
         modem,
@@ -89,7 +89,7 @@ pub extern "C" fn upsched_c_modem_hear_assigned(
 }
 
 fn hear_body(value: &mut Held, body: &[u8], near: u64, heard: &mut u32) -> Status
-    ensures { AsModem (ListensTo body.now near) value.old heard.old value.new heard.new result }
+    ensures { AsModem (HearsBody body.now near) value.old heard.old value.new heard.new result }
 {
     let Held::Modem(modem) = value else {
         return Status::OtherKind;
@@ -111,7 +111,7 @@ fn hear_body_by(
     near: u64,
     heard: &mut u32,
 ) -> Status
-    ensures { AsksModem (ListensTo body.now near) (held handle.old) heard.old (held handle.new) heard.new result }
+    ensures { AsksModem (HearsBody body.now near) (held handle.old) heard.old (held handle.new) heard.new result }
 {
     let Some(mut value) = handle.take(alloc) else {
         return Status::Closed;
@@ -130,7 +130,7 @@ pub extern "C" fn upsched_c_modem_hear_map(
     near: u64,
     heard: &mut u32,
 ) -> i32
-    ensures { Answers result (AsksModem (ListensTo body.now near) (held handle.old) heard.old (held handle.new) heard.new) }
+    ensures { Answers result (AsksModem (HearsBody body.now near) (held handle.old) heard.old (held handle.new) heard.new) }
 {
     hear_body_by(alloc, handle, body, near, heard).number()
 }

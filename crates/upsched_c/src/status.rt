@@ -1,7 +1,7 @@
 //! What calls answer.
 
 ghost use Rattle.std.specs.Prelude.{◌≡◌, pos};
-ghost use Rattle.upsched_c.specs.Statuses.{number_of, place_of as place_of_lem};
+ghost use Rattle.upsched_c.specs.Statuses.{status_number, place_of as place_of_lem};
 
 use map_body::MapFault;
 use modem::WantFault;
@@ -36,13 +36,13 @@ pub enum Status {
 impl Status {
     /// The number that C is told.
     pub fn number(self) -> i32
-        ensures { result ≡ pos (number_of self) }
+        ensures { result ≡ pos (status_number self) }
     {
         i32::from(self.short_number())
     }
 
     fn short_number(self) -> u16
-        ensures { result ≡ number_of self }
+        ensures { result ≡ status_number self }
     {
         match self {
             Status::Done => 0,

@@ -2,7 +2,7 @@
 use Rattle.std.specs.Prelude.{◌≡◌, ◌↔◌, ℕ, List, Option, All, IsOk, length}
 use Rattle.std.specs.Io.KnownBytes.{Appends}
 use Rattle.node_worker.specs.Audits.{IsCluster, IsWhole}
-use Rattle.node_worker.specs.Runs.{IsLegal}
+use Rattle.node_worker.specs.Runs.{AreLegal}
 use Rattle.upsched_live_parts.specs.declared.live_run.Audited.{Audited}
 use Rattle.upsched_live_parts.specs.Verdict.{verdict_line}
 
@@ -15,6 +15,6 @@ pub record IsAudited (turns : ℕ) (a : Audited) (old new : Option (List ℕ)) :
   pub carriers : (length a.carriers.items ≡ 3) × All (λ c. c.turns ≡ 0) a.carriers.items
   pub given : All (λ c. c.given ≡ turns) a.carriers.items
   -- the ledger is a run, and the audit finds no fault exactly where it is what these nodes did
-  pub legal : IsLegal a.plant.members a.plant.records a.plant.modems
+  pub legal : AreLegal a.plant.members a.plant.records a.plant.modems
   pub whole : IsOk a.verdict ↔ IsWhole a.kepts.items a.plant.records
   pub printed : Appends old new (verdict_line a.verdict)

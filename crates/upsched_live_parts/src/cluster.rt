@@ -2,7 +2,7 @@
 
 ghost use Rattle.std.specs.Prelude.{◌≡◌, All, IfOk, length, vec_len};
 ghost use Rattle.node_worker.specs.Audits.{IsCluster};
-ghost use Rattle.node_worker.specs.Runs.{IsLegal};
+ghost use Rattle.node_worker.specs.Runs.{AreLegal};
 
 use crate::driver::{Agenda, LiveCarrier, LiveGate};
 use ballots::{Bytes, Members, NodeId};
@@ -74,7 +74,7 @@ pub fn live_cluster<R: Threads + Wait + Clock + Sync + AllocGlobal>(
     ensures quotas { IfOk result (λ back. All (λ k. k.quota ≡ turns) back.0.items) }
     ensures carriers { IfOk result (λ back. (length back.1.items ≡ 3) × All (λ c. c.turns ≡ 0) back.1.items) }
     ensures given { IfOk result (λ back. All (λ c. c.given ≡ turns) back.1.items) }
-    ensures legal { IfOk result (λ back. IsLegal back.2.members back.2.records back.2.modems) }
+    ensures legal { IfOk result (λ back. AreLegal back.2.members back.2.records back.2.modems) }
 {
     let alloc = rt.alloc();
     let nodes = plain_nodes(alloc, MEMBERS)?;

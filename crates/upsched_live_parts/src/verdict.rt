@@ -3,7 +3,7 @@
 ghost use Rattle.std.specs.Prelude.{◌≡◌, ◌↔◌, IfOk, IsOk, OnOk, length, []};
 ghost use Rattle.std.specs.Io.KnownBytes.{Appends};
 ghost use Rattle.node_worker.specs.Audits.{IsCluster, IsWhole};
-ghost use Rattle.node_worker.specs.Runs.{IsLegal};
+ghost use Rattle.node_worker.specs.Runs.{AreLegal};
 ghost use Rattle.upsched_live_parts.specs.Verdict.{verdict_line, verdict_status};
 
 use node::Node;
@@ -56,7 +56,7 @@ pub fn print_audit<'a, N: Node, O: Write>(
 ) -> Result<Result<(), Torn>, Fault<'a>>
     ensures printed { IfOk result (λ verdict. Appends (O.contents output.old) (O.contents output.new) (verdict_line verdict)) }
     ensures whole { IfOk result (λ verdict. IsOk verdict ↔ IsWhole kepts.now records.now) }
-    ensures legal { IfOk result (λ verdict. IsOk verdict → IsCluster kepts.now → IsLegal (length kepts.now) records.now []) }
+    ensures legal { IfOk result (λ verdict. IsOk verdict → IsCluster kepts.now → AreLegal (length kepts.now) records.now []) }
 {
     let verdict = audit(kepts, records);
     print_verdict(verdict, output)?;

@@ -1,16 +1,16 @@
 -- Why an event changed nothing.
 use Rattle.std.specs.Prelude.{ℕ}
-use Rattle.world_events.specs.declared.refusal.Refusal.{Refusal}
-use Rattle.world_events.specs.declared.refusal.Refusal.TheVariants.{NoLetter, NodeDown, NodeUp, NoOutput, TooOld, NoModem, TimeBack, NoNode, OutOfMemory}
+use Rattle.world_events.specs.declared.refusal.EventRefusal.{EventRefusal}
+use Rattle.world_events.specs.declared.refusal.EventRefusal.TheVariants.{NoLetter, NodeDown, NodeUp, NoOutput, TooOld, NoModem, TimeBack, NoNode, OutOfMemory}
 
 -- the number that stands for a refusal
-abbrev pub number_of : Refusal → ℕ
-number_of NoLetter = 1
-number_of NodeDown = 2
-number_of NodeUp = 3
-number_of NoOutput = 4
-number_of TooOld = 5
-number_of NoModem = 6
-number_of TimeBack = 7
-number_of NoNode = 8
-number_of OutOfMemory = 9
+abbrev pub event_refusal_number : EventRefusal → ℕ
+event_refusal_number NoLetter = 1
+event_refusal_number NodeDown = 2
+event_refusal_number NodeUp = 3
+event_refusal_number NoOutput = 4
+event_refusal_number TooOld = 5
+event_refusal_number NoModem = 6
+event_refusal_number TimeBack = 7
+event_refusal_number NoNode = 8
+event_refusal_number OutOfMemory = 9

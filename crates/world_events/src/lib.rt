@@ -5,4 +5,4 @@ mod event;
 mod refusal;
 
 pub use event::Event;
-pub use refusal::Refusal;
+pub use refusal::EventRefusal;

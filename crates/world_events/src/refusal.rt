@@ -1,11 +1,11 @@
 //! Why an event changed nothing.
 
 ghost use Rattle.std.specs.Prelude.{◌≡◌};
-ghost use Rattle.world_events.specs.Refusals.{number_of};
+ghost use Rattle.world_events.specs.Refusals.{event_refusal_number};
 
 /// Why an event changed nothing.
 #[derive(Clone, Copy, Debug, PartialEq, Eq)]
-pub enum Refusal {
+pub enum EventRefusal {
     NoLetter,
     /// The node has crashed.
     NodeDown,
@@ -21,21 +21,21 @@ pub enum Refusal {
     OutOfMemory,
 }
 
-impl Refusal {
+impl EventRefusal {
     /// The number that stands for the refusal in reports.
     pub fn number(self) -> u8
-        ensures { result ≡ number_of self }
+        ensures { result ≡ event_refusal_number self }
     {
         match self {
-            Refusal::NoLetter => 1,
-            Refusal::NodeDown => 2,
-            Refusal::NodeUp => 3,
-            Refusal::NoOutput => 4,
-            Refusal::TooOld => 5,
-            Refusal::NoModem => 6,
-            Refusal::TimeBack => 7,
-            Refusal::NoNode => 8,
-            Refusal::OutOfMemory => 9,
+            EventRefusal::NoLetter => 1,
+            EventRefusal::NodeDown => 2,
+            EventRefusal::NodeUp => 3,
+            EventRefusal::NoOutput => 4,
+            EventRefusal::TooOld => 5,
+            EventRefusal::NoModem => 6,
+            EventRefusal::TimeBack => 7,
+            EventRefusal::NoNode => 8,
+            EventRefusal::OutOfMemory => 9,
         }
     }
 }

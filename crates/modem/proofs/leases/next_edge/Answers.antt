@@ -1,14 +1,14 @@
 use Rattle.std.proofs.Common.{get_or, take, subst}
 use Rattle.std.specs.List.{All}
 use Rattle.std.proofs.lemmas.List.{take_more, take_all}
-use Rattle.modem.specs.declared.known.Lease.{Lease}
+use Rattle.modem.specs.declared.known.OwnLease.{OwnLease}
 use Rattle.modem.specs.Idle.{IsSameIn}
 use Rattle.modem.proofs.NextEdges.{All-push, CoverSame-made}
 use Rattle.modem.proofs.leases.next_edge.Goals as goal
 
 pub loop-lease-preserved : goal.loop-lease-preserved
 loop-lease-preserved c =
-    let none : Lease = record { channel = 0; sid = 0; first = 0; last = 0 } in
+    let none : OwnLease = record { channel = 0; sid = 0; first = 0; last = 0 } in
     let ls = c.args.leases.now in
     let i = c.loop-lease.lease-index in (
       c.sooner-next.ensures.after c.args.«at» c.loop-lease.invariant.0 c.edge_of.ensures.after,

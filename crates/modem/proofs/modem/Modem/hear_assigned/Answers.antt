@@ -1,6 +1,6 @@
 use Rattle.std.proofs.Common.{◌≡◌, ◌==◌, true, List, refl, ap}
 use Rattle.std.proofs.lemmas.Bool.{eq-eqb}
-use Rattle.modem.specs.declared.known.Lease.{Lease}
+use Rattle.modem.specs.declared.known.OwnLease.{OwnLease}
 use Rattle.modem.specs.contracts.modem.Modem.{the_view}
 use Rattle.modem.specs.State.{clock_of, recent, with_lease}
 use Rattle.modem.proofs.Parts.{where_true}
@@ -12,4 +12,4 @@ returns-clause-ok c =
     let lease = c.args.lease in
     let mine : (c.args.modem == v.id) ≡ true = eq-eqb _ _ c.if-modem-self.false in
     let kept : c.add.new.leases.items ≡ recent lease.channel (clock_of v.channels lease.channel) (with_lease v.leases lease) = rw (c.clock_of-clock.ensures, c.as_slice.ensures.value) at c.in_ok-add.ensures.ok in
-    rw (← c.self.view_is) (where_true _ _ (c.args.modem == v.id) mine (refl, ap (λ (ls : List Lease). record v { leases = ls }) kept))
+    rw (← c.self.view_is) (where_true _ _ (c.args.modem == v.id) mine (refl, ap (λ (ls : List OwnLease). record v { leases = ls }) kept))
