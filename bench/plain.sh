@@ -5,7 +5,9 @@
 # First what both answer, byte for byte, to 100,000 made commands, and to as many bodies (valid and damaged
 # ones), events of four modems and events of three or five nodes. Then what a call costs, in nanoseconds of
 # processor time (by turns, medians of nine runs) and, where valgrind is there, in instructions: for each kind
-# of work plain Rust's, upsched's and the ratio.
+# of work plain Rust's, upsched's and the ratio. Then how many bytes of the heap a flow takes, a request that waits, a
+# vote, a place and an interval of a modem. Last a run of three nodes by the proved program, where it is there, without
+# the reading of its text (bench/beside.py).
 #
 # What is built of upsched is proved first, in a temporary workspace, which takes several minutes; plain Rust is
 # built by cargo. With `quick` there are 10,000 inputs of each kind, three runs of one round, and no
@@ -67,3 +69,11 @@ instructions=
 [ "$mode" = quick ] || ! command -v valgrind >/dev/null || instructions=instructions
 echo "$(lscpu | sed -n 's/^Model name: *//p'), $(nproc) processors, $(date +%F)"
 python3 "$root/bench/plain.py" "$plain" "$side" "$made/shapes" "$runs" "$rounds" $instructions
+mkdir "$made/held"
+cc -O1 -shared -fPIC -o "$made/held.so" "$root/bench/plain/held.c" -ldl
+python3 "$root/bench/beside.py" held "$plain" "$side" "$made/held.so" "$made/held"
+if [ -x "$program" ]; then
+    python3 "$root/bench/beside.py" run "$plain" "$program" "$made"
+else
+    echo "no proved program (./upsched --build): its runs aren't timed"
+fi

@@ -6,6 +6,7 @@ pub mod command;
 pub mod cut;
 pub mod dues;
 pub mod fields;
+pub mod held;
 pub mod letters;
 pub mod lines;
 pub mod machine;
@@ -20,6 +21,7 @@ pub mod replay;
 pub mod shapes;
 pub mod table;
 pub mod timing;
+pub mod world;
 
 #[cfg(test)]
 mod tests;

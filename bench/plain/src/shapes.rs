@@ -608,6 +608,88 @@ impl Behind {
     }
 }
 
+/// How many things are held, and the two shapes that `held` compares.
+type Pair = (usize, Shape, Shape);
+
+/// A shape of which only what comes before matters: one timed call follows.
+fn holding(kind: u8, before: Vec<Vec<u8>>, timed: Vec<u8>) -> Shape {
+    Shape {
+        name: String::new(),
+        kind,
+        rounds: 1,
+        repeats: 1,
+        before,
+        timed: vec![timed],
+    }
+}
+
+fn held_commands(count: usize, many: &[Command], one: &[Command]) -> Pair {
+    let shape = |commands: &[Command]| {
+        let before = commands.iter().map(command_bytes).collect();
+        holding(APPLY, before, command_bytes(&Command::Noop))
+    };
+    (count, shape(many), shape(one))
+}
+
+/// 8,000 flows on each of four channels, or one on each that is asked for again.
+pub fn held_flows() -> Pair {
+    let flows = |tag_of: fn(u32) -> u32| -> Vec<Command> {
+        let on = |ch| std::iter::once(channel(ch)).chain((0..8000).map(move |k| best_effort(ch, tag_of(k))));
+        (0..4).flat_map(on).collect()
+    };
+    held_commands(4 * 7999, &flows(|k| k), &flows(|_| 0))
+}
+
+/// 118 requests on each of 255 channels, or one on each that is made again.
+pub fn held_requests() -> Pair {
+    let requests = |sid_of: fn(u16) -> u16| -> Vec<Command> {
+        let on = |ch| {
+            let flows = (0..118).map(move |tag| best_effort(ch, tag));
+            let asked = (1..=118).map(move |sid| request(ch, sid_of(sid), 255, 990));
+            std::iter::once(channel(ch)).chain(flows).chain(asked)
+        };
+        (0..255).flat_map(on).collect()
+    };
+    held_commands(255 * 117, &requests(|sid| sid), &requests(|_| 1))
+}
+
+/// What comes to node 1 of a channel and then of 100,000 cuts, at places from 1 on, or all cuts at place 2.
+fn held_letters(note_of: fn(u64, Bytes) -> Note) -> Pair {
+    let shape = |place_of: fn(u64) -> u64| {
+        let first = note_of(1, Bytes::new(&command_bytes(&channel(1))));
+        let cut = Bytes::new(&command_bytes(&cut(1, 100)));
+        let cuts = (2..=100_001).map(|place| note_of(place_of(place), cut.clone()));
+        let before = std::iter::once(first).chain(cuts).map(|note| letter(0, note));
+        holding(NODE, before.collect(), lead_record(1))
+    };
+    (99_999, shape(|place| place), shape(|_| 2))
+}
+
+/// 100,001 votes of a node, or two.
+pub fn held_votes() -> Pair {
+    held_letters(|place, value| Note::Accept {
+        ballot: 8,
+        place,
+        value,
+    })
+}
+
+/// 100,001 places that a node learned, or two; it has their outputs too.
+pub fn held_places() -> Pair {
+    held_letters(|place, value| Note::Known { place, value })
+}
+
+/// 29 intervals of each of 1,000 MAPs that are heard ahead, or none of MAPs that are over.
+pub fn held_intervals() -> Pair {
+    let (set, maps) = outputs(&granting(29), 1000, 240);
+    let shape = |near: u64| {
+        let mut before = introduced(&set, |_| true);
+        before.extend(maps.iter().map(|map| hear_record(0, map, near)));
+        holding(MODEM, before, tick_record(0, 1, 1_000_000, 0))
+    };
+    (29 * 1000, shape(1000), shape(1_000_000))
+}
+
 /// All kinds of work.
 pub fn shapes() -> Vec<Shape> {
     let mut shapes = codec_shapes();
