@@ -11,6 +11,7 @@ use Rattle.acceptor.specs.Content.Write.{Tries}
 use Rattle.acceptor.specs.Found.{Findable, Holds, FindsSame, MayHaveMade}
 use Rattle.proposer.specs.Joining.{proposal}
 use Rattle.proposer.specs.Letters.{to_all, proposals}
+use Rattle.proposer.specs.Faults.{CountsStops, TellsSpent}
 use Rattle.proposer.specs.Turns.{IsNextBallot, MayHaveTried, limit}
 use Rattle.proposer.specs.declared.fault.NodeFault.{NodeFault as Fault}
 
@@ -50,3 +51,14 @@ not_spent found hint me b next c holds none =
     let least = next c holds in
     let below = none b least.0 in
     absurd (omega (arith, below, least.1))
+
+-- where the store never fails and a read of a ballot always finds memory, nothing else is answered
+pub spent_in_memory : {T : Type 0} (r : Result T Fault) (Lacks : Type 0) → (Lacks → ⊥) → TellsSpent Lacks r → CountsStops r 0 0 → r ≡ Err Fault.RoundsSpent
+spent_in_memory (Ok x) Lacks finds tells counts = absurd tells
+spent_in_memory (Err Fault.RoundsSpent) Lacks finds tells counts = refl
+spent_in_memory (Err Fault.OutOfMemory) Lacks finds tells counts = absurd (finds tells)
+spent_in_memory (Err Fault.StoreRefused) Lacks finds tells counts = let risen = counts.1 tt in absurd (omega (arith, risen))
+spent_in_memory (Err Fault.Down) Lacks finds tells counts = let risen = counts.1 tt in absurd (omega (arith, risen))
+spent_in_memory (Err Fault.NotLeading) Lacks finds tells counts = absurd tells
+spent_in_memory (Err Fault.LogFull) Lacks finds tells counts = absurd tells
+spent_in_memory (Err Fault.ValueTooLong) Lacks finds tells counts = absurd tells
