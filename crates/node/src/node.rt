@@ -97,8 +97,8 @@ pub trait Node: Drop {
             → IfErr result (λ fault. fault ≡ NodeFault.OutOfMemory → found_no_memory self.new ⊎ ((b : ℕ) × IsLeastAbove (limit view) (who self.old).id b)) }
         ensures heard { (who self.old).down ≡ false → length (values_from 1 (values self.old)) < most_places → NoneAbove (rest self.old).hint (who self.old).id
             → result ≡ Err NodeFault.RoundsSpent }
-        ensures spent { IsTrue (honest self.new) → (view : View) → stands self.old (Running view) → length (gapless view) < most_places → NoneAbove (limit view) (who self.old).id
-            → TellsSpent (found_no_memory self.new) result };
+        ensures spent { IsTrue (honest self.new) → (view : View) → stands self.old (Running view) → length (gapless view) < most_places
+            → NoneAbove (limit view) (who self.old).id → TellsSpent (found_no_memory self.new) result };
 
     /// A value is offered.
     fn offer(&mut self, value: &[u8]) -> Result<Vec<Letter>, NodeFault>

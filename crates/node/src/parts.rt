@@ -343,10 +343,13 @@ impl<R: Records> Parts<R> {
         ensures order { IsTrue (R.is_honest self.new.records)
             → (c : Content) → StopsLast (member_count self.old.proposer.members) self.old.proposer.id (view_over self.old c) Lead (answer result) }
         ensures memory { IsTrue (R.is_honest self.new.records) → IfErr result (λ fault. fault ≡ NodeFault.OutOfMemory
-            → ((mid : R) × R.finds_no_memory mid self.new.records × R.finds_no_ballot mid self.new.records) ⊎ ((b : ℕ) × IsNextBallot (R.may_find self.old.records) self.old.proposer.hint self.old.proposer.id b)) }
-        ensures heard { length (values_from 1 self.old.knowledge.tally.learned) < most_places → NoneAbove self.old.proposer.hint self.old.proposer.id → result ≡ Err NodeFault.RoundsSpent }
-        ensures spent { IsTrue (R.is_honest self.new.records) → (c : Content) → Holds (R.may_find self.old.records) c → length (values_from 1 self.old.knowledge.tally.learned) < most_places
-            → NoneAbove (turn.limit c self.old.proposer.hint) self.old.proposer.id → TellsSpent ((mid : R) × R.finds_no_memory mid self.new.records × R.finds_no_ballot mid self.new.records) result }
+            → ((mid : R) × R.finds_no_memory mid self.new.records × R.finds_no_ballot mid self.new.records)
+            ⊎ ((b : ℕ) × IsNextBallot (R.may_find self.old.records) self.old.proposer.hint self.old.proposer.id b)) }
+        ensures heard { length (values_from 1 self.old.knowledge.tally.learned) < most_places → NoneAbove self.old.proposer.hint self.old.proposer.id
+            → result ≡ Err NodeFault.RoundsSpent }
+        ensures spent { IsTrue (R.is_honest self.new.records) → (c : Content) → Holds (R.may_find self.old.records) c
+            → length (values_from 1 self.old.knowledge.tally.learned) < most_places → NoneAbove (turn.limit c self.old.proposer.hint) self.old.proposer.id
+            → TellsSpent ((mid : R) × R.finds_no_memory mid self.new.records × R.finds_no_ballot mid self.new.records) result }
     {
         let prefix = self.knowledge.prefix_len();
         match self.proposer.lead(&mut self.records, prefix) {

@@ -240,10 +240,11 @@ impl Proposer {
         ensures doubt { IsTrue (R.is_honest records.new) → OnErr result (MayHaveTried (R.may_find records.old) (R.may_find records.new) self.old.hint self.old.id) }
         ensures trust { KeepsTrust R.is_honest R.is_clean records.old records.new }
         ensures memory { IsTrue (R.is_honest records.new) → IfErr result (λ fault. fault ≡ NodeFault.OutOfMemory
-            → ((mid : R) × R.finds_no_memory mid records.new × R.finds_no_ballot mid records.new) ⊎ ((b : ℕ) × IsNextBallot (R.may_find records.old) self.old.hint self.old.id b)) }
+            → ((mid : R) × R.finds_no_memory mid records.new × R.finds_no_ballot mid records.new)
+            ⊎ ((b : ℕ) × IsNextBallot (R.may_find records.old) self.old.hint self.old.id b)) }
         ensures heard { prefix < most_places → NoneAbove self.old.hint self.old.id → result ≡ Err NodeFault.RoundsSpent }
-        ensures spent { IsTrue (R.is_honest records.new) → (c : Content) → Holds (R.may_find records.old) c → prefix < most_places → NoneAbove (limit c self.old.hint) self.old.id
-            → TellsSpent ((mid : R) × R.finds_no_memory mid records.new × R.finds_no_ballot mid records.new) result }
+        ensures spent { IsTrue (R.is_honest records.new) → (c : Content) → Holds (R.may_find records.old) c → prefix < most_places
+            → NoneAbove (limit c self.old.hint) self.old.id → TellsSpent ((mid : R) × R.finds_no_memory mid records.new × R.finds_no_ballot mid records.new) result }
         ensures count { CountsStops result (R.count_of records.old) (R.count_of records.new) }
         ensures broken { BreaksByStop result (R.is_broken records.old) (R.is_broken records.new) }
         ensures unchanged { OnErr result (self.new ≡ self.old) }
