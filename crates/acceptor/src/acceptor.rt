@@ -80,7 +80,7 @@ fn number(ballot: Option<Ballot>) -> u64
 /// The greatest of the ballots that a node tried, promised or voted in, and 0 where there is none.
 pub fn greatest_used<R: Records>(records: &mut R) -> Result<u64, RecordsFault>
     ensures value { IsTrue (R.is_honest records.new) → IfOk result (λ b. (c : Content) → Holds (R.may_find records.old) c → b ≡ max c.tried (promised c)) }
-    ensures memory { IfErr result (λ e. e ≡ OutOfMemory → (mid : R) × R.finds_no_memory mid records.new) }
+    ensures memory { IfErr result (λ e. e ≡ OutOfMemory → (mid : R) × R.finds_no_memory mid records.new × R.finds_no_ballot mid records.new) }
     ensures kept { IsTrue (R.is_honest records.new) → Keeps result (R.may_find records.old) (R.may_find records.new) }
     ensures trust { KeepsTrust R.is_honest R.is_clean records.old records.new }
     ensures account { Accounts R.count_of R.is_broken records.old result records.new }

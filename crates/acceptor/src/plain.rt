@@ -206,6 +206,8 @@ impl Records for PlainRecords {
 
     ghost finds_no_memory = { λ _ _. Unit {0} };
 
+    ghost finds_no_ballot = { λ _ _. ⊥ };
+
     ghost reopens = { λ old new. new ≡ old };
 
     fn failures(&self) -> u64 {

@@ -65,6 +65,9 @@ pub trait Records {
     // A read that finds no memory may lead from the first to the second.
     ghost finds_no_memory: { Self → Self → Type 0 };
 
+    // The same of a read of the ballots.
+    ghost finds_no_ballot: { Self → Self → Type 0 };
+
     // A reopen that is Ok leads from the first to the second.
     ghost reopens: { Self → Self → Type 0 };
 
@@ -79,7 +82,7 @@ pub trait Records {
     /// The last ballot that the node tried to lead with, if there is one.
     fn tried(&mut self) -> Result<Option<Ballot>, RecordsFault>
         ensures value { IsTrue (is_honest self.new) → IfOk result (λ b. (c : Content) → Holds (may_find self.old) c → number_of b ≡ c.tried) }
-        ensures memory { IfErr result (λ e. e ≡ OutOfMemory → finds_no_memory self.old self.new) }
+        ensures memory { IfErr result (λ e. e ≡ OutOfMemory → finds_no_memory self.old self.new × finds_no_ballot self.old self.new) }
         ensures kept { IsTrue (is_honest self.new) → Keeps result (may_find self.old) (may_find self.new) }
         ensures trust { KeepsTrust is_honest is_clean self.old self.new }
         ensures account { Accounts count_of is_broken self.old result self.new };
@@ -87,7 +90,7 @@ pub trait Records {
     /// The greatest of the promised row and the ballots of all votes, if there is one.
     fn promised(&mut self) -> Result<Option<Ballot>, RecordsFault>
         ensures value { IsTrue (is_honest self.new) → IfOk result (λ b. (c : Content) → Holds (may_find self.old) c → number_of b ≡ promised c) }
-        ensures memory { IfErr result (λ e. e ≡ OutOfMemory → finds_no_memory self.old self.new) }
+        ensures memory { IfErr result (λ e. e ≡ OutOfMemory → finds_no_memory self.old self.new × finds_no_ballot self.old self.new) }
         ensures kept { IsTrue (is_honest self.new) → Keeps result (may_find self.old) (may_find self.new) }
         ensures trust { KeepsTrust is_honest is_clean self.old self.new }
         ensures account { Accounts count_of is_broken self.old result self.new };

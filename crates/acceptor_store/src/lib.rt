@@ -528,6 +528,8 @@ impl<D: Disk + Drop> Records for SqlRecords<FileStore<D>> {
 
     ghost finds_no_memory = { λ _ _. Unit {0} };
 
+    ghost finds_no_ballot = { λ _ _. Unit {0} };
+
     ghost reopens = { λ old new. IsHonest over_files new → AddsNothing (MayFind over_files old.owner old.held) (MayFind over_files new.owner new.held) };
 
     fn failures(&self) -> u64 {

@@ -146,6 +146,8 @@ impl Records for FaultyRecords {
 
     ghost finds_no_memory = { λ _ _. Unit {0} };
 
+    ghost finds_no_ballot = { λ _ _. ⊥ };
+
     ghost reopens = { λ old new. new.plain ≡ old.plain };
 
     fn failures(&self) -> u64 {

@@ -3,7 +3,7 @@ use Rattle.std.specs.Prelude.{◌≡◌, ℕ, Bool, true, false, Result, Vec}
 use Rattle.std.specs.declared.alloc.Global.{Global}
 use Rattle.ballots.specs.Members.{member_count}
 use Rattle.ballots.specs.declared.letters.Letter.{Letter}
-use Rattle.acceptor.specs.Content.{Content, after_write}
+use Rattle.acceptor.specs.Content.{Content, after_write, no_content}
 use Rattle.acceptor.specs.Found.{Holds, HoldsEither}
 use Rattle.learner.specs.Tally.{no_tally}
 use Rattle.node.specs.View.{View, Standing}
@@ -19,6 +19,10 @@ use Rattle.acceptor.specs.declared.records.RecordsFault.TheVariants.{Refused, Br
 -- the view of a node, where its records hold this
 abbrev pub view_over : {R : Type 0} → Parts R → Content → View
 view_over n c = record { content = c; role = n.proposer.role; hint = n.proposer.hint; tally = n.knowledge.tally; cursor = n.knowledge.cursor }
+
+-- all that a node has beside its records: its view, were they empty
+abbrev pub rest_of : {R : Type 0} → Parts R → View
+rest_of n = view_over n no_content
 
 abbrev pub who_of : {R : Type 0} → (R → ℕ) → (R → Bool) → Parts R → Who
 who_of count_of is_broken n = record { id = n.proposer.id; members = member_count n.proposer.members; failures = count_of n.records; broken = is_broken n.records; down = n.is_down }

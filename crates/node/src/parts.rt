@@ -1,18 +1,20 @@
 //! What a node is made of, and what its parts do with letters.
 
-ghost use Rattle.std.specs.Prelude.{◌≡◌, ◌≢◌, ◌++◌, ◌∷◌, [], ◌<◌, ◌↔◌, Ok, true, false, IsTrue, IfErr, IfOk, IsOk, None, OnErr, OnOk, ℕ, ◌⊎◌, take};
-ghost use Rattle.ballots.specs.Limits.{IsPlace, IsValue};
+ghost use Rattle.std.specs.Prelude.{◌≡◌, ◌≢◌, ◌++◌, ◌∷◌, [], ◌<◌, ◌≤◌, ◌↔◌, Ok, Err, length, true, false, IsTrue, IfErr, IfOk, IsOk, None, OnErr, OnOk, ℕ, ◌⊎◌, take};
+ghost use Rattle.ballots.specs.Ballots.{NoneAbove};
+ghost use Rattle.ballots.specs.Limits.{IsPlace, IsValue, most_places};
 ghost use Rattle.ballots.specs.Members.{member_count};
 ghost use Rattle.ballots.specs.Rows.{at, rows_from};
 ghost use Rattle.ballots.specs.declared.letters.Note.TheVariants.{Higher as HigherNote, Voted as VotedNote};
 ghost use Rattle.node.specs.Answers.{accepted_letters, WroteNothing};
 ghost use Rattle.acceptor.specs.Calls.{KeepsTrust};
 ghost use Rattle.acceptor.specs.Content.{Content};
+ghost use Rattle.acceptor.specs.Found.{Holds};
 ghost use Rattle.node.specs.Calls.{IsNothingNew, Kept, KeptByRestart, Restarts, StopsLast, TakesTurn, TellsFresh, answer, IsStop};
 ghost use Rattle.node.specs.Calls.Cause.{Lead, Offer};
 ghost use Rattle.node.specs.Releases.{Releases, outputs};
-ghost use Rattle.node.specs.View.{Standing};
-ghost use Rattle.proposer.specs.Faults.{IsOfLead};
+ghost use Rattle.node.specs.View.{Standing, values_from};
+ghost use Rattle.proposer.specs.Faults.{IsOfLead, TellsSpent};
 ghost use Rattle.proposer.specs.Turns as turn;
 ghost use Rattle.proposer.specs.Turns.{IsNextBallot, is_counted};
 ghost use Rattle.node.specs.Step.{Leads, accept, after_higher, are_votes, heed, is_sound, known, known_letters, learns, letter, nothing, offer, prepare, promise, to_all, voted};
@@ -52,13 +54,14 @@ fn place_of(number: u64) -> Place
 }
 
 impl<R: Records> Parts<R> {
-    ghost use Rattle.node.specs.Sched.{Does, AfterStoreFault, IsUntouched, Stands, Stops, view_over, who_of};
+    ghost use Rattle.node.specs.Sched.{Does, AfterStoreFault, IsUntouched, Stands, Stops, rest_of, view_over, who_of};
 
     /// The store failed.
     pub(crate) fn fail(&mut self, fault: RecordsFault) -> NodeFault
         ensures fails { AfterStoreFault self.old fault result self.new }
         ensures tells { IsStop result }
         ensures records { self.new.records ≡ self.old.records }
+        ensures rest { rest_of self.new ≡ rest_of self.old }
     {
         self.stop(NodeFault::from(fault))
     }
@@ -67,6 +70,7 @@ impl<R: Records> Parts<R> {
     fn stop(&mut self, fault: NodeFault) -> NodeFault
         ensures same { result ≡ fault }
         ensures stops { Stops self.old fault self.new }
+        ensures rest { rest_of self.new ≡ rest_of self.old }
     {
         if let NodeFault::Down = fault {
             self.is_down = true;
@@ -103,6 +107,7 @@ impl<R: Records> Parts<R> {
     ) -> Result<Vec<Letter>, NodeFault>
         requires { self.old.is_down ≡ false }
         ensures trust { KeepsTrust R.is_honest R.is_clean self.old.records self.new.records }
+        ensures err { OnErr result (rest_of self.new ≡ rest_of self.old) }
         ensures kept { Kept (who_of R.count_of R.is_broken self.old) result (who_of R.count_of R.is_broken self.new) }
         ensures tells { IfErr result IsStop }
         ensures done { IsTrue (R.is_honest self.new.records)
@@ -133,6 +138,7 @@ impl<R: Records> Parts<R> {
         requires up { self.old.is_down ≡ false }
         requires sound { are_votes ballot place votes.now ≡ true }
         ensures trust { KeepsTrust R.is_honest R.is_clean self.old.records self.new.records }
+        ensures err { OnErr result (rest_of self.new ≡ rest_of self.old) }
         ensures kept { Kept (who_of R.count_of R.is_broken self.old) result (who_of R.count_of R.is_broken self.new) }
         ensures tells { IfErr result IsStop }
         ensures done { IsTrue (R.is_honest self.new.records)
@@ -212,6 +218,7 @@ impl<R: Records> Parts<R> {
         requires up { self.old.is_down ≡ false }
         requires short { IsValue value.now }
         ensures trust { KeepsTrust R.is_honest R.is_clean self.old.records self.new.records }
+        ensures err { OnErr result (rest_of self.new ≡ rest_of self.old) }
         ensures kept { Kept (who_of R.count_of R.is_broken self.old) result (who_of R.count_of R.is_broken self.new) }
         ensures tells { IfErr result IsStop }
         ensures done { IsTrue (R.is_honest self.new.records)
@@ -230,6 +237,7 @@ impl<R: Records> Parts<R> {
         requires up { self.old.is_down ≡ false }
         requires unlearned { at self.old.knowledge.tally.learned place ≡ None }
         ensures trust { KeepsTrust R.is_honest R.is_clean self.old.records self.new.records }
+        ensures err { OnErr result (rest_of self.new ≡ rest_of self.old) }
         ensures kept { Kept (who_of R.count_of R.is_broken self.old) result (who_of R.count_of R.is_broken self.new) }
         ensures tells { IfErr result IsStop }
         ensures done { IsTrue (R.is_honest self.new.records)
@@ -256,6 +264,7 @@ impl<R: Records> Parts<R> {
         requires up { self.old.is_down ≡ false }
         requires short { IsValue value.now }
         ensures trust { KeepsTrust R.is_honest R.is_clean self.old.records self.new.records }
+        ensures err { OnErr result (rest_of self.new ≡ rest_of self.old) }
         ensures kept { Kept (who_of R.count_of R.is_broken self.old) result (who_of R.count_of R.is_broken self.new) }
         ensures tells { IfErr result IsStop }
         ensures done { IsTrue (R.is_honest self.new.records)
@@ -279,6 +288,7 @@ impl<R: Records> Parts<R> {
         requires up { self.old.is_down ≡ false }
         requires short { IsValue value.now }
         ensures trust { KeepsTrust R.is_honest R.is_clean self.old.records self.new.records }
+        ensures err { OnErr result (rest_of self.new ≡ rest_of self.old) }
         ensures kept { Kept (who_of R.count_of R.is_broken self.old) result (who_of R.count_of R.is_broken self.new) }
         ensures tells { IfErr result IsStop }
         ensures done { IsTrue (R.is_honest self.new.records)
@@ -310,6 +320,7 @@ impl<R: Records> Parts<R> {
     pub(crate) fn propose(&mut self, value: &[u8]) -> Result<Vec<Letter>, NodeFault>
         requires { self.old.is_down ≡ false }
         ensures trust { KeepsTrust R.is_honest R.is_clean self.old.records self.new.records }
+        ensures err { OnErr result (rest_of self.new ≡ rest_of self.old) }
         ensures kept { Kept (who_of R.count_of R.is_broken self.old) result (who_of R.count_of R.is_broken self.new) }
         ensures done { IsTrue (R.is_honest self.new.records)
             → Does R.may_find self.old (λ view course. course ≡ offer (member_count self.old.proposer.members) self.old.proposer.id view view.role value.now) result self.new }
@@ -323,14 +334,22 @@ impl<R: Records> Parts<R> {
     pub(crate) fn lead_up(&mut self) -> Result<Vec<Letter>, NodeFault>
         requires { self.old.is_down ≡ false }
         ensures trust { KeepsTrust R.is_honest R.is_clean self.old.records self.new.records }
+        ensures err { OnErr result (rest_of self.new ≡ rest_of self.old) }
         ensures kept { Kept (who_of R.count_of R.is_broken self.old) result (who_of R.count_of R.is_broken self.new) }
         ensures tells { IfErr result IsOfLead }
+        ensures full { result ≡ Err NodeFault.LogFull ↔ most_places ≤ length (values_from 1 self.old.knowledge.tally.learned) }
         ensures done { IsTrue (R.is_honest self.new.records)
             → Does R.may_find self.old (λ view course. Leads (member_count self.old.proposer.members) self.old.proposer.id view course) result self.new }
         ensures order { IsTrue (R.is_honest self.new.records)
             → (c : Content) → StopsLast (member_count self.old.proposer.members) self.old.proposer.id (view_over self.old c) Lead (answer result) }
         ensures memory { IsTrue (R.is_honest self.new.records) → IfErr result (λ fault. fault ≡ NodeFault.OutOfMemory
-            → ((mid : R) × R.finds_no_memory mid self.new.records) ⊎ ((b : ℕ) × IsNextBallot (R.may_find self.old.records) self.old.proposer.hint self.old.proposer.id b)) }
+            → ((mid : R) × R.finds_no_memory mid self.new.records × R.finds_no_ballot mid self.new.records)
+            ⊎ ((b : ℕ) × IsNextBallot (R.may_find self.old.records) self.old.proposer.hint self.old.proposer.id b)) }
+        ensures heard { length (values_from 1 self.old.knowledge.tally.learned) < most_places → NoneAbove self.old.proposer.hint self.old.proposer.id
+            → result ≡ Err NodeFault.RoundsSpent }
+        ensures spent { IsTrue (R.is_honest self.new.records) → (c : Content) → Holds (R.may_find self.old.records) c
+            → length (values_from 1 self.old.knowledge.tally.learned) < most_places → NoneAbove (turn.limit c self.old.proposer.hint) self.old.proposer.id
+            → TellsSpent ((mid : R) × R.finds_no_memory mid self.new.records × R.finds_no_ballot mid self.new.records) result }
     {
         let prefix = self.knowledge.prefix_len();
         match self.proposer.lead(&mut self.records, prefix) {
@@ -344,6 +363,7 @@ impl<R: Records> Parts<R> {
         requires up { self.old.is_down ≡ false }
         requires sound { is_sound letter.now letter.now.note ≡ true }
         ensures trust { KeepsTrust R.is_honest R.is_clean self.old.records self.new.records }
+        ensures err { OnErr result (rest_of self.new ≡ rest_of self.old) }
         ensures kept { Kept (who_of R.count_of R.is_broken self.old) result (who_of R.count_of R.is_broken self.new) }
         ensures tells { IfErr result IsStop }
         ensures done { IsTrue (R.is_honest self.new.records)
@@ -378,6 +398,7 @@ impl<R: Records> Parts<R> {
     pub(crate) fn release_up(&mut self, now: u64) -> Result<Vec<Numbered>, NodeFault>
         requires { self.old.is_down ≡ false }
         ensures trust { KeepsTrust R.is_honest R.is_clean self.old.records self.new.records }
+        ensures err { OnErr result (rest_of self.new ≡ rest_of self.old) }
         ensures kept { Kept (who_of R.count_of R.is_broken self.old) result (who_of R.count_of R.is_broken self.new) }
         ensures tells { IfErr result IsStop }
         ensures done { IsTrue (R.is_honest self.new.records) → (s : Standing) → Stands R.may_find self.old s
@@ -390,6 +411,7 @@ impl<R: Records> Parts<R> {
     pub(crate) fn start_over(&mut self) -> Result<(), NodeFault>
         ensures honesty { IsTrue (R.is_honest self.new.records) → IsTrue (R.is_honest self.old.records) }
         ensures trust { OnOk result (KeepsTrust R.is_honest R.is_clean self.old.records self.new.records) }
+        ensures err { OnErr result (rest_of self.new ≡ rest_of self.old) }
         ensures kept { KeptByRestart (who_of R.count_of R.is_broken self.old) result (who_of R.count_of R.is_broken self.new) }
         ensures tells { IfErr result IsStop }
         ensures done { IsTrue (R.is_honest self.new.records) → (s : Standing) → Stands R.may_find self.old s
@@ -423,6 +445,7 @@ impl<R: Records> Parts<R> {
     pub(crate) fn tells_fresh(&mut self) -> Result<bool, NodeFault>
         requires { self.old.is_down ≡ false }
         ensures trust { KeepsTrust R.is_honest R.is_clean self.old.records self.new.records }
+        ensures rest { rest_of self.new ≡ rest_of self.old }
         ensures kept { Kept (who_of R.count_of R.is_broken self.old) result (who_of R.count_of R.is_broken self.new) }
         ensures tells { IfErr result IsStop }
         ensures done { IsTrue (R.is_honest self.new.records) → (s : Standing) → Stands R.may_find self.old s

@@ -4,7 +4,7 @@ ghost use Rattle.std.specs.Prelude.{◌≡◌, ◌<◌, false, IsTrue};
 ghost use Rattle.ballots.specs.Members.{member_count};
 ghost use Rattle.acceptor.specs.Content.{Content};
 ghost use Rattle.acceptor.specs.Found.{Holds};
-ghost use Rattle.node.specs.Sched.{Stands, who_of};
+ghost use Rattle.node.specs.Sched.{Stands, rest_of, who_of};
 ghost use Rattle.node.specs.View.{Standing, made};
 ghost use Rattle.node.specs.View.Standing.{Running};
 
@@ -62,7 +62,9 @@ impl<R: Records + Drop> Node for SchedNode<R> {
 
     ghost values = { λ n. n.parts.knowledge.tally.learned };
 
-    ghost found_no_memory = { λ n. (mid : R) × R.finds_no_memory mid n.parts.records };
+    ghost rest = { λ n. rest_of n.parts };
+
+    ghost found_no_memory = { λ n. (mid : R) × R.finds_no_memory mid n.parts.records × R.finds_no_ballot mid n.parts.records };
 
     ghost reopens = { λ old _. (mid : R) × R.reopens old.parts.records mid };
 

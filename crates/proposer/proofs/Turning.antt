@@ -1,7 +1,7 @@
 -- Steps of a proposer's turn.
-use Rattle.std.proofs.Common.{◌≡◌, inr, ℕ, suc, ◌+◌, ◌-◌, ◌<◌, max, List, [], ◌∷◌, ◌++◌, refl, sym, ap, subst, ◌∙◌, arith, Result, Ok, Err, OnErr}
+use Rattle.std.proofs.Common.{◌≡◌, ◌⊎◌, inr, ℕ, suc, ◌+◌, ◌-◌, ◌<◌, max, List, [], ◌∷◌, ◌++◌, refl, sym, ap, subst, ◌∙◌, arith, Result, Ok, Err, OnErr, IfErr}
 use Rattle.acceptor.proofs.Callers.{still_holds}
-use Rattle.ballots.specs.Ballots.{IsLeastAbove}
+use Rattle.ballots.specs.Ballots.{IsLeastAbove, NoneAbove}
 use Rattle.ballots.specs.Rows.{at}
 use Rattle.ballots.specs.declared.letters.Cast.{Cast}
 use Rattle.ballots.specs.declared.letters.Letter.{Letter}
@@ -11,7 +11,9 @@ use Rattle.acceptor.specs.Content.Write.{Tries}
 use Rattle.acceptor.specs.Found.{Findable, Holds, FindsSame, MayHaveMade}
 use Rattle.proposer.specs.Joining.{proposal}
 use Rattle.proposer.specs.Letters.{to_all, proposals}
-use Rattle.proposer.specs.Turns.{IsNextBallot, MayHaveTried}
+use Rattle.proposer.specs.Faults.{CountsStops, TellsSpent}
+use Rattle.proposer.specs.Turns.{IsNextBallot, MayHaveTried, limit}
+use Rattle.proposer.specs.declared.fault.NodeFault.{NodeFault as Fault}
 
 pub on_err : {T E : Type 0} (r : Result T E) (P : Type 0) → P → OnErr r P
 on_err (Ok x) P p = tt
@@ -36,3 +38,27 @@ next_ballot found hint me b used above is top least = λ c holds.
 
 pub may_have_tried : (old mid new : Findable) (hint me b : ℕ) → IsNextBallot old hint me b → FindsSame old mid → MayHaveMade mid new (Tries b) → MayHaveTried old new hint me
 may_have_tried old mid new hint me b next same made = λ c holds. inr (b, next c holds, made c (still_holds old mid c same holds))
+
+-- a call that fails where there is a next ballot
+pub has_next : {T : Type 0} (r : Result T Fault) (Lacks : Type 0) (found : Findable) (hint me b : ℕ) → IsNextBallot found hint me b
+    → IfErr r (λ fault. fault ≡ Fault.OutOfMemory → Lacks ⊎ ((b : ℕ) × IsNextBallot found hint me b))
+has_next (Ok x) Lacks found hint me b next = tt
+has_next (Err fault) Lacks found hint me b next = λ is. inr (b, next)
+
+-- where there is a next ballot, not all are used up
+pub not_spent : (found : Findable) (hint me b : ℕ) → IsNextBallot found hint me b → (c : Content) → Holds found c → NoneAbove (limit c hint) me → ⊥
+not_spent found hint me b next c holds none =
+    let least = next c holds in
+    let below = none b least.0 in
+    absurd (omega (arith, below, least.1))
+
+-- where the store never fails and a read of a ballot always finds memory, nothing else is answered
+pub spent_in_memory : {T : Type 0} (r : Result T Fault) (Lacks : Type 0) → (Lacks → ⊥) → TellsSpent Lacks r → CountsStops r 0 0 → r ≡ Err Fault.RoundsSpent
+spent_in_memory (Ok x) Lacks finds tells counts = absurd tells
+spent_in_memory (Err Fault.RoundsSpent) Lacks finds tells counts = refl
+spent_in_memory (Err Fault.OutOfMemory) Lacks finds tells counts = absurd (finds tells)
+spent_in_memory (Err Fault.StoreRefused) Lacks finds tells counts = let risen = counts.1 tt in absurd (omega (arith, risen))
+spent_in_memory (Err Fault.Down) Lacks finds tells counts = let risen = counts.1 tt in absurd (omega (arith, risen))
+spent_in_memory (Err Fault.NotLeading) Lacks finds tells counts = absurd tells
+spent_in_memory (Err Fault.LogFull) Lacks finds tells counts = absurd tells
+spent_in_memory (Err Fault.ValueTooLong) Lacks finds tells counts = absurd tells

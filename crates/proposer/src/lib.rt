@@ -3,12 +3,14 @@
 
 mod fault;
 mod letters;
+mod memory;
 mod promises;
 mod proposer;
 mod role;
 
 pub use fault::NodeFault;
 pub use letters::to_all;
+pub use memory::lead_without_ballots;
 pub use promises::{Joined, Nodes};
 pub use proposer::Proposer;
 pub use role::{Role, higher};

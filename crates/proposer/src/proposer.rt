@@ -1,16 +1,18 @@
 //! What a proposer does in each turn.
 
-ghost use Rattle.std.specs.Prelude.{◌≡◌, ◌⊎◌, ◌↔◌, ℕ, ◌+◌, ◌-◌, ◌<◌, max, false, IsTrue, IsOk, Some, None, Ok, Err, IfOk, IfErr, OnOk, OnErr, is_ok, MatchOption};
+ghost use Rattle.std.specs.Prelude.{◌≡◌, ◌⊎◌, ◌↔◌, ℕ, ◌+◌, ◌-◌, ◌<◌, ◌≤◌, max, false, IsTrue, IsOk, Some, None, Ok, Err, IfOk, IfErr, OnOk, OnErr, is_ok, MatchOption};
+ghost use Rattle.ballots.specs.Ballots.{NoneAbove};
 ghost use Rattle.ballots.specs.Limits.{most_places};
 ghost use Rattle.ballots.specs.Members.{member_count};
 ghost use Rattle.acceptor.specs.Calls.{KeepsTrust};
+ghost use Rattle.acceptor.specs.Content.{Content};
 ghost use Rattle.acceptor.specs.Content.Write.{Tries};
-ghost use Rattle.acceptor.specs.Found.{FindsSame, HasMade};
+ghost use Rattle.acceptor.specs.Found.{FindsSame, HasMade, Holds};
 ghost use Rattle.proposer.specs.Bounds.{in_log};
-ghost use Rattle.proposer.specs.Faults.{BreaksByStop, CountsStops, IsHarmlessStop, IsOfLead};
+ghost use Rattle.proposer.specs.Faults.{BreaksByStop, CountsStops, IsHarmlessStop, IsOfLead, TellsSpent};
 ghost use Rattle.proposer.specs.Letters.{proposals};
 ghost use Rattle.proposer.specs.Roles.{role_after};
-ghost use Rattle.proposer.specs.Turns.{promise, after_promise, is_counted, stays, offer, tries, IsNextBallot, DeclinesToLead, MayHaveTried};
+ghost use Rattle.proposer.specs.Turns.{promise, after_promise, is_counted, stays, offer, tries, IsNextBallot, DeclinesToLead, MayHaveTried, limit};
 ghost use Rattle.proposer.specs.declared.role.Role.TheVariants.{Idle};
 
 use crate::fault::NodeFault;
@@ -215,7 +217,14 @@ impl Proposer {
         Ok(letters)
     }
 
-    /// Tries its least ballot above those that it tried, promised or heard of, for the places after a prefix of the log: makes its letters, writes the ballot as tried, and then prepares it. `prefix` counts places.
+    /// Whether it has a ballot above those that it heard of.
+    fn has_ballot(&self) -> bool
+        ensures { IsTrue result ↔ (NoneAbove self.now.hint self.now.id → ⊥) }
+    {
+        least_above(self.hint, self.id).is_ok()
+    }
+
+    /// Tries its least ballot above those that it tried, promised or heard of, for the places after a prefix of the log: makes its letters, writes the ballot as tried, and then prepares it. `prefix` counts places. Where it heard of its last ballot it reads no records.
     pub fn lead<R: Records>(
         &mut self,
         records: &mut R,
@@ -224,13 +233,18 @@ impl Proposer {
         ensures ok { IsTrue (R.is_honest records.new) → IfOk result (λ letters. (b : ℕ) × IsNextBallot (R.may_find records.old) self.old.hint self.old.id b
             × (tries (member_count self.old.members) self.old.id b (prefix + 1) ≡ record { role = self.new.role; letters = letters.items }) × HasMade (R.may_find records.old) (R.may_find records.new) (Tries b)) }
         ensures room { OnOk result (prefix < most_places) }
+        ensures full { result ≡ Err NodeFault.LogFull ↔ most_places ≤ prefix }
         ensures tells { IfErr result IsOfLead }
         ensures declined { IsTrue (R.is_honest records.new) → IfErr result (DeclinesToLead (R.may_find records.old) self.old.hint self.old.id prefix) }
         ensures harmless { IsTrue (R.is_honest records.new) → IfErr result (λ fault. IsHarmlessStop fault → FindsSame (R.may_find records.old) (R.may_find records.new)) }
         ensures doubt { IsTrue (R.is_honest records.new) → OnErr result (MayHaveTried (R.may_find records.old) (R.may_find records.new) self.old.hint self.old.id) }
         ensures trust { KeepsTrust R.is_honest R.is_clean records.old records.new }
         ensures memory { IsTrue (R.is_honest records.new) → IfErr result (λ fault. fault ≡ NodeFault.OutOfMemory
-            → ((mid : R) × R.finds_no_memory mid records.new) ⊎ ((b : ℕ) × IsNextBallot (R.may_find records.old) self.old.hint self.old.id b)) }
+            → ((mid : R) × R.finds_no_memory mid records.new × R.finds_no_ballot mid records.new)
+            ⊎ ((b : ℕ) × IsNextBallot (R.may_find records.old) self.old.hint self.old.id b)) }
+        ensures heard { prefix < most_places → NoneAbove self.old.hint self.old.id → result ≡ Err NodeFault.RoundsSpent }
+        ensures spent { IsTrue (R.is_honest records.new) → (c : Content) → Holds (R.may_find records.old) c → prefix < most_places
+            → NoneAbove (limit c self.old.hint) self.old.id → TellsSpent ((mid : R) × R.finds_no_memory mid records.new × R.finds_no_ballot mid records.new) result }
         ensures count { CountsStops result (R.count_of records.old) (R.count_of records.new) }
         ensures broken { BreaksByStop result (R.is_broken records.old) (R.is_broken records.new) }
         ensures unchanged { OnErr result (self.new ≡ self.old) }
@@ -238,6 +252,9 @@ impl Proposer {
     {
         if prefix >= MOST_PLACES {
             return Err(NodeFault::LogFull);
+        }
+        if !self.has_ballot() {
+            return Err(NodeFault::RoundsSpent);
         }
         let used = greatest_used(records)?;
         let Ok(ballot) = least_above(used.max(self.hint), self.id) else {

@@ -1,6 +1,6 @@
 -- What a call of a node is, as its seat shows it.
 use Rattle.std.proofs.Common.{◌≡◌, inl, inr, ⊎_elim, ℕ, ◌+◌, List, [], length, None, Option, Ok, Err, Result, Bool, true, false, IsTrue, Vec, is_ok, nat_lt, if◌then◌else◌, refl, sym, ap, ◌∙◌, subst, arith}
-use Rattle.std.specs.Prelude.{IfErr, OnOk}
+use Rattle.std.specs.Prelude.{IfErr, OnErr, OnOk}
 use Rattle.std.specs.declared.alloc.Global.{Global}
 use Rattle.std.proofs.lemmas.Bool.{cond_both, false≢true}
 use Rattle.ballots.specs.Limits.{longest_value, most_places}
@@ -25,7 +25,7 @@ use Rattle.proposer.specs.declared.role.Role.TheVariants.{Idle, Preparing, Leadi
 use Rattle.proposer.specs.declared.fault.NodeFault.{NodeFault}
 use Rattle.proposer.specs.declared.fault.NodeFault.TheVariants.{NotLeading, LogFull, ValueTooLong, OutOfMemory, StoreRefused, Down}
 use Rattle.seats.specs.Acted.{ask_of, come_of, letters_of, outputs_of, told}
-use Rattle.seats.specs.Acts.{Acts, AnswersDown, GoOut, GoesTo, MayAnswer, MayFail, MovesBy, TellsStoreOf}
+use Rattle.seats.specs.Acts.{Acts, AnswersDown, GoOut, GoesTo, KeepsRest, MayAnswer, MayFail, MovesBy, TellsStoreOf}
 use Rattle.seats.specs.Moves.{Ask, Move, Moves, Fails, gives, lost, quiet, whole}
 use Rattle.seats.specs.Moves.Ask.{Call, TakeThenCrash, Release, Crash, Restart}
 use Rattle.seats.specs.Occupant.{Stands}
@@ -164,6 +164,12 @@ pub receives_last : (members me : ℕ) (view : View) (l : Letter) (given : Resul
 receives_last members me view l (Ok letters) = tt
 receives_last members me view l (Err failed) = λ stop. tt
 
+-- where nothing changed, nothing beside the records did
+same_rest : (reply : Answer) (rest : View) → KeepsRest reply rest rest
+same_rest (Fault failed) rest = refl
+same_rest (Refused refusal) rest = refl
+same_rest reply rest = tt
+
 module _ {N : Type 0} {g : Ghosts N} (old : Seat N g) where
   -- where a node that is up may stand
   runs_at : (s : Standing) → old.up ≡ true → Stands old s → (view : View) × (s ≡ Running view) × g.stands old.node (Running view)
@@ -183,6 +189,7 @@ module _ {N : Type 0} {g : Ghosts N} (old : Seat N g) where
     trust = λ well. record { honest = λ honest. honest; clean = λ clean. clean; sure = λ clean honest. honest };
     answers = subst (λ (b : Bool). MayAnswer b ask reply b) (sym is) may;
     goes_out = none;
+    rest = same_rest reply (g.rest old.node);
     moves = λ honest s shown. (quiet s, moves s (subst (λ (b : Bool). Shown b (g.stands old.node) s) is shown), refl, refl, shown);
   }
 
@@ -221,6 +228,7 @@ module _ {N : Type 0} {g : Ghosts N} (old : Seat N g) where
     trust = λ well. record { honest = λ honest. honest; clean = λ clean. clean; sure = λ clean honest. honest };
     answers = subst (λ (b : Bool). MayAnswer b Crash Finished false) (sym up) refl;
     goes_out = (refl, refl);
+    rest = tt;
     moves = λ honest s shown.
         let at = runs_at s up shown in
         (quiet (Stopped at.0.content None), subst (λ (x : Standing). Moves (g.who old.node).members (g.who old.node).id x Crash Finished (quiet (Stopped at.0.content None))) (sym at.1) (refl, refl), refl, refl, (Running at.0, at.2, refl));
@@ -230,10 +238,10 @@ module _ {N : Type 0} {g : Ghosts N} (old : Seat N g) where
   built : (new : Seat N g) (ask : Ask) (answer : Answer) (letters : List Letter) (outs : List Numbered) (b : Bool) {T : Type 0} (given : Result T NodeFault) → old.up ≡ true → new.up ≡ b
       → KeepsTrust g.honest g.clean old.node new.node → Kept (g.who old.node) given (g.who new.node)
       → TellsStoreOf answer ask (g.who old.node) (g.who new.node) → (is_store_fault answer ≡ true → HasRisen (g.who old.node).failures (g.who new.node).failures)
-      → MayAnswer true ask answer new.up → GoOut answer letters outs
+      → MayAnswer true ask answer new.up → GoOut answer letters outs → KeepsRest answer (g.rest old.node) (g.rest new.node)
       → (IsTrue (g.honest new.node) → (view : View) → g.stands old.node (Running view) → GoesTo (g.who old.node).members (g.who old.node).id (Running view) ask answer letters outs (Shown b (g.stands new.node)))
       → Acts old ask answer letters outs new
-  built new ask answer letters outs b given up turned trust kept tells rose may out goes = record {
+  built new ask answer letters outs b given up turned trust kept tells rose may out rest goes = record {
     same = (kept.0, kept.1);
     grows = kept.2;
     tells = tells;
@@ -242,6 +250,7 @@ module _ {N : Type 0} {g : Ghosts N} (old : Seat N g) where
     trust = λ well. trust;
     answers = subst (λ (was : Bool). MayAnswer was ask answer new.up) (sym up) may;
     goes_out = out;
+    rest = rest;
     moves = λ honest s shown.
         let at = runs_at s up shown in
         subst (λ (x : Standing). GoesTo (g.who old.node).members (g.who old.node).id x ask answer letters outs (Stands new)) (sym at.1)
@@ -250,41 +259,41 @@ module _ {N : Type 0} {g : Ghosts N} (old : Seat N g) where
 
   -- one whose letters go out
   pub calls : (new : Seat N g) (cause : Cause) (given : Result (Vec Letter Global) NodeFault) → old.up ≡ true → new.up ≡ stays_up given
-      → KeepsTrust g.honest g.clean old.node new.node → Kept (g.who old.node) given (g.who new.node) → IfErr given (MayFail cause)
+      → KeepsTrust g.honest g.clean old.node new.node → OnErr given (g.rest new.node ≡ g.rest old.node) → Kept (g.who old.node) given (g.who new.node) → IfErr given (MayFail cause)
       → (IsTrue (g.honest new.node) → (s : Standing) → g.stands old.node s → (t : Standing) × Called (g.who old.node).members (g.who old.node).id s cause (answer given) t × g.stands new.node t)
       → (IsTrue (g.honest new.node) → (view : View) → g.stands old.node (Running view) → StopsLast (g.who old.node).members (g.who old.node).id view cause (answer given))
       → Acts old (Call cause) (told (come_of acted.Sent given)) (letters_of (come_of acted.Sent given)) (outputs_of (come_of acted.Sent given)) new
-  calls new cause (Ok letters) up turned trust kept may done order = built new (Call cause) _ _ _ true (Ok letters) up turned trust kept kept.3 (λ loud. absurd (false≢true loud)) turned (refl, refl) (λ honest view runs.
+  calls new cause (Ok letters) up turned trust rest kept may done order = built new (Call cause) _ _ _ true (Ok letters) up turned trust kept kept.3 (λ loud. absurd (false≢true loud)) turned (refl, refl) tt (λ honest view runs.
       let one = done honest (Running view) runs in
       called (g.who old.node).members (g.who old.node).id view cause (g.stands new.node) (Ok letters) one.0 one.1 (order honest view runs) one.2)
-  calls new cause (Err failed) up turned trust kept may done order = built new (Call cause) _ _ _ (survives failed) {T = Vec Letter Global} (Err failed) up turned trust kept
-      (err_tells (Vec Letter Global) (Call cause) (g.who old.node) (g.who new.node) failed (λ e. cc) kept) (err_rose (Vec Letter Global) (g.who old.node) (g.who new.node) failed (old.runs up) kept) (may, turned) (refl, refl) (λ honest view runs.
+  calls new cause (Err failed) up turned trust rest kept may done order = built new (Call cause) _ _ _ (survives failed) {T = Vec Letter Global} (Err failed) up turned trust kept
+      (err_tells (Vec Letter Global) (Call cause) (g.who old.node) (g.who new.node) failed (λ e. cc) kept) (err_rose (Vec Letter Global) (g.who old.node) (g.who new.node) failed (old.runs up) kept) (may, turned) (refl, refl) rest (λ honest view runs.
       let one = done honest (Running view) runs in
       called (g.who old.node).members (g.who old.node).id view cause (g.stands new.node) (Err failed) one.0 one.1 (order honest view runs) one.2)
 
   -- a letter that is taken before a crash
   pub takes : (new : Seat N g) (l : Letter) (given : Result (Vec Letter Global) NodeFault) → old.up ≡ true → new.up ≡ false
-      → KeepsTrust g.honest g.clean old.node new.node → Kept (g.who old.node) given (g.who new.node) → IfErr given IsStop
+      → KeepsTrust g.honest g.clean old.node new.node → OnErr given (g.rest new.node ≡ g.rest old.node) → Kept (g.who old.node) given (g.who new.node) → IfErr given IsStop
       → (IsTrue (g.honest new.node) → (s : Standing) → g.stands old.node s → (t : Standing) × Called (g.who old.node).members (g.who old.node).id s (Received l) (answer given) t × g.stands new.node t)
       → Acts old (TakeThenCrash l) (told (come_of (λ letters. acted.Finished) given)) (letters_of (come_of (λ letters. acted.Finished) given)) (outputs_of (come_of (λ letters. acted.Finished) given)) new
-  takes new l (Ok letters) up turned trust kept stop done = built new (TakeThenCrash l) _ _ _ false (Ok letters) up turned trust kept kept.3 (λ loud. absurd (false≢true loud)) turned (refl, refl) (λ honest view runs.
+  takes new l (Ok letters) up turned trust rest kept stop done = built new (TakeThenCrash l) _ _ _ false (Ok letters) up turned trust kept kept.3 (λ loud. absurd (false≢true loud)) turned (refl, refl) tt (λ honest view runs.
       let one = done honest (Running view) runs in
       called_last (g.who old.node).members (g.who old.node).id view l (g.stands new.node) (Ok letters) one.0 one.1 stop one.2)
-  takes new l (Err failed) up turned trust kept stop done = built new (TakeThenCrash l) _ _ _ false {T = Vec Letter Global} (Err failed) up turned trust kept
-      (err_tells (Vec Letter Global) (TakeThenCrash l) (g.who old.node) (g.who new.node) failed (λ e. cc) kept) (err_rose (Vec Letter Global) (g.who old.node) (g.who new.node) failed (old.runs up) kept) (stop, turned) (refl, refl) (λ honest view runs.
+  takes new l (Err failed) up turned trust rest kept stop done = built new (TakeThenCrash l) _ _ _ false {T = Vec Letter Global} (Err failed) up turned trust kept
+      (err_tells (Vec Letter Global) (TakeThenCrash l) (g.who old.node) (g.who new.node) failed (λ e. cc) kept) (err_rose (Vec Letter Global) (g.who old.node) (g.who new.node) failed (old.runs up) kept) (stop, turned) (refl, refl) rest (λ honest view runs.
       let one = done honest (Running view) runs in
       called_last (g.who old.node).members (g.who old.node).id view l (g.stands new.node) (Err failed) one.0 one.1 stop one.2)
 
   -- a release
   pub releases : (new : Seat N g) (now : ℕ) (given : Result (Vec Numbered Global) NodeFault) → old.up ≡ true → new.up ≡ stays_up given
-      → KeepsTrust g.honest g.clean old.node new.node → Kept (g.who old.node) given (g.who new.node) → IfErr given IsStop
+      → KeepsTrust g.honest g.clean old.node new.node → OnErr given (g.rest new.node ≡ g.rest old.node) → Kept (g.who old.node) given (g.who new.node) → IfErr given IsStop
       → (IsTrue (g.honest new.node) → (s : Standing) → g.stands old.node s → (t : Standing) × Releases s now (outputs given) t × g.stands new.node t)
       → Acts old (Release now) (told (come_of acted.Released given)) (letters_of (come_of acted.Released given)) (outputs_of (come_of acted.Released given)) new
-  releases new now (Ok released) up turned trust kept stop done = built new (Release now) _ _ _ true (Ok released) up turned trust kept kept.3 (λ loud. absurd (false≢true loud)) turned (refl, refl) (λ honest view runs.
+  releases new now (Ok released) up turned trust rest kept stop done = built new (Release now) _ _ _ true (Ok released) up turned trust kept kept.3 (λ loud. absurd (false≢true loud)) turned (refl, refl) tt (λ honest view runs.
       let one = done honest (Running view) runs in
       gave (g.who old.node).members (g.who old.node).id now view (g.stands new.node) (Ok released) one.0 one.1 one.2)
-  releases new now (Err failed) up turned trust kept stop done = built new (Release now) _ _ _ (survives failed) {T = Vec Numbered Global} (Err failed) up turned trust kept
-      (err_tells (Vec Numbered Global) (Release now) (g.who old.node) (g.who new.node) failed (λ e. cc) kept) (err_rose (Vec Numbered Global) (g.who old.node) (g.who new.node) failed (old.runs up) kept) (stop, turned ∙ stop_falls failed stop) (refl, refl) (λ honest view runs.
+  releases new now (Err failed) up turned trust rest kept stop done = built new (Release now) _ _ _ (survives failed) {T = Vec Numbered Global} (Err failed) up turned trust kept
+      (err_tells (Vec Numbered Global) (Release now) (g.who old.node) (g.who new.node) failed (λ e. cc) kept) (err_rose (Vec Numbered Global) (g.who old.node) (g.who new.node) failed (old.runs up) kept) (stop, turned ∙ stop_falls failed stop) (refl, refl) rest (λ honest view runs.
       let one = done honest (Running view) runs in
       gave (g.who old.node).members (g.who old.node).id now view (g.stands new.node) (Err failed) one.0 one.1 one.2)
 
@@ -300,10 +309,10 @@ module _ {N : Type 0} {g : Ghosts N} (old : Seat N g) where
       (starts (g.who old.node).members (g.who old.node).id was.0 (g.stands new.node) given one.0 one.1 one.2))
 
   pub restarts : (new : Seat N g) (given : Result (Unit {0}) NodeFault) → old.up ≡ false → new.up ≡ is_ok given
-      → (IsTrue (g.honest new.node) → IsTrue (g.honest old.node)) → OnOk given (KeepsTrust g.honest g.clean old.node new.node) → KeptByRestart (g.who old.node) given (g.who new.node) → IfErr given IsStop
+      → (IsTrue (g.honest new.node) → IsTrue (g.honest old.node)) → OnOk given (KeepsTrust g.honest g.clean old.node new.node) → OnErr given (g.rest new.node ≡ g.rest old.node) → KeptByRestart (g.who old.node) given (g.who new.node) → IfErr given IsStop
       → (IsTrue (g.honest new.node) → (s : Standing) → g.stands old.node s → (t : Standing) × Restarts s given t × g.stands new.node t)
       → Acts old Restart (told (come_of (λ done. acted.Finished) given)) (letters_of (come_of (λ done. acted.Finished) given)) (outputs_of (come_of (λ done. acted.Finished) given)) new
-  restarts new (Ok finished) down turned honesty trust kept stop done = record {
+  restarts new (Ok finished) down turned honesty trust rest kept stop done = record {
     same = (kept.0, kept.1);
     grows = kept.2;
     tells = kept.3;
@@ -312,9 +321,10 @@ module _ {N : Type 0} {g : Ghosts N} (old : Seat N g) where
     trust = λ well. trust;
     answers = subst (λ (b : Bool). MayAnswer b Restart Finished new.up) (sym down) turned;
     goes_out = (refl, refl);
+    rest = tt;
     moves = rises new (Ok finished) down turned done;
   }
-  restarts new (Err failed) down turned honesty trust kept stop done = record {
+  restarts new (Err failed) down turned honesty trust rest kept stop done = record {
     same = (kept.0, kept.1);
     grows = kept.2;
     tells = kept.3;
@@ -323,5 +333,6 @@ module _ {N : Type 0} {g : Ghosts N} (old : Seat N g) where
     trust = λ well. absurd (well failed refl refl);
     answers = subst (λ (b : Bool). MayAnswer b Restart (Fault failed) new.up) (sym down) (stop, turned);
     goes_out = (refl, refl);
+    rest = rest;
     moves = rises new (Err failed) down turned done;
   }

@@ -114,6 +114,7 @@ module _ {N : Type 0} {g : Ghosts N} (mid : Seat N g) where
     trust = λ well. acts.trust (λ fault restart is. absurd (false≢true (sym (ap gives is) ∙ more)));
     answers = may_crash old.up ask answer mid.up more acts.answers;
     goes_out = (refl, refl);
+    rest = tt;
     moves = λ honest s before.
         let to = acts.moves honest s before in
         let lost = loses (g.who old.node).members (g.who old.node).id s ask answer to.0 old.up mid.up more acts.answers to.1 in

@@ -5,7 +5,7 @@ use Rattle.acceptor.specs.Calls.{KeepsTrust}
 use Rattle.acceptor.specs.Faults.{HasRisen}
 use Rattle.map_release.specs.declared.numbered.Numbered.{Numbered}
 use Rattle.node.specs.declared.node.Node.{Ghosts}
-use Rattle.node.specs.View.{Standing}
+use Rattle.node.specs.View.{View, Standing}
 use Rattle.node.specs.Calls.{Cause, IsStop, StoreServed, TellsStore, TellsStoreOfRestart, Who}
 use Rattle.node.specs.Calls.Cause.{Lead, Offer, Receive}
 use Rattle.proposer.specs.Faults.{IsOfLead, IsOfOffer}
@@ -66,6 +66,12 @@ TellsStoreOf (Fault fault) ask old new = TellsStore {T = Unit {0}} old (Err faul
 TellsStoreOf Finished Restart old new = TellsStoreOfRestart {T = Unit {0}} old (Ok tt) new
 TellsStoreOf answer ask old new = StoreServed old new
 
+-- what a node has beside its records stays where the call failed, or was refused
+abbrev pub KeepsRest : Answer → View → View → Type 0
+KeepsRest (Fault fault) old new = new ≡ old
+KeepsRest (Refused refusal) old new = new ≡ old
+KeepsRest answer old new = Unit {0}
+
 -- it isn't a restart that failed
 abbrev pub IsNoFailedRestart : Ask → Answer → Type 0
 IsNoFailedRestart ask answer = (fault : NodeFault) → ask ≡ Restart → answer ≡ Fault fault → ⊥
@@ -93,6 +99,8 @@ pub record Acts {N : Type 0} {g : Ghosts N} (old : Seat N g) (ask : Ask) (answer
   -- the answer is one to what was asked, whatever its records did
   pub answers : MayAnswer (is_up old) ask answer (is_up new)
   pub goes_out : GoOut answer letters outputs
+  -- where it failed nothing has changed but its records, and that it is down
+  pub rest : KeepsRest answer (g.rest (node_of old)) (g.rest (node_of new))
   -- and it moved so
   pub moves : IsHonest new → MovesBy (who_of old).members (who_of old).id (Stands old) ask answer letters outputs (Stands new)
 

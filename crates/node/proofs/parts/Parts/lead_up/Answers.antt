@@ -54,7 +54,7 @@ returns-in-Err-clause-memory g c honest is =
     let before = honest_before g.R.Records.is_honest record old { records = c.lead.new.records; proposer = c.lead.new.self; knowledge = c.prefix_len-prefix.new.self } c.in-Err.fault c.stop.new.self c.stop.ensures.stops honest in
     let known : Stops record old { records = c.lead.new.records; proposer = c.lead.new.self } c.in-Err.fault c.stop.new.self = subst (λ (k : Learned). Stops record old { records = c.lead.new.records; proposer = c.lead.new.self; knowledge = k } c.in-Err.fault c.stop.new.self) c.prefix_len-prefix.ensures.same c.stop.ensures.stops in
     let stops : Stops record old { records = c.lead.new.records; proposer = c.lead.new.self } Fault.OutOfMemory c.stop.new.self = subst (λ f. Stops record old { records = c.lead.new.records; proposer = c.lead.new.self } f c.stop.new.self) out known in
-    subst (λ (n : Parts g.row.R.Denot). ((mid : g.row.R.Denot) × g.R.Records.finds_no_memory mid n.records) ⊎ ((b : ℕ) × IsNextBallot (g.R.Records.may_find old.records) old.proposer.hint old.proposer.id b)) (sym stops) (c.in-Err.ensures.memory before out)
+    subst (λ (n : Parts g.row.R.Denot). ((mid : g.row.R.Denot) × g.R.Records.finds_no_memory mid n.records × g.R.Records.finds_no_ballot mid n.records) ⊎ ((b : ℕ) × IsNextBallot (g.R.Records.may_find old.records) old.proposer.hint old.proposer.id b)) (sym stops) (c.in-Err.ensures.memory before out)
 
 pub returns-in-Err-clause-kept : goal.returns-in-Err-clause-kept
 returns-in-Err-clause-kept g c =

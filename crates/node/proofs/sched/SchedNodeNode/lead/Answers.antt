@@ -23,4 +23,4 @@ pub returns-then-self-clause-memory : goal.returns-then-self-clause-memory
 returns-then-self-clause-memory g c honest view stands = absurd (in_no_view g.R.Records.may_find c.args.self.now.parts c.if-self.true view stands)
 
 pub returns-clause-memory : goal.returns-clause-memory
-returns-clause-memory g c honest view stands = memory_in_each g.R.Records.may_find c.args.self.now.parts ((mid : g.row.R.Denot) × g.R.Records.finds_no_memory mid c.lead_up.new.self.records) c.lead_up.result (c.lead_up.ensures.memory honest) view stands
+returns-clause-memory g c honest view stands = memory_in_each g.R.Records.may_find c.args.self.now.parts ((mid : g.row.R.Denot) × g.R.Records.finds_no_memory mid c.lead_up.new.self.records × g.R.Records.finds_no_ballot mid c.lead_up.new.self.records) c.lead_up.result (c.lead_up.ensures.memory honest) view stands

@@ -7,31 +7,31 @@ use Rattle.seats.proofs.seat.Seat.act_up.Goals as goal
 pub returns-in-Lead : goal.returns-in-Lead
 returns-in-Lead g c = rw (c.in-Lead.is, c.of_call.ensures) (
     let call = c.lead-given.ensures in
-    calls c.args.self.now _ Lead c.lead-given.result c.requires c.stays_up-self.ensures call.trust call.kept call.tells call.done call.order)
+    calls c.args.self.now _ Lead c.lead-given.result c.requires c.stays_up-self.ensures call.trust call.err call.kept call.tells call.done call.order)
 
 pub returns-in-Offer : goal.returns-in-Offer
 returns-in-Offer g c = rw (c.in-Offer.is, c.of_call-in-Offer.ensures) (
     let was = c.args.self.now in
     let call = c.offer-given.ensures in
     let fails = turn_fails (g.N.Node.who was.node).members (g.N.Node.who was.node).id (g.N.Node.role was.node) c.in-Offer.value.now c.offer-given.result (call.turn (was.runs c.requires)) in
-    calls was _ (Offer c.in-Offer.value.now) c.offer-given.result c.requires c.stays_up-self-in-Offer.ensures call.trust call.kept fails call.done call.order)
+    calls was _ (Offer c.in-Offer.value.now) c.offer-given.result c.requires c.stays_up-self-in-Offer.ensures call.trust call.err call.kept fails call.done call.order)
 
 pub returns-in-Receive : goal.returns-in-Receive
 returns-in-Receive g c = rw (c.in-Receive.is, c.of_call-in-Receive.ensures) (
     let was = c.args.self.now in
     let call = c.receive-given.ensures in
-    calls was _ (Receive c.in-Receive.letter.now) c.receive-given.result c.requires c.stays_up-self-in-Receive.ensures call.trust call.kept call.tells call.done
+    calls was _ (Receive c.in-Receive.letter.now) c.receive-given.result c.requires c.stays_up-self-in-Receive.ensures call.trust call.err call.kept call.tells call.done
     (λ honest view stands. receives_last (g.N.Node.who was.node).members (g.N.Node.who was.node).id view c.in-Receive.letter.now (answer c.receive-given.result)))
 
 pub returns-in-ReceiveThenCrash : goal.returns-in-ReceiveThenCrash
 returns-in-ReceiveThenCrash g c = rw (c.in-ReceiveThenCrash.is, c.of_lost_call.ensures) (
     let call = c.receive-given-in-ReceiveThenCrash.ensures in
-    takes c.args.self.now _ c.in-ReceiveThenCrash.letter.now c.receive-given-in-ReceiveThenCrash.result c.requires refl call.trust call.kept call.tells call.done)
+    takes c.args.self.now _ c.in-ReceiveThenCrash.letter.now c.receive-given-in-ReceiveThenCrash.result c.requires refl call.trust call.err call.kept call.tells call.done)
 
 pub returns-in-Release : goal.returns-in-Release
 returns-in-Release g c = rw (c.in-Release.is, c.of_release.ensures) (
     let call = c.release-given.ensures in
-    releases c.args.self.now _ c.in-Release.now c.release-given.result c.requires c.stays_up-self-in-Release.ensures call.trust call.kept call.tells call.done)
+    releases c.args.self.now _ c.in-Release.now c.release-given.result c.requires c.stays_up-self-in-Release.ensures call.trust call.err call.kept call.tells call.done)
 
 pub returns-in-Crash : goal.returns-in-Crash
 returns-in-Crash g c = rw c.in-Crash.is (crashes c.args.self.now _ c.requires)
