@@ -118,6 +118,7 @@ run_letters old new (event ∷ events) [] run i n at = absurd run
 called_more : (to to' : List ℕ) (event : Event) (k : ℕ) → ((i n : ℕ) → slice_get to i ≡ Some n → slice_get to' i ≡ Some n) → called_by to event ≡ Some k → called_by to' event ≡ Some k
 called_more to to' (event.Lead j) k more at = at
 called_more to to' (event.Offer j value) k more at = at
+called_more to to' (event.Tell j n place) k more at = at
 called_more to to' (event.Deliver i) k more at = more i k at
 called_more to to' (event.DeliverThenCrash i) k more at = more i k at
 called_more to to' (event.Restart j) k more at = at
