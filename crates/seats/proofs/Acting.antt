@@ -213,7 +213,7 @@ module _ {N : Type 0} {g : Ghosts N} (old : Seat N g) where
   pub refuses : (what : Asked) → (what ≡ asked.Restart → ⊥) → old.up ≡ false → Acts old (ask_of what) (Refused NodeDown) [] [] old
   refuses asked.Lead other down = stays_down (Call AskedToLead) down refl (refl, refl) (λ c doubt. (refl, refl))
   refuses (asked.Offer value) other down = stays_down (Call (Offered value.now)) down refl (refl, refl) (λ c doubt. (refl, refl))
-  refuses (asked.Tell to place) other down = stays_down (Call (AskedToTell to place)) down refl (refl, refl) (λ c doubt. (refl, refl))
+  refuses (asked.Tell to place) other down = stays_down (Call (AskedToTell to.now place)) down refl (refl, refl) (λ c doubt. (refl, refl))
   refuses (asked.Receive letter) other down = stays_down (Call (Received letter.now)) down refl (refl, refl) (λ c doubt. (refl, refl))
   refuses (asked.ReceiveThenCrash letter) other down = stays_down (TakeThenCrash letter.now) down refl (refl, refl) (λ c doubt. (refl, refl))
   refuses (asked.Release now) other down = stays_down (Release now) down refl (refl, refl) (λ c doubt. (refl, refl))

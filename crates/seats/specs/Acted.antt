@@ -17,7 +17,7 @@ use Rattle.seats.specs.Moves.Ask.{Call, TakeThenCrash, Release, Crash, Restart}
 abbrev pub ask_of : Asked → Ask
 ask_of asked.Lead = Call AskedToLead
 ask_of (asked.Offer value) = Call (Offered value.now)
-ask_of (asked.Tell to place) = Call (AskedToTell to place)
+ask_of (asked.Tell to place) = Call (AskedToTell to.now place)
 ask_of (asked.Receive letter) = Call (Received letter.now)
 ask_of (asked.ReceiveThenCrash letter) = TakeThenCrash letter.now
 ask_of (asked.Release now) = Release now

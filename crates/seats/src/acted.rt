@@ -18,7 +18,7 @@ pub enum Asked<'a> {
     /// To propose a value.
     Offer(&'a [u8]),
     /// To tell a node what is learned from a place on.
-    Tell(NodeId, u64),
+    Tell(&'a NodeId, u64),
     /// To take a letter.
     Receive(&'a Letter),
     /// To take a letter, of which the answer is thrown away, and to crash.

@@ -94,7 +94,7 @@ impl<N: Node> Seat<N> {
                 Acted::of_call(given)
             }
             Asked::Tell(to, place) => {
-                let given = self.node.tell(to, place);
+                let given = self.node.tell(*to, place);
                 self.up = stays_up(&given);
                 Acted::of_call(given)
             }

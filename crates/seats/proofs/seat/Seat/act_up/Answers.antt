@@ -20,8 +20,8 @@ pub returns-in-Tell : goal.returns-in-Tell
 returns-in-Tell g c = rw (c.in-Tell.is, c.of_call-in-Tell.ensures) (
     let was = c.args.self.now in
     let call = c.tell-given.ensures in
-    calls was _ (Tell c.in-Tell.to c.in-Tell.place) c.tell-given.result c.requires c.stays_up-self-in-Tell.ensures (same_trust g.N.Node.honest g.N.Node.clean was.node) call.kept (call.tells (was.runs c.requires)) (λ honest s stands. (s, call.done s stands, stands))
-    (λ honest view stands. tells_last (g.N.Node.who was.node).members (g.N.Node.who was.node).id view c.in-Tell.to c.in-Tell.place (answer c.tell-given.result)))
+    calls was _ (Tell c.in-Tell.to.now c.in-Tell.place) c.tell-given.result c.requires c.stays_up-self-in-Tell.ensures (same_trust g.N.Node.honest g.N.Node.clean was.node) call.kept (call.tells (was.runs c.requires)) (λ honest s stands. (s, call.done s stands, stands))
+    (λ honest view stands. tells_last (g.N.Node.who was.node).members (g.N.Node.who was.node).id view c.in-Tell.to.now c.in-Tell.place (answer c.tell-given.result)))
 
 pub returns-in-Receive : goal.returns-in-Receive
 returns-in-Receive g c = rw (c.in-Receive.is, c.of_call-in-Receive.ensures) (
