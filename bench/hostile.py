@@ -21,7 +21,7 @@ NUMBERS = [
     "0o17", "0b1", "1_000", "1__0", "01", "1e3", "1e999", "-1e-999", "nan", "inf", "-inf", "1.5", "true", "1979-05-27", "07:32:00", "''",
     '"1"', "[]", "[1]", "{}", "[[1]]", "{a=1}",
 ]
-KINDS = ["noop", "channel", "flow", "drop", "request", "cut", "lead", "crash", "restart", "offer", "deliver", "deliver_then_crash", "release", "hear", "want", "tick"]
+KINDS = ["noop", "channel", "flow", "drop", "request", "cut", "lead", "crash", "restart", "offer", "tell", "deliver", "deliver_then_crash", "release", "hear", "want", "tick"]
 
 Case = collections.namedtuple("Case", "how words text")
 
@@ -251,6 +251,7 @@ def any_event(rng):
     keys = {
         "lead": {"node": rng.choice(nodes)}, "crash": {"node": rng.choice(nodes)}, "restart": {"node": rng.choice(nodes)},
         "offer": {"node": rng.choice(nodes)}, "release": {"node": rng.choice(nodes), "now": number(rng, 2**63 - 1)},
+        "tell": {"node": rng.choice(nodes), "to": rng.choice(nodes), "place": number(rng, 2**63 - 1)},
         "deliver": {"letter": rng.randint(0, 40)}, "deliver_then_crash": {"letter": rng.randint(0, 40)},
         "hear": {"modem": rng.randint(0, 3), "output": rng.randint(0, 9), "near": number(rng, 2**63 - 1)},
         "want": {"modem": rng.randint(0, 3), "ch": 1, "sid": rng.randint(0, 3), "n": number(rng, 65535)},

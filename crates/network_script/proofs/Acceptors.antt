@@ -17,7 +17,7 @@ use Rattle.std.specs.BTreeMap.{is_at}
 use Rattle.std.specs.Ordering.{nat_cmp}
 use Rattle.node.specs.View.{View, Standing}
 use Rattle.node.specs.View.Standing.{Running}
-use Rattle.node.specs.Step.{nothing, sends, writes, learns, known, letter, to_all, known_letters, prepare, vote_at, accept}
+use Rattle.node.specs.Step.{nothing, sends, writes, learns, known, letter, to_all, known_letters, first_known, letters_told, prepare, tell, vote_at, accept}
 use Rattle.network_script.proofs.Invariant.{IsProposed, PromiseOk, OwnOk, WriteOk, RoleOk, UpOk, LetterOk, Invariant}
 use Rattle.network_script.proofs.Lists.{in_append, in_filter, into_filter}
 use Rattle.network_script.proofs.Rows.{at_in}
@@ -97,6 +97,11 @@ module _ (members : ℕ) (h : List Entry) (sent : List Letter) (states : List St
 
   known_quiet : (q n : ℕ) → AreQuiet members h (known_letters k n (take 64 (rows_from view.tally.learned q)))
   known_quiet q n = quiet_known members h k n (take 64 (rows_from view.tally.learned q)) (λ p v there. was.learned p v (in_filter (λ row. nat_le q row.0) view.tally.learned (p, v) (in_take 64 (rows_from view.tally.learned q) (p, v) there)).0)
+
+  -- what is learned is told
+  pub tell_sound : (n q : ℕ) → Sound members h sent k view (tell members k view n q)
+  tell_sound n q = sends_sound (letters_told members k view.tally.learned n q)
+      (cond_both (nat_lt n members) (first_known k view.tally.learned n q) [] (λ letters. AreQuiet members h letters) (λ member. known_quiet q n) (λ other. quiet_none members h))
 
   quiet_grows : (w : Option Write) → WriteOk members h sent view.content w → (more : List Letter) → AreQuiet members h more → AreQuiet members (record_write k w h) more
   quiet_grows w fine more quiet l there = (letter_grows members k h (record_write k w h) (write_grows members h sent states k view.content inv was.content w fine) l.from l.note (quiet l there).0, (quiet l there).1)

@@ -9,9 +9,9 @@ use Rattle.node.specs.View.{View, Standing, gapless, started}
 use Rattle.node.specs.View.Standing.{Running, Stopped}
 use Rattle.proposer.specs.declared.fault.NodeFault.{NodeFault as Fault}
 use Rattle.proposer.specs.declared.fault.NodeFault.TheVariants as fault
-use Rattle.node.specs.Calls.Cause.{Lead as AskedToLead, Offer as Offered, Receive as Received}
+use Rattle.node.specs.Calls.Cause.{Lead as AskedToLead, Offer as Offered, Receive as Received, Tell as AskedToTell}
 use Rattle.ballots.specs.Limits.{longest_value, most_places}
-use Rattle.node.specs.Step.{Outcome, receive, offer, limit, sends, to_all, Leads}
+use Rattle.node.specs.Step.{Outcome, receive, offer, tell, limit, sends, to_all, Leads}
 use Rattle.proposer.specs.declared.role.Role.{Role}
 use Rattle.proposer.specs.declared.role.Role.TheVariants.{Idle, Preparing, Leading}
 use Rattle.ballots.specs.declared.letters.Note.TheVariants.{Accept}
@@ -154,6 +154,10 @@ each_is_answered w (event.Offer k value) few none =
     asks_so (length w.nodes) w k (Call (Offered value)) _ (slice_get w.nodes k) refl (λ c doubt. (refl, refl)) (λ view here.
     let made = ends_so w k view here (λ course. course ≡ offer (length w.nodes) k view view.role value) (offer (length w.nodes) k view view.role value) refl in
     (made.0, (offer_told w k view view.role value refl, made.1), made.2))
+each_is_answered w (event.Tell k to place) few none =
+    asks_so (length w.nodes) w k (Call (AskedToTell to place)) _ (slice_get w.nodes k) refl (λ c doubt. (refl, refl)) (λ view here.
+    let made = ends_so w k view here (λ course. course ≡ Ok (tell (length w.nodes) k view to place)) (Ok (tell (length w.nodes) k view to place)) refl in
+    (made.0, (tt, made.1), made.2))
 each_is_answered w (event.Deliver i) few none = takes_so (length w.nodes) w i (slice_get w.letters i) refl
 each_is_answered w (event.DeliverThenCrash i) few none = takes_then_crashes_so (length w.nodes) w i (slice_get w.letters i) refl
 each_is_answered w (event.Crash k) few none =

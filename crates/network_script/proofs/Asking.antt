@@ -8,7 +8,7 @@ use Rattle.acceptor.specs.Content.{record_write}
 use Rattle.map_release.specs.declared.numbered.Numbered.{Numbered}
 use Rattle.node.specs.declared.node.Node.{Ghosts}
 use Rattle.node.specs.View.{Standing}
-use Rattle.node.specs.Calls.Cause.{Lead as AskedToLead, Offer as Offered, Receive as Received}
+use Rattle.node.specs.Calls.Cause.{Lead as AskedToLead, Offer as Offered, Receive as Received, Tell as AskedToTell}
 use Rattle.seats.specs.Acts.{Acts, kept_of}
 use Rattle.seats.specs.Modems.{ModemNext, sent_at}
 use Rattle.seats.specs.Moves.{Ask, Move, Moves}
@@ -202,6 +202,12 @@ module _ {N : Type 0} {g : Ghosts N} (old : World N g) where
   to_offer k value = record { next = λ members w w' answer letters of. of; seen = λ o o' answer letters of. of; called = refl; well = λ answer well fault is told. absurd (no_restart is) }
     where
       no_restart : Call (Offered value) ≡ Restart → ⊥
+      no_restart is = cc
+
+  pub to_tell : (k to place : ℕ) → Calls (event.Tell k to place) k (Call (AskedToTell to place))
+  to_tell k to place = record { next = λ members w w' answer letters of. of; seen = λ o o' answer letters of. of; called = refl; well = λ answer well fault is told. absurd (no_restart is) }
+    where
+      no_restart : Call (AskedToTell to place) ≡ Restart → ⊥
       no_restart is = cc
 
   pub to_release : (k now : ℕ) → Calls (event.Release k now) k (Release now)

@@ -1,5 +1,5 @@
 -- The counts of failures, event by event.
-use Rattle.std.proofs.Common.{◌≡◌, ◌≤◌, ◌+◌, ◌-◌, ◌^◌, ◌⊎◌, inl, inr, ℕ, List, [], ◌∷◌, Option, Some, None, Bool, true, false, Result, Ok, Err, slice_get, slice_set, refl, sym, ap, ◌∙◌, subst, arith, ◌&&◌, if◌then◌else◌}
+use Rattle.std.proofs.Common.{◌≡◌, ◌≤◌, ◌+◌, ◌-◌, ◌^◌, ◌⊎◌, inl, inr, ℕ, List, [], ◌∷◌, Option, Some, None, Bool, true, false, Err, slice_get, slice_set, refl, sym, ap, ◌∙◌, subst, arith, ◌&&◌, if◌then◌else◌}
 use Rattle.std.proofs.lemmas.Bool.Decides.{eqb_tells}
 use Rattle.std.proofs.lemmas.Bool.{cases_lt, and_parts, false≢true}
 use Rattle.std.proofs.lemmas.Option.{slice_get_within}
@@ -118,6 +118,7 @@ run_letters old new (event ∷ events) [] run i n at = absurd run
 called_more : (to to' : List ℕ) (event : Event) (k : ℕ) → ((i n : ℕ) → slice_get to i ≡ Some n → slice_get to' i ≡ Some n) → called_by to event ≡ Some k → called_by to' event ≡ Some k
 called_more to to' (event.Lead j) k more at = at
 called_more to to' (event.Offer j value) k more at = at
+called_more to to' (event.Tell j n place) k more at = at
 called_more to to' (event.Deliver i) k more at = more i k at
 called_more to to' (event.DeliverThenCrash i) k more at = more i k at
 called_more to to' (event.Restart j) k more at = at

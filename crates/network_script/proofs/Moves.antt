@@ -9,11 +9,11 @@ use Rattle.ballots.specs.Rows.{at}
 use Rattle.acceptor.specs.Content.{Content, Write, after_write, record_write}
 use Rattle.command_log.specs.Values.{outputs_of_values}
 use Rattle.node.specs.View.{View, Standing, gapless, started}
-use Rattle.node.specs.Calls.Cause.{Lead as AskedToLead, Offer as Offered, Receive as Received}
+use Rattle.node.specs.Calls.Cause.{Lead as AskedToLead, Offer as Offered, Receive as Received, Tell as AskedToTell}
 use Rattle.node.specs.View.Standing.{Running, Stopped}
 use Rattle.proposer.specs.declared.fault.NodeFault.{NodeFault as Fault}
 use Rattle.proposer.specs.declared.fault.NodeFault.TheVariants as fault
-use Rattle.node.specs.Step.{Outcome, nothing, is_heeded, is_sound, heed, receive, offer, Leads}
+use Rattle.node.specs.Step.{Outcome, nothing, is_heeded, is_sound, heed, receive, offer, tell, Leads}
 use Rattle.world_events.specs.declared.event.Event.{Event}
 use Rattle.world_events.specs.declared.event.Event.TheVariants as event
 use Rattle.seats.specs.declared.answer.Answer.{Answer}
@@ -31,7 +31,7 @@ use Rattle.network_script.proofs.Invariant.{IsProposed, WriteOk, UpOk, DownOk, L
 use Rattle.network_script.proofs.Lists.{in_left, in_append, in_filter, get_in}
 use Rattle.network_script.proofs.Kept.{goes_quietly}
 use Rattle.network_script.proofs.Sound.{Sound, whole_kept, lost_kept, broken_kept, restarted_kept}
-use Rattle.network_script.proofs.Acceptors.{nothing_sound, prepare_sound, accept_sound, known_sound}
+use Rattle.network_script.proofs.Acceptors.{nothing_sound, prepare_sound, accept_sound, known_sound, tell_sound}
 use Rattle.network_script.proofs.Learners.{voted_sound, higher_sound}
 use Rattle.network_script.proofs.Proposers.{promise_sound, SoundIfOk, offer_sound, lead_sound}
 use Rattle.network_script.proofs.Outputs.{FromChosen, learned_chosen, in_drop, in_numbered, in_released_by, written_keeps}
@@ -199,6 +199,11 @@ module _ (members : ℕ) (w : Written) (inv : Invariant members w.history w.lett
         subst (λ (c : Result Outcome Fault). SoundIfOk members w.history w.letters w.nodes k view inv here c) (sym course)
         (offer_sound members w.history w.letters w.nodes k view inv here view.role value view_was.role view_was.own)
 
+    tells : (to place : ℕ) → AreSound (λ course. course ≡ Ok (tell members k view to place))
+    tells to place o course =
+        let e : o ≡ tell members k view to place = cc (course) in
+        subst (λ (x : Outcome). Sound members w.history w.letters k view x) (sym e) (tell_sound members w.history w.letters w.nodes k view inv here to place)
+
     leads : AreSound (Leads members k view)
     leads o course = leads_sound members w.history w.letters w.nodes k view inv here (Ok o) course
 
@@ -206,6 +211,7 @@ module _ (members : ℕ) (w : Written) (inv : Invariant members w.history w.lett
     moves_up : (asked : Ask) → ((l : Letter) → taken asked ≡ Some l → IsIn w.letters l) → (told : Answer) (m : Move) → MovesUp members k view asked told m → Made told m
     moves_up (Call AskedToLead) sent_it told m is = ends (Leads members k view) leads told m is.1
     moves_up (Call (Offered value)) sent_it told m is = ends (λ course. course ≡ offer members k view view.role value) (offers value) told m is.1
+    moves_up (Call (AskedToTell to place)) sent_it told m is = ends (λ course. course ≡ Ok (tell members k view to place)) (tells to place) told m is.1
     moves_up (Call (Received l)) sent_it told m is = ends (λ course. course ≡ Ok (receive members k view l)) (receives l (sent_it l refl)) told m is.1
     moves_up (TakeThenCrash l) sent_it told m is = ends_in_crash (λ course. course ≡ Ok (receive members k view l)) (receives l (sent_it l refl)) told m is
     moves_up (ReleaseAt now) sent_it told m is = releases now told m is
@@ -258,6 +264,7 @@ module _ (members : ℕ) (w : Written) (inv : Invariant members w.history w.lett
 pub next_moves : (members : ℕ) (w : Written) → Invariant members w.history w.letters w.nodes → (happens : Event) (told : Answer) (w' : Written) → Next members w happens told w' → Moved members w happens told w'
 next_moves members w inv (event.Lead k) told w' goes = of_node members w inv (event.Lead k) k _ (λ l is. absurd (cc (is))) told w' (slice_get w.nodes k) refl goes
 next_moves members w inv (event.Offer k value) told w' goes = of_node members w inv (event.Offer k value) k _ (λ l is. absurd (cc (is))) told w' (slice_get w.nodes k) refl goes
+next_moves members w inv (event.Tell k to place) told w' goes = of_node members w inv (event.Tell k to place) k _ (λ l is. absurd (cc (is))) told w' (slice_get w.nodes k) refl goes
 next_moves members w inv (event.Deliver i) told w' goes =
     comes members w inv (event.Deliver i) i _ (λ l x is. cc (is)) told w' (slice_get w.letters i) refl goes
 next_moves members w inv (event.DeliverThenCrash i) told w' goes =

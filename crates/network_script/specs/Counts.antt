@@ -26,6 +26,7 @@ counts {N} {g} world = record {
 abbrev pub called_by : List ℕ → Event → Option ℕ
 called_by addressees (event.Lead k) = Some k
 called_by addressees (event.Offer k value) = Some k
+called_by addressees (event.Tell k to place) = Some k
 called_by addressees (event.Deliver i) = slice_get addressees i
 called_by addressees (event.DeliverThenCrash i) = slice_get addressees i
 called_by addressees (event.Restart k) = Some k

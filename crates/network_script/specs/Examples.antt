@@ -6,7 +6,7 @@ use Rattle.grant_machine.specs.declared.output.Output.TheVariants.{ChannelSet, M
 use Rattle.proposer.specs.Letters.{letter}
 use Rattle.proposer.specs.declared.fault.NodeFault.TheVariants.{NotLeading}
 use Rattle.world_events.specs.declared.event.Event.{Event}
-use Rattle.world_events.specs.declared.event.Event.TheVariants.{Lead, Offer, Deliver, DeliverThenCrash, Crash, Restart, Release}
+use Rattle.world_events.specs.declared.event.Event.TheVariants.{Lead, Offer, Tell, Deliver, DeliverThenCrash, Crash, Restart, Release}
 use Rattle.seats.specs.declared.answer.Answer.{Answer}
 use Rattle.seats.specs.declared.answer.Answer.TheVariants.{Sent, Finished, Released, Refused, Fault}
 use Rattle.world_events.specs.declared.refusal.EventRefusal.TheVariants.{NoLetter, NodeDown, NodeUp, NoNode}
@@ -90,6 +90,14 @@ ReleasesInOrder =
     ∷ Deliver 18 ∷ Deliver 21 ∷ Deliver 11 ∷ Deliver 14 ∷ Deliver 17 ∷ Deliver 20 ∷ Release 1 0 ∷ Lead 1 ∷ Deliver 23 ∷ Deliver 26 ∷ Release 1 0 ∷ [])
     ≡ Sent 3 ∷ Sent 1 ∷ Sent 1 ∷ Sent 0 ∷ Sent 0 ∷ Sent 3 ∷ Sent 3 ∷ Sent 3 ∷ Sent 3 ∷ Sent 3 ∷ Sent 3
     ∷ Sent 0 ∷ Sent 0 ∷ Sent 0 ∷ Sent 0 ∷ Sent 0 ∷ Sent 0 ∷ Released 0 ∷ Sent 3 ∷ Sent 3 ∷ Sent 0 ∷ Released 2 ∷ []
+
+-- the same gap is closed by what the leader tells, with no new ballot
+abbrev pub ToldCatchesUp : Type 0
+ToldCatchesUp =
+    answers 3 (Lead 0 ∷ Deliver 0 ∷ Deliver 1 ∷ Deliver 3 ∷ Deliver 4 ∷ Offer 0 (7 ∷ []) ∷ Offer 0 (9 ∷ []) ∷ Deliver 5 ∷ Deliver 6 ∷ Deliver 8 ∷ Deliver 9
+    ∷ Deliver 18 ∷ Deliver 21 ∷ Deliver 11 ∷ Deliver 14 ∷ Deliver 17 ∷ Deliver 20 ∷ Release 1 0 ∷ Tell 2 1 1 ∷ Tell 0 3 1 ∷ Tell 0 1 1 ∷ Deliver 23 ∷ Release 1 0 ∷ [])
+    ≡ Sent 3 ∷ Sent 1 ∷ Sent 1 ∷ Sent 0 ∷ Sent 0 ∷ Sent 3 ∷ Sent 3 ∷ Sent 3 ∷ Sent 3 ∷ Sent 3 ∷ Sent 3
+    ∷ Sent 0 ∷ Sent 0 ∷ Sent 0 ∷ Sent 0 ∷ Sent 0 ∷ Sent 0 ∷ Released 0 ∷ Sent 0 ∷ Sent 0 ∷ Sent 2 ∷ Sent 0 ∷ Released 2 ∷ []
 
 abbrev pub LeastBallots : Type 0
 LeastBallots =

@@ -3,9 +3,9 @@ use Rattle.std.specs.Prelude.{◌≡◌, ℕ, Bool, true, false, List, ◌++◌,
 use Rattle.ballots.specs.declared.letters.Letter.{Letter}
 use Rattle.acceptor.specs.Content.{record_write}
 use Rattle.node.specs.View.{Standing}
-use Rattle.node.specs.Calls.Cause.{Lead as AskedToLead, Offer as Offered, Receive as Received}
+use Rattle.node.specs.Calls.Cause.{Lead as AskedToLead, Offer as Offered, Receive as Received, Tell as AskedToTell}
 use Rattle.world_events.specs.declared.event.Event.{Event}
-use Rattle.world_events.specs.declared.event.Event.TheVariants.{Lead, Offer, Deliver, DeliverThenCrash, Crash, Restart, Release, Hear, Want, Tick}
+use Rattle.world_events.specs.declared.event.Event.TheVariants.{Lead, Offer, Tell, Deliver, DeliverThenCrash, Crash, Restart, Release, Hear, Want, Tick}
 use Rattle.seats.specs.declared.answer.Answer.{Answer}
 use Rattle.seats.specs.declared.answer.Answer.TheVariants.{Refused}
 use Rattle.world_events.specs.declared.refusal.EventRefusal.TheVariants.{NoLetter, NoNode}
@@ -54,6 +54,7 @@ OnModems w event answer w' =
 abbrev pub Next : ℕ → Written → Event → Answer → Written → Type 0
 Next members w (Lead k) answer w' = OfNode members w k (slice_get w.nodes k) (Call AskedToLead) answer w'
 Next members w (Offer k value) answer w' = OfNode members w k (slice_get w.nodes k) (Call (Offered value)) answer w'
+Next members w (Tell k to place) answer w' = OfNode members w k (slice_get w.nodes k) (Call (AskedToTell to place)) answer w'
 Next members w (Deliver i) answer w' = Comes members w (slice_get w.letters i) (λ l. Call (Received l)) answer w'
 Next members w (DeliverThenCrash i) answer w' = Comes members w (slice_get w.letters i) TakeThenCrash answer w'
 Next members w (Crash k) answer w' = OfNode members w k (slice_get w.nodes k) CrashNow answer w'

@@ -4,11 +4,11 @@ use Rattle.ballots.specs.declared.letters.Letter.{Letter}
 use Rattle.map_release.specs.declared.numbered.Numbered.{Numbered}
 use Rattle.node.specs.declared.node.Node.{Ghosts}
 use Rattle.world_events.specs.declared.event.Event.{Event}
-use Rattle.world_events.specs.declared.event.Event.TheVariants.{Lead, Offer, Deliver, DeliverThenCrash, Crash, Restart, Release, Hear, Want, Tick}
+use Rattle.world_events.specs.declared.event.Event.TheVariants.{Lead, Offer, Tell, Deliver, DeliverThenCrash, Crash, Restart, Release, Hear, Want, Tick}
 use Rattle.seats.specs.declared.answer.Answer.{Answer}
 use Rattle.seats.specs.declared.answer.Answer.TheVariants.{Refused}
 use Rattle.world_events.specs.declared.refusal.EventRefusal.TheVariants.{NoLetter, NoNode}
-use Rattle.node.specs.Calls.Cause.{Lead as AskedToLead, Offer as Offered, Receive as Received}
+use Rattle.node.specs.Calls.Cause.{Lead as AskedToLead, Offer as Offered, Receive as Received, Tell as AskedToTell}
 use Rattle.seats.specs.Acts.{GoOut, MayAnswer}
 use Rattle.seats.specs.Moves.{Ask}
 use Rattle.seats.specs.Moves.Ask.{Call, TakeThenCrash, Release as ReleaseAt, Crash as CrashNow, Restart as StartAgain}
@@ -69,6 +69,7 @@ OfModems o event answer o' =
 abbrev pub SeenNext : Outward → Event → Answer → Outward → Type 0
 SeenNext o (Lead k) answer o' = SeenOfNode o k (slice_get o.up k) (Call AskedToLead) answer o'
 SeenNext o (Offer k value) answer o' = SeenOfNode o k (slice_get o.up k) (Call (Offered value)) answer o'
+SeenNext o (Tell k to place) answer o' = SeenOfNode o k (slice_get o.up k) (Call (AskedToTell to place)) answer o'
 SeenNext o (Deliver i) answer o' = SeenToCome o (slice_get o.letters i) (λ l. Call (Received l)) answer o'
 SeenNext o (DeliverThenCrash i) answer o' = SeenToCome o (slice_get o.letters i) TakeThenCrash answer o'
 SeenNext o (Crash k) answer o' = SeenOfNode o k (slice_get o.up k) CrashNow answer o'

@@ -6,9 +6,9 @@ use Rattle.node.specs.View.{View, Standing, started, gapless}
 use Rattle.node.specs.View.Standing.{Running, Stopped}
 use Rattle.proposer.specs.declared.fault.NodeFault.{NodeFault as Fault}
 use Rattle.proposer.specs.declared.fault.NodeFault.TheVariants as fault
-use Rattle.node.specs.Step.{Outcome, receive, offer, limit, lead_with}
+use Rattle.node.specs.Step.{Outcome, receive, offer, tell, limit, lead_with}
 use Rattle.world_events.specs.declared.event.Event.{Event}
-use Rattle.world_events.specs.declared.event.Event.TheVariants.{Lead, Offer, Deliver, DeliverThenCrash, Crash, Restart, Release}
+use Rattle.world_events.specs.declared.event.Event.TheVariants.{Lead, Offer, Tell, Deliver, DeliverThenCrash, Crash, Restart, Release}
 use Rattle.seats.specs.declared.answer.Answer.{Answer}
 use Rattle.seats.specs.declared.answer.Answer.TheVariants as answer
 use Rattle.world_events.specs.declared.refusal.EventRefusal.TheVariants.{NoLetter, NodeDown, NodeUp, NoNode, NoModem}
@@ -69,6 +69,7 @@ releases w k now view = (answer.Released (length (released view now)), after w k
 abbrev pub act : ℕ → Written → Event → Told
 act members w (Lead k) = asks w (slice_get w.nodes k) (λ view. ends w k view (lead members k view))
 act members w (Offer k value) = asks w (slice_get w.nodes k) (λ view. ends w k view (offer members k view view.role value))
+act members w (Tell k to place) = asks w (slice_get w.nodes k) (λ view. ends w k view (Ok (tell members k view to place)))
 act members w (Deliver i) = comes w (slice_get w.letters i) (λ l view. ends w l.to view (Ok (receive members l.to view l)))
 act members w (DeliverThenCrash i) = comes w (slice_get w.letters i) (λ l view. ends_in_crash w l.to (receive members l.to view l))
 act members w (Crash k) = asks w (slice_get w.nodes k) (λ view. (answer.Finished, after w k (quiet (Stopped view.content None))))

@@ -1,7 +1,7 @@
 //! What holds of every run, whatever is lost, repeated and reordered, and whichever nodes crash and restart.
 
 ghost use Rattle.network_script.specs.Headline.{CoversOnce, GaplessIsBeginning, HasOneSchedule, Headline, HeldIsOwned, HistoryIsLegal, HoldersAreOne, LearnedIsChosen, LearnedIsWritten, MapsAreOne, ModemsAreNamed, OfEveryRun, OwnersAreOne, ReleasedIsOutput, RunsJoin, SentByOwner, SentIsHeld, WithSchedule};
-ghost use Rattle.network_script.specs.Examples.{IsRefused, LearnedOutlivesCrash, LeastBallots, OneLeader, ReleasesInOrder, TakesOver, TakesOverAfresh, TriesHigher, VoteOutlivesCrash};
+ghost use Rattle.network_script.specs.Examples.{IsRefused, LearnedOutlivesCrash, LeastBallots, OneLeader, ReleasesInOrder, TakesOver, TakesOverAfresh, ToldCatchesUp, TriesHigher, VoteOutlivesCrash};
 ghost use Rattle.network_script.specs.Plain.{EachIsAnswered};
 ghost use Rattle.network_script.specs.Counts.{FewFaults};
 
@@ -58,7 +58,7 @@ pub fn each_is_answered()
 {}
 
 /// Runs of the definitions, computed: three nodes with one leader, a crash after values were learned,
-/// takeovers, a crash after a vote and before a ballot, refused events, and a gap that is closed.
+/// takeovers, a crash after a vote and before a ballot, refused events, and a gap that is closed in two ways.
 pub fn examples()
     ensures one_leader { OneLeader }
     ensures learned_outlives_crash { LearnedOutlivesCrash }
@@ -68,6 +68,7 @@ pub fn examples()
     ensures tries_higher { TriesHigher }
     ensures is_refused { IsRefused }
     ensures releases_in_order { ReleasesInOrder }
+    ensures told_catches_up { ToldCatchesUp }
     ensures least_ballots { LeastBallots }
 {}
 

@@ -180,6 +180,7 @@ impl<N: Node> World<N> {
         match event {
             Event::Lead(k) => self.ask(*k, Asked::Lead),
             Event::Offer(k, value) => self.ask(*k, Asked::Offer(value.as_slice())),
+            Event::Tell(k, to, place) => self.ask(*k, Asked::Tell(to, *place)),
             Event::Deliver(i) => self.deliver(*i, false),
             Event::DeliverThenCrash(i) => self.deliver(*i, true),
             Event::Crash(k) => self.ask(*k, Asked::Crash),

@@ -13,3 +13,5 @@ pub mod Orders
 pub mod Telling
 pub mod Reading
 pub mod Learning
+pub mod Catching
+pub mod Told

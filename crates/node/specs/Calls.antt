@@ -14,7 +14,7 @@ use Rattle.proposer.specs.Turns.{Turn, is_counted}
 use Rattle.proposer.specs.declared.role.Role.{Role}
 use Rattle.proposer.specs.declared.fault.NodeFault.{NodeFault as Fault}
 use Rattle.proposer.specs.declared.fault.NodeFault.TheVariants.{OutOfMemory, StoreRefused, Down}
-use Rattle.node.specs.Step.{Outcome, receive, offer, Leads}
+use Rattle.node.specs.Step.{Outcome, receive, offer, tell, Leads}
 
 -- a node by its number, the number of members, how often its store failed, whether that is broken, and whether the node waits for a restart
 pub record Who : Type 0 where
@@ -29,12 +29,14 @@ pub data Cause : Type 0 where
   Receive : Letter → Cause
   Lead : Cause
   Offer : (value : List ℕ) → Cause
+  Tell : (to place : ℕ) → Cause
 
 -- the course of a whole call of node me
 abbrev pub Course : ℕ → ℕ → View → Cause → Result Outcome Fault → Type 0
 Course members me view (Receive l) course = course ≡ Ok (receive members me view l)
 Course members me view Lead course = Leads members me view course
 Course members me view (Offer v) course = course ≡ offer members me view view.role v
+Course members me view (Tell n q) course = course ≡ Ok (tell members me view n q)
 
 -- the letters of a call that was answered
 abbrev pub answer : Result (Vec Letter Global) Fault → Result (List Letter) Fault
@@ -82,6 +84,7 @@ abbrev pub MayGoOn : ℕ → ℕ → View → Cause → Type 0
 MayGoOn members me view (Receive l) = Unit {0}
 MayGoOn members me view Lead = length (gapless view) < most_places
 MayGoOn members me view (Offer v) = IsTrue (is_ok (offer members me view view.role v))
+MayGoOn members me view (Tell n q) = Unit {0}
 
 -- want of memory and a store that fails come last: only where the call isn't declined
 abbrev pub StopsLast : ℕ → ℕ → View → Cause → Result (List Letter) Fault → Type 0

@@ -6,3 +6,4 @@ pub mod Answers
 pub mod Releases
 pub mod Learned
 pub mod Knows
+pub mod CatchesUp

@@ -62,15 +62,19 @@ is_sound l (Known p v) = is_place p && is_value v
 abbrev pub is_heeded : ℕ → ℕ → Letter → Bool
 is_heeded members me l = nat_lt l.from members && nat_lt l.to members && l.to == me && is_sound l l.note
 
--- Known letters of the first 64 learned places from q on
+-- a Known letter for each of the rows
 abbrev pub known_letters : ℕ → ℕ → List (ℕ × List ℕ) → List Letter
 known_letters me n [] = []
 known_letters me n (row ∷ rows) = letter me n (Known row.0 row.1) ∷ known_letters me n rows
 
+-- Known letters of the first 64 learned places from q on
+abbrev pub first_known : ℕ → List (ℕ × List ℕ) → ℕ → ℕ → List Letter
+first_known me learned n q = known_letters me n (take 64 (rows_from learned q))
+
 -- a Prepare of ballot b for the places from q on, from node n
 abbrev pub prepare : ℕ → View → ℕ → ℕ → ℕ → Outcome
 prepare me view b q n =
-    let told = known_letters me n (take 64 (rows_from view.tally.learned q)) in
+    let told = first_known me view.tally.learned n q in
     if nat_lt (promised view.content) b
     then writes view (Promises b) (told ++ letter me n (Promise b q (rows_from view.content.votes q)) ∷ [])
     else sends view (told ++ letter me n (Higher (promised view.content)) ∷ [])
@@ -144,6 +148,14 @@ offer members me view (Leading b next) v =
     else Ok (sends (record view { role = Leading b (next + 1) }) (to_all members me (Accept b next v)))
 offer members me view Idle v = Err Fault.NotLeading
 offer members me view (Preparing b q counted joined) v = Err Fault.NotLeading
+
+-- the letters that tell node n what is learned from place q on: none, if n is no member
+abbrev pub letters_told : ℕ → ℕ → List (ℕ × List ℕ) → ℕ → ℕ → List Letter
+letters_told members me learned n q = if nat_lt n members then first_known me learned n q else []
+
+-- it tells node n what it has learned from place q on
+abbrev pub tell : ℕ → ℕ → View → ℕ → ℕ → Outcome
+tell members me view n q = sends view (letters_told members me view.tally.learned n q)
 
 -- no ballot that the node has tried, promised or heard of is above this
 abbrev pub limit : View → ℕ

@@ -1,13 +1,12 @@
 //! The letters of a node's answers.
 
-ghost use Rattle.std.specs.Prelude.{◌≡◌, ◌-◌, ◌≤◌, ◌<◌, [], ◌∷◌, IfOk, length, set, take};
+ghost use Rattle.std.specs.Prelude.{◌≡◌, ◌-◌, ◌≤◌, ◌<◌, [], ◌∷◌, IfOk, IsOk, length, set};
 ghost use Rattle.ballots.specs.Limits.{most_places};
-ghost use Rattle.ballots.specs.Rows.{rows_from};
 ghost use Rattle.ballots.specs.declared.letters.Note.TheVariants.{Higher as HigherNote};
 ghost use Rattle.command_log.specs.View.{AreRows};
 ghost use Rattle.node.specs.Answers.{prepared_note};
 ghost use Rattle.node.specs.Learned.{AreLearned};
-ghost use Rattle.node.specs.Step.{known_letters, letter};
+ghost use Rattle.node.specs.Step.{first_known, letter};
 ghost use Rattle.node.specs.View.{values_from};
 
 use acceptor::Prepared;
@@ -41,7 +40,8 @@ pub(crate) fn known_letters(
     place: u64,
     learned: &BTreeMap<u64, Bytes>,
 ) -> Result<Vec<Letter>, AllocError>
-    ensures { IfOk result (λ letters. letters.items ≡ known_letters from to (take 64 (rows_from learned.now.entries place))) }
+    ensures letters { IfOk result (λ letters. letters.items ≡ first_known from learned.now.entries to place) }
+    ensures no_memory { first_known from learned.now.entries to place ≡ [] → IsOk result }
 {
     let mut letters = Vec::new(alloc);
     for (at, value) in learned.range(place..) {

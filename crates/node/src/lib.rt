@@ -3,11 +3,13 @@
 
 mod heeded;
 mod knowledge;
+mod laws;
 mod letters;
 mod node;
 mod parts;
 mod sched;
 
+pub use laws::catches_up;
 pub use node::Node;
 pub use proposer::NodeFault;
 pub use sched::SchedNode;

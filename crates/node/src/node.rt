@@ -10,12 +10,12 @@ ghost use Rattle.ballots.specs.Rows.{at};
 ghost use Rattle.proposer.specs.Faults.{IsOfLead, TellsSpent};
 ghost use Rattle.proposer.specs.Turns.{offer};
 ghost use Rattle.proposer.specs.declared.role.Role.{Role};
-ghost use Rattle.node.specs.Step.{is_heeded, limit};
+ghost use Rattle.node.specs.Step.{is_heeded, limit, letters_told};
 ghost use Rattle.node.specs.View.{View, Standing, gapless, started, values_from};
 ghost use Rattle.node.specs.View.Standing.{Running};
 ghost use Rattle.node.specs.Calls.{Who, Called, IsNothingNew, Kept, KeptByRestart, Restarts, StopsLast, TakesTurn, TellsFresh, answer, IsStop};
 ghost use Rattle.node.specs.Releases.{Releases, outputs};
-ghost use Rattle.node.specs.Calls.Cause.{Receive, Lead, Offer};
+ghost use Rattle.node.specs.Calls.Cause.{Receive, Lead, Offer, Tell};
 
 use ballots::{Bytes, Letter, Members, NodeId};
 use map_release::Numbered;
@@ -111,6 +111,15 @@ pub trait Node: Drop {
         ensures order { IsTrue (honest self.new) → (view : View) → stands self.old (Running view)
             → StopsLast (who self.old).members (who self.old).id view (Offer value.now) (answer result) }
         ensures turn { (who self.old).down ≡ false → TakesTurn (offer (who self.old).members (who self.old).id (role self.old) value.now) (answer result) };
+
+    /// Tells a node what it has learned, of the first 64 learned places from one on, as it does first where a Prepare comes. Who is no member is told nothing. Nothing changes, and to tell nothing takes no memory.
+    fn tell(&self, to: NodeId, place: u64) -> Result<Vec<Letter>, NodeFault>
+        ensures kept { Kept (who self.now) result (who self.now) }
+        ensures down { (who self.now).down ≡ true → result ≡ Err NodeFault.Down }
+        ensures tells { (who self.now).down ≡ false → IfErr result (λ fault. fault ≡ NodeFault.OutOfMemory) }
+        ensures letters { IfOk result (λ letters. letters.items ≡ letters_told (who self.now).members (who self.now).id (values self.now) to place) }
+        ensures no_memory { (who self.now).down ≡ false → letters_told (who self.now).members (who self.now).id (values self.now) to place ≡ [] → IsOk result }
+        ensures done { (s : Standing) → stands self.now s → Called (who self.now).members (who self.now).id s (Tell to place) (answer result) s };
 
     /// The outputs of its gapless learned values behind those that it released before, in order, without the MAPs that end at `now` (in minislots) or before.
     fn release(&mut self, now: u64) -> Result<Vec<Numbered>, NodeFault>

@@ -4,7 +4,7 @@ ghost use Rattle.std.specs.Prelude.{◌≡◌, ◌≢◌, ◌++◌, ◌∷◌, [
 ghost use Rattle.ballots.specs.Ballots.{NoneAbove};
 ghost use Rattle.ballots.specs.Limits.{IsPlace, IsValue, most_places};
 ghost use Rattle.ballots.specs.Members.{member_count};
-ghost use Rattle.ballots.specs.Rows.{at, rows_from};
+ghost use Rattle.ballots.specs.Rows.{at};
 ghost use Rattle.ballots.specs.declared.letters.Note.TheVariants.{Higher as HigherNote, Voted as VotedNote};
 ghost use Rattle.node.specs.Answers.{accepted_letters, WroteNothing};
 ghost use Rattle.acceptor.specs.Calls.{KeepsTrust};
@@ -17,7 +17,7 @@ ghost use Rattle.node.specs.View.{Standing, values_from};
 ghost use Rattle.proposer.specs.Faults.{IsOfLead, TellsSpent};
 ghost use Rattle.proposer.specs.Turns as turn;
 ghost use Rattle.proposer.specs.Turns.{IsNextBallot, is_counted};
-ghost use Rattle.node.specs.Step.{Leads, accept, after_higher, are_votes, heed, is_sound, known, known_letters, learns, letter, nothing, offer, prepare, promise, to_all, voted};
+ghost use Rattle.node.specs.Step.{Leads, accept, after_higher, are_votes, first_known, heed, is_sound, known, learns, letter, letters_told, nothing, offer, prepare, promise, to_all, voted};
 
 use crate::knowledge::Knowledge;
 use crate::letters::{known_letters, one_letter, prepared_note, replace_last};
@@ -85,7 +85,7 @@ impl<R: Records> Parts<R> {
         ballot: Ballot,
         place: Place,
     ) -> Result<Vec<Letter>, AllocError>
-        ensures { IfOk result (λ letters. letters.items ≡ known_letters self.now.proposer.id from (take 64 (rows_from self.now.knowledge.tally.learned place)) ++ letter self.now.proposer.id from (HigherNote ballot) ∷ []) }
+        ensures { IfOk result (λ letters. letters.items ≡ first_known self.now.proposer.id self.now.knowledge.tally.learned from place ++ letter self.now.proposer.id from (HigherNote ballot) ∷ []) }
     {
         let me = self.proposer.id();
         let learned = self.knowledge.values();
@@ -392,6 +392,20 @@ impl<R: Records> Parts<R> {
             Note::Higher { ballot } => self.take_higher(*ballot),
             Note::Known { place, value } => self.take_known(place_of(*place), value),
         }
+    }
+
+    /// The letters that tell a node what is learned.
+    pub(crate) fn told(&self, to: NodeId, place: u64) -> Result<Vec<Letter>, NodeFault>
+        ensures tells { IfErr result (λ fault. fault ≡ NodeFault.OutOfMemory) }
+        ensures letters { IfOk result (λ letters. letters.items ≡ letters_told (member_count self.now.proposer.members) self.now.proposer.id self.now.knowledge.tally.learned to place) }
+        ensures no_memory { letters_told (member_count self.now.proposer.members) self.now.proposer.id self.now.knowledge.tally.learned to place ≡ [] → IsOk result }
+    {
+        if to.number() >= self.proposer.members().count() {
+            return Ok(Vec::new(self.alloc));
+        }
+        let me = self.proposer.id();
+        let learned = self.knowledge.values();
+        Ok(known_letters(self.alloc, me, to, place, learned)?)
     }
 
     /// Outputs are released by a node that is up.

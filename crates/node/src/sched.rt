@@ -112,6 +112,13 @@ impl<R: Records + Drop> Node for SchedNode<R> {
         self.parts.propose(value)
     }
 
+    fn tell(&self, to: NodeId, place: u64) -> Result<Vec<Letter>, NodeFault> {
+        if self.parts.is_down {
+            return Err(NodeFault::Down);
+        }
+        self.parts.told(to, place)
+    }
+
     fn release(&mut self, now: u64) -> Result<Vec<Numbered>, NodeFault> {
         if self.parts.is_down {
             return Err(NodeFault::Down);

@@ -10,7 +10,7 @@ use Rattle.network_script.specs.World.{Written, released_by}
 use Rattle.network_script.specs.Next.{Next, OfNode, Comes, after}
 use Rattle.node.specs.Calls.Cause.{Receive as Received}
 use Rattle.seats.specs.Moves.Ask.{Call}
-use Rattle.node_worker.specs.declared.entry.Ask.TheVariants.{Lead, Offer, Release, Crash, Restart}
+use Rattle.node_worker.specs.declared.entry.Ask.TheVariants.{Lead, Offer, Tell, Release, Crash, Restart}
 use Rattle.node_worker.specs.declared.entry.Cause.{Cause}
 use Rattle.node_worker.specs.declared.entry.Cause.TheVariants.{Ask as Asked, Letter as Came}
 use Rattle.node_worker.specs.Entries.{EntryView}
@@ -33,6 +33,7 @@ of_node members w k s ask told m at moves = subst (λ (o : Option Standing). OfN
 is_next : (members : ℕ) (w : Written) (k : ℕ) (s : Standing) (cause : Cause) (told : Answer) (m : Move) (e : Event) → slice_get w.nodes k ≡ Some s → Moves members k s (ask_of cause) told m → IsEvent w.letters k cause e → Next members w e told (after w k m)
 is_next members w k s (Asked Lead) told m e at moves is = subst (λ (x : Event). Next members w x told (after w k m)) (sym is) (of_node members w k s (ask_of (Asked Lead)) told m at moves)
 is_next members w k s (Asked (Offer value)) told m e at moves is = subst (λ (x : Event). Next members w x told (after w k m)) (sym is) (of_node members w k s (ask_of (Asked (Offer value))) told m at moves)
+is_next members w k s (Asked (Tell to place)) told m e at moves is = subst (λ (x : Event). Next members w x told (after w k m)) (sym is) (of_node members w k s (ask_of (Asked (Tell to place))) told m at moves)
 is_next members w k s (Asked (Release now)) told m e at moves is = subst (λ (x : Event). Next members w x told (after w k m)) (sym is) (of_node members w k s (ask_of (Asked (Release now))) told m at moves)
 is_next members w k s (Asked Crash) told m e at moves is = subst (λ (x : Event). Next members w x told (after w k m)) (sym is) (of_node members w k s (ask_of (Asked Crash)) told m at moves)
 is_next members w k s (Asked Restart) told m e at moves is = subst (λ (x : Event). Next members w x told (after w k m)) (sym is) (of_node members w k s (ask_of (Asked Restart)) told m at moves)

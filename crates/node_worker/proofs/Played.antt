@@ -22,7 +22,7 @@ use Rattle.seats.specs.Receiver.{Receiver, new_receiver}
 use Rattle.seats.specs.Modems.{sent_at, ModemNext}
 use Rattle.network_script.specs.Next.{Goes}
 use Rattle.seats.specs.Receiving.{AreReceivers}
-use Rattle.node_worker.specs.declared.entry.Ask.TheVariants.{Lead, Offer, Release, Crash, Restart}
+use Rattle.node_worker.specs.declared.entry.Ask.TheVariants.{Lead, Offer, Tell, Release, Crash, Restart}
 use Rattle.node_worker.specs.declared.entry.Cause.{Cause}
 use Rattle.node_worker.specs.declared.entry.Cause.TheVariants.{Ask as Asked, Letter as Came}
 use Rattle.node_worker.specs.declared.entry.Done.{Done}
@@ -83,6 +83,7 @@ Within count records = (i : ℕ) (d : Done) → slice_get records i ≡ Some d �
 event_of : (sent : List Letter) (k : ℕ) (cause : Cause) → Comes sent k cause → (e : Event) × IsEvent sent k cause e
 event_of sent k (Asked Lead) comes = (event.Lead k, refl)
 event_of sent k (Asked (Offer value)) comes = (event.Offer k value, refl)
+event_of sent k (Asked (Tell to place)) comes = (event.Tell k to place, refl)
 event_of sent k (Asked (Release now)) comes = (event.Release k now, refl)
 event_of sent k (Asked Crash) comes = (event.Crash k, refl)
 event_of sent k (Asked Restart) comes = (event.Restart k, refl)
@@ -92,6 +93,7 @@ event_of sent k (Came l) comes = let at = contains_at sent l comes.1 in (event.D
 not_hear : (sent : List Letter) (k m i near : ℕ) (cause : Cause) → IsEvent sent k cause (event.Hear m i near) → ⊥
 not_hear sent k m i near (Asked Lead) is = cc (is)
 not_hear sent k m i near (Asked (Offer value)) is = cc (is)
+not_hear sent k m i near (Asked (Tell to place)) is = cc (is)
 not_hear sent k m i near (Asked (Release now)) is = cc (is)
 not_hear sent k m i near (Asked Crash) is = cc (is)
 not_hear sent k m i near (Asked Restart) is = cc (is)
@@ -100,6 +102,7 @@ not_hear sent k m i near (Came l) is = let same = is.3 in cc (same)
 not_want : (sent : List Letter) (k m ch sid n : ℕ) (cause : Cause) → IsEvent sent k cause (event.Want m ch sid n) → ⊥
 not_want sent k m ch sid n (Asked Lead) is = cc (is)
 not_want sent k m ch sid n (Asked (Offer value)) is = cc (is)
+not_want sent k m ch sid n (Asked (Tell to place)) is = cc (is)
 not_want sent k m ch sid n (Asked (Release now)) is = cc (is)
 not_want sent k m ch sid n (Asked Crash) is = cc (is)
 not_want sent k m ch sid n (Asked Restart) is = cc (is)
@@ -108,6 +111,7 @@ not_want sent k m ch sid n (Came l) is = let same = is.3 in cc (same)
 not_tick : (sent : List Letter) (k m ch slot random : ℕ) (cause : Cause) → IsEvent sent k cause (event.Tick m ch slot random) → ⊥
 not_tick sent k m ch slot random (Asked Lead) is = cc (is)
 not_tick sent k m ch slot random (Asked (Offer value)) is = cc (is)
+not_tick sent k m ch slot random (Asked (Tell to place)) is = cc (is)
 not_tick sent k m ch slot random (Asked (Release now)) is = cc (is)
 not_tick sent k m ch slot random (Asked Crash) is = cc (is)
 not_tick sent k m ch slot random (Asked Restart) is = cc (is)
@@ -119,6 +123,7 @@ reads : (sent : List Letter) (d : Done) (ds : List Done) (e : Event) (script : L
     → ReadAs sent (d ∷ ds) (e ∷ script) (answer_of d.entry.cause d.entry.ended d.entry.letters d.entry.outputs ∷ report)
 reads sent d ds (event.Lead k) script report is rest = (is, refl, rest)
 reads sent d ds (event.Offer k value) script report is rest = (is, refl, rest)
+reads sent d ds (event.Tell k to place) script report is rest = (is, refl, rest)
 reads sent d ds (event.Deliver i) script report is rest = (is, refl, rest)
 reads sent d ds (event.DeliverThenCrash i) script report is rest = (is, refl, rest)
 reads sent d ds (event.Crash k) script report is rest = (is, refl, rest)

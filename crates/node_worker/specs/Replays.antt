@@ -7,7 +7,7 @@ use Rattle.proposer.specs.declared.fault.NodeFault.TheVariants.{OutOfMemory, Dow
 use Rattle.node.specs.declared.node.Node.{Ghosts}
 use Rattle.node.specs.View.{Standing, started}
 use Rattle.node.specs.View.Standing.{Running}
-use Rattle.node.specs.Calls.Cause.{Lead as AskedToLead, Offer as Offered, Receive as Received}
+use Rattle.node.specs.Calls.Cause.{Lead as AskedToLead, Offer as Offered, Receive as Received, Tell as AskedToTell}
 use Rattle.seats.specs.declared.answer.Answer.{Answer}
 use Rattle.seats.specs.declared.answer.Answer.TheVariants as answer
 use Rattle.seats.specs.Moves.{Ask, Move, Moves}
@@ -15,7 +15,7 @@ use Rattle.seats.specs.Moves.Ask.{Call as IsCalled, Release as ReleaseAt, Crash 
 use Rattle.seats.specs.Occupant.{Stands, who_of}
 use Rattle.seats.specs.Seat.{survives}
 use Rattle.seats.specs.declared.seat.Seat.{Seat}
-use Rattle.node_worker.specs.declared.entry.Ask.TheVariants.{Lead, Offer, Release, Crash, Restart}
+use Rattle.node_worker.specs.declared.entry.Ask.TheVariants.{Lead, Offer, Tell, Release, Crash, Restart}
 use Rattle.node_worker.specs.declared.entry.Cause.{Cause}
 use Rattle.node_worker.specs.declared.entry.Cause.TheVariants.{Ask as Asked, Letter as Came}
 use Rattle.node_worker.specs.declared.entry.Ended.{Ended}
@@ -26,6 +26,7 @@ use Rattle.node_worker.specs.Entries.{EntryView}
 abbrev pub ask_of : Cause → Ask
 ask_of (Asked Lead) = IsCalled AskedToLead
 ask_of (Asked (Offer value)) = IsCalled (Offered value)
+ask_of (Asked (Tell to place)) = IsCalled (AskedToTell to place)
 ask_of (Asked (Release now)) = ReleaseAt now
 ask_of (Asked Crash) = CrashNow
 ask_of (Asked Restart) = StartAgain

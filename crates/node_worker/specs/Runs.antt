@@ -18,7 +18,7 @@ use Rattle.seats.specs.Modems.{ModemNext, sent_at}
 use Rattle.seats.specs.Receiving.{AreReceivers}
 use Rattle.network_script.specs.Next.{Run}
 use Rattle.network_script.specs.Headline.{FollowsOneSchedule}
-use Rattle.node_worker.specs.declared.entry.Ask.TheVariants.{Lead, Offer, Release, Crash, Restart}
+use Rattle.node_worker.specs.declared.entry.Ask.TheVariants.{Lead, Offer, Tell, Release, Crash, Restart}
 use Rattle.node_worker.specs.declared.entry.Cause.{Cause}
 use Rattle.node_worker.specs.declared.entry.Cause.TheVariants.{Ask as Asked, Letter as Came}
 use Rattle.node_worker.specs.declared.entry.Done.{Done}
@@ -30,6 +30,7 @@ use Rattle.node_worker.specs.Replays.{ReplaysTo, answer_of}
 abbrev pub IsEvent : List Letter → ℕ → Cause → Event → Type 0
 IsEvent sent k (Asked Lead) e = e ≡ event.Lead k
 IsEvent sent k (Asked (Offer value)) e = e ≡ event.Offer k value
+IsEvent sent k (Asked (Tell to place)) e = e ≡ event.Tell k to place
 IsEvent sent k (Asked (Release now)) e = e ≡ event.Release k now
 IsEvent sent k (Asked Crash) e = e ≡ event.Crash k
 IsEvent sent k (Asked Restart) e = e ≡ event.Restart k

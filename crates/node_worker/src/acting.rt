@@ -114,6 +114,7 @@ fn asked(cause: &Cause) -> Asked<'_>
     match cause {
         Cause::Ask(Ask::Lead) => Asked::Lead,
         Cause::Ask(Ask::Offer(value)) => Asked::Offer(value.as_slice()),
+        Cause::Ask(Ask::Tell(to, place)) => Asked::Tell(to, *place),
         Cause::Ask(Ask::Release(now)) => Asked::Release(*now),
         Cause::Ask(Ask::Crash) => Asked::Crash,
         Cause::Ask(Ask::Restart) => Asked::Restart,

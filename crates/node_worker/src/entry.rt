@@ -17,6 +17,8 @@ pub enum Ask {
     Lead,
     /// To propose a value.
     Offer(Bytes),
+    /// To tell a node what is learned from a place on.
+    Tell(NodeId, u64),
     /// To release what it can, at a minislot time.
     Release(u64),
     Crash,
@@ -82,6 +84,7 @@ impl Ask {
         match self {
             Ask::Lead => Ok(Ask::Lead),
             Ask::Offer(value) => Ok(Ask::Offer(value.copy(alloc)?)),
+            Ask::Tell(to, place) => Ok(Ask::Tell(*to, *place)),
             Ask::Release(now) => Ok(Ask::Release(*now)),
             Ask::Crash => Ok(Ask::Crash),
             Ask::Restart => Ok(Ask::Restart),
@@ -95,6 +98,7 @@ impl Ask {
         match (self, other) {
             (Ask::Lead, Ask::Lead) => true,
             (Ask::Offer(a), Ask::Offer(b)) => a.as_slice() == b.as_slice(),
+            (Ask::Tell(a, from), Ask::Tell(b, on)) => *a == *b && *from == *on,
             (Ask::Release(a), Ask::Release(b)) => *a == *b,
             (Ask::Crash, Ask::Crash) => true,
             (Ask::Restart, Ask::Restart) => true,

@@ -5,9 +5,9 @@ use Rattle.toml.specs.Data.{Data, string, get}
 use Rattle.grant_machine.specs.declared.command.Command.{Command}
 use Rattle.command_log.specs.Spelling.{spelling}
 use Rattle.world_events.specs.declared.event.Event.{Event}
-use Rattle.world_events.specs.declared.event.Event.TheVariants.{Lead, Offer, Deliver, DeliverThenCrash, Crash, Restart, Release, Hear, Want, Tick}
+use Rattle.world_events.specs.declared.event.Event.TheVariants.{Lead, Offer, Tell, Deliver, DeliverThenCrash, Crash, Restart, Release, Hear, Want, Tick}
 use Rattle.script_text.specs.CommandTable.{SpellsCommand}
-use Rattle.script_text.specs.Fields.{HasText, HasNumber}
+use Rattle.script_text.specs.Fields.{HasText, HasNumber, HasNode}
 
 -- the bytes of the command that the table spells
 abbrev pub IsCommandBytes : Data → List ℕ → Type 0
@@ -32,6 +32,8 @@ OffersBytes d bytes = IsOffered (get (codes "command") d) (get (codes "value") d
 abbrev pub MeansEvent : Data → Event → Type 0
 MeansEvent d (Lead k) = HasText d (codes "kind") (codes "lead") × HasNumber d (codes "node") 64 k
 MeansEvent d (Offer k bytes) = HasText d (codes "kind") (codes "offer") × HasNumber d (codes "node") 64 k × OffersBytes d bytes
+MeansEvent d (Tell k to place) =
+    HasText d (codes "kind") (codes "tell") × HasNumber d (codes "node") 64 k × HasNode d (codes "to") to × HasNumber d (codes "place") 64 place
 MeansEvent d (Deliver i) = HasText d (codes "kind") (codes "deliver") × HasNumber d (codes "letter") 64 i
 MeansEvent d (DeliverThenCrash i) = HasText d (codes "kind") (codes "deliver_then_crash") × HasNumber d (codes "letter") 64 i
 MeansEvent d (Crash k) = HasText d (codes "kind") (codes "crash") × HasNumber d (codes "node") 64 k

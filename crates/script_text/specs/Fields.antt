@@ -10,3 +10,8 @@ HasText d key text = get key d ≡ Some (string text)
 pub record HasNumber (d : Data) (key : List ℕ) (bits : ℕ) (n : ℕ) : Type 0 where
   pub held : get key d ≡ Some (integer (pos n))
   pub fits : n < 2 ^ bits
+
+-- the key holds a node's number
+pub record HasNode (d : Data) (key : List ℕ) (n : ℕ) : Type 0 where
+  pub number : HasNumber d key 8 n
+  pub node : n < 5

@@ -7,7 +7,7 @@ ghost use Rattle.script_text.specs.Fields.{HasText};
 ghost use Rattle.script_text.specs.EventTable.{IsCommandBytes, IsHexBytes, OffersBytes, MeansEvent};
 
 use crate::command_table::command_of;
-use crate::fields::{slot_at, u8_at, u16_at, u64_at, usize_at};
+use crate::fields::{node_at, slot_at, u8_at, u16_at, u64_at, usize_at};
 use ballots::Bytes;
 use command_log::command_bytes;
 use hex::FromHexError;
@@ -21,6 +21,18 @@ fn release_of(table: &Value) -> Option<Event>
     ensures only { (event : Event) → MeansEvent (view table.now) event → result ≡ Some event }
 {
     Some(Event::Release(usize_at(table, "node")?, u64_at(table, "now")?))
+}
+
+fn tell_of(table: &Value) -> Option<Event>
+    requires { HasText (view table.now) (codes "kind") (codes "tell") }
+    ensures found { IfSome result (MeansEvent (view table.now)) }
+    ensures only { (event : Event) → MeansEvent (view table.now) event → result ≡ Some event }
+{
+    Some(Event::Tell(
+        usize_at(table, "node")?,
+        node_at(table, "to")?,
+        u64_at(table, "place")?,
+    ))
 }
 
 fn hear_of(table: &Value) -> Option<Event>
@@ -69,6 +81,7 @@ fn plain_event_of(table: &Value) -> Option<Event>
 {
     match table.get("kind")?.as_str()? {
         "lead" => Some(Event::Lead(usize_at(table, "node")?)),
+        "tell" => tell_of(table),
         "deliver" => Some(Event::Deliver(usize_at(table, "letter")?)),
         "deliver_then_crash" => Some(Event::DeliverThenCrash(usize_at(table, "letter")?)),
         "crash" => Some(Event::Crash(usize_at(table, "node")?)),

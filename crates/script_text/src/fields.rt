@@ -4,9 +4,10 @@ ghost use Rattle.std.specs.Prelude.{◌≡◌, ℕ, Some, IfSome, map, option_ma
 ghost use Rattle.std.specs.List.{list_all};
 ghost use Rattle.toml.specs.Data.{get_member};
 ghost use Rattle.toml.specs.View.{view, table_view};
-ghost use Rattle.script_text.specs.Fields.{HasNumber};
+ghost use Rattle.script_text.specs.Fields.{HasNode, HasNumber};
 ghost use Rattle.script_text.specs.Items.{is_table, items_at, tables_at};
 
+use ballots::NodeId;
 use minislot_time::Slot;
 use toml::{Table, Value};
 
@@ -87,4 +88,11 @@ pub fn slot_at(table: &Value, key: &str) -> Option<Slot>
     ensures only { (n : ℕ) → HasNumber (view table.now) key.now 63 n → result ≡ Some n }
 {
     Slot::new(u64_at(table, key)?)
+}
+
+pub fn node_at(table: &Value, key: &str) -> Option<NodeId>
+    ensures found { IfSome result (HasNode (view table.now) key.now) }
+    ensures only { (n : ℕ) → HasNode (view table.now) key.now n → result ≡ Some n }
+{
+    NodeId::new(u8_at(table, key)?)
 }

@@ -14,7 +14,7 @@ use Rattle.node.specs.declared.node.Node.{Ghosts}
 use Rattle.node.specs.View.{View, Standing, started}
 use Rattle.node.specs.View.Standing.{Running, Stopped}
 use Rattle.node.specs.Calls.{Called, Cause, Course, CallEnds, IsStop, Kept, KeptByRestart, Restarts, StopsLast, StoreFails, TakesTurn, Who, answer}
-use Rattle.node.specs.Calls.Cause.{Lead as AskedToLead, Offer as Offered, Receive as Received}
+use Rattle.node.specs.Calls.Cause.{Lead as AskedToLead, Offer as Offered, Receive as Received, Tell as AskedToTell}
 use Rattle.node.specs.Releases.{Releases, outputs, released_all}
 use Rattle.node.specs.Step.{Outcome, nothing}
 use Rattle.proposer.specs.Faults.{IsOfOffer}
@@ -170,6 +170,15 @@ same_rest (Fault failed) rest = refl
 same_rest (Refused refusal) rest = refl
 same_rest reply rest = tt
 
+-- nor to tell
+pub tells_last : (members me : ℕ) (view : View) (to place : ℕ) (given : Result (List Letter) NodeFault) → StopsLast members me view (AskedToTell to place) given
+tells_last members me view to place (Ok letters) = tt
+tells_last members me view to place (Err failed) = λ stop. tt
+
+-- a node that stays as it is keeps its trust
+pub same_trust : {N : Type 0} (honest clean : N → Bool) (node : N) → KeepsTrust honest clean node node
+same_trust honest clean node = record { honest = λ was. was; clean = λ was. was; sure = λ is was. was }
+
 module _ {N : Type 0} {g : Ghosts N} (old : Seat N g) where
   -- where a node that is up may stand
   runs_at : (s : Standing) → old.up ≡ true → Stands old s → (view : View) × (s ≡ Running view) × g.stands old.node (Running view)
@@ -211,6 +220,7 @@ module _ {N : Type 0} {g : Ghosts N} (old : Seat N g) where
   pub refuses : (what : Asked) → (what ≡ asked.Restart → ⊥) → old.up ≡ false → Acts old (ask_of what) (Refused NodeDown) [] [] old
   refuses asked.Lead other down = stays_down (Call AskedToLead) down refl (refl, refl) (λ c doubt. (refl, refl))
   refuses (asked.Offer value) other down = stays_down (Call (Offered value.now)) down refl (refl, refl) (λ c doubt. (refl, refl))
+  refuses (asked.Tell to place) other down = stays_down (Call (AskedToTell to.now place)) down refl (refl, refl) (λ c doubt. (refl, refl))
   refuses (asked.Receive letter) other down = stays_down (Call (Received letter.now)) down refl (refl, refl) (λ c doubt. (refl, refl))
   refuses (asked.ReceiveThenCrash letter) other down = stays_down (TakeThenCrash letter.now) down refl (refl, refl) (λ c doubt. (refl, refl))
   refuses (asked.Release now) other down = stays_down (Release now) down refl (refl, refl) (λ c doubt. (refl, refl))

@@ -2,7 +2,7 @@
 use Rattle.std.specs.Prelude.{List, [], length, Result, Ok, Err}
 use Rattle.ballots.specs.declared.letters.Letter.{Letter}
 use Rattle.map_release.specs.declared.numbered.Numbered.{Numbered}
-use Rattle.node.specs.Calls.Cause.{Lead as AskedToLead, Offer as Offered, Receive as Received}
+use Rattle.node.specs.Calls.Cause.{Lead as AskedToLead, Offer as Offered, Receive as Received, Tell as AskedToTell}
 use Rattle.proposer.specs.declared.fault.NodeFault.{NodeFault}
 use Rattle.seats.specs.declared.acted.Acted.{Acted}
 use Rattle.seats.specs.declared.acted.Acted.TheVariants as acted
@@ -17,6 +17,7 @@ use Rattle.seats.specs.Moves.Ask.{Call, TakeThenCrash, Release, Crash, Restart}
 abbrev pub ask_of : Asked → Ask
 ask_of asked.Lead = Call AskedToLead
 ask_of (asked.Offer value) = Call (Offered value.now)
+ask_of (asked.Tell to place) = Call (AskedToTell to.now place)
 ask_of (asked.Receive letter) = Call (Received letter.now)
 ask_of (asked.ReceiveThenCrash letter) = TakeThenCrash letter.now
 ask_of (asked.Release now) = Release now

@@ -7,9 +7,10 @@ use Rattle.map_release.specs.declared.numbered.Numbered.{Numbered}
 use Rattle.node.specs.declared.node.Node.{Ghosts}
 use Rattle.node.specs.View.{View, Standing}
 use Rattle.node.specs.Calls.{Cause, IsStop, StoreServed, TellsStore, TellsStoreOfRestart, Who}
-use Rattle.node.specs.Calls.Cause.{Lead, Offer, Receive}
+use Rattle.node.specs.Calls.Cause.{Lead, Offer, Receive, Tell}
 use Rattle.proposer.specs.Faults.{IsOfLead, IsOfOffer}
 use Rattle.proposer.specs.declared.fault.NodeFault.{NodeFault}
+use Rattle.proposer.specs.declared.fault.NodeFault.TheVariants.{OutOfMemory}
 use Rattle.seats.specs.declared.answer.Answer.{Answer}
 use Rattle.seats.specs.declared.answer.Answer.TheVariants.{Sent, Released, Finished, Refused, Fault, Crashed}
 use Rattle.seats.specs.declared.seat.Seat.{Seat}
@@ -26,6 +27,7 @@ abbrev pub MayFail : Cause → NodeFault → Type 0
 MayFail (Receive l) fault = IsStop fault
 MayFail Lead fault = IsOfLead fault
 MayFail (Offer value) fault = IsOfOffer fault
+MayFail (Tell to place) fault = fault ≡ OutOfMemory
 
 -- a node that was up may answer so, and is up then or isn't, whatever its records do
 abbrev pub AnswersUp : Ask → Answer → Bool → Type 0

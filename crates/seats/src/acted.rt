@@ -5,7 +5,7 @@ ghost use Rattle.seats.specs.Acted.{come_of, told};
 ghost use Rattle.seats.specs.declared.acted.Acted.TheVariants as acted;
 
 use crate::answer::Answer;
-use ballots::Letter;
+use ballots::{Letter, NodeId};
 use map_release::Numbered;
 use node::NodeFault;
 use world_events::EventRefusal;
@@ -17,6 +17,8 @@ pub enum Asked<'a> {
     Lead,
     /// To propose a value.
     Offer(&'a [u8]),
+    /// To tell a node what is learned from a place on.
+    Tell(&'a NodeId, u64),
     /// To take a letter.
     Receive(&'a Letter),
     /// To take a letter, of which the answer is thrown away, and to crash.

@@ -93,6 +93,11 @@ impl<N: Node> Seat<N> {
                 self.up = stays_up(&given);
                 Acted::of_call(given)
             }
+            Asked::Tell(to, place) => {
+                let given = self.node.tell(*to, place);
+                self.up = stays_up(&given);
+                Acted::of_call(given)
+            }
             Asked::Receive(letter) => {
                 let given = self.node.receive(letter);
                 self.up = stays_up(&given);

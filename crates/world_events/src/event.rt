@@ -1,6 +1,6 @@
 //! What may happen in a world.
 
-use ballots::Bytes;
+use ballots::{Bytes, NodeId};
 use minislot_time::Slot;
 
 /// What happens next. Nodes, letters, outputs and modems are named by their numbers from 0 on. A
@@ -11,6 +11,8 @@ pub enum Event {
     Lead(usize),
     /// Node k is offered a value.
     Offer(usize, Bytes),
+    /// Node k tells another what it has learned from a place on.
+    Tell(usize, NodeId, u64),
     /// Letter i comes to the node that it is to.
     Deliver(usize),
     /// Letter i comes, what the node answers is thrown away, and the node crashes.

@@ -3,7 +3,7 @@ use Rattle.seats.specs.declared.answer.ReleasedOutput.{ReleasedOutput}
 use Rattle.seats.specs.Modems.{ModemNext}
 use Rattle.world_events.specs.declared.event.Event.TheVariants as event
 use Rattle.world_events.specs.declared.event.Event.TheVariants.{Hear}
-use Rattle.network_script.proofs.Asking.{asked, delivered, delivered_last, listened, to_crash, to_lead, to_offer, to_release, to_restart}
+use Rattle.network_script.proofs.Asking.{asked, delivered, delivered_last, listened, to_crash, to_lead, to_offer, to_release, to_restart, to_tell}
 use Rattle.network_script.proofs.world.World.happen.Goals as goal
 
 pub returns-in-Lead : goal.returns-in-Lead
@@ -11,6 +11,9 @@ returns-in-Lead g c = rw c.in-Lead.is (asked c.args.self.now c.ask.new.self (eve
 
 pub returns-in-Offer : goal.returns-in-Offer
 returns-in-Offer g c = rw (c.in-Offer.is, ← c.as_slice.ensures) (asked c.args.self.now c.ask-in-Offer.new.self (event.Offer c.in-Offer.k c.as_slice.result.now) c.in-Offer.k _ c.ask-in-Offer.result (to_offer c.args.self.now c.in-Offer.k c.as_slice.result.now) c.ask-in-Offer.ensures)
+
+pub returns-in-Tell : goal.returns-in-Tell
+returns-in-Tell g c = rw c.in-Tell.is (asked c.args.self.now c.ask-in-Tell.new.self (event.Tell c.in-Tell.k c.in-Tell.to c.in-Tell.place) c.in-Tell.k _ c.ask-in-Tell.result (to_tell c.args.self.now c.in-Tell.k c.in-Tell.to c.in-Tell.place) c.ask-in-Tell.ensures)
 
 pub returns-in-Deliver : goal.returns-in-Deliver
 returns-in-Deliver g c = rw c.in-Deliver.is (delivered c.args.self.now c.deliver.new.self c.in-Deliver.i c.deliver.result c.deliver.ensures)

@@ -1,7 +1,7 @@
 use Rattle.std.proofs.Common.{refl}
 use Rattle.node.specs.Calls.{answer}
-use Rattle.node.specs.Calls.Cause.{Lead, Offer, Receive}
-use Rattle.seats.proofs.Acting.{calls, crashes, receives_last, releases, stays_up_so, takes, turn_fails}
+use Rattle.node.specs.Calls.Cause.{Lead, Offer, Receive, Tell}
+use Rattle.seats.proofs.Acting.{calls, crashes, receives_last, releases, same_trust, stays_up_so, takes, tells_last, turn_fails}
 use Rattle.seats.proofs.seat.Seat.act_up.Goals as goal
 
 pub returns-in-Lead : goal.returns-in-Lead
@@ -15,6 +15,13 @@ returns-in-Offer g c = rw (c.in-Offer.is, c.of_call-in-Offer.ensures) (
     let call = c.offer-given.ensures in
     let fails = turn_fails (g.N.Node.who was.node).members (g.N.Node.who was.node).id (g.N.Node.role was.node) c.in-Offer.value.now c.offer-given.result (call.turn (was.runs c.requires)) in
     calls was _ (Offer c.in-Offer.value.now) c.offer-given.result c.requires c.stays_up-self-in-Offer.ensures call.trust call.err call.kept fails call.done call.order)
+
+pub returns-in-Tell : goal.returns-in-Tell
+returns-in-Tell g c = rw (c.in-Tell.is, c.of_call-in-Tell.ensures) (
+    let was = c.args.self.now in
+    let call = c.tell-given.ensures in
+    calls was _ (Tell c.in-Tell.to.now c.in-Tell.place) c.tell-given.result c.requires c.stays_up-self-in-Tell.ensures (same_trust g.N.Node.honest g.N.Node.clean was.node) call.kept (call.tells (was.runs c.requires)) (λ honest s stands. (s, call.done s stands, stands))
+    (λ honest view stands. tells_last (g.N.Node.who was.node).members (g.N.Node.who was.node).id view c.in-Tell.to.now c.in-Tell.place (answer c.tell-given.result)))
 
 pub returns-in-Receive : goal.returns-in-Receive
 returns-in-Receive g c = rw (c.in-Receive.is, c.of_call-in-Receive.ensures) (
