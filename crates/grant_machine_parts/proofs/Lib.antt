@@ -1,4 +1,5 @@
 pub mod Carved
+pub mod Splits
 pub mod Windows
 pub mod Drawn
 pub mod Numbered
