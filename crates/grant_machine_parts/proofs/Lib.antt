@@ -1,7 +1,9 @@
 pub mod Carved
+pub mod Splits
 pub mod Windows
 pub mod Drawn
 pub mod Numbered
+pub mod Chained
 pub mod Passing
 pub mod Giving
 pub mod Served

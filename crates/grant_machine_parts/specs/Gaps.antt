@@ -1,5 +1,5 @@
 -- The free minislots of a MAP, as the program keeps them.
-use Rattle.std.specs.Prelude.{◌≡◌, ℕ, ◌+◌, ◌<◌, ◌≤◌, Bool, true, false, ◌&&◌, nat_lt, nat_le, if◌then◌else◌, max, List, [], ◌∷◌, ◌++◌, Option, Some, None}
+use Rattle.std.specs.Prelude.{◌≡◌, ℕ, suc, slice_get, ◌+◌, ◌<◌, ◌≤◌, Bool, true, false, ◌&&◌, nat_lt, nat_le, if◌then◌else◌, max, List, [], ◌∷◌, ◌++◌, Option, Some, None}
 use Rattle.std.specs.List.{flat_map}
 pub use Rattle.grant_machine_parts.specs.declared.gaps.Gap.{Gap}
 
@@ -40,3 +40,11 @@ gap_in [] n first behind = None
 gap_in (g ∷ gs) n first behind =
     if nat_le behind (max g.from first) then None
     else if nat_le (max g.from first + n) g.to then Some (max g.from first) else gap_in gs n first behind
+
+-- the last one of so many gaps from the first on ends by an offset
+abbrev pub HasPassed : List Gap → (count x : ℕ) → Type 0
+HasPassed gs count x = (k : ℕ) (g : Gap) → suc k ≡ count → slice_get gs k ≡ Some g → g.to ≤ x
+
+-- the minislots between two offsets, which are some, are those of a gap
+abbrev pub IsInGap : List Gap → (number from to : ℕ) → Type 0
+IsInGap gs number from to = (g : Gap) × (slice_get gs number ≡ Some g) × (g.from ≤ from) × (from < to) × (to ≤ g.to)

@@ -7,3 +7,4 @@ pub mod Filling
 pub mod Kept
 pub mod Lent
 pub mod Ranks
+pub mod Chains

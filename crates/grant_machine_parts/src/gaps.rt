@@ -1,11 +1,12 @@
 //! The free minislots of a MAP: the gaps between its placements.
 
-ghost use Rattle.std.specs.Prelude.{◌≡◌, ◌⊎◌, ℕ, ◌+◌, ◌^◌, ◌<◌, ◌≤◌, ◌++◌, ◌&&◌, List, OnOk};
+ghost use Rattle.std.specs.Prelude.{◌≡◌, ◌⊎◌, ℕ, suc, ◌+◌, ◌^◌, ◌<◌, ◌≤◌, ◌++◌, Bool, List, length, take, drop, slice_get, Some, IsTrue, OnOk, OnErr, IfOk};
 ghost use Rattle.std.specs.List.{find, list_any, range_with_len};
 ghost use Rattle.grant_machine_parts.specs.Placing.{Placement, is_free, fits_at};
-ghost use Rattle.grant_machine_parts.specs.Gaps.{AreGaps, covers, carved_gap, carved, gap_in};
+ghost use Rattle.grant_machine_parts.specs.Gaps.{Gap, AreGaps, covers, carved_gap, carved, gap_in, HasPassed, IsInGap};
 
 use std::alloc::AllocError;
+use std::mem;
 
 /// Free minislots, from an offset to another.
 #[derive(Clone, Copy, Debug)]
@@ -38,7 +39,7 @@ fn put_left(gaps: &mut Vec<Gap>, gap: Gap, from: u16, to: u16) -> Result<(), All
 }
 
 /// Puts the gaps once the minislots from an offset to another are held.
-pub fn carve(left: &mut Vec<Gap>, gaps: &[Gap], from: u16, to: u16) -> Result<(), AllocError>
+fn carve(left: &mut Vec<Gap>, gaps: &[Gap], from: u16, to: u16) -> Result<(), AllocError>
     ensures { OnOk result (left.new.items ≡ carved from to gaps.now) }
 {
     left.clear();
@@ -48,18 +49,99 @@ pub fn carve(left: &mut Vec<Gap>, gaps: &[Gap], from: u16, to: u16) -> Result<()
     Ok(())
 }
 
-/// Are the minislots from an offset to another those of a gap?
-fn are_covered(gaps: &[Gap], from: u16, to: u16) -> bool
-    ensures { result ≡ list_any (covers from to) gaps.now }
+/// How many gaps from the first on end by an offset, found by halves, where they stand by offset.
+fn count_passed(gaps: &[Gap], x: u16) -> usize
+    ensures most { result ≤ length gaps.now }
+    ensures passed { HasPassed gaps.now result x }
 {
-    gaps.iter().any(|gap| gap.from <= from && to <= gap.to)
+    let mut low = 0;
+    let mut high = gaps.len();
+    while low < high {
+        let middle = low + (high - low) / 2;
+        if gaps[middle].to <= x {
+            low = middle + 1;
+        } else {
+            high = middle;
+        }
+    }
+    low
 }
 
-/// Are placements apart once the minislots from an offset to another are held too, where they were before?
-pub fn stay_apart(were_apart: bool, gaps: &[Gap], from: u16, to: u16) -> bool
-    ensures { result ≡ (were_apart && list_any (covers from to) gaps.now) }
+/// As many, with a look first at whether it is none or all but the last, as where minislots are held by offset.
+fn count_before(gaps: &[Gap], x: u16) -> usize
+    ensures most { result ≤ length gaps.now }
+    ensures passed { HasPassed gaps.now result x }
 {
-    were_apart && are_covered(gaps, from, to)
+    if x == 0 {
+        return 0;
+    }
+    let count = gaps.len();
+    if count >= 2 && gaps[count - 2].to <= x {
+        return count - 1;
+    }
+    count_passed(gaps, x)
+}
+
+/// Are the minislots from an offset to another, which are some, those of a gap?
+fn is_in_gap(gaps: &[Gap], number: usize, from: u16, to: u16) -> bool
+    ensures { IsTrue result → IsInGap gaps.now number from to }
+{
+    match gaps.get(number) {
+        Some(gap) => gap.from <= from && from < to && to <= gap.to,
+        None => false,
+    }
+}
+
+/// Splits a gap in its place once some of its minislots, from an offset to another, are held.
+fn split(gaps: &mut Vec<Gap>, number: usize, from: u16, to: u16) -> Result<(), AllocError>
+    requires { IsInGap gaps.old.items number from to }
+    ensures ok { OnOk result ((g : Gap) → slice_get gaps.old.items number ≡ Some g → gaps.new.items ≡ take number gaps.old.items ++ (carved_gap from to g ++ drop (suc number) gaps.old.items)) }
+    ensures err { OnErr result (gaps.new.items ≡ gaps.old.items) }
+{
+    let gap = gaps[number];
+    let left = Gap {
+        from: gap.from,
+        to: from,
+    };
+    let right = Gap {
+        from: to,
+        to: gap.to,
+    };
+    if gap.from < from {
+        if to < gap.to {
+            gaps.insert(number, left)?;
+            gaps[number + 1] = right;
+        } else {
+            gaps[number] = left;
+        }
+    } else if to < gap.to {
+        gaps[number] = right;
+    } else {
+        gaps.remove(number);
+    }
+    Ok(())
+}
+
+/// Holds the minislots from an offset to another. Where they are some of one gap, and only then, the answer is true and
+/// the gap is split in its place; else what is left is put beside the gaps and changes places with them.
+pub fn hold(
+    gaps: &mut Vec<Gap>,
+    beside: &mut Vec<Gap>,
+    from: u16,
+    to: u16,
+) -> Result<bool, AllocError>
+    ensures held { OnOk result ((free : ℕ → Bool) (len : ℕ) → AreGaps free 0 len gaps.old.items → gaps.new.items ≡ carved from to gaps.old.items) }
+    ensures covered { IfOk result (λ is_one. IsTrue is_one → IsTrue (list_any (covers from to) gaps.old.items)) }
+    ensures err { OnErr result (gaps.new.items ≡ gaps.old.items) }
+{
+    let number = count_before(gaps, from);
+    if is_in_gap(gaps, number, from, to) {
+        split(gaps, number, from, to)?;
+        return Ok(true);
+    }
+    carve(beside, gaps, from, to)?;
+    mem::swap(gaps, beside);
+    Ok(false)
 }
 
 /// The least offset from first on and before behind where n minislots of a gap begin.
@@ -115,7 +197,8 @@ pub fn first_fit(
             None
         };
     }
-    match gap_in(gaps, u64::from(n), first, behind) {
+    let passed = count_before(gaps, first as u16);
+    match gap_in(&gaps[passed..], u64::from(n), first, behind) {
         Some(x) => Some(x as usize),
         None => None,
     }

@@ -1,6 +1,7 @@
 //! The parts of a cut: a MAP's minislots, what is placed in them, and the body that tells of it.
 #![tactic(auto)]
 
+mod chains;
 pub mod drawing;
 mod due_times;
 mod gaps;
@@ -8,6 +9,7 @@ mod placing;
 mod services;
 mod waiting;
 
+pub use chains::by_priority;
 pub use placing::{Cause, Filling, Placement};
 pub use services::{Service, serve};
-pub use waiting::{Grants, Ranked, by_priority, kind_priority, place_requests};
+pub use waiting::{Grants, Ranked, kind_priority, place_requests};

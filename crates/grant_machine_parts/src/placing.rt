@@ -12,7 +12,6 @@ use crate::gaps::{self, Gap};
 use map_body::{Iuc, Offset, Sid};
 use std::alloc::{AllocError, Global};
 use std::marker::Model;
-use std::mem;
 
 /// As many placements may a MAP have.
 const MOST_PLACEMENTS: usize = 60;
@@ -38,8 +37,8 @@ pub struct Placement {
 }
 
 /// A MAP's minislots: the placements that hold some of them, and the gaps between these. Where `is_apart`, no minislot
-/// is in two placements. Room for all that it may have is taken when it is first opened, and the gaps after a placement
-/// are put beside those before it.
+/// is in two placements. Room for all that it may have is taken when it is first opened. A placement splits its gap in
+/// place; where it isn't of one gap, the gaps after it are put beside those before it.
 #[derive(Drop)]
 pub struct Filling {
     start: u64,
@@ -172,14 +171,13 @@ impl Filling {
         ensures span { self.new.span ≡ self.old.span }
         ensures placed { OnOk result (self.new.placements ≡ self.old.placements ++ placement ∷ []) }
     {
+        self.placements.reserve(1)?;
         let from = placement.offset.get();
-        let were_apart = self.is_apart;
         let to = from + placement.size;
-        let is_apart = gaps::stay_apart(were_apart, &self.gaps, from, to);
-        gaps::carve(&mut self.next_gaps, &self.gaps, from, to)?;
-        self.placements.push(placement)?;
-        mem::swap(&mut self.gaps, &mut self.next_gaps);
-        self.is_apart = is_apart;
+        let is_in_gap = gaps::hold(&mut self.gaps, &mut self.next_gaps, from, to)?;
+        let put = self.placements.push(placement);
+        prove!(put.is_ok());
+        self.is_apart = self.is_apart && is_in_gap;
         Ok(())
     }
 }

@@ -1,11 +1,11 @@
 //! Requests that wait, by priority.
 
-ghost use Rattle.std.specs.Prelude.{◌≡◌, ℕ, ◌++◌, OnOk, IsFalse, false};
+ghost use Rattle.std.specs.Prelude.{◌≡◌, ℕ, OnOk, IsFalse, false};
 ghost use Rattle.std.specs.List.{list_any, AllByRecursion};
 ghost use Rattle.grant_machine_parts.specs.Cutting.{kind_priority, is_cause_sent, is_grant_of, place_requests};
 ghost use Rattle.flow_state.specs.declared.flow.Waiting.{Waiting};
 ghost use Rattle.grant_machine_parts.specs.Lent.{IsUnicast};
-ghost use Rattle.grant_machine_parts.specs.Ranks.{of_priority, by_priority, requests_in, IsOfLast};
+ghost use Rattle.grant_machine_parts.specs.Ranks.{requests_in, IsOfLast};
 ghost use Rattle.grant_machine_parts.specs.Granted.{AreNumbered};
 
 use crate::placing::{Cause, Filling, Placement};
@@ -31,33 +31,6 @@ pub fn kind_priority(kind: FlowKind) -> u8
         FlowKind::Ugs { .. } => 0,
         FlowKind::Poll { .. } => 7,
     }
-}
-
-/// Adds the requests of one priority, by arrival.
-fn add_priority(
-    ordered: &mut Vec<Ranked>,
-    ranked: &[Ranked],
-    priority: u8,
-) -> Result<(), AllocError>
-    ensures { OnOk result (ordered.new.items ≡ ordered.old.items ++ of_priority ranked.now priority) }
-{
-    for one in ranked {
-        if one.priority == priority {
-            ordered.push(*one)?;
-        }
-    }
-    Ok(())
-}
-
-/// Puts the waiting requests by priority, greater first, and then by arrival, over what is there.
-pub fn by_priority(ordered: &mut Vec<Ranked>, ranked: &[Ranked]) -> Result<(), AllocError>
-    ensures { OnOk result (ordered.new.items ≡ by_priority ranked.now) }
-{
-    ordered.clear();
-    for priority in [7, 6, 5, 4, 3, 2, 1, 0] {
-        add_priority(ordered, ranked, priority)?;
-    }
-    Ok(())
 }
 
 /// Places each request whole at its first fit within its lease, where there is one.

@@ -19,10 +19,10 @@ pub last_get : (es : List Element) (e : Element) → slice_get (es ++ e ∷ []) 
 last_get es e = get_behind es (e ∷ []) 0 (length es) (omega arith)
 
 module _ (es : List Element) (e : Element) where
-  iuc_on : (k n : ℕ) → HasIuc es k n → HasIuc (es ++ e ∷ []) k n
+  pub iuc_on : (k n : ℕ) → HasIuc es k n → HasIuc (es ++ e ∷ []) k n
   iuc_on k n (d, at, is) = (d, get_front es (e ∷ []) k (slice_get_within es k d at) ∙ at, is)
 
-  iuc_back : (k n : ℕ) → k < length es → HasIuc (es ++ e ∷ []) k n → HasIuc es k n
+  pub iuc_back : (k n : ℕ) → k < length es → HasIuc (es ++ e ∷ []) k n → HasIuc es k n
   iuc_back k n lt (d, at, is) = (d, sym (get_front es (e ∷ []) k lt) ∙ at, is)
 
   falls_on : (k : ℕ) → Falls es k → Falls (es ++ e ∷ []) k

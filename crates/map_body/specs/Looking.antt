@@ -6,7 +6,8 @@ use Rattle.map_body.specs.declared.element.Element.{Element}
 use Rattle.map_body.specs.declared.fault.MapFault.{MapFault}
 use Rattle.map_body.specs.declared.fault.MapFault.TheVariants.{Short, Trailing, Expansion, OutOfOrder, NoNull, OutOfMemory, TooMany}
 use Rattle.map_body.specs.declared.judging.Seen.{Seen}
-use Rattle.map_body.specs.Rules.{IsNull, NoNullBefore, SoundBefore, FitsElement, FirstElementFault}
+use Rattle.map_body.specs.declared.reading.Walk.{Walk}
+use Rattle.map_body.specs.Rules.{IsNull, IsFirstNull, NoNullBefore, SoundBefore, FitsElement, FirstElementFault}
 use Rattle.map_body.specs.Intervals.{null_offset}
 use Rattle.map_body.specs.Layout.{element_bytes}
 
@@ -36,6 +37,11 @@ IsFound es TooMany = ⊥
 -- this was seen of the elements so far
 abbrev pub Saw : List Element → Seen → Type 0
 Saw es seen = MatchOption seen.fault (IsSound es seen) (λ fault. IsFound es fault)
+
+-- nothing is wrong with the elements so far; the place of the first Null, if one stands there; the offset of the last
+pub record IsWalked (es : List Element) (walk : Walk) : Type 0 where
+  pub scanned : Scanned es (length es) (is_some walk.null) walk.last
+  pub first : (k : ℕ) → walk.null ≡ Some k → IsFirstNull es k
 
 -- the bytes are these elements, so many
 pub record AreLaid (bytes : List ℕ) (count : ℕ) (es : List Element) : Type 0 where

@@ -1,7 +1,10 @@
-use Rattle.std.proofs.Common.{◌≡◌, ◌<◌, ◌≤◌, Some, None, cond, sym, ap, ◌∙◌, arith}
+use Rattle.std.proofs.Common.{◌≡◌, ◌<◌, ◌≤◌, ◌-◌, List, length, take, drop, Some, None, cond, sym, ap, ◌∙◌, arith}
 use Rattle.std.proofs.lemmas.Bool.{lt-ltb, le-ltb}
-use Rattle.grant_machine_parts.specs.Gaps.{gap_in}
+use Rattle.std.proofs.lemmas.List.{take_rest}
+use Rattle.grant_machine_parts.specs.Placing.{is_free}
+use Rattle.grant_machine_parts.specs.Gaps.{Gap, gap_in}
 use Rattle.grant_machine_parts.proofs.Carved.{AreInTime, in_time, fit_found, none_found}
+use Rattle.grant_machine_parts.proofs.Splits.{passed_over}
 use Rattle.grant_machine_parts.proofs.gaps.first_fit.Goals as goal
 
 pub returns-then-first-behind : goal.returns-then-first-behind
@@ -37,7 +40,14 @@ returns-in-Some c = λ ps are.
     let timely : AreInTime c.args.start c.args.len ps c.args.n c.args.lo c.args.hi c.args.last c.min-first.result c.behind_latest-behind.result =
     in_time c.args.start c.args.len ps c.args.n c.args.lo c.args.hi c.args.last c.min-first.result c.behind_latest-behind.result (omega arith) (omega arith) c.behind_latest-behind.ensures.in_time (λ y ge lt. c.behind_latest-behind.ensures.late y ge (omega arith)) in
     let some : 1 ≤ c.args.n = omega arith in
-    c.in-Some.ensures ∙ ap (λ m. gap_in c.args.gaps.now m c.min-first.result c.behind_latest-behind.result) c.from.ensures ∙ fit_found c.args.start c.args.len ps c.args.n c.args.lo c.args.hi c.args.last c.min-first.result c.behind_latest-behind.result timely some c.args.gaps.now are
+    let gs = c.args.gaps.now in
+    let k = c.count_before-passed.result in
+    let first = c.min-first.result in
+    let behind = c.behind_latest-behind.result in
+    let over : gap_in (take (length gs - k) (drop k gs)) c.args.n first behind ≡ gap_in gs c.args.n first behind =
+    ap (λ (xs : List Gap). gap_in xs c.args.n first behind) (take_rest gs k)
+    ∙ passed_over (is_free ps) 0 c.args.len gs c.args.n first behind k are some c.count_before-passed.ensures.most c.count_before-passed.ensures.passed in
+    c.in-Some.ensures ∙ ap (λ m. gap_in (take (length gs - k) (drop k gs)) m first behind) c.from.ensures ∙ over ∙ fit_found c.args.start c.args.len ps c.args.n c.args.lo c.args.hi c.args.last c.min-first.result c.behind_latest-behind.result timely some c.args.gaps.now are
 
 pub returns-in-None : goal.returns-in-None
 returns-in-None c = λ ps are.
@@ -48,4 +58,11 @@ returns-in-None c = λ ps are.
     let timely : AreInTime c.args.start c.args.len ps c.args.n c.args.lo c.args.hi c.args.last c.min-first.result c.behind_latest-behind.result =
     in_time c.args.start c.args.len ps c.args.n c.args.lo c.args.hi c.args.last c.min-first.result c.behind_latest-behind.result (omega arith) (omega arith) c.behind_latest-behind.ensures.in_time (λ y ge lt. c.behind_latest-behind.ensures.late y ge (omega arith)) in
     let some : 1 ≤ c.args.n = omega arith in
-    c.in-None.ensures ∙ ap (λ m. gap_in c.args.gaps.now m c.min-first.result c.behind_latest-behind.result) c.from.ensures ∙ fit_found c.args.start c.args.len ps c.args.n c.args.lo c.args.hi c.args.last c.min-first.result c.behind_latest-behind.result timely some c.args.gaps.now are
+    let gs = c.args.gaps.now in
+    let k = c.count_before-passed.result in
+    let first = c.min-first.result in
+    let behind = c.behind_latest-behind.result in
+    let over : gap_in (take (length gs - k) (drop k gs)) c.args.n first behind ≡ gap_in gs c.args.n first behind =
+    ap (λ (xs : List Gap). gap_in xs c.args.n first behind) (take_rest gs k)
+    ∙ passed_over (is_free ps) 0 c.args.len gs c.args.n first behind k are some c.count_before-passed.ensures.most c.count_before-passed.ensures.passed in
+    c.in-None.ensures ∙ ap (λ m. gap_in (take (length gs - k) (drop k gs)) m first behind) c.from.ensures ∙ over ∙ fit_found c.args.start c.args.len ps c.args.n c.args.lo c.args.hi c.args.last c.min-first.result c.behind_latest-behind.result timely some c.args.gaps.now are

@@ -1,11 +1,12 @@
-use Rattle.std.proofs.Common.{◌≡◌, ◌+◌, ◌<◌, ◌&&◌, List, length, sym, ap, subst, ◌∙◌, arith}
-use Rattle.std.specs.List.{list_any}
+use Rattle.std.proofs.Common.{◌≡◌, ◌+◌, ◌<◌, ◌++◌, ◌∷◌, [], true, false, List, length, refl, sym, ap, subst, ◌∙◌, arith}
+use Rattle.std.specs.Result.{is_ok}
 use Rattle.std.proofs.lemmas.List.{length_push}
-use Rattle.grant_machine_parts.specs.Placing.{most_placements}
+use Rattle.grant_machine_parts.specs.Placing.{Placement, most_placements, is_free}
 use Rattle.grant_machine_parts.specs.Filling.{PartMap}
-use Rattle.grant_machine_parts.specs.Gaps.{Gap, covers, carved}
+use Rattle.grant_machine_parts.specs.Gaps.{carved}
 use Rattle.grant_machine_parts.proofs.Carved.{gaps_added, apart_added, all_push}
 use Rattle.grant_machine_parts.proofs.placing.Filling.place.Goals as goal
+use Rattle.grant_machine_parts.proofs.placing.Filling.place.Goals.{then-self, else-self}
 
 pub invariant_of-self-2 : goal.invariant_of-self-2
 invariant_of-self-2 c =
@@ -14,13 +15,17 @@ invariant_of-self-2 c =
     let p = c.args.placement in
     let from : c.get-from.result ≡ p.offset = c.get-from.ensures.same in
     let to : c.get-from.result + p.size ≡ p.offset + p.size = ap (λ n. n + p.size) from in
-    let left : c.swap.new.x.items ≡ carved c.get-from.result (c.get-from.result + p.size) c.self.inside.gaps.items = ap (λ v. v.items) c.swap.ensures.x_after ∙ c.in_ok-carve.ensures ∙ ap (carved c.get-from.result (c.get-from.result + p.size)) c.deref-2.ensures.value in
-    let covered : (c.self.inside.is_apart && list_any (covers c.get-from.result (c.get-from.result + p.size)) c.self.inside.gaps.items) ≡ c.stay_apart-is_apart.result = ap (λ (gs : List Gap). c.self.inside.is_apart && list_any (covers c.get-from.result (c.get-from.result + p.size)) gs) (sym c.deref.ensures.value) ∙ sym c.stay_apart-is_apart.ensures in
+    let ok : is_ok c.push-put.result ≡ true = sym c.is_ok.ensures.value ∙ c.if-prove.false in
+    let put : c.push-put.new.self.items ≡ ps ++ p ∷ [] = (rw ok at c.push-put.ensures.items) ∙ ap (λ (qs : List Placement). qs ++ p ∷ []) c.in_ok-reserve.ensures.items in
+    let left : c.hold.new.gaps.items ≡ carved c.get-from.result (c.get-from.result + p.size) c.self.inside.gaps.items = c.in_ok-is_in_gap.ensures.held (is_free ps) c.self.inside.len c.self.invariant.gaps in
     record {
-      gaps = rw (c.in_ok-push.ensures.items, left) (gaps_added ps p c.self.inside.len c.get-from.result (c.get-from.result + p.size) c.self.inside.gaps.items from to c.self.invariant.gaps);
+      gaps = rw (put, left) (gaps_added ps p c.self.inside.len c.get-from.result (c.get-from.result + p.size) c.self.inside.gaps.items from to c.self.invariant.gaps);
       short = c.self.invariant.short;
       early = c.self.invariant.early;
-      few = rw (c.in_ok-push.ensures.items, length_push ps p) (omega arith);
-      uses = rw c.in_ok-push.ensures.items (all_push ps p c.self.invariant.uses c.requires.use_of);
-      apart = λ still. rw c.in_ok-push.ensures.items (apart_added ps p c.self.inside.len c.get-from.result (c.get-from.result + p.size) c.self.inside.gaps.items c.self.inside.is_apart from to c.self.invariant.gaps c.self.invariant.apart (covered ∙ still));
+      few = rw (put, length_push ps p) (omega arith);
+      uses = rw put (all_push ps p c.self.invariant.uses c.requires.use_of);
+      apart = λ still. rw put (apart_added ps p c.self.inside.len c.get-from.result (c.get-from.result + p.size) c.self.inside.gaps.items c.self.inside.is_apart from to c.self.invariant.gaps c.self.invariant.apart (elim c.if-self.branch [
+        | then-self w ↦ rw (w.if-self.true, c.in_ok-is_in_gap.ensures.covered (sym w.self-is ∙ still)) refl
+        | else-self w ↦ absurd (let no : false ≡ true = sym w.if-self.false ∙ (sym w.self-is ∙ still) in cc)
+      ]));
     }

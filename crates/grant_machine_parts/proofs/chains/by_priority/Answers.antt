@@ -2,7 +2,7 @@ use Rattle.std.proofs.Common.{◌≡◌, ℕ, ◌+◌, ◌<◌, ◌∷◌, [], �
 use Rattle.std.specs.List.{flat_map}
 use Rattle.std.proofs.lemmas.List.{take_more, flat_map_more}
 use Rattle.grant_machine_parts.specs.Ranks.{Ranked, of_priority}
-use Rattle.grant_machine_parts.proofs.waiting.by_priority.Goals as goal
+use Rattle.grant_machine_parts.proofs.chains.by_priority.Goals as goal
 
 -- one more number
 one_more : (f : ℕ → List Ranked) (ns : List ℕ) (i : ℕ) → i < length ns → flat_map f (take i ns) ++ f (get_or ns i 0) ≡ flat_map f (take (i + 1) ns)
