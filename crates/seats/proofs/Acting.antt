@@ -179,6 +179,11 @@ tells_last members me view to place (Err failed) = λ stop. tt
 pub same_trust : {N : Type 0} (honest clean : N → Bool) (node : N) → KeepsTrust honest clean node node
 same_trust honest clean node = record { honest = λ was. was; clean = λ was. was; sure = λ is was. was }
 
+-- and what it has beside its records
+pub same_err : (rest : View) (given : Result (Vec Letter Global) NodeFault) → OnErr given (rest ≡ rest)
+same_err rest (Ok letters) = tt
+same_err rest (Err failed) = refl
+
 module _ {N : Type 0} {g : Ghosts N} (old : Seat N g) where
   -- where a node that is up may stand
   runs_at : (s : Standing) → old.up ≡ true → Stands old s → (view : View) × (s ≡ Running view) × g.stands old.node (Running view)

@@ -1,7 +1,7 @@
 use Rattle.std.proofs.Common.{refl}
 use Rattle.node.specs.Calls.{answer}
 use Rattle.node.specs.Calls.Cause.{Lead, Offer, Receive, Tell}
-use Rattle.seats.proofs.Acting.{calls, crashes, receives_last, releases, same_trust, stays_up_so, takes, tells_last, turn_fails}
+use Rattle.seats.proofs.Acting.{calls, crashes, receives_last, releases, same_err, same_trust, stays_up_so, takes, tells_last, turn_fails}
 use Rattle.seats.proofs.seat.Seat.act_up.Goals as goal
 
 pub returns-in-Lead : goal.returns-in-Lead
@@ -20,7 +20,7 @@ pub returns-in-Tell : goal.returns-in-Tell
 returns-in-Tell g c = rw (c.in-Tell.is, c.of_call-in-Tell.ensures) (
     let was = c.args.self.now in
     let call = c.tell-given.ensures in
-    calls was _ (Tell c.in-Tell.to.now c.in-Tell.place) c.tell-given.result c.requires c.stays_up-self-in-Tell.ensures (same_trust g.N.Node.honest g.N.Node.clean was.node) call.kept (call.tells (was.runs c.requires)) (λ honest s stands. (s, call.done s stands, stands))
+    calls was _ (Tell c.in-Tell.to.now c.in-Tell.place) c.tell-given.result c.requires c.stays_up-self-in-Tell.ensures (same_trust g.N.Node.honest g.N.Node.clean was.node) (same_err (g.N.Node.rest was.node) c.tell-given.result) call.kept (call.tells (was.runs c.requires)) (λ honest s stands. (s, call.done s stands, stands))
     (λ honest view stands. tells_last (g.N.Node.who was.node).members (g.N.Node.who was.node).id view c.in-Tell.to.now c.in-Tell.place (answer c.tell-given.result)))
 
 pub returns-in-Receive : goal.returns-in-Receive
