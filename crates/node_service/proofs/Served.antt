@@ -16,14 +16,14 @@ use Rattle.node_service.specs.Serving.{RepliesTo, Serves, Turn, Turns, lines_of,
 use Rattle.node_service.specs.Texts.{reply_text}
 
 -- one turn more at the end
-more_turns : {A I : Type 0} (doer : Actors A) (input : Inputs I) (turns : List (List ℕ × Reply)) (line : List ℕ) (replied : Reply) (a : A) (i : I) (am : A) (im : I) (a' : A) (i' : I)
+pub more_turns : {A I : Type 0} (doer : Actors A) (input : Inputs I) (turns : List (List ℕ × Reply)) (line : List ℕ) (replied : Reply) (a : A) (i : I) (am : A) (im : I) (a' : A) (i' : I)
     → Turns doer input turns a i am im → Turn doer input line replied am im a' i' → Turns doer input (turns ++ (line, replied) ∷ []) a i a' i'
 more_turns {A} {I} doer input [] line replied a i am im a' i' (same, left) turn =
     (a', i', subst (λ (x : A). Turn doer input line replied x i a' i') same (subst (λ (x : I). Turn doer input line replied am x a' i') left turn), (refl, refl))
 more_turns doer input (first ∷ turns) line replied a i am im a' i' (between, rest, one, others) turn =
     (between, rest, one, more_turns doer input turns line replied between rest am im a' i' others turn)
 
-more_of : (f : List ℕ × Reply → List ℕ) (turns : List (List ℕ × Reply)) (turn : List ℕ × Reply) → flat_map f (turns ++ turn ∷ []) ≡ flat_map f turns ++ f turn
+pub more_of : (f : List ℕ × Reply → List ℕ) (turns : List (List ℕ × Reply)) (turn : List ℕ × Reply) → flat_map f (turns ++ turn ∷ []) ≡ flat_map f turns ++ f turn
 more_of f [] turn = append-nil (f turn)
 more_of f (first ∷ turns) turn = ap (λ (x : List ℕ). f first ++ x) (more_of f turns turn) ∙ sym (append_assoc (f first) (flat_map f turns) (f turn))
 

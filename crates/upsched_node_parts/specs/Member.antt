@@ -13,6 +13,6 @@ NamesMembers word members = word ≡ digit (member_count members)
 
 -- two words name a member by its number, and how many there are
 pub record NamesMember (number members : List ℕ) (id : ℕ) (count : Members) : Type 0 where
-  pub members : NamesMembers members count
-  pub number : number ≡ digit id
+  pub how_many : NamesMembers members count
+  pub which : number ≡ digit id
   pub one_of_them : id < member_count count

@@ -4,6 +4,7 @@ use Rattle.std.specs.Io.KnownBytes.{Appends, Consumes}
 use Rattle.acceptor.specs.Content.{Content, Write, no_content}
 use Rattle.ballots.specs.Members.{member_count}
 use Rattle.ballots.specs.declared.members.Members.{Members}
+use Rattle.node.specs.declared.node.Node.{Ghosts}
 use Rattle.node.specs.View.{View, Standing, started}
 use Rattle.node.specs.View.Standing.{Running, Stopped}
 use Rattle.node_lines.specs.Input.{IsLine, ReadsLast}
@@ -23,6 +24,8 @@ use Rattle.node_service.specs.Serving.{lines_of, text_of}
 use Rattle.node_service.specs.Texts.{reply_text}
 use Rattle.seats.specs.Acted.{letters_of, outputs_of, told}
 use Rattle.seats.specs.Acts.{GoesTo}
+use Rattle.seats.specs.Occupant.{Stands, who_of}
+use Rattle.seats.specs.declared.seat.Seat.{Seat}
 use Rattle.upsched_map_parts.specs.declared.status.Status.{Status}
 use Rattle.upsched_map_parts.specs.declared.status.Status.TheVariants.{Done, Faulted, NotUnderstood}
 
@@ -73,6 +76,12 @@ pub record ServesAs {I O : Type 0} (input : Inputs I) (output : Outputs O) (memb
   pub whole : All (λ turn. IsLine turn.0) turns
   pub runs : RunsAs members me s turns last
   pub ends : EndsAs input output end turns last i o i' o'
+
+-- the seat of a new node of this number, over records that hold nothing
+pub record IsNewSeat {N : Type 0} {g : Ghosts N} (me all : ℕ) (seat : Seat N g) : Type 0 where
+  pub id : (who_of seat).id ≡ me
+  pub members : (who_of seat).members ≡ all
+  pub stands : Stands seat (Running (started no_content))
 
 -- a new node of this number told who it is and served, or it couldn't tell even that
 abbrev pub RunsNode : {I O : Type 0} → Inputs I → Outputs O → ℕ → Members → Status → I → O → I → O → Type 0

@@ -35,7 +35,7 @@ fn members_of(word: &str) -> Option<Members>
 /// The member that these words name, and of how many: each word is one digit, the second 3 or 5, and the first a number
 /// below that.
 pub fn member_of(number: &str, members: &str) -> Option<(NodeId, Members)>
-    ensures { MatchOption result ((id : ℕ) (members : Members) → ¬ NamesMember number.now members.now id members)
+    ensures { MatchOption result ((id : ℕ) (count : Members) → ¬ NamesMember number.now members.now id count)
         (λ named. NamesMember number.now members.now named.0 named.1) }
 {
     let members = members_of(members)?;

@@ -1,12 +1,12 @@
 //! `upsched node K --members M`: from the words to how the program ends.
 
-ghost use Rattle.std.specs.Prelude.{◌≡◌, ◌≢◌, ◌↔◌, ℕ, IsOk, MatchResult};
+ghost use Rattle.std.specs.Prelude.{◌≡◌, ◌<◌, ◌↔◌, ℕ, IsOk, MatchResult};
 ghost use Rattle.ballots.specs.Members.{member_count};
 ghost use Rattle.ballots.specs.declared.members.Members.{Members};
 ghost use Rattle.node_service.specs.declared.service.End.TheVariants as ends;
 ghost use Rattle.upsched_map_parts.specs.declared.status.Status.TheVariants.{Done, Faulted, NotUnderstood};
 ghost use Rattle.upsched_node_parts.specs.Member.{NamesMember};
-ghost use Rattle.upsched_node_parts.specs.Serving.{RunsNode};
+ghost use Rattle.upsched_node_parts.specs.Serving.{IsNewSeat, RunsNode};
 
 use crate::member::member_of;
 use crate::serving::serve_member;
@@ -49,7 +49,7 @@ fn ended<'a>(end: End) -> Result<(), Fault<'a>>
 /// A new node of this number, with records in memory.
 fn new_seat(alloc: Global, id: NodeId, members: Members) -> Seat<PlainNode>
     requires { id < member_count members }
-    ensures { IsNewSeat id members result }
+    ensures { IsNewSeat id (member_count members) result }
 {
     let records = PlainRecords::new(alloc);
     Seat::new(SchedNode::new(alloc, id, members, records))
