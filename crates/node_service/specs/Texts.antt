@@ -3,6 +3,8 @@ use Rattle.std.specs.Prelude.{ℕ, List, [], ◌∷◌, ◌++◌, codes, decimal
 use Rattle.std.specs.List.{flat_map}
 use Rattle.ballots.specs.Members.{member_count}
 use Rattle.ballots.specs.declared.members.Members.{Members}
+use Rattle.letter_bytes.specs.declared.fault.LetterFault.{LetterFault}
+use Rattle.letter_bytes.specs.declared.fault.LetterFault.TheVariants as bytes
 use Rattle.map_release.specs.declared.numbered.Numbered.{Numbered}
 use Rattle.node_lines.specs.Lines.{fault_number, letter_lines}
 use Rattle.node_lines.specs.declared.fault.LineFault.{LineFault}
@@ -15,6 +17,15 @@ use Rattle.seats.specs.declared.answer.Answer.{Answer}
 use Rattle.node_service.specs.declared.outgoing.Reply.{Reply}
 use Rattle.node_service.specs.declared.outgoing.Reply.TheVariants.{Fresh, Acted, Refused}
 
+-- the name of what is wrong with a letter's bytes
+abbrev pub letter_fault_name : LetterFault → List ℕ
+letter_fault_name bytes.Short = codes "Short"
+letter_fault_name bytes.NoNote = codes "NoNote"
+letter_fault_name bytes.NoNode = codes "NoNode"
+letter_fault_name bytes.NoBallot = codes "NoBallot"
+letter_fault_name bytes.Trailing = codes "Trailing"
+letter_fault_name bytes.OutOfMemory = codes "OutOfMemory"
+
 -- the name of why a line asks nothing
 abbrev pub line_fault_name : LineFault → List ℕ
 line_fault_name fault.NoLine = codes "NoLine"
@@ -24,9 +35,16 @@ line_fault_name (fault.NoLetter why) = codes "NoLetter"
 line_fault_name fault.OutOfMemory = codes "OutOfMemory"
 line_fault_name fault.TooLong = codes "TooLong"
 
--- the line that tells why a line asks nothing
+-- the line that tells why a line asks nothing; that of a letter tells what is wrong with its bytes
+abbrev pub no_letter_text : LetterFault → List ℕ
+no_letter_text why = codes "error " ++ (decimal (fault_number (fault.NoLetter why)) ++ (codes " NoLetter " ++ (letter_fault_name why ++ 10 ∷ [])))
+
+abbrev pub fault_text : LineFault → List ℕ
+fault_text why = codes "error " ++ (decimal (fault_number why) ++ (codes " " ++ (line_fault_name why ++ 10 ∷ [])))
+
 abbrev pub refused_text : LineFault → List ℕ
-refused_text why = codes "error " ++ (decimal (fault_number why) ++ (codes " " ++ (line_fault_name why ++ 10 ∷ [])))
+refused_text (fault.NoLetter why) = no_letter_text why
+refused_text other = fault_text other
 
 -- the first line of a reply
 abbrev pub head_text : Answer → List ℕ

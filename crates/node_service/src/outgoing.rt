@@ -4,9 +4,11 @@ ghost use Rattle.std.specs.Prelude.{◌≡◌, ℕ, List, Option, [], IfErr, OnO
 ghost use Rattle.std.specs.Io.KnownBytes.{Appends};
 ghost use Rattle.node_lines.specs.declared.writing.Unwritten.{Unwritten as Why};
 ghost use Rattle.node_service.specs.declared.outgoing.Reply.{Reply as Replied};
-ghost use Rattle.node_service.specs.Texts.{acted_text, fresh_text, given_text, head_text, line_fault_name, place_line, place_lines, refused_text, reply_text};
+ghost use Rattle.node_service.specs.Texts.{acted_text, fresh_text, given_text, head_text, place_line, place_lines, reply_text};
+ghost use Rattle.node_service.specs.Texts.{fault_text, letter_fault_name, line_fault_name, no_letter_text, refused_text};
 
 use ballots::{Members, NodeId};
+use letter_bytes::LetterFault;
 use map_release::Numbered;
 use node_lines::{LineFault, Unwritten, write_letters};
 use printed_answers::answer_text;
@@ -38,6 +40,20 @@ pub trait Output {
     fn write_reply(&mut self, alloc: Global, reply: &Reply) -> Result<(), Unwritten>
         ensures written { OnOk result (Appends (bytes_held self.old) (bytes_held self.new) (reply_text reply.now)) }
         ensures fails { IfErr result (λ why. fails self.old reply.now why self.new) };
+}
+
+/// The name of what is wrong with a letter's bytes.
+fn letter_fault_name(fault: LetterFault) -> &'static str
+    ensures { result.now ≡ letter_fault_name fault }
+{
+    match fault {
+        LetterFault::Short => "Short",
+        LetterFault::NoNote => "NoNote",
+        LetterFault::NoNode => "NoNode",
+        LetterFault::NoBallot => "NoBallot",
+        LetterFault::Trailing => "Trailing",
+        LetterFault::OutOfMemory => "OutOfMemory",
+    }
 }
 
 /// The name of a line's fault.
@@ -105,11 +121,28 @@ fn write_acted<W: Write>(alloc: Global, acted: &Acted, output: &mut W) -> Result
     write_given(alloc, acted, output)
 }
 
-fn write_refused<W: Write>(why: LineFault, output: &mut W) -> Result<(), Unwritten>
-    ensures { OnOk result (Appends (W.contents output.old) (W.contents output.new) (refused_text why)) }
+fn write_no_letter<W: Write>(why: LetterFault, output: &mut W) -> Result<(), Unwritten>
+    ensures { OnOk result (Appends (W.contents output.old) (W.contents output.new) (no_letter_text why)) }
+{
+    let number = LineFault::NoLetter(why).number();
+    writeln!(output, "error {number} NoLetter {}", letter_fault_name(why))?;
+    Ok(())
+}
+
+fn write_fault<W: Write>(why: LineFault, output: &mut W) -> Result<(), Unwritten>
+    ensures { OnOk result (Appends (W.contents output.old) (W.contents output.new) (fault_text why)) }
 {
     writeln!(output, "error {} {}", why.number(), line_fault_name(why))?;
     Ok(())
+}
+
+fn write_refused<W: Write>(why: LineFault, output: &mut W) -> Result<(), Unwritten>
+    ensures { OnOk result (Appends (W.contents output.old) (W.contents output.new) (refused_text why)) }
+{
+    match why {
+        LineFault::NoLetter(of_bytes) => write_no_letter(of_bytes, output),
+        _ => write_fault(why, output),
+    }
 }
 
 fn write_fresh<W: Write>(id: NodeId, members: Members, output: &mut W) -> Result<(), Unwritten>
