@@ -157,6 +157,12 @@ builds upsched calls 'threads' 0 'audit yes' '' live ../above.toml --turns=200
 builds upsched calls 'a store with a space' 0 '0 sent 3' '' run script.toml --store 'st ore'
 builds upsched calls 'the store again' 1 '' 'upsched: store not fresh' run script.toml --store='st ore'
 builds upsched calls 'no such store' 1 '' 'upsched: store' run script.toml --store nowhere
+if [ "${1-}" = unproved ]; then
+    builds_nothing calls 'a node' 6 '' 'upsched: node: a build without proof *' node 0 --members 3
+else
+    calls 'a node' 0 'node 0 of 3 fresh' '' node 0 --members 3 </dev/null
+    calls 'no member' 2 '' 'error: *' node 3 --members 3 </dev/null
+fi
 launcher=../link calls 'by a link' 0 "$grant" '' maps 'with space.toml'
 
 # halves FILE: its text, with five seconds between its halves.

@@ -55,7 +55,7 @@ fn read_as(alloc: Global, words: &[&str]) -> Result<String, Fail> {
     }
 }
 
-const WORDS: [(&[&str], &str); 25] = [
+const WORDS: [(&[&str], &str); 30] = [
     (
         &["maps", "a plan.toml"],
         "Maps(MapsWords { plan: \"a plan.toml\" })",
@@ -93,6 +93,14 @@ const WORDS: [(&[&str], &str); 25] = [
         &["live", "plan.toml", "--turns=1000000"],
         "Live(LiveWords { plan: \"plan.toml\", turns: 1000000, verbose: false })",
     ),
+    (
+        &["node", "0", "--members", "3"],
+        "Node(NodeWords { number: \"0\", members: \"3\" })",
+    ),
+    (
+        &["node", "--members=5", "4"],
+        "Node(NodeWords { number: \"4\", members: \"5\" })",
+    ),
     (&[], "NotUnderstood"),
     (&["maps"], "NotUnderstood"),
     (&["show"], "NotUnderstood"),
@@ -108,7 +116,10 @@ const WORDS: [(&[&str], &str); 25] = [
         &["live", "plan.toml", "--turns", "1000001"],
         "NotUnderstood",
     ),
+    (&["node", "0"], "NotUnderstood"),
+    (&["node", "--members", "3"], "NotUnderstood"),
     (&["--help"], "Done"),
+    (&["node", "--help"], "Done"),
     (&["run", "--help"], "Done"),
     (&["--version"], "Done"),
 ];

@@ -9,7 +9,7 @@ use upsched_store_parts::run;
 fn main(rt: HostRuntime) -> ExitCode {
     let mut errors = rt.stderr();
     let status = match BufWriter::new(rt.alloc(), rt.stdout()) {
-        Ok(mut output) => run(&rt, &rt, &mut output, &mut errors),
+        Ok(mut output) => run(&rt, &rt, rt.stdin(), &mut output, &mut errors),
         Err(_) => Fault::Memory.told(&mut errors),
     };
     ExitCode::from(status.code())

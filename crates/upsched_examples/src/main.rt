@@ -30,7 +30,7 @@ struct Folder {
     ending: &'static str,
 }
 
-const FOLDERS: [Folder; 8] = [
+const FOLDERS: [Folder; 9] = [
     Folder {
         path: "plans",
         command: "maps",
@@ -45,6 +45,11 @@ const FOLDERS: [Folder; 8] = [
         path: "bodies",
         command: "show",
         ending: ".hex",
+    },
+    Folder {
+        path: "nodes",
+        command: "node",
+        ending: ".lines",
     },
     Folder {
         path: "faults/plans",
@@ -165,22 +170,21 @@ struct Host<'a, T> {
 }
 
 impl<T: Threads + Wait + Clock + Sync + AllocGlobal> Host<'_, T> {
-    /// What the program does with an example, and with more words behind its path.
-    fn run_of(&self, command: &str, path: &str, more: &[&str]) -> io::Result<Run> {
+    /// What the program does with these words and this standard input.
+    fn run_given<I: Read + Drop>(&self, words: &[&str], input: I) -> io::Result<Run> {
         let alloc = self.rt.alloc();
-        let mut words = Vec::new(alloc);
-        words.push(String::from_str(alloc, "upsched")?)?;
-        words.push(String::from_str(alloc, command)?)?;
-        words.push(last_word(self.rt, command, path)?)?;
-        for word in more {
-            words.push(String::from_str(alloc, word)?)?;
+        let mut given = Vec::new(alloc);
+        given.push(String::from_str(alloc, "upsched")?)?;
+        for word in words {
+            given.push(String::from_str(alloc, word)?)?;
         }
         let mut output = Vec::new(alloc);
         let mut errors = Vec::new(alloc);
         let status = run_words(
             self.rt,
             self.threads,
-            words.as_slice(),
+            given.as_slice(),
+            input,
             &mut output,
             &mut errors,
         );
@@ -189,6 +193,23 @@ impl<T: Threads + Wait + Clock + Sync + AllocGlobal> Host<'_, T> {
             output,
             errors,
         })
+    }
+
+    /// What the program does with an example, and with more words behind its path. Lines of a node are its standard
+    /// input.
+    fn run_of(&self, command: &str, path: &str, more: &[&str]) -> io::Result<Run> {
+        if command == "node" {
+            let lines = fs::open(self.rt, path)?;
+            return self.run_given(["node", "0", "--members", "3"].as_slice(), lines);
+        }
+        let last = last_word(self.rt, command, path)?;
+        let mut words = Vec::new(self.rt.alloc());
+        words.push(command)?;
+        words.push(last.as_str())?;
+        for word in more {
+            words.push(*word)?;
+        }
+        self.run_given(words.as_slice(), b"".as_slice())
     }
 
     /// Whether the example of this path without its ending prints what stands beside it, with these words behind its

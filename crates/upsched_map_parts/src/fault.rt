@@ -28,6 +28,9 @@ pub enum Fault<'a> {
     /// The folder or a file of a node's records can't be used.
     #[error("store")]
     Store,
+    /// The node of a process crashed.
+    #[error("crashed")]
+    Crashed,
     #[error("memory")]
     Memory,
     #[error("output")]

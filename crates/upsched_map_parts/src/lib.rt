@@ -17,4 +17,4 @@ pub use plan::{PlanFault, read_plan};
 pub use plan_run::{maps, plan_of};
 pub use status::Status;
 pub use text::text_of;
-pub use words::{LiveWords, MapsWords, RunWords, ShowWords};
+pub use words::{LiveWords, MapsWords, NodeWords, RunWords, ShowWords};

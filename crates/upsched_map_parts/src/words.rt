@@ -35,3 +35,12 @@ pub struct LiveWords<'a> {
     /// Whether what each node did is counted in the log too.
     pub verbose: bool,
 }
+
+/// What `node` is told.
+#[derive(Clone, Copy, Debug)]
+pub struct NodeWords<'a> {
+    /// The node's number.
+    pub number: &'a str,
+    /// How many members there are.
+    pub members: &'a str,
+}

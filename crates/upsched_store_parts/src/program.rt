@@ -2,14 +2,16 @@
 
 use crate::stored_run::run_stored_script;
 use log::Log;
-use std::io::{ErrorKind, Write};
+use std::alloc::Global;
+use std::io::{BufReader, ErrorKind, Read, Write};
 use std::rt::{Env, Files};
 use std::sync::Wait;
 use std::thread::Threads;
 use std::time::Clock;
 use std::{env, fs};
 use upsched_live_parts::live;
-use upsched_map_parts::{Fault, LiveWords, MapsWords, RunWords, Status, maps, show};
+use upsched_map_parts::{Fault, LiveWords, MapsWords, NodeWords, RunWords, Status, maps, show};
+use upsched_node_parts::node;
 use upsched_parts::run_script;
 use upsched_words::{Words, read_words, refused};
 
@@ -56,6 +58,20 @@ fn run_live<R: Files + Log, T: Threads + Wait + Clock + Sync + AllocGlobal, O: W
     }
 }
 
+/// Reads lines from the input and ends as `node` does.
+fn run_node<I: Read + Drop, O: Write, E: Write>(
+    alloc: Global,
+    words: &NodeWords<'_>,
+    input: I,
+    output: &mut O,
+    errors: &mut E,
+) -> Status {
+    match BufReader::new(alloc, input) {
+        Ok(mut input) => node(alloc, words, &mut input, output, errors),
+        Err(_) => Fault::Memory.told(errors),
+    }
+}
+
 /// The words of the command line, or how the program ends without them.
 fn given_words<R: Env + AllocGlobal, E: Write>(
     rt: &R,
@@ -76,10 +92,16 @@ fn given_words<R: Env + AllocGlobal, E: Write>(
 
 /// Reads the words, the program's own name first, and ends as the command does that they name. Threads are made, and
 /// waited for, by `threads`.
-pub fn run_words<T: Threads + Wait + Clock + Sync + AllocGlobal, O: Write, E: Write>(
+pub fn run_words<
+    T: Threads + Wait + Clock + Sync + AllocGlobal,
+    I: Read + Drop,
+    O: Write,
+    E: Write,
+>(
     rt: &HostRuntime,
     threads: &T,
     given: &[String],
+    input: I,
     output: &mut O,
     errors: &mut E,
 ) -> Status {
@@ -88,19 +110,21 @@ pub fn run_words<T: Threads + Wait + Clock + Sync + AllocGlobal, O: Write, E: Wr
         Ok(Words::Run(words)) => run_run(rt, &words, output, errors),
         Ok(Words::Show(words)) => show(rt.alloc(), &words, output, errors),
         Ok(Words::Live(words)) => run_live(rt, threads, &words, output, errors),
+        Ok(Words::Node(words)) => run_node(rt.alloc(), &words, input, output, errors),
         Err(error) => refused(&error, output, errors),
     }
 }
 
 /// Ends as the words of the command line say. Threads are made, and waited for, by `threads`.
-pub fn run<T: Threads + Wait + Clock + Sync + AllocGlobal, O: Write, E: Write>(
+pub fn run<T: Threads + Wait + Clock + Sync + AllocGlobal, I: Read + Drop, O: Write, E: Write>(
     rt: &HostRuntime,
     threads: &T,
+    input: I,
     output: &mut O,
     errors: &mut E,
 ) -> Status {
     match given_words(rt, errors) {
-        Ok(given) => run_words(rt, threads, given.as_slice(), output, errors),
+        Ok(given) => run_words(rt, threads, given.as_slice(), input, output, errors),
         Err(status) => status,
     }
 }

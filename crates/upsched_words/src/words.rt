@@ -8,7 +8,7 @@ use clap::error::ErrorKind;
 use clap::{Arg, ArgAction, ArgMatches, Command, Error, value_parser};
 use std::alloc::Global;
 use std::io::Write;
-use upsched_map_parts::{Fault, LiveWords, MapsWords, RunWords, ShowWords, Status};
+use upsched_map_parts::{Fault, LiveWords, MapsWords, NodeWords, RunWords, ShowWords, Status};
 
 /// A command of the program.
 #[derive(Clone, Copy, Debug)]
@@ -21,6 +21,8 @@ pub enum Words<'a> {
     Show(ShowWords<'a>),
     /// Works on a plan with a thread for each node, and prints whether the records agree.
     Live(LiveWords<'a>),
+    /// Is one node over lines.
+    Node(NodeWords<'a>),
 }
 
 /// The version that `--version` tells.
@@ -105,6 +107,24 @@ fn live_command<'a>(alloc: Global) -> Result<Command<'a>, Error> {
     Ok(live)
 }
 
+fn node_command<'a>(alloc: Global) -> Result<Command<'a>, Error> {
+    let number = Arg::new(alloc, "K")
+        .required(true)
+        .help("The node's number, from 0 on and below M");
+    let members = Arg::new(alloc, "members")
+        .long("members")
+        .value_name("M")
+        .required(true)
+        .help("How many nodes there are, 3 or 5");
+    let node = Command::new(alloc, "node")
+        .about(
+            "Is one node, with records in memory, that reads lines on standard input and replies to each",
+        )
+        .arg(number)?
+        .arg(members)?;
+    Ok(node)
+}
+
 fn program<'a>(alloc: Global) -> Result<Command<'a>, Error> {
     let program = Command::new(alloc, "upsched")
         .version(VERSION)
@@ -114,8 +134,28 @@ fn program<'a>(alloc: Global) -> Result<Command<'a>, Error> {
         .subcommand(maps_command(alloc)?)?
         .subcommand(run_command(alloc)?)?
         .subcommand(show_command(alloc)?)?
-        .subcommand(live_command(alloc)?)?;
+        .subcommand(live_command(alloc)?)?
+        .subcommand(node_command(alloc)?)?;
     Ok(program)
+}
+
+/// What `run` is told.
+fn run_words<'a>(words: &ArgMatches<'a>) -> Option<RunWords<'a>> {
+    let script = words.get_str("SCRIPT")?;
+    let verbose = words.get_flag("verbose");
+    let store = words.get_str("store");
+    Some(RunWords {
+        script,
+        verbose,
+        store,
+    })
+}
+
+/// What `node` is told.
+fn node_words<'a>(words: &ArgMatches<'a>) -> Option<NodeWords<'a>> {
+    let number = words.get_str("K")?;
+    let members = words.get_str("members")?;
+    Some(NodeWords { number, members })
 }
 
 /// What `live` is told.
@@ -139,22 +179,12 @@ pub fn read_words<'a>(alloc: Global, words: &'a [String]) -> Result<Words<'a>, E
         Some(("maps", words)) => words
             .get_str("PLAN")
             .map(|plan| Words::Maps(MapsWords { plan })),
-        Some(("run", words)) => {
-            let verbose = words.get_flag("verbose");
-            let store = words.get_str("store");
-            match words.get_str("SCRIPT") {
-                Some(script) => Some(Words::Run(RunWords {
-                    script,
-                    verbose,
-                    store,
-                })),
-                None => None,
-            }
-        }
+        Some(("run", words)) => run_words(words).map(|words| Words::Run(words)),
         Some(("show", words)) => words
             .get_str("HEX")
             .map(|hex| Words::Show(ShowWords { hex })),
         Some(("live", words)) => live_words(words).map(|words| Words::Live(words)),
+        Some(("node", words)) => node_words(words).map(|words| Words::Node(words)),
         _ => None,
     };
     match command {

@@ -1,0 +1,4 @@
+pub mod Incoming
+pub mod Texts
+pub mod Serving
+pub mod Seated
