@@ -1,0 +1,5 @@
+pub mod Kinds
+pub mod Rows
+pub mod Fits
+pub mod Items
+pub mod Faults

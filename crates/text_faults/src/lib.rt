@@ -1,0 +1,12 @@
+//! What is wrong with a plan or a script, table by table and key by key.
+#![tactic(auto)]
+
+mod fault;
+mod kind;
+mod row;
+mod search;
+mod wants;
+
+pub use fault::{Fault, Found, Place};
+pub use kind::{Group, Kind};
+pub use row::{Key, Wants};
