@@ -1,12 +1,9 @@
 -- The items of the array under a key.
 use Rattle.std.specs.Prelude.{ℕ, List, [], ◌∷◌, Option, Some, None}
-use Rattle.toml.specs.Data.{Data, Items, no_items, item, get, as_array}
+use Rattle.toml.specs.Data.{Data, Items, get, as_array}
+use Rattle.script_text.specs.Items.{list_of}
 
--- the items of an array as a list
-abbrev pub list_of : Items → List Data
-list_of no_items = []
-list_of (item d ds) = d ∷ list_of ds
-
+-- the items of an array, none where there is none
 abbrev pub listed : Option Items → List Data
 listed None = []
 listed (Some ds) = list_of ds

@@ -3,3 +3,4 @@ pub mod Rows
 pub mod Fits
 pub mod Items
 pub mod Faults
+pub mod Texts

@@ -36,6 +36,18 @@ pub enum Found {
     Table,
 }
 
+impl Found {
+    ghost use Rattle.std.specs.Prelude.{◌≡◌};
+    ghost use Rattle.text_faults.specs.Texts.{is_nothing};
+
+    /// Whether nothing is there.
+    pub fn is_nothing(self) -> bool
+        ensures { result ≡ is_nothing self }
+    {
+        matches!(self, Found::Nothing)
+    }
+}
+
 /// A key that holds something else than is wanted there.
 #[derive(Clone, Copy, Debug, PartialEq, Eq)]
 pub struct Fault {

@@ -5,8 +5,11 @@ mod fault;
 mod kind;
 mod row;
 mod search;
+mod texts;
 mod wants;
 
 pub use fault::{Fault, Found, Place};
 pub use kind::{Group, Kind};
 pub use row::{Key, Wants};
+pub use search::{plan_faults, script_faults};
+pub use texts::fault_text;

@@ -181,3 +181,68 @@ fn note_id(faults: &mut Vec<Fault>, index: usize, item: &Value) -> Result<(), Al
     })?;
     Ok(())
 }
+
+/// The items of the array under a key, none where there is no array.
+fn items_at<'a>(table: &'a Value, key: &str) -> &'a [Value]
+    ensures { map view result.now ≡ items_at (view table.now) key.now }
+{
+    match table.get(key) {
+        Some(value) => match value.as_array() {
+            Some(items) => items.as_slice(),
+            None => &[],
+        },
+        None => &[],
+    }
+}
+
+fn note_commands(faults: &mut Vec<Fault>, items: &[Value]) -> Result<(), AllocError>
+    ensures { OnOk result (faults.new.items ≡ faults.old.items ++ numbered command_faults 1 (map view items.now)) }
+{
+    for (i, item) in items.iter().enumerate() {
+        note_table(faults, Place::Command(i + 1), Kind::Command, item)?;
+    }
+    Ok(())
+}
+
+fn note_ids(faults: &mut Vec<Fault>, items: &[Value]) -> Result<(), AllocError>
+    ensures { OnOk result (faults.new.items ≡ faults.old.items ++ numbered id_faults 0 (map view items.now)) }
+{
+    for (i, item) in items.iter().enumerate() {
+        note_id(faults, i, item)?;
+    }
+    Ok(())
+}
+
+fn note_events(
+    alloc: Global,
+    faults: &mut Vec<Fault>,
+    items: &[Value],
+) -> Result<(), AllocError>
+    ensures { OnOk result (faults.new.items ≡ faults.old.items ++ numbered event_faults 0 (map view items.now)) }
+{
+    for (i, item) in items.iter().enumerate() {
+        note_event(alloc, faults, i, item)?;
+    }
+    Ok(())
+}
+
+/// The faults of a plan, each command's in its place.
+pub fn plan_faults(alloc: Global, plan: &Value) -> Result<Vec<Fault>, AllocError>
+    ensures { IfOk result (λ faults. faults.items ≡ plan_faults (view plan.now)) }
+{
+    let mut faults = Vec::new(alloc);
+    note_keys(&mut faults, Place::Whole, Kind::Plan, Kind::Plan, plan)?;
+    note_commands(&mut faults, items_at(plan, "command"))?;
+    Ok(faults)
+}
+
+/// The faults of a script: of its members, its modems and its events.
+pub fn script_faults(alloc: Global, script: &Value) -> Result<Vec<Fault>, AllocError>
+    ensures { IfOk result (λ faults. faults.items ≡ script_faults (view script.now)) }
+{
+    let mut faults = Vec::new(alloc);
+    note_keys(&mut faults, Place::Whole, Kind::Script, Kind::Script, script)?;
+    note_ids(&mut faults, items_at(script, "modems"))?;
+    note_events(alloc, &mut faults, items_at(script, "event"))?;
+    Ok(faults)
+}

@@ -3,6 +3,7 @@
 ghost use Rattle.std.specs.Prelude.{◌≡◌};
 ghost use Rattle.toml.specs.View.{view};
 ghost use Rattle.toml.specs.Data.{at};
+ghost use Rattle.text_faults.specs.Texts.{is_text, is_array};
 ghost use Rattle.text_faults.specs.Fits.{is_number, is_item, is_pair, is_name, is_count, holds, may_lack};
 
 use crate::kind::Group;
@@ -80,5 +81,19 @@ impl Wants {
             Wants::NumberOrNothing(_) | Wants::NameOrNothing(_) | Wants::Tables | Wants::Ids | Wants::Nothing => true,
             Wants::Number(_) | Wants::Bytes | Wants::Name(_) | Wants::Members | Wants::Hex => false,
         }
+    }
+
+    /// Whether some text is wanted.
+    pub(crate) fn is_text(self) -> bool
+        ensures { result ≡ is_text self }
+    {
+        matches!(self, Wants::Name(_) | Wants::NameOrNothing(_) | Wants::Hex)
+    }
+
+    /// Whether some array of numbers is wanted.
+    pub(crate) fn is_array(self) -> bool
+        ensures { result ≡ is_array self }
+    {
+        matches!(self, Wants::Bytes)
     }
 }
