@@ -1,2 +1,4 @@
 mod Noted
 mod Numbered
+mod Keys
+mod Spelled
