@@ -49,11 +49,11 @@ of_none h (x ∷ xs) e = rw (e.0) (of_none h xs e.1)
 -- ---- one key
 
 -- a test that lets nothing through has said yes
-if_none : {X : Type 0} (b : Bool) (x : X) → (if b then None else Some x) ≡ None → b ≡ true
+pub if_none : {X : Type 0} (b : Bool) (x : X) → (if b then None else Some x) ≡ None → b ≡ true
 if_none true x h = refl
 if_none false x h = absurd (cc)
 
-whole_number : (most : ℕ) (d : Data) → is_number most d ≡ true → (n : ℕ) × (d ≡ integer (pos n)) × (n ≤ most)
+pub whole_number : (most : ℕ) (d : Data) → is_number most d ≡ true → (n : ℕ) × (d ≡ integer (pos n)) × (n ≤ most)
 whole_number most (integer (pos n)) h = (n, refl, leb-true n most h)
 whole_number most (integer (negsuc n)) h = absurd (cc)
 whole_number most (string s) h = absurd (cc)

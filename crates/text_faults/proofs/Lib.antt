@@ -2,3 +2,5 @@ mod Noted
 mod Numbered
 mod Keys
 mod Spelled
+mod Meant
+mod Whole

@@ -158,7 +158,7 @@ no_service_fault place d (services.Poll interval jitter base) (text, b, e, f) =
     let h3 = no_number_fault place kinds.Flow keys.Base d 18446744073709551615 64 base refl f in
     (rw text refl, rw text (of_none (fault_at place kinds.Flow d) (rows_of kinds.Poll) (h1, (h2, (h3, tt)))))
 
-no_more : {X : Type 0} (xs : List X) → xs ≡ [] → xs ++ [] ≡ []
+pub no_more : {X : Type 0} (xs : List X) → xs ≡ [] → xs ++ [] ≡ []
 no_more xs h = rw h refl
 
 -- the faults of a table that spells a command: none

@@ -1,7 +1,13 @@
 -- The faults of a table: each key that holds something else than is wanted there, in the order of its kind's rows.
-use Rattle.std.specs.Prelude.{◌≡◌, ℕ, ◌+◌, Bool, true, false, if◌then◌else◌, List, [], ◌∷◌, ◌++◌, Option, Some, None, is_ok, codes, filter_map}
+use Rattle.std.specs.Prelude.{◌≡◌, ◌↔◌, ℕ, ◌+◌, Bool, true, false, if◌then◌else◌, List, [], ◌∷◌, ◌++◌, Option, Some, None, is_ok, codes, filter_map}
 use Rattle.hex.specs.Hex.{decode_of}
-use Rattle.toml.specs.Data.{Data, string, integer, float, boolean, datetime, array, table, get, as_str, as_array}
+use Rattle.toml.specs.Data.{Data, string, integer, float, boolean, datetime, array, table, Members, get, as_str}
+use Rattle.ballots.specs.declared.members.Members.{Members as NodeCount}
+use Rattle.grant_machine.specs.declared.command.Command.{Command}
+use Rattle.world_events.specs.declared.event.Event.{Event}
+use Rattle.script_text.specs.CommandTable.{SpellsCommand}
+use Rattle.script_text.specs.Items.{items_at as members_items, AllMean}
+use Rattle.script_text.specs.Script.{IsScriptTable}
 use Rattle.text_faults.specs.declared.kind.Kind.{Kind}
 use Rattle.text_faults.specs.declared.kind.Kind.TheVariants as kinds
 use Rattle.text_faults.specs.declared.kind.Group.{Group}
@@ -133,3 +139,14 @@ abbrev pub script_faults : Data → List Fault
 script_faults d =
     key_faults places.Whole kinds.Script kinds.Script d ++ numbered id_faults 0 (items_at d (codes "modems"))
     ++ numbered event_faults 0 (items_at d (codes "event"))
+
+-- the table is that of a plan, and of a script, as they are read
+abbrev pub IsPlanTable : Members → Type 0
+IsPlanTable ms = (cs : List Command) × AllMean SpellsCommand (members_items ms (codes "command")) cs
+
+abbrev pub IsScript : Members → Type 0
+IsScript ms = (count : NodeCount) × (ids : List ℕ) × (events : List Event) × IsScriptTable ms count ids events
+
+-- the faults are none exactly where a table is read
+abbrev pub TellsWhether : (Members → Type 0) → Data → List Fault → Type 0
+TellsWhether IsRead d faults = (ms : Members) → d ≡ table ms → ((faults ≡ []) ↔ IsRead ms)

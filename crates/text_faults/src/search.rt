@@ -6,7 +6,7 @@ ghost use Rattle.toml.specs.View.{view};
 ghost use Rattle.text_faults.specs.Rows.{key_name};
 ghost use Rattle.text_faults.specs.Items.{items_at};
 ghost use Rattle.text_faults.specs.declared.kind.Kind.TheVariants as kinds;
-ghost use Rattle.text_faults.specs.Faults.{fault_at, key_faults, chosen, kind_faults, table_faults, is_hex, is_offer, value_fault, offered_faults, command_faults, event_faults, id_faults, numbered, plan_faults, script_faults};
+ghost use Rattle.text_faults.specs.Faults.{fault_at, key_faults, chosen, kind_faults, table_faults, is_hex, is_offer, value_fault, offered_faults, command_faults, event_faults, id_faults, numbered, plan_faults, script_faults, IsPlanTable, IsScript, TellsWhether};
 
 use crate::fault::{Fault, Found, Place, found_in};
 use crate::kind::Kind;
@@ -228,7 +228,8 @@ fn note_events(
 
 /// The faults of a plan, each command's in its place.
 pub fn plan_faults(alloc: Global, plan: &Value) -> Result<Vec<Fault>, AllocError>
-    ensures { IfOk result (λ faults. faults.items ≡ plan_faults (view plan.now)) }
+    ensures exact { IfOk result (λ faults. faults.items ≡ plan_faults (view plan.now)) }
+    ensures none { IfOk result (λ faults. TellsWhether IsPlanTable (view plan.now) faults.items) }
 {
     let mut faults = Vec::new(alloc);
     note_keys(&mut faults, Place::Whole, Kind::Plan, Kind::Plan, plan)?;
@@ -238,7 +239,8 @@ pub fn plan_faults(alloc: Global, plan: &Value) -> Result<Vec<Fault>, AllocError
 
 /// The faults of a script: of its members, its modems and its events.
 pub fn script_faults(alloc: Global, script: &Value) -> Result<Vec<Fault>, AllocError>
-    ensures { IfOk result (λ faults. faults.items ≡ script_faults (view script.now)) }
+    ensures exact { IfOk result (λ faults. faults.items ≡ script_faults (view script.now)) }
+    ensures none { IfOk result (λ faults. TellsWhether IsScript (view script.now) faults.items) }
 {
     let mut faults = Vec::new(alloc);
     note_keys(&mut faults, Place::Whole, Kind::Script, Kind::Script, script)?;
