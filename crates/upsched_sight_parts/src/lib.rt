@@ -5,5 +5,5 @@ mod check;
 mod form;
 mod place;
 
-pub use check::{check, report};
+
 pub use form::{CheckWords, Form};
