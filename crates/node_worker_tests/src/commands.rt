@@ -55,7 +55,7 @@ fn read_as(alloc: Global, words: &[&str]) -> Result<String, Fail> {
     }
 }
 
-const WORDS: [(&[&str], &str); 25] = [
+const WORDS: [(&[&str], &str); 29] = [
     (
         &["maps", "a plan.toml"],
         "Maps(MapsWords { plan: \"a plan.toml\" })",
@@ -93,6 +93,19 @@ const WORDS: [(&[&str], &str); 25] = [
         &["live", "plan.toml", "--turns=1000000"],
         "Live(LiveWords { plan: \"plan.toml\", turns: 1000000, verbose: false })",
     ),
+    (
+        &["check", "a plan.toml"],
+        "Check(CheckWords { path: \"a plan.toml\", form: None })",
+    ),
+    (
+        &["check", "--plan", "plan.toml"],
+        "Check(CheckWords { path: \"plan.toml\", form: Some(Plan) })",
+    ),
+    (
+        &["check", "script.toml", "--script"],
+        "Check(CheckWords { path: \"script.toml\", form: Some(Script) })",
+    ),
+    (&["check", "a.toml", "--plan", "--script"], "NotUnderstood"),
     (&[], "NotUnderstood"),
     (&["maps"], "NotUnderstood"),
     (&["show"], "NotUnderstood"),
