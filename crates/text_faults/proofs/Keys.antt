@@ -1,5 +1,5 @@
 -- What a key holds where it has no fault, and the other way round.
-use Rattle.std.proofs.Common.{◌≡◌, ℕ, suc, ◌^◌, ◌<◌, ◌≤◌, ◌⊎◌, inl, inr, Bool, true, false, cond, if◌then◌else◌, ◌&&◌, is_some, is_none, List, [], ◌∷◌, ◌++◌, Option, Some, None, ℤ, pos, negsuc, nat_le, bytes_eq, find, filter_map, codes, refl, sym, ap, ◌∙◌, arith}
+use Rattle.std.proofs.Common.{◌≡◌, ℕ, suc, ◌^◌, ◌<◌, ◌≤◌, ◌⊎◌, inl, inr, Bool, true, false, cond, if◌then◌else◌, ◌&&◌, is_some, is_none, List, [], ◌∷◌, ◌++◌, Option, Some, None, pos, negsuc, bytes_eq, find, filter_map, codes, refl, sym, ap, ◌∙◌, arith}
 use Rattle.std.specs.List.{cons_option}
 use Rattle.std.proofs.lemmas.Bool.{leb-true, le-leb}
 use Rattle.std.proofs.lemmas.Slice.Eq.{bytes_eq-Decides}
@@ -14,7 +14,6 @@ use Rattle.text_faults.specs.declared.kind.Group.{Group}
 use Rattle.text_faults.specs.declared.kind.Group.TheVariants.{Phys}
 use Rattle.text_faults.specs.declared.row.Key.{Key}
 use Rattle.text_faults.specs.declared.row.Key.TheVariants as keys
-use Rattle.text_faults.specs.declared.row.Wants.{Wants}
 use Rattle.text_faults.specs.declared.row.Wants.TheVariants as wants
 use Rattle.text_faults.specs.declared.fault.Place.{Place}
 use Rattle.text_faults.specs.Kinds.{kind_name, kinds_of, named}
@@ -156,6 +155,7 @@ phy place kind d h = held_phy (get (codes "phy") d) refl h
     of_name : (x : Data) → get (codes "phy") d ≡ Some x → (x ≡ string (codes "tdma")) ⊎ (x ≡ string (codes "advanced")) → (p : Phy) × HasPhy d p
     of_name x is (inl tdma) = (Tdma, inl (is ∙ ap Some tdma))
     of_name x is (inr advanced) = (Advanced, is ∙ ap Some advanced)
+
     held_phy : (o : Option Data) → get (codes "phy") d ≡ o → fault_of place kind keys.Phy (wants.NameOrNothing Phys) o ≡ None → (p : Phy) × HasPhy d p
     held_phy None is h = (Tdma, inr is)
     held_phy (Some x) is h = of_name x is (phy_of x (if_none (is_name Phys x) _ h))

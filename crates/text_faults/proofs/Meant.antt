@@ -1,5 +1,5 @@
 -- A table without a fault means an event, and one that means an event has no fault.
-use Rattle.std.proofs.Common.{◌≡◌, ℕ, ◌⊎◌, inl, inr, Bool, true, false, if◌then◌else◌, is_ok, List, [], ◌∷◌, ◌++◌, Option, Some, None, Result, Ok, Err, codes, refl, sym, ap, ◌∙◌, subst}
+use Rattle.std.proofs.Common.{◌≡◌, ℕ, inl, inr, Bool, true, false, if◌then◌else◌, is_ok, List, [], ◌∷◌, Option, Some, None, Result, Ok, Err, codes, refl, sym, subst}
 use Rattle.hex.specs.Hex.{decode_of}
 use Rattle.toml.specs.Data.{Data, string, integer, float, boolean, datetime, array, table, get}
 use Rattle.command_log.specs.Spelling.{spelling}
@@ -12,7 +12,6 @@ use Rattle.text_faults.specs.declared.kind.Kind.TheVariants as kinds
 use Rattle.text_faults.specs.declared.kind.Group.TheVariants.{Events}
 use Rattle.text_faults.specs.declared.row.Key.TheVariants as keys
 use Rattle.text_faults.specs.declared.fault.Fault.{Fault}
-use Rattle.text_faults.specs.declared.fault.Place.{Place}
 use Rattle.text_faults.specs.declared.fault.Place.TheVariants as places
 use Rattle.text_faults.specs.Kinds.{kind_name, kinds_of, named}
 use Rattle.text_faults.specs.Rows.{rows_of}

@@ -1,10 +1,9 @@
 -- The faults of numbered items, one item after another.
-use Rattle.std.proofs.Common.{◌≡◌, ℕ, ◌+◌, ◌<◌, ◌≤◌, List, [], ◌∷◌, ◌++◌, length, get_or, take, map, Option, Some, None, refl, sym, ap, ◌∙◌, append_assoc, append-nil, add-zero, arith}
-use Rattle.std.proofs.lemmas.List.{take_more, take_all, length-take-le, length-map, map-append}
-use Rattle.toml.specs.Data.{Data, Items, as_array}
+use Rattle.std.proofs.Common.{◌≡◌, ℕ, ◌+◌, ◌<◌, List, [], ◌∷◌, ◌++◌, length, get_or, take, map, Option, Some, refl, sym, ap, ◌∙◌, append_assoc, append-nil, add-zero, arith}
+use Rattle.std.proofs.lemmas.List.{take_more, length-take-le, length-map, map-append}
+use Rattle.toml.specs.Data.{Data, as_array}
 use Rattle.toml.specs.View.{view, items_of}
 use Rattle.toml.specs.declared.value.Value.{Value}
-use Rattle.script_text.specs.Items.{list_of}
 use Rattle.script_text.proofs.Callers.{list_of-items_of}
 use Rattle.text_faults.specs.declared.fault.Fault.{Fault}
 use Rattle.text_faults.specs.Faults.{numbered}

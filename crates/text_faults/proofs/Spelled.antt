@@ -1,6 +1,6 @@
 -- A table without a fault spells a command, and one that spells a command has no fault.
-use Rattle.std.proofs.Common.{◌≡◌, ℕ, ◌⊎◌, inl, inr, List, [], ◌∷◌, ◌++◌, Option, Some, None, codes, refl, sym, ap, ◌∙◌, subst}
-use Rattle.toml.specs.Data.{Data, string, get}
+use Rattle.std.proofs.Common.{◌≡◌, inl, inr, List, [], ◌++◌, Some, None, codes, refl, sym, subst}
+use Rattle.toml.specs.Data.{Data, get}
 use Rattle.flow_state.specs.declared.flow.FlowKind.{FlowKind}
 use Rattle.flow_state.specs.declared.flow.FlowKind.TheVariants as services
 use Rattle.grant_machine.specs.declared.command.Command.{Command}
@@ -9,15 +9,14 @@ use Rattle.script_text.specs.Fields.{HasText}
 use Rattle.script_text.specs.CommandTable.{HasService, SpellsCommand}
 use Rattle.text_faults.specs.declared.kind.Kind.{Kind}
 use Rattle.text_faults.specs.declared.kind.Kind.TheVariants as kinds
-use Rattle.text_faults.specs.declared.kind.Group.{Group}
-use Rattle.text_faults.specs.declared.kind.Group.TheVariants.{Commands, Services, Phys, Events}
+use Rattle.text_faults.specs.declared.kind.Group.TheVariants.{Commands, Services}
 use Rattle.text_faults.specs.declared.row.Key.TheVariants as keys
 use Rattle.text_faults.specs.declared.row.Wants.TheVariants.{Name}
 use Rattle.text_faults.specs.declared.fault.Place.{Place}
 use Rattle.text_faults.specs.Kinds.{kind_name, kinds_of, named}
-use Rattle.text_faults.specs.Rows.{rows_of, choice_of}
-use Rattle.text_faults.specs.Faults.{fault_at, key_faults, named_in, chosen, service_faults, kind_faults, table_faults}
-use Rattle.text_faults.proofs.Keys.{both_empty, NoneOf, none_of, of_none, number, no_number_fault, name, no_name_fault, IsOneOf, named_text, last_minislot, no_last_fault, phy, no_phy_fault, pair, no_pair_fault}
+use Rattle.text_faults.specs.Rows.{rows_of}
+use Rattle.text_faults.specs.Faults.{fault_at, key_faults, chosen, service_faults, kind_faults, table_faults}
+use Rattle.text_faults.proofs.Keys.{both_empty, NoneOf, none_of, of_none, number, no_number_fault, name, IsOneOf, named_text, last_minislot, no_last_fault, phy, no_phy_fault, pair, no_pair_fault}
 
 -- the keys of a kind without a fault
 pub kept_keys : (place : Place) (told kind : Kind) (d : Data) → key_faults place told kind d ≡ [] → NoneOf (fault_at place told d) (rows_of kind)

@@ -1,8 +1,8 @@
 -- A text without a fault is read, and one that is read has no fault.
-use Rattle.std.proofs.Common.{◌≡◌, ℕ, suc, ◌+◌, ◌^◌, ◌<◌, ◌≤◌, ◌⊎◌, inl, inr, ◌↔◌, Bool, true, false, cond, if◌then◌else◌, ◌==◌, ◌||◌, is_some, List, [], ◌∷◌, ◌++◌, Option, Some, None, ℤ, pos, negsuc, option_map, codes, refl, sym, ap, ◌∙◌, arith}
+use Rattle.std.proofs.Common.{◌≡◌, ℕ, ◌+◌, ◌^◌, ◌<◌, ◌≤◌, Bool, true, false, ◌==◌, ◌||◌, is_some, List, [], ◌∷◌, ◌++◌, Option, Some, None, pos, negsuc, option_map, codes, refl, ap, arith}
 use Rattle.std.specs.List.{AllZip}
 use Rattle.std.proofs.lemmas.Bool.{le-leb, eqb-true}
-use Rattle.toml.specs.Data.{Data, string, integer, float, boolean, datetime, array, table, Items, Members, get, get_member, as_array}
+use Rattle.toml.specs.Data.{Data, string, integer, float, boolean, datetime, array, table, Items, Members, get_member, as_array}
 use Rattle.ballots.specs.declared.members.Members.{Members as NodeCount}
 use Rattle.ballots.specs.declared.members.Members.TheVariants.{Three, Five}
 use Rattle.ballots.specs.Members.{member_count}
@@ -11,12 +11,11 @@ use Rattle.world_events.specs.declared.event.Event.{Event}
 use Rattle.script_text.specs.CommandTable.{SpellsCommand}
 use Rattle.script_text.specs.EventTable.{MeansEvent}
 use Rattle.script_text.specs.Items.{list_of, held_items, items_at, AllMean}
-use Rattle.script_text.specs.Script.{IsId, HasMembers, HasModems, HasEvents, IsScriptTable}
+use Rattle.script_text.specs.Script.{IsId, IsScriptTable}
 use Rattle.text_faults.specs.declared.kind.Kind.{Kind}
 use Rattle.text_faults.specs.declared.kind.Kind.TheVariants as kinds
 use Rattle.text_faults.specs.declared.row.Key.{Key}
 use Rattle.text_faults.specs.declared.row.Key.TheVariants as keys
-use Rattle.text_faults.specs.declared.row.Wants.{Wants}
 use Rattle.text_faults.specs.declared.row.Wants.TheVariants as wants
 use Rattle.text_faults.specs.declared.fault.Fault.{Fault}
 use Rattle.text_faults.specs.declared.fault.Place.{Place}

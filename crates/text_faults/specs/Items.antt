@@ -1,5 +1,5 @@
 -- The items of the array under a key.
-use Rattle.std.specs.Prelude.{ℕ, List, [], ◌∷◌, Option, Some, None}
+use Rattle.std.specs.Prelude.{ℕ, List, [], Option, Some, None}
 use Rattle.toml.specs.Data.{Data, Items, get, as_array}
 use Rattle.script_text.specs.Items.{list_of}
 

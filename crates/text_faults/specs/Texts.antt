@@ -1,5 +1,5 @@
 -- A fault as text. Numbers are decimal.
-use Rattle.std.specs.Prelude.{ℕ, Bool, true, false, nat_le, if◌then◌else◌, List, [], ◌∷◌, ◌++◌, codes, decimal, flat_map}
+use Rattle.std.specs.Prelude.{ℕ, Bool, true, false, nat_le, if◌then◌else◌, List, [], ◌++◌, codes, decimal, flat_map}
 use Rattle.std.specs.Fmt.{signed_decimal}
 use Rattle.text_faults.specs.declared.kind.Kind.{Kind}
 use Rattle.text_faults.specs.declared.kind.Kind.TheVariants as kinds

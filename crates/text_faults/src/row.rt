@@ -69,10 +69,15 @@ pub enum Wants {
 }
 
 pub(crate) const BYTE: Wants = Wants::Number(255);
+
 pub(crate) const SHORT: Wants = Wants::Number(65_535);
+
 pub(crate) const WORD: Wants = Wants::Number(4_294_967_295);
+
 pub(crate) const SLOT: Wants = Wants::Number(9_223_372_036_854_775_807);
+
 pub(crate) const LONG: Wants = Wants::Number(18_446_744_073_709_551_615);
+
 pub(crate) const LAST: Wants = Wants::NumberOrNothing(18_446_744_073_709_551_615);
 
 impl Key {
@@ -135,7 +140,11 @@ impl Kind {
     {
         match self {
             Kind::Plan => &[(Key::Command, Wants::Tables)],
-            Kind::Script => &[(Key::Members, Wants::Members), (Key::Modems, Wants::Ids), (Key::Event, Wants::Tables)],
+            Kind::Script => &[
+                (Key::Members, Wants::Members),
+                (Key::Modems, Wants::Ids),
+                (Key::Event, Wants::Tables),
+            ],
             Kind::Command => &[(Key::Kind, Wants::Name(Group::Commands))],
             Kind::Event => &[(Key::Kind, Wants::Name(Group::Events))],
             Kind::Modem | Kind::Noop | Kind::Tdma | Kind::Advanced => &[],
@@ -156,17 +165,46 @@ impl Kind {
                 (Key::Service, Wants::Name(Group::Services)),
             ],
             Kind::BestEffort => &[(Key::Priority, BYTE)],
-            Kind::Ugs => &[(Key::Size, SHORT), (Key::Interval, WORD), (Key::Jitter, WORD), (Key::Base, LONG)],
-            Kind::Poll => &[(Key::Interval, WORD), (Key::Jitter, WORD), (Key::Base, LONG)],
+            Kind::Ugs => &[
+                (Key::Size, SHORT),
+                (Key::Interval, WORD),
+                (Key::Jitter, WORD),
+                (Key::Base, LONG),
+            ],
+            Kind::Poll => &[
+                (Key::Interval, WORD),
+                (Key::Jitter, WORD),
+                (Key::Base, LONG),
+            ],
             Kind::Drop => &[(Key::Ch, BYTE), (Key::Sid, SHORT)],
-            Kind::Request => &[(Key::Ch, BYTE), (Key::Sid, SHORT), (Key::N, SHORT), (Key::Sent, LONG)],
-            Kind::Cut => &[(Key::Ch, BYTE), (Key::Len, SHORT), (Key::NotBefore, LONG), (Key::Ack, LONG)],
+            Kind::Request => &[
+                (Key::Ch, BYTE),
+                (Key::Sid, SHORT),
+                (Key::N, SHORT),
+                (Key::Sent, LONG),
+            ],
+            Kind::Cut => &[
+                (Key::Ch, BYTE),
+                (Key::Len, SHORT),
+                (Key::NotBefore, LONG),
+                (Key::Ack, LONG),
+            ],
             Kind::Lead | Kind::Offer | Kind::Crash | Kind::Restart => &[(Key::Node, LONG)],
             Kind::Deliver | Kind::DeliverThenCrash => &[(Key::Letter, LONG)],
             Kind::Release => &[(Key::Node, LONG), (Key::Now, LONG)],
             Kind::Hear => &[(Key::Modem, LONG), (Key::Output, LONG), (Key::Near, SLOT)],
-            Kind::Want => &[(Key::Modem, LONG), (Key::Ch, BYTE), (Key::Sid, SHORT), (Key::N, SHORT)],
-            Kind::Tick => &[(Key::Modem, LONG), (Key::Ch, BYTE), (Key::Slot, SLOT), (Key::Random, LONG)],
+            Kind::Want => &[
+                (Key::Modem, LONG),
+                (Key::Ch, BYTE),
+                (Key::Sid, SHORT),
+                (Key::N, SHORT),
+            ],
+            Kind::Tick => &[
+                (Key::Modem, LONG),
+                (Key::Ch, BYTE),
+                (Key::Slot, SLOT),
+                (Key::Random, LONG),
+            ],
         }
     }
 

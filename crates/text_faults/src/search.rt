@@ -213,11 +213,7 @@ fn note_ids(faults: &mut Vec<Fault>, items: &[Value]) -> Result<(), AllocError>
     Ok(())
 }
 
-fn note_events(
-    alloc: Global,
-    faults: &mut Vec<Fault>,
-    items: &[Value],
-) -> Result<(), AllocError>
+fn note_events(alloc: Global, faults: &mut Vec<Fault>, items: &[Value]) -> Result<(), AllocError>
     ensures { OnOk result (faults.new.items ≡ faults.old.items ++ numbered event_faults 0 (map view items.now)) }
 {
     for (i, item) in items.iter().enumerate() {
@@ -243,7 +239,13 @@ pub fn script_faults(alloc: Global, script: &Value) -> Result<Vec<Fault>, AllocE
     ensures none { IfOk result (λ faults. TellsWhether IsScript (view script.now) faults.items) }
 {
     let mut faults = Vec::new(alloc);
-    note_keys(&mut faults, Place::Whole, Kind::Script, Kind::Script, script)?;
+    note_keys(
+        &mut faults,
+        Place::Whole,
+        Kind::Script,
+        Kind::Script,
+        script,
+    )?;
     note_ids(&mut faults, items_at(script, "modems"))?;
     note_events(alloc, &mut faults, items_at(script, "event"))?;
     Ok(faults)

@@ -78,7 +78,11 @@ impl Wants {
         ensures { result ≡ may_lack self }
     {
         match self {
-            Wants::NumberOrNothing(_) | Wants::NameOrNothing(_) | Wants::Tables | Wants::Ids | Wants::Nothing => true,
+            Wants::NumberOrNothing(_)
+            | Wants::NameOrNothing(_)
+            | Wants::Tables
+            | Wants::Ids
+            | Wants::Nothing => true,
             Wants::Number(_) | Wants::Bytes | Wants::Name(_) | Wants::Members | Wants::Hex => false,
         }
     }

@@ -1,5 +1,5 @@
 -- What is told of a text.
-use Rattle.std.specs.Prelude.{◌≡◌, ◌↔◌, ℕ, ◌≤◌, Bool, true, false, ◌||◌, if◌then◌else◌, List, [], ◌∷◌, ◌++◌, length, Option, Some, None, is_some, codes, decimal, flat_map}
+use Rattle.std.specs.Prelude.{◌≡◌, ◌↔◌, ℕ, ◌≤◌, Bool, true, false, ◌||◌, if◌then◌else◌, List, [], ◌∷◌, ◌++◌, length, Option, Some, None, is_some, is_none, codes, decimal, flat_map}
 use Rattle.std.specs.Io.KnownBytes.{Appends}
 use Rattle.toml.specs.Data.{Data, table, Members, get}
 use Rattle.toml.specs.Parse.{parse_document}
@@ -15,6 +15,11 @@ use Rattle.upsched_sight_parts.specs.Lines.{line_of, column_of}
 abbrev pub form_name : Form → List ℕ
 form_name Plan = codes "plan"
 form_name Script = codes "script"
+
+-- the key of its commands or events
+abbrev pub form_key : Form → List ℕ
+form_key Plan = codes "command"
+form_key Script = codes "event"
 
 -- one of a script's keys is there
 abbrev pub is_script : Data → Bool
@@ -43,8 +48,13 @@ IsGood said text = (ms : Members) × (parse_document text ≡ Some ms) × IsForm
 abbrev pub fault_line : List ℕ → Fault → List ℕ
 fault_line path f = path ++ (codes ": " ++ (fault_text f ++ 10 ∷ []))
 
-abbrev pub good_line : List ℕ → Form → List ℕ
-good_line path form = path ++ (codes ": no fault in this " ++ (form_name form ++ 10 ∷ []))
+-- what is told of a text without a fault, and also where that key isn't there
+abbrev pub good_text : Form → Bool → List ℕ
+good_text form true = codes "no fault in this " ++ (form_name form ++ (codes ", and no key " ++ form_key form))
+good_text form false = codes "no fault in this " ++ form_name form
+
+abbrev pub good_line : List ℕ → Form → Bool → List ℕ
+good_line path form bare = path ++ (codes ": " ++ (good_text form bare ++ 10 ∷ []))
 
 -- the line of a text that isn't TOML, with the place where it ends to be so, and why
 abbrev pub toml_line : List ℕ → List ℕ → ℕ → List ℕ → List ℕ
@@ -52,9 +62,12 @@ toml_line path text start why =
     path ++ (codes ":" ++ (decimal (line_of text start) ++ (codes ":" ++ (decimal (column_of text start) ++ (codes ": " ++ (why ++ 10 ∷ []))))))
 
 -- a line for each fault, or one that tells of none
-abbrev pub fault_lines : List ℕ → Form → List Fault → List ℕ
-fault_lines path form [] = good_line path form
-fault_lines path form (f ∷ fs) = flat_map (fault_line path) (f ∷ fs)
+abbrev pub fault_lines : List ℕ → Form → Bool → List Fault → List ℕ
+fault_lines path form bare [] = good_line path form bare
+fault_lines path form bare (f ∷ fs) = flat_map (fault_line path) (f ∷ fs)
+
+abbrev pub is_bare : Form → Data → Bool
+is_bare form d = is_none (get (form_key form) d)
 
 abbrev pub is_empty : List Fault → Bool
 is_empty [] = true
@@ -62,7 +75,7 @@ is_empty (f ∷ fs) = false
 
 -- what is printed of a table, and whether it is good
 abbrev pub table_lines : List ℕ → Option Form → Data → List ℕ
-table_lines path said d = fault_lines path (form_of said d) (faults_of (form_of said d) d)
+table_lines path said d = fault_lines path (form_of said d) (is_bare (form_of said d) d) (faults_of (form_of said d) d)
 
 abbrev pub is_good : Option Form → Data → Bool
 is_good said d = is_empty (faults_of (form_of said d) d)

@@ -27,7 +27,7 @@ pub struct CheckWords<'a> {
 
 impl Form {
     ghost use Rattle.std.specs.Prelude.{◌≡◌};
-    ghost use Rattle.upsched_sight_parts.specs.Reports.{form_name};
+    ghost use Rattle.upsched_sight_parts.specs.Reports.{form_name, form_key};
 
     /// What the form is called.
     pub fn name(self) -> &'static str
@@ -38,14 +38,22 @@ impl Form {
             Form::Script => "script",
         }
     }
+
+    /// The key of its commands or events.
+    pub fn key(self) -> &'static str
+        ensures { result.now ≡ form_key self }
+    {
+        match self {
+            Form::Plan => "command",
+            Form::Script => "event",
+        }
+    }
 }
 
 fn is_script(whole: &Value) -> bool
     ensures { result ≡ is_script (view whole.now) }
 {
-    whole.get("members").is_some()
-        || whole.get("modems").is_some()
-        || whole.get("event").is_some()
+    whole.get("members").is_some() || whole.get("modems").is_some() || whole.get("event").is_some()
 }
 
 /// What the text is to be: what is said, else a script where one of a script's keys is there, else a plan.

@@ -1,6 +1,6 @@
 //! `upsched check FILE`: what is wrong with a text, line by line.
 
-ghost use Rattle.std.specs.Prelude.{◌≡◌, ◌≢◌, ◌≤◌, ◌↔◌, IfOk, OnOk, ℕ, List, flat_map, length, true};
+ghost use Rattle.std.specs.Prelude.{◌≡◌, ◌≢◌, ◌≤◌, ◌↔◌, IfOk, OnOk, ℕ, List, flat_map, length, string_bytes, true};
 ghost use Rattle.std.specs.Io.KnownBytes.{Appends};
 ghost use Rattle.toml.specs.Data.{table};
 ghost use Rattle.toml.specs.View.{view, table_view};
@@ -8,11 +8,11 @@ ghost use Rattle.toml.specs.Parse.{parse_document};
 ghost use Rattle.toml.specs.Errors.{IsWithin};
 ghost use Rattle.text_faults.specs.Faults.{TellsWhether};
 ghost use Rattle.upsched_map_parts.specs.declared.status.Status.TheVariants.{Done, NotUnderstood};
-ghost use Rattle.upsched_sight_parts.specs.Reports.{IsForm, IsGood, fault_line, fault_lines, toml_line, form_of, is_empty, is_good, table_lines, TellsOf, Reports, ReportsKnown};
+ghost use Rattle.upsched_sight_parts.specs.Reports.{IsForm, IsGood, fault_line, fault_lines, good_text, good_line, toml_line, form_of, is_empty, is_good, table_lines, TellsOf, Reports, ReportsKnown};
 
 use crate::form::{CheckWords, Form, faults_of, form_of};
 use crate::place::place_behind;
-use std::alloc::Global;
+use std::alloc::{AllocError, Global};
 use std::io::{Read, Write};
 use text_faults::{Fault as TextFault, fault_text};
 use toml::de::Error;
@@ -50,21 +50,49 @@ fn print_each<'a, O: Write>(
     Ok(())
 }
 
+fn good_text(alloc: Global, form: Form, bare: bool) -> Result<String, AllocError>
+    ensures { IfOk result (λ text. string_bytes text ≡ good_text form bare) }
+{
+    let name = form.name();
+    if bare {
+        let key = form.key();
+        return format!(in alloc; "no fault in this {name}, and no key {key}");
+    }
+    format!(in alloc; "no fault in this {name}")
+}
+
+fn print_good<'a, O: Write>(
+    alloc: Global,
+    path: &str,
+    form: Form,
+    bare: bool,
+    output: &mut O,
+) -> Result<(), Fault<'a>>
+    ensures { OnOk result (Appends (O.contents output.old) (O.contents output.new) (good_line path.now form bare)) }
+{
+    let Ok(text) = good_text(alloc, form, bare) else {
+        return Err(Fault::Memory);
+    };
+    match writeln!(output, "{path}: {text}") {
+        Ok(()) => Ok(()),
+        Err(_) => Err(Fault::Output),
+    }
+}
+
 fn print_faults<'a, O: Write>(
     alloc: Global,
     path: &str,
     form: Form,
+    bare: bool,
     faults: &[TextFault],
     output: &mut O,
 ) -> Result<(), Fault<'a>>
-    ensures { OnOk result (Appends (O.contents output.old) (O.contents output.new) (fault_lines path.now form faults.now)) }
+    ensures { OnOk result (Appends (O.contents output.old) (O.contents output.new) (fault_lines path.now form bare faults.now)) }
 {
-    if !faults.is_empty() {
-        return print_each(alloc, path, faults, output);
-    }
-    match writeln!(output, "{path}: no fault in this {}", form.name()) {
-        Ok(()) => Ok(()),
-        Err(_) => Err(Fault::Output),
+    if faults.is_empty() {
+        print_good(alloc, path, form, bare, output)
+    } else {
+        print_each(alloc, path, faults, output)
     }
 }
 
@@ -86,7 +114,8 @@ fn print_table<'a, O: Write>(
     let Ok(faults) = faults_of(alloc, form, &whole) else {
         return Err(Fault::Memory);
     };
-    print_faults(alloc, path, form, faults.as_slice(), output)?;
+    let bare = whole.get(form.key()).is_none();
+    print_faults(alloc, path, form, bare, faults.as_slice(), output)?;
     Ok(faults.is_empty())
 }
 

@@ -73,9 +73,9 @@ fn run_command<'a>(alloc: Global) -> Result<Command<'a>, Error> {
 }
 
 fn check_command<'a>(alloc: Global) -> Result<Command<'a>, Error> {
-    let path = Arg::new(alloc, "FILE")
-        .required(true)
-        .help("A plan or a script in TOML (docs/formats.md); a script is known by its keys");
+    let path = Arg::new(alloc, "FILE").required(true).help(
+        "A plan or a script in TOML (docs/formats.md); a script is known by its keys",
+    );
     let plan = Arg::new(alloc, "plan")
         .long("plan")
         .action(ArgAction::SetTrue)

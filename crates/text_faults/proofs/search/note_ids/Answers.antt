@@ -1,4 +1,4 @@
-use Rattle.std.proofs.Common.{◌+◌, arith}
+use Rattle.std.proofs.Common.{arith}
 use Rattle.text_faults.specs.Faults.{id_faults}
 use Rattle.text_faults.proofs.Numbered.{noted_item}
 use Rattle.text_faults.proofs.search.note_ids.Goals as goal

@@ -11,12 +11,12 @@ loop-row-preserved c =
     let within = rw c.rows-row-items.ensures at c.loop-row-test.true in
     let rows = rows_of c.args.kind in
     elim c.match-fault_at.branch [
-      in-Some+in_ok-push w ↦ (
-        let found = rw c.rows-row-items.ensures at w.in-Some.ensures in
-        rw (w.faults-is, w.in_ok-push.ensures.items) (one_more h rows c.loop-row.row-index _ _ _ _ within c.loop-row.invariant found)
-      )
+      | in-Some+in_ok-push w ↦ (
+          let found = rw c.rows-row-items.ensures at w.in-Some.ensures in
+          rw (w.faults-is, w.in_ok-push.ensures.items) (one_more h rows c.loop-row.row-index _ _ _ _ within c.loop-row.invariant found)
+          )
       | in_default w ↦ (
-        let found = rw c.rows-row-items.ensures at w.in_default.ensures in
-        rw w.faults-is (none_more h rows c.loop-row.row-index _ _ _ within c.loop-row.invariant found)
-      )
+          let found = rw c.rows-row-items.ensures at w.in_default.ensures in
+          rw w.faults-is (none_more h rows c.loop-row.row-index _ _ _ within c.loop-row.invariant found)
+          )
     ]
