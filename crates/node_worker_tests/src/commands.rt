@@ -55,7 +55,7 @@ fn read_as(alloc: Global, words: &[&str]) -> Result<String, Fail> {
     }
 }
 
-const WORDS: [(&[&str], &str); 30] = [
+const WORDS: [(&[&str], &str); 34] = [
     (
         &["maps", "a plan.toml"],
         "Maps(MapsWords { plan: \"a plan.toml\" })",
@@ -101,6 +101,18 @@ const WORDS: [(&[&str], &str); 30] = [
         &["node", "--members=5", "4"],
         "Node(NodeWords { number: \"4\", members: \"5\" })",
     ),
+        &["check", "a plan.toml"],
+        "Check(CheckWords { path: \"a plan.toml\", form: None })",
+    ),
+    (
+        &["check", "--plan", "plan.toml"],
+        "Check(CheckWords { path: \"plan.toml\", form: Some(Plan) })",
+    ),
+    (
+        &["check", "script.toml", "--script"],
+        "Check(CheckWords { path: \"script.toml\", form: Some(Script) })",
+    ),
+    (&["check", "a.toml", "--plan", "--script"], "NotUnderstood"),
     (&[], "NotUnderstood"),
     (&["maps"], "NotUnderstood"),
     (&["show"], "NotUnderstood"),

@@ -13,6 +13,7 @@ use upsched_live_parts::live;
 use upsched_map_parts::{Fault, LiveWords, MapsWords, NodeWords, RunWords, Status, maps, show};
 use upsched_node_parts::node;
 use upsched_parts::run_script;
+use upsched_sight_parts::{CheckWords, check};
 use upsched_words::{Words, read_words, refused};
 
 /// Opens the plan and ends as `maps` does.
@@ -25,6 +26,19 @@ fn run_maps<R: Files + AllocGlobal, O: Write, E: Write>(
     match fs::open(rt, words.plan) {
         Ok(mut plan) => maps(rt.alloc(), &mut plan, words, output, errors),
         Err(error) => Fault::of_reading(&error, words.plan).told(errors),
+    }
+}
+
+/// Opens the text and ends as `check` does.
+fn run_check<R: Files + AllocGlobal, O: Write, E: Write>(
+    rt: &R,
+    words: &CheckWords<'_>,
+    output: &mut O,
+    errors: &mut E,
+) -> Status {
+    match fs::open(rt, words.path) {
+        Ok(mut file) => check(rt.alloc(), &mut file, words, output, errors),
+        Err(error) => Fault::of_reading(&error, words.path).told(errors),
     }
 }
 
@@ -108,6 +122,7 @@ pub fn run_words<
     match read_words(rt.alloc(), given) {
         Ok(Words::Maps(words)) => run_maps(rt, &words, output, errors),
         Ok(Words::Run(words)) => run_run(rt, &words, output, errors),
+        Ok(Words::Check(words)) => run_check(rt, &words, output, errors),
         Ok(Words::Show(words)) => show(rt.alloc(), &words, output, errors),
         Ok(Words::Live(words)) => run_live(rt, threads, &words, output, errors),
         Ok(Words::Node(words)) => run_node(rt.alloc(), &words, input, output, errors),

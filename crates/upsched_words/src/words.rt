@@ -9,6 +9,7 @@ use clap::{Arg, ArgAction, ArgMatches, Command, Error, value_parser};
 use std::alloc::Global;
 use std::io::Write;
 use upsched_map_parts::{Fault, LiveWords, MapsWords, NodeWords, RunWords, ShowWords, Status};
+use upsched_sight_parts::{CheckWords, Form};
 
 /// A command of the program.
 #[derive(Clone, Copy, Debug)]
@@ -17,6 +18,8 @@ pub enum Words<'a> {
     Maps(MapsWords<'a>),
     /// Runs a script and prints its answers.
     Run(RunWords<'a>),
+    /// Tells what is wrong with a plan or a script.
+    Check(CheckWords<'a>),
     /// Prints a MAP body.
     Show(ShowWords<'a>),
     /// Works on a plan with a thread for each node, and prints whether the records agree.
@@ -69,6 +72,28 @@ fn run_command<'a>(alloc: Global) -> Result<Command<'a>, Error> {
         .arg(store)?
         .arg(verbose)?;
     Ok(run)
+}
+
+fn check_command<'a>(alloc: Global) -> Result<Command<'a>, Error> {
+    let path = Arg::new(alloc, "FILE").required(true).help(
+        "A plan or a script in TOML (docs/formats.md); a script is known by its keys",
+    );
+    let plan = Arg::new(alloc, "plan")
+        .long("plan")
+        .action(ArgAction::SetTrue)
+        .help("Looks at it as a plan, whatever its keys");
+    let script = Arg::new(alloc, "script")
+        .long("script")
+        .action(ArgAction::SetTrue)
+        .conflicts_with("plan")?
+        .help("Looks at it as a script, whatever its keys");
+    let check = Command::new(alloc, "check")
+        .about("Tells whether a plan or a script is good and, if not, what is wrong where")
+        .after_help("Example: upsched check examples/faults/plans/key_missing.toml")
+        .arg(path)?
+        .arg(plan)?
+        .arg(script)?;
+    Ok(check)
 }
 
 fn show_command<'a>(alloc: Global) -> Result<Command<'a>, Error> {
@@ -133,6 +158,7 @@ fn program<'a>(alloc: Global) -> Result<Command<'a>, Error> {
         .subcommand_required(true)
         .subcommand(maps_command(alloc)?)?
         .subcommand(run_command(alloc)?)?
+        .subcommand(check_command(alloc)?)?
         .subcommand(show_command(alloc)?)?
         .subcommand(live_command(alloc)?)?
         .subcommand(node_command(alloc)?)?;
@@ -170,6 +196,17 @@ fn live_words<'a>(words: &ArgMatches<'a>) -> Option<LiveWords<'a>> {
     })
 }
 
+/// What `check` is told.
+fn check_words<'a>(words: &ArgMatches<'a>) -> Option<CheckWords<'a>> {
+    let path = words.get_str("FILE")?;
+    let form = match (words.get_flag("plan"), words.get_flag("script")) {
+        (true, _) => Some(Form::Plan),
+        (false, true) => Some(Form::Script),
+        (false, false) => None,
+    };
+    Some(CheckWords { path, form })
+}
+
 /// Reads the words, the program's own name first. What it doesn't understand, and what asks for help or
 /// for the version, is an error, for `refused` to tell.
 pub fn read_words<'a>(alloc: Global, words: &'a [String]) -> Result<Words<'a>, Error> {
@@ -180,6 +217,7 @@ pub fn read_words<'a>(alloc: Global, words: &'a [String]) -> Result<Words<'a>, E
             .get_str("PLAN")
             .map(|plan| Words::Maps(MapsWords { plan })),
         Some(("run", words)) => run_words(words).map(|words| Words::Run(words)),
+        Some(("check", words)) => check_words(words).map(|words| Words::Check(words)),
         Some(("show", words)) => words
             .get_str("HEX")
             .map(|hex| Words::Show(ShowWords { hex })),

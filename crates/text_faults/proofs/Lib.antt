@@ -1,0 +1,6 @@
+mod Noted
+mod Numbered
+mod Keys
+mod Spelled
+mod Meant
+mod Whole

@@ -1,0 +1,203 @@
+-- A table without a fault means an event, and one that means an event has no fault.
+use Rattle.std.proofs.Common.{◌≡◌, ℕ, inl, inr, Bool, true, false, if◌then◌else◌, is_ok, List, [], ◌∷◌, Option, Some, None, Result, Ok, Err, codes, refl, sym, subst}
+use Rattle.hex.specs.Hex.{decode_of}
+use Rattle.toml.specs.Data.{Data, string, integer, float, boolean, datetime, array, table, get}
+use Rattle.command_log.specs.Spelling.{spelling}
+use Rattle.world_events.specs.declared.event.Event.{Event}
+use Rattle.world_events.specs.declared.event.Event.TheVariants as events
+use Rattle.script_text.specs.Fields.{HasText}
+use Rattle.script_text.specs.EventTable.{IsHexBytes, IsOffered, MeansEvent}
+use Rattle.text_faults.specs.declared.kind.Kind.{Kind}
+use Rattle.text_faults.specs.declared.kind.Kind.TheVariants as kinds
+use Rattle.text_faults.specs.declared.kind.Group.TheVariants.{Events}
+use Rattle.text_faults.specs.declared.row.Key.TheVariants as keys
+use Rattle.text_faults.specs.declared.fault.Fault.{Fault}
+use Rattle.text_faults.specs.declared.fault.Place.TheVariants as places
+use Rattle.text_faults.specs.Kinds.{kind_name, kinds_of, named}
+use Rattle.text_faults.specs.Rows.{rows_of}
+use Rattle.text_faults.specs.Faults.{fault_at, key_faults, chosen, kind_faults, table_faults, is_hex, offers, is_offer, offered_faults, event_faults}
+use Rattle.text_faults.proofs.Keys.{both_empty, of_none, number, no_number_fault, name, IsOneOf, named_text}
+use Rattle.text_faults.proofs.Spelled.{kept_keys, own_keys, spelled, no_command_fault, no_more}
+
+-- ---- what is offered
+
+-- a test that adds a fault only where it says no has said yes
+pub if_empty : {X : Type 0} (b : Bool) (x : X) → (if b then [] else x ∷ []) ≡ [] → b ≡ true
+if_empty true x h = refl
+if_empty false x h = absurd (cc)
+
+decoded : {X E : Type 0} (r : Result X E) → is_ok r ≡ true → (x : X) × (r ≡ Ok x)
+decoded (Ok x) h = (x, refl)
+decoded (Err e) h = absurd (cc)
+
+hex_bytes : (d : Data) → is_hex d ≡ true → (bytes : List ℕ) × IsHexBytes d bytes
+hex_bytes (string s) h = let (bytes, is) = decoded (decode_of s) h in (bytes, (s, refl, is))
+hex_bytes (integer z) h = absurd (cc)
+hex_bytes (float x) h = absurd (cc)
+hex_bytes (boolean b) h = absurd (cc)
+hex_bytes (datetime t) h = absurd (cc)
+hex_bytes (array ds) h = absurd (cc)
+hex_bytes (table ms) h = absurd (cc)
+
+offered : (n : ℕ) (o v : Option Data) → offered_faults n o v ≡ [] → (bytes : List ℕ) × IsOffered o v bytes
+offered n None None h = absurd (cc)
+offered n None (Some digits) h = hex_bytes digits (if_empty (is_hex digits) _ h)
+offered n (Some command) None h = let (c, spells) = spelled (places.Offered n) command h in (spelling c, (c, spells, refl))
+offered n (Some command) (Some digits) h = absurd (cc)
+
+no_offer_fault : (n : ℕ) (o v : Option Data) (bytes : List ℕ) → IsOffered o v bytes → offered_faults n o v ≡ []
+no_offer_fault n None None bytes h = absurd h
+no_offer_fault n None (Some digits) bytes (s, is, decodes) = rw (is, decodes) refl
+no_offer_fault n (Some command) None bytes (c, spells, is) = no_command_fault (places.Offered n) command c spells
+no_offer_fault n (Some command) (Some digits) bytes h = absurd h
+
+-- ---- from no fault to an event
+
+abbrev pub offer_part : ℕ → Data → Bool → List Fault
+offer_part n d b = if b then offered_faults n (get (codes "command") d) (get (codes "value") d) else []
+
+abbrev Means : ℕ → Data → Kind → Type 0
+Means n d k = HasText d (codes "kind") (kind_name k) → kind_faults (places.Event n) (Some k) d ≡ [] → offer_part n d (offers k) ≡ [] → (e : Event) × MeansEvent d e
+
+lead : (n : ℕ) (d : Data) → Means n d kinds.Lead
+lead n d text none part =
+    let h = own_keys (places.Event n) kinds.Lead d none in
+    let (node, a) = number (places.Event n) kinds.Lead keys.Node d 18446744073709551615 64 refl h.0 in
+    (events.Lead node, (text, a))
+
+offer : (n : ℕ) (d : Data) → Means n d kinds.Offer
+offer n d text none part =
+    let h = own_keys (places.Event n) kinds.Offer d none in
+    let (node, a) = number (places.Event n) kinds.Offer keys.Node d 18446744073709551615 64 refl h.0 in
+    let (bytes, b) = offered n (get (codes "command") d) (get (codes "value") d) part in
+    (events.Offer node bytes, (text, a, b))
+
+deliver : (n : ℕ) (d : Data) → Means n d kinds.Deliver
+deliver n d text none part =
+    let h = own_keys (places.Event n) kinds.Deliver d none in
+    let (letter, a) = number (places.Event n) kinds.Deliver keys.Letter d 18446744073709551615 64 refl h.0 in
+    (events.Deliver letter, (text, a))
+
+deliver_then_crash : (n : ℕ) (d : Data) → Means n d kinds.DeliverThenCrash
+deliver_then_crash n d text none part =
+    let h = own_keys (places.Event n) kinds.DeliverThenCrash d none in
+    let (letter, a) = number (places.Event n) kinds.DeliverThenCrash keys.Letter d 18446744073709551615 64 refl h.0 in
+    (events.DeliverThenCrash letter, (text, a))
+
+crash : (n : ℕ) (d : Data) → Means n d kinds.Crash
+crash n d text none part =
+    let h = own_keys (places.Event n) kinds.Crash d none in
+    let (node, a) = number (places.Event n) kinds.Crash keys.Node d 18446744073709551615 64 refl h.0 in
+    (events.Crash node, (text, a))
+
+restart : (n : ℕ) (d : Data) → Means n d kinds.Restart
+restart n d text none part =
+    let h = own_keys (places.Event n) kinds.Restart d none in
+    let (node, a) = number (places.Event n) kinds.Restart keys.Node d 18446744073709551615 64 refl h.0 in
+    (events.Restart node, (text, a))
+
+release : (n : ℕ) (d : Data) → Means n d kinds.Release
+release n d text none part =
+    let h = own_keys (places.Event n) kinds.Release d none in
+    let (node, a) = number (places.Event n) kinds.Release keys.Node d 18446744073709551615 64 refl h.0 in
+    let (now, b) = number (places.Event n) kinds.Release keys.Now d 18446744073709551615 64 refl h.1.0 in
+    (events.Release node now, (text, a, b))
+
+hear : (n : ℕ) (d : Data) → Means n d kinds.Hear
+hear n d text none part =
+    let h = own_keys (places.Event n) kinds.Hear d none in
+    let (modem, a) = number (places.Event n) kinds.Hear keys.Modem d 18446744073709551615 64 refl h.0 in
+    let (output, b) = number (places.Event n) kinds.Hear keys.Output d 18446744073709551615 64 refl h.1.0 in
+    let (near, e) = number (places.Event n) kinds.Hear keys.Near d 9223372036854775807 63 refl h.1.1.0 in
+    (events.Hear modem output near, (text, a, b, e))
+
+want : (n : ℕ) (d : Data) → Means n d kinds.Want
+want n d text none part =
+    let h = own_keys (places.Event n) kinds.Want d none in
+    let (modem, a) = number (places.Event n) kinds.Want keys.Modem d 18446744073709551615 64 refl h.0 in
+    let (ch, b) = number (places.Event n) kinds.Want keys.Ch d 255 8 refl h.1.0 in
+    let (sid, e) = number (places.Event n) kinds.Want keys.Sid d 65535 16 refl h.1.1.0 in
+    let (count, f) = number (places.Event n) kinds.Want keys.N d 65535 16 refl h.1.1.1.0 in
+    (events.Want modem ch sid count, (text, a, b, e, f))
+
+tick : (n : ℕ) (d : Data) → Means n d kinds.Tick
+tick n d text none part =
+    let h = own_keys (places.Event n) kinds.Tick d none in
+    let (modem, a) = number (places.Event n) kinds.Tick keys.Modem d 18446744073709551615 64 refl h.0 in
+    let (ch, b) = number (places.Event n) kinds.Tick keys.Ch d 255 8 refl h.1.0 in
+    let (slot, e) = number (places.Event n) kinds.Tick keys.Slot d 9223372036854775807 63 refl h.1.1.0 in
+    let (random, f) = number (places.Event n) kinds.Tick keys.Random d 18446744073709551615 64 refl h.1.1.1.0 in
+    (events.Tick modem ch slot random, (text, a, b, e, f))
+
+means_kind : (n : ℕ) (d : Data) (k : Kind) → IsOneOf k (kinds_of Events) → Means n d k
+means_kind n d k (inl is) = subst (Means n d) (sym is) (lead n d)
+means_kind n d k (inr (inl is)) = subst (Means n d) (sym is) (offer n d)
+means_kind n d k (inr (inr (inl is))) = subst (Means n d) (sym is) (deliver n d)
+means_kind n d k (inr (inr (inr (inl is)))) = subst (Means n d) (sym is) (deliver_then_crash n d)
+means_kind n d k (inr (inr (inr (inr (inl is))))) = subst (Means n d) (sym is) (crash n d)
+means_kind n d k (inr (inr (inr (inr (inr (inl is)))))) = subst (Means n d) (sym is) (restart n d)
+means_kind n d k (inr (inr (inr (inr (inr (inr (inl is))))))) = subst (Means n d) (sym is) (release n d)
+means_kind n d k (inr (inr (inr (inr (inr (inr (inr (inl is)))))))) = subst (Means n d) (sym is) (hear n d)
+means_kind n d k (inr (inr (inr (inr (inr (inr (inr (inr (inl is))))))))) = subst (Means n d) (sym is) (want n d)
+means_kind n d k (inr (inr (inr (inr (inr (inr (inr (inr (inr (inl is)))))))))) = subst (Means n d) (sym is) (tick n d)
+means_kind n d k (inr (inr (inr (inr (inr (inr (inr (inr (inr (inr none)))))))))) = absurd none
+
+-- a table without a fault means an event
+pub meant : (n : ℕ) (d : Data) → event_faults n d ≡ [] → (e : Event) × MeansEvent d e
+meant n d none =
+    let whole = both_empty (table_faults (places.Event n) kinds.Event d) (offer_part n d (is_offer (chosen kinds.Event d))) none in
+    let parts = both_empty (key_faults (places.Event n) kinds.Event kinds.Event d) (kind_faults (places.Event n) (chosen kinds.Event d) d) whole.0 in
+    let h = kept_keys (places.Event n) kinds.Event kinds.Event d parts.0 in
+    let (k, is) = name (places.Event n) kinds.Event keys.Kind Events (get (codes "kind") d) h.0 in
+    let (text, one) = named_text Events (get (codes "kind") d) k is in
+    let faults : kind_faults (places.Event n) (Some k) d ≡ [] = rw is at parts.1 in
+    let offers_none : offer_part n d (offers k) ≡ [] = rw is at whole.1 in
+    means_kind n d k one text faults offers_none
+
+-- ---- from an event to no fault
+
+no_kind_fault : (n : ℕ) (d : Data) (k : Kind) → named Events (kind_name k) ≡ Some k → HasText d (codes "kind") (kind_name k) → kind_faults (places.Event n) (Some k) d ≡ [] → offer_part n d (offers k) ≡ [] → event_faults n d ≡ []
+no_kind_fault n d k here text none part = rw (text, here, none) part
+
+-- the faults of a table that means an event: none
+pub no_event_fault : (n : ℕ) (d : Data) (e : Event) → MeansEvent d e → event_faults n d ≡ []
+no_event_fault n d (events.Lead node) (text, a) =
+    let h0 = no_number_fault (places.Event n) kinds.Lead keys.Node d 18446744073709551615 64 node refl a in
+    no_kind_fault n d kinds.Lead refl text (no_more _ (of_none (fault_at (places.Event n) kinds.Lead d) (rows_of kinds.Lead) (h0, tt))) refl
+no_event_fault n d (events.Offer node bytes) (text, a, b) =
+    let h0 = no_number_fault (places.Event n) kinds.Offer keys.Node d 18446744073709551615 64 node refl a in
+    no_kind_fault n d kinds.Offer refl text (no_more _ (of_none (fault_at (places.Event n) kinds.Offer d) (rows_of kinds.Offer) (h0, tt)))
+    (no_offer_fault n (get (codes "command") d) (get (codes "value") d) bytes b)
+no_event_fault n d (events.Deliver letter) (text, a) =
+    let h0 = no_number_fault (places.Event n) kinds.Deliver keys.Letter d 18446744073709551615 64 letter refl a in
+    no_kind_fault n d kinds.Deliver refl text (no_more _ (of_none (fault_at (places.Event n) kinds.Deliver d) (rows_of kinds.Deliver) (h0, tt))) refl
+no_event_fault n d (events.DeliverThenCrash letter) (text, a) =
+    let h0 = no_number_fault (places.Event n) kinds.DeliverThenCrash keys.Letter d 18446744073709551615 64 letter refl a in
+    no_kind_fault n d kinds.DeliverThenCrash refl text (no_more _ (of_none (fault_at (places.Event n) kinds.DeliverThenCrash d) (rows_of kinds.DeliverThenCrash) (h0, tt))) refl
+no_event_fault n d (events.Crash node) (text, a) =
+    let h0 = no_number_fault (places.Event n) kinds.Crash keys.Node d 18446744073709551615 64 node refl a in
+    no_kind_fault n d kinds.Crash refl text (no_more _ (of_none (fault_at (places.Event n) kinds.Crash d) (rows_of kinds.Crash) (h0, tt))) refl
+no_event_fault n d (events.Restart node) (text, a) =
+    let h0 = no_number_fault (places.Event n) kinds.Restart keys.Node d 18446744073709551615 64 node refl a in
+    no_kind_fault n d kinds.Restart refl text (no_more _ (of_none (fault_at (places.Event n) kinds.Restart d) (rows_of kinds.Restart) (h0, tt))) refl
+no_event_fault n d (events.Release node now) (text, a, b) =
+    let h0 = no_number_fault (places.Event n) kinds.Release keys.Node d 18446744073709551615 64 node refl a in
+    let h1 = no_number_fault (places.Event n) kinds.Release keys.Now d 18446744073709551615 64 now refl b in
+    no_kind_fault n d kinds.Release refl text (no_more _ (of_none (fault_at (places.Event n) kinds.Release d) (rows_of kinds.Release) (h0, (h1, tt)))) refl
+no_event_fault n d (events.Hear modem output near) (text, a, b, e) =
+    let h0 = no_number_fault (places.Event n) kinds.Hear keys.Modem d 18446744073709551615 64 modem refl a in
+    let h1 = no_number_fault (places.Event n) kinds.Hear keys.Output d 18446744073709551615 64 output refl b in
+    let h2 = no_number_fault (places.Event n) kinds.Hear keys.Near d 9223372036854775807 63 near refl e in
+    no_kind_fault n d kinds.Hear refl text (no_more _ (of_none (fault_at (places.Event n) kinds.Hear d) (rows_of kinds.Hear) (h0, (h1, (h2, tt))))) refl
+no_event_fault n d (events.Want modem ch sid count) (text, a, b, e, f) =
+    let h0 = no_number_fault (places.Event n) kinds.Want keys.Modem d 18446744073709551615 64 modem refl a in
+    let h1 = no_number_fault (places.Event n) kinds.Want keys.Ch d 255 8 ch refl b in
+    let h2 = no_number_fault (places.Event n) kinds.Want keys.Sid d 65535 16 sid refl e in
+    let h3 = no_number_fault (places.Event n) kinds.Want keys.N d 65535 16 count refl f in
+    no_kind_fault n d kinds.Want refl text (no_more _ (of_none (fault_at (places.Event n) kinds.Want d) (rows_of kinds.Want) (h0, (h1, (h2, (h3, tt)))))) refl
+no_event_fault n d (events.Tick modem ch slot random) (text, a, b, e, f) =
+    let h0 = no_number_fault (places.Event n) kinds.Tick keys.Modem d 18446744073709551615 64 modem refl a in
+    let h1 = no_number_fault (places.Event n) kinds.Tick keys.Ch d 255 8 ch refl b in
+    let h2 = no_number_fault (places.Event n) kinds.Tick keys.Slot d 9223372036854775807 63 slot refl e in
+    let h3 = no_number_fault (places.Event n) kinds.Tick keys.Random d 18446744073709551615 64 random refl f in
+    no_kind_fault n d kinds.Tick refl text (no_more _ (of_none (fault_at (places.Event n) kinds.Tick d) (rows_of kinds.Tick) (h0, (h1, (h2, (h3, tt)))))) refl

@@ -1,0 +1,6 @@
+use Rattle.std.proofs.Common.{rules}
+use Rattle.text_faults.proofs.Whole.{plan_law}
+use Rattle.text_faults.proofs.search.plan_faults.Goals as goal
+
+pub returns-clause-none : goal.returns-clause-none
+returns-clause-none c = plan_law _ _ (search rules)

@@ -1,0 +1,6 @@
+use Rattle.std.proofs.Common.{rules}
+use Rattle.text_faults.proofs.Whole.{script_law}
+use Rattle.text_faults.proofs.search.script_faults.Goals as goal
+
+pub returns-clause-none : goal.returns-clause-none
+returns-clause-none c = script_law _ _ (search rules)

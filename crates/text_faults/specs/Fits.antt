@@ -1,0 +1,63 @@
+-- Whether what a key holds is what is wanted there.
+use Rattle.std.specs.Prelude.{ℕ, ℤ, pos, negsuc, Bool, true, false, ◌==◌, ◌&&◌, ◌||◌, nat_le, List, Option, Some, None, is_some, is_none}
+use Rattle.toml.specs.Data.{Data, at, as_integer, as_str, as_array}
+use Rattle.text_faults.specs.declared.kind.Group.{Group}
+use Rattle.text_faults.specs.declared.row.Wants.{Wants}
+use Rattle.text_faults.specs.declared.row.Wants.TheVariants.{Number, NumberOrNothing, Bytes, Name, NameOrNothing, Members, Tables, Ids, Hex, Nothing}
+use Rattle.text_faults.specs.Kinds.{named}
+
+-- a number from 0 to this one
+abbrev pub is_whole : ℕ → Option ℤ → Bool
+is_whole most None = false
+is_whole most (Some (pos n)) = nat_le n most
+is_whole most (Some (negsuc n)) = false
+
+abbrev pub is_number : ℕ → Data → Bool
+is_number most d = is_whole most (as_integer d)
+
+-- an array of two numbers of a byte each
+abbrev pub is_item : Option Data → Bool
+is_item None = false
+is_item (Some d) = is_number 255 d
+
+abbrev pub is_pair : Data → Bool
+is_pair d = is_item (at 0 d) && (is_item (at 1 d) && is_none (at 2 d))
+
+-- the name of a kind of the group
+abbrev pub is_one_of : Group → Option (List ℕ) → Bool
+is_one_of group None = false
+is_one_of group (Some name) = is_some (named group name)
+
+abbrev pub is_name : Group → Data → Bool
+is_name group d = is_one_of group (as_str d)
+
+-- how many nodes a script may have
+abbrev pub is_three_or_five : Option ℤ → Bool
+is_three_or_five None = false
+is_three_or_five (Some (pos n)) = (n == 3) || (n == 5)
+is_three_or_five (Some (negsuc n)) = false
+
+abbrev pub is_count : Data → Bool
+is_count d = is_three_or_five (as_integer d)
+
+-- the value is what is wanted; of digits and commands the offer decides
+abbrev pub holds : Wants → Data → Bool
+holds (Number most) d = is_number most d
+holds (NumberOrNothing most) d = is_number most d
+holds Bytes d = is_pair d
+holds (Name group) d = is_name group d
+holds (NameOrNothing group) d = is_name group d
+holds Members d = is_count d
+holds Tables d = is_some (as_array d)
+holds Ids d = is_some (as_array d)
+holds Hex d = false
+holds Nothing d = false
+
+-- nothing may be there
+abbrev pub may_lack : Wants → Bool
+may_lack (NumberOrNothing most) = true
+may_lack (NameOrNothing group) = true
+may_lack Tables = true
+may_lack Ids = true
+may_lack Nothing = true
+may_lack _ = false

@@ -1,0 +1,46 @@
+-- The kinds of the tables in a plan and in a script.
+use Rattle.std.specs.Prelude.{ℕ, List, [], ◌∷◌, Option, codes, bytes_eq, find}
+use Rattle.text_faults.specs.declared.kind.Kind.{Kind}
+use Rattle.text_faults.specs.declared.kind.Kind.TheVariants.{Plan, Script, Modem, Command, Event, Noop, Channel, Flow, Drop, Request, Cut, BestEffort, Ugs, Poll, Tdma, Advanced, Lead, Offer, Deliver, DeliverThenCrash, Crash, Restart, Release, Hear, Want, Tick}
+use Rattle.text_faults.specs.declared.kind.Group.{Group}
+use Rattle.text_faults.specs.declared.kind.Group.TheVariants.{Commands, Services, Phys, Events}
+
+-- what a kind is called
+abbrev pub kind_name : Kind → List ℕ
+kind_name Plan = codes "plan"
+kind_name Script = codes "script"
+kind_name Modem = codes "modem"
+kind_name Command = codes "command"
+kind_name Event = codes "event"
+kind_name Noop = codes "noop"
+kind_name Channel = codes "channel"
+kind_name Flow = codes "flow"
+kind_name Drop = codes "drop"
+kind_name Request = codes "request"
+kind_name Cut = codes "cut"
+kind_name BestEffort = codes "best_effort"
+kind_name Ugs = codes "ugs"
+kind_name Poll = codes "poll"
+kind_name Tdma = codes "tdma"
+kind_name Advanced = codes "advanced"
+kind_name Lead = codes "lead"
+kind_name Offer = codes "offer"
+kind_name Deliver = codes "deliver"
+kind_name DeliverThenCrash = codes "deliver_then_crash"
+kind_name Crash = codes "crash"
+kind_name Restart = codes "restart"
+kind_name Release = codes "release"
+kind_name Hear = codes "hear"
+kind_name Want = codes "want"
+kind_name Tick = codes "tick"
+
+-- the kinds of a group
+abbrev pub kinds_of : Group → List Kind
+kinds_of Commands = Noop ∷ Channel ∷ Flow ∷ Drop ∷ Request ∷ Cut ∷ []
+kinds_of Services = BestEffort ∷ Ugs ∷ Poll ∷ []
+kinds_of Phys = Tdma ∷ Advanced ∷ []
+kinds_of Events = Lead ∷ Offer ∷ Deliver ∷ DeliverThenCrash ∷ Crash ∷ Restart ∷ Release ∷ Hear ∷ Want ∷ Tick ∷ []
+
+-- the kind of a group with this name
+abbrev pub named : Group → List ℕ → Option Kind
+named group name = find (λ kind. bytes_eq (kind_name kind) name) (kinds_of group)

@@ -1,0 +1,6 @@
+pub mod Kinds
+pub mod Rows
+pub mod Fits
+pub mod Items
+pub mod Faults
+pub mod Texts

@@ -1,0 +1,126 @@
+//! The kinds of the tables in a plan and in a script.
+
+/// A kind of table. `Plan` and `Script` are a whole text, `Modem` is an id in a script's list, and `Command` and
+/// `Event` are tables whose own kind is still to be looked at.
+#[derive(Clone, Copy, Debug, PartialEq, Eq)]
+pub enum Kind {
+    Plan,
+    Script,
+    Modem,
+    Command,
+    Event,
+    Noop,
+    Channel,
+    Flow,
+    Drop,
+    Request,
+    Cut,
+    BestEffort,
+    Ugs,
+    Poll,
+    Tdma,
+    Advanced,
+    Lead,
+    Offer,
+    Deliver,
+    DeliverThenCrash,
+    Crash,
+    Restart,
+    Release,
+    Hear,
+    Want,
+    Tick,
+}
+
+/// The kinds among which a key chooses by their names.
+#[derive(Clone, Copy, Debug, PartialEq, Eq)]
+pub enum Group {
+    Commands,
+    Services,
+    Phys,
+    Events,
+}
+
+impl Kind {
+    ghost use Rattle.std.specs.Prelude.{◌≡◌};
+    ghost use Rattle.text_faults.specs.Kinds.{kind_name};
+
+    /// What the kind is called.
+    pub fn name(self) -> &'static str
+        ensures { result.now ≡ kind_name self }
+    {
+        match self {
+            Kind::Plan => "plan",
+            Kind::Script => "script",
+            Kind::Modem => "modem",
+            Kind::Command => "command",
+            Kind::Event => "event",
+            Kind::Noop => "noop",
+            Kind::Channel => "channel",
+            Kind::Flow => "flow",
+            Kind::Drop => "drop",
+            Kind::Request => "request",
+            Kind::Cut => "cut",
+            Kind::BestEffort => "best_effort",
+            Kind::Ugs => "ugs",
+            Kind::Poll => "poll",
+            Kind::Tdma => "tdma",
+            Kind::Advanced => "advanced",
+            Kind::Lead => "lead",
+            Kind::Offer => "offer",
+            Kind::Deliver => "deliver",
+            Kind::DeliverThenCrash => "deliver_then_crash",
+            Kind::Crash => "crash",
+            Kind::Restart => "restart",
+            Kind::Release => "release",
+            Kind::Hear => "hear",
+            Kind::Want => "want",
+            Kind::Tick => "tick",
+        }
+    }
+}
+
+impl Group {
+    ghost use Rattle.std.specs.Prelude.{◌≡◌};
+    ghost use Rattle.text_faults.specs.Kinds.{kinds_of, named};
+
+    /// The kinds of the group.
+    pub fn kinds(self) -> &'static [Kind]
+        ensures { result.now ≡ kinds_of self }
+    {
+        match self {
+            Group::Commands => &[
+                Kind::Noop,
+                Kind::Channel,
+                Kind::Flow,
+                Kind::Drop,
+                Kind::Request,
+                Kind::Cut,
+            ],
+            Group::Services => &[Kind::BestEffort, Kind::Ugs, Kind::Poll],
+            Group::Phys => &[Kind::Tdma, Kind::Advanced],
+            Group::Events => &[
+                Kind::Lead,
+                Kind::Offer,
+                Kind::Deliver,
+                Kind::DeliverThenCrash,
+                Kind::Crash,
+                Kind::Restart,
+                Kind::Release,
+                Kind::Hear,
+                Kind::Want,
+                Kind::Tick,
+            ],
+        }
+    }
+
+    /// The kind of the group with this name.
+    pub fn named(self, name: &str) -> Option<Kind>
+        ensures { result ≡ named self name.now }
+    {
+        self.kinds()
+            .iter()
+            .find(|kind| kind.name() == name)
+            .copied()
+    }
+}

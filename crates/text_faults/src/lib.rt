@@ -1,0 +1,15 @@
+//! What is wrong with a plan or a script, table by table and key by key.
+#![tactic(auto)]
+
+mod fault;
+mod kind;
+mod row;
+mod search;
+mod texts;
+mod wants;
+
+pub use fault::{Fault, Found, Place};
+pub use kind::{Group, Kind};
+pub use row::{Key, Wants};
+pub use search::{plan_faults, script_faults};
+pub use texts::fault_text;

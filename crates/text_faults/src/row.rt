@@ -1,0 +1,229 @@
+//! The keys of each kind of table, and what is wanted there.
+
+use crate::kind::{Group, Kind};
+use toml::Value;
+
+/// A key that something reads.
+#[derive(Clone, Copy, Debug, PartialEq, Eq)]
+pub enum Key {
+    Members,
+    Modems,
+    Event,
+    Command,
+    Id,
+    Kind,
+    Ch,
+    Ucd,
+    Phy,
+    ShortMax,
+    Ranging,
+    Data,
+    Base,
+    Modem,
+    Tag,
+    Last,
+    Service,
+    Priority,
+    Size,
+    Interval,
+    Jitter,
+    Sid,
+    N,
+    Sent,
+    Len,
+    NotBefore,
+    Ack,
+    Node,
+    Value,
+    Letter,
+    Now,
+    Output,
+    Near,
+    Slot,
+    Random,
+}
+
+/// What is wanted at a key.
+#[derive(Clone, Copy, Debug, PartialEq, Eq)]
+pub enum Wants {
+    /// A whole number from 0 to this one.
+    Number(u64),
+    /// The same, or nothing.
+    NumberOrNothing(u64),
+    /// Two numbers of a byte each.
+    Bytes,
+    /// The name of a kind of this group.
+    Name(Group),
+    /// The same, or nothing.
+    NameOrNothing(Group),
+    /// How many nodes a script may have.
+    Members,
+    /// An array of tables, or nothing.
+    Tables,
+    /// An array of the ids of modems, or nothing.
+    Ids,
+    /// Bytes in hexadecimal, where no command is there.
+    Hex,
+    /// Nothing, where a command is there.
+    Nothing,
+}
+
+pub(crate) const BYTE: Wants = Wants::Number(255);
+
+pub(crate) const SHORT: Wants = Wants::Number(65_535);
+
+pub(crate) const WORD: Wants = Wants::Number(4_294_967_295);
+
+pub(crate) const SLOT: Wants = Wants::Number(9_223_372_036_854_775_807);
+
+pub(crate) const LONG: Wants = Wants::Number(18_446_744_073_709_551_615);
+
+pub(crate) const LAST: Wants = Wants::NumberOrNothing(18_446_744_073_709_551_615);
+
+impl Key {
+    ghost use Rattle.std.specs.Prelude.{◌≡◌};
+    ghost use Rattle.text_faults.specs.Rows.{key_name};
+
+    /// The key as it is written.
+    pub fn name(self) -> &'static str
+        ensures { result.now ≡ key_name self }
+    {
+        match self {
+            Key::Members => "members",
+            Key::Modems => "modems",
+            Key::Event => "event",
+            Key::Command => "command",
+            Key::Id => "id",
+            Key::Kind => "kind",
+            Key::Ch => "ch",
+            Key::Ucd => "ucd",
+            Key::Phy => "phy",
+            Key::ShortMax => "short_max",
+            Key::Ranging => "ranging",
+            Key::Data => "data",
+            Key::Base => "base",
+            Key::Modem => "modem",
+            Key::Tag => "tag",
+            Key::Last => "last",
+            Key::Service => "service",
+            Key::Priority => "priority",
+            Key::Size => "size",
+            Key::Interval => "interval",
+            Key::Jitter => "jitter",
+            Key::Sid => "sid",
+            Key::N => "n",
+            Key::Sent => "sent",
+            Key::Len => "len",
+            Key::NotBefore => "not_before",
+            Key::Ack => "ack",
+            Key::Node => "node",
+            Key::Value => "value",
+            Key::Letter => "letter",
+            Key::Now => "now",
+            Key::Output => "output",
+            Key::Near => "near",
+            Key::Slot => "slot",
+            Key::Random => "random",
+        }
+    }
+}
+
+impl Kind {
+    ghost use Rattle.std.specs.Prelude.{◌≡◌};
+    ghost use Rattle.text_faults.specs.Rows.{rows_of, choice_of};
+    ghost use Rattle.text_faults.specs.Faults.{offers};
+
+    /// The keys that a table of this kind has, and what is wanted there. Those of `Command`, of `Event` and of a flow go
+    /// on with the rows of the kind that they name.
+    pub fn rows(self) -> &'static [(Key, Wants)]
+        ensures { result.now ≡ rows_of self }
+    {
+        match self {
+            Kind::Plan => &[(Key::Command, Wants::Tables)],
+            Kind::Script => &[
+                (Key::Members, Wants::Members),
+                (Key::Modems, Wants::Ids),
+                (Key::Event, Wants::Tables),
+            ],
+            Kind::Command => &[(Key::Kind, Wants::Name(Group::Commands))],
+            Kind::Event => &[(Key::Kind, Wants::Name(Group::Events))],
+            Kind::Modem | Kind::Noop | Kind::Tdma | Kind::Advanced => &[],
+            Kind::Channel => &[
+                (Key::Ch, BYTE),
+                (Key::Ucd, BYTE),
+                (Key::Phy, Wants::NameOrNothing(Group::Phys)),
+                (Key::ShortMax, SHORT),
+                (Key::Ranging, Wants::Bytes),
+                (Key::Data, Wants::Bytes),
+                (Key::Base, LONG),
+            ],
+            Kind::Flow => &[
+                (Key::Ch, BYTE),
+                (Key::Modem, WORD),
+                (Key::Tag, WORD),
+                (Key::Last, LAST),
+                (Key::Service, Wants::Name(Group::Services)),
+            ],
+            Kind::BestEffort => &[(Key::Priority, BYTE)],
+            Kind::Ugs => &[
+                (Key::Size, SHORT),
+                (Key::Interval, WORD),
+                (Key::Jitter, WORD),
+                (Key::Base, LONG),
+            ],
+            Kind::Poll => &[
+                (Key::Interval, WORD),
+                (Key::Jitter, WORD),
+                (Key::Base, LONG),
+            ],
+            Kind::Drop => &[(Key::Ch, BYTE), (Key::Sid, SHORT)],
+            Kind::Request => &[
+                (Key::Ch, BYTE),
+                (Key::Sid, SHORT),
+                (Key::N, SHORT),
+                (Key::Sent, LONG),
+            ],
+            Kind::Cut => &[
+                (Key::Ch, BYTE),
+                (Key::Len, SHORT),
+                (Key::NotBefore, LONG),
+                (Key::Ack, LONG),
+            ],
+            Kind::Lead | Kind::Offer | Kind::Crash | Kind::Restart => &[(Key::Node, LONG)],
+            Kind::Deliver | Kind::DeliverThenCrash => &[(Key::Letter, LONG)],
+            Kind::Release => &[(Key::Node, LONG), (Key::Now, LONG)],
+            Kind::Hear => &[(Key::Modem, LONG), (Key::Output, LONG), (Key::Near, SLOT)],
+            Kind::Want => &[
+                (Key::Modem, LONG),
+                (Key::Ch, BYTE),
+                (Key::Sid, SHORT),
+                (Key::N, SHORT),
+            ],
+            Kind::Tick => &[
+                (Key::Modem, LONG),
+                (Key::Ch, BYTE),
+                (Key::Slot, SLOT),
+                (Key::Random, LONG),
+            ],
+        }
+    }
+
+    /// The key by which a table of this kind names a further kind, and of which group that is.
+    pub fn choice(self) -> Option<(Key, Group)>
+        ensures { result ≡ choice_of self }
+    {
+        match self {
+            Kind::Command => Some((Key::Kind, Group::Commands)),
+            Kind::Event => Some((Key::Kind, Group::Events)),
+            Kind::Flow => Some((Key::Service, Group::Services)),
+            _ => None,
+        }
+    }
+
+    /// Whether a table of this kind offers a command or bytes.
+    pub fn offers(self) -> bool
+        ensures { result ≡ offers self }
+    {
+        matches!(self, Kind::Offer)
+    }
+}
