@@ -7,8 +7,9 @@ ghost use Rattle.node.specs.View.{started};
 ghost use Rattle.node.specs.View.Standing.{Running};
 ghost use Rattle.seats.specs.Fresh.{IsFreshAt};
 
-use crate::fault::StartFault;
-use crate::owned::{OwnedNode, begun_node, resumed_node};
+use crate::owned::{begun_node, resumed_node};
+use crate::start::StartFault;
+use crate::stored::StoredNode;
 use acceptor_store::SqlRecords;
 use ballots::{Members, NodeId};
 use node::{Node, SchedNode};
@@ -33,7 +34,7 @@ pub fn node_of(
     path: &str,
     id: NodeId,
     members: Members,
-) -> Result<OwnedNode<File>, StartFault>
+) -> Result<StoredNode<File>, StartFault>
     requires { id < member_count members }
     ensures id { IfOk result (λ node. (⟦<SchedNode<SqlRecords<FileStore<File>>> as Node>⟧.who node).id ≡ id) }
     ensures members { IfOk result (λ node. (⟦<SchedNode<SqlRecords<FileStore<File>>> as Node>⟧.who node).members ≡ member_count members) }
@@ -55,7 +56,7 @@ pub fn new_node_of(
     path: &str,
     id: NodeId,
     members: Members,
-) -> Result<OwnedNode<File>, StartFault>
+) -> Result<StoredNode<File>, StartFault>
     requires { id < member_count members }
     ensures { IfOk result (IsFreshAt ⟦<SchedNode<SqlRecords<FileStore<File>>> as Node>⟧.who ⟦<SchedNode<SqlRecords<FileStore<File>>> as Node>⟧.honest
         ⟦<SchedNode<SqlRecords<FileStore<File>>> as Node>⟧.stands (member_count members) id) }

@@ -7,7 +7,7 @@ use Rattle.acceptor_store.specs.Linked.{Linked, MayFind, IsHonest, MightLeave}
 use Rattle.acceptor_store.specs.Owning.{HadAs}
 use Rattle.acceptor_store_parts.specs.declared.owner.Owner.{Owner}
 use Rattle.acceptor_store_parts.specs.Owned.{AreTablesFor}
-use Rattle.owned_node.specs.Kept.{IsKeptFor, IsOwnedIn, IsFoundFor}
+use Rattle.stored_nodes.specs.Kept.{IsKeptFor, IsOwnedIn, IsFoundFor}
 use Rattle.sqlite.specs.Effect.{Database, IsDatabase}
 use Rattle.sqlite.specs.Files.{over_files, file_state, image_of, IsOpened, Finds}
 use Rattle.sqlite.specs.Held.{Held}

@@ -1,7 +1,7 @@
 use Rattle.std.proofs.Common.{Ok, sym}
 use Rattle.std.proofs.lemmas.Bool.{and_parts}
-use Rattle.owned_node.proofs.Opened.{found_for}
-use Rattle.owned_node.proofs.owned.records_for.Goals as goal
+use Rattle.stored_nodes.proofs.Opened.{found_for}
+use Rattle.stored_nodes.proofs.owned.records_for.Goals as goal
 
 pub open_files-requires-clause-log : goal.open_files-requires-clause-log
 open_files-requires-clause-log g c = (and_parts _ _ (sym c.if-not-may_be_used.ensures)).0

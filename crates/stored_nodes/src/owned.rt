@@ -9,18 +9,16 @@ ghost use Rattle.node.specs.View.{started};
 ghost use Rattle.node.specs.View.Standing.{Running};
 ghost use Rattle.seats.specs.Fresh.{IsFreshAt};
 ghost use Rattle.sqlite.specs.Files.{over_files};
-ghost use Rattle.owned_node.specs.Kept.{IsFoundFor};
+ghost use Rattle.stored_nodes.specs.Kept.{IsFoundFor};
 
-use crate::fault::StartFault;
+use crate::start::StartFault;
+use crate::stored::StoredNode;
 use acceptor_store::{OpenFault, OwnerFault, SqlRecords};
 use ballots::{Members, NodeId};
 use node::{Node, SchedNode};
 use sqlite::{Connection, Error as SqlError, ErrorCode, FileStore, Files, Options};
 use sqlite_disk::Disk;
 use std::alloc::Global;
-
-/// A node whose records are in two files, which are its own.
-pub type OwnedNode<D> = SchedNode<SqlRecords<FileStore<D>>>;
 
 // The salts of a log need no secret here.
 const SEED: u64 = 0x5eed;
@@ -72,7 +70,7 @@ pub fn resumed_node<D: Disk + Drop>(
     files: Files<D>,
     id: NodeId,
     members: Members,
-) -> Result<OwnedNode<D>, StartFault>
+) -> Result<StoredNode<D>, StartFault>
     requires { id < member_count members }
     ensures id { IfOk result (λ node. (⟦<SchedNode<SqlRecords<FileStore<D>>> as Node>⟧.who node).id ≡ id) }
     ensures members { IfOk result (λ node. (⟦<SchedNode<SqlRecords<FileStore<D>>> as Node>⟧.who node).members ≡ member_count members) }
@@ -93,7 +91,7 @@ pub fn begun_node<D: Disk + Drop>(
     files: Files<D>,
     id: NodeId,
     members: Members,
-) -> Result<OwnedNode<D>, StartFault>
+) -> Result<StoredNode<D>, StartFault>
     requires { id < member_count members }
     ensures { IfOk result (IsFreshAt ⟦<SchedNode<SqlRecords<FileStore<D>>> as Node>⟧.who ⟦<SchedNode<SqlRecords<FileStore<D>>> as Node>⟧.honest
         ⟦<SchedNode<SqlRecords<FileStore<D>>> as Node>⟧.stands (member_count members) id) }

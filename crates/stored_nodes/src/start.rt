@@ -36,7 +36,7 @@ pub enum StartFault {
 }
 
 impl From<OwnerFault> for StartFault {
-    ghost use Rattle.owned_node.specs.declared.fault.StartFault.TheVariants.{Unopened};
+    ghost use Rattle.stored_nodes.specs.declared.start.StartFault.TheVariants.{Unopened};
 
     ghost from_gives = { λ fault given. given ≡ Unopened fault };
 
@@ -46,7 +46,7 @@ impl From<OwnerFault> for StartFault {
 }
 
 impl From<NodeFault> for StartFault {
-    ghost use Rattle.owned_node.specs.declared.fault.StartFault.TheVariants.{Unread};
+    ghost use Rattle.stored_nodes.specs.declared.start.StartFault.TheVariants.{Unread};
 
     ghost from_gives = { λ fault given. given ≡ Unread fault };
 
