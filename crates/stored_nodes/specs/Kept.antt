@@ -1,5 +1,5 @@
 -- What files keep of a node that owns them.
-use Rattle.std.specs.Prelude.{◌≡◌, ◌⊎◌, Bool, true, Some, ∥◌∥₁}
+use Rattle.std.specs.Prelude.{◌≡◌, ◌⊎◌, Bool, true, Some}
 use Rattle.acceptor.specs.Content.{Content, no_content}
 use Rattle.acceptor_store_parts.specs.declared.owner.Owner.{Owner}
 use Rattle.acceptor_store_parts.specs.Owned.{AreTablesFor}
