@@ -1,11 +1,17 @@
-//! Nodes that keep their records in files, and the files of nodes in a folder.
+//! Nodes that keep their records in files: fresh ones over the files of a folder, and one over files that are its own.
 #![tactic(auto)]
 
 mod fault;
 mod folder;
 mod fresh;
+mod own_file;
+mod owned;
+mod start;
 mod stored;
 
 pub use fault::StoreFault;
 pub use folder::nodes_in;
+pub use own_file::{new_node_of, node_of};
+pub use owned::{begun_node, records_for, resumed_node};
+pub use start::StartFault;
 pub use stored::{StoredNode, stored_nodes};

@@ -1,0 +1,161 @@
+#!/usr/bin/env python3
+"""Has three or five `upsched node` processes lead, work on a plan, and cut on a timer. It knows of no transport.
+
+Usage: supervisor.py MEMBERS PLAN [CUTS [SECONDS]]
+
+On standard output it writes `K LINE`: this line is for node K. On standard input it reads `K LINE`: a line of a reply
+of node K. The transport carries the letters among these by itself; here they only show what is proposed at each place.
+It offers the plan's commands in order, one after another, and then CUTS cuts like the plan's last one (none). It looks
+every SECONDS (0.1). What the nodes release goes to standard error, each place once a node; the last line there is
+`all PLACES`, when every node has released all that was offered.
+
+It asks node 0 to lead, and the next one where no place is released for a second. It asks the leader to tell a node that
+lags. A node that says that its log is full has done its work: the supervisor ends with status 2. A node that forgot
+what it promised must never come back: so a process that ended is started again over its file, and without `--new`.
+"""
+import collections
+import select
+import sys
+import time
+import tomllib
+
+SILENCE = 1.0
+
+
+def number(value, size):
+    return value.to_bytes(size, "big")
+
+
+def flow_bytes(command):
+    kind = bytes([7 if "last" in command else 2])
+    last = number(command["last"], 8) if "last" in command else b""
+    head = kind + number(command["ch"], 1) + number(command["modem"], 4) + number(command["tag"], 4) + last
+    if command["service"] == "best_effort":
+        return head + b"\0" + number(command["priority"], 1)
+    due = number(command["interval"], 4) + number(command["jitter"], 4) + number(command["base"], 8)
+    if command["service"] == "ugs":
+        return head + b"\1" + number(command["size"], 2) + due
+    return head + b"\2" + due
+
+
+def bytes_of(command):
+    """A plan's command as docs/formats.md has its bytes."""
+    kind, ch = command["kind"], number(command.get("ch", 0), 1)
+    if kind == "channel":
+        backoffs = bytes(command["ranging"] + command["data"])
+        first = bytes([6 if command.get("phy") == "advanced" else 1])
+        return first + ch + number(command["ucd"], 1) + number(command["short_max"], 2) + backoffs + number(command["base"], 8)
+    if kind == "flow":
+        return flow_bytes(command)
+    if kind == "drop":
+        return b"\3" + ch + number(command["sid"], 2)
+    if kind == "request":
+        return b"\4" + ch + number(command["sid"], 2) + number(command["n"], 2) + number(command["sent"], 8)
+    if kind == "cut":
+        return b"\5" + ch + number(command["len"], 2) + number(command["not_before"], 8) + number(command["ack"], 8)
+    return b"\0"
+
+
+class Supervisor:
+    def __init__(self, members, values):
+        self.members, self.values = members, values
+        self.leader, self.heard, self.offered = 0, time.monotonic(), None
+        self.proposed = {}  # by place: the greatest ballot and its value
+        self.outputs = {}
+        self.released = [set() for _ in range(members)]
+
+    def ask(self, node, line):
+        print(node, line, flush=True)
+
+    def lead(self, node):
+        self.leader, self.heard, self.offered = node, time.monotonic(), None
+        self.ask(node, "lead")
+
+    def take_letter(self, letter):
+        """An Accept says which value is proposed at a place."""
+        if letter[0] == 3:
+            ballot, place = [int.from_bytes(letter[at : at + 8], "big") for at in (3, 11)]
+            self.proposed[place] = max(self.proposed.get(place, (0, b"")), (ballot, letter[27:]))
+
+    def take_place(self, node, place, text):
+        if self.outputs.setdefault(place, text) != text:
+            sys.exit(f"supervisor: nodes differ at place {place}")
+        if place not in self.released[node]:
+            self.released[node].add(place)
+            self.heard = time.monotonic()
+            print(f"node {node} place {place} {text}", file=sys.stderr, flush=True)
+
+    def take(self, node, words):
+        """A line of a reply."""
+        if words[0] == "letter":
+            self.take_letter(bytes.fromhex(words[2]))
+        elif words[0] == "place":
+            self.take_place(node, int(words[1]), " ".join(words[2:]))
+        elif words[:2] == ["fault", "2"]:
+            print("supervisor: the log is full: a new group of nodes has to begin", file=sys.stderr)
+            sys.exit(2)
+        elif words[:2] == ["fault", "1"] and node == self.leader:
+            self.lead((node + 1) % self.members)
+
+    def prefix(self, node):
+        """The first place that a node hasn't released."""
+        return next(place for place in range(1, len(self.outputs) + 2) if place not in self.released[node])
+
+    def left(self):
+        """The commands that no released place has."""
+        done = collections.Counter(self.proposed[place][1] for place in self.outputs if place in self.proposed)
+        left = []
+        for value in self.values:
+            done[value] -= 1
+            if done[value] < 0:
+                left.append(value)
+        return left
+
+    def look(self):
+        """Asks for what is due; whether all is done."""
+        firsts = [self.prefix(node) for node in range(self.members)]
+        furthest = firsts.index(max(firsts))
+        left = self.left()
+        if not left and min(firsts) == max(firsts):
+            return True
+        for node, first in enumerate(firsts):
+            self.ask(node, "release 0")
+            if first < max(firsts):
+                self.ask(furthest, f"tell {node} {first}")
+        if time.monotonic() - self.heard > SILENCE:
+            self.lead((self.leader + 1) % self.members)
+        elif left and self.offered != len(left):
+            self.offered = len(left)
+            self.ask(self.leader, f"offer {left[0].hex()}")
+        return False
+
+
+def lines_until(end, kept=[b""]):
+    """The lines that come on standard input until a moment."""
+    while (left := end - time.monotonic()) > 0:
+        if select.select([0], [], [], left)[0]:
+            chunk = sys.stdin.buffer.raw.read(1 << 16)
+            if not chunk:
+                sys.exit("supervisor: no node is there any more")
+            *whole, kept[0] = (kept[0] + chunk).split(b"\n")
+            for line in whole:
+                yield line.decode().split()
+
+
+def main():
+    members, plan = int(sys.argv[1]), sys.argv[2]
+    cuts, seconds = int((sys.argv[3:] + ["0"])[0]), float((sys.argv[4:] + ["0.1"])[0])
+    with open(plan, "rb") as file:
+        commands = tomllib.load(file)["command"]
+    values = [bytes_of(command) for command in commands]
+    values += [bytes_of([c for c in commands if c["kind"] == "cut"][-1])] * cuts
+    it = Supervisor(members, values)
+    it.lead(0)
+    while not it.look():
+        for node, *words in lines_until(time.monotonic() + seconds):
+            it.take(int(node), words)
+    print(f"all {len(it.outputs)}", file=sys.stderr)
+
+
+if __name__ == "__main__":
+    main()
