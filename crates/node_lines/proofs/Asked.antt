@@ -1,5 +1,5 @@
 -- What a line asks that is refused, and that it asks one thing at most.
-use Rattle.std.proofs.Common.{◌≡◌, ◌≢◌, ℕ, List, ◌++◌, Result, Ok, Err, inl, inr, refl, sym, ap, subst, ◌∙◌, get_or, arith}
+use Rattle.std.proofs.Common.{◌≡◌, ◌≢◌, ℕ, ◌+◌, List, ◌∷◌, ◌++◌, Result, Ok, Err, inl, inr, refl, sym, ap, subst, ◌∙◌, get_or, arith}
 use Rattle.std.specs.Prelude.{IfErr, IsErr, codes}
 use Rattle.hex.specs.Hex.{decode_of}
 use Rattle.hex.specs.declared.error.FromHexError.{FromHexError}
@@ -12,7 +12,7 @@ use Rattle.node_lines.specs.declared.fault.LineFault.{LineFault}
 use Rattle.node_lines.specs.declared.fault.LineFault.TheVariants as fault
 use Rattle.node_lines.specs.declared.request.Request.{Request}
 use Rattle.node_lines.specs.declared.request.Request.TheVariants as request
-use Rattle.node_lines.specs.Lines.{Asks, AsksNothing, IsLetterText, IsNoLetter, IsNoLine, IsNumberText, IsRefused, letter_word, offer_word, release_word}
+use Rattle.node_lines.specs.Lines.{Asks, AsksNothing, IsLetterText, IsNoLetter, IsNoLine, IsNumberText, IsRefused, IsTellText, letter_word, offer_word, release_word, tell_word}
 
 same_offer : (a b : List ℕ) → offer_word ++ a ≡ offer_word ++ b → a ≡ b
 same_offer a b e = cc
@@ -22,6 +22,9 @@ same_release a b e = cc
 
 same_letter : (a b : List ℕ) → letter_word ++ a ≡ letter_word ++ b → a ≡ b
 same_letter a b e = cc
+
+same_tell : (a b : List ℕ) → tell_word ++ a ≡ tell_word ++ b → a ≡ b
+same_tell a b e = cc
 
 -- two lines that differ in a byte
 differ : (i : ℕ) (a b : List ℕ) → (get_or a i 0 ≡ get_or b i 0 → ⊥) → a ≡ b → ⊥
@@ -35,6 +38,18 @@ offer_is_no_letter a b = differ 0 (offer_word ++ a) (letter_word ++ b) (λ same.
 
 release_is_no_letter : (a b : List ℕ) → release_word ++ a ≡ letter_word ++ b → ⊥
 release_is_no_letter a b = differ 0 (release_word ++ a) (letter_word ++ b) (λ same. absurd (omega (arith, same)))
+
+tell_is_no_offer : (a b : List ℕ) → tell_word ++ a ≡ offer_word ++ b → ⊥
+tell_is_no_offer a b = differ 0 (tell_word ++ a) (offer_word ++ b) (λ same. absurd (omega (arith, same)))
+
+tell_is_no_release : (a b : List ℕ) → tell_word ++ a ≡ release_word ++ b → ⊥
+tell_is_no_release a b = differ 0 (tell_word ++ a) (release_word ++ b) (λ same. absurd (omega (arith, same)))
+
+tell_is_no_letter : (a b : List ℕ) → tell_word ++ a ≡ letter_word ++ b → ⊥
+tell_is_no_letter a b = differ 0 (tell_word ++ a) (letter_word ++ b) (λ same. absurd (omega (arith, same)))
+
+lead_is_no_tell : (a : List ℕ) → codes "lead" ≡ tell_word ++ a → ⊥
+lead_is_no_tell a = differ 0 (codes "lead") (tell_word ++ a) (λ same. absurd (omega (arith, same)))
 
 lead_is_no_offer : (a : List ℕ) → codes "lead" ≡ offer_word ++ a → ⊥
 lead_is_no_offer a = differ 0 (codes "lead") (offer_word ++ a) (λ same. absurd (omega (arith, same)))
@@ -66,17 +81,28 @@ is_offer line digits is none request.Lead asks = lead_is_no_offer digits (sym as
 is_offer line digits is none (request.Offer value) asks = none value (ap decode_of (same_offer digits asks.0 (sym is ∙ asks.1)) ∙ asks.2)
 is_offer line digits is none (request.Release now) asks = offer_is_no_release digits asks.0 (sym is ∙ asks.1)
 is_offer line digits is none (request.Letter l) asks = offer_is_no_letter digits asks.0 (sym is ∙ asks.1)
+is_offer line digits is none (request.Tell to place) asks = tell_is_no_offer asks.0 digits (sym asks.1 ∙ is)
 
 is_release : (line digits : List ℕ) → line ≡ release_word ++ digits → ((n : ℕ) → IsNumberText digits n → ⊥) → AsksNothing line
 is_release line digits is none request.Lead asks = lead_is_no_release digits (sym asks ∙ is)
 is_release line digits is none (request.Offer value) asks = offer_is_no_release asks.0 digits (sym asks.1 ∙ is)
 is_release line digits is none (request.Release now) asks = none now (subst (λ (d : List ℕ). IsNumberText d now) (sym (same_release digits asks.0 (sym is ∙ asks.1))) asks.2)
 is_release line digits is none (request.Letter l) asks = release_is_no_letter digits asks.0 (sym is ∙ asks.1)
+is_release line digits is none (request.Tell to place) asks = tell_is_no_release asks.0 digits (sym asks.1 ∙ is)
+
+is_tell : (line words : List ℕ) → line ≡ tell_word ++ words → ((to place : ℕ) → IsTellText words to place → ⊥) → AsksNothing line
+is_tell line words is none request.Lead asks = lead_is_no_tell words (sym asks ∙ is)
+is_tell line words is none (request.Offer value) asks = tell_is_no_offer words asks.0 (sym is ∙ asks.1)
+is_tell line words is none (request.Release now) asks = tell_is_no_release words asks.0 (sym is ∙ asks.1)
+is_tell line words is none (request.Letter l) asks = tell_is_no_letter words asks.0 (sym is ∙ asks.1)
+is_tell line words is none (request.Tell to place) asks =
+    none to place (subst (λ (w : List ℕ). IsTellText w to place) (sym (same_tell words asks.0 (sym is ∙ asks.1))) asks.2)
 
 is_letter : (line digits : List ℕ) → line ≡ letter_word ++ digits → ((l : Letter) → IsLetterText digits l → ⊥) → AsksNothing line
 is_letter line digits is none request.Lead asks = lead_is_no_letter digits (sym asks ∙ is)
 is_letter line digits is none (request.Offer value) asks = offer_is_no_letter asks.0 digits (sym asks.1 ∙ is)
 is_letter line digits is none (request.Release now) asks = release_is_no_letter asks.0 digits (sym asks.1 ∙ is)
+is_letter line digits is none (request.Tell to place) asks = tell_is_no_letter asks.0 digits (sym asks.1 ∙ is)
 is_letter line digits is none (request.Letter l) asks = none l (subst (λ (d : List ℕ). IsLetterText d l) (sym (same_letter digits asks.0 (sym is ∙ asks.1))) asks.2)
 
 is_no_line : (line : List ℕ) → IsNoLine line → AsksNothing line
@@ -84,12 +110,14 @@ is_no_line line none request.Lead asks = none.lead asks
 is_no_line line none (request.Offer value) asks = none.offer asks.0 asks.1
 is_no_line line none (request.Release now) asks = none.release asks.0 asks.1
 is_no_line line none (request.Letter l) asks = none.letter asks.0 asks.1
+is_no_line line none (request.Tell to place) asks = none.tell asks.0 asks.1
 
 pub refused_asks_nothing : (line : List ℕ) (why : LineFault) → IsRefused line why → why ≢ fault.OutOfMemory → AsksNothing line
 refused_asks_nothing line fault.NoLine refused other = is_no_line line refused
 refused_asks_nothing line fault.NoHex (inl refused) other = is_offer line refused.0 refused.1 (λ value. not_both value (decode_of refused.0) refused.2)
 refused_asks_nothing line fault.NoHex (inr refused) other = is_letter line refused.0 refused.1 (λ l. no_letter refused.0 fault.NoHex l refused.2 other)
-refused_asks_nothing line fault.NoNumber refused other = is_release line refused.0 refused.1 refused.2
+refused_asks_nothing line fault.NoNumber (inl refused) other = is_release line refused.0 refused.1 refused.2
+refused_asks_nothing line fault.NoNumber (inr refused) other = is_tell line refused.0 refused.1 refused.2
 refused_asks_nothing line (fault.NoLetter why) refused other = is_letter line refused.0 refused.1 (λ l. no_letter refused.0 (fault.NoLetter why) l refused.2 other)
 refused_asks_nothing line fault.OutOfMemory refused other = absurd (other refl)
 refused_asks_nothing line fault.TooLong refused other = absurd refused
@@ -110,6 +138,18 @@ same_text digits more l m same first second =
     let other = read_again m second.spells.0 in
     cc (one, other, read)
 
+same_number : (digits more : List ℕ) (n k : ℕ) → digits ≡ more → IsNumberText digits n → IsNumberText more k → n ≡ k
+same_number digits more n k same first second =
+    sym first.value ∙ ap (λ (d : List ℕ). digits_value 10 (without_leading_plus d)) same ∙ second.value
+
+same_telling : (words more : List ℕ) (to place other further : ℕ) → words ≡ more → IsTellText words to place → IsTellText more other further → request.Tell to place ≡ request.Tell other further
+same_telling words more to place other further same first second =
+    let is : (48 + to) ∷ 32 ∷ first.digits ≡ (48 + other) ∷ 32 ∷ second.digits = sym first.is ∙ same ∙ second.is in
+    let node : to ≡ other = omega (arith, ap (λ (x : List ℕ). get_or x 0 0) is) in
+    let digits : first.digits ≡ second.digits = cc is in
+    let number = same_number first.digits second.digits place further digits first.number second.number in
+    cc (node, number)
+
 -- a line asks one thing at most
 pub one_thing : (line : List ℕ) (r s : Request) → Asks line r → Asks line s → r ≡ s
 one_thing line request.Lead request.Lead a b = refl
@@ -122,11 +162,18 @@ one_thing line (request.Offer v) (request.Release n) a b = absurd (offer_is_no_r
 one_thing line (request.Offer v) (request.Letter m) a b = absurd (offer_is_no_letter a.0 b.0 (sym a.1 ∙ b.1))
 one_thing line (request.Release k) request.Lead a b = absurd (lead_is_no_release a.0 (sym b ∙ a.1))
 one_thing line (request.Release k) (request.Offer w) a b = absurd (offer_is_no_release b.0 a.0 (sym b.1 ∙ a.1))
-one_thing line (request.Release k) (request.Release n) a b =
-    let same = same_release a.0 b.0 (sym a.1 ∙ b.1) in
-    ap (λ (x : ℕ). request.Release x) (sym a.2.value ∙ ap (λ (d : List ℕ). digits_value 10 (without_leading_plus d)) same ∙ b.2.value)
+one_thing line (request.Release k) (request.Release n) a b = ap (λ (x : ℕ). request.Release x) (same_number a.0 b.0 k n (same_release a.0 b.0 (sym a.1 ∙ b.1)) a.2 b.2)
 one_thing line (request.Release k) (request.Letter m) a b = absurd (release_is_no_letter a.0 b.0 (sym a.1 ∙ b.1))
 one_thing line (request.Letter l) request.Lead a b = absurd (lead_is_no_letter a.0 (sym b ∙ a.1))
 one_thing line (request.Letter l) (request.Offer w) a b = absurd (offer_is_no_letter b.0 a.0 (sym b.1 ∙ a.1))
 one_thing line (request.Letter l) (request.Release n) a b = absurd (release_is_no_letter b.0 a.0 (sym b.1 ∙ a.1))
 one_thing line (request.Letter l) (request.Letter m) a b = ap (λ (x : Letter). request.Letter x) (same_text a.0 b.0 l m (same_letter a.0 b.0 (sym a.1 ∙ b.1)) a.2 b.2)
+one_thing line (request.Tell to place) (request.Tell other further) a b = same_telling a.0 b.0 to place other further (same_tell a.0 b.0 (sym a.1 ∙ b.1)) a.2 b.2
+one_thing line (request.Tell to place) request.Lead a b = absurd (lead_is_no_tell a.0 (sym b ∙ a.1))
+one_thing line (request.Tell to place) (request.Offer w) a b = absurd (tell_is_no_offer a.0 b.0 (sym a.1 ∙ b.1))
+one_thing line (request.Tell to place) (request.Release n) a b = absurd (tell_is_no_release a.0 b.0 (sym a.1 ∙ b.1))
+one_thing line (request.Tell to place) (request.Letter m) a b = absurd (tell_is_no_letter a.0 b.0 (sym a.1 ∙ b.1))
+one_thing line request.Lead (request.Tell other further) a b = absurd (lead_is_no_tell b.0 (sym a ∙ b.1))
+one_thing line (request.Offer v) (request.Tell other further) a b = absurd (tell_is_no_offer b.0 a.0 (sym b.1 ∙ a.1))
+one_thing line (request.Release k) (request.Tell other further) a b = absurd (tell_is_no_release b.0 a.0 (sym b.1 ∙ a.1))
+one_thing line (request.Letter l) (request.Tell other further) a b = absurd (tell_is_no_letter b.0 a.0 (sym b.1 ∙ a.1))

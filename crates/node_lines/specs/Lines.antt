@@ -24,6 +24,9 @@ release_word = codes "release "
 abbrev pub letter_word : List ℕ
 letter_word = codes "letter "
 
+abbrev pub tell_word : List ℕ
+tell_word = codes "tell "
+
 -- decimal digits of a number of 64 bits, as `parse` reads it: a plus may stand before them
 pub record IsNumberText (digits : List ℕ) (n : ℕ) : Type 0 where
   pub text : IsUtf8 digits
@@ -37,12 +40,20 @@ pub record IsLetterText (digits : List ℕ) (l : Letter) : Type 0 where
   pub decoded : decode_of digits ≡ Ok bytes
   pub spells : Spells bytes l
 
+-- a node's number in one digit, a blank, and the digits of a place
+pub record IsTellText (words : List ℕ) (to place : ℕ) : Type 0 where
+  pub digits : List ℕ
+  pub is : words ≡ (48 + to) ∷ 32 ∷ digits
+  pub node : to < 5
+  pub number : IsNumberText digits place
+
 -- a line asks this
 abbrev pub Asks : List ℕ → Request → Type 0
 Asks line request.Lead = line ≡ codes "lead"
 Asks line (request.Offer value) = (digits : List ℕ) × (line ≡ offer_word ++ digits) × (decode_of digits ≡ Ok value)
 Asks line (request.Release now) = (digits : List ℕ) × (line ≡ release_word ++ digits) × IsNumberText digits now
 Asks line (request.Letter l) = (digits : List ℕ) × (line ≡ letter_word ++ digits) × IsLetterText digits l
+Asks line (request.Tell to place) = (words : List ℕ) × (line ≡ tell_word ++ words) × IsTellText words to place
 
 -- a line asks nothing
 abbrev pub AsksNothing : List ℕ → Type 0
@@ -58,6 +69,7 @@ pub record IsNoLine (line : List ℕ) : Type 0 where
   pub offer : BeginsOther offer_word line
   pub release : BeginsOther release_word line
   pub letter : BeginsOther letter_word line
+  pub tell : BeginsOther tell_word line
 
 -- why digits are no letter
 abbrev pub IsNoLetter : List ℕ → LineFault → Type 0
@@ -74,7 +86,9 @@ IsRefused line fault.NoLine = IsNoLine line
 IsRefused line fault.NoHex =
     ((digits : List ℕ) × (line ≡ offer_word ++ digits) × IsErr (decode_of digits))
     ⊎ ((digits : List ℕ) × (line ≡ letter_word ++ digits) × IsNoLetter digits fault.NoHex)
-IsRefused line fault.NoNumber = (digits : List ℕ) × (line ≡ release_word ++ digits) × ((n : ℕ) → ¬ IsNumberText digits n)
+IsRefused line fault.NoNumber =
+    ((digits : List ℕ) × (line ≡ release_word ++ digits) × ((n : ℕ) → ¬ IsNumberText digits n))
+    ⊎ ((words : List ℕ) × (line ≡ tell_word ++ words) × ((to place : ℕ) → ¬ IsTellText words to place))
 IsRefused line (fault.NoLetter why) = (digits : List ℕ) × (line ≡ letter_word ++ digits) × IsNoLetter digits (fault.NoLetter why)
 IsRefused line fault.OutOfMemory = (digits : List ℕ) × (line ≡ letter_word ++ digits) × IsNoLetter digits fault.OutOfMemory
 IsRefused line fault.TooLong = ⊥

@@ -3,12 +3,12 @@
 ghost use Rattle.std.specs.Prelude.{◌≡◌, ◌≢◌, ◌++◌, ◌≤◌, ℕ, List, Ok, IfOk, IfErr, IsErr, MatchOption, drop, length, vec_len};
 ghost use Rattle.hex.specs.Hex.{decode_of};
 ghost use Rattle.node_lines.specs.declared.fault.LineFault.TheVariants.{NoHex, OutOfMemory};
-ghost use Rattle.node_lines.specs.Lines.{Asks, AsksNothing, IsLetterText, IsNoLetter, IsNumberText, IsRefused};
+ghost use Rattle.node_lines.specs.Lines.{Asks, AsksNothing, BeginsOther, IsLetterText, IsNoLetter, IsNumberText, IsRefused, IsTellText, letter_word, offer_word};
 
 use crate::digits::decode_in_place;
 use crate::fault::LineFault;
 use crate::request::Request;
-use ballots::{Bytes, Letter};
+use ballots::{Bytes, Letter, NodeId};
 use letter_bytes::{LetterFault, read_letter};
 use std::alloc::Global;
 use std::str;
@@ -70,26 +70,53 @@ fn number_in(digits: &[u8]) -> Option<u64>
     }
 }
 
+/// The node and the place behind the word: one digit, a blank and a number.
+fn telling_in(words: &[u8]) -> Option<(NodeId, u64)>
+    ensures { MatchOption result ((to place : ℕ) → ¬ IsTellText words.now to place) (λ told. IsTellText words.now told.0 told.1) }
+{
+    let (code, rest) = words.split_first()?;
+    let digits = digits_behind(rest, b" ")?;
+    let place = number_in(digits)?;
+    let to = NodeId::new(code.checked_sub(b'0')?)?;
+    Some((to, place))
+}
+
+/// What a line asks that is neither a letter nor an offer.
+fn other_request(line: &[u8]) -> Result<Request, LineFault>
+    requires offer { BeginsOther offer_word line.now }
+    requires letter { BeginsOther letter_word line.now }
+    ensures read { IfOk result (Asks line.now) }
+    ensures fault { IfErr result (IsRefused line.now) }
+{
+    if line == b"lead".as_slice() {
+        return Ok(Request::Lead);
+    }
+    if let Some(digits) = digits_behind(line, b"release ") {
+        return match number_in(digits) {
+            Some(now) => Ok(Request::Release(now)),
+            None => Err(LineFault::NoNumber),
+        };
+    }
+    if let Some(words) = digits_behind(line, b"tell ") {
+        return match telling_in(words) {
+            Some((to, place)) => Ok(Request::Tell(to, place)),
+            None => Err(LineFault::NoNumber),
+        };
+    }
+    Err(LineFault::NoLine)
+}
+
 fn request_of(alloc: Global, line: Vec<u8>) -> Result<Request, LineFault>
     ensures read { IfOk result (Asks line.items) }
     ensures fault { IfErr result (IsRefused line.items) }
 {
-    if line.as_slice() == b"lead".as_slice() {
-        return Ok(Request::Lead);
-    }
     if let Some(place) = behind(&line, b"letter ") {
         return Ok(Request::Letter(letter_from(alloc, line, place)?));
     }
     if let Some(place) = behind(&line, b"offer ") {
         return Ok(Request::Offer(Bytes::new(bytes_from(line, place)?)));
     }
-    if let Some(place) = behind(&line, b"release ") {
-        return match number_in(&line[place..]) {
-            Some(now) => Ok(Request::Release(now)),
-            None => Err(LineFault::NoNumber),
-        };
-    }
-    Err(LineFault::NoLine)
+    other_request(&line)
 }
 
 /// What a line, without its end, asks of a node. Its digits are decoded in the line's memory: only a letter's values

@@ -1,4 +1,4 @@
-use ballots::{Bytes, Letter};
+use ballots::{Bytes, Letter, NodeId};
 
 /// What a line asks of a node.
 #[derive(Drop)]
@@ -11,4 +11,6 @@ pub enum Request {
     Release(u64),
     /// To take a letter, which came from another node or from itself.
     Letter(Letter),
+    /// To tell that node what it learned from a place on.
+    Tell(NodeId, u64),
 }

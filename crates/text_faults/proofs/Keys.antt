@@ -7,7 +7,7 @@ use Rattle.toml.specs.Data.{Data, string, integer, float, boolean, datetime, arr
 use Rattle.flow_state.specs.declared.channel.Phy.{Phy}
 use Rattle.flow_state.specs.declared.channel.Phy.TheVariants.{Tdma, Advanced}
 use Rattle.flow_state.specs.Limits.{last_time}
-use Rattle.script_text.specs.Fields.{HasText, HasNumber}
+use Rattle.script_text.specs.Fields.{HasNode, HasText, HasNumber}
 use Rattle.script_text.specs.CommandTable.{IsPair, HasPair, HasPhy, HasLast}
 use Rattle.text_faults.specs.declared.kind.Kind.{Kind}
 use Rattle.text_faults.specs.declared.kind.Group.{Group}
@@ -79,6 +79,20 @@ no_number_fault place kind key d most bits n width h =
     let below : n < suc most = rw width (h.fits) in
     let least : n ≤ most = omega arith in
     rw (h.held, le-leb n most least) refl
+
+-- a node's number
+pub node_number : (place : Place) (kind : Kind) (key : Key) (d : Data) → fault_at place kind d (key, wants.Number 4) ≡ None → (n : ℕ) × HasNode d (key_name key) n
+node_number place kind key d h =
+    let (n, is, fits) = held_whole place kind key 4 (get (key_name key) d) h in
+    let node : n < 5 = omega arith in
+    let byte : n < 256 = omega arith in
+    (n, record { number = record { held = is; fits = byte }; node = node })
+
+pub no_node_fault : (place : Place) (kind : Kind) (key : Key) (d : Data) (n : ℕ) → HasNode d (key_name key) n → fault_at place kind d (key, wants.Number 4) ≡ None
+no_node_fault place kind key d n h =
+    let node : n < 5 = h.node in
+    let least : n ≤ 4 = omega arith in
+    rw (h.number.held, le-leb n 4 least) refl
 
 -- the name of a kind
 is_one : (g : Group) (t : Option (List ℕ)) → is_one_of g t ≡ true → (k : Kind) × (named_by g t ≡ Some k)

@@ -16,7 +16,7 @@ use Rattle.text_faults.specs.declared.fault.Place.TheVariants as places
 use Rattle.text_faults.specs.Kinds.{kind_name, kinds_of, named}
 use Rattle.text_faults.specs.Rows.{rows_of}
 use Rattle.text_faults.specs.Faults.{fault_at, key_faults, chosen, kind_faults, table_faults, is_hex, offers, is_offer, offered_faults, event_faults}
-use Rattle.text_faults.proofs.Keys.{both_empty, of_none, number, no_number_fault, name, IsOneOf, named_text}
+use Rattle.text_faults.proofs.Keys.{both_empty, of_none, number, no_number_fault, node_number, no_node_fault, name, IsOneOf, named_text}
 use Rattle.text_faults.proofs.Spelled.{kept_keys, own_keys, spelled, no_command_fault, no_more}
 
 -- ---- what is offered
@@ -71,6 +71,14 @@ offer n d text none part =
     let (node, a) = number (places.Event n) kinds.Offer keys.Node d 18446744073709551615 64 refl h.0 in
     let (bytes, b) = offered n (get (codes "command") d) (get (codes "value") d) part in
     (events.Offer node bytes, (text, a, b))
+
+tell : (n : ℕ) (d : Data) → Means n d kinds.Tell
+tell n d text none part =
+    let h = own_keys (places.Event n) kinds.Tell d none in
+    let (node, a) = number (places.Event n) kinds.Tell keys.Node d 18446744073709551615 64 refl h.0 in
+    let (to, b) = node_number (places.Event n) kinds.Tell keys.To d h.1.0 in
+    let (place, e) = number (places.Event n) kinds.Tell keys.Place d 18446744073709551615 64 refl h.1.1.0 in
+    (events.Tell node to place, (text, a, b, e))
 
 deliver : (n : ℕ) (d : Data) → Means n d kinds.Deliver
 deliver n d text none part =
@@ -132,15 +140,16 @@ tick n d text none part =
 means_kind : (n : ℕ) (d : Data) (k : Kind) → IsOneOf k (kinds_of Events) → Means n d k
 means_kind n d k (inl is) = subst (Means n d) (sym is) (lead n d)
 means_kind n d k (inr (inl is)) = subst (Means n d) (sym is) (offer n d)
-means_kind n d k (inr (inr (inl is))) = subst (Means n d) (sym is) (deliver n d)
-means_kind n d k (inr (inr (inr (inl is)))) = subst (Means n d) (sym is) (deliver_then_crash n d)
-means_kind n d k (inr (inr (inr (inr (inl is))))) = subst (Means n d) (sym is) (crash n d)
-means_kind n d k (inr (inr (inr (inr (inr (inl is)))))) = subst (Means n d) (sym is) (restart n d)
-means_kind n d k (inr (inr (inr (inr (inr (inr (inl is))))))) = subst (Means n d) (sym is) (release n d)
-means_kind n d k (inr (inr (inr (inr (inr (inr (inr (inl is)))))))) = subst (Means n d) (sym is) (hear n d)
-means_kind n d k (inr (inr (inr (inr (inr (inr (inr (inr (inl is))))))))) = subst (Means n d) (sym is) (want n d)
-means_kind n d k (inr (inr (inr (inr (inr (inr (inr (inr (inr (inl is)))))))))) = subst (Means n d) (sym is) (tick n d)
-means_kind n d k (inr (inr (inr (inr (inr (inr (inr (inr (inr (inr none)))))))))) = absurd none
+means_kind n d k (inr (inr (inl is))) = subst (Means n d) (sym is) (tell n d)
+means_kind n d k (inr (inr (inr (inl is)))) = subst (Means n d) (sym is) (deliver n d)
+means_kind n d k (inr (inr (inr (inr (inl is))))) = subst (Means n d) (sym is) (deliver_then_crash n d)
+means_kind n d k (inr (inr (inr (inr (inr (inl is)))))) = subst (Means n d) (sym is) (crash n d)
+means_kind n d k (inr (inr (inr (inr (inr (inr (inl is))))))) = subst (Means n d) (sym is) (restart n d)
+means_kind n d k (inr (inr (inr (inr (inr (inr (inr (inl is)))))))) = subst (Means n d) (sym is) (release n d)
+means_kind n d k (inr (inr (inr (inr (inr (inr (inr (inr (inl is))))))))) = subst (Means n d) (sym is) (hear n d)
+means_kind n d k (inr (inr (inr (inr (inr (inr (inr (inr (inr (inl is)))))))))) = subst (Means n d) (sym is) (want n d)
+means_kind n d k (inr (inr (inr (inr (inr (inr (inr (inr (inr (inr (inl is))))))))))) = subst (Means n d) (sym is) (tick n d)
+means_kind n d k (inr (inr (inr (inr (inr (inr (inr (inr (inr (inr (inr none))))))))))) = absurd none
 
 -- a table without a fault means an event
 pub meant : (n : ℕ) (d : Data) → event_faults n d ≡ [] → (e : Event) × MeansEvent d e
@@ -168,6 +177,11 @@ no_event_fault n d (events.Offer node bytes) (text, a, b) =
     let h0 = no_number_fault (places.Event n) kinds.Offer keys.Node d 18446744073709551615 64 node refl a in
     no_kind_fault n d kinds.Offer refl text (no_more _ (of_none (fault_at (places.Event n) kinds.Offer d) (rows_of kinds.Offer) (h0, tt)))
     (no_offer_fault n (get (codes "command") d) (get (codes "value") d) bytes b)
+no_event_fault n d (events.Tell node to place) (text, a, b, e) =
+    let h0 = no_number_fault (places.Event n) kinds.Tell keys.Node d 18446744073709551615 64 node refl a in
+    let h1 = no_node_fault (places.Event n) kinds.Tell keys.To d to b in
+    let h2 = no_number_fault (places.Event n) kinds.Tell keys.Place d 18446744073709551615 64 place refl e in
+    no_kind_fault n d kinds.Tell refl text (no_more _ (of_none (fault_at (places.Event n) kinds.Tell d) (rows_of kinds.Tell) (h0, (h1, (h2, tt))))) refl
 no_event_fault n d (events.Deliver letter) (text, a) =
     let h0 = no_number_fault (places.Event n) kinds.Deliver keys.Letter d 18446744073709551615 64 letter refl a in
     no_kind_fault n d kinds.Deliver refl text (no_more _ (of_none (fault_at (places.Event n) kinds.Deliver d) (rows_of kinds.Deliver) (h0, tt))) refl

@@ -1,7 +1,7 @@
 -- The kinds of the tables in a plan and in a script.
 use Rattle.std.specs.Prelude.{ℕ, List, [], ◌∷◌, Option, codes, bytes_eq, find}
 use Rattle.text_faults.specs.declared.kind.Kind.{Kind}
-use Rattle.text_faults.specs.declared.kind.Kind.TheVariants.{Plan, Script, Modem, Command, Event, Noop, Channel, Flow, Drop, Request, Cut, BestEffort, Ugs, Poll, Tdma, Advanced, Lead, Offer, Deliver, DeliverThenCrash, Crash, Restart, Release, Hear, Want, Tick}
+use Rattle.text_faults.specs.declared.kind.Kind.TheVariants.{Plan, Script, Modem, Command, Event, Noop, Channel, Flow, Drop, Request, Cut, BestEffort, Ugs, Poll, Tdma, Advanced, Lead, Offer, Tell, Deliver, DeliverThenCrash, Crash, Restart, Release, Hear, Want, Tick}
 use Rattle.text_faults.specs.declared.kind.Group.{Group}
 use Rattle.text_faults.specs.declared.kind.Group.TheVariants.{Commands, Services, Phys, Events}
 
@@ -25,6 +25,7 @@ kind_name Tdma = codes "tdma"
 kind_name Advanced = codes "advanced"
 kind_name Lead = codes "lead"
 kind_name Offer = codes "offer"
+kind_name Tell = codes "tell"
 kind_name Deliver = codes "deliver"
 kind_name DeliverThenCrash = codes "deliver_then_crash"
 kind_name Crash = codes "crash"
@@ -39,7 +40,7 @@ abbrev pub kinds_of : Group → List Kind
 kinds_of Commands = Noop ∷ Channel ∷ Flow ∷ Drop ∷ Request ∷ Cut ∷ []
 kinds_of Services = BestEffort ∷ Ugs ∷ Poll ∷ []
 kinds_of Phys = Tdma ∷ Advanced ∷ []
-kinds_of Events = Lead ∷ Offer ∷ Deliver ∷ DeliverThenCrash ∷ Crash ∷ Restart ∷ Release ∷ Hear ∷ Want ∷ Tick ∷ []
+kinds_of Events = Lead ∷ Offer ∷ Tell ∷ Deliver ∷ DeliverThenCrash ∷ Crash ∷ Restart ∷ Release ∷ Hear ∷ Want ∷ Tick ∷ []
 
 -- the kind of a group with this name
 abbrev pub named : Group → List ℕ → Option Kind

@@ -39,6 +39,8 @@ key_name keys.Len = codes "len"
 key_name keys.NotBefore = codes "not_before"
 key_name keys.Ack = codes "ack"
 key_name keys.Node = codes "node"
+key_name keys.To = codes "to"
+key_name keys.Place = codes "place"
 key_name keys.Value = codes "value"
 key_name keys.Letter = codes "letter"
 key_name keys.Now = codes "now"
@@ -63,6 +65,10 @@ slot = wants.Number 9223372036854775807
 abbrev pub long : Wants
 long = wants.Number 18446744073709551615
 
+-- a node's number
+abbrev pub member : Wants
+member = wants.Number 4
+
 abbrev pub last : Wants
 last = wants.NumberOrNothing 18446744073709551615
 
@@ -85,6 +91,7 @@ rows_of kinds.Request = (keys.Ch, byte) ∷ (keys.Sid, short) ∷ (keys.N, short
 rows_of kinds.Cut = (keys.Ch, byte) ∷ (keys.Len, short) ∷ (keys.NotBefore, long) ∷ (keys.Ack, long) ∷ []
 rows_of kinds.Lead = (keys.Node, long) ∷ []
 rows_of kinds.Offer = (keys.Node, long) ∷ []
+rows_of kinds.Tell = (keys.Node, long) ∷ (keys.To, member) ∷ (keys.Place, long) ∷ []
 rows_of kinds.Deliver = (keys.Letter, long) ∷ []
 rows_of kinds.DeliverThenCrash = (keys.Letter, long) ∷ []
 rows_of kinds.Crash = (keys.Node, long) ∷ []

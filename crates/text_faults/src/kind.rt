@@ -22,6 +22,7 @@ pub enum Kind {
     Advanced,
     Lead,
     Offer,
+    Tell,
     Deliver,
     DeliverThenCrash,
     Crash,
@@ -68,6 +69,7 @@ impl Kind {
             Kind::Advanced => "advanced",
             Kind::Lead => "lead",
             Kind::Offer => "offer",
+            Kind::Tell => "tell",
             Kind::Deliver => "deliver",
             Kind::DeliverThenCrash => "deliver_then_crash",
             Kind::Crash => "crash",
@@ -102,6 +104,7 @@ impl Group {
             Group::Events => &[
                 Kind::Lead,
                 Kind::Offer,
+                Kind::Tell,
                 Kind::Deliver,
                 Kind::DeliverThenCrash,
                 Kind::Crash,

@@ -34,6 +34,8 @@ pub enum Key {
     NotBefore,
     Ack,
     Node,
+    To,
+    Place,
     Value,
     Letter,
     Now,
@@ -76,6 +78,9 @@ pub(crate) const WORD: Wants = Wants::Number(4_294_967_295);
 
 pub(crate) const SLOT: Wants = Wants::Number(9_223_372_036_854_775_807);
 
+/// A node's number.
+pub(crate) const MEMBER: Wants = Wants::Number(4);
+
 pub(crate) const LONG: Wants = Wants::Number(18_446_744_073_709_551_615);
 
 pub(crate) const LAST: Wants = Wants::NumberOrNothing(18_446_744_073_709_551_615);
@@ -117,6 +122,8 @@ impl Key {
             Key::NotBefore => "not_before",
             Key::Ack => "ack",
             Key::Node => "node",
+            Key::To => "to",
+            Key::Place => "place",
             Key::Value => "value",
             Key::Letter => "letter",
             Key::Now => "now",
@@ -190,6 +197,7 @@ impl Kind {
                 (Key::Ack, LONG),
             ],
             Kind::Lead | Kind::Offer | Kind::Crash | Kind::Restart => &[(Key::Node, LONG)],
+            Kind::Tell => &[(Key::Node, LONG), (Key::To, MEMBER), (Key::Place, LONG)],
             Kind::Deliver | Kind::DeliverThenCrash => &[(Key::Letter, LONG)],
             Kind::Release => &[(Key::Node, LONG), (Key::Now, LONG)],
             Kind::Hear => &[(Key::Modem, LONG), (Key::Output, LONG), (Key::Near, SLOT)],
