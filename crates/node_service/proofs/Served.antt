@@ -1,10 +1,10 @@
 -- Lines that are served one after another.
-use Rattle.std.proofs.Common.{◌≡◌, ℕ, ◌+◌, List, [], ◌∷◌, ◌++◌, length, true, Option, refl, sym, ap, ◌∙◌, subst, append_assoc, length-append}
+use Rattle.std.proofs.Common.{◌≡◌, ℕ, List, [], ◌∷◌, ◌++◌, true, Option, refl, sym, ap, ◌∙◌, subst, append_assoc}
 use Rattle.std.specs.Io.KnownBytes.{Appends, Consumes}
 use Rattle.std.specs.List.{flat_map}
 use Rattle.std.proofs.KnownBytes.{Appends-nil, Appends-trans, Consumes-nil, Consumes-trans}
 use Rattle.std.proofs.lemmas.List.{append-nil}
-use Rattle.node_lines.specs.Input.{IsLine, ReadsLast, ReadsLine}
+use Rattle.node_lines.specs.Input.{ReadsLine}
 use Rattle.node_service.specs.declared.incoming.Incoming.{Incoming}
 use Rattle.node_service.specs.declared.incoming.Incoming.TheVariants as incoming
 use Rattle.node_service.specs.declared.incoming.Input.{Ghosts as Inputs}

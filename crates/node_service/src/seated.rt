@@ -23,6 +23,7 @@ impl<N: Node> Actor for Seat<N> {
             Request::Offer(value) => self.act(Asked::Offer(value.as_slice())),
             Request::Release(now) => self.act(Asked::Release(*now)),
             Request::Letter(letter) => self.act(Asked::Receive(letter)),
+            Request::Tell(to, place) => self.act(Asked::Tell(to, *place)),
         }
     }
 }

@@ -35,12 +35,17 @@ const SAMPLES: [(&str, Fields); 6] = [
 ];
 
 /// Lines that ask nothing, and why.
-const REFUSED: [(&str, LineFault); 10] = [
+const REFUSED: [(&str, LineFault); 15] = [
     ("", LineFault::NoLine),
     ("lead ", LineFault::NoLine),
     ("offer 0", LineFault::NoHex),
     ("letter 0g", LineFault::NoHex),
     ("release 18446744073709551616", LineFault::NoNumber),
+    ("tell", LineFault::NoLine),
+    ("tell 5 1", LineFault::NoNumber),
+    ("tell 01 1", LineFault::NoNumber),
+    ("tell 1", LineFault::NoNumber),
+    ("tell 1 ", LineFault::NoNumber),
     ("letter 05", LineFault::NoLetter(LetterFault::Short)),
     ("letter 0705", LineFault::NoLetter(LetterFault::NoNote)),
     ("letter 0505", LineFault::NoLetter(LetterFault::NoNode)),
@@ -54,12 +59,14 @@ const REFUSED: [(&str, LineFault); 10] = [
     ),
 ];
 
-/// Lines that ask something: the first letter of what, and a value's length or a time.
-const ASKED: [(&str, (char, u64)); 5] = [
+/// Lines that ask something: a letter of what, and a value's length, a time, or ten times a place and a node's number.
+const ASKED: [(&str, (char, u64)); 7] = [
     ("lead", ('l', 0)),
     ("offer ", ('o', 0)),
     ("offer 00fF", ('o', 2)),
     ("release +7", ('r', 7)),
+    ("tell 0 17", ('k', 170)),
+    ("tell 4 1", ('k', 14)),
     ("release 18446744073709551615", ('r', u64::MAX)),
 ];
 
@@ -155,6 +162,7 @@ fn asked(request: Request) -> (char, u64) {
         Request::Offer(value) => ('o', value.as_slice().len() as u64),
         Request::Release(now) => ('r', now),
         Request::Letter(_) => ('t', 0),
+        Request::Tell(to, place) => ('k', place.wrapping_mul(10).wrapping_add(u64::from(to.number()))),
     }
 }
 

@@ -18,7 +18,7 @@ use Rattle.seats.specs.Occupant.{IsHonest, Stands, is_up, node_of, who_of}
 use Rattle.seats.specs.Seat.{Shown, crashed}
 use Rattle.seats.specs.declared.seat.Seat.{Seat}
 use Rattle.upsched_node_parts.proofs.Runs.{ActsAsSeat, runs_as, whole_lines}
-use Rattle.upsched_node_parts.specs.Serving.{EndsAs, IsDown, IsUp, ServesAs}
+use Rattle.upsched_node_parts.specs.Serving.{IsDown, IsUp, ServesAs}
 
 -- a node in its seat, as what acts
 abbrev pub seat_actor : {N : Type 0} {g : Ghosts N} → Actors (Seat N g)

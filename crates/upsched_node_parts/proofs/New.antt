@@ -1,11 +1,11 @@
 -- A new node that serves.
-use Rattle.std.proofs.Common.{◌≡◌, ◌≢◌, ◌↔◌, inl, inr, ℕ, Bool, true, false, Result, Ok, Err, IsOk, MatchResult, refl, sym, ap, ◌∙◌, subst}
+use Rattle.std.proofs.Common.{◌≡◌, ◌↔◌, inr, ℕ, Bool, true, false, Result, Ok, Err, IsOk, MatchResult, refl, sym, ap, ◌∙◌, subst}
 use Rattle.std.specs.Io.KnownBytes.{Appends}
 use Rattle.acceptor.specs.Content.{no_content}
 use Rattle.ballots.specs.Members.{member_count}
 use Rattle.ballots.specs.declared.members.Members.{Members}
 use Rattle.node.specs.declared.node.Node.{Ghosts}
-use Rattle.node.specs.View.{Standing, started}
+use Rattle.node.specs.View.{started}
 use Rattle.node.specs.View.Standing.{Running}
 use Rattle.node_service.specs.declared.incoming.Input.{Ghosts as Inputs}
 use Rattle.node_service.specs.declared.outgoing.Output.{Ghosts as Outputs}

@@ -1,5 +1,5 @@
 -- A node in its seat that replies to lines.
-use Rattle.std.proofs.Common.{◌≡◌, ℕ, List, [], ◌∷◌, All, refl, sym, subst}
+use Rattle.std.proofs.Common.{ℕ, List, [], ◌∷◌, All, refl, sym, subst}
 use Rattle.std.proofs.lemmas.List.Elements.{All-cons, All-nil}
 use Rattle.node.specs.declared.node.Node.{Ghosts}
 use Rattle.node.specs.View.{Standing}
@@ -13,7 +13,7 @@ use Rattle.node_service.specs.declared.outgoing.Reply.{Reply}
 use Rattle.node_service.specs.declared.outgoing.Reply.TheVariants as reply
 use Rattle.node_service.specs.Incoming.{IsTakenFor}
 use Rattle.node_service.specs.Seated.{DoesAsAsked}
-use Rattle.node_service.specs.Serving.{RepliesTo, Turn, Turns}
+use Rattle.node_service.specs.Serving.{RepliesTo, Turns}
 use Rattle.seats.specs.Occupant.{IsHonest, Stands, who_of}
 use Rattle.seats.specs.Seat.{SameMember}
 use Rattle.seats.specs.declared.acted.Acted.{Acted}

@@ -1,11 +1,11 @@
 -- What one node does with the lines that it reads.
-use Rattle.std.specs.Prelude.{◌≡◌, ◌≢◌, ◌⊎◌, ℕ, ◌-◌, ◌^◌, List, [], ◌∷◌, ◌++◌, length, All, None, Option}
+use Rattle.std.specs.Prelude.{◌≡◌, ◌≢◌, ◌⊎◌, ℕ, ◌-◌, ◌^◌, List, [], ◌∷◌, ◌++◌, length, All}
 use Rattle.std.specs.Io.KnownBytes.{Appends, Consumes}
-use Rattle.acceptor.specs.Content.{Content, Write, no_content}
+use Rattle.acceptor.specs.Content.{no_content}
 use Rattle.ballots.specs.Members.{member_count}
 use Rattle.ballots.specs.declared.members.Members.{Members}
 use Rattle.node.specs.declared.node.Node.{Ghosts}
-use Rattle.node.specs.View.{View, Standing, started}
+use Rattle.node.specs.View.{Standing, started}
 use Rattle.node.specs.View.Standing.{Running, Stopped}
 use Rattle.node_lines.specs.Input.{IsLine, ReadsLast}
 use Rattle.node_lines.specs.Lines.{Asks}

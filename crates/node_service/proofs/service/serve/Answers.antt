@@ -1,4 +1,4 @@
-use Rattle.std.proofs.Common.{◌≡◌, ℕ, ◌+◌, List, [], ◌∷◌, ◌++◌, length, true, ap, ◌∙◌, length-append}
+use Rattle.std.proofs.Common.{◌≡◌, ℕ, ◌+◌, List, [], ◌∷◌, ◌++◌, true, ap, ◌∙◌, length-append}
 use Rattle.node_service.proofs.Served.{one_more, turn_of}
 use Rattle.node_service.specs.declared.outgoing.Reply.{Reply}
 use Rattle.node_service.proofs.service.serve.Goals as goal
