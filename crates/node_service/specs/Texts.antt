@@ -15,7 +15,7 @@ use Rattle.seats.specs.Acted.{letters_of, outputs_of, told}
 use Rattle.seats.specs.declared.acted.Acted.{Acted as Came}
 use Rattle.seats.specs.declared.answer.Answer.{Answer}
 use Rattle.node_service.specs.declared.outgoing.Reply.{Reply}
-use Rattle.node_service.specs.declared.outgoing.Reply.TheVariants.{Fresh, Acted, Refused}
+use Rattle.node_service.specs.declared.outgoing.Reply.TheVariants.{Fresh, Restarted, Acted, Refused}
 
 -- the name of what is wrong with a letter's bytes
 abbrev pub letter_fault_name : LetterFault → List ℕ
@@ -69,8 +69,13 @@ acted_text acted = head_text (told acted) ++ given_text acted
 abbrev pub fresh_text : ℕ → Members → List ℕ
 fresh_text id members = codes "node " ++ (decimal id ++ (codes " of " ++ (decimal (member_count members) ++ (codes " fresh" ++ 10 ∷ []))))
 
+-- the first line of a node that goes on over what it left
+abbrev pub restarted_text : ℕ → Members → List ℕ
+restarted_text id members = codes "node " ++ (decimal id ++ (codes " of " ++ (decimal (member_count members) ++ (codes " restarted" ++ 10 ∷ []))))
+
 -- what is told at one time
 abbrev pub reply_text : Reply → List ℕ
 reply_text (Fresh id members) = fresh_text id members
+reply_text (Restarted id members) = restarted_text id members
 reply_text (Acted acted) = acted_text acted
 reply_text (Refused why) = refused_text why

@@ -4,7 +4,7 @@ ghost use Rattle.std.specs.Prelude.{◌≡◌, ℕ, List, Option, [], IfErr, OnO
 ghost use Rattle.std.specs.Io.KnownBytes.{Appends};
 ghost use Rattle.node_lines.specs.declared.writing.Unwritten.{Unwritten as Why};
 ghost use Rattle.node_service.specs.declared.outgoing.Reply.{Reply as Replied};
-ghost use Rattle.node_service.specs.Texts.{acted_text, fresh_text, given_text, head_text, place_line, place_lines, reply_text};
+ghost use Rattle.node_service.specs.Texts.{acted_text, fresh_text, given_text, head_text, place_line, place_lines, reply_text, restarted_text};
 ghost use Rattle.node_service.specs.Texts.{fault_text, letter_fault_name, line_fault_name, no_letter_text, refused_text};
 
 use ballots::{Members, NodeId};
@@ -22,6 +22,8 @@ use std::io::Write;
 pub enum Reply {
     /// This node of so many is there, and holds nothing.
     Fresh(NodeId, Members),
+    /// This node of so many is there again, and goes on over what it left.
+    Restarted(NodeId, Members),
     /// The line asked something, and this came of it.
     Acted(Acted),
     /// The line asked nothing, or there was no memory for what it asked.
@@ -152,11 +154,24 @@ fn write_fresh<W: Write>(id: NodeId, members: Members, output: &mut W) -> Result
     Ok(())
 }
 
+fn write_restarted<W: Write>(id: NodeId, members: Members, output: &mut W) -> Result<(), Unwritten>
+    ensures { OnOk result (Appends (W.contents output.old) (W.contents output.new) (restarted_text id members)) }
+{
+    writeln!(
+        output,
+        "node {} of {} restarted",
+        id.number(),
+        members.count()
+    )?;
+    Ok(())
+}
+
 fn write_text<W: Write>(alloc: Global, reply: &Reply, output: &mut W) -> Result<(), Unwritten>
     ensures { OnOk result (Appends (W.contents output.old) (W.contents output.new) (reply_text reply.now)) }
 {
     match reply {
         Reply::Fresh(id, members) => write_fresh(*id, *members, output),
+        Reply::Restarted(id, members) => write_restarted(*id, *members, output),
         Reply::Acted(acted) => write_acted(alloc, acted, output),
         Reply::Refused(why) => write_refused(*why, output),
     }

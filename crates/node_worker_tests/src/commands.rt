@@ -55,7 +55,7 @@ fn read_as(alloc: Global, words: &[&str]) -> Result<String, Fail> {
     }
 }
 
-const WORDS: [(&[&str], &str); 34] = [
+const WORDS: [(&[&str], &str); 36] = [
     (
         &["maps", "a plan.toml"],
         "Maps(MapsWords { plan: \"a plan.toml\" })",
@@ -95,11 +95,11 @@ const WORDS: [(&[&str], &str); 34] = [
     ),
     (
         &["node", "0", "--members", "3"],
-        "Node(NodeWords { number: \"0\", members: \"3\" })",
+        "Node(NodeWords { number: \"0\", members: \"3\", store: None, is_new: false })",
     ),
     (
         &["node", "--members=5", "4"],
-        "Node(NodeWords { number: \"4\", members: \"5\" })",
+        "Node(NodeWords { number: \"4\", members: \"5\", store: None, is_new: false })",
     ),
         &["check", "a plan.toml"],
         "Check(CheckWords { path: \"a plan.toml\", form: None })",

@@ -43,4 +43,8 @@ pub struct NodeWords<'a> {
     pub number: &'a str,
     /// How many members there are.
     pub members: &'a str,
+    /// The path of the database of its records, if they aren't in memory.
+    pub store: Option<&'a str>,
+    /// Whether it is a new node, which has no records yet.
+    pub is_new: bool,
 }

@@ -32,6 +32,7 @@ use Rattle.upsched_map_parts.specs.declared.status.Status.TheVariants.{Done, Fau
 -- node me of so many members, which stood at s, replied so to a line, and stands at t
 abbrev pub RepliesAs : ℕ → ℕ → Standing → List ℕ → Reply → Standing → Type 0
 RepliesAs members me s line (reply.Fresh id count) t = ⊥
+RepliesAs members me s line (reply.Restarted id count) t = ⊥
 RepliesAs members me s line (reply.Acted acted) t =
     (asked : Request) × Asks line asked × GoesTo members me s (asked_of asked) (told acted) (letters_of acted) (outputs_of acted) (λ u. u ≡ t)
 RepliesAs members me s line (reply.Refused why) t = IsTurnedAway line why × (t ≡ s)

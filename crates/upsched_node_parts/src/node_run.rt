@@ -24,10 +24,10 @@ use upsched_map_parts::{Fault, NodeWords, Status};
 const INPUT_NAME: &str = "standard input";
 
 /// What is told of words that name no member.
-const NO_MEMBER: &str = "error: K is one of the M members, from 0 on, and M is 3 or 5";
+pub const NO_MEMBER: &str = "error: K is one of the M members, from 0 on, and M is 3 or 5";
 
 /// What is told of a write that failed.
-fn fault_of<'a>(why: Unwritten) -> Fault<'a> {
+pub fn unwritten<'a>(why: Unwritten) -> Fault<'a> {
     match why {
         Unwritten::OutOfMemory => Fault::Memory,
         Unwritten::Output => Fault::Output,
@@ -35,14 +35,14 @@ fn fault_of<'a>(why: Unwritten) -> Fault<'a> {
 }
 
 /// What is told of how the lines ended: nothing where there are no more.
-fn ended<'a>(end: End) -> Result<(), Fault<'a>>
+pub fn ended<'a>(end: End) -> Result<(), Fault<'a>>
     ensures { IsOk result ↔ (end ≡ ends.Input) }
 {
     match end {
         End::Input => Ok(()),
         End::Crashed => Err(Fault::Crashed),
         End::Unreadable | End::Spent => Err(Fault::Unreadable(INPUT_NAME)),
-        End::Unwritten(why) => Err(fault_of(why)),
+        End::Unwritten(why) => Err(unwritten(why)),
     }
 }
 
@@ -67,7 +67,7 @@ fn serve_new<'a, I: Input, O: Output>(
         (λ fault. RunsNode I.Input O.Output id members Faulted input.old output.old input.new output.new) }
 {
     if let Err(why) = output.write_reply(alloc, &Reply::Fresh(id, members)) {
-        return Err(fault_of(why));
+        return Err(unwritten(why));
     }
     let mut seat = new_seat(alloc, id, members);
     ended(serve_member(alloc, &mut seat, input, output))

@@ -3,7 +3,9 @@
 #![tactic(auto)]
 
 mod program;
+mod stored_node_run;
 mod stored_run;
 
 pub use program::{run, run_words};
+pub use stored_node_run::stored_node;
 pub use stored_run::{print_over, run_stored_script};

@@ -1,5 +1,6 @@
 //! From the words of the command line to how the program ends.
 
+use crate::stored_node_run::stored_node;
 use crate::stored_run::run_stored_script;
 use log::Log;
 use std::alloc::Global;
@@ -72,17 +73,20 @@ fn run_live<R: Files + Log, T: Threads + Wait + Clock + Sync + AllocGlobal, O: W
     }
 }
 
-/// Reads lines from the input and ends as `node` does.
+/// Reads lines from the input and ends as `node` does, or as `stored_node` where the words name a file.
 fn run_node<I: Read + Drop, O: Write, E: Write>(
-    alloc: Global,
+    rt: &HostRuntime,
     words: &NodeWords<'_>,
     input: I,
     output: &mut O,
     errors: &mut E,
 ) -> Status {
-    match BufReader::new(alloc, input) {
-        Ok(mut input) => node(alloc, words, &mut input, output, errors),
-        Err(_) => Fault::Memory.told(errors),
+    let Ok(mut input) = BufReader::new(rt.alloc(), input) else {
+        return Fault::Memory.told(errors);
+    };
+    match words.store {
+        None => node(rt.alloc(), words, &mut input, output, errors),
+        Some(path) => stored_node(rt, words, path, &mut input, output, errors),
     }
 }
 
@@ -125,7 +129,7 @@ pub fn run_words<
         Ok(Words::Check(words)) => run_check(rt, &words, output, errors),
         Ok(Words::Show(words)) => show(rt.alloc(), &words, output, errors),
         Ok(Words::Live(words)) => run_live(rt, threads, &words, output, errors),
-        Ok(Words::Node(words)) => run_node(rt.alloc(), &words, input, output, errors),
+        Ok(Words::Node(words)) => run_node(rt, &words, input, output, errors),
         Err(error) => refused(&error, output, errors),
     }
 }

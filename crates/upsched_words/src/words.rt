@@ -141,12 +141,26 @@ fn node_command<'a>(alloc: Global) -> Result<Command<'a>, Error> {
         .value_name("M")
         .required(true)
         .help("How many nodes there are, 3 or 5");
+    let store = Arg::new(alloc, "store")
+        .long("store")
+        .value_name("FILE")
+        .help(
+            "Keeps its records in this SQLite database; without it they are in memory, and end with the process",
+        );
+    let new = Arg::new(alloc, "new")
+        .long("new")
+        .action(ArgAction::SetTrue)
+        .requires_arg("store")?
+        .help(
+            "Begins with a new database; a node that ever promised or voted must start without it",
+        );
     let node = Command::new(alloc, "node")
-        .about(
-            "Is one node, with records in memory, that reads lines on standard input and replies to each",
-        )
+        .about("Is one node that reads lines on standard input and replies to each")
+        .after_help("Example: upsched node 0 --members 3 --store node-0.db --new")
         .arg(number)?
-        .arg(members)?;
+        .arg(members)?
+        .arg(store)?
+        .arg(new)?;
     Ok(node)
 }
 
@@ -181,7 +195,14 @@ fn run_words<'a>(words: &ArgMatches<'a>) -> Option<RunWords<'a>> {
 fn node_words<'a>(words: &ArgMatches<'a>) -> Option<NodeWords<'a>> {
     let number = words.get_str("K")?;
     let members = words.get_str("members")?;
-    Some(NodeWords { number, members })
+    let store = words.get_str("store");
+    let is_new = words.get_flag("new");
+    Some(NodeWords {
+        number,
+        members,
+        store,
+        is_new,
+    })
 }
 
 /// What `live` is told.
