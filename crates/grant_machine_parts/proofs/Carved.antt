@@ -282,6 +282,10 @@ module _ (start len : ℕ) (ps : List Placement) (n lo hi last : ℕ) where
   abbrev pub found : Option ℕ
   found = find (fits_at (record { start = start; len = len }) ps n lo hi last) (range_with_len 0 len)
 
+  -- more minislots than there are fit nowhere
+  pub too_long : len < n → found ≡ None
+  too_long over = none_from (fits_at span ps n lo hi last) len 0 (λ y ge lt. long_unfit span ps n lo hi last y (omega arith))
+
   -- the offsets that are neither early, nor late, nor too late for the lease
   pub record AreInTime (first behind : ℕ) : Type 0 where
     pub from : first ≤ len
