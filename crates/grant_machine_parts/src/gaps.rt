@@ -187,9 +187,6 @@ pub fn first_fit(
     requires { start + len < 2 ^ 63 }
     ensures { (ps : List Placement) → AreGaps (is_free ps) 0 len gaps.now → result ≡ find (fits_at (record { start = start; len = len }) ps n lo hi last) (range_with_len 0 len) }
 {
-    if n > len {
-        return None;
-    }
     let len = u64::from(len);
     let first = lo.saturating_sub(start).min(len);
     let behind = behind_latest(start, len, n, hi, last);

@@ -3,12 +3,9 @@ use Rattle.std.proofs.lemmas.Bool.{lt-ltb, le-ltb}
 use Rattle.std.proofs.lemmas.List.{take_rest}
 use Rattle.grant_machine_parts.specs.Placing.{is_free}
 use Rattle.grant_machine_parts.specs.Gaps.{Gap, gap_in}
-use Rattle.grant_machine_parts.proofs.Carved.{AreInTime, too_long, in_time, fit_found, none_found}
+use Rattle.grant_machine_parts.proofs.Carved.{AreInTime, in_time, fit_found, none_found}
 use Rattle.grant_machine_parts.proofs.Splits.{passed_over}
 use Rattle.grant_machine_parts.proofs.gaps.first_fit.Goals as goal
-
-pub returns-then-n-len : goal.returns-then-n-len
-returns-then-n-len c = λ ps are. sym (too_long c.args.start c.args.len ps c.args.n c.args.lo c.args.hi c.args.last c.if-n-len.true)
 
 pub returns-then-first-behind : goal.returns-then-first-behind
 returns-then-first-behind c = λ ps are.
