@@ -1,9 +1,12 @@
 -- The gaps between placements: which are left once minislots are held, and the first that is wide enough.
-use Rattle.std.proofs.Common.{◌≡◌, ◌⊎◌, ℕ, zero, suc, ◌+◌, ◌-◌, ◌<◌, ◌≤◌, Bool, true, false, cond, not, ◌&&◌, ◌||◌, min, max, List, [], ◌∷◌, ◌++◌, Option, Some, None, is_none, IfSome, ⊎_elim, inl, inr, refl, sym, ap, subst, ◌∙◌, arith, leb, ltb, append_assoc}
+use Rattle.std.proofs.Common.{◌≡◌, ◌⊎◌, ℕ, zero, suc, ◌+◌, ◌-◌, ◌<◌, ◌≤◌, Bool, true, false, cond, not, ◌&&◌, ◌||◌, min, max, List, [], ◌∷◌, ◌++◌, length, Option, Some, None, is_none, IfSome, ⊎_elim, inl, inr, refl, sym, ap, subst, ◌∙◌, arith, leb, ltb, append_assoc}
 use Rattle.std.specs.List.{find, list_all, list_any, range_with_len, AllByRecursion}
 use Rattle.std.proofs.lemmas.Bool.{cases_lt, ltb-true, ltb-false, leb-true, leb-false, lt-ltb, lt-leb, le-leb, le-ltb, and_parts}
 use Rattle.minislot_time.specs.Extent.{Extent}
-use Rattle.grant_machine_parts.specs.Placing.{Placement, holds, holder, is_free, fits_at, first_fit}
+use Rattle.flow_state.specs.declared.channel.Channel.{Channel}
+use Rattle.flow_state.specs.declared.flow.Waiting.{Waiting}
+use Rattle.grant_machine_parts.specs.Cutting.{end_of, place_requests}
+use Rattle.grant_machine_parts.specs.Placing.{Placement, most_placements, holds, holder, is_free, fits_at, first_fit}
 use Rattle.grant_machine_parts.specs.Filling.{PartMap, has_use, AreApart}
 use Rattle.grant_machine_parts.specs.Gaps.{Gap, IsGap, AreGaps, covers, left_of, right_of, carved, gap_in}
 use Rattle.flow_state.proofs.Callers.{Has, all_has, has_all, has_pushed, find_kept}
@@ -282,6 +285,10 @@ module _ (start len : ℕ) (ps : List Placement) (n lo hi last : ℕ) where
   abbrev pub found : Option ℕ
   found = find (fits_at (record { start = start; len = len }) ps n lo hi last) (range_with_len 0 len)
 
+  -- more minislots than there are fit nowhere
+  pub too_long : len < n → found ≡ None
+  too_long over = none_from (fits_at span ps n lo hi last) len 0 (λ y ge lt. long_unfit span ps n lo hi last y (omega arith))
+
   -- the offsets that are neither early, nor late, nor too late for the lease
   pub record AreInTime (first behind : ℕ) : Type 0 where
     pub from : first ≤ len
@@ -367,3 +374,11 @@ in_time start len ps n lo hi last first behind low most not_late late = record {
   not_late = not_late;
   late = late;
 }
+
+-- a request that is longer than its MAP is not placed
+pub long_unplaced : (extent : Extent) (c : Channel) (last : ℕ → ℕ) (w : Waiting) (ps : List Placement) → extent.len < w.n → place_requests extent c last (w ∷ []) ps ≡ ps
+long_unplaced extent c last w ps over = rw (none (ltb (length ps) most_placements), place_requests) refl
+  where
+    none : (b : Bool) → cond b (find (fits_at extent ps w.n extent.start (end_of extent - w.n) (last w.sid)) (range_with_len 0 extent.len)) None ≡ None
+    none true = too_long extent.start extent.len ps w.n extent.start (end_of extent - w.n) (last w.sid) over
+    none false = refl

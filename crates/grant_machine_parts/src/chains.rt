@@ -116,6 +116,9 @@ pub fn by_priority(ordered: &mut Vec<Ranked>, ranked: &[Ranked]) -> Result<(), A
     ensures { OnOk result (ordered.new.items ≡ by_priority ranked.now) }
 {
     ordered.clear();
+    if ranked.is_empty() {
+        return Ok(());
+    }
     let chains = Chains::of(ranked);
     for priority in [7, 6, 5, 4, 3, 2, 1, 0] {
         add_priority(ordered, ranked, &chains, priority)?;

@@ -70,6 +70,9 @@ fn place_request(
 {
     let request = ranked.request;
     let n = request.n;
+    if n > filling.len() {
+        return Ok(());
+    }
     let hi = end.saturating_sub(u64::from(n));
     if let Some(x) = filling.first_fit(n, start, hi, ranked.last) {
         filling.place(Placement {
