@@ -1,7 +1,7 @@
 //! Records that have an owner, also where a file stops as they are made or adopted.
 
 use crate::files::{
-    Bodies, FOUND, Fused, Stopped, closed, connected, content, found, is_again, left_behind, run,
+    Bodies, FOUND, Fused, Stopped, blank, closed, connected, content, found, is_again, left_behind, run,
     stopping,
 };
 use acceptor::Records;
@@ -11,6 +11,7 @@ use sqlite::{Alter, Connection, FileStore, Files};
 use sqlite_disk::Disk;
 use std::alloc::Global;
 use std::test::Fail;
+use store_anew::OpensAnew;
 
 /// Tables of version 2: tried 16, the promised row 18, and a vote of ballot 17 for the byte 65 at
 /// place 1.
@@ -40,7 +41,7 @@ enum Way {
     Adopt,
 }
 
-fn opened_by<S: Alter + Drop>(
+fn opened_by<S: OpensAnew>(
     alloc: Global,
     conn: Connection<S>,
     way: Way,
@@ -61,7 +62,7 @@ fn node() -> Result<NodeId, Fail> {
     Ok(NodeId::new(1).ok_or("a node")?)
 }
 
-fn fault_of<S: Alter + Drop>(
+fn fault_of<S: OpensAnew>(
     alloc: Global,
     conn: Connection<S>,
     way: Way,
@@ -74,7 +75,7 @@ fn fault_of<S: Alter + Drop>(
 
 /// How records open over a database that these texts made.
 fn opened(alloc: Global, texts: &[&str], way: Way) -> Result<Option<OwnerFault>, Fail> {
-    let mut conn = Connection::open_in_memory(alloc)?;
+    let mut conn = blank(alloc)?;
     run(&mut conn, texts)?;
     fault_of(alloc, conn, way)
 }
