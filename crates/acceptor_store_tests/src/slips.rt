@@ -105,7 +105,7 @@ impl<D: Disk> Disk for Slip<D> {
     }
 }
 
-fn slip(alloc: Global, calls_left: u64) -> Slip<Memory> {
+fn slipping_file(alloc: Global, calls_left: u64) -> Slip<Memory> {
     Slip {
         inner: Memory::new(alloc),
         calls_left,
@@ -117,23 +117,14 @@ fn slip(alloc: Global, calls_left: u64) -> Slip<Memory> {
 fn slipping(alloc: Global, which: Stopped, calls: u64) -> Files<Slip<Memory>> {
     match which {
         Stopped::Database => Files {
-            log: slip(alloc, u64::MAX),
-            db: slip(alloc, calls),
+            log: slipping_file(alloc, u64::MAX),
+            db: slipping_file(alloc, calls),
         },
         Stopped::Log => Files {
-            log: slip(alloc, calls),
-            db: slip(alloc, u64::MAX),
+            log: slipping_file(alloc, calls),
+            db: slipping_file(alloc, u64::MAX),
         },
     }
-}
-
-/// Where the file slipped.
-#[derive(Clone, Copy, Debug, PartialEq, Eq)]
-enum Course {
-    /// Not while the records were reopened.
-    Elsewhere,
-    /// As they were reopened. They were broken until the next reopen, and then held what was written.
-    Reopened,
 }
 
 /// Whether the records are broken, and come back by a reopen with the one write that was made.
@@ -145,46 +136,55 @@ fn comes_back<R: Records>(alloc: Global, records: &mut R) -> Result<bool, Fail> 
     Ok(content(alloc, records)?.as_str() == "8 0")
 }
 
-/// Makes a write, reopens the records, and once more where that failed.
-fn course_of<R: Records + Drop>(alloc: Global, mut records: R) -> Result<Course, Fail> {
+/// Makes a write and reopens the records: whether that failed. Then they come back by the next
+/// reopen.
+fn fails_once<R: Records + Drop>(alloc: Global, mut records: R) -> Result<bool, Fail> {
     if records.put_tried(Ballot::new(8).ok_or("a ballot")?).is_err() {
-        return Ok(Course::Elsewhere);
+        return Ok(false);
     }
     if records.reopen().is_ok() {
-        return Ok(Course::Elsewhere);
+        return Ok(false);
     }
     if comes_back(alloc, &mut records)? {
-        Ok(Course::Reopened)
+        Ok(true)
     } else {
         Err(Fail::new("the records don't come back"))
     }
 }
 
-/// The course of records over empty files, of which this one slips after so many calls.
-fn course(alloc: Global, which: Stopped, calls: u64) -> Result<Course, Fail> {
+/// Whether a reopen of records over empty files fails, of which this one slips after so many calls.
+fn slips_at(alloc: Global, which: Stopped, calls: u64) -> Result<bool, Fail> {
     match opened(alloc, slipping(alloc, which, calls)) {
-        Ok(records) => course_of(alloc, records),
-        Err(_) => Ok(Course::Elsewhere),
+        Ok(records) => fails_once(alloc, records),
+        Err(_) => Ok(false),
     }
 }
 
-/// How many slips come as the records are reopened.
+/// How many slips come one after another as the records are reopened.
 fn slips(alloc: Global, which: Stopped) -> Result<u64, Fail> {
     let mut count = 0u64;
     for calls in 0..200u64 {
-        if course(alloc, which, calls)? == Course::Reopened {
+        if slips_at(alloc, which, calls)? {
             count = count.saturating_add(1);
+        } else if count > 0 {
+            return Ok(count);
         }
     }
     Ok(count)
 }
 
-/// A reopen that failed once is made good by the next.
+/// A reopen that failed once, as the database slipped, is made good by the next.
 #[test]
-fn a_reopen_that_failed_is_tried_again(rt: HostRuntime) -> Result<(), Fail> {
-    for which in [Stopped::Database, Stopped::Log] {
-        let count = slips(rt.alloc(), which)?;
-        assert!(rt; count > 3, "{which:?}: {count}");
-    }
+fn the_database_slips(rt: HostRuntime) -> Result<(), Fail> {
+    let count = slips(rt.alloc(), Stopped::Database)?;
+    assert!(rt; count > 0, "{count}");
+    Ok(())
+}
+
+/// The same where the log slips.
+#[test]
+fn the_log_slips(rt: HostRuntime) -> Result<(), Fail> {
+    let count = slips(rt.alloc(), Stopped::Log)?;
+    assert!(rt; count > 0, "{count}");
     Ok(())
 }
