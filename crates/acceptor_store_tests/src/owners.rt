@@ -1,8 +1,8 @@
 //! Records that have an owner, also where a file stops as they are made or adopted.
 
 use crate::files::{
-    Bodies, FOUND, Fused, Stopped, blank, closed, connected, content, found, is_again, left_behind, run,
-    stopping,
+    Bodies, FOUND, Fused, Stopped, blank, closed, connected, content, found, is_again, left_behind,
+    run, stopping,
 };
 use acceptor::Records;
 use acceptor_store::{OpenFault, OwnerFault, SqlRecords};
@@ -210,7 +210,11 @@ fn kinds_of(
 }
 
 /// Opens the files: whether that went through, and the files again.
-fn tried(alloc: Global, files: Files<Fused>, way: Way) -> Result<(bool, Files<Fused>), Fail> {
+fn tried<D: Disk + Drop>(
+    alloc: Global,
+    files: Files<D>,
+    way: Way,
+) -> Result<(bool, Files<D>), Fail> {
     let conn = match connected(alloc, files) {
         Ok(conn) => conn,
         Err(files) => return Ok((false, files)),
@@ -300,18 +304,28 @@ fn written<R: Records>(records: &mut R) -> Result<(), Fail> {
     Ok(records.reopen()?)
 }
 
+/// What the records in the files hold that are adopted, and reopened after a write. The files come
+/// back.
+fn adopted_and_written<D: Disk + Drop>(
+    alloc: Global,
+    files: Files<D>,
+) -> Result<(String, Files<D>), Fail> {
+    let Ok(mut records) = records_in(alloc, files, Way::Adopt)? else {
+        return Err(Fail::new("it isn't adopted"));
+    };
+    written(&mut records)?;
+    let text = content(alloc, &mut records)?;
+    Ok((text, closed(records)?))
+}
+
 /// Records that have an owner keep what they wrote, and it, over a reopen.
 #[test]
 fn owned_records_are_reopened(rt: HostRuntime) -> Result<(), Fail> {
     let bodies = bodies_of(rt.alloc(), SECOND)?;
     let files = found(rt.alloc(), &bodies, (true, true))?;
-    let Ok(mut records) = records_in(rt.alloc(), files, Way::Adopt)? else {
-        return Err(Fail::new("it isn't adopted"));
-    };
-    written(&mut records)?;
-    let text = content(rt.alloc(), &mut records)?;
+    let (text, files) = adopted_and_written(rt.alloc(), files)?;
     assert_eq!(rt; text.as_str(), "25 18 1 17 [65]");
-    let kind = kind_of(rt.alloc(), closed(records)?, "25 18 1 17 [65]")?;
+    let kind = kind_of(rt.alloc(), files, "25 18 1 17 [65]")?;
     assert_eq!(rt; kind, Kind::Owned);
     Ok(())
 }

@@ -139,7 +139,10 @@ fn comes_back<R: Records>(alloc: Global, records: &mut R) -> Result<bool, Fail> 
 /// Makes a write and reopens the records: whether that failed. Then they come back by the next
 /// reopen.
 fn fails_once<R: Records + Drop>(alloc: Global, mut records: R) -> Result<bool, Fail> {
-    if records.put_tried(Ballot::new(8).ok_or("a ballot")?).is_err() {
+    if records
+        .put_tried(Ballot::new(8).ok_or("a ballot")?)
+        .is_err()
+    {
         return Ok(false);
     }
     if records.reopen().is_ok() {
@@ -152,9 +155,9 @@ fn fails_once<R: Records + Drop>(alloc: Global, mut records: R) -> Result<bool, 
     }
 }
 
-/// Whether a reopen of records over empty files fails, of which this one slips after so many calls.
-fn slips_at(alloc: Global, which: Stopped, calls: u64) -> Result<bool, Fail> {
-    match opened(alloc, slipping(alloc, which, calls)) {
+/// Whether a reopen of the records in the files fails.
+fn slips_in<D: Disk + Drop>(alloc: Global, files: Files<D>) -> Result<bool, Fail> {
+    match opened(alloc, files) {
         Ok(records) => fails_once(alloc, records),
         Err(_) => Ok(false),
     }
@@ -164,7 +167,7 @@ fn slips_at(alloc: Global, which: Stopped, calls: u64) -> Result<bool, Fail> {
 fn slips(alloc: Global, which: Stopped) -> Result<u64, Fail> {
     let mut count = 0u64;
     for calls in 0..200u64 {
-        if slips_at(alloc, which, calls)? {
+        if slips_in(alloc, slipping(alloc, which, calls))? {
             count = count.saturating_add(1);
         } else if count > 0 {
             return Ok(count);
