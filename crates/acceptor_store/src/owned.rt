@@ -22,6 +22,7 @@ use ballots::{Ballot, Members, NodeId};
 use sqlite::{Alter, Connection};
 use sqlite_schema::schema::Schema;
 use std::alloc::Global;
+use store_anew::OpensAnew;
 use thiserror::Error;
 
 /// Why records weren't opened for their owner.
@@ -260,7 +261,7 @@ fn adopted<S: Alter + Drop>(
     }
 }
 
-impl<S: Alter + Drop> SqlRecords<S> {
+impl<S: OpensAnew> SqlRecords<S> {
     /// The records of a node that is one of these members, over the connection, in tables of version
     /// 3. In a database without tables they are made, in one transaction, where it may be new.
     ///
@@ -306,6 +307,7 @@ impl<S: Alter + Drop> SqlRecords<S> {
         Ok(SqlRecords {
             alloc,
             conn: Some(found.0),
+            left: None,
             is_up: true,
             is_sure: true,
             highest: Some(found.1),
@@ -348,6 +350,7 @@ impl<S: Alter + Drop> SqlRecords<S> {
         Ok(SqlRecords {
             alloc,
             conn: Some(found.0),
+            left: None,
             is_up: true,
             is_sure: true,
             highest: Some(found.1),
