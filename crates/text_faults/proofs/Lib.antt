@@ -4,3 +4,4 @@ mod Keys
 mod Spelled
 mod Meant
 mod Whole
+mod Unfit

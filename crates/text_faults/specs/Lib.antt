@@ -4,3 +4,4 @@ pub mod Fits
 pub mod Items
 pub mod Faults
 pub mod Texts
+pub mod Unfit

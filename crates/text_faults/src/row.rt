@@ -140,8 +140,8 @@ impl Kind {
     ghost use Rattle.text_faults.specs.Rows.{rows_of, choice_of};
     ghost use Rattle.text_faults.specs.Faults.{offers};
 
-    /// The keys that a table of this kind has, and what is wanted there. Those of `Command`, of `Event` and of a flow go
-    /// on with the rows of the kind that they name.
+    /// The keys that a table of this kind has, and what is wanted there. Behind those of `Command`, of `Event` and of a
+    /// flow come the rows of the kind that they name.
     pub fn rows(self) -> &'static [(Key, Wants)]
         ensures { result.now ≡ rows_of self }
     {

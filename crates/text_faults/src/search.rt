@@ -1,11 +1,13 @@
 //! The search for faults, table by table.
 
 ghost use Rattle.std.specs.Prelude.{◌≡◌, ◌++◌, IfOk, OnOk, codes, map};
+ghost use Rattle.std.specs.List.{AllByRecursion};
 ghost use Rattle.toml.specs.Data.{get};
 ghost use Rattle.toml.specs.View.{view};
 ghost use Rattle.text_faults.specs.Rows.{key_name};
 ghost use Rattle.text_faults.specs.Items.{items_at};
 ghost use Rattle.text_faults.specs.declared.kind.Kind.TheVariants as kinds;
+ghost use Rattle.text_faults.specs.Unfit.{IsUnfit};
 ghost use Rattle.text_faults.specs.Faults.{fault_at, key_faults, chosen, kind_faults, table_faults, is_hex, is_offer, value_fault, offered_faults, command_faults, event_faults, id_faults, numbered, plan_faults, script_faults, IsPlanTable, IsScript, TellsWhether};
 
 use crate::fault::{Fault, Found, Place, found_in};
@@ -226,6 +228,7 @@ fn note_events(alloc: Global, faults: &mut Vec<Fault>, items: &[Value]) -> Resul
 pub fn plan_faults(alloc: Global, plan: &Value) -> Result<Vec<Fault>, AllocError>
     ensures exact { IfOk result (λ faults. faults.items ≡ plan_faults (view plan.now)) }
     ensures none { IfOk result (λ faults. TellsWhether IsPlanTable (view plan.now) faults.items) }
+    ensures unfit { IfOk result (λ faults. AllByRecursion (IsUnfit (view plan.now)) faults.items) }
 {
     let mut faults = Vec::new(alloc);
     note_keys(&mut faults, Place::Whole, Kind::Plan, Kind::Plan, plan)?;
@@ -237,6 +240,7 @@ pub fn plan_faults(alloc: Global, plan: &Value) -> Result<Vec<Fault>, AllocError
 pub fn script_faults(alloc: Global, script: &Value) -> Result<Vec<Fault>, AllocError>
     ensures exact { IfOk result (λ faults. faults.items ≡ script_faults (view script.now)) }
     ensures none { IfOk result (λ faults. TellsWhether IsScript (view script.now) faults.items) }
+    ensures unfit { IfOk result (λ faults. AllByRecursion (IsUnfit (view script.now)) faults.items) }
 {
     let mut faults = Vec::new(alloc);
     note_keys(
