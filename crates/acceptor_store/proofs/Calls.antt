@@ -17,7 +17,7 @@ use Rattle.acceptor.specs.Found.{Findable, Holds, AddsNothing, AddsOnly, FindsSa
 use Rattle.acceptor.specs.declared.records.RecordsFault.{RecordsFault}
 use Rattle.acceptor_store_parts.specs.declared.owner.Owner.{Owner}
 use Rattle.acceptor_store_parts.specs.Serves.{Serves, ServesFor, StillServes, HasWritten, MayHaveWritten}
-use Rattle.acceptor_store.specs.Linked.{Linked, MayFind, MayFindIn, IsHonest, is_clean_in, is_honest, IsLinked, IsServing, Knows}
+use Rattle.acceptor_store.specs.Linked.{Linked, MayFind, MayFindIn, IsHonest, is_clean_in, is_honest, IsLinked, Knows}
 use Rattle.acceptor_store.proofs.Found.{served, now_holds, may_hold, only_adds, same_found, no_more, keeps_err}
 
 -- the records have this connection, and what is known of it
@@ -27,13 +27,13 @@ pub record Entered {S : Type 0} (g : Ghosts S) (self : Linked S) (old : Held S) 
   pub own : self.owner ≡ owner
   pub known : IsTrue is_sure → HasCleanDisk (state g old) → Knows g owner old self.highest
 
-pub entered : {S L : Type 0} (g : Ghosts S) (left : Option L) (self inside : Linked S) (old : Held S) → inside ≡ self → inside.held ≡ Some old → IsLinked g inside.owner inside.held left inside.is_up inside.is_sure inside.highest → inside.is_up ≡ true
+pub entered : {S : Type 0} (g : Ghosts S) (self inside : Linked S) (old : Held S) → inside ≡ self → inside.held ≡ Some old → IsLinked g inside.owner inside.held inside.is_up inside.is_sure inside.highest → inside.is_up ≡ true
     → Entered g self old inside.is_sure inside.owner
-entered g left self inside old view some linked up = record {
+entered g self inside old view some linked up = record {
   at = sym (ap (λ (r : Linked _). r.held) view) ∙ some;
   sure = sym (ap (λ (r : Linked _). r.is_sure) view);
   own = sym (ap (λ (r : Linked _). r.owner) view);
-  known = λ sure clean. subst (λ (r : Linked _). Knows g inside.owner old r.highest) view (((subst (λ h. IsLinked g inside.owner h left inside.is_up inside.is_sure inside.highest) some linked sure clean).1 up));
+  known = λ sure clean. subst (λ (r : Linked _). Knows g inside.owner old r.highest) view (((subst (λ h. IsLinked g inside.owner h inside.is_up inside.is_sure inside.highest) some linked sure clean).1 up));
 }
 
 module _ {S : Type 0} (g : Ghosts S) (settled : (s : S) (db : Trees) → IsTrue (g.view s).is_open → g.recovers s db → db ≡ (g.view s).committed)
@@ -112,13 +112,13 @@ module _ {S : Type 0} (g : Ghosts S) (settled : (s : S) (db : Trees) → IsTrue 
       subst₂ (λ o held. AddsOnly (MayFind g o held) (MayFindIn g owner new) w) (sym it.own) (sym it.at) (only_adds g settled stays owner old new was.0 was.1 w clean survives)
 
 -- what stays true of the fields where a write was made
-pub linked_made : {S L : Type 0} (g : Ghosts S) (left : Option L) (owner : Option Owner) (held : Option (Held S)) (old new : Held S) (is_up is_sure : Bool) (hi hi′ : Option (Option ℕ)) (w : Write) → held ≡ Some old → IsLinked g owner held left is_up is_sure hi → is_up ≡ true
+pub linked_made : {S : Type 0} (g : Ghosts S) (owner : Option Owner) (held : Option (Held S)) (old new : Held S) (is_up is_sure : Bool) (hi hi′ : Option (Option ℕ)) (w : Write) → held ≡ Some old → IsLinked g owner held is_up is_sure hi → is_up ≡ true
     → Survives (state g old) (state g new) (MayHaveWritten (state g old) w) → (HasCleanDisk (state g new) → HasWritten (state g old) (state g new) w)
     → ((c : Content) → IfSome hi (λ b. number_of b ≡ promised c) → IfSome hi′ (λ b. number_of b ≡ promised (after_write c (Some w))))
-    → IsServing g owner new is_up is_sure hi′
-linked_made g left owner held old new is_up is_sure hi hi′ w some linked up survives written higher sure clean =
+    → IsLinked g owner (Some new) is_up is_sure hi′
+linked_made g owner held old new is_up is_sure hi hi′ w some linked up survives written higher sure clean =
     let before : HasCleanDisk (state g old) = omega (arith, survives.clean, clean) in
-    let it = subst (λ h. IsLinked g owner h left is_up is_sure hi) some linked sure before in
+    let it = subst (λ h. IsLinked g owner h is_up is_sure hi) some linked sure before in
     let was = it.1 up in (
       λ db may. elim (survives.crash clean db may) [ inl stood ↦ it.0 db stood | inr wrote ↦ ∣ (after_write was.0 (Some w), wrote owner was.0 was.1) ∣₁ ],
       λ _. (after_write was.0 (Some w), written clean owner was.0 was.1, higher was.0 was.2),

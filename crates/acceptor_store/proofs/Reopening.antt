@@ -1,5 +1,5 @@
 -- What is known of a connection that was opened anew.
-use Rattle.std.proofs.Common.{◌≡◌, ◌⊎◌, inl, inr, ℕ, Bool, true, false, ◌&&◌, List, [], ◌∷◌, length, map, Some, None, Option, Ok, Err, Result, IfErr, IfOk, IfSome, OnOk, IsTrue, codes, refl, sym, ap, subst, subst₂, ◌∙◌}
+use Rattle.std.proofs.Common.{◌≡◌, ◌⊎◌, inl, inr, ℕ, true, false, ◌&&◌, List, [], ◌∷◌, length, map, Some, None, Option, Ok, Err, Result, IfErr, IfOk, IfSome, OnOk, IsTrue, codes, refl, sym, ap, subst, subst₂, ◌∙◌}
 use Rattle.std.proofs.lemmas.Bool.{and_from, and_parts}
 use Rattle.std.proofs.Math.Logic.{∥∥₁_map, ∥∥₁_elim, ∥∥₁_prop}
 use Rattle.ballots.specs.declared.letters.Cast.{Cast}
@@ -34,7 +34,7 @@ use Rattle.acceptor_store_parts.specs.Stored.{AreTablesOf, HasLearned, KeepsLear
 use Rattle.acceptor_store_parts.specs.Owned.{AreTablesFor, schema_for}
 use Rattle.acceptor_store_parts.specs.Serves.{ServesFor, ServesAs, StillServes, HasRaised}
 use Rattle.acceptor_store_parts.proofs.Callers.{one_content, serves_for}
-use Rattle.acceptor_store.specs.Linked.{Linked, MayFind, MayFindIn, IsHonest, is_clean_in, IsLinked, IsServing, Stands, IsTested, ServesNone, CannotBeRead, Tells, Leaves, Reopens, Examines, Had, IsIn, IsFoundIn, MakesReady, SeesForeign, HasNumbers, StaysAs, FindsContent as Found}
+use Rattle.acceptor_store.specs.Linked.{Linked, MayFind, MayFindIn, IsHonest, is_clean_in, IsLinked, Stands, IsTested, ServesNone, CannotBeRead, Tells, Leaves, Reopens, Examines, Had, IsIn, IsFoundIn, MakesReady, SeesForeign, HasNumbers, StaysAs, FindsContent as Found}
 use Rattle.sqlite_trees.proofs.Doubt.{no_doubt, clean_of}
 use Rattle.acceptor_store.proofs.Found.{found_is, found_it}
 
@@ -94,19 +94,6 @@ pub all_reopen : {S : Type 0} (g : Ghosts S) (owner : Option Owner) (old mid new
 all_reopen g owner old mid new opens found None told = tt
 all_reopen g owner old mid new opens found (Some highest) told = reopens g owner old mid new opens found highest told
 
--- what a connection that was opened anew, from this one or from what was left, says of it
-pub all_leave : {S : Type 0} (g : Ghosts S) (settled : (s : S) (db : Trees) → IsTrue (g.view s).is_open → g.recovers s db → db ≡ (g.view s).committed) (owner : Option Owner) (held : Option (Held S)) (mid new : Held S) → Opens (state g mid)
-    → IfSome held (λ old. HasCleanDisk (state g old) × ∥ (state g old).may_leave (state g mid).committed.trees ∥₁) → HasCleanDisk (state g new)
-    → Survives (state g mid) (state g new) (λ _. CannotBeRead owner (state g mid)) → IfSome held (λ old. Leaves g owner old new)
-all_leave g settled owner None mid new opens found now survives = tt
-all_leave g settled owner (Some old) mid new opens found now survives = leaves g owner old mid new opens found.1 settled found.0 now survives
-
-pub each_reopens : {S : Type 0} (g : Ghosts S) (owner : Option Owner) (held : Option (Held S)) (mid new : Held S) → Opens (state g mid)
-    → IfSome held (λ old. HasCleanDisk (state g old) × ∥ (state g old).may_leave (state g mid).committed.trees ∥₁) → (highest : Option (Option ℕ))
-    → IfSome highest (Tells g owner mid new) → IfSome held (λ old. IfSome highest (Reopens g owner old new))
-each_reopens g owner None mid new opens found highest told = tt
-each_reopens g owner (Some old) mid new opens found highest told = all_reopen g owner old mid new opens found.1 highest told
-
 -- of two contents that it may be it is one
 pub one_of : {S : Type 0} (g : Ghosts S) (owner : Option Owner) (old new : Held S) (highest : Option ℕ) → Leaves g owner old new → Reopens g owner old new highest → Stands g owner old → (a b : Content)
     → HoldsEither (MayFindIn g owner old) a b → Holds (MayFindIn g owner new) a ⊎ Holds (MayFindIn g owner new) b
@@ -117,77 +104,49 @@ one_of g owner old new highest left it before a b either =
       | inr is ↦ inr (subst (Holds (MayFindIn g owner new)) is here)
     ]
 
--- sure records have a connection
-connected : {S L : Type 0} (g : Ghosts S) (left : Option L) (owner : Option Owner) (held : Option (Held S)) (is_up is_sure : Bool) (highest : Option (Option ℕ)) → IsLinked g owner held left is_up is_sure highest → IsTrue is_sure
-    → (old : Held S) × (held ≡ Some old) × IsServing g owner old is_up is_sure highest
-connected g left owner None is_up is_sure highest linked sure = absurd (let no = linked.2 in cc)
-connected g left owner (Some h) is_up is_sure highest linked sure = (h, refl, linked)
-
-clean_before : {S : Type 0} (g : Ghosts S) (owner : Option Owner) (held : Option (Held S)) (new : Held S) → IfSome held (λ old. Leaves g owner old new) → IsTrue (is_clean_in g held)
-clean_before g owner None new left = refl
-clean_before g owner (Some old) new left = clean_of _ left.was_clean
-
 -- the records after a reopen that found a connection
-module _ {S L : Type 0} (g : Ghosts S) (rest : Option L) (self inside : Linked S) (new : Held S) (view : inside ≡ self)
-    (linked : IsLinked g inside.owner inside.held rest inside.is_up inside.is_sure inside.highest) (taken : Option (Held S)) (is : taken ≡ inside.held)
-    (given : HasCleanDisk (state g new) → IfSome taken (λ old. Leaves g inside.owner old new)) where
-  left : HasCleanDisk (state g new) → IfSome inside.held (λ old. Leaves g inside.owner old new)
-  left clean = subst (λ held. IfSome held (λ old. Leaves g inside.owner old new)) is (given clean)
-
+module _ {S : Type 0} (g : Ghosts S) (self inside : Linked S) (old new : Held S) (view : inside ≡ self) (some : inside.held ≡ Some old)
+    (linked : IsLinked g inside.owner inside.held inside.is_up inside.is_sure inside.highest) (left : HasCleanDisk (state g new) → Leaves g inside.owner old new) where
   own_is : self.owner ≡ inside.owner
   own_is = sym (ap (λ (r : Linked S). r.owner) view)
 
-  module _ (sure : IsTrue inside.is_sure) (clean : HasCleanDisk (state g new)) where
-    was : (old : Held S) × (inside.held ≡ Some old) × IsServing g inside.owner old inside.is_up inside.is_sure inside.highest
-    was = connected g rest inside.owner inside.held inside.is_up inside.is_sure inside.highest linked sure
+  at : self.held ≡ Some old
+  at = sym (ap (λ (r : Linked S). r.held) view) ∙ some
 
-    leaves_new : Leaves g inside.owner was.0 new
-    leaves_new = subst (λ held. IfSome held (λ old. Leaves g inside.owner old new)) was.1 (left clean)
-
-    before : Stands g inside.owner was.0
-    before = (was.2 sure leaves_new.was_clean).0
-
-    at : self.held ≡ Some was.0
-    at = sym (ap (λ (r : Linked S). r.held) view) ∙ was.1
+  before : IsTrue inside.is_sure → HasCleanDisk (state g new) → Stands g inside.owner old
+  before sure clean = (subst (λ h. IsLinked g inside.owner h inside.is_up inside.is_sure inside.highest) some linked sure (left clean).was_clean).0
 
   -- and couldn't read its tables
-  pub left_linked : (highest : Option (Option ℕ)) → IsServing g inside.owner new false inside.is_sure highest
-  left_linked highest sure clean = ((leaves_new sure clean).stands (before sure clean), λ up. absurd (let e : false ≡ true = up in cc))
+  pub left_linked : (highest : Option (Option ℕ)) → IsLinked g inside.owner (Some new) false inside.is_sure highest
+  left_linked highest sure clean = ((left clean).stands (before sure clean), λ up. absurd (let e : false ≡ true = up in cc))
 
   pub reopen_kept : IsTrue (inside.is_sure && (state g new).is_clean) → AddsNothing (MayFind g self.owner self.held) (MayFindIn g inside.owner new)
   reopen_kept h =
       let clean : HasCleanDisk (state g new) = no_doubt _ (and_parts inside.is_sure _ h).1 in
-      let sure = (and_parts inside.is_sure _ h).0 in
-      subst₂ (λ o held. AddsNothing (MayFind g o held) (MayFindIn g inside.owner new)) (sym own_is) (sym (at sure clean)) ((leaves_new sure clean).adds_nothing (before sure clean))
+      subst₂ (λ o held. AddsNothing (MayFind g o held) (MayFindIn g inside.owner new)) (sym own_is) (sym at) ((left clean).adds_nothing (before (and_parts inside.is_sure _ h).0 clean))
 
   pub reopen_honest : IsTrue (inside.is_sure && (state g new).is_clean) → IsHonest g self
   reopen_honest h =
       let clean : HasCleanDisk (state g new) = no_doubt _ (and_parts inside.is_sure _ h).1 in
       let sure : IsTrue self.is_sure = subst IsTrue (ap (λ (r : Linked S). r.is_sure) view) (and_parts inside.is_sure _ h).0 in
-      let held : IsTrue (is_clean_in g self.held) = subst (λ held. IsTrue (is_clean_in g held)) (ap (λ (r : Linked S). r.held) view) (clean_before g inside.owner inside.held new (left clean)) in
-      and_from _ _ sure held
+      let was : IsTrue (state g old).is_clean = clean_of _ (left clean).was_clean in
+      subst (λ (held : Option (Held S)). IsHonest g (record self { held = held })) (sym at) (and_from _ _ sure was)
 
   pub reopen_clean : IsTrue (state g new).is_clean → IsTrue (is_clean_in g self.held)
-  reopen_clean now = subst (λ held. IsTrue (is_clean_in g held)) (ap (λ (r : Linked S). r.held) view) (clean_before g inside.owner inside.held new (left (no_doubt _ now)))
+  reopen_clean now = subst (λ held. IsTrue (is_clean_in g held)) (sym at) (clean_of _ (left (no_doubt _ now)).was_clean)
 
   pub reopen_sure : IsTrue (state g new).is_clean → IsHonest g self → IsTrue (inside.is_sure && (state g new).is_clean)
   reopen_sure clean h = and_from _ _ (subst IsTrue (sym (ap (λ (r : Linked S). r.is_sure) view)) (and_parts self.is_sure _ h).0) clean
 
-  module _ (found : Option (Option ℕ)) (highest : Option ℕ) (read : found ≡ Some highest) (it : HasCleanDisk (state g new) → IfSome taken (λ old. IfSome found (Reopens g inside.owner old new))) where
-    reopens_new : (sure : IsTrue inside.is_sure) (clean : HasCleanDisk (state g new)) → Reopens g inside.owner (was sure clean).0 new highest
-    reopens_new sure clean =
-        let both = subst (λ held. IfSome held (λ old. IfSome found (Reopens g inside.owner old new))) (is ∙ (was sure clean).1) (it clean) in
-        subst (λ o. IfSome o (Reopens g inside.owner (was sure clean).0 new)) read both
-
-    pub reopen_linked : IsServing g inside.owner new true inside.is_sure (Some highest)
-    reopen_linked sure clean = ((leaves_new sure clean).stands (before sure clean), λ up. (reopens_new sure clean).knows (before sure clean))
+  module _ (highest : Option ℕ) (it : HasCleanDisk (state g new) → Reopens g inside.owner old new highest) where
+    pub reopen_linked : IsLinked g inside.owner (Some new) true inside.is_sure (Some highest)
+    reopen_linked sure clean = ((left clean).stands (before sure clean), λ up. (it clean).knows (before sure clean))
 
     pub reopen_ok : IsTrue (inside.is_sure && (state g new).is_clean) → (a b : Content) → HoldsEither (MayFind g self.owner self.held) a b
         → Holds (MayFindIn g inside.owner new) a ⊎ Holds (MayFindIn g inside.owner new) b
     reopen_ok h a b either =
         let clean : HasCleanDisk (state g new) = no_doubt _ (and_parts inside.is_sure _ h).1 in
-        let sure = (and_parts inside.is_sure _ h).0 in
-        one_of g inside.owner (was sure clean).0 new highest (leaves_new sure clean) (reopens_new sure clean) (before sure clean) a b (subst₂ (λ o held. HoldsEither (MayFind g o held) a b) own_is (at sure clean) either)
+        one_of g inside.owner old new highest (left clean) (it clean) (before (and_parts inside.is_sure _ h).0 clean) a b (subst₂ (λ o held. HoldsEither (MayFind g o held) a b) own_is at either)
 
 -- a read that changed nothing
 pub stays_as : (version : Version) (old new : State) → IsUnchanged old new → StaysAs version old new
@@ -359,7 +318,7 @@ own g conn c ours (inr there) (inr rows) = rows.2 c (subst (λ v. AreTablesOf v 
 module _ {S : Type 0} (g : Ghosts S) (settled : (s : S) (db : Trees) → IsTrue (g.view s).is_open → g.recovers s db → db ≡ (g.view s).committed)
     (stays : (s : S) → IsTrue (g.view s).is_open → g.recovers s (g.view s).committed) (owner : Option Owner) (Was : Content → Type 0) (new : Held S) (highest : Option ℕ)
     (it : HasCleanDisk (state g new) → (c : Content) × Was c × ServesFor owner (state g new) c × (number_of highest ≡ promised c)) where
-  pub opened_linked : IsServing g owner new true true (Some highest)
+  pub opened_linked : IsLinked g owner (Some new) true true (Some highest)
   opened_linked sure clean =
       let now = it clean in (
         λ db may. ∣ (now.0, subst (λ t. AreTablesFor owner t now.0) (ap (λ (d : Database). d.trees) now.2.settled ∙ sym (settled new.store db now.2.is_open may)) now.2.tables) ∣₁,

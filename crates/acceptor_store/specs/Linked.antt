@@ -1,5 +1,5 @@
 -- Records over a connection.
-use Rattle.std.specs.Prelude.{◌≡◌, ◌≢◌, ℕ, map, Bool, true, false, ◌&&◌, Option, Some, None, ◌⊎◌, IfSome, IsSome, IsTrue, refl}
+use Rattle.std.specs.Prelude.{◌≡◌, ◌≢◌, ℕ, map, Bool, true, false, ◌&&◌, Option, Some, None, ◌⊎◌, IfSome, IsTrue, refl}
 use Rattle.std.specs.Coded.{Coded, code_by, coded×, coded_bool, coded_ℕ, coded_option}
 use Rattle.ballots.specs.Ballots.{number_of}
 use Rattle.sqlite_disk.specs.declared.Disk as disk
@@ -29,11 +29,11 @@ use Rattle.acceptor_store_parts.specs.Serves.{ServesFor, ServesAs}
 
 -- records as their contracts see them
 pub record Linked (S : Type 0) : Type 0 where
-  -- none where a reopen couldn't open the store
+  -- none once a reopen has failed
   pub held : Option (Held S)
   -- no statement has failed since the tables were tested
   pub is_up : Bool
-  -- no reopen has failed so far to open the store
+  -- no reopen has failed so far
   pub is_sure : Bool
   -- the promised ballot, where it is known
   pub highest : Option (Option ℕ)
@@ -100,13 +100,9 @@ abbrev pub Stands : {S : Type 0} → Ghosts S → Option Owner → Held S → Ty
 Stands g owner h = (db : Trees) → (state g h).may_leave db → ∥ ((c : Content) × AreTablesFor owner db c) ∥₁
 
 -- an honest connection stands, and while it is up it serves some content
-abbrev pub IsServing : {S : Type 0} → Ghosts S → Option Owner → Held S → Bool → Bool → Option (Option ℕ) → Type 0
-IsServing g owner h is_up is_sure highest = IsTrue is_sure → HasCleanDisk (state g h) → Stands g owner h × (is_up ≡ true → Knows g owner h highest)
-
--- with no connection something is left of its store, and the records are neither up nor sure
-abbrev pub IsLinked : {S L : Type 0} → Ghosts S → Option Owner → Option (Held S) → Option L → Bool → Bool → Option (Option ℕ) → Type 0
-IsLinked g owner None left is_up is_sure highest = IsSome left × (is_up ≡ false) × (is_sure ≡ false)
-IsLinked g owner (Some h) left is_up is_sure highest = IsServing g owner h is_up is_sure highest
+abbrev pub IsLinked : {S : Type 0} → Ghosts S → Option Owner → Option (Held S) → Bool → Bool → Option (Option ℕ) → Type 0
+IsLinked g owner None is_up is_sure highest = Unit {0}
+IsLinked g owner (Some h) is_up is_sure highest = IsTrue is_sure → HasCleanDisk (state g h) → Stands g owner h × (is_up ≡ true → Knows g owner h highest)
 
 -- a connection that was tested serves this content, and a crash leaves that
 abbrev pub IsTested : {S : Type 0} → Ghosts S → Option Owner → Held S → Held S → Option ℕ → Content → Type 0

@@ -1,19 +1,18 @@
 //! Records in SQL tables.
 #![tactic(auto)]
 
-mod anew;
 mod opening;
 mod owned;
 
 ghost use Rattle.std.specs.Prelude.{◌≡◌, ◌≤◌, Err, false, not, if◌then◌else◌, IfOk, IfErr, IfSome, IsErrAnd, IsSome, IsSomeAnd, None, OnOk, Some, IsTrue, ◌↔◌, ◌⊎◌, ◌&&◌};
 ghost use Rattle.ballots.specs.Ballots.{number_of};
 ghost use Rattle.acceptor.specs.Calls.{Accounts, KeepsTrust, Writes};
-ghost use Rattle.acceptor.specs.Faults.{BreaksByReopen, CountsFaults, HasRisen, IsHarmless, IsStoreFault};
+ghost use Rattle.acceptor.specs.Faults.{HasRisen, IsHarmless, IsStoreFault};
 ghost use Rattle.acceptor.specs.declared.records.RecordsFault.TheVariants.{OutOfMemory};
 ghost use Rattle.acceptor.specs.Content.{Content, IsSound, promised, greatest};
 ghost use Rattle.ballots.specs.Rows.{at, rows_from};
 ghost use Rattle.acceptor.specs.Content.Write.{Tries, Promises, Votes as Casts, Learns};
-ghost use Rattle.acceptor.specs.Found.{Holds, HoldsEither, AddsNothing, FindsSame, Keeps};
+ghost use Rattle.acceptor.specs.Found.{Holds, AddsNothing, Keeps};
 ghost use Rattle.sqlite.specs.Files.{over_files, file_state};
 ghost use Rattle.sqlite.specs.Tree.{Trees};
 ghost use Rattle.sqlite.specs.State.{HasCleanDisk, Survives};
@@ -25,25 +24,21 @@ ghost use Rattle.acceptor_store_parts.specs.Serves.{Serves, ServesFor, StillServ
 ghost use Rattle.acceptor_store_parts.specs.Stops.{LeavesOpen, leaves_open};
 ghost use Rattle.acceptor_store.specs.Linked.{MayFind, IsHonest, is_clean_in, is_honest, CannotBeRead, Tells, Leaves, Reopens, Had, HasFurther, IsFoundIn, IsLeftWhole, SeesForeign};
 
-use crate::anew::{end_unopened, opened_anew};
 use acceptor::{Records, RecordsFault};
 use acceptor_store_parts::{Owner, Stop, version_of_owner};
 use ballots::{Ballot, Cast, Place, Value, Votes, higher};
 pub use owned::OwnerFault;
-use sqlite::{Alter, Connection, Error as SqlError, ErrorCode, FileStore, Files};
+use sqlite::{Alter, Connection, Error as SqlError, ErrorCode, FileStore, Files, Options};
 use sqlite_disk::Disk;
 use std::alloc::Global;
 use std::marker::Model;
-use store_anew::OpensAnew;
 use thiserror::Error;
 
 /// Records in tables, which this connection alone writes.
 #[derive(Drop)]
-pub struct SqlRecords<S: OpensAnew> {
+pub struct SqlRecords<S: Alter> {
     alloc: Global,
     conn: Option<Connection<S>>,
-    /// What is left of the store where a reopen couldn't open it, and there is no connection.
-    left: Option<S::Left>,
     is_up: bool,
     is_sure: bool,
     highest: Option<Option<Ballot>>,
@@ -51,7 +46,7 @@ pub struct SqlRecords<S: OpensAnew> {
     owner: Option<Owner>,
 }
 
-impl<S: OpensAnew> Model for SqlRecords<S> {
+impl<S: Alter> Model for SqlRecords<S> {
     ghost use Rattle.acceptor_store.specs.Linked.{Linked, linked_code, IsLinked};
 
     ghost Value = { Linked S };
@@ -60,7 +55,7 @@ impl<S: OpensAnew> Model for SqlRecords<S> {
 
     ghost view = { λ r. record { held = r.conn; is_up = r.is_up; is_sure = r.is_sure; highest = r.highest; failures = r.failures; owner = r.owner } };
 
-    ghost invariant = { λ r. IsLinked S.Store r.owner r.conn r.left r.is_up r.is_sure r.highest };
+    ghost invariant = { λ r. IsLinked S.Store r.owner r.conn r.is_up r.is_sure r.highest };
 }
 
 /// The count after one more failure. At the top it stays.
@@ -181,6 +176,25 @@ fn tested<S: Alter>(
     }
 }
 
+// The salts of a log need no secret here.
+const SEED: u64 = 0x5eed;
+
+/// Opens the files of the connection anew, and tests the tables again, which may fail.
+fn opened_anew<D: Disk + Drop>(
+    alloc: Global,
+    conn: Connection<FileStore<D>>,
+    owner: Option<Owner>,
+) -> Option<(Connection<FileStore<D>>, Option<Option<Ballot>>)>
+    ensures leaves { IfSome result (λ r. HasCleanDisk (file_state r.0) → Leaves over_files owner conn r.0) }
+    ensures reopens { IfSome result (λ r. HasCleanDisk (file_state r.0) → IfSome r.1 (Reopens over_files owner conn r.0)) }
+{
+    let Ok(mut fresh) = acceptor_store_parts::reopened(alloc, conn, Options::new(SEED)) else {
+        return None;
+    };
+    let highest = tested(alloc, &mut fresh, &owner);
+    Some((fresh, highest))
+}
+
 /// Why records weren't opened.
 #[derive(Clone, Copy, Debug, PartialEq, Eq, Error)]
 pub enum OpenFault {
@@ -199,7 +213,7 @@ pub enum OpenFault {
     Foreign,
 }
 
-impl<S: OpensAnew> SqlRecords<S> {
+impl<S: Alter + Drop> SqlRecords<S> {
     /// Records over the connection, in tables of version 2. In a database without tables they are
     /// made, and those of version 1 are made into them with equal content and nothing learned, each
     /// in one transaction.
@@ -232,7 +246,6 @@ impl<S: OpensAnew> SqlRecords<S> {
         Ok(SqlRecords {
             alloc,
             conn: Some(found.0),
-            left: None,
             is_up: true,
             is_sure: true,
             highest: Some(found.1),
@@ -242,7 +255,7 @@ impl<S: OpensAnew> SqlRecords<S> {
     }
 }
 
-impl<S: OpensAnew> SqlRecords<S> {
+impl<S: Alter + Drop> SqlRecords<S> {
     /// The store of the records, and none after a reopen that failed. What isn't committed is
     /// rolled back, and a crash leaves nothing that it couldn't leave before.
     pub fn into_store(self) -> Option<S>
@@ -254,7 +267,6 @@ impl<S: OpensAnew> SqlRecords<S> {
         let SqlRecords {
             alloc: _,
             conn,
-            left: _,
             is_up: _,
             is_sure: _,
             highest: _,
@@ -293,37 +305,25 @@ pub fn open_files<D: Disk + Drop>(
     if !files.may_be_used() {
         return Err(OpenFault::Broken);
     }
-    match FileStore::opened_anew(alloc, files) {
+    match Connection::open_files(alloc, files, Options::new(SEED)) {
         Ok(conn) => match SqlRecords::open(alloc, conn) {
             Ok(records) => Ok(records),
             Err((fault, _store)) => Err(fault),
         },
-        Err((error, _files)) => Err(unopened(error)),
+        Err((error, left)) => {
+            let _files = left.into_files();
+            Err(unopened(error))
+        }
     }
 }
 
-impl<S: OpensAnew> Records for SqlRecords<S> {
-    ghost may_find = { λ r. MayFind S.Store r.owner r.held };
-
-    ghost is_honest = { λ r. is_honest S.Store r };
-
-    ghost is_clean = { λ r. is_clean_in S.Store r.held };
-
-    ghost count_of = { λ r. r.failures };
-
-    ghost is_broken = { λ r. not r.is_up };
-
-    ghost finds_no_memory = { λ _ _. Unit {0} };
-
-    ghost finds_no_ballot = { λ _ _. Unit {0} };
-
-    ghost reopens = { λ old new. IsHonest S.Store new → AddsNothing (MayFind S.Store old.owner old.held) (MayFind S.Store new.owner new.held) };
-
-    fn failures(&self) -> u64 {
-        self.failures
-    }
-
-    fn tried(&mut self) -> Result<Option<Ballot>, RecordsFault> {
+impl<S: Alter> SqlRecords<S> {
+    fn find_tried(&mut self) -> Result<Option<Ballot>, RecordsFault>
+        ensures value { IsHonest S.Store self.new → IfOk result (λ b. (c : Content) → Holds (MayFind S.Store self.old.owner self.old.held) c → number_of b ≡ c.tried) }
+        ensures kept { IsHonest S.Store self.new → Keeps result (MayFind S.Store self.old.owner self.old.held) (MayFind S.Store self.new.owner self.new.held) }
+        ensures trust { KeepsTrust (is_honest S.Store) (λ r. is_clean_in S.Store r.held) self.old self.new }
+        ensures account { Accounts (λ r. r.failures) (λ r. not r.is_up) self.old result self.new }
+    {
         if !self.is_up {
             return Err(end(&mut self.is_up, &mut self.failures, Stop::Down));
         }
@@ -336,7 +336,90 @@ impl<S: OpensAnew> Records for SqlRecords<S> {
         }
     }
 
-    fn promised(&mut self) -> Result<Option<Ballot>, RecordsFault> {
+    fn find_vote(&mut self, place: Place) -> Result<Option<Cast>, RecordsFault>
+        ensures value { IsHonest S.Store self.new → IfOk result (λ v. (c : Content) → Holds (MayFind S.Store self.old.owner self.old.held) c → v ≡ at c.votes place) }
+        ensures kept { IsHonest S.Store self.new → Keeps result (MayFind S.Store self.old.owner self.old.held) (MayFind S.Store self.new.owner self.new.held) }
+        ensures trust { KeepsTrust (is_honest S.Store) (λ r. is_clean_in S.Store r.held) self.old self.new }
+        ensures account { Accounts (λ r. r.failures) (λ r. not r.is_up) self.old result self.new }
+    {
+        let alloc = self.alloc;
+        if !self.is_up {
+            return Err(end(&mut self.is_up, &mut self.failures, Stop::Down));
+        }
+        let Some(conn) = &mut self.conn else {
+            return Err(end(&mut self.is_up, &mut self.failures, Stop::Down));
+        };
+        match acceptor_store_parts::vote(alloc, conn, place) {
+            Ok(found) => Ok(found),
+            Err(stop) => Err(end(&mut self.is_up, &mut self.failures, stop)),
+        }
+    }
+
+    fn find_votes_from(&mut self, place: Place) -> Result<Votes, RecordsFault>
+        ensures value { IsHonest S.Store self.new → IfOk result (λ votes. (c : Content) → Holds (MayFind S.Store self.old.owner self.old.held) c → votes ≡ rows_from c.votes place) }
+        ensures sound { IsHonest S.Store self.new → OnOk result ((c : Content) → Holds (MayFind S.Store self.old.owner self.old.held) c → IsSound c) }
+        ensures kept { IsHonest S.Store self.new → Keeps result (MayFind S.Store self.old.owner self.old.held) (MayFind S.Store self.new.owner self.new.held) }
+        ensures trust { KeepsTrust (is_honest S.Store) (λ r. is_clean_in S.Store r.held) self.old self.new }
+        ensures account { Accounts (λ r. r.failures) (λ r. not r.is_up) self.old result self.new }
+    {
+        let alloc = self.alloc;
+        if !self.is_up {
+            return Err(end(&mut self.is_up, &mut self.failures, Stop::Down));
+        }
+        let Some(conn) = &mut self.conn else {
+            return Err(end(&mut self.is_up, &mut self.failures, Stop::Down));
+        };
+        match acceptor_store_parts::votes_from(alloc, conn, place) {
+            Ok(found) => Ok(found),
+            Err(stop) => Err(end(&mut self.is_up, &mut self.failures, stop)),
+        }
+    }
+
+    fn find_learned_row(&mut self, place: Place) -> Result<Option<Value>, RecordsFault>
+        ensures value { IsHonest S.Store self.new → IfOk result (λ v. (c : Content) → Holds (MayFind S.Store self.old.owner self.old.held) c → v ≡ at c.learned place) }
+        ensures kept { IsHonest S.Store self.new → Keeps result (MayFind S.Store self.old.owner self.old.held) (MayFind S.Store self.new.owner self.new.held) }
+        ensures trust { KeepsTrust (is_honest S.Store) (λ r. is_clean_in S.Store r.held) self.old self.new }
+        ensures account { Accounts (λ r. r.failures) (λ r. not r.is_up) self.old result self.new }
+    {
+        let alloc = self.alloc;
+        if !self.is_up {
+            return Err(end(&mut self.is_up, &mut self.failures, Stop::Down));
+        }
+        let Some(conn) = &mut self.conn else {
+            return Err(end(&mut self.is_up, &mut self.failures, Stop::Down));
+        };
+        match acceptor_store_parts::learned_row(alloc, conn, place) {
+            Ok(found) => Ok(found),
+            Err(stop) => Err(end(&mut self.is_up, &mut self.failures, stop)),
+        }
+    }
+
+    fn find_learned_from(&mut self, place: Place) -> Result<Vec<(Place, Value)>, RecordsFault>
+        ensures value { IsHonest S.Store self.new → IfOk result (λ learned. (c : Content) → Holds (MayFind S.Store self.old.owner self.old.held) c → learned.items ≡ rows_from c.learned place) }
+        ensures sound { IsHonest S.Store self.new → OnOk result ((c : Content) → Holds (MayFind S.Store self.old.owner self.old.held) c → IsSound c) }
+        ensures kept { IsHonest S.Store self.new → Keeps result (MayFind S.Store self.old.owner self.old.held) (MayFind S.Store self.new.owner self.new.held) }
+        ensures trust { KeepsTrust (is_honest S.Store) (λ r. is_clean_in S.Store r.held) self.old self.new }
+        ensures account { Accounts (λ r. r.failures) (λ r. not r.is_up) self.old result self.new }
+    {
+        let alloc = self.alloc;
+        if !self.is_up {
+            return Err(end(&mut self.is_up, &mut self.failures, Stop::Down));
+        }
+        let Some(conn) = &mut self.conn else {
+            return Err(end(&mut self.is_up, &mut self.failures, Stop::Down));
+        };
+        match acceptor_store_parts::learned_from(alloc, conn, place) {
+            Ok(found) => Ok(found),
+            Err(stop) => Err(end(&mut self.is_up, &mut self.failures, stop)),
+        }
+    }
+
+    fn find_promised(&mut self) -> Result<Option<Ballot>, RecordsFault>
+        ensures value { IsHonest S.Store self.new → IfOk result (λ b. (c : Content) → Holds (MayFind S.Store self.old.owner self.old.held) c → number_of b ≡ promised c) }
+        ensures kept { IsHonest S.Store self.new → Keeps result (MayFind S.Store self.old.owner self.old.held) (MayFind S.Store self.new.owner self.new.held) }
+        ensures trust { KeepsTrust (is_honest S.Store) (λ r. is_clean_in S.Store r.held) self.old self.new }
+        ensures account { Accounts (λ r. r.failures) (λ r. not r.is_up) self.old result self.new }
+    {
         let alloc = self.alloc;
         if !self.is_up {
             return Err(end(&mut self.is_up, &mut self.failures, Stop::Down));
@@ -353,63 +436,12 @@ impl<S: OpensAnew> Records for SqlRecords<S> {
         }
     }
 
-    fn vote(&mut self, place: Place) -> Result<Option<Cast>, RecordsFault> {
-        let alloc = self.alloc;
-        if !self.is_up {
-            return Err(end(&mut self.is_up, &mut self.failures, Stop::Down));
-        }
-        let Some(conn) = &mut self.conn else {
-            return Err(end(&mut self.is_up, &mut self.failures, Stop::Down));
-        };
-        match acceptor_store_parts::vote(alloc, conn, place) {
-            Ok(found) => Ok(found),
-            Err(stop) => Err(end(&mut self.is_up, &mut self.failures, stop)),
-        }
-    }
-
-    fn votes_from(&mut self, place: Place) -> Result<Votes, RecordsFault> {
-        let alloc = self.alloc;
-        if !self.is_up {
-            return Err(end(&mut self.is_up, &mut self.failures, Stop::Down));
-        }
-        let Some(conn) = &mut self.conn else {
-            return Err(end(&mut self.is_up, &mut self.failures, Stop::Down));
-        };
-        match acceptor_store_parts::votes_from(alloc, conn, place) {
-            Ok(found) => Ok(found),
-            Err(stop) => Err(end(&mut self.is_up, &mut self.failures, stop)),
-        }
-    }
-
-    fn learned_row(&mut self, place: Place) -> Result<Option<Value>, RecordsFault> {
-        let alloc = self.alloc;
-        if !self.is_up {
-            return Err(end(&mut self.is_up, &mut self.failures, Stop::Down));
-        }
-        let Some(conn) = &mut self.conn else {
-            return Err(end(&mut self.is_up, &mut self.failures, Stop::Down));
-        };
-        match acceptor_store_parts::learned_row(alloc, conn, place) {
-            Ok(found) => Ok(found),
-            Err(stop) => Err(end(&mut self.is_up, &mut self.failures, stop)),
-        }
-    }
-
-    fn learned_from(&mut self, place: Place) -> Result<Vec<(Place, Value)>, RecordsFault> {
-        let alloc = self.alloc;
-        if !self.is_up {
-            return Err(end(&mut self.is_up, &mut self.failures, Stop::Down));
-        }
-        let Some(conn) = &mut self.conn else {
-            return Err(end(&mut self.is_up, &mut self.failures, Stop::Down));
-        };
-        match acceptor_store_parts::learned_from(alloc, conn, place) {
-            Ok(found) => Ok(found),
-            Err(stop) => Err(end(&mut self.is_up, &mut self.failures, stop)),
-        }
-    }
-
-    fn put_tried(&mut self, ballot: Ballot) -> Result<(), RecordsFault> {
+    fn set_tried(&mut self, ballot: Ballot) -> Result<(), RecordsFault>
+        ensures writes { IsHonest S.Store self.new → Writes result (MayFind S.Store self.old.owner self.old.held) (MayFind S.Store self.new.owner self.new.held)
+            (Tries ballot) }
+        ensures trust { KeepsTrust (is_honest S.Store) (λ r. is_clean_in S.Store r.held) self.old self.new }
+        ensures account { Accounts (λ r. r.failures) (λ r. not r.is_up) self.old result self.new }
+    {
         if !self.is_up {
             return Err(end(&mut self.is_up, &mut self.failures, Stop::Down));
         }
@@ -422,7 +454,12 @@ impl<S: OpensAnew> Records for SqlRecords<S> {
         }
     }
 
-    fn put_promised(&mut self, ballot: Ballot) -> Result<(), RecordsFault> {
+    fn set_promised(&mut self, ballot: Ballot) -> Result<(), RecordsFault>
+        ensures writes { IsHonest S.Store self.new → Writes result (MayFind S.Store self.old.owner self.old.held) (MayFind S.Store self.new.owner self.new.held)
+            (Promises ballot) }
+        ensures trust { KeepsTrust (is_honest S.Store) (λ r. is_clean_in S.Store r.held) self.old self.new }
+        ensures account { Accounts (λ r. r.failures) (λ r. not r.is_up) self.old result self.new }
+    {
         if !self.is_up {
             return Err(end(&mut self.is_up, &mut self.failures, Stop::Down));
         }
@@ -438,12 +475,12 @@ impl<S: OpensAnew> Records for SqlRecords<S> {
         }
     }
 
-    fn put_vote(
-        &mut self,
-        place: Place,
-        ballot: Ballot,
-        value: &Value,
-    ) -> Result<(), RecordsFault> {
+    fn set_vote(&mut self, place: Place, ballot: Ballot, value: &Value) -> Result<(), RecordsFault>
+        ensures writes { IsHonest S.Store self.new → Writes result (MayFind S.Store self.old.owner self.old.held) (MayFind S.Store self.new.owner self.new.held)
+            (Casts place record { ballot = ballot; value = value.now }) }
+        ensures trust { KeepsTrust (is_honest S.Store) (λ r. is_clean_in S.Store r.held) self.old self.new }
+        ensures account { Accounts (λ r. r.failures) (λ r. not r.is_up) self.old result self.new }
+    {
         if !self.is_up {
             return Err(end(&mut self.is_up, &mut self.failures, Stop::Down));
         }
@@ -459,7 +496,12 @@ impl<S: OpensAnew> Records for SqlRecords<S> {
         }
     }
 
-    fn put_learned(&mut self, place: Place, value: &Value) -> Result<(), RecordsFault> {
+    fn set_learned(&mut self, place: Place, value: &Value) -> Result<(), RecordsFault>
+        ensures writes { IsHonest S.Store self.new → Writes result (MayFind S.Store self.old.owner self.old.held) (MayFind S.Store self.new.owner self.new.held)
+            (Learns place value.now) }
+        ensures trust { KeepsTrust (is_honest S.Store) (λ r. is_clean_in S.Store r.held) self.old self.new }
+        ensures account { Accounts (λ r. r.failures) (λ r. not r.is_up) self.old result self.new }
+    {
         if !self.is_up {
             return Err(end(&mut self.is_up, &mut self.failures, Stop::Down));
         }
@@ -471,32 +513,85 @@ impl<S: OpensAnew> Records for SqlRecords<S> {
             Err(stop) => Err(end(&mut self.is_up, &mut self.failures, stop)),
         }
     }
+}
 
-    /// Where it couldn't open the store, what is left is kept for the next reopen. Where it opened it
-    /// and couldn't read the tables, the connection is kept, and honesty too (`sure`).
-    fn reopen(&mut self) -> Result<(), RecordsFault>
-        ensures ok { IsHonest S.Store self.new → OnOk result ((a b : Content) → HoldsEither (MayFind S.Store self.old.owner self.old.held) a b
-            → Holds (MayFind S.Store self.new.owner self.new.held) a ⊎ Holds (MayFind S.Store self.new.owner self.new.held) b) }
-        ensures reopened { OnOk result (IsHonest S.Store self.new
-            → AddsNothing (MayFind S.Store self.old.owner self.old.held) (MayFind S.Store self.new.owner self.new.held)) }
-        ensures harmless { IsHonest S.Store self.new
-            → IfErr result (λ e. IsHarmless e → FindsSame (MayFind S.Store self.old.owner self.old.held) (MayFind S.Store self.new.owner self.new.held)) }
-        ensures kept { IsHonest S.Store self.new → AddsNothing (MayFind S.Store self.old.owner self.old.held) (MayFind S.Store self.new.owner self.new.held) }
-        ensures honest { IsHonest S.Store self.new → IsHonest S.Store self.old }
-        ensures trust { OnOk result (KeepsTrust (is_honest S.Store) (λ r. is_clean_in S.Store r.held) self.old self.new) }
-        ensures sure { IsSome self.new.held → IsTrue (is_clean_in S.Store self.new.held) → IsHonest S.Store self.old → IsHonest S.Store self.new }
-        ensures count { CountsFaults result self.old.failures self.new.failures }
-        ensures broken { BreaksByReopen result (not self.old.is_up) (not self.new.is_up) }
-    {
-        let conn = self.conn.take();
-        let left = self.left.take();
-        let (fresh, highest) = match opened_anew(self.alloc, conn, left, self.owner) {
-            Ok(opened) => opened,
-            Err((error, left)) => {
-                self.left = Some(left);
-                self.is_sure = false;
-                return Err(end_unopened(&mut self.is_up, &mut self.failures, error));
-            }
+impl<D: Disk + Drop> Records for SqlRecords<FileStore<D>> {
+    ghost may_find = { λ r. MayFind over_files r.owner r.held };
+
+    ghost is_honest = { λ r. is_honest over_files r };
+
+    ghost is_clean = { λ r. is_clean_in over_files r.held };
+
+    ghost count_of = { λ r. r.failures };
+
+    ghost is_broken = { λ r. not r.is_up };
+
+    ghost finds_no_memory = { λ _ _. Unit {0} };
+
+    ghost finds_no_ballot = { λ _ _. Unit {0} };
+
+    ghost reopens = { λ old new. IsHonest over_files new → AddsNothing (MayFind over_files old.owner old.held) (MayFind over_files new.owner new.held) };
+
+    fn failures(&self) -> u64 {
+        self.failures
+    }
+
+    fn tried(&mut self) -> Result<Option<Ballot>, RecordsFault> {
+        self.find_tried()
+    }
+
+    fn promised(&mut self) -> Result<Option<Ballot>, RecordsFault> {
+        self.find_promised()
+    }
+
+    fn vote(&mut self, place: Place) -> Result<Option<Cast>, RecordsFault> {
+        self.find_vote(place)
+    }
+
+    fn votes_from(&mut self, place: Place) -> Result<Votes, RecordsFault> {
+        self.find_votes_from(place)
+    }
+
+    fn learned_row(&mut self, place: Place) -> Result<Option<Value>, RecordsFault> {
+        self.find_learned_row(place)
+    }
+
+    fn learned_from(&mut self, place: Place) -> Result<Vec<(Place, Value)>, RecordsFault> {
+        self.find_learned_from(place)
+    }
+
+    fn put_tried(&mut self, ballot: Ballot) -> Result<(), RecordsFault> {
+        self.set_tried(ballot)
+    }
+
+    fn put_promised(&mut self, ballot: Ballot) -> Result<(), RecordsFault> {
+        self.set_promised(ballot)
+    }
+
+    fn put_vote(
+        &mut self,
+        place: Place,
+        ballot: Ballot,
+        value: &Value,
+    ) -> Result<(), RecordsFault> {
+        self.set_vote(place, ballot, value)
+    }
+
+    fn put_learned(&mut self, place: Place, value: &Value) -> Result<(), RecordsFault> {
+        self.set_learned(place, value)
+    }
+
+    fn reopen(&mut self) -> Result<(), RecordsFault> {
+        let Some(conn) = self.conn.take() else {
+            self.is_up = false;
+            self.failures = risen(self.failures);
+            return Err(RecordsFault::Broken);
+        };
+        let Some((fresh, highest)) = opened_anew(self.alloc, conn, self.owner) else {
+            self.is_sure = false;
+            self.is_up = false;
+            self.failures = risen(self.failures);
+            return Err(RecordsFault::Broken);
         };
         self.conn = Some(fresh);
         let Some(highest) = highest else {

@@ -22,7 +22,6 @@ use ballots::{Ballot, Members, NodeId};
 use sqlite::{Alter, Connection};
 use sqlite_schema::schema::Schema;
 use std::alloc::Global;
-use store_anew::OpensAnew;
 use thiserror::Error;
 
 /// Why records weren't opened for their owner.
@@ -261,7 +260,7 @@ fn adopted<S: Alter + Drop>(
     }
 }
 
-impl<S: OpensAnew> SqlRecords<S> {
+impl<S: Alter + Drop> SqlRecords<S> {
     /// The records of a node that is one of these members, over the connection, in tables of version
     /// 3. In a database without tables they are made, in one transaction, where it may be new.
     ///
@@ -307,7 +306,6 @@ impl<S: OpensAnew> SqlRecords<S> {
         Ok(SqlRecords {
             alloc,
             conn: Some(found.0),
-            left: None,
             is_up: true,
             is_sure: true,
             highest: Some(found.1),
@@ -350,7 +348,6 @@ impl<S: OpensAnew> SqlRecords<S> {
         Ok(SqlRecords {
             alloc,
             conn: Some(found.0),
-            left: None,
             is_up: true,
             is_sure: true,
             highest: Some(found.1),

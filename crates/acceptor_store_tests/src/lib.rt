@@ -8,8 +8,6 @@ mod files;
 #[cfg(test)]
 mod owners;
 #[cfg(test)]
-mod slips;
-#[cfg(test)]
 mod stops;
 #[cfg(test)]
 mod tables;

@@ -1,0 +1,41 @@
+use Rattle.std.proofs.Common.{◌≡◌, ℕ, List}
+use Rattle.ballots.specs.Rows.{rows_from}
+use Rattle.acceptor.specs.Content.{Content, IsSound}
+use Rattle.acceptor_store.proofs.Failing.{linked_unread}
+use Rattle.acceptor_store.proofs.Calls.{entered, value, same, kept, trust}
+use Rattle.acceptor_store.proofs.SqlRecords.find_learned_from.Goals as goal
+
+pub returns-in-Ok-clause-value : goal.returns-in-Ok-clause-value
+returns-in-Ok-clause-value g c =
+    value g.S.Store g.met.S.Store.settled g.met.S.Store.stays c.args.self.now c.in-Some.conn c.learned_from.new.conn c.self.inside.is_sure
+    (entered g.S.Store c.args.self.now (record { held = c.self.inside.conn; is_up = c.self.inside.is_up; is_sure = c.self.inside.is_sure; highest = c.self.inside.highest; failures = c.self.inside.failures; owner = c.self.inside.owner }) c.in-Some.conn c.self.view_is c.in-Some.is c.self.invariant c.if-not-self.false) _ c.learned_from.ensures.survives (λ (x : Content). c.in-Ok.found.items ≡ rows_from x.learned c.args.place) c.in-Ok.ensures.value
+
+pub returns-in-Ok-clause-kept : goal.returns-in-Ok-clause-kept
+returns-in-Ok-clause-kept g c =
+    same g.S.Store g.met.S.Store.settled g.met.S.Store.stays c.args.self.now c.in-Some.conn c.learned_from.new.conn c.self.inside.is_sure
+    (entered g.S.Store c.args.self.now (record { held = c.self.inside.conn; is_up = c.self.inside.is_up; is_sure = c.self.inside.is_sure; highest = c.self.inside.highest; failures = c.self.inside.failures; owner = c.self.inside.owner }) c.in-Some.conn c.self.view_is c.in-Some.is c.self.invariant c.if-not-self.false) _ c.learned_from.ensures.survives (λ clean. c.in-Ok.ensures.stays clean tt)
+
+pub returns-in-Err-clause-kept : goal.returns-in-Err-clause-kept
+returns-in-Err-clause-kept g c =
+    kept g.S.Store g.met.S.Store.settled g.met.S.Store.stays c.args.self.now c.in-Some.conn c.learned_from.new.conn c.self.inside.is_sure
+    (entered g.S.Store c.args.self.now (record { held = c.self.inside.conn; is_up = c.self.inside.is_up; is_sure = c.self.inside.is_sure; highest = c.self.inside.highest; failures = c.self.inside.failures; owner = c.self.inside.owner }) c.in-Some.conn c.self.view_is c.in-Some.is c.self.invariant c.if-not-self.false) _ c.learned_from.ensures.survives (List (ℕ × List ℕ)) c.end-in-Err.result (λ harmless clean. c.in-Err.ensures.stays clean (c.end-in-Err.ensures.harmless harmless)) (λ x db was none. none x was)
+
+pub returns-in-Ok-clause-sound : goal.returns-in-Ok-clause-sound
+returns-in-Ok-clause-sound g c =
+    value g.S.Store g.met.S.Store.settled g.met.S.Store.stays c.args.self.now c.in-Some.conn c.learned_from.new.conn c.self.inside.is_sure
+    (entered g.S.Store c.args.self.now (record { held = c.self.inside.conn; is_up = c.self.inside.is_up; is_sure = c.self.inside.is_sure; highest = c.self.inside.highest; failures = c.self.inside.failures; owner = c.self.inside.owner }) c.in-Some.conn c.self.view_is c.in-Some.is c.self.invariant c.if-not-self.false) _ c.learned_from.ensures.survives IsSound (λ clean x was. was.1.tables.sound)
+
+pub returns-in-Ok-clause-trust : goal.returns-in-Ok-clause-trust
+returns-in-Ok-clause-trust g c =
+    trust g.S.Store g.met.S.Store.settled g.met.S.Store.stays c.args.self.now c.in-Some.conn c.learned_from.new.conn c.self.inside.is_sure
+    (entered g.S.Store c.args.self.now (record { held = c.self.inside.conn; is_up = c.self.inside.is_up; is_sure = c.self.inside.is_sure; highest = c.self.inside.highest; failures = c.self.inside.failures; owner = c.self.inside.owner }) c.in-Some.conn c.self.view_is c.in-Some.is c.self.invariant c.if-not-self.false) _ c.learned_from.ensures.survives _ _ _
+
+pub returns-in-Err-clause-trust : goal.returns-in-Err-clause-trust
+returns-in-Err-clause-trust g c =
+    trust g.S.Store g.met.S.Store.settled g.met.S.Store.stays c.args.self.now c.in-Some.conn c.learned_from.new.conn c.self.inside.is_sure
+    (entered g.S.Store c.args.self.now (record { held = c.self.inside.conn; is_up = c.self.inside.is_up; is_sure = c.self.inside.is_sure; highest = c.self.inside.highest; failures = c.self.inside.failures; owner = c.self.inside.owner }) c.in-Some.conn c.self.view_is c.in-Some.is c.self.invariant c.if-not-self.false) _ c.learned_from.ensures.survives _ _ _
+
+pub invariant_of-self-in-Err : goal.invariant_of-self-in-Err
+invariant_of-self-in-Err g c =
+    linked_unread g.S.Store c.self.inside.owner c.self.inside.conn c.in-Some.conn c.learned_from.new.conn c.self.inside.is_up c.end-in-Err.new.is_up c.self.inside.is_sure c.self.inside.highest c.in-Err.stop c.in-Some.is c.self.invariant
+    c.if-not-self.false c.end-in-Err.ensures.up c.learned_from.ensures.survives (λ clean leaves. c.in-Err.ensures.stays clean leaves)

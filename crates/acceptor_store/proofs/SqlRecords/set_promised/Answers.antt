@@ -1,0 +1,41 @@
+use Rattle.acceptor.specs.Content.Write.{Promises}
+use Rattle.acceptor_store.proofs.Calls.{entered, made, same, in_doubt, adds_only, trust, linked_made, raised_row}
+use Rattle.acceptor_store.proofs.SqlRecords.set_promised.Goals as goal
+
+pub invariant_of-self-in-Ok : goal.invariant_of-self-in-Ok
+invariant_of-self-in-Ok g c =
+    linked_made g.S.Store c.self.inside.owner c.self.inside.conn c.in-Some.conn c.put_promised.new.conn c.self.inside.is_up c.self.inside.is_sure c.self.inside.highest c.raised-self-inside.result (Promises c.args.ballot) c.in-Some.is c.self.invariant c.if-not-self.false c.put_promised.ensures.survives c.in-Ok.ensures.ok (λ x known. raised_row c.args.ballot x c.self.inside.highest c.raised-self-inside.result c.raised-self-inside.ensures known)
+
+pub returns-in-Ok-clause-trust : goal.returns-in-Ok-clause-trust
+returns-in-Ok-clause-trust g c =
+    trust g.S.Store g.met.S.Store.settled g.met.S.Store.stays c.args.self.now c.in-Some.conn c.put_promised.new.conn c.self.inside.is_sure
+    (entered g.S.Store c.args.self.now (record { held = c.self.inside.conn; is_up = c.self.inside.is_up; is_sure = c.self.inside.is_sure; highest = c.self.inside.highest; failures = c.self.inside.failures; owner = c.self.inside.owner }) c.in-Some.conn c.self.view_is c.in-Some.is c.self.invariant c.if-not-self.false) _ c.put_promised.ensures.survives _ _ _
+
+pub returns-in-Err-clause-trust : goal.returns-in-Err-clause-trust
+returns-in-Err-clause-trust g c =
+    trust g.S.Store g.met.S.Store.settled g.met.S.Store.stays c.args.self.now c.in-Some.conn c.put_promised.new.conn c.self.inside.is_sure
+    (entered g.S.Store c.args.self.now (record { held = c.self.inside.conn; is_up = c.self.inside.is_up; is_sure = c.self.inside.is_sure; highest = c.self.inside.highest; failures = c.self.inside.failures; owner = c.self.inside.owner }) c.in-Some.conn c.self.view_is c.in-Some.is c.self.invariant c.if-not-self.false) _ c.put_promised.ensures.survives _ _ _
+
+pub returns-in-Ok-clause-writes : goal.returns-in-Ok-clause-writes
+returns-in-Ok-clause-writes g c honest =
+    record {
+      ok = made g.S.Store g.met.S.Store.settled g.met.S.Store.stays c.args.self.now c.in-Some.conn c.put_promised.new.conn c.self.inside.is_sure
+          (entered g.S.Store c.args.self.now (record { held = c.self.inside.conn; is_up = c.self.inside.is_up; is_sure = c.self.inside.is_sure; highest = c.self.inside.highest; failures = c.self.inside.failures; owner = c.self.inside.owner }) c.in-Some.conn c.self.view_is c.in-Some.is c.self.invariant c.if-not-self.false) _ c.put_promised.ensures.survives (Promises c.args.ballot) c.in-Ok.ensures.ok honest;
+      harmless = tt;
+      doubt = in_doubt g.S.Store g.met.S.Store.settled g.met.S.Store.stays c.args.self.now c.in-Some.conn c.put_promised.new.conn c.self.inside.is_sure
+          (entered g.S.Store c.args.self.now (record { held = c.self.inside.conn; is_up = c.self.inside.is_up; is_sure = c.self.inside.is_sure; highest = c.self.inside.highest; failures = c.self.inside.failures; owner = c.self.inside.owner }) c.in-Some.conn c.self.view_is c.in-Some.is c.self.invariant c.if-not-self.false) (Promises c.args.ballot) c.put_promised.ensures.survives honest;
+      only = adds_only g.S.Store g.met.S.Store.settled g.met.S.Store.stays c.args.self.now c.in-Some.conn c.put_promised.new.conn c.self.inside.is_sure
+          (entered g.S.Store c.args.self.now (record { held = c.self.inside.conn; is_up = c.self.inside.is_up; is_sure = c.self.inside.is_sure; highest = c.self.inside.highest; failures = c.self.inside.failures; owner = c.self.inside.owner }) c.in-Some.conn c.self.view_is c.in-Some.is c.self.invariant c.if-not-self.false) (Promises c.args.ballot) c.put_promised.ensures.survives honest;
+    }
+
+pub returns-in-Err-clause-writes : goal.returns-in-Err-clause-writes
+returns-in-Err-clause-writes g c honest =
+    record {
+      ok = tt;
+      harmless = λ harmless. same g.S.Store g.met.S.Store.settled g.met.S.Store.stays c.args.self.now c.in-Some.conn c.put_promised.new.conn c.self.inside.is_sure
+          (entered g.S.Store c.args.self.now (record { held = c.self.inside.conn; is_up = c.self.inside.is_up; is_sure = c.self.inside.is_sure; highest = c.self.inside.highest; failures = c.self.inside.failures; owner = c.self.inside.owner }) c.in-Some.conn c.self.view_is c.in-Some.is c.self.invariant c.if-not-self.false) _ c.put_promised.ensures.survives (λ clean. c.in-Err.ensures.err clean (c.end-in-Err.ensures.harmless harmless)) honest;
+      doubt = in_doubt g.S.Store g.met.S.Store.settled g.met.S.Store.stays c.args.self.now c.in-Some.conn c.put_promised.new.conn c.self.inside.is_sure
+          (entered g.S.Store c.args.self.now (record { held = c.self.inside.conn; is_up = c.self.inside.is_up; is_sure = c.self.inside.is_sure; highest = c.self.inside.highest; failures = c.self.inside.failures; owner = c.self.inside.owner }) c.in-Some.conn c.self.view_is c.in-Some.is c.self.invariant c.if-not-self.false) (Promises c.args.ballot) c.put_promised.ensures.survives honest;
+      only = adds_only g.S.Store g.met.S.Store.settled g.met.S.Store.stays c.args.self.now c.in-Some.conn c.put_promised.new.conn c.self.inside.is_sure
+          (entered g.S.Store c.args.self.now (record { held = c.self.inside.conn; is_up = c.self.inside.is_up; is_sure = c.self.inside.is_sure; highest = c.self.inside.highest; failures = c.self.inside.failures; owner = c.self.inside.owner }) c.in-Some.conn c.self.view_is c.in-Some.is c.self.invariant c.if-not-self.false) (Promises c.args.ballot) c.put_promised.ensures.survives honest;
+    }
