@@ -101,6 +101,12 @@ const WORDS: [(&[&str], &str); 36] = [
         &["node", "--members=5", "4"],
         "Node(NodeWords { number: \"4\", members: \"5\", store: None, is_new: false })",
     ),
+    (
+        &["node", "1", "--members", "3", "--store", "n.db", "--new"],
+        "Node(NodeWords { number: \"1\", members: \"3\", store: Some(\"n.db\"), is_new: true })",
+    ),
+    (&["node", "1", "--members", "3", "--new"], "NotUnderstood"),
+    (
         &["check", "a plan.toml"],
         "Check(CheckWords { path: \"a plan.toml\", form: None })",
     ),
