@@ -1,6 +1,6 @@
 //! `upsched node K --members M --store FILE`: the node keeps its records in a file of its own.
 
-ghost use Rattle.std.specs.Prelude.{◌≡◌, ◌<◌, ℕ};
+ghost use Rattle.std.specs.Prelude.{◌≡◌, ◌<◌, ℕ, false};
 ghost use Rattle.ballots.specs.Members.{member_count};
 ghost use Rattle.ballots.specs.declared.members.Members.{Members};
 ghost use Rattle.upsched_map_parts.specs.declared.status.Status.TheVariants.{NotUnderstood};
@@ -8,12 +8,12 @@ ghost use Rattle.upsched_node_parts.specs.Member.{NamesMember};
 
 use acceptor_store::{OpenFault, OwnerFault};
 use ballots::{Members, NodeId};
-use node::NodeFault;
+use node::{Node, NodeFault};
 use node_service::{Input, Output, Reply};
 use seats::Seat;
-use sqlite::File;
+use std::alloc::Global;
 use std::io::Write;
-use stored_nodes::{StartFault, StoredNode, new_node_of, node_of};
+use stored_nodes::{StartFault, new_node_of, node_of};
 use upsched_map_parts::{Fault, NodeWords, Status};
 use upsched_node_parts::{NO_MEMBER, ended, member_of, serve_member, unwritten};
 
@@ -41,41 +41,61 @@ fn not_started<'a>(fault: StartFault) -> Fault<'a> {
     }
 }
 
-/// A node that was started, and what it tells first.
-type Started = (Seat<StoredNode<File>>, Reply);
+/// A node that is up tells this first, and then replies to each line that comes.
+fn serve_node<'a, N: Node, I: Input, O: Output>(
+    alloc: Global,
+    node: N,
+    first: &Reply,
+    input: &mut I,
+    output: &mut O,
+) -> Result<(), Fault<'a>>
+    requires { (N.who node).down ≡ false }
+{
+    if let Err(why) = output.write_reply(alloc, first) {
+        return Err(unwritten(why));
+    }
+    let mut seat = Seat::new(node);
+    ended(serve_member(alloc, &mut seat, input, output))
+}
 
-/// The node of a path: a new one, or one that goes on over what it left there.
-fn started(
+/// A new node over the database of a path.
+fn serve_new<'a, I: Input, O: Output>(
     rt: &HostRuntime,
     path: &str,
     id: NodeId,
     members: Members,
-    is_new: bool,
-) -> Result<Started, StartFault>
-    requires { id < member_count members }
-{
-    if is_new {
-        let node = new_node_of(rt, path, id, members)?;
-        return Ok((Seat::new(node), Reply::Fresh(id, members)));
-    }
-    let node = node_of(rt, path, id, members)?;
-    Ok((Seat::new(node), Reply::Restarted(id, members)))
-}
-
-fn serve_started<'a, I: Input, O: Output>(
-    rt: &HostRuntime,
-    begun: Result<Started, StartFault>,
     input: &mut I,
     output: &mut O,
-) -> Result<(), Fault<'a>> {
-    let (mut seat, first) = match begun {
-        Ok(begun) => begun,
-        Err(fault) => return Err(not_started(fault)),
-    };
-    if let Err(why) = output.write_reply(rt.alloc(), &first) {
-        return Err(unwritten(why));
+) -> Result<(), Fault<'a>>
+    requires { id < member_count members }
+{
+    match new_node_of(rt, path, id, members) {
+        Ok(node) => serve_node(rt.alloc(), node, &Reply::Fresh(id, members), input, output),
+        Err(fault) => Err(not_started(fault)),
     }
-    ended(serve_member(rt.alloc(), &mut seat, input, output))
+}
+
+/// A node that goes on over the database of a path.
+fn serve_again<'a, I: Input, O: Output>(
+    rt: &HostRuntime,
+    path: &str,
+    id: NodeId,
+    members: Members,
+    input: &mut I,
+    output: &mut O,
+) -> Result<(), Fault<'a>>
+    requires { id < member_count members }
+{
+    match node_of(rt, path, id, members) {
+        Ok(node) => serve_node(
+            rt.alloc(),
+            node,
+            &Reply::Restarted(id, members),
+            input,
+            output,
+        ),
+        Err(fault) => Err(not_started(fault)),
+    }
 }
 
 /// Serves as the member that the words name, with its records in the database of a path. A fault is told in one line.
@@ -94,8 +114,12 @@ pub fn stored_node<I: Input, O: Output, E: Write>(
         let _ = writeln!(errors, "{NO_MEMBER}");
         return Status::NotUnderstood;
     };
-    let begun = started(rt, path, id, members, words.is_new);
-    match serve_started(rt, begun, input, output) {
+    let served = if words.is_new {
+        serve_new(rt, path, id, members, input, output)
+    } else {
+        serve_again(rt, path, id, members, input, output)
+    };
+    match served {
         Ok(()) => Status::Done,
         Err(fault) => fault.told(errors),
     }
