@@ -1,19 +1,21 @@
 //! `upsched node K --members M --store FILE`: the node keeps its records in a file of its own.
 
-ghost use Rattle.std.specs.Prelude.{◌≡◌, ◌<◌, ℕ, false};
+ghost use Rattle.std.specs.Prelude.{◌≡◌, ◌<◌, ℕ, IfOk, false};
 ghost use Rattle.ballots.specs.Members.{member_count};
 ghost use Rattle.ballots.specs.declared.members.Members.{Members};
 ghost use Rattle.upsched_map_parts.specs.declared.status.Status.TheVariants.{NotUnderstood};
 ghost use Rattle.upsched_node_parts.specs.Member.{NamesMember};
 
-use acceptor_store::{OpenFault, OwnerFault};
+use acceptor_store::{OpenFault, OwnerFault, SqlRecords};
 use ballots::{Members, NodeId};
-use node::{Node, NodeFault};
+use node::{Node, NodeFault, SchedNode};
 use node_service::{Input, Output, Reply};
 use seats::Seat;
+use sqlite::FileStore;
+use sqlite_disk::Disk;
 use std::alloc::Global;
 use std::io::Write;
-use stored_nodes::{StartFault, new_node_of, node_of};
+use stored_nodes::{StartFault, StoredNode, new_node_of, node_of};
 use upsched_map_parts::{Fault, NodeWords, Status};
 use upsched_node_parts::{NO_MEMBER, ended, member_of, serve_member, unwritten};
 
@@ -41,16 +43,20 @@ fn not_started<'a>(fault: StartFault) -> Fault<'a> {
     }
 }
 
-/// A node that is up tells this first, and then replies to each line that comes.
-fn serve_node<'a, N: Node, I: Input, O: Output>(
+/// A node that was started tells this first, and then replies to each line that comes.
+fn serve_started<'a, D: Disk + Drop, I: Input, O: Output>(
     alloc: Global,
-    node: N,
+    started: Result<StoredNode<D>, StartFault>,
     first: &Reply,
     input: &mut I,
     output: &mut O,
 ) -> Result<(), Fault<'a>>
-    requires { (N.who node).down ≡ false }
+    requires { IfOk started (λ node. (⟦<SchedNode<SqlRecords<FileStore<D>>> as Node>⟧.who node).down ≡ false) }
 {
+    let node = match started {
+        Ok(node) => node,
+        Err(fault) => return Err(not_started(fault)),
+    };
     if let Err(why) = output.write_reply(alloc, first) {
         return Err(unwritten(why));
     }
@@ -58,44 +64,36 @@ fn serve_node<'a, N: Node, I: Input, O: Output>(
     ended(serve_member(alloc, &mut seat, input, output))
 }
 
-/// A new node over the database of a path.
-fn serve_new<'a, I: Input, O: Output>(
+/// Serves over the database of a path: as a new node, or as one that goes on over what it left there.
+fn serve_over<'a, I: Input, O: Output>(
     rt: &HostRuntime,
+    words: &NodeWords<'_>,
     path: &str,
-    id: NodeId,
-    members: Members,
+    member: (NodeId, Members),
     input: &mut I,
     output: &mut O,
 ) -> Result<(), Fault<'a>>
-    requires { id < member_count members }
+    requires { member.0 < member_count member.1 }
 {
-    match new_node_of(rt, path, id, members) {
-        Ok(node) => serve_node(rt.alloc(), node, &Reply::Fresh(id, members), input, output),
-        Err(fault) => Err(not_started(fault)),
-    }
-}
-
-/// A node that goes on over the database of a path.
-fn serve_again<'a, I: Input, O: Output>(
-    rt: &HostRuntime,
-    path: &str,
-    id: NodeId,
-    members: Members,
-    input: &mut I,
-    output: &mut O,
-) -> Result<(), Fault<'a>>
-    requires { id < member_count members }
-{
-    match node_of(rt, path, id, members) {
-        Ok(node) => serve_node(
+    let (id, members) = member;
+    if words.is_new {
+        let started = new_node_of(rt, path, id, members);
+        return serve_started(
             rt.alloc(),
-            node,
-            &Reply::Restarted(id, members),
+            started,
+            &Reply::Fresh(id, members),
             input,
             output,
-        ),
-        Err(fault) => Err(not_started(fault)),
+        );
     }
+    let started = node_of(rt, path, id, members);
+    serve_started(
+        rt.alloc(),
+        started,
+        &Reply::Restarted(id, members),
+        input,
+        output,
+    )
 }
 
 /// Serves as the member that the words name, with its records in the database of a path. A fault is told in one line.
@@ -114,12 +112,7 @@ pub fn stored_node<I: Input, O: Output, E: Write>(
         let _ = writeln!(errors, "{NO_MEMBER}");
         return Status::NotUnderstood;
     };
-    let served = if words.is_new {
-        serve_new(rt, path, id, members, input, output)
-    } else {
-        serve_again(rt, path, id, members, input, output)
-    };
-    match served {
+    match serve_over(rt, words, path, (id, members), input, output) {
         Ok(()) => Status::Done,
         Err(fault) => fault.told(errors),
     }
