@@ -162,7 +162,10 @@ fn asked(request: Request) -> (char, u64) {
         Request::Offer(value) => ('o', value.as_slice().len() as u64),
         Request::Release(now) => ('r', now),
         Request::Letter(_) => ('t', 0),
-        Request::Tell(to, place) => ('k', place.wrapping_mul(10).wrapping_add(u64::from(to.number()))),
+        Request::Tell(to, place) => (
+            'k',
+            place.wrapping_mul(10).wrapping_add(u64::from(to.number())),
+        ),
     }
 }
 
