@@ -18,7 +18,7 @@ node) me=$2 folder=$3 ;;
 esac
 host=${HOST:-localhost} port=${PORT:-1883}
 made=$(mktemp -d)
-trap 'trap - TERM; rm -rf "$made"; kill 0' EXIT
+trap 'trap "" TERM; rm -rf "$made"; kill 0' EXIT
 
 make_users() {
     local name password
@@ -36,6 +36,7 @@ make_users() {
     done
     cat >"$folder/broker.conf" <<END
 listener $port $host
+user $(id -un)
 allow_anonymous false
 password_file $folder/users
 acl_file $folder/access

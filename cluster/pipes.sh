@@ -8,7 +8,7 @@
 set -euo pipefail
 here=$(cd -- "$(dirname -- "${BASH_SOURCE[0]}")" && pwd)
 pipes=$(mktemp -d)
-trap 'trap - TERM; rm -rf "$pipes"; kill 0' EXIT
+trap 'trap "" TERM; rm -rf "$pipes"; kill 0' EXIT
 mkfifo "$pipes/0" "$pipes/1" "$pipes/2" "$pipes/replies"
 for k in 0 1 2; do
     "$here/../upsched" node $k --members 3 <>"$pipes/$k" | while IFS= read -r line; do
