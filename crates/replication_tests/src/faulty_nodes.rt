@@ -4,8 +4,8 @@ ghost use Rattle.std.specs.Prelude.{◌≡◌, ◌<◌, IfOk, length};
 ghost use Rattle.ballots.specs.Members.{member_count};
 ghost use Rattle.seats.specs.Fresh.{AreFresh, IsFreshAt};
 
-use crate::faulty::{FaultyRecords, Trouble};
 use ballots::{Members, NodeId};
+use faulty_records::{FaultyRecords, Trouble};
 use node::{Node, SchedNode};
 use seats::nodes_by_number;
 use std::alloc::{AllocError, Global};

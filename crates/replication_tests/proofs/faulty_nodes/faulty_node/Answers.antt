@@ -1,7 +1,7 @@
 use Rattle.std.proofs.Common.{ap, sym, ◌∙◌}
 use Rattle.acceptor.specs.Content.{no_content}
 use Rattle.node.specs.Calls.{Who}
-use Rattle.faulty_records.proofs.nodes.faulty_node.Goals as goal
+use Rattle.replication_tests.proofs.faulty_nodes.faulty_node.Goals as goal
 
 pub new-requires-clause-certain : goal.new-requires-clause-certain
 new-requires-clause-certain c _ = ∣ (no_content, (∣ sym c.new-records.ensures.empty ∣₁, λ d is. is ∙ c.new-records.ensures.empty)) ∣₁
