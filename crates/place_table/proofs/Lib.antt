@@ -1,2 +1,1 @@
-pub mod Callers
 mod Places
