@@ -180,9 +180,10 @@ owes_lead members me was (Ok letters) full heard = ((λ is. cc, λ past. cc_of (
   where
     cc_of : {A : Type 0} {failed : NodeFault} → Ok letters ≡ Err failed → A
     cc_of is = cc
-owes_lead members me was (Err failed) full heard =
-    ((λ is. full.0 (ap (λ (f : NodeFault). Err f) (same is)), λ past. ap (λ (f : NodeFault). Fault f) (same_fault failed LogFull (Err failed) refl (full.1 past))),
-    λ room none. ap (λ (f : NodeFault). Fault f) (same_fault failed RoundsSpent (Err failed) refl (heard room none)))
+owes_lead members me was (Err failed) full heard = (
+  (λ is. full.0 (ap (λ (f : NodeFault). Err f) (same is)), λ past. ap (λ (f : NodeFault). Fault f) (same_fault failed LogFull (Err failed) refl (full.1 past))),
+  λ room none. ap (λ (f : NodeFault). Fault f) (same_fault failed RoundsSpent (Err failed) refl (heard room none)),
+)
   where
     same : Fault failed ≡ Fault LogFull → failed ≡ LogFull
     same is = cc
