@@ -161,6 +161,12 @@ fn fails_once<R: Records + Drop>(alloc: Global, mut records: R) -> Result<bool, 
     }
 }
 
+/// The same of records in these files, in which one write was made.
+fn fails_once_in<D: Disk + Drop>(alloc: Global, files: Files<D>) -> Result<bool, Fail> {
+    let records = written(alloc, files)?;
+    fails_once(alloc, records)
+}
+
 /// How many calls on this file are made until the records hold their write.
 fn calls_before(alloc: Global, which: Stopped) -> Result<u64, Fail> {
     let records = written(alloc, slipping(alloc, which, u64::MAX))?;
@@ -177,11 +183,8 @@ fn slips(alloc: Global, which: Stopped) -> Result<u64, Fail> {
     let before = calls_before(alloc, which)?;
     let mut count = 0u64;
     for further in 0..4u64 {
-        let records = written(
-            alloc,
-            slipping(alloc, which, before.saturating_add(further)),
-        )?;
-        if fails_once(alloc, records)? {
+        let files = slipping(alloc, which, before.saturating_add(further));
+        if fails_once_in(alloc, files)? {
             count = count.saturating_add(1);
         }
     }
