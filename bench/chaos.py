@@ -37,7 +37,7 @@ from chaos_member import Disk, Member
 from supervisor import bytes_of
 
 # How long a process may take to answer all that it was asked in a tick, in seconds.
-PATIENCE = 120
+PATIENCE = 600
 # The least time of a tick while a process is stopped, in seconds.
 PACE = 0.01
 NO_LINES = [b"", b"lead ", b"letter 0g", b"letter 070000", b"offer 0", b"release x", b"release 18446744073709551616"]

@@ -25,9 +25,11 @@ mkfifo "$made/in"
 export INTO=$made/in
 cd -- "$here"
 
-# listen PORT: puts whole lines from any connection into the pipe.
+# listen PORT: puts whole lines from any connection into the pipe. A port that is still in use is tried again.
 listen() {
-    socat -u "TCP-LISTEN:$1,fork,reuseaddr" SYSTEM:./whole_lines.py &
+    while true; do
+        socat -u "TCP-LISTEN:$1,fork,reuseaddr" SYSTEM:./whole_lines.py || sleep 0.2
+    done &
 }
 
 # reach NAME ADDRESS: a pipe of that name, whose lines go to the address; 6:18 is how long TCP waits, in milliseconds.
