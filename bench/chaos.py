@@ -62,7 +62,7 @@ class Run:
         self.loss, self.repeat, self.delay = pick([0, 0.02, 0.1, 0.2]), pick([0, 0.1, 0.3]), pick([0, 2, 10])
         self.kills, self.stops = pick([0.01, 0.03, 0.06]), pick([0, 0.01, 0.02])
         self.parts, self.fills = pick([0, 0.01, 0.03]), pick([0, 0.01, 0.02])
-        self.ticks, self.batch = self.random.randrange(150, 400), pick([2, 4, 12])
+        self.ticks, self.batch = self.random.randrange(150, 400), pick([4, 8, 16])
         self.now, self.order, self.mail, self.strikes = 0, 0, [], []
         self.leader, self.rest, self.sides, self.parted_until = None, 0, None, None
         self.work, self.offered = Workload(self.random, bytes_of), {b"\0"}
@@ -170,12 +170,14 @@ class Run:
         alive = [it for it in self.members if it.is_ready]
         if not alive:
             return
+        if self.leader not in alive:
+            self.leader = None
         if self.rest <= 0 and self.leader is None or self.random.random() < 0.005:
             self.random.choice(alive).ask(b"lead")
             self.rest = 3 + self.delay
         self.rest -= 1
-        leader = self.leader if self.leader in alive else self.random.choice(alive)
-        for _ in range(self.random.randrange(self.batch) if self.leader in alive else 1):
+        leader = self.leader or self.random.choice(alive)
+        for _ in range(self.random.randrange(self.batch) if self.leader else 1):
             value = self.work.value()
             self.offered.add(value)
             leader.ask(b"offer " + value.hex().encode())
