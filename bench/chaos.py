@@ -31,6 +31,7 @@ import time
 
 ROOT = os.path.dirname(os.path.dirname(os.path.abspath(__file__)))
 sys.path[:0] = [os.path.join(ROOT, "bench"), os.path.join(ROOT, "cluster")]
+sys.dont_write_bytecode = True
 from chaos_checks import Difference, File, Printed, check_file, check_maps, check_outputs, check_votes
 from chaos_commands import Workload, table_of
 from chaos_member import Disk, Member

@@ -10,6 +10,7 @@ import time
 
 ROOT = os.path.dirname(os.path.dirname(os.path.abspath(__file__)))
 sys.path.insert(0, os.path.join(ROOT, "cluster"))
+sys.dont_write_bytecode = True
 from process_beside import Etcd, sqlite_places
 from process_carrier import MEMBERS, Cluster
 from supervisor import bytes_of
