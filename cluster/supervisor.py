@@ -102,7 +102,8 @@ class Supervisor:
             print("supervisor: the log is full: a new group of nodes has to begin", file=sys.stderr)
             sys.exit(2)
         elif words[:2] == ["fault", "1"] and node == self.leader:
-            self.lead((node + 1) % self.members)
+            # It doesn't lead yet, or no longer. Silence will tell.
+            self.offered = None
 
     def prefix(self, node):
         """The first place that a node hasn't released."""
