@@ -46,7 +46,7 @@ for ((k = 0; k < members; k++)); do reach "$k" "${addresses[k]}"; done
 if [ "$role" = supervise ]; then
     listen "$port"
     python3 supervisor.py "$members" "$plan" "$cuts" <>"$made/in" |
-        while read -r k line; do echo "$line" >"$made/$k"; done
+        while read -r k line; do echo "$line" 1<>"$made/$k"; done
 else
     listen "${addresses[me]##*:}"
     reach replies "$SUPERVISOR"
