@@ -1,0 +1,6 @@
+//! Processes that are nodes, life after life, each over what the one before left.
+#![tactic(auto)]
+
+mod laws;
+
+pub use laws::lives_are_sound;

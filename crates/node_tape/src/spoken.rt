@@ -1,0 +1,60 @@
+//! An output that is written into a journal.
+
+ghost use Rattle.std.specs.Prelude.{◌≡◌};
+
+use std::io;
+use std::io::Write;
+
+/// A writer of which all is written into a journal before it goes out, behind an empty line. What was not taken at one
+/// call has to be given again at the next one, as `write_all` and a `BufWriter` do.
+#[derive(Drop)]
+pub struct Spoken<W, J> {
+    output: W,
+    journal: J,
+    // How much of what comes next is written already.
+    ahead: usize,
+    has_begun: bool,
+}
+
+impl<W: Write, J: Write> Spoken<W, J> {
+    /// Nothing went out yet.
+    pub fn new(output: W, journal: J) -> Spoken<W, J>
+        ensures { result.output ≡ output }
+    {
+        Spoken {
+            output,
+            journal,
+            ahead: 0,
+            has_begun: false,
+        }
+    }
+
+    /// Writes into the journal what isn't there yet of what comes.
+    fn note(&mut self, bytes: &[u8]) -> io::Result<()>
+        ensures { self.new.output ≡ self.old.output }
+    {
+        if !self.has_begun {
+            self.journal.write_all(b"\n")?;
+            self.has_begun = true;
+        }
+        let written = self.ahead.min(bytes.len());
+        self.journal.write_all(&bytes[written..])?;
+        self.ahead = bytes.len();
+        self.journal.flush()
+    }
+}
+
+impl<W: Write, J: Write> Write for Spoken<W, J> {
+    ghost contents = { λ spoken. W.contents spoken.output };
+
+    fn write(&mut self, bytes: &[u8]) -> io::Result<usize> {
+        self.note(bytes)?;
+        let count = self.output.write(bytes)?;
+        self.ahead = bytes.len() - count;
+        Ok(count)
+    }
+
+    fn flush(&mut self) -> io::Result<()> {
+        self.output.flush()
+    }
+}
