@@ -1,10 +1,11 @@
 //! `upsched run SCRIPT --store DIR`: the nodes keep their records in files.
 
-ghost use Rattle.std.specs.Prelude.{◌≡◌, ◌≢◌};
+ghost use Rattle.std.specs.Prelude.{◌≡◌, ◌≢◌, IfOk};
 ghost use Rattle.seats.specs.Fresh.{AreFresh};
 ghost use Rattle.upsched_map_parts.specs.declared.status.Status.TheVariants.{NotUnderstood};
 ghost use Rattle.upsched_parts.specs.Run.{NoScript};
 
+use acceptor::Records;
 use acceptor_store::SqlRecords;
 use log::Log;
 use node::{Node, SchedNode};
@@ -25,19 +26,48 @@ fn fault_of<'a>(fault: StoreFault) -> Fault<'a> {
     }
 }
 
-/// What a script does to fresh nodes over files is printed, and their files are closed.
-fn print_stored<'a, R: Log + AllocGlobal, D: Disk + Drop, O: Write>(
+/// What a script does to these fresh nodes is printed, and then they are dropped.
+fn print_run<'a, R: Log + AllocGlobal, N: Node + Drop, O: Write>(
     rt: &R,
-    nodes: Vec<StoredNode<D>>,
+    nodes: Vec<N>,
     script: &Script,
     verbose: bool,
     output: &mut O,
 ) -> Result<(), Fault<'a>>
-    requires { AreFresh ⟦<SchedNode<SqlRecords<FileStore<D>>> as Node>⟧.who ⟦<SchedNode<SqlRecords<FileStore<D>>> as Node>⟧.honest
-        ⟦<SchedNode<SqlRecords<FileStore<D>>> as Node>⟧.stands nodes.items }
+    requires { AreFresh N.who N.honest N.stands nodes.items }
 {
     let _world = print_script(rt, nodes, script, verbose, output)?;
     Ok(())
+}
+
+/// The same of nodes over any records.
+fn print_recorded<'a, R: Log + AllocGlobal, S: Records + Drop, O: Write>(
+    rt: &R,
+    nodes: Vec<SchedNode<S>>,
+    script: &Script,
+    verbose: bool,
+    output: &mut O,
+) -> Result<(), Fault<'a>>
+    requires { AreFresh ⟦<SchedNode<S> as Node>⟧.who ⟦<SchedNode<S> as Node>⟧.honest ⟦<SchedNode<S> as Node>⟧.stands nodes.items }
+{
+    print_run(rt, nodes, script, verbose, output)
+}
+
+/// The same of nodes over files, where they start. Their files are closed afterwards.
+fn print_stored<'a, R: Log + AllocGlobal, D: Disk + Drop, O: Write>(
+    rt: &R,
+    nodes: Result<Vec<StoredNode<D>>, StoreFault>,
+    script: &Script,
+    verbose: bool,
+    output: &mut O,
+) -> Result<(), Fault<'a>>
+    requires { IfOk nodes (λ nodes. AreFresh ⟦<SchedNode<SqlRecords<FileStore<D>>> as Node>⟧.who ⟦<SchedNode<SqlRecords<FileStore<D>>> as Node>⟧.honest
+        ⟦<SchedNode<SqlRecords<FileStore<D>>> as Node>⟧.stands nodes.items) }
+{
+    match nodes {
+        Ok(nodes) => print_recorded(rt, nodes, script, verbose, output),
+        Err(fault) => Err(fault_of(fault)),
+    }
 }
 
 /// What a script does to fresh nodes over a pair of files for each member is printed.
@@ -48,10 +78,8 @@ pub fn print_over<'a, R: Log + AllocGlobal, D: Disk + Drop, O: Write>(
     verbose: bool,
     output: &mut O,
 ) -> Result<(), Fault<'a>> {
-    match stored_nodes(rt.alloc(), script.members, files) {
-        Ok(nodes) => print_stored(rt, nodes, script, verbose, output),
-        Err(fault) => Err(fault_of(fault)),
-    }
+    let nodes = stored_nodes(rt.alloc(), script.members, files);
+    print_stored(rt, nodes, script, verbose, output)
 }
 
 fn print_in<'a, F: Read, O: Write>(
@@ -64,10 +92,8 @@ fn print_in<'a, F: Read, O: Write>(
     ensures { NoScript (F.remaining script.old) → output.new ≡ output.old }
 {
     let script = script_of(rt.alloc(), script, words.script)?;
-    match nodes_in(rt, folder, script.members) {
-        Ok(nodes) => print_stored(rt, nodes, &script, words.verbose, output),
-        Err(fault) => Err(fault_of(fault)),
-    }
+    let nodes = nodes_in(rt, folder, script.members);
+    print_stored(rt, nodes, &script, words.verbose, output)
 }
 
 /// Runs a script over fresh nodes with files in a folder, and prints as `run_script` does. A fault of the
