@@ -1,6 +1,6 @@
 #!/usr/bin/env bash
-# Runs the two programs of docs/embedding.md, bench/embedding and bench/simulator, and compares what each prints with
-# the file `stdout` beside it. The status is 1 where they differ.
+# Runs the programs of docs/embedding.md, bench/drawing, bench/simulator and bench/embedding, and compares what each
+# prints with the file `stdout` beside it. The status is 1 where they differ.
 # What it builds is proved first, in a temporary workspace; with `unproved` it is built without proof, by `rt try`.
 #
 # Usage: bench/embedding.sh [unproved]
@@ -17,5 +17,6 @@ compare() {
     diff "$root/bench/$1/stdout" "$made/stdout" && echo "bench/$1 prints what it should"
 }
 
+compare drawing map_body anyhow
 compare embedding node acceptor ballots command_log modem grant_machine flow_state map_body minislot_time anyhow
 compare simulator modem grant_machine flow_state minislot_time anyhow

@@ -17,4 +17,4 @@ fi
 scripts=()
 for script in "$@"; do scripts+=("$(realpath -- "$script")"); done
 arguments=("${scripts[@]}")
-"$how" faults faulty_records network_script script_text seats world_events node ballots anyhow
+"$how" faults replication_tests faulty_records network_script script_text seats world_events node ballots anyhow

@@ -3,7 +3,8 @@
 # packages). A topic for each node, quality of service 1, and sessions that last: what comes for a node that is away
 # waits at the broker. An access list lets nobody write letters but the nodes.
 #
-# Usage: cluster/mqtt.sh broker FOLDER          makes users and the access list there, and runs a broker
+# Usage: cluster/mqtt.sh users FOLDER           makes users and the access list there
+#        cluster/mqtt.sh broker FOLDER          the same where they aren't there, and runs a broker
 #        cluster/mqtt.sh node K FOLDER [--new]  node K of three, over FOLDER/node-K.db
 #        cluster/mqtt.sh supervise FOLDER PLAN [CUTS]
 #
@@ -61,11 +62,11 @@ sends() {
 }
 
 case $role in
-broker)
+users | broker)
     mkdir -p "$folder"
     folder=$(cd -- "$folder" && pwd)
     [ -e "$folder/passwords" ] || make_users
-    mosquitto -c "$folder/broker.conf"
+    [ "$role" = users ] || mosquitto -c "$folder/broker.conf"
     ;;
 node)
     of "node-$me"

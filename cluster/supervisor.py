@@ -9,17 +9,20 @@ It offers the plan's commands in order, one after another, and then CUTS cuts li
 every SECONDS (0.1). What the nodes release goes to standard error, each place once a node; the last line there is
 `all PLACES`, when every node has released all that was offered.
 
-It asks node 0 to lead, and the next one where no place is released for a second. It asks the leader to tell a node that
-lags. A node that says that its log is full has done its work: the supervisor ends with status 2. A node that forgot
-what it promised must never come back: so a process that ended is started again over its file, and without `--new`.
+It asks each node to release, and again when it answered. It asks node 0 to lead, and the next one where no place is
+released for a second (SILENCE in the environment, which has to be longer than a slow disk or network takes for a
+place). It asks the node that is furthest to tell one that lags. A node that says that its log is full has done its
+work: the supervisor ends with status 2. A node that forgot what it promised must never come back: so a process that
+ended is started again over its file, and without `--new`.
 """
 import collections
+import os
 import select
 import sys
 import time
 import tomllib
 
-SILENCE = 1.0
+SILENCE = float(os.environ.get("SILENCE", "1"))
 
 
 def number(value, size):
@@ -63,6 +66,8 @@ class Supervisor:
         self.proposed = {}  # by place: the greatest ballot and its value
         self.outputs = {}
         self.released = [set() for _ in range(members)]
+        # By node: when it was asked to release, if it has not answered that yet.
+        self.waiting = [0.0] * members
 
     def ask(self, node, line):
         print(node, line, flush=True)
@@ -91,11 +96,14 @@ class Supervisor:
             self.take_letter(bytes.fromhex(words[2]))
         elif words[0] == "place":
             self.take_place(node, int(words[1]), " ".join(words[2:]))
+        elif words[0] == "released":
+            self.waiting[node] = 0.0
         elif words[:2] == ["fault", "2"]:
             print("supervisor: the log is full: a new group of nodes has to begin", file=sys.stderr)
             sys.exit(2)
         elif words[:2] == ["fault", "1"] and node == self.leader:
-            self.lead((node + 1) % self.members)
+            # It doesn't lead yet, or no longer. Silence will tell.
+            self.offered = None
 
     def prefix(self, node):
         """The first place that a node hasn't released."""
@@ -118,11 +126,14 @@ class Supervisor:
         left = self.left()
         if not left and min(firsts) == max(firsts):
             return True
+        now = time.monotonic()
         for node, first in enumerate(firsts):
-            self.ask(node, "release 0")
-            if first < max(firsts):
-                self.ask(furthest, f"tell {node} {first}")
-        if time.monotonic() - self.heard > SILENCE:
+            if now - self.waiting[node] > SILENCE:
+                self.waiting[node] = now
+                self.ask(node, "release 0")
+                if first < max(firsts):
+                    self.ask(furthest, f"tell {node} {first}")
+        if now - self.heard > SILENCE:
             self.lead((self.leader + 1) % self.members)
         elif left and self.offered != len(left):
             self.offered = len(left)

@@ -1,23 +1,20 @@
 -- What a call on the records does, by what its statement did.
-use Rattle.std.proofs.Common.{◌≡◌, inl, inr, ℕ, ◌≤◌, Bool, true, ◌&&◌, Some, None, Option, Err, IsTrue, IfSome, sym, ap, subst, subst₂, ◌∙◌, arith}
+use Rattle.std.proofs.Common.{◌≡◌, inl, inr, ℕ, Bool, true, false, ◌&&◌, Some, None, Option, Ok, Err, IsTrue, sym, ap, subst, subst₂, ◌∙◌, arith}
 use Rattle.std.proofs.lemmas.Bool.{and_from, and_parts}
 use Rattle.sqlite_trees.proofs.Doubt.{no_doubt, clean_of}
 use Rattle.sqlite.specs.Store.{Ghosts}
 use Rattle.sqlite.specs.Tree.{Trees}
 use Rattle.sqlite.specs.State.{HasCleanDisk, Survives}
 use Rattle.sqlite.specs.Held.{Held, state}
-use Rattle.ballots.specs.declared.letters.Cast.{Cast}
-use Rattle.ballots.specs.Ballots.{number_of}
-use Rattle.acceptor.proofs.Callers.{greatest_apart, replaced}
-use Rattle.acceptor.specs.Content.{Content, Write, after_write, promised}
-use Rattle.acceptor.specs.Content.Write.{Promises, Votes}
-use Rattle.acceptor.specs.Calls.{KeepsTrust}
+use Rattle.acceptor.specs.Content.{Content, Write, after_write}
+use Rattle.acceptor.specs.Calls.{KeepsTrust, Writes}
 use Rattle.acceptor.specs.Faults.{IsHarmless}
 use Rattle.acceptor.specs.Found.{Findable, Holds, AddsNothing, AddsOnly, FindsSame, Keeps, HasMade, MayHaveMade}
 use Rattle.acceptor.specs.declared.records.RecordsFault.{RecordsFault}
 use Rattle.acceptor_store_parts.specs.declared.owner.Owner.{Owner}
 use Rattle.acceptor_store_parts.specs.Serves.{Serves, ServesFor, StillServes, HasWritten, MayHaveWritten}
-use Rattle.acceptor_store.specs.Linked.{Linked, MayFind, MayFindIn, IsHonest, is_clean_in, is_honest, IsLinked, Knows}
+use Rattle.acceptor_store.specs.declared.known.Numbers.{Numbers}
+use Rattle.acceptor_store.specs.Linked.{AreNumbersOf, Linked, MayFind, MayFindIn, IsHonest, is_clean_in, is_honest, IsLinked, IsServing, Knows}
 use Rattle.acceptor_store.proofs.Found.{served, now_holds, may_hold, only_adds, same_found, no_more, keeps_err}
 
 -- the records have this connection, and what is known of it
@@ -25,20 +22,20 @@ pub record Entered {S : Type 0} (g : Ghosts S) (self : Linked S) (old : Held S) 
   pub at : self.held ≡ Some old
   pub sure : self.is_sure ≡ is_sure
   pub own : self.owner ≡ owner
-  pub known : IsTrue is_sure → HasCleanDisk (state g old) → Knows g owner old self.highest
+  pub known : IsTrue is_sure → HasCleanDisk (state g old) → Knows g owner old self.numbers
 
-pub entered : {S : Type 0} (g : Ghosts S) (self inside : Linked S) (old : Held S) → inside ≡ self → inside.held ≡ Some old → IsLinked g inside.owner inside.held inside.is_up inside.is_sure inside.highest → inside.is_up ≡ true
-    → Entered g self old inside.is_sure inside.owner
-entered g self inside old view some linked up = record {
+pub entered : {S L : Type 0} (g : Ghosts S) (left : Option L) {self inside : Linked S} {old : Held S} → inside ≡ self → inside.held ≡ Some old
+    → IsLinked g inside.owner inside.held left inside.is_up inside.is_sure inside.numbers → inside.is_up ≡ true → Entered g self old inside.is_sure inside.owner
+entered g left {self} {inside} {old} view some linked up = record {
   at = sym (ap (λ (r : Linked _). r.held) view) ∙ some;
   sure = sym (ap (λ (r : Linked _). r.is_sure) view);
   own = sym (ap (λ (r : Linked _). r.owner) view);
-  known = λ sure clean. subst (λ (r : Linked _). Knows g inside.owner old r.highest) view (((subst (λ h. IsLinked g inside.owner h inside.is_up inside.is_sure inside.highest) some linked sure clean).1 up));
+  known = λ sure clean. subst (λ (r : Linked _). Knows g inside.owner old r.numbers) view (((subst (λ h. IsLinked g inside.owner h left inside.is_up inside.is_sure inside.numbers) some linked sure clean).1 up));
 }
 
 module _ {S : Type 0} (g : Ghosts S) (settled : (s : S) (db : Trees) → IsTrue (g.view s).is_open → g.recovers s db → db ≡ (g.view s).committed)
-    (stays : (s : S) → IsTrue (g.view s).is_open → g.recovers s (g.view s).committed) (self : Linked S) (old new : Held S) (is_sure : Bool) {owner : Option Owner} (it : Entered g self old is_sure owner)
-    (Commits : Trees → Type 0) (survives : Survives (state g old) (state g new) Commits) where
+    (stays : (s : S) → IsTrue (g.view s).is_open → g.recovers s (g.view s).committed) {self : Linked S} {old : Held S} {is_sure : Bool} {owner : Option Owner} (it : Entered g self old is_sure owner) (new : Held S)
+    {Commits : Trees → Type 0} (survives : Survives (state g old) (state g new) Commits) where
   clean_now : IsTrue (is_sure && (state g new).is_clean) → HasCleanDisk (state g new)
   clean_now h = no_doubt _ (and_parts is_sure _ h).1
 
@@ -63,9 +60,9 @@ module _ {S : Type 0} (g : Ghosts S) (settled : (s : S) (db : Trees) → IsTrue 
   pub clean : IsTrue (state g new).is_clean → IsTrue (is_clean_in g self.held)
   clean now = subst (λ held. IsTrue (is_clean_in g held)) (sym it.at) (clean_of _ (omega (arith, survives.clean, no_doubt _ now)))
 
-  pub trust : (up : Bool) (highest : Option (Option ℕ)) (failures : ℕ)
-      → KeepsTrust (is_honest g) (λ r. is_clean_in g r.held) self (record { held = Some new; is_up = up; is_sure = is_sure; highest = highest; failures = failures; owner = owner })
-  trust up highest failures = record { honest = honest; clean = clean; sure = sure }
+  pub trust : (up : Bool) (numbers : Numbers) (failures : ℕ)
+      → KeepsTrust (is_honest g) (λ r. is_clean_in g r.held) self (record { held = Some new; is_up = up; is_sure = is_sure; numbers = numbers; failures = failures; owner = owner })
+  trust up numbers failures = record { honest = honest; clean = clean; sure = sure }
 
   pub value_for : (V : Content → Type 0) → (HasCleanDisk (state g new) → (c : Content) → ServesFor owner (state g old) c → V c) → IsTrue (is_sure && (state g new).is_clean)
       → (c : Content) → Holds (MayFind g self.owner self.held) c → V c
@@ -95,57 +92,56 @@ module _ {S : Type 0} (g : Ghosts S) (settled : (s : S) (db : Trees) → IsTrue 
       from_self (λ f. HasMade f (MayFindIn g owner new) w) (now_holds g settled stays owner old new was.0 was.1 w (written (clean_now h) owner was.0 was.1))
 
 module _ {S : Type 0} (g : Ghosts S) (settled : (s : S) (db : Trees) → IsTrue (g.view s).is_open → g.recovers s db → db ≡ (g.view s).committed)
-    (stays : (s : S) → IsTrue (g.view s).is_open → g.recovers s (g.view s).committed) (self : Linked S) (old new : Held S) (is_sure : Bool) {owner : Option Owner} (it : Entered g self old is_sure owner)
+    (stays : (s : S) → IsTrue (g.view s).is_open → g.recovers s (g.view s).committed) {self : Linked S} {old : Held S} {is_sure : Bool} {owner : Option Owner} (it : Entered g self old is_sure owner) (new : Held S)
     (w : Write) (survives : Survives (state g old) (state g new) (MayHaveWritten (state g old) w)) where
-  pub in_doubt : IsTrue (is_sure && (state g new).is_clean) → MayHaveMade (MayFind g self.owner self.held) (MayFindIn g owner new) w
+  in_doubt : IsTrue (is_sure && (state g new).is_clean) → MayHaveMade (MayFind g self.owner self.held) (MayFindIn g owner new) w
   in_doubt h =
       let clean : HasCleanDisk (state g new) = no_doubt _ (and_parts is_sure _ h).1 in
       let before : HasCleanDisk (state g old) = omega (arith, survives.clean, clean) in
       let was = it.known (and_parts is_sure _ h).0 before in
       subst₂ (λ o held. MayHaveMade (MayFind g o held) (MayFindIn g owner new) w) (sym it.own) (sym it.at) (may_hold g settled stays owner old new was.0 was.1 w clean survives)
 
-  pub adds_only : IsTrue (is_sure && (state g new).is_clean) → AddsOnly (MayFind g self.owner self.held) (MayFindIn g owner new) w
+  adds_only : IsTrue (is_sure && (state g new).is_clean) → AddsOnly (MayFind g self.owner self.held) (MayFindIn g owner new) w
   adds_only h =
       let clean : HasCleanDisk (state g new) = no_doubt _ (and_parts is_sure _ h).1 in
       let before : HasCleanDisk (state g old) = omega (arith, survives.clean, clean) in
       let was = it.known (and_parts is_sure _ h).0 before in
       subst₂ (λ o held. AddsOnly (MayFind g o held) (MayFindIn g owner new) w) (sym it.own) (sym it.at) (only_adds g settled stays owner old new was.0 was.1 w clean survives)
 
+  -- a write that was made, and one that wasn't
+  pub written : {T : Type 0} (x : T) → (HasCleanDisk (state g new) → HasWritten (state g old) (state g new) w) → IsTrue (is_sure && (state g new).is_clean)
+      → Writes (Ok x) (MayFind g self.owner self.held) (MayFindIn g owner new) w
+  written x wrote h = record { ok = made g settled stays it new survives w wrote h; harmless = tt; doubt = in_doubt h; only = adds_only h }
+
+  pub unwritten : {T : Type 0} (e : RecordsFault) → (IsHarmless e → HasCleanDisk (state g new) → StillServes (state g old) (state g new)) → IsTrue (is_sure && (state g new).is_clean)
+      → Writes {T = T} (Err e) (MayFind g self.owner self.held) (MayFindIn g owner new) w
+  unwritten e still h = record { ok = tt; harmless = λ harmless. same g settled stays it new survives (still harmless) h; doubt = in_doubt h; only = adds_only h }
+
 -- what stays true of the fields where a write was made
-pub linked_made : {S : Type 0} (g : Ghosts S) (owner : Option Owner) (held : Option (Held S)) (old new : Held S) (is_up is_sure : Bool) (hi hi′ : Option (Option ℕ)) (w : Write) → held ≡ Some old → IsLinked g owner held is_up is_sure hi → is_up ≡ true
+pub linked_made : {S L : Type 0} (g : Ghosts S) (left : Option L) {owner : Option Owner} {held : Option (Held S)} {old : Held S} (new : Held S) {is_up is_sure : Bool} {was : Numbers} (now : Numbers) (w : Write) → held ≡ Some old
+    → IsLinked g owner held left is_up is_sure was → is_up ≡ true
     → Survives (state g old) (state g new) (MayHaveWritten (state g old) w) → (HasCleanDisk (state g new) → HasWritten (state g old) (state g new) w)
-    → ((c : Content) → IfSome hi (λ b. number_of b ≡ promised c) → IfSome hi′ (λ b. number_of b ≡ promised (after_write c (Some w))))
-    → IsLinked g owner (Some new) is_up is_sure hi′
-linked_made g owner held old new is_up is_sure hi hi′ w some linked up survives written higher sure clean =
+    → (HasCleanDisk (state g new) → (c : Content) → ServesFor owner (state g old) c → AreNumbersOf was c → AreNumbersOf now (after_write c (Some w)))
+    → IsServing g owner new is_up is_sure now
+linked_made g left {owner} {held} {old} new {is_up} {is_sure} {was} now w some linked up survives written numbers sure clean =
     let before : HasCleanDisk (state g old) = omega (arith, survives.clean, clean) in
-    let it = subst (λ h. IsLinked g owner h is_up is_sure hi) some linked sure before in
-    let was = it.1 up in (
-      λ db may. elim (survives.crash clean db may) [ inl stood ↦ it.0 db stood | inr wrote ↦ ∣ (after_write was.0 (Some w), wrote owner was.0 was.1) ∣₁ ],
-      λ _. (after_write was.0 (Some w), written clean owner was.0 was.1, higher was.0 was.2),
+    let it = subst (λ h. IsLinked g owner h left is_up is_sure was) some linked sure before in
+    let had = it.1 up in (
+      λ db may. elim (survives.crash clean db may) [ inl stood ↦ it.0 db stood | inr wrote ↦ ∣ (after_write had.0 (Some w), wrote owner had.0 had.1) ∣₁ ],
+      λ _. (after_write had.0 (Some w), written clean owner had.0 had.1, numbers clean had.0 had.1 had.2),
     )
 
-abbrev pub IsRaised : Option (Option ℕ) → ℕ → Option (Option ℕ) → Type 0
-IsRaised hi ballot hi′ = IfSome hi′ (λ b. (b ≡ Some ballot) × ((n : ℕ) → IfSome hi (λ was. number_of was ≡ n) → n ≤ ballot))
+-- what is known in memory is what is held
+module _ {S L : Type 0} (g : Ghosts S) (settled : (s : S) (db : Trees) → IsTrue (g.view s).is_open → g.recovers s db → db ≡ (g.view s).committed)
+    (stays : (s : S) → IsTrue (g.view s).is_open → g.recovers s (g.view s).committed) (left : Option L) where
+  known_in : (owner : Option Owner) (held : Option (Held S)) (is_up is_sure : Bool) (numbers : Numbers) → IsLinked g owner held left is_up is_sure numbers → is_up ≡ true
+      → IsTrue (is_sure && is_clean_in g held) → (c : Content) → Holds (MayFind g owner held) c → AreNumbersOf numbers c
+  known_in owner None is_up is_sure numbers linked up honest c holds = absurd (let e : false ≡ true = sym linked.1 ∙ up in cc)
+  known_in owner (Some h) is_up is_sure numbers linked up honest c holds =
+      let was = (linked (and_parts is_sure _ honest).0 (no_doubt _ (and_parts is_sure _ honest).1)).1 up in
+      subst (AreNumbersOf numbers) (served g settled stays owner h h was.0 was.1 c holds) was.2
 
-pub raised_row : (ballot : ℕ) (c : Content) (hi hi′ : Option (Option ℕ)) → IsRaised hi ballot hi′ → IfSome hi (λ b. number_of b ≡ promised c) → IfSome hi′ (λ b. number_of b ≡ promised (after_write c (Some (Promises ballot))))
-raised_row ballot c hi None raised known = tt
-raised_row ballot c hi (Some b) raised known =
-    let low : promised c ≤ ballot = raised.1 (promised c) known in
-    ap number_of raised.0 ∙ omega (arith, low, greatest_apart c.row c.votes, greatest_apart ballot c.votes)
-
-pub raised_vote : (ballot place : ℕ) (cast : Cast) (c : Content) (hi hi′ : Option (Option ℕ)) → cast.ballot ≡ ballot → IsRaised hi ballot hi′ → IfSome hi (λ b. number_of b ≡ promised c)
-    → IfSome hi′ (λ b. number_of b ≡ promised (after_write c (Some (Votes place cast))))
-raised_vote ballot place cast c hi None same raised known = tt
-raised_vote ballot place cast c hi (Some b) same raised known =
-    let low : promised c ≤ ballot = raised.1 (promised c) known in
-    let it = replaced c.row c.votes place cast in
-    ap number_of raised.0 ∙ omega (arith, low, it.1, it.2, same)
-
--- the promised ballot, where it is known
-pub value_known : {S : Type 0} (g : Ghosts S) (settled : (s : S) (db : Trees) → IsTrue (g.view s).is_open → g.recovers s db → db ≡ (g.view s).committed)
-    (stays : (s : S) → IsTrue (g.view s).is_open → g.recovers s (g.view s).committed) (self : Linked S) (old : Held S) (is_sure : Bool) {owner : Option Owner} → Entered g self old is_sure owner → (highest : Option ℕ) → self.highest ≡ Some highest
-    → IsTrue (is_sure && (state g old).is_clean) → (c : Content) → Holds (MayFind g self.owner self.held) c → number_of highest ≡ promised c
-value_known g settled stays self old is_sure {owner} it highest is h c holds =
-    let was = it.known (and_parts is_sure _ h).0 (no_doubt _ (and_parts is_sure _ h).1) in
-    let known = subst (λ hi. IfSome hi (λ b. number_of b ≡ promised was.0)) is was.2 in
-    known ∙ ap promised (served g settled stays owner old old was.0 was.1 c (subst₂ (λ o held. Holds (MayFind g o held) c) it.own it.at holds))
+  pub value_known : {self inside : Linked S} → inside ≡ self → IsLinked g inside.owner inside.held left inside.is_up inside.is_sure inside.numbers → inside.is_up ≡ true
+      → IsHonest g self → (c : Content) → Holds (MayFind g self.owner self.held) c → AreNumbersOf inside.numbers c
+  value_known {self} {inside} view linked up honest c holds =
+      known_in inside.owner inside.held inside.is_up inside.is_sure inside.numbers linked up (subst (IsHonest g) (sym view) honest) c (subst (λ (r : Linked S). Holds (MayFind g r.owner r.held) c) (sym view) holds)

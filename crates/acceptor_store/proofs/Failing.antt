@@ -1,19 +1,18 @@
 -- What stays true of the records where a call failed, or made no statement.
-use Rattle.std.proofs.Common.{◌≡◌, inl, inr, ℕ, Bool, true, false, if◌then◌else◌, Some, Option, sym, subst, subst₂, ◌∙◌, arith}
+use Rattle.std.proofs.Common.{◌≡◌, inl, inr, Bool, true, false, if◌then◌else◌, Some, Option, sym, subst, ◌∙◌, arith}
 use Rattle.sqlite.specs.Store.{Ghosts}
 use Rattle.sqlite.specs.Tree.{Trees}
 use Rattle.sqlite.specs.State.{HasCleanDisk, Survives}
 use Rattle.sqlite.specs.Held.{Held, state}
 use Rattle.acceptor.specs.Content.{Content, Write, after_write}
-use Rattle.acceptor.specs.Found.{FindsSame}
 use Rattle.acceptor_store_parts.specs.declared.Stop.{Stop}
 use Rattle.acceptor_store_parts.specs.declared.Stop.TheVariants.{Memory, Refused, Down}
 use Rattle.acceptor_store_parts.specs.declared.owner.Owner.{Owner}
 use Rattle.acceptor_store_parts.specs.Stops.{LeavesOpen, leaves_open}
 use Rattle.acceptor_store_parts.specs.Owned.{AreTablesFor}
 use Rattle.acceptor_store_parts.specs.Serves.{ServesFor, StillServes, DoesNotServe, MayHaveWritten}
-use Rattle.acceptor_store.specs.Linked.{Linked, MayFind, MayFindIn, IsLinked}
-use Rattle.acceptor_store.proofs.Calls.{Entered}
+use Rattle.acceptor_store.specs.declared.known.Numbers.{Numbers}
+use Rattle.acceptor_store.specs.Linked.{IsLinked, IsServing}
 
 -- records that are up still are over a connection that is open
 open_still : (stop : Stop) (is_up : Bool) → (if leaves_open stop then is_up else false) ≡ true → LeavesOpen stop
@@ -21,25 +20,21 @@ open_still Memory is_up up = tt
 open_still Refused is_up up = tt
 open_still Down is_up up = absurd (let e : false ≡ true = up in cc)
 
-module _ {S : Type 0} (g : Ghosts S) (owner : Option Owner) (held : Option (Held S)) (old new : Held S) (is_up is_up′ is_sure : Bool) (hi : Option (Option ℕ)) (stop : Stop) (some : held ≡ Some old)
-    (linked : IsLinked g owner held is_up is_sure hi) (up : is_up ≡ true) (now : is_up′ ≡ (if leaves_open stop then is_up else false)) where
+module _ {S L : Type 0} (g : Ghosts S) (left : Option L) {owner : Option Owner} {held : Option (Held S)} {old : Held S} (new : Held S) {is_up is_up′ is_sure : Bool} {hi : Numbers} (stop : Stop) (some : held ≡ Some old)
+    (linked : IsLinked g owner held left is_up is_sure hi) (up : is_up ≡ true) (now : is_up′ ≡ (if leaves_open stop then is_up else false)) where
   pub linked_failed : (Commits : Trees → Type 0) → ((db : Trees) → Commits db → (c : Content) → ServesFor owner (state g old) c → ∥ ((d : Content) × AreTablesFor owner db d) ∥₁)
-      → Survives (state g old) (state g new) Commits → (HasCleanDisk (state g new) → LeavesOpen stop → StillServes (state g old) (state g new)) → IsLinked g owner (Some new) is_up′ is_sure hi
+      → Survives (state g old) (state g new) Commits → (HasCleanDisk (state g new) → LeavesOpen stop → StillServes (state g old) (state g new)) → IsServing g owner new is_up′ is_sure hi
   linked_failed Commits holds survives still sure clean =
       let before : HasCleanDisk (state g old) = omega (arith, survives.clean, clean) in
-      let it = subst (λ h. IsLinked g owner h is_up is_sure hi) some linked sure before in
+      let it = subst (λ h. IsLinked g owner h left is_up is_sure hi) some linked sure before in
       let was = it.1 up in (
         λ db may. elim (survives.crash clean db may) [ inl stood ↦ it.0 db stood | inr commits ↦ holds db commits was.0 was.1 ],
         λ up′. (was.0, still clean (open_still stop is_up (sym now ∙ up′)) owner was.0 was.1, was.2),
       )
 
-  pub linked_unread : Survives (state g old) (state g new) (λ _. DoesNotServe (state g old)) → (HasCleanDisk (state g new) → LeavesOpen stop → StillServes (state g old) (state g new)) → IsLinked g owner (Some new) is_up′ is_sure hi
+  pub linked_unread : Survives (state g old) (state g new) (λ _. DoesNotServe (state g old)) → (HasCleanDisk (state g new) → LeavesOpen stop → StillServes (state g old) (state g new)) → IsServing g owner new is_up′ is_sure hi
   linked_unread = linked_failed (λ _. DoesNotServe (state g old)) (λ db none c was. absurd (none c (owner, was)))
 
   pub linked_unwritten : (w : Write) → Survives (state g old) (state g new) (MayHaveWritten (state g old) w) → (HasCleanDisk (state g new) → LeavesOpen stop → StillServes (state g old) (state g new))
-      → IsLinked g owner (Some new) is_up′ is_sure hi
+      → IsServing g owner new is_up′ is_sure hi
   linked_unwritten w = linked_failed (MayHaveWritten (state g old) w) (λ db wrote c was. ∣ (after_write c (Some w), wrote owner c was) ∣₁)
-
--- what is known in memory needs no statement
-pub same_known : {S : Type 0} (g : Ghosts S) (self : Linked S) (old : Held S) (is_sure : Bool) (owner : Option Owner) → Entered g self old is_sure owner → FindsSame (MayFind g self.owner self.held) (MayFindIn g owner old)
-same_known g self old is_sure owner it = subst₂ (λ o h. FindsSame (MayFind g o h) (MayFindIn g owner old)) (sym it.own) (sym it.at) (λ d. (λ x. x, λ x. x))

@@ -1,5 +1,5 @@
 -- What is left where an open fails.
-use Rattle.std.proofs.Common.{◌≡◌, ◌⊎◌, inl, inr, ℕ, Option, Ok, Err, Result, IfErr, ap, subst, ◌∙◌, arith}
+use Rattle.std.proofs.Common.{◌≡◌, ◌⊎◌, inl, inr, Ok, Err, Result, IfErr, ap, subst, ◌∙◌, arith}
 use Rattle.sqlite.specs.Store.{Ghosts}
 use Rattle.sqlite.specs.Tree.{Trees}
 use Rattle.sqlite.specs.Effect.{Database}
@@ -11,6 +11,7 @@ use Rattle.acceptor_store_parts.specs.declared.Version.{Version}
 use Rattle.acceptor_store_parts.specs.declared.Version.TheVariants.{First}
 use Rattle.acceptor_store_parts.specs.Tables.{schema_of}
 use Rattle.acceptor_store_parts.specs.Serves.{ServesAs, IsOther, MayHaveRaised}
+use Rattle.acceptor_store.specs.declared.known.Numbers.{Numbers}
 use Rattle.acceptor_store.specs.declared.OpenFault.{OpenFault}
 use Rattle.acceptor_store.specs.Linked.{FindsContent, IsLeftWhole}
 
@@ -28,11 +29,11 @@ reads_leave version old mid late new one two three same next =
     other (ap (λ (d : Database). d.schema) (next before there) ∙ there)) both three
 
 -- a migration that failed leaves the tables of version 1, or those of version 2 with their content
-pub raises_whole : {S : Type 0} (g : Ghosts S) (version : Version) (conn found : Held S) (highest : Option ℕ) (db : Trees) → version ≡ First
-    → (HasCleanDisk (state g found) → (db : Trees) → (state g found).may_leave db → (state g conn).may_leave db) → HasCleanDisk (state g found) → FindsContent g version conn found highest
+pub raises_whole : {S : Type 0} (g : Ghosts S) (version : Version) (conn found : Held S) (numbers : Numbers) (db : Trees) → version ≡ First
+    → (HasCleanDisk (state g found) → (db : Trees) → (state g found).may_leave db → (state g conn).may_leave db) → HasCleanDisk (state g found) → FindsContent g version conn found numbers
     → (state g found).may_leave db ⊎ MayHaveRaised (state g found) db → IsLeftWhole g conn db
-raises_whole g version conn found highest db is leaves clean f (inl before) = inl (leaves clean db before)
-raises_whole g version conn found highest db is leaves clean f (inr raised) = inr (f.0, inr (version, f.1), raised f.0 (subst (λ v. ServesAs v (state g found) f.0) is f.2))
+raises_whole g version conn found numbers db is leaves clean f (inl before) = inl (leaves clean db before)
+raises_whole g version conn found numbers db is leaves clean f (inr raised) = inr (f.0, inr (version, f.1), raised f.0 (subst (λ v. ServesAs v (state g found) f.0) is f.2))
 
 -- the schema is known to be that of a version
 pub left_whole : {S X : Type 0} (g : Ghosts S) (version : Version) (conn : Held S) (r : Result X (OpenFault × S)) → (state g conn).now.schema ≡ schema_of version

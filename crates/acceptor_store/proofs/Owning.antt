@@ -1,5 +1,5 @@
 -- What is known of a connection that was opened for an owner.
-use Rattle.std.proofs.Common.{◌≡◌, ◌≢◌, ◌⊎◌, inl, inr, ℕ, true, false, Bool, Option, Some, None, Ok, Err, Result, IfErr, IfOk, IsSome, IsTrue, refl, sym, ap, subst, ◌∙◌}
+use Rattle.std.proofs.Common.{◌≡◌, ◌≢◌, ◌⊎◌, inl, inr, true, false, Bool, Some, None, Ok, Err, Result, IfErr, IfOk, IsSome, IsTrue, refl, sym, ap, subst, ◌∙◌}
 use Rattle.acceptor.specs.Content.{Content}
 use Rattle.sqlite.specs.Store.{Ghosts}
 use Rattle.sqlite.specs.Tree.{Trees}
@@ -16,6 +16,7 @@ use Rattle.acceptor_store_parts.specs.Owned.{AreTablesFor, IsOwner, OwnedBy}
 use Rattle.acceptor_store_parts.specs.Foreign.{HasFacts, HoldsNone, HoldsNoneOwned, IsBroken, IsUnowned}
 use Rattle.acceptor_store_parts.specs.Serves.{HasOwned, MayHaveOwned}
 use Rattle.acceptor_store_parts.proofs.Callers.{serves_for, tables_as, tables_for}
+use Rattle.acceptor_store.specs.declared.known.Numbers.{Numbers}
 use Rattle.acceptor_store.specs.declared.OpenFault.{OpenFault}
 use Rattle.acceptor_store.specs.declared.OpenFault.TheVariants.{Refused, Broken, OutOfMemory, Foreign}
 use Rattle.acceptor_store.specs.declared.owned.OwnerFault.{OwnerFault}
@@ -25,9 +26,9 @@ use Rattle.acceptor_store.specs.Owning.{AdoptsFor, ExaminesFor, FindsFor, HadBef
 use Rattle.acceptor_store.proofs.Reopening.{by_rowid, still_by_rowid}
 
 -- what a connection whose tables were all read serves for the owner that they name
-module _ {S : Type 0} (g : Ghosts S) (old mid new : Held S) (owner : Owner) (highest : Option ℕ) (schema : (state g old).now.schema ≡ schema_of Third)
+module _ {S : Type 0} (g : Ghosts S) (old mid new : Held S) (owner : Owner) (numbers : Numbers) (schema : (state g old).now.schema ≡ schema_of Third)
     (same : StaysAs Third (state g old) (state g mid)) (later : StaysAs Third (state g mid) (state g new)) where
-  pub examines_for : Examines g Third old mid highest → (AreByRowid Third (state g mid) → OwnedBy owner (state g mid).now.trees) → ExaminesFor g owner old new highest
+  pub examines_for : Examines g Third old mid numbers → (AreByRowid Third (state g mid) → OwnedBy owner (state g mid).now.trees) → ExaminesFor g owner old new numbers
   examines_for told named it =
       let ex = told it in
       let by = still_by_rowid Third (state g old) (state g mid) same.0 (by_rowid g Third old schema it) in
@@ -55,9 +56,9 @@ two_leave old mid new one two same before =
     survives_then old mid new _ _ _ (λ _ db other. other) (λ clean db other has. other (ap (λ (d : Database). d.schema) (same (before clean) has) ∙ has)) one two
 
 -- what an older connection had, read over its store
-pub finds_for : {S : Type 0} (g : Ghosts S) (owner : Owner) (conn again new : Held S) (highest : Option ℕ) → (state g conn).now.schema ≡ schema_of Third → Rereads Third (state g conn) (state g again)
-    → ExaminesFor g owner again new highest → FindsFor g owner conn new highest
-finds_for g owner conn again new highest schema re ex =
+pub finds_for : {S : Type 0} (g : Ghosts S) (owner : Owner) (conn again new : Held S) (numbers : Numbers) → (state g conn).now.schema ≡ schema_of Third → Rereads Third (state g conn) (state g again)
+    → ExaminesFor g owner again new numbers → FindsFor g owner conn new numbers
+finds_for g owner conn again new numbers schema re ex =
     let e = ex re.0 in
     (e.0, (schema, subst (λ t. AreTablesFor (Some owner) t e.0) re.1 e.1, e.2), e.3, e.4)
 
@@ -92,10 +93,10 @@ store_due g wanted is_new conn OutOfMemory other = tt
 store_due g wanted is_new conn Foreign other = absurd (other refl)
 
 -- tables that were found are prepared
-pub prepares_for : {S : Type 0} (g : Ghosts S) (owner : Owner) (is_new : Bool) (old new : Held S) (highest : Option ℕ) → FindsFor g owner old new highest → PreparesFor g owner is_new old new highest
-prepares_for g owner is_new old new highest f = (f.0, inr f.1, f.2, f.3)
+pub prepares_for : {S : Type 0} (g : Ghosts S) (owner : Owner) (is_new : Bool) (old new : Held S) (numbers : Numbers) → FindsFor g owner old new numbers → PreparesFor g owner is_new old new numbers
+prepares_for g owner is_new old new numbers f = (f.0, inr f.1, f.2, f.3)
 
-pub all_prepare_for : {S E : Type 0} (g : Ghosts S) (owner : Owner) (is_new : Bool) (conn : Held S) (r : Result (Held S × Option ℕ) E) → (state g conn).now.schema ≡ schema_of Third
+pub all_prepare_for : {S E : Type 0} (g : Ghosts S) (owner : Owner) (is_new : Bool) (conn : Held S) (r : Result (Held S × Numbers) E) → (state g conn).now.schema ≡ schema_of Third
     → IfOk r (λ x. HasCleanDisk (state g x.0) → (state g conn).now.schema ≡ schema_of Third → FindsFor g owner conn x.0 x.1) → IfOk r (λ x. HasCleanDisk (state g x.0) → PreparesFor g owner is_new conn x.0 x.1)
 all_prepare_for g owner is_new conn (Ok x) schema h = λ clean. prepares_for g owner is_new conn x.0 x.1 (h clean schema)
 all_prepare_for g owner is_new conn (Err e) schema h = tt
@@ -112,8 +113,8 @@ all_left g owner is_new conn (Err e) h = λ clean db may. inl (h clean db may)
 
 -- what a database that was adopted had
 module _ {S : Type 0} (g : Ghosts S) (owner : Owner) (conn : Held S) where
-  adopts_owned : (new : Held S) (highest : Option ℕ) → PreparesFor g owner false conn new highest → AdoptsFor g owner conn new highest
-  adopts_owned new highest it = elim it.1 [
+  adopts_owned : (new : Held S) (numbers : Numbers) → PreparesFor g owner false conn new numbers → AdoptsFor g owner conn new numbers
+  adopts_owned new numbers it = elim it.1 [
     | inl blank ↦ absurd (let e : false ≡ true = blank.1 in cc)
     | inr had ↦ (it.0, inr had, it.2, it.3)
   ]
@@ -122,9 +123,9 @@ module _ {S : Type 0} (g : Ghosts S) (owner : Owner) (conn : Held S) where
   had_before c none tables (inl blank) = absurd (tables blank.0)
   had_before c none tables (inr had) = inl (none, had.0, had.1)
 
-  pub adopts_plain : (mid new : Held S) (highest : Option ℕ) → (HasFacts (state g conn).now.schema → ⊥) → ((state g conn).now.schema ≡ blank_schema → ⊥) → MakesReady g conn mid highest
-      → HasOwned owner (state g mid) (state g new) → AdoptsFor g owner conn new highest
-  adopts_plain mid new highest none tables it owned = (it.0, had_before it.0 none tables it.1, owned it.0 it.2, it.3)
+  pub adopts_plain : (mid new : Held S) (numbers : Numbers) → (HasFacts (state g conn).now.schema → ⊥) → ((state g conn).now.schema ≡ blank_schema → ⊥) → MakesReady g conn mid numbers
+      → HasOwned owner (state g mid) (state g new) → AdoptsFor g owner conn new numbers
+  adopts_plain mid new numbers none tables it owned = (it.0, had_before it.0 none tables it.1, owned it.0 it.2, it.3)
 
   left_owned : (db : Trees) → IsLeftAs g owner false conn db → IsLeftBefore g owner conn db
   left_owned db (inl before) = inl before
@@ -134,12 +135,12 @@ module _ {S : Type 0} (g : Ghosts S) (owner : Owner) (conn : Held S) where
   left_plain db (inl before) = inl before
   left_plain db (inr raised) = inr (raised.0, raised.1, inl raised.2)
 
-  pub left_adopting : ((s : S) (db : Trees) → IsTrue (g.view s).is_open → g.recovers s db → db ≡ (g.view s).committed) → (mid : Held S) (highest : Option ℕ) → MakesReady g conn mid highest
+  pub left_adopting : ((s : S) (db : Trees) → IsTrue (g.view s).is_open → g.recovers s db → db ≡ (g.view s).committed) → (mid : Held S) (numbers : Numbers) → MakesReady g conn mid numbers
       → (db : Trees) → (state g mid).may_leave db ⊎ MayHaveOwned owner (state g mid) db → IsLeftBefore g owner conn db
-  left_adopting settled mid highest it db (inl may) =
+  left_adopting settled mid numbers it db (inl may) =
       let same : db ≡ (state g mid).now.trees = settled mid.store db it.2.is_open may ∙ ap (λ (d : Database). d.trees) (sym it.2.settled) in
       inr (it.0, it.1, inl (subst (λ t. AreTablesFor None t it.0) (sym same) it.2.tables))
-  left_adopting settled mid highest it db (inr owned) = inr (it.0, it.1, inr (owned it.0 it.2))
+  left_adopting settled mid numbers it db (inr owned) = inr (it.0, it.1, inr (owned it.0 it.2))
 
   owned_due : (fault : OwnerFault) → HasFacts (state g conn).now.schema → IsDue g owner false conn fault → IsDueBefore g owner conn fault
   owned_due Blank facts due = due.0
@@ -164,7 +165,7 @@ module _ {S : Type 0} (g : Ghosts S) (owner : Owner) (conn : Held S) where
   store_due_before Foreign other = absurd (other refl)
 
   -- where the database is this owner's already
-  pub all_adopt : {E : Type 0} (r : Result (Held S × Option ℕ) E) → IfOk r (λ x. HasCleanDisk (state g x.0) → PreparesFor g owner false conn x.0 x.1) → IfOk r (λ x. HasCleanDisk (state g x.0) → AdoptsFor g owner conn x.0 x.1)
+  pub all_adopt : {E : Type 0} (r : Result (Held S × Numbers) E) → IfOk r (λ x. HasCleanDisk (state g x.0) → PreparesFor g owner false conn x.0 x.1) → IfOk r (λ x. HasCleanDisk (state g x.0) → AdoptsFor g owner conn x.0 x.1)
   all_adopt (Ok x) h = λ clean. adopts_owned x.0 x.1 (h clean)
   all_adopt (Err e) h = tt
 

@@ -1,10 +1,10 @@
 -- What is known of a connection that was opened anew.
-use Rattle.std.proofs.Common.{◌≡◌, ◌⊎◌, inl, inr, ℕ, true, false, ◌&&◌, List, [], ◌∷◌, length, map, Some, None, Option, Ok, Err, Result, IfErr, IfOk, IfSome, OnOk, IsTrue, codes, refl, sym, ap, subst, subst₂, ◌∙◌}
+use Rattle.std.proofs.Common.{◌≡◌, ◌⊎◌, inl, inr, ℕ, Bool, true, false, ◌&&◌, List, [], ◌∷◌, length, map, Some, None, Option, Ok, Err, Result, IfErr, IfOk, IfSome, OnOk, IsTrue, codes, refl, sym, ap, subst, subst₂, ◌∙◌}
 use Rattle.std.proofs.lemmas.Bool.{and_from, and_parts}
 use Rattle.std.proofs.Math.Logic.{∥∥₁_map, ∥∥₁_elim, ∥∥₁_prop}
 use Rattle.ballots.specs.declared.letters.Cast.{Cast}
 use Rattle.ballots.specs.Ballots.{number_of}
-use Rattle.acceptor.specs.Content.{Content, AreRowsFrom, AreValues, greatest, promised}
+use Rattle.acceptor.specs.Content.{Content, AreRowsFrom, AreValues, greatest}
 use Rattle.acceptor.specs.Found.{Holds, HoldsEither, AddsNothing}
 use Rattle.sqlite_schema.specs.declared.schema.Schema.{Schema}
 use Rattle.sqlite_disk.specs.declared.Disk as disk
@@ -25,6 +25,7 @@ use Rattle.sqlite.specs.Table.{Table}
 use Rattle.std.specs.List.{AllByRecursion}
 use Rattle.acceptor_store_parts.specs.Foreign.{HasFacts, HoldsNone, IsForeignSchema, IsThereWithout, LacksNumbers, LacksVotes, LacksLearned}
 use Rattle.sqlite_trees.specs.View.{IsClean}
+use Rattle.acceptor_store.specs.declared.known.Numbers.{Numbers}
 use Rattle.acceptor_store.specs.declared.OpenFault.{OpenFault}
 use Rattle.acceptor_store.specs.declared.OpenFault.TheVariants.{Foreign}
 use Rattle.acceptor_store_parts.specs.Rowids.{IsReread}
@@ -34,14 +35,14 @@ use Rattle.acceptor_store_parts.specs.Stored.{AreTablesOf, HasLearned, KeepsLear
 use Rattle.acceptor_store_parts.specs.Owned.{AreTablesFor, schema_for}
 use Rattle.acceptor_store_parts.specs.Serves.{ServesFor, ServesAs, StillServes, HasRaised}
 use Rattle.acceptor_store_parts.proofs.Callers.{one_content, serves_for}
-use Rattle.acceptor_store.specs.Linked.{Linked, MayFind, MayFindIn, IsHonest, is_clean_in, IsLinked, Stands, IsTested, ServesNone, CannotBeRead, Tells, Leaves, Reopens, Examines, Had, IsIn, IsFoundIn, MakesReady, SeesForeign, HasNumbers, StaysAs, FindsContent as Found}
+use Rattle.acceptor_store.specs.Linked.{AreNumbersOf, Linked, MayFind, MayFindIn, IsHonest, is_clean_in, IsLinked, IsServing, Stands, IsTested, ServesNone, CannotBeRead, Tells, Leaves, Reopens, Examines, Had, IsIn, IsFoundIn, MakesReady, SeesForeign, HasNumbers, StaysAs, FindsContent as Found}
 use Rattle.sqlite_trees.proofs.Doubt.{no_doubt, clean_of}
 use Rattle.acceptor_store.proofs.Found.{found_is, found_it}
 
 module _ {S : Type 0} (g : Ghosts S) (settled : (s : S) (db : Trees) → IsTrue (g.view s).is_open → g.recovers s db → db ≡ (g.view s).committed)
-    (stays : (s : S) → IsTrue (g.view s).is_open → g.recovers s (g.view s).committed) (owner : Option Owner) (old new : Held S) (highest : Option ℕ) where
-  pub tells : (state g old).now.schema ≡ schema_for owner → HasCleanDisk (state g new) → ((c : Content) → ServesFor owner (state g old) c → number_of highest ≡ promised c)
-      → StillServes (state g old) (state g new) → Survives (state g old) (state g new) (λ _. ServesNone owner (state g old)) → Tells g owner old new highest
+    (stays : (s : S) → IsTrue (g.view s).is_open → g.recovers s (g.view s).committed) (owner : Option Owner) (old new : Held S) (numbers : Numbers) where
+  pub tells : (state g old).now.schema ≡ schema_for owner → HasCleanDisk (state g new) → ((c : Content) → ServesFor owner (state g old) c → AreNumbersOf numbers c)
+      → StillServes (state g old) (state g new) → Survives (state g old) (state g new) (λ _. ServesNone owner (state g old)) → Tells g owner old new numbers
   tells schema clean value still survives = (
     schema,
     λ c was.
@@ -66,11 +67,11 @@ module _ {S : Type 0} (g : Ghosts S) (owner : Option Owner) (old mid new : Held 
   held : Stands g owner old → (c : Content) × AreTablesFor owner (state g mid).committed.trees c
   held before = ∥∥₁_elim found (one_content owner (state g mid).committed.trees) (λ may. ∥∥₁_elim (before _ may) (one_content owner (state g mid).committed.trees) (λ it. it))
 
-  module _ (highest : Option ℕ) (told : Tells g owner mid new highest) where
-    tested : (before : Stands g owner old) → IsTested g owner mid new highest (held before).0
+  module _ (numbers : Numbers) (told : Tells g owner mid new numbers) where
+    tested : (before : Stands g owner old) → IsTested g owner mid new numbers (held before).0
     tested before = told.1 (held before).0 (serves_mid told.0 (held before).0 (held before).1)
 
-    pub reopens : Reopens g owner old new highest
+    pub reopens : Reopens g owner old new numbers
     reopens = record { knows = λ before. ((held before).0, (tested before).0, (tested before).1); holds = λ before. (tested before).3 }
 
   module _ (settled : (s : S) (db : Trees) → IsTrue (g.view s).is_open → g.recovers s db → db ≡ (g.view s).committed) (clean : HasCleanDisk (state g old)) (now : HasCleanDisk (state g new))
@@ -89,64 +90,105 @@ module _ {S : Type 0} (g : Ghosts S) (owner : Option Owner) (old mid new : Held 
       adds_nothing = λ before d known. ∥∥₁_elim known ∥∥₁_prop (λ it. ∥∥₁_map found (λ may. (it.0, subst (state g old).may_leave (sym (there before it.0 it.1)) may, it.2)));
     }
 
-pub all_reopen : {S : Type 0} (g : Ghosts S) (owner : Option Owner) (old mid new : Held S) → Opens (state g mid) → ∥ (state g old).may_leave (state g mid).committed.trees ∥₁ → (highest : Option (Option ℕ))
-    → IfSome highest (Tells g owner mid new) → IfSome highest (Reopens g owner old new)
+pub all_reopen : {S : Type 0} (g : Ghosts S) (owner : Option Owner) (old mid new : Held S) → Opens (state g mid) → ∥ (state g old).may_leave (state g mid).committed.trees ∥₁ → (numbers : Option Numbers)
+    → IfSome numbers (Tells g owner mid new) → IfSome numbers (Reopens g owner old new)
 all_reopen g owner old mid new opens found None told = tt
-all_reopen g owner old mid new opens found (Some highest) told = reopens g owner old mid new opens found highest told
+all_reopen g owner old mid new opens found (Some numbers) told = reopens g owner old mid new opens found numbers told
+
+-- what a connection that was opened anew, from this one or from what was left, says of it
+pub all_leave : {S : Type 0} (g : Ghosts S) (settled : (s : S) (db : Trees) → IsTrue (g.view s).is_open → g.recovers s db → db ≡ (g.view s).committed) (owner : Option Owner) (held : Option (Held S)) (mid new : Held S) → Opens (state g mid)
+    → IfSome held (λ old. HasCleanDisk (state g old) × ∥ (state g old).may_leave (state g mid).committed.trees ∥₁) → HasCleanDisk (state g new)
+    → Survives (state g mid) (state g new) (λ _. CannotBeRead owner (state g mid)) → IfSome held (λ old. Leaves g owner old new)
+all_leave g settled owner None mid new opens found now survives = tt
+all_leave g settled owner (Some old) mid new opens found now survives = leaves g owner old mid new opens found.1 settled found.0 now survives
+
+pub each_reopens : {S : Type 0} (g : Ghosts S) (owner : Option Owner) (held : Option (Held S)) (mid new : Held S) → Opens (state g mid)
+    → IfSome held (λ old. HasCleanDisk (state g old) × ∥ (state g old).may_leave (state g mid).committed.trees ∥₁) → (numbers : Option Numbers)
+    → IfSome numbers (Tells g owner mid new) → IfSome held (λ old. IfSome numbers (Reopens g owner old new))
+each_reopens g owner None mid new opens found numbers told = tt
+each_reopens g owner (Some old) mid new opens found numbers told = all_reopen g owner old mid new opens found.1 numbers told
 
 -- of two contents that it may be it is one
-pub one_of : {S : Type 0} (g : Ghosts S) (owner : Option Owner) (old new : Held S) (highest : Option ℕ) → Leaves g owner old new → Reopens g owner old new highest → Stands g owner old → (a b : Content)
+pub one_of : {S : Type 0} (g : Ghosts S) (owner : Option Owner) (old new : Held S) (numbers : Numbers) → Leaves g owner old new → Reopens g owner old new numbers → Stands g owner old → (a b : Content)
     → HoldsEither (MayFindIn g owner old) a b → Holds (MayFindIn g owner new) a ⊎ Holds (MayFindIn g owner new) b
-one_of g owner old new highest left it before a b either =
+one_of g owner old new numbers left it before a b either =
     let here = it.holds before in
     elim (either (it.knows before).0 (left.adds_nothing before _ (∥∥₁_elim here.0 ∥∥₁_prop (λ x. x)))) [
       | inl is ↦ inl (subst (Holds (MayFindIn g owner new)) is here)
       | inr is ↦ inr (subst (Holds (MayFindIn g owner new)) is here)
     ]
 
+-- sure records have a connection
+connected : {S L : Type 0} (g : Ghosts S) (left : Option L) (owner : Option Owner) (held : Option (Held S)) (is_up is_sure : Bool) (numbers : Numbers) → IsLinked g owner held left is_up is_sure numbers → IsTrue is_sure
+    → (old : Held S) × (held ≡ Some old) × IsServing g owner old is_up is_sure numbers
+connected g left owner None is_up is_sure numbers linked sure = absurd (let no = linked.2 in cc)
+connected g left owner (Some h) is_up is_sure numbers linked sure = (h, refl, linked)
+
+clean_before : {S : Type 0} (g : Ghosts S) (owner : Option Owner) (held : Option (Held S)) (new : Held S) → IfSome held (λ old. Leaves g owner old new) → IsTrue (is_clean_in g held)
+clean_before g owner None new left = refl
+clean_before g owner (Some old) new left = clean_of _ left.was_clean
+
 -- the records after a reopen that found a connection
-module _ {S : Type 0} (g : Ghosts S) (self inside : Linked S) (old new : Held S) (view : inside ≡ self) (some : inside.held ≡ Some old)
-    (linked : IsLinked g inside.owner inside.held inside.is_up inside.is_sure inside.highest) (left : HasCleanDisk (state g new) → Leaves g inside.owner old new) where
+module _ {S L : Type 0} (g : Ghosts S) (rest : Option L) {self inside : Linked S} (new : Held S) (view : inside ≡ self)
+    (linked : IsLinked g inside.owner inside.held rest inside.is_up inside.is_sure inside.numbers) {taken : Option (Held S)} (is : taken ≡ inside.held)
+    (given : HasCleanDisk (state g new) → IfSome taken (λ old. Leaves g inside.owner old new)) where
+  left : HasCleanDisk (state g new) → IfSome inside.held (λ old. Leaves g inside.owner old new)
+  left clean = subst (λ held. IfSome held (λ old. Leaves g inside.owner old new)) is (given clean)
+
   own_is : self.owner ≡ inside.owner
   own_is = sym (ap (λ (r : Linked S). r.owner) view)
 
-  at : self.held ≡ Some old
-  at = sym (ap (λ (r : Linked S). r.held) view) ∙ some
+  module _ (sure : IsTrue inside.is_sure) (clean : HasCleanDisk (state g new)) where
+    was : (old : Held S) × (inside.held ≡ Some old) × IsServing g inside.owner old inside.is_up inside.is_sure inside.numbers
+    was = connected g rest inside.owner inside.held inside.is_up inside.is_sure inside.numbers linked sure
 
-  before : IsTrue inside.is_sure → HasCleanDisk (state g new) → Stands g inside.owner old
-  before sure clean = (subst (λ h. IsLinked g inside.owner h inside.is_up inside.is_sure inside.highest) some linked sure (left clean).was_clean).0
+    leaves_new : Leaves g inside.owner was.0 new
+    leaves_new = subst (λ held. IfSome held (λ old. Leaves g inside.owner old new)) was.1 (left clean)
+
+    before : Stands g inside.owner was.0
+    before = (was.2 sure leaves_new.was_clean).0
+
+    at : self.held ≡ Some was.0
+    at = sym (ap (λ (r : Linked S). r.held) view) ∙ was.1
 
   -- and couldn't read its tables
-  pub left_linked : (highest : Option (Option ℕ)) → IsLinked g inside.owner (Some new) false inside.is_sure highest
-  left_linked highest sure clean = ((left clean).stands (before sure clean), λ up. absurd (let e : false ≡ true = up in cc))
+  pub left_linked : (numbers : Numbers) → IsServing g inside.owner new false inside.is_sure numbers
+  left_linked numbers sure clean = ((leaves_new sure clean).stands (before sure clean), λ up. absurd (let e : false ≡ true = up in cc))
 
   pub reopen_kept : IsTrue (inside.is_sure && (state g new).is_clean) → AddsNothing (MayFind g self.owner self.held) (MayFindIn g inside.owner new)
   reopen_kept h =
       let clean : HasCleanDisk (state g new) = no_doubt _ (and_parts inside.is_sure _ h).1 in
-      subst₂ (λ o held. AddsNothing (MayFind g o held) (MayFindIn g inside.owner new)) (sym own_is) (sym at) ((left clean).adds_nothing (before (and_parts inside.is_sure _ h).0 clean))
+      let sure = (and_parts inside.is_sure _ h).0 in
+      subst₂ (λ o held. AddsNothing (MayFind g o held) (MayFindIn g inside.owner new)) (sym own_is) (sym (at sure clean)) ((leaves_new sure clean).adds_nothing (before sure clean))
 
   pub reopen_honest : IsTrue (inside.is_sure && (state g new).is_clean) → IsHonest g self
   reopen_honest h =
       let clean : HasCleanDisk (state g new) = no_doubt _ (and_parts inside.is_sure _ h).1 in
       let sure : IsTrue self.is_sure = subst IsTrue (ap (λ (r : Linked S). r.is_sure) view) (and_parts inside.is_sure _ h).0 in
-      let was : IsTrue (state g old).is_clean = clean_of _ (left clean).was_clean in
-      subst (λ (held : Option (Held S)). IsHonest g (record self { held = held })) (sym at) (and_from _ _ sure was)
+      let held : IsTrue (is_clean_in g self.held) = subst (λ held. IsTrue (is_clean_in g held)) (ap (λ (r : Linked S). r.held) view) (clean_before g inside.owner inside.held new (left clean)) in
+      and_from _ _ sure held
 
   pub reopen_clean : IsTrue (state g new).is_clean → IsTrue (is_clean_in g self.held)
-  reopen_clean now = subst (λ held. IsTrue (is_clean_in g held)) (sym at) (clean_of _ (left (no_doubt _ now)).was_clean)
+  reopen_clean now = subst (λ held. IsTrue (is_clean_in g held)) (ap (λ (r : Linked S). r.held) view) (clean_before g inside.owner inside.held new (left (no_doubt _ now)))
 
   pub reopen_sure : IsTrue (state g new).is_clean → IsHonest g self → IsTrue (inside.is_sure && (state g new).is_clean)
   reopen_sure clean h = and_from _ _ (subst IsTrue (sym (ap (λ (r : Linked S). r.is_sure) view)) (and_parts self.is_sure _ h).0) clean
 
-  module _ (highest : Option ℕ) (it : HasCleanDisk (state g new) → Reopens g inside.owner old new highest) where
-    pub reopen_linked : IsLinked g inside.owner (Some new) true inside.is_sure (Some highest)
-    reopen_linked sure clean = ((left clean).stands (before sure clean), λ up. (it clean).knows (before sure clean))
+  module _ (found : Option Numbers) (numbers : Numbers) (read : found ≡ Some numbers) (it : HasCleanDisk (state g new) → IfSome taken (λ old. IfSome found (Reopens g inside.owner old new))) where
+    reopens_new : (sure : IsTrue inside.is_sure) (clean : HasCleanDisk (state g new)) → Reopens g inside.owner (was sure clean).0 new numbers
+    reopens_new sure clean =
+        let both = subst (λ held. IfSome held (λ old. IfSome found (Reopens g inside.owner old new))) (is ∙ (was sure clean).1) (it clean) in
+        subst (λ o. IfSome o (Reopens g inside.owner (was sure clean).0 new)) read both
+
+    pub reopen_linked : IsServing g inside.owner new true inside.is_sure numbers
+    reopen_linked sure clean = ((leaves_new sure clean).stands (before sure clean), λ up. (reopens_new sure clean).knows (before sure clean))
 
     pub reopen_ok : IsTrue (inside.is_sure && (state g new).is_clean) → (a b : Content) → HoldsEither (MayFind g self.owner self.held) a b
         → Holds (MayFindIn g inside.owner new) a ⊎ Holds (MayFindIn g inside.owner new) b
     reopen_ok h a b either =
         let clean : HasCleanDisk (state g new) = no_doubt _ (and_parts inside.is_sure _ h).1 in
-        one_of g inside.owner old new highest (left clean) (it clean) (before (and_parts inside.is_sure _ h).0 clean) a b (subst₂ (λ o held. HoldsEither (MayFind g o held) a b) own_is at either)
+        let sure = (and_parts inside.is_sure _ h).0 in
+        one_of g inside.owner (was sure clean).0 new numbers (leaves_new sure clean) (reopens_new sure clean) (before sure clean) a b (subst₂ (λ o held. HoldsEither (MayFind g o held) a b) own_is (at sure clean) either)
 
 -- a read that changed nothing
 pub stays_as : (version : Version) (old new : State) → IsUnchanged old new → StaysAs version old new
@@ -206,13 +248,13 @@ learned_held version keeps old (Err e) items h = tt
 learned_held version keeps old (Ok x) items h = λ by c is. learned_there version keeps old.now.trees c (h version keeps by ∙ ap (map learned_row) (sym is))
 
 -- what a connection whose tables were all read serves
-module _ {S : Type 0} (g : Ghosts S) (version : Version) (old mid late new : Held S) (tried row highest : Option ℕ) (votes : List (ℕ × Cast)) (learned : List (ℕ × List ℕ)) where
+module _ {S : Type 0} (g : Ghosts S) (version : Version) (old mid late new : Held S) (tried row : Option ℕ) (numbers : Numbers) (votes : List (ℕ × Cast)) (learned : List (ℕ × List ℕ)) where
   pub examines : (state g old).now.schema ≡ schema_of version → IsNumber (number_of tried) × IsNumber (number_of row) → AllByRecursion IsCast votes × AreRowsFrom 1 votes → AllByRecursion IsLearned learned × AreRowsFrom 1 learned
       → (AreByRowid version (state g old) → HasNumbers version (state g old).now.trees (number_of tried) (number_of row)) → StaysAs version (state g old) (state g mid)
       → (AreByRowid version (state g mid) → (state g mid).now.trees 1 ≡ map vote_row votes) → StaysAs version (state g mid) (state g late)
       → (AreByRowid version (state g late) → (c : Content) → c.learned ≡ learned → HasLearned version (state g late).now.trees c) → StaysAs version (state g late) (state g new)
-      → number_of highest ≡ greatest (number_of row) votes → Examines g version old new highest
-  examines schema numbers casts values first one second two third three most it =
+      → (number_of numbers.tried ≡ number_of tried) × (number_of numbers.promised ≡ greatest (number_of row) votes) → Examines g version old new numbers
+  examines schema fits casts values first one second two third three most it =
       let c : Content = record { tried = number_of tried; row = number_of row; votes = votes; learned = learned } in
       let by = by_rowid g version old schema it in
       let by_mid = still_by_rowid version (state g old) (state g mid) one.0 by in
@@ -225,28 +267,28 @@ module _ {S : Type 0} (g : Ghosts S) (version : Version) (old mid late new : Hel
       } in (
         c,
         tables,
-        record { tried = numbers.0; row = numbers.1; casts = casts.0; learned = values.0 },
+        record { tried = fits.0; row = fits.1; casts = casts.0; learned = values.0 },
         three.1 c (two.1 c (one.1 c (serves_tables g version old schema it c tables))),
-        most,
+        record { tries = most.0; promises = most.1 },
       )
 
 -- what an older connection had, read over its store
-pub finds : {S : Type 0} (g : Ghosts S) (version : Version) (conn again new : Held S) (highest : Option ℕ) → (state g conn).now.schema ≡ schema_of version → Rereads version (state g conn) (state g again) → Examines g version again new highest
-    → Found g version conn new highest
-finds g version conn again new highest schema re ex =
+pub finds : {S : Type 0} (g : Ghosts S) (version : Version) (conn again new : Held S) (numbers : Numbers) → (state g conn).now.schema ≡ schema_of version → Rereads version (state g conn) (state g again) → Examines g version again new numbers
+    → Found g version conn new numbers
+finds g version conn again new numbers schema re ex =
     let e = ex re.0 in
     (e.0, (schema, subst (λ t. AreTablesOf version t e.0) re.1 e.1, e.2), e.3, e.4)
 
-pub all_prepare : {S E : Type 0} (g : Ghosts S) (conn : Held S) (Known : Type 0) (r : Result (Held S × Option ℕ) E) → Known → IfOk r (λ x. HasCleanDisk (state g x.0) → Known → MakesReady g conn x.0 x.1)
+pub all_prepare : {S E : Type 0} (g : Ghosts S) (conn : Held S) (Known : Type 0) (r : Result (Held S × Numbers) E) → Known → IfOk r (λ x. HasCleanDisk (state g x.0) → Known → MakesReady g conn x.0 x.1)
     → IfOk r (λ x. HasCleanDisk (state g x.0) → MakesReady g conn x.0 x.1)
 all_prepare g conn Known (Ok x) known h = λ clean. h clean known
 all_prepare g conn Known (Err e) known h = tt
 
-pub prepares_second : {S : Type 0} (g : Ghosts S) (version : Version) (old new : Held S) (highest : Option ℕ) → version ≡ Second → Found g version old new highest → MakesReady g old new highest
-prepares_second g version old new highest is f = (f.0, inr (version, f.1), serves_for None (state g new) f.0 (subst (λ v. ServesAs v (state g new) f.0) is f.2) tt, f.3)
+pub prepares_second : {S : Type 0} (g : Ghosts S) (version : Version) (old new : Held S) (numbers : Numbers) → version ≡ Second → Found g version old new numbers → MakesReady g old new numbers
+prepares_second g version old new numbers is f = (f.0, inr (version, f.1), serves_for None (state g new) f.0 (subst (λ v. ServesAs v (state g new) f.0) is f.2) tt, f.3)
 
-pub prepares_first : {S : Type 0} (g : Ghosts S) (version : Version) (old mid new : Held S) (highest : Option ℕ) → version ≡ First → Found g version old mid highest → HasRaised (state g mid) (state g new) → MakesReady g old new highest
-prepares_first g version old mid new highest is f raised = (f.0, inr (version, f.1), raised f.0 (subst (λ v. ServesAs v (state g mid) f.0) is f.2), f.3)
+pub prepares_first : {S : Type 0} (g : Ghosts S) (version : Version) (old mid new : Held S) (numbers : Numbers) → version ≡ First → Found g version old mid numbers → HasRaised (state g mid) (state g new) → MakesReady g old new numbers
+prepares_first g version old mid new numbers is f raised = (f.0, inr (version, f.1), raised f.0 (subst (λ v. ServesAs v (state g mid) f.0) is f.2), f.3)
 
 -- a database without tables has none of facts, and no part of the others
 none_there : (s : Schema) (name : List ℕ) (Wants : Table → Type 0) → table_named s name ≡ None → IsThereWithout s name Wants → ⊥
@@ -316,9 +358,9 @@ own g conn c ours (inr there) (inr rows) = rows.2 c (subst (λ v. AreTablesOf v 
 
 -- the records over tables that serve a content
 module _ {S : Type 0} (g : Ghosts S) (settled : (s : S) (db : Trees) → IsTrue (g.view s).is_open → g.recovers s db → db ≡ (g.view s).committed)
-    (stays : (s : S) → IsTrue (g.view s).is_open → g.recovers s (g.view s).committed) (owner : Option Owner) (Was : Content → Type 0) (new : Held S) (highest : Option ℕ)
-    (it : HasCleanDisk (state g new) → (c : Content) × Was c × ServesFor owner (state g new) c × (number_of highest ≡ promised c)) where
-  pub opened_linked : IsLinked g owner (Some new) true true (Some highest)
+    (stays : (s : S) → IsTrue (g.view s).is_open → g.recovers s (g.view s).committed) (owner : Option Owner) (Was : Content → Type 0) (new : Held S) (numbers : Numbers)
+    (it : HasCleanDisk (state g new) → (c : Content) × Was c × ServesFor owner (state g new) c × AreNumbersOf numbers c) where
+  pub opened_linked : IsServing g owner new true true numbers
   opened_linked sure clean =
       let now = it clean in (
         λ db may. ∣ (now.0, subst (λ t. AreTablesFor owner t now.0) (ap (λ (d : Database). d.trees) now.2.settled ∙ sym (settled new.store db now.2.is_open may)) now.2.tables) ∣₁,

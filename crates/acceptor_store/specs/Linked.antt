@@ -1,7 +1,8 @@
 -- Records over a connection.
-use Rattle.std.specs.Prelude.{◌≡◌, ◌≢◌, ℕ, map, Bool, true, false, ◌&&◌, Option, Some, None, ◌⊎◌, IfSome, IsTrue, refl}
+use Rattle.std.specs.Prelude.{◌≡◌, ◌≢◌, ◌==◌, ℕ, max, map, List, [], ◌∷◌, if◌then◌else◌, Bool, true, false, ◌&&◌, Option, Some, None, ◌⊎◌, IsSome, IsTrue, refl}
 use Rattle.std.specs.Coded.{Coded, code_by, coded×, coded_bool, coded_ℕ, coded_option}
 use Rattle.ballots.specs.Ballots.{number_of}
+use Rattle.ballots.specs.declared.letters.Cast.{Cast}
 use Rattle.sqlite_disk.specs.declared.Disk as disk
 use Rattle.sqlite_disk.specs.declared.Files.{Files}
 use Rattle.sqlite.specs.Files.{HoldsDatabase, image_of}
@@ -22,6 +23,7 @@ use Rattle.acceptor_store_parts.specs.declared.Version.{Version}
 use Rattle.acceptor_store_parts.specs.declared.owner.Owner.{Owner}
 use Rattle.acceptor_store_parts.specs.Tables.{schema_of, blank_schema}
 use Rattle.acceptor_store_parts.specs.Rowids.{IsReread}
+use Rattle.acceptor_store.specs.declared.known.Numbers.{Numbers}
 use Rattle.acceptor_store_parts.specs.Stored.{AreTablesOf, IsOfNode, number_row, numbers_of}
 use Rattle.acceptor_store_parts.specs.Owned.{AreTablesFor, schema_for}
 use Rattle.acceptor_store_parts.specs.Foreign.{IsForeign, IsForeignSchema}
@@ -29,14 +31,14 @@ use Rattle.acceptor_store_parts.specs.Serves.{ServesFor, ServesAs}
 
 -- records as their contracts see them
 pub record Linked (S : Type 0) : Type 0 where
-  -- none once a reopen has failed
+  -- none where a reopen couldn't open the store
   pub held : Option (Held S)
   -- no statement has failed since the tables were tested
   pub is_up : Bool
-  -- no reopen has failed so far
+  -- no reopen has failed so far to open the store
   pub is_sure : Bool
-  -- the promised ballot, where it is known
-  pub highest : Option (Option ℕ)
+  -- the ballot tried and the promised one, as the tables have them while it is up
+  pub numbers : Numbers
   pub failures : ℕ
   -- whose they are, where they have an owner
   pub owner : Option Owner
@@ -60,13 +62,16 @@ owner_back owner = λ i. record { node = owner.node; members = members_back owne
 abbrev pub owner_code : Coded Owner
 owner_code = code_by (ℕ × Bool) (coded× coded_ℕ coded_bool) (λ o. (o.node, is_five o.members)) (λ p. record { node = p.0; members = members_by p.1 }) owner_back
 
+abbrev pub numbers_code : Coded Numbers
+numbers_code = code_by (Option ℕ × Option ℕ) (coded× (coded_option coded_ℕ) (coded_option coded_ℕ)) (λ n. (n.tried, n.promised)) (λ p. record { tried = p.0; promised = p.1 }) (λ _. refl)
+
 -- they are stored as the tuple of their fields
 abbrev pub linked_code : {S : Type 0} → Coded S → Coded (Linked S)
 linked_code {S} store =
-    code_by (Option (Held S) × (Bool × (Bool × (Option (Option ℕ) × (ℕ × Option Owner)))))
-    (coded× (coded_option (held_code store)) (coded× coded_bool (coded× coded_bool (coded× (coded_option (coded_option coded_ℕ)) (coded× coded_ℕ (coded_option owner_code))))))
-    (λ r. (r.held, (r.is_up, (r.is_sure, (r.highest, (r.failures, r.owner))))))
-    (λ p. record { held = p.0; is_up = p.1.0; is_sure = p.1.1.0; highest = p.1.1.1.0; failures = p.1.1.1.1.0; owner = p.1.1.1.1.1 })
+    code_by (Option (Held S) × (Bool × (Bool × (Numbers × (ℕ × Option Owner)))))
+    (coded× (coded_option (held_code store)) (coded× coded_bool (coded× coded_bool (coded× numbers_code (coded× coded_ℕ (coded_option owner_code))))))
+    (λ r. (r.held, (r.is_up, (r.is_sure, (r.numbers, (r.failures, r.owner))))))
+    (λ p. record { held = p.0; is_up = p.1.0; is_sure = p.1.1.0; numbers = p.1.1.1.0; failures = p.1.1.1.1.0; owner = p.1.1.1.1.1 })
     (λ _. refl)
 
 -- what an open after a crash at this moment may find, in tables of this owner
@@ -91,23 +96,37 @@ is_honest g r = r.is_sure && is_clean_in g r.held
 abbrev pub IsHonest : {S : Type 0} → Ghosts S → Linked S → Type 0
 IsHonest g r = IsTrue (is_honest g r)
 
--- it serves some content, whose promised ballot is this one where it is known
-abbrev pub Knows : {S : Type 0} → Ghosts S → Option Owner → Held S → Option (Option ℕ) → Type 0
-Knows g owner h highest = (c : Content) × ServesFor owner (state g h) c × IfSome highest (λ b. number_of b ≡ promised c)
+-- the ballot tried and the promised one are the content's
+pub record AreNumbersOf (numbers : Numbers) (c : Content) : Type 0 where
+  pub tries : number_of numbers.tried ≡ c.tried
+  pub promises : number_of numbers.promised ≡ promised c
+
+-- the greatest of a number and the ballots of the votes at other places than p
+abbrev pub greatest_beside : ℕ → ℕ → List (ℕ × Cast) → ℕ
+greatest_beside p m [] = m
+greatest_beside p m (vote ∷ votes) = if vote.0 == p then greatest_beside p m votes else max vote.1.ballot (greatest_beside p m votes)
+
+-- it serves some content, which has these numbers
+abbrev pub Knows : {S : Type 0} → Ghosts S → Option Owner → Held S → Numbers → Type 0
+Knows g owner h numbers = (c : Content) × ServesFor owner (state g h) c × AreNumbersOf numbers c
 
 -- whatever a crash leaves holds some content, and is this owner's
 abbrev pub Stands : {S : Type 0} → Ghosts S → Option Owner → Held S → Type 0
 Stands g owner h = (db : Trees) → (state g h).may_leave db → ∥ ((c : Content) × AreTablesFor owner db c) ∥₁
 
 -- an honest connection stands, and while it is up it serves some content
-abbrev pub IsLinked : {S : Type 0} → Ghosts S → Option Owner → Option (Held S) → Bool → Bool → Option (Option ℕ) → Type 0
-IsLinked g owner None is_up is_sure highest = Unit {0}
-IsLinked g owner (Some h) is_up is_sure highest = IsTrue is_sure → HasCleanDisk (state g h) → Stands g owner h × (is_up ≡ true → Knows g owner h highest)
+abbrev pub IsServing : {S : Type 0} → Ghosts S → Option Owner → Held S → Bool → Bool → Numbers → Type 0
+IsServing g owner h is_up is_sure numbers = IsTrue is_sure → HasCleanDisk (state g h) → Stands g owner h × (is_up ≡ true → Knows g owner h numbers)
+
+-- with no connection something is left of its store, and the records are neither up nor sure
+abbrev pub IsLinked : {S L : Type 0} → Ghosts S → Option Owner → Option (Held S) → Option L → Bool → Bool → Numbers → Type 0
+IsLinked g owner None left is_up is_sure numbers = IsSome left × (is_up ≡ false) × (is_sure ≡ false)
+IsLinked g owner (Some h) left is_up is_sure numbers = IsServing g owner h is_up is_sure numbers
 
 -- a connection that was tested serves this content, and a crash leaves that
-abbrev pub IsTested : {S : Type 0} → Ghosts S → Option Owner → Held S → Held S → Option ℕ → Content → Type 0
-IsTested g owner old new highest c =
-    ServesFor owner (state g new) c × (number_of highest ≡ promised c) × Stands g owner new × Holds (MayFindIn g owner new) c
+abbrev pub IsTested : {S : Type 0} → Ghosts S → Option Owner → Held S → Held S → Numbers → Content → Type 0
+IsTested g owner old new numbers c =
+    ServesFor owner (state g new) c × AreNumbersOf numbers c × Stands g owner new × Holds (MayFindIn g owner new) c
     × ((db : Trees) → (state g new).may_leave db → db ≡ (state g old).committed.trees)
 
 -- it serves no content for this owner
@@ -115,8 +134,8 @@ abbrev pub ServesNone : Option Owner → State → Type 0
 ServesNone owner s = (c : Content) → ServesFor owner s c → ⊥
 
 -- what tests of the tables told
-abbrev pub Tells : {S : Type 0} → Ghosts S → Option Owner → Held S → Held S → Option ℕ → Type 0
-Tells g owner old new highest = ((state g old).now.schema ≡ schema_for owner) × ((c : Content) → ServesFor owner (state g old) c → IsTested g owner old new highest c)
+abbrev pub Tells : {S : Type 0} → Ghosts S → Option Owner → Held S → Held S → Numbers → Type 0
+Tells g owner old new numbers = ((state g old).now.schema ≡ schema_for owner) × ((c : Content) → ServesFor owner (state g old) c → IsTested g owner old new numbers c)
 
 -- its tables are those of this owner's records, and serve no content
 abbrev pub CannotBeRead : Option Owner → State → Type 0
@@ -129,8 +148,8 @@ pub record Leaves {S : Type 0} (g : Ghosts S) (owner : Option Owner) (old new : 
   pub adds_nothing : Stands g owner old → AddsNothing (MayFindIn g owner old) (MayFindIn g owner new)
 
 -- a connection opened anew serves what the old one may have left
-pub record Reopens {S : Type 0} (g : Ghosts S) (owner : Option Owner) (old new : Held S) (highest : Option ℕ) : Type 0 where
-  pub knows : Stands g owner old → Knows g owner new (Some highest)
+pub record Reopens {S : Type 0} (g : Ghosts S) (owner : Option Owner) (old new : Held S) (numbers : Numbers) : Type 0 where
+  pub knows : Stands g owner old → Knows g owner new numbers
   pub holds : (before : Stands g owner old) → Holds (MayFindIn g owner new) (knows before).0
 
 -- the table of numbers has these
@@ -141,11 +160,11 @@ HasNumbers version db tried row = db 0 ≡ map (λ e. number_row e.0 e.1) (numbe
 abbrev pub StaysAs : Version → State → State → Type 0
 StaysAs version old new = (new.now ≡ old.now) × ((c : Content) → ServesAs version old c → ServesAs version new c)
 
--- it serves in this version what its tables hold, which a node wrote and of which this is the promised ballot
-abbrev pub Examines : {S : Type 0} → Ghosts S → Version → Held S → Held S → Option ℕ → Type 0
-Examines g version old new highest =
+-- it serves in this version what its tables hold, which a node wrote and which has these numbers
+abbrev pub Examines : {S : Type 0} → Ghosts S → Version → Held S → Held S → Numbers → Type 0
+Examines g version old new numbers =
     IsReread version (state g old)
-    → (c : Content) × AreTablesOf version (state g old).now.trees c × IsOfNode c × ServesAs version (state g new) c × (number_of highest ≡ promised c)
+    → (c : Content) × AreTablesOf version (state g old).now.trees c × IsOfNode c × ServesAs version (state g new) c × AreNumbersOf numbers c
 
 -- the last commit holds this content, which a node wrote, in tables of this version
 abbrev pub HadIn : {S : Type 0} → Ghosts S → Version → Held S → Content → Type 0
@@ -159,10 +178,10 @@ Had g conn c = (((state g conn).now.schema ≡ blank_schema) × (c ≡ no_conten
 abbrev pub IsLeftWhole : {S : Type 0} → Ghosts S → Held S → Trees → Type 0
 IsLeftWhole g conn db = (state g conn).may_leave db ⊎ ((c : Content) × Had g conn c × AreTablesFor None db c)
 
--- it serves in this version what the older one had, of which this is the promised ballot
-abbrev pub FindsContent : {S : Type 0} → Ghosts S → Version → Held S → Held S → Option ℕ → Type 0
-FindsContent g version old new highest =
-    (c : Content) × HadIn g version old c × ServesAs version (state g new) c × (number_of highest ≡ promised c)
+-- it serves in this version what the older one had, which has these numbers
+abbrev pub FindsContent : {S : Type 0} → Ghosts S → Version → Held S → Held S → Numbers → Type 0
+FindsContent g version old new numbers =
+    (c : Content) × HadIn g version old c × ServesAs version (state g new) c × AreNumbersOf numbers c
 
 -- no node without an owner wrote the database that the connection sees
 abbrev pub SeesForeign : {S : Type 0} → Ghosts S → Held S → Type 0
@@ -172,9 +191,9 @@ SeesForeign g conn = IsForeign (state g conn).now.schema (state g conn).committe
 abbrev pub HasFurther : Schema → Type 0
 HasFurther s = (IsForeignSchema s → ⊥) × ((version : Version) → s ≢ schema_of version) × (s ≢ blank_schema)
 
--- it serves what the older one had, and this is the promised ballot
-abbrev pub MakesReady : {S : Type 0} → Ghosts S → Held S → Held S → Option ℕ → Type 0
-MakesReady g old new highest = (c : Content) × Had g old c × ServesFor None (state g new) c × (number_of highest ≡ promised c)
+-- it serves what the older one had, which has these numbers
+abbrev pub MakesReady : {S : Type 0} → Ghosts S → Held S → Held S → Numbers → Type 0
+MakesReady g old new numbers = (c : Content) × Had g old c × ServesFor None (state g new) c × AreNumbersOf numbers c
 
 -- the trees are those of the content in one of the versions, or of a database without tables, and the content is none
 abbrev pub IsKeptIn : Trees → Content → Type 0

@@ -1,7 +1,6 @@
 -- Records that are opened for an owner.
-use Rattle.std.specs.Prelude.{◌≡◌, ◌≢◌, ◌⊎◌, ℕ, Bool, true, false, Option, Some, None}
-use Rattle.ballots.specs.Ballots.{number_of}
-use Rattle.acceptor.specs.Content.{Content, no_content, promised}
+use Rattle.std.specs.Prelude.{◌≡◌, ◌≢◌, ◌⊎◌, Bool, true, false, Some, None}
+use Rattle.acceptor.specs.Content.{Content, no_content}
 use Rattle.sqlite.specs.Store.{Ghosts}
 use Rattle.sqlite.specs.Tree.{Trees}
 use Rattle.sqlite.specs.Schema.{Schema}
@@ -15,10 +14,11 @@ use Rattle.acceptor_store_parts.specs.Owned.{AreTablesFor, OwnedBy}
 use Rattle.acceptor_store_parts.specs.Rowids.{IsReread}
 use Rattle.acceptor_store_parts.specs.Foreign.{HasFacts, IsBroken, IsForeignOwned, IsUnowned}
 use Rattle.acceptor_store_parts.specs.Serves.{ServesFor}
+use Rattle.acceptor_store.specs.declared.known.Numbers.{Numbers}
 use Rattle.acceptor_store.specs.declared.OpenFault.TheVariants.{Refused, Broken, OutOfMemory, Foreign}
 use Rattle.acceptor_store.specs.declared.owned.OwnerFault.{OwnerFault}
 use Rattle.acceptor_store.specs.declared.owned.OwnerFault.TheVariants.{Open, Blank, Unowned, OtherNode, OtherMembers}
-use Rattle.acceptor_store.specs.Linked.{Had, HadIn, SeesForeign}
+use Rattle.acceptor_store.specs.Linked.{AreNumbersOf, Had, HadIn, SeesForeign}
 
 -- the last commit holds this content, which a node wrote, in tables of this owner
 abbrev pub HadFor : {S : Type 0} → Ghosts S → Owner → Held S → Content → Type 0
@@ -59,19 +59,19 @@ IsDue g owner is_new conn (Open OutOfMemory) = Unit {0}
 abbrev pub HasFurtherAs : Schema → Type 0
 HasFurtherAs s = (IsBroken s → ⊥) × (IsUnowned s → ⊥) × (s ≢ schema_of Third) × (s ≢ blank_schema)
 
--- it serves what its tables hold, which a node wrote as this owner and of which this is the promised ballot
-abbrev pub ExaminesFor : {S : Type 0} → Ghosts S → Owner → Held S → Held S → Option ℕ → Type 0
-ExaminesFor g owner old new highest =
+-- it serves what its tables hold, which a node wrote as this owner and which has these numbers
+abbrev pub ExaminesFor : {S : Type 0} → Ghosts S → Owner → Held S → Held S → Numbers → Type 0
+ExaminesFor g owner old new numbers =
     IsReread Third (state g old)
-    → (c : Content) × AreTablesFor (Some owner) (state g old).now.trees c × IsOfNode c × ServesFor (Some owner) (state g new) c × (number_of highest ≡ promised c)
+    → (c : Content) × AreTablesFor (Some owner) (state g old).now.trees c × IsOfNode c × ServesFor (Some owner) (state g new) c × AreNumbersOf numbers c
 
--- it serves for this owner what the older one had, of which this is the promised ballot
-abbrev pub FindsFor : {S : Type 0} → Ghosts S → Owner → Held S → Held S → Option ℕ → Type 0
-FindsFor g owner old new highest = (c : Content) × HadFor g owner old c × ServesFor (Some owner) (state g new) c × (number_of highest ≡ promised c)
+-- it serves for this owner what the older one had, which has these numbers
+abbrev pub FindsFor : {S : Type 0} → Ghosts S → Owner → Held S → Held S → Numbers → Type 0
+FindsFor g owner old new numbers = (c : Content) × HadFor g owner old c × ServesFor (Some owner) (state g new) c × AreNumbersOf numbers c
 
 -- the same of a database that may be new
-abbrev pub PreparesFor : {S : Type 0} → Ghosts S → Owner → Bool → Held S → Held S → Option ℕ → Type 0
-PreparesFor g owner is_new old new highest = (c : Content) × HadAs g owner is_new old c × ServesFor (Some owner) (state g new) c × (number_of highest ≡ promised c)
+abbrev pub PreparesFor : {S : Type 0} → Ghosts S → Owner → Bool → Held S → Held S → Numbers → Type 0
+PreparesFor g owner is_new old new numbers = (c : Content) × HadAs g owner is_new old c × ServesFor (Some owner) (state g new) c × AreNumbersOf numbers c
 
 -- what each fault says of a database that is to be adopted
 abbrev pub IsDueBefore : {S : Type 0} → Ghosts S → Owner → Held S → OwnerFault → Type 0
@@ -84,6 +84,6 @@ IsDueBefore g owner conn (Open Refused) = Unit {0}
 IsDueBefore g owner conn (Open Broken) = Unit {0}
 IsDueBefore g owner conn (Open OutOfMemory) = Unit {0}
 
--- it serves for this owner what the older one had, without an owner or for this one, of which this is the promised ballot
-abbrev pub AdoptsFor : {S : Type 0} → Ghosts S → Owner → Held S → Held S → Option ℕ → Type 0
-AdoptsFor g owner old new highest = (c : Content) × HadBefore g owner old c × ServesFor (Some owner) (state g new) c × (number_of highest ≡ promised c)
+-- it serves for this owner what the older one had, without an owner or for this one, which has these numbers
+abbrev pub AdoptsFor : {S : Type 0} → Ghosts S → Owner → Held S → Held S → Numbers → Type 0
+AdoptsFor g owner old new numbers = (c : Content) × HadBefore g owner old c × ServesFor (Some owner) (state g new) c × AreNumbersOf numbers c

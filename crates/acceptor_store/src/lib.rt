@@ -1,18 +1,20 @@
 //! Records in SQL tables.
 #![tactic(auto)]
 
+mod anew;
+mod known;
 mod opening;
 mod owned;
 
 ghost use Rattle.std.specs.Prelude.{◌≡◌, ◌≤◌, Err, false, not, if◌then◌else◌, IfOk, IfErr, IfSome, IsErrAnd, IsSome, IsSomeAnd, None, OnOk, Some, IsTrue, ◌↔◌, ◌⊎◌, ◌&&◌};
 ghost use Rattle.ballots.specs.Ballots.{number_of};
 ghost use Rattle.acceptor.specs.Calls.{Accounts, KeepsTrust, Writes};
-ghost use Rattle.acceptor.specs.Faults.{HasRisen, IsHarmless, IsStoreFault};
+ghost use Rattle.acceptor.specs.Faults.{BreaksByReopen, CountsFaults, HasRisen, IsHarmless, IsStoreFault};
 ghost use Rattle.acceptor.specs.declared.records.RecordsFault.TheVariants.{OutOfMemory};
 ghost use Rattle.acceptor.specs.Content.{Content, IsSound, promised, greatest};
 ghost use Rattle.ballots.specs.Rows.{at, rows_from};
 ghost use Rattle.acceptor.specs.Content.Write.{Tries, Promises, Votes as Casts, Learns};
-ghost use Rattle.acceptor.specs.Found.{Holds, AddsNothing, Keeps};
+ghost use Rattle.acceptor.specs.Found.{Holds, HoldsEither, AddsNothing, FindsSame, Keeps};
 ghost use Rattle.sqlite.specs.Files.{over_files, file_state};
 ghost use Rattle.sqlite.specs.Tree.{Trees};
 ghost use Rattle.sqlite.specs.State.{HasCleanDisk, Survives};
@@ -24,38 +26,44 @@ ghost use Rattle.acceptor_store_parts.specs.Serves.{Serves, ServesFor, StillServ
 ghost use Rattle.acceptor_store_parts.specs.Stops.{LeavesOpen, leaves_open};
 ghost use Rattle.acceptor_store.specs.Linked.{MayFind, IsHonest, is_clean_in, is_honest, CannotBeRead, Tells, Leaves, Reopens, Had, HasFurther, IsFoundIn, IsLeftWhole, SeesForeign};
 
+use crate::anew::{end_unopened, opened_anew};
+use crate::known::{Numbers, cast_vote, numbers_of, promise};
 use acceptor::{Records, RecordsFault};
 use acceptor_store_parts::{Owner, Stop, version_of_owner};
-use ballots::{Ballot, Cast, Place, Value, Votes, higher};
+use ballots::{Ballot, Cast, Place, Value, Votes};
 pub use owned::OwnerFault;
-use sqlite::{Alter, Connection, Error as SqlError, ErrorCode, FileStore, Files, Options};
+use sqlite::{Alter, Connection, Error as SqlError, ErrorCode, FileStore, Files};
 use sqlite_disk::Disk;
 use std::alloc::Global;
 use std::marker::Model;
+use store_anew::OpensAnew;
 use thiserror::Error;
 
 /// Records in tables, which this connection alone writes.
 #[derive(Drop)]
-pub struct SqlRecords<S: Alter> {
+pub struct SqlRecords<S: OpensAnew> {
     alloc: Global,
     conn: Option<Connection<S>>,
+    /// What is left of the store where a reopen couldn't open it, and there is no connection.
+    left: Option<S::Left>,
     is_up: bool,
     is_sure: bool,
-    highest: Option<Option<Ballot>>,
+    /// While it is up, those of the tables.
+    numbers: Numbers,
     failures: u64,
     owner: Option<Owner>,
 }
 
-impl<S: Alter> Model for SqlRecords<S> {
+impl<S: OpensAnew> Model for SqlRecords<S> {
     ghost use Rattle.acceptor_store.specs.Linked.{Linked, linked_code, IsLinked};
 
     ghost Value = { Linked S };
 
     ghost coded = { linked_code S.code };
 
-    ghost view = { λ r. record { held = r.conn; is_up = r.is_up; is_sure = r.is_sure; highest = r.highest; failures = r.failures; owner = r.owner } };
+    ghost view = { λ r. record { held = r.conn; is_up = r.is_up; is_sure = r.is_sure; numbers = r.numbers; failures = r.failures; owner = r.owner } };
 
-    ghost invariant = { λ r. IsLinked S.Store r.owner r.conn r.is_up r.is_sure r.highest };
+    ghost invariant = { λ r. IsLinked S.Store r.owner r.conn r.left r.is_up r.is_sure r.numbers };
 }
 
 /// The count after one more failure. At the top it stays.
@@ -87,57 +95,6 @@ fn end(is_up: &mut bool, failures: &mut u64, stop: Stop) -> RecordsFault
     }
 }
 
-fn tried_in<S: Alter>(conn: &mut Connection<S>) -> Result<Option<Ballot>, Stop>
-    ensures value { HasCleanDisk (state S.Store conn.new) → IfOk result (λ b. (c : Content) → Serves (state S.Store conn.old) c → number_of b ≡ c.tried) }
-    ensures stays { HasCleanDisk (state S.Store conn.new) → StaysOpen result → StillServes (state S.Store conn.old) (state S.Store conn.new) }
-    ensures survives { Survives (state S.Store conn.old) (state S.Store conn.new) (λ _. DoesNotServe (state S.Store conn.old)) }
-{
-    let number = acceptor_store_parts::tried(conn)?;
-    acceptor_store_parts::ballot_of(number)
-}
-
-/// The greatest ballot after `ballot` took the place of another, where that is known.
-fn raised(highest: Option<Option<Ballot>>, ballot: Ballot) -> Option<Option<Ballot>>
-    ensures { IfSome result (λ b. (b ≡ Some ballot) × ((n : _) → IfSome highest (λ was. number_of was ≡ n) → n ≤ ballot)) }
-{
-    match highest? {
-        Some(was) if ballot.number() < was.number() => None,
-        _ => Some(Some(ballot)),
-    }
-}
-
-/// The greatest of a ballot and those of the votes.
-#[tactic(auto, using(acceptor::proofs::Greatest::greatest_max))]
-fn greatest_of(ballot: Option<Ballot>, votes: &[(u64, Cast)]) -> Option<Ballot>
-    ensures { number_of result ≡ greatest (number_of ballot) votes.now }
-{
-    let mut most = ballot;
-    for vote in votes {
-        most = higher(most, vote.1.ballot);
-    }
-    most
-}
-
-/// The promised ballot, as the tables have it.
-fn promised_in<S: Alter>(
-    alloc: Global,
-    conn: &mut Connection<S>,
-    owner: Option<Owner>,
-) -> Result<Option<Ballot>, Stop>
-    ensures value { HasCleanDisk (state S.Store conn.new) → IfOk result (λ b. (c : Content) → ServesFor owner (state S.Store conn.old) c → number_of b ≡ promised c) }
-    ensures stays { HasCleanDisk (state S.Store conn.new) → StaysOpen result → StillServes (state S.Store conn.old) (state S.Store conn.new) }
-    ensures survives { Survives (state S.Store conn.old) (state S.Store conn.new) (λ _. DoesNotServe (state S.Store conn.old)) }
-{
-    let Some(numbers) = acceptor_store_parts::read_numbers(conn, version_of_owner(owner))? else {
-        return Err(Stop::Down);
-    };
-    let Some(first) = Place::new(1) else {
-        return Err(Stop::Down);
-    };
-    let votes = acceptor_store_parts::votes_from(alloc, conn, first)?;
-    Ok(greatest_of(numbers.1, votes.rows()))
-}
-
 /// Whether the table of facts names this owner. Without one there is no such table.
 fn is_owned<S: Alter>(conn: &mut Connection<S>, owner: Option<Owner>) -> bool
     ensures stays { HasCleanDisk (state S.Store conn.new) → (state S.Store conn.old).now.schema ≡ schema_for owner → IsTrue result
@@ -153,13 +110,13 @@ fn is_owned<S: Alter>(conn: &mut Connection<S>, owner: Option<Owner>) -> bool
     }
 }
 
-/// Tests the tables of a connection that was opened, and gives the promised ballot. None where they
+/// Tests the tables of a connection that was opened, and gives their numbers. None where they
 /// are none of this owner's records, or can't be read.
 fn tested<S: Alter>(
     alloc: Global,
     conn: &mut Connection<S>,
     owner: &Option<Owner>,
-) -> Option<Option<Ballot>>
+) -> Option<Numbers>
     ensures tells { HasCleanDisk (state S.Store conn.new) → IfSome result (Tells S.Store owner.now conn.old conn.new) }
     ensures survives { Survives (state S.Store conn.old) (state S.Store conn.new) (λ _. CannotBeRead owner.now (state S.Store conn.old)) }
 {
@@ -170,29 +127,10 @@ fn tested<S: Alter>(
     if !is_owned(conn, *owner) {
         return None;
     }
-    match promised_in(alloc, conn, *owner) {
-        Ok(highest) => Some(highest),
+    match numbers_of(alloc, conn, *owner) {
+        Ok(numbers) => Some(numbers),
         Err(_) => None,
     }
-}
-
-// The salts of a log need no secret here.
-const SEED: u64 = 0x5eed;
-
-/// Opens the files of the connection anew, and tests the tables again, which may fail.
-fn opened_anew<D: Disk + Drop>(
-    alloc: Global,
-    conn: Connection<FileStore<D>>,
-    owner: Option<Owner>,
-) -> Option<(Connection<FileStore<D>>, Option<Option<Ballot>>)>
-    ensures leaves { IfSome result (λ r. HasCleanDisk (file_state r.0) → Leaves over_files owner conn r.0) }
-    ensures reopens { IfSome result (λ r. HasCleanDisk (file_state r.0) → IfSome r.1 (Reopens over_files owner conn r.0)) }
-{
-    let Ok(mut fresh) = acceptor_store_parts::reopened(alloc, conn, Options::new(SEED)) else {
-        return None;
-    };
-    let highest = tested(alloc, &mut fresh, &owner);
-    Some((fresh, highest))
 }
 
 /// Why records weren't opened.
@@ -213,7 +151,7 @@ pub enum OpenFault {
     Foreign,
 }
 
-impl<S: Alter + Drop> SqlRecords<S> {
+impl<S: OpensAnew> SqlRecords<S> {
     /// Records over the connection, in tables of version 2. In a database without tables they are
     /// made, and those of version 1 are made into them with equal content and nothing learned, each
     /// in one transaction.
@@ -246,16 +184,17 @@ impl<S: Alter + Drop> SqlRecords<S> {
         Ok(SqlRecords {
             alloc,
             conn: Some(found.0),
+            left: None,
             is_up: true,
             is_sure: true,
-            highest: Some(found.1),
+            numbers: found.1,
             failures: 0,
             owner: None,
         })
     }
 }
 
-impl<S: Alter + Drop> SqlRecords<S> {
+impl<S: OpensAnew> SqlRecords<S> {
     /// The store of the records, and none after a reopen that failed. What isn't committed is
     /// rolled back, and a crash leaves nothing that it couldn't leave before.
     pub fn into_store(self) -> Option<S>
@@ -267,9 +206,10 @@ impl<S: Alter + Drop> SqlRecords<S> {
         let SqlRecords {
             alloc: _,
             conn,
+            left: _,
             is_up: _,
             is_sure: _,
-            highest: _,
+            numbers: _,
             failures: _,
             owner: _,
         } = self;
@@ -305,43 +245,52 @@ pub fn open_files<D: Disk + Drop>(
     if !files.may_be_used() {
         return Err(OpenFault::Broken);
     }
-    match Connection::open_files(alloc, files, Options::new(SEED)) {
+    match FileStore::opened_anew(alloc, files) {
         Ok(conn) => match SqlRecords::open(alloc, conn) {
             Ok(records) => Ok(records),
             Err((fault, _store)) => Err(fault),
         },
-        Err((error, left)) => {
-            let _files = left.into_files();
-            Err(unopened(error))
-        }
+        Err((error, _files)) => Err(unopened(error)),
     }
 }
 
-impl<S: Alter> SqlRecords<S> {
-    fn find_tried(&mut self) -> Result<Option<Ballot>, RecordsFault>
-        ensures value { IsHonest S.Store self.new → IfOk result (λ b. (c : Content) → Holds (MayFind S.Store self.old.owner self.old.held) c → number_of b ≡ c.tried) }
-        ensures kept { IsHonest S.Store self.new → Keeps result (MayFind S.Store self.old.owner self.old.held) (MayFind S.Store self.new.owner self.new.held) }
-        ensures trust { KeepsTrust (is_honest S.Store) (λ r. is_clean_in S.Store r.held) self.old self.new }
-        ensures account { Accounts (λ r. r.failures) (λ r. not r.is_up) self.old result self.new }
-    {
+impl<S: OpensAnew> Records for SqlRecords<S> {
+    ghost may_find = { λ r. MayFind S.Store r.owner r.held };
+
+    ghost is_honest = { λ r. is_honest S.Store r };
+
+    ghost is_clean = { λ r. is_clean_in S.Store r.held };
+
+    ghost count_of = { λ r. r.failures };
+
+    ghost is_broken = { λ r. not r.is_up };
+
+    ghost finds_no_memory = { λ _ _. Unit {0} };
+
+    // The ballots are known in memory.
+    ghost finds_no_ballot = { λ _ _. ⊥ };
+
+    ghost reopens = { λ old new. IsHonest S.Store new → AddsNothing (MayFind S.Store old.owner old.held) (MayFind S.Store new.owner new.held) };
+
+    fn failures(&self) -> u64 {
+        self.failures
+    }
+
+    fn tried(&mut self) -> Result<Option<Ballot>, RecordsFault> {
         if !self.is_up {
             return Err(end(&mut self.is_up, &mut self.failures, Stop::Down));
         }
-        let Some(conn) = &mut self.conn else {
-            return Err(end(&mut self.is_up, &mut self.failures, Stop::Down));
-        };
-        match tried_in(conn) {
-            Ok(found) => Ok(found),
-            Err(stop) => Err(end(&mut self.is_up, &mut self.failures, stop)),
-        }
+        Ok(self.numbers.tried)
     }
 
-    fn find_vote(&mut self, place: Place) -> Result<Option<Cast>, RecordsFault>
-        ensures value { IsHonest S.Store self.new → IfOk result (λ v. (c : Content) → Holds (MayFind S.Store self.old.owner self.old.held) c → v ≡ at c.votes place) }
-        ensures kept { IsHonest S.Store self.new → Keeps result (MayFind S.Store self.old.owner self.old.held) (MayFind S.Store self.new.owner self.new.held) }
-        ensures trust { KeepsTrust (is_honest S.Store) (λ r. is_clean_in S.Store r.held) self.old self.new }
-        ensures account { Accounts (λ r. r.failures) (λ r. not r.is_up) self.old result self.new }
-    {
+    fn promised(&mut self) -> Result<Option<Ballot>, RecordsFault> {
+        if !self.is_up {
+            return Err(end(&mut self.is_up, &mut self.failures, Stop::Down));
+        }
+        Ok(self.numbers.promised)
+    }
+
+    fn vote(&mut self, place: Place) -> Result<Option<Cast>, RecordsFault> {
         let alloc = self.alloc;
         if !self.is_up {
             return Err(end(&mut self.is_up, &mut self.failures, Stop::Down));
@@ -355,13 +304,7 @@ impl<S: Alter> SqlRecords<S> {
         }
     }
 
-    fn find_votes_from(&mut self, place: Place) -> Result<Votes, RecordsFault>
-        ensures value { IsHonest S.Store self.new → IfOk result (λ votes. (c : Content) → Holds (MayFind S.Store self.old.owner self.old.held) c → votes ≡ rows_from c.votes place) }
-        ensures sound { IsHonest S.Store self.new → OnOk result ((c : Content) → Holds (MayFind S.Store self.old.owner self.old.held) c → IsSound c) }
-        ensures kept { IsHonest S.Store self.new → Keeps result (MayFind S.Store self.old.owner self.old.held) (MayFind S.Store self.new.owner self.new.held) }
-        ensures trust { KeepsTrust (is_honest S.Store) (λ r. is_clean_in S.Store r.held) self.old self.new }
-        ensures account { Accounts (λ r. r.failures) (λ r. not r.is_up) self.old result self.new }
-    {
+    fn votes_from(&mut self, place: Place) -> Result<Votes, RecordsFault> {
         let alloc = self.alloc;
         if !self.is_up {
             return Err(end(&mut self.is_up, &mut self.failures, Stop::Down));
@@ -375,12 +318,7 @@ impl<S: Alter> SqlRecords<S> {
         }
     }
 
-    fn find_learned_row(&mut self, place: Place) -> Result<Option<Value>, RecordsFault>
-        ensures value { IsHonest S.Store self.new → IfOk result (λ v. (c : Content) → Holds (MayFind S.Store self.old.owner self.old.held) c → v ≡ at c.learned place) }
-        ensures kept { IsHonest S.Store self.new → Keeps result (MayFind S.Store self.old.owner self.old.held) (MayFind S.Store self.new.owner self.new.held) }
-        ensures trust { KeepsTrust (is_honest S.Store) (λ r. is_clean_in S.Store r.held) self.old self.new }
-        ensures account { Accounts (λ r. r.failures) (λ r. not r.is_up) self.old result self.new }
-    {
+    fn learned_row(&mut self, place: Place) -> Result<Option<Value>, RecordsFault> {
         let alloc = self.alloc;
         if !self.is_up {
             return Err(end(&mut self.is_up, &mut self.failures, Stop::Down));
@@ -394,13 +332,7 @@ impl<S: Alter> SqlRecords<S> {
         }
     }
 
-    fn find_learned_from(&mut self, place: Place) -> Result<Vec<(Place, Value)>, RecordsFault>
-        ensures value { IsHonest S.Store self.new → IfOk result (λ learned. (c : Content) → Holds (MayFind S.Store self.old.owner self.old.held) c → learned.items ≡ rows_from c.learned place) }
-        ensures sound { IsHonest S.Store self.new → OnOk result ((c : Content) → Holds (MayFind S.Store self.old.owner self.old.held) c → IsSound c) }
-        ensures kept { IsHonest S.Store self.new → Keeps result (MayFind S.Store self.old.owner self.old.held) (MayFind S.Store self.new.owner self.new.held) }
-        ensures trust { KeepsTrust (is_honest S.Store) (λ r. is_clean_in S.Store r.held) self.old self.new }
-        ensures account { Accounts (λ r. r.failures) (λ r. not r.is_up) self.old result self.new }
-    {
+    fn learned_from(&mut self, place: Place) -> Result<Vec<(Place, Value)>, RecordsFault> {
         let alloc = self.alloc;
         if !self.is_up {
             return Err(end(&mut self.is_up, &mut self.failures, Stop::Down));
@@ -414,34 +346,7 @@ impl<S: Alter> SqlRecords<S> {
         }
     }
 
-    fn find_promised(&mut self) -> Result<Option<Ballot>, RecordsFault>
-        ensures value { IsHonest S.Store self.new → IfOk result (λ b. (c : Content) → Holds (MayFind S.Store self.old.owner self.old.held) c → number_of b ≡ promised c) }
-        ensures kept { IsHonest S.Store self.new → Keeps result (MayFind S.Store self.old.owner self.old.held) (MayFind S.Store self.new.owner self.new.held) }
-        ensures trust { KeepsTrust (is_honest S.Store) (λ r. is_clean_in S.Store r.held) self.old self.new }
-        ensures account { Accounts (λ r. r.failures) (λ r. not r.is_up) self.old result self.new }
-    {
-        let alloc = self.alloc;
-        if !self.is_up {
-            return Err(end(&mut self.is_up, &mut self.failures, Stop::Down));
-        }
-        let Some(conn) = &mut self.conn else {
-            return Err(end(&mut self.is_up, &mut self.failures, Stop::Down));
-        };
-        if let Some(highest) = self.highest {
-            return Ok(highest);
-        }
-        match promised_in(alloc, conn, self.owner) {
-            Ok(found) => Ok(found),
-            Err(stop) => Err(end(&mut self.is_up, &mut self.failures, stop)),
-        }
-    }
-
-    fn set_tried(&mut self, ballot: Ballot) -> Result<(), RecordsFault>
-        ensures writes { IsHonest S.Store self.new → Writes result (MayFind S.Store self.old.owner self.old.held) (MayFind S.Store self.new.owner self.new.held)
-            (Tries ballot) }
-        ensures trust { KeepsTrust (is_honest S.Store) (λ r. is_clean_in S.Store r.held) self.old self.new }
-        ensures account { Accounts (λ r. r.failures) (λ r. not r.is_up) self.old result self.new }
-    {
+    fn put_tried(&mut self, ballot: Ballot) -> Result<(), RecordsFault> {
         if !self.is_up {
             return Err(end(&mut self.is_up, &mut self.failures, Stop::Down));
         }
@@ -449,59 +354,55 @@ impl<S: Alter> SqlRecords<S> {
             return Err(end(&mut self.is_up, &mut self.failures, Stop::Down));
         };
         match acceptor_store_parts::put_tried(conn, ballot) {
-            Ok(()) => Ok(()),
-            Err(stop) => Err(end(&mut self.is_up, &mut self.failures, stop)),
-        }
-    }
-
-    fn set_promised(&mut self, ballot: Ballot) -> Result<(), RecordsFault>
-        ensures writes { IsHonest S.Store self.new → Writes result (MayFind S.Store self.old.owner self.old.held) (MayFind S.Store self.new.owner self.new.held)
-            (Promises ballot) }
-        ensures trust { KeepsTrust (is_honest S.Store) (λ r. is_clean_in S.Store r.held) self.old self.new }
-        ensures account { Accounts (λ r. r.failures) (λ r. not r.is_up) self.old result self.new }
-    {
-        if !self.is_up {
-            return Err(end(&mut self.is_up, &mut self.failures, Stop::Down));
-        }
-        let Some(conn) = &mut self.conn else {
-            return Err(end(&mut self.is_up, &mut self.failures, Stop::Down));
-        };
-        match acceptor_store_parts::put_promised(conn, ballot) {
             Ok(()) => {
-                self.highest = raised(self.highest, ballot);
+                self.numbers.tried = Some(ballot);
                 Ok(())
             }
             Err(stop) => Err(end(&mut self.is_up, &mut self.failures, stop)),
         }
     }
 
-    fn set_vote(&mut self, place: Place, ballot: Ballot, value: &Value) -> Result<(), RecordsFault>
-        ensures writes { IsHonest S.Store self.new → Writes result (MayFind S.Store self.old.owner self.old.held) (MayFind S.Store self.new.owner self.new.held)
-            (Casts place record { ballot = ballot; value = value.now }) }
-        ensures trust { KeepsTrust (is_honest S.Store) (λ r. is_clean_in S.Store r.held) self.old self.new }
-        ensures account { Accounts (λ r. r.failures) (λ r. not r.is_up) self.old result self.new }
-    {
+    fn put_promised(&mut self, ballot: Ballot) -> Result<(), RecordsFault> {
+        let alloc = self.alloc;
         if !self.is_up {
             return Err(end(&mut self.is_up, &mut self.failures, Stop::Down));
         }
         let Some(conn) = &mut self.conn else {
             return Err(end(&mut self.is_up, &mut self.failures, Stop::Down));
         };
-        match acceptor_store_parts::put_vote(conn, place, ballot, value) {
-            Ok(()) => {
-                self.highest = raised(self.highest, ballot);
+        match promise(alloc, conn, self.owner, self.numbers.promised, ballot) {
+            Ok(promised) => {
+                self.numbers.promised = promised;
                 Ok(())
             }
             Err(stop) => Err(end(&mut self.is_up, &mut self.failures, stop)),
         }
     }
 
-    fn set_learned(&mut self, place: Place, value: &Value) -> Result<(), RecordsFault>
-        ensures writes { IsHonest S.Store self.new → Writes result (MayFind S.Store self.old.owner self.old.held) (MayFind S.Store self.new.owner self.new.held)
-            (Learns place value.now) }
-        ensures trust { KeepsTrust (is_honest S.Store) (λ r. is_clean_in S.Store r.held) self.old self.new }
-        ensures account { Accounts (λ r. r.failures) (λ r. not r.is_up) self.old result self.new }
-    {
+    fn put_vote(
+        &mut self,
+        place: Place,
+        ballot: Ballot,
+        value: &Value,
+    ) -> Result<(), RecordsFault> {
+        let alloc = self.alloc;
+        if !self.is_up {
+            return Err(end(&mut self.is_up, &mut self.failures, Stop::Down));
+        }
+        let Some(conn) = &mut self.conn else {
+            return Err(end(&mut self.is_up, &mut self.failures, Stop::Down));
+        };
+        let before = self.numbers.promised;
+        match cast_vote(alloc, conn, self.owner, before, place, ballot, value) {
+            Ok(promised) => {
+                self.numbers.promised = promised;
+                Ok(())
+            }
+            Err(stop) => Err(end(&mut self.is_up, &mut self.failures, stop)),
+        }
+    }
+
+    fn put_learned(&mut self, place: Place, value: &Value) -> Result<(), RecordsFault> {
         if !self.is_up {
             return Err(end(&mut self.is_up, &mut self.failures, Stop::Down));
         }
@@ -513,94 +414,41 @@ impl<S: Alter> SqlRecords<S> {
             Err(stop) => Err(end(&mut self.is_up, &mut self.failures, stop)),
         }
     }
-}
 
-impl<D: Disk + Drop> Records for SqlRecords<FileStore<D>> {
-    ghost may_find = { λ r. MayFind over_files r.owner r.held };
-
-    ghost is_honest = { λ r. is_honest over_files r };
-
-    ghost is_clean = { λ r. is_clean_in over_files r.held };
-
-    ghost count_of = { λ r. r.failures };
-
-    ghost is_broken = { λ r. not r.is_up };
-
-    ghost finds_no_memory = { λ _ _. Unit {0} };
-
-    ghost finds_no_ballot = { λ _ _. Unit {0} };
-
-    ghost reopens = { λ old new. IsHonest over_files new → AddsNothing (MayFind over_files old.owner old.held) (MayFind over_files new.owner new.held) };
-
-    fn failures(&self) -> u64 {
-        self.failures
-    }
-
-    fn tried(&mut self) -> Result<Option<Ballot>, RecordsFault> {
-        self.find_tried()
-    }
-
-    fn promised(&mut self) -> Result<Option<Ballot>, RecordsFault> {
-        self.find_promised()
-    }
-
-    fn vote(&mut self, place: Place) -> Result<Option<Cast>, RecordsFault> {
-        self.find_vote(place)
-    }
-
-    fn votes_from(&mut self, place: Place) -> Result<Votes, RecordsFault> {
-        self.find_votes_from(place)
-    }
-
-    fn learned_row(&mut self, place: Place) -> Result<Option<Value>, RecordsFault> {
-        self.find_learned_row(place)
-    }
-
-    fn learned_from(&mut self, place: Place) -> Result<Vec<(Place, Value)>, RecordsFault> {
-        self.find_learned_from(place)
-    }
-
-    fn put_tried(&mut self, ballot: Ballot) -> Result<(), RecordsFault> {
-        self.set_tried(ballot)
-    }
-
-    fn put_promised(&mut self, ballot: Ballot) -> Result<(), RecordsFault> {
-        self.set_promised(ballot)
-    }
-
-    fn put_vote(
-        &mut self,
-        place: Place,
-        ballot: Ballot,
-        value: &Value,
-    ) -> Result<(), RecordsFault> {
-        self.set_vote(place, ballot, value)
-    }
-
-    fn put_learned(&mut self, place: Place, value: &Value) -> Result<(), RecordsFault> {
-        self.set_learned(place, value)
-    }
-
-    fn reopen(&mut self) -> Result<(), RecordsFault> {
-        let Some(conn) = self.conn.take() else {
-            self.is_up = false;
-            self.failures = risen(self.failures);
-            return Err(RecordsFault::Broken);
-        };
-        let Some((fresh, highest)) = opened_anew(self.alloc, conn, self.owner) else {
-            self.is_sure = false;
-            self.is_up = false;
-            self.failures = risen(self.failures);
-            return Err(RecordsFault::Broken);
+    /// Where it couldn't open the store, what is left is kept for the next reopen. Where it opened it
+    /// and couldn't read the tables, the connection is kept, and honesty too (`sure`).
+    fn reopen(&mut self) -> Result<(), RecordsFault>
+        ensures ok { IsHonest S.Store self.new → OnOk result ((a b : Content) → HoldsEither (MayFind S.Store self.old.owner self.old.held) a b
+            → Holds (MayFind S.Store self.new.owner self.new.held) a ⊎ Holds (MayFind S.Store self.new.owner self.new.held) b) }
+        ensures reopened { OnOk result (IsHonest S.Store self.new
+            → AddsNothing (MayFind S.Store self.old.owner self.old.held) (MayFind S.Store self.new.owner self.new.held)) }
+        ensures harmless { IsHonest S.Store self.new
+            → IfErr result (λ e. IsHarmless e → FindsSame (MayFind S.Store self.old.owner self.old.held) (MayFind S.Store self.new.owner self.new.held)) }
+        ensures kept { IsHonest S.Store self.new → AddsNothing (MayFind S.Store self.old.owner self.old.held) (MayFind S.Store self.new.owner self.new.held) }
+        ensures honest { IsHonest S.Store self.new → IsHonest S.Store self.old }
+        ensures trust { OnOk result (KeepsTrust (is_honest S.Store) (λ r. is_clean_in S.Store r.held) self.old self.new) }
+        ensures sure { IsSome self.new.held → IsTrue (is_clean_in S.Store self.new.held) → IsHonest S.Store self.old → IsHonest S.Store self.new }
+        ensures count { CountsFaults result self.old.failures self.new.failures }
+        ensures broken { BreaksByReopen result (not self.old.is_up) (not self.new.is_up) }
+    {
+        let conn = self.conn.take();
+        let left = self.left.take();
+        let (fresh, numbers) = match opened_anew(self.alloc, conn, left, self.owner) {
+            Ok(opened) => opened,
+            Err((error, left)) => {
+                self.left = Some(left);
+                self.is_sure = false;
+                return Err(end_unopened(&mut self.is_up, &mut self.failures, error));
+            }
         };
         self.conn = Some(fresh);
-        let Some(highest) = highest else {
+        let Some(numbers) = numbers else {
             self.is_up = false;
             self.failures = risen(self.failures);
             return Err(RecordsFault::Broken);
         };
         self.is_up = true;
-        self.highest = Some(highest);
+        self.numbers = numbers;
         Ok(())
     }
 }

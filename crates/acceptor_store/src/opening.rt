@@ -15,8 +15,9 @@ ghost use Rattle.acceptor_store_parts.specs.Stored.{HasLearned, KeepsLearned, Is
 ghost use Rattle.acceptor_store_parts.specs.Serves.{ServesAs, IsOther, HasRaised, MayHaveRaised};
 ghost use Rattle.acceptor_store.specs.Linked.{HasFurther, Examines, MakesReady, SeesForeign, HasNumbers, StaysAs, FindsContent, IsLeftWhole};
 
-use crate::{OpenFault, greatest_of};
-use acceptor_store_parts::{Stop, Unread, Version};
+use crate::OpenFault;
+use crate::known::{Numbers, greatest_of};
+use acceptor_store_parts::{Stop, Version};
 use ballots::{Ballot, Place, Value, Votes};
 use sqlite::{Alter, Connection};
 use sqlite_schema::schema::Schema;
@@ -86,8 +87,8 @@ fn votes_in<S: Alter>(alloc: Global, conn: &mut Connection<S>) -> Result<Votes, 
     };
     let votes = match acceptor_store_parts::read_votes(alloc, rows.as_slice()) {
         Ok(votes) => votes,
-        Err(Unread::Memory) => return Err(OpenFault::OutOfMemory),
-        Err(Unread::Wrong) => return Err(OpenFault::Foreign),
+        Err(Stop::Down) => return Err(OpenFault::Foreign),
+        Err(stop) => return Err(stopped(stop)),
     };
     if !acceptor_store_parts::are_in_order(votes.rows()) {
         return Err(OpenFault::Foreign);
@@ -116,8 +117,8 @@ fn kept_learned<S: Alter>(
     };
     let learned = match acceptor_store_parts::read_learned(alloc, rows.as_slice()) {
         Ok(learned) => learned,
-        Err(Unread::Memory) => return Err(OpenFault::OutOfMemory),
-        Err(Unread::Wrong) => return Err(OpenFault::Foreign),
+        Err(Stop::Down) => return Err(OpenFault::Foreign),
+        Err(stop) => return Err(stopped(stop)),
     };
     if !acceptor_store_parts::are_rising(learned.as_slice()) {
         return Err(OpenFault::Foreign);
@@ -144,12 +145,12 @@ fn learned_in<S: Alter>(
     }
 }
 
-/// Tests the rows of the version's tables, and gives the promised ballot.
+/// Tests the rows of the version's tables, and gives their numbers.
 pub fn examined<S: Alter>(
     alloc: Global,
     conn: &mut Connection<S>,
     version: Version,
-) -> Result<Option<Ballot>, OpenFault>
+) -> Result<Numbers, OpenFault>
     ensures tables { HasCleanDisk (state S.Store conn.new) → (state S.Store conn.old).now.schema ≡ schema_of version → IfOk result (Examines S.Store version conn.old conn.new) }
     ensures same { HasCleanDisk (state S.Store conn.new) → (state S.Store conn.old).now.schema ≡ schema_of version
         → OnOk result (StaysAs version (state S.Store conn.old) (state S.Store conn.new)) }
@@ -159,7 +160,11 @@ pub fn examined<S: Alter>(
     let numbers = numbers_in(conn, version)?;
     let votes = votes_in(alloc, conn)?;
     learned_in(alloc, conn, version)?;
-    Ok(greatest_of(numbers.1, votes.rows()))
+    let promised = greatest_of(numbers.1, votes.rows());
+    Ok(Numbers {
+        tried: numbers.0,
+        promised,
+    })
 }
 
 /// Whether the schema is that of the tables of this version alone.
@@ -176,13 +181,13 @@ pub fn is_of(alloc: Global, schema: &Schema, version: Version) -> Result<bool, O
     }
 }
 
-/// The connection over its own store, with the rows of the version's tables tested, and the
-/// promised ballot.
+/// The connection over its own store, with the rows of the version's tables tested, and their
+/// numbers.
 fn reread<S: Alter + Drop>(
     alloc: Global,
     version: Version,
     conn: Connection<S>,
-) -> Result<(Connection<S>, Option<Ballot>), (OpenFault, S)>
+) -> Result<(Connection<S>, Numbers), (OpenFault, S)>
     ensures tables { IfOk result (λ r. HasCleanDisk (state S.Store r.0) → (state S.Store conn).now.schema ≡ schema_of version → FindsContent S.Store version conn r.0 r.1) }
     ensures clean { IfOk result (λ r. doubt (state S.Store conn).is_clean ≤ doubt (state S.Store r.0).is_clean) }
     ensures leaves { IfOk result (λ r. HasCleanDisk (state S.Store r.0) → (db : Trees) → (state S.Store r.0).may_leave db → (state S.Store conn).may_leave db) }
@@ -200,18 +205,18 @@ fn reread<S: Alter + Drop>(
         Err(fault) => return Err((fault, again.into_store())),
     }
     match examined(alloc, &mut again, version) {
-        Ok(highest) => Ok((again, highest)),
+        Ok(numbers) => Ok((again, numbers)),
         Err(fault) => Err((fault, again.into_store())),
     }
 }
 
 /// The connection over the tables of version 2, where it had those of this version, which isn't
-/// the third, and the promised ballot.
+/// the third, and their numbers.
 fn brought_up<S: Alter + Drop>(
     alloc: Global,
     version: Version,
     conn: Connection<S>,
-) -> Result<(Connection<S>, Option<Ballot>), (OpenFault, S)>
+) -> Result<(Connection<S>, Numbers), (OpenFault, S)>
     requires unowned { version ≢ Version.Third }
     ensures tables { IfOk result (λ r. HasCleanDisk (state S.Store r.0) → (state S.Store conn).now.schema ≡ schema_of version → MakesReady S.Store conn r.0 r.1) }
     ensures clean { IfOk result (λ r. doubt (state S.Store conn).is_clean ≤ doubt (state S.Store r.0).is_clean) }
@@ -232,11 +237,11 @@ fn brought_up<S: Alter + Drop>(
     }
 }
 
-/// The connection with its tables tested or made, and the promised ballot.
+/// The connection with its tables tested or made, and their numbers.
 pub fn prepared<S: Alter + Drop>(
     alloc: Global,
     mut conn: Connection<S>,
-) -> Result<(Connection<S>, Option<Ballot>), (OpenFault, S)>
+) -> Result<(Connection<S>, Numbers), (OpenFault, S)>
     ensures tables { IfOk result (λ r. HasCleanDisk (state S.Store r.0) → MakesReady S.Store conn r.0 r.1) }
     ensures ours { OnOk result (IsForeignSchema (state S.Store conn).now.schema → ⊥) }
     ensures clean { IfOk result (λ r. doubt (state S.Store conn).is_clean ≤ doubt (state S.Store r.0).is_clean) }
@@ -251,7 +256,7 @@ pub fn prepared<S: Alter + Drop>(
     }
     if acceptor_store_parts::is_blank(conn.schema()) {
         return match acceptor_store_parts::make_tables(&mut conn) {
-            Ok(()) => Ok((conn, None)),
+            Ok(()) => Ok((conn, Numbers::none())),
             Err(stop) => Err((stopped(stop), conn.into_store())),
         };
     }

@@ -15,13 +15,15 @@ ghost use Rattle.acceptor_store_parts.specs.Tables.{blank_schema, schema_of};
 ghost use Rattle.acceptor_store.specs.Linked.{IsHonest, MayFind, StaysAs, is_clean_in};
 ghost use Rattle.acceptor_store.specs.Owning.{AdoptsFor, ExaminesFor, FindsFor, HadAs, HadBefore, HasFurtherAs, IsDue, IsDueBefore, IsLeftAs, IsLeftBefore, PreparesFor};
 
+use crate::known::Numbers;
 use crate::opening::{examined, is_of, prepared, stopped};
 use crate::{OpenFault, SqlRecords};
 use acceptor_store_parts::{Owner, Version};
-use ballots::{Ballot, Members, NodeId};
+use ballots::{Members, NodeId};
 use sqlite::{Alter, Connection};
 use sqlite_schema::schema::Schema;
 use std::alloc::Global;
+use store_anew::OpensAnew;
 use thiserror::Error;
 
 /// Why records weren't opened for their owner.
@@ -113,33 +115,33 @@ fn owner_in<S: Alter>(conn: &mut Connection<S>) -> Result<Owner, OpenFault>
     }
 }
 
-/// Tests the rows of version 3, and gives the owner and the promised ballot.
+/// Tests the rows of version 3, and gives the owner and their numbers.
 fn examined_owned<S: Alter>(
     alloc: Global,
     conn: &mut Connection<S>,
-) -> Result<(Owner, Option<Ballot>), OpenFault>
+) -> Result<(Owner, Numbers), OpenFault>
     ensures tables { HasCleanDisk (state S.Store conn.new) → (state S.Store conn.old).now.schema ≡ schema_of Version.Third
         → IfOk result (λ r. ExaminesFor S.Store r.0 conn.old conn.new r.1) }
     ensures foreign { HasCleanDisk (state S.Store conn.new) → (state S.Store conn.old).now.schema ≡ schema_of Version.Third → result ≡ Err OpenFault.Foreign
         → IsReread Version.Third (state S.Store conn.old) → HoldsNoneOwned (state S.Store conn.old).now.trees }
     ensures survives { Survives (state S.Store conn.old) (state S.Store conn.new) (λ _. (state S.Store conn.old).now.schema ≡ schema_of Version.Third → ⊥) }
 {
-    let highest = match examined(alloc, conn, Version::Third) {
-        Ok(highest) => highest,
+    let numbers = match examined(alloc, conn, Version::Third) {
+        Ok(numbers) => numbers,
         Err(fault) => return Err(fault),
     };
     match owner_in(conn) {
-        Ok(owner) => Ok((owner, highest)),
+        Ok(owner) => Ok((owner, numbers)),
         Err(fault) => Err(fault),
     }
 }
 
-/// The connection over its own store, with the rows of version 3 tested, the owner and the promised
-/// ballot.
+/// The connection over its own store, with the rows of version 3 tested, the owner and their
+/// numbers.
 fn reread_owned<S: Alter + Drop>(
     alloc: Global,
     conn: Connection<S>,
-) -> Result<(Connection<S>, Owner, Option<Ballot>), (OpenFault, S)>
+) -> Result<(Connection<S>, Owner, Numbers), (OpenFault, S)>
     ensures tables { IfOk result (λ r. HasCleanDisk (state S.Store r.0) → (state S.Store conn).now.schema ≡ schema_of Version.Third
         → FindsFor S.Store r.1 conn r.0 r.2) }
     ensures clean { IfOk result (λ r. doubt (state S.Store conn).is_clean ≤ doubt (state S.Store r.0).is_clean) }
@@ -158,18 +160,18 @@ fn reread_owned<S: Alter + Drop>(
         Err(fault) => return Err((fault, again.into_store())),
     }
     match examined_owned(alloc, &mut again) {
-        Ok((owner, highest)) => Ok((again, owner, highest)),
+        Ok((owner, numbers)) => Ok((again, owner, numbers)),
         Err(fault) => Err((fault, again.into_store())),
     }
 }
 
-/// The connection over the tables of version 3, which it had, where they are this owner's, and the
-/// promised ballot.
+/// The connection over the tables of version 3, which it had, where they are this owner's, and their
+/// numbers.
 fn claimed<S: Alter + Drop>(
     alloc: Global,
     conn: Connection<S>,
     owner: Owner,
-) -> Result<(Connection<S>, Option<Ballot>), (OwnerFault, S)>
+) -> Result<(Connection<S>, Numbers), (OwnerFault, S)>
     ensures tables { IfOk result (λ r. HasCleanDisk (state S.Store r.0) → (state S.Store conn).now.schema ≡ schema_of Version.Third
         → FindsFor S.Store owner conn r.0 r.1) }
     ensures clean { IfOk result (λ r. doubt (state S.Store conn).is_clean ≤ doubt (state S.Store r.0).is_clean) }
@@ -177,23 +179,23 @@ fn claimed<S: Alter + Drop>(
     ensures due { IfErr result (λ e. IsClean (S.Store.view e.1) → (state S.Store conn).now.schema ≡ schema_of Version.Third → (is_new : _)
         → IsDue S.Store owner is_new conn e.0) }
 {
-    let (again, found, highest) = match reread_owned(alloc, conn) {
+    let (again, found, numbers) = match reread_owned(alloc, conn) {
         Ok(found) => found,
         Err((fault, store)) => return Err((OwnerFault::Open(fault), store)),
     };
     match differs(found, owner) {
-        None => Ok((again, highest)),
+        None => Ok((again, numbers)),
         Some(fault) => Err((fault, again.into_store())),
     }
 }
 
-/// The connection with this owner's tables tested or made, and the promised ballot.
+/// The connection with this owner's tables tested or made, and their numbers.
 fn prepared_for<S: Alter + Drop>(
     alloc: Global,
     mut conn: Connection<S>,
     owner: &Owner,
     is_new: bool,
-) -> Result<(Connection<S>, Option<Ballot>), (OwnerFault, S)>
+) -> Result<(Connection<S>, Numbers), (OwnerFault, S)>
     ensures tables { IfOk result (λ r. HasCleanDisk (state S.Store r.0) → PreparesFor S.Store owner.now is_new conn r.0 r.1) }
     ensures clean { IfOk result (λ r. doubt (state S.Store conn).is_clean ≤ doubt (state S.Store r.0).is_clean) }
     ensures whole { IfErr result (λ e. IsClean (S.Store.view e.1) → (db : Trees) → S.Store.recovers e.1 db → IsLeftAs S.Store owner.now is_new conn db) }
@@ -216,7 +218,7 @@ fn prepared_for<S: Alter + Drop>(
             return Err((OwnerFault::Blank, conn.into_store()));
         }
         return match acceptor_store_parts::make_owned_tables(&mut conn, *owner) {
-            Ok(()) => Ok((conn, None)),
+            Ok(()) => Ok((conn, Numbers::none())),
             Err(stop) => Err((OwnerFault::Open(stopped(stop)), conn.into_store())),
         };
     }
@@ -227,12 +229,12 @@ fn prepared_for<S: Alter + Drop>(
 }
 
 /// The connection over this owner's tables, where it had those of an older version or this owner's,
-/// and the promised ballot.
+/// and their numbers.
 fn adopted<S: Alter + Drop>(
     alloc: Global,
     conn: Connection<S>,
     owner: &Owner,
-) -> Result<(Connection<S>, Option<Ballot>), (OwnerFault, S)>
+) -> Result<(Connection<S>, Numbers), (OwnerFault, S)>
     ensures tables { IfOk result (λ r. HasCleanDisk (state S.Store r.0) → AdoptsFor S.Store owner.now conn r.0 r.1) }
     ensures clean { IfOk result (λ r. doubt (state S.Store conn).is_clean ≤ doubt (state S.Store r.0).is_clean) }
     ensures whole { IfErr result (λ e. IsClean (S.Store.view e.1) → (db : Trees) → S.Store.recovers e.1 db → IsLeftBefore S.Store owner.now conn db) }
@@ -260,7 +262,7 @@ fn adopted<S: Alter + Drop>(
     }
 }
 
-impl<S: Alter + Drop> SqlRecords<S> {
+impl<S: OpensAnew> SqlRecords<S> {
     /// The records of a node that is one of these members, over the connection, in tables of version
     /// 3. In a database without tables they are made, in one transaction, where it may be new.
     ///
@@ -306,9 +308,10 @@ impl<S: Alter + Drop> SqlRecords<S> {
         Ok(SqlRecords {
             alloc,
             conn: Some(found.0),
+            left: None,
             is_up: true,
             is_sure: true,
-            highest: Some(found.1),
+            numbers: found.1,
             failures: 0,
             owner: Some(owner),
         })
@@ -348,9 +351,10 @@ impl<S: Alter + Drop> SqlRecords<S> {
         Ok(SqlRecords {
             alloc,
             conn: Some(found.0),
+            left: None,
             is_up: true,
             is_sure: true,
-            highest: Some(found.1),
+            numbers: found.1,
             failures: 0,
             owner: Some(owner),
         })

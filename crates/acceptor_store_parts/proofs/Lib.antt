@@ -11,7 +11,6 @@ pub mod Rows
 pub mod States
 pub mod Queries
 pub mod Kept
-pub mod FilesLeft
 pub mod InOrder
 pub mod RowsShown
 pub mod Votes

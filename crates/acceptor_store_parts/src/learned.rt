@@ -1,6 +1,6 @@
 //! The learned values, read and written.
 
-ghost use Rattle.std.specs.Prelude.{◌≡◌, ◌==◌, ℕ, List, pos, false, map, filter, IfErr, IfOk, OnOk, OnErr, IsTrue};
+ghost use Rattle.std.specs.Prelude.{◌≡◌, ◌≢◌, ◌==◌, ℕ, List, pos, false, map, filter, IfErr, IfOk, OnOk, OnErr, IsTrue};
 ghost use Rattle.std.specs.List.{AllByRecursion};
 ghost use Rattle.ballots.specs.Rows.{at, rows_from};
 ghost use Rattle.acceptor.specs.Content.{AreRowsFrom, Content};
@@ -13,7 +13,7 @@ ghost use Rattle.acceptor_store_parts.specs.Stops.{LeavesOpen};
 ghost use Rattle.acceptor_store_parts.specs.Tables.{schema_of};
 ghost use Rattle.acceptor_store_parts.specs.Rowids.{ShowsLearned};
 
-use crate::reads::{Unread, bytes_at, ended, place_at};
+use crate::reads::{bytes_at, place_at};
 use crate::{Stop, stop_for};
 use ballots::{MOST_PLACES, Place, Value};
 use sqlite::types::ValueRef;
@@ -21,28 +21,30 @@ use sqlite::{Alter, Connection, Error, Row};
 use std::alloc::Global;
 
 /// The learned value that the row shows.
-fn read_one_learned(alloc: Global, row: &Row) -> Result<(Place, Value), Unread>
+fn read_one_learned(alloc: Global, row: &Row) -> Result<(Place, Value), Stop>
     ensures ok { IfOk result (λ v. row.now ≡ learned_shown v) }
     ensures fits { IfOk result (λ v. IsLearned v) }
-    ensures wrong { IfErr result (λ e. e ≡ Unread.Wrong → (v : ℕ × List ℕ) → IsLearned v → row.now ≡ learned_shown v → ⊥) }
+    ensures told { IfErr result (λ e. e ≢ Stop.Refused) }
+    ensures wrong { IfErr result (λ e. e ≡ Stop.Down → (v : ℕ × List ℕ) → IsLearned v → row.now ≡ learned_shown v → ⊥) }
 {
     if row.column_count() != 2 {
-        return Err(Unread::Wrong);
+        return Err(Stop::Down);
     }
     let Some(place) = place_at(row, 0) else {
-        return Err(Unread::Wrong);
+        return Err(Stop::Down);
     };
     match Value::new(bytes_at(alloc, row, 1)?) {
         Some(value) => Ok((place, value)),
-        None => Err(Unread::Wrong),
+        None => Err(Stop::Down),
     }
 }
 
 /// The learned values that the rows show.
-pub fn read_learned(alloc: Global, rows: &[Row]) -> Result<Vec<(Place, Value)>, Unread>
+pub fn read_learned(alloc: Global, rows: &[Row]) -> Result<Vec<(Place, Value)>, Stop>
     ensures ok { IfOk result (λ learned. rows.now ≡ map learned_shown learned.items) }
     ensures fits { IfOk result (λ learned. AllByRecursion IsLearned learned.items) }
-    ensures wrong { IfErr result (λ e. e ≡ Unread.Wrong → (learned : List (ℕ × List ℕ)) → AllByRecursion IsLearned learned → rows.now ≡ map learned_shown learned → ⊥) }
+    ensures told { IfErr result (λ e. e ≢ Stop.Refused) }
+    ensures wrong { IfErr result (λ e. e ≡ Stop.Down → (learned : List (ℕ × List ℕ)) → AllByRecursion IsLearned learned → rows.now ≡ map learned_shown learned → ⊥) }
 {
     let mut learned = Vec::new(alloc);
     for row in rows {
@@ -126,13 +128,10 @@ pub fn learned_from<S: Alter>(
         Ok(rows) => rows,
         Err(error) => return Err(stop_for(conn, error)),
     };
-    match read_learned(alloc, &rows) {
-        Ok(learned) => Ok(learned),
-        Err(fault) => Err(ended(fault)),
-    }
+    read_learned(alloc, &rows)
 }
 
-fn first_learned(alloc: Global, rows: &[Row]) -> Result<Option<Value>, Unread>
+fn first_learned(alloc: Global, rows: &[Row]) -> Result<Option<Value>, Stop>
     ensures { IfOk result (λ value. (learned : _) → rows.now ≡ map learned_shown learned → value ≡ first_of learned) }
 {
     match rows.first() {
@@ -155,10 +154,7 @@ pub fn learned_row<S: Alter>(
         Ok(rows) => rows,
         Err(error) => return Err(stop_for(conn, error)),
     };
-    match first_learned(alloc, &rows) {
-        Ok(value) => Ok(value),
-        Err(fault) => Err(ended(fault)),
-    }
+    first_learned(alloc, &rows)
 }
 
 fn run_put_learned<S: Alter>(

@@ -9,7 +9,6 @@ mod making;
 mod opening;
 mod owner;
 mod reads;
-mod reopening;
 mod rereading;
 
 ghost use Rattle.std.specs.Prelude.{◌≡◌, ℕ, pos, [], ◌∷◌, IsTrue, IfOk, IfErr, OnOk, OnErr};
@@ -35,13 +34,11 @@ pub use learned::{
 pub use making::{is_blank, make_owned_tables, make_tables, own, raise_version};
 pub use opening::{both_numbers, read_numbers, version_of};
 pub use owner::{Owner, bytes_of, owner_of, version_of_owner};
-pub use reads::{
-    Unread, query_all_votes, query_numbers, query_votes, read_votes, vote, votes_from,
-};
-pub use reopening::{open_again, reopened};
+pub use reads::{query_all_votes, query_numbers, query_votes, read_votes, vote, votes_from};
 pub use rereading::{are_in_order, reread};
 use sqlite::types::ValueRef;
-use sqlite::{Alter, Connection, Error, ErrorCode, Row};
+use sqlite::{Alter, Connection, Error, ErrorCode};
+use std::alloc::{AllocError, AllocFailed};
 
 /// What tables there are: those of ballots and votes alone in the first version, that of learned
 /// values beside them in the second, and in the third that of facts, which tells the owner.
@@ -65,32 +62,6 @@ fn signed_place(place: Place) -> i64
     place.number() as i64
 }
 
-fn find_tried<S: Alter>(conn: &mut Connection<S>) -> Result<Row, Error>
-    ensures value { HasCleanDisk (state S.Store conn.new) → IfOk result (λ row. (c : Content) → Serves (state S.Store conn.old) c → row ≡ Int (pos c.tried) ∷ []) }
-    ensures ok { HasCleanDisk (state S.Store conn.new) → OnOk result (Stays (state S.Store conn.old) (state S.Store conn.new)) }
-    ensures err { HasCleanDisk (state S.Store conn.new) → IsTrue (state S.Store conn.new).is_open → StillServes (state S.Store conn.old) (state S.Store conn.new) }
-    ensures survives { Survives (state S.Store conn.old) (state S.Store conn.new) (λ _. DoesNotServe (state S.Store conn.old)) }
-{
-    conn.query_row("SELECT number FROM ballot WHERE id = 0", &[])
-}
-
-fn number_in(row: &Row) -> Result<i64, Error>
-    ensures { IfOk result (λ n. (t : ℕ) → row.now ≡ Int (pos t) ∷ [] → n ≡ pos t) }
-{
-    row.get(0)
-}
-
-/// The number of the last ballot tried.
-fn read_tried<S: Alter>(conn: &mut Connection<S>) -> Result<i64, Error>
-    ensures value { HasCleanDisk (state S.Store conn.new) → IfOk result (λ n. (c : Content) → Serves (state S.Store conn.old) c → n ≡ pos c.tried) }
-    ensures ok { HasCleanDisk (state S.Store conn.new) → OnOk result (Stays (state S.Store conn.old) (state S.Store conn.new)) }
-    ensures err { HasCleanDisk (state S.Store conn.new) → IsTrue (state S.Store conn.new).is_open → StillServes (state S.Store conn.old) (state S.Store conn.new) }
-    ensures survives { Survives (state S.Store conn.old) (state S.Store conn.new) (λ _. DoesNotServe (state S.Store conn.old)) }
-{
-    let row = find_tried(conn)?;
-    number_in(&row)
-}
-
 /// Whether the connection is open. It runs no statement.
 fn is_up<S: Alter>(conn: &mut Connection<S>) -> bool
     ensures up { HasCleanDisk (state S.Store conn.new) → IsTrue result → IsUnchanged (state S.Store conn.old) (state S.Store conn.new) }
@@ -107,8 +78,28 @@ pub enum Stop {
     Memory,
     /// The store failed, and the connection serves what it did.
     Refused,
-    /// The connection is shut.
+    /// The connection is shut, or has a row that no node wrote.
     Down,
+}
+
+impl From<AllocError> for Stop {
+    ghost use Rattle.acceptor_store_parts.specs.declared.Stop.TheVariants.{Memory};
+
+    ghost from_gives = { λ _ e. e ≡ Memory };
+
+    fn from(_fault: AllocError) -> Stop {
+        Stop::Memory
+    }
+}
+
+impl<T: Drop> From<AllocFailed<T>> for Stop {
+    ghost use Rattle.acceptor_store_parts.specs.declared.Stop.TheVariants.{Memory};
+
+    ghost from_gives = { λ _ e. e ≡ Memory };
+
+    fn from(_fault: AllocFailed<T>) -> Stop {
+        Stop::Memory
+    }
 }
 
 /// How the call ended that gave this error.
@@ -122,19 +113,6 @@ pub fn stop_for<S: Alter>(conn: &mut Connection<S>, error: Error) -> Stop
     match error {
         Error::SqliteFailure(ErrorCode::OutOfMemory) => Stop::Memory,
         _ => Stop::Refused,
-    }
-}
-
-/// The number of the last ballot tried, or how the call ended.
-pub fn tried<S: Alter>(conn: &mut Connection<S>) -> Result<i64, Stop>
-    ensures value { HasCleanDisk (state S.Store conn.new) → IfOk result (λ n. (c : Content) → Serves (state S.Store conn.old) c → n ≡ pos c.tried) }
-    ensures ok { HasCleanDisk (state S.Store conn.new) → OnOk result (StillServes (state S.Store conn.old) (state S.Store conn.new)) }
-    ensures err { HasCleanDisk (state S.Store conn.new) → IfErr result (λ e. LeavesOpen e → StillServes (state S.Store conn.old) (state S.Store conn.new)) }
-    ensures survives { Survives (state S.Store conn.old) (state S.Store conn.new) (λ _. DoesNotServe (state S.Store conn.old)) }
-{
-    match read_tried(conn) {
-        Ok(number) => Ok(number),
-        Err(error) => Err(stop_for(conn, error)),
     }
 }
 

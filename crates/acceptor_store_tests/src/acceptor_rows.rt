@@ -1,8 +1,8 @@
 use acceptor::{Accepted, Prepared, Records, accept, prepare};
-use acceptor_store::{OpenFault, SqlRecords, open_files};
+use acceptor_store::open_files;
 use ballots::{Ballot, Bytes, Place, Value};
-use sqlite::{FileStore, Files};
-use sqlite_disk::Memory;
+use sqlite::Files;
+use sqlite_disk::{Disk, Memory};
 use std::alloc::Global;
 use std::process::Abort;
 use std::test::Fail;
@@ -12,10 +12,6 @@ fn no_files(alloc: Global) -> Files<Memory> {
         log: Memory::new(alloc),
         db: Memory::new(alloc),
     }
-}
-
-fn fresh(alloc: Global) -> Result<SqlRecords<FileStore<Memory>>, OpenFault> {
-    open_files(alloc, no_files(alloc))
 }
 
 fn value(rt: &impl Abort, alloc: Global, byte: u8) -> Result<Value, Fail> {
@@ -116,8 +112,7 @@ fn write<R: Records>(rt: &impl Abort, alloc: Global, records: &mut R) -> Result<
 }
 
 /// Whether these are the tried and the promised ballot, the ballot of the vote at place 2, and how
-/// many
-/// votes there are.
+/// many votes there are.
 fn holds<R: Records>(
     rt: &impl Abort,
     records: &mut R,
@@ -211,10 +206,20 @@ fn passes<R: Records + Drop>(
     }
 }
 
-/// Whether fresh records pass. No test holds them itself: the proof of what holds a value of so
-/// large a type is dear.
+/// Whether the records in these files pass. What holds records is generic over the disk: at one
+/// disk the proof is dear.
+fn passes_over<D: Disk + Drop>(
+    rt: &impl Abort,
+    alloc: Global,
+    files: Files<D>,
+    trial: Trial,
+) -> Result<bool, Fail> {
+    passes(rt, alloc, open_files(alloc, files)?, trial)
+}
+
+/// Whether fresh records pass.
 fn passes_afresh(rt: &impl Abort, alloc: Global, trial: Trial) -> Result<bool, Fail> {
-    passes(rt, alloc, fresh(alloc)?, trial)
+    passes_over(rt, alloc, no_files(alloc), trial)
 }
 
 #[test]

@@ -2,13 +2,13 @@
 
 use acceptor::Records;
 use acceptor_store::SqlRecords;
-use acceptor_store_parts::open_again;
 use ballots::{Ballot, Place, Votes};
 use sqlite::{Alter, Connection, Error, FileStore, Files, Options};
 use sqlite_disk::{Crash, Disk, Fuse, Memory};
 use std::alloc::Global;
 use std::io;
 use std::test::Fail;
+use store_anew::open_again;
 
 pub type Fused = Fuse<Memory>;
 
@@ -107,8 +107,7 @@ pub fn found(alloc: Global, bodies: &Bodies, which: (bool, bool)) -> io::Result<
 }
 
 /// A connection to the files, or the files again. Each commit copies the log into the database.
-/// With few pages in memory it
-/// is opened soon.
+/// With few pages in memory it is opened soon.
 pub fn connected<D: Disk + Drop>(
     alloc: Global,
     files: Files<D>,
@@ -119,7 +118,26 @@ pub fn connected<D: Disk + Drop>(
         checkpoint_frames: 1,
         seed: 1,
     };
-    open_again(alloc, files, options)
+    match open_again(alloc, files, options) {
+        Ok(conn) => Ok(conn),
+        Err((_, files)) => Err(files),
+    }
+}
+
+/// A connection to the files.
+pub fn linked<D: Disk + Drop>(
+    alloc: Global,
+    files: Files<D>,
+) -> Result<Connection<FileStore<D>>, Fail> {
+    match connected(alloc, files) {
+        Ok(conn) => Ok(conn),
+        Err(_) => Err(Fail::new("no connection")),
+    }
+}
+
+/// A connection to a database without tables.
+pub fn blank(alloc: Global) -> Result<Connection<FileStore<Fused>>, Fail> {
+    linked(alloc, stopping(alloc, (&[], &[]), Stopped::Log, u64::MAX)?)
 }
 
 /// Runs these texts.

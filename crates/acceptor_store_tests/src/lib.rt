@@ -8,6 +8,8 @@ mod files;
 #[cfg(test)]
 mod owners;
 #[cfg(test)]
+mod slips;
+#[cfg(test)]
 mod stops;
 #[cfg(test)]
 mod tables;

@@ -1,8 +1,8 @@
 //! Records that have an owner, also where a file stops as they are made or adopted.
 
 use crate::files::{
-    Bodies, FOUND, Fused, Stopped, closed, connected, content, found, is_again, left_behind, run,
-    stopping,
+    Bodies, FOUND, Fused, Stopped, blank, closed, connected, content, found, is_again, left_behind,
+    run, stopping,
 };
 use acceptor::Records;
 use acceptor_store::{OpenFault, OwnerFault, SqlRecords};
@@ -11,6 +11,7 @@ use sqlite::{Alter, Connection, FileStore, Files};
 use sqlite_disk::Disk;
 use std::alloc::Global;
 use std::test::Fail;
+use store_anew::OpensAnew;
 
 /// Tables of version 2: tried 16, the promised row 18, and a vote of ballot 17 for the byte 65 at
 /// place 1.
@@ -40,7 +41,7 @@ enum Way {
     Adopt,
 }
 
-fn opened_by<S: Alter + Drop>(
+fn opened_by<S: OpensAnew>(
     alloc: Global,
     conn: Connection<S>,
     way: Way,
@@ -61,7 +62,7 @@ fn node() -> Result<NodeId, Fail> {
     Ok(NodeId::new(1).ok_or("a node")?)
 }
 
-fn fault_of<S: Alter + Drop>(
+fn fault_of<S: OpensAnew>(
     alloc: Global,
     conn: Connection<S>,
     way: Way,
@@ -74,7 +75,7 @@ fn fault_of<S: Alter + Drop>(
 
 /// How records open over a database that these texts made.
 fn opened(alloc: Global, texts: &[&str], way: Way) -> Result<Option<OwnerFault>, Fail> {
-    let mut conn = Connection::open_in_memory(alloc)?;
+    let mut conn = blank(alloc)?;
     run(&mut conn, texts)?;
     fault_of(alloc, conn, way)
 }
@@ -209,7 +210,11 @@ fn kinds_of(
 }
 
 /// Opens the files: whether that went through, and the files again.
-fn tried(alloc: Global, files: Files<Fused>, way: Way) -> Result<(bool, Files<Fused>), Fail> {
+fn tried<D: Disk + Drop>(
+    alloc: Global,
+    files: Files<D>,
+    way: Way,
+) -> Result<(bool, Files<D>), Fail> {
     let conn = match connected(alloc, files) {
         Ok(conn) => conn,
         Err(files) => return Ok((false, files)),
@@ -299,18 +304,28 @@ fn written<R: Records>(records: &mut R) -> Result<(), Fail> {
     Ok(records.reopen()?)
 }
 
+/// What the records in the files hold that are adopted, and reopened after a write. The files come
+/// back.
+fn adopted_and_written<D: Disk + Drop>(
+    alloc: Global,
+    files: Files<D>,
+) -> Result<(String, Files<D>), Fail> {
+    let Ok(mut records) = records_in(alloc, files, Way::Adopt)? else {
+        return Err(Fail::new("it isn't adopted"));
+    };
+    written(&mut records)?;
+    let text = content(alloc, &mut records)?;
+    Ok((text, closed(records)?))
+}
+
 /// Records that have an owner keep what they wrote, and it, over a reopen.
 #[test]
 fn owned_records_are_reopened(rt: HostRuntime) -> Result<(), Fail> {
     let bodies = bodies_of(rt.alloc(), SECOND)?;
     let files = found(rt.alloc(), &bodies, (true, true))?;
-    let Ok(mut records) = records_in(rt.alloc(), files, Way::Adopt)? else {
-        return Err(Fail::new("it isn't adopted"));
-    };
-    written(&mut records)?;
-    let text = content(rt.alloc(), &mut records)?;
+    let (text, files) = adopted_and_written(rt.alloc(), files)?;
     assert_eq!(rt; text.as_str(), "25 18 1 17 [65]");
-    let kind = kind_of(rt.alloc(), closed(records)?, "25 18 1 17 [65]")?;
+    let kind = kind_of(rt.alloc(), files, "25 18 1 17 [65]")?;
     assert_eq!(rt; kind, Kind::Owned);
     Ok(())
 }

@@ -1,8 +1,9 @@
-use crate::files::run;
+use crate::files::{blank, run};
 use acceptor_store::{OpenFault, SqlRecords};
-use sqlite::{Alter, Connection, Error};
+use sqlite::Connection;
 use std::alloc::Global;
 use std::test::Fail;
+use store_anew::OpensAnew;
 
 /// Tables of version 1.
 const TABLES: &str =
@@ -15,7 +16,7 @@ const LEARNED: &str =
 const SECOND: &str = "INSERT INTO ballot (id, number) VALUES (2, 2)";
 
 /// How records over the connection open.
-fn fault_of<S: Alter + Drop>(alloc: Global, conn: Connection<S>) -> Option<OpenFault> {
+fn fault_of<S: OpensAnew>(alloc: Global, conn: Connection<S>) -> Option<OpenFault> {
     match SqlRecords::open(alloc, conn) {
         Ok(_) => None,
         Err((fault, _)) => Some(fault),
@@ -23,8 +24,8 @@ fn fault_of<S: Alter + Drop>(alloc: Global, conn: Connection<S>) -> Option<OpenF
 }
 
 /// How records open over a database that these texts made.
-fn opened(alloc: Global, texts: &[&str]) -> Result<Option<OpenFault>, Error> {
-    let mut conn = Connection::open_in_memory(alloc)?;
+fn opened(alloc: Global, texts: &[&str]) -> Result<Option<OpenFault>, Fail> {
+    let mut conn = blank(alloc)?;
     run(&mut conn, texts)?;
     Ok(fault_of(alloc, conn))
 }

@@ -1,8 +1,8 @@
 //! Files of version 1 that are opened, also where a file stops, and learned values that are kept.
 
 use crate::files::{
-    Bodies, FOUND, Fused, Stopped, closed, connected, content, found, is_again, left_behind,
-    opened, run, stopping,
+    Bodies, FOUND, Fused, Stopped, closed, content, found, is_again, left_behind, linked, opened,
+    run, stopping,
 };
 use acceptor::Records;
 use acceptor_store::SqlRecords;
@@ -12,6 +12,7 @@ use sqlite::{Alter, Connection, FileStore, Files};
 use sqlite_disk::Disk;
 use std::alloc::Global;
 use std::test::Fail;
+use store_anew::OpensAnew;
 
 /// Tables of version 1: tried 16, the promised row 18, and a vote of ballot 17 for the byte 65 at
 /// place 1.
@@ -20,16 +21,6 @@ const FIRST: &str =
 
 /// What they hold, of tables of either version.
 const HELD: &str = "16 18 1 17 [65]";
-
-fn linked<D: Disk + Drop>(
-    alloc: Global,
-    files: Files<D>,
-) -> Result<Connection<FileStore<D>>, Fail> {
-    match connected(alloc, files) {
-        Ok(conn) => Ok(conn),
-        Err(_) => Err(Fail::new("no connection")),
-    }
-}
 
 /// The store after this text.
 fn ran<S: Alter + Drop>(mut conn: Connection<S>, text: &str) -> Result<S, Fail> {
@@ -59,10 +50,7 @@ fn first_found(alloc: Global) -> Result<Files<Fused>, Fail> {
     Ok(found(alloc, &bodies, (true, true))?)
 }
 
-fn records_over<S: Alter + Drop>(
-    alloc: Global,
-    conn: Connection<S>,
-) -> Result<SqlRecords<S>, Fail> {
+fn records_over<S: OpensAnew>(alloc: Global, conn: Connection<S>) -> Result<SqlRecords<S>, Fail> {
     match SqlRecords::open(alloc, conn) {
         Ok(records) => Ok(records),
         Err((fault, _)) => Err(Fail::new(format_args!("it doesn't open: {fault}"))),
@@ -138,7 +126,7 @@ fn holds_the_first<R: Records>(alloc: Global, records: &mut R) -> Result<bool, F
 }
 
 /// The records over the connection, and of which version its tables were.
-fn raised<S: Alter + Drop>(
+fn raised<S: OpensAnew>(
     alloc: Global,
     mut conn: Connection<S>,
 ) -> Result<(Version, SqlRecords<S>), Fail> {
@@ -206,14 +194,26 @@ fn records_in<D: Disk + Drop>(
     records_over(alloc, linked(alloc, files)?)
 }
 
+/// Whether the records in the files keep learned values as they are reopened. The files come back.
+fn keeps_learned<D: Disk + Drop>(alloc: Global, files: Files<D>) -> Result<(bool, Files<D>), Fail> {
+    let mut records = records_in(alloc, files)?;
+    learn_two(alloc, &mut records)?;
+    let is_kept = holds_learned(alloc, &mut records)?;
+    Ok((is_kept, closed(records)?))
+}
+
+/// Whether the records in the files hold these learned values.
+fn still_learned<D: Disk + Drop>(alloc: Global, files: Files<D>) -> Result<bool, Fail> {
+    let mut again = records_in(alloc, files)?;
+    holds_learned(alloc, &mut again)
+}
+
 /// Learned values are kept as the records are reopened, and as their files are opened anew.
 #[test]
 fn learned_values_are_kept(rt: HostRuntime) -> Result<(), Fail> {
-    let mut records = records_in(rt.alloc(), first_found(rt.alloc())?)?;
-    learn_two(rt.alloc(), &mut records)?;
-    assert!(rt; holds_learned(rt.alloc(), &mut records)?);
-    let mut again = records_in(rt.alloc(), closed(records)?)?;
-    assert!(rt; holds_learned(rt.alloc(), &mut again)?);
+    let (is_kept, files) = keeps_learned(rt.alloc(), first_found(rt.alloc())?)?;
+    assert!(rt; is_kept);
+    assert!(rt; still_learned(rt.alloc(), files)?);
     Ok(())
 }
 

@@ -2,7 +2,5 @@
 #![tactic(auto)]
 
 mod faulty;
-mod nodes;
 
 pub use faulty::{Failure, Faults, FaultyRecords, Trouble};
-pub use nodes::{FaultyNode, faulty_nodes};

@@ -239,5 +239,8 @@ module _ (l : Lease) where
   pub length_put : (ls : List Lease) → AreGiven ls → 1 ≤ l.sid → l.sid ≤ length ls + 1 → (length ls ≤ length (put_lease l ls)) × (l.sid ≤ length (put_lease l ls))
   length_put ls g one le = let all = length_from 1 ls (runs ls g) one (omega arith) in (all.0, omega (arith, all.1))
 
+  pub most_put : (ls : List Lease) → AreGiven ls → 1 ≤ l.sid → l.sid ≤ length ls + 1 → (most : ℕ) → length ls ≤ most → l.sid ≤ most → length (put_lease l ls) ≤ most
+  most_put ls g one le most few lt = (length_from 1 ls (runs ls g) one (omega arith)).2 most few (omega (arith, lt))
+
   pub few_put : (ls : List Lease) → AreGiven ls → 1 ≤ l.sid → l.sid ≤ length ls + 1 → length ls ≤ last_sid → l.sid ≤ last_sid → length (put_lease l ls) ≤ last_sid
   few_put ls g one le few most = (length_from 1 ls (runs ls g) one (omega arith)).2 last_sid few (omega arith)

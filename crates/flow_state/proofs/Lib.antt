@@ -3,6 +3,7 @@ pub mod Freed
 pub mod Soundness
 pub mod DueTimes
 pub mod DueBounds
+pub mod BySid
 pub mod Noted
 pub mod Places
 pub mod Stored

@@ -1,7 +1,8 @@
 -- What is kept of the flows' due times, and the flows that are due.
 use Rattle.std.proofs.Common.{◌≡◌, ◌≢◌, ℕ, zero, suc, slice_get, ◌+◌, ◌<◌, ◌≤◌, Bool, true, false, cond, not, ◌&&◌, leb, ltb, List, [], ◌∷◌, ◌++◌, map, filter, Option, Some, None, refl, sym, ap, subst, ◌∙◌, nat_eq, arith, inl, inr}
 use Rattle.std.specs.Prelude.{IsSome, IfSome, IfNone, option_to_list}
-use Rattle.std.specs.Map.{set_value, lookup, remove_entry}
+use Rattle.std.specs.List.{AllByRecursion, IsDistinct}
+use Rattle.std.specs.Map.{set_value, lookup, remove_entry, keys_of}
 use Rattle.std.proofs.lemmas.Bool.{eqb-true}
 use Rattle.flow_state.specs.declared.dues.Dues.{Dues}
 use Rattle.flow_state.specs.declared.flow.Flow.{Flow}
@@ -101,6 +102,19 @@ keys_rise es low high all r = subst (λ (ns : List ℕ). Rise low ns high) (sym 
 
 pub keys_all : (es : Flows) (leases : ℕ) → AreStored es → Rise 0 (sids (rows es)) leases → leases ≤ last_sid → Rise 0 (keys es) last_sid
 keys_all es leases all r few = rise_higher (keys es) 0 leases last_sid few (keys_rise es 0 leases all r)
+
+distinct : (ns : List ℕ) (low high : ℕ) → Rise low ns high → IsDistinct nat_eq ns
+unfolding IsDistinct
+distinct [] low high r = tt
+distinct (n ∷ ns) low high r = (above ns n high r.2 (omega arith), distinct ns n high r.2)
+  where
+    above : (xs : List ℕ) (mid most : ℕ) → Rise mid xs most → n ≤ mid → AllByRecursion (λ x. nat_eq n x ≡ false) xs
+    above [] mid most s le = tt
+    above (x ∷ xs) mid most s le = let more = s.0 in ((let off : nat_eq n x ≡ false = grind (arith, more, le) in off), above xs x most s.2 (omega (arith, more, le)))
+
+-- and so they are distinct
+pub keys_apart : (es : Flows) (high : ℕ) → AreStored es → Rise 0 (sids (rows es)) high → IsDistinct nat_eq (keys_of es)
+keys_apart es high all r = distinct (keys_of es) 0 high (keys_rise es 0 high all r)
 
 -- what is kept of the SIDs that have a flow stays
 pub noted_there : (ds other : Dues) (es : Flows) → ((sid due : ℕ) → IsSome (lookup (nat_eq sid) es) → IsDueFrom ds sid due → IsDueFrom other sid due) → AreNoted ds es → AreNoted other es

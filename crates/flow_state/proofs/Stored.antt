@@ -6,7 +6,6 @@ use Rattle.std.specs.Option.{option_map, option_map_or}
 use Rattle.std.specs.Map.{set_value, lookup, remove_entry, keys_of}
 use Rattle.std.proofs.lemmas.Bool.{eqb-true}
 use Rattle.std.proofs.lemmas.List.{map-append}
-use Rattle.indexmap.specs.IndexMap.{IsUnique}
 use Rattle.flow_state.specs.declared.flow.Flow.{Flow}
 use Rattle.flow_state.specs.declared.flow.Waiting.{Waiting}
 use Rattle.flow_state.specs.declared.table.ChannelTable.TheInside.{Inside}
@@ -32,8 +31,8 @@ abbrev pub rows : Flows → List FlowRow
 rows es = map (λ e. flow_view e.1) es
 
 -- a stored table by the table that it means
-pub stored_as : (b : Inside) (t : Table) → AreStored b.flows.entries → IsUnique nat_eq b.flows → AreNoted b.dues b.flows.entries → table_view b ≡ t → IsSound t → EndFrom b.first_end b.flows.entries → IsStored b
-stored_as b t flows unique noted is sound ends = record { flows = flows; unique = unique; sound = subst IsSound (sym is) sound; ends = ends; noted = noted }
+pub stored_as : (b : Inside) (t : Table) → AreStored b.flows.entries → length b.leases ≤ b.flows.sids → AreNoted b.dues b.flows.entries → table_view b ≡ t → IsSound t → EndFrom b.first_end b.flows.entries → IsStored b
+stored_as b t flows enough noted is sound ends = record { flows = flows; enough = enough; sound = subst IsSound (sym is) sound; ends = ends; noted = noted }
 
 pub with_parts : (t : Table) (fs gs : List FlowRow) (vs ws : List Waiting) → fs ≡ gs → vs ≡ ws → record t { flows = fs; waiting = vs } ≡ record t { flows = gs; waiting = ws }
 with_parts t fs gs vs ws f w = cc
@@ -94,6 +93,12 @@ lent_found (e ∷ es) sid all =
       | true ↦ ap (λ d. Some (record e.1 { due = d })) (sym all.0.due)
       | false ↦ lent_found es sid all.1
     ]
+
+-- and so is a flow by its number
+pub lent_one : (es : Flows) (k : ℕ) → AreStored es → option_map (λ e. e.1) (slice_get es k) ≡ option_map lent_flow (option_map (λ e. flow_view e.1) (slice_get es k))
+lent_one [] k all = refl
+lent_one (e ∷ es) zero all = ap (λ d. Some (record e.1 { due = d })) all.0.due
+lent_one (e ∷ es) (suc k) all = lent_one es k all.1
 
 -- no flow stands under a SID that no row has
 pub none_found : (es : Flows) (sid : ℕ) → AreStored es → ((f : FlowRow) → Has (rows es) f → eqb sid f.sid ≡ false) → lookup (nat_eq sid) es ≡ None

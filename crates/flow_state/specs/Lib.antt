@@ -4,6 +4,7 @@ pub mod Refusals
 pub mod Changes
 pub mod View
 pub mod Sound
+pub mod StoredFlows
 pub mod StoredTable
 pub mod StoredLeases
 pub mod StoredDues

@@ -43,6 +43,10 @@ is_lease_from start modem tag l = (l.modem == modem) && (l.tag == tag) && not (n
 abbrev pub IsBound : List Lease → (block bound : ℕ) → Type 0
 IsBound ls block bound = (p : ℕ) (l : Lease) → 128 * block ≤ p → p < 128 * block + 128 → slice_get ls p ≡ Some l → bound ≤ l.last
 
+-- no lease of the block that stands before a place ends before this
+abbrev pub IsBoundBefore : List Lease → (place block bound : ℕ) → Type 0
+IsBoundBefore ls place block bound = (p : ℕ) (l : Lease) → 128 * block ≤ p → p < 128 * block + 128 → p < place → slice_get ls p ≡ Some l → bound ≤ l.last
+
 -- each block's time is one before which none of its leases ends
 abbrev pub AreBounds : List Lease → List ℕ → Type 0
 AreBounds ls bounds = (block bound : ℕ) → slice_get bounds block ≡ Some bound → IsBound ls block bound

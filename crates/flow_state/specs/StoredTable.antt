@@ -1,9 +1,8 @@
 -- What is always true of a stored table.
-use Rattle.std.specs.Prelude.{◌≡◌, ℕ, ◌≤◌, nat_eq, nat_lt, Bool, true, false, ◌&&◌, List, Some}
+use Rattle.std.specs.Prelude.{◌≡◌, ℕ, ◌≤◌, nat_eq, nat_lt, Bool, true, false, ◌&&◌, List, length, Some}
 use Rattle.std.specs.List.{AllByRecursion}
 use Rattle.std.specs.Option.{option_map_or}
 use Rattle.std.specs.Map.{lookup}
-use Rattle.indexmap.specs.IndexMap.{IsUnique}
 use Rattle.flow_state.specs.declared.flow.Flow.{Flow}
 use Rattle.flow_state.specs.declared.table.ChannelTable.TheInside.{Inside}
 use Rattle.flow_state.specs.declared.dues.Dues.{Dues}
@@ -29,9 +28,10 @@ pub record IsStoredFlow (e : ℕ × Flow) : Type 0 where
 abbrev pub EndFrom : ℕ → List (ℕ × Flow) → Type 0
 EndFrom first es = AllByRecursion (λ e. first ≤ e.1.last) es
 
+-- flows stand under the leases of their SIDs, and each SID that was given has a place for one
 pub record IsStored (a : Inside) : Type 0 where
   pub flows : AllByRecursion IsStoredFlow a.flows.entries
-  pub unique : IsUnique nat_eq a.flows
+  pub enough : length a.leases ≤ a.flows.sids
   pub sound : IsSound (table_view a)
   pub ends : EndFrom a.first_end a.flows.entries
   pub noted : AreNoted a.dues a.flows.entries

@@ -1,8 +1,8 @@
 //! Leases in blocks of 128 places, each block with a time before which none of its leases ends.
 
-ghost use Rattle.std.specs.Prelude.{◌≡◌, ◌+◌, ◌*◌, ◌<◌, ◌≤◌, length, find, nat_lt, vec_len, vec_capacity, IfNone, IfSome};
+ghost use Rattle.std.specs.Prelude.{◌≡◌, ℕ, ◌+◌, ◌*◌, ◌/◌, ◌<◌, ◌≤◌, length, find, slice_get, Some, nat_lt, vec_len, vec_capacity, IfNone, IfSome};
 ghost use Rattle.flow_state.specs.Limits.{last_sid};
-ghost use Rattle.flow_state.specs.StoredLeases.{IsBound, AreBounds, IsFirstOver, put_at};
+ghost use Rattle.flow_state.specs.StoredLeases.{IsBound, IsBoundBefore, AreBounds, IsFirstOver, put_at};
 
 use crate::flow::Lease;
 
@@ -23,7 +23,7 @@ pub(crate) fn put_at<T: Drop>(items: &mut Vec<T>, place: usize, item: T)
 }
 
 /// A time before which no lease of the block ends: the first one at which one does.
-pub(crate) fn first_end_of(latest: &[Lease], block: usize) -> u64
+fn first_end_of(latest: &[Lease], block: usize) -> u64
     requires { block ≤ last_sid }
     ensures { IsBound latest.now block result }
 {
@@ -34,6 +34,26 @@ pub(crate) fn first_end_of(latest: &[Lease], block: usize) -> u64
         first = first.min(latest[place].last);
     }
     first
+}
+
+/// A time before which no lease of the block of a place ends, once a lease is put there. Behind the last one, as with a
+/// new SID, the others aren't looked through: the block's time is one of theirs.
+pub(crate) fn first_end_at(latest: &[Lease], first_ends: &[u64], place: usize) -> u64
+    requires there { place < length latest.now }
+    requires few { place ≤ last_sid }
+    requires enough { place ≤ 128 * length first_ends.now }
+    requires bounds { (bound : ℕ) → slice_get first_ends.now (place / 128) ≡ Some bound → IsBoundBefore latest.now place (place / 128) bound }
+    ensures { IsBound latest.now (place / 128) result }
+{
+    let block = place / BLOCK;
+    if place + 1 < latest.len() {
+        return first_end_of(latest, block);
+    }
+    let end = latest[place].last;
+    match first_ends.get(block) {
+        Some(first) => end.min(*first),
+        None => end,
+    }
 }
 
 /// The first lease of the block that ends before a start.

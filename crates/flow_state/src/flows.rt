@@ -78,8 +78,7 @@ impl Flows {
         at_channel::add_flow(&mut self.tables, ch, modem, tag, last, kind)
     }
 
-    /// Drops a flow and its waiting request. The lease of its SID goes on to its end. It takes no memory, and
-    /// takes time for the channel's flows above it, which move down by one place.
+    /// Drops a flow and its waiting request. The lease of its SID goes on to its end. It takes no memory.
     pub fn drop_flow(&mut self, ch: u8, sid: u16) -> Result<(), Refusal>
         ensures ok { OnOk result ((drop_flow_refusal self.old ch sid ≡ None) × (self.new ≡ without_flow self.old ch sid)) }
         ensures err { IfErr result (λ refusal. (drop_flow_refusal self.old ch sid ≡ Some refusal) × (self.new ≡ self.old)) }
@@ -110,7 +109,7 @@ impl Flows {
         }
     }
 
-    /// The channel's flow number k, by SID, from 0. Its kind is within the limits.
+    /// The channel's flow number k, by SID, from 0. Its kind is within the limits. It takes time for the SIDs below.
     pub fn flow(&self, ch: u8, k: usize) -> Option<&Flow>
         ensures row { option_copied result ≡ flow_at self.now ch k }
         ensures good { IfSome result (λ flow. IsTrue (is_good_kind flow.now.kind)) }

@@ -3,7 +3,7 @@ ghost use Rattle.flow_state.specs.Limits.{last_sid};
 ghost use Rattle.flow_state.specs.Rows.{Table, lease_of, free_sid, first_of, put_lease};
 ghost use Rattle.flow_state.specs.StoredLeases.{next_of};
 
-use crate::blocks::{BLOCK, first_end_of, first_over, put_at};
+use crate::blocks::{BLOCK, first_end_at, first_over, put_at};
 use crate::flow::Lease;
 use crate::holders::{forget_before, is_after, later_end, lease_at, named_lease};
 use crate::limits::LAST_SID;
@@ -116,7 +116,7 @@ impl Leases {
         let before = lease_at(&self.latest, at);
         forget_before(&mut self.names, place, before, lease);
         put_at(&mut self.latest, at, lease);
-        let first_end = first_end_of(&self.latest, block);
+        let first_end = first_end_at(&self.latest, &self.first_ends, at);
         put_at(&mut self.first_ends, block, first_end);
         Ok(())
     }

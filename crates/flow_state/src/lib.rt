@@ -3,6 +3,7 @@
 
 mod at_channel;
 mod blocks;
+mod by_sid;
 mod channel;
 mod dues;
 mod flow;

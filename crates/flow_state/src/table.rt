@@ -1,35 +1,33 @@
 ghost use Rattle.std.specs.Prelude.{◌≡◌, ℕ, List, map, length, option_to_list, ◌∷◌, ◌++◌, ◌==◌, not, filter, if◌then◌else◌, is_some, slice_get, Some, None, IsOk, IsTrue, IsSome, OnErr, IfOk, OnOk, IfErr, IfSome, IfNone, nat_eq, nat_le, ◌<◌, ◌≤◌};
 ghost use Rattle.std.specs.Fn.{CalledAt};
 ghost use Rattle.std.specs.List.Retain.{IsFiltered};
-ghost use Rattle.std.specs.List.Sorted.{IsNonDecreasingBy};
-ghost use Rattle.std.specs.Map.{set_value};
+ghost use Rattle.std.specs.Map.{lookup};
 ghost use Rattle.std.specs.Option.{option_copied, option_map};
-ghost use Rattle.indexmap.specs.IndexMap.{get, spare, IsUnique};
 ghost use Rattle.flow_state.specs.Limits.{IsDueTime, is_good_kind, last_sid, most_waiting};
 ghost use Rattle.flow_state.specs.Sound.{IsSound, Rise};
 ghost use Rattle.flow_state.specs.Rows.{FlowRow, lent_flow, due_flows, flow_of, waits, without_request, free_sid, lease_of};
 ghost use Rattle.flow_state.specs.Refusals.{Refuses, is_good_last, table_flow_refusal, table_drop_refusal, table_request_refusal, is_busy};
-ghost use Rattle.flow_state.specs.StoredTable.{with_sent, with_next_due, is_ended_in, EndFrom, AreNoted, is_due_stored};
+ghost use Rattle.flow_state.specs.StoredTable.{is_ended_in, EndFrom, AreNoted, is_due_stored};
 ghost use Rattle.flow_state.specs.StoredDues.{IsDueFrom};
 ghost use Rattle.flow_state.specs.Changes.{new_table, lease_for, flow_in_table, add_to_table, drop_in_table, request_in_table, waiting_in_table, due_in_table, close_table};
 
+use crate::by_sid::FlowsBySid;
 use crate::channel::{Channel, ChannelRow};
 use crate::dues::Dues;
 use crate::flow::{Flow, FlowKind, Lease, Waiting};
 use crate::leases::Leases;
 use crate::limits::{LAST_TIME, MOST_WAITING};
 use crate::refusal::Refusal;
-use indexmap::IndexMap;
 use std::alloc::{AllocError, Global};
 use std::marker::Model;
 
-/// All that is kept of a channel. Flows are in the order of their SIDs, and `dues` has a time for each SID before
+/// All that is kept of a channel: its flows stand one below their SIDs, and `dues` has a time for each SID before
 /// which nothing is due for its flow. No flow's lease ends before `first_end`.
 #[derive(Drop)]
 pub struct ChannelTable {
     row: ChannelRow,
     leases: Leases,
-    flows: IndexMap<u16, Flow>,
+    flows: FlowsBySid,
     first_end: u64,
     dues: Dues,
     waiting: Vec<Waiting>,
@@ -60,7 +58,7 @@ impl ChannelTable {
                 ack: 0,
             },
             leases: Leases::new(alloc),
-            flows: IndexMap::new(alloc),
+            flows: FlowsBySid::new(alloc),
             first_end: LAST_TIME,
             dues: Dues::new(alloc),
             waiting: Vec::new(alloc),
@@ -81,17 +79,14 @@ impl ChannelTable {
         ensures good { IfSome result (λ flow. IsTrue (is_good_kind flow.now.kind)) }
         ensures unicast { IfSome result (λ flow. (1 ≤ flow.now.sid) × (flow.now.sid ≤ last_sid)) }
     {
-        match self.flows.get_index(k) {
-            Some((_, flow)) => Some(flow),
-            None => None,
-        }
+        self.flows.nth(k)
     }
 
     /// The flow that has the SID.
     pub fn flow_of(&self, sid: u16) -> Option<&Flow>
         ensures { option_copied result ≡ option_map lent_flow (flow_of self.now sid) }
     {
-        find_flow(&self.flows, sid)
+        self.flows.get(sid)
     }
 
     /// Copies the flows of unsolicited grants or polls that are due before an end, by SID, over what is there. It
@@ -126,13 +121,13 @@ impl ChannelTable {
         ensures ok { OnOk result (self.new ≡ add_to_table self.old lease kind) }
         ensures err { OnErr result (self.new ≡ self.old) }
     {
-        self.flows.reserve(1)?;
+        self.flows.reserve()?;
         self.dues.make_room(lease.sid)?;
         self.leases.put(lease)?;
         self.first_end = self.first_end.min(lease.last);
         let flow = Flow::new(lease, kind);
         self.dues.set(lease.sid, flow.due_from());
-        put_flow(&mut self.flows, lease.sid, flow);
+        self.flows.add(lease.sid, flow);
         Ok(())
     }
 
@@ -180,26 +175,24 @@ impl ChannelTable {
         }
     }
 
-    /// Drops a flow and its waiting request. The flows above it move down by one place.
+    /// Drops a flow and its waiting request.
     pub(crate) fn drop_flow(&mut self, sid: u16) -> Result<(), Refusal>
         ensures ok { OnOk result ((table_drop_refusal self.old sid ≡ None) × (self.new ≡ drop_in_table self.old sid)) }
         ensures err { IfErr result (λ refusal. (table_drop_refusal self.old sid ≡ Some refusal) × (self.new ≡ self.old)) }
     {
-        match self.flows.shift_remove(&sid) {
-            Some(_) => {
-                self.dues.forget(sid);
-                self.waiting.retain(|w| w.sid != sid);
-                Ok(())
-            }
-            None => Err(Refusal::NoFlow),
+        if !self.flows.remove(sid) {
+            return Err(Refusal::NoFlow);
         }
+        self.dues.forget(sid);
+        self.waiting.retain(|w| w.sid != sid);
+        Ok(())
     }
 
     /// The first refusal of a request for n minislots that was sent at a time.
     fn request_refusal(&self, sid: u16, n: u16, sent: u64) -> Option<Refusal>
         ensures { result ≡ table_request_refusal self.now sid n sent }
     {
-        match find_flow(&self.flows, sid) {
+        match self.flows.get(sid) {
             Some(flow) => flow.request_refusal(n, sent, self.is_busy(sid)),
             None => Some(Refusal::NoFlow),
         }
@@ -221,7 +214,7 @@ impl ChannelTable {
             return Err(refusal);
         }
         self.waiting.push(Waiting { sid, n, sent })?;
-        note_sent(&mut self.flows, sid, sent);
+        self.flows.note_sent(sid, sent);
         Ok(())
     }
 
@@ -232,7 +225,7 @@ impl ChannelTable {
         ensures table { self.new ≡ due_in_table self.old sid due }
     {
         self.dues.set(sid, due);
-        note_due(&mut self.flows, sid, due)
+        self.flows.note_due(sid, due)
     }
 
     /// Does a request of the SID wait?
@@ -278,43 +271,16 @@ impl ChannelTable {
     }
 }
 
-/// The flow of a SID. Where no flow of a lower SID is gone, it stands at the place one below its SID.
-fn find_flow(flows: &IndexMap<u16, Flow>, sid: u16) -> Option<&Flow>
-    requires { Rise 0 (map (λ e. e.0) flows.now.entries) last_sid }
-    ensures { option_copied result ≡ get nat_eq flows.now sid }
-{
-    if let Some((other, flow)) = flows.get_index(usize::from(sid.saturating_sub(1))) {
-        if *other == sid {
-            return Some(flow);
-        }
-    }
-    flows.get(&sid)
-}
-
-/// Puts a flow in its place by SID. No flow has the SID, and there is room for one.
-fn put_flow(flows: &mut IndexMap<u16, Flow>, sid: u16, flow: Flow)
-    requires room { 0 < spare flows.old }
-    requires new { get nat_eq flows.old sid ≡ None }
-    requires rising { IsNonDecreasingBy (λ e. e.0) flows.old.entries }
-    ensures put { flows.new.entries ≡ filter (λ e. nat_le e.0 sid) flows.old.entries ++ (sid, flow) ∷ filter (λ e. not (nat_le e.0 sid)) flows.old.entries }
-    ensures unique { IsUnique nat_eq flows.new }
-{
-    let place = flows.partition_point(|other, _| *other <= sid);
-    let put = flows.shift_insert(place, sid, flow);
-    prove!(put.is_ok());
-}
-
 /// Copies the flow of a SID, where something comes by itself for it before an end.
 fn copy_if_due(
-    flows: &IndexMap<u16, Flow>,
+    flows: &FlowsBySid,
     sid: u16,
     end: u64,
     copied: &mut Vec<Flow>,
 ) -> Result<(), AllocError>
-    requires { Rise 0 (map (λ e. e.0) flows.now.entries) last_sid }
-    ensures { OnOk result (copied.new.items ≡ copied.old.items ++ filter (is_due_stored end) (option_to_list (get nat_eq flows.now sid))) }
+    ensures { OnOk result (copied.new.items ≡ copied.old.items ++ filter (is_due_stored end) (option_to_list (lookup (nat_eq sid) flows.now.entries))) }
 {
-    if let Some(flow) = find_flow(flows, sid) {
+    if let Some(flow) = flows.get(sid) {
         if flow.kind.is_timed() && flow.due < end {
             copied.push(*flow)?;
         }
@@ -325,7 +291,7 @@ fn copy_if_due(
 /// Copies the flows for which something comes by itself before an end, in order, over what is there.
 fn copy_due(
     dues: &Dues,
-    flows: &IndexMap<u16, Flow>,
+    flows: &FlowsBySid,
     end: u64,
     copied: &mut Vec<Flow>,
 ) -> Result<(), AllocError>
@@ -343,28 +309,28 @@ fn copy_due(
 }
 
 /// Forgets the due times of SIDs that have no flow.
-fn forget_absent(dues: &mut Dues, flows: &IndexMap<u16, Flow>)
-    ensures { (sid due : ℕ) → IsSome (get nat_eq flows.now sid) → IsDueFrom dues.old sid due → IsDueFrom dues.new sid due }
+fn forget_absent(dues: &mut Dues, flows: &FlowsBySid)
+    ensures { (sid due : ℕ) → IsSome (lookup (nat_eq sid) flows.now.entries) → IsDueFrom dues.old sid due → IsDueFrom dues.new sid due }
 {
     for sid in 0..dues.sids() {
-        if !flows.contains_key(&sid) {
+        if flows.get(sid).is_none() {
             dues.forget(sid);
         }
     }
 }
 
 /// Has the flow of this SID a lease that ends before this time?
-fn has_ended(flows: &IndexMap<u16, Flow>, sid: u16, end: u64) -> bool
+fn has_ended(flows: &FlowsBySid, sid: u16, end: u64) -> bool
     ensures { result ≡ is_ended_in flows.now.entries end sid }
 {
-    match flows.get(&sid) {
+    match flows.get(sid) {
         Some(flow) => flow.last < end,
         None => false,
     }
 }
 
 /// Forgets the waiting requests of flows whose leases end before this time.
-fn forget_ended_requests(waiting: &mut Vec<Waiting>, flows: &IndexMap<u16, Flow>, end: u64)
+fn forget_ended_requests(waiting: &mut Vec<Waiting>, flows: &FlowsBySid, end: u64)
     ensures { waiting.new.items ≡ filter (λ w. not (is_ended_in flows.now.entries end w.sid)) waiting.old.items }
 {
     waiting.retain(
@@ -374,75 +340,27 @@ fn forget_ended_requests(waiting: &mut Vec<Waiting>, flows: &IndexMap<u16, Flow>
     );
 }
 
-/// Forgets the flows whose leases end before this time.
-fn forget_ended(flows: &mut IndexMap<u16, Flow>, end: u64)
-    ensures kept { flows.new.entries ≡ filter (λ e. nat_le end e.1.last) flows.old.entries }
-    ensures unique { IsUnique nat_eq flows.new }
-{
-    flows.retain(|_, flow| flow.last >= end);
-}
-
-/// The first minislot at which a lease of these flows ends, or a later flow's may: none ends before.
-fn first_end(flows: &IndexMap<u16, Flow>) -> u64
-    ensures { EndFrom result flows.now.entries }
-{
-    let mut first = LAST_TIME;
-    for k in 0..flows.len() {
-        if let Some((_, flow)) = flows.get_index(k) {
-            first = first.min(flow.last);
-        }
-    }
-    first
-}
-
 /// Forgets the flows whose leases end before this time, with what is kept of them. None ends before
 /// the given time, and then before the result, so that they aren't looked at where none ends.
 fn forget_all_ended(
     waiting: &mut Vec<Waiting>,
     dues: &mut Dues,
-    flows: &mut IndexMap<u16, Flow>,
+    flows: &mut FlowsBySid,
     first_end_before: u64,
     end: u64,
 ) -> u64
     requires { EndFrom first_end_before flows.old.entries }
     ensures requests { waiting.new.items ≡ filter (λ w. not (is_ended_in flows.old.entries end w.sid)) waiting.old.items }
-    ensures dues { (sid due : ℕ) → IsSome (get nat_eq flows.new sid) → IsDueFrom dues.old sid due → IsDueFrom dues.new sid due }
+    ensures dues { (sid due : ℕ) → IsSome (lookup (nat_eq sid) flows.new.entries) → IsDueFrom dues.old sid due → IsDueFrom dues.new sid due }
     ensures kept { flows.new.entries ≡ filter (λ e. nat_le end e.1.last) flows.old.entries }
-    ensures unique { IsUnique nat_eq flows.old → IsUnique nat_eq flows.new }
+    ensures sids { flows.new.sids ≡ flows.old.sids }
     ensures ends { EndFrom result flows.new.entries }
 {
     if end <= first_end_before {
         return first_end_before;
     }
     forget_ended_requests(waiting, flows, end);
-    forget_ended(flows, end);
+    flows.forget_ended(end);
     forget_absent(dues, flows);
-    first_end(flows)
-}
-
-/// Notes that a flow's last accepted request was sent at this time.
-fn note_sent(flows: &mut IndexMap<u16, Flow>, sid: u16, sent: u64)
-    ensures written { IfSome (get nat_eq flows.old sid) (λ f. flows.new.entries ≡ set_value (nat_eq sid) flows.old.entries (with_sent f sent)) }
-    ensures absent { IfNone (get nat_eq flows.old sid) (flows.new.entries ≡ flows.old.entries) }
-    ensures unique { IsUnique nat_eq flows.old → IsUnique nat_eq flows.new }
-{
-    if let Some(flow) = flows.get_mut(&sid) {
-        flow.last_sent = Some(sent);
-    }
-}
-
-/// Sets a flow's next due time, where it is there.
-fn note_due(flows: &mut IndexMap<u16, Flow>, sid: u16, due: u64) -> bool
-    ensures found { result ≡ is_some (get nat_eq flows.old sid) }
-    ensures written { IfSome (get nat_eq flows.old sid) (λ f. flows.new.entries ≡ set_value (nat_eq sid) flows.old.entries (with_next_due f due)) }
-    ensures absent { IfNone (get nat_eq flows.old sid) (flows.new.entries ≡ flows.old.entries) }
-    ensures unique { IsUnique nat_eq flows.old → IsUnique nat_eq flows.new }
-{
-    match flows.get_mut(&sid) {
-        Some(flow) => {
-            flow.due = due;
-            true
-        }
-        None => false,
-    }
+    flows.first_end()
 }

@@ -17,7 +17,7 @@ use Rattle.flow_state.specs.declared.channel.ChannelRow.{ChannelRow}
 use Rattle.flow_state.specs.declared.flow.Flow.{Flow}
 use Rattle.flow_state.specs.declared.flow.FlowKind.{FlowKind}
 use Rattle.flow_state.specs.declared.flow.Waiting.{Waiting}
-use Rattle.flow_state.specs.Limits.{last_time, due_index}
+use Rattle.flow_state.specs.Limits.{last_time, most_minislots, due_index}
 use Rattle.flow_state.specs.Rows.{Rows, Table, FlowRow, is_table, table_of, change_table, is_flow, flow_of, channel_at, last_in, last_of, is_ended, has_ended}
 use Rattle.flow_state.specs.Changes.{with_due, waiting_of, waiting_in_table, with_cut_closed, close_table}
 use Rattle.grant_machine.specs.declared.cut.Draft.{Draft}
@@ -240,7 +240,7 @@ next_early rows ch row r e =
     let same_ack : there.table.row.ack ≡ row.ack = ap (λ (x : ChannelRow). x.ack) there.row_is in
     (omega arith, omega arith)
 
-pub cut_early : (rows : Rows) (ch : ℕ) (row : ChannelRow) (len not_before ack : ℕ) → channel_at rows ch ≡ Some row → fill_refusal row len not_before ack ≡ None → (len ≤ 4096) × (max row.next_start not_before + len ≤ last_time)
+pub cut_early : (rows : Rows) (ch : ℕ) (row : ChannelRow) (len not_before ack : ℕ) → channel_at rows ch ≡ Some row → fill_refusal row len not_before ack ≡ None → (len ≤ most_minislots) × (max row.next_start not_before + len ≤ last_time)
 cut_early rows ch row len not_before ack e ok =
     let there = is_there rows ch row e in
     let cut = is_cut there.table len not_before ack (ap (λ (x : ChannelRow). fill_refusal x len not_before ack) there.row_is ∙ ok) in

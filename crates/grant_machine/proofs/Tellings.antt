@@ -8,6 +8,7 @@ use Rattle.map_body.specs.Layout.{FitsHead, head_bytes, IsBody, IsWritten}
 use Rattle.map_body.specs.Cell.{IsCell}
 use Rattle.map_body.proofs.Callers.{one_body}
 use Rattle.std.proofs.lemmas.Bool.{eqb-true}
+use Rattle.map_body.specs.Sids.{everybody}
 use Rattle.flow_state.specs.declared.channel.Channel.{Channel}
 use Rattle.flow_state.specs.declared.flow.FlowKind.{FlowKind}
 use Rattle.flow_state.specs.declared.refusal.Refusal.{Refusal}
@@ -177,7 +178,7 @@ map_parts ch s l at start len b bytes e = (cc, cc, cc, cc)
 
 -- a cell of a MAP lies within it, and if it isn't all modems', in a placement
 pub cut_cell : (t : Table) (len not_before ack x : ℕ) (map : Body) (e : Element) (w : IsWell t) (ok : fill_refusal t.row len not_before ack ≡ None) → map ≡ body_of t (fill t len not_before ack) → IsCell map x e
-    → (x < len) × (((p : Placement) × Has (fill t len not_before ack).placements p × (holds x p ≡ true) × (placed_element p ≡ e)) ⊎ (e.sid ≡ 16383))
+    → (x < len) × (((p : Placement) × Has (fill t len not_before ack).placements p × (holds x p ≡ true) × (placed_element p ≡ e)) ⊎ (e.sid ≡ everybody))
 cut_cell t len not_before ack x map e w ok same c =
     let f : Filled = fill t len not_before ack in
     let a = cut_placed t len not_before ack w ok in
@@ -185,7 +186,7 @@ cut_cell t len not_before ack x map e w ok same c =
     (tells.within, tells.whose)
 
 given_now : (rows : Rows) (c : Command) (cs : List Command) (ch start len m : ℕ) (bytes : List ℕ) (map : Body) (e : Element) → AllWell rows → (step rows c).output ≡ outputs.Map ch start len bytes → IsBody bytes map
-    → start ≤ m → IsCell map (m - start) e → e.sid ≢ 16383 → IsGivenBy rows (c ∷ cs) ch e.sid m
+    → start ≤ m → IsCell map (m - start) e → e.sid ≢ everybody → IsGivenBy rows (c ∷ cs) ch e.sid m
 given_now rows c cs ch start len m bytes map e w out b from cell not_all =
     let cut = cut_of_map rows c ch start len bytes out in
     let t : Table = cut.table in
@@ -218,7 +219,7 @@ given_now rows c cs ch start len m bytes map e w out b from cell not_all =
     below s start m offset size same from high = omega arith
 
 given_from : (rows : Rows) (cs : List Command) (k ch start len m : ℕ) (bytes : List ℕ) (map : Body) (e : Element) → AllWell rows → slice_get (outputs_from rows cs) k ≡ Some (outputs.Map ch start len bytes) → IsBody bytes map
-    → start ≤ m → IsCell map (m - start) e → e.sid ≢ 16383 → IsGivenBy rows cs ch e.sid m
+    → start ≤ m → IsCell map (m - start) e → e.sid ≢ everybody → IsGivenBy rows cs ch e.sid m
 given_from rows [] k ch start len m bytes map e w out b from cell not_all = absurd cc
 given_from rows (c ∷ cs) zero ch start len m bytes map e w out b from cell not_all = given_now rows c cs ch start len m bytes map e w (output_is _ _ out) b from cell not_all
 given_from rows (c ∷ cs) (suc k) ch start len m bytes map e w out b from cell not_all =

@@ -3,12 +3,13 @@ use Rattle.std.proofs.Common.{◌≡◌, ◌≢◌, ◌⊎◌, ℕ, suc, ◌+◌
 use Rattle.std.specs.List.{list_any, AllByRecursion}
 use Rattle.std.proofs.lemmas.Bool.{eqb-true, eqb-false, leb-true, ltb-true, le-leb, lt-ltb, cases_lt, and_parts}
 use Rattle.std.proofs.lemmas.Option.{same_Some}
+use Rattle.map_body.specs.Sids.{everybody}
 use Rattle.minislot_time.specs.Extent.{Extent}
 use Rattle.map_body.specs.declared.element.Element.{Element}
 use Rattle.map_body.specs.Body.{Body}
 use Rattle.map_body.specs.Rules.{FitsElement, AreElements, Falls, NoNullBefore}
 use Rattle.map_body.specs.Cell.{IsCell}
-use Rattle.flow_state.specs.Limits.{last_time, last_sid}
+use Rattle.flow_state.specs.Limits.{last_time, last_sid, most_minislots}
 use Rattle.flow_state.specs.Rows.{Table}
 use Rattle.grant_machine_parts.specs.Placing.{Placement, holds, holder, most_placements}
 use Rattle.grant_machine_parts.specs.Cutting.{end_of, fill_span}
@@ -193,7 +194,7 @@ module _ (t : Table) (span : Extent) (ps : List Placement) (a : ArePlaced t span
 
 -- ---- the elements of a body
 
-module _ (t : Table) (span : Extent) (ps : List Placement) (a : ArePlaced t span ps) (len : ℕ) (len_is : span.len ≡ len) (most : len ≤ 4096) (rest : List Element)
+module _ (t : Table) (span : Extent) (ps : List Placement) (a : ArePlaced t span ps) (len : ℕ) (len_is : span.len ≡ len) (most : len ≤ most_minislots) (rest : List Element)
     (plain : (e : Element) → Has rest e → IsUse e.iuc × FitsElement e) where
   -- the elements of the MAP
   abbrev pub es : List Element
@@ -217,7 +218,7 @@ module _ (t : Table) (span : Extent) (ps : List Placement) (a : ArePlaced t span
             let small = use_is.1 in
             (use_is, record { sid = omega arith; iuc = omega arith; offset = offset })
         | inr f ↦
-            let sid_is : 16383 ≡ e.sid = ap (λ (d : Element). d.sid) f.is in
+            let sid_is : everybody ≡ e.sid = ap (λ (d : Element). d.sid) f.is in
             let iuc_is : 1 ≡ e.iuc = ap (λ (d : Element). d.iuc) f.is in
             (plain_request e.iuc (sym iuc_is), record { sid = omega arith; iuc = omega arith; offset = offset })
       ]
@@ -312,7 +313,7 @@ module _ (t : Table) (span : Extent) (ps : List Placement) (a : ArePlaced t span
   -- whose a minislot is: a placement's that holds it, or all modems'
   pub record TellsCell (x : ℕ) (e : Element) : Type 0 where
     pub within : x < len
-    pub whose : ((p : Placement) × Has ps p × (holds x p ≡ true) × (placed_element p ≡ e)) ⊎ (e.sid ≡ 16383)
+    pub whose : ((p : Placement) × Has ps p × (holds x p ≡ true) × (placed_element p ≡ e)) ⊎ (e.sid ≡ everybody)
 
   pub cell_tells : (map : Body) (x : ℕ) (e : Element) → map.elements ≡ es → IsCell map x e → TellsCell x e
   cell_tells map x e same c =

@@ -4,6 +4,7 @@ use Rattle.std.specs.List.{filter_map, range_with_len, AllByRecursion}
 use Rattle.std.proofs.lemmas.Bool.{cases_lt, ltb-true, ltb-false, leb-true, le-leb, lt-ltb, and_parts}
 use Rattle.std.proofs.lemmas.List.{append-nil, drop_more}
 use Rattle.std.proofs.lemmas.List.Elements.{filter_map-append}
+use Rattle.flow_state.specs.Limits.{most_minislots}
 use Rattle.map_body.specs.declared.element.Element.{Element}
 use Rattle.grant_machine_parts.specs.Placing.{Placement, holds, holder, is_free}
 use Rattle.grant_machine_parts.specs.Gaps.{Gap, IsGap, AreGaps}
@@ -187,7 +188,7 @@ gap_more ps len a g old now held new is anew were then are =
 pub first_gap : (f : ℕ → Bool) (a len : ℕ) (gs : List Gap) (i : ℕ) (d : Gap) → i < length gs → AreGaps f a len (drop i gs) → IsGap f a len (get_or gs i d) × AreGaps f (get_or gs i d).to len (drop (i + 1) gs)
 first_gap f a len gs i d lt are = subst (AreGaps f a len) (drop_more gs i d lt) are
 
-pub gap_begins_early : {f : ℕ → Bool} {a len : ℕ} {g : Gap} → IsGap f a len g → len ≤ 4096 → g.from < 2 ^ 14
+pub gap_begins_early : {f : ℕ → Bool} {a len : ℕ} {g : Gap} → IsGap f a len g → len ≤ most_minislots → g.from < 2 ^ 14
 gap_begins_early is short = let to = is.to in let within = is.within in omega arith
 
 past : (gs : List Gap) (i : ℕ) → length gs ≤ i → drop i gs ≡ []

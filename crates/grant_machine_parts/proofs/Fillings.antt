@@ -12,7 +12,7 @@ use Rattle.flow_state.specs.declared.flow.FlowKind.TheVariants.{BestEffort, Ugs,
 use Rattle.flow_state.specs.declared.flow.Lease.{Lease}
 use Rattle.flow_state.specs.declared.flow.Waiting.{Waiting}
 use Rattle.flow_state.specs.declared.refusal.Refusal.TheVariants.{BadValue}
-use Rattle.flow_state.specs.Limits.{last_time, longest_interval, last_sid, is_good_kind, is_schedule, is_ugs, due_time}
+use Rattle.flow_state.specs.Limits.{last_time, most_minislots, longest_interval, last_sid, is_good_kind, is_schedule, is_ugs, due_time}
 use Rattle.flow_state.specs.Rows.{Table, FlowRow, is_of, is_of_sid, flow_of, last_in, last_of, is_ended, has_ended}
 use Rattle.flow_state.specs.Sound.{lease_in}
 use Rattle.grant_machine_parts.specs.Placing.{Cause, Window, Sent, Placement, holder, is_free, fits_at, first_fit, most_placements}
@@ -363,7 +363,7 @@ fill_keeps K t span ack w le none more =
 -- a cut that isn't refused
 pub record IsCut (t : Table) (len not_before ack : ℕ) : Type 0 where
   pub some : 1 ≤ len
-  pub most : len ≤ 4096
+  pub most : len ≤ most_minislots
   pub end : end_of (span_of t.row len not_before) ≤ last_time
 
 pub is_cut : (t : Table) (len not_before ack : ℕ) → fill_refusal t.row len not_before ack ≡ None → IsCut t len not_before ack

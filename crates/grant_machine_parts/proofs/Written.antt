@@ -7,7 +7,7 @@ use Rattle.map_body.specs.declared.element.Element.{Element}
 use Rattle.map_body.specs.Rules.{FitsElement, AreElements}
 use Rattle.map_body.specs.Layout.{IsWritten}
 use Rattle.flow_state.specs.declared.channel.Channel.{Channel}
-use Rattle.flow_state.specs.Limits.{last_sid, is_good_channel, is_backoff}
+use Rattle.flow_state.specs.Limits.{last_sid, most_minislots, is_good_channel, is_backoff}
 use Rattle.flow_state.specs.Rows.{Table, has_ended}
 use Rattle.grant_machine_parts.specs.Cutting.{Filled, fill, fill_refusal, end_of, span_of, ack_of, in_order, still_waiting, is_grant_of}
 use Rattle.grant_machine_parts.specs.Drawing.{null_element, pending_element, begins_at, elements_of, body_of, bytes_of}
@@ -29,7 +29,7 @@ module _ (t : Table) (len not_before ack : ℕ) (w : IsWell t) (ok : fill_refusa
   cut : IsCut t len not_before ack
   cut = is_cut t len not_before ack ok
 
-  pub cut_most : len ≤ 4096
+  pub cut_most : len ≤ most_minislots
   cut_most = cut.most
 
   pub cut_placed : ArePlaced t filled.span filled.placements

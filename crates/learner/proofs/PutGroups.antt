@@ -1,8 +1,8 @@
--- What is written through a loan of a place's row is put there, and a row that is taken away again was never there.
+-- What is written through a loan of a place's row is put there.
 use Rattle.std.proofs.Common.{◌≡◌, inl, inr, ℕ, ◌<◌, cond, List, [], ◌∷◌, Some, None, refl, sym, ap, ◌∙◌, arith}
 use Rattle.std.specs.Cmp.{nat_cmp_is}
 use Rattle.std.specs.List.Sorted.{IsStrictlySortedBy}
-use Rattle.std.specs.Map.{keys_of, remove_entry, set_value}
+use Rattle.std.specs.Map.{keys_of, set_value}
 use Rattle.std.specs.Ordering.{nat_cmp, is_eq}
 use Rattle.std.specs.declared.cmp.Ordering.TheVariants.{Less, Equal, Greater}
 use Rattle.std.specs.BTreeMap.{is_at}
@@ -33,19 +33,4 @@ set_is_put (row ∷ rows) p v w sorted some = elim (in_order p row.0) [
   | inr (inr after) ↦
       let later = set_is_put rows p v w (sorted_tail nat_cmp row.0 (keys_of rows) sorted) (sym (at_after row.0 row.1 rows p after) ∙ some) in
       ap (λ o. cond (is_eq o) ((row.0, w) ∷ rows) (row ∷ set_value (is_at (nat_cmp p)) rows w)) (sym (nat_cmp_is p row.0 Greater after)) ∙ ap (λ r. row ∷ r) later ∙ sym (put_after row.0 row.1 rows p w after)
-]
-
-at_itself : {V : Type 0} (p : ℕ) (v : V) (rows : List (ℕ × V)) → remove_entry (is_at (nat_cmp p)) ((p, v) ∷ rows) ≡ rows
-at_itself p v rows = ap (λ o. cond (is_eq o) rows ((p, v) ∷ remove_entry (is_at (nat_cmp p)) rows)) (sym (nat_cmp_is p p Equal refl))
-
--- a row that is put at a place without one and taken away again
-pub put_back : {V : Type 0} (p : ℕ) (v : V) (rows : List (ℕ × V)) → at rows p ≡ None → remove_entry (is_at (nat_cmp p)) (put rows p v) ≡ rows
-put_back p v [] none = at_itself p v []
-put_back p v (row ∷ rows) none = elim (in_order p row.0) [
-  | inl before ↦ ap (remove_entry (is_at (nat_cmp p))) (put_before row.0 row.1 rows p v before) ∙ at_itself p v (row ∷ rows)
-  | inr (inl here) ↦ let there : at (row ∷ rows) p ≡ Some row.1 = at_here row.0 row.1 rows p here in absurd (cc (none, there))
-  | inr (inr after) ↦
-      ap (remove_entry (is_at (nat_cmp p))) (put_after row.0 row.1 rows p v after)
-      ∙ ap (λ o. cond (is_eq o) (put rows p v) (row ∷ remove_entry (is_at (nat_cmp p)) (put rows p v))) (sym (nat_cmp_is p row.0 Greater after))
-      ∙ ap (λ r. row ∷ r) (put_back p v rows (sym (at_after row.0 row.1 rows p after) ∙ none))
 ]

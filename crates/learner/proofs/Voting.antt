@@ -1,12 +1,8 @@
 -- Whether one more vote teaches its value.
-use Rattle.std.proofs.Common.{◌≡◌, ℕ, ◌*◌, ◌<◌, ◌≤◌, Bool, List, Option, Some, None, is_some, sym, refl, Result, Ok, Err, OnErr, false, true}
+use Rattle.std.proofs.Common.{◌≡◌, ℕ, ◌*◌, ◌<◌, ◌≤◌, Bool, List, Option, Some, None, is_some, sym, refl, false, true}
 use Rattle.std.proofs.lemmas.Bool.{lt-ltb, le-ltb}
 use Rattle.ballots.specs.Voting.{count_below}
 use Rattle.learner.specs.Tally.{Tally, is_voter, teaches, with_voter}
-
-pub any_err : {T E P : Type 0} (r : Result T E) → P → OnErr r P
-any_err (Ok x) p = tt
-any_err (Err e) p = p
 
 pub is_nothing : {X : Type 0} (o : Option X) → is_some o ≡ false → o ≡ None
 is_nothing None is = refl

@@ -8,6 +8,7 @@ ghost use Rattle.learner.specs.Tally.{counts, groups_at, known, no_tally, put_vo
 
 use crate::groups::{Groups, Proposal, Voters};
 use ballots::{Ballot, Bytes, Members, NodeId};
+use place_table::Table;
 use std::alloc::{AllocError, Global};
 use std::collections::BTreeMap;
 use std::marker::Model;
@@ -17,7 +18,7 @@ use std::marker::Model;
 pub struct Learner {
     alloc: Global,
     counted: BTreeMap<u64, Groups>,
-    learned: BTreeMap<u64, Bytes>,
+    learned: Table<Bytes>,
 }
 
 impl Model for Learner {
@@ -66,7 +67,7 @@ impl Learner {
         Learner {
             alloc,
             counted: BTreeMap::new(alloc),
-            learned: BTreeMap::new(alloc),
+            learned: Table::new(alloc),
         }
     }
 
@@ -81,11 +82,11 @@ impl Learner {
     pub fn learned(&self, place: u64) -> Option<&Bytes>
         ensures { option_copied result ≡ at self.now.learned place }
     {
-        self.learned.get(&place)
+        self.learned.get(place)
     }
 
     /// The learned values by place.
-    pub fn values(&self) -> &BTreeMap<u64, Bytes>
+    pub fn values(&self) -> &Table<Bytes>
         ensures { result.now.entries ≡ self.now.learned }
     {
         &self.learned
@@ -108,16 +109,13 @@ impl Learner {
         ensures err { OnErr result (self.new ≡ self.old) }
         ensures unwritten { OnErr result (rows.new ≡ rows.old) }
     {
-        if self.learned.contains_key(&place) {
+        if self.learned.contains(place) {
             return Ok(Ok(()));
         }
-        self.learned.insert(place, value).map_err(AllocError::from)?;
-        let written = write(rows);
-        if written.is_err() {
-            self.learned.remove(&place);
-            return Ok(written);
+        let written = self.learned.insert_after(place, value, rows, write)?;
+        if written.is_ok() {
+            self.counted.remove(&place);
         }
-        self.counted.remove(&place);
         Ok(written)
     }
 
@@ -147,7 +145,7 @@ impl Learner {
         ensures again { at self.old.learned place ≢ None → IsOk result }
         ensures err { OnErr result (self.new ≡ self.old) }
     {
-        if self.learned.contains_key(&place) {
+        if self.learned.contains(place) {
             return Ok(None);
         }
         let proposal = Proposal { ballot, value };

@@ -15,4 +15,6 @@ mod Owned
 mod Transmits
 mod Quiet
 mod NextEdges
+mod Sights
+mod Spans
 mod LeftOut

@@ -68,7 +68,7 @@ HasSame-made ks around ch m x le near within starts stops sid iuc = (back, on)
         let to : x < f.one.stop = subst (λ (k : KeptInterval). k.channel ≡ ch → k.start ≤ m → m < k.stop → x < k.stop) f.is (stops f.index f.one f.within) f.at_m.same_channel f.at_m.from f.at_m.to in
         within sid iuc (HasAt-one around f.index f.one ch x sid iuc f.within f.is (record { same_channel = f.at_m.same_channel; same_sid = f.at_m.same_sid; same_iuc = f.at_m.same_iuc; from = omega (arith, from, le); to = to }))
 
-bool_same : (a b : Bool) → (a ≡ true → b ≡ true) → (b ≡ true → a ≡ true) → a ≡ b
+pub bool_same : (a b : Bool) → (a ≡ true → b ≡ true) → (b ≡ true → a ≡ true) → a ≡ b
 bool_same true b h k = sym (h refl)
 bool_same false true h k = k refl
 bool_same false false h k = refl

@@ -83,8 +83,8 @@ few_old ks ch clock before old low high = few_pass (λ k. (k.channel == ch) && n
             absurd (omega (arith, above, same, began))
 
 -- a run of ended ones that goes up to one that hasn't ended leaves none that is old
-pub none_old : (ks : List KeptInterval) (ch clock before count : ℕ) → clock < 2 ^ 64 → AreKept ks → before ≤ length ks → count ≤ length (drop before ks) → AllWithin (λ k. ltb (place_of k) (place ch 0) ≡ true) ks 0 before → AllWithin (λ k. ltb (place_of k) (place ch 0) ≡ false) ks before (length ks) → ((d : KeptInterval) → count < length (drop before ks) → (is_live ch clock (get_or (drop before ks) count d) ≡ true) × ((get_or (drop before ks) count d).start < 2 ^ 64)) → old_intervals ch clock (map kept_interval (take before ks ++ drop (before + count) ks)) ≡ []
-none_old ks ch clock before count range kept within inside low high next = none_pass _ (few_pass (λ k. (k.channel == ch) && nat_le (k.start + 2 ^ 14) clock) nothing left 0 0 (λ i lt t. absurd (none i lt (is_old ch clock (get_or left i nothing) t))))
+pub none_old : (ks : List KeptInterval) (ch clock t before count : ℕ) → clock < 2 ^ 64 → t ≤ clock + 1 → AreKept ks → before ≤ length ks → count ≤ length (drop before ks) → AllWithin (λ k. ltb (place_of k) (place ch 0) ≡ true) ks 0 before → AllWithin (λ k. ltb (place_of k) (place ch 0) ≡ false) ks before (length ks) → ((d : KeptInterval) → count < length (drop before ks) → (is_live ch clock (get_or (drop before ks) count d) ≡ true) × ((get_or (drop before ks) count d).start < 2 ^ 64)) → old_intervals ch t (map kept_interval (take before ks ++ drop (before + count) ks)) ≡ []
+none_old ks ch clock t before count range soon kept within inside low high next = none_pass _ (few_pass (λ k. (k.channel == ch) && nat_le (k.start + 2 ^ 14) t) nothing left 0 0 (λ i lt is. absurd (none i lt (is_old ch t (get_or left i nothing) is))))
   where
     left : List KeptInterval
     left = take before ks ++ drop (before + count) ks
@@ -98,20 +98,20 @@ none_old ks ch clock before count range kept within inside low high next = none_
     size : length left ≤ before + (length ks - (before + count))
     size = grind (arith, common_steps)
 
-    none : (i : ℕ) → i < length left → IsOld ch clock (get_or left i nothing) → ⊥
+    none : (i : ℕ) → i < length left → IsOld ch t (get_or left i nothing) → ⊥
     none i lt old = by_side (cases_lt i before)
       where
         by_side : (i < before) ⊎ (before ≤ i) → ⊥
         by_side (inl early) =
             let here : get_or left i nothing ≡ get_or ks i nothing = get_or_append_left (take before ks) (drop (before + count) ks) nothing i (omega (arith, front, early)) ∙ get_or-take before ks i nothing early in
             let below = ltb-true _ _ (low i nothing (omega arith) early) in
-            let is : IsOld ch clock (get_or ks i nothing) = subst (IsOld ch clock) here old in
+            let is : IsOld ch t (get_or ks i nothing) = subst (IsOld ch t) here old in
             let same : (get_or ks i nothing).channel ≡ ch = is.same in
             omega (arith, below, same)
         by_side (inr late) =
             let j : ℕ = before + count + (i - before) in
             let here : get_or left i nothing ≡ get_or ks j nothing = get_or-append_right (take before ks) (drop (before + count) ks) before i nothing front late ∙ get_or-drop (before + count) ks (i - before) nothing in
-            let is : IsOld ch clock (get_or ks j nothing) = subst (IsOld ch clock) here old in
+            let is : IsOld ch t (get_or ks j nothing) = subst (IsOld ch t) here old in
             let at : get_or (drop before ks) count nothing ≡ get_or ks (before + count) nothing = get_or-drop before ks count nothing in
             let some : count < length (drop before ks) = omega (arith, dropped, size, lt, late) in
             let live = next nothing some in
@@ -122,14 +122,14 @@ none_old ks ch clock before count range kept within inside low high next = none_
             (subst (λ (k : KeptInterval). is_live ch clock k ≡ true) at live.0)
             (subst (λ (k : KeptInterval). k.start < 2 ^ 64) at live.1)
           where
-            after : (h k : KeptInterval) → IsOld ch clock k → place ch 0 ≤ place_of h → place_of h ≤ place_of k → h.stop < h.start + 16384 → is_live ch clock h ≡ true → h.start < 2 ^ 64 → ⊥
+            after : (h k : KeptInterval) → IsOld ch t k → place ch 0 ≤ place_of h → place_of h ≤ place_of k → h.stop < h.start + 16384 → is_live ch clock h ≡ true → h.start < 2 ^ 64 → ⊥
             after h k is from to short live bound =
                 let same : k.channel ≡ ch = is.same in
-                let began : k.start + 16384 ≤ clock = is.old in
-                let one : h.channel ≡ ch = omega (arith, from, to, same, began, range, bound) in
+                let began : k.start + 16384 ≤ t = is.old in
+                let one : h.channel ≡ ch = omega (arith, from, to, same, began, range, bound, soon) in
                 let open_still : nat_lt clock h.stop ≡ true = elim (or_cases (not (h.channel == ch)) (nat_lt clock h.stop) live) [ inl other ↦ no_true (sym (ap not (eq-eqb _ _ one)) ∙ other) | inr still ↦ still ] in
                 let not_ended : clock < h.stop = grind (arith, nat_tests) in
-                omega (arith, one, to, same, began, short, not_ended)
+                omega (arith, one, to, same, began, short, not_ended, soon)
 
 -- where the old ones aren't many, of so many channels
 pub few_of : (n old len channels : ℕ) → n ≤ old → (0 < old → channels < len / old / 2) → 2 * (channels + 1) * n ≤ len

@@ -3,10 +3,10 @@ use Rattle.std.proofs.Common.{◌≡◌, ℕ, zero, suc, ◌+◌, ◌-◌, ◌<�
 use Rattle.std.specs.List.{AllWithin, insert}
 use Rattle.std.specs.Result.{is_ok}
 use Rattle.std.specs.List.Sorted.{IsNonDecreasingBy}
-use Rattle.std.proofs.lemmas.Bool.{cases_lt, ltb-true, leb-true, leb-false, and_parts, eqb-true, or_parts, not-false}
+use Rattle.std.proofs.lemmas.Bool.{cases_lt, ltb-true, leb-true, leb-false, le-leb, and_parts, eqb-true, or_parts, not-false}
 use Rattle.std.proofs.lemmas.Bool.Decides.{nat_tests}
 use Rattle.std.proofs.lemmas.Grind.{common_steps}
-use Rattle.std.proofs.lemmas.List.{map-append, take-append-drop, get_or-take, get_or-drop, length-take-le, drop-drop, get_or_append_left, get_or-append_right}
+use Rattle.std.proofs.lemmas.List.{map-append, take-append-drop, get_or-take, get_or-drop, length-take-le, drop-drop, get_or_append_left, get_or-append_right, get_or_default}
 use Rattle.std.proofs.lemmas.List.Elements.{All-append, All-cons, All-take, All-drop}
 use Rattle.std.proofs.lemmas.List.Sorted.{IsNonDecreasingBy-insert}
 use Rattle.modem.proofs.Parts.{no_true}
@@ -98,6 +98,14 @@ HasAt-around ks before count ch m kept le early late sid iuc =
       λ h. first.1 (inr (last.1 (inl h))),
       λ h. elim (first.0 h) [ inl a ↦ absurd (too_early ks before ch m sid iuc kept le early a) | inr b ↦ elim (last.0 b) [ inl x ↦ x | inr y ↦ absurd (too_late (drop before ks) count ch m sid iuc late y) ] ],
     )
+
+-- where the last one stands by a place, all do
+pub all_before : (ks : List KeptInterval) (at : ℕ) (last : KeptInterval) → IsNonDecreasingBy place_of ks → 0 < length ks → get_or ks (length ks - 1) last ≡ last → leb (place_of last) at ≡ true → AllWithin (λ k. leb (place_of k) at ≡ true) ks 0 (length ks)
+all_before ks at last up some is below i d from lt =
+    let end : get_or ks (length ks - 1) d ≡ last = get_or_default ks (length ks - 1) d last (omega (arith, some)) ∙ is in
+    let by : place_of last ≤ at = leb-true _ _ below in
+    let to : place_of (get_or ks i d) ≤ place_of last = subst (λ (k : KeptInterval). place_of (get_or ks i d) ≤ place_of k) end (up i (length ks - 1) d (omega (arith, lt)) (omega (arith, some))) in
+    le-leb (place_of (get_or ks i d)) at (omega (arith, to, by))
 
 -- a list without a run of it
 ordered_cut : (ks : List KeptInterval) (a b : ℕ) → a ≤ b → b ≤ length ks → IsNonDecreasingBy place_of ks → IsNonDecreasingBy place_of (take a ks ++ drop b ks)

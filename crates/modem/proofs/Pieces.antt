@@ -81,7 +81,7 @@ HasAt-covered leases (k ∷ ks) ch m sid iuc =
 short_cut : (k : KeptInterval) (l : OwnLease) → IsShort k → IsShort (cut_to k l)
 short_cut k l h = let short : k.stop < k.start + 2 ^ 14 = h in omega arith
 
-All-pieces : (leases : List OwnLease) (k : KeptInterval) → IsShort k → All IsShort (filter_map (piece k) leases)
+pub All-pieces : (leases : List OwnLease) (k : KeptInterval) → IsShort k → All IsShort (filter_map (piece k) leases)
 All-pieces [] k short = All-nil IsShort
 All-pieces (l ∷ ls) k short = go (All-pieces ls k short) (is_of k.channel k.sid l)
   where

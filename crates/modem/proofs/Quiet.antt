@@ -158,7 +158,7 @@ filter_same : (p q : Want → Bool) → ((w : Want) → p w ≡ q w) → (ws : L
 filter_same p q same [] = refl
 filter_same p q same (w ∷ ws) = ap (λ b. cond b (w ∷ filter p ws) (filter p ws)) (same w) ∙ ap (λ us. cond (q w) (w ∷ us) us) (filter_same p q same ws)
 
-counts_at : (ks : List Kept) (ch m x : ℕ) (counted : Option (ℕ × ℕ)) → ((sid iuc : ℕ) → HasAt ks ch x sid iuc ↔ HasAt ks ch m sid iuc) → Counts ks ch m counted → Counts ks ch x counted
+pub counts_at : (ks : List Kept) (ch m x : ℕ) (counted : Option (ℕ × ℕ)) → ((sid iuc : ℕ) → HasAt ks ch x sid iuc ↔ HasAt ks ch m sid iuc) → Counts ks ch m counted → Counts ks ch x counted
 counts_at ks ch m x None same h = λ sid iuc there. h sid iuc ((same sid iuc).0 there)
 counts_at ks ch m x (Some p) same h = ((same p.0 p.1).1 h.0, λ sid iuc there. h.1 sid iuc ((same sid iuc).0 there))
 

@@ -9,6 +9,8 @@ use Rattle.modem.specs.State.{State, Kept, HasAt, is_of, covers, is_own_at, is_o
 use Rattle.modem.specs.Wants.{lasting}
 use Rattle.std.proofs.lemmas.Bool.Decides.{nat_tests}
 use Rattle.modem.specs.Ticks.{Ticks, Counts, SendsBy}
+use Rattle.modem.specs.Sights.{IsSeen}
+use Rattle.modem.proofs.AtKept.{Counts-same}
 use Rattle.minislot_time.specs.Wire.{IsNear}
 use Rattle.modem.proofs.Times.{near_once}
 use Rattle.map_body.specs.Body.{Body}
@@ -126,6 +128,19 @@ Ticks-made old new c ch slot random sending counted is_open wants found same_id 
   held = KeepsHeld-made old new c ch (slot + 1) c.backoff found made grants open_to_all;
   sends = (counted, counts, is_open, opens, wants, sends, lasts);
 }
+
+-- a tick by what was seen once what has ended was let go of
+pub Ticks-seen : (n : ℕ) (old new : State) (c : Channel) (ch slot random : ℕ) (sending : Option Sending) (counted : Option (ℕ × ℕ)) (is_open : Bool) (wants : List Want) → channel_of old.channels ch ≡ Some c → new.id ≡ old.id → new.leases ≡ old.leases → KeepsFrom old.grants c.id slot new.grants → KeepsFrom old.open_to_all c.id slot new.open_to_all → new.channels ≡ with_channel (record c { clock = slot + 1 }) old.channels → IsSeen n new.grants new.open_to_all c.id slot counted is_open → SendsBy old.leases old.wants c slot random is_open sending wants counted → new.wants ≡ lasting old.leases c.id (slot + 1) wants → Ticks old c slot random sending new
+Ticks-seen n old new c ch slot random sending counted is_open wants found same_id same_leases grants open_to_all made seen sends lasts =
+    let own : (sid iuc : ℕ) → HasAt new.grants c.id slot sid iuc ↔ HasAt old.grants c.id slot sid iuc = λ sid iuc. grants c.id slot sid iuc (λ _. omega arith) in
+    let shared = open_to_all c.id slot everybody 1 (λ _. omega arith) in
+    Ticks-made old new c ch slot random sending counted is_open wants found same_id same_leases
+    (λ at_ch m sid iuc late. grants at_ch m sid iuc (λ same. let from : slot + 1 ≤ m = late same in omega arith))
+    (λ at_ch m sid iuc late. open_to_all at_ch m sid iuc (λ same. let from : slot + 1 ≤ m = late same in omega arith))
+    made
+    (Counts-same new.grants old.grants c.id slot counted own seen.counts)
+    (λ h. shared.0 (seen.shared.0 h), λ h. seen.shared.1 (shared.1 h))
+    sends lasts
 
 -- a map that is heard too late
 pub Passes-made : (old new : State) (c : Channel) (ch near : ℕ) → channel_of old.channels ch ≡ Some c → new.id ≡ old.id → new.leases ≡ recent c.id (max c.clock near) old.leases → KeepsFrom old.grants c.id (max c.clock near) new.grants → KeepsFrom old.open_to_all c.id (max c.clock near) new.open_to_all → new.channels ≡ with_channel (record c { clock = max c.clock near }) old.channels → new.wants ≡ lasting old.leases c.id (max c.clock near) old.wants → Passes old c near new

@@ -1,7 +1,9 @@
 -- What a list of kept intervals stands for, and its order.
-use Rattle.std.specs.Prelude.{◌≡◌, ◌↔◌, ℕ, ◌+◌, ◌*◌, ◌^◌, ◌<◌, Bool, not, ◌==◌, ◌||◌, nat_lt, if◌then◌else◌, min, max, List, All, Option, Some, None}
+use Rattle.std.specs.Prelude.{◌≡◌, ◌↔◌, ℕ, ◌+◌, ◌*◌, ◌^◌, ◌<◌, Bool, not, ◌==◌, ◌&&◌, ◌||◌, nat_lt, if◌then◌else◌, min, max, List, All, Option, Some, None}
 use Rattle.std.specs.List.{flat_map, filter_map}
 use Rattle.std.specs.List.Sorted.{IsNonDecreasingBy}
+use Rattle.map_body.specs.Iucs as iucs
+use Rattle.map_body.specs.Sids.{everybody}
 use Rattle.map_body.specs.declared.interval.Interval.{Interval}
 use Rattle.modem.specs.declared.kept.KeptInterval.{KeptInterval}
 use Rattle.modem.specs.declared.known.OwnLease.{OwnLease}
@@ -14,6 +16,10 @@ kept_interval k = record { channel = k.channel; sid = k.sid; iuc = k.iuc; start 
 -- an interval of a map that starts there
 abbrev pub interval_of : ℕ → ℕ → Interval → KeptInterval
 interval_of ch start i = record { channel = ch; sid = i.sid; iuc = i.iuc; start = start + i.from; stop = start + i.to }
+
+-- an interval in which every modem may send a request
+abbrev pub is_shared : Interval → Bool
+is_shared i = (i.sid == everybody) && (i.iuc == iucs.request)
 
 -- a minislot of a channel in the order: by channel, then by minislot
 abbrev pub place : ℕ → ℕ → ℕ

@@ -6,6 +6,8 @@ pub mod Held
 pub mod Hears
 pub mod Ticks
 pub mod LetsGo
+pub mod Sights
+pub mod Spans
 pub mod OldLeases
 pub mod NextEvent
 pub mod Idle

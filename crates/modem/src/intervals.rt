@@ -1,14 +1,12 @@
 //! The intervals of a map that is heard.
 
-ghost use Rattle.std.specs.Prelude.{◌≡◌, ℕ, ◌+◌, ◌<◌, ◌≤◌, ◌^◌, ◌==◌, ◌&&◌, filter, IfOk, IfSome, IfNone};
+ghost use Rattle.std.specs.Prelude.{◌≡◌, ℕ, ◌+◌, ◌<◌, ◌≤◌, ◌^◌, IfOk, IfSome, IfNone};
 ghost use Rattle.map_body.specs.Intervals.{intervals};
-ghost use Rattle.map_body.specs.Iucs as iucs;
-ghost use Rattle.map_body.specs.Sids.{everybody};
 ghost use Rattle.map_body.specs.Body.{Body};
 ghost use Rattle.minislot_time.specs.Wire.{IsNear};
 ghost use Rattle.modem.specs.Hears.{Reads, IsAckTime};
 
-use map_body::{Head, Interval, Iuc, MapBody, Outline, Sid, judge};
+use map_body::{Head, Interval, MapBody, Outline, judge};
 use minislot_time::{Slot, extend};
 use std::alloc::{AllocError, Global};
 
@@ -17,21 +15,6 @@ pub(crate) fn given(alloc: Global, map: &MapBody) -> Result<Vec<Interval>, Alloc
     ensures { IfOk result (λ v. v.items ≡ intervals map.now.elements) }
 {
     map.intervals(alloc)
-}
-
-/// Those in which every modem may send a request.
-pub(crate) fn open_to_all(
-    alloc: Global,
-    intervals: &[Interval],
-) -> Result<Vec<Interval>, AllocError>
-    ensures { IfOk result (λ v. v.items ≡ filter (λ i. (i.sid == everybody) && (i.iuc == iucs.request)) intervals.now) }
-{
-    let open = intervals
-        .iter()
-        .copied()
-        .filter(|i| i.sid == Sid::EVERYBODY && i.iuc == Iuc::REQUEST)
-        .collect(alloc)?;
-    Ok(open)
 }
 
 /// A map as it is heard near a time: its head, and where it starts and stops in 64-bit minislots.

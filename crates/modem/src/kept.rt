@@ -1,7 +1,7 @@
 //! Intervals that a modem keeps: one for each element that a map gave, in the order of their channels and,
 //! of one channel, of their starts.
 
-ghost use Rattle.std.specs.Prelude.{◌≡◌, ℕ, ◌+◌, ◌*◌, ◌<◌, ◌≤◌, ◌^◌, ◌↔◌, ◌⊎◌, ◌++◌, [], map, take, drop, true, false, length, vec_len, vec_capacity, ltb, leb};
+ghost use Rattle.std.specs.Prelude.{◌≡◌, ℕ, ◌+◌, ◌<◌, ◌≤◌, ◌^◌, ◌↔◌, ◌⊎◌, ◌++◌, ◌∷◌, [], filter, map, take, drop, true, false, length, vec_len, vec_capacity, ltb, leb};
 ghost use Rattle.std.specs.Prelude.{IfOk, OnOk, IfSome, IfNone, Contains};
 ghost use Rattle.std.specs.List.{All, list_any, filter_map, AllWithin};
 ghost use Rattle.map_body.specs.Iucs as iucs;
@@ -9,9 +9,10 @@ ghost use Rattle.map_body.specs.Sids.{everybody};
 ghost use Rattle.std.proofs.Common.{get_or};
 ghost use Rattle.modem.specs.declared.kept.KeptInterval.{KeptInterval};
 ghost use Rattle.modem.specs.LetsGo.{old_intervals};
+ghost use Rattle.modem.specs.Sights.{FewOld};
 ghost use Rattle.modem.specs.State.{HasAt, IsAt};
 ghost use Rattle.modem.specs.Idle.{HasSame, IsBefore};
-ghost use Rattle.modem.specs.KeptIntervals.{kept_interval, interval_of, place, place_of, AreKept, IsShort, is_live, piece, covered, IsOfChannel};
+ghost use Rattle.modem.specs.KeptIntervals.{kept_interval, interval_of, place, place_of, AreKept, IsShort, is_live, is_shared, piece, covered, IsOfChannel};
 ghost use Rattle.modem.specs.Steps.{first_at, is_at};
 ghost use Rattle.modem.specs.Ticks.{Counts};
 
@@ -151,7 +152,9 @@ fn cut(kept: &mut Vec<KeptInterval>, from: usize, to: usize)
     requires within { to ≤ vec_len kept.old }
     ensures { kept.new.items ≡ take from kept.old.items ++ drop to kept.old.items }
 {
-    kept.drain(from..to);
+    if from < to {
+        kept.drain(from..to);
+    }
 }
 
 /// Lets go of the channel's intervals that end at or before the clock, up to the first that doesn't.
@@ -159,7 +162,7 @@ pub(crate) fn let_go(kept: &mut Vec<KeptInterval>, ch: u8, clock: u64)
     requires { AreKept kept.old.items }
     ensures kept { AreKept kept.new.items }
     ensures held { (at_ch m sid iuc : ℕ) → (ch ≡ at_ch → clock ≤ m) → HasAt (map kept_interval kept.new.items) at_ch m sid iuc ↔ HasAt (map kept_interval kept.old.items) at_ch m sid iuc }
-    ensures none_old { old_intervals ch clock (map kept_interval kept.new.items) ≡ [] }
+    ensures none_old { (t : ℕ) → t ≤ clock + 1 → old_intervals ch t (map kept_interval kept.new.items) ≡ [] }
 {
     let before = kept.partition_point(|k| begins_before(k, ch, 0));
     let count = ended(&kept[before..], ch, clock);
@@ -171,7 +174,7 @@ pub(crate) fn let_go(kept: &mut Vec<KeptInterval>, ch: u8, clock: u64)
 // which no channel has many is at most twice what hasn't ended or began since.
 fn has_many_old(kept: &[KeptInterval], ch: u8, clock: u64, channels: usize) -> bool
     requires { AreKept kept.now }
-    ensures { result ≡ false → 2 * (channels + 1) * length (old_intervals ch clock (map kept_interval kept.now)) ≤ length kept.now }
+    ensures { result ≡ false → FewOld channels ch clock (map kept_interval kept.now) }
 {
     let first = clock.saturating_sub(REACH);
     let before = kept.partition_point(|k| begins_before(k, ch, 0));
@@ -179,17 +182,21 @@ fn has_many_old(kept: &[KeptInterval], ch: u8, clock: u64, channels: usize) -> b
     old > 0 && kept.len() / old / 2 <= channels
 }
 
-/// Lets go of the channel's ended intervals where they are many, so that what it costs over time is constant for
-/// each interval and channel.
-pub(crate) fn let_go_of_many(kept: &mut Vec<KeptInterval>, ch: u8, clock: u64, channels: usize)
-    requires { AreKept kept.old.items }
+/// Lets go of the channel's ended intervals where many will be old behind the minislot, so that what it costs over time
+/// is constant for each interval and channel. Whether they were many.
+pub(crate) fn let_go_of_many(kept: &mut Vec<KeptInterval>, ch: u8, at: u64, channels: usize) -> bool
+    requires kept { AreKept kept.old.items }
+    requires time { at < 2 ^ 63 }
     ensures kept { AreKept kept.new.items }
-    ensures held { (at_ch m sid iuc : ℕ) → (ch ≡ at_ch → clock ≤ m) → HasAt (map kept_interval kept.new.items) at_ch m sid iuc ↔ HasAt (map kept_interval kept.old.items) at_ch m sid iuc }
-    ensures few { 2 * (channels + 1) * length (old_intervals ch clock (map kept_interval kept.new.items)) ≤ length kept.new.items }
+    ensures held { (at_ch m sid iuc : ℕ) → (ch ≡ at_ch → at ≤ m) → HasAt (map kept_interval kept.new.items) at_ch m sid iuc ↔ HasAt (map kept_interval kept.old.items) at_ch m sid iuc }
+    ensures few { FewOld channels ch (at + 1) (map kept_interval kept.new.items) }
+    ensures same { result ≡ false → kept.new.items ≡ kept.old.items }
 {
-    if has_many_old(kept.as_slice(), ch, clock, channels) {
-        let_go(kept, ch, clock);
+    let is_many = has_many_old(kept.as_slice(), ch, at + 1, channels);
+    if is_many {
+        let_go(kept, ch, at);
     }
+    is_many
 }
 
 fn interval_of(ch: u8, start: u64, interval: Interval) -> KeptInterval
@@ -206,6 +213,20 @@ fn interval_of(ch: u8, start: u64, interval: Interval) -> KeptInterval
     }
 }
 
+// Where one stands that begins there: behind those that begin by then. It is mostly the end.
+fn place_for(kept: &[KeptInterval], ch: u8, start: u64) -> usize
+    requires { AreKept kept.now }
+    ensures bound { result ≤ length kept.now }
+    ensures low { AllWithin (λ k. leb (place_of k) (place ch start) ≡ true) kept.now 0 result }
+    ensures high { AllWithin (λ k. leb (place_of k) (place ch start) ≡ false) kept.now result (length kept.now) }
+{
+    let len = kept.len();
+    if len > 0 && begins_by(&kept[len - 1], ch, start) {
+        return len;
+    }
+    kept.partition_point(|k| begins_by(k, ch, start))
+}
+
 // Adds one at its place, unless it has no minislot or stands there, as where a map is heard again.
 fn add(kept: &mut Vec<KeptInterval>, interval: KeptInterval)
     requires kept { AreKept kept.old.items }
@@ -219,7 +240,7 @@ fn add(kept: &mut Vec<KeptInterval>, interval: KeptInterval)
     if interval.stop <= interval.start {
         return;
     }
-    let before = kept.partition_point(|k| begins_by(k, interval.channel, interval.start));
+    let before = place_for(kept.as_slice(), interval.channel, interval.start);
     if before > 0 && kept[before - 1] == interval {
         return;
     }
@@ -239,77 +260,72 @@ pub(crate) fn add_all(kept: &mut Vec<KeptInterval>, intervals: &[KeptInterval])
     }
 }
 
-/// The intervals of a map that starts there, in 64-bit minislots.
-pub(crate) fn of_map(
+fn is_shared(interval: Interval) -> bool
+    ensures { result ≡ is_shared interval }
+{
+    interval.sid == Sid::EVERYBODY && interval.iuc == Iuc::REQUEST
+}
+
+/// Of the intervals of a map that starts there those in which every modem may send a request, in 64-bit minislots.
+pub(crate) fn shared(
     alloc: Global,
     ch: u8,
     start: u64,
     intervals: &[Interval],
 ) -> Result<Vec<KeptInterval>, AllocError>
     requires { start < 2 ^ 63 }
-    ensures items { IfOk result (λ v. v.items ≡ map (interval_of ch start) intervals.now) }
+    ensures items { IfOk result (λ v. v.items ≡ map (interval_of ch start) (filter is_shared intervals.now)) }
     ensures short { IfOk result (λ v. All IsShort v.items) }
 {
-    let mut kept = Vec::new(alloc);
+    let mut shared = Vec::new(alloc);
     for interval in intervals {
-        kept.push(interval_of(ch, start, *interval))?;
+        if is_shared(*interval) {
+            shared.push(interval_of(ch, start, *interval))?;
+        }
     }
-    Ok(kept)
+    Ok(shared)
 }
 
 // The part of an interval that a lease of its SID covers.
-fn piece(lease: OwnLease, interval: KeptInterval) -> Option<KeptInterval>
-    ensures { result ≡ piece interval lease }
+fn piece(lease: &OwnLease, interval: &KeptInterval) -> Option<KeptInterval>
+    ensures { result ≡ piece interval.now lease.now }
 {
-    if !is_of(&lease, interval.channel, interval.sid) {
+    if !is_of(lease, interval.channel, interval.sid) {
         return None;
     }
     Some(KeptInterval {
         start: interval.start.max(lease.first),
         stop: interval.stop.min(lease.last.saturating_add(1)),
-        ..interval
+        ..*interval
     })
 }
 
-fn pieces(
-    alloc: Global,
-    interval: KeptInterval,
-    leases: &[OwnLease],
-) -> Result<Vec<KeptInterval>, AllocError>
-    ensures { IfOk result (λ v. v.items ≡ filter_map (piece interval) leases.now) }
-{
-    let pieces = leases
-        .iter()
-        .filter_map(|l| piece(*l, interval))
-        .collect(alloc)?;
-    Ok(pieces)
-}
-
-fn add_pieces(
+// Adds the part that a lease of its SID covers.
+fn add_piece(
     covered: &mut Vec<KeptInterval>,
-    interval: KeptInterval,
-    leases: &[OwnLease],
+    interval: &KeptInterval,
+    lease: &OwnLease,
 ) -> Result<(), AllocError>
-    ensures { OnOk result (covered.new.items ≡ covered.old.items ++ filter_map (piece interval) leases.now) }
+    ensures { OnOk result (covered.new.items ≡ covered.old.items ++ filter_map (piece interval.now) (lease.now ∷ [])) }
 {
-    let pieces = pieces(*covered.allocator(), interval, leases)?;
-    covered.extend_from_slice(pieces.as_slice())?;
+    if let Some(piece) = piece(lease, interval) {
+        covered.push(piece)?;
+    }
     Ok(())
 }
 
-// The parts of intervals that leases of their SIDs cover.
-fn covered(
-    alloc: Global,
-    intervals: &[KeptInterval],
+// Adds the parts that leases of its SID cover.
+fn add_pieces(
+    covered: &mut Vec<KeptInterval>,
+    interval: &KeptInterval,
     leases: &[OwnLease],
-) -> Result<Vec<KeptInterval>, AllocError>
-    ensures { IfOk result (λ v. v.items ≡ covered leases.now intervals.now) }
+) -> Result<(), AllocError>
+    ensures { OnOk result (covered.new.items ≡ covered.old.items ++ filter_map (piece interval.now) leases.now) }
 {
-    let mut covered = Vec::new(alloc);
-    for interval in intervals {
-        add_pieces(&mut covered, *interval, leases)?;
+    for lease in leases {
+        add_piece(covered, interval, lease)?;
     }
-    Ok(covered)
+    Ok(())
 }
 
 /// Of the intervals of a map that starts there the parts that leases of their SIDs cover.
@@ -324,8 +340,11 @@ pub(crate) fn own(
     ensures items { IfOk result (λ v. v.items ≡ covered leases.now (map (interval_of ch start) intervals.now)) }
     ensures short { IfOk result (λ v. All IsShort v.items) }
 {
-    let given = of_map(alloc, ch, start, intervals)?;
-    let own = covered(alloc, given.as_slice(), leases)?;
+    let mut own = Vec::new(alloc);
+    for interval in intervals {
+        let given = interval_of(ch, start, *interval);
+        add_pieces(&mut own, &given, leases)?;
+    }
     Ok(own)
 }
 
@@ -387,6 +406,22 @@ fn least_stop(kept: &[KeptInterval], ch: u8, at: u64) -> Option<u64>
         least = sooner(least, stop_of(*interval, ch, at));
     }
     least
+}
+
+/// The first minislot after one behind which another of the channel's intervals is old.
+pub(crate) fn next_old(kept: &[KeptInterval], ch: u8, at: u64) -> Option<u64>
+    requires kept { AreKept kept.now }
+    requires time { at < 2 ^ 63 }
+    ensures after { IfSome result (λ n. at < n) }
+    ensures same { (x : ℕ) → at ≤ x → x < 2 ^ 63 → IsBefore result x → old_intervals ch (x + 1) (map kept_interval kept.now) ≡ old_intervals ch (at + 1) (map kept_interval kept.now) }
+{
+    if at < REACH {
+        return Some(REACH);
+    }
+    match next_start(kept, ch, at - REACH) {
+        Some(start) => Some(start.saturating_add(REACH)),
+        None => None,
+    }
 }
 
 /// The next minislot of a channel at which one of its intervals begins, or one that covers `at` is over. It costs

@@ -11,7 +11,9 @@ mod known;
 mod leases;
 mod modem;
 mod owner;
+mod sight;
 mod skipped;
+mod span;
 mod types;
 mod wants;
 

@@ -18,6 +18,8 @@ use crate::edges::sooner;
 use crate::intervals::HeardMap;
 use crate::kept::{self, KeptInterval};
 use crate::known::{Channel, OwnLease, Progress, Want};
+use crate::sight::{self, Sight};
+use crate::span::{self, Span};
 use crate::types::{Heard, Sending, TimeBack, WantFault};
 use crate::{channels, intervals, leases, wants};
 use grant_machine::Output;
@@ -38,6 +40,9 @@ pub struct Modem {
     grants: Vec<KeptInterval>,
     open_to_all: Vec<KeptInterval>,
     wants: Vec<Want>,
+    // What a tick needs to look at again only now and then, by channel.
+    sights: Vec<Sight>,
+    spans: Vec<Span>,
 }
 
 /// What a modem keeps of a channel: the intervals of its own SIDs, and those in which all may send a request.
@@ -48,15 +53,19 @@ pub struct OfChannel<'a> {
 }
 
 impl Model for Modem {
-    ghost use Rattle.std.specs.Prelude.{map};
+    ghost use Rattle.std.specs.Prelude.{map, length};
     ghost use Rattle.modem.specs.State.{State};
     ghost use Rattle.modem.specs.KeptIntervals.{kept_interval, AreKept};
+    ghost use Rattle.modem.specs.Sights.{AreSights};
+    ghost use Rattle.modem.specs.Spans.{AreSpans};
 
     ghost Value = { State };
 
     ghost view = { λ m. record { id = m.id; channels = m.channels.items; leases = m.leases.items; grants = map kept_interval m.grants.items; open_to_all = map kept_interval m.open_to_all.items; wants = m.wants.items } };
 
-    ghost invariant = { λ m. AreKept m.grants.items × AreKept m.open_to_all.items };
+    ghost invariant = { λ m. AreKept m.grants.items × AreKept m.open_to_all.items
+        × AreSights (length m.channels.items) (map kept_interval m.grants.items) (map kept_interval m.open_to_all.items) m.sights.items
+        × AreSpans m.leases.items m.wants.items m.spans.items };
 }
 
 impl Modem {
@@ -72,6 +81,8 @@ impl Modem {
             grants: Vec::new(alloc),
             open_to_all: Vec::new(alloc),
             wants: Vec::new(alloc),
+            sights: Vec::new(alloc),
+            spans: Vec::new(alloc),
         }
     }
 
@@ -136,6 +147,7 @@ impl Modem {
             tries: 0,
             progress: Progress::Unsent(None),
         };
+        span::forget(&mut self.spans);
         match self.wants.push(want) {
             Ok(()) => Ok(()),
             Err(_) => Err(WantFault::OutOfMemory),
@@ -152,9 +164,10 @@ impl Modem {
 
     /// What the modem sends at a minislot of a channel: by a grant of its own, else at a poll, else a request
     /// where all may send one (truncated binary exponential back-off; CM-SP-MULPIv3.1, upstream bandwidth
-    /// allocation). It takes no memory. It costs the modem's channels and wants, the logarithm of the intervals that
-    /// it keeps, and what of them begins less than 2^14 minislots before; and, once for each interval that has
-    /// ended, a constant for each channel.
+    /// allocation). It takes no memory. It costs the modem's channels and, where all may send a request, its wants.
+    /// Where an interval or a lease begins or is over, and after a MAP, a lease or a want, it also costs the modem's
+    /// leases, the logarithm of the intervals that it keeps, and what of them begins less than 2^14 minislots before;
+    /// and, once for each interval that has ended, a constant for each channel.
     pub fn tick(&mut self, ch: u8, slot: Slot, random: u64) -> Result<Option<Sending>, TimeBack>
         ensures unknown { channel_of self.old.channels ch ≡ None → (result ≡ Ok None) × (self.new ≡ self.old) }
         ensures back { IfSome (channel_of self.old.channels ch) (λ c. slot < channel_clock c → IsErr result × (self.new ≡ self.old)) }
@@ -170,15 +183,27 @@ impl Modem {
         if at < channel.clock {
             return Err(TimeBack);
         }
-        let counted = kept::counted(self.grants.as_slice(), channel.id, at);
-        let open = kept::is_open(self.open_to_all.as_slice(), channel.id, at);
-        let leases = self.leases.as_slice();
-        let sending = wants::send(&mut self.wants, leases, channel, at, random, counted, open);
-        let clock = at + 1;
-        wants::keep_lasting(&mut self.wants, leases, channel.id, clock);
         let count = self.channels.len();
-        kept::let_go_of_many(&mut self.grants, channel.id, clock, count);
-        kept::let_go_of_many(&mut self.open_to_all, channel.id, clock, count);
+        let grants = &mut self.grants;
+        let shared = &mut self.open_to_all;
+        let sight = sight::look(&mut self.sights, grants, shared, count, channel.id, at);
+        let leases = self.leases.as_slice();
+        let Sight {
+            counted,
+            is_open,
+            ..
+        } = sight;
+        let sending = wants::send(
+            &mut self.wants,
+            leases,
+            channel,
+            at,
+            random,
+            counted,
+            is_open,
+        );
+        span::keep_lasting(&mut self.spans, &mut self.wants, leases, channel.id, at);
+        let clock = at + 1;
         channels::set(&mut self.channels, Channel { clock, ..channel });
         Ok(sending)
     }
@@ -233,6 +258,8 @@ impl Modem {
                 Ok(Heard::Taken)
             }
             None => {
+                sight::add(&mut self.sights, ch)?;
+                span::add(&mut self.spans, ch)?;
                 self.channels.push(Channel {
                     id: ch,
                     ucd,
@@ -254,6 +281,7 @@ impl Modem {
             return Ok(Heard::NotMine);
         }
         let clock = channels::clock_of(self.channels.as_slice(), lease.channel);
+        span::forget(&mut self.spans);
         leases::add(&mut self.leases, lease, clock)?;
         Ok(Heard::Taken)
     }
@@ -295,6 +323,8 @@ impl Modem {
         ensures passes { Passes self.old channel near self.new }
         ensures lets_go { HasNoOld self.new channel.id }
     {
+        sight::forget(&mut self.sights);
+        span::forget(&mut self.spans);
         let clock = channel.clock.max(near.get());
         kept::let_go(&mut self.grants, channel.id, clock);
         kept::let_go(&mut self.open_to_all, channel.id, clock);
@@ -324,12 +354,13 @@ impl Modem {
         let heard = given.as_slice();
         let first = start.get();
         let own = kept::own(alloc, head.channel, first, heard, leases)?;
-        let shared = intervals::open_to_all(alloc, heard)?;
-        let open = kept::of_map(alloc, head.channel, first, shared.as_slice())?;
+        let open = kept::shared(alloc, head.channel, first, heard)?;
         let ack = intervals::ack_time(head.ack, start);
         let wants = wants::decided(alloc, self.wants.as_slice(), map, first, heard, ack, leases)?;
         self.grants.reserve(own.len())?;
         self.open_to_all.reserve(open.len())?;
+        sight::forget(&mut self.sights);
+        span::forget(&mut self.spans);
         let clock = channel.clock.max(near.get());
         kept::add_all(&mut self.grants, own.as_slice());
         kept::add_all(&mut self.open_to_all, open.as_slice());

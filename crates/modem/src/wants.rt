@@ -48,28 +48,29 @@ pub(crate) fn unsent(wants: &[Want], ch: u8, sid: u16) -> Option<Want>
     None
 }
 
-fn lesser(ch: u8, least: Option<Want>, want: Want) -> Option<Want>
-    ensures { result ≡ lesser ch least want }
+// Whether a want becomes the least so far, if its SID is the modem's.
+fn leads(ch: u8, least: &Option<Want>, want: &Want) -> bool
+    ensures { lesser ch least.now want.now ≡ (if result then Some want.now else least.now) }
 {
     if want.channel != ch || !is_unsent(want.progress) {
-        return least;
+        return false;
     }
-    let Some(best) = least else {
-        return Some(want);
-    };
-    if best.sid <= want.sid {
-        Some(best)
-    } else {
-        Some(want)
+    match least {
+        Some(best) if best.sid <= want.sid => false,
+        _ => true,
     }
 }
 
 // The least so far with one more want, which counts only where its SID is the modem's.
 fn lesser_own(leases: &[OwnLease], ch: u8, at: u64, least: Option<Want>, want: Want) -> Option<Want>
-    ensures { result ≡ (if is_own_at leases.now ch want.sid at then lesser ch least want else least) }
+    ensures own { is_own_at leases.now ch want.sid at ≡ true → result ≡ lesser ch least want }
+    ensures strange { is_own_at leases.now ch want.sid at ≡ false → result ≡ least }
 {
+    if !leads(ch, &least, &want) {
+        return least;
+    }
     if is_own_at(leases, ch, want.sid, at) {
-        lesser(ch, least, want)
+        Some(want)
     } else {
         least
     }

@@ -1,5 +1,5 @@
 -- The written world after one node moved.
-use Rattle.std.proofs.Common.{◌≡◌, ℕ, zero, suc, List, [], ◌∷◌, ◌++◌, append-nil, Option, Some, None, slice_get, slice_set, refl, sym, ap, ◌∙◌}
+use Rattle.std.proofs.Common.{◌≡◌, ℕ, [], ◌++◌, append-nil, Option, Some, None, slice_get, slice_set, ◌∙◌}
 use Rattle.acceptor.specs.Content.{Write, record_write}
 use Rattle.node.specs.View.{View, Standing}
 use Rattle.node.specs.View.Standing.{Running, Stopped}
@@ -8,11 +8,7 @@ use Rattle.seats.specs.Release.{released, released_all}
 use Rattle.seats.specs.Moves.{quiet, whole, lost, gives}
 use Rattle.network_script.specs.World.{Written, released_by}
 use Rattle.network_script.specs.Next.{after}
-
-pub set_got : {A : Type 0} (xs : List A) (k : ℕ) (x : A) → slice_get xs k ≡ Some x → slice_set xs k x ≡ xs
-set_got [] k x at = refl
-set_got {A} (y ∷ xs) zero x at = let same : y ≡ x = cc in ap (λ (z : A). z ∷ xs) (sym same)
-set_got {A} (y ∷ xs) (suc k) x at = ap (λ (zs : List A). y ∷ zs) (set_got xs k x at)
+use Rattle.network_script.proofs.Lists.{set_again}
 
 -- no letters and no outputs
 pub after_write_alone : (w : Written) (k : ℕ) (s : Standing) (write : Option Write)
@@ -23,7 +19,7 @@ pub after_quiet : (w : Written) (k : ℕ) (s : Standing) → after w k (quiet s)
 after_quiet w k s = after_write_alone w k s None
 
 pub after_same : (w : Written) (k : ℕ) (s : Standing) → slice_get w.nodes k ≡ Some s → after w k (quiet s) ≡ w
-after_same w k s at = after_quiet w k s ∙ (λ i. record w { nodes = set_got w.nodes k s at i })
+after_same w k s at = after_quiet w k s ∙ (λ i. record w { nodes = set_again w.nodes k s at i })
 
 pub after_lost : (w : Written) (k : ℕ) (o : Outcome) → after w k (lost o) ≡ record w { nodes = slice_set w.nodes k (Stopped o.view.content None); history = record_write k o.write w.history }
 after_lost w k o = after_write_alone w k (Stopped o.view.content None) o.write

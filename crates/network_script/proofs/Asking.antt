@@ -9,11 +9,12 @@ use Rattle.map_release.specs.declared.numbered.Numbered.{Numbered}
 use Rattle.node.specs.declared.node.Node.{Ghosts}
 use Rattle.node.specs.View.{Standing}
 use Rattle.node.specs.Calls.Cause.{Lead as AskedToLead, Offer as Offered, Receive as Received, Tell as AskedToTell}
-use Rattle.seats.specs.Acts.{Acts, kept_of}
+use Rattle.seats.specs.Acts.{Acts, AnswersAsOwed, kept_of}
 use Rattle.seats.specs.Modems.{ModemNext, sent_at}
 use Rattle.seats.specs.Moves.{Ask, Move, Moves}
 use Rattle.seats.specs.Moves.Ask.{Call, TakeThenCrash, Release, Crash, Restart}
-use Rattle.seats.specs.Occupant.{IsHonest, Stands, is_up, member}
+use Rattle.seats.specs.Occupant.{IsHonest, Stands, member}
+use Rattle.seats.specs.Owes.{Outside, outside}
 use Rattle.seats.specs.Receiver.{Receiver}
 use Rattle.seats.specs.Receiving.{Hold, sent_by}
 use Rattle.seats.specs.StoreFaults.{is_store_fault}
@@ -31,7 +32,7 @@ use Rattle.network_script.specs.Asking.{Asks, Delivers, HappensTo, IsUnchanged, 
 use Rattle.network_script.specs.Counts.{CountNext, Counts, called_by, counts}
 use Rattle.network_script.specs.Next.{Comes, Next, OfNode, OnModems, after, taking}
 use Rattle.network_script.specs.Outward.{OfModems, Outward, SeenNext, SeenOfNode, SeenToCome, outward}
-use Rattle.network_script.specs.Seats.{AllHonest, AllKeepTrust, AreStandings, ups}
+use Rattle.network_script.specs.Seats.{AllHonest, AllKeepTrust, AreStandings}
 use Rattle.network_script.specs.Trust.{NoFailedRestart}
 use Rattle.network_script.specs.World.{Written, released_by}
 use Rattle.network_script.specs.Worlds.{AreHonest, Happens, letters_of, outputs_of, receivers_of, seats_of, transmissions_of, written}
@@ -68,14 +69,14 @@ module _ {N : Type 0} {g : Ghosts N} (old : World N g) where
   -- an event asks node k so: what that is in a written world, and from without
   pub record Calls (event : Event) (k : ℕ) (ask : Ask) : Type 0 where
     pub next : (members : ℕ) (w w' : Written) (answer : Answer) → w.letters ≡ letters_of old → OfNode members w k (slice_get w.nodes k) ask answer w' → Next members w event answer w'
-    pub seen : (o o' : Outward) (answer : Answer) → o.letters ≡ letters_of old → SeenOfNode o k (slice_get o.up k) ask answer o' → SeenNext o event answer o'
+    pub seen : (o o' : Outward) (answer : Answer) → o.letters ≡ letters_of old → SeenOfNode o k (slice_get o.nodes k) ask answer o' → SeenNext o event answer o'
     pub called : called_by (map (λ (letter : Letter). letter.to) (letters_of old)) event ≡ Some k
     pub well : (answer : Answer) → NoFailedRestart event answer → (fault : NodeFault) → ask ≡ Restart → answer ≡ Fault fault → ⊥
 
   -- nothing changed
   unchanged : (new : World N g) (event : Event) (answer : Answer) → IsUnchanged old new → is_store_fault answer ≡ false
       → ((members : ℕ) (w : Written) → w.letters ≡ letters_of old → length w.nodes ≡ length (seats_of old) → Next members w event answer w)
-      → ((o : Outward) → o.letters ≡ letters_of old → o.up ≡ ups (seats_of old) → SeenNext o event answer o)
+      → ((o : Outward) → o.letters ≡ letters_of old → o.nodes ≡ map outside (seats_of old) → SeenNext o event answer o)
       → HappensTo old event answer new
   unchanged new event answer same quiet next seen = record {
     honesty = λ honest. subst (λ (ss : List (Seat N g)). AllHonest ss) same.0 honest;
@@ -97,8 +98,8 @@ module _ {N : Type 0} {g : Ghosts N} (old : World N g) where
         let is : counts new ≡ counts old = λ i. record { failures = map F (same.0 i); addressees = map (λ (letter : Letter). letter.to) (same.1 i) } in
         subst (λ (n : Counts). CountNext (counts old) event answer n) (sym is) (count_still (counts old) event answer quiet);
     seen = λ modems hold.
-        let f : Seat N g → Bool = is_up in
-        let is : outward new modems ≡ outward old modems = λ i. record { up = map f (same.0 i); letters = same.1 i; outputs = same.2 i; modems = modems; transmissions = sent_by (same.3 i) } in (
+        let f : Seat N g → Outside = outside in
+        let is : outward new modems ≡ outward old modems = λ i. record { nodes = map f (same.0 i); letters = same.1 i; outputs = same.2 i; modems = modems; transmissions = sent_by (same.3 i) } in (
           modems,
           subst (λ (o : Outward). SeenNext (outward old modems) event answer o) (sym is) (seen (outward old modems) refl refl),
           subst (λ (r : Receivers). Hold r modems) (sym same.3) hold,
@@ -110,13 +111,13 @@ module _ {N : Type 0} {g : Ghosts N} (old : World N g) where
   missing new event k ask calls same past = unchanged new event (Refused NoNode) same refl
       (λ members w letters size. calls.next members w w (Refused NoNode) letters
       (subst (λ (s : Option Standing). OfNode members w k s ask (Refused NoNode) w) (sym (slice_get_past w.nodes k (omega (arith, size, past)))) (refl, refl)))
-      (λ o letters up. calls.seen o o (Refused NoNode) letters
-      (subst (λ (b : Option Bool). SeenOfNode o k b ask (Refused NoNode) o) (sym (none o up)) (refl, refl)))
+      (λ o letters nodes. calls.seen o o (Refused NoNode) letters
+      (subst (λ (was : Option Outside). SeenOfNode o k was ask (Refused NoNode) o) (sym (none o nodes)) (refl, refl)))
     where
-      none : (o : Outward) → o.up ≡ ups (seats_of old) → slice_get o.up k ≡ None
-      none o up =
-          let f : Seat N g → Bool = is_up in
-          ap (λ (bs : List Bool). slice_get bs k) up ∙ slice_get_past (map f (seats_of old)) k (omega (arith, length-map (seats_of old) f, past))
+      none : (o : Outward) → o.nodes ≡ map outside (seats_of old) → slice_get o.nodes k ≡ None
+      none o nodes =
+          let f : Seat N g → Outside = outside in
+          ap (λ (ns : List Outside). slice_get ns k) nodes ∙ slice_get_past (map f (seats_of old)) k (omega (arith, length-map (seats_of old) f, past))
 
   module _ (new : World N g) (event : Event) (k : ℕ) (ask : Ask) (answer : Answer) (calls : Calls event k ask) (went : Went old k ask answer new) where
     abbrev seats : List (Seat N g)
@@ -153,15 +154,17 @@ module _ {N : Type 0} {g : Ghosts N} (old : World N g) where
 
     is_seen : (modems : List Receiver) → Hold (receivers_of old) modems → (later : List Receiver) × SeenNext (outward old modems) event answer (outward new later) × Hold (receivers_of new) later
     is_seen modems hold =
-        let f : Seat N g → Bool = is_up in
+        let f : Seat N g → Outside = outside in
         let o = outward old modems in
         let o' = outward new modems in
-        let there : slice_get o.up k ≡ Some (is_up went.before) = seen_at f seats k went.before went.within went.at in
-        let up : o'.up ≡ slice_set o.up k (is_up went.after) = ap (λ (ss : List (Seat N g)). map f ss) went.seats ∙ map-set f seats k went.after in
-        let is : o' ≡ record o { up = slice_set o.up k (is_up went.after); letters = o.letters ++ went.letters; outputs = o.outputs ++ released_by k went.outputs } =
-        λ i. record { up = up i; letters = went.sent i; outputs = went.released i; modems = modems; transmissions = sent_by (went.receivers i) } in (
+        let there : slice_get o.nodes k ≡ Some (outside went.before) = seen_at f seats k went.before went.within went.at in
+        let named : member went.before ≡ (k, length o.nodes) = who_at seats k went.before went.within went.at old.numbered ∙ ap (λ (n : ℕ). (k, n)) (sym (length-map seats f)) in
+        let answers = subst (λ (who : ℕ × ℕ). AnswersAsOwed who.1 who.0 (outside went.before) ask answer went.letters went.outputs (outside went.after)) named acts.answers in
+        let nodes : o'.nodes ≡ slice_set o.nodes k (outside went.after) = ap (λ (ss : List (Seat N g)). map f ss) went.seats ∙ map-set f seats k went.after in
+        let is : o' ≡ record o { nodes = slice_set o.nodes k (outside went.after); letters = o.letters ++ went.letters; outputs = o.outputs ++ released_by k went.outputs } =
+        λ i. record { nodes = nodes i; letters = went.sent i; outputs = went.released i; modems = modems; transmissions = sent_by (went.receivers i) } in (
           modems,
-          calls.seen o o' answer refl (subst (λ (b : Option Bool). SeenOfNode o k b ask answer o') (sym there) (is_up went.after, went.letters, went.outputs, acts.answers, acts.goes_out, is)),
+          calls.seen o o' answer refl (subst (λ (was : Option Outside). SeenOfNode o k was ask answer o') (sym there) (outside went.after, went.letters, went.outputs, answers, is)),
           subst (λ (r : Receivers). Hold r modems) (sym went.receivers) hold,
         )
 
@@ -191,36 +194,27 @@ module _ {N : Type 0} {g : Ghosts N} (old : World N g) where
       subst (λ (a : Answer). HappensTo old event a new) (sym told) (missing new event k ask calls same past)
   asked new event k ask answer calls (inr went) = goes new event k ask answer calls went
 
-  -- one that asks by number
+  -- one that asks by number, and for no restart
+  by_number : (event : Event) (k : ℕ) (ask : Ask) → ((members : ℕ) (w w' : Written) (answer : Answer) → OfNode members w k (slice_get w.nodes k) ask answer w' → Next members w event answer w')
+      → ((o o' : Outward) (answer : Answer) → SeenOfNode o k (slice_get o.nodes k) ask answer o' → SeenNext o event answer o')
+      → called_by (map (λ (letter : Letter). letter.to) (letters_of old)) event ≡ Some k → (ask ≡ Restart → ⊥) → Calls event k ask
+  by_number event k ask next seen called other =
+      record { next = λ members w w' answer letters of. next members w w' answer of; seen = λ o o' answer letters of. seen o o' answer of; called = called; well = λ answer well fault is told. absurd (other is) }
+
   pub to_lead : (k : ℕ) → Calls (event.Lead k) k (Call AskedToLead)
-  to_lead k = record { next = λ members w w' answer letters of. of; seen = λ o o' answer letters of. of; called = refl; well = λ answer well fault is told. absurd (no_restart is) }
-    where
-      no_restart : Call AskedToLead ≡ Restart → ⊥
-      no_restart is = cc
+  to_lead k = by_number (event.Lead k) k (Call AskedToLead) (λ members w w' answer of. of) (λ o o' answer of. of) refl (λ is. cc)
 
   pub to_offer : (k : ℕ) (value : List ℕ) → Calls (event.Offer k value) k (Call (Offered value))
-  to_offer k value = record { next = λ members w w' answer letters of. of; seen = λ o o' answer letters of. of; called = refl; well = λ answer well fault is told. absurd (no_restart is) }
-    where
-      no_restart : Call (Offered value) ≡ Restart → ⊥
-      no_restart is = cc
+  to_offer k value = by_number (event.Offer k value) k (Call (Offered value)) (λ members w w' answer of. of) (λ o o' answer of. of) refl (λ is. cc)
 
   pub to_tell : (k to place : ℕ) → Calls (event.Tell k to place) k (Call (AskedToTell to place))
-  to_tell k to place = record { next = λ members w w' answer letters of. of; seen = λ o o' answer letters of. of; called = refl; well = λ answer well fault is told. absurd (no_restart is) }
-    where
-      no_restart : Call (AskedToTell to place) ≡ Restart → ⊥
-      no_restart is = cc
+  to_tell k to place = by_number (event.Tell k to place) k (Call (AskedToTell to place)) (λ members w w' answer of. of) (λ o o' answer of. of) refl (λ is. cc)
 
   pub to_release : (k now : ℕ) → Calls (event.Release k now) k (Release now)
-  to_release k now = record { next = λ members w w' answer letters of. of; seen = λ o o' answer letters of. of; called = refl; well = λ answer well fault is told. absurd (no_restart is) }
-    where
-      no_restart : Release now ≡ Restart → ⊥
-      no_restart is = cc
+  to_release k now = by_number (event.Release k now) k (Release now) (λ members w w' answer of. of) (λ o o' answer of. of) refl (λ is. cc)
 
   pub to_crash : (k : ℕ) → Calls (event.Crash k) k Crash
-  to_crash k = record { next = λ members w w' answer letters of. of; seen = λ o o' answer letters of. of; called = refl; well = λ answer well fault is told. absurd (no_restart is) }
-    where
-      no_restart : Crash ≡ Restart → ⊥
-      no_restart is = cc
+  to_crash k = by_number (event.Crash k) k Crash (λ members w w' answer of. of) (λ o o' answer of. of) refl (λ is. cc)
 
   pub to_restart : (k : ℕ) → Calls (event.Restart k) k Restart
   to_restart k = record { next = λ members w w' answer letters of. of; seen = λ o o' answer letters of. of; called = refl; well = λ answer well fault is told. well k fault refl told }
@@ -230,27 +224,21 @@ module _ {N : Type 0} {g : Ghosts N} (old : World N g) where
     there : (letters : List Letter) → letters ≡ letters_of old → slice_get letters i ≡ Some l
     there letters same = ap (λ (ls : List Letter). slice_get ls i) same ∙ slice_get_read (letters_of old) (length (letters_of old)) i l refl within at
 
-    pub to_take : Calls (event.Deliver i) l.to (Call (Received l))
-    to_take = record {
-      next = λ members w w' answer letters of. subst (λ (found : Option Letter). Comes members w found (λ x. Call (Received x)) answer w') (sym (there w.letters letters)) of;
-      seen = λ o o' answer letters of. subst (λ (found : Option Letter). SeenToCome o found (λ x. Call (Received x)) answer o') (sym (there o.letters letters)) of;
-      called = seen_at (λ (letter : Letter). letter.to) (letters_of old) i l within at;
-      well = λ answer well fault is told. absurd (no_restart is);
+    takes : (event : Event) (ask : Letter → Ask) → ((members : ℕ) (w w' : Written) (answer : Answer) → Comes members w (slice_get w.letters i) ask answer w' → Next members w event answer w')
+        → ((o o' : Outward) (answer : Answer) → SeenToCome o (slice_get o.letters i) ask answer o' → SeenNext o event answer o')
+        → called_by (map (λ (letter : Letter). letter.to) (letters_of old)) event ≡ slice_get (map (λ (letter : Letter). letter.to) (letters_of old)) i → (ask l ≡ Restart → ⊥) → Calls event l.to (ask l)
+    takes event ask next seen called other = record {
+      next = λ members w w' answer letters of. next members w w' answer (subst (λ (found : Option Letter). Comes members w found ask answer w') (sym (there w.letters letters)) of);
+      seen = λ o o' answer letters of. seen o o' answer (subst (λ (found : Option Letter). SeenToCome o found ask answer o') (sym (there o.letters letters)) of);
+      called = called ∙ seen_at (λ (letter : Letter). letter.to) (letters_of old) i l within at;
+      well = λ answer well fault is told. absurd (other is);
     }
-      where
-        no_restart : Call (Received l) ≡ Restart → ⊥
-        no_restart is = cc
+
+    pub to_take : Calls (event.Deliver i) l.to (Call (Received l))
+    to_take = takes (event.Deliver i) (λ x. Call (Received x)) (λ members w w' answer of. of) (λ o o' answer of. of) refl (λ is. cc)
 
     pub to_take_last : Calls (event.DeliverThenCrash i) l.to (TakeThenCrash l)
-    to_take_last = record {
-      next = λ members w w' answer letters of. subst (λ (found : Option Letter). Comes members w found TakeThenCrash answer w') (sym (there w.letters letters)) of;
-      seen = λ o o' answer letters of. subst (λ (found : Option Letter). SeenToCome o found TakeThenCrash answer o') (sym (there o.letters letters)) of;
-      called = seen_at (λ (letter : Letter). letter.to) (letters_of old) i l within at;
-      well = λ answer well fault is told. absurd (no_restart is);
-    }
-      where
-        no_restart : TakeThenCrash l ≡ Restart → ⊥
-        no_restart is = cc
+    to_take_last = takes (event.DeliverThenCrash i) TakeThenCrash (λ members w w' answer of. of) (λ o o' answer of. of) refl (λ is. cc)
 
   -- there is no letter i
   no_letter : (new : World N g) (event : Event) (ask : Letter → Ask) (i : ℕ) → IsUnchanged old new
@@ -259,7 +247,7 @@ module _ {N : Type 0} {g : Ghosts N} (old : World N g) where
       → length (letters_of old) ≤ i → HappensTo old event (Refused NoLetter) new
   no_letter new event ask i same next seen past = unchanged new event (Refused NoLetter) same refl
       (λ members w letters size. next members w w (Refused NoLetter) (subst (λ (found : Option Letter). Comes members w found ask (Refused NoLetter) w) (sym (none w.letters letters)) (refl, refl)))
-      (λ o letters up. seen o o (Refused NoLetter) (subst (λ (found : Option Letter). SeenToCome o found ask (Refused NoLetter) o) (sym (none o.letters letters)) (refl, refl)))
+      (λ o letters nodes. seen o o (Refused NoLetter) (subst (λ (found : Option Letter). SeenToCome o found ask (Refused NoLetter) o) (sym (none o.letters letters)) (refl, refl)))
     where
       none : (letters : List Letter) → letters ≡ letters_of old → slice_get letters i ≡ None
       none letters same = ap (λ (ls : List Letter). slice_get ls i) same ∙ slice_get_past (letters_of old) i past
@@ -301,9 +289,9 @@ module _ {N : Type 0} {g : Ghosts N} (old : World N g) where
         let same : counts new ≡ counts old = λ i. record { failures = map F (seats i); addressees = map (λ (letter : Letter). letter.to) (letters i) } in
         subst (λ (n : Counts). CountNext (counts old) event answer n) (sym same) (count_still (counts old) event answer quiet);
     seen = λ modems hold.
-        let f : Seat N g → Bool = is_up in
+        let f : Seat N g → Outside = outside in
         let r = next modems hold in
         let is : outward new r.0 ≡ record (outward old modems) { modems = r.0; transmissions = transmissions_of old ++ sent_at event answer } =
-        λ i. record { up = map f (seats i); letters = letters i; outputs = outputs i; modems = r.0; transmissions = transmissions i } in
+        λ i. record { nodes = map f (seats i); letters = letters i; outputs = outputs i; modems = r.0; transmissions = transmissions i } in
         (r.0, to_seen (outward old modems) (outward new r.0) (r.0, r.1, is), r.2);
   }

@@ -1,8 +1,9 @@
 -- A MAP among the outputs of commands tells its own channel and start: what its bytes say, if they are a body.
-use Rattle.std.proofs.Common.{◌≡◌, ℕ, zero, suc, ◌+◌, ◌^◌, ◌<◌, ◌≤◌, Bool, true, false, cond, ◌&&◌, nat_le, List, [], ◌∷◌, ◌++◌, length, take, drop, refl, sym, ◌∙◌, ap, subst, arith, mod-lt, Option, Some, None, slice_get, slice_index_or, Contains}
+use Rattle.std.proofs.Common.{◌≡◌, ℕ, zero, suc, ◌+◌, ◌^◌, ◌<◌, ◌≤◌, Bool, true, false, cond, ◌&&◌, nat_le, List, [], ◌∷◌, ◌++◌, take, drop, refl, sym, ◌∙◌, ap, subst, arith, mod-lt, Option, Some, None, slice_get, Contains}
 use Rattle.std.specs.Int.{w32, to_be_bytes, from_be_bytes}
 use Rattle.std.specs.List.{find}
 use Rattle.std.proofs.lemmas.Bool.{and_parts, leb-true, eqb-true}
+use Rattle.std.proofs.lemmas.Option.{slice_get_read}
 use Rattle.std.proofs.lemmas.Nat.{from_be_bytes-to_be_bytes_4}
 use Rattle.minislot_time.specs.Wire.{wire}
 use Rattle.map_body.specs.declared.head.Head.{Head}
@@ -10,7 +11,7 @@ use Rattle.map_body.specs.Body.{Body}
 use Rattle.map_body.specs.Layout.{head_bytes, layout, IsBody}
 use Rattle.flow_state.specs.declared.refusal.Refusal.{Refusal}
 use Rattle.flow_state.specs.declared.refusal.Refusal.TheVariants.{BadValue}
-use Rattle.flow_state.specs.Limits.{last_time}
+use Rattle.flow_state.specs.Limits.{last_time, most_minislots}
 use Rattle.flow_state.specs.Refusals.{on_table}
 use Rattle.flow_state.specs.Rows.{Rows, Table, is_table, table_of}
 use Rattle.grant_machine.specs.declared.command.Command.{Command}
@@ -48,8 +49,8 @@ found_id ch (u ∷ rows) t is = go (is_table ch u) refl is (found_id ch rows t)
 fill_end : (t : Table) (len not_before ack : ℕ) → fill_refusal t.row len not_before ack ≡ None → end_of (span_of t.row len not_before) ≤ last_time
 fill_end t len not_before ack ok = go _ refl ok
   where
-    go : (b : Bool) → (nat_le 1 len && nat_le len 4096 && nat_le not_before last_time && nat_le ack last_time && nat_le (end_of (span_of t.row len not_before)) last_time) ≡ b → cond b None (Some BadValue) ≡ None → end_of (span_of t.row len not_before) ≤ last_time
-    go true all is = leb-true (end_of (span_of t.row len not_before)) last_time (and_parts (nat_le 1 len && nat_le len 4096 && nat_le not_before last_time && nat_le ack last_time) (nat_le (end_of (span_of t.row len not_before)) last_time) all).1
+    go : (b : Bool) → (nat_le 1 len && nat_le len most_minislots && nat_le not_before last_time && nat_le ack last_time && nat_le (end_of (span_of t.row len not_before)) last_time) ≡ b → cond b None (Some BadValue) ≡ None → end_of (span_of t.row len not_before) ≤ last_time
+    go true all is = leb-true (end_of (span_of t.row len not_before)) last_time (and_parts (nat_le 1 len && nat_le len most_minislots && nat_le not_before last_time && nat_le ack last_time) (nat_le (end_of (span_of t.row len not_before)) last_time) all).1
     go false all is = absurd (cc (is))
 
 -- a cut of a table that isn't refused draws its MAP
@@ -94,11 +95,6 @@ drawn_from rows [] k ch start n bytes map is body = absurd (cc (is))
 drawn_from rows (c ∷ cs) zero ch start n bytes map is body = step_drawn rows c ch start n bytes map (cc (is)) body
 drawn_from rows (c ∷ cs) (suc k) ch start n bytes map is body = drawn_from (step rows c).rows cs k ch start n bytes map is body
 
-contained_at : {X : Type 0} (xs : List X) (k : ℕ) (x : X) → k < length xs → slice_index_or xs k x ≡ x → slice_get xs k ≡ Some x
-contained_at [] k x within is = absurd (omega arith)
-contained_at (y ∷ xs) zero x within is = ap (λ (z : _). Some z) is
-contained_at (y ∷ xs) (suc k) x within is = contained_at xs k x (omega arith) is
-
 -- a MAP among the outputs, whose bytes are a body, is drawn
 pub is_drawn : (cs : List Command) (ch start n : ℕ) (bytes : List ℕ) (map : Body) → Contains (outputs_of cs) (outputs.Map ch start n bytes) → IsBody bytes map → IsDrawn ch start map
-is_drawn cs ch start n bytes map (k, within, is) body = drawn_from [] cs k ch start n bytes map (contained_at (outputs_of cs) k (outputs.Map ch start n bytes) within is) body
+is_drawn cs ch start n bytes map (k, within, is) body = drawn_from [] cs k ch start n bytes map (slice_get_read (outputs_of cs) _ k (outputs.Map ch start n bytes) refl within (sym is)) body

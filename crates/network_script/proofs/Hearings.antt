@@ -1,5 +1,5 @@
 -- What the modems of a run have heard was released, what they stand for is kept, and what they send is held.
-use Rattle.std.proofs.Common.{◌≡◌, ◌≢◌, ◌⊎◌, inl, inr, ⊎_elim, ℕ, ◌≤◌, List, [], ◌∷◌, ◌++◌, refl, sym, ◌∙◌, ap, subst, Option, Some, None, slice_get, slice_set, MatchBool, Bool, true, false, ◌==◌}
+use Rattle.std.proofs.Common.{◌≡◌, ◌≢◌, ◌⊎◌, inl, inr, ⊎_elim, ℕ, List, [], ◌∷◌, ◌++◌, refl, sym, ◌∙◌, ap, subst, Option, Some, None, slice_get, slice_set, MatchBool, Bool, true, false, ◌==◌}
 use Rattle.std.proofs.lemmas.Bool.Decides.{eqb_tells}
 use Rattle.std.proofs.lemmas.Option.{slice_get_within}
 use Rattle.ballots.specs.Voting.{IsIn}
@@ -8,11 +8,11 @@ use Rattle.grant_machine.specs.declared.output.Output.TheVariants as output
 use Rattle.modem.specs.declared.types.Heard.{Heard}
 use Rattle.modem.specs.declared.types.Heard.TheVariants as heard
 use Rattle.modem.specs.declared.types.Sending.{Sending}
-use Rattle.modem.specs.State.{KnownChannel, channel_clock, State, channel_of, lease_of}
+use Rattle.modem.specs.State.{KnownChannel, State, channel_of, lease_of}
 use Rattle.modem.specs.Held.{Hearing, Held, HasHeard, unicast_sid}
 use Rattle.modem.specs.Hears.{Hears, leases_heard}
-use Rattle.modem.specs.Ticks.{Ticks}
 use Rattle.modem.specs.Owner.{IsTimely}
+use Rattle.modem.proofs.Callers.{Hears-stands, Ticks-stands, Ticks-held}
 use Rattle.world_events.specs.declared.event.Event.{Event}
 use Rattle.world_events.specs.declared.event.Event.TheVariants as event
 use Rattle.seats.specs.declared.answer.Answer.{Answer}
@@ -135,100 +135,96 @@ wants_follow outputs r r' ch sid n (answer.WantRefused fault) is = follows_same 
 wants_follow outputs r r' ch sid n (answer.Refused refusal.OutOfMemory) is = follows_same outputs r r' is.1
 wants_follow outputs r r' ch sid n told none = absurd none
 
--- what is proved of the modem's relations: what a modem stands for is kept by what it hears and by its ticks, and what it sends it holds
-module _ (hears_stand : (old new : State) (o : Output) (near : ℕ) (h : Heard) (hearings : List Hearing) → Hears old o near h new → HasHeard old hearings → HasHeard new (record { output = o; near = near; answer = h } ∷ hearings))
-    (ticks_stand : (old new : State) (c : KnownChannel) (ch slot random : ℕ) (sending : Option Sending) (hearings : List Hearing) → channel_of old.channels ch ≡ Some c → channel_clock c ≤ slot → Ticks old c slot random sending new → HasHeard old hearings → HasHeard new hearings)
-    (ticks_held : (old new : State) (c : KnownChannel) (ch slot random : ℕ) (sending : Option Sending) (hearings : List Hearing) (sid : ℕ) → channel_of old.channels ch ≡ Some c → channel_clock c ≤ slot → Ticks old c slot random sending new → HasHeard old hearings → unicast_sid sending ≡ Some sid → Held old.id hearings ch slot sid) where
-  hears_follow : (outputs : List ReleasedOutput) (r r' : Receiver) (x : ReleasedOutput) (near : ℕ) (told : Answer) → IsIn outputs x → HearsOutput r x.numbered.output near told r' → Follows outputs r r'
-  hears_follow outputs r r' x near (answer.Heard h) there is = record {
-    id = hears_id r.state r'.state x.numbered.output near h is.1;
-    stands = λ s. subst (λ (hs : List Hearing). HasHeard r'.state hs) (sym is.2) (hears_stand r.state r'.state x.numbered.output near h r.heard is.1 s);
-    heard = λ a. subst (AreReleased outputs) (sym is.2) ((x, there, refl), is.0, a);
-    held = λ n ch m sid held. subst (λ (hs : List Hearing). Held n hs ch m sid) (sym is.2) (held.0, inr held.1);
-  }
-  hears_follow outputs r r' x near (answer.Refused refusal.TooOld) there is = follows_same outputs r r' is.1
-  hears_follow outputs r r' x near (answer.Refused refusal.OutOfMemory) there is = follows_same outputs r r' is.2
-  hears_follow outputs r r' x near told there none = absurd none
+hears_follow : (outputs : List ReleasedOutput) (r r' : Receiver) (x : ReleasedOutput) (near : ℕ) (told : Answer) → IsIn outputs x → HearsOutput r x.numbered.output near told r' → Follows outputs r r'
+hears_follow outputs r r' x near (answer.Heard h) there is = record {
+  id = hears_id r.state r'.state x.numbered.output near h is.1;
+  stands = λ s. subst (λ (hs : List Hearing). HasHeard r'.state hs) (sym is.2) (Hears-stands r.state r'.state x.numbered.output near h r.heard is.1 s);
+  heard = λ a. subst (AreReleased outputs) (sym is.2) ((x, there, refl), is.0, a);
+  held = λ n ch m sid held. subst (λ (hs : List Hearing). Held n hs ch m sid) (sym is.2) (held.0, inr held.1);
+}
+hears_follow outputs r r' x near (answer.Refused refusal.TooOld) there is = follows_same outputs r r' is.1
+hears_follow outputs r r' x near (answer.Refused refusal.OutOfMemory) there is = follows_same outputs r r' is.2
+hears_follow outputs r r' x near told there none = absurd none
 
-  listens_follow : (outputs : List ReleasedOutput) (r r' : Receiver) (i near : ℕ) (told : Answer) (there : Option ReleasedOutput) → slice_get outputs i ≡ there → Listens r there near told r' → Follows outputs r r'
-  listens_follow outputs r r' i near told None is unmoved = follows_same outputs r r' unmoved.1
-  listens_follow outputs r r' i near told (Some x) is hears = hears_follow outputs r r' x near told (get_in outputs i x is) hears
+listens_follow : (outputs : List ReleasedOutput) (r r' : Receiver) (i near : ℕ) (told : Answer) (there : Option ReleasedOutput) → slice_get outputs i ≡ there → Listens r there near told r' → Follows outputs r r'
+listens_follow outputs r r' i near told None is unmoved = follows_same outputs r r' unmoved.1
+listens_follow outputs r r' i near told (Some x) is hears = hears_follow outputs r r' x near told (get_in outputs i x is) hears
 
-  known_follow : (outputs : List ReleasedOutput) (r r' : Receiver) (ch slot random : ℕ) (c : KnownChannel) (told : Answer) → channel_of r.state.channels ch ≡ Some c → ComesToKnown r slot random c told r' → Follows outputs r r'
-  known_follow outputs r r' ch slot random c (answer.Ticked sending) found is = record {
-    id = is.1.id;
-    stands = λ s. subst (λ (hs : List Hearing). HasHeard r'.state hs) (sym is.2) (ticks_stand r.state r'.state c ch slot random sending r.heard found is.0 is.1 s);
-    heard = λ a. subst (AreReleased outputs) (sym is.2) a;
-    held = λ n ch m sid held. subst (λ (hs : List Hearing). Held n hs ch m sid) (sym is.2) held;
-  }
-  known_follow outputs r r' ch slot random c (answer.Refused refusal.TimeBack) found is = follows_same outputs r r' is.1
-  known_follow outputs r r' ch slot random c (answer.Refused refusal.OutOfMemory) found is = follows_same outputs r r' is.1
-  known_follow outputs r r' ch slot random c told found none = absurd none
+known_follow : (outputs : List ReleasedOutput) (r r' : Receiver) (ch slot random : ℕ) (c : KnownChannel) (told : Answer) → channel_of r.state.channels ch ≡ Some c → ComesToKnown r slot random c told r' → Follows outputs r r'
+known_follow outputs r r' ch slot random c (answer.Ticked sending) found is = record {
+  id = is.1.id;
+  stands = λ s. subst (λ (hs : List Hearing). HasHeard r'.state hs) (sym is.2) (Ticks-stands r.state r'.state c ch slot random sending r.heard found is.0 is.1 s);
+  heard = λ a. subst (AreReleased outputs) (sym is.2) a;
+  held = λ n ch m sid held. subst (λ (hs : List Hearing). Held n hs ch m sid) (sym is.2) held;
+}
+known_follow outputs r r' ch slot random c (answer.Refused refusal.TimeBack) found is = follows_same outputs r r' is.1
+known_follow outputs r r' ch slot random c (answer.Refused refusal.OutOfMemory) found is = follows_same outputs r r' is.1
+known_follow outputs r r' ch slot random c told found none = absurd none
 
-  unknown_follow : (outputs : List ReleasedOutput) (r r' : Receiver) (told : Answer) → ComesToUnknown r told r' → Follows outputs r r'
-  unknown_follow outputs r r' (answer.Ticked sending) is = follows_same outputs r r' is.1
-  unknown_follow outputs r r' (answer.Refused refusal.OutOfMemory) is = follows_same outputs r r' is
-  unknown_follow outputs r r' told none = absurd none
+unknown_follow : (outputs : List ReleasedOutput) (r r' : Receiver) (told : Answer) → ComesToUnknown r told r' → Follows outputs r r'
+unknown_follow outputs r r' (answer.Ticked sending) is = follows_same outputs r r' is.1
+unknown_follow outputs r r' (answer.Refused refusal.OutOfMemory) is = follows_same outputs r r' is
+unknown_follow outputs r r' told none = absurd none
 
-  comes_follow : (outputs : List ReleasedOutput) (r r' : Receiver) (ch slot random : ℕ) (told : Answer) (known : Option KnownChannel) → channel_of r.state.channels ch ≡ known → ComesTo r slot random known told r' → Follows outputs r r'
-  comes_follow outputs r r' ch slot random told (Some c) found is = known_follow outputs r r' ch slot random c told found is
-  comes_follow outputs r r' ch slot random told None found is = unknown_follow outputs r r' told is
+comes_follow : (outputs : List ReleasedOutput) (r r' : Receiver) (ch slot random : ℕ) (told : Answer) (known : Option KnownChannel) → channel_of r.state.channels ch ≡ known → ComesTo r slot random known told r' → Follows outputs r r'
+comes_follow outputs r r' ch slot random told (Some c) found is = known_follow outputs r r' ch slot random c told found is
+comes_follow outputs r r' ch slot random told None found is = unknown_follow outputs r r' told is
 
-  -- a transmission that a tick made is held
-  known_held : (r r' : Receiver) (ch slot random : ℕ) (c : KnownChannel) (sending : Sending) (sid : ℕ) → channel_of r.state.channels ch ≡ Some c → HasHeard r.state r.heard → ComesToKnown r slot random c (answer.Ticked (Some sending)) r' → unicast_sid (Some sending) ≡ Some sid
-      → Held r'.state.id r'.heard ch slot sid
-  known_held r r' ch slot random c sending sid found stands is unicast =
-      let held = ticks_held r.state r'.state c ch slot random (Some sending) r.heard sid found is.0 is.1 stands unicast in
-      subst (λ (n : ℕ). Held n r'.heard ch slot sid) (sym is.1.id) (subst (λ (hs : List Hearing). Held r.state.id hs ch slot sid) (sym is.2) held)
+-- a transmission that a tick made is held
+known_held : (r r' : Receiver) (ch slot random : ℕ) (c : KnownChannel) (sending : Sending) (sid : ℕ) → channel_of r.state.channels ch ≡ Some c → HasHeard r.state r.heard → ComesToKnown r slot random c (answer.Ticked (Some sending)) r' → unicast_sid (Some sending) ≡ Some sid
+    → Held r'.state.id r'.heard ch slot sid
+known_held r r' ch slot random c sending sid found stands is unicast =
+    let held = Ticks-held r.state r'.state c ch slot random (Some sending) r.heard sid found is.0 is.1 stands unicast in
+    subst (λ (n : ℕ). Held n r'.heard ch slot sid) (sym is.1.id) (subst (λ (hs : List Hearing). Held r.state.id hs ch slot sid) (sym is.2) held)
 
-  tick_held : (r r' : Receiver) (ch slot random : ℕ) (sending : Sending) (sid : ℕ) (known : Option KnownChannel) → channel_of r.state.channels ch ≡ known → HasHeard r.state r.heard → ComesTo r slot random known (answer.Ticked (Some sending)) r' → unicast_sid (Some sending) ≡ Some sid
-      → Held r'.state.id r'.heard ch slot sid
-  tick_held r r' ch slot random sending sid (Some c) found stands is unicast = known_held r r' ch slot random c sending sid found stands is unicast
-  tick_held r r' ch slot random sending sid None found stands is unicast = absurd (cc (is.0))
+tick_held : (r r' : Receiver) (ch slot random : ℕ) (sending : Sending) (sid : ℕ) (known : Option KnownChannel) → channel_of r.state.channels ch ≡ known → HasHeard r.state r.heard → ComesTo r slot random known (answer.Ticked (Some sending)) r' → unicast_sid (Some sending) ≡ Some sid
+    → Held r'.state.id r'.heard ch slot sid
+tick_held r r' ch slot random sending sid (Some c) found stands is unicast = known_held r r' ch slot random c sending sid found stands is unicast
+tick_held r r' ch slot random sending sid None found stands is unicast = absurd (cc (is.0))
 
-  module _ (ids : List ℕ) (outputs : List ReleasedOutput) (modems : List Receiver) (sent : List Transmission) (ok : ModemsOk ids outputs modems sent) where
-    none_sent : (modems' : List Receiver) → SendsHeld modems' []
-    none_sent modems' x sid there is = absurd there
+module _ (ids : List ℕ) (outputs : List ReleasedOutput) (modems : List Receiver) (sent : List Transmission) (ok : ModemsOk ids outputs modems sent) where
+  none_sent : (modems' : List Receiver) → SendsHeld modems' []
+  none_sent modems' x sid there is = absurd there
 
-    -- modem m goes on, if there is one, and nothing is sent
-    quietly : (m : ℕ) (Does : Receiver → Answer → Receiver → Type 0) (told : Answer) (modems' : List Receiver) → ((r r' : Receiver) → Does r told r' → Follows outputs r r')
-        → (there : Option Receiver) → slice_get modems m ≡ there → OfModem modems m there Does told modems' → ModemsOk ids outputs modems' sent
-    quietly m Does told modems' follows None is unmoved = subst (λ (ms : List Receiver). ModemsOk ids outputs ms sent) (sym unmoved.1) ok
-    quietly m Does told modems' follows (Some r) is goes =
-        subst (λ (ms : List Receiver). ModemsOk ids outputs ms sent) (sym goes.2) (ok_set ids outputs modems sent m r goes.0 is (follows r goes.0 goes.1) ok)
+  -- modem m goes on, if there is one, and nothing is sent
+  quietly : (m : ℕ) (Does : Receiver → Answer → Receiver → Type 0) (told : Answer) (modems' : List Receiver) → ((r r' : Receiver) → Does r told r' → Follows outputs r r')
+      → (there : Option Receiver) → slice_get modems m ≡ there → OfModem modems m there Does told modems' → ModemsOk ids outputs modems' sent
+  quietly m Does told modems' follows None is unmoved = subst (λ (ms : List Receiver). ModemsOk ids outputs ms sent) (sym unmoved.1) ok
+  quietly m Does told modems' follows (Some r) is goes =
+      subst (λ (ms : List Receiver). ModemsOk ids outputs ms sent) (sym goes.2) (ok_set ids outputs modems sent m r goes.0 is (follows r goes.0 goes.1) ok)
 
-    set_there : (m : ℕ) (r r' : Receiver) → slice_get modems m ≡ Some r → slice_get (slice_set modems m r') m ≡ Some r'
-    set_there m r r' is = get_same modems m r' (slice_get_within modems m r is)
+  set_there : (m : ℕ) (r r' : Receiver) → slice_get modems m ≡ Some r → slice_get (slice_set modems m r') m ≡ Some r'
+  set_there m r r' is = get_same modems m r' (slice_get_within modems m r is)
 
-    tick_sends : (m ch slot random : ℕ) (told : Answer) (modems' : List Receiver) (there : Option Receiver) → slice_get modems m ≡ there
-        → OfModem modems m there (λ r. ComesTo r slot random (channel_of r.state.channels ch)) told modems' → SendsHeld modems' (sent_at (event.Tick m ch slot random) told)
-    tick_sends m ch slot random (answer.Ticked (Some sending)) modems' (Some r) is goes = λ x sid here unicast. one x sid unicast here
-      where
-        one : (x : Transmission) (sid : ℕ) → unicast_sid (Some x.sending) ≡ Some sid → IsIn (record { modem = m; channel = ch; slot = slot; sending = sending } ∷ []) x
-            → (s : Receiver) × (slice_get modems' x.modem ≡ Some s) × Held s.state.id s.heard x.channel x.slot sid
-        one x sid unicast (inl same) =
-            let there : slice_get modems' m ≡ Some goes.0 = ap (λ (ms : List Receiver). slice_get ms m) goes.2 ∙ set_there m r goes.0 is in
-            let of_sending : unicast_sid (Some sending) ≡ Some sid = ap (λ (y : Transmission). unicast_sid (Some y.sending)) (sym same) ∙ unicast in
-            let held : Held goes.0.state.id goes.0.heard ch slot sid = tick_held r goes.0 ch slot random sending sid (channel_of r.state.channels ch) refl (ok.stands m r is) goes.1 of_sending in
-            subst (λ (y : Transmission). (s : Receiver) × (slice_get modems' y.modem ≡ Some s) × Held s.state.id s.heard y.channel y.slot sid) (sym same) (goes.0, there, held)
-        one x sid unicast (inr none) = absurd none
-    tick_sends m ch slot random (answer.Ticked (Some sending)) modems' None is goes = absurd (let e : answer.Ticked (Some sending) ≡ answer.Refused refusal.NoModem = goes.0 in cc (e))
-    tick_sends m ch slot random (answer.Ticked None) modems' r is goes = none_sent modems'
-    tick_sends m ch slot random (answer.Sent n) modems' r is goes = none_sent modems'
-    tick_sends m ch slot random answer.Finished modems' r is goes = none_sent modems'
-    tick_sends m ch slot random (answer.Released n) modems' r is goes = none_sent modems'
-    tick_sends m ch slot random (answer.Heard h) modems' r is goes = none_sent modems'
-    tick_sends m ch slot random (answer.WantRefused f) modems' r is goes = none_sent modems'
-    tick_sends m ch slot random (answer.Refused f) modems' r is goes = none_sent modems'
-    tick_sends m ch slot random (answer.Fault f) modems' r is goes = none_sent modems'
-    tick_sends m ch slot random answer.Crashed modems' r is goes = none_sent modems'
+  tick_sends : (m ch slot random : ℕ) (told : Answer) (modems' : List Receiver) (there : Option Receiver) → slice_get modems m ≡ there
+      → OfModem modems m there (λ r. ComesTo r slot random (channel_of r.state.channels ch)) told modems' → SendsHeld modems' (sent_at (event.Tick m ch slot random) told)
+  tick_sends m ch slot random (answer.Ticked (Some sending)) modems' (Some r) is goes = λ x sid here unicast. one x sid unicast here
+    where
+      one : (x : Transmission) (sid : ℕ) → unicast_sid (Some x.sending) ≡ Some sid → IsIn (record { modem = m; channel = ch; slot = slot; sending = sending } ∷ []) x
+          → (s : Receiver) × (slice_get modems' x.modem ≡ Some s) × Held s.state.id s.heard x.channel x.slot sid
+      one x sid unicast (inl same) =
+          let there : slice_get modems' m ≡ Some goes.0 = ap (λ (ms : List Receiver). slice_get ms m) goes.2 ∙ set_there m r goes.0 is in
+          let of_sending : unicast_sid (Some sending) ≡ Some sid = ap (λ (y : Transmission). unicast_sid (Some y.sending)) (sym same) ∙ unicast in
+          let held : Held goes.0.state.id goes.0.heard ch slot sid = tick_held r goes.0 ch slot random sending sid (channel_of r.state.channels ch) refl (ok.stands m r is) goes.1 of_sending in
+          subst (λ (y : Transmission). (s : Receiver) × (slice_get modems' y.modem ≡ Some s) × Held s.state.id s.heard y.channel y.slot sid) (sym same) (goes.0, there, held)
+      one x sid unicast (inr none) = absurd none
+  tick_sends m ch slot random (answer.Ticked (Some sending)) modems' None is goes = absurd (let e : answer.Ticked (Some sending) ≡ answer.Refused refusal.NoModem = goes.0 in cc (e))
+  tick_sends m ch slot random (answer.Ticked None) modems' r is goes = none_sent modems'
+  tick_sends m ch slot random (answer.Sent n) modems' r is goes = none_sent modems'
+  tick_sends m ch slot random answer.Finished modems' r is goes = none_sent modems'
+  tick_sends m ch slot random (answer.Released n) modems' r is goes = none_sent modems'
+  tick_sends m ch slot random (answer.Heard h) modems' r is goes = none_sent modems'
+  tick_sends m ch slot random (answer.WantRefused f) modems' r is goes = none_sent modems'
+  tick_sends m ch slot random (answer.Refused f) modems' r is goes = none_sent modems'
+  tick_sends m ch slot random (answer.Fault f) modems' r is goes = none_sent modems'
+  tick_sends m ch slot random answer.Crashed modems' r is goes = none_sent modems'
 
-    pub modem_next : (happens : Event) (told : Answer) (modems' : List Receiver) → ModemNext modems outputs happens told modems' → ModemsOk ids outputs modems' (sent ++ sent_at happens told)
-    modem_next (event.Hear m i near) told modems' goes =
-        ok_more ids outputs modems' sent [] (none_sent modems') (quietly m _ told modems' (λ r r' does. listens_follow outputs r r' i near told (slice_get outputs i) refl does) (slice_get modems m) refl goes)
-    modem_next (event.Want m ch sid n) told modems' goes =
-        ok_more ids outputs modems' sent [] (none_sent modems') (quietly m _ told modems' (λ r r' does. wants_follow outputs r r' ch sid n told does) (slice_get modems m) refl goes)
-    modem_next (event.Tick m ch slot random) told modems' goes =
-        ok_more ids outputs modems' sent (sent_at (event.Tick m ch slot random) told) (tick_sends m ch slot random told modems' (slice_get modems m) refl goes)
-        (quietly m (λ r. ComesTo r slot random (channel_of r.state.channels ch)) told modems' (λ r r' does. comes_follow outputs r r' ch slot random told (channel_of r.state.channels ch) refl does) (slice_get modems m) refl goes)
-    modem_next happens told modems' none = absurd none
+  pub modem_next : (happens : Event) (told : Answer) (modems' : List Receiver) → ModemNext modems outputs happens told modems' → ModemsOk ids outputs modems' (sent ++ sent_at happens told)
+  modem_next (event.Hear m i near) told modems' goes =
+      ok_more ids outputs modems' sent [] (none_sent modems') (quietly m _ told modems' (λ r r' does. listens_follow outputs r r' i near told (slice_get outputs i) refl does) (slice_get modems m) refl goes)
+  modem_next (event.Want m ch sid n) told modems' goes =
+      ok_more ids outputs modems' sent [] (none_sent modems') (quietly m _ told modems' (λ r r' does. wants_follow outputs r r' ch sid n told does) (slice_get modems m) refl goes)
+  modem_next (event.Tick m ch slot random) told modems' goes =
+      ok_more ids outputs modems' sent (sent_at (event.Tick m ch slot random) told) (tick_sends m ch slot random told modems' (slice_get modems m) refl goes)
+      (quietly m (λ r. ComesTo r slot random (channel_of r.state.channels ch)) told modems' (λ r r' does. comes_follow outputs r r' ch slot random told (channel_of r.state.channels ch) refl does) (slice_get modems m) refl goes)
+  modem_next happens told modems' none = absurd none

@@ -37,9 +37,6 @@ beginning (x ∷ xs) (y ∷ ys) same short =
     let first : x ≡ y = same zero x y refl refl in
     (rest.0, λ i. first i ∷ rest.1 i)
 
-pub get_past : {X : Type 0} (xs : List X) (k : ℕ) → length xs ≤ k → (x : X) → slice_get xs k ≡ Some x → ⊥
-get_past xs k past x is = let e : k < length xs = slice_get_within xs k x is in omega arith
-
 pub get_some : {X : Type 0} (xs : List X) (k : ℕ) → k < length xs → (x : X) × (slice_get xs k ≡ Some x)
 get_some [] k within = absurd (omega arith)
 get_some (x ∷ xs) zero within = (x, refl)

@@ -1,5 +1,5 @@
 -- Over whole runs: what modems hold they own, and what they send they hold.
-use Rattle.std.proofs.Common.{◌≡◌, inl, inr, ⊎_elim, ℕ, zero, suc, ◌-◌, ◌≤◌, List, [], ◌∷◌, ◌++◌, map, refl, sym, ◌∙◌, ap, subst, arith, Option, Some, slice_get, Contains}
+use Rattle.std.proofs.Common.{◌≡◌, inl, inr, ⊎_elim, ℕ, zero, suc, ◌-◌, ◌≤◌, List, [], ◌∷◌, ◌++◌, map, refl, sym, ◌∙◌, ap, subst, arith, Some, slice_get, Contains}
 use Rattle.minislot_time.specs.Wire.{IsNear}
 use Rattle.map_body.specs.Cell.{IsCell}
 use Rattle.flow_state.specs.Limits.{last_sid}
@@ -9,14 +9,10 @@ use Rattle.grant_machine.specs.declared.output.Output.{Output}
 use Rattle.grant_machine.specs.declared.output.Output.TheVariants as outputs
 use Rattle.grant_machine.specs.Owner.{Owns, IsLeased}
 use Rattle.grant_machine.specs.Runs.{outputs_of}
+use Rattle.grant_machine.proofs.Callers as schedules
 use Rattle.command_log.specs.Reading.{command_of}
 use Rattle.command_log.specs.Values.{outputs_of_values}
-use Rattle.modem.specs.declared.types.Heard.{Heard}
-use Rattle.modem.specs.declared.types.Sending.{Sending}
-use Rattle.modem.specs.State.{KnownChannel, channel_clock, State, channel_of}
-use Rattle.modem.specs.Held.{Hearing, Gives, WasLeased, HeldBy, Held, HasHeard, unicast_sid}
-use Rattle.modem.specs.Hears.{Hears}
-use Rattle.modem.specs.Ticks.{Ticks}
+use Rattle.modem.specs.Held.{Hearing, Gives, WasLeased, HeldBy, HasHeard}
 use Rattle.modem.specs.Owner.{IsTimely}
 use Rattle.modem.proofs.Callers.{near_once}
 use Rattle.world_events.specs.declared.event.Event.{Event}
@@ -40,6 +36,9 @@ use Rattle.network_script.proofs.Hearings.{AreReleased, ModemsOk, ok_outputs, mo
 pub record AreScheduled (outs : List Output) : Type 0 where
   pub unicast : (modem ch sid first last : ℕ) → Contains outs (outputs.Assigned modem ch sid first last) → (1 ≤ sid) × (sid ≤ last_sid)
   pub one_owner : (ch m modem other : ℕ) → Owns outs ch m modem → Owns outs ch m other → modem ≡ other
+
+scheduled : (cs : List Command) → AreScheduled (outputs_of cs)
+scheduled cs = record { unicast = schedules.sids_are_unicast cs; one_owner = schedules.owners_are_one cs }
 
 -- ---- what is heard stands in the outputs of the chosen values
 
@@ -106,47 +105,43 @@ opening_modems ids = record {
   sends = λ x sid there is. absurd there;
 }
 
-module _ (hears_stand : (old new : State) (o : Output) (near : ℕ) (h : Heard) (hearings : List Hearing) → Hears old o near h new → HasHeard old hearings → HasHeard new (record { output = o; near = near; answer = h } ∷ hearings))
-    (ticks_stand : (old new : State) (c : KnownChannel) (ch slot random : ℕ) (sending : Option Sending) (hearings : List Hearing) → channel_of old.channels ch ≡ Some c → channel_clock c ≤ slot → Ticks old c slot random sending new → HasHeard old hearings → HasHeard new hearings)
-    (ticks_held : (old new : State) (c : KnownChannel) (ch slot random : ℕ) (sending : Option Sending) (hearings : List Hearing) (sid : ℕ) → channel_of old.channels ch ≡ Some c → channel_clock c ≤ slot → Ticks old c slot random sending new → HasHeard old hearings → unicast_sid sending ≡ Some sid → Held old.id hearings ch slot sid)
-    (scheduled : (cs : List Command) → AreScheduled (outputs_of cs)) where
-  abbrev Fine : List ℕ → Written → Type 0
-  Fine ids w = ModemsOk ids w.outputs w.modems w.transmissions
+abbrev Fine : List ℕ → Written → Type 0
+Fine ids w = ModemsOk ids w.outputs w.modems w.transmissions
 
-  moved_modems : (members : ℕ) (ids : List ℕ) (w : Written) (happens : Event) (told : Answer) (w' : Written) → Moved members w happens told w' → Fine ids w → Fine ids w'
-  moved_modems members ids w happens told w' moved ok =
-      ⊎_elim
-      (λ same. subst (λ (ms : List Receiver). ModemsOk ids w'.outputs ms w'.transmissions) (sym same.0)
-      (subst (λ (ts : List Transmission). ModemsOk ids w'.outputs w.modems ts) (sym same.1) (ok_outputs ids w.outputs w'.outputs w.modems w.transmissions moved.stays ok)))
-      (λ on. subst (λ (ts : List Transmission). ModemsOk ids w'.outputs w'.modems ts) (sym on.1)
-      (ok_outputs ids w.outputs w'.outputs w'.modems (w.transmissions ++ sent_at happens told) moved.stays (modem_next hears_stand ticks_stand ticks_held ids w.outputs w.modems w.transmissions ok happens told w'.modems on.0)))
-      moved.modems
+moved_modems : (members : ℕ) (ids : List ℕ) (w : Written) (happens : Event) (told : Answer) (w' : Written) → Moved members w happens told w' → Fine ids w → Fine ids w'
+moved_modems members ids w happens told w' moved ok =
+    ⊎_elim
+    (λ same. subst (λ (ms : List Receiver). ModemsOk ids w'.outputs ms w'.transmissions) (sym same.0)
+    (subst (λ (ts : List Transmission). ModemsOk ids w'.outputs w.modems ts) (sym same.1) (ok_outputs ids w.outputs w'.outputs w.modems w.transmissions moved.stays ok)))
+    (λ on. subst (λ (ts : List Transmission). ModemsOk ids w'.outputs w'.modems ts) (sym on.1)
+    (ok_outputs ids w.outputs w'.outputs w'.modems (w.transmissions ++ sent_at happens told) moved.stays (modem_next ids w.outputs w.modems w.transmissions ok happens told w'.modems on.0)))
+    moved.modems
 
-  goes_modems : (members : ℕ) (ids : List ℕ) (w : Written) (script : List Event) (report : List Answer) (w' : Written) → IsFine members w → Fine ids w → Goes members w script report w' → Fine ids w'
-  goes_modems members ids w [] [] w' fine ok is = subst (Fine ids) (sym is) ok
-  goes_modems members ids w (event ∷ script) (answer ∷ report) w' fine ok goes =
-      let moved = next_moves members w fine.inv event answer goes.0 goes.1 in
-      goes_modems members ids goes.0 script report w' (next_fine members w event answer goes.0 fine moved) (moved_modems members ids w event answer goes.0 moved ok) goes.2
-  goes_modems members ids w [] (answer ∷ report) w' fine ok goes = absurd goes
-  goes_modems members ids w (event ∷ script) [] w' fine ok goes = absurd goes
+goes_modems : (members : ℕ) (ids : List ℕ) (w : Written) (script : List Event) (report : List Answer) (w' : Written) → IsFine members w → Fine ids w → Goes members w script report w' → Fine ids w'
+goes_modems members ids w [] [] w' fine ok is = subst (Fine ids) (sym is) ok
+goes_modems members ids w (event ∷ script) (answer ∷ report) w' fine ok goes =
+    let moved = next_moves members w fine.inv event answer goes.0 goes.1 in
+    goes_modems members ids goes.0 script report w' (next_fine members w event answer goes.0 fine moved) (moved_modems members ids w event answer goes.0 moved ok) goes.2
+goes_modems members ids w [] (answer ∷ report) w' fine ok goes = absurd goes
+goes_modems members ids w (event ∷ script) [] w' fine ok goes = absurd goes
 
-  run_modems : (members : ℕ) (ids : List ℕ) (script : List Event) (report : List Answer) (w : Written) → Run members ids script report w → Fine ids w
-  run_modems members ids script report w run = goes_modems members ids (opening members ids) script report w (opening_fine members ids) (opening_modems ids) run
+run_modems : (members : ℕ) (ids : List ℕ) (script : List Event) (report : List Answer) (w : Written) → Run members ids script report w → Fine ids w
+run_modems members ids script report w run = goes_modems members ids (opening members ids) script report w (opening_fine members ids) (opening_modems ids) run
 
-  pub modems_are_named : OfEveryRun ModemsAreNamed
-  modems_are_named members ids script report w run = (run_modems members ids script report w run).named
+pub modems_are_named : OfEveryRun ModemsAreNamed
+modems_are_named members ids script report w run = (run_modems members ids script report w run).named
 
-  pub sent_is_held : OfEveryRun SentIsHeld
-  sent_is_held members ids script report w run x sid there is =
-      let ok = run_modems members ids script report w run in
-      let r = ok.sends x sid there is in
-      (r.0.state.id, record { receiver = r.0; named = ok.named x.modem r.0 r.1; there = r.1; held = r.2 })
+pub sent_is_held : OfEveryRun SentIsHeld
+sent_is_held members ids script report w run x sid there is =
+    let ok = run_modems members ids script report w run in
+    let r = ok.sends x sid there is in
+    (r.0.state.id, record { receiver = r.0; named = ok.named x.modem r.0 r.1; there = r.1; held = r.2 })
 
-  pub held_is_owned : OfEveryRun (WithSchedule HeldIsOwned)
-  held_is_owned members ids script report w run c schedule j id ch m sid at =
-      let ok = run_modems members ids script report w run in
-      let stand = λ (x : ReleasedOutput) (there : IsIn w.outputs x). (let r = released_is_output members ids script report w run c schedule x there in contains_at (outputs_of_values c) r.0 x.numbered.output r.2) in
-      held_owned (map command_of c) w.outputs stand (scheduled (map command_of c)) id at.receiver.heard ch m sid at.held.0 (ok.heard j at.receiver at.there) at.held.1
+pub held_is_owned : OfEveryRun (WithSchedule HeldIsOwned)
+held_is_owned members ids script report w run c schedule j id ch m sid at =
+    let ok = run_modems members ids script report w run in
+    let stand = λ (x : ReleasedOutput) (there : IsIn w.outputs x). (let r = released_is_output members ids script report w run c schedule x there in contains_at (outputs_of_values c) r.0 x.numbered.output r.2) in
+    held_owned (map command_of c) w.outputs stand (scheduled (map command_of c)) id at.receiver.heard ch m sid at.held.0 (ok.heard j at.receiver at.there) at.held.1
 
-  pub owners_are_one : OfEveryRun (WithSchedule OwnersAreOne)
-  owners_are_one members ids script report w run c schedule ch m id other a b = (scheduled (map command_of c)).one_owner ch m id other a b
+pub owners_are_one : OfEveryRun (WithSchedule OwnersAreOne)
+owners_are_one members ids script report w run c schedule ch m id other a b = (scheduled (map command_of c)).one_owner ch m id other a b

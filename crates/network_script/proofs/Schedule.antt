@@ -5,7 +5,7 @@ use Rattle.ballots.specs.Voting.{Entry, IsLegal}
 use Rattle.grant_machine.specs.declared.output.Output.{Output}
 use Rattle.grant_machine.specs.declared.output.Output.TheVariants.{Map}
 use Rattle.grant_machine.specs.Runs.{outputs_from, rows_from}
-use Rattle.grant_machine.specs.Laws.{MapsAreDisjoint}
+use Rattle.grant_machine.proofs.Callers.{maps_are_disjoint}
 use Rattle.command_log.specs.Reading.{command_of}
 use Rattle.command_log.specs.Values.{outputs_of_values}
 use Rattle.command_log.proofs.Callers.{outputs_append}
@@ -72,13 +72,13 @@ same_bytes : (ch start len start' len' : ℕ) (bytes bytes' : List ℕ) (outputs
 same_bytes ch start len start' len' bytes bytes' outputs i j is also same =
     let e : Some (Map ch start len bytes) ≡ Some (Map ch start' len' bytes') = sym is ∙ ap (slice_get outputs) same ∙ also in cc (e)
 
-pub maps_are_one : MapsAreDisjoint → OfEveryRun MapsAreOne
-maps_are_one disjoint members ids script report w run ch m start len start' len' bytes bytes' x y within within' =
+pub maps_are_one : OfEveryRun MapsAreOne
+maps_are_one members ids script report w run ch m start len start' len' bytes bytes' x y within within' =
     let c = schedule_exists members w.history in
     let a = map_at members ids script report w run c.0 c.1 ch start len bytes x in
     let b = map_at members ids script report w run c.0 c.1 ch start' len' bytes' y in
     same_bytes ch start len start' len' bytes bytes' (outputs_of_values c.0) a.0 b.0 a.1 b.1
-    (disjoint (map command_of c.0) a.0 b.0 ch m start len start' len' bytes bytes' a.1 b.1 within within')
+    (maps_are_disjoint (map command_of c.0) a.0 b.0 ch m start len start' len' bytes bytes' a.1 b.1 within within')
 
-pub covers_once : MapsAreDisjoint → OfEveryRun (WithSchedule CoversOnce)
-covers_once disjoint members ids script report w run c schedule i j ch m start len start' len' bytes bytes' a b within within' = disjoint (map command_of c) i j ch m start len start' len' bytes bytes' a b within within'
+pub covers_once : OfEveryRun (WithSchedule CoversOnce)
+covers_once members ids script report w run c schedule i j ch m start len start' len' bytes bytes' a b within within' = maps_are_disjoint (map command_of c) i j ch m start len start' len' bytes bytes' a b within within'

@@ -1,25 +1,10 @@
 -- The headline, from its parts.
 use Rattle.ballots.proofs.Callers.{agreement}
 use Rattle.command_log.specs.Values.{Owner}
-use Rattle.grant_machine.proofs.Callers.{maps_are_disjoint}
-use Rattle.grant_machine.proofs.Callers as schedules
-use Rattle.modem.proofs.Callers.{Hears-stands, Ticks-stands, Ticks-held}
-use Rattle.network_script.specs.Headline.{OfEveryRun, WithSchedule, HeldIsOwned, ModemsAreNamed, OwnersAreOne, HoldersAreOne, SentIsHeld, SentByOwner, Headline}
+use Rattle.network_script.specs.Headline.{OfEveryRun, WithSchedule, HoldersAreOne, SentByOwner, Headline}
 use Rattle.network_script.proofs.Runs.{history_legal, learned_is_chosen}
 use Rattle.network_script.proofs.Schedule.{one_schedule, gapless_is_beginning, released_is_output, maps_are_one, covers_once}
-use Rattle.network_script.proofs.Owners as owners
-
-pub held_is_owned : OfEveryRun (WithSchedule HeldIsOwned)
-held_is_owned = owners.held_is_owned Hears-stands Ticks-stands Ticks-held (λ cs. record { unicast = schedules.sids_are_unicast cs; one_owner = schedules.owners_are_one cs })
-
-pub modems_are_named : OfEveryRun ModemsAreNamed
-modems_are_named = owners.modems_are_named Hears-stands Ticks-stands Ticks-held (λ cs. record { unicast = schedules.sids_are_unicast cs; one_owner = schedules.owners_are_one cs })
-
-pub owners_are_one : OfEveryRun (WithSchedule OwnersAreOne)
-owners_are_one = owners.owners_are_one Hears-stands Ticks-stands Ticks-held (λ cs. record { unicast = schedules.sids_are_unicast cs; one_owner = schedules.owners_are_one cs })
-
-pub sent_is_held : OfEveryRun SentIsHeld
-sent_is_held = owners.sent_is_held Hears-stands Ticks-stands Ticks-held (λ cs. record { unicast = schedules.sids_are_unicast cs; one_owner = schedules.owners_are_one cs })
+pub use Rattle.network_script.proofs.Owners.{held_is_owned, modems_are_named, owners_are_one, sent_is_held}
 
 pub holders_are_one : OfEveryRun HoldersAreOne
 holders_are_one members ids script report w run i j id other ch m sid sid' a b =
@@ -45,8 +30,8 @@ headline members ids script report w run =
         learned = learned_is_chosen members ids script report w run;
         gapless = gapless_is_beginning members ids script report w run s.0 s.1;
         released = released_is_output members ids script report w run s.0 s.1;
-        maps = maps_are_one maps_are_disjoint members ids script report w run;
-        covers = covers_once maps_are_disjoint members ids script report w run s.0 s.1;
+        maps = maps_are_one members ids script report w run;
+        covers = covers_once members ids script report w run s.0 s.1;
         held = held_is_owned members ids script report w run s.0 s.1;
         owners = owners_are_one members ids script report w run s.0 s.1;
         holders = holders_are_one members ids script report w run;

@@ -1,5 +1,5 @@
 -- The nodes of a world, as a list.
-use Rattle.std.specs.Prelude.{◌≡◌, List, [], ◌∷◌, Bool, true, map, length, All}
+use Rattle.std.specs.Prelude.{◌≡◌, List, [], ◌∷◌, true, map, length, All}
 use Rattle.std.specs.List.{range_with_len}
 use Rattle.node.specs.declared.node.Node.{Ghosts}
 use Rattle.node.specs.View.{Standing}
@@ -31,10 +31,6 @@ AllClean {N} {g} seats = All (IsClean {N = N} {g = g}) seats
 pub record AllKeepTrust {N : Type 0} {g : Ghosts N} (old new : List (Seat N g)) : Type 0 where
   pub clean : AllClean new → AllClean old
   pub sure : AllClean new → AllHonest old → AllHonest new
-
--- which of them are up
-abbrev pub ups : {N : Type 0} {g : Ghosts N} → List (Seat N g) → List Bool
-ups {N} {g} seats = map (is_up {N = N} {g = g}) seats
 
 -- a seat for each node, in order, and each is up
 abbrev pub AreSeated : {N : Type 0} {g : Ghosts N} → List N → List (Seat N g) → Type 0

@@ -11,7 +11,7 @@ use Rattle.seats.specs.declared.answer.Transmission.{Transmission}
 use Rattle.seats.specs.declared.receivers.Receivers.{Receivers}
 use Rattle.seats.specs.declared.seat.Seat.{Seat}
 use Rattle.network_script.specs.declared.world.World.{World}
-use Rattle.network_script.specs.Seats.{AllClean, AllHonest, AreStandings}
+use Rattle.network_script.specs.Seats.{AllHonest, AreStandings}
 use Rattle.network_script.specs.World.{Written}
 use Rattle.seats.specs.Receiver.{Receiver}
 use Rattle.seats.specs.Receiving.{Hold, sent_by}
@@ -40,10 +40,6 @@ transmissions_of world = sent_by (receivers_of world)
 -- the records of each of its nodes have returned what they committed
 abbrev pub AreHonest : {N : Type 0} {g : Ghosts N} → World N g → Type 0
 AreHonest world = AllHonest (seats_of world)
-
--- the stores of its nodes failed nowhere silently
-abbrev pub AreClean : {N : Type 0} {g : Ghosts N} → World N g → Type 0
-AreClean world = AllClean (seats_of world)
 
 -- how many nodes it has
 abbrev pub node_count : {N : Type 0} {g : Ghosts N} → World N g → ℕ

@@ -23,9 +23,9 @@ use ballots::{Ballot, Bytes, MOST_PLACES, Members, NodeId, Place, Value};
 use command_log::{Log, LogFault};
 use learner::Learner;
 use map_release::{Numbered, Release};
+use place_table::Table;
 use proposer::NodeFault;
 use std::alloc::{AllocError, Global};
-use std::collections::BTreeMap;
 use std::marker::Model;
 
 /// What a node counted and learned, the log to which it applies that, how far it released, and of how many places from the
@@ -50,7 +50,7 @@ impl Model for Knowledge {
 }
 
 /// Applies the learned values that follow those of the log without a gap, each looked up once, and tells how many are applied.
-fn apply(log: &mut Log, learned: &BTreeMap<u64, Bytes>) -> Result<u64, AllocError>
+fn apply(log: &mut Log, learned: &Table<Bytes>) -> Result<u64, AllocError>
     requires rows { AreRows 1 learned.now.entries }
     requires part { IsPart log.old.learned learned.now.entries }
     ensures part { IsPart log.new.learned learned.now.entries }
@@ -59,7 +59,7 @@ fn apply(log: &mut Log, learned: &BTreeMap<u64, Bytes>) -> Result<u64, AllocErro
 {
     for applied in log.prefix_len()..MOST_PLACES {
         let next = applied + 1;
-        let Some(value) = learned.get(&next) else {
+        let Some(value) = learned.get(next) else {
             return Ok(log.prefix_len());
         };
         match log.learn(next, value.as_slice()) {
@@ -112,11 +112,13 @@ impl Knowledge {
     {
         let first = Place::new(1).unwrap();
         let rows = records.learned_from(first)?;
+        let learner = learner_of(alloc, rows)?;
+        let prefix = prefix_len(learner.values(), 0);
         Ok(Knowledge {
-            learner: learner_of(alloc, rows)?,
+            learner,
             log: Log::new(alloc),
             release: Release::new(),
-            prefix: 0,
+            prefix,
         })
     }
 
@@ -137,8 +139,9 @@ impl Knowledge {
     }
 
     /// The learned values by place.
-    pub(crate) fn values(&self) -> &BTreeMap<u64, Bytes>
-        ensures { result.now.entries ≡ self.now.tally.learned }
+    pub(crate) fn values(&self) -> &Table<Bytes>
+        ensures values { result.now.entries ≡ self.now.tally.learned }
+        ensures rows { AreRows 1 result.now.entries }
     {
         self.learner.values()
     }
@@ -178,6 +181,7 @@ impl Knowledge {
             .learn_after(place.number(), kept, records, |records: &mut R| {
                 records.put_learned(place, value)
             })??;
+        self.prefix = prefix_len(self.learner.values(), self.prefix);
         Ok(())
     }
 

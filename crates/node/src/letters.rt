@@ -11,8 +11,8 @@ ghost use Rattle.node.specs.View.{values_from};
 
 use acceptor::Prepared;
 use ballots::{Ballot, Bytes, Letter, MOST_PLACES, NodeId, Note, Place};
+use place_table::Table;
 use std::alloc::{AllocError, Global};
-use std::collections::BTreeMap;
 
 /// One letter that tells a higher ballot.
 pub(crate) fn one_letter(
@@ -38,27 +38,30 @@ pub(crate) fn known_letters(
     from: NodeId,
     to: NodeId,
     place: u64,
-    learned: &BTreeMap<u64, Bytes>,
+    learned: &Table<Bytes>,
 ) -> Result<Vec<Letter>, AllocError>
+    requires { AreRows 1 learned.now.entries }
     ensures letters { IfOk result (λ letters. letters.items ≡ first_known from learned.now.entries to place) }
     ensures no_memory { first_known from learned.now.entries to place ≡ [] → IsOk result }
 {
     let mut letters = Vec::new(alloc);
-    for (at, value) in learned.range(place..) {
-        if letters.len() >= 64 {
+    let mut next = place;
+    for _told in 0..64_u64 {
+        let Some((at, value)) = learned.next_from(next) else {
             return Ok(letters);
-        }
+        };
         let note = Note::Known {
-            place: *at,
+            place: at,
             value: value.copy(alloc)?,
         };
         letters.push(Letter { from, to, note })?;
+        next = at + 1;
     }
     Ok(letters)
 }
 
 /// How many places from the first on are learned without a gap, as far as the last place. So many are, and aren't looked at.
-pub(crate) fn prefix_len(learned: &BTreeMap<u64, Bytes>, known: u64) -> u64
+pub(crate) fn prefix_len(learned: &Table<Bytes>, known: u64) -> u64
     requires rows { AreRows 1 learned.now.entries }
     requires known { AreLearned learned.now.entries known }
     ensures below { result < most_places → result ≡ length (values_from 1 learned.now.entries) }
@@ -66,7 +69,7 @@ pub(crate) fn prefix_len(learned: &BTreeMap<u64, Bytes>, known: u64) -> u64
     ensures learned { AreLearned learned.now.entries result }
 {
     let mut len = known;
-    while len < MOST_PLACES && learned.contains_key(&(len + 1)) {
+    while len < MOST_PLACES && learned.contains(len + 1) {
         len += 1;
     }
     len

@@ -12,7 +12,7 @@ use Rattle.node_service.specs.declared.outgoing.Output.{Ghosts as Outputs}
 use Rattle.node_service.specs.declared.outgoing.Reply.{Reply}
 use Rattle.node_service.specs.declared.actor.Actor.{Ghosts as Actors}
 use Rattle.node_service.specs.Incoming.{Comes, IsTakenFor}
-use Rattle.node_service.specs.Serving.{RepliesTo, Serves, Turn, Turns, lines_of, text_of}
+use Rattle.node_service.specs.Serving.{RepliesTo, ServesLines, Turn, Turns, lines_of, text_of}
 use Rattle.node_service.specs.Texts.{reply_text}
 
 -- one turn more at the end
@@ -28,7 +28,7 @@ more_of f [] turn = append-nil (f turn)
 more_of f (first ∷ turns) turn = ap (λ (x : List ℕ). f first ++ x) (more_of f turns turn) ∙ sym (append_assoc (f first) (flat_map f turns) (f turn))
 
 -- nothing yet
-pub none : {A I O : Type 0} (doer : Actors A) (input : Inputs I) (output : Outputs O) (a : A) (i : I) (o : O) → Serves doer input output [] a i o a i o
+pub none : {A I O : Type 0} (doer : Actors A) (input : Inputs I) (output : Outputs O) (a : A) (i : I) (o : O) → ServesLines doer input output [] a i o a i o
 none doer input output a i o = record { turned = (refl, refl); read = Consumes-nil (input.bytes_left i); written = Appends-nil (output.bytes_held o) }
 
 -- a whole line came
@@ -53,8 +53,8 @@ turn_of doer input what replied a i a' i' up came gives replies =
 -- one line more was served
 pub one_more : {A I O : Type 0} (doer : Actors A) (input : Inputs I) (output : Outputs O) (turns : List (List ℕ × Reply)) (line : List ℕ) (replied : Reply)
     (a : A) (i : I) (o : O) (am : A) (im : I) (om : O) (a' : A) (i' : I) (o' : O)
-    → Serves doer input output turns a i o am im om → Turn doer input line replied am im a' i' → Consumes (input.bytes_left im) (input.bytes_left i') (line ++ 10 ∷ [])
-    → Appends (output.bytes_held om) (output.bytes_held o') (reply_text replied) → Serves doer input output (turns ++ (line, replied) ∷ []) a i o a' i' o'
+    → ServesLines doer input output turns a i o am im om → Turn doer input line replied am im a' i' → Consumes (input.bytes_left im) (input.bytes_left i') (line ++ 10 ∷ [])
+    → Appends (output.bytes_held om) (output.bytes_held o') (reply_text replied) → ServesLines doer input output (turns ++ (line, replied) ∷ []) a i o a' i' o'
 one_more doer input output turns line replied a i o am im om a' i' o' served turn read written = record {
   turned = more_turns doer input turns line replied a i am im a' i' served.turned turn;
   read = subst (Consumes (input.bytes_left i) (input.bytes_left i')) (sym (more_of (λ turn. turn.0 ++ 10 ∷ []) turns (line, replied)))

@@ -44,7 +44,7 @@ abbrev pub text_of : List (List ℕ × Reply) → List ℕ
 text_of turns = flat_map (λ turn. reply_text turn.1) turns
 
 -- these whole lines were read and replied to, and nothing else was read or written
-pub record Serves {A I O : Type 0} (doer : Actors A) (input : Inputs I) (output : Outputs O) (turns : List (List ℕ × Reply)) (a : A) (i : I) (o : O) (a' : A) (i' : I) (o' : O) : Type 0 where
+pub record ServesLines {A I O : Type 0} (doer : Actors A) (input : Inputs I) (output : Outputs O) (turns : List (List ℕ × Reply)) (a : A) (i : I) (o : O) (a' : A) (i' : I) (o' : O) : Type 0 where
   pub turned : Turns doer input turns a i a' i'
   pub read : Consumes (input.bytes_left i) (input.bytes_left i') (lines_of turns)
   pub written : Appends (output.bytes_held o) (output.bytes_held o') (text_of turns)
@@ -53,15 +53,15 @@ pub record Serves {A I O : Type 0} (doer : Actors A) (input : Inputs I) (output 
 -- and its reply failed; or these are all that a run may have
 abbrev pub EndsBy : {A I O : Type 0} → Actors A → Inputs I → Outputs O → End → A → I → O → A → I → O → Type 0
 EndsBy {A} {I} {O} doer input output ends.Input a i o a' i' o' =
-    (turns : List (List ℕ × Reply)) × (rest : I) × (left : List ℕ) × Serves doer input output turns a i o a' rest o' × (doer.up a' ≡ true)
+    (turns : List (List ℕ × Reply)) × (rest : I) × (left : List ℕ) × ServesLines doer input output turns a i o a' rest o' × (doer.up a' ≡ true)
     × input.gives rest incoming.End i' × ReadsLast (input.bytes_left rest) (input.bytes_left i') left
 EndsBy {A} {I} {O} doer input output ends.Crashed a i o a' i' o' =
-    (turns : List (List ℕ × Reply)) × Serves doer input output turns a i o a' i' o' × (doer.up a' ≡ false)
+    (turns : List (List ℕ × Reply)) × ServesLines doer input output turns a i o a' i' o' × (doer.up a' ≡ false)
 EndsBy {A} {I} {O} doer input output ends.Unreadable a i o a' i' o' =
-    (turns : List (List ℕ × Reply)) × (rest : I) × Serves doer input output turns a i o a' rest o' × (doer.up a' ≡ true) × input.fails rest i'
+    (turns : List (List ℕ × Reply)) × (rest : I) × ServesLines doer input output turns a i o a' rest o' × (doer.up a' ≡ true) × input.fails rest i'
 EndsBy {A} {I} {O} doer input output (ends.Unwritten why) a i o a' i' o' =
     (turns : List (List ℕ × Reply)) × (before : A) × (rest : I) × (sent : O) × (line : List ℕ) × (replied : Reply)
-    × Serves doer input output turns a i o before rest sent × Turn doer input line replied before rest a' i'
+    × ServesLines doer input output turns a i o before rest sent × Turn doer input line replied before rest a' i'
     × ReadsLine (input.bytes_left rest) (input.bytes_left i') line × output.fails sent replied why o'
 EndsBy {A} {I} {O} doer input output ends.Spent a i o a' i' o' =
-    (turns : List (List ℕ × Reply)) × Serves doer input output turns a i o a' i' o' × (length turns ≡ 2 ^ 64 - 1)
+    (turns : List (List ℕ × Reply)) × ServesLines doer input output turns a i o a' i' o' × (length turns ≡ 2 ^ 64 - 1)

@@ -29,7 +29,7 @@ use Rattle.node_worker.specs.declared.entry.Done.{Done}
 use Rattle.node_worker.specs.Entries.{EntryView}
 use Rattle.node_worker.specs.Replays.{EntryStep, Replays, answer_of, opening}
 use Rattle.node_worker.specs.Legal.{entries_of, letters_of, outputs_of, Comes, IsSound}
-use Rattle.node_worker.specs.Runs.{IsEvent, ReadAs, ListensAlong, sent_by, IsOfModem, IsSilent, Listened, HaveListened, SoundIsRun, SoundIsLegal, AreLegal, SendsAsOwner}
+use Rattle.node_worker.specs.Runs.{IsEvent, ReadAs, ListensAlong, sent_by, IsModemEvent, IsOfModem, IsSilent, Listened, HaveListened, SoundIsRun, SoundIsLegal, AreLegal, SendsAsOwner}
 use Rattle.node_worker.proofs.Plants.{entries_of-append, entries_of_one}
 use Rattle.node_worker.proofs.Wholes.{at_one}
 use Rattle.node_worker.proofs.Moving.{entry_moves}
@@ -90,32 +90,14 @@ event_of sent k (Asked Restart) comes = (event.Restart k, refl)
 event_of sent k (Came l) comes = let at = contains_at sent l comes.1 in (event.Deliver at.0, (at.0, at.1, comes.0, refl))
 
 -- a cause of a node is no event of a modem
-not_hear : (sent : List Letter) (k m i near : ℕ) (cause : Cause) → IsEvent sent k cause (event.Hear m i near) → ⊥
-not_hear sent k m i near (Asked Lead) is = cc (is)
-not_hear sent k m i near (Asked (Offer value)) is = cc (is)
-not_hear sent k m i near (Asked (Tell to place)) is = cc (is)
-not_hear sent k m i near (Asked (Release now)) is = cc (is)
-not_hear sent k m i near (Asked Crash) is = cc (is)
-not_hear sent k m i near (Asked Restart) is = cc (is)
-not_hear sent k m i near (Came l) is = let same = is.3 in cc (same)
-
-not_want : (sent : List Letter) (k m ch sid n : ℕ) (cause : Cause) → IsEvent sent k cause (event.Want m ch sid n) → ⊥
-not_want sent k m ch sid n (Asked Lead) is = cc (is)
-not_want sent k m ch sid n (Asked (Offer value)) is = cc (is)
-not_want sent k m ch sid n (Asked (Tell to place)) is = cc (is)
-not_want sent k m ch sid n (Asked (Release now)) is = cc (is)
-not_want sent k m ch sid n (Asked Crash) is = cc (is)
-not_want sent k m ch sid n (Asked Restart) is = cc (is)
-not_want sent k m ch sid n (Came l) is = let same = is.3 in cc (same)
-
-not_tick : (sent : List Letter) (k m ch slot random : ℕ) (cause : Cause) → IsEvent sent k cause (event.Tick m ch slot random) → ⊥
-not_tick sent k m ch slot random (Asked Lead) is = cc (is)
-not_tick sent k m ch slot random (Asked (Offer value)) is = cc (is)
-not_tick sent k m ch slot random (Asked (Tell to place)) is = cc (is)
-not_tick sent k m ch slot random (Asked (Release now)) is = cc (is)
-not_tick sent k m ch slot random (Asked Crash) is = cc (is)
-not_tick sent k m ch slot random (Asked Restart) is = cc (is)
-not_tick sent k m ch slot random (Came l) is = let same = is.3 in cc (same)
+no_modem : (sent : List Letter) (k : ℕ) (cause : Cause) (e : Event) → IsEvent sent k cause e → IsModemEvent e → ⊥
+no_modem sent k (Asked Lead) e is of_modem = subst IsModemEvent is of_modem
+no_modem sent k (Asked (Offer value)) e is of_modem = subst IsModemEvent is of_modem
+no_modem sent k (Asked (Tell to place)) e is of_modem = subst IsModemEvent is of_modem
+no_modem sent k (Asked (Release now)) e is of_modem = subst IsModemEvent is of_modem
+no_modem sent k (Asked Crash) e is of_modem = subst IsModemEvent is of_modem
+no_modem sent k (Asked Restart) e is of_modem = subst IsModemEvent is of_modem
+no_modem sent k (Came l) e is of_modem = subst IsModemEvent is.3 of_modem
 
 -- one record is read as its event
 reads : (sent : List Letter) (d : Done) (ds : List Done) (e : Event) (script : List Event) (report : List Answer)
@@ -129,9 +111,9 @@ reads sent d ds (event.DeliverThenCrash i) script report is rest = (is, refl, re
 reads sent d ds (event.Crash k) script report is rest = (is, refl, rest)
 reads sent d ds (event.Restart k) script report is rest = (is, refl, rest)
 reads sent d ds (event.Release k now) script report is rest = (is, refl, rest)
-reads sent d ds (event.Hear m i near) script report is rest = absurd (not_hear sent d.node m i near d.entry.cause is)
-reads sent d ds (event.Want m ch sid n) script report is rest = absurd (not_want sent d.node m ch sid n d.entry.cause is)
-reads sent d ds (event.Tick m ch slot random) script report is rest = absurd (not_tick sent d.node m ch slot random d.entry.cause is)
+reads sent d ds (event.Hear m i near) script report is rest = absurd (no_modem sent d.node d.entry.cause (event.Hear m i near) is tt)
+reads sent d ds (event.Want m ch sid n) script report is rest = absurd (no_modem sent d.node d.entry.cause (event.Want m ch sid n) is tt)
+reads sent d ds (event.Tick m ch slot random) script report is rest = absurd (no_modem sent d.node d.entry.cause (event.Tick m ch slot random) is tt)
 
 goes : (members : ℕ) (w : Written) (records : List Done) (events : List Event) (answers : List Answer) (rs : List Receiver)
     → EachGoes members w.nodes records → ComesFrom w.letters records → Within (length w.nodes) records
@@ -303,21 +285,6 @@ silent_owes : (members : ℕ) (records : List Done) (modems : List State) (e : E
 silent_owes members records modems (event.Tick m ch slot random) (answer.Ticked sending) silent = absurd silent
 silent_owes members records modems e told silent = tt
 
--- a step of a modem keeps that the modems listened, and sends as the owner
-pub modem_keeps : (members : ℕ) (records seen : List Done) (old new : List State) (e : Event) (told : Answer) → seen ≡ records → IsSound members records → Listened (outputs_of records) old
-    → ((rs : List Receiver) → AreReceivers old rs → (after : List Receiver) × ModemNext rs (outputs_of seen) e told after × AreReceivers new after)
-    → (new ≡ old) × IsSilent told ⊎ IsOfModem (length (outputs_of seen)) e
-    → Listened (outputs_of records) new × SendsAsOwner members records new e told
-modem_keeps members records seen old new e told same sound heard next (inl none) =
-    (subst (λ (ms : List State). Listened (outputs_of records) ms) (sym none.0) heard, silent_owes members records new e told none.1)
-modem_keeps members records seen old new e told same sound heard next (inr of_modem) =
-    let goes = subst (λ (ds : List Done). (rs : List Receiver) → AreReceivers old rs → (after : List Receiver) × ModemNext rs (outputs_of ds) e told after × AreReceivers new after) same next in
-    let within = subst (λ (ds : List Done). IsOfModem (length (outputs_of ds)) e) same of_modem in
-    let was : HaveListened heard.0 (outputs_of records) old heard.1 = heard.2 in
-    let now = sent_by (was.events ++ e ∷ []) (was.answers ++ told ∷ []) in
-    let on : HaveListened heard.0 (outputs_of records) new now = listened_on heard.0 (outputs_of records) old new heard.1 e told was within goes in
-    ((heard.0, now, on), sends_as_owner members heard.0 records old new heard.1 e told sound was now on refl)
-
 -- whatever the records are, the modems listened on
 pub modem_listens : (records seen : List Done) (old new : List State) (e : Event) (told : Answer) → seen ≡ records → Listened (outputs_of records) old
     → ((rs : List Receiver) → AreReceivers old rs → (after : List Receiver) × ModemNext rs (outputs_of seen) e told after × AreReceivers new after)
@@ -328,3 +295,14 @@ modem_listens records seen old new e told same heard next (inr of_modem) =
     let goes = subst (λ (ds : List Done). (rs : List Receiver) → AreReceivers old rs → (after : List Receiver) × ModemNext rs (outputs_of ds) e told after × AreReceivers new after) same next in
     let within = subst (λ (ds : List Done). IsOfModem (length (outputs_of ds)) e) same of_modem in
     (heard.0, sent_by (heard.2.events ++ e ∷ []) (heard.2.answers ++ told ∷ []), listened_on heard.0 (outputs_of records) old new heard.1 e told heard.2 within goes)
+
+-- and over sound records the modem sent as the owner
+pub modem_sends : (members : ℕ) (records seen : List Done) (old new : List State) (e : Event) (told : Answer) → seen ≡ records → IsSound members records → Listened (outputs_of records) old
+    → ((rs : List Receiver) → AreReceivers old rs → (after : List Receiver) × ModemNext rs (outputs_of seen) e told after × AreReceivers new after)
+    → (new ≡ old) × IsSilent told ⊎ IsOfModem (length (outputs_of seen)) e
+    → SendsAsOwner members records new e told
+unfolding modem_listens
+modem_sends members records seen old new e told same sound heard next (inl none) = silent_owes members records new e told none.1
+modem_sends members records seen old new e told same sound heard next (inr of_modem) =
+    let on = modem_listens records seen old new e told same heard next (inr of_modem) in
+    sends_as_owner members heard.0 records old new heard.1 e told sound heard.2 on.1 on.2 refl

@@ -104,7 +104,7 @@ module _ {N : Type 0} {g : Ghosts N} (old new : Seat N g) (cause : Cause) (answe
   carries honest = subst (λ (e : Ended). Carries (who_of old).members (who_of old).id (Stands old) (entry cause e letters outputs) (Stands new)) (sym is) (λ s before.
       let to = acts.moves honest s before in
       let m : Move = to.0 in
-      (m.standing, (survived answer, m, reads (who_of old).members (who_of old).id s (ask_of cause) answer old.up new.up letters outputs m acts.answers acts.goes_out to.1, refl, to.2, to.3), to.4))
+      (m.standing, (survived answer, m, reads (who_of old).members (who_of old).id s (ask_of cause) answer old.up new.up letters outputs m acts.answers.may acts.answers.goes_out to.1, refl, to.2, to.3), to.4))
 
   pub rises : ended ≡ FailedEither → HasRisen (who_of old).failures (who_of new).failures
   rises either = acts.rose (either_rose answer (sym is ∙ either))

@@ -1,7 +1,8 @@
 //! One leader of three, while the records of one node fail.
 
+use crate::faulty_nodes::{FaultyNode, faulty_nodes};
 use ballots::Members;
-use faulty_records::{Failure, FaultyNode, Trouble, faulty_nodes};
+use faulty_records::{Failure, Trouble};
 use network_script::World;
 use node::NodeFault;
 use script_text::read_script;

@@ -8,6 +8,7 @@
 mod failing_records;
 #[cfg(test)]
 mod failing_runs;
+pub mod faulty_nodes;
 #[cfg(test)]
 mod letter_lines;
 #[cfg(test)]

@@ -1,23 +1,13 @@
 -- What a key holds, from what its value is.
-use Rattle.std.proofs.Common.{◌≡◌, Bool, true, false, List, [], Option, Some, None, refl}
+use Rattle.std.proofs.Common.{◌≡◌, Bool, true, false, List, Option, Some, None, refl}
 use Rattle.std.specs.List.{list_all}
 use Rattle.toml.specs.Data.{Data, as_array}
 use Rattle.toml.specs.View.{items_of}
 use Rattle.script_text.specs.Items.{held_items, is_table, only_tables}
 use Rattle.script_text.proofs.Callers.{list_of-items_of}
 
-pub without_key : (found : Option Data) → None ≡ found → Some [] ≡ held_items found
-without_key found is = rw (← is) refl
-
-pub of_no_array : (found : Option Data) (d : Data) → Some d ≡ found → None ≡ as_array d → None ≡ held_items found
-of_no_array found d is none = rw (← is, ← none) refl
-
 pub of_array : (found : Option Data) (d : Data) (ds : List Data) → Some d ≡ found → Some (items_of ds) ≡ as_array d → Some ds ≡ held_items found
 of_array found d ds is array = rw (← is, ← array, list_of-items_of ds) refl
-
--- items are kept where all of them are tables
-pub of_no_items : (items : Option (List Data)) → None ≡ items → None ≡ only_tables items
-of_no_items items is = rw (← is) refl
 
 pub of_tables : (items : Option (List Data)) (ds : List Data) {b all : Bool} → Some ds ≡ items → list_all is_table ds ≡ all → b ≡ all → b ≡ true → Some ds ≡ only_tables items
 of_tables items ds is test same are = rw (← is, test, ← same, are) refl

@@ -1,8 +1,9 @@
 -- What a call of a node is, as its seat shows it.
-use Rattle.std.proofs.Common.{◌≡◌, inl, inr, ⊎_elim, ℕ, ◌+◌, List, [], length, None, Option, Ok, Err, Result, Bool, true, false, IsTrue, Vec, is_ok, nat_lt, if◌then◌else◌, refl, sym, ap, ◌∙◌, subst, arith}
-use Rattle.std.specs.Prelude.{IfErr, OnErr, OnOk}
+use Rattle.std.proofs.Common.{◌≡◌, ◌<◌, ◌≤◌, inl, inr, ⊎_elim, ℕ, ◌+◌, List, [], length, None, Option, Ok, Err, Result, Bool, true, false, IsTrue, Vec, is_ok, nat_lt, if◌then◌else◌, refl, sym, ap, ◌∙◌, subst, arith}
+use Rattle.std.specs.Prelude.{◌↔◌, IfErr, IfOk, IsOk, IsOkAnd, OnErr, OnOk}
 use Rattle.std.specs.declared.alloc.Global.{Global}
 use Rattle.std.proofs.lemmas.Bool.{cond_both, false≢true}
+use Rattle.ballots.specs.Ballots.{NoneAbove}
 use Rattle.ballots.specs.Limits.{longest_value, most_places}
 use Rattle.ballots.specs.declared.letters.Letter.{Letter}
 use Rattle.ballots.specs.declared.letters.Note.TheVariants.{Accept}
@@ -11,31 +12,32 @@ use Rattle.acceptor.specs.Content.{Content, Write, after_write}
 use Rattle.acceptor.specs.Faults.{HasRisen}
 use Rattle.map_release.specs.declared.numbered.Numbered.{Numbered}
 use Rattle.node.specs.declared.node.Node.{Ghosts}
-use Rattle.node.specs.View.{View, Standing, started}
+use Rattle.node.specs.View.{View, Standing, started, values_from}
 use Rattle.node.specs.View.Standing.{Running, Stopped}
-use Rattle.node.specs.Calls.{Called, Cause, Course, CallEnds, IsStop, Kept, KeptByRestart, Restarts, StopsLast, StoreFails, TakesTurn, Who, answer}
+use Rattle.node.specs.Calls.{Called, Cause, Course, CallEnds, IsNothingNew, IsStop, Kept, KeptByRestart, Restarts, StopsLast, StoreFails, TakesTurn, Who, answer}
 use Rattle.node.specs.Calls.Cause.{Lead as AskedToLead, Offer as Offered, Receive as Received, Tell as AskedToTell}
 use Rattle.node.specs.Releases.{Releases, outputs, released_all}
-use Rattle.node.specs.Step.{Outcome, nothing}
+use Rattle.node.specs.Step.{Outcome, is_heeded, nothing}
 use Rattle.proposer.specs.Faults.{IsOfOffer}
 use Rattle.proposer.specs.Letters.{to_all}
 use Rattle.proposer.specs.Turns.{Turn, offer}
 use Rattle.proposer.specs.declared.role.Role.{Role}
 use Rattle.proposer.specs.declared.role.Role.TheVariants.{Idle, Preparing, Leading}
 use Rattle.proposer.specs.declared.fault.NodeFault.{NodeFault}
-use Rattle.proposer.specs.declared.fault.NodeFault.TheVariants.{NotLeading, LogFull, ValueTooLong, OutOfMemory, StoreRefused, Down}
+use Rattle.proposer.specs.declared.fault.NodeFault.TheVariants.{NotLeading, LogFull, RoundsSpent, ValueTooLong, OutOfMemory, StoreRefused, Down}
 use Rattle.seats.specs.Acted.{ask_of, come_of, letters_of, outputs_of, told}
 use Rattle.seats.specs.Acts.{Acts, AnswersDown, GoOut, GoesTo, KeepsRest, MayAnswer, MayFail, MovesBy, TellsStoreOf}
 use Rattle.seats.specs.Moves.{Ask, Move, Moves, Fails, gives, lost, quiet, whole}
 use Rattle.seats.specs.Moves.Ask.{Call, TakeThenCrash, Release, Crash, Restart}
 use Rattle.seats.specs.Occupant.{Stands}
+use Rattle.seats.specs.Owes.{Outside, Owes, TakesOffer, TellsLetters, outside}
 use Rattle.seats.specs.Seat.{Shown, crashed, stays_up, survives}
 use Rattle.seats.specs.StoreFaults.{is_store_fault}
 use Rattle.seats.specs.declared.acted.Acted.TheVariants as acted
 use Rattle.seats.specs.declared.acted.Asked.{Asked}
 use Rattle.seats.specs.declared.acted.Asked.TheVariants as asked
 use Rattle.seats.specs.declared.answer.Answer.{Answer}
-use Rattle.seats.specs.declared.answer.Answer.TheVariants.{Finished, Refused, Fault}
+use Rattle.seats.specs.declared.answer.Answer.TheVariants.{Sent, Finished, Refused, Fault}
 use Rattle.seats.specs.declared.seat.Seat.{Seat}
 use Rattle.world_events.specs.declared.refusal.EventRefusal.TheVariants.{NodeDown, NodeUp}
 
@@ -159,6 +161,45 @@ turn_fails members me (Leading b next) value (Err failed) turn =
     told_is : (declined : NodeFault) → IsOfOffer declined → Told (Err declined)
     told_is declined of_offer turned = let same : failed ≡ declined = cc in subst IsOfOffer (sym same) of_offer
 
+-- what a node that is up owes of a letter, as the node's call tells it
+pub owes_letter : (members me : ℕ) (was : Outside) (l : Letter) (given : Result (Vec Letter Global) NodeFault)
+    → (is_heeded members me l ≡ false → IsOkAnd given (λ letters. letters.items ≡ [])) → (IsNothingNew was.role was.values l.from l.note → IsOk given)
+    → Owes members me was (Call (Received l)) (told (come_of acted.Sent given)) (letters_of (come_of acted.Sent given))
+    × Owes members me was (TakeThenCrash l) (told (come_of (λ letters. acted.Finished) given)) (letters_of (come_of (λ letters. acted.Finished) given))
+owes_letter members me was l (Ok letters) passed new = ((λ over. ap (λ (ls : List Letter). Sent (length ls)) (passed over), λ nothing. tt), (λ over. refl, λ nothing. tt))
+owes_letter members me was l (Err failed) passed new = ((λ over. absurd (passed over), λ nothing. absurd (false≢true (new nothing))), (λ over. absurd (passed over), λ nothing. absurd (false≢true (new nothing))))
+
+same_fault : {T : Type 0} (f g : NodeFault) (r : Result T NodeFault) → r ≡ Err f → r ≡ Err g → f ≡ g
+same_fault f g r is also = cc
+
+-- of a lead
+pub owes_lead : (members me : ℕ) (was : Outside) (given : Result (Vec Letter Global) NodeFault)
+    → (given ≡ Err LogFull ↔ most_places ≤ length (values_from 1 was.values)) → (length (values_from 1 was.values) < most_places → NoneAbove was.rest.hint me → given ≡ Err RoundsSpent)
+    → Owes members me was (Call AskedToLead) (told (come_of acted.Sent given)) (letters_of (come_of acted.Sent given))
+owes_lead members me was (Ok letters) full heard = ((λ is. cc, λ past. cc_of (full.1 past)), λ room none. cc_of (heard room none))
+  where
+    cc_of : {A : Type 0} {failed : NodeFault} → Ok letters ≡ Err failed → A
+    cc_of is = cc
+owes_lead members me was (Err failed) full heard = (
+  (λ is. full.0 (ap (λ (f : NodeFault). Err f) (same is)), λ past. ap (λ (f : NodeFault). Fault f) (same_fault failed LogFull (Err failed) refl (full.1 past))),
+  λ room none. ap (λ (f : NodeFault). Fault f) (same_fault failed RoundsSpent (Err failed) refl (heard room none)),
+)
+  where
+    same : Fault failed ≡ Fault LogFull → failed ≡ LogFull
+    same is = cc
+
+-- of an offer
+pub owes_offer : (turn : Result Turn NodeFault) (given : Result (Vec Letter Global) NodeFault) → TakesTurn turn (answer given) → TakesOffer turn (told (come_of acted.Sent given)) (letters_of (come_of acted.Sent given))
+owes_offer (Ok turn) (Ok letters) took = took
+owes_offer (Ok turn) (Err failed) took = took
+owes_offer (Err declined) (Ok letters) took = cc
+owes_offer (Err declined) (Err failed) took = cc
+
+-- of what it is to tell
+pub owes_tell : (said : List Letter) (given : Result (Vec Letter Global) NodeFault) → IfOk given (λ letters. letters.items ≡ said) → (said ≡ [] → IsOk given) → TellsLetters said (told (come_of acted.Sent given)) (letters_of (come_of acted.Sent given))
+owes_tell said (Ok letters) same some = same
+owes_tell said (Err failed) same some = λ none. absurd (false≢true (some none))
+
 -- nothing declines a letter
 pub receives_last : (members me : ℕ) (view : View) (l : Letter) (given : Result (List Letter) NodeFault) → StopsLast members me view (Received l) given
 receives_last members me view l (Ok letters) = tt
@@ -192,29 +233,28 @@ module _ {N : Type 0} {g : Ghosts N} (old : Seat N g) where
       (was.1, was.2, subst (g.stands old.node) was.2 was.0)
 
   -- nothing changed
-  pub still : (ask : Ask) (reply : Answer) (up : Bool) → old.up ≡ up → is_store_fault reply ≡ false → GoOut reply [] [] → MayAnswer up ask reply up → TellsStoreOf reply ask (g.who old.node) (g.who old.node)
+  still : (ask : Ask) (reply : Answer) (up : Bool) → old.up ≡ up → is_store_fault reply ≡ false → GoOut reply [] [] → MayAnswer up ask reply up → (up ≡ true → Owes (g.who old.node).members (g.who old.node).id (outside old) ask reply [])
+      → TellsStoreOf reply ask (g.who old.node) (g.who old.node)
       → ((s : Standing) → Shown up (g.stands old.node) s → Moves (g.who old.node).members (g.who old.node).id s ask reply (quiet s)) → Acts old ask reply [] [] old
-  still ask reply up is quiet_answer none may tells moves = record {
+  still ask reply up is quiet_answer none may owes tells moves = record {
     same = (refl, refl);
     grows = omega arith;
     tells = tells;
     rose = λ loud. absurd (false≢true (sym quiet_answer ∙ loud));
     honesty = λ honest. honest;
     trust = λ well. record { honest = λ honest. honest; clean = λ clean. clean; sure = λ clean honest. honest };
-    answers = subst (λ (b : Bool). MayAnswer b ask reply b) (sym is) may;
-    goes_out = none;
-    rest = same_rest reply (g.rest old.node);
+    answers = record { may = subst (λ (b : Bool). MayAnswer b ask reply b) (sym is) may; goes_out = none; owes = λ on. owes (sym is ∙ on); rest = same_rest reply (g.rest old.node) };
     moves = λ honest s shown. (quiet s, moves s (subst (λ (b : Bool). Shown b (g.stands old.node) s) is shown), refl, refl, shown);
   }
 
   -- a restart of a node that is up
   pub stays_up_so : old.up ≡ true → Acts old Restart (Refused NodeUp) [] [] old
-  stays_up_so up = still Restart (Refused NodeUp) true up refl (refl, refl) refl (refl, refl) (λ s shown. subst (λ (x : Standing). Moves (g.who old.node).members (g.who old.node).id x Restart (Refused NodeUp) (quiet x)) (sym shown.2) (refl, refl))
+  stays_up_so up = still Restart (Refused NodeUp) true up refl (refl, refl) refl (λ on. tt) (refl, refl) (λ s shown. subst (λ (x : Standing). Moves (g.who old.node).members (g.who old.node).id x Restart (Refused NodeUp) (quiet x)) (sym shown.2) (refl, refl))
 
   -- a node that crashed takes nothing but a restart
   stays_down : (ask : Ask) → old.up ≡ false → AnswersDown ask (Refused NodeDown) false → TellsStoreOf (Refused NodeDown) ask (g.who old.node) (g.who old.node)
       → ((c : Content) (doubt : Option Write) → Moves (g.who old.node).members (g.who old.node).id (Stopped c doubt) ask (Refused NodeDown) (quiet (Stopped c doubt))) → Acts old ask (Refused NodeDown) [] [] old
-  stays_down ask down may tells moves = still ask (Refused NodeDown) false down refl (refl, refl) may tells (λ s shown.
+  stays_down ask down may tells moves = still ask (Refused NodeDown) false down refl (refl, refl) may (λ on. absurd (false≢true on)) tells (λ s shown.
       let there = stopped shown.0 in
       subst (λ (x : Standing). Moves (g.who old.node).members (g.who old.node).id x ask (Refused NodeDown) (quiet x)) (sym (shown.2 ∙ there.2)) (moves there.0 there.1))
     where
@@ -241,9 +281,7 @@ module _ {N : Type 0} {g : Ghosts N} (old : Seat N g) where
     rose = λ loud. absurd (false≢true loud);
     honesty = λ honest. honest;
     trust = λ well. record { honest = λ honest. honest; clean = λ clean. clean; sure = λ clean honest. honest };
-    answers = subst (λ (b : Bool). MayAnswer b Crash Finished false) (sym up) refl;
-    goes_out = (refl, refl);
-    rest = tt;
+    answers = record { may = subst (λ (b : Bool). MayAnswer b Crash Finished false) (sym up) refl; goes_out = (refl, refl); owes = λ on. tt; rest = tt };
     moves = λ honest s shown.
         let at = runs_at s up shown in
         (quiet (Stopped at.0.content None), subst (λ (x : Standing). Moves (g.who old.node).members (g.who old.node).id x Crash Finished (quiet (Stopped at.0.content None))) (sym at.1) (refl, refl), refl, refl, (Running at.0, at.2, refl));
@@ -253,19 +291,17 @@ module _ {N : Type 0} {g : Ghosts N} (old : Seat N g) where
   built : (new : Seat N g) (ask : Ask) (answer : Answer) (letters : List Letter) (outs : List Numbered) (b : Bool) {T : Type 0} (given : Result T NodeFault) → old.up ≡ true → new.up ≡ b
       → KeepsTrust g.honest g.clean old.node new.node → Kept (g.who old.node) given (g.who new.node)
       → TellsStoreOf answer ask (g.who old.node) (g.who new.node) → (is_store_fault answer ≡ true → HasRisen (g.who old.node).failures (g.who new.node).failures)
-      → MayAnswer true ask answer new.up → GoOut answer letters outs → KeepsRest answer (g.rest old.node) (g.rest new.node)
+      → MayAnswer true ask answer new.up → GoOut answer letters outs → Owes (g.who old.node).members (g.who old.node).id (outside old) ask answer letters → KeepsRest answer (g.rest old.node) (g.rest new.node)
       → (IsTrue (g.honest new.node) → (view : View) → g.stands old.node (Running view) → GoesTo (g.who old.node).members (g.who old.node).id (Running view) ask answer letters outs (Shown b (g.stands new.node)))
       → Acts old ask answer letters outs new
-  built new ask answer letters outs b given up turned trust kept tells rose may out rest goes = record {
+  built new ask answer letters outs b given up turned trust kept tells rose may out owes rest goes = record {
     same = (kept.0, kept.1);
     grows = kept.2;
     tells = tells;
     rose = rose;
     honesty = trust.honest;
     trust = λ well. trust;
-    answers = subst (λ (was : Bool). MayAnswer was ask answer new.up) (sym up) may;
-    goes_out = out;
-    rest = rest;
+    answers = record { may = subst (λ (was : Bool). MayAnswer was ask answer new.up) (sym up) may; goes_out = out; owes = λ on. owes; rest = rest };
     moves = λ honest s shown.
         let at = runs_at s up shown in
         subst (λ (x : Standing). GoesTo (g.who old.node).members (g.who old.node).id x ask answer letters outs (Stands new)) (sym at.1)
@@ -275,27 +311,29 @@ module _ {N : Type 0} {g : Ghosts N} (old : Seat N g) where
   -- one whose letters go out
   pub calls : (new : Seat N g) (cause : Cause) (given : Result (Vec Letter Global) NodeFault) → old.up ≡ true → new.up ≡ stays_up given
       → KeepsTrust g.honest g.clean old.node new.node → OnErr given (g.rest new.node ≡ g.rest old.node) → Kept (g.who old.node) given (g.who new.node) → IfErr given (MayFail cause)
+      → Owes (g.who old.node).members (g.who old.node).id (outside old) (Call cause) (told (come_of acted.Sent given)) (letters_of (come_of acted.Sent given))
       → (IsTrue (g.honest new.node) → (s : Standing) → g.stands old.node s → (t : Standing) × Called (g.who old.node).members (g.who old.node).id s cause (answer given) t × g.stands new.node t)
       → (IsTrue (g.honest new.node) → (view : View) → g.stands old.node (Running view) → StopsLast (g.who old.node).members (g.who old.node).id view cause (answer given))
       → Acts old (Call cause) (told (come_of acted.Sent given)) (letters_of (come_of acted.Sent given)) (outputs_of (come_of acted.Sent given)) new
-  calls new cause (Ok letters) up turned trust rest kept may done order = built new (Call cause) _ _ _ true (Ok letters) up turned trust kept kept.3 (λ loud. absurd (false≢true loud)) turned (refl, refl) tt (λ honest view runs.
+  calls new cause (Ok letters) up turned trust rest kept may owes done order = built new (Call cause) _ _ _ true (Ok letters) up turned trust kept kept.3 (λ loud. absurd (false≢true loud)) turned (refl, refl) owes tt (λ honest view runs.
       let one = done honest (Running view) runs in
       called (g.who old.node).members (g.who old.node).id view cause (g.stands new.node) (Ok letters) one.0 one.1 (order honest view runs) one.2)
-  calls new cause (Err failed) up turned trust rest kept may done order = built new (Call cause) _ _ _ (survives failed) {T = Vec Letter Global} (Err failed) up turned trust kept
-      (err_tells (Vec Letter Global) (Call cause) (g.who old.node) (g.who new.node) failed (λ e. cc) kept) (err_rose (Vec Letter Global) (g.who old.node) (g.who new.node) failed (old.runs up) kept) (may, turned) (refl, refl) rest (λ honest view runs.
+  calls new cause (Err failed) up turned trust rest kept may owes done order = built new (Call cause) _ _ _ (survives failed) {T = Vec Letter Global} (Err failed) up turned trust kept
+      (err_tells (Vec Letter Global) (Call cause) (g.who old.node) (g.who new.node) failed (λ e. cc) kept) (err_rose (Vec Letter Global) (g.who old.node) (g.who new.node) failed (old.runs up) kept) (may, turned) (refl, refl) owes rest (λ honest view runs.
       let one = done honest (Running view) runs in
       called (g.who old.node).members (g.who old.node).id view cause (g.stands new.node) (Err failed) one.0 one.1 (order honest view runs) one.2)
 
   -- a letter that is taken before a crash
   pub takes : (new : Seat N g) (l : Letter) (given : Result (Vec Letter Global) NodeFault) → old.up ≡ true → new.up ≡ false
       → KeepsTrust g.honest g.clean old.node new.node → OnErr given (g.rest new.node ≡ g.rest old.node) → Kept (g.who old.node) given (g.who new.node) → IfErr given IsStop
+      → Owes (g.who old.node).members (g.who old.node).id (outside old) (TakeThenCrash l) (told (come_of (λ letters. acted.Finished) given)) (letters_of (come_of (λ letters. acted.Finished) given))
       → (IsTrue (g.honest new.node) → (s : Standing) → g.stands old.node s → (t : Standing) × Called (g.who old.node).members (g.who old.node).id s (Received l) (answer given) t × g.stands new.node t)
       → Acts old (TakeThenCrash l) (told (come_of (λ letters. acted.Finished) given)) (letters_of (come_of (λ letters. acted.Finished) given)) (outputs_of (come_of (λ letters. acted.Finished) given)) new
-  takes new l (Ok letters) up turned trust rest kept stop done = built new (TakeThenCrash l) _ _ _ false (Ok letters) up turned trust kept kept.3 (λ loud. absurd (false≢true loud)) turned (refl, refl) tt (λ honest view runs.
+  takes new l (Ok letters) up turned trust rest kept stop owes done = built new (TakeThenCrash l) _ _ _ false (Ok letters) up turned trust kept kept.3 (λ loud. absurd (false≢true loud)) turned (refl, refl) owes tt (λ honest view runs.
       let one = done honest (Running view) runs in
       called_last (g.who old.node).members (g.who old.node).id view l (g.stands new.node) (Ok letters) one.0 one.1 stop one.2)
-  takes new l (Err failed) up turned trust rest kept stop done = built new (TakeThenCrash l) _ _ _ false {T = Vec Letter Global} (Err failed) up turned trust kept
-      (err_tells (Vec Letter Global) (TakeThenCrash l) (g.who old.node) (g.who new.node) failed (λ e. cc) kept) (err_rose (Vec Letter Global) (g.who old.node) (g.who new.node) failed (old.runs up) kept) (stop, turned) (refl, refl) rest (λ honest view runs.
+  takes new l (Err failed) up turned trust rest kept stop owes done = built new (TakeThenCrash l) _ _ _ false {T = Vec Letter Global} (Err failed) up turned trust kept
+      (err_tells (Vec Letter Global) (TakeThenCrash l) (g.who old.node) (g.who new.node) failed (λ e. cc) kept) (err_rose (Vec Letter Global) (g.who old.node) (g.who new.node) failed (old.runs up) kept) (stop, turned) (refl, refl) owes rest (λ honest view runs.
       let one = done honest (Running view) runs in
       called_last (g.who old.node).members (g.who old.node).id view l (g.stands new.node) (Err failed) one.0 one.1 stop one.2)
 
@@ -304,11 +342,11 @@ module _ {N : Type 0} {g : Ghosts N} (old : Seat N g) where
       → KeepsTrust g.honest g.clean old.node new.node → OnErr given (g.rest new.node ≡ g.rest old.node) → Kept (g.who old.node) given (g.who new.node) → IfErr given IsStop
       → (IsTrue (g.honest new.node) → (s : Standing) → g.stands old.node s → (t : Standing) × Releases s now (outputs given) t × g.stands new.node t)
       → Acts old (Release now) (told (come_of acted.Released given)) (letters_of (come_of acted.Released given)) (outputs_of (come_of acted.Released given)) new
-  releases new now (Ok released) up turned trust rest kept stop done = built new (Release now) _ _ _ true (Ok released) up turned trust kept kept.3 (λ loud. absurd (false≢true loud)) turned (refl, refl) tt (λ honest view runs.
+  releases new now (Ok released) up turned trust rest kept stop done = built new (Release now) _ _ _ true (Ok released) up turned trust kept kept.3 (λ loud. absurd (false≢true loud)) turned (refl, refl) tt tt (λ honest view runs.
       let one = done honest (Running view) runs in
       gave (g.who old.node).members (g.who old.node).id now view (g.stands new.node) (Ok released) one.0 one.1 one.2)
   releases new now (Err failed) up turned trust rest kept stop done = built new (Release now) _ _ _ (survives failed) {T = Vec Numbered Global} (Err failed) up turned trust kept
-      (err_tells (Vec Numbered Global) (Release now) (g.who old.node) (g.who new.node) failed (λ e. cc) kept) (err_rose (Vec Numbered Global) (g.who old.node) (g.who new.node) failed (old.runs up) kept) (stop, turned ∙ stop_falls failed stop) (refl, refl) rest (λ honest view runs.
+      (err_tells (Vec Numbered Global) (Release now) (g.who old.node) (g.who new.node) failed (λ e. cc) kept) (err_rose (Vec Numbered Global) (g.who old.node) (g.who new.node) failed (old.runs up) kept) (stop, turned ∙ stop_falls failed stop) (refl, refl) tt rest (λ honest view runs.
       let one = done honest (Running view) runs in
       gave (g.who old.node).members (g.who old.node).id now view (g.stands new.node) (Err failed) one.0 one.1 one.2)
 
@@ -334,9 +372,7 @@ module _ {N : Type 0} {g : Ghosts N} (old : Seat N g) where
     rose = λ loud. absurd (false≢true loud);
     honesty = honesty;
     trust = λ well. trust;
-    answers = subst (λ (b : Bool). MayAnswer b Restart Finished new.up) (sym down) turned;
-    goes_out = (refl, refl);
-    rest = tt;
+    answers = record { may = subst (λ (b : Bool). MayAnswer b Restart Finished new.up) (sym down) turned; goes_out = (refl, refl); owes = λ on. tt; rest = tt };
     moves = rises new (Ok finished) down turned done;
   }
   restarts new (Err failed) down turned honesty trust rest kept stop done = record {
@@ -346,8 +382,6 @@ module _ {N : Type 0} {g : Ghosts N} (old : Seat N g) where
     rose = restart_rose (g.who old.node) (g.who new.node) failed kept;
     honesty = honesty;
     trust = λ well. absurd (well failed refl refl);
-    answers = subst (λ (b : Bool). MayAnswer b Restart (Fault failed) new.up) (sym down) (stop, turned);
-    goes_out = (refl, refl);
-    rest = rest;
+    answers = record { may = subst (λ (b : Bool). MayAnswer b Restart (Fault failed) new.up) (sym down) (stop, turned); goes_out = (refl, refl); owes = λ on. tt; rest = rest };
     moves = rises new (Err failed) down turned done;
   }

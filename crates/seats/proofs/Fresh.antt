@@ -58,9 +58,6 @@ pub record AreModems (modems : List State) (ids : List ℕ) : Type 0 where
   pub new : AreNew modems
   pub named : map {B = ℕ} (λ modem. modem.id) modems ≡ ids
 
-pub no_modems : AreModems [] []
-no_modems = record { new = All-nil IsNew; named = refl }
-
 -- one modem more
 pub one_modem : (modems : List State) (ids : List ℕ) (i id d : ℕ) (modem : State) → i < length ids → AreModems modems (take i ids) → id ≡ get_or ids i d → modem ≡ new_modem id → AreModems (modems ++ modem ∷ []) (take (i + 1) ids)
 one_modem modems ids i id d modem below before is made =

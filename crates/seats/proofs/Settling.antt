@@ -1,15 +1,19 @@
 -- Where there is no room for what goes out, it is lost and the node crashes.
-use Rattle.std.proofs.Common.{◌≡◌, ◌≢◌, ◌<◌, ℕ, List, [], ◌∷◌, length, None, Bool, true, false, nat_lt, refl, sym, ap, ◌∙◌, subst, arith}
+use Rattle.std.proofs.Common.{◌≡◌, ◌≢◌, ◌<◌, ℕ, List, [], ◌∷◌, length, None, Bool, true, false, nat_lt, Result, Ok, Err, refl, sym, ap, ◌∙◌, subst, arith}
 use Rattle.std.proofs.lemmas.Bool.{false≢true, ltb-true, ltb-false}
 use Rattle.ballots.specs.declared.letters.Letter.{Letter}
 use Rattle.map_release.specs.declared.numbered.Numbered.{Numbered}
 use Rattle.node.specs.declared.node.Node.{Ghosts}
+use Rattle.node.specs.Calls.Cause.{Lead, Offer, Receive, Tell}
 use Rattle.node.specs.View.{Standing}
 use Rattle.node.specs.View.Standing.{Running, Stopped}
 use Rattle.seats.specs.Acts.{Acts, GoOut, MayAnswer, Settles, TellsStoreOf}
 use Rattle.seats.specs.Gives.{gives}
 use Rattle.seats.specs.Moves.{Ask, Move, Moves, lost, quiet}
 use Rattle.seats.specs.Moves.Ask.{Call, TakeThenCrash, Release, Crash, Restart}
+use Rattle.proposer.specs.Turns.{Turn, offer}
+use Rattle.proposer.specs.declared.fault.NodeFault.{NodeFault}
+use Rattle.seats.specs.Owes.{Outside, Owes, TakesOffer, outside}
 use Rattle.seats.specs.Seat.{Shown, crashed}
 use Rattle.seats.specs.declared.answer.Answer.{Answer}
 use Rattle.seats.specs.declared.answer.Answer.TheVariants.{Sent, Released, Crashed}
@@ -87,6 +91,23 @@ loses members me s Restart (Sent n) m false up more may moves = absurd may
 loses members me s Restart (Released n) m false up more may moves = absurd may
 loses members me s ask answer m was up more may moves = absurd (false≢true more)
 
+-- an offer whose letters are lost
+offer_lost : (turn : Result Turn NodeFault) (answer : Answer) (letters : List Letter) → gives answer ≡ true → TakesOffer turn answer letters → TakesOffer turn Crashed []
+offer_lost (Ok turn) answer letters more took = tt
+offer_lost (Err declined) answer letters more took = absurd (false≢true (sym (ap gives took) ∙ more))
+
+-- what was owed is owed where it is lost
+owes_crash : (members me : ℕ) (was : Outside) (ask : Ask) (answer : Answer) (letters : List Letter) (outputs : List Numbered) → gives answer ≡ true → GoOut answer letters outputs → Owes members me was ask answer letters → Owes members me was ask Crashed []
+owes_crash members me was (Call (Receive l)) answer letters outputs more out owes = (λ over. absurd (false≢true (sym (ap gives (owes.0 over)) ∙ more)), λ nothing. tt)
+owes_crash members me was (TakeThenCrash l) answer letters outputs more out owes = (λ over. absurd (false≢true (sym (ap gives (owes.0 over)) ∙ more)), λ nothing. tt)
+owes_crash members me was (Call Lead) answer letters outputs more out owes =
+    ((λ is. cc, λ past. absurd (false≢true (sym (ap gives (owes.0.1 past)) ∙ more))), λ room none. absurd (false≢true (sym (ap gives (owes.1 room none)) ∙ more)))
+owes_crash members me was (Call (Offer v)) answer letters outputs more out owes = offer_lost (offer members me was.role v) answer letters more owes
+owes_crash members me was (Call (Tell n q)) (Sent k) letters outputs more out owes = λ none. some_in letters k out.0 more (owes ∙ none)
+owes_crash members me was (Call (Tell n q)) (Released k) letters outputs more out owes = owes
+owes_crash members me was (Call (Tell n q)) answer letters outputs more out owes = absurd (false≢true more)
+owes_crash members me was ask answer letters outputs more out owes = tt
+
 -- a node that crashes shows so
 falls : (up : Bool) (may : Standing → Type 0) (s : Standing) → Shown up may s → Shown false may (crashed s)
 falls true may s shown = (s, shown.0, refl)
@@ -100,7 +121,7 @@ module _ {N : Type 0} {g : Ghosts N} (mid : Seat N g) where
   -- nothing is to be lost
   pub nothing_lost : (answer : Answer) → gives answer ≡ false → Settles answer false mid answer mid
   nothing_lost answer none old ask letters outputs acts =
-      let out = none_out answer letters outputs acts.goes_out none in
+      let out = none_out answer letters outputs acts.answers.goes_out none in
       subst (λ (ls : List Letter). Acts old ask answer ls [] mid) out.0 (subst (λ (os : List Numbered). Acts old ask answer letters os mid) out.1 acts)
 
   -- what goes out is lost
@@ -112,12 +133,15 @@ module _ {N : Type 0} {g : Ghosts N} (mid : Seat N g) where
     rose = λ loud. absurd (false≢true loud);
     honesty = acts.honesty;
     trust = λ well. acts.trust (λ fault restart is. absurd (false≢true (sym (ap gives is) ∙ more)));
-    answers = may_crash old.up ask answer mid.up more acts.answers;
-    goes_out = (refl, refl);
-    rest = tt;
+    answers = record {
+      may = may_crash old.up ask answer mid.up more acts.answers.may;
+      goes_out = (refl, refl);
+      owes = λ up. owes_crash (g.who old.node).members (g.who old.node).id (outside old) ask answer letters outputs more acts.answers.goes_out (acts.answers.owes up);
+      rest = tt;
+    };
     moves = λ honest s before.
         let to = acts.moves honest s before in
-        let lost = loses (g.who old.node).members (g.who old.node).id s ask answer to.0 old.up mid.up more acts.answers to.1 in
+        let lost = loses (g.who old.node).members (g.who old.node).id s ask answer to.0 old.up mid.up more acts.answers.may to.1 in
         (lost.0, lost.1, lost.2, lost.3, subst (λ (x : Standing). Shown false (g.stands mid.node) x) (sym lost.4) (falls mid.up (g.stands mid.node) to.0.standing to.4));
   }
     where

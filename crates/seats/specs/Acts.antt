@@ -17,7 +17,8 @@ use Rattle.seats.specs.declared.seat.Seat.{Seat}
 use Rattle.seats.specs.Gives.{gives}
 use Rattle.seats.specs.Moves.{Ask, Move, Moves}
 use Rattle.seats.specs.Moves.Ask.{Call, TakeThenCrash, Release, Crash, Restart}
-use Rattle.seats.specs.Occupant.{Stands, IsHonest, is_up, node_of, who_of}
+use Rattle.seats.specs.Occupant.{Stands, IsHonest, node_of, who_of}
+use Rattle.seats.specs.Owes.{Owes, Outside, outside}
 use Rattle.seats.specs.Seat.{SameMember, survives}
 use Rattle.seats.specs.StoreFaults.{is_store_fault}
 use Rattle.world_events.specs.declared.refusal.EventRefusal.TheVariants.{NodeDown, NodeUp}
@@ -74,6 +75,15 @@ KeepsRest (Fault fault) old new = new ≡ old
 KeepsRest (Refused refusal) old new = new ≡ old
 KeepsRest answer old new = Unit {0}
 
+-- node me of so many members was asked so, answered so and gave these letters and outputs, which it owes whatever its records do
+pub record AnswersAsOwed (members me : ℕ) (was : Outside) (ask : Ask) (answer : Answer) (letters : List Letter) (outputs : List Numbered) (is : Outside) : Type 0 where
+  pub may : MayAnswer was.up ask answer is.up
+  pub goes_out : GoOut answer letters outputs
+  -- where it was up, its answer is what it knows without its records
+  pub owes : was.up ≡ true → Owes members me was ask answer letters
+  -- where it failed nothing has changed but its records, and that it is down
+  pub rest : KeepsRest answer was.rest is.rest
+
 -- it isn't a restart that failed
 abbrev pub IsNoFailedRestart : Ask → Answer → Type 0
 IsNoFailedRestart ask answer = (fault : NodeFault) → ask ≡ Restart → answer ≡ Fault fault → ⊥
@@ -99,10 +109,7 @@ pub record Acts {N : Type 0} {g : Ghosts N} (old : Seat N g) (ask : Ask) (answer
   pub honesty : IsHonest new → IsHonest old
   pub trust : IsNoFailedRestart ask answer → KeepsTrust g.honest g.clean (node_of old) (node_of new)
   -- the answer is one to what was asked, whatever its records did
-  pub answers : MayAnswer (is_up old) ask answer (is_up new)
-  pub goes_out : GoOut answer letters outputs
-  -- where it failed nothing has changed but its records, and that it is down
-  pub rest : KeepsRest answer (g.rest (node_of old)) (g.rest (node_of new))
+  pub answers : AnswersAsOwed (who_of old).members (who_of old).id (outside old) ask answer letters outputs (outside new)
   -- and it moved so
   pub moves : IsHonest new → MovesBy (who_of old).members (who_of old).id (Stands old) ask answer letters outputs (Stands new)
 

@@ -9,4 +9,5 @@ pub mod Release
 pub mod Moves
 pub mod Gives
 pub mod Acted
+pub mod Owes
 pub mod Acts

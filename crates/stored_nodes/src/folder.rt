@@ -5,7 +5,7 @@ ghost use Rattle.ballots.specs.Members.{member_count};
 ghost use Rattle.seats.specs.Fresh.{AreFresh};
 
 use crate::fault::StoreFault;
-use crate::stored::{StoredNode, stored_nodes};
+use crate::stored::{StoredNode, nodes_over};
 use acceptor_store::SqlRecords;
 use ballots::Members;
 use node::{Node, SchedNode};
@@ -58,6 +58,13 @@ fn open_pairs(
     Ok(pairs)
 }
 
+/// Takes these files away, as far as that goes.
+fn remove_all(rt: &HostRuntime, paths: Vec<String>) {
+    for path in paths {
+        let _ = fs::remove_file(rt, path.as_str());
+    }
+}
+
 /// The fresh nodes of so many members over the files of a folder, `node-K.db` and its log for node K.
 /// Where they are refused, what wasn't there before is taken away again.
 pub fn nodes_in(
@@ -70,14 +77,10 @@ pub fn nodes_in(
     ensures count { IfOk result (λ nodes. length nodes.items ≡ member_count members) }
 {
     let mut missing = Vec::new(rt.alloc());
-    let nodes = match open_pairs(rt, folder, members, &mut missing) {
-        Ok(pairs) => stored_nodes(rt.alloc(), members, pairs),
-        Err(fault) => Err(fault),
-    };
+    let pairs = open_pairs(rt, folder, members, &mut missing);
+    let nodes = nodes_over(rt.alloc(), members, pairs);
     if nodes.is_err() {
-        for path in missing {
-            let _ = fs::remove_file(rt, path.as_str());
-        }
+        remove_all(rt, missing);
     }
     nodes
 }

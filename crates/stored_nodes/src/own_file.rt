@@ -7,7 +7,7 @@ ghost use Rattle.node.specs.View.{started};
 ghost use Rattle.node.specs.View.Standing.{Running};
 ghost use Rattle.seats.specs.Fresh.{IsFreshAt};
 
-use crate::owned::{begun_node, resumed_node};
+use crate::owned::{begun_over, resumed_node};
 use crate::start::StartFault;
 use crate::stored::StoredNode;
 use acceptor_store::SqlRecords;
@@ -49,6 +49,16 @@ pub fn node_of(
     resumed_node(rt.alloc(), files, id, members)
 }
 
+/// Takes these files away, as far as that goes, but those that were there before.
+fn remove_made(rt: &HostRuntime, database: (&str, bool), log: (&str, bool)) {
+    if !database.1 {
+        let _ = fs::remove_file(rt, database.0);
+    }
+    if !log.1 {
+        let _ = fs::remove_file(rt, log.0);
+    }
+}
+
 /// The new node of a path, whose files are made where they aren't there. Where it is refused, what wasn't there before
 /// is taken away again.
 pub fn new_node_of(
@@ -64,15 +74,10 @@ pub fn new_node_of(
     let log = format!(in rt.alloc(); "{path}-wal")?;
     let has_database = is_there(rt, path)?;
     let has_log = is_there(rt, log.as_str())?;
-    let node = match sqlite_std_file::open(rt, path, Unknown) {
-        Ok(files) => begun_node(rt.alloc(), files, id, members),
-        Err(error) => Err(StartFault::from(error)),
-    };
-    if node.is_err() && !has_database {
-        let _ = fs::remove_file(rt, path);
-    }
-    if node.is_err() && !has_log {
-        let _ = fs::remove_file(rt, log.as_str());
+    let files = sqlite_std_file::open(rt, path, Unknown);
+    let node = begun_over(rt.alloc(), files, id, members);
+    if node.is_err() {
+        remove_made(rt, (path, has_database), (log.as_str(), has_log));
     }
     node
 }

@@ -18,6 +18,7 @@ use ballots::{Members, NodeId};
 use node::{Node, SchedNode};
 use sqlite::{Connection, Error as SqlError, ErrorCode, FileStore, Files, Options};
 use sqlite_disk::Disk;
+use sqlite_std_file::OpenError;
 use std::alloc::Global;
 
 // The salts of a log need no secret here.
@@ -102,5 +103,22 @@ pub fn begun_node<D: Disk + Drop>(
         Ok(node)
     } else {
         Err(StartFault::NotFresh)
+    }
+}
+
+/// The same over files that may not have been opened.
+pub fn begun_over<D: Disk + Drop>(
+    alloc: Global,
+    files: Result<Files<D>, OpenError>,
+    id: NodeId,
+    members: Members,
+) -> Result<StoredNode<D>, StartFault>
+    requires { id < member_count members }
+    ensures { IfOk result (IsFreshAt ⟦<SchedNode<SqlRecords<FileStore<D>>> as Node>⟧.who ⟦<SchedNode<SqlRecords<FileStore<D>>> as Node>⟧.honest
+        ⟦<SchedNode<SqlRecords<FileStore<D>>> as Node>⟧.stands (member_count members) id) }
+{
+    match files {
+        Ok(files) => begun_node(alloc, files, id, members),
+        Err(error) => Err(StartFault::from(error)),
     }
 }

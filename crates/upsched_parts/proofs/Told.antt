@@ -1,9 +1,9 @@
 -- What is printed of a run, one answer after another.
-use Rattle.std.proofs.Common.{◌≡◌, ℕ, ◌+◌, ◌<◌, ◌≤◌, List, [], ◌++◌, length, get_or, take, drop, Option, Some, None, IfSome, Result, Ok, Err, OnOk, ap, subst, ◌∙◌, sym, refl, append_assoc, append-nil, add-one}
-use Rattle.std.proofs.lemmas.List.{drop_all, length-replicate}
+use Rattle.std.proofs.Common.{◌≡◌, ℕ, ◌+◌, ◌<◌, List, ◌++◌, length, get_or, take, drop, Option, Some, None, IfSome, Result, Ok, Err, OnOk, ap, subst, ◌∙◌, sym, refl, append_assoc, add-one}
+use Rattle.std.proofs.lemmas.List.{length-replicate}
 use Rattle.std.proofs.Math.Seq.{drop-cons}
 use Rattle.std.specs.Io.KnownBytes.{Appends}
-use Rattle.std.proofs.KnownBytes.{Appends-nil, Appends-trans}
+use Rattle.std.proofs.KnownBytes.{Appends-trans}
 use Rattle.seats.specs.declared.answer.Answer.{Answer}
 use Rattle.ballots.specs.declared.letters.Letter.{Letter}
 use Rattle.ballots.specs.declared.members.Members.{Members}
@@ -25,10 +25,6 @@ pub record IsPartOf (whole left : List ℕ) (old new : Option (List ℕ)) : Type
   pub text : List ℕ
   pub grown : Appends old new text
   pub joined : text ++ left ≡ whole
-
--- nothing is printed yet
-pub none_yet : (whole : List ℕ) (known : Option (List ℕ)) → IsPartOf whole whole known known
-none_yet whole known = record { text = []; grown = Appends-nil known; joined = refl }
 
 -- two texts more
 pub two_more : (whole xs ys left : List ℕ) (old a b c : Option (List ℕ)) → IsPartOf whole (xs ++ ys ++ left) old a → Appends a b xs → Appends b c ys → IsPartOf whole left old c
@@ -53,13 +49,6 @@ pub one_told : (answers : List Answer) (i : ℕ) (d : Answer) (rest told later :
 one_told answers i d rest told later whole old x y z below is_told is_later before first second =
     let lines = rw (next_lines answers i d rest below) at before in
     rw is_later (two_more whole (answer_line i (get_or answers i d)) (place_lines (take (released_count (get_or answers i d)) rest)) _ old x y z lines first (rw is_told at second))
-
--- all answers
-pub all_told : (answers : List Answer) (i : ℕ) (rest : List ReleasedOutput) (whole : List ℕ) (old new : Option (List ℕ)) → length answers ≤ i
-    → IsPartOf whole (answer_lines i (drop i answers) rest) old new → Appends old new whole
-all_told answers i rest whole old new end before =
-    let last = rw (drop_all i answers end) at before in
-    rw (← (sym (append-nil last.text) ∙ last.joined)) last.grown
 
 -- a run is printed whole: its answers with their outputs, and then the counts
 pub run_told : (members : ℕ) (ids : List ℕ) (events : List Event) (report answers : List Answer) (w : Written) (letters : List Letter) (outputs counted : List ReleasedOutput) (sent : List Transmission) (old mid new : Option (List ℕ))

@@ -12,7 +12,7 @@ returns-in-Ok-owner_in-clause-tables g c clean schema =
     let mid : HasCleanDisk (state g.S.Store c.examined.new.conn) = omega (arith, c.owner_in.ensures.survives.clean, clean) in
     let same = c.in-Ok.ensures.same mid schema in
     let later = c.in-Ok-owner_in.ensures.same clean (ap (λ (d : Database). d.schema) same.0 ∙ schema) in
-    examines_for g.S.Store c.args.conn.now c.examined.new.conn c.owner_in.new.conn c.in-Ok-owner_in.owner c.in-Ok.highest schema same later (c.in-Ok.ensures.tables mid schema) (c.in-Ok-owner_in.ensures.held clean)
+    examines_for g.S.Store c.args.conn.now c.examined.new.conn c.owner_in.new.conn c.in-Ok-owner_in.owner c.in-Ok.numbers schema same later (c.in-Ok.ensures.tables mid schema) (c.in-Ok-owner_in.ensures.held clean)
 
 pub returns-in-Ok-owner_in-clause-survives : goal.returns-in-Ok-owner_in-clause-survives
 returns-in-Ok-owner_in-clause-survives g c =

@@ -1,5 +1,5 @@
 use Rattle.std.specs.Prelude.{option_to_list}
-use Rattle.indexmap.specs.IndexMap.{get}
+use Rattle.std.specs.Map.{lookup}
 use Rattle.std.proofs.Common.{◌++◌, nat_eq, List, filter, sym, ap, ◌∙◌, arith}
 use Rattle.flow_state.specs.declared.flow.Flow.{Flow}
 use Rattle.flow_state.specs.Limits.{last_sid}
@@ -15,7 +15,7 @@ pub loop-sid-preserved : goal.loop-sid-preserved
 loop-sid-preserved c =
     let some = c.in-Some.ensures.some in
     c.in_ok-copy_if_due.ensures
-    ∙ ap (λ (fs : List Flow). fs ++ filter (is_due_stored c.args.end) (option_to_list (get nat_eq c.args.flows.now c.in-Some.sid))) c.loop-sid.invariant
+    ∙ ap (λ (fs : List Flow). fs ++ filter (is_due_stored c.args.end) (option_to_list (lookup (nat_eq c.in-Some.sid) c.args.flows.now.entries))) c.loop-sid.invariant
     ∙ sym (next_due c.args.dues.now c.args.flows.now.entries 0 last_sid c.loop-sid.from c.in-Some.sid c.args.end c.requires.rising c.requires.noted some.0 some.2)
 
 pub returns : goal.returns

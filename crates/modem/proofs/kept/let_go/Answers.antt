@@ -19,7 +19,7 @@ returns-clause-held c = λ at_ch m sid iuc late.
     rw c.cut.ensures (HasAt-cut ks before c.ended-count.result c.args.ch c.args.clock at_ch m sid iuc bound ended late)
 
 pub returns-clause-none_old : goal.returns-clause-none_old
-returns-clause-none_old c =
+returns-clause-none_old c = λ t soon.
     let ks = c.args.kept.now.items in
     let before = c.partition_point-before.result in
     let count = c.ended-count.result in
@@ -31,4 +31,4 @@ returns-clause-none_old c =
     let part : take (length c.deref-2.result.now - before) (drop before c.deref-2.result.now) ≡ drop before ks = rw c.deref-2.ensures.value rest in
     let inside : count ≤ length (drop before ks) = subst (λ (xs : List KeptInterval). count ≤ length xs) part c.ended-count.ensures.bound in
     let next : (d : KeptInterval) → count < length (drop before ks) → (is_live c.args.ch c.args.clock (get_or (drop before ks) count d) ≡ true) × ((get_or (drop before ks) count d).start < 2 ^ 64) = subst (λ (xs : List KeptInterval). (d : KeptInterval) → count < length xs → (is_live c.args.ch c.args.clock (get_or xs count d) ≡ true) × ((get_or xs count d).start < 2 ^ 64)) part c.ended-count.ensures.next in
-    rw c.cut.ensures (none_old ks c.args.ch c.args.clock before count (omega arith) c.requires within inside low high next)
+    rw c.cut.ensures (none_old ks c.args.ch c.args.clock t before count (omega arith) soon c.requires within inside low high next)

@@ -5,8 +5,8 @@ use Rattle.node.specs.View.{values_from}
 use Rattle.node.proofs.Prefixes.{learned_without_gap, prefix_ends}
 use Rattle.node.proofs.letters.prefix_len.Goals as goal
 
-pub returns-else-contains_key-clause-below : goal.returns-else-contains_key-clause-below
-returns-else-contains_key-clause-below c below =
+pub returns-else-contains-clause-below : goal.returns-else-contains-clause-below
+returns-else-contains-clause-below c below =
     let none : at c.args.learned.now.entries (c.loop-len.len + 1) ≡ None = first_of (search rules, grind (arith, common_steps)) in
     prefix_ends c.loop-len.len c.args.learned.now.entries c.requires.rows c.loop-len.invariant none
 

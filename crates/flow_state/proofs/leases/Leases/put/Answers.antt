@@ -31,11 +31,11 @@ pub invariant_of-self-2 : goal.invariant_of-self-2
 invariant_of-self-2 c =
     let next = next_after c.self.inside.latest.items c.args.self.now c.args.lease c.self.view_is c.requires.next in
     let at : c.from-at.result ≡ c.args.lease.sid - 1 = c.from-at.ensures in
-    let bounds = bounds_after c.self.inside.latest.items c.put_at.new.items.items c.self.inside.first_ends.items c.put_at-2.new.items.items c.from-at.result c.args.lease c.first_end_of-first_end.result
+    let bounds = bounds_after c.self.inside.latest.items c.put_at.new.items.items c.self.inside.first_ends.items c.put_at-2.new.items.items c.from-at.result c.args.lease c.first_end_at-first_end.result
     (put_after c)
-    (c.put_at-2.ensures ∙ ap (λ (ns : List ℕ). put_at ns (c.from-at.result / 128) c.first_end_of-first_end.result) c.in_ok-reserve-2.ensures.items)
+    (c.put_at-2.ensures ∙ ap (λ (ns : List ℕ). put_at ns (c.from-at.result / 128) c.first_end_at-first_end.result) c.in_ok-reserve-2.ensures.items)
     (omega (arith, next, at))
-    (subst (λ (os : List Lease). IsBound os (c.from-at.result / 128) c.first_end_of-first_end.result) c.deref-3.ensures.value c.first_end_of-first_end.ensures)
+    (subst (λ (os : List Lease). IsBound os (c.from-at.result / 128) c.first_end_at-first_end.result) c.deref-3.ensures.value c.first_end_at-first_end.ensures)
     c.self.invariant.bounds c.self.invariant.blocks in
     record {
       given = subst AreGiven (sym (leases_after c)) (given_put c.args.lease c.self.inside.latest.items c.self.invariant.given c.requires.some next);

@@ -30,7 +30,7 @@ pub invariant_of-self : goal.invariant_of-self
 invariant_of-self c =
     stored_as _ (close_table (table_view c.self.inside) c.args.end c.args.ack)
     (subst AreStored (sym c.forget_all_ended-self-inside.ensures.kept) (all_filter IsStoredFlow IsStoredFlow (λ e. leb c.args.end e.1.last) c.self.inside.flows.entries (λ e k s. s) c.self.invariant.flows))
-    (c.forget_all_ended-self-inside.ensures.unique c.self.invariant.unique)
+    (let enough = c.self.invariant.enough in let sids = c.forget_all_ended-self-inside.ensures.sids in omega (arith, enough, sids))
     (noted_from c.forget_all_ended-self-inside.new.dues c.settle.new.self c.forget_all_ended-self-inside.new.flows.entries c.settle.ensures
     (noted_there c.self.inside.dues c.forget_all_ended-self-inside.new.dues c.forget_all_ended-self-inside.new.flows.entries c.forget_all_ended-self-inside.ensures.dues
     (subst (AreNoted c.self.inside.dues) (sym c.forget_all_ended-self-inside.ensures.kept) (noted_filter c.self.inside.dues (λ e. leb c.args.end e.1.last) c.self.inside.flows.entries c.self.invariant.noted))))

@@ -1,14 +1,10 @@
-use Rattle.std.proofs.Common.{◌≡◌, length, ap, sym, ◌∙◌, Bool, Option, Some, None, ℕ}
+use Rattle.std.proofs.Common.{◌≡◌, ap, sym, ◌∙◌, Bool, Option, Some, None, ℕ}
 use Rattle.std.specs.Option.{option_map}
 use Rattle.flow_state.specs.Rows.{Table, FlowRow, flow_of}
 use Rattle.flow_state.specs.Refusals.{request_refusal_on, first_refusal, is_busy}
-use Rattle.flow_state.specs.View.{flow_view, table_view}
-use Rattle.flow_state.proofs.Noted.{keys_all}
+use Rattle.flow_state.specs.View.{flow_view}
 use Rattle.flow_state.proofs.Stored.{flow_found, sid_found}
 use Rattle.flow_state.proofs.table.ChannelTable.request_refusal.Goals as goal
-
-pub find_flow-requires : goal.find_flow-requires
-find_flow-requires c = keys_all c.self.inside.flows.entries (length (table_view c.self.inside).leases) c.self.invariant.flows c.self.invariant.sound.rising c.self.invariant.sound.few
 
 pub returns-in-Some : goal.returns-in-Some
 returns-in-Some c =

@@ -1,6 +1,7 @@
 use Rattle.std.proofs.Common.{◌≡◌, ◌≤◌, false, cond, not, nat_lt, Option, ℕ, length, IfSome, Some, None, sym, ap, subst, ◌∙◌}
 use Rattle.std.specs.List.{find, range_with_len}
 use Rattle.std.proofs.lemmas.Bool.{not-false}
+use Rattle.flow_state.specs.Limits.{most_minislots}
 use Rattle.grant_machine_parts.specs.Placing.{most_placements, is_free, fits_at, first_fit}
 use Rattle.grant_machine_parts.specs.Filling.{PartMap}
 use Rattle.grant_machine_parts.specs.Gaps.{AreGaps}
@@ -29,4 +30,4 @@ some_also (Some x) P h = h
 some_also None P h = tt
 
 pub returns-clause-short : goal.returns-clause-short
-returns-clause-short c = some_also c.first_fit.result _ (subst (λ (v : PartMap). v.span.len ≤ 4096) c.self.view_is c.self.invariant.short)
+returns-clause-short c = some_also c.first_fit.result _ (subst (λ (v : PartMap). v.span.len ≤ most_minislots) c.self.view_is c.self.invariant.short)

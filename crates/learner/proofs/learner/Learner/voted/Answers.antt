@@ -10,7 +10,7 @@ pub returns-then-count-clause-taught : goal.returns-then-count-clause-taught
 returns-then-count-clause-taught c =
     let t = c.args.self.now in
     let members = member_count c.args.members in
-    let none : at t.learned c.args.place ≡ None = ap (λ (x : Tally). at x.learned c.args.place) (sym c.self.view_is) ∙ is_nothing (at c.self.inside.learned.entries c.args.place) (sym c.if-contains_key.ensures) in
+    let none : at t.learned c.args.place ≡ None = ap (λ (x : Tally). at x.learned c.args.place) (sym c.self.view_is) ∙ is_nothing (at c.self.inside.learned.entries c.args.place) (sym c.if-contains.ensures) in
     let voters : c.with-voters.result ≡ with_voter t.counted c.args.from c.args.ballot c.args.place c.args.value =
     c.with-voters.ensures ∙ ap (λ (s : List Bool). slice_set s c.args.from true) (c.voters_at.ensures ∙ ap (λ (x : Tally). voters_in (groups_at x.counted c.args.place) c.args.ballot c.args.value) c.self.view_is) in
     let same = c.count.ensures.among ∙ ap (λ (s : List Bool). count_below (is_voter s) members) voters in
@@ -21,7 +21,7 @@ pub returns-clause-taught : goal.returns-clause-taught
 returns-clause-taught c =
     let t = c.args.self.now in
     let members = member_count c.args.members in
-    let none : at t.learned c.args.place ≡ None = ap (λ (x : Tally). at x.learned c.args.place) (sym c.self.view_is) ∙ is_nothing (at c.self.inside.learned.entries c.args.place) (sym c.if-contains_key.ensures) in
+    let none : at t.learned c.args.place ≡ None = ap (λ (x : Tally). at x.learned c.args.place) (sym c.self.view_is) ∙ is_nothing (at c.self.inside.learned.entries c.args.place) (sym c.if-contains.ensures) in
     let voters : c.with-voters.result ≡ with_voter t.counted c.args.from c.args.ballot c.args.place c.args.value =
     c.with-voters.ensures ∙ ap (λ (s : List Bool). slice_set s c.args.from true) (c.voters_at.ensures ∙ ap (λ (x : Tally). voters_in (groups_at x.counted c.args.place) c.args.ballot c.args.value) c.self.view_is) in
     let same = c.count.ensures.among ∙ ap (λ (s : List Bool). count_below (is_voter s) members) voters in

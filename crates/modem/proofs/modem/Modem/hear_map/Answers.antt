@@ -45,6 +45,13 @@ returns-clause-ok c =
     let same_ucd : c.in-Some-find.channel.ucd ≡ c.in-Ok.map.head.ucd = rw (← same, one) at c.if-channel-head.false in
     (c.in-Ok.map, c.in-Some.heard.start, c.in-Some.heard.stop, subst (λ (m : Body). Reads bytes c.args.near m c.in-Some.heard.start c.in-Some.heard.stop) one reads, c.in-Some-find.channel, found, same_ucd, rw (c.max.ensures, c.get.ensures.same) at c.if-stop-max.false, c.in_ok-take.ensures.ok)
 
+pub returns-in_err-take-clause-memory : goal.returns-in_err-take-clause-memory
+returns-in_err-take-clause-memory c = λ _.
+    let (told, reads, same) = c.in-Some.ensures.found in
+    let kept : channel_of c.self.inside.channels.items told.head.channel ≡ Some c.in-Some-find.channel = rw (c.as_slice.ensures.value, ← same) at (sym c.in-Some-find.ensures) in
+    let same_ucd : c.in-Some-find.channel.ucd ≡ told.head.ucd = rw (← same) at c.if-channel-head.false in
+    (told, c.in-Some.heard.start, c.in-Some.heard.stop, reads, c.in-Some-find.channel, rw (← c.self.view_is) kept, same_ucd, rw (c.max.ensures, c.get.ensures.same) at c.if-stop-max.false)
+
 pub returns-clause-stands : goal.returns-clause-stands
 returns-clause-stands c = λ hearings ch start len was.
     Hears-stands c.args.self.now c.take.new.self (MapOutput ch start len c.args.bytes.now) c.args.near Taken hearings (returns-clause-ok c) was

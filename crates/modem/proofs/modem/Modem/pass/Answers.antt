@@ -1,4 +1,4 @@
-use Rattle.std.proofs.Common.{max, refl}
+use Rattle.std.proofs.Common.{max, refl, arith}
 use Rattle.modem.specs.contracts.modem.Modem.{the_view}
 use Rattle.modem.proofs.Old.{HasNoOld-made}
 use Rattle.modem.proofs.Stands.{Passes-made}
@@ -19,7 +19,7 @@ pub returns-clause-lets_go : goal.returns-clause-lets_go
 returns-clause-lets_go c =
     let clock = max c.args.channel.clock c.args.near in
     let found = rw (← c.self.view_is) at c.requires in
-    let grants = rw (c.max-clock.ensures, c.get.ensures.same) at c.let_go.ensures.none_old in
-    let open_to_all = rw (c.max-clock.ensures, c.get.ensures.same) at c.let_go-2.ensures.none_old in
+    let grants = (rw (c.max-clock.ensures, c.get.ensures.same) at c.let_go.ensures.none_old) clock (omega arith) in
+    let open_to_all = (rw (c.max-clock.ensures, c.get.ensures.same) at c.let_go-2.ensures.none_old) clock (omega arith) in
     let made = rw (c.max-clock.ensures, c.get.ensures.same) at c.set.ensures in
     HasNoOld-made (the_view c.self.inside) _ c.args.channel c.args.channel.id clock c.args.channel.backoff found made grants open_to_all

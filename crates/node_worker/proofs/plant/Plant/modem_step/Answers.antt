@@ -7,7 +7,7 @@ use Rattle.node_worker.specs.Legal.{outputs_of}
 use Rattle.node_worker.specs.Places.{IsPlaceOf}
 use Rattle.node_worker.specs.declared.entry.Done.{Done}
 use Rattle.node_worker.specs.PlantView.{PlantView}
-use Rattle.node_worker.proofs.Played.{modem_keeps, modem_listens}
+use Rattle.node_worker.proofs.Played.{modem_listens, modem_sends}
 use Rattle.node_worker.proofs.plant.Plant.modem_step.Goals as goal
 
 -- the modems listened on
@@ -32,10 +32,10 @@ returns-clause-next g c = λ rs hold.
 -- and sent as owners
 pub returns-clause-owner : goal.returns-clause-owner
 returns-clause-owner g c = λ trusted.
-    (modem_keeps (member_count c.self.inside.members) c.self.inside.records.items c.as_slice.result.now c.self.inside.modems.items c.go_on.new.modems.items c.args.event.now c.go_on.result
-    c.as_slice.ensures.value (c.self.invariant.1 trusted) c.self.invariant.2 c.go_on.ensures.next c.go_on.ensures.within).1
+    modem_sends (member_count c.self.inside.members) c.self.inside.records.items c.as_slice.result.now c.self.inside.modems.items c.go_on.new.modems.items c.args.event.now c.go_on.result
+    c.as_slice.ensures.value (c.self.invariant.1 trusted) c.self.invariant.2 c.go_on.ensures.next c.go_on.ensures.within
 
 pub returns-clause-sound : goal.returns-clause-sound
 returns-clause-sound g c = λ members sound.
-    (modem_keeps members c.self.inside.records.items c.as_slice.result.now c.self.inside.modems.items c.go_on.new.modems.items c.args.event.now c.go_on.result
-    c.as_slice.ensures.value sound c.self.invariant.2 c.go_on.ensures.next c.go_on.ensures.within).1
+    modem_sends members c.self.inside.records.items c.as_slice.result.now c.self.inside.modems.items c.go_on.new.modems.items c.args.event.now c.go_on.result
+    c.as_slice.ensures.value sound c.self.invariant.2 c.go_on.ensures.next c.go_on.ensures.within

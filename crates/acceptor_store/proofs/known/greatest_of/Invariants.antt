@@ -1,0 +1,7 @@
+use Rattle.std.proofs.Common.{◌≡◌, drop}
+use Rattle.ballots.specs.Ballots.{number_of}
+use Rattle.acceptor.specs.Content.{greatest}
+use Rattle.acceptor_store.proofs.known.greatest_of.Given as goal
+
+abbrev pub invariant-loop-vote : goal.invariant-loop-vote
+invariant-loop-vote l = greatest (number_of l.most) (drop l.vote-index l.fn.votes) ≡ greatest (number_of l.fn.ballot) l.fn.votes

@@ -1,0 +1,7 @@
+use Rattle.std.proofs.Common.{◌≡◌, drop}
+use Rattle.ballots.specs.Ballots.{number_of}
+use Rattle.acceptor_store.specs.Linked.{greatest_beside}
+use Rattle.acceptor_store.proofs.known.greatest_without.Given as goal
+
+abbrev pub invariant-loop-vote : goal.invariant-loop-vote
+invariant-loop-vote l = greatest_beside l.fn.place (number_of l.most) (drop l.vote-index l.fn.votes) ≡ greatest_beside l.fn.place (number_of l.fn.ballot) l.fn.votes

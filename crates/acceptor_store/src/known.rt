@@ -1,0 +1,196 @@
+//! The numbers of the records that are kept in memory beside the tables, so that no read of them is a query.
+
+ghost use Rattle.std.specs.Prelude.{◌≡◌, ◌==◌, ◌≤◌, max, false, if◌then◌else◌, IfErr, IfOk, OnOk, Some};
+ghost use Rattle.ballots.specs.Ballots.{number_of};
+ghost use Rattle.ballots.specs.declared.letters.Cast.{Cast};
+ghost use Rattle.acceptor.specs.Content.{Content, after_write, greatest, no_content, promised};
+ghost use Rattle.acceptor.specs.Content.Write.{Promises, Votes as Casts};
+ghost use Rattle.sqlite.specs.State.{HasCleanDisk, Survives};
+ghost use Rattle.sqlite.specs.Held.{state};
+ghost use Rattle.acceptor_store_parts.specs.Serves.{ServesFor, StillServes, HasWritten, MayHaveWritten, DoesNotServe, StaysOpen};
+ghost use Rattle.acceptor_store_parts.specs.Stops.{LeavesOpen};
+ghost use Rattle.acceptor_store.specs.Linked.{AreNumbersOf, greatest_beside};
+
+use acceptor_store_parts::{Owner, Stop, version_of_owner};
+use ballots::{Ballot, Cast, Place, Value, Votes, higher};
+use sqlite::{Alter, Connection};
+use std::alloc::Global;
+
+/// The last ballot tried, and the promised one.
+#[derive(Clone, Copy, Debug, Drop)]
+pub struct Numbers {
+    pub tried: Option<Ballot>,
+    pub promised: Option<Ballot>,
+}
+
+impl Numbers {
+    /// Those of records without content.
+    pub fn none() -> Numbers
+        ensures { AreNumbersOf result no_content }
+    {
+        Numbers {
+            tried: None,
+            promised: None,
+        }
+    }
+}
+
+/// The greatest of a ballot and those of the votes.
+#[tactic(auto, using(acceptor::proofs::Greatest::greatest_max))]
+pub fn greatest_of(ballot: Option<Ballot>, votes: &[(u64, Cast)]) -> Option<Ballot>
+    ensures { number_of result ≡ greatest (number_of ballot) votes.now }
+{
+    let mut most = ballot;
+    for vote in votes {
+        most = higher(most, vote.1.ballot);
+    }
+    most
+}
+
+fn higher_beside(most: Option<Ballot>, vote: &(u64, Cast), place: u64) -> Option<Ballot>
+    ensures { number_of result ≡ (if vote.now.0 == place then number_of most else max (number_of most) vote.now.1.ballot) }
+{
+    if vote.0 == place {
+        return most;
+    }
+    higher(most, vote.1.ballot)
+}
+
+/// The greatest of a ballot and those of the votes at other places.
+fn greatest_without(ballot: Option<Ballot>, votes: &[(u64, Cast)], place: u64) -> Option<Ballot>
+    ensures { number_of result ≡ greatest_beside place (number_of ballot) votes.now }
+{
+    let mut most = ballot;
+    for vote in votes {
+        most = higher_beside(most, vote, place);
+    }
+    most
+}
+
+/// The ballot tried, the promised row and the votes.
+fn ballots_in<S: Alter>(
+    alloc: Global,
+    conn: &mut Connection<S>,
+    owner: Option<Owner>,
+) -> Result<(Option<Ballot>, Option<Ballot>, Votes), Stop>
+    ensures value { HasCleanDisk (state S.Store conn.new) → IfOk result (λ r. (c : Content) → ServesFor owner (state S.Store conn.old) c
+        → (number_of r.0 ≡ c.tried) × (number_of r.1 ≡ c.row) × (r.2 ≡ c.votes)) }
+    ensures stays { HasCleanDisk (state S.Store conn.new) → StaysOpen result → StillServes (state S.Store conn.old) (state S.Store conn.new) }
+    ensures survives { Survives (state S.Store conn.old) (state S.Store conn.new) (λ _. DoesNotServe (state S.Store conn.old)) }
+{
+    let Some(numbers) = acceptor_store_parts::read_numbers(conn, version_of_owner(owner))? else {
+        return Err(Stop::Down);
+    };
+    let Some(first) = Place::new(1) else {
+        return Err(Stop::Down);
+    };
+    let votes = acceptor_store_parts::votes_from(alloc, conn, first)?;
+    Ok((numbers.0, numbers.1, votes))
+}
+
+/// The numbers, as the tables have them.
+pub fn numbers_of<S: Alter>(
+    alloc: Global,
+    conn: &mut Connection<S>,
+    owner: Option<Owner>,
+) -> Result<Numbers, Stop>
+    ensures value { HasCleanDisk (state S.Store conn.new) → IfOk result (λ n. (c : Content) → ServesFor owner (state S.Store conn.old) c → AreNumbersOf n c) }
+    ensures stays { HasCleanDisk (state S.Store conn.new) → StaysOpen result → StillServes (state S.Store conn.old) (state S.Store conn.new) }
+    ensures survives { Survives (state S.Store conn.old) (state S.Store conn.new) (λ _. DoesNotServe (state S.Store conn.old)) }
+{
+    let (tried, row, votes) = ballots_in(alloc, conn, owner)?;
+    let promised = greatest_of(row, votes.rows());
+    Ok(Numbers { tried, promised })
+}
+
+fn is_below(ballot: Ballot, other: Option<Ballot>) -> bool
+    ensures { result ≡ false → number_of other ≤ ballot }
+{
+    match other {
+        Some(other) => ballot.number() < other.number(),
+        None => false,
+    }
+}
+
+/// The promised ballot once this one stands in the promised row. A query is made only where it is below that of before.
+fn promised_with_row<S: Alter>(
+    alloc: Global,
+    conn: &mut Connection<S>,
+    owner: Option<Owner>,
+    before: Option<Ballot>,
+    ballot: Ballot,
+) -> Result<Option<Ballot>, Stop>
+    ensures value { HasCleanDisk (state S.Store conn.new) → IfOk result (λ b. (c : Content) → ServesFor owner (state S.Store conn.old) c → number_of before ≡ promised c
+        → number_of b ≡ promised (after_write c (Some (Promises ballot)))) }
+    ensures stays { HasCleanDisk (state S.Store conn.new) → StaysOpen result → StillServes (state S.Store conn.old) (state S.Store conn.new) }
+    ensures survives { Survives (state S.Store conn.old) (state S.Store conn.new) (λ _. DoesNotServe (state S.Store conn.old)) }
+{
+    if !is_below(ballot, before) {
+        return Ok(Some(ballot));
+    }
+    let (_tried, _row, votes) = ballots_in(alloc, conn, owner)?;
+    Ok(greatest_of(Some(ballot), votes.rows()))
+}
+
+/// The promised ballot once a vote in this one stands at the place. A query is made only where it is below that of before.
+fn promised_with_vote<S: Alter>(
+    alloc: Global,
+    conn: &mut Connection<S>,
+    owner: Option<Owner>,
+    before: Option<Ballot>,
+    place: Place,
+    ballot: Ballot,
+) -> Result<Option<Ballot>, Stop>
+    ensures value { HasCleanDisk (state S.Store conn.new) → IfOk result (λ b. (c : Content) (cast : Cast) → cast.ballot ≡ ballot
+        → ServesFor owner (state S.Store conn.old) c → number_of before ≡ promised c → number_of b ≡ promised (after_write c (Some (Casts place cast)))) }
+    ensures stays { HasCleanDisk (state S.Store conn.new) → StaysOpen result → StillServes (state S.Store conn.old) (state S.Store conn.new) }
+    ensures survives { Survives (state S.Store conn.old) (state S.Store conn.new) (λ _. DoesNotServe (state S.Store conn.old)) }
+{
+    if !is_below(ballot, before) {
+        return Ok(Some(ballot));
+    }
+    let (_tried, row, votes) = ballots_in(alloc, conn, owner)?;
+    Ok(greatest_without(higher(row, ballot), votes.rows(), place.number()))
+}
+
+/// Writes the promised row, and gives the promised ballot then.
+pub fn promise<S: Alter>(
+    alloc: Global,
+    conn: &mut Connection<S>,
+    owner: Option<Owner>,
+    before: Option<Ballot>,
+    ballot: Ballot,
+) -> Result<Option<Ballot>, Stop>
+    ensures value { HasCleanDisk (state S.Store conn.new) → IfOk result (λ b. (c : Content) → ServesFor owner (state S.Store conn.old) c → number_of before ≡ promised c
+        → number_of b ≡ promised (after_write c (Some (Promises ballot)))) }
+    ensures ok { HasCleanDisk (state S.Store conn.new) → OnOk result (HasWritten (state S.Store conn.old) (state S.Store conn.new) (Promises ballot)) }
+    ensures err { HasCleanDisk (state S.Store conn.new) → IfErr result (λ e. LeavesOpen e → StillServes (state S.Store conn.old) (state S.Store conn.new)) }
+    ensures survives { Survives (state S.Store conn.old) (state S.Store conn.new) (MayHaveWritten (state S.Store conn.old) (Promises ballot)) }
+{
+    let promised = promised_with_row(alloc, conn, owner, before, ballot)?;
+    acceptor_store_parts::put_promised(conn, ballot)?;
+    Ok(promised)
+}
+
+/// Writes the vote at its place, and gives the promised ballot then.
+pub fn cast_vote<S: Alter>(
+    alloc: Global,
+    conn: &mut Connection<S>,
+    owner: Option<Owner>,
+    before: Option<Ballot>,
+    place: Place,
+    ballot: Ballot,
+    value: &Value,
+) -> Result<Option<Ballot>, Stop>
+    ensures value { HasCleanDisk (state S.Store conn.new) → IfOk result (λ b. (c : Content) → ServesFor owner (state S.Store conn.old) c → number_of before ≡ promised c
+        → number_of b ≡ promised (after_write c (Some (Casts place record { ballot = ballot; value = value.now })))) }
+    ensures ok { HasCleanDisk (state S.Store conn.new)
+        → OnOk result (HasWritten (state S.Store conn.old) (state S.Store conn.new) (Casts place record { ballot = ballot; value = value.now })) }
+    ensures err { HasCleanDisk (state S.Store conn.new) → IfErr result (λ e. LeavesOpen e → StillServes (state S.Store conn.old) (state S.Store conn.new)) }
+    ensures survives { Survives (state S.Store conn.old) (state S.Store conn.new)
+        (MayHaveWritten (state S.Store conn.old) (Casts place record { ballot = ballot; value = value.now })) }
+{
+    let promised = promised_with_vote(alloc, conn, owner, before, place, ballot)?;
+    acceptor_store_parts::put_vote(conn, place, ballot, value)?;
+    Ok(promised)
+}

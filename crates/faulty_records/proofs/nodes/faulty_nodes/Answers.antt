@@ -1,5 +1,0 @@
-use Rattle.std.proofs.Common.{rules}
-use Rattle.faulty_records.proofs.nodes.faulty_nodes.Goals as goal
-
-pub nodes_by_number-requires-clause-fresh : goal.nodes_by_number-requires-clause-fresh
-nodes_by_number-requires-clause-fresh c = λ state after id node below called. search rules
