@@ -1,0 +1,4 @@
+pub mod Turns
+pub mod Journal
+pub mod Legal
+pub mod Following

@@ -1,0 +1,15 @@
+//! The journals of nodes that are processes: what they hold, and whether they are the lines of legal records.
+#![tactic(auto)]
+
+mod audits;
+mod follower;
+mod following;
+mod laws;
+mod phase;
+mod replies;
+mod sent;
+mod texts;
+
+pub use audits::{Verdict, audit};
+pub use laws::lines_are_legal;
+pub use phase::Phase;

@@ -1,0 +1,196 @@
+//! What is replied, and what is asked.
+
+ghost use Rattle.std.specs.Prelude.{◌≡◌, ◌∷◌, IfOk, IfSome};
+ghost use Rattle.node_journal.specs.Following.{IsCourse, IsStopOf, letters_told};
+ghost use Rattle.node_journal.specs.Turns.{Tells, cause_of as cause_of_lem};
+ghost use Rattle.node.specs.Calls.{IsStop};
+ghost use Rattle.node_service.specs.Incoming.{IsTakenFor};
+ghost use Rattle.node_service.specs.Texts.{reply_text};
+
+use crate::texts::{begins_life, common};
+use ballots::{Bytes, Letter};
+use node::NodeFault;
+use node_lines::{LONGEST_LINE, LineFault, Request, read_line};
+use node_service::{Incoming, Output, Reply};
+use node_worker::{Ask, Cause, Ended, Entry};
+use seats::{Acted, OutOfMemory};
+use std::alloc::Global;
+
+/// How a line that asks something goes on.
+pub(crate) enum Course {
+    /// It isn't obeyed, and the life ends behind so many bytes of a reply.
+    Left(usize),
+    /// It is obeyed, and the life ends behind so many bytes of a reply that the node crashed.
+    Stopped(usize),
+    /// It is obeyed.
+    Obeyed,
+}
+
+/// Which lines without a reply are taken for ones that weren't obeyed.
+#[derive(Drop)]
+pub(crate) struct Guesses {
+    /// What is taken of the first ones, one after another.
+    skips: Vec<bool>,
+    /// How many there were.
+    pub(crate) doubts: usize,
+}
+
+impl Guesses {
+    /// The first lines without a reply are taken as these say, and all behind them for ones that were obeyed.
+    pub(crate) fn new(skips: Vec<bool>) -> Guesses {
+        Guesses { skips, doubts: 0 }
+    }
+
+    /// Whether the next one is taken for one that wasn't obeyed.
+    fn skips(&mut self) -> bool {
+        let number = self.doubts;
+        self.doubts = number.saturating_add(1);
+        match self.skips.get(number) {
+            Some(skipped) => *skipped,
+            None => false,
+        }
+    }
+
+    /// How a line that asks something goes on.
+    pub(crate) fn course(&mut self, alloc: Global, after: &[u8]) -> Result<Course, OutOfMemory>
+        ensures { IfOk result (IsCourse after.now) }
+    {
+        if let Some((count, is_in_doubt)) = stop_in(alloc, after)? {
+            return Ok(if is_in_doubt && !self.skips() {
+                Course::Stopped(count)
+            } else {
+                Course::Left(count)
+            });
+        }
+        if (after.is_empty() || begins_life(after)) && self.skips() {
+            return Ok(Course::Left(0));
+        }
+        Ok(Course::Obeyed)
+    }
+}
+
+/// A reply as it is written.
+pub(crate) fn reply_bytes(alloc: Global, reply: &Reply) -> Result<Vec<u8>, OutOfMemory>
+    ensures { IfOk result (λ bytes. bytes.items ≡ reply_text reply.now) }
+{
+    let mut bytes = Vec::new(alloc);
+    match bytes.write_reply(alloc, reply) {
+        Ok(()) => Ok(bytes),
+        Err(_) => Err(OutOfMemory),
+    }
+}
+
+/// The first lines of a life: an empty one, and the one that says who it is.
+pub(crate) fn head_bytes(alloc: Global, first: &Reply) -> Result<Vec<u8>, OutOfMemory>
+    ensures { IfOk result (λ bytes. bytes.items ≡ 10 ∷ reply_text first.now) }
+{
+    let mut bytes = Vec::new(alloc);
+    bytes.push(b'\n')?;
+    match bytes.write_reply(alloc, first) {
+        Ok(()) => Ok(bytes),
+        Err(_) => Err(OutOfMemory),
+    }
+}
+
+/// What a line is taken for. It was no more than that where the node had no memory for it.
+pub(crate) fn what_is_asked(
+    alloc: Global,
+    line: &[u8],
+    after: &[u8],
+) -> Result<Incoming, OutOfMemory>
+    ensures { IfOk result (IsTakenFor line.now) }
+{
+    if line.len() > LONGEST_LINE {
+        return Ok(Incoming::Refused(LineFault::TooLong));
+    }
+    if !line.is_empty() && after.starts_with(b"error 6 ") {
+        return Ok(Incoming::Refused(LineFault::OutOfMemory));
+    }
+    match read_line(alloc, Bytes::new(Vec::from_slice(alloc, line)?)) {
+        Ok(asked) => Ok(Incoming::Asks(asked)),
+        Err(LineFault::OutOfMemory) => Err(OutOfMemory),
+        Err(why) => Ok(Incoming::Refused(why)),
+    }
+}
+
+/// A request as a cause.
+pub(crate) fn cause_of(asked: Request) -> Cause
+    ensures { result ≡ cause_of_lem asked }
+{
+    match asked {
+        Request::Lead => Cause::Ask(Ask::Lead),
+        Request::Offer(value) => Cause::Ask(Ask::Offer(value)),
+        Request::Release(now) => Cause::Ask(Ask::Release(now)),
+        Request::Letter(letter) => Cause::Letter(letter),
+        Request::Tell(to, place) => Cause::Ask(Ask::Tell(to, place)),
+    }
+}
+
+/// What came of an entry, as a reply tells it. None where it ended in a crash.
+pub(crate) fn acted_of(entry: Entry) -> Option<Acted>
+    ensures { IfSome result (λ acted. Tells acted entry) }
+{
+    let Entry {
+        cause,
+        ended,
+        letters,
+        outputs,
+    } = entry;
+    match (ended, cause) {
+        (Ended::Whole, Cause::Ask(Ask::Release(_))) if letters.is_empty() => {
+            Some(Acted::Released(outputs))
+        }
+        (Ended::Whole, Cause::Ask(Ask::Lead | Ask::Offer(_) | Ask::Tell(..)) | Cause::Letter(_))
+            if outputs.is_empty() => { Some(Acted::Sent(letters)) }
+        (Ended::Whole, Cause::Ask(Ask::Crash | Ask::Restart))
+            if letters.is_empty() && outputs.is_empty() => { Some(Acted::Finished) }
+        (Ended::Fault(fault), _) if letters.is_empty() && outputs.is_empty() => {
+            Some(Acted::Fault(fault))
+        }
+        _ => None,
+    }
+}
+
+/// The letters that go out with a reply.
+pub(crate) fn letters_out(alloc: Global, reply: Reply) -> Vec<Letter>
+    ensures { result.items ≡ letters_told reply }
+{
+    match reply {
+        Reply::Acted(Acted::Sent(letters)) => letters,
+        _ => Vec::new(alloc),
+    }
+}
+
+/// How many bytes of a text the reply to a call is in which the node crashed by this fault; none where the text begins otherwise.
+fn stop_length(alloc: Global, text: &[u8], fault: NodeFault) -> Result<Option<usize>, OutOfMemory>
+    requires { IsStop fault }
+    ensures { IfOk result (λ found. IfSome found (IsStopOf text.now)) }
+{
+    let reply = reply_bytes(alloc, &Reply::Acted(Acted::Fault(fault)))?;
+    let count = common(text, &reply);
+    if count == reply.len() {
+        Ok(Some(count))
+    } else {
+        Ok(None)
+    }
+}
+
+/// How many bytes of a text are the reply to a call in which the node crashed, and whether its write may have been made.
+/// None where the text begins otherwise.
+pub(crate) fn stop_in(alloc: Global, text: &[u8]) -> Result<Option<(usize, bool)>, OutOfMemory>
+    ensures { IfOk result (λ found. IfSome found (λ stop. IsStopOf text.now stop.0)) }
+{
+    if !text.starts_with(b"fault ") {
+        return Ok(None);
+    }
+    if let Some(count) = stop_length(alloc, text, NodeFault::Down)? {
+        return Ok(Some((count, true)));
+    }
+    if let Some(count) = stop_length(alloc, text, NodeFault::StoreRefused)? {
+        return Ok(Some((count, false)));
+    }
+    if let Some(count) = stop_length(alloc, text, NodeFault::OutOfMemory)? {
+        return Ok(Some((count, false)));
+    }
+    Ok(None)
+}
