@@ -120,7 +120,8 @@ fn promised_with_row<S: Alter>(
     before: Option<Ballot>,
     ballot: Ballot,
 ) -> Result<Option<Ballot>, Stop>
-    ensures value { HasCleanDisk (state S.Store conn.new) → IfOk result (λ b. (c : Content) → ServesFor owner (state S.Store conn.old) c → number_of before ≡ promised c
+    ensures value { HasCleanDisk (state S.Store conn.new) → IfOk result (λ b. (c : Content) → ServesFor owner (state S.Store conn.old) c
+        → number_of before ≡ promised c
         → number_of b ≡ promised (after_write c (Some (Promises ballot)))) }
     ensures stays { HasCleanDisk (state S.Store conn.new) → StaysOpen result → StillServes (state S.Store conn.old) (state S.Store conn.new) }
     ensures survives { Survives (state S.Store conn.old) (state S.Store conn.new) (λ _. DoesNotServe (state S.Store conn.old)) }
@@ -161,7 +162,8 @@ pub fn promise<S: Alter>(
     before: Option<Ballot>,
     ballot: Ballot,
 ) -> Result<Option<Ballot>, Stop>
-    ensures value { HasCleanDisk (state S.Store conn.new) → IfOk result (λ b. (c : Content) → ServesFor owner (state S.Store conn.old) c → number_of before ≡ promised c
+    ensures value { HasCleanDisk (state S.Store conn.new) → IfOk result (λ b. (c : Content) → ServesFor owner (state S.Store conn.old) c
+        → number_of before ≡ promised c
         → number_of b ≡ promised (after_write c (Some (Promises ballot)))) }
     ensures ok { HasCleanDisk (state S.Store conn.new) → OnOk result (HasWritten (state S.Store conn.old) (state S.Store conn.new) (Promises ballot)) }
     ensures err { HasCleanDisk (state S.Store conn.new) → IfErr result (λ e. LeavesOpen e → StillServes (state S.Store conn.old) (state S.Store conn.new)) }
@@ -182,7 +184,8 @@ pub fn cast_vote<S: Alter>(
     ballot: Ballot,
     value: &Value,
 ) -> Result<Option<Ballot>, Stop>
-    ensures value { HasCleanDisk (state S.Store conn.new) → IfOk result (λ b. (c : Content) → ServesFor owner (state S.Store conn.old) c → number_of before ≡ promised c
+    ensures value { HasCleanDisk (state S.Store conn.new) → IfOk result (λ b. (c : Content) → ServesFor owner (state S.Store conn.old) c
+        → number_of before ≡ promised c
         → number_of b ≡ promised (after_write c (Some (Casts place record { ballot = ballot; value = value.now })))) }
     ensures ok { HasCleanDisk (state S.Store conn.new)
         → OnOk result (HasWritten (state S.Store conn.old) (state S.Store conn.new) (Casts place record { ballot = ballot; value = value.now })) }

@@ -44,7 +44,8 @@ pub fn read_learned(alloc: Global, rows: &[Row]) -> Result<Vec<(Place, Value)>, 
     ensures ok { IfOk result (λ learned. rows.now ≡ map learned_shown learned.items) }
     ensures fits { IfOk result (λ learned. AllByRecursion IsLearned learned.items) }
     ensures told { IfErr result (λ e. e ≢ Stop.Refused) }
-    ensures wrong { IfErr result (λ e. e ≡ Stop.Down → (learned : List (ℕ × List ℕ)) → AllByRecursion IsLearned learned → rows.now ≡ map learned_shown learned → ⊥) }
+    ensures wrong { IfErr result (λ e. e ≡ Stop.Down → (learned : List (ℕ × List ℕ)) → AllByRecursion IsLearned learned
+        → rows.now ≡ map learned_shown learned → ⊥) }
 {
     let mut learned = Vec::new(alloc);
     for row in rows {
@@ -76,9 +77,11 @@ pub fn are_rising(learned: &[(Place, Value)]) -> bool
 }
 
 fn query_learned_from<S: Alter>(conn: &mut Connection<S>, first: i64) -> Result<Vec<Row>, Error>
-    ensures value { HasCleanDisk (state S.Store conn.new) → IfOk result (λ rows. (q : _) (c : Content) → first ≡ pos q → Serves (state S.Store conn.old) c → rows.items ≡ map learned_shown (rows_from c.learned q)) }
+    ensures value { HasCleanDisk (state S.Store conn.new) → IfOk result (λ rows. (q : _) (c : Content) → first ≡ pos q
+        → Serves (state S.Store conn.old) c → rows.items ≡ map learned_shown (rows_from c.learned q)) }
     ensures ok { HasCleanDisk (state S.Store conn.new) → OnOk result (Stays (state S.Store conn.old) (state S.Store conn.new)) }
-    ensures err { HasCleanDisk (state S.Store conn.new) → IsTrue (state S.Store conn.new).is_open → StillServes (state S.Store conn.old) (state S.Store conn.new) }
+    ensures err { HasCleanDisk (state S.Store conn.new) → IsTrue (state S.Store conn.new).is_open
+        → StillServes (state S.Store conn.old) (state S.Store conn.new) }
     ensures survives { Survives (state S.Store conn.old) (state S.Store conn.new) (λ _. DoesNotServe (state S.Store conn.old)) }
 {
     let from = ValueRef::Int(first);
@@ -89,9 +92,11 @@ fn query_learned_from<S: Alter>(conn: &mut Connection<S>, first: i64) -> Result<
 }
 
 fn query_learned_row<S: Alter>(conn: &mut Connection<S>, place: i64) -> Result<Vec<Row>, Error>
-    ensures value { HasCleanDisk (state S.Store conn.new) → IfOk result (λ rows. (q : _) (c : Content) → place ≡ pos q → Serves (state S.Store conn.old) c → rows.items ≡ map learned_shown (filter (λ v. v.0 == q) c.learned)) }
+    ensures value { HasCleanDisk (state S.Store conn.new) → IfOk result (λ rows. (q : _) (c : Content) → place ≡ pos q
+        → Serves (state S.Store conn.old) c → rows.items ≡ map learned_shown (filter (λ v. v.0 == q) c.learned)) }
     ensures ok { HasCleanDisk (state S.Store conn.new) → OnOk result (Stays (state S.Store conn.old) (state S.Store conn.new)) }
-    ensures err { HasCleanDisk (state S.Store conn.new) → IsTrue (state S.Store conn.new).is_open → StillServes (state S.Store conn.old) (state S.Store conn.new) }
+    ensures err { HasCleanDisk (state S.Store conn.new) → IsTrue (state S.Store conn.new).is_open
+        → StillServes (state S.Store conn.old) (state S.Store conn.new) }
     ensures survives { Survives (state S.Store conn.old) (state S.Store conn.new) (λ _. DoesNotServe (state S.Store conn.old)) }
 {
     let at = ValueRef::Int(place);
@@ -120,7 +125,8 @@ pub fn learned_from<S: Alter>(
     conn: &mut Connection<S>,
     place: Place,
 ) -> Result<Vec<(Place, Value)>, Stop>
-    ensures value { HasCleanDisk (state S.Store conn.new) → IfOk result (λ learned. (c : Content) → Serves (state S.Store conn.old) c → learned.items ≡ rows_from c.learned place) }
+    ensures value { HasCleanDisk (state S.Store conn.new) → IfOk result (λ learned. (c : Content) → Serves (state S.Store conn.old) c
+        → learned.items ≡ rows_from c.learned place) }
     ensures stays { HasCleanDisk (state S.Store conn.new) → StaysOpen result → StillServes (state S.Store conn.old) (state S.Store conn.new) }
     ensures survives { Survives (state S.Store conn.old) (state S.Store conn.new) (λ _. DoesNotServe (state S.Store conn.old)) }
 {
@@ -146,7 +152,8 @@ pub fn learned_row<S: Alter>(
     conn: &mut Connection<S>,
     place: Place,
 ) -> Result<Option<Value>, Stop>
-    ensures value { HasCleanDisk (state S.Store conn.new) → IfOk result (λ value. (c : Content) → Serves (state S.Store conn.old) c → value ≡ at c.learned place) }
+    ensures value { HasCleanDisk (state S.Store conn.new) → IfOk result (λ value. (c : Content) → Serves (state S.Store conn.old) c
+        → value ≡ at c.learned place) }
     ensures stays { HasCleanDisk (state S.Store conn.new) → StaysOpen result → StillServes (state S.Store conn.old) (state S.Store conn.new) }
     ensures survives { Survives (state S.Store conn.old) (state S.Store conn.new) (λ _. DoesNotServe (state S.Store conn.old)) }
 {
@@ -163,7 +170,8 @@ fn run_put_learned<S: Alter>(
     value: &Value,
 ) -> Result<usize, Error>
     ensures ok { HasCleanDisk (state S.Store conn.new) → OnOk result (HasWritten (state S.Store conn.old) (state S.Store conn.new) (Learns place value.now)) }
-    ensures err { HasCleanDisk (state S.Store conn.new) → OnErr result (IsTrue (state S.Store conn.new).is_open → StillServes (state S.Store conn.old) (state S.Store conn.new)) }
+    ensures err { HasCleanDisk (state S.Store conn.new) → OnErr result (IsTrue (state S.Store conn.new).is_open
+        → StillServes (state S.Store conn.old) (state S.Store conn.new)) }
     ensures survives { Survives (state S.Store conn.old) (state S.Store conn.new) (MayHaveWritten (state S.Store conn.old) (Learns place value.now)) }
 {
     let at = ValueRef::Int(crate::signed_place(place));

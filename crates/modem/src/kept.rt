@@ -137,7 +137,8 @@ fn is_live(interval: KeptInterval, ch: u8, clock: u64) -> bool
 fn ended(kept: &[KeptInterval], ch: u8, clock: u64) -> usize
     ensures bound { result ≤ length kept.now }
     ensures ended { AllWithin (λ k. is_live ch clock k ≡ false) kept.now 0 result }
-    ensures next { (d : KeptInterval) → result < length kept.now → (is_live ch clock (get_or kept.now result d) ≡ true) × ((get_or kept.now result d).start < 2 ^ 64) }
+    ensures next { (d : KeptInterval) → result < length kept.now
+        → (is_live ch clock (get_or kept.now result d) ≡ true) × ((get_or kept.now result d).start < 2 ^ 64) }
 {
     for (i, interval) in kept.iter().enumerate() {
         if is_live(*interval, ch, clock) {
@@ -161,7 +162,8 @@ fn cut(kept: &mut Vec<KeptInterval>, from: usize, to: usize)
 pub(crate) fn let_go(kept: &mut Vec<KeptInterval>, ch: u8, clock: u64)
     requires { AreKept kept.old.items }
     ensures kept { AreKept kept.new.items }
-    ensures held { (at_ch m sid iuc : ℕ) → (ch ≡ at_ch → clock ≤ m) → HasAt (map kept_interval kept.new.items) at_ch m sid iuc ↔ HasAt (map kept_interval kept.old.items) at_ch m sid iuc }
+    ensures held { (at_ch m sid iuc : ℕ) → (ch ≡ at_ch → clock ≤ m)
+        → HasAt (map kept_interval kept.new.items) at_ch m sid iuc ↔ HasAt (map kept_interval kept.old.items) at_ch m sid iuc }
     ensures none_old { (t : ℕ) → t ≤ clock + 1 → old_intervals ch t (map kept_interval kept.new.items) ≡ [] }
 {
     let before = kept.partition_point(|k| begins_before(k, ch, 0));
@@ -188,7 +190,8 @@ pub(crate) fn let_go_of_many(kept: &mut Vec<KeptInterval>, ch: u8, at: u64, chan
     requires kept { AreKept kept.old.items }
     requires time { at < 2 ^ 63 }
     ensures kept { AreKept kept.new.items }
-    ensures held { (at_ch m sid iuc : ℕ) → (ch ≡ at_ch → at ≤ m) → HasAt (map kept_interval kept.new.items) at_ch m sid iuc ↔ HasAt (map kept_interval kept.old.items) at_ch m sid iuc }
+    ensures held { (at_ch m sid iuc : ℕ) → (ch ≡ at_ch → at ≤ m)
+        → HasAt (map kept_interval kept.new.items) at_ch m sid iuc ↔ HasAt (map kept_interval kept.old.items) at_ch m sid iuc }
     ensures few { FewOld channels ch (at + 1) (map kept_interval kept.new.items) }
     ensures same { result ≡ false → kept.new.items ≡ kept.old.items }
 {
@@ -233,7 +236,8 @@ fn add(kept: &mut Vec<KeptInterval>, interval: KeptInterval)
     requires short { IsShort interval }
     requires room { vec_len kept.old < vec_capacity kept.old }
     ensures kept { AreKept kept.new.items }
-    ensures held { (ch m sid iuc : ℕ) → HasAt (map kept_interval kept.new.items) ch m sid iuc ↔ (HasAt (map kept_interval kept.old.items) ch m sid iuc ⊎ IsAt (kept_interval interval) ch m sid iuc) }
+    ensures held { (ch m sid iuc : ℕ)
+        → HasAt (map kept_interval kept.new.items) ch m sid iuc ↔ (HasAt (map kept_interval kept.old.items) ch m sid iuc ⊎ IsAt (kept_interval interval) ch m sid iuc) }
     ensures more { vec_len kept.new ≤ vec_len kept.old + 1 }
     ensures room { vec_capacity kept.old ≤ vec_capacity kept.new }
 {
@@ -253,7 +257,8 @@ pub(crate) fn add_all(kept: &mut Vec<KeptInterval>, intervals: &[KeptInterval])
     requires short { All IsShort intervals.now }
     requires room { vec_len kept.old + length intervals.now ≤ vec_capacity kept.old }
     ensures kept { AreKept kept.new.items }
-    ensures held { (at_ch m sid iuc : ℕ) → HasAt (map kept_interval kept.new.items) at_ch m sid iuc ↔ (HasAt (map kept_interval kept.old.items) at_ch m sid iuc ⊎ HasAt (map kept_interval intervals.now) at_ch m sid iuc) }
+    ensures held { (at_ch m sid iuc : ℕ)
+        → HasAt (map kept_interval kept.new.items) at_ch m sid iuc ↔ (HasAt (map kept_interval kept.old.items) at_ch m sid iuc ⊎ HasAt (map kept_interval intervals.now) at_ch m sid iuc) }
 {
     for interval in intervals {
         add(kept, *interval);
@@ -413,7 +418,8 @@ pub(crate) fn next_old(kept: &[KeptInterval], ch: u8, at: u64) -> Option<u64>
     requires kept { AreKept kept.now }
     requires time { at < 2 ^ 63 }
     ensures after { IfSome result (λ n. at < n) }
-    ensures same { (x : ℕ) → at ≤ x → x < 2 ^ 63 → IsBefore result x → old_intervals ch (x + 1) (map kept_interval kept.now) ≡ old_intervals ch (at + 1) (map kept_interval kept.now) }
+    ensures same { (x : ℕ) → at ≤ x → x < 2 ^ 63 → IsBefore result x
+        → old_intervals ch (x + 1) (map kept_interval kept.now) ≡ old_intervals ch (at + 1) (map kept_interval kept.now) }
 {
     if at < REACH {
         return Some(REACH);

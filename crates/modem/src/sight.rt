@@ -128,7 +128,8 @@ fn anew(grants: &[KeptInterval], shared: &[KeptInterval], ch: u8, at: u64) -> Si
     ensures channel { result.channel ≡ ch }
     ensures from { result.from ≡ at }
     ensures until { at < result.until }
-    ensures holds { (n : ℕ) → FewOld n ch (at + 1) (map kept_interval grants.now) → FewOld n ch (at + 1) (map kept_interval shared.now) → Holds n (map kept_interval grants.now) (map kept_interval shared.now) result }
+    ensures holds { (n : ℕ) → FewOld n ch (at + 1) (map kept_interval grants.now) → FewOld n ch (at + 1) (map kept_interval shared.now)
+        → Holds n (map kept_interval grants.now) (map kept_interval shared.now) result }
 {
     let edge = sooner(
         kept::next_edge(grants, ch, at),
@@ -163,8 +164,10 @@ fn let_go(
     ensures grants { AreKept grants.new.items }
     ensures opens { AreKept shared.new.items }
     ensures sights { AreSights channels (map kept_interval grants.new.items) (map kept_interval shared.new.items) sights.new.items }
-    ensures grants_held { (at_ch m sid iuc : ℕ) → (ch ≡ at_ch → at ≤ m) → HasAt (map kept_interval grants.new.items) at_ch m sid iuc ↔ HasAt (map kept_interval grants.old.items) at_ch m sid iuc }
-    ensures opens_held { (at_ch m sid iuc : ℕ) → (ch ≡ at_ch → at ≤ m) → HasAt (map kept_interval shared.new.items) at_ch m sid iuc ↔ HasAt (map kept_interval shared.old.items) at_ch m sid iuc }
+    ensures grants_held { (at_ch m sid iuc : ℕ) → (ch ≡ at_ch → at ≤ m)
+        → HasAt (map kept_interval grants.new.items) at_ch m sid iuc ↔ HasAt (map kept_interval grants.old.items) at_ch m sid iuc }
+    ensures opens_held { (at_ch m sid iuc : ℕ) → (ch ≡ at_ch → at ≤ m)
+        → HasAt (map kept_interval shared.new.items) at_ch m sid iuc ↔ HasAt (map kept_interval shared.old.items) at_ch m sid iuc }
     ensures few_grants { FewOld channels ch (at + 1) (map kept_interval grants.new.items) }
     ensures few_open { FewOld channels ch (at + 1) (map kept_interval shared.new.items) }
 {
@@ -192,8 +195,10 @@ pub(crate) fn look(
     ensures grants { AreKept grants.new.items }
     ensures opens { AreKept shared.new.items }
     ensures sights { AreSights channels (map kept_interval grants.new.items) (map kept_interval shared.new.items) sights.new.items }
-    ensures grants_held { (at_ch m sid iuc : ℕ) → (ch ≡ at_ch → at ≤ m) → HasAt (map kept_interval grants.new.items) at_ch m sid iuc ↔ HasAt (map kept_interval grants.old.items) at_ch m sid iuc }
-    ensures opens_held { (at_ch m sid iuc : ℕ) → (ch ≡ at_ch → at ≤ m) → HasAt (map kept_interval shared.new.items) at_ch m sid iuc ↔ HasAt (map kept_interval shared.old.items) at_ch m sid iuc }
+    ensures grants_held { (at_ch m sid iuc : ℕ) → (ch ≡ at_ch → at ≤ m)
+        → HasAt (map kept_interval grants.new.items) at_ch m sid iuc ↔ HasAt (map kept_interval grants.old.items) at_ch m sid iuc }
+    ensures opens_held { (at_ch m sid iuc : ℕ) → (ch ≡ at_ch → at ≤ m)
+        → HasAt (map kept_interval shared.new.items) at_ch m sid iuc ↔ HasAt (map kept_interval shared.old.items) at_ch m sid iuc }
     ensures seen { IsSeen channels (map kept_interval grants.new.items) (map kept_interval shared.new.items) ch at result.counted result.is_open }
 {
     if let Some(sight) = find(sights.as_slice(), ch, at) {

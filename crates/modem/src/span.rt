@@ -43,7 +43,8 @@ pub(crate) fn add(spans: &mut Vec<Span>, ch: u8) -> Result<(), AllocError>
 
 // Whether all wants of the channel stay after a minislot.
 fn all_stay(spans: &[Span], ch: u8, at: u64) -> bool
-    ensures { result ≡ true → (leases : List OwnLease) (wants : List Want) → AreSpans leases wants spans.now → All (λ w. is_lasting leases ch (at + 1) w ≡ true) wants }
+    ensures { result ≡ true → (leases : List OwnLease) (wants : List Want) → AreSpans leases wants spans.now
+        → All (λ w. is_lasting leases ch (at + 1) w ≡ true) wants }
 {
     for span in spans {
         if is_at(span, ch, at) {

@@ -10,7 +10,8 @@ use std::collections::BTreeMap;
 use std::marker::Model;
 use std::mem;
 
-/// Values by place. Those of one run of places lie in a list, so that they are found at once; only what lies before the run or behind it takes a tree.
+/// Values by place. Those of one run of places lie in a list, so that they are found at once; only what lies before
+/// the run or behind it takes a tree.
 #[derive(Drop)]
 pub struct Table<V> {
     before: BTreeMap<u64, V>,
@@ -142,7 +143,8 @@ impl<V: Drop> Table<V> {
         Ok(None)
     }
 
-    /// Puts a value at a place that has none, once `write` has written it in `rows`, and answers what `write` gave. The room comes first: where memory is refused nothing is written. Where the write fails nothing is put.
+    /// Puts a value at a place that has none, once `write` has written it in `rows`, and answers what `write` gave.
+    /// The room comes first: where memory is refused nothing is written. Where the write fails nothing is put.
     pub fn insert_after<W, E, F: FnOnce(&mut W) -> Result<(), E>>(
         &mut self,
         place: u64,
