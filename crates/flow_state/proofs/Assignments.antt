@@ -1,6 +1,6 @@
 -- Leases of SIDs, and the one that a flow that isn't refused is given.
-use Rattle.std.proofs.Common.{◌≡◌, ◌⊎◌, ℕ, ◌<◌, ◌≤◌, Bool, true, false, cond, not, ◌||◌, ◌&&◌, List, [], ◌∷◌, ◌++◌, filter, Option, Some, None, refl, sym, ap, ◌∙◌, arith, eqb, ltb, inl, inr, is_some, is_none}
-use Rattle.std.specs.List.{find, list_any}
+use Rattle.std.proofs.Common.{◌≡◌, ◌⊎◌, ℕ, ◌<◌, ◌≤◌, Bool, true, false, cond, not, ◌&&◌, List, [], ◌∷◌, ◌++◌, filter, Option, Some, None, refl, sym, ap, ◌∙◌, arith, eqb, ltb, inl, inr, is_some, is_none}
+use Rattle.std.specs.List.{find}
 use Rattle.std.specs.Prelude.{unwrap_or}
 use Rattle.std.proofs.lemmas.Bool.{eqb-true, leb-true, and_parts, not-true}
 use Rattle.flow_state.specs.declared.flow.FlowKind.{FlowKind}
@@ -20,11 +20,6 @@ module _ {X : Type 0} (p : X → Bool) where
   find_pushed [] a b e = elim (p b) as (λ c. cond c (Some b) None ≡ Some a → (None ≡ Some a) ⊎ (b ≡ a)) [ true ↦ λ f. inr cc | false ↦ λ f. inl f ] e
   find_pushed (x ∷ xs) a b e =
       elim (p x) as (λ c. cond c (Some x) (find p (xs ++ b ∷ [])) ≡ Some a → (cond c (Some x) (find p xs) ≡ Some a) ⊎ (b ≡ a)) [ true ↦ λ f. inl f | false ↦ λ f. find_pushed xs a b f ] e
-
-  pub find_last : (xs : List X) (b : X) → list_any p xs ≡ false → p b ≡ true → find p (xs ++ b ∷ []) ≡ Some b
-  find_last [] b none is = ap (λ c. cond c (Some b) None) is
-  find_last (x ∷ xs) b none is =
-      elim (p x) as (λ c. (c || list_any p xs) ≡ false → cond c (Some x) (find p (xs ++ b ∷ [])) ≡ Some b) [ true ↦ λ f. absurd cc | false ↦ λ f. find_last xs b f is ] none
 
   pub find_passes : (xs : List X) (a : X) → find p xs ≡ Some a → p a ≡ true
   find_passes [] a e = absurd cc
@@ -188,9 +183,6 @@ is_added t modem tag last kind none e =
         let values = and_parts _ _ g in
         let times = and_parts _ _ values.1 in
         record { kind_good = values.0; most = leb-true _ _ times.0; goes_on = leb-true _ _ times.1; sid = sid; free = f }
-
-pub some_sid : (t : Table) (modem tag last : ℕ) (kind : FlowKind) → lease_of t modem tag ≡ None → table_flow_refusal t modem tag last kind ≡ None → (sid : ℕ) × (free_sid t ≡ Some sid)
-some_sid t modem tag last kind none e = let added = is_added t modem tag last kind none e in (added.sid, added.free)
 
 pub unwrap_some : (o : Option ℕ) (n : ℕ) → o ≡ Some n → unwrap_or o 0 ≡ n
 unwrap_some o n e = ap (λ (p : Option ℕ). unwrap_or p 0) e

@@ -2,7 +2,8 @@
 use Rattle.std.proofs.Common.{◌≡◌, ℕ, zero, suc, ◌+◌, ◌-◌, ◌<◌, ◌≤◌, true, false, cond, not, leb, ltb, List, [], ◌∷◌, ◌++◌, filter, length, take, drop, add-one, slice_get, Option, Some, None, refl, sym, ap, subst, ◌∙◌, nat_eq, arith}
 use Rattle.std.specs.List.{range_with_len}
 use Rattle.std.specs.Map.{set_value, lookup, remove_entry, keys_of}
-use Rattle.std.specs.Prelude.{IsSome}
+use Rattle.std.specs.Prelude.{IsSome, OnOk, Result, Ok, Err}
+use Rattle.std.specs.Result.{is_ok}
 use Rattle.indexmap.specs.IndexMap.{set_value_at, with_value_at}
 use Rattle.flow_state.specs.declared.flow.Flow.{Flow}
 use Rattle.flow_state.specs.StoredTable.{EndFrom}
@@ -196,11 +197,6 @@ cleared_keys end zero ps = refl
 cleared_keys end (suc k) [] = refl
 cleared_keys end (suc k) (p ∷ ps) = ap (λ (ns : List ℕ). p.0 ∷ ns) (cleared_keys end k ps)
 
-pub cleared_places : (end k : ℕ) (ps : Places) → length (cleared end k ps) ≡ length ps
-cleared_places end zero ps = refl
-cleared_places end (suc k) [] = refl
-cleared_places end (suc k) (p ∷ ps) = ap suc (cleared_places end k ps)
-
 pub cleared_all : (end k : ℕ) (ps : Places) → length ps ≤ k → there (cleared end k ps) ≡ filter (λ e. leb end e.1.last) (there ps)
 cleared_all end zero [] le = refl
 cleared_all end (suc k) [] le = refl
@@ -247,12 +243,6 @@ drop_some (p ∷ ps) (suc k) f h = drop_some ps k f h
 
 pub dropped_some : (ps : Places) (k : ℕ) (f : Flow) → flow_at ps k ≡ Some f → (s : ℕ) × (there (drop k ps) ≡ (s, f) ∷ there (drop (k + 1) ps))
 dropped_some ps k f h = rw add-one (drop_some ps k f h)
-
-pub dropped_all : (ps : Places) (k : ℕ) → length ps ≤ k → there (drop k ps) ≡ []
-dropped_all [] zero le = refl
-dropped_all [] (suc k) le = refl
-dropped_all (p ∷ ps) zero le = absurd (omega (arith, le))
-dropped_all (p ∷ ps) (suc k) le = dropped_all ps k (omega (arith, le))
 
 -- ---- what a write leaves
 
@@ -343,3 +333,8 @@ sids_behind ps sid g is = length_pushed ps (sid, g) ∙ (let same : length ps + 
 pub given_behind : (ps : Places) (sid : ℕ) (g : Option Flow) → 1 + length ps ≡ sid → keys_of ps ≡ range_with_len 1 (length ps) → keys_of (ps ++ (sid, g) ∷ []) ≡ range_with_len 1 (length (ps ++ (sid, g) ∷ []))
 given_behind ps sid g is given =
     subst (λ n. keys_of (ps ++ (n, g) ∷ []) ≡ range_with_len 1 (length (ps ++ (n, g) ∷ []))) is (keys_from (ps ++ (1 + length ps, g) ∷ []) 1 (from_added ps 1 g (from ps 1 given)))
+
+-- what a success says
+pub on_ok : {A B : Type 0} (r : Result A B) (P : Type 0) → is_ok r ≡ true → OnOk r P → P
+on_ok (Ok x) P e h = h
+on_ok (Err x) P e h = absurd cc

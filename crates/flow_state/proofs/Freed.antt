@@ -39,12 +39,6 @@ runs_has low (o ∷ ls) l r (inr h) = let more = runs_has (low + 1) ls l r.1 h i
 
 -- ---- SIDs that were given
 
-given_below : (low s : ℕ) (ls : List Lease) → Runs low ls → s < low → list_any (is_of_sid s) ls ≡ false
-given_below low s [] r h = refl
-given_below low s (l ∷ ls) r h =
-    ap (λ n. eqb n s || list_any (is_of_sid s) ls) r.0
-    ∙ ap (λ b. b || list_any (is_of_sid s) ls) (let off : eqb low s ≡ false = grind (arith, h) in off) ∙ given_below (low + 1) s ls r.1 (omega arith)
-
 given_by : (low s : ℕ) (ls : List Lease) → Runs low ls → list_any (is_of_sid s) ls ≡ (leb low s && ltb s (low + length ls))
 given_by low s [] r = none low s
   where

@@ -5,7 +5,6 @@ pub mod DueTimes
 pub mod DueBounds
 pub mod BySid
 pub mod Noted
-pub mod Places
 pub mod Stored
 pub mod Requests
 pub mod Adding
@@ -19,3 +18,4 @@ pub mod Callers
 pub mod Puts
 pub mod Bounds
 pub mod Named
+pub mod Told

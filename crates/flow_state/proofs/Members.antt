@@ -96,17 +96,6 @@ module _ {X : Type 0} (p : X → Bool) where
   filter_empty [] none = refl
   filter_empty (x ∷ xs) none = ap (λ b. cond b (x ∷ filter p xs) (filter p xs)) (none x (inl refl)) ∙ filter_empty xs (λ y h. none y (inr h))
 
-  pub empty_filter : (xs : List X) (x : X) → filter p xs ≡ [] → Has xs x → p x ≡ false
-  empty_filter xs x e h = by (p x) refl
-    where
-      none : (ys : List X) → ys ≡ [] → Has ys x → ⊥
-      none [] f g = g
-      none (y ∷ ys) f g = cc
-
-      by : (b : Bool) → p x ≡ b → p x ≡ false
-      by true on = absurd (none (filter p xs) e (filter_has xs x h on))
-      by false off = off
-
   pub any_has : (xs : List X) → list_any p xs ≡ true → (x : X) × Has xs x × (p x ≡ true)
   any_has [] e = absurd cc
   any_has (y ∷ ys) e =
@@ -158,10 +147,3 @@ pub range_has : (a n x : ℕ) → Has (range_with_len a n) x → (a ≤ x) × (x
 range_has a zero x h = absurd h
 range_has a (suc n) x (inl e) = (omega arith, omega arith)
 range_has a (suc n) x (inr h) = let w = range_has (a + 1) n x h in (omega (arith, w.0), omega (arith, w.1))
-
-pub has_range : (a n x : ℕ) → a ≤ x → x < a + n → Has (range_with_len a n) x
-has_range a zero x ge lt = absurd (omega arith)
-has_range a (suc n) x ge lt = elim (first a x ge) [ inl e ↦ inl e | inr more ↦ inr (has_range (a + 1) n x more (omega arith)) ]
-  where
-    first : (a x : ℕ) → a ≤ x → (a ≡ x) ⊎ (a + 1 ≤ x)
-    first a x le = grind arith

@@ -60,14 +60,6 @@ module _ (start modem tag : ℕ) (es : Names) (ls : List Lease) (are : AreNamedF
       let lease : o ≡ l = lease_same o l (stands ∙ ap (slice_get ls) (at ∙ same) ∙ e) in
       ap (is_lease_from start modem tag) (sym lease) ∙ sym is))
 
--- those that don't end before a start after the end up to which some aren't
-pub named_from : (until : Option ℕ) (start : ℕ) (es : Names) (ls : List Lease) → is_after until start ≡ true → AreNamed until es ls → AreNamedFrom start es ls
-named_from until start es ls after are p l e le = are p l e (later until after)
-  where
-    later : (o : Option ℕ) → is_after o start ≡ true → is_after o l.last ≡ true
-    later (Some end) f = grind (arith, f, le)
-    later None f = refl
-
 -- ---- without the name of a lease that stood at a place
 
 pub place_named : (o : Option ℕ) (place : ℕ) → true ≡ option_map_or (λ p. eqb p place) o false → o ≡ Some place
@@ -91,15 +83,6 @@ fewer_names es modem tag m t p e =
 
 pub one_holder : (a b c d : ℕ) → true ≡ (eqb a b && eqb c d) → (a ≡ b) × (c ≡ d)
 one_holder a b c d e = let parts = and_parts (eqb a b) (eqb c d) (sym e) in (eqb-true a b parts.0, eqb-true c d parts.1)
-
-pub not_named : (o : Option ℕ) (place : ℕ) → false ≡ option_map_or (λ p. eqb p place) o false → o ≡ Some place → ⊥
-not_named o place e is = false_same place (e ∙ ap (λ (p : Option ℕ). option_map_or (λ q. eqb q place) p false) is)
-  where
-    false_same : (n : ℕ) → false ≡ eqb n n → ⊥
-    false_same n f = let same : eqb n n ≡ true = grind arith in false_true (f ∙ same)
-      where
-        false_true : false ≡ true → ⊥
-        false_true g = cc
 
 pub none_named : (o : Option ℕ) (place : ℕ) → o ≡ None → o ≡ Some place → ⊥
 none_named o place none is = none_some (sym none ∙ is)

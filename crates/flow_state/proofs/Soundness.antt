@@ -5,7 +5,7 @@ use Rattle.std.proofs.lemmas.Bool.{not-true, ltb-false}
 use Rattle.flow_state.specs.declared.flow.FlowKind.{FlowKind}
 use Rattle.flow_state.specs.declared.flow.Waiting.{Waiting}
 use Rattle.flow_state.specs.Limits.{is_good_kind, last_sid, most_waiting}
-use Rattle.flow_state.specs.Rows.{Table, FlowRow, Lease, is_flow, change_flow, is_of, without_request, insert_flow, put_lease, free_sid, is_ended, has_ended}
+use Rattle.flow_state.specs.Rows.{Table, FlowRow, Lease, is_flow, change_flow, is_of, insert_flow, put_lease, free_sid, is_ended, has_ended}
 use Rattle.flow_state.specs.Changes.{new_flow, add_to_table, drop_in_table, request_in_table, close_table}
 use Rattle.flow_state.specs.Sound.{Rise, IsLeasedFlow, IsSound}
 use Rattle.flow_state.proofs.Assignments.{put_found, put_others}
@@ -105,27 +105,6 @@ sound_changed t sid change same kind leased s = record {
   kinds = all_changed IsGoodFlow IsGoodFlow t.flows sid change (λ f g. g) (λ f g. ap is_good_kind (kind f) ∙ g) s.kinds;
   leased = all_changed (IsLeasedFlow t) (IsLeasedFlow (change_flow t sid change)) t.flows sid change (λ f g. record { lease = g.lease; goes_on = g.goes_on }) leased s.leased;
   room = s.room;
-}
-
-pub sound_without : (t : Table) (sid : ℕ) → IsSound t → IsSound (without_request t sid)
-sound_without t sid s = record {
-  given = s.given;
-  few = s.few;
-  rising = s.rising;
-  kinds = s.kinds;
-  leased = all_has (IsLeasedFlow (without_request t sid)) t.flows (λ f h. let g = has_all (IsLeasedFlow t) t.flows f s.leased h in record { lease = g.lease; goes_on = g.goes_on });
-  room = let short : length (filter (λ (w : Waiting). not (is_of sid w)) t.waiting) ≤ length t.waiting = filter_fewer _ t.waiting in let room : length t.waiting ≤ most_waiting = s.room in omega arith;
-}
-
--- fewer requests wait
-pub sound_kept : (t : Table) (ws : List Waiting) → length ws ≤ length t.waiting → IsSound t → IsSound (record t { waiting = ws })
-sound_kept t ws fewer s = record {
-  given = s.given;
-  few = s.few;
-  rising = s.rising;
-  kinds = s.kinds;
-  leased = all_has (IsLeasedFlow (record t { waiting = ws })) t.flows (λ f h. let g = has_all (IsLeasedFlow t) t.flows f s.leased h in record { lease = g.lease; goes_on = g.goes_on });
-  room = let room : length t.waiting ≤ most_waiting = s.room in omega arith;
 }
 
 pub sound_dropped : (t : Table) (sid : ℕ) → IsSound t → IsSound (drop_in_table t sid)

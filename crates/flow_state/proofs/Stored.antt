@@ -1,5 +1,5 @@
 -- Stored flows and the rows that they mean.
-use Rattle.std.proofs.Common.{◌≡◌, ℕ, ◌+◌, take, length, add-one, suc, zero, slice_get, ◌<◌, ◌≤◌, Bool, true, false, cond, not, leb, ltb, List, [], ◌∷◌, ◌++◌, map, filter, Option, Some, None, refl, sym, ap, subst, ◌∙◌, nat_eq, eqb, arith, inl, inr}
+use Rattle.std.proofs.Common.{◌≡◌, ℕ, length, suc, zero, slice_get, ◌<◌, ◌≤◌, Bool, true, false, cond, not, leb, ltb, List, [], ◌∷◌, ◌++◌, map, filter, Option, Some, None, refl, sym, ap, subst, ◌∙◌, nat_eq, eqb, arith, inl, inr}
 use Rattle.std.specs.Prelude.{IfSome, IfNone}
 use Rattle.std.specs.List.{AllByRecursion, IsDistinct, find}
 use Rattle.std.specs.Option.{option_map, option_map_or}
@@ -146,45 +146,10 @@ rows_added es l kind all good =
 
 -- ---- the ends of leases
 
--- what the entries tell of the ends, the rows tell too
-pub ends_are : (es : Flows) (first : ℕ) → EndFrom first es → AllByRecursion (λ (f : FlowRow). first ≤ f.last) (rows es)
-ends_are [] first all = tt
-ends_are (e ∷ es) first all = (all.0, ends_are es first all.1)
-
-pub ends_in : (es : Flows) (first : ℕ) → AllByRecursion (λ (f : FlowRow). first ≤ f.last) (rows es) → EndFrom first es
-ends_in [] first all = tt
-ends_in (e ∷ es) first all = (all.0, ends_in es first all.1)
-
 -- none ends before an earlier time
 pub ends_earlier : (es : Flows) (first less : ℕ) → less ≤ first → EndFrom first es → EndFrom less es
 ends_earlier [] first less le all = tt
 ends_earlier (e ∷ es) first less le all = (omega (arith, all.0), ends_earlier es first less le all.1)
-
--- one entry more
-ends_next : (es : Flows) (k first : ℕ) (e : ℕ × Flow) → slice_get es k ≡ Some e → first ≤ e.1.last → EndFrom first (take k es) → EndFrom first (take (suc k) es)
-ends_next [] k first e at le all = absurd cc
-ends_next (x ∷ es) zero first e at le all = let same : x ≡ e = cc in (subst (λ (y : ℕ × Flow). first ≤ y.1.last) (sym same) le, tt)
-ends_next (x ∷ es) (suc k) first e at le all = (all.0, ends_next es k first e at le all.1)
-
-pub ends_more : (es : Flows) (k first : ℕ) (e : ℕ × Flow) → slice_get es k ≡ Some e → first ≤ e.1.last → EndFrom first (take k es) → EndFrom first (take (k + 1) es)
-ends_more es k first e at le all = rw add-one (ends_next es k first e at le all)
-
--- all of them
-pub ends_all : (es : Flows) (k first : ℕ) → slice_get es k ≡ None → EndFrom first (take k es) → EndFrom first es
-ends_all [] k first at all = tt
-ends_all (x ∷ es) zero first at all = absurd cc
-ends_all (x ∷ es) (suc k) first at all = (all.0, ends_all es k first at all.1)
-
-pub ends_whole : (es : Flows) (k first : ℕ) → length es ≤ k → EndFrom first (take k es) → EndFrom first es
-ends_whole [] k first le all = tt
-ends_whole (x ∷ es) zero first le all = absurd (omega (arith, le))
-ends_whole (x ∷ es) (suc k) first le all = (all.0, ends_whole es k first (omega (arith, le)) all.1)
-
-pub ends_take : (es : Flows) (k first : ℕ) → EndFrom first es → EndFrom first (take k es)
-ends_take [] zero first all = tt
-ends_take [] (suc k) first all = tt
-ends_take (x ∷ es) zero first all = tt
-ends_take (x ∷ es) (suc k) first all = (all.0, ends_take es k first all.1)
 
 -- after a flow is written that keeps its lease's end
 pub ends_written : (es fs : Flows) (sid first : ℕ) (write : Flow → Flow) → EndFrom first es → ((f : Flow) → (write f).last ≡ f.last)

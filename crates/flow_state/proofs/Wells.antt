@@ -2,7 +2,7 @@
 use Rattle.std.proofs.Common.{◌≡◌, ◌⊎◌, ℕ, suc, ◌+◌, ◌*◌, ◌<◌, ◌≤◌, Bool, true, false, cond, not, ◌||◌, ◌&&◌, List, [], ◌∷◌, ◌++◌, map, filter, length, Option, Some, None, refl, sym, ap, subst, ◌∙◌, arith, inl, inr, eqb, leb, ltb, length-append}
 use Rattle.std.specs.Option.{option_map_or}
 use Rattle.std.specs.Prelude.{unwrap_or}
-use Rattle.std.proofs.lemmas.Bool.{eqb-true, leb-true, and_parts, or_parts, not-false, not-true, leb-false, ltb-false}
+use Rattle.std.proofs.lemmas.Bool.{eqb-true, leb-true, and_parts, or_parts, not-false, leb-false, ltb-false}
 use Rattle.flow_state.specs.declared.channel.Channel.{Channel}
 use Rattle.flow_state.specs.declared.flow.FlowKind.{FlowKind}
 use Rattle.flow_state.specs.declared.flow.FlowKind.TheVariants.{BestEffort, Ugs, Poll}
@@ -13,7 +13,7 @@ use Rattle.flow_state.specs.Limits.{last_time, longest_interval, last_sid, most_
 use Rattle.flow_state.specs.Rows.{Table, FlowRow, Lease, is_flow, is_of, flow_of, lease_of, is_of_sid, is_leased, unicast_sids, free_sid, insert_flow, waits, is_ended, has_ended}
 use Rattle.flow_state.specs.Sound.{lease_in, IsLeasedFlow}
 use Rattle.flow_state.specs.Refusals.{table_flow_refusal, table_request_refusal, request_refusal_on, is_old, is_repeated}
-use Rattle.flow_state.specs.Changes.{new_table, new_flow, new_lease, add_to_table, flow_among, drop_in_table, request_in_table, close_table}
+use Rattle.flow_state.specs.Changes.{new_table, new_flow, new_lease, add_to_table, flow_among, drop_in_table, request_in_table}
 use Rattle.flow_state.proofs.Members.{Has, has_left, has_right, has_either, has_pushed, has_map, map_has, has_filter, filter_has, none_has, found_has, has_found, range_has, filter_empty}
 use Rattle.flow_state.proofs.Filters.{filter_append}
 use Rattle.flow_state.proofs.Assignments.{eqb_same, unwrap_some, free_is_free, leased, first_early, has_put, put_found, put_others, is_added, IsAdded}
@@ -440,18 +440,3 @@ flow_found t f r h =
 -- a request has ended with its flow
 pub ended_with : (t : Table) (end : ℕ) (w : Waiting) (f : FlowRow) → RisingFrom 1 t.flows → Has t.flows f → f.sid ≡ w.sid → has_ended t end w ≡ is_ended end f
 ended_with t end w f r h same = ap (λ (o : Option FlowRow). option_map_or (is_ended end) o false) (ap (flow_of t) (sym same) ∙ flow_found t f r h)
-
--- the next MAP is later, and no later than any command's time
-pub close_is_well : (t : Table) (end ack : ℕ) → t.row.next_start ≤ end → end ≤ last_time → ack ≤ end → IsWell t → IsWell (close_table t end ack)
-close_is_well t end ack later le acked w = record {
-  channel = w.channel;
-  next = le;
-  ack = acked;
-  flows = λ f h. w.flows f (has_filter (λ g. not (is_ended end g)) t.flows f h).0;
-  rising = rising_filter (λ g. not (is_ended end g)) 1 t.flows w.rising;
-  given = λ f h. let kept = has_filter (λ g. not (is_ended end g)) t.flows f h in let g = w.given f kept.0 in record { lease = g.lease; goes_on = ltb-false f.last end (not-true (is_ended end f) kept.1) };
-  leases = λ l h. let old = w.leases l h in let begun = old.begun in record { unicast = old.unicast; last = old.last; begun = omega arith; whole = old.whole; ended = old.ended };
-  requests = request_stays t (λ g. not (is_ended end g)) (λ v. not (has_ended t end v)) w (λ r f h same kept. ap not (sym (ended_with t end r f w.rising h same)) ∙ kept);
-  alone = one_waits t (λ g. not (is_ended end g)) (λ v. not (has_ended t end v)) w;
-  few = few_wait t (λ g. not (is_ended end g)) (λ v. not (has_ended t end v)) w;
-}

@@ -1,10 +1,11 @@
 -- The rows after each call that isn't refused.
-use Rattle.std.specs.Prelude.{ℕ, List, [], ◌∷◌, ◌++◌, filter, not, Bool, false, is_some, unwrap_or, Option, Some, None}
+use Rattle.std.specs.Prelude.{◌≡◌, ℕ, List, [], ◌∷◌, ◌++◌, map, filter, not, if◌then◌else◌, Bool, false, is_some, unwrap_or, Option, Some, None}
 use Rattle.std.specs.Option.{option_and_then, option_map_or}
 use Rattle.flow_state.specs.declared.channel.Channel.{Channel}
+use Rattle.flow_state.specs.declared.flow.Flow.{Flow}
 use Rattle.flow_state.specs.declared.flow.FlowKind.{FlowKind}
 use Rattle.flow_state.specs.declared.flow.Waiting.{Waiting}
-use Rattle.flow_state.specs.Limits.{due_index}
+use Rattle.flow_state.specs.Limits.{due_index, IsDueTime}
 use Rattle.flow_state.specs.Rows.{Rows, Table, FlowRow, Lease, table_of, change_table, flow_of, change_flow, is_flow, lease_of, free_sid, first_of, put_lease, insert_flow, is_ended, has_ended, without_request, waits}
 
 -- a channel as it is set: nothing given, its first MAP begins at its base
@@ -115,3 +116,22 @@ close_table t end ack = record {
 
 abbrev pub with_cut_closed : Rows → ℕ → ℕ → ℕ → Rows
 with_cut_closed rows ch end ack = change_table rows ch (λ t. close_table t end ack)
+
+-- the flow with the next due time that flows of its SID tell, the last of some
+abbrev pub told_due : List Flow → FlowRow → FlowRow
+told_due [] f = f
+told_due (s ∷ ss) f = told_due ss (if is_flow s.sid f then record f { index = due_index f.kind s.due } else f)
+
+abbrev pub told_in_table : Table → List Flow → Table
+told_in_table t served = record t { flows = map (told_due served) t.flows }
+
+-- what such a flow tells is one of the due times of the row of its SID
+abbrev pub TellsDue : Table → Flow → Type 0
+TellsDue t s = (f : FlowRow) → flow_of t s.sid ≡ Some f → IsDueTime f.kind s.due
+
+-- the table after a cut: these are the next due times, these requests wait, and then its MAPs are closed
+abbrev pub finish_table : Table → List Flow → List Waiting → (end ack : ℕ) → Table
+finish_table t served kept end ack = close_table (record t { flows = map (told_due served) t.flows; waiting = kept }) end ack
+
+abbrev pub with_cut_finished : Rows → ℕ → List Flow → List Waiting → (end ack : ℕ) → Rows
+with_cut_finished rows ch served kept end ack = change_table rows ch (λ t. finish_table t served kept end ack)

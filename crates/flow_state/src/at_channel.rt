@@ -2,6 +2,7 @@
 
 ghost use Rattle.std.specs.Prelude.{◌≡◌, [], ◌∷◌, ◌++◌, List, None, Some, nat_eq, is_some, false, IsOk, OnOk, IfOk, IfErr, IsTrue};
 ghost use Rattle.std.specs.Fn.{CalledAt};
+ghost use Rattle.std.specs.List.{AllByRecursion};
 ghost use Rattle.std.specs.List.Retain.{IsFiltered};
 ghost use Rattle.std.specs.Option.{option_map_or};
 ghost use Rattle.indexmap.specs.IndexMap.{get, IsUnique};
@@ -9,10 +10,10 @@ ghost use Rattle.flow_state.specs.Entries.{change_entry, on_entry, entry_refusal
 ghost use Rattle.flow_state.specs.Limits.{IsDueTime};
 ghost use Rattle.flow_state.specs.Rows.{Table, FlowRow, flow_of, lease_of, waits, without_request};
 ghost use Rattle.flow_state.specs.Refusals.{Refuses, table_flow_refusal, table_drop_refusal, table_request_refusal};
-ghost use Rattle.flow_state.specs.Changes.{new_table, lease_on, flow_in_table, drop_in_table, request_in_table, waiting_in_table, waiting_of, due_in_table, close_table};
+ghost use Rattle.flow_state.specs.Changes.{new_table, lease_on, flow_in_table, drop_in_table, request_in_table, waiting_in_table, waiting_of, due_in_table, close_table, TellsDue, told_in_table, finish_table};
 
 use crate::channel::Channel;
-use crate::flow::{FlowKind, Lease, Waiting};
+use crate::flow::{Flow, FlowKind, Lease, Waiting};
 use crate::refusal::Refusal;
 use crate::table::ChannelTable;
 use indexmap::IndexMap;
@@ -143,6 +144,43 @@ pub(crate) fn close_cut(tables: &mut IndexMap<u8, ChannelTable>, ch: u8, end: u6
 {
     match tables.get_mut(&ch) {
         Some(table) => {
+            table.close_cut(end, ack);
+            true
+        }
+        None => false,
+    }
+}
+
+/// Sets the next due times of flows.
+fn set_due_times(table: &mut ChannelTable, served: &[Flow])
+    requires { AllByRecursion (TellsDue table.old) served.now }
+    ensures { table.new ≡ told_in_table table.old served.now }
+{
+    for flow in served {
+        table.set_due(flow.sid, flow.due);
+    }
+}
+
+/// Sets the next due times of the channel's flows, keeps its waiting requests that are accepted, and sets the start of
+/// its next MAP and its Ack Time.
+pub(crate) fn finish_cut<F: FnMut(&Waiting) -> bool>(
+    tables: &mut IndexMap<u8, ChannelTable>,
+    ch: u8,
+    served: &[Flow],
+    keep: F,
+    end: u64,
+    ack: u64,
+) -> bool
+    requires callable { F.IsAlwaysCallable keep }
+    requires dues { (t : Table) → get nat_eq tables.old ch ≡ Some t → AllByRecursion (TellsDue t) served.now }
+    ensures found { result ≡ is_some (get nat_eq tables.old ch) }
+    ensures written { (kept : List Waiting) × IsFiltered (CalledAt F.FnMut) keep (waiting_of (get nat_eq tables.old ch)) kept × (tables.new.entries ≡ change_entry tables.old.entries ch (λ t. finish_table t served.now kept end ack)) }
+    ensures unique { IsUnique nat_eq tables.old → IsUnique nat_eq tables.new }
+{
+    match tables.get_mut(&ch) {
+        Some(table) => {
+            set_due_times(table, served);
+            table.keep_waiting(keep);
             table.close_cut(end, ack);
             true
         }

@@ -30,13 +30,14 @@ impl Model for Flows {
 impl Flows {
     ghost use Rattle.std.specs.Prelude.{◌≡◌, List, [], Some, is_some, IsTrue, IsOk, OnOk, IfOk, IfErr, IfSome, ◌<◌, ◌≤◌};
     ghost use Rattle.std.specs.Fn.{CalledAt};
+    ghost use Rattle.std.specs.List.{AllByRecursion};
     ghost use Rattle.std.specs.List.Retain.{IsFiltered};
     ghost use Rattle.std.specs.Option.{option_copied, option_map};
     ghost use Rattle.flow_state.specs.Limits.{IsDueTime, is_good_kind, last_sid, most_waiting};
     ghost use Rattle.flow_state.specs.Sound.{IsSound};
-    ghost use Rattle.flow_state.specs.Rows.{FlowRow, table_of, lent_flow, channel_at, flow_at, waiting_at};
+    ghost use Rattle.flow_state.specs.Rows.{FlowRow, Table, table_of, lent_flow, channel_at, flow_at, waiting_at};
     ghost use Rattle.flow_state.specs.Refusals.{Refuses, set_channel_refusal, add_flow_refusal, drop_flow_refusal, request_refusal};
-    ghost use Rattle.flow_state.specs.Changes.{with_channel, is_known, lease_given, with_flow, without_flow, with_request, is_waiting, without_waiting, with_waiting, waiting_of, flow_row, with_due, with_cut_closed};
+    ghost use Rattle.flow_state.specs.Changes.{with_channel, is_known, lease_given, with_flow, without_flow, with_request, is_waiting, without_waiting, with_waiting, waiting_of, flow_row, with_due, with_cut_closed, TellsDue, with_cut_finished};
 
     /// No channel is set.
     pub fn new(alloc: Global) -> Flows
@@ -184,5 +185,24 @@ impl Flows {
         ensures rows { self.new ≡ with_cut_closed self.old ch end ack }
     {
         at_channel::close_cut(&mut self.tables, ch, end, ack)
+    }
+
+    /// Finishes a cut of the channel: sets the next due times of flows, which are among their due times, keeps
+    /// those of the waiting requests that are accepted, by arrival, and then sets the start of the channel's next
+    /// MAP and its Ack Time, as `close_cut` does. False where there is no such channel. It takes no memory.
+    pub fn finish_cut<F: FnMut(&Waiting) -> bool>(
+        &mut self,
+        ch: u8,
+        served: &[Flow],
+        keep: F,
+        end: u64,
+        ack: u64,
+    ) -> bool
+        requires callable { F.IsAlwaysCallable keep }
+        requires dues { (t : Table) → table_of self.old ch ≡ Some t → AllByRecursion (TellsDue t) served.now }
+        ensures found { result ≡ is_some (table_of self.old ch) }
+        ensures rows { (kept : List Waiting) × IsFiltered (CalledAt F.FnMut) keep (waiting_of (table_of self.old ch)) kept × (self.new ≡ with_cut_finished self.old ch served.now kept end ack) }
+    {
+        at_channel::finish_cut(&mut self.tables, ch, served, keep, end, ack)
     }
 }

@@ -1,63 +1,47 @@
 -- The rows after a MAP is closed, and the elements of its body.
-use Rattle.std.proofs.Common.{◌≡◌, ℕ, ◌+◌, ◌<◌, ◌≤◌, Bool, true, false, cond, not, ◌&&◌, max, min, List, [], ◌∷◌, ◌++◌, map, filter, length, Option, Some, None, refl, sym, ap, subst, ◌∙◌, arith, inl, inr, eqb, leb, ltb, ◌^◌, Bor}
+use Rattle.std.proofs.Common.{◌≡◌, ℕ, ◌+◌, ◌<◌, ◌≤◌, Bool, true, false, cond, not, ◌&&◌, max, List, [], ◌∷◌, ◌++◌, map, filter, length, Option, Some, None, refl, sym, ap, subst, ◌∙◌, arith, inl, inr, eqb, leb, ltb, ◌^◌}
 use Rattle.std.specs.List.{find, list_any, filter_map, flat_map, range_with_len, AllByRecursion, AllZip}
-use Rattle.std.specs.Option.{option_map, option_and_then, option_map_or, option_copied, IsSome}
+use Rattle.std.specs.Option.{option_map_or}
 use Rattle.std.specs.Prelude.{IfSome}
 use Rattle.std.proofs.lemmas.Bool.{eqb-true, le-leb}
 use Rattle.minislot_time.specs.Extent.{Extent}
 use Rattle.map_body.specs.declared.element.Element.{Element}
-use Rattle.map_body.specs.Rules.{AreElements}
 use Rattle.map_body.specs.Layout.{layout}
-use Rattle.flow_state.specs.declared.refusal.Refusal.TheVariants.{NoChannel}
+use Rattle.flow_state.specs.declared.refusal.Refusal.TheVariants.{NoChannel, BadValue}
 use Rattle.grant_machine.specs.declared.command.Command.TheVariants as commands
 use Rattle.grant_machine.specs.declared.output.Output.TheVariants as outputs
 use Rattle.grant_machine.specs.Steps.{Step, step, step_on, cut_on, cut_step}
 use Rattle.flow_state.specs.declared.channel.Channel.{Channel}
-use Rattle.flow_state.specs.declared.channel.ChannelRow.{ChannelRow}
 use Rattle.flow_state.specs.declared.flow.Flow.{Flow}
 use Rattle.flow_state.specs.declared.flow.FlowKind.{FlowKind}
 use Rattle.flow_state.specs.declared.flow.Waiting.{Waiting}
-use Rattle.flow_state.specs.Limits.{last_time, most_minislots, due_index}
-use Rattle.flow_state.specs.Rows.{Rows, Table, FlowRow, is_table, table_of, change_table, is_flow, flow_of, channel_at, last_in, last_of, is_ended, has_ended}
-use Rattle.flow_state.specs.Changes.{with_due, waiting_of, waiting_in_table, with_cut_closed, close_table}
+use Rattle.flow_state.specs.Limits.{last_time, most_minislots, due_index, IsDueTime}
+use Rattle.flow_state.specs.Rows.{Rows, Table, FlowRow, is_table, table_of, change_table, is_flow, flow_of, last_in, last_of, is_ended, has_ended}
+use Rattle.flow_state.specs.Changes.{waiting_of, close_table, told_due, TellsDue, finish_table, with_cut_finished}
 use Rattle.grant_machine.specs.declared.cut.Draft.{Draft}
 use Rattle.grant_machine_parts.specs.declared.placing.Placement.{Placement}
-use Rattle.grant_machine_parts.specs.Cutting.{Filled, fill, fill_refusal, span_of, end_of, in_order, priority_of, still_waiting, is_grant_of, flows_left, requests_left, table_after, flows_served}
-use Rattle.grant_machine_parts.specs.Drawing.{begins_at, null_element, pending_element, elements_of, head_of, bytes_of}
+use Rattle.grant_machine_parts.specs.Cutting.{Filled, fill, fill_refusal, span_of, ack_of, end_of, in_order, priority_of, still_waiting, is_grant_of, flows_left, requests_left, table_after, flows_served}
+use Rattle.grant_machine_parts.specs.Drawing.{begins_at, null_element, pending_element, elements_of, head_of}
 use Rattle.grant_machine.specs.Runs.{IsReached}
-use Rattle.grant_machine_parts.specs.Lent.{IsUnicast}
-use Rattle.grant_machine.specs.CutRows.{IsOfKind, was_due, due_ones, due_times_set, requests_taken}
+use Rattle.grant_machine_parts.specs.Lent.{IsLent, IsUnicast}
+use Rattle.grant_machine.specs.CutRows.{IsReachedTable, was_due, due_ones, rows_closed}
 use Rattle.grant_machine_parts.specs.Ranks.{requests_in, going_on, IsOfLast}
 use Rattle.grant_machine_parts.specs.declared.waiting.Ranked.{Ranked}
 use Rattle.grant_machine.specs.Plans.{IsFilledBy, elements_in}
-use Rattle.flow_state.proofs.Callers.{changed, find_changed, some_is, same_id, KeepsId}
+use Rattle.flow_state.proofs.Callers.{some_is}
 use Rattle.flow_state.proofs.Callers.{eqb_same}
 use Rattle.flow_state.proofs.Callers.{filter_append}
-use Rattle.flow_state.proofs.Callers.{Has, map_has, all_has, found_has, has_filter}
+use Rattle.flow_state.proofs.Callers.{Has, map_has, all_has, has_all, found_has, has_filter}
 use Rattle.flow_state.proofs.Callers.{IsWell, RisingFrom, one_flow}
 use Rattle.flow_state.specs.View.{flow_view}
 use Rattle.grant_machine_parts.proofs.Callers.{Moves, fill_moves, served_from, is_cut}
 use Rattle.grant_machine.proofs.Reached.{reached_is_well}
 use Rattle.grant_machine.proofs.Standing.{Apart, reached_apart}
-use Rattle.grant_machine.proofs.Lending.{due_set}
+use Rattle.flow_state.proofs.Callers.{due_set, told_after}
 use Rattle.grant_machine.proofs.Settling.{Stays, stays_served, unicast}
-use Rattle.grant_machine_parts.proofs.Callers.{cut_elements, cut_few}
+use Rattle.grant_machine_parts.proofs.Callers.{cut_few}
 
 -- ---- changes of one channel's table
-
-change_none : (rows : Rows) (ch : ℕ) → change_table rows ch (λ t. t) ≡ rows
-change_none [] ch = refl
-change_none (t ∷ rows) ch = elim (is_table ch t) as (λ b. cond b t t ∷ change_table rows ch (λ u. u) ≡ t ∷ rows) [ true ↦ ap (λ (r : Rows). t ∷ r) (change_none rows ch) | false ↦ ap (λ (r : Rows). t ∷ r) (change_none rows ch) ]
-
-change_twice : (rows : Rows) (ch : ℕ) (first second : Table → Table) → KeepsId first → change_table (change_table rows ch first) ch second ≡ change_table rows ch (λ t. second (first t))
-change_twice [] ch first second ids = refl
-change_twice (t ∷ rows) ch first second ids =
-    let same : is_table ch (changed ch first t) ≡ is_table ch t = ap (λ i. eqb i ch) (same_id ch first t ids) in
-    let one : cond (is_table ch t) (second (changed ch first t)) (changed ch first t) ≡ cond (is_table ch t) (second (first t)) t =
-    elim (is_table ch t) as (λ b. cond b (second (cond b (first t) t)) (cond b (first t) t) ≡ cond b (second (first t)) t) [ true ↦ refl | false ↦ refl ] in
-    ap (λ b. cond b (second (changed ch first t)) (changed ch first t) ∷ change_table (change_table rows ch first) ch second) same
-    ∙ ap (λ (u : Table). u ∷ change_table (change_table rows ch first) ch second) one
-    ∙ ap (λ (r : Rows). cond (is_table ch t) (second (first t)) t ∷ r) (change_twice rows ch first second ids)
 
 change_absent : (rows : Rows) (ch : ℕ) (change : Table → Table) → table_of rows ch ≡ None → change_table rows ch change ≡ rows
 change_absent [] ch change e = refl
@@ -82,11 +66,14 @@ abbrev set_flows : List Flow → List FlowRow → List FlowRow
 set_flows [] fs = fs
 set_flows (s ∷ ss) fs = set_flows ss (map (due_set s.sid s.due) fs)
 
-dues_are : (rows : Rows) (ch : ℕ) (ss : List Flow) → due_times_set rows ch ss ≡ change_table rows ch (λ t. record t { flows = set_flows ss t.flows })
-dues_are rows ch [] = sym (change_none rows ch)
-dues_are rows ch (s ∷ ss) =
-    dues_are (with_due rows ch s.sid s.due) ch ss
-    ∙ change_twice rows ch (λ t. record t { flows = map (due_set s.sid s.due) t.flows }) (λ t. record t { flows = set_flows ss t.flows }) (λ t. refl)
+-- what is told flow by flow is set list by list
+told_none : (fs : List FlowRow) → map (told_due []) fs ≡ fs
+told_none [] = refl
+told_none (f ∷ fs) = ap (λ (gs : List FlowRow). f ∷ gs) (told_none fs)
+
+told_are : (ss : List Flow) (fs : List FlowRow) → map (told_due ss) fs ≡ set_flows ss fs
+told_are [] fs = told_none fs
+told_are (s ∷ ss) fs = told_after s ss fs ∙ told_are ss (map (due_set s.sid s.due) fs)
 
 -- a flow of which another due time is next
 abbrev IsMoved : FlowRow → FlowRow → Type 0
@@ -213,40 +200,9 @@ filter_same p q (u ∷ us) same =
 
 -- ---- a MAP that is closed
 
--- the channel's table, by its row
-pub record IsThere (rows : Rows) (ch : ℕ) (row : ChannelRow) : Type 0 where
-  pub table : Table
-  pub found : table_of rows ch ≡ Some table
-  pub row_is : table.row ≡ row
-
-pub is_there : (rows : Rows) (ch : ℕ) (row : ChannelRow) → channel_at rows ch ≡ Some row → IsThere rows ch row
-is_there rows ch row e = by (table_of rows ch) refl e
-  where
-    by : (o : Option Table) → table_of rows ch ≡ o → option_map (λ t. t.row) o ≡ Some row → IsThere rows ch row
-    by (Some t) f g = record { table = t; found = f; row_is = let same : t.row ≡ row = cc in same }
-    by None f g = absurd cc
-
-pub row_of_table : (rows : Rows) (ch : ℕ) (row : ChannelRow) (t : Table) → channel_at rows ch ≡ Some row → table_of rows ch ≡ Some t → t.row ≡ row
-row_of_table rows ch row t e f = let there : Some t.row ≡ Some row = sym (ap (λ o. option_map (λ u. u.row) o) f) ∙ e in cc
-
 -- the next MAP's times are early
-pub next_early : (rows : Rows) (ch : ℕ) (row : ChannelRow) → IsReached rows → channel_at rows ch ≡ Some row → (row.next_start ≤ last_time) × (row.ack ≤ last_time)
-next_early rows ch row r e =
-    let there = is_there rows ch row e in
-    let well = reached_is_well rows r ch there.table there.found in
-    let next = well.next in
-    let ack = well.ack in
-    let same_next : there.table.row.next_start ≡ row.next_start = ap (λ (x : ChannelRow). x.next_start) there.row_is in
-    let same_ack : there.table.row.ack ≡ row.ack = ap (λ (x : ChannelRow). x.ack) there.row_is in
-    (omega arith, omega arith)
-
-pub cut_early : (rows : Rows) (ch : ℕ) (row : ChannelRow) (len not_before ack : ℕ) → channel_at rows ch ≡ Some row → fill_refusal row len not_before ack ≡ None → (len ≤ most_minislots) × (max row.next_start not_before + len ≤ last_time)
-cut_early rows ch row len not_before ack e ok =
-    let there = is_there rows ch row e in
-    let cut = is_cut there.table len not_before ack (ap (λ (x : ChannelRow). fill_refusal x len not_before ack) there.row_is ∙ ok) in
-    let same : there.table.row.next_start ≡ row.next_start = ap (λ (x : ChannelRow). x.next_start) there.row_is in
-    let end = cut.end in
-    (cut.most, subst (λ n. max n not_before + len ≤ last_time) same end)
+pub table_early : (t : Table) → IsReachedTable t → (t.row.next_start ≤ last_time) × (t.row.ack ≤ last_time)
+table_early t r = let well = reached_is_well r.rows r.reached r.channel t r.found in let next = well.next in let ack = well.ack in (omega arith, omega arith)
 
 moved_rows : (t : Table) (span : Extent) → end_of span ≤ last_time → AllZip IsMoved t.flows (flows_served t span)
 moved_rows t span le = let twice = fill_moves t span le in moved_twice t.flows twice.between (flows_served t span) twice.first twice.second
@@ -279,30 +235,16 @@ module _ (rows : Rows) (ch : ℕ) (t : Table) (len not_before ack : ℕ) (x : Dr
   ended : end_of (span_of t.row len not_before) ≤ last_time
   ended = (is_cut t len not_before ack ok).end
 
-  placed : x.filling.placements ≡ filled.placements
-  placed = by.placements filled.ack
-
-  rows_set : set_flows x.flows.items t.flows ≡ flows_served t span
-  rows_set = all_set (was_due t (end_of span)) (λ f i. refl) 1 t.flows (flows_served t span) x.flows.items well.rising (moved_rows t span ended) (stays_served t span well) (sym by.flows)
-
-  abbrev set_all : Table → Table
-  set_all u = record u { flows = set_flows x.flows.items u.flows }
+  rows_told : map (told_due x.flows.items) t.flows ≡ flows_served t span
+  rows_told =
+      told_are x.flows.items t.flows
+      ∙ all_set (was_due t (end_of span)) (λ f i. refl) 1 t.flows (flows_served t span) x.flows.items well.rising (moved_rows t span ended) (stays_served t span well) (sym by.flows)
 
   abbrev waits_on : List Waiting
   waits_on = still_waiting filled.placements t.waiting
 
-  abbrev take_granted : Table → Table
-  take_granted u = waiting_in_table u waits_on
-
-  -- the due times leave the requests that wait
-  still_there : waiting_of (table_of (due_times_set rows ch x.flows.items) ch) ≡ t.waiting
-  still_there =
-      ap (λ (r : Rows). waiting_of (table_of r ch)) (dues_are rows ch x.flows.items)
-      ∙ ap waiting_of (find_changed rows ch ch set_all t (λ u. refl) found)
-      ∙ elim (is_table ch t) as (λ b. (cond b (set_all t) t).waiting ≡ t.waiting) [ true ↦ refl | false ↦ refl ]
-
-  requests_kept : still_waiting x.filling.placements (waiting_of (table_of (due_times_set rows ch x.flows.items) ch)) ≡ waits_on
-  requests_kept = ap (λ (ws : List Waiting). still_waiting x.filling.placements ws) still_there ∙ ap (λ (ps : List Placement). still_waiting ps t.waiting) placed
+  requests_kept : still_waiting x.filling.placements (waiting_of (table_of rows ch)) ≡ waits_on
+  requests_kept = ap (λ (o : Option Table). still_waiting x.filling.placements (waiting_of o)) found ∙ ap (λ (ps : List Placement). still_waiting ps t.waiting) (by.placements filled.ack)
 
   -- what closing takes out is what ends with the MAP
   closed_is : after_of t (end_of span) filled.ack (flows_served t span) waits_on ≡ table_after t filled
@@ -311,31 +253,25 @@ module _ (rows : Rows) (ch : ℕ) (t : Table) (len not_before ack : ℕ) (x : Dr
       (filter_same (λ w. not (has_ended (record t { flows = flows_served t span; waiting = waits_on }) (end_of span) w)) (λ w. not (has_ended t (end_of span) w)) waits_on
       (λ w h. ap not (ended_same (end_of span) w.sid t.flows (flows_served t span) (moved_rows t span ended))))
 
-  pub rows_closed : (a : ℕ) → a ≡ filled.ack
-      → with_cut_closed (requests_taken (due_times_set rows ch x.flows.items) ch x.filling.placements) ch (end_of x.filling.span) a ≡ change_table rows ch (λ u. table_after u filled)
-  rows_closed a same =
-      let close : Table → Table = λ u. close_table u (end_of x.filling.span) a in
-      ap (λ (ws : List Waiting). change_table (change_table (due_times_set rows ch x.flows.items) ch (λ u. waiting_in_table u ws)) ch close) requests_kept
-      ∙ ap (λ (r : Rows). change_table (change_table r ch take_granted) ch close) (dues_are rows ch x.flows.items)
-      ∙ ap (λ (r : Rows). change_table r ch close) (change_twice rows ch set_all take_granted (λ u. refl))
-      ∙ change_twice rows ch (λ u. take_granted (set_all u)) close (λ u. refl)
-      ∙ change_at rows ch t (λ u. close (take_granted (set_all u))) (λ u. table_after u filled) (reached_apart rows reached) found
-      (ap (λ (s : Extent). after_of t (end_of s) a (set_flows x.flows.items t.flows) waits_on) by.span_is
-      ∙ ap (λ n. after_of t (end_of span) n (set_flows x.flows.items t.flows) waits_on) same
-      ∙ ap (λ (fs : List FlowRow). after_of t (end_of span) filled.ack fs waits_on) rows_set
+  pub closed_rows : rows_closed rows ch x.flows.items x.filling.placements (end_of x.filling.span) filled.ack ≡ change_table rows ch (λ u. table_after u filled)
+  closed_rows =
+      ap (λ (ws : List Waiting). with_cut_finished rows ch x.flows.items ws (end_of x.filling.span) filled.ack) requests_kept
+      ∙ change_at rows ch t (λ u. finish_table u x.flows.items waits_on (end_of x.filling.span) filled.ack) (λ u. table_after u filled) (reached_apart rows reached) found
+      (ap (λ (s : Extent). after_of t (end_of s) filled.ack (map (told_due x.flows.items) t.flows) waits_on) by.span_is
+      ∙ ap (λ (fs : List FlowRow). after_of t (end_of span) filled.ack fs waits_on) rows_told
       ∙ closed_is)
 
-  -- the flows' kinds are those of the rows
-  pub kinds_are : AllByRecursion (IsOfKind rows ch) x.flows.items
-  kinds_are = all_has (IsOfKind rows ch) x.flows.items (λ f h row e.
+  -- the flows tell due times of the table's
+  pub all_tell : AllByRecursion (TellsDue t) x.flows.items
+  all_tell = all_has (TellsDue t) x.flows.items (λ f h row at.
       let kept : Has (due_ones t (end_of span) (flows_served t span)) (flow_view f) = subst (λ (gs : List FlowRow). Has gs (flow_view f)) by.flows (map_has flow_view x.flows.items f h) in
       let there : Has (flows_served t span) (flow_view f) = (has_filter (was_due t (end_of span)) (flows_served t span) (flow_view f) kept).0 in
       let from = served_from t (flows_served t span) (flow_view f) (fill_moves t span ended) there in
-      let at : flow_of t f.sid ≡ Some row = sym (ap (λ o. option_and_then (λ u. flow_of u f.sid) o) found) ∙ e in
       let has = found_has (is_flow f.sid) t.flows row at in
       let sid : row.sid ≡ from.0.sid = eqb-true _ _ has.1 ∙ from.2.sid in
       let same : row ≡ from.0 = one_flow 1 t.flows row from.0 well.rising has.0 from.1 sid in
-      ap (λ (g : FlowRow). g.kind) same ∙ sym from.2.kind)
+      let kind : f.kind ≡ row.kind = from.2.kind ∙ ap (λ (g : FlowRow). g.kind) (sym same) in
+      subst (λ (k : FlowKind). IsDueTime k f.due) kind (due_index f.kind f.due, (has_all IsLent x.flows.items f by.lent h).due))
 
 -- ---- the elements of its body
 
@@ -402,87 +338,57 @@ elements_are t len not_before ack x c le same by =
 
 -- ---- a cut that isn't refused
 
--- the table that a MAP was filled for
-pub record IsMade (rows : Rows) (ch : ℕ) (row : ChannelRow) (len not_before ack : ℕ) (x : Draft) : Type 0 where
-  pub table : Table
-  pub found : table_of rows ch ≡ Some table
-  pub row_is : table.row ≡ row
-  pub good : fill_refusal table.row len not_before ack ≡ None
-  pub by : IsFilledBy table (span_of table.row len not_before) x
+-- a MAP may begin where it does, with the Ack Time that it has
+pub good_again : (t : Table) (len not_before ack : ℕ) → IsReachedTable t → fill_refusal t.row len not_before ack ≡ None
+    → fill_refusal t.row len (max t.row.next_start not_before) (ack_of t.row ack (max t.row.next_start not_before)) ≡ None
+good_again t len not_before ack r ok =
+    let cut = is_cut t len not_before ack ok in
+    let early = table_early t r in
+    let some = cut.some in
+    let most = cut.most in
+    let end = cut.end in
+    within _ _ _ _ _ (le-leb 1 len some) (le-leb len most_minislots most) (le-leb (max t.row.next_start not_before) last_time (omega (arith, end)))
+    (le-leb (ack_of t.row ack (max t.row.next_start not_before)) last_time (omega (arith, early.0, early.1, end)))
+    (le-leb (max t.row.next_start (max t.row.next_start not_before) + len) last_time (omega (arith, end)))
+  where
+    within : (a b c d e : Bool) → a ≡ true → b ≡ true → c ≡ true → d ≡ true → e ≡ true → cond (a && b && c && d && e) None (Some BadValue) ≡ None
+    within a b c d e pa pb pc pd pe = rw (pa, pb, pc, pd, pe) refl
 
-pub is_made : (rows : Rows) (ch : ℕ) (row : ChannelRow) (len not_before ack start : ℕ) (x : Draft) → channel_at rows ch ≡ Some row → fill_refusal row len not_before ack ≡ None → start ≡ max row.next_start not_before
-    → ((t : Table) → table_of rows ch ≡ Some t → IsFilledBy t (record { start = start; len = len }) x) → IsMade rows ch row len not_before ack x
-is_made rows ch row len not_before ack start x there ok begun by =
-    let at = is_there rows ch row there in
-    let span : record { start = start; len = len } ≡ span_of at.table.row len not_before =
-    ap (λ n. record { start = n; len = len }) (begun ∙ ap (λ (r : ChannelRow). max r.next_start not_before) (sym at.row_is)) in
-    record {
-      table = at.table;
-      found = at.found;
-      row_is = at.row_is;
-      good = ap (λ (r : ChannelRow). fill_refusal r len not_before ack) at.row_is ∙ ok;
-      by = subst (λ (s : Extent). IsFilledBy at.table s x) span (by at.table at.found);
-    }
+-- a MAP that begins no earlier than it may is filled from its own beginning
+pub filled_again : (t : Table) (len start : ℕ) (x : Draft) → t.row.next_start ≤ start → IsFilledBy t (record { start = start; len = len }) x → IsFilledBy t (span_of t.row len start) x
+filled_again t len start x begun by = subst (λ n. IsFilledBy t (record { start = n; len = len }) x) (let same : start ≡ max t.row.next_start start = omega (arith, begun) in same) by
 
--- the same of the table itself
-pub made_of : (rows : Rows) (ch : ℕ) (row : ChannelRow) (len not_before ack start : ℕ) (x : Draft) (t : Table) → channel_at rows ch ≡ Some row → fill_refusal row len not_before ack ≡ None → start ≡ max row.next_start not_before
-    → table_of rows ch ≡ Some t → IsFilledBy t (record { start = start; len = len }) x → IsMade rows ch row len not_before ack x
-made_of rows ch row len not_before ack start x t there ok begun found by =
-    is_made rows ch row len not_before ack start x there ok begun
-    (λ u e. let same : t ≡ u = (let two : Some t ≡ Some u = sym found ∙ e in cc) in subst (λ (v : Table). IsFilledBy v (record { start = start; len = len }) x) same by)
-
--- what is lent of a table that is there
-pub lent_some : {X : Type 0} (o : Option (Bor X)) (p : Option X) (x : X) → option_copied o ≡ p → p ≡ Some x → IsSome o
-lent_some (Some b) p x e f = refl
-lent_some None p x e f = absurd (let two : None ≡ Some x = e ∙ f in cc)
-
-module _ (rows : Rows) (ch : ℕ) (row : ChannelRow) (len not_before ack : ℕ) (x : Draft) (reached : IsReached rows) (m : IsMade rows ch row len not_before ack x) where
+module _ (t : Table) (len not_before ack : ℕ) (x : Draft) (r : IsReachedTable t) (ok : fill_refusal t.row len not_before ack ≡ None) (by : IsFilledBy t (span_of t.row len not_before) x) where
   abbrev made : Filled
-  made = fill m.table len not_before ack
+  made = fill t len not_before ack
 
-  well_table : IsWell m.table
-  well_table = reached_is_well rows reached ch m.table m.found
+  well_table : IsWell t
+  well_table = reached_is_well r.rows r.reached r.channel t r.found
 
-  drawn_are : elements_in row.channel x ≡ elements_of m.table made
-  drawn_are = elements_are m.table len not_before ack x row.channel (is_cut m.table len not_before ack m.good).end (ap (λ (r : ChannelRow). r.channel) m.row_is) m.by
+  drawn_are : elements_in t.row.channel x ≡ elements_of t made
+  drawn_are = elements_are t len not_before ack x t.row.channel (is_cut t len not_before ack ok).end refl by
 
   pub made_unicast : AllByRecursion IsUnicast x.ranked.items
-  made_unicast = unicast m.table well_table x.ranked.items m.by.requests
+  made_unicast = unicast t well_table x.ranked.items by.requests
 
-  pub made_sound : AreElements (elements_in row.channel x)
-  made_sound = subst AreElements (sym drawn_are) (cut_elements m.table len not_before ack well_table m.good)
+  pub made_few : length (elements_in t.row.channel x) ≤ 255
+  made_few = let few = cut_few t len not_before ack well_table ok in let same : length (elements_in t.row.channel x) ≡ length (elements_of t made) = ap length drawn_are in omega arith
 
-  pub made_few : length (elements_in row.channel x) ≤ 255
-  made_few = let few = cut_few m.table len not_before ack well_table m.good in let same : length (elements_in row.channel x) ≡ length (elements_of m.table made) = ap length drawn_are in omega arith
+  pub made_tell : AllByRecursion (TellsDue t) x.flows.items
+  made_tell = all_tell r.rows r.channel t len not_before ack x r.reached r.found ok by
 
-  pub made_kinds : AllByRecursion (IsOfKind rows ch) x.flows.items
-  made_kinds = kinds_are rows ch m.table len not_before ack x reached m.found m.good m.by
-
-  step_is : step rows (commands.Cut ch len not_before ack) ≡ cut_step rows ch m.table made
+  step_is : step r.rows (commands.Cut r.channel len not_before ack) ≡ cut_step r.rows r.channel t made
   step_is =
-      ap (λ o. step_on (option_map_or (λ t. fill_refusal t.row len not_before ack) o (Some NoChannel)) rows (commands.Cut ch len not_before ack)) m.found
-      ∙ ap (λ o. step_on o rows (commands.Cut ch len not_before ack)) m.good
-      ∙ ap (λ o. cut_on o rows ch len not_before ack) m.found
+      ap (λ o. step_on (option_map_or (λ u. fill_refusal u.row len not_before ack) o (Some NoChannel)) r.rows (commands.Cut r.channel len not_before ack)) r.found
+      ∙ ap (λ o. step_on o r.rows (commands.Cut r.channel len not_before ack)) ok
+      ∙ ap (λ o. cut_on o r.rows r.channel len not_before ack) r.found
 
-  ack_is : (start a : ℕ) → start ≡ max row.next_start not_before → a ≡ max row.ack (min ack start) → a ≡ made.ack
-  ack_is start a begun is =
-      is ∙ ap (λ n. max row.ack (min ack n)) begun ∙ ap (λ (r : ChannelRow). max r.ack (min ack (max r.next_start not_before))) (sym m.row_is)
+  pub made_rows : rows_closed r.rows r.channel x.flows.items x.filling.placements (end_of x.filling.span) made.ack ≡ (step r.rows (commands.Cut r.channel len not_before ack)).rows
+  made_rows = closed_rows r.rows r.channel t len not_before ack x r.reached r.found ok by ∙ ap (λ (s : Step). s.rows) (sym step_is)
 
-  pub made_rows : (start a : ℕ) → start ≡ max row.next_start not_before → a ≡ max row.ack (min ack start)
-      → with_cut_closed (requests_taken (due_times_set rows ch x.flows.items) ch x.filling.placements) ch (end_of x.filling.span) a ≡ (step rows (commands.Cut ch len not_before ack)).rows
-  made_rows start a begun is = rows_closed rows ch m.table len not_before ack x reached m.found m.good m.by a (ack_is start a begun is) ∙ ap (λ (s : Step). s.rows) (sym step_is)
-
-  pub made_output : (start a : ℕ) (bytes : List ℕ) → start ≡ max row.next_start not_before → a ≡ max row.ack (min ack start) → bytes ≡ layout (head_of row.channel start a) (elements_in row.channel x) 0
-      → outputs.Map ch start len bytes ≡ (step rows (commands.Cut ch len not_before ack)).output
-  made_output start a bytes begun is spelled =
-      let start_is : start ≡ made.span.start = begun ∙ ap (λ (r : ChannelRow). max r.next_start not_before) (sym m.row_is) in
-      let bytes_are : bytes ≡ bytes_of m.table made =
-      spelled
-      ∙ ap (λ (c : Channel). layout (head_of c start a) (elements_in row.channel x) 0) (sym (ap (λ (r : ChannelRow). r.channel) m.row_is))
-      ∙ ap (λ n. layout (head_of m.table.row.channel n a) (elements_in row.channel x) 0) start_is
-      ∙ ap (λ n. layout (head_of m.table.row.channel made.span.start n) (elements_in row.channel x) 0) (ack_is start a begun is)
-      ∙ ap (λ (es : List Element). layout (head_of m.table.row.channel made.span.start made.ack) es 0) drawn_are in
-      ap (λ n. outputs.Map ch n len bytes) start_is ∙ ap (outputs.Map ch made.span.start len) bytes_are ∙ ap (λ (s : Step). s.output) (sym step_is)
+  pub made_output : outputs.Map r.channel made.span.start len (layout (head_of t.row.channel made.span.start made.ack) (elements_in t.row.channel x) 0) ≡ (step r.rows (commands.Cut r.channel len not_before ack)).output
+  made_output =
+      ap (λ (es : List Element). outputs.Map r.channel made.span.start len (layout (head_of t.row.channel made.span.start made.ack) es 0)) drawn_are ∙ ap (λ (s : Step). s.output) (sym step_is)
 
 -- a time is what it was made of
 pub slot_is : (o : Option ℕ) (s n : ℕ) → o ≡ Some s → IfSome o (λ t. (t ≡ n) × (n < 2 ^ 63)) → s ≡ n

@@ -9,7 +9,6 @@ pub mod Maps
 pub mod Leases
 pub mod Due
 pub mod Added
-pub mod Lending
 pub mod Standing
 pub mod Settling
 pub mod Closing

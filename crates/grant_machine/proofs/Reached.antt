@@ -185,6 +185,3 @@ fit_step rows c fits w ch = at_step FitsTable (channel_kept FitsChannel) rows c 
 pub fit_rows : (rows : Rows) (cs : List Command) → AllByRecursion FitsCommand cs → AllFit rows → AllFit (rows_from rows cs)
 fit_rows rows [] fits w = w
 fit_rows rows (c ∷ cs) fits w = fit_rows (step rows c).rows cs fits.1 (fit_step rows c fits.0 w)
-
-pub reached_fits : (rows : Rows) → IsReached rows → AllFit rows
-reached_fits rows r = subst AllFit r.2 (fit_rows [] r.0 r.1 none_fit)

@@ -1,12 +1,12 @@
 -- What a cut reads of the rows and writes back.
-use Rattle.std.specs.Prelude.{◌≡◌, ℕ, Bool, false, List, [], ◌∷◌, map, Some}
+use Rattle.std.specs.Prelude.{◌≡◌, ℕ, Bool, false, List, map, Some}
 use Rattle.std.specs.List.{AllByRecursion, filter}
 use Rattle.std.specs.Option.{option_map_or}
 use Rattle.flow_state.specs.declared.channel.Channel.{Channel}
 use Rattle.flow_state.specs.declared.flow.Flow.{Flow}
 use Rattle.flow_state.specs.declared.flow.Waiting.{Waiting}
 use Rattle.flow_state.specs.Rows.{Rows, Table, FlowRow, table_of, flow_of, is_due, last_of}
-use Rattle.flow_state.specs.Changes.{with_due, with_waiting, waiting_of, flow_row}
+use Rattle.flow_state.specs.Changes.{waiting_of, with_cut_finished}
 use Rattle.flow_state.specs.View.{flow_view}
 use Rattle.grant_machine_parts.specs.Cutting.{priority_of, in_order, still_waiting}
 use Rattle.grant_machine_parts.specs.declared.waiting.Ranked.{Ranked}
@@ -25,18 +25,9 @@ due_ones t end fs = filter (was_due t end) fs
 abbrev pub rank_in : Table → Waiting → Ranked
 rank_in t w = record { priority = priority_of t w; last = last_of t w.sid; request = w }
 
--- the rows after the due times of flows are set, one after another
-abbrev pub due_times_set : Rows → ℕ → List Flow → Rows
-due_times_set rows ch [] = rows
-due_times_set rows ch (f ∷ fs) = due_times_set (with_due rows ch f.sid f.due) ch fs
-
--- the rows after the requests that are granted are taken out
-abbrev pub requests_taken : Rows → ℕ → List Placement → Rows
-requests_taken rows ch ps = with_waiting rows ch (still_waiting ps (waiting_of (table_of rows ch)))
-
--- what is known of a flow of this SID in the rows is of this kind
-abbrev pub IsOfKind : Rows → ℕ → Flow → Type 0
-IsOfKind rows ch f = (row : FlowRow) → flow_row rows ch f.sid ≡ Some row → row.kind ≡ f.kind
+-- the rows after a cut: the flows' next due times are set, the requests that are granted are taken out, and then the MAP is closed
+abbrev pub rows_closed : Rows → ℕ → List Flow → List Placement → (end ack : ℕ) → Rows
+rows_closed rows ch served ps end ack = with_cut_finished rows ch served (still_waiting ps (waiting_of (table_of rows ch))) end ack
 
 -- the table is a channel's that some commands leave
 pub record IsReachedTable (t : Table) : Type 0 where

@@ -1,24 +1,24 @@
 //! A cut: a channel's next MAP.
 
-ghost use Rattle.std.specs.Prelude.{◌≡◌, ℕ, ◌+◌, ◌≤◌, [], Some, None, length, map, is_none, IsOk, IsSome, IfOk, OnOk, OnErr};
+ghost use Rattle.std.specs.Prelude.{◌≡◌, ℕ, ◌+◌, ◌≤◌, [], None, length, map, max, is_none, IsOk, IsSome, IfOk, OnOk, OnErr};
 ghost use Rattle.std.specs.List.{AllByRecursion};
 ghost use Rattle.map_body.specs.Layout.{layout};
 ghost use Rattle.flow_state.specs.Limits.{last_time, most_minislots};
-ghost use Rattle.flow_state.specs.Rows.{Table, channel_at};
-ghost use Rattle.flow_state.specs.Changes.{with_cut_closed};
+ghost use Rattle.flow_state.specs.Rows.{Table};
 ghost use Rattle.flow_state.specs.View.{flow_view};
 ghost use Rattle.grant_machine.specs.declared.command.Command.TheVariants as commands;
-ghost use Rattle.grant_machine_parts.specs.Cutting.{fill_span, fill_refusal, end_of, flows_served};
+ghost use Rattle.grant_machine.specs.declared.output.Output.TheVariants as outputs;
+ghost use Rattle.grant_machine_parts.specs.Cutting.{fill_span, fill_refusal, end_of, ack_of, flows_served};
 ghost use Rattle.grant_machine_parts.specs.Drawing.{head_of};
 ghost use Rattle.grant_machine.specs.Steps.{step, refusal_of};
 ghost use Rattle.grant_machine.specs.Fits.{FitsCommand};
 ghost use Rattle.grant_machine.specs.Runs.{IsReached};
 ghost use Rattle.grant_machine_parts.specs.Lent.{IsLent, IsUnicast};
-ghost use Rattle.grant_machine.specs.CutRows.{IsOfTable, IsOfKind, IsReachedTable, due_ones, due_times_set, requests_taken};
+ghost use Rattle.grant_machine.specs.CutRows.{IsOfTable, IsReachedTable, due_ones};
 ghost use Rattle.grant_machine.specs.Plans.{IsFilledBy, elements_in};
 
 use crate::output::{MapBytes, Output};
-use crate::rows::{rank_requests, set_due_times, take_granted};
+use crate::rows::{close, rank_requests};
 use flow_state::{
     Channel, ChannelRow, ChannelTable, Flow, Flows, LAST_TIME, MOST_MINISLOTS, Refusal,
 };
@@ -60,17 +60,24 @@ impl Desk {
     }
 }
 
+/// Where a channel's next MAP begins.
+fn start_of(row: &ChannelRow, not_before: u64) -> u64
+    ensures { result ≡ max row.now.next_start not_before }
+{
+    row.next_start.max(not_before)
+}
+
 /// May a channel's next MAP have this length, start and Ack Time?
 fn is_within_limits(row: &ChannelRow, len: u16, not_before: u64, ack: u64) -> bool
     requires { row.now.next_start ≤ last_time }
     ensures { result ≡ is_none (fill_refusal row.now len not_before ack) }
 {
-    let from = row.next_start.max(not_before);
+    let start = start_of(row, not_before);
     1 <= len
         && len <= MOST_MINISLOTS
         && not_before <= LAST_TIME
         && ack <= LAST_TIME
-        && from + u64::from(len) <= LAST_TIME
+        && start + u64::from(len) <= LAST_TIME
 }
 
 /// Places unsolicited grants, then polls, then requests in their order, each within its flow's lease.
@@ -121,18 +128,6 @@ fn fill(
     Ok(())
 }
 
-/// Sets the due times, takes the granted requests out, and closes the MAP: flows whose leases end before its end are gone, with
-/// their requests. It takes no memory.
-fn close(flows: &mut Flows, ch: u8, filled: &Draft, ack: u64)
-    requires lent { AllByRecursion IsLent filled.now.flows.items }
-    requires kinds { AllByRecursion (IsOfKind flows.old ch) filled.now.flows.items }
-    ensures { flows.new ≡ with_cut_closed (requests_taken (due_times_set flows.old ch filled.now.flows.items) ch filled.now.filling.placements) ch (end_of filled.now.filling.span) ack }
-{
-    set_due_times(flows, ch, &filled.flows);
-    take_granted(flows, ch, filled.filling.placements());
-    flows.close_cut(ch, filled.filling.end(), ack);
-}
-
 /// The bytes of a filled MAP's body.
 fn draw(
     alloc: Global,
@@ -151,38 +146,39 @@ fn draw(
     lay_out(alloc, &head, elements)
 }
 
-/// Makes a channel's next MAP, which is within the limits.
-fn cut_row(
-    flows: &mut Flows,
+/// The Ack Time of a channel's next MAP, by where it begins.
+fn ack_of(row: &ChannelRow, ack: u64, start: u64) -> u64
+    ensures { result ≡ ack_of row.now ack start }
+{
+    row.ack.max(ack.min(start))
+}
+
+/// Makes a channel's next MAP, which begins no earlier than the last one ends and is within the limits.
+fn make_map(
+    table: &ChannelTable,
     desk: &mut Desk,
     alloc: Global,
     ch: u8,
-    row: ChannelRow,
+    start: u64,
     len: u16,
-    not_before: u64,
     ack: u64,
 ) -> Result<Output, AllocError>
-    requires reached { IsReached flows.old }
-    requires there { channel_at flows.old ch ≡ Some row }
-    requires good { fill_refusal row len not_before ack ≡ None }
-    ensures output { IfOk result (λ output. output ≡ (step flows.old (commands.Cut ch len not_before ack)).output) }
-    ensures rows { OnOk result (flows.new ≡ (step flows.old (commands.Cut ch len not_before ack)).rows) }
-    ensures err { OnErr result (flows.new ≡ flows.old) }
+    requires reached { IsReachedTable table.now }
+    requires begun { table.now.row.next_start ≤ start }
+    requires good { fill_refusal table.now.row len start ack ≡ None }
+    ensures filled { OnOk result (IsFilledBy table.now (record { start = start; len = len }) desk.new.filled) }
+    ensures output { IfOk result (λ output. output ≡ outputs.Map ch start len (layout (head_of table.now.row.channel start ack) (elements_in table.now.row.channel desk.new.filled) 0)) }
 {
-    let start = row.next_start.max(not_before);
-    let ack_time = row.ack.max(ack.min(start));
-    let table = flows.table(ch).unwrap();
     fill(table, &mut desk.filled, &mut desk.by_arrival, start, len)?;
     let slot = Slot::new(start).unwrap();
     let bytes = draw(
         alloc,
-        &row.channel,
+        &table.row().channel,
         &desk.filled,
         &mut desk.elements,
         slot,
-        Slot::new(ack_time).unwrap(),
+        Slot::new(ack).unwrap(),
     )?;
-    close(flows, ch, &desk.filled, ack_time);
     Ok(Output::Map {
         ch,
         start: slot,
@@ -208,12 +204,24 @@ pub fn cut(
     ensures rows { OnOk result (flows.new ≡ (step flows.old (commands.Cut ch len not_before ack)).rows) }
     ensures err { OnErr result (flows.new ≡ flows.old) }
 {
-    let Some(row) = flows.channel(ch) else {
+    let Some(table) = flows.table(ch) else {
         return Ok(Output::Refused(Refusal::NoChannel.number()));
     };
-    let row = *row;
-    if !is_within_limits(&row, len, not_before, ack) {
+    let row = table.row();
+    if !is_within_limits(row, len, not_before, ack) {
         return Ok(Output::Refused(Refusal::BadValue.number()));
     }
-    cut_row(flows, desk, alloc, ch, row, len, not_before, ack)
+    let start = start_of(row, not_before);
+    let ack = ack_of(row, ack, start);
+    let output = make_map(table, desk, alloc, ch, start, len, ack)?;
+    let filling = &desk.filled.filling;
+    close(
+        flows,
+        ch,
+        &desk.filled.flows,
+        filling.placements(),
+        filling.end(),
+        ack,
+    );
+    Ok(output)
 }

@@ -1,11 +1,12 @@
 //! What a cut reads of the rows, and writes back.
 
-ghost use Rattle.std.specs.Prelude.{◌≡◌, not, map, OnOk};
+ghost use Rattle.std.specs.Prelude.{◌≡◌, not, map, Some, OnOk};
 ghost use Rattle.std.specs.List.{list_any, AllByRecursion};
 ghost use Rattle.grant_machine_parts.specs.Cutting.{is_grant_of};
 ghost use Rattle.grant_machine_parts.specs.Granted.{AreNumbered};
-ghost use Rattle.grant_machine_parts.specs.Lent.{IsLent};
-ghost use Rattle.grant_machine.specs.CutRows.{rank_in, due_times_set, requests_taken, IsOfKind};
+ghost use Rattle.flow_state.specs.Rows.{Table, table_of};
+ghost use Rattle.flow_state.specs.Changes.{TellsDue};
+ghost use Rattle.grant_machine.specs.CutRows.{rank_in, rows_closed};
 
 use flow_state::{ChannelTable, Flow, Flows, LAST_TIME, Waiting};
 use grant_machine_parts::{Grants, Placement, Ranked, kind_priority};
@@ -35,33 +36,35 @@ pub fn rank_requests(table: &ChannelTable, ranked: &mut Vec<Ranked>) -> Result<(
     ensures { OnOk result (ranked.new.items ≡ map (rank_in table.now) table.now.waiting) }
 {
     ranked.clear();
+    ranked.reserve(table.requests().len())?;
     for request in table.requests() {
-        ranked.push(rank(table, request))?;
+        ranked.push_reserved(rank(table, request));
     }
     Ok(())
 }
 
-/// Sets the next due times of a channel's flows.
-pub fn set_due_times(flows: &mut Flows, ch: u8, served: &[Flow])
-    requires lent { AllByRecursion IsLent served.now }
-    requires kinds { AllByRecursion (IsOfKind flows.old ch) served.now }
-    ensures { flows.new ≡ due_times_set flows.old ch served.now }
-{
-    for flow in served {
-        flows.set_due(ch, flow.sid, flow.due);
-    }
-}
-
-/// Takes the requests that are granted out of those that wait.
-pub fn take_granted(flows: &mut Flows, ch: u8, placements: &[Placement])
-    ensures { flows.new ≡ requests_taken flows.old ch placements.now }
+/// Closes a channel's MAP up to an end. It sets the next due times of flows, and takes the requests that are granted
+/// out of those that wait. Flows whose leases end before are gone, with their requests. It takes no memory.
+pub fn close(
+    flows: &mut Flows,
+    ch: u8,
+    served: &[Flow],
+    placements: &[Placement],
+    end: u64,
+    ack: u64,
+)
+    requires { (t : Table) → table_of flows.old ch ≡ Some t → AllByRecursion (TellsDue t) served.now }
+    ensures { flows.new ≡ rows_closed flows.old ch served.now placements.now end ack }
 {
     let grants = Grants::of(placements);
-    flows.keep_waiting(
+    flows.finish_cut(
         ch,
+        served,
         |request: &Waiting| -> bool
             requires { AreNumbered grants placements.now }
             ensures { result ≡ not (list_any (is_grant_of request.now) placements.entry.now) }
         { !grants.have(placements, request) },
+        end,
+        ack,
     );
 }

@@ -5,7 +5,7 @@ use Rattle.std.proofs.Math.ListN.{length-set}
 use Rattle.std.proofs.lemmas.Bool.{eqb-true}
 use Rattle.std.proofs.lemmas.Bool.Decides.{Decides-eqb}
 use Rattle.std.proofs.lemmas.Option.{slice_get_within}
-use Rattle.std.proofs.lemmas.List.{append-nil, length-append, get_or-set_same, get_or-set_other}
+use Rattle.std.proofs.lemmas.List.{length-append, get_or-set_same, get_or-set_other}
 use Rattle.grant_machine_parts.specs.Ranks.{Ranked, of_priority}
 use Rattle.grant_machine_parts.specs.Chains.{Leads, AreFrom}
 
@@ -159,8 +159,3 @@ fewer rs xs ys p place k n len leads some put =
     let r = request_at rs (k - 1) (leads_within rs p place k leads some) in
     let added : length ys ≡ length (xs ++ r.0 ∷ []) = ap length (put r.0 r.1) in
     omega (arith, more, added, length-append xs (r.0 ∷ []))
-
--- the chain is at its end
-pub chain_ends : (rs xs total : List Ranked) (p place k : ℕ) → Leads rs p place k → k ≡ 0 → xs ++ of_priority (drop place rs) p ≡ total → xs ≡ total
-chain_ends rs xs total p place k (inl h) none sum = sym (append-nil xs) ∙ ap (λ (zs : List Ranked). xs ++ zs) (sym h.1) ∙ sum
-chain_ends rs xs total p place k (inr h) none sum = absurd (omega (arith, h.2, none))

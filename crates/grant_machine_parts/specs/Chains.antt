@@ -1,6 +1,7 @@
 -- Chains through requests, one for each priority, by arrival.
 use Rattle.std.specs.Prelude.{◌≡◌, ◌⊎◌, ℕ, suc, ◌<◌, ◌≤◌, List, [], ◌∷◌, length, drop, Some, slice_get, slice_index}
 use Rattle.grant_machine_parts.specs.declared.chains.Chains.{Chains}
+use Rattle.grant_machine_parts.specs.declared.chains.TheConstants.{PRIORITIES, MOST_CHAINED}
 use Rattle.grant_machine_parts.specs.Ranks.{Ranked, of_priority}
 
 -- the number, from 1, of the first request of a priority from a place on, which has the others of it behind it; 0 where there is none
@@ -11,11 +12,11 @@ Leads rs priority place number =
 
 -- the numbers lead through the requests from a place on
 pub record AreFrom (firsts nexts : List ℕ) (rs : List Ranked) (place : ℕ) : Type 0 where
-  pub all_firsts : length firsts ≡ 8
-  pub all_nexts : length nexts ≡ 255
-  pub few : length rs ≤ 255
-  pub first : (priority : ℕ) → priority < 8 → Leads rs priority place (slice_index firsts priority)
-  pub next : (j : ℕ) (r : Ranked) → place ≤ j → slice_get rs j ≡ Some r → r.priority < 8 → Leads rs r.priority (suc j) (slice_index nexts j)
+  pub all_firsts : length firsts ≡ PRIORITIES
+  pub all_nexts : length nexts ≡ MOST_CHAINED
+  pub few : length rs ≤ MOST_CHAINED
+  pub first : (priority : ℕ) → priority < PRIORITIES → Leads rs priority place (slice_index firsts priority)
+  pub next : (j : ℕ) (r : Ranked) → place ≤ j → slice_get rs j ≡ Some r → r.priority < PRIORITIES → Leads rs r.priority (suc j) (slice_index nexts j)
 
 abbrev pub AreChains : Chains → List Ranked → Type 0
 AreChains chains rs = AreFrom chains.firsts chains.nexts rs 0
