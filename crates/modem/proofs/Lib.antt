@@ -6,6 +6,7 @@ mod Least
 mod AtKept
 mod Order
 mod Pieces
+mod Windows
 mod Clocks
 mod Old
 mod Recent

@@ -162,3 +162,34 @@ HasFewOld-made old new c ch clock found made grants open_to_all =
     let P : ℕ → ℕ → ℕ → List Kept → Type 0 = λ n i t ks. 2 * (n + 1) * length (old_intervals i t ks) ≤ length ks in
     let as_now : (ks : List Kept) → P (length old.channels) c.id clock ks → P (length new.channels) ch (clock_of new.channels ch) ks = λ ks h. subst (λ n. P n ch (clock_of new.channels ch) ks) (sym size) (subst (λ t. P (length old.channels) ch t ks) (sym now) (subst (λ i. P (length old.channels) i clock ks) same h)) in
     record { grants = as_now new.grants grants; open_to_all = as_now new.open_to_all open_to_all }
+
+-- few are old behind a minislot before that behind which one more is
+pub few_before : (ks : List KeptInterval) (n ch m before few : ℕ) → m < 2 ^ 64 → AreKept ks → AllWithin (λ k. ltb (place_of k) (place ch 0) ≡ true) ks 0 before → AllWithin (λ k. ltb (place_of k) (place ch 0) ≡ false) ks before (length ks) → 2 * (n + 1) * few ≤ length ks → ((d : KeptInterval) → before + few < length ks → ((get_or ks (before + few) d).start < 2 ^ 64) × ((get_or ks (before + few) d).channel ≡ ch → m < (get_or ks (before + few) d).start + 16383)) → 2 * (n + 1) * length (old_intervals ch (m + 1) (map kept_interval ks)) ≤ length (map kept_interval ks)
+few_before ks n ch m before few limit kept low high share next =
+    let some = few_old ks ch (m + 1) before few low later in
+    let all : 2 * (n + 1) * length (old_intervals ch (m + 1) (map kept_interval ks)) ≤ 2 * (n + 1) * few = mul-le-mul_left (2 * (n + 1)) some in
+    rw (length-map ks kept_interval) (omega (arith, all, share))
+  where
+    dropped : length (drop before ks) ≡ length ks - before
+    dropped = grind (arith, common_steps)
+
+    later : (i : ℕ) (d : KeptInterval) → few ≤ i → i < length (drop before ks) → ltb (place_of (get_or (drop before ks) i d)) (place ch (m + 1 - 16383)) ≡ false
+    later i d from lt =
+        let there : get_or (drop before ks) i d ≡ get_or ks (before + i) d = get_or-drop before ks i d in
+        let within : before + i < length ks = omega (arith, dropped, lt) in
+        let first : before + few < length ks = omega (arith, within, from) in
+        let up : place_of (get_or ks (before + few) d) ≤ place_of (get_or ks (before + i) d) = kept.ordered (before + few) (before + i) d (omega (arith, from)) within in
+        let behind : place ch 0 ≤ place_of (get_or ks (before + few) d) = ltb-false _ _ (high (before + few) d (omega arith) first) in
+        let begun = next d first in
+        let young : place ch (m + 1 - 16383) ≤ place_of (get_or ks (before + few) d) = begin (get_or ks (before + few) d) behind begun.0 begun.1 (cases_lt ch (get_or ks (before + few) d).channel) in
+        subst (λ (k : KeptInterval). ltb (place_of k) (place ch (m + 1 - 16383)) ≡ false) (sym there) (not_less _ _ (omega (arith, young, up)))
+      where
+        not_less : (a b : ℕ) → b ≤ a → ltb a b ≡ false
+        not_less a b le = grind (arith, nat_tests)
+
+        begin : (k : KeptInterval) → place ch 0 ≤ place_of k → k.start < 2 ^ 64 → (k.channel ≡ ch → m < k.start + 16383) → (ch < k.channel) ⊎ (k.channel ≤ ch) → place ch (m + 1 - 16383) ≤ place_of k
+        begin k behind bound young (inl above) = omega (arith, above, limit)
+        begin k behind bound young (inr not_above) =
+            let same : k.channel ≡ ch = omega (arith, behind, bound, not_above) in
+            let soon : m < k.start + 16383 = young same in
+            omega (arith, same, soon)

@@ -1,11 +1,12 @@
 -- What a list of kept intervals stands for, and its order.
-use Rattle.std.specs.Prelude.{◌≡◌, ◌↔◌, ℕ, ◌+◌, ◌*◌, ◌^◌, ◌<◌, Bool, not, ◌==◌, ◌&&◌, ◌||◌, nat_lt, if◌then◌else◌, min, max, List, All, Option, Some, None}
-use Rattle.std.specs.List.{flat_map, filter_map}
+use Rattle.std.specs.Prelude.{◌≡◌, ◌↔◌, ℕ, ◌+◌, ◌*◌, ◌^◌, ◌<◌, ◌≤◌, Bool, true, false, leb, length, not, ◌==◌, ◌&&◌, ◌||◌, nat_lt, nat_le, if◌then◌else◌, min, max, List, All, Option, Some, None}
+use Rattle.std.specs.List.{flat_map, filter_map, AllWithin}
 use Rattle.std.specs.List.Sorted.{IsNonDecreasingBy}
 use Rattle.map_body.specs.Iucs as iucs
 use Rattle.map_body.specs.Sids.{everybody}
 use Rattle.map_body.specs.declared.interval.Interval.{Interval}
 use Rattle.modem.specs.declared.kept.KeptInterval.{KeptInterval}
+use Rattle.modem.specs.declared.kept.Window.{Window}
 use Rattle.modem.specs.declared.known.OwnLease.{OwnLease}
 use Rattle.modem.specs.State.{Kept, HasAt, is_of}
 
@@ -37,6 +38,23 @@ IsShort k = k.stop < k.start + 2 ^ 14
 pub record AreKept (ks : List KeptInterval) : Type 0 where
   pub ordered : IsNonDecreasingBy place_of ks
   pub short : All IsShort ks
+
+-- it stands at or before a minislot of a channel, and is of a lower channel or over by then
+abbrev pub is_past : ℕ → ℕ → KeptInterval → Bool
+is_past ch m k = leb (place_of k) (place ch m) && (nat_lt k.channel ch || nat_le k.stop m)
+
+-- so many of the first intervals are past at a minislot
+pub record ArePast (ch m count : ℕ) (ks : List KeptInterval) : Type 0 where
+  pub bound : count ≤ length ks
+  pub past : AllWithin (λ k. is_past ch m k ≡ true) ks 0 count
+
+-- a window splits intervals in order: those that are past, others that stand at or before a minislot, and those that stand behind it
+pub record IsWindow (ch m : ℕ) (ks : List KeptInterval) (w : Window) : Type 0 where
+  pub past : ArePast ch m w.past ks
+  pub order : w.past ≤ w.begun
+  pub bound : w.begun ≤ length ks
+  pub begun : AllWithin (λ k. leb (place_of k) (place ch m) ≡ true) ks 0 w.begun
+  pub later : AllWithin (λ k. leb (place_of k) (place ch m) ≡ false) ks w.begun (length ks)
 
 -- the part of an interval that a lease of its SID covers
 abbrev pub piece : KeptInterval → OwnLease → Option KeptInterval

@@ -1,7 +1,7 @@
 //! Intervals that a modem keeps: one for each element that a map gave, in the order of their channels and,
 //! of one channel, of their starts.
 
-ghost use Rattle.std.specs.Prelude.{◌≡◌, ℕ, ◌+◌, ◌<◌, ◌≤◌, ◌^◌, ◌↔◌, ◌⊎◌, ◌++◌, ◌∷◌, [], filter, map, take, drop, true, false, length, vec_len, vec_capacity, ltb, leb};
+ghost use Rattle.std.specs.Prelude.{◌≡◌, ℕ, ◌+◌, ◌*◌, ◌<◌, ◌≤◌, ◌^◌, ◌↔◌, ◌⊎◌, ◌++◌, ◌∷◌, [], filter, map, take, drop, true, false, length, vec_len, vec_capacity, ltb, leb};
 ghost use Rattle.std.specs.Prelude.{IfOk, OnOk, IfSome, IfNone, Contains};
 ghost use Rattle.std.specs.List.{All, list_any, filter_map, AllWithin};
 ghost use Rattle.map_body.specs.Iucs as iucs;
@@ -12,7 +12,7 @@ ghost use Rattle.modem.specs.LetsGo.{old_intervals};
 ghost use Rattle.modem.specs.Sights.{FewOld};
 ghost use Rattle.modem.specs.State.{HasAt, IsAt};
 ghost use Rattle.modem.specs.Idle.{HasSame, IsBefore};
-ghost use Rattle.modem.specs.KeptIntervals.{kept_interval, interval_of, place, place_of, AreKept, IsShort, is_live, is_shared, piece, covered, IsOfChannel};
+ghost use Rattle.modem.specs.KeptIntervals.{kept_interval, interval_of, place, place_of, AreKept, is_past, ArePast, IsWindow, IsShort, is_live, is_shared, piece, covered, IsOfChannel};
 ghost use Rattle.modem.specs.Steps.{first_at, is_at};
 ghost use Rattle.modem.specs.Ticks.{Counts};
 
@@ -24,6 +24,17 @@ use std::alloc::{AllocError, Global};
 
 /// An interval that covers a minislot began at most so many minislots before: an offset in a MAP has 14 bits.
 pub(crate) const REACH: u64 = 0x3FFF;
+
+/// The first number that is no minislot.
+pub(crate) const LIMIT: u64 = 1 << 63;
+
+/// Where a look at a minislot of a channel finds its intervals: `past` of the first are past there, and `begun` of the
+/// first begin by then.
+#[derive(Clone, Copy)]
+pub(crate) struct Window {
+    pub past: usize,
+    pub begun: usize,
+}
 
 /// An element's minislots of a channel that a modem keeps, from `start` up to `stop`.
 #[derive(Clone, Copy, PartialEq, Eq)]
@@ -51,17 +62,85 @@ fn begins_by(interval: &KeptInterval, ch: u8, at: u64) -> bool
     interval.channel < ch || interval.channel == ch && start <= at
 }
 
-// Those that may cover a minislot of a channel: they begin there, or at most REACH before.
-fn around(kept: &[KeptInterval], ch: u8, at: u64) -> &[KeptInterval]
+// How many of the first begin more than REACH before a minislot of a channel, and so are past. It costs the logarithm of
+// what is kept.
+fn long_past(kept: &[KeptInterval], ch: u8, at: u64) -> usize
     requires { AreKept kept.now }
+    ensures { ArePast ch at result kept.now }
+{
+    let first = at.saturating_sub(REACH);
+    kept.partition_point(|k| begins_before(k, ch, first))
+}
+
+// Is it of a lower channel, or does it begin and is over by a minislot of the channel?
+fn is_past(interval: &KeptInterval, ch: u8, at: u64) -> bool
+    ensures { result ≡ is_past ch at interval.now }
+{
+    let stop = interval.stop;
+    begins_by(interval, ch, at) && (interval.channel < ch || stop <= at)
+}
+
+// How many at the front are past.
+fn count_past(kept: &[KeptInterval], ch: u8, at: u64) -> usize
+    ensures bound { result ≤ length kept.now }
+    ensures past { AllWithin (λ k. is_past ch at k ≡ true) kept.now 0 result }
+{
+    for (i, interval) in kept.iter().enumerate() {
+        if !is_past(interval, ch, at) {
+            return i;
+        }
+    }
+    kept.len()
+}
+
+// How many at the front begin by a minislot of a channel.
+fn count_begun(kept: &[KeptInterval], ch: u8, at: u64) -> usize
+    ensures bound { result ≤ length kept.now }
+    ensures begun { AllWithin (λ k. leb (place_of k) (place ch at) ≡ true) kept.now 0 result }
+    ensures next { (d : KeptInterval) → result < length kept.now → leb (place_of (get_or kept.now result d)) (place ch at) ≡ false }
+{
+    for (i, interval) in kept.iter().enumerate() {
+        if !begins_by(interval, ch, at) {
+            return i;
+        }
+    }
+    kept.len()
+}
+
+// So many of the first are past, or where that is none, those that begin long before.
+fn known_past(kept: &[KeptInterval], ch: u8, at: u64, past: usize) -> usize
+    requires kept { AreKept kept.now }
+    requires past { ArePast ch at past kept.now }
+    ensures { ArePast ch at result kept.now }
+{
+    if past == 0 {
+        long_past(kept, ch, at)
+    } else {
+        past
+    }
+}
+
+/// Where a look at a minislot finds its intervals, if so many of the first are known to be past. It costs those that
+/// became past since, and those that begin by then and aren't past; where none is known to be, it costs what begins less
+/// than 2^14 minislots before, and the logarithm of what is kept.
+pub(crate) fn window_at(kept: &[KeptInterval], ch: u8, at: u64, past: usize) -> Window
+    requires kept { AreKept kept.now }
+    requires past { ArePast ch at past kept.now }
+    ensures { IsWindow ch at kept.now result }
+{
+    let known = known_past(kept, ch, at, past);
+    let past = known + count_past(&kept[known..], ch, at);
+    let begun = past + count_begun(&kept[past..], ch, at);
+    Window { past, begun }
+}
+
+// Those that may cover a minislot of a channel.
+fn around(kept: &[KeptInterval], ch: u8, at: u64, window: Window) -> &[KeptInterval]
+    requires { IsWindow ch at kept.now window }
     ensures same { (sid iuc : ℕ) → HasAt (map kept_interval result.now) ch at sid iuc ↔ HasAt (map kept_interval kept.now) ch at sid iuc }
     ensures part { (before count : ℕ) × (result.now ≡ take count (drop before kept.now)) }
 {
-    let first = at.saturating_sub(REACH);
-    let before = kept.partition_point(|k| begins_before(k, ch, first));
-    let rest = &kept[before..];
-    let count = rest.partition_point(|k| begins_by(k, ch, at));
-    &rest[..count]
+    &kept[window.past..window.begun]
 }
 
 fn first_at(
@@ -96,13 +175,26 @@ fn counted_of(kept: &[KeptInterval], ch: u8, at: u64) -> Option<(u16, Iuc)>
     counted
 }
 
-/// Of the intervals that cover a minislot, the SID and IUC that count. It costs the logarithm of what is
-/// kept, and what begins less than 2^14 minislots before.
+/// Of the intervals that cover a minislot, the SID and IUC that count.
+pub(crate) fn counted_in(
+    kept: &[KeptInterval],
+    ch: u8,
+    at: u64,
+    window: Window,
+) -> Option<(u16, Iuc)>
+    requires { IsWindow ch at kept.now window }
+    ensures { Counts (map kept_interval kept.now) ch at result }
+{
+    counted_of(around(kept, ch, at, window), ch, at)
+}
+
+/// The same where no window is known. It costs the logarithm of what is kept, and what begins less than 2^14 minislots
+/// before.
 pub(crate) fn counted(kept: &[KeptInterval], ch: u8, at: u64) -> Option<(u16, Iuc)>
     requires { AreKept kept.now }
     ensures { Counts (map kept_interval kept.now) ch at result }
 {
-    counted_of(around(kept, ch, at), ch, at)
+    counted_in(kept, ch, at, window_at(kept, ch, at, 0))
 }
 
 fn is_at(interval: &KeptInterval, ch: u8, at: u64, sid: u16, iuc: Iuc) -> bool
@@ -118,12 +210,26 @@ fn has_at(kept: &[KeptInterval], ch: u8, at: u64, sid: Sid, iuc: Iuc) -> bool
     kept.iter().any(|k| is_at(k, ch, at, sid.get(), iuc))
 }
 
-/// Whether a minislot is a request minislot that is open to all, at the same cost.
+/// Whether a minislot is a request minislot that is open to all.
+pub(crate) fn is_open_in(kept: &[KeptInterval], ch: u8, at: u64, window: Window) -> bool
+    requires { IsWindow ch at kept.now window }
+    ensures { (result ≡ true) ↔ HasAt (map kept_interval kept.now) ch at everybody iucs.request }
+{
+    has_at(
+        around(kept, ch, at, window),
+        ch,
+        at,
+        Sid::EVERYBODY,
+        Iuc::REQUEST,
+    )
+}
+
+/// The same where no window is known.
 pub(crate) fn is_open(kept: &[KeptInterval], ch: u8, at: u64) -> bool
     requires { AreKept kept.now }
     ensures { (result ≡ true) ↔ HasAt (map kept_interval kept.now) ch at everybody iucs.request }
 {
-    has_at(around(kept, ch, at), ch, at, Sid::EVERYBODY, Iuc::REQUEST)
+    is_open_in(kept, ch, at, window_at(kept, ch, at, 0))
 }
 
 fn is_live(interval: KeptInterval, ch: u8, clock: u64) -> bool
@@ -148,13 +254,16 @@ fn ended(kept: &[KeptInterval], ch: u8, clock: u64) -> usize
     kept.len()
 }
 
+// Takes out those from one place up to another: what stands behind them moves down.
 fn cut(kept: &mut Vec<KeptInterval>, from: usize, to: usize)
     requires order { from ≤ to }
     requires within { to ≤ vec_len kept.old }
     ensures { kept.new.items ≡ take from kept.old.items ++ drop to kept.old.items }
 {
     if from < to {
-        kept.drain(from..to);
+        let len = kept.len();
+        kept.copy_within(to..len, from);
+        kept.truncate(len - (to - from));
     }
 }
 
@@ -200,6 +309,46 @@ pub(crate) fn let_go_of_many(kept: &mut Vec<KeptInterval>, ch: u8, at: u64, chan
         let_go(kept, ch, at);
     }
     is_many
+}
+
+// A channel's share, of so many, of half of what is kept.
+fn few_of(len: usize, channels: usize) -> usize
+    ensures share { 2 * (channels + 1) * result ≤ len }
+    ensures bound { result ≤ len }
+{
+    if channels < len {
+        len / 2 / (channels + 1)
+    } else {
+        0
+    }
+}
+
+// The first minislot behind which an interval is old, if it is of the channel.
+fn old_behind(interval: KeptInterval, ch: u8) -> u64
+    ensures range { interval.start < 2 ^ 64 }
+    ensures channel { interval.channel ≡ ch → result ≤ interval.start + 16383 }
+    ensures limit { result < 2 ^ 64 }
+{
+    if interval.channel == ch {
+        interval.start.saturating_add(REACH)
+    } else {
+        LIMIT
+    }
+}
+
+/// Up to which minislot few of the channel's intervals are old: that at which one more than a channel's share of half of
+/// what is kept is. It costs the logarithm of what is kept.
+pub(crate) fn few_until(kept: &[KeptInterval], ch: u8, channels: usize) -> u64
+    requires { AreKept kept.now }
+    ensures { (m : ℕ) → m < result → FewOld channels ch (m + 1) (map kept_interval kept.now) }
+{
+    let before = kept.partition_point(|k| begins_before(k, ch, 0));
+    let next = before + few_of(kept.len(), channels);
+    if next < kept.len() {
+        old_behind(kept[next], ch)
+    } else {
+        LIMIT
+    }
 }
 
 fn interval_of(ch: u8, start: u64, interval: Interval) -> KeptInterval
@@ -376,15 +525,16 @@ fn start_in(interval: KeptInterval, ch: u8) -> Option<u64>
     }
 }
 
-// The start of the first interval of a channel that begins after a minislot.
-fn next_start(kept: &[KeptInterval], ch: u8, at: u64) -> Option<u64>
-    requires { AreKept kept.now }
+// The start of the first interval of a channel that begins after a minislot: what stands behind those that begin by then.
+fn next_start(kept: &[KeptInterval], ch: u8, at: u64, begun: usize) -> Option<u64>
+    requires kept { AreKept kept.now }
+    requires low { AllWithin (λ k. leb (place_of k) (place ch at) ≡ true) kept.now 0 begun }
+    requires high { AllWithin (λ k. leb (place_of k) (place ch at) ≡ false) kept.now begun (length kept.now) }
     ensures after { IfSome result (λ n. at < n) }
     ensures first { (x : ℕ) → x < 2 ^ 63 → IsBefore result x → All (λ k. k.channel ≡ ch → at < k.start → x < k.start) kept.now }
 {
-    let later = kept.partition_point(|k| begins_by(k, ch, at));
-    if later < kept.len() {
-        start_in(kept[later], ch)
+    if begun < kept.len() {
+        start_in(kept[begun], ch)
     } else {
         None
     }
@@ -413,34 +563,26 @@ fn least_stop(kept: &[KeptInterval], ch: u8, at: u64) -> Option<u64>
     least
 }
 
-/// The first minislot after one behind which another of the channel's intervals is old.
-pub(crate) fn next_old(kept: &[KeptInterval], ch: u8, at: u64) -> Option<u64>
+/// The next minislot of a channel at which one of its intervals begins, or one that covers `at` is over.
+pub(crate) fn next_edge_in(kept: &[KeptInterval], ch: u8, at: u64, window: Window) -> Option<u64>
     requires kept { AreKept kept.now }
-    requires time { at < 2 ^ 63 }
+    requires window { IsWindow ch at kept.now window }
     ensures after { IfSome result (λ n. at < n) }
-    ensures same { (x : ℕ) → at ≤ x → x < 2 ^ 63 → IsBefore result x
-        → old_intervals ch (x + 1) (map kept_interval kept.now) ≡ old_intervals ch (at + 1) (map kept_interval kept.now) }
+    ensures same { (x : ℕ) → at ≤ x → x < 2 ^ 63 → IsBefore result x → HasSame (map kept_interval kept.now) ch at x }
 {
-    if at < REACH {
-        return Some(REACH);
-    }
-    match next_start(kept, ch, at - REACH) {
-        Some(start) => Some(start.saturating_add(REACH)),
-        None => None,
-    }
+    sooner(
+        next_start(kept, ch, at, window.begun),
+        least_stop(around(kept, ch, at, window), ch, at),
+    )
 }
 
-/// The next minislot of a channel at which one of its intervals begins, or one that covers `at` is over. It costs
-/// as much as a look at a minislot.
+/// The same where no window is known. It costs as much as a look at a minislot.
 pub(crate) fn next_edge(kept: &[KeptInterval], ch: u8, at: u64) -> Option<u64>
     requires { AreKept kept.now }
     ensures after { IfSome result (λ n. at < n) }
     ensures same { (x : ℕ) → at ≤ x → x < 2 ^ 63 → IsBefore result x → HasSame (map kept_interval kept.now) ch at x }
 {
-    sooner(
-        next_start(kept, ch, at),
-        least_stop(around(kept, ch, at), ch, at),
-    )
+    next_edge_in(kept, ch, at, window_at(kept, ch, at, 0))
 }
 
 /// An interval of a SID and IUC that covers a minislot.
@@ -455,7 +597,7 @@ pub(crate) fn covering(
     ensures some { IfSome result (λ k. Contains kept.now k × IsAt (kept_interval k) ch at sid iuc) }
     ensures none { IfNone result (¬ HasAt (map kept_interval kept.now) ch at sid iuc) }
 {
-    let near = around(kept, ch, at);
+    let near = around(kept, ch, at, window_at(kept, ch, at, 0));
     for interval in near {
         if is_at(interval, ch, at, sid, iuc) {
             return Some(*interval);

@@ -16,7 +16,7 @@ ghost use Rattle.modem.specs.LetsGo.{HasNoOld, HasFewOld, LetsGo, LetsGoAfter};
 use crate::action::{Action, NextEvent};
 use crate::edges::sooner;
 use crate::intervals::HeardMap;
-use crate::kept::{self, KeptInterval};
+use crate::kept::{self, KeptInterval, LIMIT};
 use crate::known::{Channel, OwnLease, Progress, Want};
 use crate::sight::{self, Sight};
 use crate::span::{self, Span};
@@ -27,9 +27,6 @@ use map_body::{Iuc, MapBody, decode};
 use minislot_time::Slot;
 use std::alloc::{AllocError, Global};
 use std::marker::Model;
-
-/// The first number that is no minislot.
-const LIMIT: u64 = 1 << 63;
 
 /// A modem: it hears outputs, takes wants, and answers each tick with what it sends.
 #[derive(Drop)]
@@ -64,7 +61,7 @@ impl Model for Modem {
     ghost view = { λ m. record { id = m.id; channels = m.channels.items; leases = m.leases.items; grants = map kept_interval m.grants.items; open_to_all = map kept_interval m.open_to_all.items; wants = m.wants.items } };
 
     ghost invariant = { λ m. AreKept m.grants.items × AreKept m.open_to_all.items
-        × AreSights (length m.channels.items) (map kept_interval m.grants.items) (map kept_interval m.open_to_all.items) m.sights.items
+        × AreSights (length m.channels.items) m.grants.items m.open_to_all.items m.sights.items
         × AreSpans m.leases.items m.wants.items m.spans.items };
 }
 

@@ -2,64 +2,82 @@
 //! over or becomes old, so that few ticks have to look.
 
 ghost use Rattle.std.specs.Prelude.{◌≡◌, ℕ, ◌+◌, ◌<◌, ◌≤◌, ◌^◌, ◌==◌, ◌↔◌, if◌then◌else◌, map, List, IfSome, OnOk, OnErr};
-ghost use Rattle.modem.specs.State.{Kept, HasAt};
+ghost use Rattle.modem.specs.declared.kept.KeptInterval.{KeptInterval};
+ghost use Rattle.modem.specs.State.{HasAt};
 ghost use Rattle.modem.specs.Idle.{IsBefore};
-ghost use Rattle.modem.specs.KeptIntervals.{kept_interval, AreKept};
-ghost use Rattle.modem.specs.Sights.{FewOld, IsSeen, Holds, AreSights, is_within, with_sight, forgotten};
+ghost use Rattle.modem.specs.KeptIntervals.{kept_interval, AreKept, ArePast};
+ghost use Rattle.modem.specs.Sights.{FewOld, IsFew, IsSeen, Holds, AreSights, has_begun, with_sight, nowhere, forgotten};
 
 use crate::edges::sooner;
-use crate::kept::{self, KeptInterval};
+use crate::kept::{self, KeptInterval, LIMIT};
 use map_body::Iuc;
 use std::alloc::AllocError;
 
-/// The first number that is no minislot.
-const LIMIT: u64 = 1 << 63;
-
 /// From the minislot `from` on, and before `until`: the SID and IUC that count on a channel, and whether a minislot is
-/// open to all.
+/// open to all. Behind each minislot before `few_until` few of the channel's intervals are old. So many of the first
+/// grants and of the first shared intervals are past at `from`.
 #[derive(Clone, Copy)]
 pub(crate) struct Sight {
     pub channel: u8,
     pub from: u64,
     pub until: u64,
+    pub few_until: u64,
+    pub past_grants: usize,
+    pub past_open: usize,
     pub counted: Option<(u16, Iuc)>,
     pub is_open: bool,
 }
 
-fn is_at(sight: &Sight, ch: u8, at: u64) -> bool
-    ensures { result ≡ is_within ch at sight.now }
+// A sight of a channel that holds nowhere.
+fn nowhere(ch: u8) -> Sight
+    ensures { result ≡ nowhere ch }
 {
-    sight.channel == ch && (sight.from <= at && at < sight.until)
+    let counted: Option<(u16, Iuc)> = None;
+    Sight {
+        channel: ch,
+        from: 0,
+        until: 0,
+        few_until: 0,
+        past_grants: 0,
+        past_open: 0,
+        counted,
+        is_open: false,
+    }
 }
 
 /// Adds a sight of a channel, and lets all hold nowhere.
 pub(crate) fn add(sights: &mut Vec<Sight>, ch: u8) -> Result<(), AllocError>
-    ensures ok { OnOk result ((n : ℕ) (grants opens : List Kept) → AreSights n grants opens sights.new.items) }
+    ensures ok { OnOk result ((n : ℕ) (grants opens : List KeptInterval) → AreSights n grants opens sights.new.items) }
     ensures err { OnErr result (sights.new.items ≡ sights.old.items) }
 {
     let counted: Option<(u16, Iuc)> = None;
     sights.reserve(1)?;
     sights.push_reserved(Sight {
-        channel: ch,
-        from: 0,
-        until: 0,
         counted,
-        is_open: false,
+        ..nowhere(ch)
     });
     forget(sights);
     Ok(())
 }
 
-// The sight of a channel that holds at a minislot.
-fn find(sights: &[Sight], ch: u8, at: u64) -> Option<Sight>
-    ensures { IfSome result (λ s. (n : ℕ) (grants opens : List Kept) → AreSights n grants opens sights.now → IsSeen n grants opens ch at s.counted s.is_open) }
+fn began(sight: &Sight, ch: u8, at: u64) -> bool
+    ensures { result ≡ has_begun ch at sight.now }
+{
+    sight.channel == ch && sight.from <= at
+}
+
+// The sight of a channel that began by a minislot, or one that holds nowhere.
+fn find(sights: &[Sight], ch: u8, at: u64) -> Sight
+    ensures channel { result.channel ≡ ch }
+    ensures from { result.from ≤ at }
+    ensures holds { (n : ℕ) (grants opens : List KeptInterval) → AreSights n grants opens sights.now → Holds n grants opens result }
 {
     for sight in sights {
-        if is_at(sight, ch, at) {
-            return Some(*sight);
+        if began(sight, ch, at) {
+            return *sight;
         }
     }
-    None
+    nowhere(ch)
 }
 
 fn chosen(sight: &Sight, row: &Sight) -> Sight
@@ -92,7 +110,7 @@ fn forget_in(sights: &mut [Sight])
     ensures { sights.new ≡ map forgotten sights.old }
 {
     for sight in sights.iter_mut() {
-        sight.until = 0;
+        *sight = nowhere(sight.channel);
     }
 }
 
@@ -104,7 +122,7 @@ fn forget_all(sights: &mut Vec<Sight>)
 
 /// Lets sights hold nowhere, where what they saw has changed.
 pub(crate) fn forget(sights: &mut Vec<Sight>)
-    ensures { (n : ℕ) (grants opens : List Kept) → AreSights n grants opens sights.new.items }
+    ensures { (n : ℕ) (grants opens : List KeptInterval) → AreSights n grants opens sights.new.items }
 {
     forget_all(sights);
 }
@@ -120,31 +138,35 @@ fn end_before(next: Option<u64>) -> u64
     }
 }
 
-// What there is at a minislot, up to where it may differ.
-fn anew(grants: &[KeptInterval], shared: &[KeptInterval], ch: u8, at: u64) -> Sight
+// What there is at a minislot, up to where it may differ, found from what the last sight of the channel knew.
+fn anew(grants: &[KeptInterval], shared: &[KeptInterval], last: &Sight, at: u64) -> Sight
     requires grants { AreKept grants.now }
     requires opens { AreKept shared.now }
     requires time { at < 2 ^ 63 }
-    ensures channel { result.channel ≡ ch }
-    ensures from { result.from ≡ at }
-    ensures until { at < result.until }
-    ensures holds { (n : ℕ) → FewOld n ch (at + 1) (map kept_interval grants.now) → FewOld n ch (at + 1) (map kept_interval shared.now)
-        → Holds n (map kept_interval grants.now) (map kept_interval shared.now) result }
+    requires past_grants { ArePast last.now.channel at last.now.past_grants grants.now }
+    requires past_open { ArePast last.now.channel at last.now.past_open shared.now }
+    ensures channel { result.channel ≡ last.now.channel }
+    ensures seen { (n : ℕ) → IsFew n last.now.channel at (map kept_interval grants.now) (map kept_interval shared.now)
+        → IsSeen n (map kept_interval grants.now) (map kept_interval shared.now) last.now.channel at result.counted result.is_open }
+    ensures holds { (n : ℕ) → ((m : ℕ) → m < last.now.few_until → IsFew n last.now.channel m (map kept_interval grants.now) (map kept_interval shared.now))
+        → Holds n grants.now shared.now result }
 {
+    let ch = last.channel;
+    let own = kept::window_at(grants, ch, at, last.past_grants);
+    let open = kept::window_at(shared, ch, at, last.past_open);
     let edge = sooner(
-        kept::next_edge(grants, ch, at),
-        kept::next_edge(shared, ch, at),
-    );
-    let old = sooner(
-        kept::next_old(grants, ch, at),
-        kept::next_old(shared, ch, at),
+        kept::next_edge_in(grants, ch, at, own),
+        kept::next_edge_in(shared, ch, at, open),
     );
     Sight {
         channel: ch,
         from: at,
-        until: end_before(sooner(edge, old)),
-        counted: kept::counted(grants, ch, at),
-        is_open: kept::is_open(shared, ch, at),
+        until: end_before(edge).min(last.few_until),
+        few_until: last.few_until,
+        past_grants: own.past,
+        past_open: open.past,
+        counted: kept::counted_in(grants, ch, at, own),
+        is_open: kept::is_open_in(shared, ch, at, open),
     }
 }
 
@@ -160,10 +182,10 @@ fn let_go(
     requires grants { AreKept grants.old.items }
     requires opens { AreKept shared.old.items }
     requires time { at < 2 ^ 63 }
-    requires sights { AreSights channels (map kept_interval grants.old.items) (map kept_interval shared.old.items) sights.old.items }
+    requires sights { AreSights channels grants.old.items shared.old.items sights.old.items }
     ensures grants { AreKept grants.new.items }
     ensures opens { AreKept shared.new.items }
-    ensures sights { AreSights channels (map kept_interval grants.new.items) (map kept_interval shared.new.items) sights.new.items }
+    ensures sights { AreSights channels grants.new.items shared.new.items sights.new.items }
     ensures grants_held { (at_ch m sid iuc : ℕ) → (ch ≡ at_ch → at ≤ m)
         → HasAt (map kept_interval grants.new.items) at_ch m sid iuc ↔ HasAt (map kept_interval grants.old.items) at_ch m sid iuc }
     ensures opens_held { (at_ch m sid iuc : ℕ) → (ch ≡ at_ch → at ≤ m)
@@ -178,8 +200,49 @@ fn let_go(
     }
 }
 
-/// What counts at a minislot of a channel, and whether it is open to all. Where no sight holds there it costs what a look
-/// at the intervals costs, and else only the channels.
+// The last sight, or where many may be old behind the minislot, one that holds nowhere, after they are let go of.
+fn renewed(
+    sights: &mut Vec<Sight>,
+    grants: &mut Vec<KeptInterval>,
+    shared: &mut Vec<KeptInterval>,
+    channels: usize,
+    last: Sight,
+    at: u64,
+) -> Sight
+    requires grants { AreKept grants.old.items }
+    requires opens { AreKept shared.old.items }
+    requires time { at < 2 ^ 63 }
+    requires sights { AreSights channels grants.old.items shared.old.items sights.old.items }
+    requires from { last.from ≤ at }
+    requires holds { Holds channels grants.old.items shared.old.items last }
+    ensures grants { AreKept grants.new.items }
+    ensures opens { AreKept shared.new.items }
+    ensures sights { AreSights channels grants.new.items shared.new.items sights.new.items }
+    ensures grants_held { (at_ch m sid iuc : ℕ) → (last.channel ≡ at_ch → at ≤ m)
+        → HasAt (map kept_interval grants.new.items) at_ch m sid iuc ↔ HasAt (map kept_interval grants.old.items) at_ch m sid iuc }
+    ensures opens_held { (at_ch m sid iuc : ℕ) → (last.channel ≡ at_ch → at ≤ m)
+        → HasAt (map kept_interval shared.new.items) at_ch m sid iuc ↔ HasAt (map kept_interval shared.old.items) at_ch m sid iuc }
+    ensures few { IsFew channels last.channel at (map kept_interval grants.new.items) (map kept_interval shared.new.items) }
+    ensures channel { result.channel ≡ last.channel }
+    ensures from { result.from ≤ at }
+    ensures holds { Holds channels grants.new.items shared.new.items result }
+{
+    if at < last.few_until {
+        return last;
+    }
+    let ch = last.channel;
+    let_go(sights, grants, shared, channels, ch, at);
+    let own = kept::few_until(grants.as_slice(), ch, channels);
+    let open = kept::few_until(shared.as_slice(), ch, channels);
+    Sight {
+        few_until: own.min(open),
+        ..nowhere(ch)
+    }
+}
+
+/// What counts at a minislot of a channel, and whether it is open to all. Where the channel's sight holds there it costs
+/// only the channels, else also what became past since the last look; and what a first look at the intervals costs where
+/// no sight holds, or many intervals are old.
 pub(crate) fn look(
     sights: &mut Vec<Sight>,
     grants: &mut Vec<KeptInterval>,
@@ -191,21 +254,22 @@ pub(crate) fn look(
     requires grants { AreKept grants.old.items }
     requires opens { AreKept shared.old.items }
     requires time { at < 2 ^ 63 }
-    requires sights { AreSights channels (map kept_interval grants.old.items) (map kept_interval shared.old.items) sights.old.items }
+    requires sights { AreSights channels grants.old.items shared.old.items sights.old.items }
     ensures grants { AreKept grants.new.items }
     ensures opens { AreKept shared.new.items }
-    ensures sights { AreSights channels (map kept_interval grants.new.items) (map kept_interval shared.new.items) sights.new.items }
+    ensures sights { AreSights channels grants.new.items shared.new.items sights.new.items }
     ensures grants_held { (at_ch m sid iuc : ℕ) → (ch ≡ at_ch → at ≤ m)
         → HasAt (map kept_interval grants.new.items) at_ch m sid iuc ↔ HasAt (map kept_interval grants.old.items) at_ch m sid iuc }
     ensures opens_held { (at_ch m sid iuc : ℕ) → (ch ≡ at_ch → at ≤ m)
         → HasAt (map kept_interval shared.new.items) at_ch m sid iuc ↔ HasAt (map kept_interval shared.old.items) at_ch m sid iuc }
     ensures seen { IsSeen channels (map kept_interval grants.new.items) (map kept_interval shared.new.items) ch at result.counted result.is_open }
 {
-    if let Some(sight) = find(sights.as_slice(), ch, at) {
-        return sight;
+    let last = find(sights.as_slice(), ch, at);
+    if at < last.until {
+        return last;
     }
-    let_go(sights, grants, shared, channels, ch, at);
-    let sight = anew(grants.as_slice(), shared.as_slice(), ch, at);
+    let known = renewed(sights, grants, shared, channels, last, at);
+    let sight = anew(grants.as_slice(), shared.as_slice(), &known, at);
     set(sights, &sight);
     sight
 }

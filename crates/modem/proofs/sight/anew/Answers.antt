@@ -1,18 +1,24 @@
-use Rattle.std.proofs.Common.{map}
+use Rattle.std.proofs.Common.{map, ◌<◌, min, arith}
 use Rattle.modem.specs.KeptIntervals.{kept_interval}
-use Rattle.modem.proofs.Sights.{Holds-made}
+use Rattle.modem.proofs.Sights.{IsSeen-same}
 use Rattle.modem.proofs.sight.anew.Goals as goal
 
+pub returns-clause-seen : goal.returns-clause-seen
+returns-clause-seen c = λ n few. record {
+  counts = c.counted_in.ensures;
+  shared = c.is_open_in.ensures;
+  few_grants = few.few_grants;
+  few_open = few.few_open;
+}
+
 pub returns-clause-holds : goal.returns-clause-holds
-returns-clause-holds c = λ n few_grants few_open.
-    let grants = map kept_interval c.args.grants.now in
-    let opens = map kept_interval c.args.shared.now in
-    Holds-made n grants opens (record { channel = c.args.ch; from = c.args.«at»; until = c.end_before.result; counted = c.counted.result; is_open = c.is_open.result }) c.counted.ensures c.is_open.ensures few_grants few_open
-    (λ x from before.
-    let limit = c.end_before.ensures.before x before in
-    let next = c.sooner.ensures.before x limit.0 in
-    record { has = c.next_edge.ensures.same x from limit.1 (c.sooner-edge.ensures.before x next.0).0; old = c.next_old.ensures.same x from limit.1 (c.sooner-old.ensures.before x next.1).0 })
-    (λ x from before.
-    let limit = c.end_before.ensures.before x before in
-    let next = c.sooner.ensures.before x limit.0 in
-    record { has = c.next_edge-2.ensures.same x from limit.1 (c.sooner-edge.ensures.before x next.0).1; old = c.next_old-2.ensures.same x from limit.1 (c.sooner-old.ensures.before x next.1).1 })
+returns-clause-holds c = λ n few. record {
+  seen = λ m from before.
+      let both : m < min c.end_before.result c.args.last.now.few_until = rw c.min.ensures at before in
+      let limit = c.end_before.ensures.before m (omega (arith, both)) in
+      let next = c.sooner-edge.ensures.before m limit.0 in
+      IsSeen-same n c.args.last.now.channel c.args.«at» m (map kept_interval c.args.grants.now) (map kept_interval c.args.shared.now) c.counted_in.result c.is_open_in.result c.counted_in.ensures c.is_open_in.ensures (c.next_edge_in.ensures.same m from limit.1 next.0) (c.next_edge_in-2.ensures.same m from limit.1 next.1) (few m (omega (arith, both)));
+  few = few;
+  past_grants = c.window_at-own.ensures.past;
+  past_open = c.window_at-open.ensures.past;
+}

@@ -1,11 +1,29 @@
-use Rattle.std.proofs.Common.{sym, subst, ◌∙◌}
+use Rattle.std.proofs.Common.{◌≡◌, ◌≤◌, ◌==◌, nat_le, true, sym, subst, ◌∙◌, arith}
+use Rattle.std.proofs.lemmas.Bool.{and_parts, eqb-true}
+use Rattle.std.proofs.lemmas.Bool.Decides.{nat_tests}
 use Rattle.modem.specs.declared.sight.Sight.{Sight}
 use Rattle.modem.specs.Sights.{Holds}
-use Rattle.modem.proofs.Sights.{seen_at}
+use Rattle.modem.proofs.Sights.{Holds-nowhere}
 use Rattle.modem.proofs.sight.find.Goals as goal
 
-pub returns-then-is_at : goal.returns-then-is_at
-returns-then-is_at c = λ n grants opens all.
+pub returns-then-began-clause-channel : goal.returns-then-began-clause-channel
+returns-then-began-clause-channel c =
     let s : Sight = c.sight-item.result in
-    let holds : Holds n grants opens s = subst (Holds n grants opens) (sym c.sight-item.is) (all c.loop-sight.sight-index s c.loop-sight-test.true) in
-    seen_at n grants opens s c.args.ch c.args.«at» (sym c.is_at.ensures ∙ c.if-is_at.true) holds
+    let parts = and_parts (s.channel == c.args.ch) (nat_le s.from c.args.«at») (sym c.began.ensures ∙ c.if-began.true) in
+    eqb-true _ _ parts.0
+
+pub returns-then-began-clause-from : goal.returns-then-began-clause-from
+returns-then-began-clause-from c =
+    let s : Sight = c.sight-item.result in
+    let parts = and_parts (s.channel == c.args.ch) (nat_le s.from c.args.«at») (sym c.began.ensures ∙ c.if-began.true) in
+    let by : nat_le s.from c.args.«at» ≡ true = parts.1 in
+    let from : s.from ≤ c.args.«at» = grind (arith, nat_tests) in
+    from
+
+pub returns-then-began-clause-holds : goal.returns-then-began-clause-holds
+returns-then-began-clause-holds c = λ n grants opens all.
+    let s : Sight = c.sight-item.result in
+    subst (Holds n grants opens) (sym c.sight-item.is) (all c.loop-sight.sight-index s c.loop-sight-test.true)
+
+pub returns-clause-holds : goal.returns-clause-holds
+returns-clause-holds c = λ n grants opens all. rw c.nowhere.ensures (Holds-nowhere n grants opens c.args.ch)

@@ -9,4 +9,4 @@ pub loop-sight-preserved : goal.loop-sight-preserved
 loop-sight-preserved c =
     let now : Sight = slice_index_or c.loop-sight.sights c.loop-sight.sight-index c.sight-item.result in
     let here : c.loop-sight.sight-index < length c.loop-sight.sights = omega arith in
-    (map_over_more forgotten c.args.sights.now c.loop-sight.sights c.loop-sight.sight-index now c.loop-sight-test.true c.loop-sight.invariant (get_or_default c.loop-sight.sights c.loop-sight.sight-index _ _ here))
+    rw c.nowhere.ensures (map_over_more forgotten c.args.sights.now c.loop-sight.sights c.loop-sight.sight-index now c.loop-sight-test.true c.loop-sight.invariant (get_or_default c.loop-sight.sights c.loop-sight.sight-index _ _ here))

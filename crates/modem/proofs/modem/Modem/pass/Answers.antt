@@ -1,4 +1,4 @@
-use Rattle.std.proofs.Common.{max, refl, arith}
+use Rattle.std.proofs.Common.{length, max, refl, arith}
 use Rattle.modem.specs.contracts.modem.Modem.{the_view}
 use Rattle.modem.proofs.Old.{HasNoOld-made}
 use Rattle.modem.proofs.Stands.{Passes-made}
@@ -23,3 +23,11 @@ returns-clause-lets_go c =
     let open_to_all = (rw (c.max-clock.ensures, c.get.ensures.same) at c.let_go-2.ensures.none_old) clock (omega arith) in
     let made = rw (c.max-clock.ensures, c.get.ensures.same) at c.set.ensures in
     HasNoOld-made (the_view c.self.inside) _ c.args.channel c.args.channel.id clock c.args.channel.backoff found made grants open_to_all
+
+pub invariant_of-self : goal.invariant_of-self
+invariant_of-self c = (
+  c.let_go.ensures.kept,
+  c.let_go-2.ensures.kept,
+  c.forget.ensures (length c.set.new.channels.items) c.let_go.new.kept.items c.let_go-2.new.kept.items,
+  c.forget-2.ensures c.keep_recent.new.leases.items c.keep_lasting.new.wants.items,
+)

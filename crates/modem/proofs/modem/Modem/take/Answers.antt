@@ -1,4 +1,4 @@
-use Rattle.std.proofs.Common.{◌≡◌, ◌==◌, ◌&&◌, map, max, refl, arith}
+use Rattle.std.proofs.Common.{◌≡◌, ◌==◌, ◌&&◌, length, map, max, refl, arith}
 use Rattle.std.specs.List.{filter, filter_map}
 use Rattle.map_body.specs.declared.interval.Interval.{Interval}
 use Rattle.map_body.specs.Intervals.{intervals}
@@ -32,3 +32,11 @@ returns-clause-lets_go c =
     let grants = (rw (c.head-head.ensures, c.max-clock.ensures, c.get.ensures.same) at c.let_go.ensures.none_old) clock (omega arith) in
     let opens = (rw (c.head-head.ensures, c.max-clock.ensures, c.get.ensures.same) at c.let_go-2.ensures.none_old) clock (omega arith) in
     HasNoOld-made (the_view c.self.inside) _ c.args.channel m.head.channel clock m.head.data_backoff (rw (← c.self.view_is) at c.requires) (rw (c.head-head.ensures, c.max-clock.ensures, c.get.ensures.same) at c.set.ensures) grants opens
+
+pub invariant_of-self-2 : goal.invariant_of-self-2
+invariant_of-self-2 c = (
+  c.let_go.ensures.kept,
+  c.let_go-2.ensures.kept,
+  c.forget.ensures (length c.set.new.channels.items) c.let_go.new.kept.items c.let_go-2.new.kept.items,
+  c.forget-2.ensures c.keep_recent.new.leases.items c.keep_lasting.new.wants.items,
+)

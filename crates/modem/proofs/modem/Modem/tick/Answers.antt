@@ -21,7 +21,7 @@ invariant_of-self c =
     let size : vec_len fields.channels ≡ length fields.channels.items = fields.channels.ok.0 in (
       c.look-sight.ensures.grants,
       c.look-sight.ensures.opens,
-      AreSights-moved c.len-count.result (map kept_interval c.look-sight.new.grants.items) (map kept_interval c.look-sight.new.shared.items) c.look-sight.new.sights.items (record c.in-Some.channel { clock = c.get-at.result + 1 }) fields.channels.items c.set.new.channels.items (c.len-count.ensures ∙ size) c.set.ensures c.look-sight.ensures.sights,
+      AreSights-moved c.len-count.result c.look-sight.new.grants.items c.look-sight.new.shared.items c.look-sight.new.sights.items (record c.in-Some.channel { clock = c.get-at.result + 1 }) fields.channels.items c.set.new.channels.items (c.len-count.ensures ∙ size) c.set.ensures c.look-sight.ensures.sights,
       rw c.as_slice-leases.ensures.value at c.keep_lasting.ensures.spans,
     )
 

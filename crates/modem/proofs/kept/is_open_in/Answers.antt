@@ -1,6 +1,6 @@
 use Rattle.map_body.specs.Sids.{everybody}
 use Rattle.modem.proofs.AtKept.{HasAt-kept}
-use Rattle.modem.proofs.kept.is_open.Goals as goal
+use Rattle.modem.proofs.kept.is_open_in.Goals as goal
 
 pub returns : goal.returns
 returns c =

@@ -3,7 +3,7 @@ use Rattle.modem.specs.declared.kept.KeptInterval.{KeptInterval}
 use Rattle.modem.specs.State.{HasAt}
 use Rattle.modem.specs.KeptIntervals.{kept_interval}
 use Rattle.modem.proofs.NextEdges.{HasSame-made, HasAt-part}
-use Rattle.modem.proofs.kept.next_edge.Goals as goal
+use Rattle.modem.proofs.kept.next_edge_in.Goals as goal
 
 pub returns-clause-same : goal.returns-clause-same
 returns-clause-same c = λ x late limit before.
