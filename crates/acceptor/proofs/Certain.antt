@@ -39,6 +39,3 @@ at_want A B (Err e) b = λ _. inr b
 -- a write's content was to be found before, with the write
 pub added : (old new : Content) (f : Content → Content) → new ≡ f old → (d : Content) → d ≡ new → ∥ ((d ≡ old) ⊎ ((c : Content) × (c ≡ old) × (d ≡ f c))) ∥₁
 added old new f e d is = ∣ inr (old, refl, is ∙ e) ∣₁
-
-pub unadded : (old new : Content) (f : Content → Content) → new ≡ old → (d : Content) → d ≡ new → ∥ ((d ≡ old) ⊎ ((c : Content) × (c ≡ old) × (d ≡ f c))) ∥₁
-unadded old new f e d is = ∣ inl (is ∙ e) ∣₁

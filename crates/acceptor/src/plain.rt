@@ -1,19 +1,47 @@
 //! Records in memory.
 
 ghost use Rattle.std.specs.Prelude.{◌≡◌, ℕ, max, Option, Some, None, IfOk, IfSome, IsOk, IsTrue, OnOk, OnErr, ◌↔◌, ◌⊎◌};
+ghost use Rattle.ballots.specs.Limits.{IsPlace, IsValue};
 ghost use Rattle.ballots.specs.Rows.{at, put, rows_from};
 ghost use Rattle.ballots.specs.Ballots.{number_of};
-ghost use Rattle.acceptor.specs.Content.{AreRowsFrom, Content, IsSound, no_content, greatest, promised};
+ghost use Rattle.acceptor.specs.Content.{AreRowsFrom, AreValues, Content, IsSound, no_content, greatest, promised};
 ghost use Rattle.acceptor.specs.Kept.{ballot_in, is_it, never_lie, no_failures, no_break};
 ghost use Rattle.acceptor.specs.Calls.{Accounts, KeepsTrust};
 ghost use Rattle.acceptor.specs.Faults.{BreaksByReopen, CountsFaults};
 ghost use Rattle.acceptor.specs.Found.{AddsNothing, Holds, HoldsEither, Keeps};
 
 use crate::records::{Records, RecordsFault};
-use ballots::{Ballot, Cast, Place, Value, Votes, higher};
+use ballots::{Ballot, Bytes, Cast, Place, Value, Votes, higher};
+use place_table::{Kept, Table};
 use std::alloc::{AllocError, Global};
-use std::collections::BTreeMap;
 use std::marker::Model;
+
+/// A vote as it is kept.
+#[derive(Drop)]
+struct Vote {
+    ballot: Ballot,
+    value: Kept,
+}
+
+impl Model for Vote {
+    ghost use Rattle.ballots.specs.declared.letters.Cast.{Cast};
+
+    ghost Value = { Cast };
+
+    ghost view = { λ v. record { ballot = v.ballot; value = v.value } };
+}
+
+impl Vote {
+    /// The vote, as a letter carries it.
+    fn to_cast(&self, alloc: Global) -> Result<Cast, AllocError>
+        ensures { IfOk result (λ cast. cast ≡ self.now) }
+    {
+        Ok(Cast {
+            ballot: self.ballot,
+            value: self.value.to_bytes(alloc)?,
+        })
+    }
+}
 
 /// Records that are lost with the process. They fail for memory alone.
 #[derive(Drop)]
@@ -21,8 +49,8 @@ pub struct PlainRecords {
     alloc: Global,
     tried: Option<Ballot>,
     row: Option<Ballot>,
-    votes: BTreeMap<u64, Cast>,
-    learned: BTreeMap<u64, Value>,
+    votes: Table<Vote>,
+    learned: Table<Kept>,
     // The greatest of the promised row and of all votes' ballots, so that no call looks through the votes for it.
     highest: Option<Ballot>,
 }
@@ -47,30 +75,24 @@ impl PlainRecords {
             alloc,
             tried: None,
             row: None,
-            votes: BTreeMap::new(alloc),
-            learned: BTreeMap::new(alloc),
+            votes: Table::new(alloc),
+            learned: Table::new(alloc),
             highest: None,
         }
     }
 }
 
-fn copied(alloc: Global, cast: &Cast) -> Result<Cast, AllocError>
-    ensures { IfOk result (λ c. c ≡ cast.now) }
-{
-    Ok(Cast {
-        ballot: cast.ballot,
-        value: cast.value.copy(alloc)?,
-    })
-}
-
 /// The greatest of a ballot and those of the votes.
 #[tactic(auto, using(crate::proofs::Greatest::greatest_max))]
-fn greatest_of(ballot: Option<Ballot>, votes: &BTreeMap<u64, Cast>) -> Option<Ballot>
+fn greatest_of(ballot: Option<Ballot>, votes: &Table<Vote>) -> Option<Ballot>
+    requires { AreRowsFrom 1 votes.now.entries }
     ensures { number_of result ≡ greatest (number_of ballot) votes.now.entries }
 {
     let mut most = ballot;
-    for (_place, cast) in votes {
-        most = higher(most, cast.ballot);
+    let mut next = 0;
+    while let Some((at, vote)) = votes.next_from(next) {
+        most = higher(most, vote.ballot);
+        next = at + 1;
     }
     most
 }
@@ -106,8 +128,9 @@ fn highest_after(
     replaced: Option<Ballot>,
     ballot: Ballot,
     row: Option<Ballot>,
-    votes: &BTreeMap<u64, Cast>,
+    votes: &Table<Vote>,
 ) -> Option<Ballot>
+    requires { AreRowsFrom 1 votes.now.entries }
     ensures { (others : ℕ) → number_of highest ≡ max (number_of replaced) others → greatest (number_of row) votes.now.entries ≡ max ballot others → number_of result ≡ greatest (number_of row) votes.now.entries }
 {
     if let Some(highest) = raised(highest, replaced, ballot) {
@@ -116,80 +139,94 @@ fn highest_after(
     greatest_of(row, votes)
 }
 
-fn copy_at(
-    alloc: Global,
-    votes: &BTreeMap<u64, Cast>,
-    place: Place,
-) -> Result<Option<Cast>, AllocError>
+fn copy_at(alloc: Global, votes: &Table<Vote>, place: Place) -> Result<Option<Cast>, AllocError>
     ensures { IfOk result (λ v. v ≡ at votes.now.entries place) }
 {
-    match votes.get(&place.number()) {
-        Some(cast) => Ok(Some(copied(alloc, cast)?)),
+    match votes.get(place.number()) {
+        Some(vote) => Ok(Some(vote.to_cast(alloc)?)),
         None => Ok(None),
     }
 }
 
-fn copy_from(alloc: Global, votes: &BTreeMap<u64, Cast>, place: Place) -> Result<Votes, AllocError>
+fn copy_from(alloc: Global, votes: &Table<Vote>, place: Place) -> Result<Votes, AllocError>
+    requires { AreRowsFrom 1 votes.now.entries }
     ensures { IfOk result (λ rows. rows ≡ rows_from votes.now.entries place) }
 {
     let mut rows = Vec::new(alloc);
-    for (at, cast) in votes.range(place.number()..) {
-        rows.push((*at, copied(alloc, cast)?))?;
+    let mut next = place.number();
+    while let Some((at, vote)) = votes.next_from(next) {
+        rows.push((at, vote.to_cast(alloc)?))?;
+        next = at + 1;
     }
     Ok(Votes::new(rows))
 }
 
 /// Puts the vote, and gives the ballot of the one that stood there.
-fn put_at(
-    votes: &mut BTreeMap<u64, Cast>,
-    place: u64,
-    cast: Cast,
-) -> Result<Option<Ballot>, AllocError>
-    ensures ok { OnOk result (votes.new.entries ≡ put votes.old.entries place cast) }
+fn put_at(votes: &mut Table<Vote>, place: u64, vote: Vote) -> Result<Option<Ballot>, AllocError>
+    ensures ok { OnOk result (votes.new.entries ≡ put votes.old.entries place vote) }
     ensures replaced { IfOk result (λ ballot. number_of ballot ≡ ballot_in (at votes.old.entries place)) }
     ensures err { OnErr result (votes.new.entries ≡ votes.old.entries) }
 {
-    match votes.insert(place, cast).map_err(AllocError::from)? {
+    match votes.insert(place, vote)? {
         Some(old) => Ok(Some(old.ballot)),
         None => Ok(None),
     }
 }
 
+/// The value of these bytes.
+fn value_of(bytes: Bytes) -> Value
+    requires { IsValue bytes }
+    ensures { result ≡ bytes }
+{
+    Value::new(bytes).unwrap()
+}
+
 fn learned_at(
     alloc: Global,
-    learned: &BTreeMap<u64, Value>,
+    learned: &Table<Kept>,
     place: Place,
 ) -> Result<Option<Value>, AllocError>
+    requires { AreValues learned.now.entries }
     ensures { IfOk result (λ v. v ≡ at learned.now.entries place) }
 {
-    match learned.get(&place.number()) {
-        Some(value) => Ok(Some(value.copy(alloc)?)),
+    match learned.get(place.number()) {
+        Some(kept) => Ok(Some(value_of(kept.to_bytes(alloc)?))),
         None => Ok(None),
     }
 }
 
+/// The place of this number.
+fn place_of(number: u64) -> Place
+    requires { IsPlace number }
+    ensures { result ≡ number }
+{
+    Place::new(number).unwrap()
+}
+
 fn all_learned_from(
     alloc: Global,
-    learned: &BTreeMap<u64, Value>,
+    learned: &Table<Kept>,
     place: Place,
 ) -> Result<Vec<(Place, Value)>, AllocError>
-    requires { AreRowsFrom 1 learned.now.entries }
+    requires rows { AreRowsFrom 1 learned.now.entries }
+    requires values { AreValues learned.now.entries }
     ensures { IfOk result (λ rows. rows.items ≡ rows_from learned.now.entries place) }
 {
     let mut rows = Vec::new(alloc);
-    for (at, value) in learned.range(place.number()..) {
-        if let Some(at) = Place::new(*at) {
-            rows.push((at, value.copy(alloc)?))?;
-        }
+    let mut next = place.number();
+    while let Some((at, kept)) = learned.next_from(next) {
+        let value = value_of(kept.to_bytes(alloc)?);
+        rows.push((place_of(at), value))?;
+        next = at + 1;
     }
     Ok(rows)
 }
 
-fn put_value(learned: &mut BTreeMap<u64, Value>, place: u64, value: Value) -> Result<(), AllocError>
+fn put_value(learned: &mut Table<Kept>, place: u64, value: Kept) -> Result<(), AllocError>
     ensures ok { OnOk result (learned.new.entries ≡ put learned.old.entries place value) }
     ensures err { OnErr result (learned.new.entries ≡ learned.old.entries) }
 {
-    learned.insert(place, value).map_err(AllocError::from)?;
+    learned.insert(place, value)?;
     Ok(())
 }
 
@@ -268,14 +305,14 @@ impl Records for PlainRecords {
         ballot: Ballot,
         value: &Value,
     ) -> Result<(), RecordsFault> {
-        let value = value.copy(self.alloc)?.into_bytes();
-        let replaced = put_at(&mut self.votes, place.number(), Cast { ballot, value })?;
+        let value = Kept::copy_of(self.alloc, value.as_slice())?;
+        let replaced = put_at(&mut self.votes, place.number(), Vote { ballot, value })?;
         self.highest = highest_after(self.highest, replaced, ballot, self.row, &self.votes);
         Ok(())
     }
 
     fn put_learned(&mut self, place: Place, value: &Value) -> Result<(), RecordsFault> {
-        let value = value.copy(self.alloc)?;
+        let value = Kept::copy_of(self.alloc, value.as_slice())?;
         Ok(put_value(&mut self.learned, place.number(), value)?)
     }
 

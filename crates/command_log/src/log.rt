@@ -3,10 +3,10 @@ ghost use Rattle.ballots.specs.Limits.{most_places};
 ghost use Rattle.command_log.specs.View.{number_of_fault};
 
 use crate::reading::read_command;
-use ballots::{Bytes, MOST_PLACES};
+use ballots::MOST_PLACES;
 use grant_machine::{Machine, Output};
+use place_table::{Kept, Table};
 use std::alloc::{AllocError, Global};
-use std::collections::BTreeMap;
 use std::marker::Model;
 use thiserror::Error;
 
@@ -52,7 +52,7 @@ impl From<AllocError> for LogFault {
 #[derive(Drop)]
 pub struct Log {
     alloc: Global,
-    learned: BTreeMap<u64, Bytes>,
+    learned: Table<Kept>,
     outputs: Vec<Output>,
     machine: Machine,
 }
@@ -81,14 +81,15 @@ impl Log {
     {
         Log {
             alloc,
-            learned: BTreeMap::new(alloc),
+            learned: Table::new(alloc),
             outputs: Vec::new(alloc),
             machine: Machine::new(alloc),
         }
     }
 
     /// Learns the value of a place. The same value again is never refused, and takes no memory; want
-    /// of memory never comes in place of another refusal. It costs the logarithm of the places learned.
+    /// of memory never comes in place of another refusal. It costs at most the logarithm of the places learned, but
+    /// where memory moves as it grows.
     pub fn learn(&mut self, place: u64, value: &[u8]) -> Result<(), LogFault>
         ensures ok { OnOk result (CanLearn self.old place value.now × (self.new ≡ with_learned self.old place value.now)) }
         ensures err { IfErr result (λ fault. LearnFault self.old place value.now fault × (self.new ≡ self.old)) }
@@ -96,19 +97,19 @@ impl Log {
         if place == 0 || MOST_PLACES < place {
             return Err(LogFault::BeyondLimit);
         }
-        if let Some(known) = self.learned.get(&place) {
+        if let Some(known) = self.learned.get(place) {
             if known.as_slice() == value {
                 return Ok(());
             }
             return Err(LogFault::Contradiction);
         }
-        let value = Bytes::new(value.to_vec(self.alloc)?);
-        self.learned.insert(place, value).map_err(AllocError::from)?;
+        let value = Kept::copy_of(self.alloc, value)?;
+        self.learned.insert(place, value)?;
         Ok(())
     }
 
-    /// Applies the next value, if it is learned. Where it isn't, the call takes no memory. It costs the
-    /// logarithm of the places learned, beside what the command itself costs.
+    /// Applies the next value, if it is learned. Where it isn't, the call takes no memory. It costs at most
+    /// the logarithm of the places learned, beside what the command itself costs.
     pub fn advance(&mut self) -> Result<bool, AllocError>
         ensures more { IfOk result (λ more. IsTrue more ↔ (self.old.applied < length (gapless self.old.learned))) }
         ensures no_more { self.old.applied ≡ length (gapless self.old.learned) → result ≡ Ok false }
@@ -117,7 +118,7 @@ impl Log {
         ensures err { OnErr result (self.new ≡ self.old) }
     {
         let next = self.prefix_len() + 1;
-        let Some(value) = self.learned.get(&next) else {
+        let Some(value) = self.learned.get(next) else {
             return Ok(false);
         };
         let (command, _) = read_command(value.as_slice());

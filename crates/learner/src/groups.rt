@@ -1,6 +1,6 @@
 //! Votes at one place, by what they are for.
 
-ghost use Rattle.std.specs.Prelude.{◌≡◌, ◌≤◌, Some, [], OnOk, OnErr, refl, slice_set, true, unwrap_or};
+ghost use Rattle.std.specs.Prelude.{◌≡◌, ◌≤◌, ◌∷◌, Some, [], IfOk, OnOk, OnErr, refl, slice_set, true, unwrap_or};
 ghost use Rattle.std.specs.BTreeMap.{insert_entry, is_at};
 ghost use Rattle.std.specs.Map.{lookup};
 ghost use Rattle.std.specs.Cmp.{eq_by_cmp_equiv, partial_equiv_from_equiv};
@@ -114,26 +114,63 @@ impl Voters {
     }
 }
 
+/// The proposals that were voted for at a place, each with its voters. Mostly it is one.
+#[derive(Drop)]
+pub(crate) enum Form {
+    One { proposal: Proposal, voters: Voters },
+    More(BTreeMap<Proposal, Voters>),
+}
+
 /// The proposals that were voted for at a place, each with its voters.
 #[derive(Drop)]
 pub(crate) struct Groups {
-    rows: BTreeMap<Proposal, Voters>,
+    form: Form,
 }
 
 impl Model for Groups {
     ghost use Rattle.learner.specs.Tally.{Groups};
+    ghost use Rattle.learner.specs.Forms.{groups_of};
 
     ghost Value = { Groups };
 
-    ghost view = { λ g. g.rows.entries };
+    ghost view = { λ g. groups_of g.form };
+}
+
+/// A proposal again.
+fn copied(alloc: Global, proposal: &Proposal) -> Result<Proposal, AllocError>
+    ensures { IfOk result (λ copy. copy ≡ proposal.now) }
+{
+    Ok(Proposal {
+        ballot: proposal.ballot,
+        value: proposal.value.copy(alloc)?,
+    })
+}
+
+/// A proposal with its voters, and then another with its voters put among them.
+fn both(
+    alloc: Global,
+    first: &Proposal,
+    first_voters: Voters,
+    second: Proposal,
+    second_voters: Voters,
+) -> Result<BTreeMap<Proposal, Voters>, AllocError>
+    ensures { IfOk result (λ rows. rows.entries ≡ insert_entry proposal_cmp ((first.now, first_voters) ∷ []) second second_voters) }
+{
+    let mut rows = BTreeMap::new(alloc);
+    let copy = copied(alloc, first)?;
+    rows.insert(copy, first_voters).map_err(AllocError::from)?;
+    rows.insert(second, second_voters)
+        .map_err(AllocError::from)?;
+    Ok(rows)
 }
 
 impl Groups {
-    pub(crate) fn new(alloc: Global) -> Groups
-        ensures { result ≡ [] }
+    /// One proposal, with its voters.
+    pub(crate) fn one(proposal: Proposal, voters: Voters) -> Groups
+        ensures { result ≡ insert_entry proposal_cmp [] proposal voters }
     {
         Groups {
-            rows: BTreeMap::new(alloc),
+            form: Form::One { proposal, voters },
         }
     }
 
@@ -141,20 +178,50 @@ impl Groups {
     pub(crate) fn voters(&self, proposal: &Proposal) -> Voters
         ensures { result ≡ unwrap_or (lookup (is_at (proposal_cmp proposal.now)) self.now) nobody }
     {
-        match self.rows.get(proposal) {
-            Some(voters) => *voters,
-            None => Voters::none(),
+        match &self.form {
+            Form::One {
+                proposal: other,
+                voters,
+            } => {
+                if proposal.cmp(other) != Ordering::Equal {
+                    return Voters::none();
+                }
+                *voters
+            }
+            Form::More(rows) => match rows.get(proposal) {
+                Some(voters) => *voters,
+                None => Voters::none(),
+            },
         }
     }
 
     /// Puts the voters for a proposal in place of those that it had.
-    pub(crate) fn put(&mut self, proposal: Proposal, voters: Voters) -> Result<(), AllocError>
+    pub(crate) fn put(
+        &mut self,
+        alloc: Global,
+        proposal: Proposal,
+        voters: Voters,
+    ) -> Result<(), AllocError>
         ensures ok { OnOk result (self.new ≡ insert_entry proposal_cmp self.old proposal voters) }
         ensures err { OnErr result (self.new ≡ self.old) }
     {
-        self.rows
-            .insert(proposal, voters)
-            .map_err(AllocError::from)?;
-        Ok(())
+        match &mut self.form {
+            Form::One {
+                proposal: other,
+                voters: counted,
+            } => {
+                if proposal.cmp(other) == Ordering::Equal {
+                    *counted = voters;
+                    return Ok(());
+                }
+                let rows = both(alloc, other, *counted, proposal, voters)?;
+                self.form = Form::More(rows);
+                Ok(())
+            }
+            Form::More(rows) => {
+                rows.insert(proposal, voters).map_err(AllocError::from)?;
+                Ok(())
+            }
+        }
     }
 }

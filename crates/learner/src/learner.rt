@@ -51,11 +51,11 @@ fn put_voters(
     ensures err { OnErr result (counted.new.entries ≡ counted.old.entries) }
 {
     if let Some(groups) = counted.get_mut(&place) {
-        return groups.put(proposal, voters);
+        return groups.put(alloc, proposal, voters);
     }
-    let mut groups = Groups::new(alloc);
-    groups.put(proposal, voters)?;
-    counted.insert(place, groups).map_err(AllocError::from)?;
+    counted
+        .insert(place, Groups::one(proposal, voters))
+        .map_err(AllocError::from)?;
     Ok(())
 }
 

@@ -17,12 +17,6 @@ use Rattle.node.specs.Sched.{Stops, view_over}
 use Rattle.node.specs.declared.parts.Parts.{Parts}
 use Rattle.node.proofs.Endings.{EndsSo, still_holds}
 
--- a fault of a store is told as one of want of memory or of the store
-pub told_stops : (fault : RecordsFault) → IsStop (told fault)
-told_stops Refused = tt
-told_stops Broken = tt
-told_stops OutOfMemory = tt
-
 module _ {R : Type 0} (may_find : R → Content → Type 0) (old : Parts R) (up : old.is_down ≡ false) (content : Content) (holds : Holds (may_find old.records) content) (p : ℕ) (v : List ℕ) (a : R) where
   abbrev pub Ended : Fault → Parts R → Type 0
   Ended fault new = EndsSo may_find old up content holds (λ course. course ≡ Ok (learns (view_over old content) p v)) (Err fault) new

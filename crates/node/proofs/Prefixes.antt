@@ -157,9 +157,3 @@ prefix_ends n rows are there none =
     let few : n ≤ length (values_from 1 rows) = learned_without_gap n rows are there in
     let all : take n (values_from 1 rows) ≡ values_from 1 rows = front 1 n rows rows are are (λ p v is. is) few (ap (at rows) place ∙ none) in
     omega (arith, few, ap length all, length-take n (values_from 1 rows))
-
-pub one_learned : (n : ℕ) (rows : Rows) → AreLearned rows n → at rows (n + 1) ≢ None → AreLearned rows (n + 1)
-one_learned n rows are here p lo hi none = elim (cases_eq p (n + 1)) [
-  | inl is ↦ here (ap (at rows) (sym is) ∙ none)
-  | inr other ↦ are p lo (omega arith) none
-]

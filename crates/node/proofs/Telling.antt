@@ -56,23 +56,6 @@ module _ {R : Type 0} (count_of : R → ℕ) (is_broken : R → Bool) (old : Par
       subst (λ n. KeptByRestart {T = Unit {0}} (who_of count_of is_broken old) (Err answer) (who_of count_of is_broken n)) (sym so.1)
       (subst (λ f. KeptByRestart {T = Unit {0}} (who_of count_of is_broken old) (Err f) (who_of count_of is_broken record later { is_down = true })) (sym so.0) (refl, refl, counts.0, (counts.1 tt, breaks), refl))
 
-  -- a restart in which the store was reopened, and failed as it was read
-  pub reading_failed : (mid : ℕ) (broken : Bool) (fault : RecordsFault) (answer : Fault) (new : Parts R) → AfterStoreFault later fault answer new
-      → mid ≡ count_of old.records → CountsFaults {T = Unit {0}} (Err fault) mid (count_of a) → BreaksBy {T = Unit {0}} (Err fault) broken (is_broken a)
-      → KeptByRestart {T = Unit {0}} (who_of count_of is_broken old) (Err answer) (who_of count_of is_broken new)
-  reading_failed mid broken Refused answer new so same counts breaks =
-      let all = counts_then (count_of old.records) mid (count_of a) Refused same counts in
-      subst (λ n. KeptByRestart {T = Unit {0}} (who_of count_of is_broken old) (Err answer) (who_of count_of is_broken n)) (sym so.1)
-      (subst (λ f. KeptByRestart {T = Unit {0}} (who_of count_of is_broken old) (Err f) (who_of count_of is_broken later)) (sym so.0) (refl, refl, all.0, (all.1 tt, inl breaks.1), refl))
-  reading_failed mid broken OutOfMemory answer new so same counts breaks =
-      let all = counts_then (count_of old.records) mid (count_of a) OutOfMemory same counts in
-      subst (λ n. KeptByRestart {T = Unit {0}} (who_of count_of is_broken old) (Err answer) (who_of count_of is_broken n)) (sym so.1)
-      (subst (λ f. KeptByRestart {T = Unit {0}} (who_of count_of is_broken old) (Err f) (who_of count_of is_broken later)) (sym so.0) (refl, refl, all.0, (all.2 tt, inl breaks.1), refl))
-  reading_failed mid broken Broken answer new so same counts breaks =
-      let all = counts_then (count_of old.records) mid (count_of a) Broken same counts in
-      subst (λ n. KeptByRestart {T = Unit {0}} (who_of count_of is_broken old) (Err answer) (who_of count_of is_broken n)) (sym so.1)
-      (subst (λ f. KeptByRestart {T = Unit {0}} (who_of count_of is_broken old) (Err f) (who_of count_of is_broken record later { is_down = true })) (sym so.0) (refl, refl, all.0, (all.1 tt, breaks), refl))
-
 -- what a proposer's answer tells
 module _ {R : Type 0} (count_of : R → ℕ) (is_broken : R → Bool) (old : Parts R) (a : R) (up : old.is_down ≡ false) where
   abbrev stopped_at : Parts R

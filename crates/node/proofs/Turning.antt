@@ -98,6 +98,3 @@ accept_sound l b p v sound =
     let both = and_parts (is_place p && is_value v) (ballot_node b == l.from) sound in
     let two = and_parts (is_place p) (is_value v) both.0 in
     (place_sound p two.0, value_sound v two.1)
-
-pub heeded_sound : (members me : ℕ) (l : Letter) → is_heeded members me l ≡ true → is_sound l l.note ≡ true
-heeded_sound members me l is = (and_parts (nat_lt l.from members && nat_lt l.to members && l.to == me) (is_sound l l.note) is).1

@@ -1,6 +1,6 @@
 //! The letters of a node's answers.
 
-ghost use Rattle.std.specs.Prelude.{◌≡◌, ◌-◌, ◌≤◌, ◌<◌, [], ◌∷◌, IfOk, IsOk, length, set};
+ghost use Rattle.std.specs.Prelude.{◌≡◌, ◌≤◌, ◌<◌, [], ◌∷◌, IfOk, IsOk, length};
 ghost use Rattle.ballots.specs.Limits.{most_places};
 ghost use Rattle.ballots.specs.declared.letters.Note.TheVariants.{Higher as HigherNote};
 ghost use Rattle.command_log.specs.View.{AreRows};
@@ -87,12 +87,4 @@ pub(crate) fn prepared_note(answer: Prepared, ballot: Ballot, place: Place) -> N
         },
         Prepared::Higher(other) => Note::Higher { ballot: other },
     }
-}
-
-pub(crate) fn replace_last(letters: &mut Vec<Letter>, letter: Letter)
-    requires { 1 ≤ length letters.old.items }
-    ensures { letters.new.items ≡ set letters.old.items (length letters.old.items - 1) letter }
-{
-    let last = letters.len() - 1;
-    letters[last] = letter;
 }

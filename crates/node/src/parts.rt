@@ -1,11 +1,11 @@
 //! What a node is made of, and what its parts do with letters.
 
-ghost use Rattle.std.specs.Prelude.{◌≡◌, ◌≢◌, ◌++◌, ◌∷◌, [], ◌<◌, ◌≤◌, ◌↔◌, Ok, Err, length, true, false, IsTrue, IfErr, IfOk, IsOk, None, OnErr, OnOk, ℕ, ◌⊎◌, take};
+ghost use Rattle.std.specs.Prelude.{◌≡◌, ◌≢◌, ◌++◌, ◌∷◌, [], ◌<◌, ◌≤◌, ◌↔◌, Ok, Err, length, true, false, IsTrue, IfErr, IfOk, IsOk, None, OnErr, OnOk, ℕ, ◌⊎◌, take, vec_capacity, vec_len};
 ghost use Rattle.ballots.specs.Ballots.{NoneAbove};
 ghost use Rattle.ballots.specs.Limits.{IsPlace, IsValue, most_places};
 ghost use Rattle.ballots.specs.Members.{member_count};
 ghost use Rattle.ballots.specs.Rows.{at};
-ghost use Rattle.ballots.specs.declared.letters.Note.TheVariants.{Higher as HigherNote, Voted as VotedNote};
+ghost use Rattle.ballots.specs.declared.letters.Note.TheVariants.{Voted as VotedNote};
 ghost use Rattle.node.specs.Answers.{accepted_letters, WroteNothing};
 ghost use Rattle.acceptor.specs.Calls.{KeepsTrust};
 ghost use Rattle.acceptor.specs.Content.{Content};
@@ -20,7 +20,7 @@ ghost use Rattle.proposer.specs.Turns.{IsNextBallot, is_counted};
 ghost use Rattle.node.specs.Step.{Leads, accept, after_higher, are_votes, first_known, heed, is_sound, known, learns, letter, letters_told, nothing, offer, prepare, promise, to_all, voted};
 
 use crate::knowledge::Knowledge;
-use crate::letters::{known_letters, one_letter, prepared_note, replace_last};
+use crate::letters::{known_letters, one_letter, prepared_note};
 use acceptor::{Accepted, Records, RecordsFault, accept, greatest_used, prepare};
 use ballots::{Ballot, Bytes, Letter, NodeId, Note, Place, Value, Votes};
 use map_release::Numbered;
@@ -78,23 +78,15 @@ impl<R: Records> Parts<R> {
         fault
     }
 
-    /// The letters of a Prepare's answer, the last with the answer still to be put in.
-    fn before_promise(
-        &self,
-        from: NodeId,
-        ballot: Ballot,
-        place: Place,
-    ) -> Result<Vec<Letter>, AllocError>
-        ensures { IfOk result (λ letters. letters.items ≡ first_known self.now.proposer.id self.now.knowledge.tally.learned from place ++ letter self.now.proposer.id from (HigherNote ballot) ∷ []) }
+    /// The letters before a Prepare's answer, with room for it.
+    fn before_promise(&self, from: NodeId, place: Place) -> Result<Vec<Letter>, AllocError>
+        ensures letters { IfOk result (λ letters. letters.items ≡ first_known self.now.proposer.id self.now.knowledge.tally.learned from place) }
+        ensures room { IfOk result (λ letters. vec_len letters < vec_capacity letters) }
     {
         let me = self.proposer.id();
         let learned = self.knowledge.values();
         let mut letters = known_letters(self.alloc, me, from, place.number(), learned)?;
-        letters.push(Letter {
-            from: me,
-            to: from,
-            note: Note::Higher { ballot },
-        })?;
+        letters.reserve(1)?;
         Ok(letters)
     }
 
@@ -113,7 +105,7 @@ impl<R: Records> Parts<R> {
         ensures done { IsTrue (R.is_honest self.new.records)
             → Does R.may_find self.old (λ view course. course ≡ Ok (prepare self.old.proposer.id view ballot place from)) result self.new }
     {
-        let mut letters = self.before_promise(from, ballot, place)?;
+        let mut letters = self.before_promise(from, place)?;
         let answer = match prepare(&mut self.records, ballot, place) {
             Ok(answer) => answer,
             Err(fault) => return Err(self.fail(fault)),
@@ -123,7 +115,7 @@ impl<R: Records> Parts<R> {
             to: from,
             note: prepared_note(answer, ballot, place),
         };
-        replace_last(&mut letters, answer);
+        letters.push_reserved(answer);
         Ok(letters)
     }
 

@@ -116,6 +116,15 @@ impl<V> Table<V> {
             self.run.push_reserved(value);
         }
     }
+
+    /// Before a value is put at this place: what follows the run comes into it, and an empty table's run begins here.
+    fn make_ready(&mut self, place: u64)
+        ensures { self.new ≡ self.old }
+    {
+        self.draw();
+        self.draw();
+        self.begin_at(place);
+    }
 }
 
 impl<V: Drop> Table<V> {
@@ -125,7 +134,7 @@ impl<V: Drop> Table<V> {
         ensures old { IfOk result (λ old. old ≡ at self.old.entries place) }
         ensures err { OnErr result (self.new ≡ self.old) }
     {
-        self.begin_at(place);
+        self.make_ready(place);
         if place < self.first {
             let old = self.before.insert(place, value).map_err(AllocError::from)?;
             return Ok(old);
@@ -160,9 +169,7 @@ impl<V: Drop> Table<V> {
         ensures err { OnErr result (self.new ≡ self.old) }
         ensures unwritten { OnErr result (rows.new ≡ rows.old) }
     {
-        self.draw();
-        self.draw();
-        self.begin_at(place);
+        self.make_ready(place);
         if place < self.first {
             return insert_after(&mut self.before, place, value, rows, write);
         }
@@ -178,6 +185,9 @@ fn next_in_tree<V>(tree: &BTreeMap<u64, V>, place: u64) -> Option<(u64, &V)>
     ensures from { IfSome result (λ row. place ≤ row.0) }
     ensures row { MatchOption result (rows_from tree.now.entries place ≡ []) (λ row. IsNext tree.now.entries place row.0 row.1.now) }
 {
+    if tree.is_empty() {
+        return None;
+    }
     let (at, value) = tree.range(place..).next()?;
     Some((*at, value))
 }

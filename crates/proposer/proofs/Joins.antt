@@ -20,9 +20,6 @@ place_after_step q p cast votes m is = place_after_max q p votes ∙ is
 pub rest_in_log : (vote : ℕ × Cast) (votes : List (ℕ × Cast)) → AreInLog (vote ∷ votes) → AreInLog votes
 rest_in_log vote votes are = λ k d below. are (suc k) d (omega arith)
 
-pub first_in_log : (vote : ℕ × Cast) (votes : List (ℕ × Cast)) → AreInLog (vote ∷ votes) → vote.0 ≤ most_places
-first_in_log vote votes are = are 0 0 (omega arith)
-
 pub join_one_in_log : (rows : List (ℕ × Cast)) (p : ℕ) (cast : Cast) (was : Option Cast) → AreInLog rows → p ≤ most_places → AreInLog (join_one rows p cast was)
 join_one_in_log rows p cast None are is = All-keys-insert_entry nat_cmp p cast (λ place. place ≤ most_places) rows are is
 join_one_in_log rows p cast (Some other) are is = by_test (nat_lt other.ballot cast.ballot)

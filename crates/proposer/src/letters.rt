@@ -16,7 +16,7 @@ pub fn to_all(
 ) -> Result<Vec<Letter>, AllocError>
     ensures { IfOk result (λ letters. letters.items ≡ to_all (member_count members) from note.now) }
 {
-    let mut letters = Vec::new(alloc);
+    let mut letters = Vec::with_capacity(alloc, usize::from(members.count()))?;
     for number in 0..members.count() {
         if let Some(to) = NodeId::new(number) {
             letters.push(Letter {

@@ -139,15 +139,6 @@ impl Joined {
     }
 }
 
-fn copied(alloc: Global, cast: &Cast) -> Result<Cast, AllocError>
-    ensures { IfOk result (λ c. c ≡ cast.now) }
-{
-    Ok(Cast {
-        ballot: cast.ballot,
-        value: cast.value.copy(alloc)?,
-    })
-}
-
 fn join_vote(
     alloc: Global,
     joined: &mut BTreeMap<u64, Cast>,
@@ -162,7 +153,7 @@ fn join_vote(
     };
     if is_higher {
         joined
-            .insert(place, copied(alloc, cast)?)
+            .insert(place, cast.copy(alloc)?)
             .map_err(AllocError::from)?;
     }
     Ok(())

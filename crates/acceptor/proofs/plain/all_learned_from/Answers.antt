@@ -1,10 +1,22 @@
-use Rattle.std.proofs.Common.{◌≡◌, ◌++◌, rules, sym, subst, arith}
+use Rattle.std.proofs.Common.{◌≡◌, ◌+◌, rules, sym, subst, arith}
+use Rattle.ballots.specs.Limits.{IsValue}
 use Rattle.ballots.specs.Rows.{rows_from}
-use Rattle.acceptor.proofs.SoundRows.{ArePlaces, places_from}
+use Rattle.acceptor.proofs.SoundRows.{next_fits, next_is_value}
 use Rattle.acceptor.proofs.plain.all_learned_from.Goals as goal
 
-pub loop-at-init : goal.loop-at-init
-loop-at-init c =
-    let ranged : c.into_iter-at-iterator.result ≡ rows_from c.args.learned.now.entries c.args.place = search rules in
-    let all : c.new-rows.result.items ++ c.into_iter-at-iterator.result ≡ rows_from c.args.learned.now.entries c.args.place = search rules in
-    (all, subst ArePlaces (sym ranged) (places_from 1 c.args.place c.args.learned.now.entries (omega arith) c.requires))
+pub overflow_add-next : goal.overflow_add-next
+overflow_add-next c =
+    let learned = c.args.learned.now.entries in
+    let fits = next_fits c.loop-at.next c.in-Some.at c.in-Some.kept.now learned (rows_from learned (c.in-Some.at + 1)) c.requires.rows c.in-Some.ensures.row in
+    omega (arith, fits.1)
+
+pub place_of-requires : goal.place_of-requires
+place_of-requires c =
+    let learned = c.args.learned.now.entries in
+    next_fits c.loop-at.next c.in-Some.at c.in-Some.kept.now learned (rows_from learned (c.in-Some.at + 1)) c.requires.rows c.in-Some.ensures.row
+
+pub value_of-value-requires : goal.value_of-value-requires
+value_of-value-requires c =
+    let learned = c.args.learned.now.entries in
+    let value : c.in_ok-to_bytes.field-0 ≡ c.in-Some.kept.now = search rules in
+    subst IsValue (sym value) (next_is_value c.loop-at.next c.in-Some.at c.in-Some.kept.now learned (rows_from learned (c.in-Some.at + 1)) c.requires.values c.in-Some.ensures.row)

@@ -1,5 +1,6 @@
 use Rattle.std.proofs.Common.{ℕ, List, ◌≡◌, rules, sym, ap, subst, ◌∙◌, Some}
 use Rattle.ballots.specs.Ballots.{number_of}
+use Rattle.ballots.specs.Limits.{IsValue}
 use Rattle.ballots.specs.Rows.{put}
 use Rattle.acceptor.specs.Content.{AreRowsFrom, AreValues, Content, after_write}
 use Rattle.acceptor.specs.Content.Write.{Learns}
@@ -12,7 +13,7 @@ invariant_of-self-2 c =
     let learned = c.self.inside.learned.entries in
     let now : c.put_value.new.learned.entries ≡ put learned c.number.result c.in_ok-value.value = search rules in
     let rows = rows_put 1 c.number.result c.in_ok-value.value learned c.number.ensures.fits.0 c.number.ensures.fits.1 c.self.invariant.1.1 in
-    let values = values_put c.number.result c.in_ok-value.value learned c.in_ok-value.ensures.fits c.self.invariant.1.2 in
+    let values = values_put c.number.result c.in_ok-value.value learned (subst IsValue (sym c.in_ok-value.ensures) c.as_slice.ensures.fits) c.self.invariant.1.2 in
     (c.self.invariant.0, (c.self.invariant.1.0, subst (AreRowsFrom 1) (sym now) rows, subst AreValues (sym now) values))
 
 pub returns-clause-writes : goal.returns-clause-writes

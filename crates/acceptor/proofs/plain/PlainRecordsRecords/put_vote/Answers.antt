@@ -10,11 +10,18 @@ use Rattle.acceptor.specs.Content.Write.{Votes}
 use Rattle.acceptor.proofs.Certain.{wrote, doubted, added}
 use Rattle.acceptor.proofs.plain.PlainRecordsRecords.put_vote.Goals as goal
 
+pub highest_after-self-inside-requires : goal.highest_after-self-inside-requires
+highest_after-self-inside-requires c =
+    let votes = c.self.inside.votes.entries in
+    let cast : Cast = record { ballot = c.args.ballot; value = c.in_ok-value.value } in
+    let now : c.put_at.new.votes.entries ≡ put votes c.number.result cast = search rules in
+    subst (AreRowsFrom 1) (sym now) (rows_put 1 c.number.result cast votes c.number.ensures.fits.0 c.number.ensures.fits.1 c.self.invariant.1.0)
+
 pub invariant_of-self-2 : goal.invariant_of-self-2
 invariant_of-self-2 c =
     let votes = c.self.inside.votes.entries in
     let row = number_of c.self.inside.row in
-    let cast : Cast = record { ballot = c.args.ballot; value = c.in_ok-copy.field-0 } in
+    let cast : Cast = record { ballot = c.args.ballot; value = c.in_ok-value.value } in
     let others = replaced row votes c.number.result cast in
     let now : c.put_at.new.votes.entries ≡ put votes c.number.result cast = search rules in
     let before = c.self.invariant.0 ∙ others.1 ∙ ap (λ b. max b others.0) (sym c.in_ok-replaced.ensures.replaced) in

@@ -14,7 +14,7 @@ pub returns-in_default-clause-more : goal.returns-in_default-clause-more
 returns-in_default-clause-more c =
     let rows = c.self.inside.learned.entries in
     let n = c.self.inside.outputs.len in
-    let none : slice_get (gapless rows) n ≡ None = sym (next_found rows n c.prefix_len.result (option_copied c.get.result) c.self.invariant.log (c.prefix_len.ensures.len ∙ sym (ap (λ (v : LogView). v.applied) c.self.view_is)) c.get.ensures.value) ∙ ap option_copied c.in_default.is in
+    let none : slice_get (gapless rows) n ≡ None = sym (next_found rows n c.prefix_len-next.result (option_copied c.get.result) c.self.invariant.log (c.prefix_len-next.ensures.len ∙ sym (ap (λ (v : LogView). v.applied) c.self.view_is)) c.get.ensures) ∙ ap option_copied c.in_default.is in
     let all : length (gapless rows) ≤ n = is_last n (gapless rows) none in
     let fewer : length (gapless c.args.self.now.learned) ≤ c.args.self.now.applied = subst (λ (v : LogView). length (gapless v.learned) ≤ v.applied) c.self.view_is all in
     (λ h. absurd (cc (h)), λ h. absurd (omega arith))
@@ -24,7 +24,7 @@ invariant_of-self-2 c =
     let rows = c.self.inside.learned.entries in
     let n = c.self.inside.outputs.len in
     let v = c.in-Some.value.now in
-    let some : slice_get (gapless rows) n ≡ Some v = sym (next_found rows n c.prefix_len.result (option_copied c.get.result) c.self.invariant.log (c.prefix_len.ensures.len ∙ sym (ap (λ (v : LogView). v.applied) c.self.view_is)) c.get.ensures.value) ∙ ap option_copied c.in-Some.is in
+    let some : slice_get (gapless rows) n ≡ Some v = sym (next_found rows n c.prefix_len-next.result (option_copied c.get.result) c.self.invariant.log (c.prefix_len-next.ensures.len ∙ sym (ap (λ (v : LogView). v.applied) c.self.view_is)) c.get.ensures) ∙ ap option_copied c.in-Some.is in
     let command : c.read_command-command.result.0 ≡ command_of v = c.read_command-command.ensures.value ∙ ap command_of c.as_slice.ensures in
     let pushed : c.push.new.self.items ≡ c.reserve.new.self.items ++ c.in_ok-output.output ∷ [] = search rules in
     let items : c.push.new.self.items ≡ c.self.inside.outputs.items ++ c.in_ok-output.output ∷ [] = pushed ∙ ap (λ (os : List Output). os ++ c.in_ok-output.output ∷ []) c.reserve.ensures.items in
@@ -44,7 +44,7 @@ returns-clause-more c =
     let rows = c.self.inside.learned.entries in
     let n = c.self.inside.outputs.len in
     let v = c.in-Some.value.now in
-    let some : slice_get (gapless rows) n ≡ Some v = sym (next_found rows n c.prefix_len.result (option_copied c.get.result) c.self.invariant.log (c.prefix_len.ensures.len ∙ sym (ap (λ (v : LogView). v.applied) c.self.view_is)) c.get.ensures.value) ∙ ap option_copied c.in-Some.is in
+    let some : slice_get (gapless rows) n ≡ Some v = sym (next_found rows n c.prefix_len-next.result (option_copied c.get.result) c.self.invariant.log (c.prefix_len-next.ensures.len ∙ sym (ap (λ (v : LogView). v.applied) c.self.view_is)) c.get.ensures) ∙ ap option_copied c.in-Some.is in
     let within : n < length (gapless rows) = slice_get_within (gapless rows) n v some in
     let more : c.args.self.now.applied < length (gapless c.args.self.now.learned) = subst (λ (v : LogView). v.applied < length (gapless v.learned)) c.self.view_is within in
     (λ _. more, λ _. search rules)
@@ -56,26 +56,26 @@ pub returns-in_err-reserve-clause-no_more : goal.returns-in_err-reserve-clause-n
 returns-in_err-reserve-clause-no_more c =
     let rows = c.self.inside.learned.entries in
     let n = c.self.inside.outputs.len in
-    let some : slice_get (gapless rows) n ≡ Some c.in-Some.value.now = sym (next_found rows n c.prefix_len.result (option_copied c.get.result) c.self.invariant.log (c.prefix_len.ensures.len ∙ sym (ap (λ (v : LogView). v.applied) c.self.view_is)) c.get.ensures.value) ∙ ap option_copied c.in-Some.is in
+    let some : slice_get (gapless rows) n ≡ Some c.in-Some.value.now = sym (next_found rows n c.prefix_len-next.result (option_copied c.get.result) c.self.invariant.log (c.prefix_len-next.ensures.len ∙ sym (ap (λ (v : LogView). v.applied) c.self.view_is)) c.get.ensures) ∙ ap option_copied c.in-Some.is in
     λ all. absurd (not_all rows n c.in-Some.value.now c.args.self.now some c.self.view_is all)
 
 pub returns-in_err-output-clause-no_more : goal.returns-in_err-output-clause-no_more
 returns-in_err-output-clause-no_more c =
     let rows = c.self.inside.learned.entries in
     let n = c.self.inside.outputs.len in
-    let some : slice_get (gapless rows) n ≡ Some c.in-Some.value.now = sym (next_found rows n c.prefix_len.result (option_copied c.get.result) c.self.invariant.log (c.prefix_len.ensures.len ∙ sym (ap (λ (v : LogView). v.applied) c.self.view_is)) c.get.ensures.value) ∙ ap option_copied c.in-Some.is in
+    let some : slice_get (gapless rows) n ≡ Some c.in-Some.value.now = sym (next_found rows n c.prefix_len-next.result (option_copied c.get.result) c.self.invariant.log (c.prefix_len-next.ensures.len ∙ sym (ap (λ (v : LogView). v.applied) c.self.view_is)) c.get.ensures) ∙ ap option_copied c.in-Some.is in
     λ all. absurd (not_all rows n c.in-Some.value.now c.args.self.now some c.self.view_is all)
 
 pub returns-in_err-map_err-clause-no_more : goal.returns-in_err-map_err-clause-no_more
 returns-in_err-map_err-clause-no_more c =
     let rows = c.self.inside.learned.entries in
     let n = c.self.inside.outputs.len in
-    let some : slice_get (gapless rows) n ≡ Some c.in-Some.value.now = sym (next_found rows n c.prefix_len.result (option_copied c.get.result) c.self.invariant.log (c.prefix_len.ensures.len ∙ sym (ap (λ (v : LogView). v.applied) c.self.view_is)) c.get.ensures.value) ∙ ap option_copied c.in-Some.is in
+    let some : slice_get (gapless rows) n ≡ Some c.in-Some.value.now = sym (next_found rows n c.prefix_len-next.result (option_copied c.get.result) c.self.invariant.log (c.prefix_len-next.ensures.len ∙ sym (ap (λ (v : LogView). v.applied) c.self.view_is)) c.get.ensures) ∙ ap option_copied c.in-Some.is in
     λ all. absurd (not_all rows n c.in-Some.value.now c.args.self.now some c.self.view_is all)
 
 pub returns-clause-no_more : goal.returns-clause-no_more
 returns-clause-no_more c =
     let rows = c.self.inside.learned.entries in
     let n = c.self.inside.outputs.len in
-    let some : slice_get (gapless rows) n ≡ Some c.in-Some.value.now = sym (next_found rows n c.prefix_len.result (option_copied c.get.result) c.self.invariant.log (c.prefix_len.ensures.len ∙ sym (ap (λ (v : LogView). v.applied) c.self.view_is)) c.get.ensures.value) ∙ ap option_copied c.in-Some.is in
+    let some : slice_get (gapless rows) n ≡ Some c.in-Some.value.now = sym (next_found rows n c.prefix_len-next.result (option_copied c.get.result) c.self.invariant.log (c.prefix_len-next.ensures.len ∙ sym (ap (λ (v : LogView). v.applied) c.self.view_is)) c.get.ensures) ∙ ap option_copied c.in-Some.is in
     λ all. absurd (not_all rows n c.in-Some.value.now c.args.self.now some c.self.view_is all)

@@ -14,7 +14,7 @@ pub returns-then-eq-clause-ok : goal.returns-then-eq-clause-ok
 returns-then-eq-clause-ok c =
     let rows = c.self.inside.learned.entries in
     let known = c.in-Some.known.now in
-    let some : value_at rows c.args.place ≡ Some known = sym c.get.ensures.value ∙ ap option_copied c.in-Some.is in
+    let some : value_at rows c.args.place ≡ Some known = sym c.get.ensures ∙ ap option_copied c.in-Some.is in
     let same : known ≡ c.args.value.now = sym c.as_slice.ensures ∙ (bytes_eq-Decides c.as_slice.result.now c.args.value.now).0 (sym c.eq.ensures ∙ c.if-eq.true) in
     let at_place : value_at rows c.args.place ≡ Some c.args.value.now = some ∙ ap (λ (v : List ℕ). Some v) same in
     let seen : value_at c.args.self.now.learned c.args.place ≡ Some c.args.value.now = subst (λ (v : LogView). value_at v.learned c.args.place ≡ Some c.args.value.now) c.self.view_is at_place in (
@@ -26,7 +26,7 @@ pub returns-in-Some-clause-err : goal.returns-in-Some-clause-err
 returns-in-Some-clause-err c =
     let rows = c.self.inside.learned.entries in
     let known = c.in-Some.known.now in
-    let some : value_at rows c.args.place ≡ Some known = sym c.get.ensures.value ∙ ap option_copied c.in-Some.is in
+    let some : value_at rows c.args.place ≡ Some known = sym c.get.ensures ∙ ap option_copied c.in-Some.is in
     let seen : value_at c.args.self.now.learned c.args.place ≡ Some known = subst (λ (v : LogView). value_at v.learned c.args.place ≡ Some known) c.self.view_is some in
     let other : known ≡ c.args.value.now → ⊥ = λ same. let equal : c.eq.result ≡ true = c.eq.ensures ∙ (bytes_eq-Decides c.as_slice.result.now c.args.value.now).1 (c.as_slice.ensures ∙ same) in absurd (cc) in
     ((is_a_place c.args.place (omega arith) (omega arith), (known, seen, other)), refl)
@@ -35,10 +35,10 @@ pub invariant_of-self-2 : goal.invariant_of-self-2
 invariant_of-self-2 c =
     let rows = c.self.inside.learned.entries in
     let n = c.self.inside.outputs.len in
-    let none : value_at rows c.args.place ≡ None = sym c.get.ensures.value ∙ ap option_copied c.in_default.is in
-    let value : c.new-value.result ≡ c.args.value.now = search rules in
-    let put : c.insert.new.self.entries ≡ insert_entry nat_cmp rows c.args.place c.new-value.result = search rules in
-    let kept = log_put rows c.insert.new.self.entries n c.args.place c.new-value.result c.self.invariant.log (omega arith) (omega arith) none put in
+    let none : value_at rows c.args.place ≡ None = sym c.get.ensures ∙ ap option_copied c.in_default.is in
+    let value : c.in_ok-value.value ≡ c.args.value.now = search rules in
+    let put : c.insert.new.self.entries ≡ insert_entry nat_cmp rows c.args.place c.in_ok-value.value = search rules in
+    let kept = log_put rows c.insert.new.self.entries n c.args.place c.in_ok-value.value c.self.invariant.log (omega arith) (omega arith) none put in
     record {
       log = kept.0;
       outputs = c.self.invariant.outputs ∙ ap outputs_of_values (sym kept.1);

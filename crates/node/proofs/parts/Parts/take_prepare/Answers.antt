@@ -1,5 +1,4 @@
 use Rattle.std.proofs.Common.{◌≡◌, ◌⊎◌, ◌<◌, inl, inr, refl, ap, subst, sym, Ok, Err, IsTrue, Result, ◌++◌, ◌∷◌, [], rules, Some}
-use Rattle.ballots.specs.declared.letters.Note.TheVariants.{Higher as HigherNote}
 use Rattle.acceptor.specs.Content.{after_write, promised}
 use Rattle.acceptor.specs.Content.Write.{Promises}
 use Rattle.acceptor.specs.Found.{HoldsEither}
@@ -8,7 +7,7 @@ use Rattle.node.specs.Calls.{answer}
 use Rattle.node.specs.Sched.{view_over}
 use Rattle.node.specs.Answers.{prepared_note}
 use Rattle.proposer.specs.declared.fault.NodeFault.{NodeFault as Fault}
-use Rattle.node.proofs.Preparations.{first_letters, prepared, prepares_so, promises_so, set_last}
+use Rattle.node.proofs.Preparations.{first_letters, prepared, prepares_so, promises_so}
 use Rattle.node.proofs.Endings.{unchanged, ends, fails}
 use Rattle.node.proofs.Telling.{failed}
 use Rattle.node.proofs.parts.Parts.take_prepare.Goals as goal
@@ -37,10 +36,9 @@ returns-clause-done g c honest content holds =
     let view = view_over c.args.self.now content in
     let wrote = c.in-Ok.ensures.ok honest content holds in
     let so = prepares_so me c.args.from view c.args.ballot c.args.place c.in-Ok.answer wrote.0 wrote.1 in
-    let last = set_last (first_letters me c.args.from view c.args.ballot c.args.place) (letter me c.args.from (HigherNote c.args.ballot)) (letter me c.args.from (prepared_note c.args.ballot c.args.place c.in-Ok.answer)) in
-    let sent : c.replace_last.new.letters.items ≡ first_letters me c.args.from view c.args.ballot c.args.place ++ letter me c.args.from (prepared_note c.args.ballot c.args.place c.in-Ok.answer) ∷ [] = rw (c.replace_last.ensures, c.in_ok-letters.ensures, c.prepared_note.ensures, c.id.ensures) last in
+    let sent : c.push_reserved.new.self.items ≡ first_letters me c.args.from view c.args.ballot c.args.place ++ letter me c.args.from (prepared_note c.args.ballot c.args.place c.in-Ok.answer) ∷ [] = rw (c.push_reserved.ensures.items, c.in_ok-letters.ensures.letters, c.prepared_note.ensures, c.id.ensures) refl in
     ends g.R.Records.may_find c.args.self.now c.requires content holds (λ course. course ≡ Ok (prepare me view c.args.ballot c.args.place c.args.from)) c.prepare.new.records
-    (prepared me c.args.from view c.args.ballot c.args.place c.in-Ok.answer wrote.0) c.replace_last.new.letters.items (after_write content wrote.0)
+    (prepared me c.args.from view c.args.ballot c.args.place c.in-Ok.answer wrote.0) c.push_reserved.new.self.items (after_write content wrote.0)
     (ap Ok (sym so)) sent refl wrote.2
 
 pub returns-in-Err-clause-kept : goal.returns-in-Err-clause-kept

@@ -15,7 +15,7 @@ pub returns-then-place-self-clause-ok : goal.returns-then-place-self-clause-ok
 returns-then-place-self-clause-ok g c =
     let s = c.self.inside in
     let held : c.insert.new.self.entries ≡ put s.before.entries c.args.place c.args.value = search rules in
-    let seen : entries_of s.before.entries s.first s.run.items s.after.entries ≡ c.args.self.now.entries = ap (λ (t : Entries g.row.V.Denot). t.entries) (c.self.view_is ∙ c.begin_at.ensures) in
+    let seen : entries_of s.before.entries s.first s.run.items s.after.entries ≡ c.args.self.now.entries = ap (λ (t : Entries g.row.V.Denot). t.entries) (c.self.view_is ∙ c.make_ready.ensures) in
     ap (λ (r : List (ℕ × g.row.V.Denot)). entries_of r s.first s.run.items s.after.entries) held
     ∙ put_before_run s.before.entries s.first s.run.items s.after.entries c.self.invariant c.args.place c.args.value c.if-place-self.true
     ∙ ap (λ (r : List (ℕ × g.row.V.Denot)). put r c.args.place c.args.value) seen
@@ -24,13 +24,13 @@ pub returns-then-place-self-clause-old : goal.returns-then-place-self-clause-old
 returns-then-place-self-clause-old g c =
     let s = c.self.inside in
     let old : c.in_ok-old.old ≡ at s.before.entries c.args.place = search rules in
-    let seen : entries_of s.before.entries s.first s.run.items s.after.entries ≡ c.args.self.now.entries = ap (λ (t : Entries g.row.V.Denot). t.entries) (c.self.view_is ∙ c.begin_at.ensures) in
+    let seen : entries_of s.before.entries s.first s.run.items s.after.entries ≡ c.args.self.now.entries = ap (λ (t : Entries g.row.V.Denot). t.entries) (c.self.view_is ∙ c.make_ready.ensures) in
     old ∙ sym (found_before s.before.entries s.first s.run.items s.after.entries c.self.invariant c.args.place c.if-place-self.true) ∙ ap (λ (r : List (ℕ × g.row.V.Denot)). at r c.args.place) seen
 
 pub returns-then-index-len-clause-ok : goal.returns-then-index-len-clause-ok
 returns-then-index-len-clause-ok g c =
     let s = c.self.inside in
-    let seen : entries_of s.before.entries s.first s.run.items s.after.entries ≡ c.args.self.now.entries = ap (λ (t : Entries g.row.V.Denot). t.entries) (c.self.view_is ∙ c.begin_at.ensures) in
+    let seen : entries_of s.before.entries s.first s.run.items s.after.entries ≡ c.args.self.now.entries = ap (λ (t : Entries g.row.V.Denot). t.entries) (c.self.view_is ∙ c.make_ready.ensures) in
     ap (λ (v : g.row.V.Denot). entries_of s.before.entries s.first (set s.run.items (c.args.place - s.first) v) s.after.entries) c.replace.ensures.after
     ∙ put_in_run s.before.entries s.first s.run.items s.after.entries c.self.invariant c.args.place (c.args.place - s.first) c.args.value (omega arith) (omega arith)
     ∙ ap (λ (r : List (ℕ × g.row.V.Denot)). put r c.args.place c.args.value) seen
@@ -41,7 +41,7 @@ returns-then-index-len-clause-old g c =
     let i = c.args.place - s.first in
     let within : i < length s.run.items = omega arith in
     let here : Some c.replace.result ≡ slice_get s.run.items i = ap (λ (v : g.row.V.Denot). Some v) (c.replace.ensures.value ∙ c.index_mut.ensures.value) ∙ sym (slice_get-get_or s.run.items i c.index_mut.result.now within) in
-    let seen : entries_of s.before.entries s.first s.run.items s.after.entries ≡ c.args.self.now.entries = ap (λ (t : Entries g.row.V.Denot). t.entries) (c.self.view_is ∙ c.begin_at.ensures) in
+    let seen : entries_of s.before.entries s.first s.run.items s.after.entries ≡ c.args.self.now.entries = ap (λ (t : Entries g.row.V.Denot). t.entries) (c.self.view_is ∙ c.make_ready.ensures) in
     here ∙ sym (found_in s.before.entries s.first s.run.items s.after.entries c.self.invariant c.args.place i (omega arith) within) ∙ ap (λ (r : List (ℕ × g.row.V.Denot)). at r c.args.place) seen
 
 pub invariant_of-self-2 : goal.invariant_of-self-2
@@ -56,7 +56,7 @@ returns-clause-ok g c =
     let s = c.self.inside in
     let held : c.push.new.self.items ≡ s.run.items ++ c.args.value ∷ [] = search rules in
     let none : at s.after.entries c.args.place ≡ None = is_nothing (at s.after.entries c.args.place) (sym c.contains_key.ensures ∙ c.if-contains_key.false) in
-    let seen : entries_of s.before.entries s.first s.run.items s.after.entries ≡ c.args.self.now.entries = ap (λ (t : Entries g.row.V.Denot). t.entries) (c.self.view_is ∙ c.begin_at.ensures) in
+    let seen : entries_of s.before.entries s.first s.run.items s.after.entries ≡ c.args.self.now.entries = ap (λ (t : Entries g.row.V.Denot). t.entries) (c.self.view_is ∙ c.make_ready.ensures) in
     ap (λ (r : List g.row.V.Denot). entries_of s.before.entries s.first r s.after.entries) held
     ∙ put_at_end s.before.entries s.first s.run.items s.after.entries c.self.invariant c.args.place c.args.value (omega arith) none
     ∙ ap (λ (r : List (ℕ × g.row.V.Denot)). put r c.args.place c.args.value) seen
@@ -65,7 +65,7 @@ pub returns-clause-old : goal.returns-clause-old
 returns-clause-old g c =
     let s = c.self.inside in
     let none : at s.after.entries c.args.place ≡ None = is_nothing (at s.after.entries c.args.place) (sym c.contains_key.ensures ∙ c.if-contains_key.false) in
-    let seen : entries_of s.before.entries s.first s.run.items s.after.entries ≡ c.args.self.now.entries = ap (λ (t : Entries g.row.V.Denot). t.entries) (c.self.view_is ∙ c.begin_at.ensures) in
+    let seen : entries_of s.before.entries s.first s.run.items s.after.entries ≡ c.args.self.now.entries = ap (λ (t : Entries g.row.V.Denot). t.entries) (c.self.view_is ∙ c.make_ready.ensures) in
     sym (sym (ap (λ (r : List (ℕ × g.row.V.Denot)). at r c.args.place) seen) ∙ found_after s.before.entries s.first s.run.items s.after.entries c.self.invariant c.args.place (omega arith) ∙ none)
 
 pub invariant_of-self-then-index-len-2 : goal.invariant_of-self-then-index-len-2
@@ -78,7 +78,7 @@ pub returns-then-index-len-2-clause-ok : goal.returns-then-index-len-2-clause-ok
 returns-then-index-len-2-clause-ok g c =
     let s = c.self.inside in
     let held : c.insert-then-index-len-2.new.self.entries ≡ put s.after.entries c.args.place c.args.value = search rules in
-    let seen : entries_of s.before.entries s.first s.run.items s.after.entries ≡ c.args.self.now.entries = ap (λ (t : Entries g.row.V.Denot). t.entries) (c.self.view_is ∙ c.begin_at.ensures) in
+    let seen : entries_of s.before.entries s.first s.run.items s.after.entries ≡ c.args.self.now.entries = ap (λ (t : Entries g.row.V.Denot). t.entries) (c.self.view_is ∙ c.make_ready.ensures) in
     ap (λ (r : List (ℕ × g.row.V.Denot)). entries_of s.before.entries s.first s.run.items r) held
     ∙ put_behind s.before.entries s.first s.run.items s.after.entries c.self.invariant c.args.place c.args.value (omega arith)
     ∙ ap (λ (r : List (ℕ × g.row.V.Denot)). put r c.args.place c.args.value) seen
@@ -87,5 +87,5 @@ pub returns-then-index-len-2-clause-old : goal.returns-then-index-len-2-clause-o
 returns-then-index-len-2-clause-old g c =
     let s = c.self.inside in
     let old : c.in_ok-old-2.old ≡ at s.after.entries c.args.place = search rules in
-    let seen : entries_of s.before.entries s.first s.run.items s.after.entries ≡ c.args.self.now.entries = ap (λ (t : Entries g.row.V.Denot). t.entries) (c.self.view_is ∙ c.begin_at.ensures) in
+    let seen : entries_of s.before.entries s.first s.run.items s.after.entries ≡ c.args.self.now.entries = ap (λ (t : Entries g.row.V.Denot). t.entries) (c.self.view_is ∙ c.make_ready.ensures) in
     old ∙ sym (found_after s.before.entries s.first s.run.items s.after.entries c.self.invariant c.args.place (omega arith)) ∙ ap (λ (r : List (ℕ × g.row.V.Denot)). at r c.args.place) seen

@@ -7,13 +7,13 @@ use Rattle.place_table.proofs.table.Table.insert_after.Goals as goal
 pub insert_after-requires-clause-none : goal.insert_after-requires-clause-none
 insert_after-requires-clause-none g c =
     let s = c.self.inside in
-    let seen : entries_of s.before.entries s.first s.run.items s.after.entries ≡ c.args.self.now.entries = ap (λ (t : Entries g.row.V.Denot). t.entries) (c.self.view_is ∙ c.begin_at.ensures ∙ c.draw-2.ensures ∙ c.draw.ensures) in
+    let seen : entries_of s.before.entries s.first s.run.items s.after.entries ≡ c.args.self.now.entries = ap (λ (t : Entries g.row.V.Denot). t.entries) (c.self.view_is ∙ c.make_ready.ensures) in
     sym (found_before s.before.entries s.first s.run.items s.after.entries c.self.invariant c.args.place c.if-place-self.true) ∙ ap (λ (r : List (ℕ × g.row.V.Denot)). at r c.args.place) seen ∙ c.requires.none
 
 pub returns-then-place-self-clause-put : goal.returns-then-place-self-clause-put
 returns-then-place-self-clause-put g c =
     let s = c.self.inside in
-    let seen : entries_of s.before.entries s.first s.run.items s.after.entries ≡ c.args.self.now.entries = ap (λ (t : Entries g.row.V.Denot). t.entries) (c.self.view_is ∙ c.begin_at.ensures ∙ c.draw-2.ensures ∙ c.draw.ensures) in
+    let seen : entries_of s.before.entries s.first s.run.items s.after.entries ≡ c.args.self.now.entries = ap (λ (t : Entries g.row.V.Denot). t.entries) (c.self.view_is ∙ c.make_ready.ensures) in
     ok_weaker c.insert_after.result
     (λ (held : c.insert_after.new.tree.entries ≡ put s.before.entries c.args.place c.args.value).
     ap (λ (r : List (ℕ × g.row.V.Denot)). entries_of r s.first s.run.items s.after.entries) held
@@ -32,7 +32,7 @@ invariant_of-self g c =
 pub insert_after-requires-then-place-self-2-clause-none : goal.insert_after-requires-then-place-self-2-clause-none
 insert_after-requires-then-place-self-2-clause-none g c =
     let s = c.self.inside in
-    let seen : entries_of s.before.entries s.first s.run.items s.after.entries ≡ c.args.self.now.entries = ap (λ (t : Entries g.row.V.Denot). t.entries) (c.self.view_is ∙ c.begin_at.ensures ∙ c.draw-2.ensures ∙ c.draw.ensures) in
+    let seen : entries_of s.before.entries s.first s.run.items s.after.entries ≡ c.args.self.now.entries = ap (λ (t : Entries g.row.V.Denot). t.entries) (c.self.view_is ∙ c.make_ready.ensures) in
     let none : at (entries_of s.before.entries s.first s.run.items s.after.entries) c.args.place ≡ None = ap (λ (r : List (ℕ × g.row.V.Denot)). at r c.args.place) seen ∙ c.requires.none in
     let behind = is_behind s.before.entries s.first s.run.items s.after.entries c.self.invariant c.args.place c.if-place-self.false none in
     sym (found_after s.before.entries s.first s.run.items s.after.entries c.self.invariant c.args.place behind) ∙ none
@@ -40,7 +40,7 @@ insert_after-requires-then-place-self-2-clause-none g c =
 pub returns-then-place-self-2-clause-put : goal.returns-then-place-self-2-clause-put
 returns-then-place-self-2-clause-put g c =
     let s = c.self.inside in
-    let seen : entries_of s.before.entries s.first s.run.items s.after.entries ≡ c.args.self.now.entries = ap (λ (t : Entries g.row.V.Denot). t.entries) (c.self.view_is ∙ c.begin_at.ensures ∙ c.draw-2.ensures ∙ c.draw.ensures) in
+    let seen : entries_of s.before.entries s.first s.run.items s.after.entries ≡ c.args.self.now.entries = ap (λ (t : Entries g.row.V.Denot). t.entries) (c.self.view_is ∙ c.make_ready.ensures) in
     let none : at (entries_of s.before.entries s.first s.run.items s.after.entries) c.args.place ≡ None = ap (λ (r : List (ℕ × g.row.V.Denot)). at r c.args.place) seen ∙ c.requires.none in
     let behind = is_behind s.before.entries s.first s.run.items s.after.entries c.self.invariant c.args.place c.if-place-self.false none in
     ok_weaker c.insert_after-then-place-self-2.result
@@ -53,7 +53,7 @@ returns-then-place-self-2-clause-put g c =
 pub invariant_of-self-then-place-self-2 : goal.invariant_of-self-then-place-self-2
 invariant_of-self-then-place-self-2 g c =
     let s = c.self.inside in
-    let seen : entries_of s.before.entries s.first s.run.items s.after.entries ≡ c.args.self.now.entries = ap (λ (t : Entries g.row.V.Denot). t.entries) (c.self.view_is ∙ c.begin_at.ensures ∙ c.draw-2.ensures ∙ c.draw.ensures) in
+    let seen : entries_of s.before.entries s.first s.run.items s.after.entries ≡ c.args.self.now.entries = ap (λ (t : Entries g.row.V.Denot). t.entries) (c.self.view_is ∙ c.make_ready.ensures) in
     let none : at (entries_of s.before.entries s.first s.run.items s.after.entries) c.args.place ≡ None = ap (λ (r : List (ℕ × g.row.V.Denot)). at r c.args.place) seen ∙ c.requires.none in
     let behind = is_behind s.before.entries s.first s.run.items s.after.entries c.self.invariant c.args.place c.if-place-self.false none in
     by_written c.insert_after-then-place-self-2.result c.insert_after-then-place-self-2.ensures.put c.insert_after-then-place-self-2.ensures.refused c.insert_after-then-place-self-2.ensures.err
@@ -64,7 +64,7 @@ invariant_of-self-then-place-self-2 g c =
 pub returns-clause-put : goal.returns-clause-put
 returns-clause-put g c =
     let s = c.self.inside in
-    let seen : entries_of s.before.entries s.first s.run.items s.after.entries ≡ c.args.self.now.entries = ap (λ (t : Entries g.row.V.Denot). t.entries) (c.self.view_is ∙ c.begin_at.ensures ∙ c.draw-2.ensures ∙ c.draw.ensures) in
+    let seen : entries_of s.before.entries s.first s.run.items s.after.entries ≡ c.args.self.now.entries = ap (λ (t : Entries g.row.V.Denot). t.entries) (c.self.view_is ∙ c.make_ready.ensures) in
     let none : at (entries_of s.before.entries s.first s.run.items s.after.entries) c.args.place ≡ None = ap (λ (r : List (ℕ × g.row.V.Denot)). at r c.args.place) seen ∙ c.requires.none in
     let behind = is_behind s.before.entries s.first s.run.items s.after.entries c.self.invariant c.args.place c.if-place-self.false none in
     let absent : at s.after.entries c.args.place ≡ None = sym (found_after s.before.entries s.first s.run.items s.after.entries c.self.invariant c.args.place behind) ∙ none in
@@ -79,7 +79,7 @@ returns-clause-put g c =
 pub invariant_of-self-2 : goal.invariant_of-self-2
 invariant_of-self-2 g c =
     let s = c.self.inside in
-    let seen : entries_of s.before.entries s.first s.run.items s.after.entries ≡ c.args.self.now.entries = ap (λ (t : Entries g.row.V.Denot). t.entries) (c.self.view_is ∙ c.begin_at.ensures ∙ c.draw-2.ensures ∙ c.draw.ensures) in
+    let seen : entries_of s.before.entries s.first s.run.items s.after.entries ≡ c.args.self.now.entries = ap (λ (t : Entries g.row.V.Denot). t.entries) (c.self.view_is ∙ c.make_ready.ensures) in
     let none : at (entries_of s.before.entries s.first s.run.items s.after.entries) c.args.place ≡ None = ap (λ (r : List (ℕ × g.row.V.Denot)). at r c.args.place) seen ∙ c.requires.none in
     let behind = is_behind s.before.entries s.first s.run.items s.after.entries c.self.invariant c.args.place c.if-place-self.false none in
     let absent : at s.after.entries c.args.place ≡ None = sym (found_after s.before.entries s.first s.run.items s.after.entries c.self.invariant c.args.place behind) ∙ none in
