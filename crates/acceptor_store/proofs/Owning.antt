@@ -55,27 +55,6 @@ pub two_leave : (old mid new : State) → Survives old mid (λ _. old.now.schema
 two_leave old mid new one two same before =
     survives_then old mid new _ _ _ (λ _ db other. other) (λ clean db other has. other (ap (λ (d : Database). d.schema) (same (before clean) has) ∙ has)) one two
 
--- what an older connection had, read over its store
-pub finds_for : {S : Type 0} (g : Ghosts S) (owner : Owner) (conn again new : Held S) (numbers : Numbers) → (state g conn).now.schema ≡ schema_of Third → Rereads Third (state g conn) (state g again)
-    → ExaminesFor g owner again new numbers → FindsFor g owner conn new numbers
-finds_for g owner conn again new numbers schema re ex =
-    let e = ex re.0 in
-    (e.0, (schema, subst (λ t. AreTablesFor (Some owner) t e.0) re.1 e.1, e.2), e.3, e.4)
-
--- the owner that was found is another
-pub other_due : {S : Type 0} (g : Ghosts S) (wanted found : Owner) (is_new : Bool) (conn : Held S) (fault : OwnerFault)
-    → ((fault ≡ OtherNode) × (found.node ≢ wanted.node)) ⊎ ((fault ≡ OtherMembers) × (found.node ≡ wanted.node) × (found.members ≢ wanted.members)) → Names g conn found → IsDue g wanted is_new conn fault
-other_due g wanted found is_new conn fault (inl other) named = subst (IsDue g wanted is_new conn) (sym other.0) (found, named, other.1)
-other_due g wanted found is_new conn fault (inr other) named = subst (IsDue g wanted is_new conn) (sym other.0) (found, named, other.1, other.2)
-
--- a fault of an open is due, where Foreign is
-pub open_due : {S : Type 0} (g : Ghosts S) (wanted : Owner) (is_new : Bool) (conn : Held S) (fault : OpenFault) → (state g conn).now.schema ≡ schema_of Third
-    → (fault ≡ Foreign → HoldsNoneOwned (state g conn).committed.trees) → IsDue g wanted is_new conn (Open fault)
-open_due g wanted is_new conn Refused schema foreign = tt
-open_due g wanted is_new conn Broken schema foreign = tt
-open_due g wanted is_new conn OutOfMemory schema foreign = tt
-open_due g wanted is_new conn Foreign schema foreign = inr (schema, foreign refl)
-
 -- and so is a fault of the schema
 pub schema_due : {S : Type 0} (g : Ghosts S) (wanted : Owner) (is_new : Bool) (conn : Held S) (fault : OwnerFault)
     → ((fault ≡ Open Foreign) × IsBroken (state g conn).now.schema) ⊎ (((fault ≡ Unowned) × IsUnowned (state g conn).now.schema) ⊎ ((fault ≡ Open Refused) ⊎ (fault ≡ Open OutOfMemory)))
@@ -84,13 +63,6 @@ schema_due g wanted is_new conn fault (inl broken) = subst (IsDue g wanted is_ne
 schema_due g wanted is_new conn fault (inr (inl unowned)) = subst (IsDue g wanted is_new conn) (sym unowned.0) unowned.1
 schema_due g wanted is_new conn fault (inr (inr (inl refused))) = subst (IsDue g wanted is_new conn) (sym refused) tt
 schema_due g wanted is_new conn fault (inr (inr (inr memory))) = subst (IsDue g wanted is_new conn) (sym memory) tt
-
--- a fault of the store is due
-pub store_due : {S : Type 0} (g : Ghosts S) (wanted : Owner) (is_new : Bool) (conn : Held S) (fault : OpenFault) → fault ≢ Foreign → IsDue g wanted is_new conn (Open fault)
-store_due g wanted is_new conn Refused other = tt
-store_due g wanted is_new conn Broken other = tt
-store_due g wanted is_new conn OutOfMemory other = tt
-store_due g wanted is_new conn Foreign other = absurd (other refl)
 
 -- tables that were found are prepared
 pub prepares_for : {S : Type 0} (g : Ghosts S) (owner : Owner) (is_new : Bool) (old new : Held S) (numbers : Numbers) → FindsFor g owner old new numbers → PreparesFor g owner is_new old new numbers

@@ -151,10 +151,6 @@ module _ {S L : Type 0} (g : Ghosts S) (rest : Option L) {self inside : Linked S
     at : self.held ≡ Some was.0
     at = sym (ap (λ (r : Linked S). r.held) view) ∙ was.1
 
-  -- and couldn't read its tables
-  pub left_linked : (numbers : Numbers) → IsServing g inside.owner new false inside.is_sure numbers
-  left_linked numbers sure clean = ((leaves_new sure clean).stands (before sure clean), λ up. absurd (let e : false ≡ true = up in cc))
-
   pub reopen_kept : IsTrue (inside.is_sure && (state g new).is_clean) → AddsNothing (MayFind g self.owner self.held) (MayFindIn g inside.owner new)
   reopen_kept h =
       let clean : HasCleanDisk (state g new) = no_doubt _ (and_parts inside.is_sure _ h).1 in
@@ -202,10 +198,6 @@ stays_as version old new same = (
     tables = subst (λ (d : Database). AreTablesOf version d.trees c) (sym same.0.now_is) was.tables;
   },
 )
-
-pub all_stay_as : (version : Version) (old new : State) {X E : Type 0} (r : Result X E) → OnOk r (IsUnchanged old new) → OnOk r (StaysAs version old new)
-all_stay_as version old new (Ok x) same = stays_as version old new same
-all_stay_as version old new (Err e) same = tt
 
 -- tables that hold a content serve it
 pub serves_tables : {S : Type 0} (g : Ghosts S) (version : Version) (old : Held S) → (state g old).now.schema ≡ schema_of version → IsReread version (state g old) → (c : Content) → AreTablesOf version (state g old).now.trees c → ServesAs version (state g old) c
@@ -283,25 +275,6 @@ pub all_prepare : {S E : Type 0} (g : Ghosts S) (conn : Held S) (Known : Type 0)
     → IfOk r (λ x. HasCleanDisk (state g x.0) → MakesReady g conn x.0 x.1)
 all_prepare g conn Known (Ok x) known h = λ clean. h clean known
 all_prepare g conn Known (Err e) known h = tt
-
-pub prepares_second : {S : Type 0} (g : Ghosts S) (version : Version) (old new : Held S) (numbers : Numbers) → version ≡ Second → Found g version old new numbers → MakesReady g old new numbers
-prepares_second g version old new numbers is f = (f.0, inr (version, f.1), serves_for None (state g new) f.0 (subst (λ v. ServesAs v (state g new) f.0) is f.2) tt, f.3)
-
-pub prepares_first : {S : Type 0} (g : Ghosts S) (version : Version) (old mid new : Held S) (numbers : Numbers) → version ≡ First → Found g version old mid numbers → HasRaised (state g mid) (state g new) → MakesReady g old new numbers
-prepares_first g version old mid new numbers is f raised = (f.0, inr (version, f.1), raised f.0 (subst (λ v. ServesAs v (state g mid) f.0) is f.2), f.3)
-
--- a database without tables has none of facts, and no part of the others
-none_there : (s : Schema) (name : List ℕ) (Wants : Table → Type 0) → table_named s name ≡ None → IsThereWithout s name Wants → ⊥
-none_there s name Wants none h = absurd (let e : None ≡ Some h.0 = sym none ∙ h.2 in cc)
-
-pub blank_schema_is_own : IsForeignSchema blank_schema → ⊥
-blank_schema_is_own (inl h) = absurd (let e : false ≡ true = h in cc)
-blank_schema_is_own (inr (inl (inl h))) = absurd (let e : false ≡ true = h.1 in cc)
-blank_schema_is_own (inr (inl (inr (inl h)))) = absurd (let e : false ≡ true = h.0 in cc)
-blank_schema_is_own (inr (inl (inr (inr h)))) = absurd (let e : false ≡ true = h.2 in cc)
-blank_schema_is_own (inr (inr (inl h))) = none_there blank_schema (codes "ballot") LacksNumbers refl h
-blank_schema_is_own (inr (inr (inr (inl h)))) = none_there blank_schema (codes "vote") LacksVotes refl h
-blank_schema_is_own (inr (inr (inr (inr h)))) = none_there blank_schema (codes "learned") LacksLearned refl h
 
 -- how many tables a version has
 abbrev table_count : Version → ℕ

@@ -24,6 +24,7 @@ ghost use Rattle.acceptor_store_parts.specs.Foreign.{IsForeignSchema};
 ghost use Rattle.acceptor_store_parts.specs.Owned.{schema_for};
 ghost use Rattle.acceptor_store_parts.specs.Serves.{Serves, ServesFor, StillServes, DoesNotServe, StaysOpen};
 ghost use Rattle.acceptor_store_parts.specs.Stops.{LeavesOpen, leaves_open};
+ghost use Rattle.acceptor_store.specs.Stopped.{answer_of};
 ghost use Rattle.acceptor_store.specs.Linked.{MayFind, IsHonest, is_clean_in, is_honest, CannotBeRead, Tells, Leaves, Reopens, Had, HasFurther, IsFoundIn, IsLeftWhole, SeesForeign};
 
 use crate::anew::{end_unopened, opened_anew};
@@ -76,10 +77,12 @@ fn risen(failures: u64) -> u64
 
 /// Notes how a call ended that failed.
 fn end(is_up: &mut bool, failures: &mut u64, stop: Stop) -> RecordsFault
+    ensures value { result ≡ answer_of stop }
     ensures up { is_up.new ≡ (if leaves_open stop then is_up.old else false) }
     ensures harmless { IsHarmless result → LeavesOpen stop }
     ensures open { LeavesOpen stop → IsHarmless result }
-    ensures count { (failures.old ≤ failures.new) × (IsStoreFault result → HasRisen failures.old failures.new) × (result ≡ OutOfMemory → failures.new ≡ failures.old) }
+    ensures count { (failures.old ≤ failures.new) × (IsStoreFault result → HasRisen failures.old failures.new) × (result ≡ OutOfMemory
+        → failures.new ≡ failures.old) }
 {
     match stop {
         Stop::Memory => RecordsFault::OutOfMemory,
@@ -174,8 +177,10 @@ impl<S: OpensAnew> SqlRecords<S> {
         ensures whole { IfErr result (λ e. IsClean (S.Store.view e.1) → (db : Trees) → S.Store.recovers e.1 db → IsLeftWhole S.Store conn db) }
         ensures foreign { IfErr result (λ e. e.0 ≡ OpenFault.Foreign → IsClean (S.Store.view e.1) → SeesForeign S.Store conn) }
         ensures used { IsTrue (state S.Store conn).in_transaction → IsErrAnd result (λ e. e.0 ≡ OpenFault.Refused) }
-        ensures unowned { (state S.Store conn).in_transaction ≡ false → IsForeignSchema (state S.Store conn).now.schema → IsErrAnd result (λ e. e.0 ≡ OpenFault.Foreign) }
-        ensures further { (state S.Store conn).in_transaction ≡ false → HasFurther (state S.Store conn).now.schema → IsErrAnd result (λ e. (e.0 ≡ OpenFault.Refused) ⊎ (e.0 ≡ OpenFault.OutOfMemory)) }
+        ensures unowned { (state S.Store conn).in_transaction ≡ false → IsForeignSchema (state S.Store conn).now.schema
+            → IsErrAnd result (λ e. e.0 ≡ OpenFault.Foreign) }
+        ensures further { (state S.Store conn).in_transaction ≡ false → HasFurther (state S.Store conn).now.schema
+            → IsErrAnd result (λ e. (e.0 ≡ OpenFault.Refused) ⊎ (e.0 ≡ OpenFault.OutOfMemory)) }
     {
         let found = match opening::prepared(alloc, conn) {
             Ok(found) => found,

@@ -13,6 +13,7 @@ ghost use Rattle.acceptor_store_parts.specs.Rowids.{AreByRowid, IsReread};
 ghost use Rattle.acceptor_store_parts.specs.Tables.{schema_of};
 ghost use Rattle.acceptor_store_parts.specs.Stored.{HasLearned, KeepsLearned, IsCast, IsLearned, IsNumber, IsOfNode, learned_row, vote_row};
 ghost use Rattle.acceptor_store_parts.specs.Serves.{ServesAs, IsOther, HasRaised, MayHaveRaised};
+ghost use Rattle.acceptor_store.specs.Stopped.{fault_of};
 ghost use Rattle.acceptor_store.specs.Linked.{HasFurther, Examines, MakesReady, SeesForeign, HasNumbers, StaysAs, FindsContent, IsLeftWhole};
 
 use crate::OpenFault;
@@ -24,7 +25,8 @@ use sqlite_schema::schema::Schema;
 use std::alloc::Global;
 
 pub fn stopped(stop: Stop) -> OpenFault
-    ensures { result ≢ OpenFault.Foreign }
+    ensures value { result ≡ fault_of stop }
+    ensures ours { result ≢ OpenFault.Foreign }
 {
     match stop {
         Stop::Memory => OpenFault::OutOfMemory,
@@ -36,7 +38,8 @@ pub fn stopped(stop: Stop) -> OpenFault
 /// Refuses any schema but that of a version's tables alone.
 fn judged(alloc: Global, schema: &Schema) -> Result<Version, OpenFault>
     ensures unowned { IsForeignSchema schema.now → IsErrAnd result (λ e. e ≡ OpenFault.Foreign) }
-    ensures further { (IsForeignSchema schema.now → ⊥) → ((version : _) → schema.now ≢ schema_of version) → IsErrAnd result (λ e. (e ≡ OpenFault.Refused) ⊎ (e ≡ OpenFault.OutOfMemory)) }
+    ensures further { (IsForeignSchema schema.now → ⊥) → ((version : _) → schema.now ≢ schema_of version)
+        → IsErrAnd result (λ e. (e ≡ OpenFault.Refused) ⊎ (e ≡ OpenFault.OutOfMemory)) }
     ensures own { IfOk result (λ version. schema.now ≡ schema_of version) }
     ensures ours { OnOk result (IsForeignSchema schema.now → ⊥) }
     ensures foreign { result ≡ Err OpenFault.Foreign → IsForeignSchema schema.now }
@@ -57,10 +60,13 @@ fn numbers_in<S: Alter>(
     conn: &mut Connection<S>,
     version: Version,
 ) -> Result<(Option<Ballot>, Option<Ballot>), OpenFault>
-    ensures held { HasCleanDisk (state S.Store conn.new) → IfOk result (λ n. AreByRowid version (state S.Store conn.old) → HasNumbers version (state S.Store conn.old).now.trees (number_of n.0) (number_of n.1)) }
+    ensures held { HasCleanDisk (state S.Store conn.new) → IfOk result (λ n. AreByRowid version (state S.Store conn.old)
+        → HasNumbers version (state S.Store conn.old).now.trees (number_of n.0) (number_of n.1)) }
     ensures fits { IfOk result (λ n. IsNumber (number_of n.0) × IsNumber (number_of n.1)) }
-    ensures same { HasCleanDisk (state S.Store conn.new) → (state S.Store conn.old).now.schema ≡ schema_of version → OnOk result (StaysAs version (state S.Store conn.old) (state S.Store conn.new)) }
-    ensures foreign { HasCleanDisk (state S.Store conn.new) → result ≡ Err OpenFault.Foreign → (c : Content) → ServesAs version (state S.Store conn.old) c → IsOfNode c → ⊥ }
+    ensures same { HasCleanDisk (state S.Store conn.new) → (state S.Store conn.old).now.schema ≡ schema_of version
+        → OnOk result (StaysAs version (state S.Store conn.old) (state S.Store conn.new)) }
+    ensures foreign { HasCleanDisk (state S.Store conn.new) → result ≡ Err OpenFault.Foreign → (c : Content) → ServesAs version (state S.Store conn.old) c
+        → IsOfNode c → ⊥ }
     ensures survives { Survives (state S.Store conn.old) (state S.Store conn.new) (λ _. IsOther (state S.Store conn.old)) }
 {
     let shown = match acceptor_store_parts::query_numbers(conn) {
@@ -75,10 +81,13 @@ fn numbers_in<S: Alter>(
 
 /// The votes, where the table of votes has what a node writes.
 fn votes_in<S: Alter>(alloc: Global, conn: &mut Connection<S>) -> Result<Votes, OpenFault>
-    ensures held { HasCleanDisk (state S.Store conn.new) → IfOk result (λ votes. (version : _) → AreByRowid version (state S.Store conn.old) → (state S.Store conn.old).now.trees 1 ≡ map vote_row votes) }
+    ensures held { HasCleanDisk (state S.Store conn.new) → IfOk result (λ votes. (version : _) → AreByRowid version (state S.Store conn.old)
+        → (state S.Store conn.old).now.trees 1 ≡ map vote_row votes) }
     ensures fits { IfOk result (λ votes. AllByRecursion IsCast votes × AreRowsFrom 1 votes) }
-    ensures same { HasCleanDisk (state S.Store conn.new) → (version : _) → (state S.Store conn.old).now.schema ≡ schema_of version → OnOk result (StaysAs version (state S.Store conn.old) (state S.Store conn.new)) }
-    ensures foreign { HasCleanDisk (state S.Store conn.new) → result ≡ Err OpenFault.Foreign → (version : _) (c : Content) → ServesAs version (state S.Store conn.old) c → IsOfNode c → ⊥ }
+    ensures same { HasCleanDisk (state S.Store conn.new) → (version : _) → (state S.Store conn.old).now.schema ≡ schema_of version
+        → OnOk result (StaysAs version (state S.Store conn.old) (state S.Store conn.new)) }
+    ensures foreign { HasCleanDisk (state S.Store conn.new) → result ≡ Err OpenFault.Foreign → (version : _) (c : Content)
+        → ServesAs version (state S.Store conn.old) c → IsOfNode c → ⊥ }
     ensures survives { Survives (state S.Store conn.old) (state S.Store conn.new) (λ _. IsOther (state S.Store conn.old)) }
 {
     let rows = match acceptor_store_parts::query_all_votes(conn) {
@@ -101,7 +110,8 @@ fn kept_learned<S: Alter>(
     alloc: Global,
     conn: &mut Connection<S>,
 ) -> Result<Vec<(Place, Value)>, OpenFault>
-    ensures held { HasCleanDisk (state S.Store conn.new) → IfOk result (λ learned. (version : _) → KeepsLearned version → AreByRowid version (state S.Store conn.old)
+    ensures held { HasCleanDisk (state S.Store conn.new) → IfOk result (λ learned. (version : _) → KeepsLearned version
+        → AreByRowid version (state S.Store conn.old)
         → (state S.Store conn.old).now.trees 2 ≡ map learned_row learned.items) }
     ensures fits { IfOk result (λ learned. AllByRecursion IsLearned learned.items × AreRowsFrom 1 learned.items) }
     ensures same { HasCleanDisk (state S.Store conn.new) → (version : _) → KeepsLearned version → (state S.Store conn.old).now.schema ≡ schema_of version
@@ -132,10 +142,13 @@ fn learned_in<S: Alter>(
     conn: &mut Connection<S>,
     version: Version,
 ) -> Result<Vec<(Place, Value)>, OpenFault>
-    ensures held { HasCleanDisk (state S.Store conn.new) → IfOk result (λ learned. AreByRowid version (state S.Store conn.old) → (c : Content) → c.learned ≡ learned.items → HasLearned version (state S.Store conn.old).now.trees c) }
+    ensures held { HasCleanDisk (state S.Store conn.new) → IfOk result (λ learned. AreByRowid version (state S.Store conn.old) → (c : Content)
+        → c.learned ≡ learned.items → HasLearned version (state S.Store conn.old).now.trees c) }
     ensures fits { IfOk result (λ learned. AllByRecursion IsLearned learned.items × AreRowsFrom 1 learned.items) }
-    ensures same { HasCleanDisk (state S.Store conn.new) → (state S.Store conn.old).now.schema ≡ schema_of version → OnOk result (StaysAs version (state S.Store conn.old) (state S.Store conn.new)) }
-    ensures foreign { HasCleanDisk (state S.Store conn.new) → result ≡ Err OpenFault.Foreign → (c : Content) → ServesAs version (state S.Store conn.old) c → IsOfNode c → ⊥ }
+    ensures same { HasCleanDisk (state S.Store conn.new) → (state S.Store conn.old).now.schema ≡ schema_of version
+        → OnOk result (StaysAs version (state S.Store conn.old) (state S.Store conn.new)) }
+    ensures foreign { HasCleanDisk (state S.Store conn.new) → result ≡ Err OpenFault.Foreign → (c : Content) → ServesAs version (state S.Store conn.old) c
+        → IsOfNode c → ⊥ }
     ensures survives { Survives (state S.Store conn.old) (state S.Store conn.new) (λ _. (state S.Store conn.old).now.schema ≡ schema_of version → ⊥) }
 {
     match version {
@@ -151,10 +164,12 @@ pub fn examined<S: Alter>(
     conn: &mut Connection<S>,
     version: Version,
 ) -> Result<Numbers, OpenFault>
-    ensures tables { HasCleanDisk (state S.Store conn.new) → (state S.Store conn.old).now.schema ≡ schema_of version → IfOk result (Examines S.Store version conn.old conn.new) }
+    ensures tables { HasCleanDisk (state S.Store conn.new) → (state S.Store conn.old).now.schema ≡ schema_of version
+        → IfOk result (Examines S.Store version conn.old conn.new) }
     ensures same { HasCleanDisk (state S.Store conn.new) → (state S.Store conn.old).now.schema ≡ schema_of version
         → OnOk result (StaysAs version (state S.Store conn.old) (state S.Store conn.new)) }
-    ensures foreign { HasCleanDisk (state S.Store conn.new) → (state S.Store conn.old).now.schema ≡ schema_of version → result ≡ Err OpenFault.Foreign → IsReread version (state S.Store conn.old) → HoldsNone version (state S.Store conn.old).now.trees }
+    ensures foreign { HasCleanDisk (state S.Store conn.new) → (state S.Store conn.old).now.schema ≡ schema_of version → result ≡ Err OpenFault.Foreign
+        → IsReread version (state S.Store conn.old) → HoldsNone version (state S.Store conn.old).now.trees }
     ensures survives { Survives (state S.Store conn.old) (state S.Store conn.new) (λ _. (state S.Store conn.old).now.schema ≡ schema_of version → ⊥) }
 {
     let numbers = numbers_in(conn, version)?;
@@ -188,7 +203,8 @@ fn reread<S: Alter + Drop>(
     version: Version,
     conn: Connection<S>,
 ) -> Result<(Connection<S>, Numbers), (OpenFault, S)>
-    ensures tables { IfOk result (λ r. HasCleanDisk (state S.Store r.0) → (state S.Store conn).now.schema ≡ schema_of version → FindsContent S.Store version conn r.0 r.1) }
+    ensures tables { IfOk result (λ r. HasCleanDisk (state S.Store r.0) → (state S.Store conn).now.schema ≡ schema_of version
+        → FindsContent S.Store version conn r.0 r.1) }
     ensures clean { IfOk result (λ r. doubt (state S.Store conn).is_clean ≤ doubt (state S.Store r.0).is_clean) }
     ensures leaves { IfOk result (λ r. HasCleanDisk (state S.Store r.0) → (db : Trees) → (state S.Store r.0).may_leave db → (state S.Store conn).may_leave db) }
     ensures left { IfErr result (λ e. IsClean (S.Store.view e.1) → (db : Trees) → S.Store.recovers e.1 db → (state S.Store conn).may_leave db) }
@@ -218,9 +234,11 @@ fn brought_up<S: Alter + Drop>(
     conn: Connection<S>,
 ) -> Result<(Connection<S>, Numbers), (OpenFault, S)>
     requires unowned { version ≢ Version.Third }
-    ensures tables { IfOk result (λ r. HasCleanDisk (state S.Store r.0) → (state S.Store conn).now.schema ≡ schema_of version → MakesReady S.Store conn r.0 r.1) }
+    ensures tables { IfOk result (λ r. HasCleanDisk (state S.Store r.0) → (state S.Store conn).now.schema ≡ schema_of version
+        → MakesReady S.Store conn r.0 r.1) }
     ensures clean { IfOk result (λ r. doubt (state S.Store conn).is_clean ≤ doubt (state S.Store r.0).is_clean) }
-    ensures whole { IfErr result (λ e. IsClean (S.Store.view e.1) → (state S.Store conn).now.schema ≡ schema_of version → (db : Trees) → S.Store.recovers e.1 db → IsLeftWhole S.Store conn db) }
+    ensures whole { IfErr result (λ e. IsClean (S.Store.view e.1) → (state S.Store conn).now.schema ≡ schema_of version → (db : Trees)
+        → S.Store.recovers e.1 db → IsLeftWhole S.Store conn db) }
     ensures foreign { IfErr result (λ e. e.0 ≡ OpenFault.Foreign → IsClean (S.Store.view e.1) → HoldsNone version (state S.Store conn).committed.trees) }
 {
     let found = match reread(alloc, version, conn) {
@@ -248,8 +266,10 @@ pub fn prepared<S: Alter + Drop>(
     ensures whole { IfErr result (λ e. IsClean (S.Store.view e.1) → (db : Trees) → S.Store.recovers e.1 db → IsLeftWhole S.Store conn db) }
     ensures foreign { IfErr result (λ e. e.0 ≡ OpenFault.Foreign → IsClean (S.Store.view e.1) → SeesForeign S.Store conn) }
     ensures used { IsTrue (state S.Store conn).in_transaction → IsErrAnd result (λ e. e.0 ≡ OpenFault.Refused) }
-    ensures unowned { (state S.Store conn).in_transaction ≡ false → IsForeignSchema (state S.Store conn).now.schema → IsErrAnd result (λ e. e.0 ≡ OpenFault.Foreign) }
-    ensures further { (state S.Store conn).in_transaction ≡ false → HasFurther (state S.Store conn).now.schema → IsErrAnd result (λ e. (e.0 ≡ OpenFault.Refused) ⊎ (e.0 ≡ OpenFault.OutOfMemory)) }
+    ensures unowned { (state S.Store conn).in_transaction ≡ false → IsForeignSchema (state S.Store conn).now.schema
+        → IsErrAnd result (λ e. e.0 ≡ OpenFault.Foreign) }
+    ensures further { (state S.Store conn).in_transaction ≡ false → HasFurther (state S.Store conn).now.schema
+        → IsErrAnd result (λ e. (e.0 ≡ OpenFault.Refused) ⊎ (e.0 ≡ OpenFault.OutOfMemory)) }
 {
     if !conn.is_autocommit() {
         return Err((OpenFault::Refused, conn.into_store()));

@@ -24,3 +24,4 @@ pub mod Held
 pub mod Raw
 pub mod Casts
 pub mod Owners
+pub mod Tested

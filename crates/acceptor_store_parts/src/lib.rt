@@ -11,8 +11,7 @@ mod owner;
 mod reads;
 mod rereading;
 
-ghost use Rattle.std.specs.Prelude.{◌≡◌, ℕ, pos, [], ◌∷◌, IsTrue, IfOk, IfErr, OnOk, OnErr};
-ghost use Rattle.std.specs.Prelude.{Some};
+ghost use Rattle.std.specs.Prelude.{◌≡◌, ◌≢◌, ℕ, pos, true, false, [], ◌∷◌, IsTrue, IfOk, IfErr, OnOk, OnErr, Some};
 ghost use Rattle.acceptor.specs.Content.{Content};
 ghost use Rattle.acceptor.specs.Content.Write.{Tries, Promises, Votes as Casts};
 ghost use Rattle.sqlite.specs.State.{HasCleanDisk, Survives, IsUnchanged};
@@ -22,6 +21,7 @@ ghost use Rattle.ballots.specs.Limits.{IsPlace};
 ghost use Rattle.ballots.specs.Ballots.{number_of};
 ghost use Rattle.acceptor_store_parts.specs.Serves.{Serves, StillServes, HasWritten, MayHaveWritten, Stays, DoesNotServe};
 ghost use Rattle.acceptor_store_parts.specs.Stops.{LeavesOpen};
+ghost use Rattle.acceptor_store_parts.specs.Tests.{IsShutBy, IsTold, tells_open, told_as};
 ghost use Rattle.acceptor_store_parts.specs.Stored.{IsNumber};
 
 use ballots::{Ballot, Place, Value};
@@ -62,13 +62,31 @@ fn signed_place(place: Place) -> i64
     place.number() as i64
 }
 
-/// Whether the connection is open. It runs no statement.
-fn is_up<S: Alter>(conn: &mut Connection<S>) -> bool
-    ensures up { HasCleanDisk (state S.Store conn.new) → IsTrue result → IsUnchanged (state S.Store conn.old) (state S.Store conn.new) }
+/// What an error in a text without a statement tells: whether the connection is open.
+fn tells_open(error: Error) -> Option<bool>
+    ensures { result ≡ tells_open error }
+{
+    match error {
+        Error::SqliteFailure(ErrorCode::OutOfMemory) => None,
+        Error::SqliteFailure(ErrorCode::Closed) => Some(false),
+        Error::SqliteFailure(ErrorCode::SystemIoFailure) => Some(false),
+        Error::SqliteFailure(ErrorCode::DatabaseCorrupt) => Some(false),
+        Error::SqliteFailure(ErrorCode::DiskFull) => Some(false),
+        _ => Some(true),
+    }
+}
+
+/// Whether the connection is open, and none where no memory was there to tell. It runs no statement,
+/// and what it needs memory for is kept for the next time.
+fn is_up<S: Alter>(conn: &mut Connection<S>) -> Option<bool>
+    ensures up { HasCleanDisk (state S.Store conn.new) → result ≡ Some true → IsUnchanged (state S.Store conn.old) (state S.Store conn.new) }
+    ensures shut { HasCleanDisk (state S.Store conn.new) → result ≡ Some false → IsShutBy (state S.Store conn.old) (state S.Store conn.new) }
     ensures survives { Survives (state S.Store conn.old) (state S.Store conn.new) (λ _. ⊥) }
 {
-    conn.prepare("SELECT number FROM ballot WHERE id = 0")
-        .is_ok()
+    let Err(error) = conn.prepare("") else {
+        return Some(true);
+    };
+    tells_open(error)
 }
 
 /// How a call ended that failed.
@@ -102,18 +120,28 @@ impl<T: Drop> From<AllocFailed<T>> for Stop {
     }
 }
 
-/// How the call ended that gave this error.
-pub fn stop_for<S: Alter>(conn: &mut Connection<S>, error: Error) -> Stop
-    ensures up { HasCleanDisk (state S.Store conn.new) → LeavesOpen result → IsUnchanged (state S.Store conn.old) (state S.Store conn.new) }
-    ensures survives { Survives (state S.Store conn.old) (state S.Store conn.new) (λ _. ⊥) }
+/// How an error is told: in Down where the connection isn't known to be open.
+fn told_as(is_open: Option<bool>, error: Error) -> Stop
+    ensures told { result ≡ told_as is_open error }
+    ensures open { LeavesOpen result → is_open ≡ Some true }
 {
-    if !is_up(conn) {
+    let Some(true) = is_open else {
         return Stop::Down;
-    }
+    };
     match error {
         Error::SqliteFailure(ErrorCode::OutOfMemory) => Stop::Memory,
         _ => Stop::Refused,
     }
+}
+
+/// How the call ended that gave this error.
+pub fn stop_for<S: Alter>(conn: &mut Connection<S>, error: Error) -> Stop
+    ensures told { HasCleanDisk (state S.Store conn.new) → IsTold (state S.Store conn.old) (state S.Store conn.new) error result }
+    ensures up { HasCleanDisk (state S.Store conn.new) → LeavesOpen result → IsUnchanged (state S.Store conn.old) (state S.Store conn.new) }
+    ensures survives { Survives (state S.Store conn.old) (state S.Store conn.new) (λ _. ⊥) }
+{
+    let is_open = is_up(conn);
+    told_as(is_open, error)
 }
 
 fn run_put_tried<S: Alter>(conn: &mut Connection<S>, ballot: Ballot) -> Result<usize, Error>

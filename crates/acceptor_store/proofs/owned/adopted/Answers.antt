@@ -30,7 +30,7 @@ returns-in-Ok-own-clause-tables g c clean =
     (λ blank. absurd (let e = c.if-is_blank.ensures.all (c.schema.ensures.value ∙ blank) in cc)) (c.in-Ok.ensures.tables mid) (c.in-Ok-own.ensures.owned clean)
 
 pub returns-in-Err-own-clause-due : goal.returns-in-Err-own-clause-due
-returns-in-Err-own-clause-due g c sure = store_due_before g.S.Store c.args.owner.now c.args.conn c.stopped.result c.stopped.ensures
+returns-in-Err-own-clause-due g c sure = store_due_before g.S.Store c.args.owner.now c.args.conn c.stopped.result c.stopped.ensures.ours
 
 pub returns-in-Err-own-clause-whole : goal.returns-in-Err-own-clause-whole
 returns-in-Err-own-clause-whole g c sure db may =
