@@ -4,9 +4,8 @@ use Rattle.std.specs.Prelude.{IsErr, slice_index, slice_set}
 use Rattle.std.proofs.lemmas.List.{append-nil, drop_all, get_or-drop, drop-set-lt, drop-drop, length-drop, length-set}
 use Rattle.hex.specs.Hex.{decode_of, decode_pairs, pair_value}
 use Rattle.hex.specs.declared.error.FromHexError.{FromHexError}
-use Rattle.hex.specs.declared.error.FromHexError.TheVariants.{OddLength}
-use Rattle.hex.proofs.HexLemmas.{decode_of-even, decode_of-odd}
-use Rattle.hex.proofs.Pairs.{prepend, decode_start, decode_step, decode_err}
+use Rattle.hex.proofs.HexLemmas.{decode_of-even}
+use Rattle.hex.proofs.Pairs.{prepend, decode_step, decode_err}
 
 abbrev okay : List ℕ → Result (List ℕ) FromHexError
 okay bytes = Ok bytes
@@ -16,9 +15,6 @@ pub record Decoded (before text : List ℕ) (start i : ℕ) : Type 0 where
   pub len : length text ≡ length before
   pub rest : drop (start + 2 * i) text ≡ drop (start + 2 * i) before
   pub bytes : decode_pairs 0 (drop start before) ≡ prepend (take i text) (decode_pairs (2 * i) (drop (2 * i) (drop start before)))
-
-pub nothing_decoded : (text : List ℕ) (start : ℕ) → Decoded text text start 0
-nothing_decoded text start = record { len = refl; rest = refl; bytes = decode_start (drop start text) text }
 
 -- a digit that wasn't decoded yet
 digit_same : (before text : List ℕ) (start n k : ℕ) → drop n text ≡ drop n before → n ≤ start + k → slice_index text (start + k) ≡ slice_index (drop start before) k
@@ -65,11 +61,6 @@ stops before text start i so_far fits even pair =
     let fault = fault_of (pair_value (slice_index digits (2 * i)) (slice_index digits (2 * i + 1)) (2 * i)) fails in
     let pairs : decode_pairs 0 digits ≡ Err fault.0 = decode_err digits text i fault.0 (omega (arith, enough)) fault.1 so_far.bytes in
     let all : decode_of digits ≡ Err fault.0 = decode_of-even digits (ap (λ (n : ℕ). n % 2) enough ∙ even) ∙ pairs in
-    rw all refl
-
-pub is_odd : (before : List ℕ) (start : ℕ) → (length before - start) % 2 ≡ 1 → IsErr (decode_of (drop start before))
-is_odd before start odd =
-    let all : decode_of (drop start before) ≡ Err OddLength = decode_of-odd (drop start before) (ap (λ (n : ℕ). n % 2) (length-drop start before) ∙ odd) in
     rw all refl
 
 pub finishes : (before text : List ℕ) (start i : ℕ) → Decoded before text start i → (length before - start) / 2 ≤ i → (length before - start) % 2 ≡ 0

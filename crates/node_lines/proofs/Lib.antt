@@ -1,4 +1,5 @@
 mod Asked
+mod Commands
 mod Consumed
 mod InPlace
 mod Words

@@ -40,6 +40,7 @@ abbrev pub IsDropped : List ℕ → LineFault → Type 0
 IsDropped line fault.NoLine = ⊥
 IsDropped line fault.NoHex = ⊥
 IsDropped line fault.NoNumber = ⊥
+IsDropped line fault.NoCommand = ⊥
 IsDropped line (fault.NoLetter why) = ⊥
 IsDropped line fault.OutOfMemory = 0 < length line
 IsDropped line fault.TooLong = longest_line < length line

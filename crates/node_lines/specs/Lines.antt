@@ -1,5 +1,5 @@
 -- The lines of a node, without their ends.
-use Rattle.std.specs.Prelude.{◌≡◌, ◌≢◌, ◌⊎◌, ℕ, ◌+◌, ◌*◌, ◌<◌, ◌^◌, List, [], ◌∷◌, ◌++◌, length, Ok, Err, IsErr, codes, decimal}
+use Rattle.std.specs.Prelude.{◌≡◌, ◌≢◌, ◌⊎◌, ℕ, ◌+◌, ◌*◌, ◌<◌, ◌≤◌, ◌^◌, List, [], ◌∷◌, ◌++◌, length, Ok, Err, IsErr, codes, decimal}
 use Rattle.std.specs.List.{flat_map}
 use Rattle.std.specs.Str.{IsUtf8}
 use Rattle.std.specs.Str.Parse.{IsNumeral, digits_value, without_leading_plus}
@@ -9,6 +9,7 @@ use Rattle.ballots.specs.declared.letters.Letter.{Letter}
 use Rattle.letter_bytes.specs.Longest.{longest_letter}
 use Rattle.letter_bytes.specs.Reading.{TakesMemory, letter_of}
 use Rattle.letter_bytes.specs.Spelling.{Spells, spelling, vote_spelling}
+use Rattle.node_lines.specs.Commands.{IsCommandLine, IsCommandText, command_word, longest_command}
 use Rattle.node_lines.specs.declared.request.Request.{Request}
 use Rattle.node_lines.specs.declared.request.Request.TheVariants as request
 use Rattle.node_lines.specs.declared.fault.LineFault.{LineFault}
@@ -47,10 +48,18 @@ pub record IsTellText (words : List ℕ) (to place : ℕ) : Type 0 where
   pub node : to < 5
   pub number : IsNumberText digits place
 
+-- a line offers these bytes by their digits
+abbrev pub IsDigitsOffer : List ℕ → List ℕ → Type 0
+IsDigitsOffer line value = (digits : List ℕ) × (line ≡ offer_word ++ digits) × (decode_of digits ≡ Ok value)
+
+-- a line offers these bytes by the command that they are
+abbrev pub IsCommandOffer : List ℕ → List ℕ → Type 0
+IsCommandOffer line value = IsCommandLine line × (length line ≤ longest_command) × IsCommandText line value
+
 -- a line asks this
 abbrev pub Asks : List ℕ → Request → Type 0
 Asks line request.Lead = line ≡ codes "lead"
-Asks line (request.Offer value) = (digits : List ℕ) × (line ≡ offer_word ++ digits) × (decode_of digits ≡ Ok value)
+Asks line (request.Offer value) = IsDigitsOffer line value ⊎ IsCommandOffer line value
 Asks line (request.Release now) = (digits : List ℕ) × (line ≡ release_word ++ digits) × IsNumberText digits now
 Asks line (request.Letter l) = (digits : List ℕ) × (line ≡ letter_word ++ digits) × IsLetterText digits l
 Asks line (request.Tell to place) = (words : List ℕ) × (line ≡ tell_word ++ words) × IsTellText words to place
@@ -67,6 +76,7 @@ BeginsOther word line = (digits : List ℕ) → line ≢ word ++ digits
 pub record IsNoLine (line : List ℕ) : Type 0 where
   pub lead : line ≢ codes "lead"
   pub offer : BeginsOther offer_word line
+  pub command : BeginsOther command_word line
   pub release : BeginsOther release_word line
   pub letter : BeginsOther letter_word line
   pub tell : BeginsOther tell_word line
@@ -76,11 +86,12 @@ abbrev pub IsNoLetter : List ℕ → LineFault → Type 0
 IsNoLetter digits fault.NoLine = ⊥
 IsNoLetter digits fault.NoHex = IsErr (decode_of digits)
 IsNoLetter digits fault.NoNumber = ⊥
+IsNoLetter digits fault.NoCommand = ⊥
 IsNoLetter digits (fault.NoLetter why) = (bytes : List ℕ) × (decode_of digits ≡ Ok bytes) × (letter_of bytes ≡ Err why)
 IsNoLetter digits fault.OutOfMemory = (bytes : List ℕ) × (decode_of digits ≡ Ok bytes) × TakesMemory bytes
 IsNoLetter digits fault.TooLong = ⊥
 
--- why a line asks nothing; want of memory comes only behind a value of a letter
+-- why a line asks nothing; want of memory comes only behind a value of a letter, or of a command
 abbrev pub IsRefused : List ℕ → LineFault → Type 0
 IsRefused line fault.NoLine = IsNoLine line
 IsRefused line fault.NoHex =
@@ -89,15 +100,18 @@ IsRefused line fault.NoHex =
 IsRefused line fault.NoNumber =
     ((digits : List ℕ) × (line ≡ release_word ++ digits) × ((n : ℕ) → ¬ IsNumberText digits n))
     ⊎ ((words : List ℕ) × (line ≡ tell_word ++ words) × ((to place : ℕ) → ¬ IsTellText words to place))
+IsRefused line fault.NoCommand = IsCommandLine line × (length line ≤ longest_command) × ((value : List ℕ) → ¬ IsCommandText line value)
 IsRefused line (fault.NoLetter why) = (digits : List ℕ) × (line ≡ letter_word ++ digits) × IsNoLetter digits (fault.NoLetter why)
-IsRefused line fault.OutOfMemory = (digits : List ℕ) × (line ≡ letter_word ++ digits) × IsNoLetter digits fault.OutOfMemory
-IsRefused line fault.TooLong = ⊥
+IsRefused line fault.OutOfMemory =
+    ((digits : List ℕ) × (line ≡ letter_word ++ digits) × IsNoLetter digits fault.OutOfMemory) ⊎ (IsCommandLine line × (length line ≤ longest_command))
+IsRefused line fault.TooLong = IsCommandLine line × (longest_command < length line)
 
--- the number of a fault; 4 is kept for a command's table
+-- the number of a fault
 abbrev pub fault_number : LineFault → ℕ
 fault_number fault.NoLine = 1
 fault_number fault.NoHex = 2
 fault_number fault.NoNumber = 3
+fault_number fault.NoCommand = 4
 fault_number (fault.NoLetter why) = 5
 fault_number fault.OutOfMemory = 6
 fault_number fault.TooLong = 7

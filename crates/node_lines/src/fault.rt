@@ -4,7 +4,7 @@ ghost use Rattle.node_lines.specs.Lines.{fault_number};
 use letter_bytes::LetterFault;
 use thiserror::Error;
 
-/// Why a line asks nothing; or want of memory. Number 4 is kept for a command's table, which no line here has.
+/// Why a line asks nothing; or want of memory.
 #[derive(Clone, Copy, Debug, PartialEq, Eq, Error)]
 pub enum LineFault {
     /// It is none of the lines that a node reads.
@@ -16,13 +16,16 @@ pub enum LineFault {
     /// What follows `release` is no number below 2^64.
     #[error("NoNumber")]
     NoNumber,
+    /// What follows `command` is no table that spells a command.
+    #[error("NoCommand")]
+    NoCommand,
     /// The bytes of a letter spell none.
     #[error("NoLetter {0}")]
     NoLetter(LetterFault),
-    /// A letter with values, or the line itself, found no memory.
+    /// A letter with values, a command, or the line itself found no memory.
     #[error("OutOfMemory")]
     OutOfMemory,
-    /// It has more bytes than any letter needs.
+    /// It has more bytes than any letter needs; or it has a command, and more than one may have.
     #[error("TooLong")]
     TooLong,
 }
@@ -36,6 +39,7 @@ impl LineFault {
             LineFault::NoLine => 1,
             LineFault::NoHex => 2,
             LineFault::NoNumber => 3,
+            LineFault::NoCommand => 4,
             LineFault::NoLetter(_) => 5,
             LineFault::OutOfMemory => 6,
             LineFault::TooLong => 7,

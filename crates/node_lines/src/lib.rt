@@ -1,6 +1,7 @@
 //! The lines that a node reads, and those by which its letters go out.
 #![tactic(auto)]
 
+mod command;
 mod digits;
 mod fault;
 mod input;
@@ -9,6 +10,7 @@ mod reading;
 mod request;
 mod writing;
 
+pub use command::LONGEST_COMMAND;
 pub use fault::LineFault;
 pub use input::{LONGEST_LINE, Next, next_line};
 pub use laws::{no_line_is_longer, one_meaning};

@@ -3,8 +3,10 @@
 ghost use Rattle.std.specs.Prelude.{◌≡◌, ◌≢◌, ◌++◌, ◌≤◌, ℕ, List, Ok, IfOk, IfErr, IsErr, MatchOption, drop, length, vec_len};
 ghost use Rattle.hex.specs.Hex.{decode_of};
 ghost use Rattle.node_lines.specs.declared.fault.LineFault.TheVariants.{NoHex, OutOfMemory};
+ghost use Rattle.node_lines.specs.Commands.{command_word};
 ghost use Rattle.node_lines.specs.Lines.{Asks, AsksNothing, BeginsOther, IsLetterText, IsNoLetter, IsNumberText, IsRefused, IsTellText, letter_word, offer_word};
 
+use crate::command::offer_in;
 use crate::digits::decode_in_place;
 use crate::fault::LineFault;
 use crate::request::Request;
@@ -81,9 +83,10 @@ fn telling_in(words: &[u8]) -> Option<(NodeId, u64)>
     Some((to, place))
 }
 
-/// What a line asks that is neither a letter nor an offer.
+/// What a line asks that has neither a letter nor a value.
 fn other_request(line: &[u8]) -> Result<Request, LineFault>
     requires offer { BeginsOther offer_word line.now }
+    requires command { BeginsOther command_word line.now }
     requires letter { BeginsOther letter_word line.now }
     ensures read { IfOk result (Asks line.now) }
     ensures fault { IfErr result (IsRefused line.now) }
@@ -116,11 +119,14 @@ fn request_of(alloc: Global, line: Vec<u8>) -> Result<Request, LineFault>
     if let Some(place) = behind(&line, b"offer ") {
         return Ok(Request::Offer(Bytes::new(bytes_from(line, place)?)));
     }
+    if let Some(_) = digits_behind(&line, b"command ") {
+        return offer_in(alloc, &line);
+    }
     other_request(&line)
 }
 
 /// What a line, without its end, asks of a node. Its digits are decoded in the line's memory: only a letter's values
-/// and votes take more.
+/// and votes take more, and a command.
 pub fn read_line(alloc: Global, line: Bytes) -> Result<Request, LineFault>
     ensures read { IfOk result (Asks line) }
     ensures fault { IfErr result (IsRefused line) }

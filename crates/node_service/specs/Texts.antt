@@ -31,6 +31,7 @@ abbrev pub line_fault_name : LineFault → List ℕ
 line_fault_name fault.NoLine = codes "NoLine"
 line_fault_name fault.NoHex = codes "NoHex"
 line_fault_name fault.NoNumber = codes "NoNumber"
+line_fault_name fault.NoCommand = codes "NoCommand"
 line_fault_name (fault.NoLetter why) = codes "NoLetter"
 line_fault_name fault.OutOfMemory = codes "OutOfMemory"
 line_fault_name fault.TooLong = codes "TooLong"

@@ -66,6 +66,7 @@ fn line_fault_name(fault: LineFault) -> &'static str
         LineFault::NoLine => "NoLine",
         LineFault::NoHex => "NoHex",
         LineFault::NoNumber => "NoNumber",
+        LineFault::NoCommand => "NoCommand",
         LineFault::NoLetter(_) => "NoLetter",
         LineFault::OutOfMemory => "OutOfMemory",
         LineFault::TooLong => "TooLong",

@@ -2,7 +2,7 @@
 
 use ballots::{Ballot, Bytes, Cast, Letter, NodeId, Note, Votes};
 use letter_bytes::LetterFault;
-use node_lines::{LineFault, Next, Request, next_line, read_line, write_letters};
+use node_lines::{LONGEST_COMMAND, LineFault, Next, Request, next_line, read_line, write_letters};
 use std::alloc::Global;
 use std::test::Fail;
 
@@ -35,7 +35,7 @@ const SAMPLES: [(&str, Fields); 6] = [
 ];
 
 /// Lines that ask nothing, and why.
-const REFUSED: [(&str, LineFault); 15] = [
+const REFUSED: [(&str, LineFault); 22] = [
     ("", LineFault::NoLine),
     ("lead ", LineFault::NoLine),
     ("offer 0", LineFault::NoHex),
@@ -46,6 +46,13 @@ const REFUSED: [(&str, LineFault); 15] = [
     ("tell 01 1", LineFault::NoNumber),
     ("tell 1", LineFault::NoNumber),
     ("tell 1 ", LineFault::NoNumber),
+    ("command", LineFault::NoLine),
+    ("command={kind=\"noop\"}", LineFault::NoLine),
+    ("command ", LineFault::NoCommand),
+    ("command = \"noop\"", LineFault::NoCommand),
+    ("command = {kind = \"noop\"", LineFault::NoCommand),
+    ("command = {kind = \"noon\"}", LineFault::NoCommand),
+    ("command = {kind = \"drop\", ch = 1}", LineFault::NoCommand),
     ("letter 05", LineFault::NoLetter(LetterFault::Short)),
     ("letter 0705", LineFault::NoLetter(LetterFault::NoNote)),
     ("letter 0505", LineFault::NoLetter(LetterFault::NoNode)),
@@ -60,10 +67,15 @@ const REFUSED: [(&str, LineFault); 15] = [
 ];
 
 /// Lines that ask something: a letter of what, and a value's length, a time, or ten times a place and a node's number.
-const ASKED: [(&str, (char, u64)); 7] = [
+const ASKED: [(&str, (char, u64)); 9] = [
     ("lead", ('l', 0)),
     ("offer ", ('o', 0)),
     ("offer 00fF", ('o', 2)),
+    ("command = {kind = \"noop\"}", ('o', 1)),
+    (
+        "command = {kind = \"drop\", ch = 1, sid = 2} # gone",
+        ('o', 4),
+    ),
     ("release +7", ('r', 7)),
     ("tell 0 17", ('k', 170)),
     ("tell 4 1", ('k', 14)),
@@ -211,6 +223,25 @@ fn lines_that_ask_something(rt: HostRuntime) -> Result<(), Fail> {
         let line = Bytes::new(Vec::from_slice(rt.alloc(), text.as_bytes())?);
         assert_eq!(rt; asked(read_line(rt.alloc(), line)?), want, "{text}");
     }
+    Ok(())
+}
+
+/// A line of so many bytes, with a command.
+fn command_line(alloc: Global, len: usize) -> Result<Bytes, Fail> {
+    let mut line = Vec::from_slice(alloc, b"command = {kind = \"noop\"} #")?;
+    for _ in line.len()..len {
+        line.push(b'.')?;
+    }
+    Ok(Bytes::new(line))
+}
+
+#[test]
+fn commands_as_long_as_they_may_be(rt: HostRuntime) -> Result<(), Fail> {
+    let alloc = rt.alloc();
+    let longest = command_line(alloc, LONGEST_COMMAND)?;
+    assert_eq!(rt; asked(read_line(alloc, longest)?), ('o', 1));
+    let longer = command_line(alloc, LONGEST_COMMAND + 1)?;
+    assert_eq!(rt; read_line(alloc, longer).err(), Some(LineFault::TooLong));
     Ok(())
 }
 
