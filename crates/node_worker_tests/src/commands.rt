@@ -55,7 +55,7 @@ fn read_as(alloc: Global, words: &[&str]) -> Result<String, Fail> {
     }
 }
 
-const WORDS: [(&[&str], &str); 36] = [
+const WORDS: [(&[&str], &str); 40] = [
     (
         &["maps", "a plan.toml"],
         "Maps(MapsWords { plan: \"a plan.toml\" })",
@@ -119,6 +119,16 @@ const WORDS: [(&[&str], &str); 36] = [
         "Check(CheckWords { path: \"script.toml\", form: Some(Script) })",
     ),
     (&["check", "a.toml", "--plan", "--script"], "NotUnderstood"),
+    (
+        &["capture", "plan.toml"],
+        "Capture(CaptureWords { plan: \"plan.toml\" })",
+    ),
+    (&["capture"], "NotUnderstood"),
+    (
+        &["stats", "plan.toml"],
+        "Stats(StatsWords { plan: \"plan.toml\" })",
+    ),
+    (&["stats"], "NotUnderstood"),
     (&[], "NotUnderstood"),
     (&["maps"], "NotUnderstood"),
     (&["show"], "NotUnderstood"),

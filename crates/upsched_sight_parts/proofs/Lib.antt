@@ -1,1 +1,5 @@
 mod Known
+mod Scripts
+mod Fitting
+mod Captured
+mod Told

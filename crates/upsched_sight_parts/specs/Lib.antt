@@ -1,2 +1,4 @@
 pub mod Lines
 pub mod Reports
+pub mod Plans
+pub mod Stats

@@ -50,7 +50,7 @@ impl Form {
     }
 }
 
-fn is_script(whole: &Value) -> bool
+pub(crate) fn is_script(whole: &Value) -> bool
     ensures { result ≡ is_script (view whole.now) }
 {
     whole.get("members").is_some() || whole.get("modems").is_some() || whole.get("event").is_some()

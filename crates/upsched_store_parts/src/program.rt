@@ -14,7 +14,7 @@ use upsched_live_parts::live;
 use upsched_map_parts::{Fault, LiveWords, MapsWords, NodeWords, RunWords, Status, maps, show};
 use upsched_node_parts::node;
 use upsched_parts::run_script;
-use upsched_sight_parts::{CheckWords, check};
+use upsched_sight_parts::{CaptureWords, CheckWords, StatsWords, capture, check, stats};
 use upsched_words::{Words, read_words, refused};
 
 /// Opens the plan and ends as `maps` does.
@@ -40,6 +40,32 @@ fn run_check<R: Files + AllocGlobal, O: Write, E: Write>(
     match fs::open(rt, words.path) {
         Ok(mut file) => check(rt.alloc(), &mut file, words, output, errors),
         Err(error) => Fault::of_reading(&error, words.path).told(errors),
+    }
+}
+
+/// Opens the plan and ends as `capture` does.
+fn run_capture<R: Files + AllocGlobal, O: Write, E: Write>(
+    rt: &R,
+    words: &CaptureWords<'_>,
+    output: &mut O,
+    errors: &mut E,
+) -> Status {
+    match fs::open(rt, words.plan) {
+        Ok(mut plan) => capture(rt.alloc(), &mut plan, words, output, errors),
+        Err(error) => Fault::of_reading(&error, words.plan).told(errors),
+    }
+}
+
+/// Opens the plan and ends as `stats` does.
+fn run_stats<R: Files + AllocGlobal, O: Write, E: Write>(
+    rt: &R,
+    words: &StatsWords<'_>,
+    output: &mut O,
+    errors: &mut E,
+) -> Status {
+    match fs::open(rt, words.plan) {
+        Ok(mut plan) => stats(rt.alloc(), &mut plan, words, output, errors),
+        Err(error) => Fault::of_reading(&error, words.plan).told(errors),
     }
 }
 
@@ -127,6 +153,8 @@ pub fn run_words<
         Ok(Words::Maps(words)) => run_maps(rt, &words, output, errors),
         Ok(Words::Run(words)) => run_run(rt, &words, output, errors),
         Ok(Words::Check(words)) => run_check(rt, &words, output, errors),
+        Ok(Words::Capture(words)) => run_capture(rt, &words, output, errors),
+        Ok(Words::Stats(words)) => run_stats(rt, &words, output, errors),
         Ok(Words::Show(words)) => show(rt.alloc(), &words, output, errors),
         Ok(Words::Live(words)) => run_live(rt, threads, &words, output, errors),
         Ok(Words::Node(words)) => run_node(rt, &words, input, output, errors),

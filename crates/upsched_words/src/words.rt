@@ -9,7 +9,7 @@ use clap::{Arg, ArgAction, ArgMatches, Command, Error, value_parser};
 use std::alloc::Global;
 use std::io::Write;
 use upsched_map_parts::{Fault, LiveWords, MapsWords, NodeWords, RunWords, ShowWords, Status};
-use upsched_sight_parts::{CheckWords, Form};
+use upsched_sight_parts::{CaptureWords, CheckWords, Form, StatsWords};
 
 /// A command of the program.
 #[derive(Clone, Copy, Debug)]
@@ -20,6 +20,10 @@ pub enum Words<'a> {
     Run(RunWords<'a>),
     /// Tells what is wrong with a plan or a script.
     Check(CheckWords<'a>),
+    /// Writes a plan's MAPs as a capture file.
+    Capture(CaptureWords<'a>),
+    /// Prints what a plan's MAPs give.
+    Stats(StatsWords<'a>),
     /// Prints a MAP body.
     Show(ShowWords<'a>),
     /// Works on a plan with a thread for each node, and prints whether the records agree.
@@ -94,6 +98,24 @@ fn check_command<'a>(alloc: Global) -> Result<Command<'a>, Error> {
         .arg(plan)?
         .arg(script)?;
     Ok(check)
+}
+
+fn capture_command<'a>(alloc: Global) -> Result<Command<'a>, Error> {
+    let plan = Arg::new(alloc, "PLAN").required(true).help(PLAN_HELP);
+    let capture = Command::new(alloc, "capture")
+        .about("Writes a plan's MAPs as DOCSIS frames, in a capture file that Wireshark opens")
+        .after_help("Example: upsched capture examples/plans/first_grant.toml > maps.pcap")
+        .arg(plan)?;
+    Ok(capture)
+}
+
+fn stats_command<'a>(alloc: Global) -> Result<Command<'a>, Error> {
+    let plan = Arg::new(alloc, "PLAN").required(true).help(PLAN_HELP);
+    let stats = Command::new(alloc, "stats")
+        .about("Prints what a plan's MAPs give, by channel, by use (IUC) and by SID")
+        .after_help("Example: upsched stats examples/plans/voice_and_poll.toml")
+        .arg(plan)?;
+    Ok(stats)
 }
 
 fn show_command<'a>(alloc: Global) -> Result<Command<'a>, Error> {
@@ -173,6 +195,8 @@ fn program<'a>(alloc: Global) -> Result<Command<'a>, Error> {
         .subcommand(maps_command(alloc)?)?
         .subcommand(run_command(alloc)?)?
         .subcommand(check_command(alloc)?)?
+        .subcommand(capture_command(alloc)?)?
+        .subcommand(stats_command(alloc)?)?
         .subcommand(show_command(alloc)?)?
         .subcommand(live_command(alloc)?)?
         .subcommand(node_command(alloc)?)?;
@@ -239,6 +263,12 @@ pub fn read_words<'a>(alloc: Global, words: &'a [String]) -> Result<Words<'a>, E
             .map(|plan| Words::Maps(MapsWords { plan })),
         Some(("run", words)) => run_words(words).map(|words| Words::Run(words)),
         Some(("check", words)) => check_words(words).map(|words| Words::Check(words)),
+        Some(("capture", words)) => words
+            .get_str("PLAN")
+            .map(|plan| Words::Capture(CaptureWords { plan })),
+        Some(("stats", words)) => words
+            .get_str("PLAN")
+            .map(|plan| Words::Stats(StatsWords { plan })),
         Some(("show", words)) => words
             .get_str("HEX")
             .map(|hex| Words::Show(ShowWords { hex })),

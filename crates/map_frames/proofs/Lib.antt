@@ -1,0 +1,4 @@
+mod Divisions
+mod Bits
+mod WorkedExamples
+mod Framed

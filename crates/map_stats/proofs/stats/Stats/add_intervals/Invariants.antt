@@ -1,0 +1,6 @@
+use Rattle.std.proofs.Common.{◌≡◌, take}
+use Rattle.map_stats.specs.Held.{AddsIntervals}
+use Rattle.map_stats.proofs.stats.Stats.add_intervals.Given as goal
+
+abbrev pub invariant-loop-interval : goal.invariant-loop-interval
+invariant-loop-interval l = (l.self.maps ≡ l.initial.self.maps) × AddsIntervals l.channel (take l.interval-index l.found) l.initial.self l.self

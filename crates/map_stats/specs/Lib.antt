@@ -1,0 +1,4 @@
+pub mod Tallies
+pub mod Given
+pub mod Held
+pub mod Texts

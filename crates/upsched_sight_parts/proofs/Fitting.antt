@@ -1,0 +1,52 @@
+-- Each MAP of a scheduler fits a frame.
+use Rattle.std.proofs.Common.{◌≡◌, ℕ, suc, ◌*◌, ◌≤◌, List, [], ◌∷◌, ◌++◌, length, refl, sym, ap, subst, arith}
+use Rattle.std.specs.List.{flat_map, AllByRecursion, Contains}
+use Rattle.map_body.specs.declared.element.Element.{Element}
+use Rattle.map_body.specs.Body.{Body}
+use Rattle.map_body.specs.Layout.{element_bytes, layout, IsWritten}
+use Rattle.flow_state.specs.Rows.{Rows}
+use Rattle.grant_machine.specs.declared.command.Command.{Command}
+use Rattle.grant_machine.specs.declared.output.Output.{Output}
+use Rattle.grant_machine.specs.declared.output.Output.TheVariants.{Nothing, ChannelSet, Assigned, Map as MapOutput, Refused}
+use Rattle.grant_machine.specs.Fits.{FitsCommand}
+use Rattle.grant_machine.specs.Laws.{MapsAreBodies}
+use Rattle.grant_machine.specs.Runs.{outputs_from, outputs_of, rows_from, IsReached}
+use Rattle.grant_machine.specs.Steps.{step}
+use Rattle.upsched_sight_parts.specs.Plans.{FitsFrame}
+
+elements_len : (es : List Element) → length (flat_map element_bytes es) ≡ 4 * length es
+elements_len [] = refl
+elements_len (e ∷ es) = let rest = elements_len es in omega arith
+
+body_len : (bytes : List ℕ) (map : Body) → IsWritten bytes map → length bytes ≤ 1036
+body_len bytes map written =
+    let len : length bytes ≡ length (layout map.head map.elements 0) = ap length written.0.spelled in
+    let rest = elements_len map.elements in
+    omega (arith, len, rest, written.0.count)
+
+fits_push : (cs : List Command) (c : Command) → AllByRecursion FitsCommand cs → FitsCommand c → AllByRecursion FitsCommand (cs ++ c ∷ [])
+fits_push [] c all fits = (fits, tt)
+fits_push (d ∷ cs) c all fits = (all.0, fits_push cs c all.1 fits)
+
+one_later : (o : Output) (os : List Output) (p : Output) → Contains os p → Contains (o ∷ os) p
+one_later o os p has = (suc has.0, omega (arith, has.1), has.2)
+
+-- the output of a last command is among all of them
+last_output : (rows : Rows) (cs : List Command) (c : Command) → Contains (outputs_from rows (cs ++ c ∷ [])) (step (rows_from rows cs) c).output
+last_output rows [] c = (0, omega arith, refl)
+last_output rows (d ∷ cs) c = one_later (step rows d).output (outputs_from (step rows d).rows (cs ++ c ∷ [])) _ (last_output (step rows d).rows cs c)
+
+fits_as_map : (o : Output) → ((ch start len : ℕ) (bytes : List ℕ) → o ≡ MapOutput ch start len bytes → length bytes ≤ 1036) → FitsFrame o
+fits_as_map Nothing f = tt
+fits_as_map (ChannelSet ch ucd) f = tt
+fits_as_map (Assigned modem ch sid first last) f = tt
+fits_as_map (MapOutput ch start len bytes) f = f ch start len bytes refl
+fits_as_map (Refused n) f = tt
+
+pub step_fits : MapsAreBodies → (rows : Rows) (c : Command) → IsReached rows → FitsCommand c → FitsFrame (step rows c).output
+step_fits law rows c reached fits =
+    fits_as_map (step rows c).output (λ ch start len bytes same.
+    let cs = reached.0 in
+    let last : Contains (outputs_of (cs ++ c ∷ [])) (step rows c).output = subst (λ (r : Rows). Contains (outputs_of (cs ++ c ∷ [])) (step r c).output) reached.2 (last_output [] cs c) in
+    let body = law (cs ++ c ∷ []) ch start len bytes (fits_push cs c reached.1 fits) (subst (λ (o : Output). Contains (outputs_of (cs ++ c ∷ [])) o) same last) in
+    body_len bytes body.map body.body)

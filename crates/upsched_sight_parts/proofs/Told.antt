@@ -1,0 +1,67 @@
+-- The tallies of a list of commands, one command after another, and what is told of them.
+use Rattle.std.proofs.Common.{◌≡◌, ℕ, ◌+◌, ◌<◌, ◌≤◌, List, [], ◌∷◌, ◌++◌, length, take, get_or, Option, Some, None, IfSome, Result, Ok, Err, OnOk, ap, ◌∙◌, sym, append_assoc}
+use Rattle.std.specs.List.{flat_map}
+use Rattle.std.proofs.KnownBytes.{Appends-trans}
+use Rattle.map_stats.specs.declared.tally.Tally.{Tally}
+use Rattle.std.proofs.lemmas.List.{take_all}
+use Rattle.std.specs.Io.KnownBytes.{Appends}
+use Rattle.std.specs.Ordering.{nat_cmp}
+use Rattle.std.specs.BTreeMap.{IsOrdered}
+use Rattle.flow_state.specs.Rows.{Rows}
+use Rattle.grant_machine.specs.declared.command.Command.{Command}
+use Rattle.grant_machine.specs.declared.output.Output.{Output}
+use Rattle.grant_machine.specs.Steps.{step}
+use Rattle.grant_machine.specs.Runs.{outputs_of, rows_after}
+use Rattle.map_stats.specs.declared.stats.Stats.{Stats}
+use Rattle.map_stats.specs.Held.{Holds}
+use Rattle.upsched_map_parts.specs.Plan.{IsPlan}
+use Rattle.upsched_sight_parts.specs.Stats.{AreStats, TellsStats, stats_lines}
+use Rattle.upsched_sight_parts.proofs.Captured.{outputs_next, rows_next}
+
+-- the rows after the first commands, and the tables of their MAPs
+pub record Counted (cs : List Command) (i : ℕ) (rows : Rows) (s : Stats) : Type 0 where
+  pub rows_are : rows ≡ rows_after (take i cs)
+  pub holds : Holds (outputs_of (take i cs)) s
+
+pub one_counted : (cs : List Command) (i : ℕ) (d : Command) (m m' : Rows) (s t : Stats) (output : Output) → i < length cs
+    → Counted cs i m s → m' ≡ (step m (get_or cs i d)).rows → output ≡ (step m (get_or cs i d)).output
+    → ((os : List Output) → Holds os s → Holds (os ++ output ∷ []) t) → Counted cs (i + 1) m' t
+one_counted cs i d m m' s t output below before rows is adds =
+    let all : outputs_of (take i cs) ++ output ∷ [] ≡ outputs_of (take (i + 1) cs) =
+    ap (λ (o : Output). outputs_of (take i cs) ++ o ∷ []) is ∙ sym (outputs_next cs i d m below before.rows_are) in
+    record {
+      rows_are = rows ∙ sym (rows_next cs i d m below before.rows_are);
+      holds = rw all at (adds (outputs_of (take i cs)) before.holds);
+    }
+
+pub all_counted : (cs : List Command) (i : ℕ) (m : Rows) (s : Stats) → length cs ≤ i → Counted cs i m s → Holds (outputs_of cs) s
+all_counted cs i m s end counted = let same = take_all i cs end in rw same at counted.holds
+
+-- tables in the order of their keys are the tallies
+pub are_stats : (s : Stats) → IsOrdered nat_cmp s.maps → IsOrdered nat_cmp s.uses → IsOrdered nat_cmp s.sids
+    → (os : List Output) → Holds os s → AreStats os s.maps.entries s.uses.entries s.sids.entries
+are_stats s maps uses sids os held = record {
+  shown = held.shown;
+  shows = held.shows;
+  maps_are = record { in_order = maps; at = held.maps };
+  uses_are = record { in_order = uses; at = held.uses };
+  sids_are = record { in_order = sids; at = held.sids };
+}
+
+-- where the lines of a plan's tallies were printed, the plan's were told
+pub plan_told : {T E : Type 0} (r : Result T E) (known old new : Option (List ℕ)) (cs : List Command) (s : Stats) → IfSome known (λ text. IsPlan text cs) → Holds (outputs_of cs) s
+    → ((os : List Output) → Holds os s → AreStats os s.maps.entries s.uses.entries s.sids.entries)
+    → OnOk r (Appends old new (stats_lines s.maps.entries s.uses.entries s.sids.entries)) → OnOk r (TellsStats known old new)
+plan_told (Err e) known old new cs s plan held are printed = tt
+plan_told (Ok x) None old new cs s plan held are printed = tt
+plan_told (Ok x) (Some text) old new cs s plan held are printed = (cs, s.maps.entries, s.uses.entries, s.sids.entries, plan, are (outputs_of cs) held, printed)
+
+-- the line of one row more of a table, of which these rows are left
+pub row_more : (line : ℕ × Tally → List ℕ) (old mid new : Option (List ℕ)) (whole : List ℕ) (row : ℕ × Tally) (before after : List (ℕ × Tally)) → before ≡ row ∷ after
+    → (printed : List ℕ) × Appends old mid printed × (printed ++ flat_map line before ≡ whole) → Appends mid new (line row)
+    → (printed : List ℕ) × Appends old new printed × (printed ++ flat_map line after ≡ whole)
+row_more line old mid new whole row before after is left grown = (
+  left.0 ++ line row,
+  Appends-trans old mid new _ _ left.1 grown,
+  append_assoc left.0 (line row) (flat_map line after) ∙ ap (λ (rows : List (ℕ × Tally)). left.0 ++ flat_map line rows) (sym is) ∙ left.2,
+)

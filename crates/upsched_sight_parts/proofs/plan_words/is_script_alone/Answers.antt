@@ -1,0 +1,13 @@
+use Rattle.std.proofs.Common.{◌≡◌, false, true, List, [], length, sym, ◌∙◌, ap}
+use Rattle.std.proofs.lemmas.Bool.{false≢true, both_ways, eq-eqb}
+use Rattle.grant_machine.specs.declared.command.Command.{Command}
+use Rattle.upsched_sight_parts.proofs.Scripts.{only_plan}
+use Rattle.upsched_sight_parts.proofs.plan_words.is_script_alone.Goals as goal
+
+pub returns-else-is_empty : goal.returns-else-is_empty
+returns-else-is_empty c = (
+  λ same. absurd (false≢true same),
+  λ alone.
+      let none : c.args.commands.now ≡ [] = only_plan c.args.text.now c.args.commands.now alone.0 c.requires in
+      absurd (both_ways _ (sym c.is_empty.ensures ∙ c.if-is_empty.false) (eq-eqb (length c.args.commands.now) 0 (ap length none))),
+)
