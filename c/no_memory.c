@@ -1,5 +1,6 @@
 /* Each malloc and realloc fails in turn. A call that lacks memory says so and changes nothing: made again it answers
- * what it answers where there is memory. Link with -Wl,--wrap=malloc,--wrap=realloc. */
+ * what it answers where there is memory. A room that is too small is told of first. Link with
+ * -Wl,--wrap=malloc,--wrap=realloc. */
 #include <upsched.h>
 
 #include <stdio.h>
@@ -62,6 +63,21 @@ static void apply(upsched_handle *machine, const upsched_command *c, upsched_out
     note(body->bytes, o->body_len);
 }
 
+/* A room that is too small is told of whether or not there is memory. */
+static void small_rooms(const room *body, size_t len, const upsched_map_head *head, upsched_map_element *elements,
+                        size_t count)
+{
+    upsched_map_head read = *head;
+    room again;
+    size_t found = 0, written = 0;
+    memset(&again, 0, sizeof again);
+    if (upsched_map_decode(body->bytes, len, &read, elements, count - 1, &found) != UPSCHED_NO_ROOM || found != count ||
+        upsched_map_encode(head, elements, count, again.bytes, len - 1, &written) != UPSCHED_NO_ROOM || written != len) {
+        printf("a room that is too small isn't told of\n");
+        exit(1);
+    }
+}
+
 static void run(void)
 {
     upsched_handle machine = {0}, modem = {0};
@@ -102,6 +118,7 @@ static void run(void)
         memset(&cell, 0, sizeof cell);
         CALL(upsched_map_decode(body.bytes, o.body_len, &head, elements, UPSCHED_ELEMENTS, &count), &elements);
         CALL(upsched_map_encode(&head, elements, count, again.bytes, sizeof again.bytes, &written), &again);
+        small_rooms(&body, o.body_len, &head, elements, count);
         CALL(upsched_map_cell_at(again.bytes, written, 3, &cell), &cell);
         note(again.bytes, written);
         note(&cell.sid, sizeof cell.sid);

@@ -18,7 +18,7 @@
  *           it. No call from a signal handler, or from the forked child of a process with threads.
  * MEMORY    malloc, realloc and free. A call that lacks memory says so, and changes nothing.
  * STATUS    A call answers UPSCHED_OK, or why not; what a handle holds is then as it was, and arguments are written
- *           only as the call says. First comes NULL, then the handle, then the fields, memory, and room.
+ *           only as the call says. First comes NULL, then the handle, then the fields, room, and memory.
  * VERSION   Of this header. Numbers are never used again for something else.
  * NAMES     Each call upsched_X is the archive's upsched_c_X behind a test for NULL. Other languages bind upsched_c_X.
  */
@@ -98,8 +98,9 @@ typedef struct upsched_map_cell {
     uint8_t iuc;
 } upsched_map_cell;
 
-/* Reads a body. OK: *head, and the first *count of the elements. NO_ROOM: *count is how many there are. A fault MAP_..:
- * *count is the element that it is of, from 0, and 0 where it is of none. */
+/* Reads a body. OK: *head, and the first *count of the elements. NO_ROOM, exactly where the bytes are a body of more
+ * elements than there is room for: *count is how many there are. A fault MAP_..: *count is the element that it is of,
+ * from 0, and 0 where it is of none. */
 int32_t upsched_c_map_decode(const uint8_t *bytes, size_t len, upsched_map_head *head, upsched_map_element *elements,
                              size_t room, size_t *count);
 static inline int32_t upsched_map_decode(const uint8_t *bytes, size_t len, upsched_map_head *head,
@@ -111,8 +112,9 @@ static inline int32_t upsched_map_decode(const uint8_t *bytes, size_t len, upsch
     return upsched_c_map_decode(bytes ? bytes : no_bytes, len, head, elements ? elements : no_elements, room, count);
 }
 
-/* Writes a body. OK: the first *written of the bytes. NO_ROOM: *written is how many there are. BAD_FIELD and a fault
- * MAP_..: *written is the element that it is of, from 0, and 0 where it is of none. */
+/* Writes a body. OK: the first *written of the bytes. NO_ROOM, exactly where the elements make a body of more bytes
+ * than there is room for: *written is how many there are. BAD_FIELD and a fault MAP_..: *written is the element that
+ * it is of, from 0, and 0 where it is of none. */
 int32_t upsched_c_map_encode(const upsched_map_head *head, const upsched_map_element *elements, size_t count,
                              uint8_t *bytes, size_t room, size_t *written);
 static inline int32_t upsched_map_encode(const upsched_map_head *head, const upsched_map_element *elements,

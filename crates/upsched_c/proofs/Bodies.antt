@@ -1,11 +1,11 @@
 -- Each MAP of a scheduler fits the room for a body.
-use Rattle.std.proofs.Common.{◌≡◌, ℕ, suc, ◌*◌, ◌≤◌, List, [], ◌∷◌, ◌++◌, length, refl, sym, ap, subst, arith, Result, Ok, Err}
+use Rattle.std.proofs.Common.{◌≡◌, ℕ, suc, ◌+◌, ◌*◌, ◌≤◌, List, [], ◌∷◌, ◌++◌, length, refl, sym, ap, subst, arith, Result, Ok, Err}
 use Rattle.std.specs.Prelude.{IfOk}
 use Rattle.std.specs.declared.alloc.AllocError.{AllocError}
 use Rattle.std.specs.List.{flat_map, AllByRecursion, Contains}
 use Rattle.map_body.specs.declared.element.Element.{Element}
 use Rattle.map_body.specs.Body.{Body}
-use Rattle.map_body.specs.Layout.{element_bytes, layout, IsWritten}
+use Rattle.map_body.specs.Layout.{element_bytes, layout, IsBody, IsWritten}
 use Rattle.flow_state.specs.Rows.{Rows}
 use Rattle.grant_machine.specs.declared.command.Command.{Command}
 use Rattle.grant_machine.specs.declared.output.Output.{Output}
@@ -14,9 +14,9 @@ use Rattle.grant_machine.specs.Fits.{FitsCommand}
 use Rattle.grant_machine.specs.Laws.{MapsAreBodies}
 use Rattle.grant_machine.specs.Runs.{outputs_from, outputs_of, rows_from, IsReached}
 use Rattle.grant_machine.specs.Steps.{step}
-use Rattle.upsched_c.specs.Commands.{FitsRoom}
+use Rattle.upsched_c_parts.specs.Outputs.{FitsRoom}
 
-elements_len : (es : List Element) → length (flat_map element_bytes es) ≡ 4 * length es
+pub elements_len : (es : List Element) → length (flat_map element_bytes es) ≡ 4 * length es
 elements_len [] = refl
 elements_len (e ∷ es) = let rest = elements_len es in omega arith
 
@@ -25,6 +25,13 @@ body_len bytes map written =
     let len : length bytes ≡ length (layout map.head map.elements 0) = ap length written.0.spelled in
     let rest = elements_len map.elements in
     omega (arith, len, rest, written.0.count)
+
+-- how many elements a body has, by its length
+pub body_count : (bytes : List ℕ) (map : Body) → IsBody bytes map → length bytes ≡ 16 + 4 * length map.elements
+body_count bytes map is =
+    let len : length bytes ≡ length (layout map.head map.elements is.0) = ap length is.1.spelled in
+    let rest = elements_len map.elements in
+    omega (arith, len, rest)
 
 fits_push : (cs : List Command) (c : Command) → AllByRecursion FitsCommand cs → FitsCommand c → AllByRecursion FitsCommand (cs ++ c ∷ [])
 fits_push [] c all fits = (fits, tt)

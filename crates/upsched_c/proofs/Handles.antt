@@ -21,7 +21,7 @@ use Rattle.std.specs.Prelude.{IsSome}
 use Rattle.std.specs.declared.option.Option.{Option}
 use Rattle.std.specs.declared.option.Option.TheVariants.{None, Some}
 use Rattle.std.specs.Box.Ownership.{box_owns}
-use Rattle.upsched_c.specs.Owned.{owned_if}
+use Rattle.upsched_c_parts.specs.Owned.{owned_if}
 use Rattle.upsched_c.specs.declared.handle.Held.{Held}
 use Rattle.upsched_c.specs.declared.handle.Owner.{Owner}
 use Rattle.upsched_c.specs.contracts.handle.Held as inner

@@ -2,4 +2,4 @@ pub mod Bodies
 pub mod Fields
 pub mod Handles
 pub mod Known
-pub mod Values
+pub mod Rooms

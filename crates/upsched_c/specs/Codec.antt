@@ -10,12 +10,9 @@ use Rattle.upsched_c.specs.declared.status.Status.TheVariants as statuses
 use Rattle.upsched_c.specs.declared.structs.MapHead.{MapHead}
 use Rattle.upsched_c.specs.declared.structs.MapElement.{MapElement}
 use Rattle.upsched_c.specs.declared.structs.MapCell.{MapCell}
+use Rattle.upsched_c_parts.specs.Fronts.{over_front}
 use Rattle.upsched_c.specs.Statuses.{place_of}
 use Rattle.upsched_c.specs.Structs.{head_value, element_value}
-
--- a list written over the front of another
-abbrev pub over_front : List ℕ → List ℕ → List ℕ
-over_front new old = new ++ drop (length new) old
 
 -- where a body is read to: its head, room for its elements, and their number
 pub record Read : Type 0 where
@@ -33,13 +30,20 @@ pub record IsReadTo (body : Body) (old new : Read) : Type 0 where
   pub room : length body.elements ≤ length old.elements
   pub elements : map element_value new.elements ≡ body.elements ++ drop (length body.elements) (map element_value old.elements)
 
--- bytes are read: they are a body that there is room for, a body that is longer, or no body; memory is wanted for a body alone
+-- for so many elements no memory was found: if there is no room for them, that is told, and how many they are
+abbrev pub LacksMemory : (wanted room old new : ℕ) → Status → Type 0
+LacksMemory wanted room old new statuses.NoRoom = (room < wanted) × (new ≡ wanted)
+LacksMemory wanted room old new statuses.OutOfMemory = (wanted ≤ room) × (new ≡ old)
+LacksMemory wanted room old new _ = ⊥
+
+-- bytes are read: they are a body that there is room for, a body that is longer, or no body; memory is wanted for a body with room alone
 abbrev pub Decodes : List ℕ → Read → Read → Status → Type 0
 Decodes bytes old new statuses.Done = (body : Body) × IsBody bytes body × IsReadTo body old new
 Decodes bytes old new statuses.NoRoom =
     (body : Body) × IsBody bytes body × (length old.elements < length body.elements) × (new ≡ record old { count = length body.elements })
 Decodes bytes old new (statuses.Map fault) = FirstFault bytes fault × (new ≡ record old { count = place_of fault })
-Decodes bytes old new statuses.OutOfMemory = (body : Body) × IsBody bytes body × (new ≡ old)
+Decodes bytes old new statuses.OutOfMemory =
+    (body : Body) × IsBody bytes body × (length body.elements ≤ length old.elements) × (new ≡ old)
 Decodes bytes old new _ = ⊥
 
 -- where bytes are written to: room for them, and their number
@@ -77,7 +81,8 @@ Encodes head es old new statuses.NoRoom =
 Encodes head es old new statuses.BadField = (i : ℕ) × IsFirstUnfit es i × (new ≡ record old { count = i })
 Encodes head es old new (statuses.Map fault) =
     AllFit es × MakingFault (map element_value es) fault × (new ≡ record old { count = place_of fault })
-Encodes head es old new statuses.OutOfMemory = AllFit es × (new ≡ old)
+Encodes head es old new statuses.OutOfMemory =
+    (bytes : List ℕ) × IsWritten bytes (body_of head es) × (length bytes ≤ length old.bytes) × (new ≡ old)
 Encodes head es old new _ = ⊥
 
 -- whose minislot x of a body is, counted from its start

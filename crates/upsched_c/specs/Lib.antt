@@ -1,4 +1,3 @@
-pub mod Owned
 pub mod Statuses
 pub mod Structs
 pub mod Codec

@@ -7,10 +7,10 @@ use Rattle.grant_machine.specs.Steps.{step, refusal_of, TakesNoMemory}
 use Rattle.command_log.specs.Spelling.{Spells, SpellsNone}
 use Rattle.upsched_c.specs.declared.handle.Held.{Held}
 use Rattle.upsched_c.specs.declared.handle.Held.TheVariants as holds
-use Rattle.upsched_c.specs.declared.output.OutputFields.{OutputFields}
+use Rattle.upsched_c_parts.specs.declared.output.OutputFields.{OutputFields}
 use Rattle.upsched_c.specs.declared.status.Status.{Status}
 use Rattle.upsched_c.specs.declared.status.Status.TheVariants as statuses
-use Rattle.upsched_c.specs.Commands.{output_fields, body_after, FitsRoom}
+use Rattle.upsched_c_parts.specs.Outputs.{output_fields, body_after, FitsRoom}
 use Rattle.upsched_c.specs.Handles.{Asks}
 
 -- where an output is told: its fields, and room for the body of a MAP

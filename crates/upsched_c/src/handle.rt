@@ -3,13 +3,13 @@
 ghost use Rattle.std.specs.Prelude.{◌≡◌, Option, Some, None, IsSome, is_some, ◌==◌};
 ghost use Rattle.upsched_c.specs.declared.handle.Held.{Held};
 
-use crate::loose::Loose;
 use crate::scheduler::Scheduler;
 use modem::Modem;
 use std::alloc::Global;
 use std::marker::Model;
 use std::mem;
 use std::ptr::null_mut;
+use upsched_c_parts::Loose;
 
 /// What a handle can hold.
 #[derive(Drop)]
@@ -28,7 +28,7 @@ pub struct Owner {
 
 impl Model for Owner {
     ghost use Rattle.upsched_c.specs.contracts.handle.Held as inner;
-    ghost use Rattle.upsched_c.specs.Owned.{owned_if};
+    ghost use Rattle.upsched_c_parts.specs.Owned.{owned_if};
 
     ghost also_owns = { λ h. owned_if inner.the_row h.at h.value };
 }

@@ -9,12 +9,12 @@ ghost use Rattle.upsched_c.specs.Statuses.{Answers};
 use crate::command::{CommandFields, command_of};
 use crate::handle::{Handle, Held};
 use crate::handle_calls::open;
-use crate::output::{OutputFields, output_fields, put_body};
 use crate::scheduler::Scheduler;
 use crate::status::Status;
 use command_log::read_command;
 use grant_machine::Command;
 use std::alloc::Global;
+use upsched_c_parts::{OutputFields, output_fields, put_body};
 
 /// Opens a handle with a scheduler that has no channel.
 #[unsafe(no_mangle)]

@@ -4,9 +4,9 @@ ghost use Rattle.std.specs.Prelude.{◌≡◌};
 ghost use Rattle.upsched_c.specs.Samples.{numbered};
 
 use crate::command::CommandFields;
-use crate::output::OutputFields;
 use crate::sending::{EventFields, SendingFields};
 use crate::structs::{MapCell, MapElement, MapHead};
+use upsched_c_parts::OutputFields;
 
 /// A struct of each kind.
 #[repr(C)]

@@ -58,7 +58,7 @@ fn fits(command: Command)
 impl Scheduler {
     ghost use Rattle.std.specs.Prelude.{◌≡◌, [], IsOk, IsSome, IfOk, OnOk, OnErr};
     ghost use Rattle.grant_machine.specs.Steps.{step, refusal_of, TakesNoMemory};
-    ghost use Rattle.upsched_c.specs.Commands.{FitsRoom};
+    ghost use Rattle.upsched_c_parts.specs.Outputs.{FitsRoom};
 
     /// No channel is set.
     pub fn new(alloc: Global) -> Scheduler

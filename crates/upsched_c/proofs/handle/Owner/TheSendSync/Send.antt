@@ -12,7 +12,7 @@ use denote.Struct.Owning.{shape, fields, to}
 use Rattle.std.proofs.Crossing as heap
 use Rattle.std.specs.declared.option.Option.{Option}
 use Rattle.std.specs.declared.option.Option.TheVariants.{None, Some}
-use Rattle.upsched_c.specs.Owned.{owned_if}
+use Rattle.upsched_c_parts.specs.Owned.{owned_if}
 use Rattle.upsched_c.specs.declared.handle.Held.{Held}
 use Rattle.upsched_c.specs.contracts.handle.Held as inner
 use Rattle.upsched_c.proofs.handle.Held.TheSendSync.{the_send as held}

@@ -23,7 +23,7 @@ use Rattle.std.specs.contracts.alloc.Global as heap
 use Rattle.std.proofs.alloc.Global.TheLaws as heap_laws
 use Rattle.std.specs.contracts.impls.GlobalAllocator.TheImpl.{ghosts}
 use Rattle.upsched_c.specs.contracts.handle.Held as inner
-use Rattle.upsched_c.proofs.Values.{both, loose_good, loose_in, al}
+use Rattle.upsched_c_parts.proofs.Values.{both, loose_good, loose_in, al}
 use Rattle.upsched_c.proofs.Handles.{alone, owner_out}
 use Rattle.std.specs.Prelude.{IsSome}
 use Rattle.upsched_c.specs.contracts.handle.Owner as owner

@@ -26,8 +26,8 @@ use Rattle.std.proofs.alloc.Global.TheLaws as heap_laws
 use Rattle.std.specs.contracts.impls.GlobalAllocator.TheImpl.{ghosts}
 use Rattle.upsched_c.specs.declared.handle.Held.{Held}
 use Rattle.upsched_c.specs.contracts.handle.Held as inner
-use Rattle.upsched_c.specs.contracts.loose.Loose as loose
-use Rattle.upsched_c.proofs.Values.{both, loose_good, loose_out}
+use Rattle.upsched_c_parts.specs.contracts.loose.Loose as loose
+use Rattle.upsched_c_parts.proofs.Values.{both, loose_good, loose_out}
 use Rattle.upsched_c.proofs.Handles.{alone, owner_in}
 use Rattle.upsched_c.specs.contracts.handle.Owner.of.{ended, clauses}
 use Rattle.upsched_c.specs.contracts.handle.Owner.of.Key.{name as #self}

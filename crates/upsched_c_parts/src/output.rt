@@ -1,9 +1,9 @@
 //! Outputs as structs that C shares.
 
 ghost use Rattle.std.specs.Prelude.{◌≡◌};
-ghost use Rattle.upsched_c.specs.Commands.{body_after, FitsRoom, output_fields as output_fields_lem};
+ghost use Rattle.upsched_c_parts.specs.Outputs.{body_after, FitsRoom, output_fields as output_fields_lem};
 
-use crate::codec::put_front;
+use crate::front::put_front;
 use grant_machine::Output;
 
 /// An output: its number, and the fields that it has. The others are 0.
