@@ -7,7 +7,7 @@ use Rattle.toml.specs.Data.{Data, string, integer, float, boolean, datetime, arr
 use Rattle.flow_state.specs.declared.channel.Phy.{Phy}
 use Rattle.flow_state.specs.declared.channel.Phy.TheVariants.{Tdma, Advanced}
 use Rattle.flow_state.specs.Limits.{last_time}
-use Rattle.script_text.specs.Fields.{HasNode, HasText, HasNumber}
+use Rattle.script_text.specs.Fields.{HasNode, HasNumber}
 use Rattle.script_text.specs.CommandTable.{IsPair, HasPair, HasPhy, HasLast}
 use Rattle.text_faults.specs.declared.kind.Kind.{Kind}
 use Rattle.text_faults.specs.declared.kind.Group.{Group}
@@ -130,9 +130,6 @@ named_text g (Some (boolean b)) k h = absurd (cc)
 named_text g (Some (datetime x)) k h = absurd (cc)
 named_text g (Some (array ds)) k h = absurd (cc)
 named_text g (Some (table ms)) k h = absurd (cc)
-
-pub no_name_fault : (place : Place) (kind : Kind) (key : Key) (g : Group) (d : Data) (k : Kind) → named g (kind_name k) ≡ Some k → HasText d (key_name key) (kind_name k) → fault_at place kind d (key, wants.Name g) ≡ None
-no_name_fault place kind key g d k here text = rw (text, here) refl
 
 -- ---- keys that may be absent, pairs
 
