@@ -1,8 +1,8 @@
 #!/usr/bin/env bash
 # The library for C and C++ (crates/upsched_c, include/, c/), tried from C; no part of the gate. It builds the clients
-# with gcc and g++, warnings as errors, and runs them: as they are, under the sanitizers, and under valgrind's memcheck
-# and helgrind; lets each request for memory fail in turn; and compares what it says of spoilt bodies and commands with
-# what the proved program prints, where one is there. The status is 1 where something differs.
+# with gcc and g++, warnings as errors, and runs them: as they are, under the sanitizers, and where valgrind is there
+# under its memcheck and helgrind; lets each request for memory fail in turn; and compares what it says of spoilt bodies
+# and commands with what the proved program prints, where one is there. The status is 1 where something differs.
 #
 # Usage: bench/c_library.sh [SECONDS [SEED]]: the fuzz target runs so long (5), and 40 times as many inputs are spoilt.
 set -euo pipefail
@@ -35,13 +35,17 @@ gcc -std=c99 -g -O1 "${warn[@]}" -Wl,--wrap=malloc,--wrap=realloc no_memory.c "$
 "$work/no_memory"
 
 echo "== valgrind"
-memcheck=(valgrind -q --leak-check=full --error-exitcode=9)
-"${memcheck[@]}" out/agrees
-"${memcheck[@]}" out/rows | diff - rows.stdout
-"${memcheck[@]}" out/codec_fuzz 1 "$seed"
-"${memcheck[@]}" "$work/no_memory"
-"${memcheck[@]}" out/sim 0.02 0.5 events 2>/dev/null > "$work/sim.out"
-valgrind -q --tool=helgrind --error-exitcode=9 out/threads
+if ! command -v valgrind > "$work/which"; then
+  echo "no valgrind (Debian's package has it): nothing sees into the archive" >&2
+else
+  memcheck=(valgrind -q --leak-check=full --error-exitcode=9)
+  "${memcheck[@]}" out/agrees
+  "${memcheck[@]}" out/rows | diff - rows.stdout
+  "${memcheck[@]}" out/codec_fuzz 1 "$seed"
+  "${memcheck[@]}" "$work/no_memory"
+  "${memcheck[@]}" out/sim 0.02 0.5 events 2>/dev/null > "$work/sim.out"
+  valgrind -q --tool=helgrind --error-exitcode=9 out/threads
+fi
 
 if [ ! -x "$program" ]; then
   echo "no proved program at $program: what it prints of spoilt inputs isn't compared" >&2

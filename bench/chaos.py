@@ -43,6 +43,7 @@ PATIENCE = 600
 PACE = 0.01
 NO_LINES = [b"", b"lead ", b"letter 0g", b"letter 070000", b"offer 0", b"release x", b"release 18446744073709551616"]
 NO_LINES += [b"tell 5 1", b"\xff\xfe", b"letter 0200000000000000000008", b"command = 3", b"lead\r", b"x" * 100000]
+NO_LINES += [b"command ", b"command = {kind = 'cut'}", b"command = {kind = 'noop'} #" + b"x" * 4096]
 ANSWERS = {
     b"lead": (b"sent", b"fault"),
     b"offer": (b"sent", b"fault"),

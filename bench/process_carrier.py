@@ -7,9 +7,9 @@ import subprocess
 import time
 
 MEMBERS = 3
-PLACES = re.compile(rb"^place (\d+) ", re.M)
-LETTERS = [re.compile(rb"^letter %d (\w+)$" % node, re.M) for node in range(MEMBERS)]
-ALARMS = re.compile(rb"^(?:fault|error) .*$", re.M)
+# Each begins with a text that is found fast, and that stands in no other line.
+PLACE, ALARMS = b"place ", (b"fault ", b"error ")
+LETTERS = [re.compile(rb"letter %d (\w+)" % node) for node in range(MEMBERS)]
 PROMISE, VOTED, KNOWN = b"letter 02", b"letter 04", b"letter 06"
 # How long nothing may come of any process, in seconds.
 PATIENCE = 300
@@ -87,12 +87,12 @@ class Cluster:
                 self.carry(it, it.read_some())
 
     def carry(self, node, text):
-        alarm = ALARMS.search(text)
+        alarm = any(word in text for word in ALARMS)
         if alarm:
-            raise SystemExit(f"a node answered {alarm[0].decode()}")
-        places = PLACES.findall(text)
-        if places:
-            node.released = int(places[-1])
+            raise SystemExit(f"a node answered {text.decode()}")
+        last = text.rfind(PLACE)
+        if last >= 0:
+            node.released = int(text[last + len(PLACE) :].split(b" ", 1)[0])
         for it, letters in zip(self.nodes, LETTERS):
             found = letters.findall(text)
             if found and not it.is_dark:
