@@ -1,5 +1,5 @@
 -- An order of what nodes did, with one more step.
-use Rattle.std.proofs.Common.{◌≡◌, ◌≢◌, ◌∙◌, ◌⊎◌, inl, inr, ⊎_elim, ℕ, zero, suc, ◌+◌, ◌<◌, ◌≤◌, ◌==◌, List, [], ◌∷◌, ◌++◌, Vec, All, Some, IsTrue, length, map, filter, take, slice_get, slice_set, refl, sym, ap, subst, arith}
+use Rattle.std.proofs.Common.{◌≡◌, ◌≢◌, ◌∙◌, ◌⊎◌, inl, inr, ⊎_elim, ℕ, zero, suc, ◌+◌, ◌<◌, ◌==◌, List, [], ◌∷◌, ◌++◌, Vec, All, Some, IsTrue, length, map, filter, take, slice_get, slice_set, refl, sym, ap, subst, arith}
 use Rattle.std.proofs.lemmas.Bool.Decides.{eqb_tells}
 use Rattle.std.proofs.lemmas.Grind.{flat_map-append}
 use Rattle.std.proofs.lemmas.List.{append-nil, length-set, map-append, take-append-le, take_all}
@@ -10,7 +10,7 @@ use Rattle.std.specs.declared.alloc.Global.{Global}
 use Rattle.ballots.specs.Members.{member_count}
 use Rattle.ballots.specs.declared.letters.Letter.{Letter}
 use Rattle.ballots.specs.declared.members.Members.{Members}
-use Rattle.node_journal.specs.Following.{Adds, AreFollowed, AreOrdered, HaveOrder, IsFollowed, IsQuiet, Steps}
+use Rattle.node_journal.specs.Following.{Adds, AreFollowed, HaveOrder, IsFollowed, IsQuiet, Steps}
 use Rattle.node_journal.specs.declared.follower.Follower.{Follower}
 use Rattle.node_journal.specs.Journal.{Writes}
 use Rattle.node_journal.specs.Legal.{AreLegalJournals}

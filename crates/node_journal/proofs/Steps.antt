@@ -1,15 +1,15 @@
 -- A step of one who follows a journal.
-use Rattle.std.proofs.Common.{◌≡◌, ◌∙◌, ◌⊎◌, inl, inr, ℕ, ◌+◌, ◌≤◌, List, [], ◌∷◌, ◌++◌, Vec, length, take, drop, refl, sym, ap, subst}
+use Rattle.std.proofs.Common.{◌≡◌, ◌∙◌, inl, inr, ℕ, ◌+◌, ◌≤◌, List, [], ◌∷◌, ◌++◌, Vec, length, take, drop, refl, sym, ap, subst}
 use Rattle.std.proofs.lemmas.List.{append-nil}
 use Rattle.std.specs.declared.alloc.Global.{Global}
 use Rattle.ballots.specs.Members.{member_count}
 use Rattle.ballots.specs.declared.letters.Letter.{Letter}
 use Rattle.ballots.specs.declared.members.Members.{Members}
 use Rattle.node_journal.proofs.Pieces.{common_part, common_whole, fits, line_part, line_size, took}
-use Rattle.node_journal.specs.Following.{Adds, IsFollowed, IsHalf, IsLeft, IsQuiet, IsStopOf, SamePlace, Steps, Works, WorksAs}
+use Rattle.node_journal.specs.Following.{Adds, IsDoubtOf, IsFollowed, IsHalf, IsQuiet, IsStopOf, SamePlace, Steps, Works, WorksAs}
 use Rattle.node_journal.specs.Journal.{Writes, fresh_head, restarted_head}
 use Rattle.node_journal.specs.Journal.Writes.{nothing, begins, begins_part, replies, refuses, ends, ends_before, ends_refusing, ends_behind, idles, crashes, restarts, restarts_part}
-use Rattle.node_journal.specs.Turns.{BeginsWith, IsStopText, IsTurn, Tells, cause_of, crash_entry, restart_entry}
+use Rattle.node_journal.specs.Turns.{BeginsWith, IsTurn, cause_of, crash_entry, restart_entry}
 use Rattle.node_journal.specs.declared.follower.Follower.{Follower}
 use Rattle.node_journal.specs.declared.follower.Step.{Step}
 use Rattle.node_journal.specs.declared.follower.Step.TheVariants.{Did, Moved, Waits, Ends, Torn}
@@ -30,7 +30,6 @@ use Rattle.seats.specs.declared.acted.Acted.{Acted}
 -- a node of which no life began did nothing
 unborn_idle : {me : ℕ} {members : Members} {text : List ℕ} {done : List EntryView} → Writes me members text done Unborn → done ≡ []
 unborn_idle nothing = refl
-unborn_idle (begins_part text part written is) = refl
 unborn_idle (idles text written) = refl
 
 pub same_place : (f : Follower) → SamePlace f f
@@ -96,14 +95,14 @@ begins_whole text sent f head n old is head_is same whole =
     (subst (λ (h : List ℕ). Writes f.id f.members (take f.place text ++ h) [] Up) (sym head_is) (begins (take f.place text) before)))
 
 pub begins_in_part : (text : List ℕ) (sent : List Letter) (f : Follower) (head : List ℕ) (n : ℕ) (step : Step) → IsFollowed text f → f.phase ≡ Unborn → head ≡ fresh_head f.id f.members
-    → n ≤ length (drop f.place text) → take n (drop f.place text) ≡ take n head → IsQuiet step → Steps text sent f step (record f { place = f.place + n; phase = Unborn })
+    → n ≤ length (drop f.place text) → take n (drop f.place text) ≡ take n head → IsQuiet step → Steps text sent f step (record f { place = f.place + n; phase = Cut })
 begins_in_part text sent f head n step old is head_is within same quiet =
     let w = written_in text f Unborn old is in
     let none : f.kept.entries ≡ [] = unborn_idle w in
     let before : Writes f.id f.members (take f.place text) [] Unborn = subst (λ (es : List EntryView). Writes f.id f.members (take f.place text) es Unborn) none w in
     let common = common_part (drop f.place text) head n within same in
-    moved text sent f common.0 n Unborn step old quiet common.1 common.2
-    (subst (λ (es : List EntryView). Writes f.id f.members (take f.place text ++ common.0) es Unborn) (sym none)
+    moved text sent f common.0 n Cut step old quiet common.1 common.2
+    (subst (λ (es : List EntryView). Writes f.id f.members (take f.place text ++ common.0) es Cut) (sym none)
     (begins_part (take f.place text) common.0 before (subst (λ (h : List ℕ). BeginsWith common.0 h) head_is common.3)))
 
 pub starts_whole : (text : List ℕ) (sent : List Letter) (f g : Follower) (head : List ℕ) (n : ℕ) (letters : Vec Letter Global) → IsFollowed text f → f.phase ≡ Down → head ≡ restarted_head f.id f.members
@@ -152,10 +151,11 @@ module _ (text : List ℕ) (sent : List Letter) (f : Follower) (line after : Lis
       moved text sent f (line ++ 10 ∷ common.0) (length line + 1 + n) Cut Moved old tt (line_size line common.0 n common.1) (line_part (drop f.place text) line after common.0 at common.2)
       (ends_refusing (take f.place text) f.kept.entries line why common.0 (written_in text f Up old is) whole away (subst (λ (r : List ℕ). BeginsWith common.0 r) told common.3))
 
-  pub leaves : (n : ℕ) → IsLeft after n → Steps text sent f Moved (record f { place = f.place + (length line + 1 + n); phase = Cut })
-  leaves n left =
+  pub leaves : (n : ℕ) → ((asked : Request) × Asks line asked) → IsStopOf after n
+      → Steps text sent f Moved (record f { place = f.place + (length line + 1 + n); phase = Cut })
+  leaves n (asked, asks) left =
       moved text sent f (line ++ 10 ∷ left.0) (length line + 1 + n) Cut Moved old tt (line_size line left.0 n left.1) (line_part (drop f.place text) line after left.0 at left.2)
-      (ends_before (take f.place text) f.kept.entries line left.0 (written_in text f Up old is) whole left.3)
+      (ends_before (take f.place text) f.kept.entries line asked left.0 (written_in text f Up old is) whole asks left.3)
 
   -- the line asked for what the node did
   turn_of : (g : Follower) (asked : Request) (acted : Acted) (cause : Cause) (works : Works cause f acted g) → cause ≡ cause_of asked → Asks line asked → IsTurn line works.entry (acted_text acted)
@@ -173,7 +173,7 @@ module _ (text : List ℕ) (sent : List Letter) (f : Follower) (line after : Lis
   came g asked acted cause works causes comes = subst (λ (x : Cause). Comes sent f.id x) (sym (works.causes ∙ causes)) comes
 
   pub stops_behind : (g : Follower) (asked : Request) (acted : Acted) (cause : Cause) (letters : Vec Letter Global) (n : ℕ) → Works cause f acted g → cause ≡ cause_of asked → Asks line asked
-      → letters.items ≡ letters_of acted → IsStopOf after n → Comes sent f.id (cause_of asked) → Steps text sent f (Did letters) (record g { place = g.place + (length line + 1 + n); phase = Cut })
+      → letters.items ≡ letters_of acted → IsDoubtOf after n → Comes sent f.id (cause_of asked) → Steps text sent f (Did letters) (record g { place = g.place + (length line + 1 + n); phase = Cut })
   stops_behind g asked acted cause letters n works causes asks given stop comes =
       did text sent f g (line ++ 10 ∷ stop.0) (length line + 1 + n) Cut works.entry letters old works.same works.added (given ∙ works.tells.letters) (came g asked acted cause works causes comes)
       (line_size line stop.0 n stop.1) (line_part (drop f.place text) line after stop.0 at stop.2)

@@ -1,10 +1,10 @@
 -- Where one who follows a journal stands.
-use Rattle.std.specs.Prelude.{◌≡◌, ◌⊎◌, ℕ, ◌+◌, ◌<◌, ◌≤◌, List, [], ◌∷◌, ◌++◌, length, take, All, slice_get, Some}
+use Rattle.std.specs.Prelude.{◌≡◌, ℕ, ◌+◌, ◌<◌, ◌≤◌, List, [], ◌∷◌, ◌++◌, length, take, All, slice_get, Some}
 use Rattle.ballots.specs.Members.{member_count}
 use Rattle.ballots.specs.declared.members.Members.{Members}
 use Rattle.ballots.specs.declared.letters.Letter.{Letter}
 use Rattle.node_journal.specs.Journal.{Writes}
-use Rattle.node_journal.specs.Turns.{BeginsWith, IsStopText, Tells}
+use Rattle.node_journal.specs.Turns.{BeginsWith, IsDoubtPart, IsStopPart, Tells}
 use Rattle.node_lines.specs.Input.{IsLine}
 use Rattle.node_journal.specs.declared.follower.Follower.{Follower}
 use Rattle.node_journal.specs.declared.replies.Course.{Course}
@@ -67,18 +67,22 @@ pub record Steps (text : List ℕ) (sent : List Letter) (old : Follower) (step :
   pub members : new.members ≡ old.members
   pub adds : Adds sent old.id old.kept.entries step new.kept.entries
 
--- behind a line that isn't obeyed stand so many bytes of a reply that the node crashed, or none
-abbrev pub IsLeft : List ℕ → ℕ → Type 0
-IsLeft after count = (part : List ℕ) × (length part ≡ count) × BeginsWith part after × ((part ≡ []) ⊎ IsStopText part)
+-- so many bytes are a part of this text
+abbrev pub IsPartOf : List ℕ → List ℕ → ℕ → Type 0
+IsPartOf text after count = (part : List ℕ) × (length part ≡ count) × BeginsWith part after × BeginsWith part text
 
--- so many bytes are a reply that the node crashed
+-- so many bytes are a part of a reply that the node crashed
 abbrev pub IsStopOf : List ℕ → ℕ → Type 0
-IsStopOf after count = (part : List ℕ) × (length part ≡ count) × BeginsWith part after × IsStopText part
+IsStopOf after count = (part : List ℕ) × (length part ≡ count) × BeginsWith part after × IsStopPart part
+
+-- so many bytes are a part of the reply that the store broke
+abbrev pub IsDoubtOf : List ℕ → ℕ → Type 0
+IsDoubtOf after count = (part : List ℕ) × (length part ≡ count) × BeginsWith part after × IsDoubtPart part
 
 -- how a line that asks something goes on
 abbrev pub IsCourse : List ℕ → Course → Type 0
-IsCourse after (Left count) = IsLeft after count
-IsCourse after (Stopped count) = IsStopOf after count
+IsCourse after (Left count) = IsStopOf after count
+IsCourse after (Stopped count) = IsDoubtOf after count
 IsCourse after Obeyed = Unit {0}
 
 -- the letters that go out with a reply

@@ -20,4 +20,5 @@ AreLegalJournals members journals = (records : List Done) × AreLinesOf members 
 
 -- records of which journals are the lines are legal: read as events they are a run, and so they have one schedule
 abbrev pub LinesAreLegal : Type 0
-LinesAreLegal = (members : Members) (journals : List (List ℕ)) (records : List Done) → AreLinesOf members journals records → AreLegal (member_count members) records []
+LinesAreLegal = (members : Members) (journals : List (List ℕ)) (records : List Done)
+    → AreLinesOf members journals records → AreLegal (member_count members) records []

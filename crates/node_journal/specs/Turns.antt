@@ -1,5 +1,5 @@
 -- A line of a node's journal and the reply to it, as an entry of the node tells them.
-use Rattle.std.specs.Prelude.{◌≡◌, ◌⊎◌, ℕ, List, [], ◌∷◌, ◌++◌}
+use Rattle.std.specs.Prelude.{◌≡◌, ℕ, List, [], ◌++◌}
 use Rattle.node_lines.specs.Input.{IsLine}
 use Rattle.node_lines.specs.Lines.{Asks}
 use Rattle.node_lines.specs.declared.request.Request.{Request}
@@ -12,6 +12,7 @@ use Rattle.node_worker.specs.declared.entry.Cause.{Cause}
 use Rattle.node_worker.specs.declared.entry.Cause.TheVariants.{Ask as Asked, Letter as Came}
 use Rattle.node_worker.specs.declared.entry.Ended.TheVariants.{Whole}
 use Rattle.proposer.specs.declared.fault.NodeFault.{NodeFault}
+use Rattle.proposer.specs.declared.fault.NodeFault.TheVariants.{Down}
 use Rattle.node.specs.Calls.{IsStop}
 use Rattle.seats.specs.Acted.{letters_of, outputs_of, told}
 use Rattle.seats.specs.declared.acted.Acted.{Acted}
@@ -45,9 +46,13 @@ pub record IsTurn (line : List ℕ) (e : EntryView) (reply : List ℕ) : Type 0 
 abbrev pub BeginsWith : List ℕ → List ℕ → Type 0
 BeginsWith part text = (rest : List ℕ) × (text ≡ part ++ rest)
 
--- the reply that a node lacked memory, or that its store failed: the node crashed
-abbrev pub IsStopText : List ℕ → Type 0
-IsStopText part = (fault : NodeFault) × IsStop fault × (part ≡ acted_text (Fault fault))
+-- a part of the reply that a node lacked memory, or that its store failed: the node crashed
+abbrev pub IsStopPart : List ℕ → Type 0
+IsStopPart part = (fault : NodeFault) × IsStop fault × BeginsWith part (acted_text (Fault fault))
+
+-- a part of the reply that its store broke: the write was made or not
+abbrev pub IsDoubtPart : List ℕ → Type 0
+IsDoubtPart part = BeginsWith part (acted_text (Fault Down))
 
 -- the crash of a node that was killed, and its next start
 abbrev pub crash_entry : EntryView

@@ -32,7 +32,8 @@ fn line_at(text: &[u8], place: usize) -> usize {
     line
 }
 
-/// Takes the last of so many lines without a reply the other way, and those behind it the first way. False where each way was taken.
+/// Takes the last of so many lines without a reply the other way, and those behind it the first way. False where each
+/// way was taken.
 fn take_next(skips: &mut Vec<bool>, doubts: usize) -> Result<bool, OutOfMemory> {
     skips.truncate(doubts);
     for _ in skips.len()..doubts {
@@ -48,8 +49,8 @@ fn take_next(skips: &mut Vec<bool>, doubts: usize) -> Result<bool, OutOfMemory> 
     Ok(false)
 }
 
-/// Takes a line without a reply of the journal that doesn't go on the other way. False where it waits for a letter, or each
-/// way was taken.
+/// Takes a line without a reply of the journal that doesn't go on the other way. False where it waits for a letter, or
+/// each way was taken.
 fn try_next(skips: &mut Vec<Vec<bool>>, stop: Stop) -> Result<bool, OutOfMemory> {
     if stop.waits {
         return Ok(false);

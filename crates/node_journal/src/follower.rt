@@ -3,11 +3,12 @@
 ghost use Rattle.std.specs.Prelude.{◌≡◌, ◌≤◌, ◌<◌, ◌+◌, ◌^◌, ◌∷◌, ◌++◌, [], ℕ, List, IfOk, IsTrue, OnOk, length, drop};
 ghost use Rattle.ballots.specs.Members.{member_count};
 ghost use Rattle.ballots.specs.declared.letters.Letter.{Letter as Sending};
-ghost use Rattle.node_journal.specs.Following.{IsFollowed, IsHalf, IsLeft, IsQuiet, IsStopOf, SamePlace, Steps, Works, WorksAs};
+ghost use Rattle.node_journal.specs.Following.{IsDoubtOf, IsFollowed, IsHalf, IsQuiet, IsStopOf, SamePlace, Steps, Works, WorksAs};
 ghost use Rattle.node_journal.specs.Turns.{cause_of as cause_of_lem, crash_entry, restart_entry};
 ghost use Rattle.node_journal.specs.declared.phase.Phase.TheVariants as phase;
 ghost use Rattle.node_lines.specs.Input.{IsLine};
 ghost use Rattle.node_lines.specs.Lines.{Asks};
+ghost use Rattle.node_lines.specs.declared.request.Request.{Request as Asked};
 ghost use Rattle.node_service.specs.Incoming.{IsTurnedAway};
 ghost use Rattle.node_worker.specs.KeptView.{IsReplay};
 ghost use Rattle.node_worker.specs.Legal.{Comes};
@@ -17,7 +18,7 @@ use crate::replies::{
     Course, Guesses, acted_of, cause_of, head_bytes, letters_out, reply_bytes, what_is_asked,
 };
 use crate::sent::Sent;
-use crate::texts::{begins_life, common, goes_on_with_life, split_line};
+use crate::texts::{begins_life, common, goes_on_with_life, split_line, written_part};
 use acceptor::PlainRecords;
 use ballots::{Letter, Members, NodeId};
 use node::SchedNode;
@@ -136,12 +137,12 @@ impl Follower {
     {
         let head = head_bytes(alloc, &Reply::Fresh(self.id, self.members))?;
         let rest = &text[self.place..];
-        let count = common(rest, &head);
+        let count = written_part(rest, &head);
         if count == head.len() {
             self.go(count, Phase::Up)?;
             return Ok(Step::Moved);
         }
-        self.go(count, Phase::Unborn)?;
+        self.go(count, Phase::Cut)?;
         Ok(step_over(count))
     }
 
@@ -153,7 +154,7 @@ impl Follower {
     {
         let head = head_bytes(alloc, &Reply::Restarted(self.id, self.members))?;
         let rest = &text[self.place..];
-        let count = common(rest, &head);
+        let count = written_part(rest, &head);
         if count == head.len() {
             self.restart()?;
             self.go(count, Phase::Up)?;
@@ -163,14 +164,22 @@ impl Follower {
         Ok(step_over(count))
     }
 
+    /// Whether a text goes on with a life of a node that holds nothing, and not with one that goes on over what it
+    /// left. Where it ends within what both have in common, it does.
+    fn begins_anew(&self, alloc: Global, text: &[u8]) -> Result<bool, OutOfMemory> {
+        let anew = head_bytes(alloc, &Reply::Fresh(self.id, self.members))?;
+        let again = head_bytes(alloc, &Reply::Restarted(self.id, self.members))?;
+        let count = common(text, &anew);
+        Ok(count > 0 && count >= common(text, &again))
+    }
+
     /// Where a life is at its end.
     fn end(&mut self, alloc: Global, text: &[u8]) -> Result<Step, OutOfMemory>
         requires followed { IsFollowed text.now self.old }
         requires phase { self.old.phase ≡ phase.Cut }
         ensures { IfOk result (λ step. (sent : List Sending) → Steps text.now sent self.old step self.new) }
     {
-        let head = head_bytes(alloc, &Reply::Fresh(self.id, self.members))?;
-        let begins = common(&text[self.place..], &head) == head.len();
+        let begins = self.begins_anew(alloc, &text[self.place..])?;
         if begins && self.kept.entries().is_empty() {
             self.go(0, Phase::Unborn)?;
             return Ok(Step::Moved);
@@ -197,7 +206,7 @@ impl Follower {
         ensures { IfOk result (λ step. (sent : List Sending) → Steps text.now sent self.old step self.new) }
     {
         let reply = reply_bytes(alloc, &Reply::Refused(why))?;
-        let count = common(after, &reply);
+        let count = written_part(after, &reply);
         if count == reply.len() {
             self.go(line.len() + 1 + count, Phase::Up)?;
             return Ok(Step::Moved);
@@ -206,7 +215,8 @@ impl Follower {
         Ok(Step::Moved)
     }
 
-    /// A line isn't obeyed, and the life ends behind so many bytes of a reply.
+    /// A line that asks something isn't obeyed, and the life ends behind so many bytes of a reply that the node
+    /// crashed.
     fn leave(
         &mut self,
         text: &[u8],
@@ -218,14 +228,15 @@ impl Follower {
         requires phase { self.old.phase ≡ phase.Up }
         requires text { drop self.old.place text.now ≡ line.now ++ 10 ∷ after.now }
         requires line { IsLine line.now }
-        requires part { IsLeft after.now count }
+        requires asks { (asked : Asked) × Asks line.now asked }
+        requires part { IsStopOf after.now count }
         ensures { IfOk result (λ step. (sent : List Sending) → Steps text.now sent self.old step self.new) }
     {
         self.go(line.len() + 1 + count, Phase::Cut)?;
         Ok(Step::Moved)
     }
 
-    /// A line is obeyed, and the life ends behind so many bytes of a reply that the node crashed.
+    /// A line is obeyed, and the life ends behind so many bytes of the reply that the store broke.
     fn obey_and_stop(
         &mut self,
         alloc: Global,
@@ -240,7 +251,7 @@ impl Follower {
         requires text { drop self.old.place text.now ≡ line.now ++ 10 ∷ after.now }
         requires line { IsLine line.now }
         requires asks { Asks line.now asked }
-        requires part { IsStopOf after.now count }
+        requires part { IsDoubtOf after.now count }
         ensures { IfOk result (λ step. (sent : List Sending) → Comes sent self.old.id (cause_of_lem asked) → Steps text.now sent self.old step self.new) }
     {
         let acted = self.work(cause_of(asked))?;
@@ -267,7 +278,7 @@ impl Follower {
         let acted = self.work(cause_of(asked))?;
         let reply = Reply::Acted(acted);
         let bytes = reply_bytes(alloc, &reply)?;
-        let count = common(after, &bytes);
+        let count = written_part(after, &bytes);
         if count == bytes.len() {
             self.go(line.len() + 1 + count, Phase::Up)?;
             return Ok(Step::Did(letters_out(alloc, reply)));

@@ -12,8 +12,8 @@ use ballots::{Bytes, Members, NodeId};
 use seats::OutOfMemory;
 use std::alloc::Global;
 
-/// Where a journal doesn't go on: its number, how many bytes of it were followed, how many lines without a reply they have,
-/// and whether a letter isn't there that it waits for.
+/// Where a journal doesn't go on: its number, how many bytes of it were followed, how many lines without a reply they
+/// have, and whether a letter isn't there that it waits for.
 #[derive(Clone, Copy, Debug)]
 pub(crate) struct Stop {
     pub(crate) journal: usize,

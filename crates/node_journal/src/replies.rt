@@ -1,13 +1,14 @@
 //! What is replied, and what is asked.
 
 ghost use Rattle.std.specs.Prelude.{◌≡◌, ◌∷◌, IfOk, IfSome};
-ghost use Rattle.node_journal.specs.Following.{IsCourse, IsStopOf, letters_told};
+ghost use Rattle.node_journal.specs.Following.{IsCourse, IsPartOf, IsStopOf, letters_told};
 ghost use Rattle.node_journal.specs.Turns.{Tells, cause_of as cause_of_lem};
 ghost use Rattle.node.specs.Calls.{IsStop};
 ghost use Rattle.node_service.specs.Incoming.{IsTakenFor};
-ghost use Rattle.node_service.specs.Texts.{reply_text};
+ghost use Rattle.node_service.specs.Texts.{acted_text, reply_text};
+ghost use Rattle.seats.specs.declared.acted.Acted.TheVariants.{Fault};
 
-use crate::texts::{begins_life, common};
+use crate::texts::{begins_life, ends_within, last_part};
 use ballots::{Bytes, Letter};
 use node::NodeFault;
 use node_lines::{LONGEST_LINE, LineFault, Request, read_line};
@@ -18,9 +19,9 @@ use std::alloc::Global;
 
 /// How a line that asks something goes on.
 pub(crate) enum Course {
-    /// It isn't obeyed, and the life ends behind so many bytes of a reply.
+    /// It isn't obeyed, and the life ends behind so many bytes of a reply that the node crashed.
     Left(usize),
-    /// It is obeyed, and the life ends behind so many bytes of a reply that the node crashed.
+    /// It is obeyed, and the life ends behind so many bytes of the reply that the store broke.
     Stopped(usize),
     /// It is obeyed.
     Obeyed,
@@ -55,14 +56,17 @@ impl Guesses {
     pub(crate) fn course(&mut self, alloc: Global, after: &[u8]) -> Result<Course, OutOfMemory>
         ensures { IfOk result (IsCourse after.now) }
     {
-        if let Some((count, is_in_doubt)) = stop_in(alloc, after)? {
-            return Ok(if is_in_doubt && !self.skips() {
-                Course::Stopped(count)
-            } else {
+        if let Some(count) = stop_length(alloc, after, NodeFault::Down)? {
+            return Ok(if self.skips() {
                 Course::Left(count)
+            } else {
+                Course::Stopped(count)
             });
         }
-        if (after.is_empty() || begins_life(after)) && self.skips() {
+        if let Some(count) = undone_length(alloc, after)? {
+            return Ok(Course::Left(count));
+        }
+        if begins_life(after) && self.skips() {
             return Ok(Course::Left(0));
         }
         Ok(Course::Obeyed)
@@ -92,6 +96,14 @@ pub(crate) fn head_bytes(alloc: Global, first: &Reply) -> Result<Vec<u8>, OutOfM
     }
 }
 
+/// How a reply begins that there was no memory for the line.
+const NO_MEMORY: &[u8] = b"error 6 ";
+
+/// Whether there was no memory for a line, as what stands behind it tells.
+fn lacked_memory(after: &[u8]) -> bool {
+    after.starts_with(NO_MEMORY) || ends_within(after, NO_MEMORY)
+}
+
 /// What a line is taken for. It was no more than that where the node had no memory for it.
 pub(crate) fn what_is_asked(
     alloc: Global,
@@ -103,7 +115,7 @@ pub(crate) fn what_is_asked(
     if line.len() > LONGEST_LINE {
         return Ok(Incoming::Refused(LineFault::TooLong));
     }
-    if !line.is_empty() && after.starts_with(b"error 6 ") {
+    if !line.is_empty() && lacked_memory(after) {
         return Ok(Incoming::Refused(LineFault::OutOfMemory));
     }
     match read_line(alloc, Bytes::new(Vec::from_slice(alloc, line)?)) {
@@ -161,36 +173,23 @@ pub(crate) fn letters_out(alloc: Global, reply: Reply) -> Vec<Letter>
     }
 }
 
-/// How many bytes of a text the reply to a call is in which the node crashed by this fault; none where the text begins otherwise.
+/// How many bytes of a text are the reply to a call in which the node crashed by this fault, or a part of it in which
+/// the life ends. None where the text begins otherwise.
 fn stop_length(alloc: Global, text: &[u8], fault: NodeFault) -> Result<Option<usize>, OutOfMemory>
     requires { IsStop fault }
-    ensures { IfOk result (λ found. IfSome found (IsStopOf text.now)) }
+    ensures part { IfOk result (λ found. IfSome found (IsPartOf (acted_text (Fault fault)) text.now)) }
+    ensures stop { IfOk result (λ found. IfSome found (IsStopOf text.now)) }
 {
     let reply = reply_bytes(alloc, &Reply::Acted(Acted::Fault(fault)))?;
-    let count = common(text, &reply);
-    if count == reply.len() {
-        Ok(Some(count))
-    } else {
-        Ok(None)
-    }
+    Ok(last_part(text, &reply))
 }
 
-/// How many bytes of a text are the reply to a call in which the node crashed, and whether its write may have been made.
-/// None where the text begins otherwise.
-pub(crate) fn stop_in(alloc: Global, text: &[u8]) -> Result<Option<(usize, bool)>, OutOfMemory>
-    ensures { IfOk result (λ found. IfSome found (λ stop. IsStopOf text.now stop.0)) }
+/// The same where the call changed nothing: its store refused, or it lacked memory.
+fn undone_length(alloc: Global, text: &[u8]) -> Result<Option<usize>, OutOfMemory>
+    ensures { IfOk result (λ found. IfSome found (IsStopOf text.now)) }
 {
-    if !text.starts_with(b"fault ") {
-        return Ok(None);
+    match stop_length(alloc, text, NodeFault::StoreRefused)? {
+        Some(count) => Ok(Some(count)),
+        None => stop_length(alloc, text, NodeFault::OutOfMemory),
     }
-    if let Some(count) = stop_length(alloc, text, NodeFault::Down)? {
-        return Ok(Some((count, true)));
-    }
-    if let Some(count) = stop_length(alloc, text, NodeFault::StoreRefused)? {
-        return Ok(Some((count, false)));
-    }
-    if let Some(count) = stop_length(alloc, text, NodeFault::OutOfMemory)? {
-        return Ok(Some((count, false)));
-    }
-    Ok(None)
 }

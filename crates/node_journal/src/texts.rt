@@ -1,10 +1,14 @@
 //! Where a text goes on.
 
-ghost use Rattle.std.specs.Prelude.{◌≡◌, ◌++◌, ◌∷◌, ◌≤◌, IsTrue, MatchOption, length, take};
+ghost use Rattle.std.specs.Prelude.{◌≡◌, ◌++◌, ◌∷◌, ◌≤◌, IfSome, MatchOption, length, take};
+ghost use Rattle.node_journal.specs.Following.{IsPartOf};
 ghost use Rattle.node_lines.specs.Input.{IsLine};
 
 /// How a text goes on behind a line's end where a life begins.
 const LIFE: &[u8] = b"\nnode ";
+
+/// How a refusal begins.
+const REFUSAL: &[u8] = b"error ";
 
 /// How many bytes two texts have in common from their beginning on.
 pub(crate) fn common(a: &[u8], b: &[u8]) -> usize
@@ -33,13 +37,71 @@ pub(crate) fn split_line(text: &[u8]) -> Option<(&[u8], &[u8])>
     None
 }
 
-/// Whether a text may go on with the beginning of a life, of which the last one may be cut off.
+/// Whether a text is empty or begins with a life. Of its first lines only a part may be there, at the text's end or
+/// where the next life begins.
 pub(crate) fn begins_life(text: &[u8]) -> bool {
-    common(text, LIFE) == LIFE.len().min(text.len())
+    let mut rest = text;
+    for _ in 0..text.len() {
+        let count = common(rest, LIFE);
+        if count == LIFE.len() || count == rest.len() {
+            return true;
+        }
+        if count == 0 {
+            return false;
+        }
+        rest = &rest[count..];
+    }
+    true
 }
 
-/// The same where the empty line's end stands right before the text, which isn't empty.
+/// Whether a life begins whose empty line ends right before the text.
 pub(crate) fn goes_on_with_life(text: &[u8]) -> bool {
     let head = &LIFE[1..];
-    !text.is_empty() && common(text, head) == head.len().min(text.len())
+    let count = common(text, head);
+    count == head.len() || (count > 0 && begins_life(&text[count..]))
+}
+
+/// Whether a text begins with a line that was refused.
+fn begins_refused(text: &[u8]) -> bool {
+    match split_line(text) {
+        Some((_, after)) => after.starts_with(REFUSAL),
+        None => false,
+    }
+}
+
+/// How many bytes of a reply stand at the beginning of a text. A line's end isn't one of them where it is that of the
+/// empty line with which the next life begins.
+pub(crate) fn written_part(text: &[u8], reply: &[u8]) -> usize
+    ensures first { result ≤ length text.now }
+    ensures second { result ≤ length reply.now }
+    ensures same { take result text.now ≡ take result reply.now }
+{
+    let count = common(text, reply);
+    if count == 0 || reply[count - 1] != b'\n' || !goes_on_with_life(&text[count..]) {
+        return count;
+    }
+    if count == reply.len() && begins_refused(&text[count..]) {
+        return count;
+    }
+    count - 1
+}
+
+/// The same where all bytes of the reply are there, or a life ends behind them; none where the text begins otherwise.
+pub(crate) fn last_part(text: &[u8], reply: &[u8]) -> Option<usize>
+    ensures { IfSome result (IsPartOf reply.now text.now) }
+{
+    let count = written_part(text, reply);
+    if count == 0 {
+        return None;
+    }
+    if count < reply.len() && !begins_life(&text[count..]) {
+        return None;
+    }
+    Some(count)
+}
+
+/// Whether a life ends within these bytes of a text, behind one of them at least.
+pub(crate) fn ends_within(text: &[u8], reply: &[u8]) -> bool {
+    let count = common(text, reply);
+    count > 0 && begins_life(&text[count..])
 }

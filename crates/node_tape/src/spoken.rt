@@ -3,10 +3,11 @@
 ghost use Rattle.std.specs.Prelude.{◌≡◌};
 
 use std::io;
-use std::io::Write;
+use std::io::{ErrorKind, Write};
 
 /// A writer of which all is written into a journal before it goes out, behind an empty line. What was not taken at one
-/// call has to be given again at the next one, as `write_all` and a `BufWriter` do.
+/// call has to be given again at the next one, as `write_all` and a `BufWriter` do. Once the journal failed, nothing
+/// more goes out.
 #[derive(Drop)]
 pub struct Spoken<W, J> {
     output: W,
@@ -14,6 +15,7 @@ pub struct Spoken<W, J> {
     // How much of what comes next is written already.
     ahead: usize,
     has_begun: bool,
+    has_failed: bool,
 }
 
 impl<W: Write, J: Write> Spoken<W, J> {
@@ -26,6 +28,7 @@ impl<W: Write, J: Write> Spoken<W, J> {
             journal,
             ahead: 0,
             has_begun: false,
+            has_failed: false,
         }
     }
 
@@ -42,13 +45,25 @@ impl<W: Write, J: Write> Spoken<W, J> {
         self.ahead = bytes.len();
         self.journal.flush()
     }
+
+    /// The same, where the journal never failed.
+    fn note_once(&mut self, bytes: &[u8]) -> io::Result<()>
+        ensures { self.new.output ≡ self.old.output }
+    {
+        if self.has_failed {
+            return Err(io::Error::from(ErrorKind::Other));
+        }
+        let noted = self.note(bytes);
+        self.has_failed = noted.is_err();
+        noted
+    }
 }
 
 impl<W: Write, J: Write> Write for Spoken<W, J> {
     ghost contents = { λ spoken. W.contents spoken.output };
 
     fn write(&mut self, bytes: &[u8]) -> io::Result<usize> {
-        self.note(bytes)?;
+        self.note_once(bytes)?;
         let count = self.output.write(bytes)?;
         self.ahead = bytes.len() - count;
         Ok(count)

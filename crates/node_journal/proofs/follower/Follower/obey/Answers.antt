@@ -9,12 +9,12 @@ pub returns-then-count-len : goal.returns-then-count-len
 returns-then-count-len c = λ sent comes.
     subst (λ (x : Follower). Steps c.args.text.now sent c.args.self.now (Did c.letters_out.result) x) (sym c.in_ok-go.ensures)
     (obeys_whole c.args.text.now sent c.args.self.now c.args.line.now c.args.after.now c.requires.followed c.requires.phase c.requires.text c.requires.line
-    c.work.new.self c.args.asked c.in_ok-acted.acted c.cause_of.result c.letters_out.result c.deref.result.now c.common-count.result c.in_ok-acted.ensures c.cause_of.ensures c.requires.asks c.letters_out.ensures
-    (c.deref.ensures.value ∙ c.in_ok-bytes.ensures) c.common-count.ensures.same (omega (arith, c.if-count-len.true, c.len.ensures, c.deref.ensures.len)) comes)
+    c.work.new.self c.args.asked c.in_ok-acted.acted c.cause_of.result c.letters_out.result c.deref.result.now c.written_part-count.result c.in_ok-acted.ensures c.cause_of.ensures c.requires.asks c.letters_out.ensures
+    (c.deref.ensures.value ∙ c.in_ok-bytes.ensures) c.written_part-count.ensures.same (omega (arith, c.if-count-len.true, c.len.ensures, c.deref.ensures.len)) comes)
 
 pub returns : goal.returns
 returns c = λ sent comes.
     subst (λ (x : Follower). Steps c.args.text.now sent c.args.self.now (Did c.letters_out-2.result) x) (sym c.in_ok-go-2.ensures)
     (obeys_in_part c.args.text.now sent c.args.self.now c.args.line.now c.args.after.now c.requires.followed c.requires.phase c.requires.text c.requires.line
-    c.work.new.self c.args.asked c.in_ok-acted.acted c.cause_of.result c.letters_out-2.result c.deref.result.now c.common-count.result c.in_ok-acted.ensures c.cause_of.ensures c.requires.asks c.letters_out-2.ensures
-    (c.deref.ensures.value ∙ c.in_ok-bytes.ensures) c.common-count.ensures.first c.common-count.ensures.same comes)
+    c.work.new.self c.args.asked c.in_ok-acted.acted c.cause_of.result c.letters_out-2.result c.deref.result.now c.written_part-count.result c.in_ok-acted.ensures c.cause_of.ensures c.requires.asks c.letters_out-2.ensures
+    (c.deref.ensures.value ∙ c.in_ok-bytes.ensures) c.written_part-count.ensures.first c.written_part-count.ensures.same comes)

@@ -9,11 +9,11 @@ use Rattle.node_journal.proofs.follower.Follower.start_again.Goals as goal
 pub returns-then-count-len : goal.returns-then-count-len
 returns-then-count-len c = λ sent.
     subst (λ (x : Follower). Steps c.args.text.now sent c.args.self.now (Did c.new.result) x) (sym c.in_ok-go.ensures)
-    (starts_whole c.args.text.now sent c.args.self.now c.restart.new.self c.deref.result.now c.common-count.result c.new.result c.requires.followed c.requires.phase
-    (c.deref.ensures.value ∙ c.in_ok-head.ensures) (subst (λ (xs : List ℕ). take c.common-count.result xs ≡ take c.common-count.result c.deref.result.now) (rest_of c.args.text.now c.args.self.now.place) c.common-count.ensures.same) (omega (arith, c.if-count-len.true, c.len.ensures, c.deref.ensures.len)) c.in_ok-restart.ensures c.new.ensures.items)
+    (starts_whole c.args.text.now sent c.args.self.now c.restart.new.self c.deref.result.now c.written_part-count.result c.new.result c.requires.followed c.requires.phase
+    (c.deref.ensures.value ∙ c.in_ok-head.ensures) (subst (λ (xs : List ℕ). take c.written_part-count.result xs ≡ take c.written_part-count.result c.deref.result.now) (rest_of c.args.text.now c.args.self.now.place) c.written_part-count.ensures.same) (omega (arith, c.if-count-len.true, c.len.ensures, c.deref.ensures.len)) c.in_ok-restart.ensures c.new.ensures.items)
 
 pub returns : goal.returns
 returns c = λ sent.
     subst (λ (x : Follower). Steps c.args.text.now sent c.args.self.now c.step_over.result x) (sym c.in_ok-go-2.ensures)
-    (starts_in_part c.args.text.now sent c.args.self.now c.deref.result.now c.common-count.result c.step_over.result c.requires.followed c.requires.phase
-    (c.deref.ensures.value ∙ c.in_ok-head.ensures) (subst (λ (xs : List ℕ). c.common-count.result ≤ length xs) (rest_of c.args.text.now c.args.self.now.place) c.common-count.ensures.first) (subst (λ (xs : List ℕ). take c.common-count.result xs ≡ take c.common-count.result c.deref.result.now) (rest_of c.args.text.now c.args.self.now.place) c.common-count.ensures.same) c.step_over.ensures)
+    (starts_in_part c.args.text.now sent c.args.self.now c.deref.result.now c.written_part-count.result c.step_over.result c.requires.followed c.requires.phase
+    (c.deref.ensures.value ∙ c.in_ok-head.ensures) (subst (λ (xs : List ℕ). c.written_part-count.result ≤ length xs) (rest_of c.args.text.now c.args.self.now.place) c.written_part-count.ensures.first) (subst (λ (xs : List ℕ). take c.written_part-count.result xs ≡ take c.written_part-count.result c.deref.result.now) (rest_of c.args.text.now c.args.self.now.place) c.written_part-count.ensures.same) c.step_over.ensures)

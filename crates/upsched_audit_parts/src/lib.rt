@@ -1,0 +1,10 @@
+//! `upsched audit --members M J0 J1 J2`: whether journals of nodes that are processes are the lines of legal records.
+//! It opens no file.
+#![tactic(auto)]
+
+mod audit_run;
+mod journals;
+mod verdict_line;
+
+pub use audit_run::{audit, print_audit};
+pub use journals::{NO_JOURNALS, audited_members, journal_of};
