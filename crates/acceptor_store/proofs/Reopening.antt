@@ -1,5 +1,5 @@
 -- What is known of a connection that was opened anew.
-use Rattle.std.proofs.Common.{◌≡◌, ◌⊎◌, inl, inr, ℕ, Bool, true, false, ◌&&◌, List, [], ◌∷◌, length, map, Some, None, Option, Ok, Err, Result, IfErr, IfOk, IfSome, OnOk, IsTrue, codes, refl, sym, ap, subst, subst₂, ◌∙◌}
+use Rattle.std.proofs.Common.{◌≡◌, ◌⊎◌, inl, inr, ℕ, Bool, true, ◌&&◌, List, [], ◌∷◌, length, map, Some, None, Option, Ok, Err, Result, IfErr, IfOk, IfSome, OnOk, IsTrue, refl, sym, ap, subst, subst₂, ◌∙◌}
 use Rattle.std.proofs.lemmas.Bool.{and_from, and_parts}
 use Rattle.std.proofs.Math.Logic.{∥∥₁_map, ∥∥₁_elim, ∥∥₁_prop}
 use Rattle.ballots.specs.declared.letters.Cast.{Cast}
@@ -20,10 +20,9 @@ use Rattle.acceptor_store_parts.specs.declared.Version.{Version}
 use Rattle.acceptor_store_parts.specs.declared.Version.TheVariants.{First, Second, Third}
 use Rattle.acceptor_store_parts.specs.Rowids.{AreByRowid, AreShaped, Rereads}
 use Rattle.sqlite.specs.Held.{Held, state}
-use Rattle.sqlite_schema.specs.Names.{same_name, table_named}
-use Rattle.sqlite.specs.Table.{Table}
+use Rattle.sqlite_schema.specs.Names.{same_name}
 use Rattle.std.specs.List.{AllByRecursion}
-use Rattle.acceptor_store_parts.specs.Foreign.{HasFacts, HoldsNone, IsForeignSchema, IsThereWithout, LacksNumbers, LacksVotes, LacksLearned}
+use Rattle.acceptor_store_parts.specs.Foreign.{HasFacts, HoldsNone, IsForeignSchema}
 use Rattle.sqlite_trees.specs.View.{IsClean}
 use Rattle.acceptor_store.specs.declared.known.Numbers.{Numbers}
 use Rattle.acceptor_store.specs.declared.OpenFault.{OpenFault}
@@ -33,8 +32,8 @@ use Rattle.acceptor_store_parts.specs.declared.owner.Owner.{Owner}
 use Rattle.acceptor_store_parts.specs.Tables.{schema_of, blank_schema}
 use Rattle.acceptor_store_parts.specs.Stored.{AreTablesOf, HasLearned, KeepsLearned, IsNumber, IsCast, IsLearned, vote_row, learned_row}
 use Rattle.acceptor_store_parts.specs.Owned.{AreTablesFor, schema_for}
-use Rattle.acceptor_store_parts.specs.Serves.{ServesFor, ServesAs, StillServes, HasRaised}
-use Rattle.acceptor_store_parts.proofs.Callers.{one_content, serves_for}
+use Rattle.acceptor_store_parts.specs.Serves.{ServesFor, ServesAs, StillServes}
+use Rattle.acceptor_store_parts.proofs.Callers.{one_content}
 use Rattle.acceptor_store.specs.Linked.{AreNumbersOf, Linked, MayFind, MayFindIn, IsHonest, is_clean_in, IsLinked, IsServing, Stands, IsTested, ServesNone, CannotBeRead, Tells, Leaves, Reopens, Examines, Had, IsIn, IsFoundIn, MakesReady, SeesForeign, HasNumbers, StaysAs, FindsContent as Found}
 use Rattle.sqlite_trees.proofs.Doubt.{no_doubt, clean_of}
 use Rattle.acceptor_store.proofs.Found.{found_is, found_it}

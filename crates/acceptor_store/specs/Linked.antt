@@ -3,6 +3,7 @@ use Rattle.std.specs.Prelude.{◌≡◌, ◌≢◌, ◌==◌, ℕ, max, map, Lis
 use Rattle.std.specs.Coded.{Coded, code_by, coded×, coded_bool, coded_ℕ, coded_option}
 use Rattle.ballots.specs.Ballots.{number_of}
 use Rattle.ballots.specs.declared.letters.Cast.{Cast}
+use Rattle.sqlite_disk.specs.Disk.{MoreFaults}
 use Rattle.sqlite_disk.specs.declared.Disk as disk
 use Rattle.sqlite_disk.specs.declared.Files.{Files}
 use Rattle.sqlite.specs.Files.{HoldsDatabase, image_of}
@@ -20,14 +21,16 @@ use Rattle.acceptor.specs.Found.{Holds, AddsNothing}
 use Rattle.ballots.specs.declared.members.Members.{Members}
 use Rattle.ballots.specs.declared.members.Members.TheVariants.{Three, Five}
 use Rattle.acceptor_store_parts.specs.declared.Version.{Version}
+use Rattle.acceptor_store_parts.specs.declared.Version.TheVariants.{First}
 use Rattle.acceptor_store_parts.specs.declared.owner.Owner.{Owner}
 use Rattle.acceptor_store_parts.specs.Tables.{schema_of, blank_schema}
-use Rattle.acceptor_store_parts.specs.Rowids.{IsReread}
+use Rattle.acceptor_store_parts.specs.Rowids.{IsReread, Rereads}
 use Rattle.acceptor_store.specs.declared.known.Numbers.{Numbers}
 use Rattle.acceptor_store_parts.specs.Stored.{AreTablesOf, IsOfNode, number_row, numbers_of}
 use Rattle.acceptor_store_parts.specs.Owned.{AreTablesFor, schema_for}
 use Rattle.acceptor_store_parts.specs.Foreign.{IsForeign, IsForeignSchema}
 use Rattle.acceptor_store_parts.specs.Serves.{ServesFor, ServesAs}
+use Rattle.acceptor_store_parts.specs.Tests.{IsShutBy}
 
 -- records as their contracts see them
 pub record Linked (S : Type 0) : Type 0 where
@@ -190,6 +193,22 @@ SeesForeign g conn = IsForeign (state g conn).now.schema (state g conn).committe
 -- tables, indexes or views beside the tables of a version or without them, or these declared otherwise, of which a node made none or all
 abbrev pub HasFurther : Schema → Type 0
 HasFurther s = (IsForeignSchema s → ⊥) × ((version : Version) → s ≢ schema_of version) × (s ≢ blank_schema)
+
+-- a read found the connection shut, its disk failed or refused meanwhile, or it took all the steps that it may
+abbrev pub HasStopped : State → State → Type 0
+HasStopped old new = IsShutBy old new ⊎ IsSome old.step_limit
+
+-- the disk failed or refused after the store was opened anew over what was committed
+abbrev pub FailsAnew : {S : Type 0} → Ghosts S → Version → Held S → S → Type 0
+FailsAnew {S} g version conn store = (again : Held S) × Rereads version (state g conn) (state g again) × MoreFaults (state g again).faults (g.faults store)
+
+-- there are no tables yet, or those of version 1 with content that a node wrote
+abbrev pub IsToMake : {S : Type 0} → Ghosts S → Held S → Type 0
+IsToMake g conn = ((state g conn).now.schema ≡ blank_schema) ⊎ ((c : Content) × HadIn g First conn c)
+
+-- why an open is Refused that gives this store back: an open transaction, what stands beside the tables, tables that were to be made, or a disk that failed
+abbrev pub IsRefused : {S : Type 0} → Ghosts S → Held S → S → Type 0
+IsRefused g conn store = IsTrue (state g conn).in_transaction ⊎ (HasFurther (state g conn).now.schema ⊎ (IsToMake g conn ⊎ ((version : Version) × FailsAnew g version conn store)))
 
 -- it serves what the older one had, which has these numbers
 abbrev pub MakesReady : {S : Type 0} → Ghosts S → Held S → Held S → Numbers → Type 0

@@ -1,5 +1,5 @@
 -- Records that are opened for an owner.
-use Rattle.std.specs.Prelude.{◌≡◌, ◌≢◌, ◌⊎◌, Bool, true, false, Some, None}
+use Rattle.std.specs.Prelude.{◌≡◌, ◌≢◌, ◌⊎◌, Bool, true, false, Some, None, IsTrue}
 use Rattle.acceptor.specs.Content.{Content, no_content}
 use Rattle.sqlite.specs.Store.{Ghosts}
 use Rattle.sqlite.specs.Tree.{Trees}
@@ -18,7 +18,7 @@ use Rattle.acceptor_store.specs.declared.known.Numbers.{Numbers}
 use Rattle.acceptor_store.specs.declared.OpenFault.TheVariants.{Refused, Broken, OutOfMemory, Foreign}
 use Rattle.acceptor_store.specs.declared.owned.OwnerFault.{OwnerFault}
 use Rattle.acceptor_store.specs.declared.owned.OwnerFault.TheVariants.{Open, Blank, Unowned, OtherNode, OtherMembers}
-use Rattle.acceptor_store.specs.Linked.{AreNumbersOf, Had, HadIn, SeesForeign}
+use Rattle.acceptor_store.specs.Linked.{AreNumbersOf, FailsAnew, Had, HadIn, SeesForeign}
 
 -- the last commit holds this content, which a node wrote, in tables of this owner
 abbrev pub HadFor : {S : Type 0} → Ghosts S → Owner → Held S → Content → Type 0
@@ -58,6 +58,10 @@ IsDue g owner is_new conn (Open OutOfMemory) = Unit {0}
 -- tables, indexes or views beside those of version 3 or in their place, of which a node made none or all
 abbrev pub HasFurtherAs : Schema → Type 0
 HasFurtherAs s = (IsBroken s → ⊥) × (IsUnowned s → ⊥) × (s ≢ schema_of Third) × (s ≢ blank_schema)
+
+-- why it is Refused, and gives this store back: an open transaction, what stands beside the tables, tables that were to be made, or a disk that failed
+abbrev pub IsRefusedFor : {S : Type 0} → Ghosts S → Held S → S → Type 0
+IsRefusedFor g conn store = IsTrue (state g conn).in_transaction ⊎ (HasFurtherAs (state g conn).now.schema ⊎ (((state g conn).now.schema ≡ blank_schema) ⊎ FailsAnew g Third conn store))
 
 -- it serves what its tables hold, which a node wrote as this owner and which has these numbers
 abbrev pub ExaminesFor : {S : Type 0} → Ghosts S → Owner → Held S → Held S → Numbers → Type 0

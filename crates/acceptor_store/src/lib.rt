@@ -25,7 +25,7 @@ ghost use Rattle.acceptor_store_parts.specs.Owned.{schema_for};
 ghost use Rattle.acceptor_store_parts.specs.Serves.{Serves, ServesFor, StillServes, DoesNotServe, StaysOpen};
 ghost use Rattle.acceptor_store_parts.specs.Stops.{LeavesOpen, leaves_open};
 ghost use Rattle.acceptor_store.specs.Stopped.{answer_of};
-ghost use Rattle.acceptor_store.specs.Linked.{MayFind, IsHonest, is_clean_in, is_honest, CannotBeRead, Tells, Leaves, Reopens, Had, HasFurther, IsFoundIn, IsLeftWhole, SeesForeign};
+ghost use Rattle.acceptor_store.specs.Linked.{MayFind, IsHonest, is_clean_in, is_honest, CannotBeRead, Tells, Leaves, Reopens, Had, HasFurther, IsFoundIn, IsLeftWhole, IsRefused, SeesForeign};
 
 use crate::anew::{end_unopened, opened_anew};
 use crate::known::{Numbers, cast_vote, numbers_of, promise};
@@ -176,6 +176,7 @@ impl<S: OpensAnew> SqlRecords<S> {
         ensures own { IfOk result (λ r. IsHonest S.Store r → SeesForeign S.Store conn → ⊥) }
         ensures whole { IfErr result (λ e. IsClean (S.Store.view e.1) → (db : Trees) → S.Store.recovers e.1 db → IsLeftWhole S.Store conn db) }
         ensures foreign { IfErr result (λ e. e.0 ≡ OpenFault.Foreign → IsClean (S.Store.view e.1) → SeesForeign S.Store conn) }
+        ensures refused { IfErr result (λ e. e.0 ≡ OpenFault.Refused → IsClean (S.Store.view e.1) → IsRefused S.Store conn e.1) }
         ensures used { IsTrue (state S.Store conn).in_transaction → IsErrAnd result (λ e. e.0 ≡ OpenFault.Refused) }
         ensures unowned { (state S.Store conn).in_transaction ≡ false → IsForeignSchema (state S.Store conn).now.schema
             → IsErrAnd result (λ e. e.0 ≡ OpenFault.Foreign) }

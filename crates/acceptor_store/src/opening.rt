@@ -14,7 +14,7 @@ ghost use Rattle.acceptor_store_parts.specs.Tables.{schema_of};
 ghost use Rattle.acceptor_store_parts.specs.Stored.{HasLearned, KeepsLearned, IsCast, IsLearned, IsNumber, IsOfNode, learned_row, vote_row};
 ghost use Rattle.acceptor_store_parts.specs.Serves.{ServesAs, IsOther, HasRaised, MayHaveRaised};
 ghost use Rattle.acceptor_store.specs.Stopped.{fault_of};
-ghost use Rattle.acceptor_store.specs.Linked.{HasFurther, Examines, MakesReady, SeesForeign, HasNumbers, StaysAs, FindsContent, IsLeftWhole};
+ghost use Rattle.acceptor_store.specs.Linked.{HasFurther, Examines, MakesReady, SeesForeign, HasNumbers, HasStopped, StaysAs, FailsAnew, FindsContent, IsLeftWhole, IsRefused, IsToMake};
 
 use crate::OpenFault;
 use crate::known::{Numbers, greatest_of};
@@ -43,6 +43,7 @@ fn judged(alloc: Global, schema: &Schema) -> Result<Version, OpenFault>
     ensures own { IfOk result (λ version. schema.now ≡ schema_of version) }
     ensures ours { OnOk result (IsForeignSchema schema.now → ⊥) }
     ensures foreign { result ≡ Err OpenFault.Foreign → IsForeignSchema schema.now }
+    ensures refused { result ≡ Err OpenFault.Refused → (version : _) → schema.now ≢ schema_of version }
 {
     if acceptor_store_parts::is_foreign(schema) {
         return Err(OpenFault::Foreign);
@@ -67,6 +68,8 @@ fn numbers_in<S: Alter>(
         → OnOk result (StaysAs version (state S.Store conn.old) (state S.Store conn.new)) }
     ensures foreign { HasCleanDisk (state S.Store conn.new) → result ≡ Err OpenFault.Foreign → (c : Content) → ServesAs version (state S.Store conn.old) c
         → IsOfNode c → ⊥ }
+    ensures refused { HasCleanDisk (state S.Store conn.new) → (state S.Store conn.old).now.schema ≡ schema_of version → result ≡ Err OpenFault.Refused
+        → HasStopped (state S.Store conn.old) (state S.Store conn.new) }
     ensures survives { Survives (state S.Store conn.old) (state S.Store conn.new) (λ _. IsOther (state S.Store conn.old)) }
 {
     let shown = match acceptor_store_parts::query_numbers(conn) {
@@ -88,6 +91,8 @@ fn votes_in<S: Alter>(alloc: Global, conn: &mut Connection<S>) -> Result<Votes, 
         → OnOk result (StaysAs version (state S.Store conn.old) (state S.Store conn.new)) }
     ensures foreign { HasCleanDisk (state S.Store conn.new) → result ≡ Err OpenFault.Foreign → (version : _) (c : Content)
         → ServesAs version (state S.Store conn.old) c → IsOfNode c → ⊥ }
+    ensures refused { HasCleanDisk (state S.Store conn.new) → (version : _) → (state S.Store conn.old).now.schema ≡ schema_of version → result ≡ Err OpenFault.Refused
+        → HasStopped (state S.Store conn.old) (state S.Store conn.new) }
     ensures survives { Survives (state S.Store conn.old) (state S.Store conn.new) (λ _. IsOther (state S.Store conn.old)) }
 {
     let rows = match acceptor_store_parts::query_all_votes(conn) {
@@ -118,6 +123,8 @@ fn kept_learned<S: Alter>(
         → OnOk result (StaysAs version (state S.Store conn.old) (state S.Store conn.new)) }
     ensures foreign { HasCleanDisk (state S.Store conn.new) → result ≡ Err OpenFault.Foreign → (version : _) → KeepsLearned version
         → (c : Content) → ServesAs version (state S.Store conn.old) c → IsOfNode c → ⊥ }
+    ensures refused { HasCleanDisk (state S.Store conn.new) → (version : _) → KeepsLearned version → (state S.Store conn.old).now.schema ≡ schema_of version → result ≡ Err OpenFault.Refused
+        → HasStopped (state S.Store conn.old) (state S.Store conn.new) }
     ensures survives { Survives (state S.Store conn.old) (state S.Store conn.new)
         (λ _. (version : _) → KeepsLearned version → (state S.Store conn.old).now.schema ≡ schema_of version → ⊥) }
 {
@@ -149,6 +156,8 @@ fn learned_in<S: Alter>(
         → OnOk result (StaysAs version (state S.Store conn.old) (state S.Store conn.new)) }
     ensures foreign { HasCleanDisk (state S.Store conn.new) → result ≡ Err OpenFault.Foreign → (c : Content) → ServesAs version (state S.Store conn.old) c
         → IsOfNode c → ⊥ }
+    ensures refused { HasCleanDisk (state S.Store conn.new) → (state S.Store conn.old).now.schema ≡ schema_of version → result ≡ Err OpenFault.Refused
+        → HasStopped (state S.Store conn.old) (state S.Store conn.new) }
     ensures survives { Survives (state S.Store conn.old) (state S.Store conn.new) (λ _. (state S.Store conn.old).now.schema ≡ schema_of version → ⊥) }
 {
     match version {
@@ -170,6 +179,8 @@ pub fn examined<S: Alter>(
         → OnOk result (StaysAs version (state S.Store conn.old) (state S.Store conn.new)) }
     ensures foreign { HasCleanDisk (state S.Store conn.new) → (state S.Store conn.old).now.schema ≡ schema_of version → result ≡ Err OpenFault.Foreign
         → IsReread version (state S.Store conn.old) → HoldsNone version (state S.Store conn.old).now.trees }
+    ensures refused { HasCleanDisk (state S.Store conn.new) → (state S.Store conn.old).now.schema ≡ schema_of version → result ≡ Err OpenFault.Refused
+        → HasStopped (state S.Store conn.old) (state S.Store conn.new) }
     ensures survives { Survives (state S.Store conn.old) (state S.Store conn.new) (λ _. (state S.Store conn.old).now.schema ≡ schema_of version → ⊥) }
 {
     let numbers = numbers_in(conn, version)?;
@@ -185,14 +196,13 @@ pub fn examined<S: Alter>(
 /// Whether the schema is that of the tables of this version alone.
 pub fn is_of(alloc: Global, schema: &Schema, version: Version) -> Result<bool, OpenFault>
     ensures ok { IfOk result (λ is. IsTrue is → schema.now ≡ schema_of version) }
+    ensures all { IfOk result (λ is. schema.now ≡ schema_of version → IsTrue is) }
     ensures err { IfErr result (λ e. e ≡ OpenFault.OutOfMemory) }
 {
-    match (acceptor_store_parts::version_of(alloc, schema), version) {
-        (Ok(Some(Version::First)), Version::First) => Ok(true),
-        (Ok(Some(Version::Second)), Version::Second) => Ok(true),
-        (Ok(Some(Version::Third)), Version::Third) => Ok(true),
-        (Ok(_), _) => Ok(false),
-        (Err(_), _) => Err(OpenFault::OutOfMemory),
+    match acceptor_store_parts::version_of(alloc, schema) {
+        Ok(Some(found)) => Ok(found == version),
+        Ok(None) => Ok(false),
+        Err(_) => Err(OpenFault::OutOfMemory),
     }
 }
 
@@ -209,6 +219,7 @@ fn reread<S: Alter + Drop>(
     ensures leaves { IfOk result (λ r. HasCleanDisk (state S.Store r.0) → (db : Trees) → (state S.Store r.0).may_leave db → (state S.Store conn).may_leave db) }
     ensures left { IfErr result (λ e. IsClean (S.Store.view e.1) → (db : Trees) → S.Store.recovers e.1 db → (state S.Store conn).may_leave db) }
     ensures foreign { IfErr result (λ e. e.0 ≡ OpenFault.Foreign → IsClean (S.Store.view e.1) → HoldsNone version (state S.Store conn).committed.trees) }
+    ensures refused { IfErr result (λ e. e.0 ≡ OpenFault.Refused → IsClean (S.Store.view e.1) → FailsAnew S.Store version conn e.1) }
 {
     // Over the store the rows stand by rowid, which no other call tells.
     let mut again = match acceptor_store_parts::reread(alloc, version, conn) {
@@ -240,6 +251,8 @@ fn brought_up<S: Alter + Drop>(
     ensures whole { IfErr result (λ e. IsClean (S.Store.view e.1) → (state S.Store conn).now.schema ≡ schema_of version → (db : Trees)
         → S.Store.recovers e.1 db → IsLeftWhole S.Store conn db) }
     ensures foreign { IfErr result (λ e. e.0 ≡ OpenFault.Foreign → IsClean (S.Store.view e.1) → HoldsNone version (state S.Store conn).committed.trees) }
+    ensures refused { IfErr result (λ e. e.0 ≡ OpenFault.Refused → IsClean (S.Store.view e.1) → (state S.Store conn).now.schema ≡ schema_of version
+        → IsToMake S.Store conn ⊎ FailsAnew S.Store version conn e.1) }
 {
     let found = match reread(alloc, version, conn) {
         Ok(found) => found,
@@ -265,6 +278,7 @@ pub fn prepared<S: Alter + Drop>(
     ensures clean { IfOk result (λ r. doubt (state S.Store conn).is_clean ≤ doubt (state S.Store r.0).is_clean) }
     ensures whole { IfErr result (λ e. IsClean (S.Store.view e.1) → (db : Trees) → S.Store.recovers e.1 db → IsLeftWhole S.Store conn db) }
     ensures foreign { IfErr result (λ e. e.0 ≡ OpenFault.Foreign → IsClean (S.Store.view e.1) → SeesForeign S.Store conn) }
+    ensures refused { IfErr result (λ e. e.0 ≡ OpenFault.Refused → IsClean (S.Store.view e.1) → IsRefused S.Store conn e.1) }
     ensures used { IsTrue (state S.Store conn).in_transaction → IsErrAnd result (λ e. e.0 ≡ OpenFault.Refused) }
     ensures unowned { (state S.Store conn).in_transaction ≡ false → IsForeignSchema (state S.Store conn).now.schema
         → IsErrAnd result (λ e. e.0 ≡ OpenFault.Foreign) }

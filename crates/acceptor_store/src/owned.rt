@@ -12,8 +12,8 @@ ghost use Rattle.acceptor_store_parts.specs.Owned.{IsOwner, OwnedBy};
 ghost use Rattle.acceptor_store_parts.specs.Rowids.{AreByRowid, IsReread};
 ghost use Rattle.acceptor_store_parts.specs.Serves.{HasOwned, MayHaveOwned};
 ghost use Rattle.acceptor_store_parts.specs.Tables.{blank_schema, schema_of};
-ghost use Rattle.acceptor_store.specs.Linked.{IsHonest, MayFind, StaysAs, is_clean_in};
-ghost use Rattle.acceptor_store.specs.Owning.{AdoptsFor, ExaminesFor, FindsFor, HadAs, HadBefore, HasFurtherAs, IsDue, IsDueBefore, IsLeftAs, IsLeftBefore, PreparesFor};
+ghost use Rattle.acceptor_store.specs.Linked.{FailsAnew, HasStopped, IsHonest, MayFind, StaysAs, is_clean_in};
+ghost use Rattle.acceptor_store.specs.Owning.{AdoptsFor, ExaminesFor, FindsFor, HadAs, HadBefore, HasFurtherAs, IsDue, IsDueBefore, IsLeftAs, IsLeftBefore, IsRefusedFor, PreparesFor};
 
 use crate::known::Numbers;
 use crate::opening::{examined, is_of, prepared, stopped};
@@ -80,6 +80,8 @@ fn judged(alloc: Global, schema: &Schema) -> Result<(), OwnerFault>
     ensures own { OnOk result (schema.now ≡ schema_of Version.Third) }
     ensures due { IfErr result (λ e. ((e ≡ OwnerFault.Open OpenFault.Foreign) × IsBroken schema.now) ⊎ (((e ≡ OwnerFault.Unowned) × IsUnowned schema.now)
         ⊎ ((e ≡ OwnerFault.Open OpenFault.Refused) ⊎ (e ≡ OwnerFault.Open OpenFault.OutOfMemory)))) }
+    ensures refused { result ≡ Err (OwnerFault.Open OpenFault.Refused) → (IsBroken schema.now → ⊥) × (IsUnowned schema.now → ⊥)
+        × (schema.now ≢ schema_of Version.Third) }
 {
     if acceptor_store_parts::is_broken(schema) {
         return Err(OwnerFault::Open(OpenFault::Foreign));
@@ -103,6 +105,8 @@ fn owner_in<S: Alter>(conn: &mut Connection<S>) -> Result<Owner, OpenFault>
         → OnOk result (StaysAs Version.Third (state S.Store conn.old) (state S.Store conn.new)) }
     ensures foreign { HasCleanDisk (state S.Store conn.new) → result ≡ Err OpenFault.Foreign → (state S.Store conn.old).now.schema ≡ schema_of Version.Third
         → (owner : Owner) → IsOwner owner → OwnedBy owner (state S.Store conn.old).now.trees → ⊥ }
+    ensures refused { HasCleanDisk (state S.Store conn.new) → (state S.Store conn.old).now.schema ≡ schema_of Version.Third → result ≡ Err OpenFault.Refused
+        → HasStopped (state S.Store conn.old) (state S.Store conn.new) }
     ensures survives { Survives (state S.Store conn.old) (state S.Store conn.new) (λ _. (state S.Store conn.old).now.schema ≡ schema_of Version.Third → ⊥) }
 {
     let shown = match acceptor_store_parts::query_facts(conn) {
@@ -124,6 +128,8 @@ fn examined_owned<S: Alter>(
         → IfOk result (λ r. ExaminesFor S.Store r.0 conn.old conn.new r.1) }
     ensures foreign { HasCleanDisk (state S.Store conn.new) → (state S.Store conn.old).now.schema ≡ schema_of Version.Third → result ≡ Err OpenFault.Foreign
         → IsReread Version.Third (state S.Store conn.old) → HoldsNoneOwned (state S.Store conn.old).now.trees }
+    ensures refused { HasCleanDisk (state S.Store conn.new) → (state S.Store conn.old).now.schema ≡ schema_of Version.Third → result ≡ Err OpenFault.Refused
+        → HasStopped (state S.Store conn.old) (state S.Store conn.new) }
     ensures survives { Survives (state S.Store conn.old) (state S.Store conn.new) (λ _. (state S.Store conn.old).now.schema ≡ schema_of Version.Third → ⊥) }
 {
     let numbers = match examined(alloc, conn, Version::Third) {
@@ -148,6 +154,7 @@ fn reread_owned<S: Alter + Drop>(
     ensures leaves { IfOk result (λ r. HasCleanDisk (state S.Store r.0) → (db : Trees) → (state S.Store r.0).may_leave db → (state S.Store conn).may_leave db) }
     ensures left { IfErr result (λ e. IsClean (S.Store.view e.1) → (db : Trees) → S.Store.recovers e.1 db → (state S.Store conn).may_leave db) }
     ensures foreign { IfErr result (λ e. e.0 ≡ OpenFault.Foreign → IsClean (S.Store.view e.1) → HoldsNoneOwned (state S.Store conn).committed.trees) }
+    ensures refused { IfErr result (λ e. e.0 ≡ OpenFault.Refused → IsClean (S.Store.view e.1) → FailsAnew S.Store Version.Third conn e.1) }
 {
     // Over the store the rows stand by rowid, which no other call tells.
     let mut again = match acceptor_store_parts::reread(alloc, Version::Third, conn) {
@@ -178,6 +185,7 @@ fn claimed<S: Alter + Drop>(
     ensures left { IfErr result (λ e. IsClean (S.Store.view e.1) → (db : Trees) → S.Store.recovers e.1 db → (state S.Store conn).may_leave db) }
     ensures due { IfErr result (λ e. IsClean (S.Store.view e.1) → (state S.Store conn).now.schema ≡ schema_of Version.Third → (is_new : _)
         → IsDue S.Store owner is_new conn e.0) }
+    ensures refused { IfErr result (λ e. e.0 ≡ OwnerFault.Open OpenFault.Refused → IsClean (S.Store.view e.1) → FailsAnew S.Store Version.Third conn e.1) }
 {
     let (again, found, numbers) = match reread_owned(alloc, conn) {
         Ok(found) => found,
@@ -200,6 +208,7 @@ fn prepared_for<S: Alter + Drop>(
     ensures clean { IfOk result (λ r. doubt (state S.Store conn).is_clean ≤ doubt (state S.Store r.0).is_clean) }
     ensures whole { IfErr result (λ e. IsClean (S.Store.view e.1) → (db : Trees) → S.Store.recovers e.1 db → IsLeftAs S.Store owner.now is_new conn db) }
     ensures due { IfErr result (λ e. IsClean (S.Store.view e.1) → IsDue S.Store owner.now is_new conn e.0) }
+    ensures refused { IfErr result (λ e. e.0 ≡ OwnerFault.Open OpenFault.Refused → IsClean (S.Store.view e.1) → IsRefusedFor S.Store conn e.1) }
     ensures used { IsTrue (state S.Store conn).in_transaction → IsErrAnd result (λ e. e.0 ≡ OwnerFault.Open OpenFault.Refused) }
     ensures blank { (state S.Store conn).in_transaction ≡ false → (state S.Store conn).now.schema ≡ blank_schema → is_new ≡ false
         → IsErrAnd result (λ e. e.0 ≡ OwnerFault.Blank) }
@@ -290,6 +299,7 @@ impl<S: OpensAnew> SqlRecords<S> {
         ensures whole { IfErr result (λ e. IsClean (S.Store.view e.1) → (db : Trees) → S.Store.recovers e.1 db
             → IsLeftAs S.Store (record { node = node; members = members }) is_new conn db) }
         ensures due { IfErr result (λ e. IsClean (S.Store.view e.1) → IsDue S.Store (record { node = node; members = members }) is_new conn e.0) }
+        ensures refused { IfErr result (λ e. e.0 ≡ OwnerFault.Open OpenFault.Refused → IsClean (S.Store.view e.1) → IsRefusedFor S.Store conn e.1) }
         ensures used { IsTrue (state S.Store conn).in_transaction → IsErrAnd result (λ e. e.0 ≡ OwnerFault.Open OpenFault.Refused) }
         ensures blank { (state S.Store conn).in_transaction ≡ false → (state S.Store conn).now.schema ≡ blank_schema → is_new ≡ false
             → IsErrAnd result (λ e. e.0 ≡ OwnerFault.Blank) }

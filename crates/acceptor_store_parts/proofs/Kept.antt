@@ -9,7 +9,7 @@ use Rattle.sqlite.specs.Effect.{Database}
 use Rattle.sqlite.specs.Schema.{Schema}
 use Rattle.sqlite.specs.Listing.{understood}
 use Rattle.sqlite_resolve.specs.declared.compiled.Compiled.{Compiled}
-use Rattle.sqlite.specs.State.{State, Executes, ExecutesIn, QueriesRow, FailsToQuery, IsNotRun, RunsCommand, shows_rows, Shown, ShowsRows, IsUnchanged, IsRolledBack}
+use Rattle.sqlite.specs.State.{State, Executes, ExecutesIn, FailsToQuery, IsNotRun, RunsCommand, shows_rows, Shown, ShowsRows, IsUnchanged, IsRolledBack}
 use Rattle.sqlite.proofs.Callers.{IsPlain}
 use Rattle.acceptor_store_parts.specs.declared.owner.Owner.{Owner}
 use Rattle.acceptor_store_parts.specs.Owned.{AreTablesFor, schema_for}
@@ -60,13 +60,6 @@ abbrev pub AlwaysPlain : List ℕ → Type 0
 AlwaysPlain sql = (owner : Option Owner) → IsPlain (understood (schema_for owner) sql)
 
 module _ (sql : List ℕ) (params : Row) (old new : State) (schema : Schema) (has : old.now.schema ≡ schema) (plain : IsPlain (understood schema sql)) where
-  shown_keeps : (rows : List Row) → Shown sql params old new rows → Keeps old new
-  unfolding Shown
-  shown_keeps rows h =
-      let known = sym h.1.is ∙ ap (λ s. understood s sql) has in
-      let bare = subst IsPlain (sym known) plain in
-      inl (rw bare.0 at h.2).3
-
   fails_keeps : (e : Error) → FailsToQuery sql params old new e → Keeps old new
   unfolding FailsToQuery
   fails_keeps e (inl h) = not_run old new sql params e h
@@ -75,39 +68,9 @@ module _ (sql : List ℕ) (params : Row) (old new : State) (schema : Schema) (ha
       let bare = subst IsPlain (sym known) plain in
       inl (rw bare.0 at h.2).3
 
-  pub query_keeps : (r : Result Row Error) → QueriesRow sql params old new r → Keeps old new
-  unfolding QueriesRow
-  query_keeps (Ok row) (inl h) = inl h.1
-  query_keeps (Ok row) (inr h) = shown_keeps h.0 h.1
-  query_keeps (Err e) (inl h) = fails_keeps e h
-  query_keeps (Err e) (inr h) = shown_keeps [] h.1
-
-  pub query_stays : (row : Row) → QueriesRow sql params old new (Ok row) → IsUnchanged old new
-  unfolding QueriesRow Shown
-  query_stays row (inl h) = h.1
-  query_stays row (inr h) =
-      let it = h.1 in
-      let known = sym it.1.is ∙ ap (λ s. understood s sql) has in
-      let bare = subst IsPlain (sym known) plain in
-      (rw bare.0 at it.2).3
-
 shown_open : (sql : List ℕ) (params : Row) (old new : State) (rows : List Row) (c : Compiled) (returning : Option Returning) → ShowsRows old new sql c params rows returning → IsTrue old.is_open
 shown_open sql params old new rows c None h = h.3.0.was_open
 shown_open sql params old new rows c (Some what) h = h.1.shown.was_open
-
-query_was_open : (sql : List ℕ) (params : Row) (old new : State) (row : Row) → QueriesRow sql params old new (Ok row) → IsTrue old.is_open
-unfolding QueriesRow Shown
-query_was_open sql params old new row (inl h) = h.1.0.was_open
-query_was_open sql params old new row (inr h) = shown_open sql _ old new h.0 h.1.0 h.1.0.returning h.1.2
-
-pub query_ok : (sql : List ℕ) (params : Row) (old new : State) → AlwaysPlain sql → (r : Result Row Error) → QueriesRow sql params old new r → OnOk r (Stays old new)
-query_ok sql params old new plain (Err e) h = tt
-query_ok sql params old new plain (Ok row) h = (
-  query_was_open sql params old new row h,
-  λ owner c was.
-      let same = query_stays sql params old new (schema_for owner) was.schema (plain owner) row h in
-      still_serves owner old new c was (inl same) same.0.is_open,
-)
 
 pub failed_serves : (sql : List ℕ) (params : Row) (old new : State) (r : Result ℕ Error) → Executes sql params old new r → OnErr r (IsTrue new.is_open → StillServes old new)
 failed_serves sql params old new (Ok count) h = tt

@@ -9,7 +9,6 @@ use Rattle.sqlite.specs.Order.{Row}
 use Rattle.sqlite.specs.Tree.{Trees}
 use Rattle.sqlite.specs.Program.{overlay}
 use Rattle.sqlite.specs.State.{State, Shown}
-use Rattle.sqlite.proofs.Callers.{reads_as}
 use Rattle.acceptor_store_parts.specs.declared.Version.{Version}
 use Rattle.acceptor_store_parts.specs.declared.Version.TheVariants.{First, Second, Third}
 use Rattle.acceptor_store_parts.specs.declared.owner.Owner.{Owner}
@@ -17,7 +16,7 @@ use Rattle.acceptor_store_parts.specs.Tables.{schema_of, learned_row_query, lear
 use Rattle.acceptor_store_parts.specs.Stored.{learned_row, learned_shown, KeepsLearned, HasLearned}
 use Rattle.acceptor_store_parts.specs.Owned.{schema_for}
 use Rattle.acceptor_store_parts.specs.Serves.{Serves, ServesFor, ServesAs}
-use Rattle.acceptor_store_parts.proofs.Meaning.{two_columns, learned_row_is, learned_row_plain, learned_from_is, learned_from_plain, all_learned_is, all_learned_plain}
+use Rattle.acceptor_store_parts.proofs.Meaning.{two_columns, learned_row_is, learned_from_is, all_learned_is, reads}
 use Rattle.acceptor_store_parts.proofs.Places.{rising}
 use Rattle.acceptor_store_parts.proofs.RowsShown.{shown_from, shown_at, shown_all}
 
@@ -28,12 +27,12 @@ rest v = Null ∷ Blob v.1 ∷ []
 module _ (owner : Option Owner) (old new : State) (c : Content) (was : ServesFor owner old c) where
   reads_from : (q : ℕ) (rows : List Row) → Shown learned_from_query (Int (pos q) ∷ []) old new rows → rows ≡ map learned_shown (rows_from c.learned q)
   reads_from q rows h =
-      let got = reads_as learned_from_query (Int (pos q) ∷ []) old new (schema_for owner) was.schema _ (learned_from_is owner).0 (learned_from_plain owner) (learned_from_is owner).1 rows h in
+      let got = reads (learned_from_is owner) _ old new was.schema rows h in
       shown_from rest learned_shown 2 two_columns c.learned (rising 1 c.learned was.tables.sound.1) (overlay old.now.trees []) was.tables.learned_are q (λ v. refl) rows (got.answer Null)
 
   reads_row : (q : ℕ) (rows : List Row) → Shown learned_row_query (Int (pos q) ∷ []) old new rows → rows ≡ map learned_shown (filter (λ v. v.0 == q) c.learned)
   reads_row q rows h =
-      let got = reads_as learned_row_query (Int (pos q) ∷ []) old new (schema_for owner) was.schema _ (learned_row_is owner).0 (learned_row_plain owner) (learned_row_is owner).1 rows h in
+      let got = reads (learned_row_is owner) _ old new was.schema rows h in
       shown_at rest learned_shown 2 two_columns c.learned (rising 1 c.learned was.tables.sound.1) (overlay old.now.trees []) was.tables.learned_are q (λ v. refl) rows (got.answer Null)
 
 -- the table of learned values, in each version that has one
@@ -44,7 +43,7 @@ table_of_learned Third keeps db c h = h
 
 reads_all : (version : Version) → KeepsLearned version → (old new : State) (c : Content) (was : ServesAs version old c) (rows : List Row) → Shown all_learned_query [] old new rows → rows ≡ map learned_shown c.learned
 reads_all version keeps old new c was rows h =
-    let got = reads_as all_learned_query [] old new (schema_of version) was.schema _ (all_learned_is version keeps).0 (all_learned_plain version keeps) (all_learned_is version keeps).1 rows h in
+    let got = reads (all_learned_is version keeps) _ old new was.schema rows h in
     let there = table_of_learned version keeps old.now.trees c was.tables.learned_are in
     shown_all rest learned_shown 2 two_columns c.learned (rising 1 c.learned was.tables.sound.1) (overlay old.now.trees []) there (λ v. refl) rows (got.answer Null)
 

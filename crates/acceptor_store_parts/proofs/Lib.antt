@@ -9,7 +9,6 @@ pub mod Puts
 pub mod Writes
 pub mod Rows
 pub mod States
-pub mod Queries
 pub mod Kept
 pub mod InOrder
 pub mod RowsShown
@@ -25,3 +24,4 @@ pub mod Raw
 pub mod Casts
 pub mod Owners
 pub mod Tested
+pub mod Fails

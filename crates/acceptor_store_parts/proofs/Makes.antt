@@ -1,5 +1,5 @@
 -- What the texts make that make the tables.
-use Rattle.std.proofs.Common.{◌≡◌, ℕ, List, [], ◌∷◌, map, pos, false, Option, Some, None, Ok, Err, Result, OnOk, refl, sym, ap, subst, ◌∙◌}
+use Rattle.std.proofs.Common.{◌≡◌, ℕ, ◌/◌, List, [], ◌∷◌, length, map, pos, false, Option, Some, None, Ok, Err, Result, OnOk, refl, sym, ap, subst, ◌∙◌}
 use Rattle.sqlite.specs.Order.{Row}
 use Rattle.sqlite.specs.Schema.{Schema}
 use Rattle.sqlite.specs.Source.TheVariants.{Values}
@@ -10,7 +10,10 @@ use Rattle.sqlite.specs.Change.{created, next_tree, KeepsRows}
 use Rattle.sqlite.specs.Does.{Tally, Does, lacks_sequence}
 use Rattle.sqlite.specs.Tree.{Trees, put_row}
 use Rattle.sqlite.specs.Listing.{understood}
-use Rattle.sqlite.specs.Effect.{Database}
+use Rattle.sqlite.specs.Effect.{Database, value_rows}
+use Rattle.sqlite.specs.Table.{Table}
+use Rattle.sqlite.specs.Term.{Term}
+use Rattle.sqlite.specs.Compile.{table_defined_by}
 use Rattle.sqlite.specs.State.{State, Writes, Executes, Shows}
 use Rattle.sqlite.specs.State.{mode_of}
 use Rattle.sqlite.specs.Edit.{edit_of, edited}
@@ -19,111 +22,56 @@ use Rattle.sqlite_rules.specs.Cast.{cast_row}
 use Rattle.sqlite.specs.Rowids.TheVariants.{Chosen}
 use Rattle.sqlite.specs.Rows.{Written}
 use Rattle.sqlite_value.proofs.OrderLemmas.{value_cmp-Int}
-use Rattle.acceptor.specs.Content.{Content, no_content}
+use Rattle.acceptor.specs.Content.{Content, IsSound, no_content}
 use Rattle.acceptor_store_parts.specs.declared.owner.Owner.{Owner}
-use Rattle.acceptor_store_parts.specs.Stored.{number_row, learned_row, fact_row, fact_shown, AreTablesOf}
+use Rattle.acceptor_store_parts.specs.Stored.{number_row, vote_row, learned_row, fact_row, fact_shown, three, AreTablesOf}
 use Rattle.acceptor_store_parts.specs.Owned.{AreTablesFor, owner_bytes, schema_for}
-use Rattle.sqlite.proofs.Callers.{runs_as, one_step, statement_of}
+use Rattle.sqlite.proofs.Callers.{one_step, statement_of}
 use Rattle.acceptor_store_parts.specs.Tables.{schema_of, blank_schema, ballot_table, vote_table, learned_table, fact_table, ballot_text, vote_text, learned_text, fact_text, fact_put, version_put}
-use Rattle.acceptor_store_parts.proofs.Meaning.{
-  ballot_schema,
-  numbers_put,
-  number_terms,
-  numbers_terms,
-  learned_terms,
-  second_put,
-  second_terms,
-  create_ballot_is,
-  create_vote_is,
-  create_learned_is,
-  numbers_put_is,
-  second_put_is,
-  create_ballot_plain,
-  create_vote_plain,
-  create_learned_plain,
-  numbers_put_plain,
-  second_put_plain,
-  create_fact_is,
-  create_fact_plain,
-  fact_put_is,
-  fact_put_plain,
-  version_put_is,
-  version_put_plain,
-}
+use Rattle.acceptor_store_parts.proofs.Meaning.{Means, compiled_as, known, runs, ballot_schema, numbers_put, number_terms, numbers_terms, learned_terms, second_put, second_terms, create_ballot_is, create_vote_is, create_learned_is, numbers_put_is, second_put_is, create_fact_is, fact_put_is, version_put_is}
 use Rattle.acceptor_store_parts.specs.declared.Version.TheVariants.{First, Second, Third}
 use Rattle.acceptor_store_parts.proofs.Writes.{PutsRow, cast_number, put_number, put_fact, first_fact, puts_version}
 use Rattle.acceptor_store_parts.specs.Serves.{ServesFor}
 use Rattle.acceptor_store_parts.proofs.Puts.{went, same_value}
 
--- the trees that the list of objects doesn't keep, but for one that is made empty
-pub makes_ballot : (old new : State) (count : ℕ) → old.now.schema ≡ blank_schema → Executes ballot_text [] old new (Ok count) → (new.now.schema ≡ ballot_schema) × (new.now.trees 0 ≡ [])
-makes_ballot old new count has h =
-    let w = subst (λ t. Writes old new None CreateTable t [] count) create_ballot_is.1 (runs_as ballot_text [] old new blank_schema has CreateTable create_ballot_is.0 create_ballot_plain count h) in
+-- CREATE TABLE adds an empty tree, and keeps the rows of the others
+makes : (text : List ℕ) (schema : Schema) (table : Table) → Means schema text [] CreateTable × (table_defined_by text ≡ Ok table) → statement_of text (Ok (compiled_as text [] CreateTable)) ≡ text → lacks_sequence (created schema table) ≡ false
+    → (old new : State) (count : ℕ) → old.now.schema ≡ schema → Executes text [] old new (Ok count)
+    → (new.now.schema ≡ created schema table) × KeepsRows schema.tables old.now.trees new.now.trees × (new.now.trees (next_tree schema) ≡ [])
+makes text schema table is whole plain old new count has h =
+    let w = subst (λ t. Writes old new None CreateTable t [] count) (ap (statement_of text) (known is.0) ∙ whole) (runs is.0 [] old new has count h) in
     let all = went w.changed in
     let first = went all.1 in
     let made = first.1 in
-    let both : Ok made.table ≡ Ok ballot_table = sym made.defined ∙ create_ballot_is.2 in
-    let same : made.table ≡ ballot_table = cc in
-    let schema : first.0.schema ≡ ballot_schema = made.is ∙ ap (λ s. created s made.table) has ∙ ap (created blank_schema) same in
-    let plain : lacks_sequence first.0.schema ≡ false = ap lacks_sequence schema in
-    let now : new.now ≡ first.0 = ap (λ (p : Tally × Database). p.1) (same_value all.2) ∙ same_value (rw plain at first.2) in
-    (ap (λ (d : Database). d.schema) now ∙ schema, ap (λ (d : Database). d.trees 0) now ∙ subst (λ s. first.0.trees (next_tree s) ≡ []) has made.empty)
-
-pub makes_vote : (old new : State) (count : ℕ) → old.now.schema ≡ ballot_schema → old.now.trees 0 ≡ [] → Executes vote_text [] old new (Ok count) → (new.now.schema ≡ schema_of First) × (new.now.trees 0 ≡ []) × (new.now.trees 1 ≡ [])
-makes_vote old new count has none h =
-    let w = subst (λ t. Writes old new None CreateTable t [] count) create_vote_is.1 (runs_as vote_text [] old new ballot_schema has CreateTable create_vote_is.0 create_vote_plain count h) in
-    let all = went w.changed in
-    let first = went all.1 in
-    let made = first.1 in
-    let both : Ok made.table ≡ Ok (record vote_table { tree = 0 }) = sym made.defined ∙ create_vote_is.2 in
-    let same : made.table ≡ record vote_table { tree = 0 } = cc in
-    let schema : first.0.schema ≡ schema_of First = made.is ∙ ap (λ s. created s made.table) has ∙ ap (created ballot_schema) same in
-    let plain : lacks_sequence first.0.schema ≡ false = ap lacks_sequence schema in
-    let now : new.now ≡ first.0 = ap (λ (p : Tally × Database). p.1) (same_value all.2) ∙ same_value (rw plain at first.2) in
-    let kept : KeepsRows (ballot_table ∷ []) old.now.trees first.0.trees = subst (λ (s : Schema). KeepsRows s.tables old.now.trees first.0.trees) has made.others in (
-      ap (λ (d : Database). d.schema) now ∙ schema,
-      ap (λ (d : Database). d.trees 0) now ∙ (kept.0 ∙ none),
-      ap (λ (d : Database). d.trees 1) now ∙ subst (λ s. first.0.trees (next_tree s) ≡ []) has made.empty,
+    let both : Ok made.table ≡ Ok table = sym made.defined ∙ is.1 in
+    let same : made.table ≡ table = cc in
+    let is_schema : first.0.schema ≡ created schema table = made.is ∙ ap (λ s. created s made.table) has ∙ ap (created schema) same in
+    let lacks : lacks_sequence first.0.schema ≡ false = ap lacks_sequence is_schema ∙ plain in
+    let now : new.now ≡ first.0 = ap (λ (p : Tally × Database). p.1) (same_value all.2) ∙ same_value (rw lacks at first.2) in
+    let kept : KeepsRows schema.tables old.now.trees first.0.trees = subst (λ (s : Schema). KeepsRows s.tables old.now.trees first.0.trees) has made.others in (
+      ap (λ (d : Database). d.schema) now ∙ is_schema,
+      subst (λ (d : Database). KeepsRows schema.tables old.now.trees d.trees) (sym now) kept,
+      ap (λ (d : Database). d.trees (next_tree schema)) now ∙ subst (λ s. first.0.trees (next_tree s) ≡ []) has made.empty,
     )
 
-pub makes_learned : (old new : State) (count : ℕ) → old.now.schema ≡ schema_of First → Executes learned_text [] old new (Ok count)
-    → (new.now.schema ≡ schema_of Second) × (new.now.trees 0 ≡ old.now.trees 0) × (new.now.trees 1 ≡ old.now.trees 1) × (new.now.trees 2 ≡ [])
-makes_learned old new count has h =
-    let w = subst (λ t. Writes old new None CreateTable t [] count) create_learned_is.1 (runs_as learned_text [] old new (schema_of First) has CreateTable create_learned_is.0 create_learned_plain count h) in
-    let all = went w.changed in
-    let first = went all.1 in
-    let made = first.1 in
-    let both : Ok made.table ≡ Ok (record learned_table { tree = 0 }) = sym made.defined ∙ create_learned_is.2 in
-    let same : made.table ≡ record learned_table { tree = 0 } = cc in
-    let schema : first.0.schema ≡ schema_of Second = made.is ∙ ap (λ s. created s made.table) has ∙ ap (created (schema_of First)) same in
-    let plain : lacks_sequence first.0.schema ≡ false = ap lacks_sequence schema in
-    let now : new.now ≡ first.0 = ap (λ (p : Tally × Database). p.1) (same_value all.2) ∙ same_value (rw plain at first.2) in
-    let kept : KeepsRows (ballot_table ∷ vote_table ∷ []) old.now.trees first.0.trees = subst (λ (s : Schema). KeepsRows s.tables old.now.trees first.0.trees) has made.others in (
-      ap (λ (d : Database). d.schema) now ∙ schema,
-      ap (λ (d : Database). d.trees 0) now ∙ kept.0,
-      ap (λ (d : Database). d.trees 1) now ∙ kept.1.0,
-      ap (λ (d : Database). d.trees 2) now ∙ subst (λ s. first.0.trees (next_tree s) ≡ []) has made.empty,
-    )
+module _ (old new : State) (count : ℕ) where
+  pub makes_ballot : old.now.schema ≡ blank_schema → Executes ballot_text [] old new (Ok count) → (new.now.schema ≡ ballot_schema) × (new.now.trees 0 ≡ [])
+  makes_ballot has h = let made = makes ballot_text blank_schema ballot_table create_ballot_is refl refl old new count has h in (made.0, made.2)
 
-pub makes_fact : (old new : State) (count : ℕ) → old.now.schema ≡ schema_of Second → Executes fact_text [] old new (Ok count)
-    → (new.now.schema ≡ schema_of Third) × (new.now.trees 0 ≡ old.now.trees 0) × (new.now.trees 1 ≡ old.now.trees 1) × (new.now.trees 2 ≡ old.now.trees 2) × (new.now.trees 3 ≡ [])
-makes_fact old new count has h =
-    let w = subst (λ t. Writes old new None CreateTable t [] count) create_fact_is.1 (runs_as fact_text [] old new (schema_of Second) has CreateTable create_fact_is.0 create_fact_plain count h) in
-    let all = went w.changed in
-    let first = went all.1 in
-    let made = first.1 in
-    let both : Ok made.table ≡ Ok (record fact_table { tree = 0 }) = sym made.defined ∙ create_fact_is.2 in
-    let same : made.table ≡ record fact_table { tree = 0 } = cc in
-    let schema : first.0.schema ≡ schema_of Third = made.is ∙ ap (λ s. created s made.table) has ∙ ap (created (schema_of Second)) same in
-    let plain : lacks_sequence first.0.schema ≡ false = ap lacks_sequence schema in
-    let now : new.now ≡ first.0 = ap (λ (p : Tally × Database). p.1) (same_value all.2) ∙ same_value (rw plain at first.2) in
-    let kept : KeepsRows (ballot_table ∷ vote_table ∷ learned_table ∷ []) old.now.trees first.0.trees = subst (λ (s : Schema). KeepsRows s.tables old.now.trees first.0.trees) has made.others in (
-      ap (λ (d : Database). d.schema) now ∙ schema,
-      ap (λ (d : Database). d.trees 0) now ∙ kept.0,
-      ap (λ (d : Database). d.trees 1) now ∙ kept.1.0,
-      ap (λ (d : Database). d.trees 2) now ∙ kept.1.1.0,
-      ap (λ (d : Database). d.trees 3) now ∙ subst (λ s. first.0.trees (next_tree s) ≡ []) has made.empty,
-    )
+  pub makes_vote : old.now.schema ≡ ballot_schema → old.now.trees 0 ≡ [] → Executes vote_text [] old new (Ok count) → (new.now.schema ≡ schema_of First) × (new.now.trees 0 ≡ []) × (new.now.trees 1 ≡ [])
+  makes_vote has none h = let made = makes vote_text ballot_schema (record vote_table { tree = 0 }) create_vote_is refl refl old new count has h in (made.0, made.1.0 ∙ none, made.2)
+
+  pub makes_learned : old.now.schema ≡ schema_of First → Executes learned_text [] old new (Ok count)
+      → (new.now.schema ≡ schema_of Second) × (new.now.trees 0 ≡ old.now.trees 0) × (new.now.trees 1 ≡ old.now.trees 1) × (new.now.trees 2 ≡ [])
+  makes_learned has h =
+      let made = makes learned_text (schema_of First) (record learned_table { tree = 0 }) create_learned_is refl refl old new count has h in
+      (made.0, made.1.0, made.1.1.0, made.2)
+
+  pub makes_fact : old.now.schema ≡ schema_of Second → Executes fact_text [] old new (Ok count)
+      → (new.now.schema ≡ schema_of Third) × (new.now.trees 0 ≡ old.now.trees 0) × (new.now.trees 1 ≡ old.now.trees 1) × (new.now.trees 2 ≡ old.now.trees 2) × (new.now.trees 3 ≡ [])
+  makes_fact has h =
+      let made = makes fact_text (schema_of Second) (record fact_table { tree = 0 }) create_fact_is refl refl old new count has h in
+      (made.0, made.1.0, made.1.1.0, made.1.1.1.0, made.2)
 
 -- a row put after the others
 abbrev with_next : List Row → Row → List Row
@@ -160,57 +108,34 @@ other_tree same = absurd cc
 another_tree : ◌≡◌ {A = ℕ} 2 0 → ⊥
 another_tree same = absurd cc
 
-puts_numbers : (old new : State) (count : ℕ) → old.now.schema ≡ schema_of Second → old.now.trees 0 ≡ [] → old.now.trees 1 ≡ [] → old.now.trees 2 ≡ [] → Executes numbers_put [] old new (Ok count)
-    → (new.now.schema ≡ schema_of Second) × AreTablesFor None new.now.trees no_content
-puts_numbers old new count has none empty blank h =
-    let db = old.now.trees in
-    let command = Insert 0 (Values numbers_terms 3) in
-    let w = runs_as numbers_put [] old new (schema_of Second) has command numbers_put_is numbers_put_plain count h in
-    let text = statement_of numbers_put (understood (schema_of Second) numbers_put) in
-    let done = went (subst (λ s. Does old.step_limit (mode_of old) [] (record old.now { schema = s }) text None command (Ok (w.tally, new.now))) has w.changed) in
-    let now = ap (λ (p : Tally × Database). p.1) (same_value (went (went done.2).2).2) in
-    let given = went done.1 in
-    let written = went (went given.2).2 in
-    let counted = went written.2 in
-    let trees : done.0.trees ≡ written.0 = ap (λ (it : Written). it.trees) (same_value counted.2) ∙ same_value counted.1 in
-    let step = one_step (schema_of Second) _ db written.0 (edit_of db ballot_table [] Chosen 0 given.0) refl written.1 in
-    let rows_are : given.0 ≡ news = given.1.1 in
-    let edit : edited db (edit_of db ballot_table [] Chosen 0 given.0) ≡ news = ap (λ all. edited db (edit_of db ballot_table [] Chosen 0 all)) rows_are ∙ all_rows db none in (
-      ap (λ (d : Database). d.schema) now,
-      record {
-        numbers = ap (λ (d : Database). d.trees 0) now ∙ (ap (λ (t : Trees). t 0) trees ∙ (step.rows ∙ edit));
-        votes_are = ap (λ (d : Database). d.trees 1) now ∙ (ap (λ (t : Trees). t 1) trees ∙ (step.others 1 other_tree tt ∙ empty));
-        learned_are = ap (λ (d : Database). d.trees 2) now ∙ (ap (λ (t : Trees). t 2) trees ∙ (step.others 2 another_tree tt ∙ blank));
-        sound = (tt, tt, tt);
-        owned = tt;
-      },
-    )
-
-puts_third : (old new : State) (c : Content) (count : ℕ) → old.now.schema ≡ schema_of Second → AreTablesOf First old.now.trees c → old.now.trees 2 ≡ [] → Executes second_put [] old new (Ok count)
-    → (new.now.schema ≡ schema_of Second) × AreTablesFor None new.now.trees c
-puts_third old new c count has was blank h =
-    let db = old.now.trees in
-    let command = Insert 0 (Values second_terms 3) in
-    let w = runs_as second_put [] old new (schema_of Second) has command second_put_is second_put_plain count h in
-    let text = statement_of second_put (understood (schema_of Second) second_put) in
-    let done = went (subst (λ s. Does old.step_limit (mode_of old) [] (record old.now { schema = s }) text None command (Ok (w.tally, new.now))) has w.changed) in
-    let now = ap (λ (p : Tally × Database). p.1) (same_value (went (went done.2).2).2) in
-    let given = went done.1 in
-    let written = went (went given.2).2 in
-    let counted = went written.2 in
-    let trees : done.0.trees ≡ written.0 = ap (λ (it : Written). it.trees) (same_value counted.2) ∙ same_value counted.1 in
-    let step = one_step (schema_of Second) _ db written.0 (edit_of db ballot_table [] Chosen 0 given.0) refl written.1 in
-    let rows_are : given.0 ≡ number_row 2 2 ∷ [] = given.1.1 in
-    let edit = ap (λ all. edited db (edit_of db ballot_table [] Chosen 0 all)) rows_are ∙ third_row db c.tried c.row was.numbers in (
-      ap (λ (d : Database). d.schema) now,
-      record {
-        numbers = ap (λ (d : Database). d.trees 0) now ∙ (ap (λ (t : Trees). t 0) trees ∙ (step.rows ∙ edit));
-        votes_are = ap (λ (d : Database). d.trees 1) now ∙ (ap (λ (t : Trees). t 1) trees ∙ (step.others 1 other_tree tt ∙ was.votes_are));
-        learned_are = ap (λ (d : Database). d.trees 2) now ∙ (ap (λ (t : Trees). t 2) trees ∙ (step.others 2 another_tree tt ∙ (blank ∙ ap (map learned_row) (sym was.learned_are))));
-        sound = was.sound;
-        owned = tt;
-      },
-    )
+-- INSERT of numbers into the tables of version 2, whose rows of numbers are then a content's
+module _ (text : List ℕ) (terms : List Term) (news : List Row) (is : Means (schema_of Second) text [] (Insert 0 (Values terms 3))) (rows : value_rows [] 3 (length terms / 3) terms ≡ news)
+    (old new : State) (c : Content) (count : ℕ) (has : old.now.schema ≡ schema_of Second) where
+  inserts : edited old.now.trees (edit_of old.now.trees ballot_table [] Chosen 0 news) ≡ map (λ e. number_row e.0 e.1) (three 2 c.tried c.row) → old.now.trees 1 ≡ map vote_row c.votes → old.now.trees 2 ≡ map learned_row c.learned → IsSound c
+      → Executes text [] old new (Ok count) → (new.now.schema ≡ schema_of Second) × AreTablesFor None new.now.trees c
+  inserts numbers votes learned sound h =
+      let db = old.now.trees in
+      let command = Insert 0 (Values terms 3) in
+      let w = runs is [] old new has count h in
+      let stated = statement_of text (understood (schema_of Second) text) in
+      let done = went (subst (λ s. Does old.step_limit (mode_of old) [] (record old.now { schema = s }) stated None command (Ok (w.tally, new.now))) has w.changed) in
+      let now = ap (λ (p : Tally × Database). p.1) (same_value (went (went done.2).2).2) in
+      let given = went done.1 in
+      let written = went (went given.2).2 in
+      let counted = went written.2 in
+      let trees : done.0.trees ≡ written.0 = ap (λ (it : Written). it.trees) (same_value counted.2) ∙ same_value counted.1 in
+      let step = one_step (schema_of Second) _ db written.0 (edit_of db ballot_table [] Chosen 0 given.0) refl written.1 in
+      let edit = ap (λ all. edited db (edit_of db ballot_table [] Chosen 0 all)) (given.1.1 ∙ rows) ∙ numbers in
+      let at : (t : ℕ) → new.now.trees t ≡ written.0 t = λ t. ap (λ (d : Database). d.trees t) now ∙ ap (λ (all : Trees). all t) trees in (
+        ap (λ (d : Database). d.schema) now,
+        record {
+          numbers = at 0 ∙ (step.rows ∙ edit);
+          votes_are = at 1 ∙ (step.others 1 other_tree tt ∙ votes);
+          learned_are = at 2 ∙ (step.others 2 another_tree tt ∙ learned);
+          sound = sound;
+          owned = tt;
+        },
+      )
 
 -- a row that one statement puts into a table, in version 3
 module _ (owner : Owner) (old new : State) (count : ℕ) (has : old.now.schema ≡ schema_of Third) where
@@ -218,18 +143,18 @@ module _ (owner : Owner) (old new : State) (count : ℕ) (has : old.now.schema �
   puts_fact h =
       let command = InsertOr 3 Replace (Values learned_terms 3) [] in
       let row = fact_shown (0, owner_bytes owner) in
-      let w = runs_as fact_put row old new (schema_of Third) has command fact_put_is fact_put_plain count h in
+      let w = runs fact_put_is _ old new has count h in
       let text = statement_of fact_put (understood (schema_of Third) fact_put) in
       let does = subst (λ s. Does old.step_limit (mode_of old) row (record old.now { schema = s }) text None command (Ok (w.tally, new.now))) has w.changed in
-      put_fact owner old.step_limit (mode_of old) old.now.trees text w.tally new.now (0, owner_bytes owner) does
+      put_fact old.step_limit (mode_of old) old.now.trees text w.tally new.now owner (0, owner_bytes owner) does
 
   pub puts_third_number : Executes version_put (Int (pos 3) ∷ []) old new (Ok count) → (new.now.schema ≡ schema_of Third) × PutsRow ballot_table old.now.trees new.now.trees (number_row 2 3)
   puts_third_number h =
       let command = InsertOr 0 Replace (Values (number_terms 2) 3) [] in
-      let w = runs_as version_put (Int (pos 3) ∷ []) old new (schema_of Third) has command version_put_is version_put_plain count h in
+      let w = runs version_put_is _ old new has count h in
       let text = statement_of version_put (understood (schema_of Third) version_put) in
       let does = subst (λ s. Does old.step_limit (mode_of old) (Int (pos 3) ∷ []) (record old.now { schema = s }) text None command (Ok (w.tally, new.now))) has w.changed in
-      put_number (Some owner) old.step_limit (mode_of old) old.now.trees text w.tally new.now 2 3 does
+      put_number old.step_limit (mode_of old) old.now.trees text w.tally new.now (Some owner) 2 3 does
 
 -- the tables that are made in a database without any
 pub made_after : (s₀ s₁ s₂ s₃ s₄ : State) (m n k l : ℕ) → s₀.now.schema ≡ blank_schema → Executes ballot_text [] s₀ s₁ (Ok m) → Executes vote_text [] s₁ s₂ (Ok n) → Executes learned_text [] s₂ s₃ (Ok k) → Executes numbers_put [] s₃ s₄ (Ok l)
@@ -238,15 +163,14 @@ made_after s₀ s₁ s₂ s₃ s₄ m n k l has one two three four =
     let a = makes_ballot s₀ s₁ m has one in
     let b = makes_vote s₁ s₂ n a.0 a.1 two in
     let c = makes_learned s₂ s₃ k b.0 three in
-    puts_numbers s₃ s₄ l c.0 (c.1 ∙ b.1) (c.2 ∙ b.2) c.3 four
+    inserts numbers_put numbers_terms news numbers_put_is refl s₃ s₄ no_content l c.0 (all_rows s₃.now.trees (c.1 ∙ b.1)) (c.2 ∙ b.2) c.3 (tt, tt, tt) four
 
 -- the tables of version 2 that are made of those of version 1
 pub raised_after : (s₀ s₁ s₂ : State) (c : Content) (m n : ℕ) → s₀.now.schema ≡ schema_of First → AreTablesOf First s₀.now.trees c → Executes learned_text [] s₀ s₁ (Ok m) → Executes second_put [] s₁ s₂ (Ok n)
     → (s₂.now.schema ≡ schema_for None) × AreTablesFor None s₂.now.trees c
 raised_after s₀ s₁ s₂ c m n has was one two =
     let a = makes_learned s₀ s₁ m has one in
-    let kept : AreTablesOf First s₁.now.trees c = record { numbers = a.1 ∙ was.numbers; votes_are = a.2 ∙ was.votes_are; learned_are = was.learned_are; sound = was.sound } in
-    puts_third s₁ s₂ c n a.0 kept a.3 two
+    inserts second_put second_terms (number_row 2 2 ∷ []) second_put_is refl s₁ s₂ c n a.0 (third_row s₁.now.trees c.tried c.row (a.1 ∙ was.numbers)) (a.2 ∙ was.votes_are) (a.3 ∙ ap (map learned_row) (sym was.learned_are)) was.sound two
 
 -- the tables of version 3 that are made of those of version 2
 pub owned_after : (owner : Owner) (s₀ s₁ s₂ s₃ : State) (c : Content) (m n k : ℕ) → s₀.now.schema ≡ schema_for None → AreTablesFor None s₀.now.trees c → Executes fact_text [] s₀ s₁ (Ok m)

@@ -7,13 +7,12 @@ use Rattle.sqlite.specs.declared.types.Value.TheVariants.{Null, Int}
 use Rattle.sqlite.specs.Order.{Row}
 use Rattle.sqlite.specs.Program.{overlay}
 use Rattle.sqlite.specs.State.{State, Shown}
-use Rattle.sqlite.proofs.Callers.{reads_as}
 use Rattle.acceptor_store_parts.specs.declared.Version.{Version}
 use Rattle.acceptor_store_parts.specs.declared.Version.TheVariants.{First, Second, Third}
 use Rattle.acceptor_store_parts.specs.Tables.{schema_of, numbers_query}
 use Rattle.acceptor_store_parts.specs.Stored.{number_shown, numbers_of, numbers_shown, three}
 use Rattle.acceptor_store_parts.specs.Serves.{ServesAs}
-use Rattle.acceptor_store_parts.proofs.Meaning.{two_columns, numbers_query_is, numbers_query_plain}
+use Rattle.acceptor_store_parts.proofs.Meaning.{two_columns, numbers_query_is, reads}
 use Rattle.acceptor_store_parts.proofs.Rising.{IsRisingBy}
 use Rattle.acceptor_store_parts.proofs.RowsShown.{shown_all}
 
@@ -31,7 +30,7 @@ numbers_rise Third tried row = three_rise 3 tried row
 
 reads_numbers : (version : Version) (old new : State) (c : Content) (was : ServesAs version old c) (rows : List Row) → Shown numbers_query [] old new rows → rows ≡ numbers_shown version c.tried c.row
 reads_numbers version old new c was rows h =
-    let got = reads_as numbers_query [] old new (schema_of version) was.schema _ (numbers_query_is version).0 (numbers_query_plain version) (numbers_query_is version).1 rows h in
+    let got = reads (numbers_query_is version) _ old new was.schema rows h in
     shown_all rest (λ e. number_shown e.0 e.1) 0 two_columns (numbers_of version c.tried c.row) (numbers_rise version c.tried c.row) (overlay old.now.trees []) was.tables.numbers (λ e. refl) rows (got.answer Null)
 
 pub numbers_found : (old new : State) {X : Type 0} (r : Result X Error) (items : X → List Row) → IfOk r (λ x. Shown numbers_query [] old new (items x))

@@ -10,7 +10,7 @@ use Rattle.sqlite.specs.Order.{Row}
 use Rattle.sqlite.specs.Program.{overlay}
 use Rattle.sqlite.specs.State.{State, Shown}
 use Rattle.sqlite.specs.Listing.{understood}
-use Rattle.sqlite.proofs.Callers.{IsPlain, reads_as}
+use Rattle.sqlite.proofs.Callers.{IsPlain}
 use Rattle.acceptor_store_parts.specs.declared.Version.{Version}
 use Rattle.acceptor_store_parts.specs.declared.Version.TheVariants.{Second, Third}
 use Rattle.acceptor_store_parts.specs.declared.owner.Owner.{Owner}
@@ -18,7 +18,7 @@ use Rattle.acceptor_store_parts.specs.Tables.{schema_of, facts_query}
 use Rattle.acceptor_store_parts.specs.Stored.{AreTablesOf, KeepsLearned, fact_shown}
 use Rattle.acceptor_store_parts.specs.Owned.{AreTablesFor, IsOwnedBy, OwnedBy, owner_bytes, schema_for, version_for}
 use Rattle.acceptor_store_parts.specs.Serves.{ServesAs, ServesFor}
-use Rattle.acceptor_store_parts.proofs.Meaning.{two_columns, facts_is, facts_plain}
+use Rattle.acceptor_store_parts.proofs.Meaning.{two_columns, facts_is, reads}
 use Rattle.acceptor_store_parts.proofs.RowsShown.{shown_all}
 
 pub as_version : (owner : Option Owner) → schema_for owner ≡ schema_of (version_for owner)
@@ -62,7 +62,7 @@ serves_for owner s c was owned = record {
 -- the owner's row, as the query shows it
 reads_owner : (old new : State) (owner : Owner) → old.now.schema ≡ schema_of Third → OwnedBy owner old.now.trees → (rows : List Row) → Shown facts_query [] old new rows → rows ≡ fact_shown (0, owner_bytes owner) ∷ []
 reads_owner old new owner schema owned rows h =
-    let got = reads_as facts_query [] old new (schema_of Third) schema _ facts_is.0 facts_plain facts_is.1 rows h in
+    let got = reads facts_is _ old new schema rows h in
     shown_all (λ v. Null ∷ Blob v.1 ∷ []) fact_shown 3 two_columns ((0, owner_bytes owner) ∷ []) (tt, tt) (overlay old.now.trees []) owned (λ v. refl) rows (got.answer Null)
 
 pub owner_shown : (old new : State) {X : Type 0} (r : Result X Error) (items : X → List Row) → IfOk r (λ x. Shown facts_query [] old new (items x))

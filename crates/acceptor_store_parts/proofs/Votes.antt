@@ -9,14 +9,13 @@ use Rattle.sqlite.specs.declared.types.Value.TheVariants.{Null, Int, Blob}
 use Rattle.sqlite.specs.Order.{Row}
 use Rattle.sqlite.specs.Program.{overlay}
 use Rattle.sqlite.specs.State.{State, Shown}
-use Rattle.sqlite.proofs.Callers.{reads_as}
 use Rattle.acceptor_store_parts.specs.declared.Version.{Version}
 use Rattle.acceptor_store_parts.specs.declared.owner.Owner.{Owner}
 use Rattle.acceptor_store_parts.specs.Tables.{schema_of, votes_query, vote_query, all_votes_query}
 use Rattle.acceptor_store_parts.specs.Stored.{vote_shown}
 use Rattle.acceptor_store_parts.specs.Owned.{schema_for}
 use Rattle.acceptor_store_parts.specs.Serves.{Serves, ServesFor, ServesAs}
-use Rattle.acceptor_store_parts.proofs.Meaning.{three_columns, votes_query_is, votes_query_plain, vote_query_is, vote_query_plain, all_votes_query_is, all_votes_query_plain}
+use Rattle.acceptor_store_parts.proofs.Meaning.{three_columns, votes_query_is, vote_query_is, all_votes_query_is, reads}
 use Rattle.acceptor_store_parts.proofs.Places.{rising}
 use Rattle.acceptor_store_parts.proofs.RowsShown.{shown_from, shown_at, shown_all}
 
@@ -27,17 +26,17 @@ rest v = Null ∷ Int (pos v.1.ballot) ∷ Blob v.1.value ∷ []
 module _ (owner : Option Owner) (old new : State) (c : Content) (q : ℕ) (was : ServesFor owner old c) where
   reads_votes : (rows : List Row) → Shown votes_query (Int (pos q) ∷ []) old new rows → rows ≡ map vote_shown (rows_from c.votes q)
   reads_votes rows h =
-      let got = reads_as votes_query (Int (pos q) ∷ []) old new (schema_for owner) was.schema _ (votes_query_is owner).0 (votes_query_plain owner) (votes_query_is owner).1 rows h in
+      let got = reads (votes_query_is owner) _ old new was.schema rows h in
       shown_from rest vote_shown 1 three_columns c.votes (rising 1 c.votes was.tables.sound.0) (overlay old.now.trees []) was.tables.votes_are q (λ v. refl) rows (got.answer Null)
 
   reads_vote : (rows : List Row) → Shown vote_query (Int (pos q) ∷ []) old new rows → rows ≡ map vote_shown (filter (λ v. v.0 == q) c.votes)
   reads_vote rows h =
-      let got = reads_as vote_query (Int (pos q) ∷ []) old new (schema_for owner) was.schema _ (vote_query_is owner).0 (vote_query_plain owner) (vote_query_is owner).1 rows h in
+      let got = reads (vote_query_is owner) _ old new was.schema rows h in
       shown_at rest vote_shown 1 three_columns c.votes (rising 1 c.votes was.tables.sound.0) (overlay old.now.trees []) was.tables.votes_are q (λ v. refl) rows (got.answer Null)
 
 reads_all : (version : Version) (old new : State) (c : Content) (was : ServesAs version old c) (rows : List Row) → Shown all_votes_query [] old new rows → rows ≡ map vote_shown c.votes
 reads_all version old new c was rows h =
-    let got = reads_as all_votes_query [] old new (schema_of version) was.schema _ (all_votes_query_is version).0 (all_votes_query_plain version) (all_votes_query_is version).1 rows h in
+    let got = reads (all_votes_query_is version) _ old new was.schema rows h in
     shown_all rest vote_shown 1 three_columns c.votes (rising 1 c.votes was.tables.sound.0) (overlay old.now.trees []) was.tables.votes_are (λ v. refl) rows (got.answer Null)
 
 pub votes_found : (old new : State) (n : ℤ) {X : Type 0} (r : Result X Error) (items : X → List Row) → IfOk r (λ x. Shown votes_query (Int n ∷ []) old new (items x))

@@ -1,5 +1,5 @@
 -- What the writes of the records make of the tables.
-use Rattle.std.proofs.Common.{◌≡◌, ◌≢◌, inl, inr, ℕ, ℤ, pos, List, [], ◌∷◌, ◌++◌, map, filter, nat_lt, Some, None, Option, Ok, refl, ap, subst, ◌∙◌}
+use Rattle.std.proofs.Common.{◌≡◌, ◌≢◌, inl, inr, ℕ, ℤ, pos, List, [], ◌∷◌, ◌++◌, ◌/◌, length, map, filter, nat_lt, false, Some, None, Option, Ok, refl, ap, subst, ◌∙◌}
 use Rattle.ballots.specs.declared.letters.Cast.{Cast}
 use Rattle.ballots.specs.Limits.{IsPlace, IsValue}
 use Rattle.acceptor.proofs.Callers.{rows_put, values_put}
@@ -19,9 +19,10 @@ use Rattle.sqlite.specs.declared.run.Mode.{Mode}
 use Rattle.sqlite.specs.Order.{Row}
 use Rattle.sqlite.specs.Table.{Table}
 use Rattle.sqlite.specs.Tree.{Trees, put_row}
-use Rattle.sqlite.specs.Effect.{Database}
-use Rattle.sqlite.specs.Does.{Tally, Does}
-use Rattle.sqlite.specs.Rows.{Written, Task, Judged, Upserts, Tries, TriesEach, nothing, count_of}
+use Rattle.sqlite.specs.Effect.{Database, value_rows}
+use Rattle.sqlite.specs.Term.{Term}
+use Rattle.sqlite.specs.Does.{Tally, Does, OnRows}
+use Rattle.sqlite.specs.Rows.{stamped, Counts, mended, rowids_for, Written, Task, Judged, Upserts, Tries, TriesEach, nothing, count_of}
 use Rattle.acceptor_store_parts.specs.declared.owner.Owner.{Owner}
 use Rattle.acceptor_store_parts.specs.Tables.{ballot_table, vote_table, learned_table, fact_table}
 use Rattle.acceptor_store_parts.specs.Stored.{number_row, vote_row, learned_row, fact_row, vote_shown, learned_shown, fact_shown, three}
@@ -52,12 +53,19 @@ pub record PutsRow (table : Table) (db next : Trees) (row : Row) : Type 0 where
   pub rows : next table.tree ≡ put_row row (without_all (db table.tree) (ids_of found))
   pub others : (t : ℕ) → t ≢ table.tree → next t ≡ db t
 
-module _ (owner : Option Owner) (limit : Option ℕ) (mode : Mode) (db : Trees) (text : List ℕ) (tally : Tally) (after : Database) (id b : ℕ) where
-  pub put_number : Does limit mode (Int (pos b) ∷ []) (record { schema = schema_for owner; trees = db }) text None (InsertOr 0 Replace (Values (number_terms id) 3) []) (Ok (tally, after))
-      → (after.schema ≡ schema_for owner) × PutsRow ballot_table db after.trees (number_row id b)
-  put_number h =
-      let params = Int (pos b) ∷ [] in
-      let it : Task = record { limit = limit; keys = mode.keys; schema = schema_for owner; table = ballot_table; params = params } in
+-- no rowid is counted
+uncounted_keeps : (task : Task) (db next : Trees) (counter : Option Row) (top : ℤ) → task.table.is_counted ≡ false → Counts task db counter top (Ok next) → next ≡ db
+uncounted_keeps task db next counter top none h = same_value (rw none at h)
+
+-- INSERT OR REPLACE of one row, whose first column is its rowid
+module _ (owner : Option Owner) (limit : Option ℕ) (mode : Mode) (db : Trees) (tally : Tally) (after : Database) (table : Table) (params : Row) (at : ℕ) (terms : List Term) (width : ℕ) (row : Row)
+    (one_row : value_rows (stamped table params) width (length terms / width) terms ≡ row ∷ []) (keyed : (n : ℤ) → with_rowid (rowids_for table n) (db table.tree) (cast_row table (mended Replace table row)) ≡ row) (uncounted : table.is_counted ≡ false)
+    (cast_is : cast_row table row ≡ row) where
+  abbrev it : Task
+  it = record { limit = limit; keys = mode.keys; schema = schema_for owner; table = table; params = params }
+
+  pub put_one : OnRows it mode None (InsertOr at Replace (Values terms width) []) db (Ok (tally, after)) → (after.schema ≡ schema_for owner) × PutsRow table db after.trees row
+  put_one h =
       let done = went h in
       let concl = went (went done.2).2 in
       let now : after ≡ record { schema = schema_for owner; trees = done.0.trees } = ap (λ (x : Tally × Database). x.1) (same_value concl.2) in
@@ -65,22 +73,48 @@ module _ (owner : Option Owner) (limit : Option ℕ) (mode : Mode) (db : Trees) 
       let countered = went sourced.2 in
       let tries = went countered.2 in
       let counts = went tries.2 in
-      let each = subst (λ rs. TriesEach it Replace [] rs (count_of countered.0) (nothing db) (Ok tries.0)) sourced.1.1 tries.1 in
+      let each = subst (λ rs. TriesEach it Replace [] rs (count_of countered.0) (nothing db) (Ok tries.0)) (sourced.1.1 ∙ one_row) tries.1 in
       let one = went each in
-      let new_is : with_rowid Chosen (db 0) (cast_row ballot_table (number_row id b)) ≡ number_row id b = ap (with_rowid Chosen (db 0)) (cast_number id b) in
-      let put = subst (λ n. Upserts it Replace n db [] (Ok one.0)) new_is (tried it _ db one.0 one.1) in
-      let set = clears owner mode.keys ballot_table params limit (number_row id b) db put.0 one.0 put.2 in
+      let put = subst (λ n. Upserts it Replace n db [] (Ok one.0)) (keyed (count_of countered.0)) (tried it _ db one.0 one.1) in
+      let set = clears owner mode.keys table params limit row db put.0 one.0 put.2 in
       let trees : done.0.trees ≡ one.0.trees =
-      ap (λ (x : Written). x.trees) (same_value counts.2) ∙ (same_value counts.1 ∙ ap (λ (x : Written × ℤ). x.0.trees) (same_value one.2)) in
+      ap (λ (x : Written). x.trees) (same_value counts.2) ∙ (uncounted_keeps it tries.0.0.trees counts.0 countered.0 tries.0.1 uncounted counts.1 ∙ ap (λ (x : Written × ℤ). x.0.trees) (same_value one.2)) in
       let all : after.trees ≡ one.0.trees = ap (λ (d : Database). d.trees) now ∙ trees in (
         ap (λ (d : Database). d.schema) now,
         record {
           found = put.0;
           conflict = put.1;
-          rows = ap (λ (x : Trees). x 0) all ∙ (set.0 ∙ ap (λ r. put_row r (without_all (db 0) (ids_of put.0))) (cast_number id b));
+          rows = ap (λ (x : Trees). x table.tree) all ∙ (set.0 ∙ ap (λ r. put_row r (without_all (db table.tree) (ids_of put.0))) cast_is);
           others = λ t other. ap (λ (x : Trees). x t) all ∙ set.1 t other;
         },
       )
+
+cast_vote : (v : ℕ × Cast) → cast_row vote_table (vote_row v) ≡ vote_row v
+cast_vote v = rw (cast_int, cast_int, cast_null)
+
+cast_learned : (v : ℕ × List ℕ) → cast_row learned_table (learned_row v) ≡ learned_row v
+cast_learned v = rw (cast_int, cast_null)
+
+cast_fact : (v : ℕ × List ℕ) → cast_row fact_table (fact_row v) ≡ fact_row v
+cast_fact v = rw (cast_int, cast_null)
+
+-- what a text that puts one row into this table makes of a database
+abbrev pub Puts : Option Owner → Option ℕ → Mode → Trees → List ℕ → Tally → Database → Row → ℕ → List Term → ℕ → Table → Row → Type 0
+Puts owner limit mode db text tally after params at terms width table row =
+    Does limit mode params (record { schema = schema_for owner; trees = db }) text None (InsertOr at Replace (Values terms width) []) (Ok (tally, after)) → (after.schema ≡ schema_for owner) × PutsRow table db after.trees row
+
+module _ (limit : Option ℕ) (mode : Mode) (db : Trees) (text : List ℕ) (tally : Tally) (after : Database) where
+  pub put_number : (owner : Option Owner) (id b : ℕ) → Puts owner limit mode db text tally after (Int (pos b) ∷ []) 0 (number_terms id) 3 ballot_table (number_row id b)
+  put_number owner id b h = put_one owner limit mode db tally after ballot_table (Int (pos b) ∷ []) 0 (number_terms id) 3 (number_row id b) refl (λ _. ap (with_rowid Chosen (db 0)) (cast_number id b)) refl (cast_number id b) h
+
+  pub put_vote : (owner : Option Owner) (v : ℕ × Cast) → Puts owner limit mode db text tally after (vote_shown v) 1 vote_terms 4 vote_table (vote_row v)
+  put_vote owner v h = put_one owner limit mode db tally after vote_table (vote_shown v) 1 vote_terms 4 (vote_row v) refl (λ _. ap (with_rowid Chosen (db 1)) (cast_vote v)) refl (cast_vote v) h
+
+  pub put_learned : (owner : Option Owner) (v : ℕ × List ℕ) → Puts owner limit mode db text tally after (learned_shown v) 2 learned_terms 3 learned_table (learned_row v)
+  put_learned owner v h = put_one owner limit mode db tally after learned_table (learned_shown v) 2 learned_terms 3 (learned_row v) refl (λ _. ap (with_rowid Chosen (db 2)) (cast_learned v)) refl (cast_learned v) h
+
+  pub put_fact : (owner : Owner) (v : ℕ × List ℕ) → Puts (Some owner) limit mode db text tally after (fact_shown v) 3 learned_terms 3 fact_table (fact_row v)
+  put_fact owner v h = put_one (Some owner) limit mode db tally after fact_table (fact_shown v) 3 learned_terms 3 (fact_row v) refl (λ _. ap (with_rowid Chosen (db 3)) (cast_fact v)) refl (cast_fact v) h
 
 -- another tree keeps the owner's row
 still_owned : (owner : Option Owner) (db next : Trees) → next 3 ≡ db 3 → IsOwnedBy owner db → IsOwnedBy owner next
@@ -96,56 +130,23 @@ numbers_put n db next tried row id b was h =
     h.rows ∙ (ap (λ rows. put_row (number_row id b) (without_all rows (ids_of h.found))) was
     ∙ replaced (λ (e : ℕ × ℕ). e.0) (λ e. number_row e.0 e.1) (λ e. refl) ballot_table (id, b) xs h.found (three_rise n tried row) all)
 
-module _ (owner : Option Owner) (db next : Trees) (c : Content) (was : AreTablesFor owner db c) where
-  pub puts_tried : (b : ℕ) → PutsRow ballot_table db next (number_row 0 b) → AreTablesFor owner next (after_write c (Some (Tried b)))
-  puts_tried b h = record {
-    numbers = numbers_put (number_for owner) db next c.tried c.row 0 b was.numbers h;
+-- a number that was put leaves the other tables as they were
+module _ (owner : Option Owner) (db next : Trees) (c : Content) (was : AreTablesFor owner db c) (b : ℕ) where
+  numbered : (id tried row : ℕ) → PutsRow ballot_table db next (number_row id b) → next 0 ≡ map (λ e. number_row e.0 e.1) (three (number_for owner) tried row)
+      → AreTablesFor owner next (record c { tried = tried; row = row })
+  numbered id tried row h numbers = record {
+    numbers = numbers;
     votes_are = h.others 1 (λ same. absurd cc) ∙ was.votes_are;
     learned_are = h.others 2 (λ same. absurd cc) ∙ was.learned_are;
     sound = was.sound;
     owned = still_owned owner db next (h.others 3 (λ same. absurd cc)) was.owned;
   }
 
-  pub puts_promised : (b : ℕ) → PutsRow ballot_table db next (number_row 1 b) → AreTablesFor owner next (after_write c (Some (Promises b)))
-  puts_promised b h = record {
-    numbers = numbers_put (number_for owner) db next c.tried c.row 1 b was.numbers h;
-    votes_are = h.others 1 (λ same. absurd cc) ∙ was.votes_are;
-    learned_are = h.others 2 (λ same. absurd cc) ∙ was.learned_are;
-    sound = was.sound;
-    owned = still_owned owner db next (h.others 3 (λ same. absurd cc)) was.owned;
-  }
+  pub puts_tried : PutsRow ballot_table db next (number_row 0 b) → AreTablesFor owner next (after_write c (Some (Tried b)))
+  puts_tried h = numbered 0 b c.row h (numbers_put (number_for owner) db next c.tried c.row 0 b was.numbers h)
 
-pub cast_vote : (v : ℕ × Cast) → cast_row vote_table (vote_row v) ≡ vote_row v
-cast_vote v = rw (cast_int, cast_int, cast_null)
-
-module _ (owner : Option Owner) (limit : Option ℕ) (mode : Mode) (db : Trees) (text : List ℕ) (tally : Tally) (after : Database) (v : ℕ × Cast) where
-  pub put_vote : Does limit mode (vote_shown v) (record { schema = schema_for owner; trees = db }) text None (InsertOr 1 Replace (Values vote_terms 4) []) (Ok (tally, after))
-      → (after.schema ≡ schema_for owner) × PutsRow vote_table db after.trees (vote_row v)
-  put_vote h =
-      let it : Task = record { limit = limit; keys = mode.keys; schema = schema_for owner; table = vote_table; params = vote_shown v } in
-      let done = went h in
-      let concl = went (went done.2).2 in
-      let now : after ≡ record { schema = schema_for owner; trees = done.0.trees } = ap (λ (x : Tally × Database). x.1) (same_value concl.2) in
-      let sourced = went done.1 in
-      let countered = went sourced.2 in
-      let tries = went countered.2 in
-      let counts = went tries.2 in
-      let each = subst (λ rs. TriesEach it Replace [] rs (count_of countered.0) (nothing db) (Ok tries.0)) sourced.1.1 tries.1 in
-      let one = went each in
-      let new_is : with_rowid Chosen (db 1) (cast_row vote_table (vote_row v)) ≡ vote_row v = ap (with_rowid Chosen (db 1)) (cast_vote v) in
-      let put = subst (λ n. Upserts it Replace n db [] (Ok one.0)) new_is (tried it _ db one.0 one.1) in
-      let set = clears owner mode.keys vote_table (vote_shown v) limit (vote_row v) db put.0 one.0 put.2 in
-      let trees : done.0.trees ≡ one.0.trees =
-      ap (λ (x : Written). x.trees) (same_value counts.2) ∙ (same_value counts.1 ∙ ap (λ (x : Written × ℤ). x.0.trees) (same_value one.2)) in
-      let all : after.trees ≡ one.0.trees = ap (λ (d : Database). d.trees) now ∙ trees in (
-        ap (λ (d : Database). d.schema) now,
-        record {
-          found = put.0;
-          conflict = put.1;
-          rows = ap (λ (x : Trees). x 1) all ∙ (set.0 ∙ ap (λ r. put_row r (without_all (db 1) (ids_of put.0))) (cast_vote v));
-          others = λ t other. ap (λ (x : Trees). x t) all ∙ set.1 t other;
-        },
-      )
+  pub puts_promised : PutsRow ballot_table db next (number_row 1 b) → AreTablesFor owner next (after_write c (Some (Promises b)))
+  puts_promised h = numbered 1 c.tried b h (numbers_put (number_for owner) db next c.tried c.row 1 b was.numbers h)
 
 module _ (owner : Option Owner) (db next : Trees) (c : Content) (p : ℕ) (cast : Cast) (was : AreTablesFor owner db c) where
   pub puts_vote : IsPlace p → PutsRow vote_table db next (vote_row (p, cast)) → AreTablesFor owner next (after_write c (Some (Votes p cast)))
@@ -161,38 +162,6 @@ module _ (owner : Option Owner) (db next : Trees) (c : Content) (p : ℕ) (cast 
         owned = still_owned owner db next (h.others 3 (λ same. absurd cc)) was.owned;
       }
 
-pub cast_learned : (v : ℕ × List ℕ) → cast_row learned_table (learned_row v) ≡ learned_row v
-cast_learned v = rw (cast_int, cast_null)
-
-module _ (owner : Option Owner) (limit : Option ℕ) (mode : Mode) (db : Trees) (text : List ℕ) (tally : Tally) (after : Database) (v : ℕ × List ℕ) where
-  pub put_learned : Does limit mode (learned_shown v) (record { schema = schema_for owner; trees = db }) text None (InsertOr 2 Replace (Values learned_terms 3) []) (Ok (tally, after))
-      → (after.schema ≡ schema_for owner) × PutsRow learned_table db after.trees (learned_row v)
-  put_learned h =
-      let it : Task = record { limit = limit; keys = mode.keys; schema = schema_for owner; table = learned_table; params = learned_shown v } in
-      let done = went h in
-      let concl = went (went done.2).2 in
-      let now : after ≡ record { schema = schema_for owner; trees = done.0.trees } = ap (λ (x : Tally × Database). x.1) (same_value concl.2) in
-      let sourced = went done.1 in
-      let countered = went sourced.2 in
-      let tries = went countered.2 in
-      let counts = went tries.2 in
-      let each = subst (λ rs. TriesEach it Replace [] rs (count_of countered.0) (nothing db) (Ok tries.0)) sourced.1.1 tries.1 in
-      let one = went each in
-      let new_is : with_rowid Chosen (db 2) (cast_row learned_table (learned_row v)) ≡ learned_row v = ap (with_rowid Chosen (db 2)) (cast_learned v) in
-      let put = subst (λ n. Upserts it Replace n db [] (Ok one.0)) new_is (tried it _ db one.0 one.1) in
-      let set = clears owner mode.keys learned_table (learned_shown v) limit (learned_row v) db put.0 one.0 put.2 in
-      let trees : done.0.trees ≡ one.0.trees =
-      ap (λ (x : Written). x.trees) (same_value counts.2) ∙ (same_value counts.1 ∙ ap (λ (x : Written × ℤ). x.0.trees) (same_value one.2)) in
-      let all : after.trees ≡ one.0.trees = ap (λ (d : Database). d.trees) now ∙ trees in (
-        ap (λ (d : Database). d.schema) now,
-        record {
-          found = put.0;
-          conflict = put.1;
-          rows = ap (λ (x : Trees). x 2) all ∙ (set.0 ∙ ap (λ r. put_row r (without_all (db 2) (ids_of put.0))) (cast_learned v));
-          others = λ t other. ap (λ (x : Trees). x t) all ∙ set.1 t other;
-        },
-      )
-
 module _ (owner : Option Owner) (db next : Trees) (c : Content) (p : ℕ) (value : List ℕ) (was : AreTablesFor owner db c) where
   pub puts_learned : IsPlace p → IsValue value → PutsRow learned_table db next (learned_row (p, value)) → AreTablesFor owner next (after_write c (Some (Learns p value)))
   puts_learned fits short h =
@@ -206,38 +175,6 @@ module _ (owner : Option Owner) (db next : Trees) (c : Content) (p : ℕ) (value
         sound = (was.sound.0, rows_put 1 p value c.learned fits.0 fits.1 was.sound.1, values_put p value c.learned short was.sound.2);
         owned = still_owned owner db next (h.others 3 (λ same. absurd cc)) was.owned;
       }
-
-cast_fact : (v : ℕ × List ℕ) → cast_row fact_table (fact_row v) ≡ fact_row v
-cast_fact v = rw (cast_int, cast_null)
-
-module _ (owner : Owner) (limit : Option ℕ) (mode : Mode) (db : Trees) (text : List ℕ) (tally : Tally) (after : Database) (v : ℕ × List ℕ) where
-  pub put_fact : Does limit mode (fact_shown v) (record { schema = schema_for (Some owner); trees = db }) text None (InsertOr 3 Replace (Values learned_terms 3) []) (Ok (tally, after))
-      → (after.schema ≡ schema_for (Some owner)) × PutsRow fact_table db after.trees (fact_row v)
-  put_fact h =
-      let it : Task = record { limit = limit; keys = mode.keys; schema = schema_for (Some owner); table = fact_table; params = fact_shown v } in
-      let done = went h in
-      let concl = went (went done.2).2 in
-      let now : after ≡ record { schema = schema_for (Some owner); trees = done.0.trees } = ap (λ (x : Tally × Database). x.1) (same_value concl.2) in
-      let sourced = went done.1 in
-      let countered = went sourced.2 in
-      let tries = went countered.2 in
-      let counts = went tries.2 in
-      let each = subst (λ rs. TriesEach it Replace [] rs (count_of countered.0) (nothing db) (Ok tries.0)) sourced.1.1 tries.1 in
-      let one = went each in
-      let new_is : with_rowid Chosen (db 3) (cast_row fact_table (fact_row v)) ≡ fact_row v = ap (with_rowid Chosen (db 3)) (cast_fact v) in
-      let put = subst (λ n. Upserts it Replace n db [] (Ok one.0)) new_is (tried it _ db one.0 one.1) in
-      let set = clears (Some owner) mode.keys fact_table (fact_shown v) limit (fact_row v) db put.0 one.0 put.2 in
-      let trees : done.0.trees ≡ one.0.trees =
-      ap (λ (x : Written). x.trees) (same_value counts.2) ∙ (same_value counts.1 ∙ ap (λ (x : Written × ℤ). x.0.trees) (same_value one.2)) in
-      let all : after.trees ≡ one.0.trees = ap (λ (d : Database). d.trees) now ∙ trees in (
-        ap (λ (d : Database). d.schema) now,
-        record {
-          found = put.0;
-          conflict = put.1;
-          rows = ap (λ (x : Trees). x 3) all ∙ (set.0 ∙ ap (λ r. put_row r (without_all (db 3) (ids_of put.0))) (cast_fact v));
-          others = λ t other. ap (λ (x : Trees). x t) all ∙ set.1 t other;
-        },
-      )
 
 -- a row that is put into a table without any
 pub first_fact : (db next : Trees) (v : ℕ × List ℕ) → db 3 ≡ [] → PutsRow fact_table db next (fact_row v) → next 3 ≡ fact_row v ∷ []

@@ -68,9 +68,6 @@ abbrev pub blank_schema : Schema
 blank_schema = record { tables = []; indexes = []; views = [] }
 
 -- the texts of the statements
-abbrev pub tried_query : List ℕ
-tried_query = codes "SELECT number FROM ballot WHERE id = 0"
-
 abbrev pub tried_put : List ℕ
 tried_put = codes "INSERT OR REPLACE INTO ballot (id, number) VALUES (0, ?1)"
 

@@ -1,5 +1,5 @@
 -- What a test of a connection tells, and how an error is told.
-use Rattle.std.specs.Prelude.{◌≡◌, ◌⊎◌, Bool, true, false, Option, Some, None}
+use Rattle.std.specs.Prelude.{◌≡◌, ◌⊎◌, Bool, true, false, Option, Some, None, IsSome}
 use Rattle.sqlite_disk.specs.Disk.{MoreFaults}
 use Rattle.sqlite.specs.State.{State}
 use Rattle.sqlite.specs.declared.error.Error.{Error}
@@ -11,6 +11,10 @@ use Rattle.acceptor_store_parts.specs.declared.Stop.TheVariants.{Memory, Refused
 -- the connection was shut before, or the disk failed or refused meanwhile
 abbrev pub IsShutBy : State → State → Type 0
 IsShutBy old new = (old.is_open ≡ false) ⊎ MoreFaults old.faults new.faults
+
+-- a query failed for want of memory, by a connection that was shut or a disk that failed, or by its limit of steps
+abbrev pub IsFault : State → State → Error → Type 0
+IsFault old new e = (e ≡ SqliteFailure code.OutOfMemory) ⊎ (IsShutBy old new ⊎ IsSome old.step_limit)
 
 -- what an error in a text without a statement tells: whether the connection is open, and none for want of memory
 abbrev pub tells_open : Error → Option Bool

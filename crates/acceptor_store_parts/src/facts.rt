@@ -1,6 +1,6 @@
 //! The table of facts, which tells whose a database is.
 
-ghost use Rattle.std.specs.Prelude.{◌≡◌, [], ◌∷◌, IfNone, IfOk, IfSome, IsTrue, OnOk, Some};
+ghost use Rattle.std.specs.Prelude.{◌≡◌, [], ◌∷◌, IfErr, IfNone, IfOk, IfSome, IsTrue, OnOk, Some};
 ghost use Rattle.acceptor.specs.Content.{Content};
 ghost use Rattle.sqlite.specs.State.{HasCleanDisk, Survives, IsUnchanged};
 ghost use Rattle.sqlite.specs.Held.{state};
@@ -9,6 +9,7 @@ ghost use Rattle.acceptor_store_parts.specs.Rowids.{ShowsFacts};
 ghost use Rattle.acceptor_store_parts.specs.Serves.{ServesFor, StillServes, Stays};
 ghost use Rattle.acceptor_store_parts.specs.Stored.{fact_shown};
 ghost use Rattle.acceptor_store_parts.specs.Tables.{schema_of};
+ghost use Rattle.acceptor_store_parts.specs.Tests.{IsFault};
 
 use crate::reads::int_at;
 use crate::{Owner, Version, owner_of};
@@ -22,6 +23,8 @@ pub fn query_facts<S: Alter>(conn: &mut Connection<S>) -> Result<Vec<Row>, Error
         → OwnedBy owner (state S.Store conn.old).now.trees → rows.items ≡ fact_shown (0, owner_bytes owner) ∷ []) }
     ensures same { HasCleanDisk (state S.Store conn.new) → (state S.Store conn.old).now.schema ≡ schema_of Version.Third
         → OnOk result (IsUnchanged (state S.Store conn.old) (state S.Store conn.new)) }
+    ensures fails { HasCleanDisk (state S.Store conn.new) → (state S.Store conn.old).now.schema ≡ schema_of Version.Third
+        → IfErr result (IsFault (state S.Store conn.old) (state S.Store conn.new)) }
     ensures survives { Survives (state S.Store conn.old) (state S.Store conn.new)
         (λ _. (state S.Store conn.old).now.schema ≡ schema_of Version.Third → ⊥) }
 {

@@ -11,6 +11,7 @@ ghost use Rattle.acceptor_store_parts.specs.Stored.{IsLearned, KeepsLearned, lea
 ghost use Rattle.acceptor_store_parts.specs.Serves.{Serves, ServesAs, StillServes, DoesNotServe, HasWritten, MayHaveWritten, Stays, StaysOpen};
 ghost use Rattle.acceptor_store_parts.specs.Stops.{LeavesOpen};
 ghost use Rattle.acceptor_store_parts.specs.Tables.{schema_of};
+ghost use Rattle.acceptor_store_parts.specs.Tests.{IsFault};
 ghost use Rattle.acceptor_store_parts.specs.Rowids.{ShowsLearned};
 
 use crate::reads::{bytes_at, place_at};
@@ -113,6 +114,8 @@ pub fn query_all_learned<S: Alter>(conn: &mut Connection<S>) -> Result<Vec<Row>,
         → ServesAs version (state S.Store conn.old) c → rows.items ≡ map learned_shown c.learned) }
     ensures same { HasCleanDisk (state S.Store conn.new) → (version : _) → KeepsLearned version → (state S.Store conn.old).now.schema ≡ schema_of version
         → OnOk result (IsUnchanged (state S.Store conn.old) (state S.Store conn.new)) }
+    ensures fails { HasCleanDisk (state S.Store conn.new) → (version : _) → KeepsLearned version → (state S.Store conn.old).now.schema ≡ schema_of version
+        → IfErr result (IsFault (state S.Store conn.old) (state S.Store conn.new)) }
     ensures survives { Survives (state S.Store conn.old) (state S.Store conn.new)
         (λ _. (version : _) → KeepsLearned version → (state S.Store conn.old).now.schema ≡ schema_of version → ⊥) }
 {

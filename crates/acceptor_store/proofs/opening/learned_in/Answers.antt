@@ -32,3 +32,9 @@ returns-in-Third-clause-foreign g c clean foreign = c.kept_learned-in-Third.ensu
 pub returns-in-Third-clause-survives : goal.returns-in-Third-clause-survives
 returns-in-Third-clause-survives g c =
     survives_weaker (state g.S.Store c.args.conn.now) (state g.S.Store c.kept_learned-in-Third.new.conn) _ _ (λ _ db none has. none c.args.version (subst KeepsLearned (sym c.in-Third.is) tt) has) c.kept_learned-in-Third.ensures.survives
+
+pub returns-in-Second-clause-refused : goal.returns-in-Second-clause-refused
+returns-in-Second-clause-refused g c clean = c.kept_learned.ensures.refused clean c.args.version (subst KeepsLearned (sym c.in-Second.is) tt)
+
+pub returns-in-Third-clause-refused : goal.returns-in-Third-clause-refused
+returns-in-Third-clause-refused g c clean = c.kept_learned-in-Third.ensures.refused clean c.args.version (subst KeepsLearned (sym c.in-Third.is) tt)

@@ -1,8 +1,9 @@
-use Rattle.std.proofs.Common.{inl, Err, sym, ap, subst, ◌∙◌}
+use Rattle.std.proofs.Common.{inl, Err, sym, ap, subst, ◌∙◌, inr}
 use Rattle.acceptor_store_parts.specs.Foreign.{IsForeignSchema}
 use Rattle.acceptor_store.specs.Linked.{HasFurther}
 use Rattle.acceptor_store.proofs.Reopening.{always, told_rows, not_third, all_prepare}
 use Rattle.acceptor_store.proofs.Leaving.{left_whole}
+use Rattle.acceptor_store.proofs.Refusing.{all_refused}
 use Rattle.acceptor_store.proofs.opening.prepared.Goals as goal
 
 pub returns-in-Ok-judged-clause-foreign : goal.returns-in-Ok-judged-clause-foreign
@@ -33,3 +34,14 @@ brought_up-requires g c = record { unowned = not_third _ c.in-Ok-judged.version 
 
 pub returns-in-Ok-judged-clause-ours : goal.returns-in-Ok-judged-clause-ours
 returns-in-Ok-judged-clause-ours g c = always c.brought_up.result (λ foreign. c.in-Ok-judged.ensures.ours (subst IsForeignSchema (sym c.schema-2.ensures.value) foreign))
+
+pub returns-in-Ok-judged-clause-refused : goal.returns-in-Ok-judged-clause-refused
+returns-in-Ok-judged-clause-refused g c =
+    all_refused g.S.Store c.args.conn c.in-Ok-judged.version c.brought_up.result (sym c.schema-2.ensures.value ∙ c.in-Ok-judged.ensures.own) c.brought_up.ensures.refused
+
+pub returns-in-Err-judged-clause-refused : goal.returns-in-Err-judged-clause-refused
+returns-in-Err-judged-clause-refused g c refused clean = inr (inl (
+  λ foreign. absurd (let e = c.in-Err-judged.ensures.unowned (subst IsForeignSchema (sym c.schema-2.ensures.value) foreign) in cc),
+  λ version is. c.in-Err-judged.ensures.refused (ap Err refused) version (c.schema-2.ensures.value ∙ is),
+  λ is. absurd (let e = c.if-is_blank.ensures.all (c.schema.ensures.value ∙ is) in cc),
+))

@@ -1,9 +1,10 @@
-use Rattle.std.proofs.Common.{◌≡◌, refl, sym, subst, ◌∙◌}
+use Rattle.std.proofs.Common.{◌≡◌, refl, sym, subst, ◌∙◌, arith}
 use Rattle.acceptor.specs.Content.{AreRowsFrom}
 use Rattle.sqlite.specs.Held.{state}
 use Rattle.sqlite.proofs.StateLemmas.{survives_then}
 use Rattle.acceptor_store_parts.proofs.Callers.{all_shown}
 use Rattle.acceptor_store.proofs.Reopening.{stays_as}
+use Rattle.acceptor_store.proofs.Refusing.{query_refused}
 use Rattle.acceptor_store.proofs.opening.votes_in.Goals as goal
 
 pub returns-clause-held : goal.returns-clause-held
@@ -24,3 +25,8 @@ returns-then-not-are_in_order-clause-foreign g c clean foreign version d was our
 pub returns-in-Err-clause-survives : goal.returns-in-Err-clause-survives
 returns-in-Err-clause-survives g c =
     survives_then (state g.S.Store c.args.conn.now) (state g.S.Store c.query_all_votes.new.conn) (state g.S.Store c.stop_for.new.conn) _ _ _ (λ _ db other. other) (λ _ db no. absurd no) c.query_all_votes.ensures.survives c.stop_for.ensures.survives
+
+pub returns-in-Err-clause-refused : goal.returns-in-Err-clause-refused
+returns-in-Err-clause-refused g c clean version schema refused =
+    query_refused (state g.S.Store c.args.conn.now) (state g.S.Store c.query_all_votes.new.conn) (state g.S.Store c.stop_for.new.conn) c.in-Err.error c.stop_for.result c.stopped.result c.stopped.ensures.value refused
+    (c.stop_for.ensures.told clean) (c.in-Err.ensures.fails (omega (arith, c.stop_for.ensures.survives.clean, clean)) version schema) c.stop_for.ensures.survives

@@ -3,8 +3,9 @@ use Rattle.sqlite.specs.Effect.{Database}
 use Rattle.sqlite.specs.State.{HasCleanDisk}
 use Rattle.sqlite.specs.Held.{state}
 use Rattle.acceptor_store_parts.specs.Owned.{OwnedBy}
-use Rattle.acceptor_store.specs.declared.OpenFault.TheVariants.{Foreign}
+use Rattle.acceptor_store.specs.declared.OpenFault.TheVariants.{Foreign, Refused}
 use Rattle.acceptor_store.proofs.Owning.{examines_for, none_owned, two_leave, unnamed}
+use Rattle.acceptor_store.proofs.Refusing.{stopped_since}
 use Rattle.acceptor_store.proofs.owned.examined_owned.Goals as goal
 
 pub returns-in-Ok-owner_in-clause-tables : goal.returns-in-Ok-owner_in-clause-tables
@@ -36,3 +37,16 @@ returns-in-Err-owner_in-clause-foreign g c clean schema foreign it =
     let same = c.in-Ok.ensures.same mid schema in
     unnamed (state g.S.Store c.args.conn.now).now.trees (λ owner fits owned.
     c.in-Err-owner_in.ensures.foreign clean (ap Err is) (ap (λ (d : Database). d.schema) same.0 ∙ schema) owner fits (subst (λ (d : Database). OwnedBy owner d.trees) (sym same.0) owned))
+
+pub returns-in-Err-clause-refused : goal.returns-in-Err-clause-refused
+returns-in-Err-clause-refused g c clean schema refused =
+    let is : c.in-Err.fault ≡ Refused = cc in
+    c.in-Err.ensures.refused clean schema (ap Err is)
+
+pub returns-in-Err-owner_in-clause-refused : goal.returns-in-Err-owner_in-clause-refused
+returns-in-Err-owner_in-clause-refused g c clean schema refused =
+    let is : c.in-Err-owner_in.fault ≡ Refused = cc in
+    let mid : HasCleanDisk (state g.S.Store c.examined.new.conn) = omega (arith, c.owner_in.ensures.survives.clean, clean) in
+    let same = c.in-Ok.ensures.same mid schema in
+    let stops = c.in-Err-owner_in.ensures.refused clean (ap (λ (d : Database). d.schema) same.0 ∙ schema) (ap Err is) in
+    stopped_since (state g.S.Store c.args.conn.now) (state g.S.Store c.examined.new.conn) (state g.S.Store c.owner_in.new.conn) mid c.examined.ensures.survives c.owner_in.ensures.survives stops

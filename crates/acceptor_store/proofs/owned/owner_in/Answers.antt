@@ -1,9 +1,10 @@
-use Rattle.std.proofs.Common.{[], ◌∷◌, sym, ◌∙◌}
+use Rattle.std.proofs.Common.{[], ◌∷◌, sym, ◌∙◌, arith}
 use Rattle.sqlite.specs.Held.{state}
 use Rattle.sqlite.proofs.StateLemmas.{survives_then}
 use Rattle.acceptor_store_parts.specs.declared.Version.TheVariants.{Third}
 use Rattle.acceptor_store_parts.specs.Owned.{owner_bytes}
 use Rattle.acceptor_store.proofs.Reopening.{stays_as}
+use Rattle.acceptor_store.proofs.Refusing.{query_refused}
 use Rattle.acceptor_store.proofs.owned.owner_in.Goals as goal
 
 pub returns-in-Some-clause-held : goal.returns-in-Some-clause-held
@@ -16,3 +17,8 @@ returns-in-Some-clause-same g c clean schema = stays_as Third (state g.S.Store c
 pub returns-in-Err-clause-survives : goal.returns-in-Err-clause-survives
 returns-in-Err-clause-survives g c =
     survives_then (state g.S.Store c.args.conn.now) (state g.S.Store c.query_facts.new.conn) (state g.S.Store c.stop_for.new.conn) _ _ _ (λ _ db other. other) (λ _ db no. absurd no) c.query_facts.ensures.survives c.stop_for.ensures.survives
+
+pub returns-in-Err-clause-refused : goal.returns-in-Err-clause-refused
+returns-in-Err-clause-refused g c clean schema refused =
+    query_refused (state g.S.Store c.args.conn.now) (state g.S.Store c.query_facts.new.conn) (state g.S.Store c.stop_for.new.conn) c.in-Err.error c.stop_for.result c.stopped.result c.stopped.ensures.value refused
+    (c.stop_for.ensures.told clean) (c.in-Err.ensures.fails (omega (arith, c.stop_for.ensures.survives.clean, clean)) schema) c.stop_for.ensures.survives

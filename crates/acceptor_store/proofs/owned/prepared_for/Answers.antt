@@ -1,7 +1,8 @@
-use Rattle.std.proofs.Common.{sym, subst, ◌∙◌}
+use Rattle.std.proofs.Common.{sym, subst, ◌∙◌, inl, inr, Err, ap}
 use Rattle.acceptor_store_parts.specs.Foreign.{IsBroken, IsUnowned}
 use Rattle.acceptor_store.specs.Owning.{HasFurtherAs}
 use Rattle.acceptor_store.proofs.Owning.{all_due, all_left, all_prepare_for, schema_due}
+use Rattle.acceptor_store.proofs.Refusing.{all_refused_for}
 use Rattle.acceptor_store.proofs.owned.prepared_for.Goals as goal
 
 pub returns-in-Ok-judged-clause-tables : goal.returns-in-Ok-judged-clause-tables
@@ -37,3 +38,16 @@ pub returns-in-Err-judged-clause-further : goal.returns-in-Err-judged-clause-fur
 returns-in-Err-judged-clause-further g c free further =
     let it = subst HasFurtherAs (sym c.schema-2.ensures.value) further in
     c.in-Err-judged.ensures.further it.0 it.1 it.2
+
+pub returns-in-Ok-judged-clause-refused : goal.returns-in-Ok-judged-clause-refused
+returns-in-Ok-judged-clause-refused g c = all_refused_for g.S.Store c.args.conn c.claimed.result c.claimed.ensures.refused
+
+pub returns-in-Err-judged-clause-refused : goal.returns-in-Err-judged-clause-refused
+returns-in-Err-judged-clause-refused g c refused clean =
+    let it = c.in-Err-judged.ensures.refused (ap Err refused) in
+    inr (inl (
+      λ broken. it.0 (subst IsBroken (sym c.schema-2.ensures.value) broken),
+      λ unowned. it.1 (subst IsUnowned (sym c.schema-2.ensures.value) unowned),
+      λ is. it.2 (c.schema-2.ensures.value ∙ is),
+      λ is. absurd (let e = c.if-is_blank.ensures.all (c.schema.ensures.value ∙ is) in cc),
+    ))

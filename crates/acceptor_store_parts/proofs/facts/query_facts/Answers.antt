@@ -5,10 +5,11 @@ use Rattle.sqlite.proofs.StateLemmas.{survives_weaker}
 use Rattle.sqlite.proofs.Callers.{IsPlain, never_commits}
 use Rattle.acceptor_store_parts.specs.declared.Version.TheVariants.{Third}
 use Rattle.acceptor_store_parts.specs.Tables.{facts_query, schema_of}
-use Rattle.acceptor_store_parts.proofs.Meaning.{facts_plain}
+use Rattle.acceptor_store_parts.proofs.Meaning.{two_columns, facts_is, plain}
 use Rattle.acceptor_store_parts.proofs.Owners.{owner_shown}
 use Rattle.acceptor_store_parts.proofs.Raw.{facts_are_shown}
 use Rattle.acceptor_store_parts.proofs.Kept.{all_same}
+use Rattle.acceptor_store_parts.proofs.Fails.{facts_typed, all_fail}
 use Rattle.acceptor_store_parts.proofs.facts.query_facts.Goals as goal
 
 pub returns-clause-held : goal.returns-clause-held
@@ -21,10 +22,13 @@ returns-clause-value g c clean =
 
 pub returns-clause-same : goal.returns-clause-same
 returns-clause-same g c clean has =
-    all_same facts_query _ (state g.S.Store c.args.conn.now) (state g.S.Store c.query_all.new.self) (schema_of Third) has facts_plain c.query_all.result (λ x. x.items) (c.query_all.ensures.ok clean)
+    all_same facts_query _ (state g.S.Store c.args.conn.now) (state g.S.Store c.query_all.new.self) (schema_of Third) has (plain facts_is) c.query_all.result (λ x. x.items) (c.query_all.ensures.ok clean)
 
 pub returns-clause-survives : goal.returns-clause-survives
 returns-clause-survives g c =
     let old = state g.S.Store c.args.conn.now in
     let new = state g.S.Store c.query_all.new.self in
-    survives_weaker old new _ _ (λ _ db may has. never_commits facts_query _ old db (subst (λ s. IsPlain (understood s facts_query)) (sym has) facts_plain) may) c.query_all.ensures.survives
+    survives_weaker old new _ _ (λ _ db may has. never_commits facts_query _ old db (subst (λ s. IsPlain (understood s facts_query)) (sym has) (plain facts_is)) may) c.query_all.ensures.survives
+
+pub returns-clause-fails : goal.returns-clause-fails
+returns-clause-fails g c clean has = all_fail 3 two_columns facts_is facts_typed (state g.S.Store c.args.conn.now) (state g.S.Store c.query_all.new.self) has c.query_all.result (c.query_all.ensures.err clean)

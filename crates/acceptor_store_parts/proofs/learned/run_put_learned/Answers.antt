@@ -5,7 +5,7 @@ use Rattle.ballots.specs.Limits.{IsValue}
 use Rattle.sqlite.specs.Held.{state}
 use Rattle.sqlite.proofs.StateLemmas.{survives_weaker}
 use Rattle.acceptor_store_parts.specs.Tables.{learned_put}
-use Rattle.acceptor_store_parts.proofs.States.{put_learned_ok, put_learned_commits}
+use Rattle.acceptor_store_parts.proofs.States.{learns, made, commits}
 use Rattle.acceptor_store_parts.proofs.Kept.{failed_serves}
 use Rattle.acceptor_store_parts.proofs.learned.run_put_learned.Goals as goal
 
@@ -13,7 +13,7 @@ pub returns-clause-ok : goal.returns-clause-ok
 returns-clause-ok g c clean =
     let short = subst IsValue c.as_slice.ensures.same c.as_slice.ensures.fits in
     let at : SFits w64 c.signed_place.result = search rules in
-    put_learned_ok (state g.S.Store c.args.conn.now) (state g.S.Store c.execute.new.self) c.args.place c.args.value.now c.signed_place.ensures.fits short c.execute.result
+    made (learns c.args.place c.args.value.now c.signed_place.ensures.fits short) (state g.S.Store c.args.conn.now) (state g.S.Store c.execute.new.self) c.execute.result
     (rw (to_z-of_z, c.signed_place.ensures.value, c.as_slice.ensures.same) at (c.execute.ensures.runs clean))
 
 pub returns-clause-err : goal.returns-clause-err
@@ -29,4 +29,4 @@ returns-clause-survives g c =
     let old = state g.S.Store c.args.conn.now in
     let new = state g.S.Store c.execute.new.self in
     let crash = rw (to_z-of_z, c.signed_place.ensures.value, c.as_slice.ensures.same) at c.execute.ensures.survives in
-    survives_weaker old new _ _ (λ _ db may owner d was. put_learned_commits old new c.args.place c.args.value.now c.signed_place.ensures.fits short owner d was db may) crash
+    survives_weaker old new _ _ (λ _ db. commits (learns c.args.place c.args.value.now c.signed_place.ensures.fits short) old new db) crash
