@@ -1,12 +1,16 @@
 -- The lines that a run of a script prints.
-use Rattle.std.specs.Prelude.{ℕ, ◌+◌, List, [], ◌∷◌, ◌++◌, codes, decimal, length, take, drop}
+use Rattle.std.specs.Prelude.{ℕ, ◌+◌, Bool, true, false, List, [], ◌∷◌, ◌++◌, Option, Some, None, codes, decimal, length, slice_get, take, drop}
 use Rattle.std.specs.List.{flat_map}
+use Rattle.ballots.specs.declared.letters.Letter.{Letter}
 use Rattle.seats.specs.declared.answer.Answer.{Answer}
-use Rattle.seats.specs.declared.answer.Answer.TheVariants.{Released}
+use Rattle.seats.specs.declared.answer.Answer.TheVariants.{Released, Sent}
 use Rattle.seats.specs.declared.answer.ReleasedOutput.{ReleasedOutput}
 use Rattle.network_script.specs.World.{Written}
+use Rattle.world_events.specs.declared.event.Event.{Event}
+use Rattle.world_events.specs.declared.event.Event.TheVariants.{Deliver, DeliverThenCrash}
 use Rattle.printed_outputs.specs.Texts.{output_text}
 use Rattle.printed_answers.specs.Texts.{answer_text}
+use Rattle.printed_letters.specs.Texts.{letter_text}
 
 -- the line of an answer with its event's number
 abbrev pub answer_line : ℕ → Answer → List ℕ
@@ -19,10 +23,33 @@ place_line x = codes "place " ++ (decimal x.numbered.place ++ (codes " " ++ (out
 abbrev pub place_lines : List ReleasedOutput → List ℕ
 place_lines xs = flat_map place_line xs
 
+-- the line of the letter of this number, and the lines of letters, numbered from n on
+abbrev pub letter_line : ℕ → Letter → List ℕ
+letter_line n l = codes "letter " ++ (decimal n ++ (codes " " ++ (letter_text l ++ 10 ∷ [])))
+
+abbrev pub letter_lines : ℕ → List Letter → List ℕ
+letter_lines n [] = []
+letter_lines n (l ∷ ls) = letter_line n l ++ letter_lines (n + 1) ls
+
+-- the line of the letter that an event delivers, of those that were sent before
+abbrev pub came_line : ℕ → Option Letter → List ℕ
+came_line i None = []
+came_line i (Some l) = codes "came " ++ (decimal i ++ (codes " " ++ (letter_text l ++ 10 ∷ [])))
+
+abbrev pub came_lines : List Letter → Option Event → List ℕ
+came_lines sent (Some (Deliver i)) = came_line i (slice_get sent i)
+came_lines sent (Some (DeliverThenCrash i)) = came_line i (slice_get sent i)
+came_lines sent other = []
+
 -- how many outputs an answer tells
 abbrev pub released_count : Answer → ℕ
 released_count (Released n) = n
 released_count other = 0
+
+-- how many letters an answer tells
+abbrev pub sent_count : Answer → ℕ
+sent_count (Sent n) = n
+sent_count other = 0
 
 -- the lines of answers, numbered from n on, each followed by those of the outputs that it tells
 abbrev pub answer_lines : ℕ → List Answer → List ReleasedOutput → List ℕ
@@ -30,11 +57,29 @@ answer_lines n [] outputs = []
 answer_lines n (a ∷ answers) outputs =
     answer_line n a ++ place_lines (take (released_count a) outputs) ++ answer_lines (n + 1) answers (drop (released_count a) outputs)
 
+-- the letters that an answer tells, where so many were sent before
+abbrev pub sent_with : ℕ → Answer → List Letter → List Letter
+sent_with before a letters = take (sent_count a) (drop before letters)
+
+-- the same with a trace: each answer has the letter that came, its outputs, and the letters that it tells, by the numbers that `deliver` names them by,
+-- which go on from event to event
+abbrev pub traced_lines : ℕ → ℕ → List Event → List Answer → List Letter → List ReleasedOutput → List ℕ
+traced_lines n before events [] letters outputs = []
+traced_lines n before events (a ∷ answers) letters outputs =
+    answer_line n a ++ came_lines (take before letters) (slice_get events n) ++ place_lines (take (released_count a) outputs)
+    ++ letter_lines before (sent_with before a letters)
+    ++ traced_lines (n + 1) (before + length (sent_with before a letters)) events answers letters (drop (released_count a) outputs)
+
+-- the lines of the answers to events, traced or not
+abbrev pub event_lines : Bool → List Event → List Answer → List Letter → List ReleasedOutput → List ℕ
+event_lines true events answers letters outputs = traced_lines 0 0 events answers letters outputs
+event_lines false events answers letters outputs = answer_lines 0 answers outputs
+
 -- the last line
 abbrev pub counts_line : ℕ → ℕ → ℕ → List ℕ
 counts_line letters outputs transmissions =
     codes "letters " ++ (decimal letters ++ (codes " outputs " ++ (decimal outputs ++ (codes " transmissions " ++ (decimal transmissions ++ 10 ∷ [])))))
 
--- all lines of a run that gave this report and left this world
-abbrev pub run_lines : List Answer → Written → List ℕ
-run_lines report w = answer_lines 0 report w.outputs ++ counts_line (length w.letters) (length w.outputs) (length w.transmissions)
+-- all lines of a run of these events that gave this report and left this world, traced or not
+abbrev pub run_lines : Bool → List Event → List Answer → Written → List ℕ
+run_lines trace events report w = event_lines trace events report w.letters w.outputs ++ counts_line (length w.letters) (length w.outputs) (length w.transmissions)

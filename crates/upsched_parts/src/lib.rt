@@ -3,6 +3,7 @@
 
 mod report;
 mod script_run;
+mod trace;
 
-pub use script_run::{print_script, run_script, script_of};
+pub use script_run::{Telling, print_script, run_script, script_of, trace_script};
 pub use upsched_map_parts::{Fault, RunWords, Status};

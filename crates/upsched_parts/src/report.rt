@@ -22,7 +22,7 @@ fn released_count(answer: Answer) -> usize
 }
 
 /// The outputs that an answer tells, and those of the answers behind it.
-fn parted<'a>(
+pub(crate) fn parted<'a>(
     outputs: &'a [ReleasedOutput],
     answer: Answer,
 ) -> (&'a [ReleasedOutput], &'a [ReleasedOutput])
@@ -49,7 +49,7 @@ fn print_place<'a, O: Write>(
     }
 }
 
-fn print_places<'a, O: Write>(
+pub(crate) fn print_places<'a, O: Write>(
     alloc: Global,
     released: &[ReleasedOutput],
     output: &mut O,
@@ -62,7 +62,7 @@ fn print_places<'a, O: Write>(
     Ok(())
 }
 
-fn print_answer<'a, O: Write>(
+pub(crate) fn print_answer<'a, O: Write>(
     alloc: Global,
     number: usize,
     answer: Answer,

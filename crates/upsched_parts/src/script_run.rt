@@ -1,6 +1,6 @@
 //! `upsched run SCRIPT`: what happens to nodes and modems.
 
-ghost use Rattle.std.specs.Prelude.{◌≡◌, ◌≢◌, IfOk, IfSome, OnOk, length, map};
+ghost use Rattle.std.specs.Prelude.{◌≡◌, ◌≢◌, false, true, IfOk, IfSome, OnOk, length, map};
 ghost use Rattle.ballots.specs.Members.{member_count};
 ghost use Rattle.seats.specs.Receiving.{AreNew};
 ghost use Rattle.seats.specs.Fresh.{AreFresh};
@@ -9,7 +9,8 @@ ghost use Rattle.network_script.specs.Worlds.{AreHonest};
 ghost use Rattle.upsched_map_parts.specs.declared.status.Status.TheVariants.{Done, NotUnderstood};
 ghost use Rattle.upsched_parts.specs.Run.{NoScript, PrintsEvents, PrintsScript};
 
-use crate::report::{print_answers, print_counts};
+use crate::report::print_counts;
+use crate::trace::print_told;
 use log::{Log, warn};
 use modem::Modem;
 use network_script::World;
@@ -21,6 +22,15 @@ use std::alloc::Global;
 use std::io::{Read, Write};
 use upsched_map_parts::{Fault, RunWords, Status, text_of};
 use world_events::Event;
+
+/// What is told of a run beside its answers and outputs.
+#[derive(Clone, Copy, Debug)]
+pub struct Telling {
+    /// Whether each fault of a node and each crash is logged.
+    pub verbose: bool,
+    /// Whether the letters that an event delivers and sends are printed behind its answer.
+    pub trace: bool,
+}
 
 /// Logs each answer that is a node's fault or a crash.
 fn warn_of<R: Log>(rt: &R, answers: &[Answer]) {
@@ -47,12 +57,12 @@ fn print_events<'a, R: Log + AllocGlobal, N: Node, O: Write>(
     nodes: Vec<N>,
     modems: Vec<Modem>,
     events: &[Event],
-    verbose: bool,
+    telling: Telling,
     output: &mut O,
 ) -> Result<World<N>, Fault<'a>>
     requires nodes { AreFresh N.who N.honest N.stands nodes.items }
     requires modems { AreNew modems.items }
-    ensures { IfOk result (λ world. AreHonest world → PrintsEvents (length nodes.items) (map (λ modem. modem.id) modems.items) events.now
+    ensures { IfOk result (λ world. AreHonest world → PrintsEvents telling.trace (length nodes.items) (map (λ modem. modem.id) modems.items) events.now
         (O.contents output.old) (O.contents output.new)) }
 {
     let Ok(mut world) = World::new(rt.alloc(), nodes, modems) else {
@@ -61,10 +71,19 @@ fn print_events<'a, R: Log + AllocGlobal, N: Node, O: Write>(
     let Ok(report) = world.run(events) else {
         return Err(Fault::Memory);
     };
-    if verbose {
+    if telling.verbose {
         warn_of(rt, report.answers());
     }
-    print_answers(rt.alloc(), report.answers(), world.outputs(), output)?;
+    let (answers, sent) = (report.answers(), world.letters());
+    print_told(
+        rt.alloc(),
+        telling.trace,
+        events,
+        answers,
+        sent,
+        world.outputs(),
+        output,
+    )?;
     let letters = world.letters().len();
     let outputs = world.outputs().len();
     print_counts(letters, outputs, world.transmissions().len(), output)?;
@@ -76,17 +95,17 @@ pub fn print_script<'a, R: Log + AllocGlobal, N: Node, O: Write>(
     rt: &R,
     nodes: Vec<N>,
     script: &Script,
-    verbose: bool,
+    telling: Telling,
     output: &mut O,
 ) -> Result<World<N>, Fault<'a>>
     requires { AreFresh N.who N.honest N.stands nodes.items }
-    ensures { IfOk result (λ world. AreHonest world → PrintsEvents (length nodes.items) script.now.modems.items script.now.events.items
+    ensures { IfOk result (λ world. AreHonest world → PrintsEvents telling.trace (length nodes.items) script.now.modems.items script.now.events.items
         (O.contents output.old) (O.contents output.new)) }
 {
     let Ok(modems) = new_modems(rt.alloc(), script.modems.as_slice()) else {
         return Err(Fault::Memory);
     };
-    print_events(rt, nodes, modems, script.events.as_slice(), verbose, output)
+    print_events(rt, nodes, modems, script.events.as_slice(), telling, output)
 }
 
 /// The script that a text is.
@@ -108,16 +127,16 @@ pub fn script_of<'a, F: Read>(
 fn print_plain<'a, R: Log + AllocGlobal, O: Write>(
     rt: &R,
     script: &Script,
-    verbose: bool,
+    telling: Telling,
     output: &mut O,
 ) -> Result<(), Fault<'a>>
-    ensures { OnOk result (PrintsEvents (member_count script.now.members) script.now.modems.items script.now.events.items
+    ensures { OnOk result (PrintsEvents telling.trace (member_count script.now.members) script.now.modems.items script.now.events.items
         (O.contents output.old) (O.contents output.new)) }
 {
     let Ok(nodes) = plain_nodes(rt.alloc(), script.members) else {
         return Err(Fault::Memory);
     };
-    print_script(rt, nodes, script, verbose, output)?;
+    print_script(rt, nodes, script, telling, output)?;
     Ok(())
 }
 
@@ -125,13 +144,15 @@ fn print_text<'a, R: Log + AllocGlobal, F: Read, O: Write>(
     rt: &R,
     script: &mut F,
     words: &RunWords<'a>,
+    trace: bool,
     output: &mut O,
 ) -> Result<(), Fault<'a>>
-    ensures printed { OnOk result (PrintsScript (F.remaining script.old) (O.contents output.old) (O.contents output.new)) }
+    ensures printed { OnOk result (PrintsScript trace (F.remaining script.old) (O.contents output.old) (O.contents output.new)) }
     ensures no_script { NoScript (F.remaining script.old) → output.new ≡ output.old }
 {
     let script = script_of(rt.alloc(), script, words.script)?;
-    print_plain(rt, &script, words.verbose, output)
+    let verbose = words.verbose;
+    print_plain(rt, &script, Telling { verbose, trace }, output)
 }
 
 /// Runs a script over nodes with records in memory, and prints for each event its number and its
@@ -145,12 +166,32 @@ pub fn run_script<R: Log + AllocGlobal, F: Read, O: Write, E: Write>(
     output: &mut O,
     errors: &mut E,
 ) -> Status
-    ensures printed { result ≡ Done → PrintsScript (F.remaining script.old) (O.contents output.old) (O.contents output.new) }
+    ensures printed { result ≡ Done → PrintsScript false (F.remaining script.old) (O.contents output.old) (O.contents output.new) }
     ensures quiet { result ≡ Done → errors.new ≡ errors.old }
     ensures no_script { NoScript (F.remaining script.old) → output.new ≡ output.old }
     ensures understood { result ≢ NotUnderstood }
 {
-    match print_text(rt, script, words, output) {
+    match print_text(rt, script, words, false, output) {
+        Ok(()) => Status::Done,
+        Err(fault) => fault.told(errors),
+    }
+}
+
+/// As `run_script`, but behind each answer comes the letter that the event delivers, and behind the outputs come the
+/// letters that it sent: each with the number by which `deliver` names it, its sender, its addressee and what it says.
+pub fn trace_script<R: Log + AllocGlobal, F: Read, O: Write, E: Write>(
+    rt: &R,
+    script: &mut F,
+    words: &RunWords<'_>,
+    output: &mut O,
+    errors: &mut E,
+) -> Status
+    ensures printed { result ≡ Done → PrintsScript true (F.remaining script.old) (O.contents output.old) (O.contents output.new) }
+    ensures quiet { result ≡ Done → errors.new ≡ errors.old }
+    ensures no_script { NoScript (F.remaining script.old) → output.new ≡ output.old }
+    ensures understood { result ≢ NotUnderstood }
+{
+    match print_text(rt, script, words, true, output) {
         Ok(()) => Status::Done,
         Err(fault) => fault.told(errors),
     }

@@ -1,0 +1,164 @@
+//! Prints what came of a run, with the letters that came and were sent.
+
+ghost use Rattle.std.specs.Prelude.{◌≡◌, ◌+◌, ◌<◌, ◌≤◌, ◌^◌, OnOk, take, drop, length, slice_get};
+ghost use Rattle.std.specs.Io.KnownBytes.{Appends};
+ghost use Rattle.upsched_parts.specs.RunLines.{came_line, came_lines, event_lines, letter_line, letter_lines, sent_count, traced_lines};
+
+use crate::report::{parted, print_answer, print_answers, print_places};
+use ballots::Letter;
+use printed_letters::letter_text;
+use seats::{Answer, ReleasedOutput};
+use std::alloc::Global;
+use std::io::Write;
+use upsched_map_parts::Fault;
+use world_events::Event;
+
+/// How many letters an answer tells.
+fn sent_count(answer: Answer) -> usize
+    ensures { result ≡ sent_count answer }
+{
+    match answer {
+        Answer::Sent(count) => count,
+        _ => 0,
+    }
+}
+
+/// The letters of a run, parted behind as many as were sent before.
+fn parted_letters(letters: &[Letter], before: usize) -> (&[Letter], &[Letter])
+    requires { before ≤ length letters.now }
+    ensures sent { result.0.now ≡ take before letters.now }
+    ensures unsent { result.1.now ≡ drop before letters.now }
+{
+    letters.split_at(before)
+}
+
+/// The letters that an answer tells, of those that weren't sent before.
+fn first_letters(letters: &[Letter], answer: Answer) -> &[Letter]
+    ensures same { result.now ≡ take (sent_count answer) letters.now }
+    ensures fits { length result.now ≤ length letters.now }
+{
+    let count = sent_count(answer).min(letters.len());
+    &letters[..count]
+}
+
+fn print_letter<'a, O: Write>(
+    alloc: Global,
+    number: usize,
+    letter: &Letter,
+    output: &mut O,
+) -> Result<(), Fault<'a>>
+    ensures { OnOk result (Appends (O.contents output.old) (O.contents output.new) (letter_line number letter.now)) }
+{
+    let Ok(text) = letter_text(alloc, letter) else {
+        return Err(Fault::Memory);
+    };
+    match writeln!(output, "letter {number} {text}") {
+        Ok(()) => Ok(()),
+        Err(_) => Err(Fault::Output),
+    }
+}
+
+/// The lines of letters, numbered from `first` on.
+fn print_letters<'a, O: Write>(
+    alloc: Global,
+    first: usize,
+    letters: &[Letter],
+    output: &mut O,
+) -> Result<(), Fault<'a>>
+    requires { first + length letters.now < 2 ^ 64 }
+    ensures { OnOk result (Appends (O.contents output.old) (O.contents output.new) (letter_lines first letters.now)) }
+{
+    for (index, letter) in letters.iter().enumerate() {
+        print_letter(alloc, first + index, letter, output)?;
+    }
+    Ok(())
+}
+
+/// The line of letter `i`, which came, if it was sent before.
+fn print_named<'a, O: Write>(
+    alloc: Global,
+    i: usize,
+    sent: &[Letter],
+    output: &mut O,
+) -> Result<(), Fault<'a>>
+    ensures { OnOk result (Appends (O.contents output.old) (O.contents output.new) (came_line i (slice_get sent.now i))) }
+{
+    if i >= sent.len() {
+        return Ok(());
+    }
+    let Ok(text) = letter_text(alloc, &sent[i]) else {
+        return Err(Fault::Memory);
+    };
+    match writeln!(output, "came {i} {text}") {
+        Ok(()) => Ok(()),
+        Err(_) => Err(Fault::Output),
+    }
+}
+
+/// The line of the letter that event `number` delivers, if it does and the letter was sent before.
+fn print_came<'a, O: Write>(
+    alloc: Global,
+    events: &[Event],
+    number: usize,
+    sent: &[Letter],
+    output: &mut O,
+) -> Result<(), Fault<'a>>
+    ensures { OnOk result (Appends (O.contents output.old) (O.contents output.new) (came_lines sent.now (slice_get events.now number))) }
+{
+    if number >= events.len() {
+        return Ok(());
+    }
+    match &events[number] {
+        Event::Deliver(i) => print_named(alloc, *i, sent, output),
+        Event::DeliverThenCrash(i) => print_named(alloc, *i, sent, output),
+        _ => Ok(()),
+    }
+}
+
+/// The lines of the answers to events, numbered from 0 on, each followed by those of the letter that came, of the
+/// outputs and of the letters that the answer tells.
+fn print_traced<'a, O: Write>(
+    alloc: Global,
+    events: &[Event],
+    answers: &[Answer],
+    letters: &[Letter],
+    outputs: &[ReleasedOutput],
+    output: &mut O,
+) -> Result<(), Fault<'a>>
+    ensures { OnOk result (Appends (O.contents output.old) (O.contents output.new) (traced_lines 0 0 events.now answers.now letters.now outputs.now)) }
+{
+    let mut before = 0;
+    let mut rest = outputs;
+    for (number, answer) in answers.iter().enumerate() {
+        let (told, later) = parted(rest, *answer);
+        let (sent, unsent) = parted_letters(letters, before);
+        let now = first_letters(unsent, *answer);
+        print_answer(alloc, number, *answer, output)?;
+        print_came(alloc, events, number, sent, output)?;
+        print_places(alloc, told, output)?;
+        print_letters(alloc, before, now, output)?;
+        before += now.len();
+        rest = later;
+    }
+    Ok(())
+}
+
+/// The lines of the answers to events, numbered from 0 on, each followed by those of the outputs that it tells; with a
+/// trace also by those of the letter that came and of the letters that it tells.
+pub fn print_told<'a, O: Write>(
+    alloc: Global,
+    trace: bool,
+    events: &[Event],
+    answers: &[Answer],
+    letters: &[Letter],
+    outputs: &[ReleasedOutput],
+    output: &mut O,
+) -> Result<(), Fault<'a>>
+    ensures { OnOk result (Appends (O.contents output.old) (O.contents output.new) (event_lines trace events.now answers.now letters.now outputs.now)) }
+{
+    if trace {
+        print_traced(alloc, events, answers, letters, outputs, output)
+    } else {
+        print_answers(alloc, answers, outputs, output)
+    }
+}
