@@ -1,0 +1,86 @@
+-- What is said of an event as JSON has no fraction, and hardly nests.
+use Rattle.std.proofs.Common.{◌≡◌, ℕ, ◌≤◌, false, List, [], ◌∷◌, codes, Option, Some, None, refl, arith}
+use Rattle.std.proofs.Math.Nat.{max-le}
+use Rattle.std.specs.List.{AllZip}
+use Rattle.modem.specs.declared.types.Sending.{Sending}
+use Rattle.modem.specs.declared.types.Sending.TheVariants.{Unicast, Polled, Request}
+use Rattle.modem.specs.Wants.{number_of_fault}
+use Rattle.proposer.specs.Faults.{node_fault_number}
+use Rattle.world_events.specs.Refusals.{event_refusal_number}
+use Rattle.seats.specs.declared.answer.Answer.{Answer}
+use Rattle.seats.specs.declared.answer.Answer.TheVariants.{Sent, Finished, Released, Heard, Ticked, WantRefused, Refused, Fault, Crashed}
+use Rattle.seats.specs.declared.answer.ReleasedOutput.{ReleasedOutput}
+use Rattle.printed_answers.specs.Texts.{heard_text, refusal_name, fault_name}
+use Rattle.serde_json.specs.Data.{Data, array, object, Members, no_members, put, depth, items_depth}
+use Rattle.serde_json.specs.View.{items_of}
+use Rattle.serde_json.specs.Written.{items_have_float}
+use Rattle.json_outputs.specs.Fields.{with_number}
+use Rattle.json_outputs.specs.Texts.{IsPlain}
+use Rattle.json_outputs.proofs.Callers.{Small, AreSmall, both, none_small, field_small, with_number_small, with_text_small, object_small, output_small}
+use Rattle.json_answers.specs.Names.{want_fault_name}
+use Rattle.json_answers.specs.Answers.{with_name, with_sid, with_sending, with_fault, with_answer}
+use Rattle.json_answers.specs.Events.{place_members, TellsRelease, event_members, counts_data}
+
+-- the fields of an answer
+name_small : (k : ℕ) (name : List ℕ) (ms : Members) → AreSmall k ms → AreSmall k (with_name name ms)
+name_small k name ms xs = with_text_small k (codes "answer") name ms xs
+
+sid_small : (k : ℕ) (name : List ℕ) (sid n : ℕ) (ms : Members) → AreSmall k ms → AreSmall k (with_sid name sid n ms)
+sid_small k name sid n ms xs = with_number_small k (codes "minislots") n _ (with_number_small k (codes "sid") sid _ (name_small k name ms xs))
+
+sending_small : (k : ℕ) (sending : Option Sending) (ms : Members) → AreSmall k ms → AreSmall k (with_sending sending ms)
+sending_small k None ms xs = name_small k (codes "idle") ms xs
+sending_small k (Some (Unicast sid)) ms xs = with_number_small k (codes "sid") sid _ (name_small k (codes "unicast") ms xs)
+sending_small k (Some (Polled sid n)) ms xs = sid_small k (codes "polled") sid n ms xs
+sending_small k (Some (Request sid n)) ms xs = sid_small k (codes "request") sid n ms xs
+
+fault_small : (k : ℕ) (answer : List ℕ) (n : ℕ) (name : List ℕ) (ms : Members) → AreSmall k ms → AreSmall k (with_fault answer n name ms)
+fault_small k answer n name ms xs = with_text_small k (codes "name") name _ (with_number_small k (codes "number") n _ (name_small k answer ms xs))
+
+answer_small : (k : ℕ) (a : Answer) (ms : Members) → AreSmall k ms → AreSmall k (with_answer a ms)
+answer_small k (Sent n) ms xs = with_number_small k (codes "letters") n _ (name_small k (codes "sent") ms xs)
+answer_small k Finished ms xs = name_small k (codes "done") ms xs
+answer_small k (Released n) ms xs = with_number_small k (codes "count") n _ (name_small k (codes "released") ms xs)
+answer_small k (Heard heard) ms xs = with_text_small k (codes "heard") (heard_text heard) _ (name_small k (codes "heard") ms xs)
+answer_small k (Ticked sending) ms xs = sending_small k sending ms xs
+answer_small k (WantRefused fault) ms xs = fault_small k (codes "want-refused") (number_of_fault fault) (want_fault_name fault) ms xs
+answer_small k (Refused refusal) ms xs = fault_small k (codes "refused") (event_refusal_number refusal) (refusal_name refusal) ms xs
+answer_small k (Fault fault) ms xs = fault_small k (codes "fault") (node_fault_number fault) (fault_name fault) ms xs
+answer_small k Crashed ms xs = name_small k (codes "crashed") ms xs
+
+-- an output that was released
+release_small : (x : ReleasedOutput) (d : Data) → TellsRelease x d → Small 3 d
+release_small x d (ms, told, is) =
+    let place = with_number_small 2 (codes "place") x.numbered.place _ (with_number_small 2 (codes "node") x.node no_members (none_small 2)) in
+    rw is (object_small 2 ms (output_small x.numbered.output (place_members x) ms told place))
+
+releases_whole : (xs : List ReleasedOutput) (ds : List Data) → AllZip TellsRelease xs ds → items_have_float (items_of ds) ≡ false
+releases_whole [] [] told = refl
+releases_whole [] (d ∷ ds) told = absurd told
+releases_whole (x ∷ xs) [] told = absurd told
+releases_whole (x ∷ xs) (d ∷ ds) told = both _ _ (release_small x d told.0).whole (releases_whole xs ds told.1)
+
+releases_shallow : (xs : List ReleasedOutput) (ds : List Data) → AllZip TellsRelease xs ds → items_depth (items_of ds) ≤ 3
+releases_shallow [] [] told = omega arith
+releases_shallow [] (d ∷ ds) told = absurd told
+releases_shallow (x ∷ xs) [] told = absurd told
+releases_shallow (x ∷ xs) (d ∷ ds) told = max-le (release_small x d told.0).shallow (releases_shallow xs ds told.1)
+
+releases_small : (xs : List ReleasedOutput) (ds : List Data) → AllZip TellsRelease xs ds → Small 4 (array (items_of ds))
+releases_small xs ds told = record { whole = releases_whole xs ds told; shallow = let below = releases_shallow xs ds told in omega arith }
+
+-- what is said of an event, and the counts
+pub event_plain : (n : ℕ) (a : Answer) (xs : List ReleasedOutput) (ds : List Data) → AllZip TellsRelease xs ds
+    → IsPlain (object (put (codes "outputs") (array (items_of ds)) (event_members n a)))
+event_plain n a xs ds told =
+    let fields = answer_small 4 a (with_number (codes "event") n no_members) (with_number_small 4 (codes "event") n no_members (none_small 4)) in
+    let all = object_small 4 _ (field_small 4 (codes "outputs") (array (items_of ds)) (event_members n a) (releases_small xs ds told) fields) in
+    let below : depth (object (put (codes "outputs") (array (items_of ds)) (event_members n a))) ≤ 5 = all.shallow in
+    (all.whole, omega arith)
+
+pub counts_plain : (letters outputs transmissions : ℕ) → IsPlain (counts_data letters outputs transmissions)
+counts_plain letters outputs transmissions =
+    let all = object_small 0 _ (with_number_small 0 (codes "transmissions") transmissions _ (with_number_small 0 (codes "outputs") outputs _
+    (with_number_small 0 (codes "letters") letters _ (none_small 0)))) in
+    let below = all.shallow in
+    (all.whole, omega arith)

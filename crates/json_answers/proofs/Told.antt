@@ -1,0 +1,50 @@
+-- What is said of an event, from what each step left.
+use Rattle.std.proofs.Common.{◌≡◌, ℕ, ◌+◌, ◌<◌, List, [], ◌∷◌, ◌++◌, length, take, get_or, map, subst, codes, Result, Ok, Err, IfOk, ap, ◌∙◌, String, BTreeMap, Global, Vec, string_bytes}
+use Rattle.std.proofs.lemmas.List.{take_more, map-append}
+use Rattle.std.proofs.lemmas.Slice.Zip.{all_zipped_more}
+use Rattle.std.specs.List.{AllZip}
+use Rattle.seats.specs.declared.answer.Answer.{Answer}
+use Rattle.seats.specs.declared.answer.ReleasedOutput.{ReleasedOutput}
+use Rattle.serde_json.specs.Data.{Data, array, object, Members, no_members, put}
+use Rattle.serde_json.specs.View.{view, members_view, items_of}
+use Rattle.serde_json.specs.declared.value.Value.{Value, Array, Object}
+use Rattle.serde_json.proofs.Views.{view-Array, view-Object}
+use Rattle.json_outputs.specs.Fields.{with_number}
+use Rattle.json_outputs.specs.Outputs.{TellsOutput}
+use Rattle.json_outputs.specs.Texts.{IsPlain, IsTextOf, IsTextWhere}
+use Rattle.json_answers.specs.Answers.{with_answer}
+use Rattle.json_answers.specs.Events.{TellsRelease, TellsEvent, event_members}
+use Rattle.json_answers.proofs.Plain.{event_plain}
+
+-- an output that was released
+pub release_said : (x : ReleasedOutput) (m : BTreeMap (String Global) Value) (a b : Members) → a ≡ with_number (codes "node") x.node no_members
+    → b ≡ with_number (codes "place") x.numbered.place a → TellsOutput x.numbered.output b (members_view m.entries) → TellsRelease x (view (Object m))
+release_said x m a b first second told = (members_view m.entries, (rw (second, first) at told), view-Object m)
+
+-- one output more
+pub releases_more : (xs : List ReleasedOutput) (i : ℕ) (x : ReleasedOutput) (vs items : List Value) (v : Value) → i < length xs
+    → AllZip TellsRelease (take i xs) (map view vs) → x ≡ get_or xs i x → TellsRelease x (view v) → items ≡ vs ++ v ∷ []
+    → AllZip TellsRelease (take (i + 1) xs) (map view items)
+releases_more xs i x vs items v below before here told is =
+    let P : ReleasedOutput → Type 0 = λ y. TellsRelease y (view v) in
+    let whole : take (i + 1) xs ≡ take i xs ++ get_or xs i x ∷ [] = take_more xs i x below in
+    let last : TellsRelease (get_or xs i x) (view v) = subst P here told in
+    let values : map view items ≡ map view vs ++ view v ∷ [] = ap (map view) is ∙ map-append view vs (v ∷ []) in
+    rw (whole, values) (all_zipped_more TellsRelease (take i xs) (map view vs) (get_or xs i x) (view v) before last)
+
+-- an event
+pub event_said : (n : ℕ) (a : Answer) (xs : List ReleasedOutput) (m : BTreeMap (String Global) Value) (v : Vec Value Global) (one two : Members)
+    → AllZip TellsRelease xs (map view v.items) → one ≡ with_number (codes "event") n no_members → two ≡ with_answer a one
+    → members_view m.entries ≡ put (codes "outputs") (view (Array v)) two → TellsEvent n a xs (view (Object m))
+event_said n a xs m v one two told first second last =
+    let f : Data → Members = λ d. put (codes "outputs") d two in
+    let g : Members → Members = λ ms. put (codes "outputs") (array (items_of (map view v.items))) ms in
+    let fields : members_view m.entries ≡ g (event_members n a) = last ∙ (ap f (view-Array v) ∙ ap g (second ∙ ap (with_answer a) first)) in
+    (map view v.items, told, view-Object m ∙ ap object fields)
+
+pub said_plain : (n : ℕ) (a : Answer) (xs : List ReleasedOutput) (d : Data) → TellsEvent n a xs d → IsPlain d
+said_plain n a xs d (shown, told, is) = rw is (event_plain n a xs shown told)
+
+pub text_said : {E : Type 0} (r : Result (String Global) E) (P : Data → Type 0) (d : Data) → P d → IfOk r (λ text. IsTextOf d (string_bytes text)) → IfOk r (λ text. IsTextWhere P (string_bytes text))
+text_said (Ok text) P d said is_text = (d, said, is_text)
+text_said (Err e) P d said is_text = tt

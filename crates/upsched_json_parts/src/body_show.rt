@@ -1,0 +1,80 @@
+//! `upsched show HEX --json`: a MAP body as an object.
+
+ghost use Rattle.std.specs.Prelude.{◌≡◌, ◌≢◌, IfOk, OnOk};
+ghost use Rattle.map_body.specs.Body.{Body};
+ghost use Rattle.json_outputs.specs.Elements.{body_data};
+ghost use Rattle.upsched_map_parts.specs.declared.status.Status.TheVariants.{Done, NotUnderstood};
+ghost use Rattle.upsched_map_parts.specs.Show.{IsHexBody};
+ghost use Rattle.upsched_json_parts.specs.Lines.{PrintsValue};
+
+use crate::lines::print_line;
+use hex::FromHexError;
+use json_outputs::body_text;
+use map_body::{MapBody, decode};
+use std::alloc::Global;
+use std::io::Write;
+use upsched_map_parts::{Fault, ShowWords, Status};
+
+/// The body that hexadecimal digits give.
+fn body_of<'a>(alloc: Global, hex: &str) -> Result<MapBody, Fault<'a>>
+    ensures { IfOk result (IsHexBody hex.now) }
+{
+    let bytes = match hex::decode(alloc, hex) {
+        Ok(bytes) => bytes,
+        Err(FromHexError::OutOfMemory) => return Err(Fault::Memory),
+        Err(_) => return Err(Fault::Hex),
+    };
+    match decode(alloc, bytes.as_slice()) {
+        Ok(map) => Ok(map),
+        Err(fault) => Err(Fault::Body {
+            number: fault.number(),
+            fault,
+        }),
+    }
+}
+
+fn print_value<'a, O: Write>(alloc: Global, map: &MapBody, output: &mut O) -> Result<(), Fault<'a>>
+    ensures { OnOk result (PrintsValue (body_data map.now) (O.contents output.old) (O.contents output.new)) }
+{
+    match body_text(alloc, map) {
+        Ok(text) => print_line(text.as_str(), output),
+        Err(_) => Err(Fault::Memory),
+    }
+}
+
+fn print_body<'a, O: Write>(alloc: Global, map: &MapBody, output: &mut O) -> Result<(), Fault<'a>>
+    ensures { OnOk result (PrintsValue (body_data map.now) (O.contents output.old) (O.contents output.new)) }
+{
+    print_value(alloc, map, output)?;
+    match output.flush() {
+        Ok(()) => Ok(()),
+        Err(_) => Err(Fault::Output),
+    }
+}
+
+fn print_hex<'a, O: Write>(alloc: Global, hex: &str, output: &mut O) -> Result<(), Fault<'a>>
+    ensures printed { OnOk result ((map : Body) × IsHexBody hex.now map × PrintsValue (body_data map) (O.contents output.old) (O.contents output.new)) }
+    ensures no_body { ((map : Body) → ¬ IsHexBody hex.now map) → output.new ≡ output.old }
+{
+    let map = body_of(alloc, hex)?;
+    print_body(alloc, &map, output)
+}
+
+/// Prints a MAP body: an object with the fields of its head, and its elements. Digits of either case.
+pub fn show_as_json<O: Write, E: Write>(
+    alloc: Global,
+    words: &ShowWords<'_>,
+    output: &mut O,
+    errors: &mut E,
+) -> Status
+    ensures printed { result ≡ Done → (map : Body) × IsHexBody words.now.hex.now map
+        × PrintsValue (body_data map) (O.contents output.old) (O.contents output.new) }
+    ensures quiet { result ≡ Done → errors.new ≡ errors.old }
+    ensures no_body { ((map : Body) → ¬ IsHexBody words.now.hex.now map) → output.new ≡ output.old }
+    ensures understood { result ≢ NotUnderstood }
+{
+    match print_hex(alloc, words.hex, output) {
+        Ok(()) => Status::Done,
+        Err(fault) => fault.told(errors),
+    }
+}

@@ -1,0 +1,17 @@
+use Rattle.std.proofs.Common.{ℕ, List, length, map}
+use Rattle.modem.specs.State.{State}
+use Rattle.network_script.specs.World.{opening}
+use Rattle.upsched_json_run_parts.proofs.Told.{run_told}
+use Rattle.upsched_json_run_parts.proofs.script_run.print_run.Goals as goal
+
+pub returns : goal.returns
+returns g c = λ honest.
+    let members : ℕ = length c.args.nodes.items in
+    let ids : List ℕ = map {A = State} {B = ℕ} (λ modem. modem.id) c.args.modems.items in
+    let told = c.in-Ok-run.ensures.run honest (opening members ids) (c.in-Ok.ensures.opens (c.in-Ok-run.ensures.honesty honest)) in
+    run_told members ids c.args.events.now c.in-Ok-run.report c.answers.result.now told.0
+    c.letters-letters.result.now c.outputs.result.now c.outputs-outputs.result.now c.transmissions.result.now
+    (g.O.Write.contents c.args.output.now) (g.O.Write.contents c.print_events.new.output) (g.O.Write.contents c.print_counts.new.output)
+    told.1 c.answers.ensures (c.outputs.ensures.written told.0 told.2) (c.letters-letters.ensures.written told.0 told.2)
+    (c.outputs-outputs.ensures.written told.0 told.2) (c.transmissions.ensures.written told.0 told.2)
+    c.in_ok-print_events.ensures c.in_ok-print_counts.ensures

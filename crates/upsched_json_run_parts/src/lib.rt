@@ -1,0 +1,7 @@
+//! `run --json`: what a run answers as JSON, an object a line. It opens no file.
+#![tactic(auto)]
+
+mod report;
+mod script_run;
+
+pub use script_run::run_as_json;
