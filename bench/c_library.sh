@@ -1,8 +1,9 @@
 #!/usr/bin/env bash
-# The library for C and C++ (crates/upsched_c, include/, c/), tried from C; no part of the gate. It builds the clients
-# with gcc and g++, warnings as errors, and runs them: as they are, under the sanitizers, and where valgrind is there
-# under its memcheck and helgrind; lets each request for memory fail in turn; and compares what it says of spoilt bodies
-# and commands with what the proved program prints, where one is there. The status is 1 where something differs.
+# The libraries for C and C++ (crates/upsched_c, crates/upsched_c_node, include/, c/), tried from C; no part of the
+# gate. It builds the clients with gcc and g++, warnings as errors, and runs them: as they are, under the sanitizers,
+# and where valgrind is there under its memcheck and helgrind; lets each request for memory fail in turn; and compares
+# what it says of spoilt bodies and commands with what the proved program prints, where one is there. The status is 1
+# where something differs.
 #
 # Usage: bench/c_library.sh [SECONDS [SEED]]: the fuzz target runs so long (5), and 40 times as many inputs are spoilt.
 set -euo pipefail
@@ -15,6 +16,7 @@ make -s CC=gcc CXX=g++ check
 work=$(mktemp -d)
 trap 'rm -rf "$work"' EXIT
 lib=out/libupsched.a
+node=out/libupsched_node.a
 warn=(-Wall -Wextra -pedantic -Werror -I../include)
 
 echo "== sanitizers"
@@ -23,9 +25,11 @@ for client in rows agrees codec_fuzz mutate; do
   gcc -std=c99 "${clean[@]}" "${warn[@]}" "$client.c" "$lib" -o "$work/$client"
 done
 gcc -std=gnu99 "${clean[@]}" "${warn[@]}" threads.c "$lib" -pthread -o "$work/threads"
+gcc -std=c99 "${clean[@]}" "${warn[@]}" node.c "$node" -o "$work/node"
 g++ -std=c++17 "${clean[@]}" "${warn[@]}" sim.cpp "$lib" -o "$work/sim"
 "$work/agrees"
 "$work/rows" | diff - rows.stdout
+"$work/node" | diff - node.stdout
 "$work/threads"
 "$work/codec_fuzz" "$seconds" "$seed"
 "$work/sim" 0.05 0.5 events 2>/dev/null > "$work/sim.out"
@@ -33,6 +37,8 @@ g++ -std=c++17 "${clean[@]}" "${warn[@]}" sim.cpp "$lib" -o "$work/sim"
 echo "== each request for memory fails"
 gcc -std=c99 -g -O1 "${warn[@]}" -Wl,--wrap=malloc,--wrap=realloc no_memory.c "$lib" -o "$work/no_memory"
 "$work/no_memory"
+gcc -std=c99 -g -O1 "${warn[@]}" -Wl,--wrap=malloc,--wrap=realloc node_no_memory.c "$node" -o "$work/node_no_memory"
+"$work/node_no_memory"
 
 echo "== valgrind"
 if ! command -v valgrind > "$work/which"; then
@@ -41,8 +47,10 @@ else
   memcheck=(valgrind -q --leak-check=full --error-exitcode=9)
   "${memcheck[@]}" out/agrees
   "${memcheck[@]}" out/rows | diff - rows.stdout
+  "${memcheck[@]}" out/node | diff - node.stdout
   "${memcheck[@]}" out/codec_fuzz 1 "$seed"
   "${memcheck[@]}" "$work/no_memory"
+  "${memcheck[@]}" "$work/node_no_memory"
   "${memcheck[@]}" out/sim 0.02 0.5 events 2>/dev/null > "$work/sim.out"
   valgrind -q --tool=helgrind --error-exitcode=9 out/threads
 fi

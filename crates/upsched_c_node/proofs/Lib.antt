@@ -1,0 +1,5 @@
+pub mod Handles
+pub mod Exact
+pub mod Handing
+pub mod Sending
+pub mod Leading

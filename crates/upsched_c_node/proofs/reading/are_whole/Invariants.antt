@@ -1,0 +1,5 @@
+use Rattle.upsched_c_node.proofs.Leading.{NoneStrange}
+use Rattle.upsched_c_node.proofs.reading.are_whole.Given as goal
+
+abbrev pub invariant-loop-bytes : goal.invariant-loop-bytes
+invariant-loop-bytes l = NoneStrange l.id l.writes l.bytes-index

@@ -1,0 +1,211 @@
+//! What a node that a handle holds is asked, and what its last call left to be read.
+
+ghost use Rattle.std.specs.Prelude.{◌≡◌, ◌<◌, IsTrue, ◌↔◌, length};
+ghost use Rattle.upsched_c_node.specs.declared.status.Status.TheVariants.{Done};
+ghost use Rattle.node.specs.Calls.Cause.{Receive, Lead, Offer};
+ghost use Rattle.upsched_c_node.specs.Calls.{Reads, Receives, Releases, Sends, TellsLetter, TellsOutput, sent, status_of, told, written};
+ghost use Rattle.upsched_c_node.specs.Telling.{IsOpen, WritesAfter};
+ghost use Rattle.upsched_c_parts.specs.Outputs.{FitsRoom};
+
+use crate::handle::Held;
+use crate::plain_node::PlainNode;
+use crate::status::Status;
+use crate::telling::write_told;
+use crate::write_bytes::{WriteBytes, learned, no_write};
+use ballots::{LONGEST_VALUE, Letter, Note, Place};
+use grant_machine::Output;
+use letter_bytes::{LetterFault, read_letter, write_letter};
+use node::NodeFault;
+use std::alloc::Global;
+use upsched_c_parts::{OutputFields, output_fields, put_body, put_front};
+
+/// The status of a call that the node didn't do.
+fn of_fault(fault: NodeFault) -> Status
+    ensures { result ≡ status_of fault }
+{
+    match fault {
+        NodeFault::OutOfMemory => Status::OutOfMemory,
+        other => Status::Node(other),
+    }
+}
+
+/// Keeps the letters of a call, and tells its write and how many there are.
+fn tell(
+    held: &mut Held,
+    letters: Vec<Letter>,
+    made: WriteBytes,
+    write: &mut WriteBytes,
+    count: &mut usize,
+) -> Status
+    ensures status { result ≡ Done }
+    ensures write { write.new ≡ made }
+    ensures count { count.new ≡ length letters.items }
+    ensures held { held.new ≡ record held.old { letters = letters } }
+{
+    *write = made;
+    *count = letters.len();
+    held.letters = letters;
+    Status::Done
+}
+
+pub(crate) fn lead(held: &mut Held, write: &mut WriteBytes, count: &mut usize) -> Status
+    ensures { Sends Lead held.old (sent write.old count.old) held.new (sent write.new count.new) result }
+{
+    match held.node.lead() {
+        Ok(letters) => {
+            let made = write_told(held.node.id(), &letters);
+            tell(held, letters, made, write, count)
+        }
+        Err(fault) => of_fault(fault),
+    }
+}
+
+pub(crate) fn offer(
+    held: &mut Held,
+    value: &[u8],
+    write: &mut WriteBytes,
+    count: &mut usize,
+) -> Status
+    ensures { Sends (Offer value.now) held.old (sent write.old count.old) held.new (sent write.new count.new) result }
+{
+    match held.node.offer(value) {
+        Ok(letters) => {
+            let made = no_write(held.node.id());
+            tell(held, letters, made, write, count)
+        }
+        Err(fault) => of_fault(fault),
+    }
+}
+
+/// The place of which a letter may teach a value, where none is learned yet.
+fn place_open(node: &PlainNode, note: &Note) -> Option<Place>
+    ensures { IsOpen node.now note.now result }
+{
+    let place = match note {
+        Note::Voted { place, .. } | Note::Known { place, .. } => Place::new(*place)?,
+        _ => return None,
+    };
+    if node.learned(place.number()).is_some() {
+        return None;
+    }
+    Some(place)
+}
+
+/// The write of a letter's call: the value that is learned now, where its place was open, or what the answer tells of.
+fn write_after(node: &PlainNode, place: Option<Place>, letters: &[Letter]) -> WriteBytes
+    ensures told { WritesAfter node.now letters.now place result }
+    ensures member { node.now.id < node.now.members }
+{
+    let Some(place) = place else {
+        return write_told(node.id(), letters);
+    };
+    match node.learned(place.number()) {
+        Some(value) if value.as_slice().len() <= LONGEST_VALUE => {
+            learned(node.id(), place, value.as_slice())
+        }
+        _ => no_write(node.id()),
+    }
+}
+
+fn take(held: &mut Held, letter: &Letter, write: &mut WriteBytes, count: &mut usize) -> Status
+    ensures { Sends (Receive letter.now) held.old (sent write.old count.old) held.new (sent write.new count.new) result }
+{
+    let place = place_open(&held.node, &letter.note);
+    match held.node.receive(letter) {
+        Ok(letters) => {
+            let made = write_after(&held.node, place, &letters);
+            tell(held, letters, made, write, count)
+        }
+        Err(fault) => of_fault(fault),
+    }
+}
+
+/// The letter that bytes spell, or the status that a call answers.
+pub(crate) fn letter_in(alloc: Global, bytes: &[u8]) -> Result<Letter, Status>
+    ensures { Reads bytes.now result }
+{
+    match read_letter(alloc, bytes) {
+        Ok(letter) => Ok(letter),
+        Err(LetterFault::OutOfMemory) => Err(Status::OutOfMemory),
+        Err(_) => Err(Status::BadField),
+    }
+}
+
+pub(crate) fn receive(
+    held: &mut Held,
+    letter: Result<Letter, Status>,
+    write: &mut WriteBytes,
+    count: &mut usize,
+) -> Status
+    ensures { Receives letter held.old (sent write.old count.old) held.new (sent write.new count.new) result }
+{
+    match letter {
+        Ok(letter) => take(held, &letter, write, count),
+        Err(status) => status,
+    }
+}
+
+pub(crate) fn put_letter(
+    alloc: Global,
+    held: &Held,
+    i: usize,
+    room: &mut [u8],
+    count: &mut usize,
+) -> Status
+    ensures { TellsLetter i held.now (told room.old count.old) held.now (told room.new count.new) result }
+{
+    let Some(letter) = held.letters.get(i) else {
+        return Status::Absent;
+    };
+    let mut bytes = Vec::new(alloc);
+    if write_letter(letter, &mut bytes).is_err() {
+        return Status::OutOfMemory;
+    }
+    *count = bytes.len();
+    if room.len() < bytes.len() {
+        return Status::NoRoom;
+    }
+    put_front(&bytes, room);
+    Status::Done
+}
+
+pub(crate) fn release(held: &mut Held, now: u64, count: &mut usize) -> Status
+    ensures { Releases now held.old count.old held.new count.new result }
+{
+    let Ok(outputs) = held.node.release(now) else {
+        return Status::OutOfMemory;
+    };
+    *count = outputs.len();
+    held.outputs = outputs;
+    Status::Done
+}
+
+fn fits_room(output: &Output) -> bool
+    ensures { IsTrue result ↔ FitsRoom output.now }
+{
+    match output {
+        Output::Map { bytes, .. } => bytes.as_slice().len() <= 1036,
+        _ => true,
+    }
+}
+
+pub(crate) fn put_output(
+    held: &Held,
+    i: usize,
+    place: &mut u64,
+    output: &mut OutputFields,
+    body: &mut [u8; 1036],
+) -> Status
+    ensures { TellsOutput i held.now (written place.old output.old body.old) held.now (written place.new output.new body.new) result }
+{
+    let Some(numbered) = held.outputs.get(i) else {
+        return Status::Absent;
+    };
+    if !fits_room(&numbered.output) {
+        return Status::NoRoom;
+    }
+    *place = numbered.place;
+    *output = output_fields(&numbered.output);
+    put_body(&numbered.output, body);
+    Status::Done
+}

@@ -1,0 +1,13 @@
+//! What C calls of a node. `include/upsched_node.h` declares each function that is exported here, and says what a caller
+//! owes.
+#![tactic(auto)]
+
+pub(crate) mod asked;
+pub mod calls;
+pub mod handle;
+pub mod opening;
+pub mod plain_node;
+pub mod reading;
+pub mod status;
+pub mod telling;
+pub mod write_bytes;

@@ -1,0 +1,97 @@
+//! A node whose records are in memory: of each call it is known what it leaves.
+
+ghost use Rattle.std.specs.Prelude.{◌≡◌, ◌<◌, Err, IfOk, option_copied};
+ghost use Rattle.ballots.specs.Members.{member_count};
+ghost use Rattle.ballots.specs.Rows.{at};
+ghost use Rattle.node.specs.Calls.{answer};
+ghost use Rattle.node.specs.Calls.Cause.{Receive, Lead, Offer};
+ghost use Rattle.upsched_c_node.specs.States.{Answered, Released, outputs_of, started_as};
+
+use acceptor::PlainRecords;
+use ballots::{Bytes, Letter, Members, NodeId};
+use map_release::Numbered;
+use node::{Node, NodeFault, SchedNode};
+use std::alloc::{AllocError, Global};
+use std::marker::Model;
+
+/// A member over records in memory. Nothing fails there but for want of memory, so that it is always up.
+#[derive(Drop)]
+pub struct PlainNode {
+    node: SchedNode<PlainRecords>,
+}
+
+impl Model for PlainNode {
+    ghost use Rattle.std.specs.Prelude.{◌≡◌, ◌<◌, false};
+    ghost use Rattle.upsched_c_node.specs.States.{NodeState, state_of};
+
+    ghost Value = { NodeState };
+
+    ghost view = { λ n. state_of n.node.parts };
+
+    ghost invariant = { λ n. (n.node.parts.is_down ≡ false) × ((state_of n.node.parts).id < (state_of n.node.parts).members) };
+}
+
+impl PlainNode {
+    /// A node with a member's number, started over these records.
+    pub fn over(
+        alloc: Global,
+        id: NodeId,
+        members: Members,
+        records: PlainRecords,
+    ) -> Result<PlainNode, AllocError>
+        requires { id < member_count members }
+        ensures { IfOk result (λ n. n ≡ started_as id (member_count members) records) }
+    {
+        let mut node = SchedNode::new(alloc, id, members, records);
+        match node.restart() {
+            Ok(()) => Ok(PlainNode { node }),
+            Err(_) => Err(AllocError),
+        }
+    }
+
+    /// Its number among the members.
+    pub fn id(&self) -> NodeId
+        ensures same { result ≡ self.now.id }
+        ensures member { result < self.now.members }
+    {
+        self.node.id()
+    }
+
+    /// The value that is learned at a place.
+    pub fn learned(&self, place: u64) -> Option<&Bytes>
+        ensures { option_copied result ≡ at self.now.view.tally.learned place }
+    {
+        self.node.learned(place)
+    }
+
+    /// It is asked to lead.
+    pub fn lead(&mut self) -> Result<Vec<Letter>, NodeFault>
+        ensures { Answered self.old Lead (answer result) self.new }
+    {
+        self.node.lead()
+    }
+
+    /// A value is offered.
+    pub fn offer(&mut self, value: &[u8]) -> Result<Vec<Letter>, NodeFault>
+        ensures { Answered self.old (Offer value.now) (answer result) self.new }
+    {
+        self.node.offer(value)
+    }
+
+    /// A letter comes.
+    pub fn receive(&mut self, letter: &Letter) -> Result<Vec<Letter>, NodeFault>
+        ensures { Answered self.old (Receive letter.now) (answer result) self.new }
+    {
+        self.node.receive(letter)
+    }
+
+    /// It releases outputs, without the MAPs that end at `now` or before.
+    pub fn release(&mut self, now: u64) -> Result<Vec<Numbered>, AllocError>
+        ensures { Released self.old now (outputs_of result) self.new }
+    {
+        match self.node.release(now) {
+            Ok(outputs) => Ok(outputs),
+            Err(_) => Err(AllocError),
+        }
+    }
+}
