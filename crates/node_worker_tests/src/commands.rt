@@ -55,12 +55,28 @@ fn read_as(alloc: Global, words: &[&str]) -> Result<String, Fail> {
     }
 }
 
-const WORDS: [(&[&str], &str); 40] = [
+const WORDS: [(&[&str], &str); 56] = [
     (
         &["maps", "a plan.toml"],
         "Maps(MapsWords { plan: \"a plan.toml\" })",
     ),
     (&["show", "00fF"], "Show(ShowWords { hex: \"00fF\" })"),
+    (
+        &["maps", "plan.toml", "--json"],
+        "MapsAsJson(MapsWords { plan: \"plan.toml\" })",
+    ),
+    (
+        &["show", "--json", "00"],
+        "ShowAsJson(ShowWords { hex: \"00\" })",
+    ),
+    (
+        &["run", "script.toml", "--json"],
+        "RunAsJson(RunWords { script: \"script.toml\", verbose: false, store: None })",
+    ),
+    (
+        &["run", "--json", "script.toml", "--store", "a folder"],
+        "NotUnderstood",
+    ),
     (
         &["run", "script.toml"],
         "Run(RunWords { script: \"script.toml\", verbose: false, store: None })",
@@ -68,6 +84,14 @@ const WORDS: [(&[&str], &str); 40] = [
     (
         &["run", "script.toml", "--verbose"],
         "Run(RunWords { script: \"script.toml\", verbose: true, store: None })",
+    ),
+    (
+        &["run", "script.toml", "--trace"],
+        "Trace(RunWords { script: \"script.toml\", verbose: false, store: None })",
+    ),
+    (
+        &["run", "--trace", "script.toml", "--verbose", "--store=dir"],
+        "Trace(RunWords { script: \"script.toml\", verbose: true, store: Some(\"dir\") })",
     ),
     (
         &["run", "--verbose", "script.toml"],
@@ -95,17 +119,44 @@ const WORDS: [(&[&str], &str); 40] = [
     ),
     (
         &["node", "0", "--members", "3"],
-        "Node(NodeWords { number: \"0\", members: \"3\", store: None, is_new: false })",
+        "Node(NodeWords { number: \"0\", members: \"3\", store: None, is_new: false }, None)",
     ),
     (
         &["node", "--members=5", "4"],
-        "Node(NodeWords { number: \"4\", members: \"5\", store: None, is_new: false })",
+        "Node(NodeWords { number: \"4\", members: \"5\", store: None, is_new: false }, None)",
     ),
     (
         &["node", "1", "--members", "3", "--store", "n.db", "--new"],
-        "Node(NodeWords { number: \"1\", members: \"3\", store: Some(\"n.db\"), is_new: true })",
+        "Node(NodeWords { number: \"1\", members: \"3\", store: Some(\"n.db\"), is_new: true }, None)",
     ),
     (&["node", "1", "--members", "3", "--new"], "NotUnderstood"),
+    (
+        &["node", "0", "--members", "3", "--journal", "n.txt"],
+        "Node(NodeWords { number: \"0\", members: \"3\", store: None, is_new: false }, \
+         Some(JournalWords { path: \"n.txt\", is_synced: false }))",
+    ),
+    (
+        &[
+            "node",
+            "0",
+            "--members",
+            "3",
+            "--journal=n.txt",
+            "--journal-sync",
+        ],
+        "Node(NodeWords { number: \"0\", members: \"3\", store: None, is_new: false }, \
+         Some(JournalWords { path: \"n.txt\", is_synced: true }))",
+    ),
+    (
+        &["node", "0", "--members", "3", "--journal-sync"],
+        "NotUnderstood",
+    ),
+    (
+        &["audit", "--members", "3", "a", "b c"],
+        "Audit(AuditWords { members: \"3\", journals: [\"a\", \"b c\"] })",
+    ),
+    (&["audit", "--members", "3"], "NotUnderstood"),
+    (&["audit", "a"], "NotUnderstood"),
     (
         &["check", "a plan.toml"],
         "Check(CheckWords { path: \"a plan.toml\", form: None })",
@@ -129,6 +180,37 @@ const WORDS: [(&[&str], &str); 40] = [
         "Stats(StatsWords { plan: \"plan.toml\" })",
     ),
     (&["stats"], "NotUnderstood"),
+    (
+        &["script", "--members", "3"],
+        "Script(ScriptWords { members: \"3\", plan: None, seed: 0, lose: 0, repeat: 0, crashes: 0, takeovers: 0, modems: None })",
+    ),
+    (
+        &[
+            "script",
+            "--members",
+            "5",
+            "--plan",
+            "p.toml",
+            "--seed",
+            "7",
+            "--lose",
+            "10",
+            "--repeat",
+            "20",
+            "--crash",
+            "2",
+            "--takeover",
+            "3",
+            "--modems",
+            "50,51",
+        ],
+        "Script(ScriptWords { members: \"5\", plan: Some(\"p.toml\"), seed: 7, lose: 10, repeat: 20, crashes: 2, takeovers: 3, modems: Some(\"50,51\") })",
+    ),
+    (&["script"], "NotUnderstood"),
+    (
+        &["script", "--members", "3", "--lose", "101"],
+        "NotUnderstood",
+    ),
     (&[], "NotUnderstood"),
     (&["maps"], "NotUnderstood"),
     (&["show"], "NotUnderstood"),

@@ -18,7 +18,7 @@ use std::thread::Threads;
 use std::time::Clock;
 use std::{fs, io};
 use upsched_map_parts::{Fault, Status};
-use upsched_parts::script_of;
+use upsched_parts::{Telling, script_of};
 use upsched_store_parts::{print_over, run_words};
 
 /// A folder of examples of one command.
@@ -142,7 +142,11 @@ fn print_in_memory<'a, F: Read, O: Write>(
     let Ok(pairs) = pairs_in_memory(rt.alloc(), script.members.count()) else {
         return Err(Fault::Memory);
     };
-    print_over(rt, pairs, &script, false, output)
+    let telling = Telling {
+        verbose: false,
+        trace: false,
+    };
+    print_over(rt, pairs, &script, telling, output)
 }
 
 /// A folder with a file that is no database.

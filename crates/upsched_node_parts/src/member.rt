@@ -22,7 +22,7 @@ fn digit_of(word: &str) -> Option<u8>
 }
 
 /// How many members a word names, 3 or 5.
-fn members_of(word: &str) -> Option<Members>
+pub fn members_of(word: &str) -> Option<Members>
     ensures { MatchOption result ((members : Members) → ¬ NamesMembers word.now members) (NamesMembers word.now) }
 {
     match digit_of(word) {

@@ -2,6 +2,9 @@
 //! may keep their records in some.
 #![tactic(auto)]
 
+mod audit_run;
+mod journal_file;
+mod node_run;
 mod program;
 mod stored_node_run;
 mod stored_run;

@@ -1,19 +1,22 @@
 //! From the words of the command line to how the program ends.
 
-use crate::stored_node_run::stored_node;
+use crate::audit_run::run_audit;
+use crate::node_run::run_node;
 use crate::stored_run::run_stored_script;
 use log::Log;
 use std::alloc::Global;
-use std::io::{BufReader, ErrorKind, Read, Write};
+use std::io::{ErrorKind, Read, Write};
 use std::rt::{Env, Files};
 use std::sync::Wait;
 use std::thread::Threads;
 use std::time::Clock;
 use std::{env, fs};
+use upsched_json_parts::{maps_as_json, show_as_json};
+use upsched_json_run_parts::run_as_json;
 use upsched_live_parts::live;
-use upsched_map_parts::{Fault, LiveWords, MapsWords, NodeWords, RunWords, Status, maps, show};
-use upsched_node_parts::node;
-use upsched_parts::run_script;
+use upsched_map_parts::{Fault, LiveWords, MapsWords, RunWords, Status, maps, show};
+use upsched_parts::{run_script, trace_script};
+use upsched_script_parts::{ScriptWords, script};
 use upsched_sight_parts::{CaptureWords, CheckWords, StatsWords, capture, check, stats};
 use upsched_words::{Words, read_words, refused};
 
@@ -26,6 +29,19 @@ fn run_maps<R: Files + AllocGlobal, O: Write, E: Write>(
 ) -> Status {
     match fs::open(rt, words.plan) {
         Ok(mut plan) => maps(rt.alloc(), &mut plan, words, output, errors),
+        Err(error) => Fault::of_reading(&error, words.plan).told(errors),
+    }
+}
+
+/// Opens the plan and ends as `maps_as_json` does.
+fn run_maps_as_json<R: Files + AllocGlobal, O: Write, E: Write>(
+    rt: &R,
+    words: &MapsWords<'_>,
+    output: &mut O,
+    errors: &mut E,
+) -> Status {
+    match fs::open(rt, words.plan) {
+        Ok(mut plan) => maps_as_json(rt.alloc(), &mut plan, words, output, errors),
         Err(error) => Fault::of_reading(&error, words.plan).told(errors),
     }
 }
@@ -69,18 +85,53 @@ fn run_stats<R: Files + AllocGlobal, O: Write, E: Write>(
     }
 }
 
-/// Opens the script and ends as `run_script` does, or as `run_stored_script` where the words name a folder.
+/// Opens the plan, if the words name one, and ends as `script` does.
+fn run_script_words<R: Files + AllocGlobal, O: Write, E: Write>(
+    rt: &R,
+    words: &ScriptWords<'_>,
+    output: &mut O,
+    errors: &mut E,
+) -> Status {
+    let Some(path) = words.plan else {
+        let mut no_plan: &[u8] = &[];
+        return script(rt.alloc(), &mut no_plan, words, output, errors);
+    };
+    match fs::open(rt, path) {
+        Ok(mut plan) => script(rt.alloc(), &mut plan, words, output, errors),
+        Err(error) => Fault::of_reading(&error, path).told(errors),
+    }
+}
+
+/// Opens the script and ends as `run_script` or `trace_script` does, or as `run_stored_script` where the words name a
+/// folder.
 fn run_run<O: Write, E: Write>(
     rt: &HostRuntime,
     words: &RunWords<'_>,
+    trace: bool,
     output: &mut O,
     errors: &mut E,
 ) -> Status {
     match fs::open(rt, words.script) {
         Ok(mut script) => match words.store {
+            None if trace => trace_script(rt, &mut script, words, output, errors),
             None => run_script(rt, &mut script, words, output, errors),
-            Some(folder) => run_stored_script(rt, &mut script, words, folder, output, errors),
+            Some(folder) => {
+                run_stored_script(rt, &mut script, words, folder, trace, output, errors)
+            }
         },
+        Err(error) => Fault::of_reading(&error, words.script).told(errors),
+    }
+}
+
+/// Opens the script and ends as `run_as_json` does.
+fn run_run_as_json<R: Files + AllocGlobal, O: Write, E: Write>(
+    rt: &R,
+    words: &RunWords<'_>,
+    output: &mut O,
+    errors: &mut E,
+) -> Status {
+    match fs::open(rt, words.script) {
+        Ok(mut script) => run_as_json(rt.alloc(), &mut script, words, output, errors),
         Err(error) => Fault::of_reading(&error, words.script).told(errors),
     }
 }
@@ -96,23 +147,6 @@ fn run_live<R: Files + Log, T: Threads + Wait + Clock + Sync + AllocGlobal, O: W
     match fs::open(rt, words.plan) {
         Ok(mut plan) => live(rt, threads, &mut plan, words, output, errors),
         Err(error) => Fault::of_reading(&error, words.plan).told(errors),
-    }
-}
-
-/// Reads lines from the input and ends as `node` does, or as `stored_node` where the words name a file.
-fn run_node<I: Read + Drop, O: Write, E: Write>(
-    rt: &HostRuntime,
-    words: &NodeWords<'_>,
-    input: I,
-    output: &mut O,
-    errors: &mut E,
-) -> Status {
-    let Ok(mut input) = BufReader::new(rt.alloc(), input) else {
-        return Fault::Memory.told(errors);
-    };
-    match words.store {
-        None => node(rt.alloc(), words, &mut input, output, errors),
-        Some(path) => stored_node(rt, words, path, &mut input, output, errors),
     }
 }
 
@@ -151,13 +185,19 @@ pub fn run_words<
 ) -> Status {
     match read_words(rt.alloc(), given) {
         Ok(Words::Maps(words)) => run_maps(rt, &words, output, errors),
-        Ok(Words::Run(words)) => run_run(rt, &words, output, errors),
+        Ok(Words::Run(words)) => run_run(rt, &words, false, output, errors),
+        Ok(Words::Trace(words)) => run_run(rt, &words, true, output, errors),
+        Ok(Words::MapsAsJson(words)) => run_maps_as_json(rt, &words, output, errors),
+        Ok(Words::RunAsJson(words)) => run_run_as_json(rt, &words, output, errors),
         Ok(Words::Check(words)) => run_check(rt, &words, output, errors),
         Ok(Words::Capture(words)) => run_capture(rt, &words, output, errors),
         Ok(Words::Stats(words)) => run_stats(rt, &words, output, errors),
+        Ok(Words::Script(words)) => run_script_words(rt, &words, output, errors),
         Ok(Words::Show(words)) => show(rt.alloc(), &words, output, errors),
+        Ok(Words::ShowAsJson(words)) => show_as_json(rt.alloc(), &words, output, errors),
         Ok(Words::Live(words)) => run_live(rt, threads, &words, output, errors),
-        Ok(Words::Node(words)) => run_node(rt, &words, input, output, errors),
+        Ok(Words::Node(words, journal)) => run_node(rt, &words, journal, input, output, errors),
+        Ok(Words::Audit(words)) => run_audit(rt, &words, output, errors),
         Err(error) => refused(&error, output, errors),
     }
 }

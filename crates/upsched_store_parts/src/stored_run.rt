@@ -15,7 +15,7 @@ use sqlite_disk::Disk;
 use std::io::{Read, Write};
 use stored_nodes::{StoreFault, StoredNode, nodes_in, stored_nodes};
 use upsched_map_parts::{Fault, RunWords, Status};
-use upsched_parts::{print_script, script_of};
+use upsched_parts::{Telling, print_script, script_of};
 
 /// What is told of nodes that don't start over files.
 fn fault_of<'a>(fault: StoreFault) -> Fault<'a> {
@@ -31,12 +31,12 @@ fn print_run<'a, R: Log + AllocGlobal, N: Node + Drop, O: Write>(
     rt: &R,
     nodes: Vec<N>,
     script: &Script,
-    verbose: bool,
+    telling: Telling,
     output: &mut O,
 ) -> Result<(), Fault<'a>>
     requires { AreFresh N.who N.honest N.stands nodes.items }
 {
-    let _world = print_script(rt, nodes, script, verbose, output)?;
+    let _world = print_script(rt, nodes, script, telling, output)?;
     Ok(())
 }
 
@@ -45,12 +45,12 @@ fn print_recorded<'a, R: Log + AllocGlobal, S: Records + Drop, O: Write>(
     rt: &R,
     nodes: Vec<SchedNode<S>>,
     script: &Script,
-    verbose: bool,
+    telling: Telling,
     output: &mut O,
 ) -> Result<(), Fault<'a>>
     requires { AreFresh ⟦<SchedNode<S> as Node>⟧.who ⟦<SchedNode<S> as Node>⟧.honest ⟦<SchedNode<S> as Node>⟧.stands nodes.items }
 {
-    print_run(rt, nodes, script, verbose, output)
+    print_run(rt, nodes, script, telling, output)
 }
 
 /// The same of nodes over files, where they start. Their files are closed afterwards.
@@ -58,14 +58,14 @@ fn print_stored<'a, R: Log + AllocGlobal, D: Disk + Drop, O: Write>(
     rt: &R,
     nodes: Result<Vec<StoredNode<D>>, StoreFault>,
     script: &Script,
-    verbose: bool,
+    telling: Telling,
     output: &mut O,
 ) -> Result<(), Fault<'a>>
     requires { IfOk nodes (λ nodes. AreFresh ⟦<SchedNode<SqlRecords<FileStore<D>>> as Node>⟧.who ⟦<SchedNode<SqlRecords<FileStore<D>>> as Node>⟧.honest
         ⟦<SchedNode<SqlRecords<FileStore<D>>> as Node>⟧.stands nodes.items) }
 {
     match nodes {
-        Ok(nodes) => print_recorded(rt, nodes, script, verbose, output),
+        Ok(nodes) => print_recorded(rt, nodes, script, telling, output),
         Err(fault) => Err(fault_of(fault)),
     }
 }
@@ -75,11 +75,11 @@ pub fn print_over<'a, R: Log + AllocGlobal, D: Disk + Drop, O: Write>(
     rt: &R,
     files: Vec<Files<D>>,
     script: &Script,
-    verbose: bool,
+    telling: Telling,
     output: &mut O,
 ) -> Result<(), Fault<'a>> {
     let nodes = stored_nodes(rt.alloc(), script.members, files);
-    print_stored(rt, nodes, script, verbose, output)
+    print_stored(rt, nodes, script, telling, output)
 }
 
 fn print_in<'a, F: Read, O: Write>(
@@ -87,29 +87,32 @@ fn print_in<'a, F: Read, O: Write>(
     script: &mut F,
     words: &RunWords<'a>,
     folder: &str,
+    trace: bool,
     output: &mut O,
 ) -> Result<(), Fault<'a>>
     ensures { NoScript (F.remaining script.old) → output.new ≡ output.old }
 {
     let script = script_of(rt.alloc(), script, words.script)?;
     let nodes = nodes_in(rt, folder, script.members);
-    print_stored(rt, nodes, &script, words.verbose, output)
+    let verbose = words.verbose;
+    print_stored(rt, nodes, &script, Telling { verbose, trace }, output)
 }
 
-/// Runs a script over fresh nodes with files in a folder, and prints as `run_script` does. A fault of the
-/// script or of the store is found before anything is printed, and is told in one line.
+/// Runs a script over fresh nodes with files in a folder, and prints as `run_script` does, or with a trace as
+/// `trace_script`. A fault of the script or of the store is found before anything is printed, and is told in one line.
 pub fn run_stored_script<F: Read, O: Write, E: Write>(
     rt: &HostRuntime,
     script: &mut F,
     words: &RunWords<'_>,
     folder: &str,
+    trace: bool,
     output: &mut O,
     errors: &mut E,
 ) -> Status
     ensures no_script { NoScript (F.remaining script.old) → output.new ≡ output.old }
     ensures understood { result ≢ NotUnderstood }
 {
-    match print_in(rt, script, words, folder, output) {
+    match print_in(rt, script, words, folder, trace, output) {
         Ok(()) => Status::Done,
         Err(fault) => fault.told(errors),
     }

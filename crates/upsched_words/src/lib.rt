@@ -3,4 +3,4 @@
 
 mod words;
 
-pub use words::{Words, read_words, refused};
+pub use words::{AuditWords, JournalWords, Words, read_words, refused};

@@ -4,32 +4,64 @@ ghost use Rattle.std.specs.Prelude.{◌≡◌, ◌≢◌};
 ghost use Rattle.clap.specs.Words.{kind_of};
 ghost use Rattle.upsched_map_parts.specs.declared.status.Status.TheVariants.{Faulted, NotUnderstood};
 
+use clap::builder::ValueParser;
 use clap::error::ErrorKind;
 use clap::{Arg, ArgAction, ArgMatches, Command, Error, value_parser};
 use std::alloc::Global;
 use std::io::Write;
 use upsched_map_parts::{Fault, LiveWords, MapsWords, NodeWords, RunWords, ShowWords, Status};
+use upsched_script_parts::ScriptWords;
 use upsched_sight_parts::{CaptureWords, CheckWords, Form, StatsWords};
 
-/// A command of the program.
+/// What `node` is told of its journal.
 #[derive(Clone, Copy, Debug)]
+pub struct JournalWords<'a> {
+    /// The path of its file.
+    pub path: &'a str,
+    /// Whether the file is synced behind each line and each reply.
+    pub is_synced: bool,
+}
+
+/// What `audit` is told.
+#[derive(Debug, Drop)]
+pub struct AuditWords<'a> {
+    /// How many members there are.
+    pub members: &'a str,
+    /// The paths of their journals, that of node 0 first.
+    pub journals: Vec<&'a str>,
+}
+
+/// A command of the program.
+#[derive(Debug, Drop)]
 pub enum Words<'a> {
     /// Applies a plan's commands and prints their outputs.
     Maps(MapsWords<'a>),
+    /// The same as JSON.
+    MapsAsJson(MapsWords<'a>),
     /// Runs a script and prints its answers.
     Run(RunWords<'a>),
+    /// Runs a script and prints its answers and its letters.
+    Trace(RunWords<'a>),
+    /// The same as JSON.
+    RunAsJson(RunWords<'a>),
     /// Tells what is wrong with a plan or a script.
     Check(CheckWords<'a>),
     /// Writes a plan's MAPs as a capture file.
     Capture(CaptureWords<'a>),
     /// Prints what a plan's MAPs give.
     Stats(StatsWords<'a>),
+    /// Prints a script that it makes.
+    Script(ScriptWords<'a>),
     /// Prints a MAP body.
     Show(ShowWords<'a>),
+    /// The same as JSON.
+    ShowAsJson(ShowWords<'a>),
     /// Works on a plan with a thread for each node, and prints whether the records agree.
     Live(LiveWords<'a>),
-    /// Is one node over lines.
-    Node(NodeWords<'a>),
+    /// Is one node over lines, which may keep a journal of them.
+    Node(NodeWords<'a>, Option<JournalWords<'a>>),
+    /// Prints whether journals are those of nodes that kept the rules.
+    Audit(AuditWords<'a>),
 }
 
 /// The version that `--version` tells.
@@ -37,6 +69,9 @@ const VERSION: &str = "0.1.0";
 
 /// How many turns each node of `live` has where the words don't say.
 const TURNS_NOT_GIVEN: &str = "2000";
+
+/// Percents, seeds and counts of `script` where the words don't say.
+const NONE_GIVEN: &str = "0";
 
 /// What the help ends with.
 const WHERE_TO_READ_ON: &str = "docs/formats.md tells how plans and scripts are written, \
@@ -46,11 +81,20 @@ examples/ has some of each.";
 /// What the help says of a plan's path.
 const PLAN_HELP: &str = "A file of commands in TOML (docs/formats.md, \"Plans\")";
 
+/// The flag with which a command prints JSON.
+fn json_flag<'a>(alloc: Global) -> Arg<'a> {
+    Arg::new(alloc, "json")
+        .long("json")
+        .action(ArgAction::SetTrue)
+        .help("Prints JSON, an object a line (docs/formats.md, \"JSON lines\")")
+}
+
 fn maps_command<'a>(alloc: Global) -> Result<Command<'a>, Error> {
     let plan = Arg::new(alloc, "PLAN").required(true).help(PLAN_HELP);
     let maps = Command::new(alloc, "maps")
         .about("Applies a plan's commands to one scheduler and prints their outputs")
-        .arg(plan)?;
+        .arg(plan)?
+        .arg(json_flag(alloc))?;
     Ok(maps)
 }
 
@@ -64,17 +108,30 @@ fn run_command<'a>(alloc: Global) -> Result<Command<'a>, Error> {
         .help(
             "Also logs each fault and each crash of a node on standard error; what is printed stays the same",
         );
+    let trace = Arg::new(alloc, "trace")
+        .long("trace")
+        .action(ArgAction::SetTrue)
+        .help(
+            "Also prints for each event the letter that came and those that it sent, by the numbers that deliver takes",
+        );
     let store = Arg::new(alloc, "store")
         .long("store")
         .value_name("DIR")
         .help(
             "Keeps the records of node K in DIR/node-K.db, a SQLite database that is made if it isn't there",
         );
+    let json = json_flag(alloc)
+        .conflicts_with("store")?
+        .conflicts_with("trace")?
+        .conflicts_with("verbose")?;
     let run = Command::new(alloc, "run")
         .about("Runs a script over three or five nodes and their modems and prints its answers")
+        .after_help("Example: upsched run examples/scripts/one_leader.toml --trace")
         .arg(script)?
         .arg(store)?
-        .arg(verbose)?;
+        .arg(trace)?
+        .arg(verbose)?
+        .arg(json)?;
     Ok(run)
 }
 
@@ -118,13 +175,72 @@ fn stats_command<'a>(alloc: Global) -> Result<Command<'a>, Error> {
     Ok(stats)
 }
 
+/// A number that the words may tell, 0 where they don't.
+fn number<'a>(
+    alloc: Global,
+    name: &'a str,
+    value: &'a str,
+    numbers: ValueParser<'a>,
+    help: &'a str,
+) -> Arg<'a> {
+    Arg::new(alloc, name)
+        .long(name)
+        .value_name(value)
+        .value_parser(numbers)
+        .default_value(NONE_GIVEN)
+        .help(help)
+}
+
+/// `script` with the numbers that it may be told.
+fn numbered_script<'a>(alloc: Global) -> Result<Command<'a>, Error> {
+    let seed = "Which of the many such scripts it is";
+    let lose = "How many letters in a hundred are lost";
+    let repeat = "How many letters in a hundred come again";
+    let crash = "How many times a node crashes";
+    let takeover = "How many times another node takes over, fewer than the plan has commands";
+    let percent = value_parser!(u8).range(0..=100);
+    let again = value_parser!(u8).range(0..=100);
+    let script = Command::new(alloc, "script")
+        .arg(number(alloc, "seed", "S", value_parser!(u64), seed))?
+        .arg(number(alloc, "lose", "P", percent, lose))?
+        .arg(number(alloc, "repeat", "P", again, repeat))?
+        .arg(number(alloc, "crash", "N", value_parser!(u32), crash))?
+        .arg(number(alloc, "takeover", "N", value_parser!(u32), takeover))?;
+    Ok(script)
+}
+
+fn script_command<'a>(alloc: Global) -> Result<Command<'a>, Error> {
+    let members = Arg::new(alloc, "members")
+        .long("members")
+        .value_name("M")
+        .required(true)
+        .help("How many nodes there are, 3 or 5");
+    let plan = Arg::new(alloc, "plan").long("plan").value_name("PLAN").help(
+        "A plan whose commands are offered in order (docs/formats.md, \"Plans\")",
+    );
+    let modems = Arg::new(alloc, "modems")
+        .long("modems")
+        .value_name("IDS")
+        .help("The ids of modems that hear, want and tick, as in 50,51");
+    let script = numbered_script(alloc)?
+        .about("Makes a script that runs as the words say, and prints it")
+        .after_help(
+            "Example: upsched script --members 3 --plan examples/plans/polls.toml --takeover 1",
+        )
+        .arg(members)?
+        .arg(plan)?
+        .arg(modems)?;
+    Ok(script)
+}
+
 fn show_command<'a>(alloc: Global) -> Result<Command<'a>, Error> {
     let hex = Arg::new(alloc, "HEX")
         .required(true)
         .help("A MAP body in hexadecimal, without spaces");
     let show = Command::new(alloc, "show")
         .about("Prints what a MAP body holds")
-        .arg(hex)?;
+        .arg(hex)?
+        .arg(json_flag(alloc))?;
     Ok(show)
 }
 
@@ -182,8 +298,48 @@ fn node_command<'a>(alloc: Global) -> Result<Command<'a>, Error> {
         .arg(number)?
         .arg(members)?
         .arg(store)?
-        .arg(new)?;
+        .arg(new)?
+        .arg(journal_argument(alloc))?
+        .arg(journal_sync_argument(alloc)?)?;
     Ok(node)
+}
+
+fn journal_argument<'a>(alloc: Global) -> Arg<'a> {
+    Arg::new(alloc, "journal")
+        .long("journal")
+        .value_name("FILE")
+        .help(
+            "Appends each line to this file before it is obeyed, and its reply before it goes out",
+        )
+}
+
+fn journal_sync_argument<'a>(alloc: Global) -> Result<Arg<'a>, Error> {
+    let sync = Arg::new(alloc, "journal-sync")
+        .long("journal-sync")
+        .action(ArgAction::SetTrue)
+        .requires_arg("journal")?
+        .help("Syncs the journal behind each line and each reply, for where the power may fail");
+    Ok(sync)
+}
+
+fn audit_command<'a>(alloc: Global) -> Result<Command<'a>, Error> {
+    let members = Arg::new(alloc, "members")
+        .long("members")
+        .value_name("M")
+        .required(true)
+        .help("How many nodes there are, 3 or 5");
+    let journals = Arg::new(alloc, "JOURNAL")
+        .required(true)
+        .num_args(1..)
+        .help("The journal of each node, that of node 0 first");
+    let audit = Command::new(alloc, "audit")
+        .about("Tells whether journals are the lines of nodes that kept the rules")
+        .after_help(
+            "Example: upsched audit --members 3 node-0.journal node-1.journal node-2.journal",
+        )
+        .arg(members)?
+        .arg(journals)?;
+    Ok(audit)
 }
 
 fn program<'a>(alloc: Global) -> Result<Command<'a>, Error> {
@@ -197,21 +353,50 @@ fn program<'a>(alloc: Global) -> Result<Command<'a>, Error> {
         .subcommand(check_command(alloc)?)?
         .subcommand(capture_command(alloc)?)?
         .subcommand(stats_command(alloc)?)?
+        .subcommand(script_command(alloc)?)?
         .subcommand(show_command(alloc)?)?
         .subcommand(live_command(alloc)?)?
-        .subcommand(node_command(alloc)?)?;
+        .subcommand(node_command(alloc)?)?
+        .subcommand(audit_command(alloc)?)?;
     Ok(program)
 }
 
-/// What `run` is told.
-fn run_words<'a>(words: &ArgMatches<'a>) -> Option<RunWords<'a>> {
+/// What `maps` is told: to print lines or JSON.
+fn maps_words<'a>(words: &ArgMatches<'a>) -> Option<Words<'a>> {
+    let plan = words.get_str("PLAN")?;
+    let told = MapsWords { plan };
+    Some(if words.get_flag("json") {
+        Words::MapsAsJson(told)
+    } else {
+        Words::Maps(told)
+    })
+}
+
+/// What `show` is told: likewise.
+fn show_words<'a>(words: &ArgMatches<'a>) -> Option<Words<'a>> {
+    let hex = words.get_str("HEX")?;
+    let told = ShowWords { hex };
+    Some(if words.get_flag("json") {
+        Words::ShowAsJson(told)
+    } else {
+        Words::Show(told)
+    })
+}
+
+/// What `run` is told: to print lines, with a trace or without one, or JSON.
+fn run_words<'a>(words: &ArgMatches<'a>) -> Option<Words<'a>> {
     let script = words.get_str("SCRIPT")?;
     let verbose = words.get_flag("verbose");
     let store = words.get_str("store");
-    Some(RunWords {
+    let told = RunWords {
         script,
         verbose,
         store,
+    };
+    Some(match (words.get_flag("json"), words.get_flag("trace")) {
+        (true, _) => Words::RunAsJson(told),
+        (false, true) => Words::Trace(told),
+        (false, false) => Words::Run(told),
     })
 }
 
@@ -227,6 +412,39 @@ fn node_words<'a>(words: &ArgMatches<'a>) -> Option<NodeWords<'a>> {
         store,
         is_new,
     })
+}
+
+/// What `script` is told.
+fn script_words<'a>(words: &ArgMatches<'a>) -> Option<ScriptWords<'a>> {
+    let members = words.get_str("members")?;
+    let plan = words.get_str("plan");
+    let modems = words.get_str("modems");
+    Some(ScriptWords {
+        members,
+        plan,
+        seed: words.get_one::<u64>("seed")?,
+        lose: words.get_one::<u8>("lose")?,
+        repeat: words.get_one::<u8>("repeat")?,
+        crashes: words.get_one::<u32>("crash")?,
+        takeovers: words.get_one::<u32>("takeover")?,
+        modems,
+    })
+}
+
+/// What `node` is told of its journal, if it keeps one.
+fn journal_words<'a>(words: &ArgMatches<'a>) -> Option<JournalWords<'a>> {
+    let path = words.get_str("journal")?;
+    let is_synced = words.get_flag("journal-sync");
+    Some(JournalWords { path, is_synced })
+}
+
+/// What `audit` is told.
+fn audit_words<'a>(alloc: Global, words: &ArgMatches<'a>) -> Result<Option<AuditWords<'a>>, Error> {
+    let (Some(members), Some(given)) = (words.get_str("members"), words.get_strs("JOURNAL")) else {
+        return Ok(None);
+    };
+    let journals = Vec::from_slice(alloc, given)?;
+    Ok(Some(AuditWords { members, journals }))
 }
 
 /// What `live` is told.
@@ -252,16 +470,11 @@ fn check_words<'a>(words: &ArgMatches<'a>) -> Option<CheckWords<'a>> {
     Some(CheckWords { path, form })
 }
 
-/// Reads the words, the program's own name first. What it doesn't understand, and what asks for help or
-/// for the version, is an error, for `refused` to tell.
-pub fn read_words<'a>(alloc: Global, words: &'a [String]) -> Result<Words<'a>, Error> {
-    let mut program = program(alloc)?;
-    let matches = program.try_get_matches_from_mut(words)?;
-    let command = match matches.subcommand() {
-        Some(("maps", words)) => words
-            .get_str("PLAN")
-            .map(|plan| Words::Maps(MapsWords { plan })),
-        Some(("run", words)) => run_words(words).map(|words| Words::Run(words)),
+/// What the command's words say.
+fn command_of<'a>(alloc: Global, matches: &ArgMatches<'a>) -> Result<Option<Words<'a>>, Error> {
+    Ok(match matches.subcommand() {
+        Some(("maps", words)) => maps_words(words),
+        Some(("run", words)) => run_words(words),
         Some(("check", words)) => check_words(words).map(|words| Words::Check(words)),
         Some(("capture", words)) => words
             .get_str("PLAN")
@@ -269,14 +482,24 @@ pub fn read_words<'a>(alloc: Global, words: &'a [String]) -> Result<Words<'a>, E
         Some(("stats", words)) => words
             .get_str("PLAN")
             .map(|plan| Words::Stats(StatsWords { plan })),
-        Some(("show", words)) => words
-            .get_str("HEX")
-            .map(|hex| Words::Show(ShowWords { hex })),
+        Some(("script", words)) => script_words(words).map(|words| Words::Script(words)),
+        Some(("show", words)) => show_words(words),
         Some(("live", words)) => live_words(words).map(|words| Words::Live(words)),
-        Some(("node", words)) => node_words(words).map(|words| Words::Node(words)),
+        Some(("node", words)) => {
+            let journal = journal_words(words);
+            node_words(words).map(|node| Words::Node(node, journal))
+        }
+        Some(("audit", words)) => audit_words(alloc, words)?.map(|words| Words::Audit(words)),
         _ => None,
-    };
-    match command {
+    })
+}
+
+/// Reads the words, the program's own name first. What it doesn't understand, and what asks for help or
+/// for the version, is an error, for `refused` to tell.
+pub fn read_words<'a>(alloc: Global, words: &'a [String]) -> Result<Words<'a>, Error> {
+    let mut program = program(alloc)?;
+    let matches = program.try_get_matches_from_mut(words)?;
+    match command_of(alloc, &matches)? {
         Some(command) => Ok(command),
         None => Err(program.error(ErrorKind::MissingSubcommand, "no command")?),
     }
