@@ -1,0 +1,30 @@
+# Completions of upsched for bash; share/describe.py makes them.
+_upsched() {
+    local now=${COMP_WORDS[COMP_CWORD]} before=${COMP_WORDS[COMP_CWORD - 1]} options=""
+    COMPREPLY=()
+    if ((COMP_CWORD == 1)); then
+        COMPREPLY=($(compgen -W "maps run check capture stats script show live node audit -h --help -V --version" -- "$now"))
+        return
+    fi
+    case $before in
+        --members) COMPREPLY=($(compgen -W "3 5" -- "$now")) && return ;;
+    esac
+    case ${COMP_WORDS[1]} in
+        maps) options="--json -h --help" ;;
+        run) options="--store --trace --verbose --json -h --help" ;;
+        check) options="--plan --script -h --help" ;;
+        capture) options="-h --help" ;;
+        stats) options="-h --help" ;;
+        script) options="--seed --lose --repeat --crash --takeover --members --plan --modems -h --help" ;;
+        show) options="--json -h --help" ;;
+        live) options="--turns --verbose -h --help" ;;
+        node) options="--members --store --new --journal --journal-sync -h --help" ;;
+        audit) options="--members -h --help" ;;
+    esac
+    if [[ $now == -* ]]; then
+        COMPREPLY=($(compgen -W "$options" -- "$now"))
+    else
+        COMPREPLY=($(compgen -f -- "$now"))
+    fi
+}
+complete -o filenames -F _upsched upsched
