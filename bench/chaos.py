@@ -1,7 +1,7 @@
 #!/usr/bin/env python3
 """Runs three or five processes of `upsched node` over files, with faults, and compares what they print.
 
-Usage: bench/chaos.py --seconds T --seed S [--members 3|5] [--runs N] [--folder DIR] [--program FILE]
+Usage: bench/chaos.py --seconds T --seed S [--members 3|5] [--runs N] [--journal] [--folder DIR] [--program FILE]
 
 Begins one short run after another, each with new files, until T seconds are over or N runs are done. Run I has the
 seed S + I, so `--seed S+I --runs 1` repeats it, as far as processes allow: the plan is the seed's, the moment within a
@@ -14,7 +14,8 @@ the wrong node or cut. Then all is healed: each node is up, one leads, and who l
 
 At the end each node has to have released each chosen place, with one output at each place in all lives of all nodes;
 one scheduler alone has to give the same outputs; no minislot of a channel may be in two MAPs; and the files have to
-keep what was printed before each kill. A run that differs prints its seed and why, and keeps its lines in a folder;
+keep what was printed before each kill. With --journal each node also keeps a journal, and `upsched audit` has to
+say yes to them. A run that differs prints its seed and why, and keeps its lines in a folder;
 then the status is 1.
 """
 import argparse
@@ -32,7 +33,7 @@ import time
 ROOT = os.path.dirname(os.path.dirname(os.path.abspath(__file__)))
 sys.path[:0] = [os.path.join(ROOT, "bench"), os.path.join(ROOT, "cluster")]
 sys.dont_write_bytecode = True
-from chaos_checks import Difference, File, Printed, check_file, check_maps, check_outputs, check_votes
+from chaos_checks import Difference, File, Printed, check_file, check_journals, check_maps, check_outputs, check_votes
 from chaos_commands import Workload, table_of
 from chaos_member import Disk, Member
 from supervisor import bytes_of
@@ -54,12 +55,14 @@ ANSWERS = {
 
 
 class Run:
-    def __init__(self, program, members, seed, folder):
+    def __init__(self, program, members, seed, folder, has_journals):
         self.random, self.counts = random.Random(seed), collections.Counter()
         self.printed, self.program = Printed(members), program
         may_mount = self.random.random() < 0.5
         self.disks = [Disk(os.path.join(folder, str(k)), may_mount) for k in range(members)]
-        self.members = [Member(program, k, members, disk, self.counts) for k, disk in enumerate(self.disks)]
+        self.journals = [os.path.join(folder, f"{k}.journal") for k in range(members)] if has_journals else []
+        own = self.journals or [None] * members
+        self.members = [Member(program, k, members, disk, self.counts, own[k]) for k, disk in enumerate(self.disks)]
         pick = self.random.choice
         self.loss, self.repeat, self.delay = pick([0, 0.02, 0.1, 0.2]), pick([0, 0.1, 0.3]), pick([0, 2, 10])
         self.kills, self.stops = pick([0.01, 0.03, 0.06]), pick([0, 0.01, 0.02])
@@ -163,7 +166,7 @@ class Run:
             if self.random.random() < 0.01:
                 other = self.random.choice(self.members)
                 cut = self.random.choice([2, 4, 16, 18])
-                if other.is_ready and other is not it:
+                if other.is_ready and other is not it and not self.journals:
                     other.ask(b"letter " + digits, is_hostile=True)
                 it.ask(b"letter " + digits[:-cut], is_hostile=True)
 
@@ -326,6 +329,8 @@ class Run:
             raise Difference("what was chosen isn't what was learned")
         check_votes(files, learned)
         check_outputs(self.program, self.printed.outputs, learned, table_of)
+        if self.journals:
+            self.counts["journal lines"] += check_journals(self.program, self.journals)
         maps, minislots, grants = check_maps(self.printed.outputs)
         self.counts.update({"places": last, "released": last * len(files), "maps": maps, "grants": grants})
         self.counts["minislots"] += minislots
@@ -348,6 +353,8 @@ class Run:
                 with open(os.path.join(kept, f"node-{it.number}.lines"), "wb") as file:
                     file.writelines(b"%s %s\n" % (mark.encode(), line) for mark, line in it.lines)
                 shutil.copytree(it.disk.folder, os.path.join(kept, str(it.number)))
+                if it.journal:
+                    shutil.copy(it.journal, kept)
         for disk in self.disks:
             disk.leave()
 
@@ -356,10 +363,10 @@ def told(counts):
     return " ".join(f"{name.replace(' ', '-')} {count}" for name, count in sorted(counts.items()))
 
 
-def one_run(program, members, seed, folder):
+def one_run(program, members, seed, folder, has_journals):
     """The counts of a run, or None where it differs."""
     room = tempfile.mkdtemp(prefix=f"chaos-{seed}-", dir=folder)
-    run, kept, began = Run(program, members, seed, room), None, time.monotonic()
+    run, kept, began = Run(program, members, seed, room, has_journals), None, time.monotonic()
     try:
         run.go()
         print(f"seed {seed} members {members} seconds {time.monotonic() - began:.1f} {told(run.counts)}", flush=True)
@@ -379,6 +386,7 @@ def main():
     words.add_argument("--seed", type=int, required=True)
     words.add_argument("--members", type=int, choices=(3, 5))
     words.add_argument("--runs", type=int, default=1 << 30)
+    words.add_argument("--journal", action="store_true")
     words.add_argument("--folder")
     words.add_argument("--program", default=os.path.join(ROOT, "crates/upsched/out/upsched"))
     given = words.parse_args()
@@ -390,7 +398,7 @@ def main():
             break
         seed = given.seed + index
         members = given.members or (3 if seed % 2 == 0 else 5)
-        counts = one_run(given.program, members, seed, given.folder)
+        counts = one_run(given.program, members, seed, given.folder, given.journal)
         sizes[members] += 1
         differ += counts is None
         totals.update(counts or {})

@@ -163,3 +163,16 @@ def check_outputs(program, outputs, learned, table_of):
     for place, text in outputs.items():
         if alone.get(b"%d" % place) != text:
             raise Difference(f"place {place}: one scheduler alone gives {alone.get(b'%d' % place)}, the nodes {text}")
+
+
+def check_journals(program, journals):
+    """The audit says yes to the journals. How many lines they have."""
+    words = [program, "audit", "--members", str(len(journals)), *journals]
+    printed = subprocess.run(words, capture_output=True)
+    if printed.stdout != b"audit yes\n":
+        raise Difference(f"the journals: {printed.stdout!r} {printed.stderr!r}")
+    lines = 0
+    for journal in journals:
+        with open(journal, "rb") as file:
+            lines += sum(1 for _ in file)
+    return lines

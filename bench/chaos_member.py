@@ -40,8 +40,9 @@ class Disk:
 class Member:
     """Counts what happened to it in `counts`, and keeps in `lines` what its processes read and wrote."""
 
-    def __init__(self, program, number, members, disk, counts):
+    def __init__(self, program, number, members, disk, counts, journal=None):
         self.program, self.number, self.members, self.disk, self.counts = program, number, members, disk, counts
+        self.journal = journal
         self.file = os.path.join(disk.folder, f"node-{number}.db")
         self.process, self.was_asked, self.lines = None, False, []
         self.full_until = self.stopped_until = None
@@ -55,7 +56,7 @@ class Member:
     def start(self):
         """A new life. It is a new node's as long as no process over this file was asked anything."""
         new = not self.was_asked
-        self.process = NodeProcess(self.program, self.number, self.members, self.file, new)
+        self.process = NodeProcess(self.program, self.number, self.members, self.file, new, self.journal)
         self.hello = b"node %d of %d %s" % (self.number, self.members, b"fresh" if new else b"restarted")
         self.is_ready = False
         self.note("=", b"started" + b" --new" * new)

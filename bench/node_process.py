@@ -27,10 +27,12 @@ class Reply:
 class NodeProcess:
     """One life of a node. Its pipes don't block: `write_some` and `read_some` do what can be done."""
 
-    def __init__(self, program, node, members, file=None, new=False):
+    def __init__(self, program, node, members, file=None, new=False, journal=None):
         words = [program, "node", str(node), "--members", str(members)]
         if file is not None:
             words += ["--store", file] + ["--new"] * new
+        if journal is not None:
+            words += ["--journal", journal]
         # The signal of a file beyond its limit stays ignored, as Python has it: the write is refused instead.
         self.process = subprocess.Popen(
             words,

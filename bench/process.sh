@@ -1,10 +1,11 @@
 #!/usr/bin/env bash
-# Measures three processes of `upsched node` whose letters a carrier in Python takes among them by the chunk: places a
-# second, and the delay from an offer to its release on all three, with 1, 8 and 64 offers in flight; how long a node
-# that lags takes to catch up, by `tell` and by `lead`; and the memory of each. In memory, and over files with their
-# syncs; at 1,000 and 100,000 places behind. In the same run: etcd's puts of the same values (three members on this
-# machine, over its JSON gateway), and sqlite3's synced writes, two a place in each of three processes. It prints each
-# goal beside what was found. Beside the wall times it prints the processor time of each node and of the carrier.
+# Measures three processes of `upsched node` whose letters a carrier (Python, and C for each line) takes among them:
+# places a second, and the delay from an offer to its release on all three, with 1, 8 and 64 offers in flight; how
+# long a node that lags takes to catch up, by `tell` and by `lead`; and the memory of each. In memory, and over files
+# with their syncs; at 1,000 and 100,000 places behind. In the same run: etcd's puts of the same values (three members
+# on this machine, over its JSON gateway), and sqlite3's synced writes, two a place in each of three processes. It
+# prints each goal beside what was found. Beside the wall times it prints the processor time of each node and of the
+# carrier.
 #
 # Wants Debian's etcd-server and etcd-client. PROCESS_BENCH_DIR is where the files lie, on a disk. The word `quick`
 # leaves out the 100,000; with `no-files` these are measured in memory alone, since over files they take an hour.

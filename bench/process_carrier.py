@@ -1,19 +1,45 @@
-"""Three processes of `upsched node`, and a carrier that takes letters among them by the chunk."""
+"""Three processes of `upsched node`, and a carrier that takes letters among them by the chunk.
+
+What is done for each line is in C (process_carrier.c), so that it isn't the carrier that is measured."""
+import atexit
+import ctypes
 import fcntl
+import functools
 import os
-import re
 import select
+import shutil
 import subprocess
+import tempfile
 import time
 
 MEMBERS = 3
-# Each begins with a text that is found fast, and that stands in no other line.
-PLACE, ALARMS = b"place ", (b"fault ", b"error ")
-LETTERS = [re.compile(rb"letter %d (\w+)" % node) for node in range(MEMBERS)]
-PROMISE, VOTED, KNOWN = b"letter 02", b"letter 04", b"letter 06"
 # How long nothing may come of any process, in seconds.
 PATIENCE = 300
 SET_PIPE_SIZE = 1031
+SOURCE = os.path.join(os.path.dirname(os.path.abspath(__file__)), "process_carrier.c")
+
+
+class Carried(ctypes.Structure):
+    """What a chunk of whole lines held, as process_carrier.c has it."""
+
+    _fields_ = [
+        ("lines", ctypes.c_void_p * MEMBERS),
+        ("lengths", ctypes.c_size_t * MEMBERS),
+        ("promises", ctypes.c_int * MEMBERS),
+        ("learns", ctypes.c_int * MEMBERS),
+        ("released", ctypes.c_longlong),
+        ("alarm", ctypes.c_int),
+    ]
+
+
+@functools.cache
+def built():
+    """The library in C, built for this process."""
+    folder = tempfile.mkdtemp(prefix="carrier-")
+    atexit.register(shutil.rmtree, folder)
+    library = os.path.join(folder, "carrier.so")
+    subprocess.run(["cc", "-O2", "-Wall", "-Wextra", "-shared", "-fPIC", "-o", library, SOURCE], check=True)
+    return ctypes.CDLL(library)
 
 
 class Process:
@@ -68,6 +94,7 @@ class Cluster:
 
     def __init__(self, program, files=(None,) * MEMBERS, new=True):
         self.nodes = [Process(program, node, file, new) for node, file in enumerate(files)]
+        self.library, self.rooms = built(), []
 
     def ask(self, node, line):
         self.nodes[node].unsent += line + b"\n"
@@ -86,19 +113,24 @@ class Cluster:
             if it.output in ready[0]:
                 self.carry(it, it.read_some())
 
+    def parted(self, text):
+        """What a chunk held, with room for as many bytes to each node."""
+        if not self.rooms or len(text) > len(self.rooms[0]):
+            self.rooms = [ctypes.create_string_buffer(2 * len(text)) for _ in range(MEMBERS)]
+        held = Carried(lines=(ctypes.c_void_p * MEMBERS)(*map(ctypes.addressof, self.rooms)))
+        self.library.carry(text, ctypes.c_size_t(len(text)), ctypes.byref(held))
+        return held
+
     def carry(self, node, text):
-        alarm = any(word in text for word in ALARMS)
-        if alarm:
+        held = self.parted(text)
+        if held.alarm:
             raise SystemExit(f"a node answered {text.decode()}")
-        last = text.rfind(PLACE)
-        if last >= 0:
-            node.released = int(text[last + len(PLACE) :].split(b" ", 1)[0])
-        for it, letters in zip(self.nodes, LETTERS):
-            found = letters.findall(text)
-            if found and not it.is_dark:
-                lines = b"letter " + b"\nletter ".join(found) + b"\n"
-                it.unsent += lines + b"release 0\n" * (VOTED in lines or KNOWN in lines)
-                it.promises += lines.count(PROMISE)
+        node.released = held.released or node.released
+        for k, it in enumerate(self.nodes):
+            if held.lengths[k] and not it.is_dark:
+                it.unsent += memoryview(self.rooms[k])[: held.lengths[k]]
+                it.unsent += b"release 0\n" * held.learns[k]
+                it.promises += held.promises[k]
 
     def until(self, is_done):
         while not is_done():

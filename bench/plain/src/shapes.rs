@@ -199,7 +199,7 @@ fn flow_shapes() -> Vec<Shape> {
         apply("channel, 256 of them", 20, 1, &[], &channels),
         apply("flow, 64 on a channel", 200, 1, &channels[1..2], &some),
         apply("flow, 8,191 on a channel", 5, 1, &channels[1..2], &all),
-        apply("flow told again, 8,191 there", 3, 1, &filled, &all),
+        apply("flow asked for again, 8,191 there", 3, 1, &filled, &all),
         apply(
             "flow of a SID that comes back, 8,191 there",
             3,
