@@ -1,13 +1,6 @@
 -- The greatest ballot of the votes, where one is put at a place.
 use Rattle.std.proofs.Common.{◌≡◌, inl, inr, ℕ, ◌+◌, ◌<◌, ◌≤◌, ◌==◌, max, Bool, true, false, if◌then◌else◌, List, [], ◌∷◌, Some, refl, ap, ◌∙◌, arith}
-use Rattle.std.proofs.lemmas.Bool.Decides.{nat_tests}
-use Rattle.ballots.specs.declared.letters.Cast.{Cast}
-use Rattle.ballots.specs.Rows.{put}
-use Rattle.ballots.proofs.Callers.{in_order, put_before, put_here, put_after}
-use Rattle.acceptor.specs.Content.{Content, AreRowsFrom, after_write, greatest, promised}
-use Rattle.acceptor.specs.Content.Write.{Promises, Votes}
-use Rattle.acceptor.proofs.Callers.{greatest_apart, replaced}
-use Rattle.acceptor_store.specs.Linked.{greatest_beside}
+use Rattle.acceptor_store.proofs.Words.{nat_tests, Cast, put, in_order, put_before, put_here, put_after, Content, AreRowsFrom, after_write, greatest, promised, Promises, Votes, greatest_apart, replaced, greatest_beside}
 
 -- a ballot that isn't below the promised one is promised then
 pub raised_row : (ballot : ℕ) (c : Content) → promised c ≤ ballot → ballot ≡ promised (after_write c (Some (Promises ballot)))

@@ -1,20 +1,6 @@
 -- What a call on the records does, by what its statement did.
 use Rattle.std.proofs.Common.{◌≡◌, inl, inr, ℕ, Bool, true, false, ◌&&◌, Some, None, Option, Ok, Err, IsTrue, sym, ap, subst, subst₂, ◌∙◌, arith}
-use Rattle.std.proofs.lemmas.Bool.{and_from, and_parts}
-use Rattle.sqlite_trees.proofs.Doubt.{no_doubt, clean_of}
-use Rattle.sqlite.specs.Store.{Ghosts}
-use Rattle.sqlite.specs.Tree.{Trees}
-use Rattle.sqlite.specs.State.{HasCleanDisk, Survives}
-use Rattle.sqlite.specs.Held.{Held, state}
-use Rattle.acceptor.specs.Content.{Content, Write, after_write}
-use Rattle.acceptor.specs.Calls.{KeepsTrust, Writes}
-use Rattle.acceptor.specs.Faults.{IsHarmless}
-use Rattle.acceptor.specs.Found.{Findable, Holds, AddsNothing, AddsOnly, FindsSame, Keeps, HasMade, MayHaveMade}
-use Rattle.acceptor.specs.declared.records.RecordsFault.{RecordsFault}
-use Rattle.acceptor_store_parts.specs.declared.owner.Owner.{Owner}
-use Rattle.acceptor_store_parts.specs.Serves.{Serves, ServesFor, StillServes, HasWritten, MayHaveWritten}
-use Rattle.acceptor_store.specs.declared.known.Numbers.{Numbers}
-use Rattle.acceptor_store.specs.Linked.{AreNumbersOf, Linked, MayFind, MayFindIn, IsHonest, is_clean_in, is_honest, IsLinked, IsServing, Knows}
+use Rattle.acceptor_store.proofs.Words.{and_from, and_parts, no_doubt, clean_of, Ghosts, Trees, HasCleanDisk, Survives, Held, state, Content, Write, after_write, KeepsTrust, Writes, IsHarmless, Findable, Holds, AddsNothing, AddsOnly, FindsSame, Keeps, HasMade, MayHaveMade, RecordsFault, Owner, Serves, ServesFor, StillServes, HasWritten, MayHaveWritten, Numbers, AreNumbersOf, Linked, MayFind, MayFindIn, IsHonest, is_clean_in, is_honest, IsLinked, IsServing, Knows}
 use Rattle.acceptor_store.proofs.Found.{served, now_holds, may_hold, only_adds, same_found, no_more, keeps_err}
 
 -- the records have this connection, and what is known of it

@@ -1,18 +1,7 @@
 -- What stays true of the records where a call failed, or made no statement.
 use Rattle.std.proofs.Common.{◌≡◌, inl, inr, Bool, true, false, if◌then◌else◌, Some, Option, sym, subst, ◌∙◌, arith}
-use Rattle.sqlite.specs.Store.{Ghosts}
-use Rattle.sqlite.specs.Tree.{Trees}
-use Rattle.sqlite.specs.State.{HasCleanDisk, Survives}
-use Rattle.sqlite.specs.Held.{Held, state}
-use Rattle.acceptor.specs.Content.{Content, Write, after_write}
-use Rattle.acceptor_store_parts.specs.declared.Stop.{Stop}
-use Rattle.acceptor_store_parts.specs.declared.Stop.TheVariants.{Memory, Refused, Down}
-use Rattle.acceptor_store_parts.specs.declared.owner.Owner.{Owner}
-use Rattle.acceptor_store_parts.specs.Stops.{LeavesOpen, leaves_open}
-use Rattle.acceptor_store_parts.specs.Owned.{AreTablesFor}
-use Rattle.acceptor_store_parts.specs.Serves.{ServesFor, StillServes, DoesNotServe, MayHaveWritten}
-use Rattle.acceptor_store.specs.declared.known.Numbers.{Numbers}
-use Rattle.acceptor_store.specs.Linked.{IsLinked, IsServing}
+use Rattle.acceptor_store.proofs.Words.{Ghosts, Trees, HasCleanDisk, Survives, Held, state, Content, Write, after_write, Stop, Memory, Down, Owner, LeavesOpen, leaves_open, AreTablesFor, ServesFor, StillServes, DoesNotServe, MayHaveWritten, Numbers, IsLinked, IsServing}
+use Rattle.acceptor_store_parts.specs.declared.Stop.TheVariants.{Refused}
 
 -- records that are up still are over a connection that is open
 open_still : (stop : Stop) (is_up : Bool) → (if leaves_open stop then is_up else false) ≡ true → LeavesOpen stop

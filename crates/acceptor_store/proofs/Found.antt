@@ -1,21 +1,7 @@
 -- What an open after a crash finds of a connection that serves the records.
 use Rattle.std.proofs.Common.{◌≡◌, inl, inr, IsTrue, Option, Some, Err, sym, ap, subst, ◌∙◌}
-use Rattle.std.proofs.Math.Logic.{∥∥₁_map}
-use Rattle.sqlite.specs.Store.{Ghosts}
-use Rattle.sqlite.specs.Tree.{Trees}
-use Rattle.sqlite.specs.Effect.{Database}
-use Rattle.sqlite.specs.State.{HasCleanDisk, Survives}
-use Rattle.sqlite.specs.Held.{Held, state}
-use Rattle.acceptor.specs.Content.{Content, Write, after_write}
-use Rattle.acceptor.specs.Faults.{IsHarmless}
-use Rattle.acceptor.specs.Found.{Findable, Holds, AddsNothing, AddsOnly, FindsSame, Keeps, HasMade, MayHaveMade}
-use Rattle.acceptor.specs.declared.records.RecordsFault.{RecordsFault}
+use Rattle.acceptor_store.proofs.Words.{∥∥₁_map, Ghosts, Trees, Database, HasCleanDisk, Survives, Held, state, Content, Write, after_write, IsHarmless, Findable, Holds, AddsNothing, AddsOnly, FindsSame, Keeps, HasMade, MayHaveMade, RecordsFault, Owner, AreTablesFor, ServesFor, MayHaveWritten, content_once, MayFindIn}
 use Rattle.acceptor.specs.declared.records.RecordsFault.TheVariants.{Refused, Broken, OutOfMemory}
-use Rattle.acceptor_store_parts.specs.declared.owner.Owner.{Owner}
-use Rattle.acceptor_store_parts.specs.Owned.{AreTablesFor}
-use Rattle.acceptor_store_parts.specs.Serves.{ServesFor, MayHaveWritten}
-use Rattle.acceptor_store_parts.proofs.Callers.{content_once}
-use Rattle.acceptor_store.specs.Linked.{MayFindIn}
 use Rattle.acceptor_store.proofs.Same.{which}
 
 -- a fault keeps what is there, where it is one that does

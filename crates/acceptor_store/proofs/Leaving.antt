@@ -1,19 +1,6 @@
 -- What is left where an open fails.
 use Rattle.std.proofs.Common.{◌≡◌, ◌⊎◌, inl, inr, Ok, Err, Result, IfErr, ap, subst, ◌∙◌, arith}
-use Rattle.sqlite.specs.Store.{Ghosts}
-use Rattle.sqlite.specs.Tree.{Trees}
-use Rattle.sqlite.specs.Effect.{Database}
-use Rattle.sqlite.specs.State.{State, HasCleanDisk, Survives}
-use Rattle.sqlite.specs.Held.{Held, state}
-use Rattle.sqlite.proofs.StateLemmas.{survives_then}
-use Rattle.sqlite_trees.specs.View.{IsClean}
-use Rattle.acceptor_store_parts.specs.declared.Version.{Version}
-use Rattle.acceptor_store_parts.specs.declared.Version.TheVariants.{First}
-use Rattle.acceptor_store_parts.specs.Tables.{schema_of}
-use Rattle.acceptor_store_parts.specs.Serves.{ServesAs, IsOther, MayHaveRaised}
-use Rattle.acceptor_store.specs.declared.known.Numbers.{Numbers}
-use Rattle.acceptor_store.specs.declared.OpenFault.{OpenFault}
-use Rattle.acceptor_store.specs.Linked.{FindsContent, IsLeftWhole}
+use Rattle.acceptor_store.proofs.Words.{Ghosts, Trees, Database, State, HasCleanDisk, Survives, Held, state, survives_then, IsClean, Version, First, schema_of, ServesAs, IsOther, MayHaveRaised, Numbers, OpenFault, FindsContent, IsLeftWhole}
 
 -- the reads of a version's tables commit nothing
 pub reads_leave : (version : Version) (old mid late new : State) → Survives old mid (λ _. IsOther old) → Survives mid late (λ _. IsOther mid) → Survives late new (λ _. late.now.schema ≡ schema_of version → ⊥)
@@ -34,9 +21,3 @@ pub raises_whole : {S : Type 0} (g : Ghosts S) (version : Version) (conn found :
     → (state g found).may_leave db ⊎ MayHaveRaised (state g found) db → IsLeftWhole g conn db
 raises_whole g version conn found numbers db is leaves clean f (inl before) = inl (leaves clean db before)
 raises_whole g version conn found numbers db is leaves clean f (inr raised) = inr (f.0, inr (version, f.1), raised f.0 (subst (λ v. ServesAs v (state g found) f.0) is f.2))
-
--- the schema is known to be that of a version
-pub left_whole : {S X : Type 0} (g : Ghosts S) (version : Version) (conn : Held S) (r : Result X (OpenFault × S)) → (state g conn).now.schema ≡ schema_of version
-    → IfErr r (λ e. IsClean (g.view e.1) → (state g conn).now.schema ≡ schema_of version → (db : Trees) → g.recovers e.1 db → IsLeftWhole g conn db) → IfErr r (λ e. IsClean (g.view e.1) → (db : Trees) → g.recovers e.1 db → IsLeftWhole g conn db)
-left_whole g version conn (Ok x) schema h = tt
-left_whole g version conn (Err e) schema h = λ clean. h clean schema

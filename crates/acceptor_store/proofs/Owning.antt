@@ -1,28 +1,7 @@
 -- What is known of a connection that was opened for an owner.
-use Rattle.std.proofs.Common.{◌≡◌, ◌≢◌, ◌⊎◌, inl, inr, true, false, Bool, Some, None, Ok, Err, Result, IfErr, IfOk, IsSome, IsTrue, refl, sym, ap, subst, ◌∙◌}
-use Rattle.acceptor.specs.Content.{Content}
-use Rattle.sqlite.specs.Store.{Ghosts}
-use Rattle.sqlite.specs.Tree.{Trees}
-use Rattle.sqlite.specs.Effect.{Database}
-use Rattle.sqlite.specs.State.{State, HasCleanDisk, Survives}
-use Rattle.sqlite.specs.Held.{Held, state}
-use Rattle.sqlite.proofs.StateLemmas.{survives_then}
-use Rattle.sqlite_trees.specs.View.{IsClean}
-use Rattle.acceptor_store_parts.specs.declared.Version.TheVariants.{Third}
-use Rattle.acceptor_store_parts.specs.declared.owner.Owner.{Owner}
-use Rattle.acceptor_store_parts.specs.Tables.{schema_of, blank_schema}
-use Rattle.acceptor_store_parts.specs.Rowids.{AreByRowid, Rereads}
-use Rattle.acceptor_store_parts.specs.Owned.{AreTablesFor, IsOwner, OwnedBy}
-use Rattle.acceptor_store_parts.specs.Foreign.{HasFacts, HoldsNone, HoldsNoneOwned, IsBroken, IsUnowned}
-use Rattle.acceptor_store_parts.specs.Serves.{HasOwned, MayHaveOwned}
-use Rattle.acceptor_store_parts.proofs.Callers.{serves_for, tables_as, tables_for}
-use Rattle.acceptor_store.specs.declared.known.Numbers.{Numbers}
-use Rattle.acceptor_store.specs.declared.OpenFault.{OpenFault}
-use Rattle.acceptor_store.specs.declared.OpenFault.TheVariants.{Refused, Broken, OutOfMemory, Foreign}
-use Rattle.acceptor_store.specs.declared.owned.OwnerFault.{OwnerFault}
-use Rattle.acceptor_store.specs.declared.owned.OwnerFault.TheVariants.{Open, Blank, Unowned, OtherNode, OtherMembers}
-use Rattle.acceptor_store.specs.Linked.{Examines, Had, IsLeftWhole, MakesReady, SeesForeign, StaysAs}
-use Rattle.acceptor_store.specs.Owning.{AdoptsFor, ExaminesFor, FindsFor, HadBefore, IsDue, IsDueBefore, IsLeftAs, IsLeftBefore, Names, PreparesFor}
+use Rattle.std.proofs.Common.{◌≡◌, ◌≢◌, ◌⊎◌, inl, inr, true, false, Bool, Some, None, IsSome, IsTrue, refl, sym, ap, subst, ◌∙◌}
+use Rattle.acceptor_store.proofs.Words.{Content, Ghosts, Trees, Database, State, HasCleanDisk, Survives, Held, state, survives_then, IsClean, Third, Owner, schema_of, blank_schema, AreByRowid, Rereads, AreTablesFor, IsOwner, OwnedBy, HasFacts, HoldsNone, HoldsNoneOwned, IsBroken, IsUnowned, HasOwned, MayHaveOwned, serves_for, tables_as, tables_for, Numbers, OpenFault, Foreign, OwnerFault, Open, Blank, Unowned, OtherNode, OtherMembers, Examines, Had, IsLeftWhole, MakesReady, SeesForeign, StaysAs, AdoptsFor, ExaminesFor, FindsFor, HadBefore, IsDue, IsDueBefore, IsLeftAs, IsLeftBefore, Names, PreparesFor}
+use Rattle.acceptor_store.specs.declared.OpenFault.TheVariants.{Refused, Broken, OutOfMemory}
 use Rattle.acceptor_store.proofs.Reopening.{by_rowid, still_by_rowid}
 
 -- what a connection whose tables were all read serves for the owner that they name
@@ -68,24 +47,9 @@ schema_due g wanted is_new conn fault (inr (inr (inr memory))) = subst (IsDue g 
 pub prepares_for : {S : Type 0} (g : Ghosts S) (owner : Owner) (is_new : Bool) (old new : Held S) (numbers : Numbers) → FindsFor g owner old new numbers → PreparesFor g owner is_new old new numbers
 prepares_for g owner is_new old new numbers f = (f.0, inr f.1, f.2, f.3)
 
-pub all_prepare_for : {S E : Type 0} (g : Ghosts S) (owner : Owner) (is_new : Bool) (conn : Held S) (r : Result (Held S × Numbers) E) → (state g conn).now.schema ≡ schema_of Third
-    → IfOk r (λ x. HasCleanDisk (state g x.0) → (state g conn).now.schema ≡ schema_of Third → FindsFor g owner conn x.0 x.1) → IfOk r (λ x. HasCleanDisk (state g x.0) → PreparesFor g owner is_new conn x.0 x.1)
-all_prepare_for g owner is_new conn (Ok x) schema h = λ clean. prepares_for g owner is_new conn x.0 x.1 (h clean schema)
-all_prepare_for g owner is_new conn (Err e) schema h = tt
-
-pub all_due : {S X : Type 0} (g : Ghosts S) (owner : Owner) (is_new : Bool) (conn : Held S) (r : Result X (OwnerFault × S)) → (state g conn).now.schema ≡ schema_of Third
-    → IfErr r (λ e. IsClean (g.view e.1) → (state g conn).now.schema ≡ schema_of Third → (b : Bool) → IsDue g owner b conn e.0) → IfErr r (λ e. IsClean (g.view e.1) → IsDue g owner is_new conn e.0)
-all_due g owner is_new conn (Ok x) schema h = tt
-all_due g owner is_new conn (Err e) schema h = λ clean. h clean schema is_new
-
-pub all_left : {S X : Type 0} (g : Ghosts S) (owner : Owner) (is_new : Bool) (conn : Held S) (r : Result X (OwnerFault × S))
-    → IfErr r (λ e. IsClean (g.view e.1) → (db : Trees) → g.recovers e.1 db → (state g conn).may_leave db) → IfErr r (λ e. IsClean (g.view e.1) → (db : Trees) → g.recovers e.1 db → IsLeftAs g owner is_new conn db)
-all_left g owner is_new conn (Ok x) h = tt
-all_left g owner is_new conn (Err e) h = λ clean db may. inl (h clean db may)
-
 -- what a database that was adopted had
 module _ {S : Type 0} (g : Ghosts S) (owner : Owner) (conn : Held S) where
-  adopts_owned : (new : Held S) (numbers : Numbers) → PreparesFor g owner false conn new numbers → AdoptsFor g owner conn new numbers
+  pub adopts_owned : (new : Held S) (numbers : Numbers) → PreparesFor g owner false conn new numbers → AdoptsFor g owner conn new numbers
   adopts_owned new numbers it = elim it.1 [
     | inl blank ↦ absurd (let e : false ≡ true = blank.1 in cc)
     | inr had ↦ (it.0, inr had, it.2, it.3)
@@ -99,7 +63,7 @@ module _ {S : Type 0} (g : Ghosts S) (owner : Owner) (conn : Held S) where
       → HasOwned owner (state g mid) (state g new) → AdoptsFor g owner conn new numbers
   adopts_plain mid new numbers none tables it owned = (it.0, had_before it.0 none tables it.1, owned it.0 it.2, it.3)
 
-  left_owned : (db : Trees) → IsLeftAs g owner false conn db → IsLeftBefore g owner conn db
+  pub left_owned : (db : Trees) → IsLeftAs g owner false conn db → IsLeftBefore g owner conn db
   left_owned db (inl before) = inl before
   left_owned db (inr made) = absurd (let e : false ≡ true = made.1 in cc)
 
@@ -114,7 +78,7 @@ module _ {S : Type 0} (g : Ghosts S) (owner : Owner) (conn : Held S) where
       inr (it.0, it.1, inl (subst (λ t. AreTablesFor None t it.0) (sym same) it.2.tables))
   left_adopting settled mid numbers it db (inr owned) = inr (it.0, it.1, inr (owned it.0 it.2))
 
-  owned_due : (fault : OwnerFault) → HasFacts (state g conn).now.schema → IsDue g owner false conn fault → IsDueBefore g owner conn fault
+  pub owned_due : (fault : OwnerFault) → HasFacts (state g conn).now.schema → IsDue g owner false conn fault → IsDueBefore g owner conn fault
   owned_due Blank facts due = due.0
   owned_due Unowned facts due = absurd (let e : false ≡ true = subst IsSome due.0 facts in cc)
   owned_due OtherNode facts due = due
@@ -135,18 +99,3 @@ module _ {S : Type 0} (g : Ghosts S) (owner : Owner) (conn : Held S) where
   store_due_before Broken other = tt
   store_due_before OutOfMemory other = tt
   store_due_before Foreign other = absurd (other refl)
-
-  -- where the database is this owner's already
-  pub all_adopt : {E : Type 0} (r : Result (Held S × Numbers) E) → IfOk r (λ x. HasCleanDisk (state g x.0) → PreparesFor g owner false conn x.0 x.1) → IfOk r (λ x. HasCleanDisk (state g x.0) → AdoptsFor g owner conn x.0 x.1)
-  all_adopt (Ok x) h = λ clean. adopts_owned x.0 x.1 (h clean)
-  all_adopt (Err e) h = tt
-
-  pub all_left_owned : {X : Type 0} (r : Result X (OwnerFault × S)) → IfErr r (λ e. IsClean (g.view e.1) → (db : Trees) → g.recovers e.1 db → IsLeftAs g owner false conn db)
-      → IfErr r (λ e. IsClean (g.view e.1) → (db : Trees) → g.recovers e.1 db → IsLeftBefore g owner conn db)
-  all_left_owned (Ok x) h = tt
-  all_left_owned (Err e) h = λ clean db may. left_owned db (h clean db may)
-
-  pub all_owned_due : {X : Type 0} (r : Result X (OwnerFault × S)) → HasFacts (state g conn).now.schema → IfErr r (λ e. IsClean (g.view e.1) → IsDue g owner false conn e.0)
-      → IfErr r (λ e. IsClean (g.view e.1) → IsDueBefore g owner conn e.0)
-  all_owned_due (Ok x) facts h = tt
-  all_owned_due (Err e) facts h = λ clean. owned_due e.0 facts (h clean)

@@ -1,29 +1,9 @@
 -- Why an open is Refused.
 use Rattle.std.proofs.Common.{◌≡◌, inl, inr, ◌⊎◌, ℕ, ◌≤◌, Bool, true, false, Option, Some, None, Ok, Err, Result, IfErr, IsSome, sym, ap, subst, ◌∙◌, arith}
-use Rattle.std.proofs.lemmas.Bool.{cases_Bool}
-use Rattle.sqlite.specs.Store.{Ghosts}
-use Rattle.sqlite.specs.Tree.{Trees}
-use Rattle.sqlite.specs.State.{State, HasCleanDisk, Survives}
-use Rattle.sqlite.specs.Held.{Held, state}
-use Rattle.sqlite_trees.specs.View.{IsClean}
-use Rattle.sqlite.specs.declared.error.Error.{Error}
-use Rattle.sqlite.specs.declared.error.Error.TheVariants.{SqliteFailure}
+use Rattle.acceptor_store.proofs.Words.{cases_Bool, Ghosts, Trees, State, HasCleanDisk, Survives, Held, state, IsClean, Error, SqliteFailure, Version, Stop, IsFault, IsTold, told_as, First, Third, Rereads, schema_of, Numbers, OpenFault, OwnerFault, Open, IsRefusedFor, fault_of, FindsContent, HadIn, HasStopped, IsRefused, IsToMake, FailsAnew}
 use Rattle.sqlite.specs.declared.error.ErrorCode.TheVariants.{OutOfMemory}
-use Rattle.acceptor_store_parts.specs.declared.Version.{Version}
-use Rattle.acceptor_store_parts.specs.declared.Stop.{Stop}
 use Rattle.acceptor_store_parts.specs.declared.Stop.TheVariants as stop
-use Rattle.acceptor_store_parts.specs.Tests.{IsFault, IsTold, told_as}
-use Rattle.acceptor_store_parts.specs.declared.Version.TheVariants.{First, Third}
-use Rattle.acceptor_store_parts.specs.Rowids.{Rereads}
-use Rattle.acceptor_store_parts.specs.Tables.{schema_of}
-use Rattle.acceptor_store.specs.declared.known.Numbers.{Numbers}
-use Rattle.acceptor_store.specs.declared.OpenFault.{OpenFault}
 use Rattle.acceptor_store.specs.declared.OpenFault.TheVariants.{Refused}
-use Rattle.acceptor_store.specs.declared.owned.OwnerFault.{OwnerFault}
-use Rattle.acceptor_store.specs.declared.owned.OwnerFault.TheVariants.{Open}
-use Rattle.acceptor_store.specs.Owning.{IsRefusedFor}
-use Rattle.acceptor_store.specs.Stopped.{fault_of}
-use Rattle.acceptor_store.specs.Linked.{FindsContent, HadIn, HasStopped, IsRefused, IsToMake, FailsAnew}
 
 refused_stop : (s : Stop) → fault_of s ≡ Refused → s ≡ stop.Refused
 refused_stop stop.Memory e = absurd cc
@@ -70,10 +50,6 @@ query_refused old mid new e s f is refused told (inl memory) kept =
     absurd (by_memory told.0 e memory (sym told.1 ∙ refused_stop s (sym is ∙ (let same : f ≡ Refused = cc in same))))
 query_refused old mid new e s f is refused told (inr other) kept = stopped_later old mid new kept other
 
--- rows that are wrong or find no memory aren't told as Refused
-pub rows_refused : {T : Type 0} (s : Stop) (f : OpenFault) → f ≡ fault_of s → (s ≡ stop.Refused → ⊥) → ◌≡◌ {A = Result T OpenFault} (Err f) (Err Refused) → ⊥
-rows_refused s f is other refused = other (refused_stop s (sym is ∙ (let same : f ≡ Refused = cc in same)))
-
 module _ {S : Type 0} (g : Ghosts S) (version : Version) (conn again new : Held S) (store : S) where
   -- a store that was opened anew is open, and its queries may take all steps
   pub fails_anew : Rereads version (state g conn) (state g again) → (state g again).step_limit ≡ None → HasStopped (state g again) (state g new) → (state g new).faults ≤ g.faults store → FailsAnew g version conn store
@@ -85,14 +61,3 @@ module _ {S : Type 0} (g : Ghosts S) (conn : Held S) where
   -- a migration was refused
   pub raise_refused : (version : Version) (found : Held S) (numbers : Numbers) (store : S) → version ≡ First → FindsContent g version conn found numbers → IsToMake g conn ⊎ FailsAnew g version conn store
   raise_refused version found numbers store is f = inl (inr (f.0, subst (λ v. HadIn g v conn f.0) is f.1))
-
-  -- the schema is known to be that of a version
-  pub all_refused : {X : Type 0} (version : Version) (r : Result X (OpenFault × S)) → (state g conn).now.schema ≡ schema_of version
-      → IfErr r (λ e. e.0 ≡ Refused → IsClean (g.view e.1) → (state g conn).now.schema ≡ schema_of version → IsToMake g conn ⊎ FailsAnew g version conn e.1)
-      → IfErr r (λ e. e.0 ≡ Refused → IsClean (g.view e.1) → IsRefused g conn e.1)
-  all_refused version (Ok x) schema h = tt
-  all_refused version (Err e) schema h = λ refused clean. elim (h refused clean schema) [ inl made ↦ inr (inr (inl made)) | inr fails ↦ inr (inr (inr (version, fails))) ]
-
-  pub all_refused_for : {X : Type 0} (r : Result X (OwnerFault × S)) → IfErr r (λ e. e.0 ≡ Open Refused → IsClean (g.view e.1) → FailsAnew g Third conn e.1) → IfErr r (λ e. e.0 ≡ Open Refused → IsClean (g.view e.1) → IsRefusedFor g conn e.1)
-  all_refused_for (Ok x) h = tt
-  all_refused_for (Err e) h = λ refused clean. inr (inr (inr (h refused clean)))

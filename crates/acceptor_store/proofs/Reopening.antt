@@ -1,56 +1,31 @@
 -- What is known of a connection that was opened anew.
-use Rattle.std.proofs.Common.{◌≡◌, ◌⊎◌, inl, inr, ℕ, Bool, true, ◌&&◌, List, [], ◌∷◌, length, map, Some, None, Option, Ok, Err, Result, IfErr, IfOk, IfSome, OnOk, IsTrue, refl, sym, ap, subst, subst₂, ◌∙◌}
-use Rattle.std.proofs.lemmas.Bool.{and_from, and_parts}
-use Rattle.std.proofs.Math.Logic.{∥∥₁_map, ∥∥₁_elim, ∥∥₁_prop}
-use Rattle.ballots.specs.declared.letters.Cast.{Cast}
-use Rattle.ballots.specs.Ballots.{number_of}
-use Rattle.acceptor.specs.Content.{Content, AreRowsFrom, AreValues, greatest}
-use Rattle.acceptor.specs.Found.{Holds, HoldsEither, AddsNothing}
+use Rattle.std.proofs.Common.{◌≡◌, ◌⊎◌, inl, inr, ℕ, Bool, true, ◌&&◌, ◌==◌, if◌then◌else◌, List, [], ◌∷◌, length, map, Some, None, Option, Ok, Err, Result, IfErr, IfOk, IfSome, OnOk, IsTrue, refl, sym, ap, subst, subst₂, ◌∙◌, arith}
+use Rattle.acceptor_store.proofs.Words.{and_from, and_parts, ∥∥₁_map, ∥∥₁_elim, ∥∥₁_prop, Cast, number_of, Content, AreRowsFrom, AreValues, greatest, Holds, HoldsEither, AddsNothing, Files, FileStore, over_files, file_state, image_of, IsOpened, Finds, survives_then, opens_again, Ghosts, Trees, Database, IsDatabase, State, HasCleanDisk, Survives, Opens, IsUnchanged, Version, First, Second, Third, AreByRowid, AreShaped, Rereads, Held, state, AllByRecursion, HasFacts, HoldsNone, IsForeignSchema, IsClean, Numbers, OpenFault, Foreign, IsReread, Owner, schema_of, blank_schema, AreTablesOf, HasLearned, KeepsLearned, IsNumber, IsCast, IsLearned, vote_row, learned_row, AreTablesFor, schema_for, ServesFor, ServesAs, StillServes, DoesNotServe, one_content, AreNumbersOf, Linked, MayFind, MayFindIn, IsHonest, is_clean_in, IsLinked, IsServing, Stands, IsTested, ServesNone, CannotBeRead, Tells, Leaves, Reopens, Examines, Had, IsIn, IsFoundIn, MakesReady, SeesForeign, HasNumbers, StaysAs, no_doubt, clean_of}
 use Rattle.sqlite_schema.specs.declared.schema.Schema.{Schema}
 use Rattle.sqlite_disk.specs.declared.Disk as disk
-use Rattle.sqlite_disk.specs.declared.Files.{Files}
-use Rattle.sqlite_store.specs.declared.store.FileStore.{FileStore}
-use Rattle.sqlite.specs.Files.{over_files, file_state, image_of, IsOpened, Finds}
-use Rattle.sqlite.proofs.Theorems.{opens_again}
-use Rattle.sqlite.specs.Store.{Ghosts}
-use Rattle.sqlite.specs.Tree.{Trees}
-use Rattle.sqlite.specs.Effect.{Database, IsDatabase}
-use Rattle.sqlite.specs.State.{State, HasCleanDisk, Survives, Opens, IsUnchanged}
-use Rattle.acceptor_store_parts.specs.declared.Version.{Version}
-use Rattle.acceptor_store_parts.specs.declared.Version.TheVariants.{First, Second, Third}
-use Rattle.acceptor_store_parts.specs.Rowids.{AreByRowid, AreShaped, Rereads}
-use Rattle.sqlite.specs.Held.{Held, state}
 use Rattle.sqlite_schema.specs.Names.{same_name}
-use Rattle.std.specs.List.{AllByRecursion}
-use Rattle.acceptor_store_parts.specs.Foreign.{HasFacts, HoldsNone, IsForeignSchema}
-use Rattle.sqlite_trees.specs.View.{IsClean}
-use Rattle.acceptor_store.specs.declared.known.Numbers.{Numbers}
-use Rattle.acceptor_store.specs.declared.OpenFault.{OpenFault}
-use Rattle.acceptor_store.specs.declared.OpenFault.TheVariants.{Foreign}
-use Rattle.acceptor_store_parts.specs.Rowids.{IsReread}
-use Rattle.acceptor_store_parts.specs.declared.owner.Owner.{Owner}
-use Rattle.acceptor_store_parts.specs.Tables.{schema_of, blank_schema}
-use Rattle.acceptor_store_parts.specs.Stored.{AreTablesOf, HasLearned, KeepsLearned, IsNumber, IsCast, IsLearned, vote_row, learned_row}
-use Rattle.acceptor_store_parts.specs.Owned.{AreTablesFor, schema_for}
-use Rattle.acceptor_store_parts.specs.Serves.{ServesFor, ServesAs, StillServes}
-use Rattle.acceptor_store_parts.proofs.Callers.{one_content}
-use Rattle.acceptor_store.specs.Linked.{AreNumbersOf, Linked, MayFind, MayFindIn, IsHonest, is_clean_in, IsLinked, IsServing, Stands, IsTested, ServesNone, CannotBeRead, Tells, Leaves, Reopens, Examines, Had, IsIn, IsFoundIn, MakesReady, SeesForeign, HasNumbers, StaysAs, FindsContent as Found}
-use Rattle.sqlite_trees.proofs.Doubt.{no_doubt, clean_of}
+use Rattle.acceptor_store.specs.Linked.{FindsContent as Found}
 use Rattle.acceptor_store.proofs.Found.{found_is, found_it}
 
 module _ {S : Type 0} (g : Ghosts S) (settled : (s : S) (db : Trees) → IsTrue (g.view s).is_open → g.recovers s db → db ≡ (g.view s).committed)
     (stays : (s : S) → IsTrue (g.view s).is_open → g.recovers s (g.view s).committed) (owner : Option Owner) (old new : Held S) (numbers : Numbers) where
   pub tells : (state g old).now.schema ≡ schema_for owner → HasCleanDisk (state g new) → ((c : Content) → ServesFor owner (state g old) c → AreNumbersOf numbers c)
-      → StillServes (state g old) (state g new) → Survives (state g old) (state g new) (λ _. ServesNone owner (state g old)) → Tells g owner old new numbers
+      → StillServes (state g old) (state g new) → Survives (state g old) (state g new) (λ _. CannotBeRead owner (state g old)) → Tells g owner old new numbers
   tells schema clean value still survives = (
     schema,
     λ c was.
         let now = still owner c was in
         let left : (db : Trees) → (state g new).may_leave db → db ≡ (state g old).committed.trees =
-        λ db may. elim (survives.crash clean db may) [ inl there ↦ settled old.store db was.is_open there | inr none ↦ absurd (none c was) ] in
+        λ db may. elim (survives.crash clean db may) [ inl there ↦ settled old.store db was.is_open there | inr none ↦ absurd (none.1 c was) ] in
         let stand : Stands g owner new = λ db may. ∣ (c, subst (λ t. AreTablesFor owner t c) (ap (λ (d : Database). d.trees) now.settled ∙ sym (settled new.store db now.is_open may)) now.tables) ∣₁ in
         (now, value c was, stand, (∣ found_it g settled stays owner new c now ∣₁, found_is g settled stays owner new c now), left),
   )
+
+-- reads of the tables that were tested commit nothing
+pub tests_leave : (owner : Option Owner) (old mid new : State) → old.now.schema ≡ schema_for owner → (HasCleanDisk mid → StillServes old mid) → Survives old mid (λ _. old.now.schema ≡ schema_for owner → ⊥)
+    → Survives mid new (λ _. DoesNotServe mid) → Survives old new (λ _. CannotBeRead owner old)
+tests_leave owner old mid new schema still one two =
+    survives_then old mid new _ _ _ (λ _ db other. absurd (other schema)) (λ clean db none. (schema, λ x was. none x (owner, still (omega (arith, two.clean, clean)) owner x was))) one two
 
 module _ {S : Type 0} (g : Ghosts S) (owner : Option Owner) (old mid new : Held S) (opens : Opens (state g mid)) (found : ∥ (state g old).may_leave (state g mid).committed.trees ∥₁) where
   serves_mid : (state g mid).now.schema ≡ schema_for owner → (c : Content) → AreTablesFor owner (state g mid).committed.trees c → ServesFor owner (state g mid) c
@@ -88,24 +63,6 @@ module _ {S : Type 0} (g : Ghosts S) (owner : Option Owner) (old mid new : Held 
       stands = λ before db may. ∣ ((held before).0, subst (λ t. AreTablesFor owner t (held before).0) (sym (there before db may)) (held before).1) ∣₁;
       adds_nothing = λ before d known. ∥∥₁_elim known ∥∥₁_prop (λ it. ∥∥₁_map found (λ may. (it.0, subst (state g old).may_leave (sym (there before it.0 it.1)) may, it.2)));
     }
-
-pub all_reopen : {S : Type 0} (g : Ghosts S) (owner : Option Owner) (old mid new : Held S) → Opens (state g mid) → ∥ (state g old).may_leave (state g mid).committed.trees ∥₁ → (numbers : Option Numbers)
-    → IfSome numbers (Tells g owner mid new) → IfSome numbers (Reopens g owner old new)
-all_reopen g owner old mid new opens found None told = tt
-all_reopen g owner old mid new opens found (Some numbers) told = reopens g owner old mid new opens found numbers told
-
--- what a connection that was opened anew, from this one or from what was left, says of it
-pub all_leave : {S : Type 0} (g : Ghosts S) (settled : (s : S) (db : Trees) → IsTrue (g.view s).is_open → g.recovers s db → db ≡ (g.view s).committed) (owner : Option Owner) (held : Option (Held S)) (mid new : Held S) → Opens (state g mid)
-    → IfSome held (λ old. HasCleanDisk (state g old) × ∥ (state g old).may_leave (state g mid).committed.trees ∥₁) → HasCleanDisk (state g new)
-    → Survives (state g mid) (state g new) (λ _. CannotBeRead owner (state g mid)) → IfSome held (λ old. Leaves g owner old new)
-all_leave g settled owner None mid new opens found now survives = tt
-all_leave g settled owner (Some old) mid new opens found now survives = leaves g owner old mid new opens found.1 settled found.0 now survives
-
-pub each_reopens : {S : Type 0} (g : Ghosts S) (owner : Option Owner) (held : Option (Held S)) (mid new : Held S) → Opens (state g mid)
-    → IfSome held (λ old. HasCleanDisk (state g old) × ∥ (state g old).may_leave (state g mid).committed.trees ∥₁) → (numbers : Option Numbers)
-    → IfSome numbers (Tells g owner mid new) → IfSome held (λ old. IfSome numbers (Reopens g owner old new))
-each_reopens g owner None mid new opens found numbers told = tt
-each_reopens g owner (Some old) mid new opens found numbers told = all_reopen g owner old mid new opens found.1 numbers told
 
 -- of two contents that it may be it is one
 pub one_of : {S : Type 0} (g : Ghosts S) (owner : Option Owner) (old new : Held S) (numbers : Numbers) → Leaves g owner old new → Reopens g owner old new numbers → Stands g owner old → (a b : Content)
@@ -232,6 +189,11 @@ learned_there First keeps db c h = absurd keeps
 learned_there Second keeps db c h = h
 learned_there Third keeps db c h = h
 
+pub has_learned : (version : Version) → (version ≡ First → ⊥) → KeepsLearned version
+has_learned First other = absurd (other refl)
+has_learned Second other = tt
+has_learned Third other = tt
+
 pub learned_held : (version : Version) → KeepsLearned version → (old : State) {X E : Type 0} (r : Result X E) (items : X → List (ℕ × List ℕ))
     → IfOk r (λ x. (v : Version) → KeepsLearned v → AreByRowid v old → old.now.trees 2 ≡ map learned_row (items x))
     → IfOk r (λ x. AreByRowid version old → (c : Content) → c.learned ≡ items x → HasLearned version old.now.trees c)
@@ -270,40 +232,22 @@ finds g version conn again new numbers schema re ex =
     let e = ex re.0 in
     (e.0, (schema, subst (λ t. AreTablesOf version t e.0) re.1 e.1, e.2), e.3, e.4)
 
-pub all_prepare : {S E : Type 0} (g : Ghosts S) (conn : Held S) (Known : Type 0) (r : Result (Held S × Numbers) E) → Known → IfOk r (λ x. HasCleanDisk (state g x.0) → Known → MakesReady g conn x.0 x.1)
-    → IfOk r (λ x. HasCleanDisk (state g x.0) → MakesReady g conn x.0 x.1)
-all_prepare g conn Known (Ok x) known h = λ clean. h clean known
-all_prepare g conn Known (Err e) known h = tt
-
--- how many tables a version has
-abbrev table_count : Version → ℕ
-table_count First = 2
-table_count Second = 3
-table_count Third = 4
-
-count_is : (version : Version) → length (schema_of version).tables ≡ table_count version
-count_is First = refl
-count_is Second = refl
-count_is Third = refl
-
 not_blank : (version : Version) → schema_of version ≡ blank_schema → ⊥
 not_blank First e = absurd (let t : 2 ≡ 0 = ap (λ (s : Schema). length s.tables) e in cc)
 not_blank Second e = absurd (let t : 3 ≡ 0 = ap (λ (s : Schema). length s.tables) e in cc)
 not_blank Third e = absurd (let t : 4 ≡ 0 = ap (λ (s : Schema). length s.tables) e in cc)
 
-of_count : (v w : Version) → table_count v ≡ table_count w → v ≡ w
-of_count First First e = refl
-of_count First Second e = absurd cc
-of_count First Third e = absurd cc
-of_count Second First e = absurd cc
-of_count Second Second e = refl
-of_count Second Third e = absurd cc
-of_count Third First e = absurd cc
-of_count Third Second e = absurd cc
-of_count Third Third e = refl
+-- a schema tells its version, by how many tables it has
+abbrev with_tables : ℕ → Version
+with_tables n = if n == 2 then First else (if n == 3 then Second else Third)
+
+told_by : (version : Version) → with_tables (length (schema_of version).tables) ≡ version
+told_by First = refl
+told_by Second = refl
+told_by Third = refl
 
 pub one_version : (v w : Version) → schema_of v ≡ schema_of w → v ≡ w
-one_version v w e = of_count v w (sym (count_is v) ∙ ap (λ (s : Schema). length s.tables) e ∙ count_is w)
+one_version v w e = sym (told_by v) ∙ ap (λ (s : Schema). with_tables (length s.tables)) e ∙ told_by w
 
 -- a schema of version 3 has a table of facts
 pub third_has_facts : HasFacts (schema_of Third)
@@ -316,12 +260,6 @@ not_third s version is ours third = ours (inl (subst HasFacts (sym (is ∙ ap sc
 pub always : {T E A : Type 0} (r : Result T E) → A → OnOk r A
 always (Ok x) a = a
 always (Err e) a = tt
-
--- rows that no node wrote, in its tables
-pub told_rows : {S : Type 0} (g : Ghosts S) (version : Version) (conn : Held S) {X : Type 0} (r : Result X (OpenFault × S)) → (state g conn).now.schema ≡ schema_of version
-    → IfErr r (λ e. e.0 ≡ Foreign → IsClean (g.view e.1) → HoldsNone version (state g conn).committed.trees) → IfErr r (λ e. e.0 ≡ Foreign → IsClean (g.view e.1) → SeesForeign g conn)
-told_rows g version conn (Ok x) schema h = tt
-told_rows g version conn (Err e) schema h = λ foreign clean. inr (version, schema, h foreign clean)
 
 pub own : {S : Type 0} (g : Ghosts S) (conn : Held S) (c : Content) → (IsForeignSchema (state g conn).now.schema → ⊥) → Had g conn c → SeesForeign g conn → ⊥
 own g conn c ours had (inl schema) = ours schema

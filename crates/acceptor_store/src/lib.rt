@@ -6,7 +6,8 @@ mod known;
 mod opening;
 mod owned;
 
-ghost use Rattle.std.specs.Prelude.{◌≡◌, ◌≤◌, Err, false, not, if◌then◌else◌, IfOk, IfErr, IfSome, IsErrAnd, IsSome, IsSomeAnd, None, OnOk, Some, IsTrue, ◌↔◌, ◌⊎◌, ◌&&◌};
+ghost use Rattle.std.specs.Prelude.{◌≡◌, ◌≤◌, ◌↔◌, ◌⊎◌, ◌&&◌, false, not, if◌then◌else◌, Err, None, Some};
+ghost use Rattle.std.specs.Prelude.{IfOk, IfErr, IfSome, IsErrAnd, IsSome, IsSomeAnd, IsTrue, OnOk};
 ghost use Rattle.ballots.specs.Ballots.{number_of};
 ghost use Rattle.acceptor.specs.Calls.{Accounts, KeepsTrust, Writes};
 ghost use Rattle.acceptor.specs.Faults.{BreaksByReopen, CountsFaults, HasRisen, IsHarmless, IsStoreFault};
@@ -25,7 +26,8 @@ ghost use Rattle.acceptor_store_parts.specs.Owned.{schema_for};
 ghost use Rattle.acceptor_store_parts.specs.Serves.{Serves, ServesFor, StillServes, DoesNotServe, StaysOpen};
 ghost use Rattle.acceptor_store_parts.specs.Stops.{LeavesOpen, leaves_open};
 ghost use Rattle.acceptor_store.specs.Stopped.{answer_of};
-ghost use Rattle.acceptor_store.specs.Linked.{MayFind, IsHonest, is_clean_in, is_honest, CannotBeRead, Tells, Leaves, Reopens, Had, HasFurther, IsFoundIn, IsLeftWhole, IsRefused, SeesForeign};
+ghost use Rattle.acceptor_store.specs.Linked.{MayFind, IsHonest, is_clean_in, is_honest, CannotBeRead, Tells, Leaves, Reopens};
+ghost use Rattle.acceptor_store.specs.Linked.{Had, HasFurther, IsFoundIn, IsLeftWhole, IsRefused, SeesForeign};
 
 use crate::anew::{end_unopened, opened_anew};
 use crate::known::{Numbers, cast_vote, numbers_of, promise};

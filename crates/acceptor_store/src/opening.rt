@@ -14,7 +14,8 @@ ghost use Rattle.acceptor_store_parts.specs.Tables.{schema_of};
 ghost use Rattle.acceptor_store_parts.specs.Stored.{HasLearned, KeepsLearned, IsCast, IsLearned, IsNumber, IsOfNode, learned_row, vote_row};
 ghost use Rattle.acceptor_store_parts.specs.Serves.{ServesAs, IsOther, HasRaised, MayHaveRaised};
 ghost use Rattle.acceptor_store.specs.Stopped.{fault_of};
-ghost use Rattle.acceptor_store.specs.Linked.{HasFurther, Examines, MakesReady, SeesForeign, HasNumbers, HasStopped, StaysAs, FailsAnew, FindsContent, IsLeftWhole, IsRefused, IsToMake};
+ghost use Rattle.acceptor_store.specs.Linked.{HasFurther, Examines, MakesReady, SeesForeign, HasNumbers, HasStopped, StaysAs};
+ghost use Rattle.acceptor_store.specs.Linked.{FailsAnew, FindsContent, IsLeftWhole, IsRefused, IsToMake};
 
 use crate::OpenFault;
 use crate::known::{Numbers, greatest_of};
@@ -91,8 +92,8 @@ fn votes_in<S: Alter>(alloc: Global, conn: &mut Connection<S>) -> Result<Votes, 
         → OnOk result (StaysAs version (state S.Store conn.old) (state S.Store conn.new)) }
     ensures foreign { HasCleanDisk (state S.Store conn.new) → result ≡ Err OpenFault.Foreign → (version : _) (c : Content)
         → ServesAs version (state S.Store conn.old) c → IsOfNode c → ⊥ }
-    ensures refused { HasCleanDisk (state S.Store conn.new) → (version : _) → (state S.Store conn.old).now.schema ≡ schema_of version → result ≡ Err OpenFault.Refused
-        → HasStopped (state S.Store conn.old) (state S.Store conn.new) }
+    ensures refused { HasCleanDisk (state S.Store conn.new) → (version : _) → (state S.Store conn.old).now.schema ≡ schema_of version
+        → result ≡ Err OpenFault.Refused → HasStopped (state S.Store conn.old) (state S.Store conn.new) }
     ensures survives { Survives (state S.Store conn.old) (state S.Store conn.new) (λ _. IsOther (state S.Store conn.old)) }
 {
     let rows = match acceptor_store_parts::query_all_votes(conn) {
@@ -123,8 +124,8 @@ fn kept_learned<S: Alter>(
         → OnOk result (StaysAs version (state S.Store conn.old) (state S.Store conn.new)) }
     ensures foreign { HasCleanDisk (state S.Store conn.new) → result ≡ Err OpenFault.Foreign → (version : _) → KeepsLearned version
         → (c : Content) → ServesAs version (state S.Store conn.old) c → IsOfNode c → ⊥ }
-    ensures refused { HasCleanDisk (state S.Store conn.new) → (version : _) → KeepsLearned version → (state S.Store conn.old).now.schema ≡ schema_of version → result ≡ Err OpenFault.Refused
-        → HasStopped (state S.Store conn.old) (state S.Store conn.new) }
+    ensures refused { HasCleanDisk (state S.Store conn.new) → (version : _) → KeepsLearned version → (state S.Store conn.old).now.schema ≡ schema_of version
+        → result ≡ Err OpenFault.Refused → HasStopped (state S.Store conn.old) (state S.Store conn.new) }
     ensures survives { Survives (state S.Store conn.old) (state S.Store conn.new)
         (λ _. (version : _) → KeepsLearned version → (state S.Store conn.old).now.schema ≡ schema_of version → ⊥) }
 {
@@ -162,8 +163,7 @@ fn learned_in<S: Alter>(
 {
     match version {
         Version::First => Ok(Vec::new(alloc)),
-        Version::Second => kept_learned(alloc, conn),
-        Version::Third => kept_learned(alloc, conn),
+        _ => kept_learned(alloc, conn),
     }
 }
 

@@ -13,7 +13,8 @@ ghost use Rattle.acceptor_store_parts.specs.Rowids.{AreByRowid, IsReread};
 ghost use Rattle.acceptor_store_parts.specs.Serves.{HasOwned, MayHaveOwned};
 ghost use Rattle.acceptor_store_parts.specs.Tables.{blank_schema, schema_of};
 ghost use Rattle.acceptor_store.specs.Linked.{FailsAnew, HasStopped, IsHonest, MayFind, StaysAs, is_clean_in};
-ghost use Rattle.acceptor_store.specs.Owning.{AdoptsFor, ExaminesFor, FindsFor, HadAs, HadBefore, HasFurtherAs, IsDue, IsDueBefore, IsLeftAs, IsLeftBefore, IsRefusedFor, PreparesFor};
+ghost use Rattle.acceptor_store.specs.Owning.{AdoptsFor, ExaminesFor, FindsFor, HadAs, HadBefore, HasFurtherAs};
+ghost use Rattle.acceptor_store.specs.Owning.{IsDue, IsDueBefore, IsLeftAs, IsLeftBefore, IsRefusedFor, PreparesFor};
 
 use crate::known::Numbers;
 use crate::opening::{examined, is_of, prepared, stopped};

@@ -2,5 +2,5 @@
 pub use Rattle.acceptor_store_parts.proofs.Once.{content_once, tables_prop, one_content}
 pub use Rattle.acceptor_store_parts.proofs.Places.{all_rows}
 pub use Rattle.acceptor_store_parts.proofs.Shapes.{all_shown, all_learned_shown}
-pub use Rattle.acceptor_store_parts.proofs.LearnedRows.{table_of_learned}
+pub use Rattle.acceptor_store_parts.proofs.Answered.{table_of_learned}
 pub use Rattle.acceptor_store_parts.proofs.Owners.{as_version, keeps_learned, serves_as, serves_for, tables_as, tables_for}

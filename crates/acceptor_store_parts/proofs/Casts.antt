@@ -1,7 +1,6 @@
 -- Rows that may be a node's, in a list and as they are shown.
 use Rattle.std.proofs.Common.{◌≡◌, ℕ, zero, suc, List, [], ◌∷◌, ◌++◌, map, drop, refl, ap}
-use Rattle.std.specs.List.{AllByRecursion}
-use Rattle.sqlite.specs.Order.{Row}
+use Rattle.acceptor_store_parts.proofs.Words.{AllByRecursion, Row}
 
 module _ {V : Type 0} (Fits : V → Type 0) (shown : V → Row) where
   pub one_more : (vs : List V) (v : V) → AllByRecursion Fits vs → Fits v → AllByRecursion Fits (vs ++ v ∷ [])

@@ -1,24 +1,9 @@
 -- Why a query of a whole table fails.
 use Rattle.std.proofs.Common.{◌≡◌, ◌⊎◌, inl, inr, List, [], ◌≤◌, length, true, false, Ok, Err, Result, IfErr, ℕ, None, refl, sym, ap, subst, ◌∙◌, le_refl, Any}
-use Rattle.sqlite_typing.specs.Types.{accepts_program}
-use Rattle.sqlite.specs.Program.{ProgramOverflows}
-use Rattle.sqlite.specs.Clock.{timed}
-use Rattle.sqlite.specs.Schema.{Schema}
-use Rattle.sqlite.specs.Query.{Query}
-use Rattle.sqlite.specs.Term.{Term}
+use Rattle.acceptor_store_parts.proofs.Words.{accepts_program, ProgramOverflows, timed, Schema, Query, Term, Database, misses_table, IsSourceOf, Compiled, State, HasCause, IsNoStatement, FailsToShow, store_error, Error, StoreError, OutOfMemory, Io, Corrupt, Full, Broken, Unstorable, Version, First, Second, Third, KeepsLearned, schema_of, IsFault}
 use Rattle.sqlite.specs.Tree.{Trees}
-use Rattle.sqlite.specs.Effect.{Database}
-use Rattle.sqlite.specs.Listing.{understood, misses_table, IsSourceOf}
-use Rattle.sqlite_resolve.specs.declared.compiled.Compiled.{Compiled}
-use Rattle.sqlite.specs.State.{State, HasCause, IsNoStatement, IsNotRun, FailsToShow, FailsToQuery, store_error}
-use Rattle.sqlite.specs.declared.error.Error.{Error}
-use Rattle.sqlite_trees.specs.declared.error.StoreError.{StoreError}
-use Rattle.sqlite_trees.specs.declared.error.StoreError.TheVariants.{OutOfMemory, Io, Corrupt, Full, Broken, Unstorable}
-use Rattle.acceptor_store_parts.specs.declared.Version.{Version}
-use Rattle.acceptor_store_parts.specs.declared.Version.TheVariants.{First, Second, Third}
-use Rattle.acceptor_store_parts.specs.Stored.{KeepsLearned}
-use Rattle.acceptor_store_parts.specs.Tables.{schema_of}
-use Rattle.acceptor_store_parts.specs.Tests.{IsFault}
+use Rattle.sqlite.specs.Listing.{understood}
+use Rattle.sqlite.specs.State.{IsNotRun, FailsToQuery}
 use Rattle.acceptor_store_parts.proofs.Meaning.{Means, compiled_as, known, select, rows_query, both_query, all_query, all_learned_meaning, facts_meaning}
 
 pub numbers_typed : (version : Version) → accepts_program (schema_of version) [] both_query [] ≡ true

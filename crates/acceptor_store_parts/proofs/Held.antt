@@ -1,20 +1,7 @@
 -- The rows that a query shows by ascending rowid are those that the tree holds.
 use Rattle.std.proofs.Common.{◌≡◌, inl, inr, ℕ, pos, ◌+◌, ◌<◌, ◌≤◌, List, [], ◌∷◌, map, false, refl, sym, ap, subst, ◌∙◌, arith}
-use Rattle.std.specs.List.{AllByRecursion}
-use Rattle.std.specs.Ordering.{is_lt, int_cmp}
-use Rattle.std.specs.declared.cmp.Ordering.{Ordering}
-use Rattle.std.specs.declared.cmp.Ordering.TheVariants.{Less, Equal, Greater}
-use Rattle.std.specs.List.Sorted.{IsPermutation, IsSorted}
-use Rattle.std.proofs.lemmas.List.Elements.{All-from_recursion, recursion_from_All}
-use Rattle.std.proofs.lemmas.List.Sorted.{All-permutation, IsPermutation-sym}
-use Rattle.std.proofs.lemmas.Bool.{cases_lt, cases_eq}
-use Rattle.std.proofs.lemmas.Int.{ints}
-use Rattle.sqlite_value.proofs.OrderLemmas.{value_cmp-Int}
-use Rattle.sqlite.specs.declared.types.Value.{Value}
-use Rattle.sqlite.specs.declared.types.Value.TheVariants.{Int}
-use Rattle.sqlite.specs.Order.{Row, column, value_cmp}
-use Rattle.sqlite.specs.Query.{Output}
-use Rattle.sqlite_trees.specs.Tree.{IsTable, rowid}
+use Rattle.acceptor_store_parts.proofs.Words.{AllByRecursion, is_lt, int_cmp, Ordering, Less, Equal, Greater, IsPermutation, IsSorted, All-from_recursion, recursion_from_All, All-permutation, IsPermutation-sym, cases_lt, cases_eq, ints, value_cmp-Int, Value, Int, Row, column, value_cmp, Output, IsTable}
+use Rattle.sqlite_trees.specs.Tree.{rowid}
 use Rattle.acceptor_store_parts.proofs.Rising.{IsRisingBy}
 use Rattle.acceptor_store_parts.proofs.Positions.{rising_mapped}
 use Rattle.acceptor_store_parts.proofs.Ordered.{IsStep, only_order}

@@ -1,20 +1,6 @@
 -- What is shown by ascending rowid is what there is, where that rises by its rowid.
 use Rattle.std.proofs.Common.{◌≡◌, inl, inr, ℕ, pos, ◌+◌, ◌≤◌, List, [], ◌∷◌, map, false, refl, ap, ◌∙◌, arith}
-use Rattle.std.specs.List.{AllByRecursion}
-use Rattle.std.specs.Ordering.{is_lt}
-use Rattle.std.specs.declared.cmp.Ordering.TheVariants.{Less}
-use Rattle.std.specs.List.Sorted.{IsPermutation, IsSorted}
-use Rattle.std.proofs.lemmas.List.Elements.{All-from_recursion}
-use Rattle.std.proofs.lemmas.List.Sorted.{All-permutation}
-use Rattle.std.proofs.lemmas.Bool.{cases_lt}
-use Rattle.std.proofs.lemmas.Int.{ints}
-use Rattle.sqlite_value.proofs.OrderLemmas.{value_cmp-Int}
-use Rattle.sqlite.specs.declared.types.Value.{Value}
-use Rattle.sqlite.specs.declared.types.Value.TheVariants.{Int}
-use Rattle.sqlite.specs.Order.{Row, column, value_cmp}
-use Rattle.sqlite.specs.Query.{Output, output_cmp, output}
-use Rattle.sqlite.specs.Query.{Query}
-use Rattle.sqlite.specs.Term.{Term}
+use Rattle.acceptor_store_parts.proofs.Words.{AllByRecursion, is_lt, Less, IsPermutation, IsSorted, All-from_recursion, All-permutation, cases_lt, ints, value_cmp-Int, Value, Int, Row, column, value_cmp, Output, output_cmp, output, Query, Term}
 use Rattle.acceptor_store_parts.proofs.Meaning.{rows_query}
 use Rattle.acceptor_store_parts.proofs.Ordered.{IsStep, only_order}
 use Rattle.acceptor_store_parts.proofs.Positions.{rising_mapped}

@@ -1,19 +1,8 @@
 -- What a call leaves that read, or failed.
 use Rattle.std.proofs.Common.{◌≡◌, ◌⊎◌, inl, inr, ℕ, List, [], false, Some, None, Option, Ok, Err, Result, IsTrue, OnOk, OnErr, IfOk, IfErr, sym, ap, subst, ◌∙◌}
-use Rattle.std.proofs.lemmas.Bool.{cases_Bool}
-use Rattle.acceptor.specs.Content.{Content}
-use Rattle.sqlite_schema.specs.declared.command.Returning.{Returning}
-use Rattle.sqlite.specs.declared.error.Error.{Error}
-use Rattle.sqlite.specs.Order.{Row}
-use Rattle.sqlite.specs.Effect.{Database}
-use Rattle.sqlite.specs.Schema.{Schema}
+use Rattle.acceptor_store_parts.proofs.Words.{cases_Bool, Content, Returning, Error, Row, Database, Schema, Compiled, State, Executes, RunsCommand, shows_rows, ShowsRows, IsUnchanged, IsRolledBack, IsPlain, Owner, AreTablesFor, schema_for, ServesFor, StillServes, Stays}
 use Rattle.sqlite.specs.Listing.{understood}
-use Rattle.sqlite_resolve.specs.declared.compiled.Compiled.{Compiled}
-use Rattle.sqlite.specs.State.{State, Executes, ExecutesIn, FailsToQuery, IsNotRun, RunsCommand, shows_rows, Shown, ShowsRows, IsUnchanged, IsRolledBack}
-use Rattle.sqlite.proofs.Callers.{IsPlain}
-use Rattle.acceptor_store_parts.specs.declared.owner.Owner.{Owner}
-use Rattle.acceptor_store_parts.specs.Owned.{AreTablesFor, schema_for}
-use Rattle.acceptor_store_parts.specs.Serves.{ServesFor, StillServes, Stays}
+use Rattle.sqlite.specs.State.{ExecutesIn, FailsToQuery, IsNotRun, Shown}
 
 -- as it was, or back at the last commit
 abbrev pub Keeps : State → State → Type 0

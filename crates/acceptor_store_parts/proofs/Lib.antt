@@ -1,3 +1,4 @@
+pub mod Words
 pub mod Callers
 pub mod Rising
 pub mod Filters
@@ -12,8 +13,7 @@ pub mod States
 pub mod Kept
 pub mod InOrder
 pub mod RowsShown
-pub mod Votes
-pub mod LearnedRows
+pub mod Answered
 pub mod Images
 pub mod Once
 pub mod Numbers

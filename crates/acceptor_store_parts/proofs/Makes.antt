@@ -1,37 +1,13 @@
 -- What the texts make that make the tables.
-use Rattle.std.proofs.Common.{◌≡◌, ℕ, ◌/◌, List, [], ◌∷◌, length, map, pos, false, Option, Some, None, Ok, Err, Result, OnOk, refl, sym, ap, subst, ◌∙◌}
-use Rattle.sqlite.specs.Order.{Row}
-use Rattle.sqlite.specs.Schema.{Schema}
-use Rattle.sqlite.specs.Source.TheVariants.{Values}
-use Rattle.sqlite_schema.specs.declared.command.Conflict.TheVariants.{Replace}
-use Rattle.sqlite.specs.declared.types.Value.TheVariants.{Int}
-use Rattle.sqlite.specs.Command.TheVariants.{Insert, InsertOr, CreateTable}
-use Rattle.sqlite.specs.Change.{created, next_tree, KeepsRows}
-use Rattle.sqlite.specs.Does.{Tally, Does, lacks_sequence}
-use Rattle.sqlite.specs.Tree.{Trees, put_row}
+use Rattle.std.proofs.Common.{◌≡◌, ℕ, ◌/◌, List, [], ◌∷◌, length, map, pos, true, false, Option, Some, None, Ok, Err, Result, OnOk, IsTrue, refl, sym, ap, subst, ◌∙◌, arith}
+use Rattle.acceptor_store_parts.proofs.Words.{Row, Schema, Values, Replace, Int, Insert, InsertOr, CreateTable, created, next_tree, KeepsRows, Tally, Does, lacks_sequence, put_row, Database, value_rows, Term, table_defined_by, State, HasCleanDisk, Survives, Writes, Executes, Shows, Ghosts, Held, state, mode_of, edited, with_rowid, cast_row, Written, value_cmp-Int, Content, IsSound, no_content, Owner, number_row, vote_row, learned_row, fact_row, fact_shown, three, AreTablesOf, AreTablesFor, owner_bytes, schema_for, one_step, statement_of, survives_begin, survives_then, schema_of, blank_schema, ballot_table, vote_table, learned_table, fact_table, ballot_text, vote_text, learned_text, fact_text, fact_put, version_put, First, Second, Third, ServesFor, HoldsFor, IsBlank, Makes}
+use Rattle.sqlite.specs.Tree.{Trees}
 use Rattle.sqlite.specs.Listing.{understood}
-use Rattle.sqlite.specs.Effect.{Database, value_rows}
 use Rattle.sqlite.specs.Table.{Table}
-use Rattle.sqlite.specs.Term.{Term}
-use Rattle.sqlite.specs.Compile.{table_defined_by}
-use Rattle.sqlite.specs.State.{State, Writes, Executes, Shows}
-use Rattle.sqlite.specs.State.{mode_of}
-use Rattle.sqlite.specs.Edit.{edit_of, edited}
-use Rattle.sqlite_rules.specs.Edit.{with_rowid}
-use Rattle.sqlite_rules.specs.Cast.{cast_row}
+use Rattle.sqlite.specs.Edit.{edit_of}
 use Rattle.sqlite.specs.Rowids.TheVariants.{Chosen}
-use Rattle.sqlite.specs.Rows.{Written}
-use Rattle.sqlite_value.proofs.OrderLemmas.{value_cmp-Int}
-use Rattle.acceptor.specs.Content.{Content, IsSound, no_content}
-use Rattle.acceptor_store_parts.specs.declared.owner.Owner.{Owner}
-use Rattle.acceptor_store_parts.specs.Stored.{number_row, vote_row, learned_row, fact_row, fact_shown, three, AreTablesOf}
-use Rattle.acceptor_store_parts.specs.Owned.{AreTablesFor, owner_bytes, schema_for}
-use Rattle.sqlite.proofs.Callers.{one_step, statement_of}
-use Rattle.acceptor_store_parts.specs.Tables.{schema_of, blank_schema, ballot_table, vote_table, learned_table, fact_table, ballot_text, vote_text, learned_text, fact_text, fact_put, version_put}
 use Rattle.acceptor_store_parts.proofs.Meaning.{Means, compiled_as, known, runs, ballot_schema, numbers_put, number_terms, numbers_terms, learned_terms, second_put, second_terms, create_ballot_is, create_vote_is, create_learned_is, numbers_put_is, second_put_is, create_fact_is, fact_put_is, version_put_is}
-use Rattle.acceptor_store_parts.specs.declared.Version.TheVariants.{First, Second, Third}
 use Rattle.acceptor_store_parts.proofs.Writes.{PutsRow, cast_number, put_number, put_fact, first_fact, puts_version}
-use Rattle.acceptor_store_parts.specs.Serves.{ServesFor}
 use Rattle.acceptor_store_parts.proofs.Puts.{went, same_value}
 
 -- CREATE TABLE adds an empty tree, and keeps the rows of the others
@@ -197,6 +173,27 @@ served_after owner last end c made shows = record {
   schema = ap (λ (d : Database). d.schema) shows.now_is ∙ made.0;
   tables = subst (λ (d : Database). AreTablesFor owner d.trees c) (sym shows.now_is) made.1;
 }
+
+-- what follows inside a transaction commits nothing
+pub inside_then : {a b c : State} → Survives a b (λ _. ⊥) → Survives b c (λ _. ⊥) → Survives a c (λ _. ⊥)
+inside_then {a} {b} {c} one two = survives_then a b c _ _ (λ _. ⊥) (λ _ db no. no) (λ _ db no. no) one two
+
+-- a transaction that made tables, and its end
+module _ {S : Type 0} (g : Ghosts S) (conn end : Held S) (mid : State) (Was : Database → Content → Type 0) (owner : Option Owner) (ran : Survives (state g (record conn { in_transaction = true })) mid (λ _. ⊥))
+    (made : HasCleanDisk mid → (c : Content) → Was (state g conn).now c → HoldsFor owner mid.now c) (ends : Survives mid (state g end) (λ db. db ≡ mid.now.trees)) where
+  pub committed : Shows mid (state g end) mid.now mid.now false → HasCleanDisk (state g end) → (c : Content) → Was (state g conn).now c → ServesFor owner (state g end) c
+  committed shows clean c was = served_after owner mid (state g end) c (made (omega (arith, ends.clean, clean)) c was) shows
+
+  pub may_commit : Survives (state g conn) (state g end) (λ db. (c : Content) → Was (state g conn).now c → AreTablesFor owner db c)
+  may_commit = survives_then (state g conn) mid (state g end) (λ _. ⊥) (λ db. db ≡ mid.now.trees) _ (λ _ db no. absurd no)
+      (λ clean db is c was. subst (λ t. AreTablesFor owner t c) (sym is) (made (omega (arith, ends.clean, clean)) c was).1) (survives_begin g conn mid _ ran) ends
+
+-- tables that were made are the owner's then
+pub make_then_own : (owner : Owner) (old mid new : State) → Survives mid new (λ _. ⊥) → (HasCleanDisk mid → Makes IsBlank None old mid) → (HasCleanDisk new → IsTrue mid.in_transaction → Makes (HoldsFor None) (Some owner) mid new)
+    → HasCleanDisk new → (c : Content) → IsBlank old.now c → HoldsFor (Some owner) new.now c
+make_then_own owner old mid new ran made owned clean c was =
+    let first = made (omega (arith, ran.clean, clean)) in
+    (owned clean first.0).1 c (first.1 c was)
 
 pub on_ok : {T E A B : Type 0} (r : Result T E) → OnOk r A → (A → B) → OnOk r B
 on_ok (Ok x) h f = f h

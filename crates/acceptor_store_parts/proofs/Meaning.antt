@@ -1,57 +1,11 @@
 -- What the statements mean.
 use Rattle.std.proofs.Common.{◌≡◌, refl, sym, ap, subst, Ok, true, false, [], List, ◌∷◌, length, pos, negsuc, Option, Some, None, codes, ℕ}
 use Rattle.sqlite_tied.specs.Compute.{everything}
-use Rattle.sqlite_sql.specs.declared.ops.CompareOp.TheVariants.{Eq, Ge}
+use Rattle.acceptor_store_parts.proofs.Words.{Eq, Ge, Binary, reads_listing, misses_table, Row, Reads, State, Executes, Runs, compiled, Compiled, Command, accepts_program, Replace, Select, Insert, InsertOr, CreateTable, table_defined_by, Schema, Values, Null, Int, Query, inner, end, Term, lit, col, op2, IsPlain, command_of, statement_of, runs_as, reads_as, Version, First, Second, Third, Owner, KeepsLearned, schema_for, Asked, VoteAt, VotesFrom, LearnedAt, LearnedFrom, schema_of, blank_schema, ballot_table, vote_table, learned_table, fact_table, ballot_text, vote_text, learned_text, fact_text, tried_put, promised_put, vote_put, learned_put, fact_put, version_put, numbers_query, all_votes_query, all_learned_query, facts_query}
 use Rattle.sqlite_sql.specs.declared.ops.BinaryOp.TheVariants as by
-use Rattle.sqlite.specs.Collation.TheVariants.{Binary}
-use Rattle.sqlite.specs.Listing.{understood, reads_listing, misses_table}
-use Rattle.sqlite.specs.Order.{Row}
-use Rattle.sqlite.specs.Effect.{Reads}
-use Rattle.sqlite.specs.State.{State, Executes, Runs, Shown}
-use Rattle.sqlite_resolve.specs.Compile.{compiled}
-use Rattle.sqlite_resolve.specs.declared.compiled.Compiled.{Compiled}
-use Rattle.sqlite.specs.Command.{Command}
-use Rattle.sqlite_typing.specs.Types.{accepts_program}
-use Rattle.sqlite_schema.specs.declared.command.Conflict.TheVariants.{Replace}
-use Rattle.sqlite.specs.Command.TheVariants.{Select, Insert, InsertOr, CreateTable}
-use Rattle.sqlite.specs.Compile.{table_defined_by}
-use Rattle.sqlite.specs.Schema.{Schema}
-use Rattle.sqlite.specs.Source.TheVariants.{Values}
-use Rattle.sqlite.specs.declared.types.Value.TheVariants.{Null, Int}
-use Rattle.sqlite.specs.Query.{Query, inner, end}
-use Rattle.sqlite.specs.Term.{Term, lit, col, op2}
-use Rattle.sqlite.proofs.Callers.{IsPlain, command_of, statement_of, runs_as, reads_as}
-use Rattle.acceptor_store_parts.specs.declared.Version.{Version}
-use Rattle.acceptor_store_parts.specs.declared.Version.TheVariants.{First, Second, Third}
-use Rattle.acceptor_store_parts.specs.declared.owner.Owner.{Owner}
-use Rattle.acceptor_store_parts.specs.Stored.{KeepsLearned}
-use Rattle.acceptor_store_parts.specs.Owned.{schema_for}
-use Rattle.acceptor_store_parts.specs.Tables.{
-  schema_of,
-  blank_schema,
-  ballot_table,
-  vote_table,
-  learned_table,
-  fact_table,
-  ballot_text,
-  vote_text,
-  learned_text,
-  fact_text,
-  tried_put,
-  promised_put,
-  votes_query,
-  vote_query,
-  numbers_query,
-  all_votes_query,
-  vote_put,
-  learned_row_query,
-  learned_from_query,
-  all_learned_query,
-  learned_put,
-  facts_query,
-  fact_put,
-  version_put,
-}
+use Rattle.sqlite.specs.Listing.{understood}
+use Rattle.sqlite.specs.State.{Shown}
+use Rattle.acceptor_store_parts.specs.Asked.{text_of}
 
 -- a text that is one statement, without RETURNING, which doesn't read the time
 abbrev pub compiled_as : List ℕ → List (List ℕ) → Command → Compiled
@@ -146,37 +100,29 @@ two_columns = col 1 0 ∷ col 1 2 ∷ []
 abbrev pub three_columns : List Term
 three_columns = col 1 0 ∷ col 1 2 ∷ col 1 3 ∷ []
 
-abbrev pub from_query : Query
-from_query = rows_query 1 is_from three_columns
+-- the queries of rows by their place
+abbrev pub query_of : Asked → Query
+query_of VoteAt = rows_query 1 is_at three_columns
+query_of VotesFrom = rows_query 1 is_from three_columns
+query_of LearnedAt = rows_query 2 is_at two_columns
+query_of LearnedFrom = rows_query 2 is_from two_columns
 
-pub votes_query_is : (owner : Option Owner) → Means (schema_for owner) votes_query one_name (select from_query (codes "place" ∷ codes "ballot" ∷ codes "value" ∷ []))
+abbrev pub names_of : Asked → List (List ℕ)
+names_of VoteAt = codes "place" ∷ codes "ballot" ∷ codes "value" ∷ []
+names_of VotesFrom = codes "place" ∷ codes "ballot" ∷ codes "value" ∷ []
+names_of LearnedAt = codes "place" ∷ codes "value" ∷ []
+names_of LearnedFrom = codes "place" ∷ codes "value" ∷ []
+
+pub asked_is : (asked : Asked) (owner : Option Owner) → Means (schema_for owner) (text_of asked) one_name (select (query_of asked) (names_of asked))
 unfolding everything
-votes_query_is None = record { is = refl }
-votes_query_is (Some owner) = record { is = refl }
-
-abbrev pub one_query : Query
-one_query = rows_query 1 is_at three_columns
-
-pub vote_query_is : (owner : Option Owner) → Means (schema_for owner) vote_query one_name (select one_query (codes "place" ∷ codes "ballot" ∷ codes "value" ∷ []))
-unfolding everything
-vote_query_is None = record { is = refl }
-vote_query_is (Some owner) = record { is = refl }
-
-abbrev pub learned_from_meaning : Query
-learned_from_meaning = rows_query 2 is_from two_columns
-
-pub learned_from_is : (owner : Option Owner) → Means (schema_for owner) learned_from_query one_name (select learned_from_meaning (codes "place" ∷ codes "value" ∷ []))
-unfolding everything
-learned_from_is None = record { is = refl }
-learned_from_is (Some owner) = record { is = refl }
-
-abbrev pub learned_row_meaning : Query
-learned_row_meaning = rows_query 2 is_at two_columns
-
-pub learned_row_is : (owner : Option Owner) → Means (schema_for owner) learned_row_query one_name (select learned_row_meaning (codes "place" ∷ codes "value" ∷ []))
-unfolding everything
-learned_row_is None = record { is = refl }
-learned_row_is (Some owner) = record { is = refl }
+asked_is VoteAt None = record { is = refl }
+asked_is VoteAt (Some owner) = record { is = refl }
+asked_is VotesFrom None = record { is = refl }
+asked_is VotesFrom (Some owner) = record { is = refl }
+asked_is LearnedAt None = record { is = refl }
+asked_is LearnedAt (Some owner) = record { is = refl }
+asked_is LearnedFrom None = record { is = refl }
+asked_is LearnedFrom (Some owner) = record { is = refl }
 
 abbrev pub all_learned_meaning : Query
 all_learned_meaning = rows_query 2 [] two_columns

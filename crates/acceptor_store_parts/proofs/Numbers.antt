@@ -1,17 +1,7 @@
 -- The numbers, as the query shows them.
 use Rattle.std.proofs.Common.{◌≡◌, ℕ, pos, List, [], ◌∷◌, Result, refl, IfOk, lit<}
-use Rattle.std.proofs.lemmas.Result.{IfOk-weaker}
-use Rattle.acceptor.specs.Content.{Content}
-use Rattle.sqlite.specs.declared.error.Error.{Error}
-use Rattle.sqlite.specs.declared.types.Value.TheVariants.{Null, Int}
-use Rattle.sqlite.specs.Order.{Row}
-use Rattle.sqlite.specs.Program.{overlay}
-use Rattle.sqlite.specs.State.{State, Shown}
-use Rattle.acceptor_store_parts.specs.declared.Version.{Version}
-use Rattle.acceptor_store_parts.specs.declared.Version.TheVariants.{First, Second, Third}
-use Rattle.acceptor_store_parts.specs.Tables.{schema_of, numbers_query}
-use Rattle.acceptor_store_parts.specs.Stored.{number_shown, numbers_of, numbers_shown, three}
-use Rattle.acceptor_store_parts.specs.Serves.{ServesAs}
+use Rattle.acceptor_store_parts.proofs.Words.{IfOk-weaker, Content, Error, Null, Int, Row, overlay, State, Version, First, Second, Third, schema_of, numbers_query, number_shown, numbers_of, numbers_shown, three, ServesAs}
+use Rattle.sqlite.specs.State.{Shown}
 use Rattle.acceptor_store_parts.proofs.Meaning.{two_columns, numbers_query_is, reads}
 use Rattle.acceptor_store_parts.proofs.Rising.{IsRisingBy}
 use Rattle.acceptor_store_parts.proofs.RowsShown.{shown_all}
@@ -38,15 +28,6 @@ pub numbers_found : (old new : State) {X : Type 0} (r : Result X Error) (items :
 numbers_found old new r items = IfOk-weaker r _ _ (λ x h. λ version c was. reads_numbers version old new c was (items x) h)
 
 pub same_numbers : (version : Version) (a b tried row : ℕ) → numbers_shown version a b ≡ numbers_shown version tried row → (a ≡ tried) × (b ≡ row)
-same_numbers First a b tried row e =
-    let one : a ≡ tried = cc in
-    let two : b ≡ row = cc in
-    (one, two)
-same_numbers Second a b tried row e =
-    let one : a ≡ tried = cc in
-    let two : b ≡ row = cc in
-    (one, two)
-same_numbers Third a b tried row e =
-    let one : a ≡ tried = cc in
-    let two : b ≡ row = cc in
-    (one, two)
+same_numbers First a b tried row e = let one : a ≡ tried = cc in let two : b ≡ row = cc in (one, two)
+same_numbers Second a b tried row e = let one : a ≡ tried = cc in let two : b ≡ row = cc in (one, two)
+same_numbers Third a b tried row e = let one : a ≡ tried = cc in let two : b ≡ row = cc in (one, two)

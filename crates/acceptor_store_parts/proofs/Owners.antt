@@ -1,23 +1,9 @@
 -- Tables for an owner are tables of its version.
 use Rattle.std.proofs.Common.{◌≡◌, List, [], ◌∷◌, Option, Some, None, Result, IfOk, refl, sym, subst}
-use Rattle.std.proofs.lemmas.Result.{IfOk-weaker}
-use Rattle.acceptor.specs.Content.{Content}
-use Rattle.sqlite.specs.Schema.{Schema}
+use Rattle.acceptor_store_parts.proofs.Words.{IfOk-weaker, Content, Schema, Error, Null, Blob, Row, overlay, State, IsPlain, Version, Second, Third, Owner, schema_of, facts_query, AreTablesOf, KeepsLearned, fact_shown, AreTablesFor, IsOwnedBy, OwnedBy, owner_bytes, schema_for, version_for, ServesAs, ServesFor}
 use Rattle.sqlite.specs.Tree.{Trees}
-use Rattle.sqlite.specs.declared.error.Error.{Error}
-use Rattle.sqlite.specs.declared.types.Value.TheVariants.{Null, Blob}
-use Rattle.sqlite.specs.Order.{Row}
-use Rattle.sqlite.specs.Program.{overlay}
-use Rattle.sqlite.specs.State.{State, Shown}
+use Rattle.sqlite.specs.State.{Shown}
 use Rattle.sqlite.specs.Listing.{understood}
-use Rattle.sqlite.proofs.Callers.{IsPlain}
-use Rattle.acceptor_store_parts.specs.declared.Version.{Version}
-use Rattle.acceptor_store_parts.specs.declared.Version.TheVariants.{Second, Third}
-use Rattle.acceptor_store_parts.specs.declared.owner.Owner.{Owner}
-use Rattle.acceptor_store_parts.specs.Tables.{schema_of, facts_query}
-use Rattle.acceptor_store_parts.specs.Stored.{AreTablesOf, KeepsLearned, fact_shown}
-use Rattle.acceptor_store_parts.specs.Owned.{AreTablesFor, IsOwnedBy, OwnedBy, owner_bytes, schema_for, version_for}
-use Rattle.acceptor_store_parts.specs.Serves.{ServesAs, ServesFor}
 use Rattle.acceptor_store_parts.proofs.Meaning.{two_columns, facts_is, reads}
 use Rattle.acceptor_store_parts.proofs.RowsShown.{shown_all}
 

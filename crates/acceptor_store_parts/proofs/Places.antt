@@ -1,10 +1,8 @@
 -- Rows by ascending place, and one put among them.
 use Rattle.std.proofs.Common.{◌≡◌, inl, inr, ℕ, ◌+◌, ◌<◌, ◌≤◌, List, [], ◌∷◌, ◌++◌, nat_lt, nat_le, refl, sym, ap, ◌∙◌, arith, true, false}
-use Rattle.std.specs.List.{AllByRecursion, filter}
-use Rattle.std.proofs.lemmas.Bool.Decides.{nat_tests}
-use Rattle.ballots.specs.Rows.{put, rows_from}
-use Rattle.ballots.proofs.Callers.{in_order, put_before, put_here, put_after}
-use Rattle.acceptor.specs.Content.{AreRowsFrom}
+use Rattle.acceptor_store_parts.proofs.Words.{AllByRecursion, nat_tests, put, rows_from, put_before, put_here, put_after, AreRowsFrom}
+use Rattle.std.specs.List.{filter}
+use Rattle.ballots.proofs.Callers.{in_order}
 use Rattle.acceptor_store_parts.proofs.Rising.{IsRisingBy}
 use Rattle.acceptor_store_parts.proofs.Filters.{none_below, all_above}
 

@@ -1,30 +1,17 @@
 -- A row put into a table whose rows rise by their keys.
 use Rattle.std.proofs.Common.{◌≡◌, ◌≢◌, inl, inr, ℕ, pos, ◌<◌, List, [], ◌∷◌, ◌++◌, map, true, false, nat_lt, ◌==◌, not, None, refl, sym, ap, subst, ◌∙◌, arith}
-use Rattle.std.specs.List.{AllByRecursion, filter}
-use Rattle.std.specs.declared.cmp.Ordering.TheVariants.{Less, Equal, Greater}
-use Rattle.std.proofs.lemmas.Int.{ints}
-use Rattle.std.proofs.lemmas.Bool.{cases_lt, cases_eq, eq-eqb, eqb-true}
-use Rattle.std.proofs.lemmas.Bool.Decides.{nat_tests}
+use Rattle.acceptor_store_parts.proofs.Words.{AllByRecursion, Less, Equal, Greater, ints, cases_lt, cases_eq, eq-eqb, eqb-true, nat_tests, without_all, id_in, Has, AreConflicts, conflicts, ids_of, value_cmp-Int, Int, Row, value_cmp, put_row, has_rowid, without_rowid}
+use Rattle.std.specs.List.{filter}
 use Rattle.acceptor_store_parts.proofs.Rising.{IsRisingBy}
 use Rattle.acceptor_store_parts.proofs.Filters.{none_below, all_above, all_others, lower}
-use Rattle.sqlite_rules.specs.Edit.{without_all, id_in}
-use Rattle.sqlite_rules.specs.Lists.{Has}
-use Rattle.sqlite_rules.specs.Keys.{AreConflicts, conflicts}
-use Rattle.sqlite_rules.specs.Calls.{ids_of}
-use Rattle.sqlite_value.proofs.OrderLemmas.{value_cmp-Int}
-use Rattle.sqlite.specs.declared.types.Value.TheVariants.{Int}
 use Rattle.sqlite.specs.Ops.{binary}
 use Rattle.sqlite_value.specs.Keys.{first_key}
-use Rattle.sqlite.specs.Order.{Row, value_cmp}
-use Rattle.sqlite.specs.Tree.{put_row, rowid, has_rowid, without_rowid}
+use Rattle.sqlite.specs.Tree.{rowid}
 use Rattle.sqlite.specs.Table.{Table}
 
 module _ {X : Type 0} (key : X → ℕ) (row : X → Row) (keyed : (x : X) → rowid (row x) ≡ Int (pos (key x))) where
   less : (x y : X) → key x < key y → value_cmp (rowid (row x)) (rowid (row y)) ≡ Less
   less x y lt = rw (keyed x, keyed y, value_cmp-Int) (grind (arith, ints))
-
-  equal : (x y : X) → key x ≡ key y → value_cmp (rowid (row x)) (rowid (row y)) ≡ Equal
-  equal x y same = rw (keyed x, keyed y, value_cmp-Int) (grind (arith, ints))
 
   greater : (x y : X) → key y < key x → value_cmp (rowid (row x)) (rowid (row y)) ≡ Greater
   greater x y gt = rw (keyed x, keyed y, value_cmp-Int) (grind (arith, ints))

@@ -1,22 +1,9 @@
 -- What queries show of a table whose rows rise by their rowids.
 use Rattle.std.proofs.Common.{◌≡◌, inl, inr, ℕ, pos, ◌==◌, ◌<◌, List, [], ◌∷◌, map, nat_le, true, false, refl, ap, subst, ◌∙◌, arith}
 use Rattle.std.specs.List.{filter}
-use Rattle.std.specs.List.Sorted.{IsPermutation}
-use Rattle.std.specs.Ordering.{int_cmp}
-use Rattle.std.specs.declared.cmp.Ordering.TheVariants.{Less, Equal, Greater}
-use Rattle.std.proofs.lemmas.Bool.{cases_Bool, cases_lt, cases_eq}
-use Rattle.std.proofs.lemmas.Bool.Decides.{nat_tests}
-use Rattle.std.proofs.lemmas.Int.{ints}
-use Rattle.ballots.specs.Rows.{rows_from}
-use Rattle.sqlite_sql.specs.declared.ops.CompareOp.TheVariants.{Eq, Ge}
+use Rattle.acceptor_store_parts.proofs.Words.{IsPermutation, int_cmp, Less, Equal, Greater, cases_Bool, cases_lt, cases_eq, nat_tests, ints, rows_from, Eq, Ge, value_cmp-Int, Binary, Int, Row, is_true, IsAnswer, matches, output, inner, end, Term}
 use Rattle.sqlite_sql.specs.declared.ops.BinaryOp.TheVariants as by
-use Rattle.sqlite_value.proofs.OrderLemmas.{value_cmp-Int}
-use Rattle.sqlite.specs.Collation.TheVariants.{Binary}
-use Rattle.sqlite.specs.declared.types.Value.TheVariants.{Int}
-use Rattle.sqlite.specs.Order.{Row}
-use Rattle.sqlite.specs.Ops.{binary, is_true}
-use Rattle.sqlite.specs.Query.{IsAnswer, matches, output, inner, end}
-use Rattle.sqlite.specs.Term.{Term}
+use Rattle.sqlite.specs.Ops.{binary}
 use Rattle.sqlite.specs.Tree.{Trees}
 use Rattle.acceptor_store_parts.proofs.Meaning.{rows_query, is_from, is_at}
 use Rattle.acceptor_store_parts.proofs.InOrder.{out, outs, in_this_order}
@@ -58,9 +45,6 @@ module _ {V : Type 0} (rest : ℕ × V → Row) (shown : ℕ × V → Row) where
   abbrev pub env : Row → ℕ × V → List Row
   env params v = params ∷ (Int (pos v.0) ∷ rest v) ∷ []
 
-  place : ℕ × V → ℕ
-  place v = v.0
-
   each_from : (q : ℕ) (tree : ℕ) (rows : List (ℕ × V)) → matches (λ _. map stored rows) is_from (inner tree end) ((Int (pos q) ∷ []) ∷ []) ≡ map (env (Int (pos q) ∷ [])) (filter (λ v. nat_le q v.0) rows)
   each_from q tree [] = refl
   each_from q tree (v ∷ rows) = elim (cases_Bool (nat_le q v.0)) [
@@ -79,31 +63,24 @@ module _ {V : Type 0} (rest : ℕ × V → Row) (shown : ℕ × V → Row) where
   each_row tree [] = refl
   each_row tree (v ∷ rows) = ap (λ es. env [] v ∷ es) (each_row tree rows)
 
+  module _ (tree : ℕ) (columns : List Term) (db : Trees) where
+    -- what is shown where these rows match
+    shown_by : (params : Row) (terms : List Term) (some : List (ℕ × V)) → IsRisingBy (λ (v : ℕ × V). v.0) some → matches db terms (inner tree end) (params ∷ []) ≡ map (env params) some
+        → ((v : ℕ × V) → output (rows_query tree terms columns) (env params v) ≡ out (λ v. v.0) shown v) → (got : List Row) → IsAnswer (rows_query tree terms columns) db params got → got ≡ map shown some
+    shown_by params terms some rises matched each got a =
+        let staged : a.staged ≡ map (env params) some = a.grouped ∙ matched in
+        let kept : a.kept ≡ map (out (λ v. v.0) shown) some = a.distinct ∙ ap (map (output (rows_query tree terms columns))) staged ∙ outs (λ v. v.0) shown (rows_query tree terms columns) (env params) each some in
+        let same : IsPermutation (map (out (λ v. v.0) shown) some) a.ordered = subst (λ ks. IsPermutation ks a.ordered) kept a.same in
+        a.shown ∙ in_this_order (λ v. v.0) shown tree terms columns some a.ordered rises same a.sorted
+
   module _ (tree : ℕ) (columns : List Term) (rows : List (ℕ × V)) (rises : IsRisingBy (λ (v : ℕ × V). v.0) rows) (db : Trees) (is : db tree ≡ map (λ v. Int (pos v.0) ∷ rest v) rows) where
     pub shown_from : (q : ℕ) → ((v : ℕ × V) → output (rows_query tree is_from columns) (env (Int (pos q) ∷ []) v) ≡ out (λ v. v.0) shown v) → (got : List Row)
         → IsAnswer (rows_query tree is_from columns) db (Int (pos q) ∷ []) got → got ≡ map shown (rows_from rows q)
-    shown_from q each got a =
-        let from = filter (λ (v : ℕ × V). nat_le q v.0) rows in
-        let matched : matches db is_from (inner tree end) ((Int (pos q) ∷ []) ∷ []) ≡ map (env (Int (pos q) ∷ [])) from = rw is (each_from q tree rows) in
-        let staged : a.staged ≡ map (env (Int (pos q) ∷ [])) from = a.grouped ∙ matched in
-        let kept : a.kept ≡ map (out (λ v. v.0) shown) from = a.distinct ∙ ap (map (output (rows_query tree is_from columns))) staged ∙ outs (λ v. v.0) shown (rows_query tree is_from columns) (env (Int (pos q) ∷ [])) each from in
-        let same : IsPermutation (map (out (λ v. v.0) shown) from) a.ordered = subst (λ ks. IsPermutation ks a.ordered) kept a.same in
-        a.shown ∙ in_this_order (λ v. v.0) shown tree is_from columns from a.ordered (rising_kept (λ (v : ℕ × V). v.0) (λ v. nat_le q v.0) rows rises) same a.sorted
+    shown_from q = shown_by tree columns db (Int (pos q) ∷ []) is_from (filter (λ (v : ℕ × V). nat_le q v.0) rows) (rising_kept (λ (v : ℕ × V). v.0) (λ v. nat_le q v.0) rows rises) (rw is (each_from q tree rows))
 
     pub shown_at : (q : ℕ) → ((v : ℕ × V) → output (rows_query tree is_at columns) (env (Int (pos q) ∷ []) v) ≡ out (λ v. v.0) shown v) → (got : List Row)
         → IsAnswer (rows_query tree is_at columns) db (Int (pos q) ∷ []) got → got ≡ map shown (filter (λ v. v.0 == q) rows)
-    shown_at q each got a =
-        let here = filter (λ (v : ℕ × V). v.0 == q) rows in
-        let matched : matches db is_at (inner tree end) ((Int (pos q) ∷ []) ∷ []) ≡ map (env (Int (pos q) ∷ [])) here = rw is (each_at q tree rows) in
-        let staged : a.staged ≡ map (env (Int (pos q) ∷ [])) here = a.grouped ∙ matched in
-        let kept : a.kept ≡ map (out (λ v. v.0) shown) here = a.distinct ∙ ap (map (output (rows_query tree is_at columns))) staged ∙ outs (λ v. v.0) shown (rows_query tree is_at columns) (env (Int (pos q) ∷ [])) each here in
-        let same : IsPermutation (map (out (λ v. v.0) shown) here) a.ordered = subst (λ ks. IsPermutation ks a.ordered) kept a.same in
-        a.shown ∙ in_this_order (λ v. v.0) shown tree is_at columns here a.ordered (rising_kept (λ (v : ℕ × V). v.0) (λ v. v.0 == q) rows rises) same a.sorted
+    shown_at q = shown_by tree columns db (Int (pos q) ∷ []) is_at (filter (λ (v : ℕ × V). v.0 == q) rows) (rising_kept (λ (v : ℕ × V). v.0) (λ v. v.0 == q) rows rises) (rw is (each_at q tree rows))
 
     pub shown_all : ((v : ℕ × V) → output (rows_query tree [] columns) (env [] v) ≡ out (λ v. v.0) shown v) → (got : List Row) → IsAnswer (rows_query tree [] columns) db [] got → got ≡ map shown rows
-    shown_all each got a =
-        let matched : matches db [] (inner tree end) ([] ∷ []) ≡ map (env []) rows = rw is (each_row tree rows) in
-        let staged : a.staged ≡ map (env []) rows = a.grouped ∙ matched in
-        let kept : a.kept ≡ map (out (λ v. v.0) shown) rows = a.distinct ∙ ap (map (output (rows_query tree [] columns))) staged ∙ outs (λ v. v.0) shown (rows_query tree [] columns) (env []) each rows in
-        let same : IsPermutation (map (out (λ v. v.0) shown) rows) a.ordered = subst (λ ks. IsPermutation ks a.ordered) kept a.same in
-        a.shown ∙ in_this_order (λ v. v.0) shown tree [] columns rows a.ordered rises same a.sorted
+    shown_all = shown_by tree columns db [] [] rows rises (rw is (each_row tree rows))

@@ -1,26 +1,8 @@
--- A row by its columns, and votes and learned values by the rows that show them.
-use Rattle.std.proofs.Common.{◌≡◌, ℕ, List, [], ◌∷◌, map, length, ◌==◌, filter, Some, true, false, refl, sym, ◌∙◌, arith, inl, inr}
-use Rattle.std.proofs.lemmas.Bool.Decides.{nat_tests}
-use Rattle.ballots.specs.declared.letters.Cast.{Cast}
-use Rattle.ballots.specs.Rows.{at}
-use Rattle.ballots.proofs.Callers.{at_here, at_before, at_after, in_order}
-use Rattle.sqlite.specs.declared.types.Value.{Value}
-use Rattle.sqlite.specs.Order.{Row, column}
-use Rattle.acceptor_store_parts.specs.Stored.{vote_shown, learned_shown, first_of}
+-- Votes and learned values by the rows that show them.
+use Rattle.std.proofs.Common.{◌≡◌, ℕ, List, [], ◌∷◌, map, ◌==◌, filter, Some, true, false, refl, sym, ◌∙◌, arith, inl, inr}
+use Rattle.acceptor_store_parts.proofs.Words.{nat_tests, Cast, at, at_here, at_before, at_after, vote_shown, learned_shown, first_of}
+use Rattle.ballots.proofs.Callers.{in_order}
 use Rattle.acceptor_store_parts.proofs.Images.{same_lists}
-
-pub three : (row : Row) (a b c : Value) → length row ≡ 3 → column row 0 ≡ a → column row 1 ≡ b → column row 2 ≡ c → row ≡ a ∷ b ∷ c ∷ []
-three [] a b c len e f g = absurd (omega (arith, len))
-three (x ∷ []) a b c len e f g = absurd (omega (arith, len))
-three (x ∷ y ∷ []) a b c len e f g = absurd (omega (arith, len))
-three (x ∷ y ∷ z ∷ []) a b c len e f g = cc
-three (x ∷ y ∷ z ∷ w ∷ more) a b c len e f g = absurd (omega (arith, len))
-
-pub two : (row : Row) (a b : Value) → length row ≡ 2 → column row 0 ≡ a → column row 1 ≡ b → row ≡ a ∷ b ∷ []
-two [] a b len e f = absurd (omega (arith, len))
-two (x ∷ []) a b len e f = absurd (omega (arith, len))
-two (x ∷ y ∷ []) a b len e f = cc
-two (x ∷ y ∷ z ∷ more) a b len e f = absurd (omega (arith, len))
 
 pub same_shown : (v w : ℕ × Cast) → vote_shown v ≡ vote_shown w → v ≡ w
 same_shown v w e =

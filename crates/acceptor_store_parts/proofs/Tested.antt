@@ -1,11 +1,7 @@
 -- What a test of a connection tells.
 use Rattle.std.proofs.Common.{◌≡◌, inl, inr, ℕ, List, true, false, Some, None, sym, ap, ◌∙◌}
-use Rattle.sqlite.specs.Order.{Row}
-use Rattle.sqlite.specs.State.{State, HasCause, IsNotRun, IsUnchanged, store_error}
-use Rattle.sqlite.specs.declared.error.Error.{Error}
-use Rattle.sqlite_trees.specs.declared.error.StoreError.{StoreError}
-use Rattle.sqlite_trees.specs.declared.error.StoreError.TheVariants.{OutOfMemory, Io, Corrupt, Full, Broken, Unstorable}
-use Rattle.acceptor_store_parts.specs.Tests.{IsShutBy, tells_open}
+use Rattle.acceptor_store_parts.proofs.Words.{Row, State, HasCause, IsUnchanged, store_error, Error, StoreError, OutOfMemory, Io, Corrupt, Full, Broken, Unstorable, IsShutBy, tells_open}
+use Rattle.sqlite.specs.State.{IsNotRun}
 
 no_cause : (old new : State) (cause : StoreError) → HasCause old new ⊥ cause → tells_open (store_error cause) ≡ Some true → ⊥
 no_cause old new OutOfMemory has told = cc

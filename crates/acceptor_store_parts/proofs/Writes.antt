@@ -1,32 +1,11 @@
 -- What the writes of the records make of the tables.
 use Rattle.std.proofs.Common.{◌≡◌, ◌≢◌, inl, inr, ℕ, ℤ, pos, List, [], ◌∷◌, ◌++◌, ◌/◌, length, map, filter, nat_lt, false, Some, None, Option, Ok, refl, ap, subst, ◌∙◌}
-use Rattle.ballots.specs.declared.letters.Cast.{Cast}
-use Rattle.ballots.specs.Limits.{IsPlace, IsValue}
-use Rattle.acceptor.proofs.Callers.{rows_put, values_put}
-use Rattle.acceptor.specs.Content.{Content, after_write}
-use Rattle.acceptor.specs.Content.Write.{Tries as Tried, Promises, Votes, Learns}
-use Rattle.sqlite_schema.specs.declared.command.Conflict.TheVariants.{Replace}
+use Rattle.acceptor_store_parts.proofs.Words.{Cast, IsPlace, IsValue, rows_put, values_put, Content, after_write, Promises, Votes, Learns, Replace, Refusal, cast_row, without_all, with_rowid, AreConflicts, ids_of, InsertOr, Values, Int, Mode, Row, put_row, Database, value_rows, Term, Tally, Does, OnRows, stamped, Counts, mended, rowids_for, Written, Task, Judged, Upserts, TriesEach, nothing, count_of, Owner, ballot_table, vote_table, learned_table, fact_table, number_row, vote_row, learned_row, fact_row, vote_shown, learned_shown, fact_shown, three, AreTablesFor, IsOwnedBy, owner_bytes, number_for, schema_for}
+use Rattle.acceptor.specs.Content.Write.{Tries as Tried}
 use Rattle.sqlite_rules.specs.declared.error.Rowids.TheVariants.{Chosen}
-use Rattle.sqlite_rules.specs.declared.error.Refusal.{Refusal}
-use Rattle.sqlite_rules.specs.Cast.{cast_row}
-use Rattle.sqlite_rules.specs.Edit.{without_all, with_rowid}
-use Rattle.sqlite_rules.specs.Keys.{AreConflicts}
-use Rattle.sqlite_rules.specs.Calls.{ids_of}
-use Rattle.sqlite.specs.Command.TheVariants.{InsertOr}
-use Rattle.sqlite.specs.Source.TheVariants.{Values}
-use Rattle.sqlite.specs.declared.types.Value.TheVariants.{Int}
-use Rattle.sqlite.specs.declared.run.Mode.{Mode}
-use Rattle.sqlite.specs.Order.{Row}
 use Rattle.sqlite.specs.Table.{Table}
-use Rattle.sqlite.specs.Tree.{Trees, put_row}
-use Rattle.sqlite.specs.Effect.{Database, value_rows}
-use Rattle.sqlite.specs.Term.{Term}
-use Rattle.sqlite.specs.Does.{Tally, Does, OnRows}
-use Rattle.sqlite.specs.Rows.{stamped, Counts, mended, rowids_for, Written, Task, Judged, Upserts, Tries, TriesEach, nothing, count_of}
-use Rattle.acceptor_store_parts.specs.declared.owner.Owner.{Owner}
-use Rattle.acceptor_store_parts.specs.Tables.{ballot_table, vote_table, learned_table, fact_table}
-use Rattle.acceptor_store_parts.specs.Stored.{number_row, vote_row, learned_row, fact_row, vote_shown, learned_shown, fact_shown, three}
-use Rattle.acceptor_store_parts.specs.Owned.{AreTablesFor, IsOwnedBy, owner_bytes, number_for, schema_for}
+use Rattle.sqlite.specs.Tree.{Trees}
+use Rattle.sqlite.specs.Rows.{Tries}
 use Rattle.acceptor_store_parts.proofs.Meaning.{number_terms, vote_terms, learned_terms}
 use Rattle.acceptor_store_parts.proofs.Rows.{replaced}
 use Rattle.acceptor_store_parts.proofs.Places.{rising, placed_is}

@@ -77,23 +77,11 @@ promised_put = codes "INSERT OR REPLACE INTO ballot (id, number) VALUES (1, ?1)"
 abbrev pub numbers_query : List ℕ
 numbers_query = codes "SELECT id, number FROM ballot ORDER BY id"
 
-abbrev pub vote_query : List ℕ
-vote_query = codes "SELECT place, ballot, value FROM vote WHERE place = ?1 ORDER BY place"
-
-abbrev pub votes_query : List ℕ
-votes_query = codes "SELECT place, ballot, value FROM vote WHERE place >= ?1 ORDER BY place"
-
 abbrev pub all_votes_query : List ℕ
 all_votes_query = codes "SELECT place, ballot, value FROM vote ORDER BY place"
 
 abbrev pub vote_put : List ℕ
 vote_put = codes "INSERT OR REPLACE INTO vote (place, ballot, value) VALUES (?1, ?2, ?3)"
-
-abbrev pub learned_row_query : List ℕ
-learned_row_query = codes "SELECT place, value FROM learned WHERE place = ?1 ORDER BY place"
-
-abbrev pub learned_from_query : List ℕ
-learned_from_query = codes "SELECT place, value FROM learned WHERE place >= ?1 ORDER BY place"
 
 abbrev pub all_learned_query : List ℕ
 all_learned_query = codes "SELECT place, value FROM learned ORDER BY place"

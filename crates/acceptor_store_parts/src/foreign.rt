@@ -1,7 +1,8 @@
 //! Whether a schema is one that no node made.
 
 ghost use Rattle.std.specs.Prelude.{◌↔◌, IsTrue, codes};
-ghost use Rattle.acceptor_store_parts.specs.Foreign.{HasFacts, IsBroken, IsForeignSchema, IsPart, IsThereWithout, IsUnowned, LacksNumbers, LacksVotes, LacksLearned};
+ghost use Rattle.acceptor_store_parts.specs.Foreign.{HasFacts, IsBroken, IsForeignSchema, IsPart, IsUnowned};
+ghost use Rattle.acceptor_store_parts.specs.Foreign.{IsThereWithout, LacksNumbers, LacksVotes, LacksLearned};
 
 use sqlite_schema::schema::{Schema, Table};
 

@@ -1,6 +1,6 @@
 //! The learned values, read and written.
 
-ghost use Rattle.std.specs.Prelude.{◌≡◌, ◌≢◌, ◌==◌, ℕ, List, pos, false, map, filter, IfErr, IfOk, OnOk, OnErr, IsTrue};
+ghost use Rattle.std.specs.Prelude.{◌≡◌, ◌≢◌, ℕ, List, false, map, IfErr, IfOk, OnOk, OnErr, IsTrue};
 ghost use Rattle.std.specs.List.{AllByRecursion};
 ghost use Rattle.ballots.specs.Rows.{at, rows_from};
 ghost use Rattle.acceptor.specs.Content.{AreRowsFrom, Content};
@@ -14,7 +14,7 @@ ghost use Rattle.acceptor_store_parts.specs.Tables.{schema_of};
 ghost use Rattle.acceptor_store_parts.specs.Tests.{IsFault};
 ghost use Rattle.acceptor_store_parts.specs.Rowids.{ShowsLearned};
 
-use crate::reads::{bytes_at, place_at};
+use crate::reads::{Asked, bytes_at, place_at, query_at};
 use crate::{Stop, stop_for};
 use ballots::{MOST_PLACES, Place, Value};
 use sqlite::types::ValueRef;
@@ -77,36 +77,6 @@ pub fn are_rising(learned: &[(Place, Value)]) -> bool
     true
 }
 
-fn query_learned_from<S: Alter>(conn: &mut Connection<S>, first: i64) -> Result<Vec<Row>, Error>
-    ensures value { HasCleanDisk (state S.Store conn.new) → IfOk result (λ rows. (q : _) (c : Content) → first ≡ pos q
-        → Serves (state S.Store conn.old) c → rows.items ≡ map learned_shown (rows_from c.learned q)) }
-    ensures ok { HasCleanDisk (state S.Store conn.new) → OnOk result (Stays (state S.Store conn.old) (state S.Store conn.new)) }
-    ensures err { HasCleanDisk (state S.Store conn.new) → IsTrue (state S.Store conn.new).is_open
-        → StillServes (state S.Store conn.old) (state S.Store conn.new) }
-    ensures survives { Survives (state S.Store conn.old) (state S.Store conn.new) (λ _. DoesNotServe (state S.Store conn.old)) }
-{
-    let from = ValueRef::Int(first);
-    conn.query_all(
-        "SELECT place, value FROM learned WHERE place >= ?1 ORDER BY place",
-        &[from],
-    )
-}
-
-fn query_learned_row<S: Alter>(conn: &mut Connection<S>, place: i64) -> Result<Vec<Row>, Error>
-    ensures value { HasCleanDisk (state S.Store conn.new) → IfOk result (λ rows. (q : _) (c : Content) → place ≡ pos q
-        → Serves (state S.Store conn.old) c → rows.items ≡ map learned_shown (filter (λ v. v.0 == q) c.learned)) }
-    ensures ok { HasCleanDisk (state S.Store conn.new) → OnOk result (Stays (state S.Store conn.old) (state S.Store conn.new)) }
-    ensures err { HasCleanDisk (state S.Store conn.new) → IsTrue (state S.Store conn.new).is_open
-        → StillServes (state S.Store conn.old) (state S.Store conn.new) }
-    ensures survives { Survives (state S.Store conn.old) (state S.Store conn.new) (λ _. DoesNotServe (state S.Store conn.old)) }
-{
-    let at = ValueRef::Int(place);
-    conn.query_all(
-        "SELECT place, value FROM learned WHERE place = ?1 ORDER BY place",
-        &[at],
-    )
-}
-
 /// All rows of the table of learned values, whatever they are.
 pub fn query_all_learned<S: Alter>(conn: &mut Connection<S>) -> Result<Vec<Row>, Error>
     ensures held { HasCleanDisk (state S.Store conn.new) → IfOk result (λ rows. ShowsLearned (state S.Store conn.old) rows.items) }
@@ -133,7 +103,7 @@ pub fn learned_from<S: Alter>(
     ensures stays { HasCleanDisk (state S.Store conn.new) → StaysOpen result → StillServes (state S.Store conn.old) (state S.Store conn.new) }
     ensures survives { Survives (state S.Store conn.old) (state S.Store conn.new) (λ _. DoesNotServe (state S.Store conn.old)) }
 {
-    let rows = match query_learned_from(conn, crate::signed_place(place)) {
+    let rows = match query_at(conn, Asked::LearnedFrom, place) {
         Ok(rows) => rows,
         Err(error) => return Err(stop_for(conn, error)),
     };
@@ -160,7 +130,7 @@ pub fn learned_row<S: Alter>(
     ensures stays { HasCleanDisk (state S.Store conn.new) → StaysOpen result → StillServes (state S.Store conn.old) (state S.Store conn.new) }
     ensures survives { Survives (state S.Store conn.old) (state S.Store conn.new) (λ _. DoesNotServe (state S.Store conn.old)) }
 {
-    let rows = match query_learned_row(conn, crate::signed_place(place)) {
+    let rows = match query_at(conn, Asked::LearnedAt, place) {
         Ok(rows) => rows,
         Err(error) => return Err(stop_for(conn, error)),
     };

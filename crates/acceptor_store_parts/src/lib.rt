@@ -34,7 +34,7 @@ pub use learned::{
 pub use making::{is_blank, make_owned_tables, make_tables, own, raise_version};
 pub use opening::{both_numbers, read_numbers, version_of};
 pub use owner::{Owner, bytes_of, owner_of, version_of_owner};
-pub use reads::{query_all_votes, query_numbers, query_votes, read_votes, vote, votes_from};
+pub use reads::{query_all_votes, query_numbers, read_votes, vote, votes_from};
 pub use rereading::{are_in_order, reread};
 use sqlite::types::ValueRef;
 use sqlite::{Alter, Connection, Error, ErrorCode};

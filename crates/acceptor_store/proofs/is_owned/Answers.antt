@@ -1,7 +1,5 @@
 use Rattle.std.proofs.Common.{ap, ◌∙◌}
-use Rattle.sqlite.specs.Held.{state}
-use Rattle.sqlite.proofs.StateLemmas.{survives_weaker}
-use Rattle.acceptor_store_parts.specs.Owned.{schema_for}
+use Rattle.acceptor_store.proofs.Words.{state, survives_weaker, schema_for}
 use Rattle.acceptor_store.proofs.Reopening.{unchanged_serves}
 use Rattle.acceptor_store.proofs.is_owned.Goals as goal
 

@@ -1,8 +1,5 @@
 use Rattle.std.proofs.Common.{true, Some, arith}
-use Rattle.std.proofs.lemmas.Bool.{and_parts}
-use Rattle.sqlite.specs.Held.{state}
-use Rattle.sqlite_trees.proofs.Doubt.{no_doubt}
-use Rattle.acceptor_store.specs.Owning.{HadBefore}
+use Rattle.acceptor_store.proofs.Words.{and_parts, state, no_doubt, HadBefore}
 use Rattle.acceptor_store.proofs.Reopening.{opened_linked, opened_holds}
 use Rattle.acceptor_store.proofs.SqlRecords.adopt.Goals as goal
 

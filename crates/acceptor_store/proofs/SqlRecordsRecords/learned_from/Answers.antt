@@ -1,6 +1,5 @@
 use Rattle.std.proofs.Common.{◌≡◌, ℕ, List}
-use Rattle.ballots.specs.Rows.{rows_from}
-use Rattle.acceptor.specs.Content.{Content, IsSound}
+use Rattle.acceptor_store.proofs.Words.{rows_from, Content, IsSound}
 use Rattle.acceptor_store.proofs.Failing.{linked_unread}
 use Rattle.acceptor_store.proofs.Calls.{entered, value, same, kept, trust}
 use Rattle.acceptor_store.proofs.SqlRecordsRecords.learned_from.Goals as goal

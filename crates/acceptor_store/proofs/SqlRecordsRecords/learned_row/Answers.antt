@@ -1,6 +1,5 @@
 use Rattle.std.proofs.Common.{◌≡◌, ℕ, List, Option}
-use Rattle.ballots.specs.Rows.{at}
-use Rattle.acceptor.specs.Content.{Content}
+use Rattle.acceptor_store.proofs.Words.{at, Content}
 use Rattle.acceptor_store.proofs.Failing.{linked_unread}
 use Rattle.acceptor_store.proofs.Calls.{entered, value, same, kept, trust}
 use Rattle.acceptor_store.proofs.SqlRecordsRecords.learned_row.Goals as goal

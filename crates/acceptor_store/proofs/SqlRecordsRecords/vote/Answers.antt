@@ -1,7 +1,5 @@
 use Rattle.std.proofs.Common.{◌≡◌, Option}
-use Rattle.ballots.specs.Rows.{at}
-use Rattle.ballots.specs.declared.letters.Cast.{Cast}
-use Rattle.acceptor.specs.Content.{Content}
+use Rattle.acceptor_store.proofs.Words.{at, Cast, Content}
 use Rattle.acceptor_store.proofs.Failing.{linked_unread}
 use Rattle.acceptor_store.proofs.Calls.{entered, value, same, kept, trust}
 use Rattle.acceptor_store.proofs.SqlRecordsRecords.vote.Goals as goal

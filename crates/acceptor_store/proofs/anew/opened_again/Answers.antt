@@ -1,8 +1,5 @@
 use Rattle.std.proofs.Common.{Option, IfSome, sym, subst, arith}
-use Rattle.std.proofs.lemmas.Result.{IfOk-weaker}
-use Rattle.std.proofs.Math.Logic.{∥∥₁_map}
-use Rattle.sqlite.specs.State.{HasCleanDisk}
-use Rattle.sqlite.specs.Held.{Held, state}
+use Rattle.acceptor_store.proofs.Words.{IfOk-weaker, ∥∥₁_map, HasCleanDisk, Held, state}
 use Rattle.acceptor_store.proofs.anew.opened_again.Goals as goal
 
 pub returns-in-Some-clause-found : goal.returns-in-Some-clause-found

@@ -1,12 +1,5 @@
 use Rattle.std.proofs.Common.{◌≡◌, IfSome, sym, ap, subst, ◌∙◌, arith}
-use Rattle.ballots.specs.Ballots.{number_of}
-use Rattle.ballots.specs.Rows.{rows_from}
-use Rattle.acceptor.specs.Content.{Content}
-use Rattle.sqlite.specs.State.{HasCleanDisk}
-use Rattle.sqlite.specs.Held.{state}
-use Rattle.sqlite.proofs.StateLemmas.{survives_then}
-use Rattle.acceptor_store_parts.specs.Serves.{ServesAs}
-use Rattle.acceptor_store_parts.proofs.Callers.{all_rows, serves_as}
+use Rattle.acceptor_store.proofs.Words.{number_of, rows_from, Content, HasCleanDisk, state, survives_then, ServesAs, all_rows, serves_as}
 use Rattle.acceptor_store.proofs.known.ballots_in.Goals as goal
 
 pub returns-clause-value : goal.returns-clause-value

@@ -1,6 +1,5 @@
 use Rattle.std.proofs.Common.{refl, arith}
-use Rattle.sqlite.specs.Held.{state}
-use Rattle.sqlite.proofs.StateLemmas.{survives_then, survives_weaker}
+use Rattle.acceptor_store.proofs.Words.{state, survives_then, survives_weaker}
 use Rattle.acceptor_store.proofs.known.cast_vote.Goals as goal
 
 pub returns-clause-value : goal.returns-clause-value

@@ -1,9 +1,5 @@
 use Rattle.std.proofs.Common.{◌≡◌, ℕ, ◌+◌, max, drop, get_or, sym, ap, ◌∙◌}
-use Rattle.std.proofs.lemmas.List.{at_drop_more}
-use Rattle.ballots.specs.Ballots.{number_of}
-use Rattle.ballots.specs.declared.letters.Cast.{Cast}
-use Rattle.acceptor.specs.Content.{greatest}
-use Rattle.acceptor.proofs.Callers.{greatest_max}
+use Rattle.acceptor_store.proofs.Words.{at_drop_more, number_of, Cast, greatest, greatest_max}
 use Rattle.acceptor_store.proofs.known.greatest_of.Goals as goal
 
 pub loop-vote-preserved : goal.loop-vote-preserved

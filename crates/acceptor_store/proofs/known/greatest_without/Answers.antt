@@ -1,8 +1,5 @@
 use Rattle.std.proofs.Common.{ℕ, ◌∷◌, ◌+◌, drop, sym, ap, ◌∙◌}
-use Rattle.std.proofs.lemmas.List.{at_drop_more}
-use Rattle.ballots.specs.Ballots.{number_of}
-use Rattle.ballots.specs.declared.letters.Cast.{Cast}
-use Rattle.acceptor_store.specs.Linked.{greatest_beside}
+use Rattle.acceptor_store.proofs.Words.{at_drop_more, number_of, Cast, greatest_beside}
 use Rattle.acceptor_store.proofs.Beside.{beside_next}
 use Rattle.acceptor_store.proofs.known.greatest_without.Goals as goal
 

@@ -1,6 +1,5 @@
 use Rattle.std.proofs.Common.{◌≡◌, drop}
-use Rattle.ballots.specs.Ballots.{number_of}
-use Rattle.acceptor_store.specs.Linked.{greatest_beside}
+use Rattle.acceptor_store.proofs.Words.{number_of, greatest_beside}
 use Rattle.acceptor_store.proofs.known.greatest_without.Given as goal
 
 abbrev pub invariant-loop-vote : goal.invariant-loop-vote

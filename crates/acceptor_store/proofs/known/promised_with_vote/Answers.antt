@@ -1,6 +1,5 @@
 use Rattle.std.proofs.Common.{◌≡◌, max, refl, sym, ap, ◌∙◌, arith}
-use Rattle.ballots.specs.Ballots.{number_of}
-use Rattle.acceptor_store.specs.Linked.{greatest_beside}
+use Rattle.acceptor_store.proofs.Words.{number_of, greatest_beside}
 use Rattle.acceptor_store.proofs.Beside.{put_beside, raised_vote}
 use Rattle.acceptor_store.proofs.known.promised_with_vote.Goals as goal
 

@@ -1,6 +1,5 @@
 use Rattle.std.proofs.Common.{arith, inr}
-use Rattle.sqlite.specs.State.{HasCleanDisk}
-use Rattle.sqlite.specs.Held.{state}
+use Rattle.acceptor_store.proofs.Words.{HasCleanDisk, state}
 use Rattle.acceptor_store.proofs.Leaving.{raises_whole}
 use Rattle.acceptor_store.proofs.Refusing.{raise_refused}
 use Rattle.acceptor_store.proofs.opening.brought_up.Goals as goal

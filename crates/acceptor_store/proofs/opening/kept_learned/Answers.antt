@@ -1,8 +1,5 @@
 use Rattle.std.proofs.Common.{◌≡◌, refl, sym, subst, ◌∙◌, arith}
-use Rattle.acceptor.specs.Content.{AreRowsFrom}
-use Rattle.sqlite.specs.Held.{state}
-use Rattle.sqlite.proofs.StateLemmas.{survives_then}
-use Rattle.acceptor_store_parts.proofs.Callers.{all_learned_shown}
+use Rattle.acceptor_store.proofs.Words.{AreRowsFrom, state, survives_then, all_learned_shown}
 use Rattle.acceptor_store.proofs.Reopening.{stays_as}
 use Rattle.acceptor_store.proofs.Refusing.{query_refused}
 use Rattle.acceptor_store.proofs.opening.kept_learned.Goals as goal

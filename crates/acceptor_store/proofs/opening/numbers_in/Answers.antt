@@ -1,8 +1,5 @@
 use Rattle.std.proofs.Common.{sym, ◌∙◌, arith}
-use Rattle.ballots.specs.Ballots.{number_of}
-use Rattle.sqlite.specs.Held.{state}
-use Rattle.sqlite.proofs.StateLemmas.{survives_then}
-use Rattle.acceptor_store_parts.specs.Stored.{numbers_of}
+use Rattle.acceptor_store.proofs.Words.{number_of, state, survives_then, numbers_of}
 use Rattle.acceptor_store.proofs.Reopening.{stays_as}
 use Rattle.acceptor_store.proofs.Refusing.{query_refused}
 use Rattle.acceptor_store.proofs.opening.numbers_in.Goals as goal

@@ -1,13 +1,10 @@
 use Rattle.std.proofs.Common.{inl, Err, sym, ap, subst, ◌∙◌, inr}
-use Rattle.acceptor_store_parts.specs.Foreign.{IsForeignSchema}
-use Rattle.acceptor_store.specs.Linked.{HasFurther}
-use Rattle.acceptor_store.proofs.Reopening.{always, told_rows, not_third, all_prepare}
-use Rattle.acceptor_store.proofs.Leaving.{left_whole}
-use Rattle.acceptor_store.proofs.Refusing.{all_refused}
+use Rattle.acceptor_store.proofs.Words.{IfErr-weaker, IfOk-weaker, IsForeignSchema, HasFurther}
+use Rattle.acceptor_store.proofs.Reopening.{always, not_third}
 use Rattle.acceptor_store.proofs.opening.prepared.Goals as goal
 
 pub returns-in-Ok-judged-clause-foreign : goal.returns-in-Ok-judged-clause-foreign
-returns-in-Ok-judged-clause-foreign g c = told_rows g.S.Store c.in-Ok-judged.version c.args.conn c.brought_up.result (sym c.schema-2.ensures.value ∙ c.in-Ok-judged.ensures.own) c.brought_up.ensures.foreign
+returns-in-Ok-judged-clause-foreign g c = IfErr-weaker c.brought_up.result _ _ (λ e h foreign clean. inr (c.in-Ok-judged.version, sym c.schema-2.ensures.value ∙ c.in-Ok-judged.ensures.own, h foreign clean)) c.brought_up.ensures.foreign
 
 pub returns-in-Err-judged-clause-foreign : goal.returns-in-Err-judged-clause-foreign
 returns-in-Err-judged-clause-foreign g c foreign clean = inl (subst IsForeignSchema c.schema-2.ensures.value (c.in-Err-judged.ensures.foreign (ap Err foreign)))
@@ -19,15 +16,13 @@ pub returns-in-Err-judged-clause-further : goal.returns-in-Err-judged-clause-fur
 returns-in-Err-judged-clause-further g c free further = let it = subst HasFurther (sym c.schema-2.ensures.value) further in c.in-Err-judged.ensures.further it.0 it.1
 
 pub returns-in-Ok-judged-clause-tables : goal.returns-in-Ok-judged-clause-tables
-returns-in-Ok-judged-clause-tables g c =
-    all_prepare g.S.Store c.args.conn _ c.brought_up.result (sym c.schema-2.ensures.value ∙ c.in-Ok-judged.ensures.own) c.brought_up.ensures.tables
+returns-in-Ok-judged-clause-tables g c = IfOk-weaker c.brought_up.result _ _ (λ x h clean. h clean (sym c.schema-2.ensures.value ∙ c.in-Ok-judged.ensures.own)) c.brought_up.ensures.tables
 
 pub returns-in-Ok-judged-clause-unowned : goal.returns-in-Ok-judged-clause-unowned
 returns-in-Ok-judged-clause-unowned g c free foreign = absurd (c.in-Ok-judged.ensures.ours (subst IsForeignSchema (sym c.schema-2.ensures.value) foreign))
 
 pub returns-in-Ok-judged-clause-whole : goal.returns-in-Ok-judged-clause-whole
-returns-in-Ok-judged-clause-whole g c =
-    left_whole g.S.Store c.in-Ok-judged.version c.args.conn c.brought_up.result (sym c.schema-2.ensures.value ∙ c.in-Ok-judged.ensures.own) c.brought_up.ensures.whole
+returns-in-Ok-judged-clause-whole g c = IfErr-weaker c.brought_up.result _ _ (λ e h clean. h clean (sym c.schema-2.ensures.value ∙ c.in-Ok-judged.ensures.own)) c.brought_up.ensures.whole
 
 pub brought_up-requires : goal.brought_up-requires
 brought_up-requires g c = record { unowned = not_third _ c.in-Ok-judged.version c.in-Ok-judged.ensures.own c.in-Ok-judged.ensures.ours }
@@ -37,7 +32,7 @@ returns-in-Ok-judged-clause-ours g c = always c.brought_up.result (λ foreign. c
 
 pub returns-in-Ok-judged-clause-refused : goal.returns-in-Ok-judged-clause-refused
 returns-in-Ok-judged-clause-refused g c =
-    all_refused g.S.Store c.args.conn c.in-Ok-judged.version c.brought_up.result (sym c.schema-2.ensures.value ∙ c.in-Ok-judged.ensures.own) c.brought_up.ensures.refused
+    IfErr-weaker c.brought_up.result _ _ (λ e h refused clean. elim (h refused clean (sym c.schema-2.ensures.value ∙ c.in-Ok-judged.ensures.own)) [ inl made ↦ inr (inr (inl made)) | inr fails ↦ inr (inr (inr (c.in-Ok-judged.version, fails))) ]) c.brought_up.ensures.refused
 
 pub returns-in-Err-judged-clause-refused : goal.returns-in-Err-judged-clause-refused
 returns-in-Err-judged-clause-refused g c refused clean = inr (inl (

@@ -1,19 +1,17 @@
 use Rattle.std.proofs.Common.{refl, sym, subst, ◌∙◌, arith}
-use Rattle.sqlite.specs.State.{HasCleanDisk}
-use Rattle.sqlite.specs.Held.{state}
-use Rattle.acceptor_store_parts.specs.Foreign.{HasFacts}
-use Rattle.acceptor_store.proofs.Owning.{adopts_plain, all_adopt, all_left_owned, all_owned_due, left_adopting, left_plain, plain_due, store_due_before}
+use Rattle.acceptor_store.proofs.Words.{IfErr-weaker, IfOk-weaker, HasCleanDisk, state, HasFacts}
+use Rattle.acceptor_store.proofs.Owning.{adopts_owned, adopts_plain, left_adopting, left_owned, left_plain, owned_due, plain_due, store_due_before}
 use Rattle.acceptor_store.proofs.owned.adopted.Goals as goal
 
 pub returns-then-has_facts-clause-tables : goal.returns-then-has_facts-clause-tables
-returns-then-has_facts-clause-tables g c = all_adopt g.S.Store c.args.owner.now c.args.conn c.prepared_for.result c.prepared_for.ensures.tables
+returns-then-has_facts-clause-tables g c = IfOk-weaker c.prepared_for.result _ _ (λ x h clean. adopts_owned g.S.Store c.args.owner.now c.args.conn x.0 x.1 (h clean)) c.prepared_for.ensures.tables
 
 pub returns-then-has_facts-clause-whole : goal.returns-then-has_facts-clause-whole
-returns-then-has_facts-clause-whole g c = all_left_owned g.S.Store c.args.owner.now c.args.conn c.prepared_for.result c.prepared_for.ensures.whole
+returns-then-has_facts-clause-whole g c = IfErr-weaker c.prepared_for.result _ _ (λ e h clean db may. left_owned g.S.Store c.args.owner.now c.args.conn db (h clean db may)) c.prepared_for.ensures.whole
 
 pub returns-then-has_facts-clause-due : goal.returns-then-has_facts-clause-due
 returns-then-has_facts-clause-due g c =
-    all_owned_due g.S.Store c.args.owner.now c.args.conn c.prepared_for.result (subst HasFacts c.schema-2.ensures.value (c.if-has_facts.ensures.yes refl)) c.prepared_for.ensures.due
+    IfErr-weaker c.prepared_for.result _ _ (λ e h clean. owned_due g.S.Store c.args.owner.now c.args.conn e.0 (subst HasFacts c.schema-2.ensures.value (c.if-has_facts.ensures.yes refl)) (h clean)) c.prepared_for.ensures.due
 
 pub returns-in-Err-clause-due : goal.returns-in-Err-clause-due
 returns-in-Err-clause-due g c sure =

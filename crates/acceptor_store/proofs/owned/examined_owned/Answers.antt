@@ -1,9 +1,6 @@
 use Rattle.std.proofs.Common.{◌≡◌, Err, ap, subst, sym, ◌∙◌, arith}
-use Rattle.sqlite.specs.Effect.{Database}
-use Rattle.sqlite.specs.State.{HasCleanDisk}
-use Rattle.sqlite.specs.Held.{state}
-use Rattle.acceptor_store_parts.specs.Owned.{OwnedBy}
-use Rattle.acceptor_store.specs.declared.OpenFault.TheVariants.{Foreign, Refused}
+use Rattle.acceptor_store.proofs.Words.{Database, HasCleanDisk, state, OwnedBy, Foreign}
+use Rattle.acceptor_store.specs.declared.OpenFault.TheVariants.{Refused}
 use Rattle.acceptor_store.proofs.Owning.{examines_for, none_owned, two_leave, unnamed}
 use Rattle.acceptor_store.proofs.Refusing.{stopped_since}
 use Rattle.acceptor_store.proofs.owned.examined_owned.Goals as goal

@@ -1,8 +1,5 @@
 use Rattle.std.proofs.Common.{[], ◌∷◌, sym, ◌∙◌, arith}
-use Rattle.sqlite.specs.Held.{state}
-use Rattle.sqlite.proofs.StateLemmas.{survives_then}
-use Rattle.acceptor_store_parts.specs.declared.Version.TheVariants.{Third}
-use Rattle.acceptor_store_parts.specs.Owned.{owner_bytes}
+use Rattle.acceptor_store.proofs.Words.{state, survives_then, Third, owner_bytes}
 use Rattle.acceptor_store.proofs.Reopening.{stays_as}
 use Rattle.acceptor_store.proofs.Refusing.{query_refused}
 use Rattle.acceptor_store.proofs.owned.owner_in.Goals as goal

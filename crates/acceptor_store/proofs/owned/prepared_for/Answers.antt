@@ -1,20 +1,17 @@
 use Rattle.std.proofs.Common.{sym, subst, ◌∙◌, inl, inr, Err, ap}
-use Rattle.acceptor_store_parts.specs.Foreign.{IsBroken, IsUnowned}
-use Rattle.acceptor_store.specs.Owning.{HasFurtherAs}
-use Rattle.acceptor_store.proofs.Owning.{all_due, all_left, all_prepare_for, schema_due}
-use Rattle.acceptor_store.proofs.Refusing.{all_refused_for}
+use Rattle.acceptor_store.proofs.Words.{IfErr-weaker, IfOk-weaker, IsBroken, IsUnowned, HasFurtherAs}
+use Rattle.acceptor_store.proofs.Owning.{prepares_for, schema_due}
 use Rattle.acceptor_store.proofs.owned.prepared_for.Goals as goal
 
 pub returns-in-Ok-judged-clause-tables : goal.returns-in-Ok-judged-clause-tables
 returns-in-Ok-judged-clause-tables g c =
-    all_prepare_for g.S.Store c.args.owner.now c.args.is_new c.args.conn c.claimed.result (sym c.schema-2.ensures.value ∙ c.in-Ok-judged.ensures.own) c.claimed.ensures.tables
+    IfOk-weaker c.claimed.result _ _ (λ x h clean. prepares_for g.S.Store c.args.owner.now c.args.is_new c.args.conn x.0 x.1 (h clean (sym c.schema-2.ensures.value ∙ c.in-Ok-judged.ensures.own))) c.claimed.ensures.tables
 
 pub returns-in-Ok-judged-clause-due : goal.returns-in-Ok-judged-clause-due
-returns-in-Ok-judged-clause-due g c =
-    all_due g.S.Store c.args.owner.now c.args.is_new c.args.conn c.claimed.result (sym c.schema-2.ensures.value ∙ c.in-Ok-judged.ensures.own) c.claimed.ensures.due
+returns-in-Ok-judged-clause-due g c = IfErr-weaker c.claimed.result _ _ (λ e h clean. h clean (sym c.schema-2.ensures.value ∙ c.in-Ok-judged.ensures.own) c.args.is_new) c.claimed.ensures.due
 
 pub returns-in-Ok-judged-clause-whole : goal.returns-in-Ok-judged-clause-whole
-returns-in-Ok-judged-clause-whole g c = all_left g.S.Store c.args.owner.now c.args.is_new c.args.conn c.claimed.result c.claimed.ensures.left
+returns-in-Ok-judged-clause-whole g c = IfErr-weaker c.claimed.result _ _ (λ e h clean db may. inl (h clean db may)) c.claimed.ensures.left
 
 pub returns-in-Ok-judged-clause-broken : goal.returns-in-Ok-judged-clause-broken
 returns-in-Ok-judged-clause-broken g c free broken = absurd (let e = c.in-Ok-judged.ensures.broken (subst IsBroken (sym c.schema-2.ensures.value) broken) in cc)
@@ -40,7 +37,7 @@ returns-in-Err-judged-clause-further g c free further =
     c.in-Err-judged.ensures.further it.0 it.1 it.2
 
 pub returns-in-Ok-judged-clause-refused : goal.returns-in-Ok-judged-clause-refused
-returns-in-Ok-judged-clause-refused g c = all_refused_for g.S.Store c.args.conn c.claimed.result c.claimed.ensures.refused
+returns-in-Ok-judged-clause-refused g c = IfErr-weaker c.claimed.result _ _ (λ e h refused clean. inr (inr (inr (h refused clean)))) c.claimed.ensures.refused
 
 pub returns-in-Err-judged-clause-refused : goal.returns-in-Err-judged-clause-refused
 returns-in-Err-judged-clause-refused g c refused clean =

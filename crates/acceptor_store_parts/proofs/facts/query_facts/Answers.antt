@@ -1,10 +1,6 @@
 use Rattle.std.proofs.Common.{sym, subst}
 use Rattle.sqlite.specs.Listing.{understood}
-use Rattle.sqlite.specs.Held.{state}
-use Rattle.sqlite.proofs.StateLemmas.{survives_weaker}
-use Rattle.sqlite.proofs.Callers.{IsPlain, never_commits}
-use Rattle.acceptor_store_parts.specs.declared.Version.TheVariants.{Third}
-use Rattle.acceptor_store_parts.specs.Tables.{facts_query, schema_of}
+use Rattle.acceptor_store_parts.proofs.Words.{state, survives_weaker, IsPlain, never_commits, Third, facts_query, schema_of}
 use Rattle.acceptor_store_parts.proofs.Meaning.{two_columns, facts_is, plain}
 use Rattle.acceptor_store_parts.proofs.Owners.{owner_shown}
 use Rattle.acceptor_store_parts.proofs.Raw.{facts_are_shown}

@@ -1,6 +1,5 @@
 use Rattle.std.proofs.Common.{◌≡◌, ℕ, ◌+◌, List, ◌∷◌, drop, sym, ap, subst, ◌∙◌, arith}
-use Rattle.std.proofs.lemmas.List.{at_drop_more, at_drop_all}
-use Rattle.acceptor.specs.Content.{AreRowsFrom}
+use Rattle.acceptor_store_parts.proofs.Words.{at_drop_more, at_drop_all, AreRowsFrom}
 use Rattle.acceptor_store_parts.proofs.learned.are_rising.Goals as goal
 
 pub loop-row-init : goal.loop-row-init

@@ -1,11 +1,8 @@
 use Rattle.std.proofs.Common.{sym, subst}
 use Rattle.sqlite.specs.Listing.{understood}
-use Rattle.sqlite.specs.Held.{state}
-use Rattle.sqlite.proofs.StateLemmas.{survives_weaker}
-use Rattle.sqlite.proofs.Callers.{IsPlain, never_commits}
-use Rattle.acceptor_store_parts.specs.Tables.{all_learned_query, schema_of}
+use Rattle.acceptor_store_parts.proofs.Words.{state, survives_weaker, IsPlain, never_commits, all_learned_query, schema_of}
 use Rattle.acceptor_store_parts.proofs.Meaning.{two_columns, all_learned_is, plain}
-use Rattle.acceptor_store_parts.proofs.LearnedRows.{all_learned_found}
+use Rattle.acceptor_store_parts.proofs.Answered.{all_learned_found}
 use Rattle.acceptor_store_parts.proofs.Raw.{learned_are_shown}
 use Rattle.acceptor_store_parts.proofs.Kept.{all_same}
 use Rattle.acceptor_store_parts.proofs.Fails.{learned_typed, all_fail}

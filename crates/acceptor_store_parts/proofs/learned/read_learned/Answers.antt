@@ -1,8 +1,5 @@
 use Rattle.std.proofs.Common.{◌≡◌, ◌+◌, [], ◌∷◌, ◌++◌, drop, take, map, sym, ap, slice_index_or, subst, ◌∙◌, arith}
-use Rattle.std.proofs.lemmas.List.{at_drop_more, take_more}
-use Rattle.std.specs.List.{AllByRecursion}
-use Rattle.sqlite.specs.Order.{Row}
-use Rattle.acceptor_store_parts.specs.Stored.{IsLearned, learned_shown}
+use Rattle.acceptor_store_parts.proofs.Words.{at_drop_more, take_more, AllByRecursion, Row, IsLearned, learned_shown}
 use Rattle.acceptor_store_parts.proofs.Casts.{one_more, one_shown, shown_at}
 use Rattle.acceptor_store_parts.proofs.learned.read_learned.Goals as goal
 

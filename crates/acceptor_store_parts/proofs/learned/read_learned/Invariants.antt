@@ -1,6 +1,5 @@
 use Rattle.std.proofs.Common.{◌≡◌, take, map}
-use Rattle.std.specs.List.{AllByRecursion}
-use Rattle.acceptor_store_parts.specs.Stored.{IsLearned, learned_shown}
+use Rattle.acceptor_store_parts.proofs.Words.{AllByRecursion, IsLearned, learned_shown}
 use Rattle.acceptor_store_parts.proofs.learned.read_learned.Given as goal
 
 abbrev pub invariant-loop-row : goal.invariant-loop-row

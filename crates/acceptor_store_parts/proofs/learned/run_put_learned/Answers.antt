@@ -1,10 +1,5 @@
 use Rattle.std.proofs.Common.{[], ◌∷◌, pos, subst, rules, SFits, w64}
-use Rattle.std.proofs.lemmas.Int.{to_z-of_z}
-use Rattle.sqlite.specs.declared.types.Value.TheVariants.{Int, Blob}
-use Rattle.ballots.specs.Limits.{IsValue}
-use Rattle.sqlite.specs.Held.{state}
-use Rattle.sqlite.proofs.StateLemmas.{survives_weaker}
-use Rattle.acceptor_store_parts.specs.Tables.{learned_put}
+use Rattle.acceptor_store_parts.proofs.Words.{to_z-of_z, Int, Blob, IsValue, state, survives_weaker, learned_put}
 use Rattle.acceptor_store_parts.proofs.States.{learns, made, commits}
 use Rattle.acceptor_store_parts.proofs.Kept.{failed_serves}
 use Rattle.acceptor_store_parts.proofs.learned.run_put_learned.Goals as goal

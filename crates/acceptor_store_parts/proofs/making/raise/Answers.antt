@@ -1,5 +1,4 @@
-use Rattle.sqlite.specs.Held.{state}
-use Rattle.sqlite.proofs.StateLemmas.{survives_then}
+use Rattle.acceptor_store_parts.proofs.Words.{state, survives_then}
 use Rattle.acceptor_store_parts.proofs.making.raise.Goals as goal
 
 pub returns-in-Err-clause-survives : goal.returns-in-Err-clause-survives

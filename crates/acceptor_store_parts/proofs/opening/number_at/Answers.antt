@@ -1,7 +1,5 @@
 use Rattle.std.proofs.Common.{◌≡◌, pos, sym, ap, ◌∙◌, rules, SFits, w64}
-use Rattle.std.proofs.lemmas.Int.{to_z-of_z}
-use Rattle.sqlite.specs.Order.{Row, column}
-use Rattle.sqlite.specs.declared.types.Value.TheVariants.{Int}
+use Rattle.acceptor_store_parts.proofs.Words.{to_z-of_z, Row, column, Int}
 use Rattle.acceptor_store_parts.proofs.opening.number_at.Goals as goal
 
 pub returns-in-Err-clause-none : goal.returns-in-Err-clause-none

@@ -1,8 +1,5 @@
 use Rattle.std.proofs.Common.{sym, ◌∙◌}
-use Rattle.std.proofs.lemmas.Option.{IfSome_then}
-use Rattle.sqlite.specs.Held.{state}
-use Rattle.sqlite.proofs.StateLemmas.{survives_then, survives_weaker}
-use Rattle.acceptor_store_parts.specs.Owned.{version_for}
+use Rattle.acceptor_store_parts.proofs.Words.{IfSome_then, state, survives_then, survives_weaker, version_for}
 use Rattle.acceptor_store_parts.proofs.Numbers.{same_numbers}
 use Rattle.acceptor_store_parts.proofs.Owners.{as_version}
 use Rattle.acceptor_store_parts.proofs.opening.read_numbers.Goals as goal

@@ -1,8 +1,5 @@
 use Rattle.std.proofs.Common.{◌≡◌, ◌+◌, [], ◌∷◌, ◌++◌, drop, take, map, sym, ap, slice_index_or, subst, ◌∙◌, arith}
-use Rattle.std.proofs.lemmas.List.{at_drop_more, take_more}
-use Rattle.std.specs.List.{AllByRecursion}
-use Rattle.sqlite.specs.Order.{Row}
-use Rattle.acceptor_store_parts.specs.Stored.{IsCast, vote_shown}
+use Rattle.acceptor_store_parts.proofs.Words.{at_drop_more, take_more, AllByRecursion, Row, IsCast, vote_shown}
 use Rattle.acceptor_store_parts.proofs.Casts.{one_more, one_shown, shown_at}
 use Rattle.acceptor_store_parts.proofs.reads.read_votes.Goals as goal
 

@@ -1,13 +1,7 @@
 use Rattle.std.proofs.Common.{◌≡◌, false, refl, sym, ap, subst, ◌∙◌, arith}
-use Rattle.sqlite.specs.Effect.{Database}
-use Rattle.sqlite_trees.specs.Tree.{Trees, IsTable}
-use Rattle.sqlite_trees.specs.View.{IsShaped, IsClean}
+use Rattle.acceptor_store_parts.proofs.Words.{Database, IsTable, IsShaped, IsClean, is_open_now, Version, First, Second, Third, AreShaped, KeepsLearned}
+use Rattle.sqlite_trees.specs.Tree.{Trees}
 use Rattle.sqlite_trees.specs.declared.store.Shape.TheVariants.{Table}
-use Rattle.sqlite.proofs.StreamLemmas.{is_open_now}
-use Rattle.acceptor_store_parts.specs.declared.Version.{Version}
-use Rattle.acceptor_store_parts.specs.declared.Version.TheVariants.{First, Second, Third}
-use Rattle.acceptor_store_parts.specs.Rowids.{AreShaped}
-use Rattle.acceptor_store_parts.specs.Stored.{KeepsLearned}
 use Rattle.acceptor_store_parts.proofs.rereading.reread.Goals as goal
 
 -- the trees of a version's tables are tables
