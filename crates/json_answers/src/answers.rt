@@ -4,10 +4,10 @@ ghost use Rattle.std.specs.Prelude.{◌≡◌, OnOk, List, codes};
 ghost use Rattle.serde_json.specs.View.{members_view};
 ghost use Rattle.json_answers.specs.Answers.{with_name, with_sid, with_sending, with_fault, with_answer};
 
-use crate::names::{event_refusal_name, heard_name, want_fault_name};
+use crate::names::want_fault_name;
 use json_outputs::{put_number, put_text};
 use modem::Sending;
-use printed_answers::fault_name;
+use printed_answers::{fault_name, heard_text, refusal_name};
 use seats::Answer;
 use serde_json::{Map, Value};
 use std::alloc::{AllocError, Global};
@@ -88,7 +88,7 @@ pub(crate) fn put_answer(
         }
         Answer::Heard(heard) => {
             put_name(map, alloc, "heard")?;
-            put_text(map, alloc, "heard", heard_name(heard))
+            put_text(map, alloc, "heard", heard_text(heard))
         }
         Answer::Ticked(sending) => put_sending(map, alloc, sending),
         Answer::WantRefused(fault) => put_fault(
@@ -103,7 +103,7 @@ pub(crate) fn put_answer(
             alloc,
             "refused",
             refusal.number(),
-            event_refusal_name(refusal),
+            refusal_name(refusal),
         ),
         Answer::Fault(fault) => put_fault(map, alloc, "fault", fault.number(), fault_name(fault)),
         Answer::Crashed => put_name(map, alloc, "crashed"),

@@ -29,11 +29,6 @@ false-sum : (a : Bool) → sum_of false a ≡ a
 false-sum false = refl
 false-sum true = refl
 
-plus-nil : (cs : List Bool) → plus cs [] ≡ cs
-unfolding plus
-plus-nil [] = refl
-plus-nil (c ∷ cs) = refl
-
 plus_comm : (cs ds : List Bool) → plus cs ds ≡ plus ds cs
 unfolding plus
 plus_comm [] [] = refl

@@ -1,5 +1,5 @@
 -- What a line asks that is refused, and that it asks one thing at most.
-use Rattle.std.proofs.Common.{◌≡◌, ◌≢◌, ℕ, ◌+◌, ◌<◌, ◌≤◌, ◌⊎◌, List, ◌∷◌, ◌++◌, length, Result, Ok, Err, inl, inr, refl, sym, ap, subst, ◌∙◌, get_or, arith}
+use Rattle.std.proofs.Common.{◌≡◌, ◌≢◌, ℕ, ◌+◌, ◌==◌, ◌<◌, ◌≤◌, List, ◌∷◌, ◌++◌, length, Result, Ok, Err, inl, inr, refl, sym, ap, subst, ◌∙◌, get_or, if◌then◌else◌, arith}
 use Rattle.std.specs.Prelude.{IfErr, IsErr, codes}
 use Rattle.hex.specs.Hex.{decode_of}
 use Rattle.hex.specs.declared.error.FromHexError.{FromHexError}
@@ -28,54 +28,46 @@ same_letter a b e = cc
 same_tell : (a b : List ℕ) → tell_word ++ a ≡ tell_word ++ b → a ≡ b
 same_tell a b e = cc
 
--- two lines that differ in a byte
-differ : (i : ℕ) (a b : List ℕ) → (get_or a i 0 ≡ get_or b i 0 → ⊥) → a ≡ b → ⊥
-differ i a b other same = other (ap (λ (x : List ℕ). get_or x i 0) same)
+-- the forms of a line
+data Form : Type 0 where
+  LeadForm : Form
+  DigitsForm : Form
+  CommandForm : Form
+  ReleaseForm : Form
+  TellForm : Form
+  LetterForm : Form
 
-offer_is_no_release : (a b : List ℕ) → offer_word ++ a ≡ release_word ++ b → ⊥
-offer_is_no_release a b = differ 0 (offer_word ++ a) (release_word ++ b) (λ same. absurd (omega (arith, same)))
+-- the form of a line that asks something: its first byte tells it, and of two the third
+abbrev form : List ℕ → Form
+form line =
+    let first = get_or line 0 0 in
+    if first == 111 then DigitsForm
+    else if first == 99 then CommandForm
+    else if first == 114 then ReleaseForm
+    else if first == 116 then TellForm
+    else if get_or line 2 0 == 97 then LeadForm
+    else LetterForm
 
-offer_is_no_letter : (a b : List ℕ) → offer_word ++ a ≡ letter_word ++ b → ⊥
-offer_is_no_letter a b = differ 0 (offer_word ++ a) (letter_word ++ b) (λ same. absurd (omega (arith, same)))
+-- what a line of a form may ask
+abbrev MayAsk : Form → List ℕ → Request → Type 0
+MayAsk LeadForm line r = r ≡ request.Lead
+MayAsk DigitsForm line r = (value : List ℕ) × (r ≡ request.Offer value) × IsDigitsOffer line value
+MayAsk CommandForm line r = (value : List ℕ) × (r ≡ request.Offer value) × IsCommandOffer line value
+MayAsk ReleaseForm line r = (now : ℕ) × (r ≡ request.Release now) × Asks line (request.Release now)
+MayAsk TellForm line r = (to : ℕ) × (place : ℕ) × (r ≡ request.Tell to place) × Asks line (request.Tell to place)
+MayAsk LetterForm line r = (l : Letter) × (r ≡ request.Letter l) × Asks line (request.Letter l)
 
-release_is_no_letter : (a b : List ℕ) → release_word ++ a ≡ letter_word ++ b → ⊥
-release_is_no_letter a b = differ 0 (release_word ++ a) (letter_word ++ b) (λ same. absurd (omega (arith, same)))
+may_ask : (line : List ℕ) (r : Request) → Asks line r → MayAsk (form line) line r
+may_ask line request.Lead asks = subst (λ x. MayAsk (form x) line request.Lead) (sym asks) refl
+may_ask line (request.Offer value) (inl asks) = subst (λ x. MayAsk (form x) line (request.Offer value)) (sym asks.1) (value, refl, asks)
+may_ask line (request.Offer value) (inr asks) = subst (λ x. MayAsk (form x) line (request.Offer value)) (sym asks.0.1) (value, refl, asks)
+may_ask line (request.Release now) asks = subst (λ x. MayAsk (form x) line (request.Release now)) (sym asks.1) (now, refl, asks)
+may_ask line (request.Letter l) asks = subst (λ x. MayAsk (form x) line (request.Letter l)) (sym asks.1) (l, refl, asks)
+may_ask line (request.Tell to place) asks = subst (λ x. MayAsk (form x) line (request.Tell to place)) (sym asks.1) (to, place, refl, asks)
 
-tell_is_no_offer : (a b : List ℕ) → tell_word ++ a ≡ offer_word ++ b → ⊥
-tell_is_no_offer a b = differ 0 (tell_word ++ a) (offer_word ++ b) (λ same. absurd (omega (arith, same)))
-
-tell_is_no_release : (a b : List ℕ) → tell_word ++ a ≡ release_word ++ b → ⊥
-tell_is_no_release a b = differ 0 (tell_word ++ a) (release_word ++ b) (λ same. absurd (omega (arith, same)))
-
-tell_is_no_letter : (a b : List ℕ) → tell_word ++ a ≡ letter_word ++ b → ⊥
-tell_is_no_letter a b = differ 0 (tell_word ++ a) (letter_word ++ b) (λ same. absurd (omega (arith, same)))
-
-lead_is_no_tell : (a : List ℕ) → codes "lead" ≡ tell_word ++ a → ⊥
-lead_is_no_tell a = differ 0 (codes "lead") (tell_word ++ a) (λ same. absurd (omega (arith, same)))
-
-lead_is_no_command : (a : List ℕ) → codes "lead" ≡ command_word ++ a → ⊥
-lead_is_no_command a = differ 0 (codes "lead") (command_word ++ a) (λ same. absurd (omega (arith, same)))
-
-offer_is_no_command : (a b : List ℕ) → offer_word ++ a ≡ command_word ++ b → ⊥
-offer_is_no_command a b = differ 0 (offer_word ++ a) (command_word ++ b) (λ same. absurd (omega (arith, same)))
-
-release_is_no_command : (a b : List ℕ) → release_word ++ a ≡ command_word ++ b → ⊥
-release_is_no_command a b = differ 0 (release_word ++ a) (command_word ++ b) (λ same. absurd (omega (arith, same)))
-
-letter_is_no_command : (a b : List ℕ) → letter_word ++ a ≡ command_word ++ b → ⊥
-letter_is_no_command a b = differ 0 (letter_word ++ a) (command_word ++ b) (λ same. absurd (omega (arith, same)))
-
-tell_is_no_command : (a b : List ℕ) → tell_word ++ a ≡ command_word ++ b → ⊥
-tell_is_no_command a b = differ 0 (tell_word ++ a) (command_word ++ b) (λ same. absurd (omega (arith, same)))
-
-lead_is_no_offer : (a : List ℕ) → codes "lead" ≡ offer_word ++ a → ⊥
-lead_is_no_offer a = differ 0 (codes "lead") (offer_word ++ a) (λ same. absurd (omega (arith, same)))
-
-lead_is_no_release : (a : List ℕ) → codes "lead" ≡ release_word ++ a → ⊥
-lead_is_no_release a = differ 0 (codes "lead") (release_word ++ a) (λ same. absurd (omega (arith, same)))
-
-lead_is_no_letter : (a : List ℕ) → codes "lead" ≡ letter_word ++ a → ⊥
-lead_is_no_letter a = differ 2 (codes "lead") (letter_word ++ a) (λ same. absurd (omega (arith, same)))
+-- what a line may ask of which the beginning is known
+asked : (line start : List ℕ) (r : Request) → line ≡ start → Asks line r → MayAsk (form start) line r
+asked line start r is asks = subst (λ x. MayAsk (form x) line r) is (may_ask line r asks)
 
 not_both : (bytes : List ℕ) (r : Result (List ℕ) FromHexError) → IsErr r → r ≡ Ok bytes → ⊥
 not_both bytes (Ok other) fails is = absurd cc
@@ -95,45 +87,27 @@ no_letter digits fault.OutOfMemory l refused other text = other refl
 no_letter digits fault.TooLong l refused other text = refused
 
 is_offer : (line digits : List ℕ) → line ≡ offer_word ++ digits → ((value : List ℕ) → decode_of digits ≡ Ok value → ⊥) → AsksNothing line
-is_offer line digits is none request.Lead asks = lead_is_no_offer digits (sym asks ∙ is)
-is_offer line digits is none (request.Offer value) (inl asks) = none value (ap decode_of (same_offer digits asks.0 (sym is ∙ asks.1)) ∙ asks.2)
-is_offer line digits is none (request.Offer value) (inr asks) = offer_is_no_command digits asks.0.0 (sym is ∙ asks.0.1)
-is_offer line digits is none (request.Release now) asks = offer_is_no_release digits asks.0 (sym is ∙ asks.1)
-is_offer line digits is none (request.Letter l) asks = offer_is_no_letter digits asks.0 (sym is ∙ asks.1)
-is_offer line digits is none (request.Tell to place) asks = tell_is_no_offer asks.0 digits (sym asks.1 ∙ is)
+is_offer line digits is none r asks =
+    let (value, same, (more, at, decoded)) = asked line (offer_word ++ digits) r is asks in
+    none value (ap decode_of (same_offer digits more (sym is ∙ at)) ∙ decoded)
 
 is_release : (line digits : List ℕ) → line ≡ release_word ++ digits → ((n : ℕ) → IsNumberText digits n → ⊥) → AsksNothing line
-is_release line digits is none request.Lead asks = lead_is_no_release digits (sym asks ∙ is)
-is_release line digits is none (request.Offer value) (inl asks) = offer_is_no_release asks.0 digits (sym asks.1 ∙ is)
-is_release line digits is none (request.Offer value) (inr asks) = release_is_no_command digits asks.0.0 (sym is ∙ asks.0.1)
-is_release line digits is none (request.Release now) asks = none now (subst (λ (d : List ℕ). IsNumberText d now) (sym (same_release digits asks.0 (sym is ∙ asks.1))) asks.2)
-is_release line digits is none (request.Letter l) asks = release_is_no_letter digits asks.0 (sym is ∙ asks.1)
-is_release line digits is none (request.Tell to place) asks = tell_is_no_release asks.0 digits (sym asks.1 ∙ is)
+is_release line digits is none r asks =
+    let (now, same, (more, at, number)) = asked line (release_word ++ digits) r is asks in
+    none now (subst (λ (d : List ℕ). IsNumberText d now) (sym (same_release digits more (sym is ∙ at))) number)
 
 is_tell : (line words : List ℕ) → line ≡ tell_word ++ words → ((to place : ℕ) → IsTellText words to place → ⊥) → AsksNothing line
-is_tell line words is none request.Lead asks = lead_is_no_tell words (sym asks ∙ is)
-is_tell line words is none (request.Offer value) (inl asks) = tell_is_no_offer words asks.0 (sym is ∙ asks.1)
-is_tell line words is none (request.Offer value) (inr asks) = tell_is_no_command words asks.0.0 (sym is ∙ asks.0.1)
-is_tell line words is none (request.Release now) asks = tell_is_no_release words asks.0 (sym is ∙ asks.1)
-is_tell line words is none (request.Letter l) asks = tell_is_no_letter words asks.0 (sym is ∙ asks.1)
-is_tell line words is none (request.Tell to place) asks =
-    none to place (subst (λ (w : List ℕ). IsTellText w to place) (sym (same_tell words asks.0 (sym is ∙ asks.1))) asks.2)
+is_tell line words is none r asks =
+    let (to, place, same, (more, at, text)) = asked line (tell_word ++ words) r is asks in
+    none to place (subst (λ (w : List ℕ). IsTellText w to place) (sym (same_tell words more (sym is ∙ at))) text)
 
 is_letter : (line digits : List ℕ) → line ≡ letter_word ++ digits → ((l : Letter) → IsLetterText digits l → ⊥) → AsksNothing line
-is_letter line digits is none request.Lead asks = lead_is_no_letter digits (sym asks ∙ is)
-is_letter line digits is none (request.Offer value) (inl asks) = offer_is_no_letter asks.0 digits (sym asks.1 ∙ is)
-is_letter line digits is none (request.Offer value) (inr asks) = letter_is_no_command digits asks.0.0 (sym is ∙ asks.0.1)
-is_letter line digits is none (request.Release now) asks = release_is_no_letter asks.0 digits (sym asks.1 ∙ is)
-is_letter line digits is none (request.Tell to place) asks = tell_is_no_letter asks.0 digits (sym asks.1 ∙ is)
-is_letter line digits is none (request.Letter l) asks = none l (subst (λ (d : List ℕ). IsLetterText d l) (sym (same_letter digits asks.0 (sym is ∙ asks.1))) asks.2)
+is_letter line digits is none r asks =
+    let (l, same, (more, at, text)) = asked line (letter_word ++ digits) r is asks in
+    none l (subst (λ (d : List ℕ). IsLetterText d l) (sym (same_letter digits more (sym is ∙ at))) text)
 
 is_command : (line rest : List ℕ) → line ≡ command_word ++ rest → ((value : List ℕ) → IsCommandOffer line value → ⊥) → AsksNothing line
-is_command line rest is none request.Lead asks = lead_is_no_command rest (sym asks ∙ is)
-is_command line rest is none (request.Offer value) (inl asks) = offer_is_no_command asks.0 rest (sym asks.1 ∙ is)
-is_command line rest is none (request.Offer value) (inr asks) = none value asks
-is_command line rest is none (request.Release now) asks = release_is_no_command asks.0 rest (sym asks.1 ∙ is)
-is_command line rest is none (request.Letter l) asks = letter_is_no_command asks.0 rest (sym asks.1 ∙ is)
-is_command line rest is none (request.Tell to place) asks = tell_is_no_command asks.0 rest (sym asks.1 ∙ is)
+is_command line rest is none r asks = let (value, same, offers) = asked line (command_word ++ rest) r is asks in none value offers
 
 is_no_line : (line : List ℕ) → IsNoLine line → AsksNothing line
 is_no_line line none request.Lead asks = none.lead asks
@@ -164,12 +138,6 @@ refusals_ask_nothing line (Err why) refused = refused_asks_nothing line why refu
 same_value : (digits more : List ℕ) (v w : List ℕ) → digits ≡ more → decode_of digits ≡ Ok v → decode_of more ≡ Ok w → v ≡ w
 same_value digits more v w same first second = cc
 
-same_offered : (line v w : List ℕ) → IsDigitsOffer line v ⊎ IsCommandOffer line v → IsDigitsOffer line w ⊎ IsCommandOffer line w → v ≡ w
-same_offered line v w (inl a) (inl b) = same_value a.0 b.0 v w (same_offer a.0 b.0 (sym a.1 ∙ b.1)) a.2 b.2
-same_offered line v w (inl a) (inr b) = absurd (offer_is_no_command a.0 b.0.0 (sym a.1 ∙ b.0.1))
-same_offered line v w (inr a) (inl b) = absurd (offer_is_no_command b.0 a.0.0 (sym b.1 ∙ a.0.1))
-same_offered line v w (inr a) (inr b) = one_text line v w a.2 b.2
-
 same_text : (digits more : List ℕ) (l m : Letter) → digits ≡ more → IsLetterText digits l → IsLetterText more m → l ≡ m
 same_text digits more l m same first second =
     let bytes : first.bytes ≡ second.bytes = same_value digits more first.bytes second.bytes same first.decoded second.decoded in
@@ -193,36 +161,19 @@ same_telling words more to place other further same first second =
 
 -- a line asks one thing at most
 pub one_thing : (line : List ℕ) (r s : Request) → Asks line r → Asks line s → r ≡ s
-one_thing line request.Lead request.Lead a b = refl
-one_thing line request.Lead (request.Offer w) a (inl b) = absurd (lead_is_no_offer b.0 (sym a ∙ b.1))
-one_thing line request.Lead (request.Offer w) a (inr b) = absurd (lead_is_no_command b.0.0 (sym a ∙ b.0.1))
-one_thing line request.Lead (request.Release n) a b = absurd (lead_is_no_release b.0 (sym a ∙ b.1))
-one_thing line request.Lead (request.Letter m) a b = absurd (lead_is_no_letter b.0 (sym a ∙ b.1))
-one_thing line (request.Offer v) request.Lead (inl a) b = absurd (lead_is_no_offer a.0 (sym b ∙ a.1))
-one_thing line (request.Offer v) request.Lead (inr a) b = absurd (lead_is_no_command a.0.0 (sym b ∙ a.0.1))
-one_thing line (request.Offer v) (request.Offer w) a b = ap (λ (x : List ℕ). request.Offer x) (same_offered line v w a b)
-one_thing line (request.Offer v) (request.Release n) (inl a) b = absurd (offer_is_no_release a.0 b.0 (sym a.1 ∙ b.1))
-one_thing line (request.Offer v) (request.Release n) (inr a) b = absurd (release_is_no_command b.0 a.0.0 (sym b.1 ∙ a.0.1))
-one_thing line (request.Offer v) (request.Letter m) (inl a) b = absurd (offer_is_no_letter a.0 b.0 (sym a.1 ∙ b.1))
-one_thing line (request.Offer v) (request.Letter m) (inr a) b = absurd (letter_is_no_command b.0 a.0.0 (sym b.1 ∙ a.0.1))
-one_thing line (request.Release k) request.Lead a b = absurd (lead_is_no_release a.0 (sym b ∙ a.1))
-one_thing line (request.Release k) (request.Offer w) a (inl b) = absurd (offer_is_no_release b.0 a.0 (sym b.1 ∙ a.1))
-one_thing line (request.Release k) (request.Offer w) a (inr b) = absurd (release_is_no_command a.0 b.0.0 (sym a.1 ∙ b.0.1))
-one_thing line (request.Release k) (request.Release n) a b = ap (λ (x : ℕ). request.Release x) (same_number a.0 b.0 k n (same_release a.0 b.0 (sym a.1 ∙ b.1)) a.2 b.2)
-one_thing line (request.Release k) (request.Letter m) a b = absurd (release_is_no_letter a.0 b.0 (sym a.1 ∙ b.1))
-one_thing line (request.Letter l) request.Lead a b = absurd (lead_is_no_letter a.0 (sym b ∙ a.1))
-one_thing line (request.Letter l) (request.Offer w) a (inl b) = absurd (offer_is_no_letter b.0 a.0 (sym b.1 ∙ a.1))
-one_thing line (request.Letter l) (request.Offer w) a (inr b) = absurd (letter_is_no_command a.0 b.0.0 (sym a.1 ∙ b.0.1))
-one_thing line (request.Letter l) (request.Release n) a b = absurd (release_is_no_letter b.0 a.0 (sym b.1 ∙ a.1))
-one_thing line (request.Letter l) (request.Letter m) a b = ap (λ (x : Letter). request.Letter x) (same_text a.0 b.0 l m (same_letter a.0 b.0 (sym a.1 ∙ b.1)) a.2 b.2)
-one_thing line (request.Tell to place) (request.Tell other further) a b = same_telling a.0 b.0 to place other further (same_tell a.0 b.0 (sym a.1 ∙ b.1)) a.2 b.2
-one_thing line (request.Tell to place) request.Lead a b = absurd (lead_is_no_tell a.0 (sym b ∙ a.1))
-one_thing line (request.Tell to place) (request.Offer w) a (inl b) = absurd (tell_is_no_offer a.0 b.0 (sym a.1 ∙ b.1))
-one_thing line (request.Tell to place) (request.Offer w) a (inr b) = absurd (tell_is_no_command a.0 b.0.0 (sym a.1 ∙ b.0.1))
-one_thing line (request.Tell to place) (request.Release n) a b = absurd (tell_is_no_release a.0 b.0 (sym a.1 ∙ b.1))
-one_thing line (request.Tell to place) (request.Letter m) a b = absurd (tell_is_no_letter a.0 b.0 (sym a.1 ∙ b.1))
-one_thing line request.Lead (request.Tell other further) a b = absurd (lead_is_no_tell b.0 (sym a ∙ b.1))
-one_thing line (request.Offer v) (request.Tell other further) (inl a) b = absurd (tell_is_no_offer b.0 a.0 (sym b.1 ∙ a.1))
-one_thing line (request.Offer v) (request.Tell other further) (inr a) b = absurd (tell_is_no_command b.0 a.0.0 (sym b.1 ∙ a.0.1))
-one_thing line (request.Release k) (request.Tell other further) a b = absurd (tell_is_no_release b.0 a.0 (sym b.1 ∙ a.1))
-one_thing line (request.Letter l) (request.Tell other further) a b = absurd (tell_is_no_letter b.0 a.0 (sym b.1 ∙ a.1))
+one_thing line request.Lead s a b = sym (asked line (codes "lead") s a b)
+one_thing line (request.Offer v) s (inl a) b =
+    let (w, is, (more, at, decoded)) = asked line (offer_word ++ a.0) s a.1 b in
+    ap (λ (x : List ℕ). request.Offer x) (same_value a.0 more v w (same_offer a.0 more (sym a.1 ∙ at)) a.2 decoded) ∙ sym is
+one_thing line (request.Offer v) s (inr a) b =
+    let (w, is, offers) = asked line (command_word ++ a.0.0) s a.0.1 b in
+    ap (λ (x : List ℕ). request.Offer x) (one_text line v w a.2 offers.2) ∙ sym is
+one_thing line (request.Release k) s a b =
+    let (n, is, (more, at, number)) = asked line (release_word ++ a.0) s a.1 b in
+    ap (λ (x : ℕ). request.Release x) (same_number a.0 more k n (same_release a.0 more (sym a.1 ∙ at)) a.2 number) ∙ sym is
+one_thing line (request.Letter l) s a b =
+    let (m, is, (more, at, text)) = asked line (letter_word ++ a.0) s a.1 b in
+    ap (λ (x : Letter). request.Letter x) (same_text a.0 more l m (same_letter a.0 more (sym a.1 ∙ at)) a.2 text) ∙ sym is
+one_thing line (request.Tell to place) s a b =
+    let (other, further, is, (more, at, text)) = asked line (tell_word ++ a.0) s a.1 b in
+    same_telling a.0 more to place other further (same_tell a.0 more (sym a.1 ∙ at)) a.2 text ∙ sym is

@@ -2,7 +2,7 @@
 use Rattle.std.proofs.Common.{◌≡◌, ℕ, List, [], ◌∷◌, ◌++◌, true, Option, refl, sym, ap, ◌∙◌, subst, append_assoc}
 use Rattle.std.specs.Io.KnownBytes.{Appends, Consumes}
 use Rattle.std.specs.List.{flat_map}
-use Rattle.std.proofs.KnownBytes.{Appends-nil, Appends-trans, Consumes-nil, Consumes-trans}
+use Rattle.std.proofs.KnownBytes.{Appends-trans, Consumes-trans}
 use Rattle.std.proofs.lemmas.List.{append-nil}
 use Rattle.node_lines.specs.Input.{ReadsLine}
 use Rattle.node_service.specs.declared.incoming.Incoming.{Incoming}
@@ -26,10 +26,6 @@ more_turns doer input (first ∷ turns) line replied a i am im a' i' (between, r
 pub more_of : (f : List ℕ × Reply → List ℕ) (turns : List (List ℕ × Reply)) (turn : List ℕ × Reply) → flat_map f (turns ++ turn ∷ []) ≡ flat_map f turns ++ f turn
 more_of f [] turn = append-nil (f turn)
 more_of f (first ∷ turns) turn = ap (λ (x : List ℕ). f first ++ x) (more_of f turns turn) ∙ sym (append_assoc (f first) (flat_map f turns) (f turn))
-
--- nothing yet
-pub none : {A I O : Type 0} (doer : Actors A) (input : Inputs I) (output : Outputs O) (a : A) (i : I) (o : O) → ServesLines doer input output [] a i o a i o
-none doer input output a i o = record { turned = (refl, refl); read = Consumes-nil (input.bytes_left i); written = Appends-nil (output.bytes_held o) }
 
 -- a whole line came
 pub line_came : (what : Incoming) (old new : Option (List ℕ)) → (what ≡ incoming.End → ⊥) → Comes old new what → (line : List ℕ) × ReadsLine old new line × IsTakenFor line what

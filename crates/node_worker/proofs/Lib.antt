@@ -1,3 +1,4 @@
+pub mod Callers
 pub mod Lined
 pub mod Received
 pub mod Rounds

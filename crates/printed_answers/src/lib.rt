@@ -3,4 +3,4 @@
 
 mod texts;
 
-pub use texts::{answer_text, fault_name};
+pub use texts::{answer_text, fault_name, heard_text, refusal_name};

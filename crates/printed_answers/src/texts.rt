@@ -9,7 +9,8 @@ use seats::Answer;
 use std::alloc::{AllocError, Global};
 use world_events::EventRefusal;
 
-fn heard_text(heard: Heard) -> &'static str
+/// The name of what a modem made of an output.
+pub fn heard_text(heard: Heard) -> &'static str
     ensures { result.now ≡ heard_text heard }
 {
     match heard {
@@ -32,7 +33,8 @@ fn sending_text(alloc: Global, sending: Option<Sending>) -> Result<String, Alloc
     }
 }
 
-fn refusal_name(refusal: EventRefusal) -> &'static str
+/// The name of why an event changed nothing.
+pub fn refusal_name(refusal: EventRefusal) -> &'static str
     ensures { result.now ≡ refusal_name refusal }
 {
     match refusal {

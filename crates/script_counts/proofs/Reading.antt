@@ -1,17 +1,11 @@
 -- What is read off events and answers, one after another.
-use Rattle.std.proofs.Common.{◌≡◌, ◌⊎◌, ◌↔◌, inl, inr, ℕ, zero, suc, ◌+◌, ◌<◌, ◌≤◌, List, [], ◌∷◌, ◌++◌, length, get_or, drop, map, Option, None, Some, Result, Ok, Err, IfOk, Bool, true, false, IsTrue, slice_get, option_to_list, ap, ◌∙◌, sym, refl, add-one, arith}
-use Rattle.std.proofs.Math.Seq.{drop-cons}
-use Rattle.std.proofs.lemmas.List.{drop_all, length-append}
+use Rattle.std.proofs.Common.{◌≡◌, ◌⊎◌, ◌↔◌, inl, inr, ℕ, zero, suc, ◌+◌, ◌<◌, ◌≤◌, List, [], ◌∷◌, ◌++◌, length, drop, map, Option, None, Some, false, IsTrue, slice_get, option_to_list, refl, add-one, arith}
+use Rattle.std.proofs.lemmas.List.{drop_all}
 use Rattle.grant_machine.specs.declared.command.Command.{Command}
 use Rattle.command_log.specs.Spelling.{spelling}
 use Rattle.world_events.specs.declared.event.Event.{Event}
 use Rattle.seats.specs.declared.answer.Answer.{Answer}
-use Rattle.script_counts.specs.Counts.{read_off, crash_of, crashes, leader_of, changes, takeovers, value_of, OffersAll}
-
--- the next event with its answer is read first
-pub read_next : {A : Type 0} (what : Event → Answer → List A) (events : List Event) (answers : List Answer) (i : ℕ) (e : Event) (a : Answer) → i < length events → i < length answers
-    → read_off what (drop i events) (drop i answers) ≡ what (get_or events i e) (get_or answers i a) ++ read_off what (drop (i + 1) events) (drop (i + 1) answers)
-read_next what events answers i e a below also = rw (drop-cons events i e below, drop-cons answers i a also, add-one i) refl
+use Rattle.script_counts.specs.Counts.{read_off, crash_of, leader_of, changes, value_of}
 
 no_answers : {A : Type 0} (what : Event → Answer → List A) (events : List Event) → read_off what events [] ≡ []
 no_answers what [] = refl
@@ -27,33 +21,11 @@ past_of : (events : List Event) (answers : List Answer) (n i : ℕ) → n ≤ i 
 past_of events answers n i done (inl all) = inl (omega arith)
 past_of events answers n i done (inr all) = inr (omega arith)
 
--- one event more is read for crashes
-pub crash_more : (events : List Event) (answers : List Answer) (n i : ℕ) (e : Event) (a : Answer) (count k total : ℕ) → i < n → n ≤ length events → n ≤ length answers
-    → count + length (read_off crash_of (drop i events) (drop i answers)) ≡ total → k ≡ length (crash_of (get_or events i e) (get_or answers i a))
-    → (count + k) + length (read_off crash_of (drop (i + 1) events) (drop (i + 1) answers)) ≡ total
-crash_more events answers n i e a count k total below events_are answers_are before is =
-    let read = rw (read_next crash_of events answers i e a (omega arith) (omega arith), length-append (crash_of (get_or events i e) (get_or answers i a)) (read_off crash_of (drop (i + 1) events) (drop (i + 1) answers))) at before in
-    omega arith
-
 -- when all are read, they are counted
 pub crash_all : (events : List Event) (answers : List Answer) (n i count total : ℕ) → n ≤ i → (length events ≤ n) ⊎ (length answers ≤ n)
     → count + length (read_off crash_of (drop i events) (drop i answers)) ≡ total → count ≡ total
 crash_all events answers n i count total done all before =
     let read = rw (read_end crash_of events answers i (past_of events answers n i done all)) at before in omega arith
-
-lead_sum : (count k total rest whole : ℕ) → count + whole ≡ total → whole ≡ k + rest → (count + k) + rest ≡ total
-lead_sum count k total rest whole before step = omega arith
-
--- one event more is read for its leader
-pub lead_more : (events : List Event) (answers : List Answer) (n i : ℕ) (e : Event) (a : Answer) (count k total : ℕ) (last now next : Option ℕ) → i < n → n ≤ length events → n ≤ length answers
-    → count + changes (option_to_list last ++ read_off leader_of (drop i events) (drop i answers)) ≡ total
-    → option_to_list next ≡ leader_of (get_or events i e) (get_or answers i a)
-    → ((ks : List ℕ) → changes (option_to_list last ++ (option_to_list next ++ ks)) ≡ k + changes (option_to_list now ++ ks))
-    → (count + k) + changes (option_to_list now ++ read_off leader_of (drop (i + 1) events) (drop (i + 1) answers)) ≡ total
-lead_more events answers n i e a count k total last now next below events_are answers_are before is passed =
-    let read = rw (read_next leader_of events answers i e a (omega arith) (omega arith), ← is) at before in
-    lead_sum count k total (changes (option_to_list now ++ read_off leader_of (drop (i + 1) events) (drop (i + 1) answers))) _ read
-    (passed (read_off leader_of (drop (i + 1) events) (drop (i + 1) answers)))
 
 one_is_no_change : (last : Option ℕ) → changes (option_to_list last ++ []) ≡ 0
 one_is_no_change None = refl
@@ -84,12 +56,6 @@ at_index [] zero = inl (record { got = refl; rest = refl; all = omega arith })
 at_index [] (suc n) = inl (record { got = refl; rest = refl; all = omega arith })
 at_index (x ∷ xs) zero = inr (x, record { got = refl; rest = refl; below = omega arith })
 at_index (x ∷ xs) (suc n) = at_suc x xs n (at_index xs n)
-
--- the value that is read next
-pub value_next : (events : List Event) (answers : List Answer) (i : ℕ) (e : Event) (a : Answer) (values : List (List ℕ)) → i < length events → i < length answers
-    → values ≡ value_of (get_or events i e) (get_or answers i a)
-    → read_off value_of (drop i events) (drop i answers) ≡ values ++ read_off value_of (drop (i + 1) events) (drop (i + 1) answers)
-value_next events answers i e a values below also is = rw is (read_next value_of events answers i e a below also)
 
 -- lists that begin alike are the same where the rests are
 alike : (P : Type 0) (v w : List ℕ) (vs ws : List (List ℕ)) → v ≡ w → P ↔ (v ∷ vs ≡ w ∷ ws) → P ↔ (vs ≡ ws)
@@ -129,13 +95,6 @@ pub offers_end : (commands : List Command) (events : List Event) (answers : List
     → P ↔ (read_off value_of (drop i events) (drop i answers) ≡ map spelling (drop count commands)) → P ↔ (length commands ≤ count)
 offers_end commands events answers n i P count done all before =
     left_of commands count P (at_index commands count) (rw (read_end value_of events answers i (past_of events answers n i done all)) at before)
-
--- the value is of the command at an index, where it is of the one that is found there
-pub of_found : {E : Type 0} (r : Result Bool E) (commands : List Command) (index : ℕ) (v : List ℕ) (command : Command) → slice_get commands index ≡ Some command
-    → IfOk r (λ is. IsTrue is ↔ (v ≡ spelling command)) → IfOk r (λ is. IsTrue is ↔ ((x : Command) × (slice_get commands index ≡ Some x) × (v ≡ spelling x)))
-of_found (Err e) commands index v command got before = tt
-of_found (Ok is) commands index v command got before =
-    (λ yes. (command, got, before.0 yes), λ found. let at = found.1 in let same : found.0 ≡ command = cc in before.1 (rw same at found.2))
 
 none_at : (commands : List Command) (index : ℕ) (x : Command) → length commands ≤ index → (IsPast commands index) ⊎ ((y : Command) × IsAt commands index y) → slice_get commands index ≡ Some x → ⊥
 none_at commands index x past (inl none) found = let got = none.got in cc

@@ -3,6 +3,7 @@ use Rattle.std.proofs.Common.{◌≡◌, List, [], ◌∷◌, refl}
 use Rattle.toml.specs.Data.{Data}
 use Rattle.toml.specs.View.{items_of}
 use Rattle.script_text.specs.Items.{list_of}
+pub use Rattle.script_text.proofs.Pairs.{two_items}
 
 -- the items that a list makes are that list
 pub list_of-items_of : (ds : List Data) → list_of (items_of ds) ≡ ds

@@ -3,12 +3,13 @@ use Rattle.std.proofs.Common.{◌≡◌, ℕ, suc, ◌^◌, ◌<◌, ◌≤◌, 
 use Rattle.std.specs.List.{cons_option}
 use Rattle.std.proofs.lemmas.Bool.{leb-true, le-leb}
 use Rattle.std.proofs.lemmas.Slice.Eq.{bytes_eq-Decides}
-use Rattle.toml.specs.Data.{Data, string, integer, float, boolean, datetime, array, table, no_items, item, get, at, as_str}
+use Rattle.toml.specs.Data.{Data, string, integer, float, boolean, datetime, array, table, get, at, as_str}
 use Rattle.flow_state.specs.declared.channel.Phy.{Phy}
 use Rattle.flow_state.specs.declared.channel.Phy.TheVariants.{Tdma, Advanced}
 use Rattle.flow_state.specs.Limits.{last_time}
 use Rattle.script_text.specs.Fields.{HasNode, HasNumber}
 use Rattle.script_text.specs.CommandTable.{IsPair, HasPair, HasPhy, HasLast}
+use Rattle.script_text.proofs.Callers.{two_items}
 use Rattle.text_faults.specs.declared.kind.Kind.{Kind}
 use Rattle.text_faults.specs.declared.kind.Group.{Group}
 use Rattle.text_faults.specs.declared.kind.Group.TheVariants.{Phys}
@@ -188,18 +189,6 @@ byte_item (Some d) h = let (n, is, fits) = whole_number 255 d h in let below : n
 no_item : (o : Option Data) → is_none o ≡ true → o ≡ None
 no_item None h = refl
 no_item (Some d) h = absurd (cc)
-
-two_items : (d x y : Data) → at 0 d ≡ Some x → at 1 d ≡ Some y → at 2 d ≡ None → d ≡ array (item x (item y no_items))
-two_items (string s) x y first second third = cc
-two_items (integer z) x y first second third = cc
-two_items (float z) x y first second third = cc
-two_items (boolean b) x y first second third = cc
-two_items (datetime t) x y first second third = cc
-two_items (table ms) x y first second third = cc
-two_items (array no_items) x y first second third = cc
-two_items (array (item d no_items)) x y first second third = cc
-two_items (array (item d (item e no_items))) x y first second third = cc
-two_items (array (item d (item e (item f ds)))) x y first second third = cc
 
 pair_of : (d : Data) → is_pair d ≡ true → (p : ℕ × ℕ) × IsPair d p
 pair_of d h =

@@ -5,16 +5,18 @@ use Rattle.toml.specs.Data.{Data, string, integer, float, boolean, datetime, arr
 use Rattle.command_log.specs.Spelling.{spelling}
 use Rattle.world_events.specs.declared.event.Event.{Event}
 use Rattle.world_events.specs.declared.event.Event.TheVariants as events
-use Rattle.script_text.specs.Fields.{HasText}
+use Rattle.script_text.specs.Fields.{HasNumber, HasText}
 use Rattle.script_text.specs.EventTable.{IsHexBytes, IsOffered, MeansEvent}
 use Rattle.text_faults.specs.declared.kind.Kind.{Kind}
 use Rattle.text_faults.specs.declared.kind.Kind.TheVariants as kinds
 use Rattle.text_faults.specs.declared.kind.Group.TheVariants.{Events}
+use Rattle.text_faults.specs.declared.row.Key.{Key}
 use Rattle.text_faults.specs.declared.row.Key.TheVariants as keys
+use Rattle.text_faults.specs.declared.row.Wants.TheVariants as wants
 use Rattle.text_faults.specs.declared.fault.Fault.{Fault}
 use Rattle.text_faults.specs.declared.fault.Place.TheVariants as places
 use Rattle.text_faults.specs.Kinds.{kind_name, kinds_of, named}
-use Rattle.text_faults.specs.Rows.{rows_of}
+use Rattle.text_faults.specs.Rows.{key_name, rows_of}
 use Rattle.text_faults.specs.Faults.{fault_at, key_faults, chosen, kind_faults, table_faults, is_hex, offers, is_offer, offered_faults, event_faults}
 use Rattle.text_faults.proofs.Keys.{both_empty, of_none, number, no_number_fault, node_number, no_node_fault, name, IsOneOf, named_text}
 use Rattle.text_faults.proofs.Spelled.{kept_keys, own_keys, spelled, no_command_fault, no_more}
@@ -59,11 +61,11 @@ offer_part n d b = if b then offered_faults n (get (codes "command") d) (get (co
 abbrev Means : ℕ → Data → Kind → Type 0
 Means n d k = HasText d (codes "kind") (kind_name k) → kind_faults (places.Event n) (Some k) d ≡ [] → offer_part n d (offers k) ≡ [] → (e : Event) × MeansEvent d e
 
-lead : (n : ℕ) (d : Data) → Means n d kinds.Lead
-lead n d text none part =
-    let h = own_keys (places.Event n) kinds.Lead d none in
-    let (node, a) = number (places.Event n) kinds.Lead keys.Node d 18446744073709551615 64 refl h.0 in
-    (events.Lead node, (text, a))
+-- a kind whose one key holds a number of 64 bits
+single : (n : ℕ) (d : Data) (k : Kind) (key : Key) (make : ℕ → Event) → (kind_faults (places.Event n) (Some k) d ≡ [] → fault_at (places.Event n) k d (key, wants.Number 18446744073709551615) ≡ None)
+    → ((x : ℕ) → HasText d (codes "kind") (kind_name k) → HasNumber d (key_name key) 64 x → MeansEvent d (make x)) → Means n d k
+single n d k key make first means text none part =
+    let (x, a) = number (places.Event n) k key d 18446744073709551615 64 refl (first none) in (make x, means x text a)
 
 offer : (n : ℕ) (d : Data) → Means n d kinds.Offer
 offer n d text none part =
@@ -79,30 +81,6 @@ tell n d text none part =
     let (to, b) = node_number (places.Event n) kinds.Tell keys.To d h.1.0 in
     let (place, e) = number (places.Event n) kinds.Tell keys.Place d 18446744073709551615 64 refl h.1.1.0 in
     (events.Tell node to place, (text, a, b, e))
-
-deliver : (n : ℕ) (d : Data) → Means n d kinds.Deliver
-deliver n d text none part =
-    let h = own_keys (places.Event n) kinds.Deliver d none in
-    let (letter, a) = number (places.Event n) kinds.Deliver keys.Letter d 18446744073709551615 64 refl h.0 in
-    (events.Deliver letter, (text, a))
-
-deliver_then_crash : (n : ℕ) (d : Data) → Means n d kinds.DeliverThenCrash
-deliver_then_crash n d text none part =
-    let h = own_keys (places.Event n) kinds.DeliverThenCrash d none in
-    let (letter, a) = number (places.Event n) kinds.DeliverThenCrash keys.Letter d 18446744073709551615 64 refl h.0 in
-    (events.DeliverThenCrash letter, (text, a))
-
-crash : (n : ℕ) (d : Data) → Means n d kinds.Crash
-crash n d text none part =
-    let h = own_keys (places.Event n) kinds.Crash d none in
-    let (node, a) = number (places.Event n) kinds.Crash keys.Node d 18446744073709551615 64 refl h.0 in
-    (events.Crash node, (text, a))
-
-restart : (n : ℕ) (d : Data) → Means n d kinds.Restart
-restart n d text none part =
-    let h = own_keys (places.Event n) kinds.Restart d none in
-    let (node, a) = number (places.Event n) kinds.Restart keys.Node d 18446744073709551615 64 refl h.0 in
-    (events.Restart node, (text, a))
 
 release : (n : ℕ) (d : Data) → Means n d kinds.Release
 release n d text none part =
@@ -138,13 +116,18 @@ tick n d text none part =
     (events.Tick modem ch slot random, (text, a, b, e, f))
 
 means_kind : (n : ℕ) (d : Data) (k : Kind) → IsOneOf k (kinds_of Events) → Means n d k
-means_kind n d k (inl is) = subst (Means n d) (sym is) (lead n d)
+means_kind n d k (inl is) =
+    subst (Means n d) (sym is) (single n d kinds.Lead keys.Node events.Lead (λ none. (own_keys (places.Event n) kinds.Lead d none).0) (λ x text a. (text, a)))
 means_kind n d k (inr (inl is)) = subst (Means n d) (sym is) (offer n d)
 means_kind n d k (inr (inr (inl is))) = subst (Means n d) (sym is) (tell n d)
-means_kind n d k (inr (inr (inr (inl is)))) = subst (Means n d) (sym is) (deliver n d)
-means_kind n d k (inr (inr (inr (inr (inl is))))) = subst (Means n d) (sym is) (deliver_then_crash n d)
-means_kind n d k (inr (inr (inr (inr (inr (inl is)))))) = subst (Means n d) (sym is) (crash n d)
-means_kind n d k (inr (inr (inr (inr (inr (inr (inl is))))))) = subst (Means n d) (sym is) (restart n d)
+means_kind n d k (inr (inr (inr (inl is)))) =
+    subst (Means n d) (sym is) (single n d kinds.Deliver keys.Letter events.Deliver (λ none. (own_keys (places.Event n) kinds.Deliver d none).0) (λ x text a. (text, a)))
+means_kind n d k (inr (inr (inr (inr (inl is))))) =
+    subst (Means n d) (sym is) (single n d kinds.DeliverThenCrash keys.Letter events.DeliverThenCrash (λ none. (own_keys (places.Event n) kinds.DeliverThenCrash d none).0) (λ x text a. (text, a)))
+means_kind n d k (inr (inr (inr (inr (inr (inl is)))))) =
+    subst (Means n d) (sym is) (single n d kinds.Crash keys.Node events.Crash (λ none. (own_keys (places.Event n) kinds.Crash d none).0) (λ x text a. (text, a)))
+means_kind n d k (inr (inr (inr (inr (inr (inr (inl is))))))) =
+    subst (Means n d) (sym is) (single n d kinds.Restart keys.Node events.Restart (λ none. (own_keys (places.Event n) kinds.Restart d none).0) (λ x text a. (text, a)))
 means_kind n d k (inr (inr (inr (inr (inr (inr (inr (inl is)))))))) = subst (Means n d) (sym is) (release n d)
 means_kind n d k (inr (inr (inr (inr (inr (inr (inr (inr (inl is))))))))) = subst (Means n d) (sym is) (hear n d)
 means_kind n d k (inr (inr (inr (inr (inr (inr (inr (inr (inr (inl is)))))))))) = subst (Means n d) (sym is) (want n d)

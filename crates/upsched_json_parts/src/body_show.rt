@@ -1,6 +1,6 @@
 //! `upsched show HEX --json`: a MAP body as an object.
 
-ghost use Rattle.std.specs.Prelude.{◌≡◌, ◌≢◌, IfOk, OnOk};
+ghost use Rattle.std.specs.Prelude.{◌≡◌, ◌≢◌, OnOk};
 ghost use Rattle.map_body.specs.Body.{Body};
 ghost use Rattle.json_outputs.specs.Elements.{body_data};
 ghost use Rattle.upsched_map_parts.specs.declared.status.Status.TheVariants.{Done, NotUnderstood};
@@ -8,48 +8,19 @@ ghost use Rattle.upsched_map_parts.specs.Show.{IsHexBody};
 ghost use Rattle.upsched_json_parts.specs.Lines.{PrintsValue};
 
 use crate::lines::print_line;
-use hex::FromHexError;
 use json_outputs::body_text;
-use map_body::{MapBody, decode};
+use map_body::MapBody;
 use std::alloc::Global;
 use std::io::Write;
-use upsched_map_parts::{Fault, ShowWords, Status};
-
-/// The body that hexadecimal digits give.
-fn body_of<'a>(alloc: Global, hex: &str) -> Result<MapBody, Fault<'a>>
-    ensures { IfOk result (IsHexBody hex.now) }
-{
-    let bytes = match hex::decode(alloc, hex) {
-        Ok(bytes) => bytes,
-        Err(FromHexError::OutOfMemory) => return Err(Fault::Memory),
-        Err(_) => return Err(Fault::Hex),
-    };
-    match decode(alloc, bytes.as_slice()) {
-        Ok(map) => Ok(map),
-        Err(fault) => Err(Fault::Body {
-            number: fault.number(),
-            fault,
-        }),
-    }
-}
-
-fn print_value<'a, O: Write>(alloc: Global, map: &MapBody, output: &mut O) -> Result<(), Fault<'a>>
-    ensures { OnOk result (PrintsValue (body_data map.now) (O.contents output.old) (O.contents output.new)) }
-{
-    match body_text(alloc, map) {
-        Ok(text) => print_line(text.as_str(), output),
-        Err(_) => Err(Fault::Memory),
-    }
-}
+use upsched_map_parts::{Fault, ShowWords, Status, body_of};
 
 fn print_body<'a, O: Write>(alloc: Global, map: &MapBody, output: &mut O) -> Result<(), Fault<'a>>
     ensures { OnOk result (PrintsValue (body_data map.now) (O.contents output.old) (O.contents output.new)) }
 {
-    print_value(alloc, map, output)?;
-    match output.flush() {
-        Ok(()) => Ok(()),
-        Err(_) => Err(Fault::Output),
-    }
+    let text = body_text(alloc, map)?;
+    print_line(text.as_str(), output)?;
+    output.flush()?;
+    Ok(())
 }
 
 fn print_hex<'a, O: Write>(alloc: Global, hex: &str, output: &mut O) -> Result<(), Fault<'a>>

@@ -10,8 +10,6 @@ use upsched_map_parts::Fault;
 pub fn print_line<'a, O: Write>(text: &str, output: &mut O) -> Result<(), Fault<'a>>
     ensures { OnOk result (Appends (O.contents output.old) (O.contents output.new) (text.now ++ 10 ∷ [])) }
 {
-    match writeln!(output, "{text}") {
-        Ok(()) => Ok(()),
-        Err(_) => Err(Fault::Output),
-    }
+    writeln!(output, "{text}")?;
+    Ok(())
 }

@@ -26,10 +26,8 @@ fn print_answer<'a, O: Write>(
 ) -> Result<(), Fault<'a>>
     ensures { OnOk result (PrintsLine (TellsCommand number answer.now) (O.contents output.old) (O.contents output.new)) }
 {
-    match command_text(alloc, number, answer) {
-        Ok(text) => print_line(text.as_str(), output),
-        Err(_) => Err(Fault::Memory),
-    }
+    let text = command_text(alloc, number, answer)?;
+    print_line(text.as_str(), output)
 }
 
 /// Applies a command and writes the line of its output.
@@ -44,9 +42,7 @@ fn print_output<'a, O: Write>(
     ensures printed { OnOk result (PrintsLine (TellsCommand number (step machine.old command.now).output)
         (O.contents output.old) (O.contents output.new)) }
 {
-    let Ok(answer) = machine.apply(command) else {
-        return Err(Fault::Memory);
-    };
+    let answer = machine.apply(command)?;
     print_answer(alloc, number, &answer, output)
 }
 
@@ -62,10 +58,8 @@ fn print_outputs<'a, O: Write>(
     for (i, command) in commands.iter().enumerate() {
         print_output(alloc, &mut machine, i + 1, command, output)?;
     }
-    match output.flush() {
-        Ok(()) => Ok(()),
-        Err(_) => Err(Fault::Output),
-    }
+    output.flush()?;
+    Ok(())
 }
 
 fn print_plan<'a, R: Read, O: Write>(

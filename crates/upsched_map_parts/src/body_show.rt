@@ -17,7 +17,7 @@ use std::alloc::Global;
 use std::io::Write;
 
 /// The body that hexadecimal digits give.
-fn body_of<'a>(alloc: Global, hex: &str) -> Result<MapBody, Fault<'a>>
+pub fn body_of<'a>(alloc: Global, hex: &str) -> Result<MapBody, Fault<'a>>
     ensures { IfOk result (IsHexBody hex.now) }
 {
     let bytes = match hex::decode(alloc, hex) {
@@ -41,13 +41,9 @@ fn print_element<'a, O: Write>(
 ) -> Result<(), Fault<'a>>
     ensures { OnOk result (Appends (O.contents output.old) (O.contents output.new) (element_line element.now)) }
 {
-    let Ok(text) = element_text(alloc, element) else {
-        return Err(Fault::Memory);
-    };
-    match writeln!(output, "{text}") {
-        Ok(()) => Ok(()),
-        Err(_) => Err(Fault::Output),
-    }
+    let text = element_text(alloc, element)?;
+    writeln!(output, "{text}")?;
+    Ok(())
 }
 
 fn print_elements<'a, O: Write>(
@@ -60,22 +56,16 @@ fn print_elements<'a, O: Write>(
     for element in elements {
         print_element(alloc, element, output)?;
     }
-    match output.flush() {
-        Ok(()) => Ok(()),
-        Err(_) => Err(Fault::Output),
-    }
+    output.flush()?;
+    Ok(())
 }
 
 fn print_body<'a, O: Write>(alloc: Global, map: &MapBody, output: &mut O) -> Result<(), Fault<'a>>
     ensures { OnOk result (Appends (O.contents output.old) (O.contents output.new) (body_lines map.now)) }
 {
-    let Ok(head) = head_text(alloc, map.head()) else {
-        return Err(Fault::Memory);
-    };
-    match writeln!(output, "{head}") {
-        Ok(()) => print_elements(alloc, map.elements(), output),
-        Err(_) => Err(Fault::Output),
-    }
+    let head = head_text(alloc, map.head())?;
+    writeln!(output, "{head}")?;
+    print_elements(alloc, map.elements(), output)
 }
 
 fn print_hex<'a, O: Write>(alloc: Global, hex: &str, output: &mut O) -> Result<(), Fault<'a>>

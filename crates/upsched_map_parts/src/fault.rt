@@ -4,6 +4,7 @@ use crate::plan::PlanFault;
 use crate::status::Status;
 use map_body::MapFault;
 use script_text::ScriptFault;
+use std::alloc::AllocError;
 use std::io;
 use std::io::{ErrorKind, Write};
 use thiserror::Error;
@@ -44,6 +45,20 @@ pub enum Fault<'a> {
     Memory,
     #[error("output")]
     Output,
+}
+
+/// Want of memory.
+impl From<AllocError> for Fault<'_> {
+    fn from(_error: AllocError) -> Self {
+        Fault::Memory
+    }
+}
+
+/// The fault of a write of what is printed. That of a read is `Fault::of_reading`.
+impl From<io::Error> for Fault<'_> {
+    fn from(_error: io::Error) -> Self {
+        Fault::Output
+    }
 }
 
 impl<'a> Fault<'a> {

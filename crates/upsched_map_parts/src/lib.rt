@@ -11,10 +11,10 @@ mod status;
 mod text;
 mod words;
 
-pub use body_show::show;
+pub use body_show::{body_of, show};
 pub use fault::Fault;
 pub use plan::{PlanFault, read_plan};
 pub use plan_run::{maps, plan_of};
 pub use status::Status;
 pub use text::text_of;
-pub use words::{LiveWords, MapsWords, NodeWords, RunWords, ShowWords};
+pub use words::{LiveWords, MapsWords, NodeWords, RunWords, ScriptWords, ShowWords};

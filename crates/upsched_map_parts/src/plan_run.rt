@@ -31,16 +31,10 @@ fn print_output<'a, O: Write>(
     ensures printed { OnOk result (Appends (O.contents output.old) (O.contents output.new)
         (output_line number (step machine.old command.now).output)) }
 {
-    let Ok(answer) = machine.apply(command) else {
-        return Err(Fault::Memory);
-    };
-    let Ok(text) = output_text(alloc, &answer) else {
-        return Err(Fault::Memory);
-    };
-    match writeln!(output, "{number} {text}") {
-        Ok(()) => Ok(()),
-        Err(_) => Err(Fault::Output),
-    }
+    let answer = machine.apply(command)?;
+    let text = output_text(alloc, &answer)?;
+    writeln!(output, "{number} {text}")?;
+    Ok(())
 }
 
 /// Applies commands one after another to one scheduler, and writes a line for each.
@@ -56,10 +50,8 @@ fn print_outputs<'a, O: Write>(
     for (i, command) in commands.iter().enumerate() {
         print_output(alloc, &mut machine, i + 1, command, output)?;
     }
-    match output.flush() {
-        Ok(()) => Ok(()),
-        Err(_) => Err(Fault::Output),
-    }
+    output.flush()?;
+    Ok(())
 }
 
 /// The commands of the plan that a text is.

@@ -18,7 +18,7 @@ use Rattle.printed_scripts.specs.Texts.{script_text}
 use Rattle.script_counts.specs.Counts.{crashes, takeovers, OffersAll}
 use Rattle.upsched_map_parts.specs.Plan.{IsPlan, NoPlan}
 use Rattle.upsched_map_parts.proofs.Callers.{no_plan_read}
-use Rattle.upsched_script_parts.specs.declared.script_words.ScriptWords.{ScriptWords}
+use Rattle.upsched_map_parts.specs.declared.words.ScriptWords.{ScriptWords}
 use Rattle.upsched_script_parts.specs.Scripts.{RunsAsAsked, IsWrittenSo, IsAsAsked, IsAskedFor, NamesMembers, NamesIds}
 
 -- a run of fresh nodes and new modems is one of so many members and of these ids

@@ -15,7 +15,7 @@ use Rattle.script_counts.specs.Counts.{crashes, takeovers, OffersAll}
 use Rattle.upsched_map_parts.specs.Plan.{IsPlan}
 use Rattle.upsched_script_parts.specs.declared.refusal.Refusal.{Refusal}
 use Rattle.upsched_script_parts.specs.declared.refusal.Refusal.TheVariants as refusal
-use Rattle.upsched_script_parts.specs.declared.script_words.ScriptWords.{ScriptWords}
+use Rattle.upsched_map_parts.specs.declared.words.ScriptWords.{ScriptWords}
 
 -- ---- words
 

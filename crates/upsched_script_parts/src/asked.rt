@@ -4,10 +4,9 @@ ghost use Rattle.std.specs.Prelude.{◌≡◌, ◌++◌, IfOk, IfSome, OnOk, Som
 ghost use Rattle.upsched_script_parts.specs.Scripts.{NamesIds, NamesMembers, next_number, numbers_text};
 
 use crate::refusal::Refusal;
-use crate::script_words::ScriptWords;
 use ballots::Members;
 use std::alloc::{AllocError, Global};
-use upsched_map_parts::Fault;
+use upsched_map_parts::{Fault, ScriptWords};
 
 /// How many members a word names, 3 or 5.
 pub fn members_of(word: &str) -> Option<Members>

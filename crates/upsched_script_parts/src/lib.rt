@@ -4,9 +4,7 @@
 
 mod asked;
 mod refusal;
-mod script_words;
 mod trial;
 mod written;
 
-pub use script_words::ScriptWords;
 pub use written::script;

@@ -8,14 +8,13 @@ ghost use Rattle.upsched_script_parts.specs.Scripts.{IsAsAsked, IsAskedFor, IsOf
 
 use crate::asked::{ids_of, members_of};
 use crate::refusal::Refusal;
-use crate::script_words::ScriptWords;
 use crate::trial::is_as_asked;
 use grant_machine::Command;
 use made_scripts::{Wishes, made_script};
 use printed_scripts::script_text;
 use std::alloc::Global;
 use std::io::{Read, Write};
-use upsched_map_parts::{Fault, Status, plan_of};
+use upsched_map_parts::{Fault, ScriptWords, Status, plan_of};
 
 /// The text of a script of these wishes that offers these commands.
 fn made_text<'a>(

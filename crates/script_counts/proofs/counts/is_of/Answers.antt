@@ -1,4 +1,4 @@
-use Rattle.script_counts.proofs.Reading.{of_found, of_none}
+use Rattle.script_counts.proofs.Reading.{of_none}
 use Rattle.script_counts.proofs.counts.is_of.Goals as goal
 
 pub returns-in-None : goal.returns-in-None

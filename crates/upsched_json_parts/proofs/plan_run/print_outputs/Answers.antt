@@ -9,5 +9,5 @@ loop-i-preserved g c =
     let before = c.loop-i.invariant in
     one_more c.args.commands.now c.loop-i.i _ _ _ _ _ _ c.loop-i-test.true before.0 before.1 c.in_ok-print_output.ensures.rows c.in_ok-print_output.ensures.printed
 
-pub returns-in-Ok : goal.returns-in-Ok
-returns-in-Ok g c = all_lines c.args.commands.now c.loop-i.i _ _ _ c.loop-i-test.false c.loop-i.invariant.1 c.in-Ok.ensures.bytes
+pub returns : goal.returns
+returns g c = all_lines c.args.commands.now c.loop-i.i _ _ _ c.loop-i-test.false c.loop-i.invariant.1 c.in_ok-flush.ensures.bytes
