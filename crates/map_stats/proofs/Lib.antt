@@ -1,1 +1,3 @@
 mod Holding
+mod Growing
+mod Rowing

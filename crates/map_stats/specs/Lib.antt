@@ -2,3 +2,10 @@ pub mod Tallies
 pub mod Given
 pub mod Held
 pub mod Texts
+pub mod Happenings
+pub mod Windows
+pub mod Pasts
+pub mod FlowsHeld
+pub mod Summaries
+pub mod FlowRows
+pub mod FlowTexts

@@ -1,5 +1,5 @@
 -- Tallies as text. Numbers are decimal.
-use Rattle.std.specs.Prelude.{ℕ, ◌*◌, ◌/◌, ◌%◌, ◌^◌, List, ◌++◌, codes, decimal}
+use Rattle.std.specs.Prelude.{ℕ, ◌/◌, ◌%◌, ◌^◌, List, ◌++◌, codes, decimal}
 use Rattle.map_stats.specs.declared.tally.Tally.{Tally}
 
 -- the MAPs of a channel

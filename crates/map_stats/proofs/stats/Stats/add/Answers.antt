@@ -1,5 +1,4 @@
 use Rattle.std.proofs.Common.{refl}
-use Rattle.grant_machine.specs.declared.output.Output.TheVariants.{Nothing, ChannelSet, Assigned, Refused}
 use Rattle.map_stats.proofs.Holding.{holds_other, holds_if_ok}
 use Rattle.map_stats.proofs.stats.Stats.add.Goals as goal
 

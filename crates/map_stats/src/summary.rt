@@ -1,0 +1,115 @@
+//! What is told of a flow: its requests, how long they waited, and its windows.
+
+ghost use Rattle.std.specs.Prelude.{◌≡◌, ◌≤◌, IfOk, IfSome, sum, length};
+ghost use Rattle.map_stats.specs.Summaries.{at_rank, rank_99, waiting_on, why_in, AreDelays};
+
+use crate::reach::{Ask, Reach, Term};
+use std::alloc::{AllocError, Global};
+
+/// Why a request waits.
+#[derive(Clone, Copy, Debug, PartialEq, Eq)]
+pub enum Why {
+    /// No later MAP has room for it in the lease.
+    LeaseEnds,
+    /// No MAP was cut since it was accepted.
+    NoMap,
+    /// The last MAP left no gap so long.
+    NoGap,
+    /// The last MAP left a gap so long, but had 60 placements already.
+    Placements,
+}
+
+/// A request that waits.
+#[derive(Clone, Copy, Debug, PartialEq, Eq)]
+pub struct Waits {
+    pub n: u16,
+    pub sent: u64,
+    pub why: Why,
+}
+
+/// How long requests waited: how many, the sum of their delays, the 99th percentile by nearest rank, and the longest.
+#[derive(Clone, Copy, Debug, PartialEq, Eq)]
+pub struct Delays {
+    pub count: u64,
+    pub sum: u64,
+    pub most: u64,
+    pub longest: u64,
+}
+
+/// What is told of a flow.
+#[derive(Clone, Copy, Debug, PartialEq, Eq)]
+pub struct Summary {
+    pub asked: u64,
+    pub delays: Delays,
+    pub waits: Option<Waits>,
+    pub windows: u64,
+    pub missed: u64,
+}
+
+fn why_of(reach: Reach, term: Term, ask: Ask) -> Why
+    ensures { result ≡ why_in reach term ask }
+{
+    let free = u128::from(term.last) + 1;
+    if free < u128::from(reach.end) + u128::from(ask.n) {
+        Why::LeaseEnds
+    } else if ask.maps == reach.maps {
+        Why::NoMap
+    } else if reach.gap < ask.n {
+        Why::NoGap
+    } else {
+        Why::Placements
+    }
+}
+
+/// The request that waits, if one does.
+pub(crate) fn waiting_of(term: Option<Term>, ask: Option<Ask>, reach: Reach) -> Option<Waits>
+    ensures { result ≡ waiting_on term ask reach }
+{
+    let term = term?;
+    let ask = ask?;
+    if term.last < reach.end {
+        return None;
+    }
+    Some(Waits {
+        n: ask.n,
+        sent: ask.sent,
+        why: why_of(reach, term, ask),
+    })
+}
+
+/// The value at a rank, counted from 1; 0 where there is none.
+fn at_rank(sorted: &[u64], rank: usize) -> u64
+    ensures { result ≡ at_rank sorted.now rank }
+{
+    match sorted.get(rank.saturating_sub(1)) {
+        Some(value) => *value,
+        None => 0,
+    }
+}
+
+/// The sum of delays, unless it is 2^64 or more.
+fn sum_of(delays: &[u64]) -> Option<u64>
+    ensures { IfSome result (λ whole. whole ≡ sum delays.now) }
+{
+    let mut whole: u64 = 0;
+    for delay in delays {
+        whole = whole.checked_add(*delay)?;
+    }
+    Some(whole)
+}
+
+/// What is told of delays.
+pub(crate) fn delays_of(alloc: Global, delays: &Vec<u64>) -> Result<Delays, AllocError>
+    ensures { IfOk result (λ told. AreDelays delays.now.items told) }
+{
+    let mut sorted = Vec::with_capacity(alloc, delays.len())?;
+    sorted.extend_from_slice(delays)?;
+    sorted.sort_unstable();
+    let count = sorted.len();
+    Ok(Delays {
+        count: count as u64,
+        sum: sum_of(delays).ok_or(AllocError)?,
+        most: at_rank(&sorted, count - count / 100),
+        longest: at_rank(&sorted, count),
+    })
+}
