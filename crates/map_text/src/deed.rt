@@ -1,0 +1,147 @@
+//! What the commands of a plan gave, as far as MAPs show it.
+
+ghost use Rattle.std.specs.Prelude.{◌≡◌, IfOk, IsTrue};
+ghost use Rattle.map_body.specs.Intervals.{intervals};
+ghost use Rattle.map_body.specs.Layout.{IsBody};
+ghost use Rattle.grant_machine.specs.declared.command.Command.{Command};
+ghost use Rattle.map_text.specs.Cover.{follow};
+ghost use Rattle.map_text.specs.Deeds.{quiet_deed, flow_deed, IsDeedOf};
+
+use flow_state::FlowKind;
+use grant_machine::{Command, Output};
+use map_body::{Interval, MapBody, MapFault, decode};
+use minislot_time::Slot;
+use std::alloc::Global;
+
+/// What a command gave.
+#[derive(Drop)]
+pub enum Deed {
+    /// A channel was set.
+    Channel(u8),
+    /// A SID is a modem's for a lease.
+    Flow {
+        ch: u8,
+        sid: u16,
+        modem: u32,
+        first: u64,
+        last: u64,
+        kind: FlowKind,
+    },
+    /// A service flow was dropped.
+    Drop {
+        ch: u8,
+        sid: u16,
+    },
+    /// A request for n minislots was accepted.
+    Request {
+        ch: u8,
+        sid: u16,
+        n: u16,
+        sent: u64,
+    },
+    /// A MAP of so many minislots from a time on.
+    Map {
+        ch: u8,
+        start: Slot,
+        len: u16,
+        body: MapBody,
+    },
+    /// A refusal, or nothing.
+    Other,
+}
+
+/// What a command did that has no output to tell of.
+fn quiet_deed(command: &Command) -> Deed
+    ensures { result ≡ quiet_deed command.now }
+{
+    match *command {
+        Command::Request { ch, sid, n, sent } => Deed::Request { ch, sid, n, sent },
+        Command::Drop { ch, sid } => Deed::Drop { ch, sid },
+        Command::Noop => Deed::Other,
+        Command::Channel(_) => Deed::Other,
+        Command::Flow { .. } => Deed::Other,
+        Command::Cut { .. } => Deed::Other,
+    }
+}
+
+/// The flow of a command under the lease of its SID.
+fn flow_deed(command: &Command, modem: u32, ch: u8, sid: u16, first: u64, last: u64) -> Deed
+    ensures { result ≡ flow_deed command.now modem ch sid first last }
+{
+    match *command {
+        Command::Flow { kind, .. } => Deed::Flow {
+            ch,
+            sid,
+            modem,
+            first,
+            last,
+            kind,
+        },
+        Command::Request { .. } => Deed::Other,
+        Command::Drop { .. } => Deed::Other,
+        Command::Noop => Deed::Other,
+        Command::Channel(_) => Deed::Other,
+        Command::Cut { .. } => Deed::Other,
+    }
+}
+
+/// Whether intervals follow one another from minislot 0 to the last one of so many.
+fn follow(intervals: &[Interval], len: u16) -> bool
+    ensures { result ≡ follow 0 intervals.now len }
+{
+    let mut behind = 0;
+    for interval in intervals {
+        let (from, to) = (interval.from.get(), interval.to.get());
+        if from != behind || to < from {
+            return false;
+        }
+        behind = to;
+    }
+    behind == len
+}
+
+/// The body that bytes are, whose intervals have so many minislots.
+fn whole_body(alloc: Global, len: u16, bytes: &[u8]) -> Result<MapBody, MapFault>
+    ensures body { IfOk result (IsBody bytes.now) }
+    ensures whole { IfOk result (λ body. IsTrue (follow 0 (intervals body.elements) len)) }
+{
+    let body = decode(alloc, bytes)?;
+    let intervals = body.intervals(alloc)?;
+    if !follow(&intervals, len) {
+        return Err(MapFault::OutOfOrder(0));
+    }
+    Ok(body)
+}
+
+/// What a command with this output did. Bytes that are no body have their first fault; a body that leaves one of the MAP's
+/// minislots out is OutOfOrder.
+pub fn deed_of(alloc: Global, command: &Command, output: &Output) -> Result<Deed, MapFault>
+    ensures { IfOk result (IsDeedOf command.now output.now) }
+{
+    match output {
+        Output::Nothing => Ok(quiet_deed(command)),
+        Output::ChannelSet { ch, .. } => Ok(Deed::Channel(*ch)),
+        Output::Assigned {
+            modem,
+            ch,
+            sid,
+            first,
+            last,
+        } => Ok(flow_deed(command, *modem, *ch, *sid, *first, *last)),
+        Output::Map {
+            ch,
+            start,
+            len,
+            bytes,
+        } => {
+            let body = whole_body(alloc, *len, bytes.as_slice())?;
+            Ok(Deed::Map {
+                ch: *ch,
+                start: *start,
+                len: *len,
+                body,
+            })
+        }
+        Output::Refused(_) => Ok(Deed::Other),
+    }
+}
