@@ -1,0 +1,2 @@
+mod Rendered
+mod Sizes

@@ -1,0 +1,107 @@
+-- The parts of a run's picture: of each event, and of each letter.
+use Rattle.std.specs.Prelude.{ℕ, ◌+◌, ◌-◌, Bool, true, false, nat_lt, if◌then◌else◌, List, ◌++◌, Option, Some, None, codes, decimal, length, slice_get, take}
+use Rattle.ballots.specs.declared.letters.Letter.{Letter}
+use Rattle.world_events.specs.declared.event.Event.{Event}
+use Rattle.seats.specs.declared.answer.Answer.{Answer}
+use Rattle.seats.specs.declared.answer.ReleasedOutput.{ReleasedOutput}
+use Rattle.printed_answers.specs.Texts.{answer_text}
+use Rattle.xml_text.specs.Xml.{Xml, said, shape, titled}
+use Rattle.xml_text.specs.Xml.Tag.{Line, Words as WordsAt}
+use Rattle.xml_text.specs.Xml.Xml.{Nothing}
+use Rattle.run_picture.specs.declared.scene.Scene.{Scene}
+use Rattle.run_picture.specs.declared.scene.Part.{Part}
+use Rattle.run_picture.specs.declared.scene.Part.TheVariants.{Rule, Number, Happening, Answered, Mark, Arrow, Hearing, Label}
+use Rattle.run_picture.specs.Lanes.{lane_of, lane_x, lanes_end, mark_x}
+use Rattle.run_picture.specs.Marks.{has_failed, kind_name, mark_shape, mark_title}
+use Rattle.run_picture.specs.Arrows.{delivered, heard, is_delivered, letter_arrow, letter_stub, output_arrow}
+use Rattle.run_picture.specs.Words.{event_words, note_words}
+
+abbrev pub lanes : Scene → ℕ
+lanes s = s.members + s.modems
+
+-- where an event is marked
+abbrev pub event_x : Scene → Event → ℕ
+event_x s event = mark_x (lanes s) (lane_of s.members s.modems s.letters.now event)
+
+-- the row's thin line, the event's number, what happens, its answer
+abbrev pub rule : Scene → ℕ → Xml
+rule s y = shape (Line 212 y (lanes_end (lanes s)) y (codes "rule"))
+
+abbrev pub number_words : ℕ → ℕ → Xml
+number_words i y = said (WordsAt 34 (y + 4) (codes "m e mute")) (decimal i)
+
+abbrev pub happening : Event → ℕ → Xml
+happening event y = said (WordsAt 44 (y + 4) (codes "m")) (event_words event)
+
+abbrev pub answer_class : Bool → List ℕ
+answer_class true = codes "m bad"
+answer_class false = codes "m mute"
+
+abbrev pub answered : Scene → Answer → ℕ → Xml
+answered s answer y = said (WordsAt (lanes_end (lanes s) + 8) (y + 4) (answer_class (has_failed answer))) (answer_text answer)
+
+-- the mark of event i
+abbrev pub mark : Scene → ℕ → Event → Answer → ℕ → Xml
+mark s i event answer y = titled (mark_title i answer) (shape (mark_shape (has_failed answer) s.letters.now (event_x s event) y event answer))
+
+-- the arrow of the letter that event i delivers
+abbrev pub arrow_from : Scene → (i l : ℕ) → Option Letter → Option ℕ → ℕ → Xml
+arrow_from s i l (Some letter) (Some sent) y = letter_arrow (lanes s) (is_delivered l (take i s.events.now) s.answers.now) l letter sent y
+arrow_from s i l letter sent y = Nothing
+
+abbrev pub arrow : Scene → ℕ → Option ℕ → ℕ → Xml
+arrow s i None y = Nothing
+arrow s i (Some l) y = arrow_from s i l (slice_get s.letters.now l) (slice_get s.senders.now l) y
+
+-- the arrow of the output that a modem hears
+abbrev pub hearing_from : Scene → (k o : ℕ) → Option ReleasedOutput → Option ℕ → ℕ → Xml
+hearing_from s k o (Some output) (Some released) y = if nat_lt output.node s.members then output_arrow (lanes s) k o output released y else Nothing
+hearing_from s k o output released y = Nothing
+
+abbrev pub hearing : Scene → Option ℕ → Option ℕ → ℕ → Xml
+hearing s (Some k) (Some o) y = hearing_from s k o (slice_get s.outputs.now o) (slice_get s.releasers.now o) y
+hearing s k o y = Nothing
+
+-- what the letter says, under the arrow's head, on the side that it comes from
+abbrev pub label_on : Bool → (x y : ℕ) → Letter → Xml
+label_on true x y letter = said (WordsAt (x - 11) (y + 13) (codes "s halo e f-" ++ kind_name letter.note)) (note_words letter.note)
+label_on false x y letter = said (WordsAt (x + 11) (y + 13) (codes "s halo f-" ++ kind_name letter.note)) (note_words letter.note)
+
+abbrev pub label_from : Scene → Option Letter → ℕ → Xml
+label_from s (Some letter) y = label_on (nat_lt letter.from letter.to) (lane_x (lanes s) letter.to) y letter
+label_from s None y = Nothing
+
+abbrev pub label : Scene → Option ℕ → ℕ → Xml
+label s (Some l) y = label_from s (slice_get s.letters.now l) y
+label s None y = Nothing
+
+-- a part of event i, whose row is at y
+abbrev pub part_of : Scene → Part → ℕ → Event → Answer → ℕ → Xml
+part_of s Rule i event answer y = rule s y
+part_of s Number i event answer y = number_words i y
+part_of s Happening i event answer y = happening event y
+part_of s Answered i event answer y = answered s answer y
+part_of s Mark i event answer y = mark s i event answer y
+part_of s Arrow i event answer y = arrow s i (delivered event answer) y
+part_of s Hearing i event answer y = hearing s (lane_of s.members s.modems s.letters.now event) (heard event answer) y
+part_of s Label i event answer y = label s (delivered event answer) y
+
+abbrev pub part_for : Scene → Part → ℕ → Option Event → Option Answer → Option ℕ → Xml
+part_for s part i (Some event) (Some answer) (Some y) = part_of s part i event answer y
+part_for s part i event answer y = Nothing
+
+-- a part of event i, of all
+abbrev pub part_at : Scene → Part → ℕ → Xml
+part_at s part i = part_for s part i (slice_get s.events.now i) (slice_get s.answers.now i) (slice_get s.rows.now i)
+
+-- the stub of letter l, unless it is delivered
+abbrev pub stub_from : Scene → ℕ → Option Letter → Option ℕ → Xml
+stub_from s l (Some letter) (Some sent) = letter_stub (lanes s) l letter sent
+stub_from s l letter sent = Nothing
+
+abbrev pub stub_unless : Bool → Scene → ℕ → Xml
+stub_unless true s l = Nothing
+stub_unless false s l = stub_from s l (slice_get s.letters.now l) (slice_get s.senders.now l)
+
+abbrev pub stub_at : Scene → ℕ → Xml
+stub_at s l = stub_unless (is_delivered l s.events.now s.answers.now) s l

@@ -1,0 +1,216 @@
+//! Arrows of what is delivered and heard, and stubs of letters that are never delivered.
+
+ghost use Rattle.std.specs.Prelude.{◌≡◌, ◌++◌, ◌<◌, ◌^◌, OnOk, IfOk, string_bytes, drop};
+ghost use Rattle.xml_text.specs.Xml.{render};
+ghost use Rattle.run_picture.specs.Arrows.{letter_brought, output_brought, delivered, heard, is_this, is_delivered, bow, straight, arrow_steps, letter_title, arrow_class, letter_arrow, output_title, output_arrow, stub_steps, stub_title, letter_stub};
+
+use crate::lanes::lane_x;
+use crate::marks::{has_failed, kind_name};
+use ballots::Letter;
+use printed_letters::letter_text;
+use seats::{Answer, ReleasedOutput};
+use std::alloc::{AllocError, Global};
+use world_events::Event;
+use xml_text::add_titled_path;
+
+/// Which letter an event brings.
+fn letter_brought(event: &Event) -> Option<usize>
+    ensures { result ≡ letter_brought event.now }
+{
+    match event {
+        Event::Deliver(i) => Some(*i),
+        Event::DeliverThenCrash(i) => Some(*i),
+        _ => None,
+    }
+}
+
+/// Which output an event brings.
+fn output_brought(event: &Event) -> Option<usize>
+    ensures { result ≡ output_brought event.now }
+{
+    match event {
+        Event::Hear(_, i, _) => Some(*i),
+        _ => None,
+    }
+}
+
+/// Which letter an event delivers, where the delivery was answered.
+pub(crate) fn delivered(event: &Event, answer: Answer) -> Option<usize>
+    ensures { result ≡ delivered event.now answer }
+{
+    if has_failed(answer) {
+        return None;
+    }
+    letter_brought(event)
+}
+
+/// Which output is heard at an event.
+pub(crate) fn heard(event: &Event, answer: Answer) -> Option<usize>
+    ensures { result ≡ heard event.now answer }
+{
+    if has_failed(answer) {
+        return None;
+    }
+    output_brought(event)
+}
+
+/// Whether it is letter `l`.
+fn is_this(l: usize, brought: Option<usize>) -> bool
+    ensures { result ≡ is_this l brought }
+{
+    match brought {
+        Some(k) => k == l,
+        None => false,
+    }
+}
+
+/// Whether any of these events delivers letter `l`.
+pub(crate) fn is_delivered(l: usize, events: &[Event], answers: &[Answer]) -> bool
+    ensures { result ≡ is_delivered l events.now answers.now }
+{
+    for (i, event) in events.iter().enumerate() {
+        if i >= answers.len() {
+            return false;
+        }
+        if is_this(l, delivered(event, answers[i])) {
+            return true;
+        }
+    }
+    false
+}
+
+/// A bow to the right, from a lane to itself.
+fn bow(alloc: Global, x: u64, y1: u64, y2: u64) -> Result<String, AllocError>
+    requires { x < 2 ^ 50 }
+    ensures { IfOk result (λ text. string_bytes text ≡ bow x y1 y2) }
+{
+    let (near, far, back) = (x + 5, x + 34, x + 6);
+    let tail = format!(in alloc; "{far} {y2} {back} {y2}")?;
+    let text = format!(in alloc; "M{near} {y1}C{far} {y1} {tail}")?;
+    Ok(text)
+}
+
+/// The steps of an arrow: straight, or a bow where it is to itself.
+fn arrow_steps(alloc: Global, from: (u64, u64), to: (u64, u64)) -> Result<String, AllocError>
+    requires from { from.0 < 2 ^ 50 }
+    requires to { to.0 < 2 ^ 50 }
+    ensures { IfOk result (λ text. string_bytes text ≡ arrow_steps from.0 from.1 to.0 to.1) }
+{
+    let (x1, y1) = from;
+    let (x2, y2) = to;
+    if x1 == x2 {
+        return bow(alloc, x1, y1, y2);
+    }
+    if x1 < x2 {
+        let (tail, head) = (x1 + 6, x2.saturating_sub(7));
+        return format!(in alloc; "M{tail} {y1}L{head} {y2}");
+    }
+    let (tail, head) = (x1.saturating_sub(6), x2 + 7);
+    format!(in alloc; "M{tail} {y1}L{head} {y2}")
+}
+
+/// What a letter's arrow tells when it is pointed at.
+fn letter_title(alloc: Global, l: usize, letter: &Letter) -> Result<String, AllocError>
+    ensures { IfOk result (λ text. string_bytes text ≡ letter_title l letter.now) }
+{
+    let text = letter_text(alloc, letter)?;
+    format!(in alloc; "letter {l} {text}")
+}
+
+fn arrow_class(alloc: Global, again: bool, kind: &str) -> Result<String, AllocError>
+    ensures { IfOk result (λ text. string_bytes text ≡ arrow_class again kind.now) }
+{
+    if again {
+        return format!(in alloc; "a s-{kind} h-{kind} again");
+    }
+    format!(in alloc; "a s-{kind} h-{kind}")
+}
+
+/// The arrow of letter `l`, sent in a row at `sent` and delivered in one at `y`, dashed where it was delivered before.
+pub(crate) fn add_letter_arrow(
+    alloc: Global,
+    out: &mut String,
+    lanes: u64,
+    again: bool,
+    l: usize,
+    letter: &Letter,
+    sent: u64,
+    y: u64,
+) -> Result<(), AllocError>
+    ensures { OnOk result (string_bytes out.new ≡ string_bytes out.old ++ render (letter_arrow lanes again l letter.now sent y)) }
+{
+    let title = letter_title(alloc, l, letter)?;
+    let class = arrow_class(alloc, again, kind_name(&letter.note))?;
+    let from = lane_x(lanes, u64::from(letter.from.number()));
+    let to = lane_x(lanes, u64::from(letter.to.number()));
+    let steps = arrow_steps(alloc, (from, sent), (to, y))?;
+    add_titled_path(alloc, out, title.as_str(), steps.as_str(), class.as_str())
+}
+
+/// What an output's arrow tells when it is pointed at.
+fn output_title(alloc: Global, i: usize, output: &ReleasedOutput) -> Result<String, AllocError>
+    ensures { IfOk result (λ text. string_bytes text ≡ output_title i output.now) }
+{
+    let (node, place) = (output.node, output.numbered.place);
+    format!(in alloc; "output {i} of node {node} place {place}")
+}
+
+/// The arrow of output `i`, released in a row at `released` and heard on lane `k` in one at `y`.
+pub(crate) fn add_output_arrow(
+    alloc: Global,
+    out: &mut String,
+    lanes: u64,
+    k: u64,
+    i: usize,
+    output: &ReleasedOutput,
+    released: u64,
+    y: u64,
+) -> Result<(), AllocError>
+    requires node { output.now.node < 2 ^ 40 }
+    requires lane { k < 2 ^ 40 }
+    ensures { OnOk result (string_bytes out.new ≡ string_bytes out.old ++ render (output_arrow lanes k i output.now released y)) }
+{
+    let title = output_title(alloc, i, output)?;
+    let from = lane_x(lanes, output.node as u64);
+    let to = lane_x(lanes, k);
+    let steps = arrow_steps(alloc, (from, released), (to, y))?;
+    let class = "a s-output h-output weak";
+    add_titled_path(alloc, out, title.as_str(), steps.as_str(), class)
+}
+
+fn stub_steps(alloc: Global, x: u64, y: u64, to: u64) -> Result<String, AllocError>
+    requires x { x < 2 ^ 50 }
+    requires y { y < 2 ^ 50 }
+    requires to { to < 5 }
+    ensures { IfOk result (λ text. string_bytes text ≡ stub_steps x y to) }
+{
+    let (top, bottom) = (y + 5, y + 12);
+    let aside = (x + 8 * to).saturating_sub(16);
+    format!(in alloc; "M{x} {top}L{aside} {bottom}m-2 -2l5 5m0 -5l-5 5")
+}
+
+fn stub_title(alloc: Global, l: usize, letter: &Letter) -> Result<String, AllocError>
+    ensures { IfOk result (λ text. string_bytes text ≡ stub_title l letter.now) }
+{
+    let text = letter_title(alloc, l, letter)?;
+    format!(in alloc; "never delivered: {text}")
+}
+
+/// The stub of letter `l`, sent in a row at `y` and never delivered.
+pub(crate) fn add_letter_stub(
+    alloc: Global,
+    out: &mut String,
+    lanes: u64,
+    l: usize,
+    letter: &Letter,
+    y: u64,
+) -> Result<(), AllocError>
+    requires { y < 2 ^ 50 }
+    ensures { OnOk result (string_bytes out.new ≡ string_bytes out.old ++ render (letter_stub lanes l letter.now y)) }
+{
+    let title = stub_title(alloc, l, letter)?;
+    let class = format!(in alloc; "x s-{}", kind_name(&letter.note))?;
+    let x = lane_x(lanes, u64::from(letter.from.number()));
+    let steps = stub_steps(alloc, x, y, u64::from(letter.to.number()))?;
+    add_titled_path(alloc, out, title.as_str(), steps.as_str(), class.as_str())
+}

@@ -1,0 +1,243 @@
+//! A run as one picture.
+
+ghost use Rattle.std.specs.Prelude.{◌≡◌, ◌++◌, ◌<◌, ◌^◌, IfOk, OnOk, string_bytes, length, nat_lt, ℕ, []};
+ghost use Rattle.xml_text.specs.Xml.{Xml, render};
+ghost use Rattle.xml_text.specs.Each.{each};
+ghost use Rattle.xml_text.specs.Drawings.{AreDrawn};
+ghost use Rattle.run_picture.specs.Parts.{lanes};
+ghost use Rattle.run_picture.specs.Pictures.{arrows_of, bands_of, labels_of, lane_line, lane_name, layers, name_if, of_events, Draws, IsPictureOf};
+
+use crate::heads::{NOTES, STYLE, heads, legend};
+use crate::lanes::{lane_x, lanes_end};
+use crate::parts::{add_part, add_stubs, lanes};
+use crate::rows::{releasers_of, rows_of, senders_of};
+use crate::scene::{Part, Scene};
+use ballots::Letter;
+use seats::{Answer, ReleasedOutput};
+use std::alloc::{AllocError, Global};
+use world_events::Event;
+use xml_text::{Layers, add_line, add_words, drawing};
+
+/// The line of a lane, down to the bottom.
+fn add_lane_line(
+    alloc: Global,
+    out: &mut String,
+    scene: &Scene<'_>,
+    bottom: u64,
+    k: u64,
+) -> Result<(), AllocError>
+    requires members { scene.now.members < 2 ^ 32 }
+    requires modems { scene.now.modems < 2 ^ 32 }
+    requires lane { k < 2 ^ 40 }
+    ensures { OnOk result (string_bytes out.new ≡ string_bytes out.old ++ render (lane_line scene.now bottom k)) }
+{
+    let x = lane_x(lanes(scene), k);
+    add_line(alloc, out, (x, 132), (x, bottom), "lane")
+}
+
+/// The line of each lane.
+fn add_lanes(
+    alloc: Global,
+    out: &mut String,
+    scene: &Scene<'_>,
+    bottom: u64,
+) -> Result<(), AllocError>
+    requires members { scene.now.members < 2 ^ 32 }
+    requires modems { scene.now.modems < 2 ^ 32 }
+    ensures { OnOk result (string_bytes out.new ≡ string_bytes out.old ++ render (each (lanes scene.now) (lane_line scene.now bottom))) }
+{
+    for k in 0..lanes(scene) {
+        add_lane_line(alloc, out, scene, bottom, k)?;
+    }
+    Ok(())
+}
+
+/// The name of a lane.
+fn name(alloc: Global, members: u64, k: u64) -> Result<String, AllocError>
+    ensures { IfOk result (λ text. string_bytes text ≡ name_if (nat_lt k members) members k) }
+{
+    if k < members {
+        return format!(in alloc; "node {k}");
+    }
+    let modem = k - members;
+    format!(in alloc; "modem {modem}")
+}
+
+/// The name of a lane, above it.
+fn add_lane_name(
+    alloc: Global,
+    out: &mut String,
+    scene: &Scene<'_>,
+    k: u64,
+) -> Result<(), AllocError>
+    requires members { scene.now.members < 2 ^ 32 }
+    requires modems { scene.now.modems < 2 ^ 32 }
+    requires lane { k < 2 ^ 40 }
+    ensures { OnOk result (string_bytes out.new ≡ string_bytes out.old ++ render (lane_name scene.now k)) }
+{
+    let words = name(alloc, scene.members, k)?;
+    let x = lane_x(lanes(scene), k);
+    add_words(alloc, out, (x, 124), "c b", words.as_str())
+}
+
+/// The name of each lane.
+fn add_names(alloc: Global, out: &mut String, scene: &Scene<'_>) -> Result<(), AllocError>
+    requires members { scene.now.members < 2 ^ 32 }
+    requires modems { scene.now.modems < 2 ^ 32 }
+    ensures { OnOk result (string_bytes out.new ≡ string_bytes out.old ++ render (each (lanes scene.now) (lane_name scene.now))) }
+{
+    for k in 0..lanes(scene) {
+        add_lane_name(alloc, out, scene, k)?;
+    }
+    Ok(())
+}
+
+/// A part of each event, in order.
+fn of_events(alloc: Global, scene: &Scene<'_>, part: Part) -> Result<String, AllocError>
+    requires members { scene.now.members < 2 ^ 32 }
+    requires modems { scene.now.modems < 2 ^ 32 }
+    ensures { IfOk result (λ text. string_bytes text ≡ render (of_events scene.now part)) }
+{
+    let mut out = String::new(alloc);
+    add_part(alloc, &mut out, scene, part)?;
+    Ok(out)
+}
+
+/// The lines of lanes, down to the bottom.
+fn bands_of(alloc: Global, scene: &Scene<'_>, bottom: u64) -> Result<String, AllocError>
+    requires members { scene.now.members < 2 ^ 32 }
+    requires modems { scene.now.modems < 2 ^ 32 }
+    ensures { IfOk result (λ text. string_bytes text ≡ render (bands_of scene.now bottom)) }
+{
+    let mut out = String::new(alloc);
+    add_lanes(alloc, &mut out, scene, bottom)?;
+    Ok(out)
+}
+
+/// Arrows and stubs.
+fn arrows_of(alloc: Global, scene: &Scene<'_>) -> Result<String, AllocError>
+    requires members { scene.now.members < 2 ^ 32 }
+    requires modems { scene.now.modems < 2 ^ 32 }
+    ensures { IfOk result (λ text. string_bytes text ≡ render (arrows_of scene.now)) }
+{
+    let mut out = String::new(alloc);
+    add_part(alloc, &mut out, scene, Part::Arrow)?;
+    add_part(alloc, &mut out, scene, Part::Hearing)?;
+    add_stubs(alloc, &mut out, scene)?;
+    Ok(out)
+}
+
+/// Adds words behind a legend.
+fn add_labels(alloc: Global, out: &mut String, scene: &Scene<'_>) -> Result<(), AllocError>
+    requires members { scene.now.members < 2 ^ 32 }
+    requires modems { scene.now.modems < 2 ^ 32 }
+    ensures { (known : Xml) → string_bytes out.old ≡ render known → OnOk result (string_bytes out.new ≡ render (labels_of scene.now known)) }
+{
+    add_names(alloc, out, scene)?;
+    add_part(alloc, out, scene, Part::Number)?;
+    add_part(alloc, out, scene, Part::Happening)?;
+    add_part(alloc, out, scene, Part::Answered)?;
+    add_part(alloc, out, scene, Part::Label)?;
+    Ok(())
+}
+
+/// The layers of a scene, whose lanes end at the bottom.
+fn layers_of(alloc: Global, scene: &Scene<'_>, bottom: u64) -> Result<Layers, AllocError>
+    requires members { scene.now.members < 2 ^ 32 }
+    requires modems { scene.now.modems < 2 ^ 32 }
+    ensures { IfOk result (λ all. (known : Xml) × AreDrawn all (layers scene.now bottom known)) }
+{
+    let rules = of_events(alloc, scene, Part::Rule)?;
+    let bands = bands_of(alloc, scene, bottom)?;
+    let arrows = arrows_of(alloc, scene)?;
+    let marks = of_events(alloc, scene, Part::Mark)?;
+    let counts = (
+        scene.members,
+        scene.modems,
+        scene.events.len(),
+        scene.letters.len(),
+    );
+    let mut labels = legend(alloc, counts, NOTES[0], NOTES[1], NOTES[2])?;
+    add_labels(alloc, &mut labels, scene)?;
+    Ok(Layers {
+        rules,
+        bands,
+        arrows,
+        marks,
+        labels,
+    })
+}
+
+/// Where lanes end: below the last row.
+fn bottom_of(rows: &[u32]) -> u64
+    ensures { result < 2 ^ 40 }
+{
+    match rows.last() {
+        Some(last) => u64::from(*last) + 24,
+        None => 170,
+    }
+}
+
+/// The picture of a scene in this size, with a title and a style, whose lanes end at the bottom.
+fn drawn_so(
+    alloc: Global,
+    scene: &Scene<'_>,
+    size: (u64, u64),
+    bottom: u64,
+    title: &str,
+    style: &str,
+) -> Result<String, AllocError>
+    requires members { scene.now.members < 2 ^ 32 }
+    requires modems { scene.now.modems < 2 ^ 32 }
+    ensures { IfOk result (λ text. Draws scene.now (string_bytes text)) }
+{
+    let all = layers_of(alloc, scene, bottom)?;
+    let heads = heads(alloc)?;
+    let text = drawing(alloc, size, title, style, heads.as_str(), &all)?;
+    Ok(text)
+}
+
+/// The picture of a scene.
+fn drawn_scene(alloc: Global, scene: &Scene<'_>) -> Result<String, AllocError>
+    requires members { scene.now.members < 2 ^ 32 }
+    requires modems { scene.now.modems < 2 ^ 32 }
+    ensures { IfOk result (λ text. Draws scene.now (string_bytes text)) }
+{
+    let bottom = bottom_of(scene.rows);
+    let width = (lanes_end(lanes(scene)) + 190).max(860);
+    let title = format!(in alloc; "upsched run, {} events", scene.events.len())?;
+    let size = (width, bottom + 12);
+    drawn_so(alloc, scene, size, bottom, title.as_str(), STYLE)
+}
+
+/// The picture of a run of so many nodes and of modems with these ids, as an SVG document: what happened, how it was
+/// answered, every letter that was sent and every output that was released.
+pub fn picture(
+    alloc: Global,
+    members: u8,
+    ids: &[u32],
+    events: &[Event],
+    answers: &[Answer],
+    letters: &[Letter],
+    outputs: &[ReleasedOutput],
+) -> Result<String, AllocError>
+    requires modems { length ids.now < 2 ^ 32 }
+    requires answers { length answers.now < 2 ^ 27 }
+    ensures { IfOk result (λ text. IsPictureOf members ids.now events.now answers.now letters.now outputs.now (string_bytes text)) }
+{
+    let rows = rows_of(alloc, answers)?;
+    let senders = senders_of(alloc, answers)?;
+    let releasers = releasers_of(alloc, answers)?;
+    let scene = Scene {
+        members: u64::from(members),
+        modems: ids.len() as u64,
+        events,
+        answers,
+        letters,
+        outputs,
+        rows: rows.as_slice(),
+        senders: senders.as_slice(),
+        releasers: releasers.as_slice(),
+    };
+    drawn_scene(alloc, &scene)
+}

@@ -1,0 +1,188 @@
+//! The mark of an event.
+
+ghost use Rattle.std.specs.Prelude.{◌≡◌, ◌++◌, ◌<◌, ◌^◌, OnOk, IfOk, string_bytes, slice_get};
+ghost use Rattle.xml_text.specs.Xml.{render, shape, titled};
+ghost use Rattle.run_picture.specs.Marks.{has_failed, kind_name, letter_dot, path_at, cross_at, is_idle, tick_shape, done_shape, mark_shape, mark_title};
+
+use ballots::{Letter, Note};
+use printed_answers::answer_text;
+use seats::Answer;
+use std::alloc::{AllocError, Global};
+use world_events::Event;
+use xml_text::{add_titled_circle, add_titled_path};
+
+/// Whether an answer says that the event failed.
+pub(crate) fn has_failed(answer: Answer) -> bool
+    ensures { result ≡ has_failed answer }
+{
+    match answer {
+        Answer::WantRefused(_) => true,
+        Answer::Refused(_) => true,
+        Answer::Fault(_) => true,
+        Answer::Crashed => true,
+        _ => false,
+    }
+}
+
+/// The name of a letter's kind.
+pub(crate) fn kind_name(note: &Note) -> &'static str
+    ensures { result.now ≡ kind_name note.now }
+{
+    match note {
+        Note::Prepare { .. } => "prepare",
+        Note::Promise { .. } => "promise",
+        Note::Accept { .. } => "accept",
+        Note::Voted { .. } => "voted",
+        Note::Higher { .. } => "higher",
+        Note::Known { .. } => "known",
+    }
+}
+
+/// A dot in the colour of the letter.
+fn add_letter_dot(
+    alloc: Global,
+    out: &mut String,
+    title: &str,
+    middle: (u64, u64),
+    letters: &[Letter],
+    i: usize,
+) -> Result<(), AllocError>
+    ensures { OnOk result (string_bytes out.new ≡ string_bytes out.old ++ render (titled title.now (shape (letter_dot middle.0 middle.1 (slice_get letters.now i))))) }
+{
+    if i >= letters.len() {
+        return add_titled_circle(alloc, out, title, middle, 5, "ring");
+    }
+    let class = format!(in alloc; "f-{}", kind_name(&letters[i].note))?;
+    add_titled_circle(alloc, out, title, middle, 4, class.as_str())
+}
+
+/// A path that begins at a point.
+fn add_path_at(
+    alloc: Global,
+    out: &mut String,
+    title: &str,
+    x: u64,
+    y: u64,
+    steps: &str,
+    class: &str,
+) -> Result<(), AllocError>
+    ensures { OnOk result (string_bytes out.new ≡ string_bytes out.old ++ render (titled title.now (shape (path_at x y steps.now class.now)))) }
+{
+    let path = format!(in alloc; "M{x} {y}{steps}")?;
+    add_titled_path(alloc, out, title, path.as_str(), class)
+}
+
+fn add_cross(alloc: Global, out: &mut String, title: &str, x: u64, y: u64) -> Result<(), AllocError>
+    ensures { OnOk result (string_bytes out.new ≡ string_bytes out.old ++ render (titled title.now (shape (cross_at x y)))) }
+{
+    let (x, y) = (x.saturating_sub(5), y.saturating_sub(5));
+    add_path_at(alloc, out, title, x, y, "l10 10m0 -10l-10 10", "x sbad")
+}
+
+/// The mark of an event that went well.
+fn add_done_shape(
+    alloc: Global,
+    out: &mut String,
+    title: &str,
+    letters: &[Letter],
+    x: u64,
+    y: u64,
+    event: &Event,
+    answer: Answer,
+) -> Result<(), AllocError>
+    ensures { OnOk result (string_bytes out.new ≡ string_bytes out.old ++ render (titled title.now (shape (done_shape letters.now x y event.now answer)))) }
+{
+    let left = x.saturating_sub(5);
+    let lefter = x.saturating_sub(6);
+    let up = y.saturating_sub(5);
+    let higher = y.saturating_sub(6);
+    let highest = y.saturating_sub(7);
+    match event {
+        Event::Lead(_) => add_path_at(alloc, out, title, x, highest, "l7 12h-14z", "f-prepare"),
+        Event::Offer(_, _) => add_path_at(alloc, out, title, left, up, "h11v11h-11z", "f-accept"),
+        Event::Tell(_, _, _) => add_path_at(
+            alloc,
+            out,
+            title,
+            left,
+            higher,
+            "l12 6l-12 6z",
+            "f-known",
+        ),
+        Event::Deliver(i) => add_letter_dot(alloc, out, title, (x, y), letters, *i),
+        Event::DeliverThenCrash(_) => add_cross(alloc, out, title, x, y),
+        Event::Crash(_) => add_cross(alloc, out, title, x, y),
+        Event::Restart(_) => add_titled_circle(alloc, out, title, (x, y), 5, "start"),
+        Event::Release(_, _) => add_path_at(
+            alloc,
+            out,
+            title,
+            x,
+            highest,
+            "l7 7l-7 7l-7 -7z",
+            "f-output",
+        ),
+        Event::Hear(_, _, _) => add_titled_circle(alloc, out, title, (x, y), 4, "f-output"),
+        Event::Want(_, _, _, _) => {
+            add_path_at(alloc, out, title, lefter, up, "h12l-6 10z", "f-ask")
+        }
+        Event::Tick(_, _, _, _) => add_tick(alloc, out, title, x, y, is_idle(answer)),
+    }
+}
+
+/// Whether a modem had nothing to send.
+fn is_idle(answer: Answer) -> bool
+    ensures { result ≡ is_idle answer }
+{
+    match answer {
+        Answer::Ticked(None) => true,
+        _ => false,
+    }
+}
+
+/// The mark of a modem's minislot: a speck where it had nothing to send.
+fn add_tick(
+    alloc: Global,
+    out: &mut String,
+    title: &str,
+    x: u64,
+    y: u64,
+    idle: bool,
+) -> Result<(), AllocError>
+    ensures { OnOk result (string_bytes out.new ≡ string_bytes out.old ++ render (titled title.now (shape (tick_shape idle x y)))) }
+{
+    if idle {
+        return add_titled_circle(alloc, out, title, (x, y), 2, "mute");
+    }
+    let left = x.saturating_sub(5);
+    let up = y.saturating_sub(6);
+    add_path_at(alloc, out, title, left, up, "l12 6l-12 6z", "f-ask")
+}
+
+/// The mark of an event: a red ring where it failed.
+pub(crate) fn add_mark_shape(
+    alloc: Global,
+    out: &mut String,
+    title: &str,
+    failed: bool,
+    letters: &[Letter],
+    x: u64,
+    y: u64,
+    event: &Event,
+    answer: Answer,
+) -> Result<(), AllocError>
+    ensures { OnOk result (string_bytes out.new ≡ string_bytes out.old ++ render (titled title.now (shape (mark_shape failed letters.now x y event.now answer)))) }
+{
+    if failed {
+        return add_titled_circle(alloc, out, title, (x, y), 5, "ring");
+    }
+    add_done_shape(alloc, out, title, letters, x, y, event, answer)
+}
+
+/// What a mark tells when it is pointed at.
+pub(crate) fn mark_title(alloc: Global, i: usize, answer: Answer) -> Result<String, AllocError>
+    ensures { IfOk result (λ text. string_bytes text ≡ mark_title i answer) }
+{
+    let answer = answer_text(alloc, answer)?;
+    format!(in alloc; "event {i}: {answer}")
+}

@@ -1,0 +1,5 @@
+pub mod Callers
+mod Joined
+mod Pushed
+mod Sound
+mod Texts

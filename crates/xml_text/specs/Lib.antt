@@ -1,0 +1,4 @@
+pub mod Xml
+pub mod WellFormed
+pub mod Drawings
+pub mod Each
