@@ -2,7 +2,7 @@
 # The libraries for C and C++ (crates/upsched_c, crates/upsched_c_node, include/, c/), tried from C; no part of the
 # gate. It builds the clients with gcc and g++, warnings as errors, and runs them: as they are, under the sanitizers,
 # and where valgrind is there under its memcheck and helgrind; lets each request for memory fail in turn; and compares
-# what it says of spoilt bodies and commands with what the proved program prints, where one is there. The status is 1
+# what it says of spoilt bodies, commands and letters with what the proved program prints, where one is there. The status is 1
 # where something differs.
 #
 # Usage: bench/c_library.sh [SECONDS [SEED]]: the fuzz target runs so long (5), and 40 times as many inputs are spoilt.
@@ -25,12 +25,21 @@ for client in rows agrees codec_fuzz mutate; do
   gcc -std=c99 "${clean[@]}" "${warn[@]}" "$client.c" "$lib" -o "$work/$client"
 done
 gcc -std=gnu99 "${clean[@]}" "${warn[@]}" threads.c "$lib" -pthread -o "$work/threads"
-gcc -std=c99 "${clean[@]}" "${warn[@]}" node.c "$node" -o "$work/node"
+for client in node node_agrees mutate_node; do
+  gcc -std=c99 "${clean[@]}" "${warn[@]}" "$client.c" "$node" -o "$work/$client"
+done
+gcc -std=gnu99 "${clean[@]}" "${warn[@]}" node_threads.c "$node" -pthread -o "$work/node_threads"
+g++ -std=c++17 "${clean[@]}" "${warn[@]}" failover.cpp "$node" -o "$work/failover"
+g++ -std=c++17 "${clean[@]}" "${warn[@]}" both.cpp "$lib" "$node" -o "$work/both"
 g++ -std=c++17 "${clean[@]}" "${warn[@]}" sim.cpp "$lib" -o "$work/sim"
 "$work/agrees"
+"$work/node_agrees"
 "$work/rows" | diff - rows.stdout
 "$work/node" | diff - node.stdout
+"$work/failover" | diff - failover.stdout
+"$work/both"
 "$work/threads"
+"$work/node_threads"
 "$work/codec_fuzz" "$seconds" "$seed"
 "$work/sim" 0.05 0.5 events 2>/dev/null > "$work/sim.out"
 
@@ -47,12 +56,17 @@ else
   memcheck=(valgrind -q --leak-check=full --error-exitcode=9)
   "${memcheck[@]}" out/agrees
   "${memcheck[@]}" out/rows | diff - rows.stdout
+  "${memcheck[@]}" out/node_agrees
   "${memcheck[@]}" out/node | diff - node.stdout
+  "${memcheck[@]}" out/failover | diff - failover.stdout
+  "${memcheck[@]}" out/both
+  "${memcheck[@]}" out/mutate_node "$seed" 2000 > "$work/mutated" 2> "$work/letters"
   "${memcheck[@]}" out/codec_fuzz 1 "$seed"
   "${memcheck[@]}" "$work/no_memory"
   "${memcheck[@]}" "$work/node_no_memory"
   "${memcheck[@]}" out/sim 0.02 0.5 events 2>/dev/null > "$work/sim.out"
   valgrind -q --tool=helgrind --error-exitcode=9 out/threads
+  valgrind -q --tool=helgrind --error-exitcode=9 out/node_threads
 fi
 
 if [ ! -x "$program" ]; then
@@ -89,3 +103,12 @@ count=$((seconds * 40))
 "$program" run "$work/script.toml" | grep '^place ' | sed 's/ *$//' > "$work/released"
 diff "$work/outputs" "$work/released"
 echo "$count commands: the same outputs as the program's, $(grep -c ' refused ' "$work/released") of them refusals"
+
+# A node of the program that reads each letter as a line.
+echo "== spoilt letters"
+count=$((seconds * 2000))
+"$work/mutate_node" "$seed" "$count" > "$work/answers" 2> "$work/letters"
+"$program" node 0 --members 3 < "$work/letters" > "$work/replies" || true
+sed -e '/^node 0 of 3 /d' -e 's/^\(error 5 NoLetter\) .*/\1/' "$work/replies" > "$work/replied"
+diff "$work/answers" "$work/replied"
+echo "$count letters: the same replies as the program's, $(grep -c '^error 5' "$work/replied") of them faults"

@@ -113,12 +113,29 @@ static void print_writes(void)
     }
 }
 
+/* The first letter on its way as fields; and with another receiver as bytes again, which are those of the next one. */
+static void fields(void)
+{
+    upsched_letter letter = {0};
+    upsched_vote votes[1] = {{0, 0, 0, {0}}};
+    uint8_t bytes[LETTER];
+    size_t count = 0, written = 0;
+    good(upsched_letter_decode(sent[0].bytes, sent[0].len, &letter, votes, 1, &count), "decode");
+    printf("letter %u from %u to %u: ballot %" PRIu64 " place %" PRIu64 " votes %zu\n", letter.kind, letter.from,
+           letter.to, letter.ballot, letter.place, count);
+    letter.to = 1;
+    good(upsched_letter_encode(&letter, votes, count, bytes, sizeof bytes, &written), "encode");
+    printf("to node 1 it is the next one: %d\n",
+           written == sent[1].len && memcmp(bytes, sent[1].bytes, written) == 0);
+}
+
 /* Statuses that change nothing. */
 static void refusals(void)
 {
     upsched_node closed = {0};
     upsched_node_write write = {0}, strange = {0};
     uint8_t letter[1] = {0};
+    upsched_letter fields = {0};
     size_t count = 7;
     const int32_t found[] = {
         upsched_node_lead(&closed, &write, &count),
@@ -131,6 +148,10 @@ static void refusals(void)
         upsched_node_offer(&nodes[1], cut, sizeof cut, &write, &count),
         upsched_node_receive(&nodes[1], letter, sizeof letter, &write, &count),
         upsched_node_letter(&nodes[1], 1000, letter, sizeof letter, &count),
+        upsched_node_learned(&nodes[1], 1000, letter, sizeof letter, &count),
+        upsched_node_tell(&nodes[1], 5, 1, &write, &count),
+        upsched_letter_decode(letter, sizeof letter, &fields, NULL, 0, &count),
+        upsched_letter_encode(&fields, NULL, 0, letter, sizeof letter, &count),
     };
     printf("refusals");
     for (size_t i = 0; i < sizeof found / sizeof found[0]; i++) printf(" %d", (int)found[i]);
@@ -142,6 +163,7 @@ int main(void)
     if (sizeof(upsched_node) != 16 || sizeof(upsched_node_write) != 83) return 1;
     for (uint8_t id = 0; id < NODES; id++) good(upsched_node_open(&nodes[id], id, NODES, NULL, 0), "open");
     lead(0);
+    fields();
     carry();
     offer(0, channel, sizeof channel);
     offer(0, flow, sizeof flow);

@@ -60,6 +60,23 @@ static size_t lengths[MOST_LETTERS], sent_count, carried;
         note(&status_, sizeof status_);                                                                 \
     } while (0)
 
+/* A letter is read as fields, and written again. */
+static void fields(const uint8_t *bytes, size_t len)
+{
+    static uint8_t again[LETTER];
+    upsched_letter letter;
+    upsched_vote votes[4];
+    size_t count = 0, written = 0;
+    memset(&letter, 0, sizeof letter);
+    memset(votes, 0, sizeof votes);
+    CALL(upsched_letter_decode(bytes, len, &letter, votes, 4, &count));
+    CALL(upsched_letter_encode(&letter, votes, count, again, sizeof again, &written));
+    if (written != len || memcmp(again, bytes, len) != 0) {
+        printf("other bytes\n");
+        exit(1);
+    }
+}
+
 /* The write of node 0 is kept, and the letters of a call are on their way. */
 static void finish(unsigned id)
 {
@@ -72,6 +89,7 @@ static void finish(unsigned id)
         if (sent_count == MOST_LETTERS) abort();
         CALL(upsched_node_letter(&nodes[id], i, sent[sent_count], LETTER, &lengths[sent_count]));
         note(sent[sent_count], lengths[sent_count]);
+        fields(sent[sent_count], lengths[sent_count]);
         sent_count++;
     }
 }
@@ -104,6 +122,14 @@ static void run(void)
     carry();
     upsched_node_close(&nodes[0]);
     CALL(upsched_node_open(&nodes[0], 0, NODES, writes, write_count));
+    CALL(upsched_node_lead(&nodes[0], &write, &letters));
+    finish(0);
+    carry();
+    CALL(upsched_node_tell(&nodes[1], 0, 1, &write, &letters));
+    finish(1);
+    carry();
+    CALL(upsched_node_learned(&nodes[0], 1, body, sizeof body, &outputs));
+    note(body, outputs);
     for (unsigned id = 0; id < NODES; id++) {
         CALL(upsched_node_release(&nodes[id], 0, &outputs));
         CALL(upsched_node_output(&nodes[id], 0, &place, &output, body));

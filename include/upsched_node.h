@@ -83,7 +83,7 @@ static inline void upsched_node_close(upsched_node *node)
     if (node) upsched_c_node_close(node);
 }
 
-/* Each of the next three hands out its write in *write, and tells in *letters how many letters it sent. Any status but
+/* Each of the next four hands out its write in *write, and tells in *letters how many letters it sent. Any status but
  * OK leaves both as they were, and the node with the letters of the call before. */
 
 /* Asks the node to lead. Faults: LOG_FULL, ROUNDS_SPENT. */
@@ -118,6 +118,17 @@ static inline int32_t upsched_node_receive(upsched_node *node, const uint8_t *le
     return upsched_c_node_receive(node, letter ? letter : no_letter, len, write, letters);
 }
 
+/* Tells a node what this one has learned: a letter KNOWN for each of the first 64 learned places from one on, and none
+ * where it is no member. No node asks for it: see yourself which one lags, as one does that was down. It makes no
+ * write. BAD_FIELD: to is above 4. */
+int32_t upsched_c_node_tell(upsched_node *node, uint8_t to, uint64_t place, upsched_node_write *write, size_t *letters);
+static inline int32_t upsched_node_tell(upsched_node *node, uint8_t to, uint64_t place, upsched_node_write *write,
+                                        size_t *letters)
+{
+    if (!node || !write || !letters) return UPSCHED_NULL;
+    return upsched_c_node_tell(node, to, place, write, letters);
+}
+
 /* A letter of the last call that was OK, counted from 0: its bytes, of which the second is the sender and the third is
  * the receiver, and in *len how many they are. NONE: there are fewer letters. Then comes want of memory, and then
  * NO_ROOM: *len is the room wanted. */
@@ -127,6 +138,17 @@ static inline int32_t upsched_node_letter(upsched_node *node, size_t i, uint8_t 
     uint8_t no_room[1] = {0};
     if (!node || !len || (!letter && room)) return UPSCHED_NULL;
     return upsched_c_node_letter(node, i, letter ? letter : no_room, room, len);
+}
+
+/* The value that the node has learned at a place, and in *len how many bytes it has, at most 64. NONE: it has learned
+ * none there. NO_ROOM: *len is the room wanted. */
+int32_t upsched_c_node_learned(upsched_node *node, uint64_t place, uint8_t *value, size_t room, size_t *len);
+static inline int32_t upsched_node_learned(upsched_node *node, uint64_t place, uint8_t *value, size_t room,
+                                           size_t *len)
+{
+    uint8_t no_room[1] = {0};
+    if (!node || !len || (!value && room)) return UPSCHED_NULL;
+    return upsched_c_node_learned(node, place, value ? value : no_room, room, len);
 }
 
 /* Releases the outputs of the values that were learned without a gap since the last release, but for MAPs that end at a
@@ -146,6 +168,80 @@ static inline int32_t upsched_node_output(upsched_node *node, size_t i, uint64_t
 {
     if (!node || !place || !output || !body) return UPSCHED_NULL;
     return upsched_c_node_output(node, i, place, output, body);
+}
+
+/* ---- Letters as fields ---- */
+
+/* What a letter says. */
+enum {
+    UPSCHED_PREPARE = 1, /* asks for a promise of the ballot, for all places from one on */
+    UPSCHED_PROMISE = 2, /* takes part in no lower ballot, and reports votes from the place on */
+    UPSCHED_ACCEPT = 3,  /* asks for a vote */
+    UPSCHED_VOTED = 4,   /* has voted */
+    UPSCHED_HIGHER = 5,  /* has promised this ballot */
+    UPSCHED_KNOWN = 6    /* has learned the value of the place */
+};
+
+/* A letter without the votes that a PROMISE reports: its kind, and the fields that the kind has. The others are 0. */
+typedef struct upsched_letter {
+    uint64_t ballot; /* all but KNOWN: round * 8 + node */
+    uint64_t place;  /* all but HIGHER */
+    uint8_t kind;
+    uint8_t from, to;  /* nodes, 0 to 4 */
+    uint8_t value_len; /* ACCEPT, VOTED, KNOWN: 0 to 64 */
+    uint8_t value[64]; /* likewise */
+} upsched_letter;
+
+/* A vote that a PROMISE reports. */
+typedef struct upsched_vote {
+    uint64_t place;
+    uint64_t ballot;
+    uint8_t value_len; /* 0 to 64 */
+    uint8_t value[64];
+} upsched_vote;
+
+/* Reads a letter's bytes. OK: *letter, and the first *count of the votes. NO_ROOM: *count is how many votes it reports.
+ * BAD_FIELD: the bytes spell no letter, or one of its values has more than 64 bytes; no node heeds such a letter. */
+int32_t upsched_c_letter_decode(const uint8_t *bytes, size_t len, upsched_letter *letter, upsched_vote *votes,
+                                size_t room, size_t *count);
+static inline int32_t upsched_letter_decode(const uint8_t *bytes, size_t len, upsched_letter *letter,
+                                            upsched_vote *votes, size_t room, size_t *count)
+{
+    const uint8_t no_bytes[1] = {0};
+    upsched_vote no_votes[1] = {{0, 0, 0, {0}}};
+    if (!letter || !count || (!bytes && len) || (!votes && room)) return UPSCHED_NULL;
+    return upsched_c_letter_decode(bytes ? bytes : no_bytes, len, letter, votes ? votes : no_votes, room, count);
+}
+
+/* Writes a letter. OK: the first *written of the bytes. BAD_FIELD: a field holds what it can't, a field that the kind
+ * hasn't is not 0, or there are votes and it is no PROMISE. Then comes want of memory, and then NO_ROOM: *written is
+ * the room wanted. A node heeds a letter only where places, ballots and votes are in order, and from its member. */
+int32_t upsched_c_letter_encode(const upsched_letter *letter, const upsched_vote *votes, size_t count, uint8_t *bytes,
+                                size_t room, size_t *written);
+static inline int32_t upsched_letter_encode(const upsched_letter *letter, const upsched_vote *votes, size_t count,
+                                            uint8_t *bytes, size_t room, size_t *written)
+{
+    const upsched_vote no_votes[1] = {{0, 0, 0, {0}}};
+    uint8_t no_bytes[1] = {0};
+    if (!letter || !written || (!votes && count) || (!bytes && room)) return UPSCHED_NULL;
+    return upsched_c_letter_encode(letter, votes ? votes : no_votes, count, bytes ? bytes : no_bytes, room, written);
+}
+
+/* ---- Is this header the archive's? ---- */
+
+/* A struct of each kind. */
+typedef struct upsched_node_samples_t {
+    upsched_node_write write;
+    upsched_letter letter;
+    upsched_vote votes[2];
+} upsched_node_samples_t;
+
+/* The version number of upsched.h (0 at NULL), and each struct with its fields numbered from 1 in their order, an array
+ * with its number in each byte. A client that compares them sees whether its header and the archive agree. */
+uint32_t upsched_c_node_samples(upsched_node_samples_t *samples);
+static inline uint32_t upsched_node_samples(upsched_node_samples_t *samples)
+{
+    return samples ? upsched_c_node_samples(samples) : 0;
 }
 
 #ifdef __cplusplus

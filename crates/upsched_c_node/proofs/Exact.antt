@@ -11,11 +11,11 @@ use Rattle.acceptor.specs.Faults.{HasRisen}
 use Rattle.acceptor.specs.Found.{HasMade, Holds}
 use Rattle.acceptor.specs.Kept.{is_it, no_failures, no_break}
 use Rattle.node.specs.Calls.{Called, Cause, IsNothingNew, Kept as KeepsWho, StopsLast, Who as WhoIs, answer}
-use Rattle.node.specs.Calls.Cause.{Receive, Lead, Offer}
+use Rattle.node.specs.Calls.Cause.{Receive, Lead, Offer, Tell}
 use Rattle.node.specs.Releases.{Releases, outputs, released_all}
 use Rattle.map_release.specs.declared.numbered.Numbered.{Numbered}
 use Rattle.node.specs.Sched.{Stands, view_over, who_of}
-use Rattle.node.specs.Step.{is_heeded, limit, offer, receive, lead_with}
+use Rattle.node.specs.Step.{is_heeded, letters_told, limit, offer, receive, lead_with, tell}
 use Rattle.ballots.specs.Limits.{most_places}
 use Rattle.node.specs.View.{View, Standing, gapless, started}
 use Rattle.node.specs.View.Standing.{Running}
@@ -132,6 +132,9 @@ module _ (n : NodeState) where
       heeded : (b : Bool) → b ≡ is_heeded n.members n.id l → IsTrue b
       heeded true eq = refl
       heeded false eq = absurd (subst (λ (a : Result (Vec Letter Global) Fault). IsOkAnd a (λ letters. letters.items ≡ [])) is (passed_over (sym eq)))
+
+  pub tell_lacks : (to q : ℕ) (r : Result (Vec Letter Global) Fault) → r ≡ Err Fault.OutOfMemory → (letters_told n.members n.id n.view.tally.learned to q ≡ [] → IsOk r) → MayLack n (Tell to q)
+  tell_lacks to q r is no_memory = ((tell n.members n.id n.view to q, refl), λ none. false≢true (subst IsOk is (no_memory none)))
 
 -- a node that starts over records stands for what they hold
 pub started_so : (new : Parts Content) (id members : ℕ) (c : Content) → new.proposer.id ≡ id → member_count new.proposer.members ≡ members

@@ -1,13 +1,12 @@
 -- What calls on a node that a handle holds do.
-use Rattle.std.specs.Prelude.{◌≡◌, ℕ, ◌<◌, ◌≤◌, List, length, slice_get, Some, None, Result, Ok, Err}
+use Rattle.std.specs.Prelude.{◌≡◌, ℕ, ◌<◌, ◌≤◌, nat_lt, if◌then◌else◌, List, length, slice_get, Option, Some, None, MatchOption, Result, Ok, Err}
+use Rattle.ballots.specs.Rows.{at}
 use Rattle.ballots.specs.declared.letters.Letter.{Letter}
 use Rattle.command_log.specs.Values.{outputs_of_values}
-use Rattle.letter_bytes.specs.Reading.{TakesMemory}
-use Rattle.letter_bytes.specs.Spelling.{Spells, SpellsNone, spelling}
 use Rattle.map_release.specs.Released.{released}
 use Rattle.map_release.specs.declared.numbered.Numbered.{Numbered}
 use Rattle.node.specs.Calls.{Cause}
-use Rattle.node.specs.Calls.Cause.{Receive}
+use Rattle.node.specs.Calls.Cause.{Receive, Tell}
 use Rattle.node.specs.Releases.{released_all}
 use Rattle.node.specs.Step.{Outcome}
 use Rattle.node.specs.View.{gapless}
@@ -21,6 +20,8 @@ use Rattle.upsched_c_node.specs.declared.status.Status.{Status}
 use Rattle.upsched_c_node.specs.declared.status.Status.TheVariants as statuses
 use Rattle.upsched_c_node.specs.declared.write_bytes.WriteBytes.{WriteBytes}
 use Rattle.upsched_c_node.specs.Handles.{Asks}
+use Rattle.upsched_c_node.specs.Letters.{Reads, TellsBytes}
+use Rattle.upsched_c_node.specs.Rooms.{Told, told}
 use Rattle.upsched_c_node.specs.States.{MayLack, Takes}
 use Rattle.upsched_c_node.specs.Writes.{HandsOut}
 
@@ -47,13 +48,6 @@ Sends cause k old after new statuses.OutOfMemory = MayLack k.node cause × (afte
 Sends cause k old after new (statuses.Node fault) = Takes k.node cause (Err fault) × (after ≡ k) × (new ≡ old)
 Sends cause k old after new _ = ⊥
 
--- what bytes are read as: a letter that they spell, or a status where they spell none, or where memory is wanted for what they carry
-abbrev pub Reads : List ℕ → Result Letter Status → Type 0
-Reads bytes (Ok l) = Spells bytes l
-Reads bytes (Err statuses.BadField) = SpellsNone bytes
-Reads bytes (Err statuses.OutOfMemory) = TakesMemory bytes
-Reads bytes (Err _) = ⊥
-
 -- a letter comes, where one was read, and else nothing changes
 abbrev pub Receives : Result Letter Status → Held → Sent → Held → Sent → Status → Type 0
 Receives (Ok l) k old after new status = Sends (Receive l) k old after new status
@@ -63,25 +57,30 @@ Receives (Err unread) k old after new status = (status ≡ unread) × (after ≡
 abbrev pub ReceivesBytes : List ℕ → Handle → Sent → Handle → Sent → Status → Type 0
 ReceivesBytes bytes h old new out' status = (read : Result Letter Status) × Reads bytes read × Asks (Receives read) h old new out' status
 
--- room for the bytes of a letter, and how many they are
-pub record Told : Type 0 where
-  pub room : List ℕ
-  pub count : ℕ
+-- the node of a number
+abbrev pub node_of : ℕ → Option ℕ
+node_of number = if nat_lt number 5 then Some number else None
 
-abbrev pub told : List ℕ → ℕ → Told
-told room count = record { room = room; count = count }
+-- what is learned is told to a node, where there is one of that number
+abbrev pub Tells : Option ℕ → ℕ → Held → Sent → Held → Sent → Status → Type 0
+Tells (Some to) q k old after new status = Sends (Tell to q) k old after new status
+Tells None q k old after new status = (status ≡ statuses.BadField) × (after ≡ k) × (new ≡ old)
 
--- the letter at a place among those of the last call is told, whole, or how much room it wants
+-- the letter at a place among those of the last call is told by its bytes
 abbrev pub TellsLetter : ℕ → Held → Told → Held → Told → Status → Type 0
-TellsLetter i k old after new statuses.Done =
-    (l : Letter) × (slice_get k.letters.items i ≡ Some l) × (length (spelling l) ≤ length old.room)
-    × (new ≡ told (over_front (spelling l) old.room) (length (spelling l))) × (after ≡ k)
-TellsLetter i k old after new statuses.NoRoom =
-    (l : Letter) × (slice_get k.letters.items i ≡ Some l) × (length old.room < length (spelling l))
-    × (new ≡ told old.room (length (spelling l))) × (after ≡ k)
-TellsLetter i k old after new statuses.OutOfMemory = (after ≡ k) × (new ≡ old)
-TellsLetter i k old after new statuses.Absent = (slice_get k.letters.items i ≡ None) × (after ≡ k) × (new ≡ old)
-TellsLetter i k old after new _ = ⊥
+TellsLetter i k old after new status =
+    MatchOption (slice_get k.letters.items i) ((status ≡ statuses.Absent) × (new ≡ old)) (λ l. TellsBytes l old new status) × (after ≡ k)
+
+-- the value that is learned at a place is told, whole, or how much room it wants
+abbrev pub TellsValue : ℕ → Held → Told → Held → Told → Status → Type 0
+TellsValue q k old after new statuses.Done =
+    (v : List ℕ) × (at k.node.view.tally.learned q ≡ Some v) × (length v ≤ length old.room)
+    × (new ≡ told (over_front v old.room) (length v)) × (after ≡ k)
+TellsValue q k old after new statuses.NoRoom =
+    (v : List ℕ) × (at k.node.view.tally.learned q ≡ Some v) × (length old.room < length v)
+    × (new ≡ told old.room (length v)) × (after ≡ k)
+TellsValue q k old after new statuses.Absent = (at k.node.view.tally.learned q ≡ None) × (after ≡ k) × (new ≡ old)
+TellsValue q k old after new _ = ⊥
 
 -- a node releases what it has not released yet, and that is kept, and how much it is is told
 abbrev pub Releases : ℕ → Held → ℕ → Held → ℕ → Status → Type 0

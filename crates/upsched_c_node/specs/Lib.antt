@@ -2,7 +2,11 @@ pub mod Statuses
 pub mod States
 pub mod Handles
 pub mod Writes
+pub mod Rooms
+pub mod Letters
+pub mod Samples
 pub mod Telling
 pub mod Rows
 pub mod Opening
 pub mod Calls
+pub mod Histories

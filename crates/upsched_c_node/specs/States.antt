@@ -1,5 +1,5 @@
 -- A node whose records are in memory, and what its calls do to it.
-use Rattle.std.specs.Prelude.{◌≡◌, ℕ, IsTrue, List, Result, Ok, Err, Vec}
+use Rattle.std.specs.Prelude.{◌≡◌, ◌≢◌, ℕ, IsTrue, List, [], Result, Ok, Err, Vec}
 use Rattle.std.specs.declared.alloc.Global.{Global}
 use Rattle.ballots.specs.Members.{member_count}
 use Rattle.ballots.specs.declared.letters.Letter.{Letter}
@@ -7,7 +7,7 @@ use Rattle.acceptor.specs.Content.{Content}
 use Rattle.node.specs.Calls.{Cause, Course, IsNothingNew}
 use Rattle.node.specs.Calls.Cause.{Receive, Lead, Offer, Tell}
 use Rattle.node.specs.Sched.{view_over}
-use Rattle.node.specs.Step.{Outcome, is_heeded}
+use Rattle.node.specs.Step.{Outcome, is_heeded, letters_told}
 use Rattle.node.specs.Releases.{released_all}
 use Rattle.node.specs.View.{View, started, gapless}
 use Rattle.node.specs.declared.parts.Parts.{Parts}
@@ -34,12 +34,12 @@ started_as id members c = record { id = id; members = members; view = started c 
 abbrev pub Takes : NodeState → Cause → Result Outcome Fault → Type 0
 Takes n cause course = Course n.members n.id n.view cause course
 
--- a letter is heeded and says something new; the other calls say something anyhow
+-- a letter is heeded and says something new, or there is something to tell; the other calls say something anyhow
 abbrev pub SaysNew : NodeState → Cause → Type 0
 SaysNew n (Receive l) = IsTrue (is_heeded n.members n.id l) × ¬ IsNothingNew n.view.role n.view.tally.learned l.from l.note
 SaysNew n Lead = Unit {0}
 SaysNew n (Offer v) = Unit {0}
-SaysNew n (Tell to q) = Unit {0}
+SaysNew n (Tell to q) = letters_told n.members n.id n.view.tally.learned to q ≢ []
 
 -- a call may lack memory: it isn't declined, and says something new
 abbrev pub MayLack : NodeState → Cause → Type 0

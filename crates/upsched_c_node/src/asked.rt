@@ -2,19 +2,20 @@
 
 ghost use Rattle.std.specs.Prelude.{◌≡◌, ◌<◌, IsTrue, ◌↔◌, length};
 ghost use Rattle.upsched_c_node.specs.declared.status.Status.TheVariants.{Done};
-ghost use Rattle.node.specs.Calls.Cause.{Receive, Lead, Offer};
-ghost use Rattle.upsched_c_node.specs.Calls.{Reads, Receives, Releases, Sends, TellsLetter, TellsOutput, sent, status_of, told, written};
+ghost use Rattle.node.specs.Calls.Cause.{Receive, Lead, Offer, Tell};
+ghost use Rattle.upsched_c_node.specs.Calls.{Receives, Releases, Sends, Tells, TellsLetter, TellsOutput, TellsValue, sent, status_of, written};
+ghost use Rattle.upsched_c_node.specs.Rooms.{told};
 ghost use Rattle.upsched_c_node.specs.Telling.{IsOpen, WritesAfter};
 ghost use Rattle.upsched_c_parts.specs.Outputs.{FitsRoom};
 
 use crate::handle::Held;
+use crate::letters_written::write_out;
 use crate::plain_node::PlainNode;
 use crate::status::Status;
 use crate::telling::write_told;
 use crate::write_bytes::{WriteBytes, learned, no_write};
-use ballots::{LONGEST_VALUE, Letter, Note, Place};
+use ballots::{LONGEST_VALUE, Letter, NodeId, Note, Place};
 use grant_machine::Output;
-use letter_bytes::{LetterFault, read_letter, write_letter};
 use node::NodeFault;
 use std::alloc::Global;
 use upsched_c_parts::{OutputFields, output_fields, put_body, put_front};
@@ -30,7 +31,7 @@ fn of_fault(fault: NodeFault) -> Status
 }
 
 /// Keeps the letters of a call, and tells its write and how many there are.
-fn tell(
+fn keep(
     held: &mut Held,
     letters: Vec<Letter>,
     made: WriteBytes,
@@ -54,7 +55,7 @@ pub(crate) fn lead(held: &mut Held, write: &mut WriteBytes, count: &mut usize) -
     match held.node.lead() {
         Ok(letters) => {
             let made = write_told(held.node.id(), &letters);
-            tell(held, letters, made, write, count)
+            keep(held, letters, made, write, count)
         }
         Err(fault) => of_fault(fault),
     }
@@ -71,9 +72,42 @@ pub(crate) fn offer(
     match held.node.offer(value) {
         Ok(letters) => {
             let made = no_write(held.node.id());
-            tell(held, letters, made, write, count)
+            keep(held, letters, made, write, count)
         }
         Err(fault) => of_fault(fault),
+    }
+}
+
+fn tell_node(
+    held: &mut Held,
+    to: NodeId,
+    place: u64,
+    write: &mut WriteBytes,
+    count: &mut usize,
+) -> Status
+    ensures { Sends (Tell to place) held.old (sent write.old count.old) held.new (sent write.new count.new) result }
+{
+    match held.node.tell(to, place) {
+        Ok(letters) => {
+            let made = no_write(held.node.id());
+            keep(held, letters, made, write, count)
+        }
+        Err(fault) => of_fault(fault),
+    }
+}
+
+pub(crate) fn tell(
+    held: &mut Held,
+    to: Option<NodeId>,
+    place: u64,
+    write: &mut WriteBytes,
+    count: &mut usize,
+) -> Status
+    ensures { Tells to place held.old (sent write.old count.old) held.new (sent write.new count.new) result }
+{
+    match to {
+        Some(to) => tell_node(held, to, place, write, count),
+        None => Status::BadField,
     }
 }
 
@@ -114,20 +148,9 @@ fn take(held: &mut Held, letter: &Letter, write: &mut WriteBytes, count: &mut us
     match held.node.receive(letter) {
         Ok(letters) => {
             let made = write_after(&held.node, place, &letters);
-            tell(held, letters, made, write, count)
+            keep(held, letters, made, write, count)
         }
         Err(fault) => of_fault(fault),
-    }
-}
-
-/// The letter that bytes spell, or the status that a call answers.
-pub(crate) fn letter_in(alloc: Global, bytes: &[u8]) -> Result<Letter, Status>
-    ensures { Reads bytes.now result }
-{
-    match read_letter(alloc, bytes) {
-        Ok(letter) => Ok(letter),
-        Err(LetterFault::OutOfMemory) => Err(Status::OutOfMemory),
-        Err(_) => Err(Status::BadField),
     }
 }
 
@@ -157,15 +180,21 @@ pub(crate) fn put_letter(
     let Some(letter) = held.letters.get(i) else {
         return Status::Absent;
     };
-    let mut bytes = Vec::new(alloc);
-    if write_letter(letter, &mut bytes).is_err() {
-        return Status::OutOfMemory;
-    }
+    write_out(alloc, letter, room, count)
+}
+
+pub(crate) fn put_value(held: &Held, place: u64, room: &mut [u8], count: &mut usize) -> Status
+    ensures { TellsValue place held.now (told room.old count.old) held.now (told room.new count.new) result }
+{
+    let Some(value) = held.node.learned(place) else {
+        return Status::Absent;
+    };
+    let bytes = value.as_slice();
     *count = bytes.len();
     if room.len() < bytes.len() {
         return Status::NoRoom;
     }
-    put_front(&bytes, room);
+    put_front(bytes, room);
     Status::Done
 }
 

@@ -1,15 +1,21 @@
 //! The calls on a node behind a handle.
 
+ghost use Rattle.std.specs.Prelude.{◌≡◌};
 ghost use Rattle.node.specs.Calls.Cause.{Lead, Offer};
-ghost use Rattle.upsched_c_node.specs.Calls.{Receives, ReceivesBytes, Releases, Sends, TellsLetter, TellsOutput, sent, told, written};
+ghost use Rattle.upsched_c_node.specs.Calls.{Receives, ReceivesBytes, Releases, Sends, Tells, TellsLetter, TellsOutput, TellsValue, node_of, sent, written};
+ghost use Rattle.upsched_c_node.specs.Letters.{Decodes, Encodes, fields_at};
+ghost use Rattle.upsched_c_node.specs.Rooms.{told};
 ghost use Rattle.upsched_c_node.specs.Handles.{Asks};
 ghost use Rattle.upsched_c_node.specs.Statuses.{Answers};
 
-use crate::asked::{lead, letter_in, offer, put_letter, put_output, receive, release};
+use crate::asked::{lead, offer, put_letter, put_output, put_value, receive, release, tell};
 use crate::handle::Handle;
+use crate::letter_fields::{LetterFields, VoteFields};
+use crate::letters_read::{letter_in, read_fields};
+use crate::letters_written::write_fields;
 use crate::status::Status;
 use crate::write_bytes::WriteBytes;
-use ballots::Letter;
+use ballots::{Letter, NodeId};
 use std::alloc::Global;
 use upsched_c_parts::OutputFields;
 
@@ -99,6 +105,76 @@ pub extern "C" fn upsched_c_node_receive(
     receive_by(alloc, handle, letter_in(alloc, letter), write, count).number()
 }
 
+fn node_in(number: u8) -> Option<NodeId>
+    ensures { result ≡ node_of number }
+{
+    NodeId::new(number)
+}
+
+fn tell_by(
+    alloc: Global,
+    handle: &mut Handle,
+    to: Option<NodeId>,
+    place: u64,
+    write: &mut WriteBytes,
+    count: &mut usize,
+) -> Status
+    ensures { Asks (Tells to place) handle.old (sent write.old count.old) handle.new (sent write.new count.new) result }
+{
+    let Some(mut held) = handle.take(alloc) else {
+        return handle.without_node();
+    };
+    let status = tell(&mut held, to, place, write, count);
+    handle.put(held);
+    status
+}
+
+/// The node tells another what it has learned, of the first 64 learned places from one on.
+#[unsafe(no_mangle)]
+pub extern "C" fn upsched_c_node_tell(
+    alloc: Global,
+    handle: &mut Handle,
+    to: u8,
+    place: u64,
+    write: &mut WriteBytes,
+    count: &mut usize,
+) -> i32
+    ensures { Answers result (Asks (Tells (node_of to) place) handle.old (sent write.old count.old) handle.new (sent write.new count.new)) }
+{
+    tell_by(alloc, handle, node_in(to), place, write, count).number()
+}
+
+fn value_by(
+    alloc: Global,
+    handle: &mut Handle,
+    place: u64,
+    room: &mut [u8],
+    count: &mut usize,
+) -> Status
+    ensures { Asks (TellsValue place) handle.old (told room.old count.old) handle.new (told room.new count.new) result }
+{
+    let Some(held) = handle.take(alloc) else {
+        return handle.without_node();
+    };
+    let status = put_value(&held, place, room, count);
+    handle.put(held);
+    status
+}
+
+/// The value that the node has learned at a place.
+#[unsafe(no_mangle)]
+pub extern "C" fn upsched_c_node_learned(
+    alloc: Global,
+    handle: &mut Handle,
+    place: u64,
+    room: &mut [u8],
+    count: &mut usize,
+) -> i32
+    ensures { Answers result (Asks (TellsValue place) handle.old (told room.old count.old) handle.new (told room.new count.new)) }
+{
+    value_by(alloc, handle, place, room, count).number()
+}
+
 fn letter_by(
     alloc: Global,
     handle: &mut Handle,
@@ -185,4 +261,32 @@ pub extern "C" fn upsched_c_node_output(
     ensures { Answers result (Asks (TellsOutput i) handle.old (written place.old output.old body.old) handle.new (written place.new output.new body.new)) }
 {
     output_by(alloc, handle, i, place, output, body).number()
+}
+
+/// Reads a letter's bytes as its fields and the votes that it reports.
+#[unsafe(no_mangle)]
+pub extern "C" fn upsched_c_letter_decode(
+    alloc: Global,
+    bytes: &[u8],
+    fields: &mut LetterFields,
+    votes: &mut [VoteFields],
+    count: &mut usize,
+) -> i32
+    ensures { Answers result (Decodes bytes.now (fields_at fields.old votes.old count.old) (fields_at fields.new votes.new count.new)) }
+{
+    read_fields(alloc, bytes, fields, votes, count).number()
+}
+
+/// Writes the letter of fields and votes as its bytes.
+#[unsafe(no_mangle)]
+pub extern "C" fn upsched_c_letter_encode(
+    alloc: Global,
+    fields: &LetterFields,
+    votes: &[VoteFields],
+    room: &mut [u8],
+    count: &mut usize,
+) -> i32
+    ensures { Answers result (Encodes fields.now votes.now (told room.old count.old) (told room.new count.new)) }
+{
+    write_fields(alloc, fields, votes, room, count).number()
 }

@@ -5,9 +5,14 @@
 pub(crate) mod asked;
 pub mod calls;
 pub mod handle;
+pub mod laws;
+pub mod letter_fields;
+pub mod letters_read;
+pub mod letters_written;
 pub mod opening;
 pub mod plain_node;
 pub mod reading;
+pub mod samples;
 pub mod status;
 pub mod telling;
 pub mod write_bytes;

@@ -4,7 +4,7 @@ ghost use Rattle.std.specs.Prelude.{◌≡◌, ◌<◌, Err, IfOk, option_copied
 ghost use Rattle.ballots.specs.Members.{member_count};
 ghost use Rattle.ballots.specs.Rows.{at};
 ghost use Rattle.node.specs.Calls.{answer};
-ghost use Rattle.node.specs.Calls.Cause.{Receive, Lead, Offer};
+ghost use Rattle.node.specs.Calls.Cause.{Receive, Lead, Offer, Tell};
 ghost use Rattle.upsched_c_node.specs.States.{Answered, Released, outputs_of, started_as};
 
 use acceptor::PlainRecords;
@@ -83,6 +83,13 @@ impl PlainNode {
         ensures { Answered self.old (Receive letter.now) (answer result) self.new }
     {
         self.node.receive(letter)
+    }
+
+    /// It tells a node what it has learned, of the first 64 learned places from one on.
+    pub fn tell(&self, to: NodeId, place: u64) -> Result<Vec<Letter>, NodeFault>
+        ensures { Answered self.now (Tell to place) (answer result) self.now }
+    {
+        self.node.tell(to, place)
     }
 
     /// It releases outputs, without the MAPs that end at `now` or before.
