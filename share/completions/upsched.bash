@@ -3,7 +3,7 @@ _upsched() {
     local now=${COMP_WORDS[COMP_CWORD]} before=${COMP_WORDS[COMP_CWORD - 1]} options=""
     COMPREPLY=()
     if ((COMP_CWORD == 1)); then
-        COMPREPLY=($(compgen -W "maps run check capture stats script show live node audit -h --help -V --version" -- "$now"))
+        COMPREPLY=($(compgen -W "maps run check capture stats script draw show live node audit -h --help -V --version" -- "$now"))
         return
     fi
     case $before in
@@ -16,6 +16,7 @@ _upsched() {
         capture) options="-h --help" ;;
         stats) options="-h --help" ;;
         script) options="--seed --lose --repeat --crash --takeover --members --plan --modems -h --help" ;;
+        draw) options="--plan --text -h --help" ;;
         show) options="--json -h --help" ;;
         live) options="--turns --verbose -h --help" ;;
         node) options="--members --store --new --journal --journal-sync -h --help" ;;

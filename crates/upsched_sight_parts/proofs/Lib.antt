@@ -3,3 +3,4 @@ mod Scripts
 mod Fitting
 mod Captured
 mod Told
+mod Drawn

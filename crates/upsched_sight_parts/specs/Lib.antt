@@ -2,3 +2,4 @@ pub mod Lines
 pub mod Reports
 pub mod Plans
 pub mod Stats
+pub mod Draws

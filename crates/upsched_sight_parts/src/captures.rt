@@ -16,7 +16,7 @@ use std::alloc::Global;
 use std::io::{Read, Write};
 use upsched_map_parts::{Fault, Status};
 
-fn write_bytes<'a, O: Write>(bytes: &[u8], output: &mut O) -> Result<(), Fault<'a>>
+pub(crate) fn write_bytes<'a, O: Write>(bytes: &[u8], output: &mut O) -> Result<(), Fault<'a>>
     ensures { OnOk result (Appends (O.contents output.old) (O.contents output.new) bytes.now) }
 {
     match output.write_all(bytes) {

@@ -1,11 +1,15 @@
-//! `upsched stats PLAN`: what the MAPs of a plan give, by channel, use and SID.
+//! `upsched stats PLAN`: what the MAPs of a plan give, by channel, use and SID, and how long its requests waited.
 
-ghost use Rattle.std.specs.Prelude.{◌≡◌, ◌≢◌, ℕ, ◌∷◌, ◌++◌, [], List, IfOk, OnOk, flat_map};
+ghost use Rattle.std.specs.Prelude.{◌≡◌, ◌≢◌, ℕ, ◌∷◌, ◌++◌, [], List, IfOk, OnOk, flat_map, length};
 ghost use Rattle.std.specs.Io.KnownBytes.{Appends};
 ghost use Rattle.std.specs.Ordering.{nat_cmp};
 ghost use Rattle.std.specs.BTreeMap.{IsOrdered};
+ghost use Rattle.grant_machine.specs.declared.command.Command.{Command};
 ghost use Rattle.grant_machine.specs.declared.output.Output.{Output};
 ghost use Rattle.grant_machine.specs.Runs.{outputs_of};
+ghost use Rattle.map_stats.specs.FlowRows.{AreFlows};
+ghost use Rattle.map_stats.specs.FlowsHeld.{HoldsFlows};
+ghost use Rattle.map_stats.specs.FlowTexts.{flow_lines};
 ghost use Rattle.map_stats.specs.Held.{Holds};
 ghost use Rattle.upsched_map_parts.specs.declared.status.Status.TheVariants.{Done, NotUnderstood};
 ghost use Rattle.upsched_map_parts.specs.Plan.{NoPlan};
@@ -14,15 +18,17 @@ ghost use Rattle.upsched_sight_parts.specs.Stats.{map_line, use_line, sid_line, 
 
 use crate::captures::answer_of;
 use crate::plan_words::{Refusal, StatsWords, commands_of};
-use grant_machine::{Command, Machine};
+use grant_machine::{Command, Machine, Output};
 use map_body::MapFault;
-use map_stats::{Stats, Tallies, Tally, map_text, sid_text, use_text};
+use map_stats::{
+    FlowRow, Flows, Stats, Tallies, Tally, flow_rows, flow_text, map_text, sid_text, use_text,
+};
 use std::alloc::Global;
 use std::io::{Read, Write};
 use upsched_map_parts::{Fault, Status};
 
 /// What is told of a MAP that isn't added. Bytes that are no body come from no scheduler.
-fn not_added<'a>(fault: MapFault) -> Fault<'a> {
+pub(crate) fn not_added<'a>(fault: MapFault) -> Fault<'a> {
     match fault {
         MapFault::OutOfMemory => Fault::Memory,
         other => Fault::Body {
@@ -32,19 +38,50 @@ fn not_added<'a>(fault: MapFault) -> Fault<'a> {
     }
 }
 
-/// The tallies of the MAPs of commands.
-fn stats_of<'a>(alloc: Global, commands: &[Command]) -> Result<Stats, Fault<'a>>
-    ensures { IfOk result (λ stats. Holds (outputs_of commands.now) stats) }
+/// Adds a command and its output to the tallies of MAPs, and to what has happened to flows.
+fn add_answer<'a>(
+    alloc: Global,
+    stats: &mut Stats,
+    flows: &mut Flows,
+    command: &Command,
+    answer: &Output,
+) -> Result<(), Fault<'a>>
+    ensures stats { OnOk result ((os : List Output) → Holds os stats.old → Holds (os ++ answer.now ∷ []) stats.new) }
+    ensures flows { OnOk result ((cs : List Command) (os : List Output) → length cs ≡ length os → HoldsFlows cs os flows.old
+        → HoldsFlows (cs ++ command.now ∷ []) (os ++ answer.now ∷ []) flows.new) }
+{
+    if let Err(fault) = stats.add(alloc, answer) {
+        return Err(not_added(fault));
+    }
+    match flows.add(alloc, command, answer) {
+        Ok(()) => Ok(()),
+        Err(fault) => Err(not_added(fault)),
+    }
+}
+
+/// The tallies of the MAPs of commands, and what has happened to flows.
+fn stats_of<'a>(alloc: Global, commands: &[Command]) -> Result<(Stats, Flows), Fault<'a>>
+    ensures stats { IfOk result (λ told. Holds (outputs_of commands.now) told.0) }
+    ensures flows { IfOk result (λ told. HoldsFlows commands.now (outputs_of commands.now) told.1) }
 {
     let mut machine = Machine::new(alloc);
     let mut stats = Stats::new(alloc);
+    let mut flows = Flows::new(alloc);
     for command in commands {
         let answer = answer_of(&mut machine, command)?;
-        if let Err(fault) = stats.add(alloc, &answer) {
-            return Err(not_added(fault));
-        }
+        add_answer(alloc, &mut stats, &mut flows, command, &answer)?;
     }
-    Ok(stats)
+    Ok((stats, flows))
+}
+
+/// What is told of each flow.
+fn rows_of<'a>(alloc: Global, flows: &Flows) -> Result<Vec<FlowRow>, Fault<'a>>
+    ensures { IfOk result (λ rows. (cs : List Command) (os : List Output) → HoldsFlows cs os flows.now → AreFlows cs os rows.items) }
+{
+    match flow_rows(alloc, flows) {
+        Ok(rows) => Ok(rows),
+        Err(_) => Err(Fault::Memory),
+    }
 }
 
 fn print_map<'a, O: Write>(
@@ -141,6 +178,31 @@ fn print_sids<'a, O: Write>(alloc: Global, sids: &Tallies, output: &mut O) -> Re
     Ok(())
 }
 
+fn print_flow<'a, O: Write>(alloc: Global, row: &FlowRow, output: &mut O) -> Result<(), Fault<'a>>
+    ensures { OnOk result (Appends (O.contents output.old) (O.contents output.new) (flow_lines row.now)) }
+{
+    let Ok(text) = flow_text(alloc, row) else {
+        return Err(Fault::Memory);
+    };
+    match write!(output, "{text}") {
+        Ok(()) => Ok(()),
+        Err(_) => Err(Fault::Output),
+    }
+}
+
+fn print_flows<'a, O: Write>(
+    alloc: Global,
+    rows: &[FlowRow],
+    output: &mut O,
+) -> Result<(), Fault<'a>>
+    ensures { OnOk result (Appends (O.contents output.old) (O.contents output.new) (flat_map flow_lines rows.now)) }
+{
+    for row in rows {
+        print_flow(alloc, row, output)?;
+    }
+    Ok(())
+}
+
 /// The keys of a table ascend.
 fn in_order(tallies: &Tallies)
     ensures { IsOrdered nat_cmp tallies.now }
@@ -152,10 +214,11 @@ fn in_order(tallies: &Tallies)
 fn print_tallies<'a, O: Write>(
     alloc: Global,
     stats: &Stats,
+    rows: &[FlowRow],
     output: &mut O,
 ) -> Result<(), Refusal<'a>>
     ensures printed { OnOk result (Appends (O.contents output.old) (O.contents output.new)
-        (stats_lines stats.now.maps.entries stats.now.uses.entries stats.now.sids.entries)) }
+        (stats_lines stats.now.maps.entries stats.now.uses.entries stats.now.sids.entries rows.now)) }
     ensures are { (os : List Output) → Holds os stats.now → AreStats os stats.now.maps.entries stats.now.uses.entries stats.now.sids.entries }
 {
     in_order(&stats.maps);
@@ -164,6 +227,7 @@ fn print_tallies<'a, O: Write>(
     print_maps(alloc, &stats.maps, output)?;
     print_uses(alloc, &stats.maps, &stats.uses, output)?;
     print_sids(alloc, &stats.sids, output)?;
+    print_flows(alloc, rows, output)?;
     match output.flush() {
         Ok(()) => Ok(()),
         Err(_) => Err(Refusal::Fault(Fault::Output)),
@@ -181,8 +245,9 @@ fn print_stats<'a, R: Read, O: Write>(
     ensures script { IsKnownScript (R.remaining plan.old) → output.new ≡ output.old }
 {
     let commands = commands_of(alloc, plan, path)?;
-    let stats = stats_of(alloc, commands.as_slice())?;
-    print_tallies(alloc, &stats, output)
+    let told = stats_of(alloc, commands.as_slice())?;
+    let rows = rows_of(alloc, &told.1)?;
+    print_tallies(alloc, &told.0, rows.as_slice(), output)
 }
 
 /// Applies a plan's commands to one scheduler and prints what its MAPs give: by channel, by use on each channel, and by

@@ -14,11 +14,12 @@ use std::{env, fs};
 use upsched_json_parts::{maps_as_json, show_as_json};
 use upsched_json_run_parts::run_as_json;
 use upsched_live_parts::live;
-use upsched_map_parts::{Fault, LiveWords, MapsWords, RunWords, Status, maps, show};
+use upsched_map_parts::{Fault, LiveWords, MapsWords, RunWords, ScriptWords, Status, maps, show};
 use upsched_parts::{run_script, trace_script};
-use upsched_script_parts::{ScriptWords, script};
-use upsched_sight_parts::{CaptureWords, CheckWords, StatsWords, capture, check, stats};
-use upsched_words::{Words, read_words, refused};
+use upsched_picture_parts::draw_script;
+use upsched_script_parts::script;
+use upsched_sight_parts::{CaptureWords, CheckWords, StatsWords, capture, check, draw_text, stats};
+use upsched_words::{DrawWords, Subject, Words, read_words, refused};
 
 /// Opens the plan and ends as `maps` does.
 fn run_maps<R: Files + AllocGlobal, O: Write, E: Write>(
@@ -99,6 +100,22 @@ fn run_script_words<R: Files + AllocGlobal, O: Write, E: Write>(
     match fs::open(rt, path) {
         Ok(mut plan) => script(rt.alloc(), &mut plan, words, output, errors),
         Err(error) => Fault::of_reading(&error, path).told(errors),
+    }
+}
+
+/// Opens the script or the plan and ends as `draw_script` or `draw_text` does.
+fn run_draw<R: Files + AllocGlobal, O: Write, E: Write>(
+    rt: &R,
+    words: &DrawWords<'_>,
+    output: &mut O,
+    errors: &mut E,
+) -> Status {
+    match fs::open(rt, words.path) {
+        Ok(mut file) => match words.subject {
+            Subject::Run => draw_script(rt.alloc(), &mut file, words.path, output, errors),
+            Subject::PlanText => draw_text(rt.alloc(), &mut file, words.path, output, errors),
+        },
+        Err(error) => Fault::of_reading(&error, words.path).told(errors),
     }
 }
 
@@ -193,6 +210,7 @@ pub fn run_words<
         Ok(Words::Capture(words)) => run_capture(rt, &words, output, errors),
         Ok(Words::Stats(words)) => run_stats(rt, &words, output, errors),
         Ok(Words::Script(words)) => run_script_words(rt, &words, output, errors),
+        Ok(Words::Draw(words)) => run_draw(rt, &words, output, errors),
         Ok(Words::Show(words)) => show(rt.alloc(), &words, output, errors),
         Ok(Words::ShowAsJson(words)) => show_as_json(rt.alloc(), &words, output, errors),
         Ok(Words::Live(words)) => run_live(rt, threads, &words, output, errors),

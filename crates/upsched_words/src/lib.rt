@@ -3,4 +3,4 @@
 
 mod words;
 
-pub use words::{AuditWords, JournalWords, Words, read_words, refused};
+pub use words::{AuditWords, DrawWords, JournalWords, Subject, Words, read_words, refused};

@@ -9,8 +9,9 @@ use clap::error::ErrorKind;
 use clap::{Arg, ArgAction, ArgMatches, Command, Error, value_parser};
 use std::alloc::Global;
 use std::io::Write;
-use upsched_map_parts::{Fault, LiveWords, MapsWords, NodeWords, RunWords, ShowWords, Status};
-use upsched_script_parts::ScriptWords;
+use upsched_map_parts::{
+    Fault, LiveWords, MapsWords, NodeWords, RunWords, ScriptWords, ShowWords, Status,
+};
 use upsched_sight_parts::{CaptureWords, CheckWords, Form, StatsWords};
 
 /// What `node` is told of its journal.
@@ -29,6 +30,23 @@ pub struct AuditWords<'a> {
     pub members: &'a str,
     /// The paths of their journals, that of node 0 first.
     pub journals: Vec<&'a str>,
+}
+
+/// What `draw` is to draw.
+#[derive(Clone, Copy, Debug, PartialEq, Eq)]
+pub enum Subject {
+    /// What happens in a script.
+    Run,
+    /// The MAPs of a plan, for a terminal.
+    PlanText,
+}
+
+/// What `draw` is told.
+#[derive(Clone, Copy, Debug)]
+pub struct DrawWords<'a> {
+    /// The path of the script or the plan.
+    pub path: &'a str,
+    pub subject: Subject,
 }
 
 /// A command of the program.
@@ -52,6 +70,8 @@ pub enum Words<'a> {
     Stats(StatsWords<'a>),
     /// Prints a script that it makes.
     Script(ScriptWords<'a>),
+    /// Draws what happens in a script, or the MAPs of a plan.
+    Draw(DrawWords<'a>),
     /// Prints a MAP body.
     Show(ShowWords<'a>),
     /// The same as JSON.
@@ -233,6 +253,29 @@ fn script_command<'a>(alloc: Global) -> Result<Command<'a>, Error> {
     Ok(script)
 }
 
+fn draw_command<'a>(alloc: Global) -> Result<Command<'a>, Error> {
+    let file = Arg::new(alloc, "FILE").required(true).help(
+        "A script in TOML, or a plan where --plan says so (docs/formats.md)",
+    );
+    let plan = Arg::new(alloc, "plan")
+        .long("plan")
+        .action(ArgAction::SetTrue)
+        .requires_arg("text")?
+        .help("Draws the MAPs of a plan, and what became of its requests");
+    let text = Arg::new(alloc, "text")
+        .long("text")
+        .action(ArgAction::SetTrue)
+        .requires_arg("plan")?
+        .help("Prints them for a terminal of 100 columns");
+    let draw = Command::new(alloc, "draw")
+        .about("Draws what happens in a script as a picture (SVG), or the MAPs of a plan as text")
+        .after_help("Example: upsched draw examples/scripts/takeover.toml > takeover.svg")
+        .arg(file)?
+        .arg(plan)?
+        .arg(text)?;
+    Ok(draw)
+}
+
 fn show_command<'a>(alloc: Global) -> Result<Command<'a>, Error> {
     let hex = Arg::new(alloc, "HEX")
         .required(true)
@@ -354,6 +397,7 @@ fn program<'a>(alloc: Global) -> Result<Command<'a>, Error> {
         .subcommand(capture_command(alloc)?)?
         .subcommand(stats_command(alloc)?)?
         .subcommand(script_command(alloc)?)?
+        .subcommand(draw_command(alloc)?)?
         .subcommand(show_command(alloc)?)?
         .subcommand(live_command(alloc)?)?
         .subcommand(node_command(alloc)?)?
@@ -398,6 +442,17 @@ fn run_words<'a>(words: &ArgMatches<'a>) -> Option<Words<'a>> {
         (false, true) => Words::Trace(told),
         (false, false) => Words::Run(told),
     })
+}
+
+/// What `draw` is told.
+fn draw_words<'a>(words: &ArgMatches<'a>) -> Option<DrawWords<'a>> {
+    let path = words.get_str("FILE")?;
+    let subject = if words.get_flag("plan") && words.get_flag("text") {
+        Subject::PlanText
+    } else {
+        Subject::Run
+    };
+    Some(DrawWords { path, subject })
 }
 
 /// What `node` is told.
@@ -483,6 +538,7 @@ fn command_of<'a>(alloc: Global, matches: &ArgMatches<'a>) -> Result<Option<Word
             .get_str("PLAN")
             .map(|plan| Words::Stats(StatsWords { plan })),
         Some(("script", words)) => script_words(words).map(|words| Words::Script(words)),
+        Some(("draw", words)) => draw_words(words).map(|words| Words::Draw(words)),
         Some(("show", words)) => show_words(words),
         Some(("live", words)) => live_words(words).map(|words| Words::Live(words)),
         Some(("node", words)) => {

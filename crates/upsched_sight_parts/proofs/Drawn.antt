@@ -1,0 +1,53 @@
+-- What a list of commands did, one command after another, and what is told of it.
+use Rattle.std.proofs.Common.{◌≡◌, ℕ, ◌+◌, ◌<◌, ◌≤◌, List, [], ◌∷◌, ◌++◌, length, take, get_or, Option, Some, None, IfSome, Result, Ok, Err, OnOk, ap, ◌∙◌, sym, subst}
+use Rattle.std.proofs.lemmas.List.{take_more, take_all}
+use Rattle.std.specs.Io.KnownBytes.{Appends}
+use Rattle.flow_state.specs.Rows.{Rows}
+use Rattle.grant_machine.specs.declared.command.Command.{Command}
+use Rattle.grant_machine.specs.declared.output.Output.{Output}
+use Rattle.grant_machine.specs.Steps.{step}
+use Rattle.grant_machine.specs.Runs.{outputs_of, rows_after}
+use Rattle.map_text.specs.declared.deed.Deed.{Deed}
+use Rattle.map_text.specs.Deeds.{IsDeedOf, AreDeeds}
+use Rattle.map_text.specs.Texts.{plan_text}
+use Rattle.upsched_map_parts.specs.Plan.{IsPlan}
+use Rattle.upsched_sight_parts.specs.Draws.{TellsMaps}
+use Rattle.upsched_sight_parts.proofs.Captured.{outputs_next, rows_next}
+
+-- one deed more
+deeds_more : (cs : List Command) (os : List Output) (ds : List Deed) (c : Command) (o : Output) (d : Deed) → AreDeeds cs os ds → IsDeedOf c o d
+    → AreDeeds (cs ++ c ∷ []) (os ++ o ∷ []) (ds ++ d ∷ [])
+deeds_more [] [] [] c o d are is = (is, tt)
+deeds_more (b ∷ cs) (p ∷ os) (e ∷ ds) c o d are is = (are.0, deeds_more cs os ds c o d are.1 is)
+deeds_more [] [] (e ∷ ds) c o d are is = absurd are
+deeds_more [] (p ∷ os) ds c o d are is = absurd are
+deeds_more (b ∷ cs) [] ds c o d are is = absurd are
+deeds_more (b ∷ cs) (p ∷ os) [] c o d are is = absurd are
+
+-- the rows after the first commands, and what these did
+pub record Did (cs : List Command) (i : ℕ) (rows : Rows) (ds : List Deed) : Type 0 where
+  pub rows_are : rows ≡ rows_after (take i cs)
+  pub deeds : AreDeeds (take i cs) (outputs_of (take i cs)) ds
+
+pub one_done : (cs : List Command) (i : ℕ) (b : Command) (m m' : Rows) (ds : List Deed) (d : Deed) → i < length cs
+    → Did cs i m ds → m' ≡ (step m (get_or cs i b)).rows → IsDeedOf (get_or cs i b) (step m (get_or cs i b)).output d → Did cs (i + 1) m' (ds ++ d ∷ [])
+one_done cs i b m m' ds d below before rows is =
+    let c = get_or cs i b in
+    let outs = outputs_next cs i b m below before.rows_are in
+    let more = deeds_more (take i cs) (outputs_of (take i cs)) ds c (step m c).output d before.deeds is in
+    let whole = take_more cs i b below in
+    record {
+      rows_are = rows ∙ sym (rows_next cs i b m below before.rows_are);
+      deeds = subst (λ (os : List Output). AreDeeds (take (i + 1) cs) os (ds ++ d ∷ [])) (sym outs)
+          (subst (λ (xs : List Command). AreDeeds xs (outputs_of (take i cs) ++ (step m c).output ∷ []) (ds ++ d ∷ [])) (sym whole) more);
+    }
+
+pub all_done : (cs : List Command) (i : ℕ) (m : Rows) (ds : List Deed) → length cs ≤ i → Did cs i m ds → AreDeeds cs (outputs_of cs) ds
+all_done cs i m ds end did = let same = take_all i cs end in rw same at did.deeds
+
+-- where the text of what a plan's commands did was printed, the plan's was told
+pub maps_told : {T E : Type 0} (r : Result T E) (known old new : Option (List ℕ)) (cs : List Command) (ds : List Deed) → IfSome known (λ text. IsPlan text cs)
+    → AreDeeds cs (outputs_of cs) ds → OnOk r (Appends old new (plan_text ds)) → OnOk r (TellsMaps known old new)
+maps_told (Err e) known old new cs ds plan are printed = tt
+maps_told (Ok x) None old new cs ds plan are printed = tt
+maps_told (Ok x) (Some text) old new cs ds plan are printed = (cs, ds, plan, are, printed)

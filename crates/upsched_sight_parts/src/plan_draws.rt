@@ -1,0 +1,131 @@
+//! `upsched draw PLAN --plan --text`: the MAPs of a plan for a terminal.
+
+ghost use Rattle.std.specs.Prelude.{◌≡◌, ◌≢◌, flat_map, IfOk, OnOk};
+ghost use Rattle.std.specs.Io.KnownBytes.{Appends};
+ghost use Rattle.grant_machine.specs.Steps.{step};
+ghost use Rattle.grant_machine.specs.Runs.{outputs_of, IsReached};
+ghost use Rattle.map_text.specs.Deeds.{IsDeedOf, AreDeeds};
+ghost use Rattle.map_text.specs.Texts.{channel_text, plan_text};
+ghost use Rattle.upsched_map_parts.specs.declared.status.Status.TheVariants.{Done, NotUnderstood};
+ghost use Rattle.upsched_map_parts.specs.Plan.{NoPlan};
+ghost use Rattle.upsched_sight_parts.specs.Plans.{IsKnownScript};
+ghost use Rattle.upsched_sight_parts.specs.Draws.{TellsMaps};
+
+use crate::captures::{answer_of, write_bytes};
+use crate::plan_stats::not_added;
+use crate::plan_words::{Refusal, commands_of};
+use grant_machine::{Command, Machine};
+use map_text::{Deed, channel_text, channels_of, deed_of};
+use std::alloc::Global;
+use std::io::{Read, Write};
+use upsched_map_parts::{Fault, Status};
+
+/// Applies a command: what it did.
+fn deed_done<'a>(alloc: Global, machine: &mut Machine, command: &Command) -> Result<Deed, Fault<'a>>
+    requires { IsReached machine.old }
+    ensures deed { IfOk result (IsDeedOf command.now (step machine.old command.now).output) }
+    ensures rows { OnOk result (machine.new ≡ (step machine.old command.now).rows) }
+    ensures reached { IsReached machine.new }
+{
+    let answer = answer_of(machine, command)?;
+    match deed_of(alloc, command, &answer) {
+        Ok(deed) => Ok(deed),
+        Err(fault) => Err(not_added(fault)),
+    }
+}
+
+/// What the commands of a plan did.
+pub(crate) fn deeds_of<'a>(alloc: Global, commands: &[Command]) -> Result<Vec<Deed>, Fault<'a>>
+    ensures { IfOk result (λ deeds. AreDeeds commands.now (outputs_of commands.now) deeds.items) }
+{
+    let mut machine = Machine::new(alloc);
+    let mut deeds = Vec::new(alloc);
+    for command in commands {
+        let deed = deed_done(alloc, &mut machine, command)?;
+        let Ok(()) = deeds.push(deed) else {
+            return Err(Fault::Memory);
+        };
+    }
+    Ok(deeds)
+}
+
+fn print_channel<'a, O: Write>(
+    alloc: Global,
+    deeds: &[Deed],
+    ch: u8,
+    output: &mut O,
+) -> Result<(), Fault<'a>>
+    ensures { OnOk result (Appends (O.contents output.old) (O.contents output.new) (channel_text deeds.now ch)) }
+{
+    let Ok(text) = channel_text(alloc, deeds, ch) else {
+        return Err(Fault::Memory);
+    };
+    write_bytes(&text, output)
+}
+
+fn print_channels<'a, O: Write>(
+    alloc: Global,
+    deeds: &[Deed],
+    channels: &[u8],
+    output: &mut O,
+) -> Result<(), Fault<'a>>
+    ensures { OnOk result (Appends (O.contents output.old) (O.contents output.new) (flat_map (channel_text deeds.now) channels.now)) }
+{
+    for ch in channels {
+        print_channel(alloc, deeds, *ch, output)?;
+    }
+    Ok(())
+}
+
+fn print_deeds<'a, O: Write>(
+    alloc: Global,
+    deeds: &[Deed],
+    output: &mut O,
+) -> Result<(), Refusal<'a>>
+    ensures { OnOk result (Appends (O.contents output.old) (O.contents output.new) (plan_text deeds.now)) }
+{
+    let Ok(channels) = channels_of(alloc, deeds) else {
+        return Err(Refusal::Fault(Fault::Memory));
+    };
+    print_channels(alloc, deeds, channels.as_slice(), output)?;
+    match output.flush() {
+        Ok(()) => Ok(()),
+        Err(_) => Err(Refusal::Fault(Fault::Output)),
+    }
+}
+
+fn print_plan<'a, R: Read, O: Write>(
+    alloc: Global,
+    plan: &mut R,
+    path: &'a str,
+    output: &mut O,
+) -> Result<(), Refusal<'a>>
+    ensures told { OnOk result (TellsMaps (R.remaining plan.old) (O.contents output.old) (O.contents output.new)) }
+    ensures no_plan { NoPlan (R.remaining plan.old) → output.new ≡ output.old }
+    ensures script { IsKnownScript (R.remaining plan.old) → output.new ≡ output.old }
+{
+    let commands = commands_of(alloc, plan, path)?;
+    let deeds = deeds_of(alloc, commands.as_slice())?;
+    print_deeds(alloc, deeds.as_slice(), output)
+}
+
+/// Applies a plan's commands to one scheduler and prints its MAPs for a terminal of 100 columns, and what became of
+/// each request. A fault of the plan, and a script without commands, are told in one line before anything is printed.
+pub fn draw_text<R: Read, O: Write, E: Write>(
+    alloc: Global,
+    plan: &mut R,
+    path: &str,
+    output: &mut O,
+    errors: &mut E,
+) -> Status
+    ensures told { result ≡ Done → TellsMaps (R.remaining plan.old) (O.contents output.old) (O.contents output.new) }
+    ensures quiet { result ≡ Done → errors.new ≡ errors.old }
+    ensures no_plan { NoPlan (R.remaining plan.old) → output.new ≡ output.old }
+    ensures script { IsKnownScript (R.remaining plan.old) → output.new ≡ output.old }
+    ensures understood { result ≢ NotUnderstood }
+{
+    match print_plan(alloc, plan, path, output) {
+        Ok(()) => Status::Done,
+        Err(refusal) => refusal.told(errors),
+    }
+}
