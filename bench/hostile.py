@@ -301,18 +301,27 @@ def text_of(rng, changeable, made, array):
 
 
 # The words that take a plan. Turns that find nothing to do take a millisecond each, so there are few.
-PLANNED = {"maps": ["maps"], "live": ["live", "--turns", "12"]}
+PLANNED = {"maps": ["maps"], "maps --json": ["maps", "--json"], "check": ["check", "--plan"], "capture": ["capture"]}
+PLANNED |= {"stats": ["stats"], "draw --plan": ["draw", "--plan", "--text"], "live": ["live", "--turns", "12"]}
+# And those that take a script.
+SCRIPTED = {"run": ["run"], "run --trace": ["run", "--trace"], "run --json": ["run", "--json"], "draw": ["draw"]}
+WORDS = ["maps", "maps", *PLANNED, "show", "show", "run", "run", *SCRIPTED, "run --store", "run --store"]
+
+
+def words_of(how):
+    """The words of a good text."""
+    return {"show": ["show", "--"], **PLANNED, **SCRIPTED}.get(how, ["run"])
 
 
 def case_of(seed, k):
     rng = random.Random("%d %d" % (seed, k))
-    how = rng.choice(["maps", "maps", "maps", "live", "show", "run", "run", "run", "run --store"])
+    how = rng.choice(WORDS)
     if how == "show":
-        return Case(how, ["show", "--"], hex_text(rng).replace(b"\0", b"0")[:LONGEST_WORD])
+        return Case(how, words_of(how), hex_text(rng).replace(b"\0", b"0")[:LONGEST_WORD])
     if how in PLANNED:
         return Case(how, PLANNED[how], text_of(rng, PLANS, made_plan, b"command"))
-    words = ["run"] + (["--verbose"] if rng.random() < 0.5 else [])
-    return Case(how, words, text_of(rng, SCRIPTS, made_script, b"event"))
+    verbose = ["--verbose"] if how in ("run", "run --store") and rng.random() < 0.5 else []
+    return Case(how, words_of(how) + verbose, text_of(rng, SCRIPTS, made_script, b"event"))
 
 
 # Runs and what is told of them.
@@ -368,7 +377,7 @@ class Pace:
 
     def taken(self, how, size):
         if (how, size) not in self.known:
-            case = Case(how, {"show": ["show", "--"], **PLANNED}.get(how, ["run"]), good_text(how, size))
+            case = Case(how, words_of(how), good_text(how, size))
             runs = [self.runner.run(case) for _ in range(3)]
             if any(run.status != 0 for run in runs):
                 sys.exit("bench/hostile.py: a good text ended with status %d" % runs[0].status)
@@ -387,7 +396,8 @@ def faults(case, ended, pace):
         yield "ended with status %d" % ended.status
     if "--verbose" not in case.words and ended.errors.count(b"\n") > 1:
         yield "wrote %d lines on standard error" % ended.errors.count(b"\n")
-    if ended.status in (1, 2) and not ended.errors:
+    # What is wrong with a text `check` tells on standard output.
+    if ended.status in (1, 2) and not ended.errors and case.how != "check":
         yield "ended with status %d and told nothing" % ended.status
     good = pace.good(case.how, len(case.text))
     if ended.seconds > 100 * good:

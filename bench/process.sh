@@ -8,7 +8,8 @@
 # carrier.
 #
 # Wants Debian's etcd-server and etcd-client. PROCESS_BENCH_DIR is where the files lie, on a disk. The word `quick`
-# leaves out the 100,000; with `no-files` these are measured in memory alone, since over files they take an hour.
+# leaves out the 100,000; with `no-files` these are measured in memory alone, since over files they take a quarter of an
+# hour.
 #
 # Usage: bench/process.sh [quick|no-files]
 set -euo pipefail
