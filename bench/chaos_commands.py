@@ -11,8 +11,13 @@ def of(octets, at, size):
     return int.from_bytes(octets[at : at + size], "big")
 
 
+def held(octets, at):
+    """A number of 64 bits, or the greatest one that TOML holds."""
+    return min(of(octets, at, 8), (1 << 63) - 1)
+
+
 def due(b, at):
-    return f"interval = {of(b, at, 4)}, jitter = {of(b, at + 4, 4)}, base = {of(b, at + 8, 8)}"
+    return f"interval = {of(b, at, 4)}, jitter = {of(b, at + 4, 4)}, base = {held(b, at + 8)}"
 
 
 def flow(b):
@@ -21,7 +26,7 @@ def flow(b):
     at = 18 if ends else 10
     if len(b) <= at or b[at] not in SERVICES or len(b) != at + 1 + SERVICES[b[at]][0]:
         return None
-    last = f"last = {of(b, 10, 8)}, " if ends else ""
+    last = f"last = {held(b, 10)}, " if ends else ""
     if ends and of(b, 10, 8) == 1 << 62:
         return None
     head = f'kind = "flow", ch = {b[1]}, modem = {of(b, 2, 4)}, tag = {of(b, 6, 4)}, '
@@ -32,11 +37,12 @@ def channel(b):
     phy = ', phy = "advanced"' if b[0] == 6 else ""
     backoffs = f"ranging = [{b[5]}, {b[6]}], data = [{b[7]}, {b[8]}]"
     head = f'kind = "channel", ch = {b[1]}, ucd = {b[2]}, short_max = {of(b, 3, 2)}'
-    return f"{head}, {backoffs}, base = {of(b, 9, 8)}{phy}"
+    return f"{head}, {backoffs}, base = {held(b, 9)}{phy}"
 
 
 def table_of(b):
-    """The command that these bytes are; what is none is a noop. Numbers of 64 bits have to be below 2^63."""
+    """The command that these bytes are; what is none is a noop. TOML holds no number above 2^63 - 1: its like is that one,
+    which is above all limits too."""
     kind, size = b[:1], len(b)
     inside = None
     if kind in (b"\1", b"\6") and size == 17:
@@ -46,9 +52,9 @@ def table_of(b):
     elif kind == b"\3" and size == 4:
         inside = f'kind = "drop", ch = {b[1]}, sid = {of(b, 2, 2)}'
     elif kind == b"\4" and size == 14:
-        inside = f'kind = "request", ch = {b[1]}, sid = {of(b, 2, 2)}, n = {of(b, 4, 2)}, sent = {of(b, 6, 8)}'
+        inside = f'kind = "request", ch = {b[1]}, sid = {of(b, 2, 2)}, n = {of(b, 4, 2)}, sent = {held(b, 6)}'
     elif kind == b"\5" and size == 20:
-        times = f"not_before = {of(b, 4, 8)}, ack = {of(b, 12, 8)}"
+        times = f"not_before = {held(b, 4)}, ack = {held(b, 12)}"
         inside = f'kind = "cut", ch = {b[1]}, len = {of(b, 2, 2)}, {times}'
     return "{ %s }" % (inside or 'kind = "noop"')
 
