@@ -1,10 +1,10 @@
 -- What holds of records whose content is certain.
-use Rattle.std.proofs.Common.{◌≡◌, ◌⊎◌, inl, inr, refl, sym, ap, ◌∙◌, Result, Ok, Err, IfErr, OnErr}
+use Rattle.std.proofs.Common.{◌≡◌, ◌⊎◌, inr, refl, sym, ap, ◌∙◌, Result, Ok, Err, IfErr, OnErr}
 use Rattle.std.proofs.Math.Logic.{∥∥₁_map}
 use Rattle.acceptor.specs.Content.{Content}
 use Rattle.acceptor.specs.declared.records.RecordsFault.{RecordsFault}
 use Rattle.acceptor.specs.declared.records.RecordsFault.TheVariants.{OutOfMemory}
-use Rattle.acceptor.specs.Found.{Findable, Holds, HoldsEither, AddsNothing, FindsSame}
+use Rattle.acceptor.specs.Found.{Findable, Holds, HoldsEither, FindsSame}
 
 -- the content that alone may be found is the one that they hold
 pub held : (old c : Content) → Holds (λ d. d ≡ old) c → old ≡ c
@@ -22,10 +22,6 @@ still_holds old new c same h = (∥∥₁_map h.0 (same c).0, λ d found. h.1 d 
 
 pub same_then : (old mid new : Findable) → FindsSame old mid → FindsSame mid new → FindsSame old new
 same_then old mid new first second d = (λ found. (second d).0 ((first d).0 found), λ found. (first d).1 ((second d).1 found))
-
--- where nothing was added no other content is found
-pub no_other : (old new : Findable) (c : Content) → AddsNothing old new → Holds old c → HoldsEither new c c
-no_other old new c adds h d found = inl (h.1 d (adds d found))
 
 pub on_err : {T E : Type 0} {P : Type 0} (r : Result T E) → P → OnErr r P
 on_err (Ok x) p = tt

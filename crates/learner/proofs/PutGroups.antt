@@ -9,7 +9,7 @@ use Rattle.std.specs.BTreeMap.{is_at}
 use Rattle.std.proofs.lemmas.Cmp.{ranked}
 use Rattle.std.proofs.lemmas.Map.Keys.{sorted_tail}
 use Rattle.ballots.specs.Rows.{at, put}
-use Rattle.ballots.proofs.Callers.{in_order, put_before, put_here, put_after, at_before, at_here, at_after}
+use Rattle.ballots.proofs.Callers.{in_order, put_here, put_after, at_before, at_after}
 
 first_two : (q p : ℕ) (ks : List ℕ) → IsStrictlySortedBy nat_cmp (q ∷ p ∷ ks) → q < p
 unfolding IsStrictlySortedBy

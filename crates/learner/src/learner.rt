@@ -6,18 +6,18 @@ ghost use Rattle.ballots.specs.Members.{member_count};
 ghost use Rattle.ballots.specs.Rows.{at};
 ghost use Rattle.learner.specs.Tally.{counts, groups_at, known, no_tally, put_voters, teaches, voters_in};
 
-use crate::groups::{Groups, Proposal, Voters};
+use crate::groups::Proposal;
+use crate::open_places::OpenPlaces;
 use ballots::{Ballot, Bytes, Members, NodeId};
 use place_table::Table;
 use std::alloc::{AllocError, Global};
-use std::collections::BTreeMap;
 use std::marker::Model;
 
 /// Votes heard at places that aren't learned, and values learned.
 #[derive(Drop)]
 pub struct Learner {
     alloc: Global,
-    counted: BTreeMap<u64, Groups>,
+    counted: OpenPlaces,
     learned: Table<Bytes>,
 }
 
@@ -26,37 +26,7 @@ impl Model for Learner {
 
     ghost Value = { Tally };
 
-    ghost view = { λ l. record { counted = l.counted.entries; learned = l.learned.entries } };
-}
-
-/// The voters for a proposal at a place.
-fn voters_at(counted: &BTreeMap<u64, Groups>, place: u64, proposal: &Proposal) -> Voters
-    ensures { result ≡ voters_in (groups_at counted.now.entries place) proposal.now.ballot proposal.now.value }
-{
-    match counted.get(&place) {
-        Some(groups) => groups.voters(proposal),
-        None => Voters::none(),
-    }
-}
-
-/// Puts the voters for a proposal at a place in place of those that it had.
-fn put_voters(
-    alloc: Global,
-    counted: &mut BTreeMap<u64, Groups>,
-    place: u64,
-    proposal: Proposal,
-    voters: Voters,
-) -> Result<(), AllocError>
-    ensures ok { OnOk result (counted.new.entries ≡ put_voters counted.old.entries proposal.ballot place proposal.value voters) }
-    ensures err { OnErr result (counted.new.entries ≡ counted.old.entries) }
-{
-    if let Some(groups) = counted.get_mut(&place) {
-        return groups.put(alloc, proposal, voters);
-    }
-    counted
-        .insert(place, Groups::one(proposal, voters))
-        .map_err(AllocError::from)?;
-    Ok(())
+    ghost view = { λ l. record { counted = l.counted; learned = l.learned.entries } };
 }
 
 impl Learner {
@@ -66,7 +36,7 @@ impl Learner {
     {
         Learner {
             alloc,
-            counted: BTreeMap::new(alloc),
+            counted: OpenPlaces::new(),
             learned: Table::new(alloc),
         }
     }
@@ -114,7 +84,7 @@ impl Learner {
         }
         let written = self.learned.insert_after(place, value, rows, write)?;
         if written.is_ok() {
-            self.counted.remove(&place);
+            self.counted.remove(place);
         }
         Ok(written)
     }
@@ -149,11 +119,11 @@ impl Learner {
             return Ok(None);
         }
         let proposal = Proposal { ballot, value };
-        let voters = voters_at(&self.counted, place, &proposal).with(from);
+        let voters = self.counted.voters(place, &proposal).with(from);
         if 2 * voters.count(members) > members.count() {
             return Ok(Some(proposal.value));
         }
-        put_voters(self.alloc, &mut self.counted, place, proposal, voters)?;
+        self.counted.put(self.alloc, place, proposal, voters)?;
         Ok(None)
     }
 }

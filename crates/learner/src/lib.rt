@@ -3,6 +3,7 @@
 
 mod groups;
 mod learner;
+mod open_places;
 
 pub use groups::Proposal;
 pub use learner::Learner;

@@ -51,7 +51,7 @@ impl Kept {
         ensures { IfOk result (λ kept. kept ≡ bytes.now) }
     {
         if bytes.len() > NEAR {
-            let far = Bytes::new(bytes.to_vec(alloc)?);
+            let far = Bytes::new(Vec::from_slice(alloc, bytes)?);
             return Ok(Kept {
                 form: Form::Far(far),
             });
@@ -78,6 +78,6 @@ impl Kept {
     pub fn to_bytes(&self, alloc: Global) -> Result<Bytes, AllocError>
         ensures { IfOk result (λ bytes. bytes ≡ self.now) }
     {
-        Ok(Bytes::new(self.as_slice().to_vec(alloc)?))
+        Ok(Bytes::new(Vec::from_slice(alloc, self.as_slice())?))
     }
 }

@@ -75,6 +75,13 @@ impl Proposer {
         self.members
     }
 
+    /// What it does: whether it prepares or leads a ballot, and which.
+    pub fn role(&self) -> &Role
+        ensures { result.now ≡ self.now.role }
+    {
+        &self.role
+    }
+
     /// Whether it prepares and leads nothing, and has heard of nothing.
     pub fn is_untouched(&self) -> bool
         ensures { IsTrue result ↔ ((self.now.role ≡ Idle) × (self.now.hint ≡ 0)) }
@@ -124,7 +131,7 @@ impl Proposer {
         let note = Note::Accept {
             ballot,
             place: next,
-            value: Bytes::new(value.to_vec(self.alloc)?),
+            value: Bytes::new(Vec::from_slice(self.alloc, value)?),
         };
         let letters = to_all(self.alloc, self.members, self.id, &note)?;
         self.role = Role::Leading {

@@ -6,7 +6,7 @@ use Rattle.std.proofs.lemmas.Result.{on_ok_weaker, on_err_weaker}
 use Rattle.ballots.specs.Rows.{at, put}
 use Rattle.learner.specs.Proposals.{proposal_cmp}
 use Rattle.learner.proofs.PutGroups.{set_is_put}
-use Rattle.learner.proofs.learner.put_voters.Goals as goal
+use Rattle.learner.proofs.open_places.put_voters.Goals as goal
 
 pub returns-in-Some-clause-ok : goal.returns-in-Some-clause-ok
 returns-in-Some-clause-ok c =
