@@ -7,6 +7,7 @@ mod AtKept
 mod Order
 mod Pieces
 mod Windows
+mod Extents
 mod Clocks
 mod Old
 mod Recent

@@ -1,5 +1,5 @@
 -- From one minislot to the next edge nothing differs.
-use Rattle.std.proofs.Common.{◌≡◌, ℕ, suc, ◌+◌, ◌-◌, ◌^◌, ◌<◌, ◌≤◌, Bool, true, false, ◌==◌, ◌&&◌, ◌||◌, nat_le, ltb, leb, List, [], ◌∷◌, ◌++◌, map, length, get_or, refl, sym, subst, ap, ◌∙◌, arith, ◌⊎◌, inl, inr, ◌↔◌, take, drop, Contains, Option, Some, None, IfSome, IfNone}
+use Rattle.std.proofs.Common.{◌≡◌, ℕ, suc, ◌+◌, ◌-◌, ◌^◌, ◌<◌, ◌≤◌, Bool, true, false, ◌==◌, ◌&&◌, ◌||◌, nat_le, ltb, leb, List, [], ◌∷◌, ◌++◌, map, length, get_or, refl, sym, subst, ap, ◌∙◌, arith, ◌⊎◌, inl, inr, ◌↔◌, take, drop, Option, Some, None, IfSome, IfNone}
 use Rattle.std.specs.List.{All, AllWithin, list_any}
 use Rattle.std.specs.List.Sorted.{IsNonDecreasingBy}
 use Rattle.std.proofs.lemmas.List.{get_or_default, get_or-take, get_or-drop, length-take-le}
@@ -144,12 +144,6 @@ CoverSame-made ls ch m x le same = record {
 pub HasAt-part : (ks : List KeptInterval) (before count ch m sid iuc : ℕ) → HasAt (map kept_interval (take count (drop before ks))) ch m sid iuc → HasAt (map kept_interval ks) ch m sid iuc
 HasAt-part ks before count ch m sid iuc h =
     (HasAt-split before ks ch m sid iuc).1 (inr ((HasAt-split count (drop before ks) ch m sid iuc).1 (inl h)))
-
-pub Contains-part : (ks : List KeptInterval) (before count : ℕ) (k : KeptInterval) → Contains (take count (drop before ks)) k → Contains ks k
-Contains-part ks before count k (i, lt, is) =
-    let inside : i < count = grind (arith, common_steps) in
-    let within : before + i < length ks = grind (arith, common_steps) in
-    (before + i, within, sym (get_or-drop before ks i k) ∙ sym (get_or-take count (drop before ks) i k inside) ∙ is)
 
 -- one more element
 pub All-push : {X : Type 0} (P : X → Type 0) (xs : List X) (x : X) → All P xs → P x → All P (xs ++ x ∷ [])

@@ -1,19 +1,18 @@
 -- Kept intervals in order: what is found among them, added and let go.
-use Rattle.std.proofs.Common.{◌≡◌, ℕ, zero, suc, ◌+◌, ◌-◌, ◌<◌, ◌≤◌, true, false, not, ◌==◌, ◌&&◌, if◌then◌else◌, nat_lt, ltb, leb, List, [], ◌∷◌, ◌++◌, length, take, drop, map, get_or, refl, sym, subst, ◌∙◌, arith, ◌⊎◌, inl, inr, ◌↔◌, Result, Ok, Err, IsOk}
+use Rattle.std.proofs.Common.{◌≡◌, ℕ, zero, suc, ◌+◌, ◌-◌, ◌<◌, ◌≤◌, true, false, not, ◌==◌, ◌&&◌, if◌then◌else◌, nat_lt, leb, List, [], ◌∷◌, ◌++◌, length, take, drop, map, get_or, refl, sym, subst, ◌∙◌, arith, ◌⊎◌, inl, inr, ◌↔◌, Result, Ok, Err, IsOk}
 use Rattle.std.specs.List.{AllWithin, insert}
 use Rattle.std.specs.Result.{is_ok}
 use Rattle.std.specs.List.Sorted.{IsNonDecreasingBy}
-use Rattle.std.proofs.lemmas.Bool.{cases_lt, ltb-true, leb-true, leb-false, le-leb, and_parts, eqb-true, or_parts, not-false}
+use Rattle.std.proofs.lemmas.Bool.{leb-true, leb-false, le-leb, and_parts, eqb-true, or_parts, not-false}
 use Rattle.std.proofs.lemmas.Bool.Decides.{nat_tests}
-use Rattle.std.proofs.lemmas.Grind.{common_steps}
-use Rattle.std.proofs.lemmas.List.{map-append, take-append-drop, get_or-take, get_or-drop, length-take-le, drop-drop, get_or_append_left, get_or-append_right, get_or_default}
+use Rattle.std.proofs.lemmas.List.{map-append, take-append-drop, get_or-take, length-take-le, drop-drop, get_or_default}
 use Rattle.std.proofs.lemmas.List.Elements.{All-append, All-cons, All-take, All-drop}
 use Rattle.std.proofs.lemmas.List.Sorted.{IsNonDecreasingBy-insert}
 use Rattle.modem.proofs.Parts.{no_true}
 use Rattle.modem.proofs.AtKept.{HasAt-append}
 use Rattle.modem.specs.declared.kept.KeptInterval.{KeptInterval}
 use Rattle.modem.specs.State.{Kept, IsAt, HasAt}
-use Rattle.modem.specs.KeptIntervals.{kept_interval, place, place_of, IsShort, AreKept, is_live}
+use Rattle.modem.specs.KeptIntervals.{kept_interval, place_of, IsShort, AreKept, is_live}
 
 -- what is at a minislot stands at an index
 pub record Found (ks : List KeptInterval) (ch m sid iuc : ℕ) : Type 0 where
@@ -57,48 +56,6 @@ HasAt-split i ks ch m sid iuc =
 none_there : (ks : List KeptInterval) (ch m sid iuc : ℕ) → ((i : ℕ) (k : KeptInterval) → i < length ks → get_or ks i k ≡ k → IsAt (kept_interval k) ch m sid iuc → ⊥) → HasAt (map kept_interval ks) ch m sid iuc → ⊥
 none_there ks ch m sid iuc none h = let f = HasAt-found ks ch m sid iuc h in none f.index f.one f.within f.is f.at_m
 
--- those that stand before the first place reach no minislot so late
-too_early : (ks : List KeptInterval) (n ch m sid iuc : ℕ) → AreKept ks → n ≤ length ks → AllWithin (λ k. ltb (place_of k) (place ch (m - 16383)) ≡ true) ks 0 n → HasAt (map kept_interval (take n ks)) ch m sid iuc → ⊥
-too_early ks n ch m sid iuc kept le early = none_there (take n ks) ch m sid iuc none
-  where
-    none : (i : ℕ) (k : KeptInterval) → i < length (take n ks) → get_or (take n ks) i k ≡ k → IsAt (kept_interval k) ch m sid iuc → ⊥
-    none i k lt is x =
-        let len : length (take n ks) ≡ n = length-take-le n ks le in
-        let here : get_or ks i k ≡ k = sym (get_or-take n ks i k (omega arith)) ∙ is in
-        let low : place_of k < place ch (m - 16383) = subst (λ (o : KeptInterval). place_of o < place ch (m - 16383)) here (ltb-true _ _ (early i k (omega arith) (omega arith))) in
-        let short : IsShort k = subst IsShort here (kept.short i k (omega arith)) in
-        let same : k.channel ≡ ch = x.same_channel in
-        let from : k.start ≤ m = x.from in
-        let to : m < k.stop = x.to in
-        omega arith
-
--- those that stand behind the last place begin later
-too_late : (ks : List KeptInterval) (n ch m sid iuc : ℕ) → AllWithin (λ k. leb (place_of k) (place ch m) ≡ false) ks n (length ks) → HasAt (map kept_interval (drop n ks)) ch m sid iuc → ⊥
-too_late ks n ch m sid iuc late = none_there (drop n ks) ch m sid iuc none
-  where
-    none : (i : ℕ) (k : KeptInterval) → i < length (drop n ks) → get_or (drop n ks) i k ≡ k → IsAt (kept_interval k) ch m sid iuc → ⊥
-    none i k lt is x =
-        let len : n + i < length ks = drop_within ks n i lt in
-        let here : get_or ks (n + i) k ≡ k = sym (get_or-drop n ks i k) ∙ is in
-        let high : place ch m < place_of k = subst (λ (o : KeptInterval). place ch m < place_of o) here (leb-false _ _ (late (n + i) k (omega arith) len)) in
-        let same : k.channel ≡ ch = x.same_channel in
-        let from : k.start ≤ m = x.from in
-        omega arith
-      where
-        drop_within : (xs : List KeptInterval) (n i : ℕ) → i < length (drop n xs) → n + i < length xs
-        drop_within xs zero i lt = omega (arith, lt)
-        drop_within [] (suc n) i lt = absurd (omega (arith, lt))
-        drop_within (x ∷ xs) (suc n) i lt = let more = drop_within xs n i lt in omega arith
-
--- those around a minislot have what all have there
-pub HasAt-around : (ks : List KeptInterval) (before count ch m : ℕ) → AreKept ks → before ≤ length ks → AllWithin (λ k. ltb (place_of k) (place ch (m - 16383)) ≡ true) ks 0 before → AllWithin (λ k. leb (place_of k) (place ch m) ≡ false) (drop before ks) count (length (drop before ks)) → (sid iuc : ℕ) → HasAt (map kept_interval (take count (drop before ks))) ch m sid iuc ↔ HasAt (map kept_interval ks) ch m sid iuc
-HasAt-around ks before count ch m kept le early late sid iuc =
-    let first = HasAt-split before ks ch m sid iuc in
-    let last = HasAt-split count (drop before ks) ch m sid iuc in (
-      λ h. first.1 (inr (last.1 (inl h))),
-      λ h. elim (first.0 h) [ inl a ↦ absurd (too_early ks before ch m sid iuc kept le early a) | inr b ↦ elim (last.0 b) [ inl x ↦ x | inr y ↦ absurd (too_late (drop before ks) count ch m sid iuc late y) ] ],
-    )
-
 -- where the last one stands by a place, all do
 pub all_before : (ks : List KeptInterval) (at : ℕ) (last : KeptInterval) → IsNonDecreasingBy place_of ks → 0 < length ks → get_or ks (length ks - 1) last ≡ last → leb (place_of last) at ≡ true → AllWithin (λ k. leb (place_of k) at ≡ true) ks 0 (length ks)
 all_before ks at last up some is below i d from lt =
@@ -106,34 +63,6 @@ all_before ks at last up some is below i d from lt =
     let by : place_of last ≤ at = leb-true _ _ below in
     let to : place_of (get_or ks i d) ≤ place_of last = subst (λ (k : KeptInterval). place_of (get_or ks i d) ≤ place_of k) end (up i (length ks - 1) d (omega (arith, lt)) (omega (arith, some))) in
     le-leb (place_of (get_or ks i d)) at (omega (arith, to, by))
-
--- a list without a run of it
-ordered_cut : (ks : List KeptInterval) (a b : ℕ) → a ≤ b → b ≤ length ks → IsNonDecreasingBy place_of ks → IsNonDecreasingBy place_of (take a ks ++ drop b ks)
-ordered_cut ks a b le within up i j d order lt = by_sides (cases_lt i a) (cases_lt j a)
-  where
-    front : length (take a ks) ≡ a
-    front = length-take-le a ks (omega arith)
-
-    left : (k : ℕ) → k < a → get_or (take a ks ++ drop b ks) k d ≡ get_or ks k d
-    left k lt = get_or_append_left (take a ks) (drop b ks) d k (omega (arith, front)) ∙ get_or-take a ks k d lt
-
-    right : (k : ℕ) → a ≤ k → get_or (take a ks ++ drop b ks) k d ≡ get_or ks (b + (k - a)) d
-    right k le = get_or-append_right (take a ks) (drop b ks) a k d front le ∙ get_or-drop b ks (k - a) d
-
-    rest : length (take a ks ++ drop b ks) ≤ a + (length ks - b)
-    rest = grind (arith, common_steps)
-
-    by_sides : (i < a) ⊎ (a ≤ i) → (j < a) ⊎ (a ≤ j) → place_of (get_or (take a ks ++ drop b ks) i d) ≤ place_of (get_or (take a ks ++ drop b ks) j d)
-    by_sides (inl x) (inl y) = rw (left i x, left j y) (up i j d order (omega (arith, within, le, y)))
-    by_sides (inl x) (inr y) = rw (left i x, right j y) (up i (b + (j - a)) d (omega (arith, x, le)) (omega (arith, rest, lt, y, within, le)))
-    by_sides (inr x) (inl y) = absurd (omega (arith, x, y, order))
-    by_sides (inr x) (inr y) = rw (right i x, right j y) (up (b + (i - a)) (b + (j - a)) d (omega (arith, order, x)) (omega (arith, rest, lt, y, within, le)))
-
-pub AreKept-cut : (ks : List KeptInterval) (a b : ℕ) → a ≤ b → b ≤ length ks → AreKept ks → AreKept (take a ks ++ drop b ks)
-AreKept-cut ks a b le within h = record {
-  ordered = ordered_cut ks a b le within h.ordered;
-  short = All-append IsShort (take a ks) (drop b ks) (All-take IsShort a ks h.short) (All-drop IsShort b ks h.short);
-}
 
 -- those that have ended by the clock are not at a minislot from there on
 gone : (ks : List KeptInterval) (n ch clock at_ch m sid iuc : ℕ) → n ≤ length ks → AllWithin (λ k. is_live ch clock k ≡ false) ks 0 n → (ch ≡ at_ch → clock ≤ m) → HasAt (map kept_interval (take n ks)) at_ch m sid iuc → ⊥

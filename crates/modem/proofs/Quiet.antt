@@ -1,5 +1,5 @@
 -- What each tick at a minislot does, from what counts there.
-use Rattle.std.proofs.Common.{◌≡◌, ℕ, ◌+◌, ◌≤◌, Bool, true, false, cond, ◌==◌, ◌||◌, not, List, [], ◌∷◌, Option, Some, None, refl, sym, subst, ◌∙◌, ap, arith, inl, inr, ◌↔◌, MatchBool}
+use Rattle.std.proofs.Common.{◌≡◌, ℕ, ◌+◌, ◌≤◌, Bool, true, false, cond, ◌==◌, ◌||◌, not, List, [], ◌∷◌, Option, Some, None, refl, sym, subst, ◌∙◌, ap, arith, inl, inr, ◌⊎◌, ◌↔◌, ◌&&◌, find, MatchBool}
 use Rattle.std.specs.List.{filter, list_any}
 use Rattle.std.proofs.lemmas.Map.Views.{any-filter_same}
 use Rattle.std.proofs.lemmas.Bool.{and_parts, eqb-true}
@@ -11,11 +11,11 @@ use Rattle.modem.specs.declared.known.OwnLease.{OwnLease}
 use Rattle.modem.specs.declared.known.Want.{Want}
 use Rattle.modem.specs.declared.types.Sending.{Sending}
 use Rattle.modem.specs.declared.types.Sending.TheVariants.{Unicast, Polled}
-use Rattle.modem.specs.State.{State, Kept, HasAt, is_own_from}
-use Rattle.modem.specs.Wants.{is_want, unsent_of, IsLeastUnsent, own_wants, is_lasting, lasting}
+use Rattle.modem.specs.State.{State, Kept, HasAt, is_own_at, is_own_from}
+use Rattle.modem.specs.Wants.{is_want, is_unsent, is_unsent_on, unsent_of, IsLeastUnsent, own_wants, is_lasting, lasting}
 use Rattle.modem.specs.Ticks.{Ticks, Counts, IsNotAfter, Silent, Polls, Contends, Shares, SendsBy}
 use Rattle.modem.specs.NextEvent.{IsQuiet, EachTick, IsPartOf, Acts}
-use Rattle.modem.specs.Idle.{NoneShares, IsShared, NothingBy, SharesAt, SendsAt, IsIdle, IsSame}
+use Rattle.modem.specs.Idle.{NoneShares, IsShared, NothingBy, SendsAt, IsIdle, HasSame, CoverSame, HasNoUnsent}
 use Rattle.modem.specs.declared.action.Action.{Action}
 use Rattle.modem.specs.declared.action.Action.TheVariants.{Grant, Poll, Contention, LeaseEnd}
 
@@ -162,24 +162,17 @@ pub counts_at : (ks : List Kept) (ch m x : ℕ) (counted : Option (ℕ × ℕ)) 
 counts_at ks ch m x None same h = λ sid iuc there. h sid iuc ((same sid iuc).0 there)
 counts_at ks ch m x (Some p) same h = ((same p.0 p.1).1 h.0, λ sid iuc there. h.1 sid iuc ((same sid iuc).0 there))
 
--- where what a tick looks at is the same, nothing comes either
-pub idle_same : (v : State) (ch m x : ℕ) → IsSame v ch m x → IsIdle v ch m → IsIdle v ch x
-idle_same v ch m x same idle = record {
+-- where what a tick looks at is the same, or nobody takes part, nothing comes either
+pub idle_by : (v : State) (ch m x : ℕ) → HasSame v.grants ch m x → CoverSame v.leases ch m x → (NoneShares v ch m → NoneShares v ch x) → IsIdle v ch m → IsIdle v ch x
+idle_by v ch m x grants leases shares idle = record {
   counted = idle.counted;
-  counts = counts_at v.grants ch m x idle.counted same.grants idle.counts;
+  counts = counts_at v.grants ch m x idle.counted grants idle.counts;
   nothing = at_counted idle.counted idle.nothing;
   stay = sym (filter_same _ _ lasts v.wants) ∙ idle.stay;
 }
   where
     lasts : (w : Want) → is_lasting v.leases ch (m + 1) w ≡ is_lasting v.leases ch (x + 1) w
-    lasts w = ap (λ b. not (w.channel == ch) || b) (sym (same.leases.lasts w.sid))
-
-    own : own_wants v.leases ch m v.wants ≡ own_wants v.leases ch x v.wants
-    own = filter_same _ _ (λ w. sym (same.leases.own w.sid)) v.wants
-
-    shares : NoneShares v ch m → NoneShares v ch x
-    shares (inl shut) = inl (λ h. shut ((same.open_to_all everybody 1).0 h))
-    shares (inr nobody) = inr (subst (λ ws. IsLeastUnsent ws ch None) own nobody)
+    lasts w = ap (λ b. not (w.channel == ch) || b) (sym (leases.lasts w.sid))
 
     at_counted : (counted : Option (ℕ × ℕ)) → NothingBy v ch m counted → NothingBy v ch x counted
     at_counted None none = shares none
@@ -193,6 +186,44 @@ idle_same v ch m x same idle = record {
         by_grant true h = h
         by_grant false h = by_poll (iucs.lets_request p.1) h
 
+-- the same intervals are open to all, and the same SIDs covered
+pub shares_same : (v : State) (ch m x : ℕ) → HasSame v.open_to_all ch m x → CoverSame v.leases ch m x → NoneShares v ch m → NoneShares v ch x
+shares_same v ch m x opens leases (inl shut) = inl (λ h. shut ((opens everybody 1).0 h))
+shares_same v ch m x opens leases (inr nobody) = inr (subst (λ ws. IsLeastUnsent ws ch None) own nobody)
+  where
+    own : own_wants v.leases ch m v.wants ≡ own_wants v.leases ch x v.wants
+    own = filter_same _ _ (λ w. sym (leases.own w.sid)) v.wants
+
+-- what isn't found among all isn't among some
+find_filter_none : (p q : Want → Bool) (ws : List Want) → find p ws ≡ None → find p (filter q ws) ≡ None
+find_filter_none p q [] none = refl
+find_filter_none p q (w ∷ ws) none = by_test (p w) (q w) refl none (λ rest. find_filter_none p q ws rest)
+  where
+    by_test : (b c : Bool) → p w ≡ b → cond b (Some w) (find p ws) ≡ None → (find p ws ≡ None → find p (filter q ws) ≡ None) → find p (cond c (w ∷ filter q ws) (filter q ws)) ≡ None
+    by_test true c is none more = absurd (let e = none in cc)
+    by_test false true is none more = ap (λ b. cond b (Some w) (find p (filter q ws))) is ∙ more none
+    by_test false false is none more = more none
+
+-- where no want is unsent nobody takes part
+pub shares_unsent : (v : State) (ch x : ℕ) → HasNoUnsent v.wants ch → NoneShares v ch x
+shares_unsent v ch x none = inr (λ sid. find_filter_none (λ w. is_want ch sid w && is_unsent w.progress) (λ w. is_own_at v.leases ch w.sid x) v.wants (none sid))
+
+pub idle_edge : (v : State) (ch m x : ℕ) → HasSame v.grants ch m x → HasSame v.open_to_all ch m x ⊎ HasNoUnsent v.wants ch → CoverSame v.leases ch m x → IsIdle v ch m → IsIdle v ch x
+idle_edge v ch m x grants (inl opens) leases idle = idle_by v ch m x grants leases (shares_same v ch m x opens leases) idle
+idle_edge v ch m x grants (inr unsent) leases idle = idle_by v ch m x grants leases (λ _. shares_unsent v ch x unsent) idle
+
+-- none is unsent where the test finds none
+pub no_unsent : (ws : List Want) (ch : ℕ) → list_any (is_unsent_on ch) ws ≡ false → HasNoUnsent ws ch
+no_unsent [] ch none sid = refl
+no_unsent (w ∷ ws) ch none sid = by_test ((w.channel == ch) && is_unsent w.progress) (w.channel == ch) (w.sid == sid) (is_unsent w.progress) refl none (λ rest. no_unsent ws ch rest sid)
+  where
+    by_test : (t a b c : Bool) → (a && c) ≡ t → (t || list_any (is_unsent_on ch) ws) ≡ false → (list_any (is_unsent_on ch) ws ≡ false → unsent_of ws ch sid ≡ None) → cond ((a && b) && c) (Some w) (unsent_of ws ch sid) ≡ None
+    by_test true a b c is none more = no_true (sym none)
+    by_test false true b true is none more = no_true (sym is)
+    by_test false true true false is none more = more none
+    by_test false true false false is none more = more none
+    by_test false false b c is none more = more none
+
 -- what is sent by what counts, done by each tick
 pub acts_sent : (v : State) (c : Channel) (m : ℕ) (counted : Option (ℕ × ℕ)) (a : Action) → Counts v.grants c.id m counted → SendsAt v c.id m counted (Some a) → Acts v c m a
 acts_sent v c m counted (Grant sid iuc first last) counts (is, lets, from, to, kept) =
@@ -202,32 +233,3 @@ acts_sent v c m counted (Poll sid n) counts (iuc, is, no_grant, lets, w, found, 
 acts_sent v c m counted (Contention sid n) counts (shared, (shares, w, least, of_sid, of_n)) =
     (w, of_sid, of_n, contended v c m counted w counts shared shares least)
 acts_sent v c m counted (LeaseEnd sid) counts none = absurd none
-
--- who takes part where no grant or poll counts
-pub sends_shared : (v : State) (ch m : ℕ) (counted : Option (ℕ × ℕ)) (r : Option Action) → IsShared counted → SharesAt v ch m r → SendsAt v ch m counted r
-sends_shared v ch m None None shared h = h
-sends_shared v ch m (Some p) None shared h = by_grant (iucs.lets_transmit p.1) shared.0
-  where
-    by_poll : (b : Bool) → b ≡ false → MatchBool b (unsent_of v.wants ch p.0 ≡ None) (NoneShares v ch m)
-    by_poll true e = no_true (sym e)
-    by_poll false e = h
-
-    by_grant : (b : Bool) → b ≡ false → MatchBool b ⊥ (MatchBool (iucs.lets_request p.1) (unsent_of v.wants ch p.0 ≡ None) (NoneShares v ch m))
-    by_grant true e = no_true (sym e)
-    by_grant false e = by_poll (iucs.lets_request p.1) shared.1
-sends_shared v ch m counted (Some (Contention sid n)) shared h = (shared, h)
-sends_shared v ch m counted (Some (Grant sid iuc first last)) shared h = absurd h
-sends_shared v ch m counted (Some (Poll sid n)) shared h = absurd h
-sends_shared v ch m counted (Some (LeaseEnd sid)) shared h = absurd h
-
--- a poll of a SID without an unsent want
-pub polls_none : (v : State) (ch m sid iuc : ℕ) → iucs.lets_transmit iuc ≡ false → iucs.lets_request iuc ≡ true → unsent_of v.wants ch sid ≡ None → NothingBy v ch m (Some (sid, iuc))
-polls_none v ch m sid iuc no_grant lets none = by_grant (iucs.lets_transmit iuc) no_grant
-  where
-    by_poll : (b : Bool) → b ≡ true → MatchBool b (unsent_of v.wants ch sid ≡ None) (NoneShares v ch m)
-    by_poll true e = none
-    by_poll false e = no_true e
-
-    by_grant : (b : Bool) → b ≡ false → MatchBool b ⊥ (MatchBool (iucs.lets_request iuc) (unsent_of v.wants ch sid ≡ None) (NoneShares v ch m))
-    by_grant true e = no_true (sym e)
-    by_grant false e = by_poll (iucs.lets_request iuc) lets

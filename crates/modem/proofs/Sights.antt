@@ -1,6 +1,5 @@
 -- Sights hold up to the next edge.
-use Rattle.std.proofs.Common.{◌≡◌, ℕ, suc, ◌+◌, ◌<◌, ◌≤◌, ◌*◌, Bool, true, false, cond, ◌==◌, List, [], ◌∷◌, map, length, refl, sym, subst, ap, ◌∙◌, arith, ◌↔◌, Option}
-use Rattle.std.specs.List.{All}
+use Rattle.std.proofs.Common.{◌≡◌, ℕ, suc, ◌<◌, Bool, true, false, cond, ◌==◌, List, [], ◌∷◌, map, length, sym, subst, ap, ◌∙◌, arith, ◌↔◌, Option}
 use Rattle.std.proofs.lemmas.List.Elements.{All-nil, All-cons}
 use Rattle.std.proofs.lemmas.List.{length-map}
 use Rattle.map_body.specs.Sids.{everybody}

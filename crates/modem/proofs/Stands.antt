@@ -263,7 +263,3 @@ stands_if_ok (Err e) old new output near h = tt
 pub Ticks-stands : (old new : State) (c : Channel) (ch slot random : ℕ) (sending : Option Sending) (hearings : List Hearing) → channel_of old.channels ch ≡ Some c → c.clock ≤ slot → Ticks old c slot random sending new → HasHeard old hearings → HasHeard new hearings
 Ticks-stands old new c ch slot random sending hearings found late ticks was =
     StandsFor-kept old new hearings ticks.id (λ other. same_alike other (clock_of new.channels other) new.leases old.leases ticks.leases) (λ other. rw ticks.channels (clock_of-row c (slot + 1) c.backoff old.channels ch other found (omega arith))) ticks.held.grants was
-
--- a change of the wants alone keeps it
-pub wants_stand : (old : State) (wants : List Want) (hearings : List Hearing) → HasHeard old hearings → HasHeard (record old { wants = wants }) hearings
-wants_stand old wants hearings was = record { leases = was.leases; lasts = was.lasts; holds = was.holds }

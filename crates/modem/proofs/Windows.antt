@@ -1,5 +1,5 @@
 -- What is past, and where a look at a minislot finds its intervals.
-use Rattle.std.proofs.Common.{◌≡◌, ℕ, ◌+◌, ◌-◌, ◌*◌, ◌/◌, ◌^◌, ◌<◌, ◌≤◌, Bool, true, false, ◌&&◌, ◌||◌, nat_le, nat_lt, ltb, leb, List, length, take, drop, map, get_or, refl, sym, subst, ◌∙◌, ap, arith, ◌⊎◌, inl, inr, ◌↔◌}
+use Rattle.std.proofs.Common.{◌≡◌, ℕ, ◌+◌, ◌-◌, ◌*◌, ◌/◌, ◌^◌, ◌<◌, ◌≤◌, true, false, ◌||◌, nat_le, nat_lt, ltb, leb, List, [], ◌∷◌, refl, length, take, drop, map, get_or, subst, ◌∙◌, ap, arith, ◌⊎◌, inl, inr, ◌↔◌}
 use Rattle.std.specs.List.{AllWithin}
 use Rattle.std.proofs.Math.Nat.{mul-le-mul_left, div-mul-le_self}
 use Rattle.std.proofs.lemmas.Bool.{cases_lt, ltb-true, leb-true, leb-false, le-leb, and_parts, and_from, or_cases, or_left, or_right}
@@ -9,8 +9,8 @@ use Rattle.std.proofs.lemmas.List.{get_or-take, get_or-drop, length-take-le}
 use Rattle.modem.proofs.Order.{HasAt-found, HasAt-one}
 use Rattle.modem.proofs.NextEdges.{HasAt-part}
 use Rattle.modem.specs.declared.kept.KeptInterval.{KeptInterval}
-use Rattle.modem.specs.State.{IsAt, HasAt}
-use Rattle.modem.specs.KeptIntervals.{kept_interval, place, place_of, AreKept, is_past, ArePast, IsWindow}
+use Rattle.modem.specs.State.{Kept, IsAt, HasAt}
+use Rattle.modem.specs.KeptIntervals.{kept_interval, place, place_of, AreKept, is_past, ArePast, ArePastOf, IsWindow}
 
 -- what the test says of an interval
 pub record IsPast (ch m : ℕ) (k : KeptInterval) : Type 0 where
@@ -168,3 +168,23 @@ no_more len channels =
     let b : half * 2 ≤ len = div-mul-le_self len 2 in
     let c : half / (channels + 1) * 1 ≤ half / (channels + 1) * (channels + 1) = mul-le-mul_left (half / (channels + 1)) (omega arith) in
     omega (arith, a, b, c)
+
+-- the interval of what contracts see of it
+abbrev seen_interval : Kept → KeptInterval
+seen_interval k = record { channel = k.channel; sid = k.sid; iuc = k.iuc; start = k.start; stop = k.«end» }
+
+-- intervals are known from what contracts see of them
+pub same_intervals : (xs ys : List KeptInterval) → map kept_interval xs ≡ map kept_interval ys → xs ≡ ys
+same_intervals [] [] same = refl
+same_intervals [] (y ∷ ys) same = absurd (let e = same in cc)
+same_intervals (x ∷ xs) [] same = absurd (let e = same in cc)
+same_intervals (x ∷ xs) (y ∷ ys) same =
+    let first : kept_interval x ≡ kept_interval y = (let e = same in cc) in
+    let rest : map kept_interval xs ≡ map kept_interval ys = (let e = same in cc) in
+    let one : x ≡ y = ap seen_interval first in
+    let more : xs ≡ ys = same_intervals xs ys rest in
+    ap (λ k. k ∷ xs) one ∙ ap (λ ks. y ∷ ks) more
+
+-- what is past stays so, of intervals as contracts see them
+pub still_past_of : (ch m x count : ℕ) (kept : List Kept) → m ≤ x → ((ks : List KeptInterval) → map kept_interval ks ≡ kept → ArePast ch m count ks) → ArePastOf ch x count kept
+still_past_of ch m x count kept le past = λ ks same. still_past ch m x count ks le (past ks same)

@@ -83,11 +83,9 @@ pub record CoverSame (leases : List OwnLease) (ch m x : ℕ) : Type 0 where
   pub own : (sid : ℕ) → is_own_at leases ch sid x ≡ is_own_at leases ch sid m
   pub lasts : (sid : ℕ) → is_own_from leases ch sid (x + 1) ≡ is_own_from leases ch sid (m + 1)
 
--- all that a tick looks at is the same
-pub record IsSame (v : State) (ch m x : ℕ) : Type 0 where
-  pub grants : HasSame v.grants ch m x
-  pub open_to_all : HasSame v.open_to_all ch m x
-  pub leases : CoverSame v.leases ch m x
+-- no want of the channel is unsent
+abbrev pub HasNoUnsent : List Want → ℕ → Type 0
+HasNoUnsent wants ch = (sid : ℕ) → unsent_of wants ch sid ≡ None
 
 -- before a minislot, if there is one
 abbrev pub IsBefore : Option ℕ → ℕ → Type 0

@@ -1,5 +1,5 @@
 -- What a list of kept intervals stands for, and its order.
-use Rattle.std.specs.Prelude.{◌≡◌, ◌↔◌, ℕ, ◌+◌, ◌*◌, ◌^◌, ◌<◌, ◌≤◌, Bool, true, false, leb, length, not, ◌==◌, ◌&&◌, ◌||◌, nat_lt, nat_le, if◌then◌else◌, min, max, List, All, Option, Some, None}
+use Rattle.std.specs.Prelude.{◌≡◌, ◌↔◌, ℕ, ◌+◌, ◌*◌, ◌^◌, ◌<◌, ◌≤◌, Bool, true, false, leb, length, not, ◌==◌, ◌&&◌, ◌||◌, nat_lt, nat_le, if◌then◌else◌, min, max, map, List, All, Option, Some, None}
 use Rattle.std.specs.List.{flat_map, filter_map, AllWithin}
 use Rattle.std.specs.List.Sorted.{IsNonDecreasingBy}
 use Rattle.map_body.specs.Iucs as iucs
@@ -7,8 +7,9 @@ use Rattle.map_body.specs.Sids.{everybody}
 use Rattle.map_body.specs.declared.interval.Interval.{Interval}
 use Rattle.modem.specs.declared.kept.KeptInterval.{KeptInterval}
 use Rattle.modem.specs.declared.kept.Window.{Window}
+use Rattle.modem.specs.declared.kept.Windows.{Windows}
 use Rattle.modem.specs.declared.known.OwnLease.{OwnLease}
-use Rattle.modem.specs.State.{Kept, HasAt, is_of}
+use Rattle.modem.specs.State.{State, Kept, HasAt, is_of}
 
 -- a kept interval is itself
 abbrev pub kept_interval : KeptInterval → Kept
@@ -55,6 +56,15 @@ pub record IsWindow (ch m : ℕ) (ks : List KeptInterval) (w : Window) : Type 0 
   pub bound : w.begun ≤ length ks
   pub begun : AllWithin (λ k. leb (place_of k) (place ch m) ≡ true) ks 0 w.begun
   pub later : AllWithin (λ k. leb (place_of k) (place ch m) ≡ false) ks w.begun (length ks)
+
+-- so many of the first are past, of intervals as contracts see them
+abbrev pub ArePastOf : (ch m count : ℕ) → List Kept → Type 0
+ArePastOf ch m count kept = (ks : List KeptInterval) → map kept_interval ks ≡ kept → ArePast ch m count ks
+
+-- windows of a modem's grants and of its intervals that are open to all
+pub record AreWindows (ch m : ℕ) (v : State) (w : Windows) : Type 0 where
+  pub own : (ks : List KeptInterval) → map kept_interval ks ≡ v.grants → IsWindow ch m ks w.own
+  pub «open» : (ks : List KeptInterval) → map kept_interval ks ≡ v.open_to_all → IsWindow ch m ks w.«open»
 
 -- the part of an interval that a lease of its SID covers
 abbrev pub piece : KeptInterval → OwnLease → Option KeptInterval

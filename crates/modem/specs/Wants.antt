@@ -16,6 +16,10 @@ abbrev pub is_unsent : Progress → Bool
 is_unsent (Unsent drawn) = true
 is_unsent (Sent «at») = false
 
+-- it is of the channel and unsent
+abbrev pub is_unsent_on : ℕ → Want → Bool
+is_unsent_on ch w = (w.channel == ch) && is_unsent w.progress
+
 -- the unsent want of a SID
 abbrev pub unsent_of : List Want → ℕ → ℕ → Option Want
 unsent_of wants ch sid = find (λ w. is_want ch sid w && is_unsent w.progress) wants

@@ -4,7 +4,7 @@ ghost use Rattle.std.specs.Prelude.{◌≡◌, ℕ, ◌+◌, ◌<◌, ◌≤◌,
 ghost use Rattle.map_body.specs.Intervals.{intervals};
 ghost use Rattle.map_body.specs.Body.{Body};
 ghost use Rattle.minislot_time.specs.Wire.{IsNear};
-ghost use Rattle.modem.specs.Hears.{Reads, IsAckTime};
+ghost use Rattle.modem.specs.Hears.{IsExtent, Reads, IsAckTime};
 
 use map_body::{Head, Interval, MapBody, Outline, judge};
 use minislot_time::{Slot, extend};
@@ -48,6 +48,16 @@ pub(crate) fn heard_near(bytes: &[u8], near: Slot) -> Option<HeardMap>
         Ok(outline) => extended(outline, near),
         Err(_) => None,
     }
+}
+
+/// A map that is heard near a time, where it can be read then.
+pub(crate) fn body_near(map: &MapBody, near: Slot) -> Option<HeardMap>
+    ensures found { IfSome result (λ heard. IsExtent near map.now heard.start heard.stop × (heard.head ≡ map.now.head)) }
+    ensures none { IfNone result ((start stop : ℕ) → ¬ IsExtent near map.now start stop) }
+{
+    let head = *map.head();
+    let len = map.len();
+    extended(Outline { head, len }, near)
 }
 
 /// The time up to which a map acknowledges requests.

@@ -36,6 +36,13 @@ pub(crate) struct Window {
     pub begun: usize,
 }
 
+/// The same of a modem's grants, and of the intervals that are open to all.
+#[derive(Clone, Copy)]
+pub(crate) struct Windows {
+    pub own: Window,
+    pub open: Window,
+}
+
 /// An element's minislots of a channel that a modem keeps, from `start` up to `stop`.
 #[derive(Clone, Copy, PartialEq, Eq)]
 pub struct KeptInterval {
@@ -188,15 +195,6 @@ pub(crate) fn counted_in(
     counted_of(around(kept, ch, at, window), ch, at)
 }
 
-/// The same where no window is known. It costs the logarithm of what is kept, and what begins less than 2^14 minislots
-/// before.
-pub(crate) fn counted(kept: &[KeptInterval], ch: u8, at: u64) -> Option<(u16, Iuc)>
-    requires { AreKept kept.now }
-    ensures { Counts (map kept_interval kept.now) ch at result }
-{
-    counted_in(kept, ch, at, window_at(kept, ch, at, 0))
-}
-
 fn is_at(interval: &KeptInterval, ch: u8, at: u64, sid: u16, iuc: Iuc) -> bool
     ensures { result ≡ is_at ch at sid iuc (kept_interval interval.now) }
 {
@@ -222,14 +220,6 @@ pub(crate) fn is_open_in(kept: &[KeptInterval], ch: u8, at: u64, window: Window)
         Sid::EVERYBODY,
         Iuc::REQUEST,
     )
-}
-
-/// The same where no window is known.
-pub(crate) fn is_open(kept: &[KeptInterval], ch: u8, at: u64) -> bool
-    requires { AreKept kept.now }
-    ensures { (result ≡ true) ↔ HasAt (map kept_interval kept.now) ch at everybody iucs.request }
-{
-    is_open_in(kept, ch, at, window_at(kept, ch, at, 0))
 }
 
 fn is_live(interval: KeptInterval, ch: u8, clock: u64) -> bool
@@ -576,28 +566,20 @@ pub(crate) fn next_edge_in(kept: &[KeptInterval], ch: u8, at: u64, window: Windo
     )
 }
 
-/// The same where no window is known. It costs as much as a look at a minislot.
-pub(crate) fn next_edge(kept: &[KeptInterval], ch: u8, at: u64) -> Option<u64>
-    requires { AreKept kept.now }
-    ensures after { IfSome result (λ n. at < n) }
-    ensures same { (x : ℕ) → at ≤ x → x < 2 ^ 63 → IsBefore result x → HasSame (map kept_interval kept.now) ch at x }
-{
-    next_edge_in(kept, ch, at, window_at(kept, ch, at, 0))
-}
-
 /// An interval of a SID and IUC that covers a minislot.
 pub(crate) fn covering(
     kept: &[KeptInterval],
     ch: u8,
     at: u64,
+    window: Window,
     sid: u16,
     iuc: Iuc,
 ) -> Option<KeptInterval>
-    requires { AreKept kept.now }
+    requires { IsWindow ch at kept.now window }
     ensures some { IfSome result (λ k. Contains kept.now k × IsAt (kept_interval k) ch at sid iuc) }
     ensures none { IfNone result (¬ HasAt (map kept_interval kept.now) ch at sid iuc) }
 {
-    let near = around(kept, ch, at, window_at(kept, ch, at, 0));
+    let near = around(kept, ch, at, window);
     for interval in near {
         if is_at(interval, ch, at, sid, iuc) {
             return Some(*interval);

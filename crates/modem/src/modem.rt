@@ -3,20 +3,21 @@
 ghost use Rattle.std.specs.Prelude.{◌≡◌, ℕ, ◌+◌, ◌^◌, ◌<◌, ◌≤◌, ◌↔◌, map, None, Some, Ok, Err, OnOk, OnErr, IfOk, IfErr, IfSome, IfNone, IsOkAnd, IsErr, List, Option, true, false, ◌∷◌, ◌++◌, [], ◌⊎◌, ◌==◌, MatchBool};
 ghost use Rattle.std.specs.Option.{option_map};
 ghost use Rattle.std.specs.List.{list_any};
+ghost use Rattle.map_body.specs.Layout.{IsBody};
 ghost use Rattle.modem.specs.State.{new_modem, channel_clock, channel_of, clock_of, has_lease, is_own_from, is_recent, with_ucd, HasAt};
 ghost use Rattle.modem.specs.Held.{HasHeard, Hearing, Held, unicast_sid};
 ghost use Rattle.modem.specs.Hears.{Hears, HearsMap, IsDue, MayGrow, Passes, Takes, leases_heard};
 ghost use Rattle.modem.specs.Wants.{is_own_now, is_want, lasting, want_refusal, new_want};
 ghost use Rattle.modem.specs.Ticks.{Ticks, Counts};
-ghost use Rattle.modem.specs.KeptIntervals.{kept_interval, IsOfChannel};
+ghost use Rattle.modem.specs.KeptIntervals.{kept_interval, ArePastOf, AreWindows, IsOfChannel};
 ghost use Rattle.modem.specs.NextEvent.{Acts, AreQuiet, IsNext};
-ghost use Rattle.modem.specs.Idle.{SendsAt, SharesAt, IsIdle, IsSame, IsBefore};
+ghost use Rattle.modem.specs.Idle.{SendsAt, SharesAt, IsIdle, HasSame, HasNoUnsent, IsBefore};
 ghost use Rattle.modem.specs.LetsGo.{HasNoOld, HasFewOld, LetsGo, LetsGoAfter};
 
 use crate::action::{Action, NextEvent};
 use crate::edges::sooner;
 use crate::intervals::HeardMap;
-use crate::kept::{self, KeptInterval, LIMIT};
+use crate::kept::{self, KeptInterval, LIMIT, Windows};
 use crate::known::{Channel, OwnLease, Progress, Want};
 use crate::sight::{self, Sight};
 use crate::span::{self, Span};
@@ -314,6 +315,34 @@ impl Modem {
         Ok(Heard::Taken)
     }
 
+    /// Hears a map near a time, as `hear_map` hears its bytes. Many modems may hear a map that was read once.
+    pub fn hear_body(&mut self, map: &MapBody, near: Slot) -> Result<Heard, AllocError>
+        ensures ok { IfOk result (λ answer. (bytes : List ℕ) → IsBody bytes map.now → HearsMap self.old bytes near answer self.new) }
+        ensures err { OnErr result (self.new ≡ self.old) }
+        ensures memory { IsErr result → (bytes : List ℕ) → IsBody bytes map.now → IsDue self.old bytes near }
+        ensures lets_go { IfOk result (λ answer. (answer ≡ Heard.Taken) ⊎ (answer ≡ Heard.Past) → HasNoOld self.new map.now.head.channel) }
+        ensures stands { IfOk result (λ answer. (hearings : List Hearing) (ch start len : ℕ) (bytes : List ℕ) → IsBody bytes map.now → HasHeard self.old hearings → HasHeard self.new (record { output = Output.Map ch start len bytes; near = near; answer = answer } ∷ hearings)) }
+    {
+        let Some(heard) = intervals::body_near(map, near) else {
+            return Ok(Heard::Unreadable);
+        };
+        let HeardMap { head, start, stop } = heard;
+        let Some(channel) = channels::find(self.channels.as_slice(), head.channel) else {
+            return Ok(Heard::OtherUcd);
+        };
+        let ucd = head.ucd;
+        if channel.ucd != ucd {
+            return Ok(Heard::OtherUcd);
+        }
+        let clock = channel.clock.max(near.get());
+        if stop <= clock {
+            self.pass(channel, near);
+            return Ok(Heard::Past);
+        }
+        self.take(map, start, channel, near)?;
+        Ok(Heard::Taken)
+    }
+
     // Moves the clock of a channel, and lets go of what has ended.
     fn pass(&mut self, channel: Channel, near: Slot)
         requires { channel_of self.old.channels channel.id ≡ Some channel }
@@ -390,44 +419,72 @@ impl Modem {
     {
         let channel = channels::find(self.channels.as_slice(), ch)?;
         let mut at = from.get().max(channel.clock);
+        let mut near = self.windows_from(channel.id, at);
         while at < LIMIT {
-            match self.action_at(channel, at) {
+            match self.action_at(channel, at, near) {
                 Some(action) => return Some(NextEvent { slot: at, action }),
-                None => at = self.next_edge(channel.id, at)?,
+                None => {
+                    let next = self.next_edge(channel.id, at, near)?;
+                    near = self.windows_at(channel.id, next, near.own.past, near.open.past);
+                    at = next;
+                }
             }
         }
         None
     }
 
+    // Where a look at a minislot finds its intervals, if so many of the first are known to be past.
+    fn windows_at(&self, ch: u8, at: u64, past_grants: usize, past_open: usize) -> Windows
+        requires past_grants { ArePastOf ch at past_grants self.now.grants }
+        requires past_open { ArePastOf ch at past_open self.now.open_to_all }
+        ensures { AreWindows ch at self.now result }
+    {
+        let own = kept::window_at(self.grants.as_slice(), ch, at, past_grants);
+        let open = kept::window_at(self.open_to_all.as_slice(), ch, at, past_open);
+        Windows { own, open }
+    }
+
+    // The same from what the channel's last sight knows to be past.
+    fn windows_from(&self, ch: u8, at: u64) -> Windows
+        ensures { AreWindows ch at self.now result }
+    {
+        let last = sight::find(self.sights.as_slice(), ch, at);
+        self.windows_at(ch, at, last.past_grants, last.past_open)
+    }
+
     // What a tick at a minislot does.
-    fn action_at(&self, channel: Channel, at: u64) -> Option<Action>
-        requires { at < 2 ^ 63 }
+    fn action_at(&self, channel: Channel, at: u64, near: Windows) -> Option<Action>
+        requires time { at < 2 ^ 63 }
+        requires windows { AreWindows channel.id at self.now near }
         ensures some { IfSome result (Acts self.now channel at) }
         ensures none { IfNone result (IsIdle self.now channel.id at) }
     {
-        match self.sending_at(channel.id, at) {
+        match self.sending_at(channel.id, at, near) {
             Some(action) => Some(action),
             None => self.lease_end_at(channel.id, at),
         }
     }
 
     // What is sent, or may be, at a minislot.
-    fn sending_at(&self, ch: u8, at: u64) -> Option<Action>
+    fn sending_at(&self, ch: u8, at: u64, near: Windows) -> Option<Action>
+        requires { AreWindows ch at self.now near }
         ensures { (counted : Option (ℕ × ℕ)) × Counts self.now.grants ch at counted × SendsAt self.now ch at counted result }
     {
-        match kept::counted(self.grants.as_slice(), ch, at) {
-            Some((sid, iuc)) => self.sending_by(ch, at, sid, iuc),
-            None => self.contention_at(ch, at),
+        match kept::counted_in(self.grants.as_slice(), ch, at, near.own) {
+            Some((sid, iuc)) => self.sending_by(ch, at, near, sid, iuc),
+            None => self.contention_at(ch, at, near),
         }
     }
 
     // The same by a SID and IUC that count.
-    fn sending_by(&self, ch: u8, at: u64, sid: u16, iuc: Iuc) -> Option<Action>
-        requires { HasAt self.now.grants ch at sid iuc }
+    fn sending_by(&self, ch: u8, at: u64, near: Windows, sid: u16, iuc: Iuc) -> Option<Action>
+        requires counts { HasAt self.now.grants ch at sid iuc }
+        requires windows { AreWindows ch at self.now near }
         ensures { SendsAt self.now ch at (Some (sid, iuc)) result }
     {
         if iuc.lets_transmit() {
-            let grant = kept::covering(self.grants.as_slice(), ch, at, sid, iuc)?;
+            let grants = self.grants.as_slice();
+            let grant = kept::covering(grants, ch, at, near.own, sid, iuc)?;
             let first = grant.start;
             let last = grant.stop - 1;
             Some(Action::Grant {
@@ -440,15 +497,16 @@ impl Modem {
             let want = wants::unsent(self.wants.as_slice(), ch, sid)?;
             Some(Action::Poll { sid, n: want.n })
         } else {
-            self.contention_at(ch, at)
+            self.contention_at(ch, at, near)
         }
     }
 
     // The unsent want that takes part in a minislot that is open to all.
-    fn contention_at(&self, ch: u8, at: u64) -> Option<Action>
+    fn contention_at(&self, ch: u8, at: u64, near: Windows) -> Option<Action>
+        requires { AreWindows ch at self.now near }
         ensures { SharesAt self.now ch at result }
     {
-        if !kept::is_open(self.open_to_all.as_slice(), ch, at) {
+        if !kept::is_open_in(self.open_to_all.as_slice(), ch, at, near.open) {
             return None;
         }
         let wants = self.wants.as_slice();
@@ -469,14 +527,28 @@ impl Modem {
         Some(Action::LeaseEnd { sid })
     }
 
-    // The next minislot at which something that a tick looks at is other than at this one.
-    fn next_edge(&self, ch: u8, at: u64) -> Option<u64>
-        requires { at < 2 ^ 63 }
+    // The next minislot at which an interval that is open to all begins or is over. Where no want is unsent none counts.
+    fn next_open_edge(&self, ch: u8, at: u64, near: Windows) -> Option<u64>
+        requires { AreWindows ch at self.now near }
         ensures after { IfSome result (λ n. at < n) }
-        ensures same { (x : ℕ) → at ≤ x → x < 2 ^ 63 → IsBefore result x → IsSame self.now ch at x }
+        ensures same { (x : ℕ) → at ≤ x → x < 2 ^ 63 → IsBefore result x → HasSame self.now.open_to_all ch at x ⊎ HasNoUnsent self.now.wants ch }
     {
-        let own = kept::next_edge(self.grants.as_slice(), ch, at);
-        let open = kept::next_edge(self.open_to_all.as_slice(), ch, at);
+        if wants::has_unsent(self.wants.as_slice(), ch) {
+            kept::next_edge_in(self.open_to_all.as_slice(), ch, at, near.open)
+        } else {
+            None
+        }
+    }
+
+    // The next minislot at which something that a tick looks at is other than at this one.
+    fn next_edge(&self, ch: u8, at: u64, near: Windows) -> Option<u64>
+        requires time { at < 2 ^ 63 }
+        requires windows { AreWindows ch at self.now near }
+        ensures after { IfSome result (λ n. at < n) }
+        ensures idle { (x : ℕ) → at ≤ x → x < 2 ^ 63 → IsBefore result x → IsIdle self.now ch at → IsIdle self.now ch x }
+    {
+        let own = kept::next_edge_in(self.grants.as_slice(), ch, at, near.own);
+        let open = self.next_open_edge(ch, at, near);
         let lease = leases::next_edge(self.leases.as_slice(), ch, at);
         sooner(sooner(own, open), lease)
     }

@@ -66,8 +66,8 @@ fn began(sight: &Sight, ch: u8, at: u64) -> bool
     sight.channel == ch && sight.from <= at
 }
 
-// The sight of a channel that began by a minislot, or one that holds nowhere.
-fn find(sights: &[Sight], ch: u8, at: u64) -> Sight
+/// The sight of a channel that began by a minislot, or one that holds nowhere.
+pub(crate) fn find(sights: &[Sight], ch: u8, at: u64) -> Sight
     ensures channel { result.channel ≡ ch }
     ensures from { result.from ≤ at }
     ensures holds { (n : ℕ) (grants opens : List KeptInterval) → AreSights n grants opens sights.now → Holds n grants opens result }

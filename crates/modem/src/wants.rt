@@ -4,7 +4,7 @@ ghost use Rattle.std.specs.Prelude.{◌≡◌, ◌+◌, ◌-◌, ◌<◌, ◌==�
 ghost use Rattle.std.specs.List.{filter_map, list_any};
 ghost use Rattle.modem.specs.declared.known.Want.{Want};
 ghost use Rattle.modem.specs.State.{is_own_at, is_own_from};
-ghost use Rattle.modem.specs.Wants.{is_want, is_unsent, unsent_of, with_want, IsLeastUnsent, own_wants, is_lasting, lasting};
+ghost use Rattle.modem.specs.Wants.{is_want, is_unsent, is_unsent_on, unsent_of, with_want, IsLeastUnsent, own_wants, is_lasting, lasting};
 ghost use Rattle.map_body.specs.Intervals.{intervals};
 ghost use Rattle.modem.specs.Intervals.{is_granted, is_pending, is_acknowledged, lost, decided};
 ghost use Rattle.modem.specs.Steps.{lesser};
@@ -46,6 +46,15 @@ pub(crate) fn unsent(wants: &[Want], ch: u8, sid: u16) -> Option<Want>
         }
     }
     None
+}
+
+/// Whether a want of the channel isn't sent yet.
+pub(crate) fn has_unsent(wants: &[Want], ch: u8) -> bool
+    ensures { result ≡ list_any (is_unsent_on ch) wants.now }
+{
+    wants
+        .iter()
+        .any(|w| w.channel == ch && is_unsent(w.progress))
 }
 
 // Whether a want becomes the least so far, if its SID is the modem's.

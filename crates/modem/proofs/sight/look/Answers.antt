@@ -1,4 +1,4 @@
-use Rattle.std.proofs.Common.{ℕ, map, arith, subst, sym, ◌∙◌}
+use Rattle.std.proofs.Common.{ℕ, map, subst, sym, ◌∙◌}
 use Rattle.modem.specs.KeptIntervals.{kept_interval}
 use Rattle.modem.specs.Sights.{IsFew, IsSeen}
 use Rattle.modem.proofs.Sights.{AreSights-with}
