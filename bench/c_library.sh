@@ -2,8 +2,8 @@
 # The libraries for C and C++ (crates/upsched_c, crates/upsched_c_node, include/, c/), tried from C; no part of the
 # gate. It builds the clients with gcc and g++, warnings as errors, and runs them: as they are, under the sanitizers,
 # and where valgrind is there under its memcheck and helgrind; lets each request for memory fail in turn; and compares
-# what it says of spoilt bodies, commands and letters with what the proved program prints, where one is there. The status is 1
-# where something differs.
+# what it says of spoilt bodies, commands and letters with what the proved program prints, where one is there. The
+# status is 1 where something differs.
 #
 # Usage: bench/c_library.sh [SECONDS [SEED]]: the fuzz target runs so long (5), and 40 times as many inputs are spoilt.
 set -euo pipefail
@@ -42,6 +42,13 @@ g++ -std=c++17 "${clean[@]}" "${warn[@]}" sim.cpp "$lib" -o "$work/sim"
 "$work/node_threads"
 "$work/codec_fuzz" "$seconds" "$seed"
 "$work/sim" 0.05 0.5 events 2>/dev/null > "$work/sim.out"
+
+echo "== the simulation by events and by ticks"
+for load in 0.2 0.5 0.9 1.5; do
+  echo "load $load"
+  out/sim 4 "$load" events > "$work/events"
+  out/sim 4 "$load" ticks | diff "$work/events" -
+done
 
 echo "== each request for memory fails"
 gcc -std=c99 -g -O1 "${warn[@]}" -Wl,--wrap=malloc,--wrap=realloc no_memory.c "$lib" -o "$work/no_memory"

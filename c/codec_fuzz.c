@@ -1,5 +1,6 @@
 /* A fuzz target of the codec. What bytes are read as is written again as the same bytes, but for the reserved byte; a
- * status other than OK changes nothing but the count; and each minislot is that of the element that covers it.
+ * status other than OK changes nothing but the count; each minislot is that of the element that covers it; and a modem
+ * hears the bytes as it hears an open MAP of them.
  *
  * With libFuzzer: clang -fsanitize=fuzzer -DWITH_LIBFUZZER codec_fuzz.c .. . Without it the program mutates bodies
  * itself.
@@ -29,8 +30,44 @@ static void look_up(const uint8_t *bytes, size_t len, const upsched_map_element 
     }
 }
 
+/* Opens a modem of the body's channel, whose SID is that of the first element. */
+static void open_modem(upsched_handle *modem, const upsched_map_head *head, uint16_t sid)
+{
+    uint32_t heard = 9;
+    WANT(upsched_modem_open(modem, 1) == UPSCHED_OK);
+    WANT(upsched_modem_hear_channel(modem, head->channel, head->ucd, &heard) == UPSCHED_OK);
+    WANT(upsched_modem_hear_assigned(modem, 1, head->channel, sid, 0, UINT64_MAX, &heard) == UPSCHED_OK);
+    WANT(heard == UPSCHED_TAKEN);
+}
+
+/* A modem that hears the bytes, and one that hears them as an open MAP, have the same events. */
+static void hear(const uint8_t *bytes, size_t len, const upsched_map_head *head, uint16_t sid)
+{
+    upsched_handle one = {0}, other = {0}, map = {0};
+    uint32_t heard = 9, again = 9;
+    upsched_event event = {0, 0, 0, 0, 0, 0, 0}, same = {0, 0, 0, 0, 0, 0, 0};
+    const uint64_t near_time = head->start;
+    int32_t status = UPSCHED_OK;
+    open_modem(&one, head, sid);
+    open_modem(&other, head, sid);
+    WANT(upsched_map_open(&map, bytes, len) == UPSCHED_OK);
+    WANT(upsched_modem_hear_map(&one, bytes, len, near_time, &heard) == UPSCHED_OK);
+    WANT(upsched_modem_hear_open_map(&other, &map, near_time, &again) == UPSCHED_OK && again == heard);
+    for (uint64_t from = near_time; status == UPSCHED_OK; from = event.last + 1) {
+        status = upsched_modem_next(&one, head->channel, from, &event);
+        WANT(upsched_modem_next(&other, head->channel, from, &same) == status);
+        if (status != UPSCHED_OK) WANT(status == UPSCHED_NONE);
+        WANT(same.slot == event.slot && same.kind == event.kind && same.sid == event.sid && same.iuc == event.iuc);
+        WANT(same.first == event.first && same.last == event.last);
+    }
+    upsched_close(&one);
+    upsched_close(&other);
+    upsched_close(&map);
+}
+
 int LLVMFuzzerTestOneInput(const uint8_t *bytes, size_t len)
 {
+    upsched_handle map = {0};
     upsched_map_head head, before;
     upsched_map_element elements[UPSCHED_ELEMENTS], untouched[UPSCHED_ELEMENTS];
     uint8_t again[UPSCHED_BODY_BYTES];
@@ -41,6 +78,8 @@ int LLVMFuzzerTestOneInput(const uint8_t *bytes, size_t len)
     before = head;
     memcpy(untouched, elements, sizeof elements);
     const int32_t status = upsched_map_decode(bytes, len, &head, elements, UPSCHED_ELEMENTS, &count);
+    WANT(upsched_map_open(&map, bytes, len) == status);
+    upsched_close(&map);
     if (status != UPSCHED_OK) {
         WANT(status != UPSCHED_NO_ROOM && status != UPSCHED_NULL);
         WANT(memcmp(&head, &before, sizeof head) == 0);
@@ -55,6 +94,7 @@ int LLVMFuzzerTestOneInput(const uint8_t *bytes, size_t len)
     WANT(upsched_map_encode(&head, elements, count, again, len - 1, &written) == UPSCHED_NO_ROOM && written == len);
     WANT(upsched_map_decode(bytes, len, &head, elements, count - 1, &written) == UPSCHED_NO_ROOM && written == count);
     look_up(bytes, len, elements, count);
+    hear(bytes, len, &head, elements[0].sid);
     return 0;
 }
 

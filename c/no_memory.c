@@ -80,7 +80,7 @@ static void small_rooms(const room *body, size_t len, const upsched_map_head *he
 
 static void run(void)
 {
-    upsched_handle machine = {0}, modem = {0};
+    upsched_handle machine = {0}, modem = {0}, other = {0};
     upsched_output o;
     room body;
     upsched_command c;
@@ -90,13 +90,16 @@ static void run(void)
     memset(&c, 0, sizeof c);
     CALL(upsched_machine_open(&machine), &machine);
     CALL(upsched_modem_open(&modem, 50), &modem);
+    CALL(upsched_modem_open(&other, 50), &other);
     c.kind = UPSCHED_CHANNEL, c.ch = 1, c.ucd = 7, c.short_max = 16, c.data_start = 3, c.data_end = 8;
     apply(&machine, &c, &o, &body);
     CALL(upsched_modem_hear_channel(&modem, o.ch, o.ucd, &heard), &heard);
+    CALL(upsched_modem_hear_channel(&other, o.ch, o.ucd, &heard), &heard);
     memset(&c, 0, sizeof c);
     c.kind = UPSCHED_FLOW, c.ch = 1, c.modem = 50, c.last = UPSCHED_LAST_TIME;
     apply(&machine, &c, &o, &body);
     CALL(upsched_modem_hear_assigned(&modem, o.modem, 1, o.sid, o.first, o.last, &heard), &heard);
+    CALL(upsched_modem_hear_assigned(&other, o.modem, 1, o.sid, o.first, o.last, &heard), &heard);
     for (uint32_t i = 0; i < 6; i++) {
         memset(&c, 0, sizeof c);
         c.kind = UPSCHED_REQUEST, c.ch = 1, c.sid = 1, c.minislots = 20, c.sent = 40 * i;
@@ -107,6 +110,11 @@ static void run(void)
         CALL(upsched_modem_want(&modem, 1, 1, 20), &modem);
         CALL(upsched_modem_hear_map(&modem, body.bytes, o.body_len, o.start, &heard), &heard);
         note(&heard, sizeof heard);
+        upsched_handle map = {0};
+        CALL(upsched_map_open(&map, body.bytes, o.body_len), &map);
+        CALL(upsched_modem_hear_open_map(&other, &map, o.start, &heard), &heard);
+        note(&heard, sizeof heard);
+        upsched_close(&map);
         upsched_map_head head;
         upsched_map_element elements[UPSCHED_ELEMENTS];
         size_t count = 0, written = 0;
@@ -130,6 +138,7 @@ static void run(void)
     }
     upsched_close(&machine);
     upsched_close(&modem);
+    upsched_close(&other);
 }
 
 int main(void)

@@ -178,6 +178,13 @@ static void hear(upsched_handle *modem, unsigned i, uint64_t near_time)
     printf("heard %" PRIu32 "\n", heard);
 }
 
+static void hear_open(upsched_handle *modem, upsched_handle *map, uint64_t near_time)
+{
+    uint32_t heard = 99;
+    GOOD(upsched_modem_hear_open_map(modem, map, near_time, &heard));
+    printf("heard %" PRIu32 "\n", heard);
+}
+
 static void tick(upsched_handle *modem, uint64_t slot, uint64_t random)
 {
     upsched_sending s = {0, 0, 0};
@@ -239,6 +246,21 @@ static void modems(void)
     printf("a tick back: status %d\n", (int)upsched_modem_tick(&modem, 1, 1000, 0, &s));
     upsched_close(&modem);
 
+    printf("-- a MAP that two modems hear\n");
+    upsched_handle map = {0};
+    GOOD(upsched_map_open(&map, bodies[3], outputs[3].body_len));
+    open_modem(&modem);
+    open_modem(&late);
+    hear_open(&modem, &map, 1000);
+    hear_open(&late, &map, 1003);
+    next(&modem, 0);
+    next(&late, 0);
+    hear_open(&late, &map, 1010);
+    next(&late, 0);
+    upsched_close(&modem);
+    upsched_close(&late);
+    upsched_close(&map);
+
     const upsched_command open[] = {channel(1000), best_effort(50), cut(1, 100, 0, 0)};
     RUN("a request in the third minislot", open);
     open_modem(&modem);
@@ -254,6 +276,27 @@ static void modems(void)
     GOOD(upsched_modem_clock(&modem, 1, &clock));
     printf("clock %" PRIu64 "\n", clock);
     upsched_close(&modem);
+}
+
+/* What the handle of a MAP refuses, and a modem beside it. */
+static void open_maps(upsched_handle *modem)
+{
+    upsched_handle map = {0}, other = {0};
+    upsched_sending sending = {0, 0, 0};
+    uint32_t heard = 99;
+    printf("no body: %d\n", (int)upsched_map_open(&map, bodies[2], 15));
+    printf("a closed MAP: %d\n", (int)upsched_modem_hear_open_map(modem, &map, 0, &heard));
+    GOOD(upsched_map_open(&map, bodies[2], outputs[2].body_len));
+    printf("a MAP open again: %d\n", (int)upsched_map_open(&map, bodies[2], outputs[2].body_len));
+    printf("a MAP that ticks: %d\n", (int)upsched_modem_tick(&map, 1, 0, 0, &sending));
+    printf("a closed modem: %d\n", (int)upsched_modem_hear_open_map(&other, &map, 0, &heard));
+    GOOD(upsched_modem_open(&other, 2));
+    printf("a modem as a MAP: %d\n", (int)upsched_modem_hear_open_map(modem, &other, 0, &heard));
+    printf("a MAP at no time: %d\n", (int)upsched_modem_hear_open_map(modem, &map, UINT64_MAX, &heard));
+    printf("no MAP: %d\n", (int)upsched_modem_hear_open_map(modem, NULL, 0, &heard));
+    hear_open(modem, &map, 0);
+    upsched_close(&map);
+    upsched_close(&other);
 }
 
 /* What handles refuse. */
@@ -273,6 +316,7 @@ static void handles(void)
     printf("closed: %d\n", (int)upsched_modem_tick(&closed, 1, 0, 0, &sending));
     printf("a time that is none: %d\n", (int)upsched_modem_tick(&modem, 1, UINT64_MAX, 0, &sending));
     printf("another's SID: %d\n", (int)upsched_modem_want(&modem, 1, 1, 20));
+    open_maps(&modem);
     upsched_close(&modem);
     GOOD(upsched_machine_open(&modem));
     printf("no kind: %d\n", (int)upsched_machine_apply(&modem, &bad, &output, bodies[0]));

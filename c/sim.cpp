@@ -3,13 +3,14 @@
 // minislots that are open to all, where two that send at once collide and neither is heard.
 //
 // Usage: sim [SECONDS] [LOAD] [ticks|events]. LOAD is what the best-effort packets would take of the channel. By ticks
-// each modem ticks at each minislot; by events only where its tick does something. Both print the same. How long it
-// took goes to standard error.
+// each modem hears the MAP's bytes, and ticks at each minislot. By events a MAP is read once, a grant is one event, and
+// a modem ticks only where its request takes part. Both print the same. The processor time goes to standard error.
 #include <algorithm>
-#include <chrono>
+#include <array>
 #include <cinttypes>
 #include <cstdio>
 #include <cstdlib>
+#include <ctime>
 #include <deque>
 #include <random>
 #include <string>
@@ -74,14 +75,16 @@ struct Station {
     }
 };
 
-// What was sent in a MAP's minislots: how many modems used each for data, and who asked.
+// What was sent in a MAP's minislots: how many modems used each for data, how many asked, and what the last one asked.
 struct Sent {
-    std::vector<int> owners = std::vector<int>(kMapSlots);
-    std::vector<std::vector<upsched_sending>> requests = std::vector<std::vector<upsched_sending>>(kMapSlots);
+    std::array<int, kMapSlots> owners{}, askers{};
+    std::array<upsched_sending, kMapSlots> requests{};
 
     void add(std::size_t at, const upsched_sending &s) {
         if (s.kind == UPSCHED_SENDS_DATA) owners[at]++;
-        if (s.kind == UPSCHED_SENDS_REQUEST) requests[at].push_back(s);
+        if (s.kind != UPSCHED_SENDS_REQUEST) return;
+        askers[at]++;
+        requests[at] = s;
     }
 };
 
@@ -92,7 +95,10 @@ void send_by_ticks(Station &station, std::uint64_t id, std::uint64_t from, Sent 
     }
 }
 
-void send_by_events(Station &station, std::uint64_t id, std::uint64_t from, Sent &sent) {
+// Up to where the minislots from each one on are open to all, by the MAPs that are ahead.
+using OpenUntil = std::array<std::uint64_t, kAhead + kMapSlots>;
+
+void send_by_events(Station &station, std::uint64_t id, std::uint64_t from, const OpenUntil &open, Sent &sent) {
     const std::uint64_t end = from + kMapSlots;
     std::uint64_t slot = from;
     station.want(slot);
@@ -104,9 +110,20 @@ void send_by_events(Station &station, std::uint64_t id, std::uint64_t from, Sent
         if (slot >= end) break;
         if (comes <= at) {
             station.want(slot);
+        } else if (event->kind == UPSCHED_EVENT_GRANT) {
+            // Its minislots to the last one are used; what came by then is wanted behind it.
+            for (; slot <= event->last && slot < end; slot++) sent.owners[slot - from]++;
+            station.want(slot - 1);
         } else {
-            sent.add(slot - from, station.modem.tick(kChannel, slot, drawn(id, slot)));
-            slot++;
+            // Its request takes part in each minislot that is open to all, until it is sent.
+            const std::uint64_t until = open[slot % open.size()];
+            upsched_sending sending{};
+            do {
+                sending = station.modem.tick(kChannel, slot, drawn(id, slot));
+                sent.add(slot - from, sending);
+                slot++;
+            } while (sending.kind == UPSCHED_SENDS_NOTHING && slot < until && slot < end);
+            station.want(slot - 1);
         }
     }
 }
@@ -125,6 +142,7 @@ struct Channel {
     std::vector<Station> stations;
     std::vector<upsched_command> waiting; // requests on their way to the headend
     std::vector<double> best_effort, voice;
+    OpenUntil open{};
     std::uint64_t used = 0, collisions = 0, requests = 0, refused = 0, maps = 0, twice = 0;
 
     explicit Channel(double load) {
@@ -154,13 +172,18 @@ struct Channel {
         maps++;
     }
 
-    // Whose grants a MAP has, and how long their packets waited.
+    // Whose grants a MAP has, how long their packets waited, and which minislots are open to all.
     void account(const upsched::Output &output) {
         const upsched::Map map = upsched::decode(output.body.data(), output.body_len);
         for (std::size_t k = 0; k + 1 < map.elements.size() && map.elements[k].iuc != UPSCHED_IUC_NULL; k++) {
             const upsched_map_element &e = map.elements[k];
-            if (e.iuc == UPSCHED_IUC_REQUEST) continue;
-            used += map.elements[k + 1].offset - e.offset;
+            const std::uint16_t next = map.elements[k + 1].offset;
+            if (e.iuc == UPSCHED_IUC_REQUEST) {
+                const std::uint64_t until = output.start + next;
+                for (std::uint64_t at = output.start + e.offset; at < until; at++) open[at % open.size()] = until;
+                continue;
+            }
+            used += next - e.offset;
             const std::uint64_t at = output.start + e.offset;
             Station &station = stations[e.sid - 1u];
             if (!station.asks) {
@@ -175,10 +198,10 @@ struct Channel {
     void settle(std::uint64_t from, const Sent &sent) {
         for (std::size_t at = 0; at < kMapSlots; at++) {
             twice += sent.owners[at] > 1;
-            requests += sent.requests[at].size();
-            collisions += sent.requests[at].size() > 1;
-            if (sent.requests[at].size() == 1) {
-                const upsched_sending &s = sent.requests[at].front();
+            requests += static_cast<std::uint64_t>(sent.askers[at]);
+            collisions += sent.askers[at] > 1;
+            if (sent.askers[at] == 1) {
+                const upsched_sending &s = sent.requests[at];
                 waiting.push_back(upsched::request(kChannel, s.sid, s.minislots, from + at));
             }
         }
@@ -201,7 +224,7 @@ int main(int argc, char **argv) {
     const double seconds = argc > 1 ? std::atof(argv[1]) : 2;
     const double load = argc > 2 ? std::atof(argv[2]) : 0.5;
     const bool by_events = argc <= 3 || std::string(argv[3]) != "ticks";
-    const auto began = std::chrono::steady_clock::now();
+    const std::clock_t began = std::clock();
     Channel channel(load);
     upsched::Output output;
     const std::uint64_t end = static_cast<std::uint64_t>(seconds * 1000 / kSlotMs);
@@ -209,21 +232,22 @@ int main(int argc, char **argv) {
         channel.cut(now, output);
         if (output.kind != UPSCHED_MAP) return 1;
         channel.account(output);
+        upsched::OpenMap map(output);
         Sent sent;
         for (std::size_t i = 0; i < kModems; i++) {
             Station &station = channel.stations[i];
-            station.modem.hear(output, now);
             if (by_events) {
-                send_by_events(station, i, now, sent);
+                station.modem.hear(map, now);
+                send_by_events(station, i, now, channel.open, sent);
             } else {
+                station.modem.hear(output, now);
                 send_by_ticks(station, i, now, sent);
             }
         }
         channel.settle(now, sent);
     }
     channel.print_all();
-    const std::chrono::duration<double> took = std::chrono::steady_clock::now() - began;
-    std::fprintf(stderr, "%s: %.3f s, %.0f times real time\n", by_events ? "events" : "ticks", took.count(),
-                 seconds / took.count());
+    const double took = static_cast<double>(std::clock() - began) / CLOCKS_PER_SEC;
+    std::fprintf(stderr, "%s: %.3f s, %.1f times real time\n", by_events ? "events" : "ticks", took, seconds / took);
     return channel.twice != 0;
 }

@@ -150,6 +150,17 @@ static inline void upsched_close(upsched_handle *handle)
     if (handle) upsched_c_close(handle);
 }
 
+/* ---- A MAP that many modems hear ---- */
+
+/* Reads a body once, into a handle. A fault MAP_..: the bytes are no body. */
+int32_t upsched_c_map_open(upsched_handle *map, const uint8_t *body, size_t len);
+static inline int32_t upsched_map_open(upsched_handle *map, const uint8_t *body, size_t len)
+{
+    const uint8_t no_body[1] = {0};
+    if (!map || (!body && len)) return UPSCHED_NULL;
+    return upsched_c_map_open(map, body ? body : no_body, len);
+}
+
 /* ---- The scheduler ---- */
 
 enum {
@@ -295,6 +306,16 @@ static inline int32_t upsched_modem_hear_map(upsched_handle *modem, const uint8_
     const uint8_t no_body[1] = {0};
     if (!modem || !heard || (!body && len)) return UPSCHED_NULL;
     return upsched_c_modem_hear_map(modem, body ? body : no_body, len, near_time, heard);
+}
+
+/* Hears an open MAP as its body. It stays as it is, and may be heard again. CLOSED, OTHER_KIND: of the modem's handle,
+ * else of the MAP's. */
+int32_t upsched_c_modem_hear_open_map(upsched_handle *modem, upsched_handle *map, uint64_t near_time, uint32_t *heard);
+static inline int32_t upsched_modem_hear_open_map(upsched_handle *modem, upsched_handle *map, uint64_t near_time,
+                                                  uint32_t *heard)
+{
+    if (!modem || !map || !heard) return UPSCHED_NULL;
+    return upsched_c_modem_hear_open_map(modem, map, near_time, heard);
 }
 
 /* Takes a want, which the modem asks for until it is granted, or gives it up after 16 tries. Refusals: WANT_.. */

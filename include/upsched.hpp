@@ -157,6 +157,13 @@ class Machine : public Handle {
     }
 };
 
+/// A MAP that is read once, and heard by many modems.
+class OpenMap : public Handle {
+  public:
+    OpenMap(const std::uint8_t *body, std::size_t len) { check(upsched_map_open(&handle_, body, len)); }
+    explicit OpenMap(const Output &o) : OpenMap(o.body.data(), o.body_len) {}
+};
+
 class Modem : public Handle {
   public:
     explicit Modem(std::uint32_t id) { check(upsched_modem_open(&handle_, id)); }
@@ -170,6 +177,11 @@ class Modem : public Handle {
         } else if (o.kind == UPSCHED_MAP) {
             check(upsched_modem_hear_map(&handle_, o.body.data(), o.body_len, near_time, &heard));
         }
+        return heard;
+    }
+    std::uint32_t hear(OpenMap &map, std::uint64_t near_time) {
+        std::uint32_t heard = UPSCHED_NOT_MINE;
+        check(upsched_modem_hear_open_map(&handle_, map.get(), near_time, &heard));
         return heard;
     }
     /// Takes a want; false where one of the SID waits already.

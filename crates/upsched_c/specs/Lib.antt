@@ -6,3 +6,4 @@ pub mod Commands
 pub mod Machines
 pub mod Modems
 pub mod Samples
+pub mod Maps

@@ -38,11 +38,13 @@ Applies (Some command) rows old after new statuses.OutOfMemory = WantsMemory row
 Applies (Some command) rows old after new _ = ⊥
 Applies None rows old after new status = (status ≡ statuses.BadField) × (after ≡ rows) × (new ≡ old)
 
--- what a handle holds is asked as a scheduler; a modem is none, and stays as it is
+-- what a handle holds is asked as a scheduler; a modem or a MAP is none, and stays as it is
 abbrev pub AsMachine : {A : Type 0} → (Rows → A → Rows → A → Status → Type 0) → Held → A → Held → A → Status → Type 0
 AsMachine Does (holds.Machine rows) out (holds.Machine after) out' status = Does rows out after out' status
 AsMachine Does (holds.Machine rows) out (holds.Modem _) out' status = ⊥
+AsMachine Does (holds.Machine rows) out (holds.Map _) out' status = ⊥
 AsMachine Does (holds.Modem v) out new out' status = (status ≡ statuses.OtherKind) × (new ≡ holds.Modem v) × (out' ≡ out)
+AsMachine Does (holds.Map body) out new out' status = (status ≡ statuses.OtherKind) × (new ≡ holds.Map body) × (out' ≡ out)
 
 -- a handle is asked to apply a command, if there is one
 abbrev pub AsksMachine : Option Command → Option Held → Told → Option Held → Told → Status → Type 0

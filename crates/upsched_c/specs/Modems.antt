@@ -1,6 +1,7 @@
 -- What calls on a modem do.
 use Rattle.std.specs.Prelude.{◌≡◌, ℕ, ◌^◌, ◌<◌, ◌≤◌, List, [], ◌∷◌, ◌++◌, Option, Some, None, IfSome, MatchOption}
 use Rattle.std.specs.Option.{option_map}
+use Rattle.map_body.specs.Layout.{IsBody}
 use Rattle.grant_machine.specs.declared.output.Output.{Output}
 use Rattle.modem.specs.declared.action.Action.{Action}
 use Rattle.modem.specs.declared.action.Action.TheVariants.{Grant, Poll, Contention, LeaseEnd}
@@ -22,11 +23,13 @@ use Rattle.upsched_c.specs.declared.status.Status.{Status}
 use Rattle.upsched_c.specs.declared.status.Status.TheVariants as statuses
 use Rattle.upsched_c.specs.Handles.{Asks}
 
--- what a handle holds is asked as a modem; a scheduler is none, and stays as it is
+-- what a handle holds is asked as a modem; a scheduler or a MAP is none, and stays as it is
 abbrev pub AsModem : {A : Type 0} → (State → A → State → A → Status → Type 0) → Held → A → Held → A → Status → Type 0
 AsModem Does (holds.Modem v) out (holds.Modem after) out' status = Does v out after out' status
 AsModem Does (holds.Modem v) out (holds.Machine _) out' status = ⊥
+AsModem Does (holds.Modem v) out (holds.Map _) out' status = ⊥
 AsModem Does (holds.Machine rows) out new out' status = (status ≡ statuses.OtherKind) × (new ≡ holds.Machine rows) × (out' ≡ out)
+AsModem Does (holds.Map body) out new out' status = (status ≡ statuses.OtherKind) × (new ≡ holds.Map body) × (out' ≡ out)
 
 -- a handle is asked as a modem
 abbrev pub AsksModem : {A : Type 0} → (State → A → State → A → Status → Type 0) → Option Held → A → Option Held → A → Status → Type 0
@@ -53,6 +56,13 @@ HearsBody bytes near v old after new statuses.Done =
 HearsBody bytes near v old after new statuses.BadField = (2 ^ 63 ≤ near) × (after ≡ v) × (new ≡ old)
 HearsBody bytes near v old after new statuses.OutOfMemory = (near < 2 ^ 63) × IsDue v bytes near × (after ≡ v) × (new ≡ old)
 HearsBody bytes near v old after new _ = ⊥
+
+-- a modem hears what another handle holds near a time: a MAP as any of its bytes, and nothing else
+abbrev pub HearsHeld : Option Held → ℕ → State → ℕ → State → ℕ → Status → Type 0
+HearsHeld (Some (holds.Map body)) near v old after new status = (bytes : List ℕ) → IsBody bytes body → HearsBody bytes near v old after new status
+HearsHeld (Some (holds.Machine _)) near v old after new status = (status ≡ statuses.OtherKind) × (after ≡ v) × (new ≡ old)
+HearsHeld (Some (holds.Modem _)) near v old after new status = (status ≡ statuses.OtherKind) × (after ≡ v) × (new ≡ old)
+HearsHeld None near v old after new status = (status ≡ statuses.Closed) × (after ≡ v) × (new ≡ old)
 
 -- a modem takes a want of so many minislots for a SID of a channel, or refuses it
 abbrev pub TakesWant : (ch sid n : ℕ) → State → Unit {0} → State → Unit {0} → Status → Type 0

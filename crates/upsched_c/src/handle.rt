@@ -4,6 +4,7 @@ ghost use Rattle.std.specs.Prelude.{◌≡◌, Option, Some, None, IsSome, is_so
 ghost use Rattle.upsched_c.specs.declared.handle.Held.{Held};
 
 use crate::scheduler::Scheduler;
+use map_body::MapBody;
 use modem::Modem;
 use std::alloc::Global;
 use std::marker::Model;
@@ -16,6 +17,7 @@ use upsched_c_parts::Loose;
 pub enum Held {
     Machine(Scheduler),
     Modem(Modem),
+    Map(MapBody),
 }
 
 /// The block's owner.

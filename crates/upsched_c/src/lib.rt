@@ -7,6 +7,7 @@ pub mod command;
 pub mod handle;
 pub mod handle_calls;
 pub mod machine;
+pub mod map_calls;
 pub mod modem_calls;
 pub mod samples;
 pub mod scheduler;

@@ -27,13 +27,6 @@ pub lead_next : (id : ℕ) (rs : List WriteBytes) (i j : ℕ) (r : WriteBytes) (
 lead_next id rs i j r write c last next at_next is there led spells =
     subst (λ (k : ℕ). LeadTo id (take k rs) c next) (sym at_next) (subst (LeadTo id (take (suc i) rs) c) (sym is) (lead_more id rs i r write c last there led spells))
 
--- all of them
-pub lead_all : (id : ℕ) (rs : List WriteBytes) (i : ℕ) (c last : Content) → length rs ≤ i → LeadTo id (take i rs) c last → LeadTo id rs c last
-lead_all id [] zero c last all led = led
-lead_all id [] (suc i) c last all led = led
-lead_all id (x ∷ rs) zero c last all led = absurd (omega (arith, all))
-lead_all id (x ∷ rs) (suc i) c last all led = (led.0, led.1, lead_all id rs i (after_write c led.0) last (omega (arith, all)) led.2)
-
 -- none before the i-th is strange
 abbrev pub NoneStrange : ℕ → List WriteBytes → ℕ → Type 0
 NoneStrange id rs i = (k : ℕ) → k < i → ¬ MatchOption (slice_get rs k) ⊥ (IsStrange id)
@@ -61,7 +54,3 @@ none_at_all id rs i all none has = elim (cases_lt has.0 i) [
   | inl before ↦ none has.0 before has.1
   | inr from ↦ past id rs has.0 (omega (arith, all, from)) has.1
 ]
-
--- where the i-th is strange, one is
-pub one_strange : (id : ℕ) (rs : List WriteBytes) (i : ℕ) (r : WriteBytes) → slice_get rs i ≡ Some r → IsStrange id r → HasStrange id rs
-one_strange id rs i r there strange = (i, subst (λ (o : Option WriteBytes). MatchOption o ⊥ (IsStrange id)) (sym there) strange)
