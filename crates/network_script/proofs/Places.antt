@@ -104,15 +104,6 @@ grown f xs new x b rest left all more is first whole =
     ap (λ l. map f l ++ left) more ∙ (ap (λ m. m ++ left) (map_push f xs x) ∙ (append_assoc (map f xs) (f x ∷ []) left
     ∙ (ap (λ y. map f xs ++ y ∷ left) is ∙ (ap (λ r. map f xs ++ r) (sym first) ∙ whole))))
 
--- all are seen alike
-pub all_alike : {A B : Type 0} (f : A → B) (b : B) (xs : List A) → All (λ x. f x ≡ b) xs → map f xs ≡ replicate (length xs) b
-all_alike f b [] all = refl
-all_alike {A} f b (x ∷ xs) all =
-    let P = λ (y : A). f y ≡ b in
-    let here : f x ≡ b = All-head P x xs all in
-    let there : map f xs ≡ replicate (length xs) b = all_alike f b xs (All-tail P x xs all) in
-    cc
-
 -- where a fresh node stands
 abbrev pub fresh_standing : Standing
 fresh_standing = Running (started no_content)

@@ -133,7 +133,7 @@ impl<N: Node> World<N> {
     ghost use Rattle.network_script.specs.Counts.{CountRun, counts};
     ghost use Rattle.network_script.specs.Next.{Goes};
     ghost use Rattle.network_script.specs.Outward.{SeenAll};
-    ghost use Rattle.network_script.specs.Seats.{AllKeepTrust};
+    ghost use Rattle.network_script.specs.Seats.{AllKeepTrust, AreStandings};
     ghost use Rattle.network_script.specs.Trust.{NoRestartFailed};
     ghost use Rattle.network_script.specs.World.{Written};
     ghost use Rattle.network_script.specs.Worlds.{AreHonest, StandsFor, letters_of, node_count, outputs_of, seats_of, transmissions_of};
@@ -209,6 +209,14 @@ impl<N: Node> World<N> {
             let _ = answers.push(answer);
         }
         Ok(Report::new(answers))
+    }
+
+    /// Its nodes, each in its seat, by number.
+    pub fn seats(&self) -> &[Seat<N>]
+        ensures items { result.now ≡ seats_of self.now }
+        ensures written { (w : Written) → StandsFor self.now w → AreStandings result.now w.nodes }
+    {
+        self.seats.as_slice()
     }
 
     /// Every letter that was ever sent, in order.

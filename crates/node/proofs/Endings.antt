@@ -11,7 +11,7 @@ use Rattle.node.specs.View.{View, Standing, started}
 use Rattle.node.specs.View.Standing.{Running, Stopped}
 use Rattle.ballots.specs.Members.{member_count}
 use Rattle.node.specs.Step.{Outcome, heed, is_heeded, nothing}
-use Rattle.node.specs.Calls.{Called, Cause, Course}
+use Rattle.node.specs.Calls.{Called}
 use Rattle.node.specs.Calls.Cause.{Receive}
 use Rattle.std.specs.declared.alloc.Global.{Global}
 use Rattle.node.specs.Calls.{CallEnds, IsStop, Restarts, answer}
@@ -140,10 +140,3 @@ received may_find count_of old new l up so result does (Running view) stands =
     (sym (ap (λ x. cond x (heed (member_count old.proposer.members) old.proposer.id view l.from l.note) (nothing view)) so))
     (for_view may_find old new (λ view course. course ≡ Ok (heed (member_count old.proposer.members) old.proposer.id view l.from l.note)) result does view stands)
 received may_find count_of old new l up so result does (Stopped c doubt) stands = absurd (cc (up, stands.0))
-
--- a call of a node that is up
-pub called : {R : Type 0} (may_find : R → Content → Type 0) (count_of : R → ℕ) (old new : Parts R) (cause : Cause) → old.is_down ≡ false → (result : Result (Vec Letter Global) Fault)
-    → Does may_find old (λ view. Course (member_count old.proposer.members) old.proposer.id view cause) result new
-    → (s : Standing) → Stands may_find old s → (t : Standing) × Called (member_count old.proposer.members) old.proposer.id s cause (answer result) t × Stands may_find new t
-called may_find count_of old new cause up result does (Running view) stands = for_view may_find old new (λ view. Course (member_count old.proposer.members) old.proposer.id view cause) result does view stands
-called may_find count_of old new cause up result does (Stopped c doubt) stands = absurd (cc (up, stands.0))

@@ -1,7 +1,7 @@
 -- What a node has learned after one value more.
 use Rattle.std.proofs.Common.{◌≡◌, ◌⊎◌, inl, inr, ℕ, ◌≤◌, true, List, Option, Some, None, refl, sym, ap, subst, ◌∙◌}
 use Rattle.ballots.specs.Rows.{at, put}
-use Rattle.learner.specs.Tally.{Tally, known, teaches}
+use Rattle.learner.specs.Tally.{Tally, known}
 use Rattle.command_log.specs.Values.{Rows, outputs_of_values, gapless, values_from}
 use Rattle.command_log.specs.View.{AreRows, IsLog, LogView}
 use Rattle.command_log.proofs.Callers.{are_rows_put, outputs_first}
@@ -18,11 +18,6 @@ LearnsOne tally new p v = (new ≡ tally.learned) ⊎ ((at tally.learned p ≡ N
 known_one : (tally : Tally) (o : Option (List ℕ)) (p : ℕ) (v : List ℕ) → at tally.learned p ≡ o → LearnsOne tally (known tally o p v).learned p v
 known_one tally None p v none = inr (none, refl)
 known_one tally (Some w) p v some = inl refl
-
--- what stands at a place to which a vote teaches its value
-pub unlearned : (members : ℕ) (tally : Tally) (o : Option (List ℕ)) (b p : ℕ) (v : List ℕ) (n : ℕ) → true ≡ teaches members tally o b p v n → o ≡ None
-unlearned members tally None b p v n so = refl
-unlearned members tally (Some w) b p v n so = absurd (cc (so))
 
 -- a value more
 module _ (tally : Tally) (p : ℕ) (v : List ℕ) (lo : 1 ≤ p) (hi : p ≤ most_places) (are : AreRows 1 tally.learned) where

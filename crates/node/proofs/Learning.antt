@@ -4,9 +4,8 @@ use Rattle.std.specs.Option.{option_copied}
 use Rattle.acceptor.specs.Content.{Content, after_write}
 use Rattle.acceptor.specs.Content.Write.{Learns}
 use Rattle.acceptor.specs.Found.{Holds, HoldsEither, FindsSame}
-use Rattle.acceptor.specs.declared.records.RecordsFault.{RecordsFault}
-use Rattle.acceptor.specs.declared.records.RecordsFault.TheVariants.{Refused, Broken, OutOfMemory}
-use Rattle.proposer.specs.Faults.{IsHarmlessStop, told}
+use Rattle.acceptor.specs.declared.records.RecordsFault.TheVariants.{OutOfMemory}
+use Rattle.proposer.specs.Faults.{IsHarmlessStop}
 use Rattle.proposer.specs.declared.fault.NodeFault.{NodeFault as Fault}
 use Rattle.learner.specs.Tally.{teaches, counts}
 use Rattle.node.specs.View.{View}

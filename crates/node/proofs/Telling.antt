@@ -3,17 +3,11 @@ use Rattle.std.proofs.Common.{◌≡◌, inl, inr, ℕ, Bool, true, false, refl,
 use Rattle.acceptor.specs.Faults.{CountsFaults, BreaksBy, BreaksByReopen}
 use Rattle.acceptor.specs.declared.records.RecordsFault.{RecordsFault}
 use Rattle.acceptor.specs.declared.records.RecordsFault.TheVariants.{Refused, Broken, OutOfMemory}
-use Rattle.proposer.specs.Faults.{CountsStops, BreaksByStop, told}
+use Rattle.proposer.specs.Faults.{CountsStops, BreaksByStop}
 use Rattle.proposer.specs.declared.fault.NodeFault.{NodeFault as Fault}
 use Rattle.node.specs.Calls.{Kept, KeptByRestart}
 use Rattle.node.specs.Sched.{AfterStoreFault, Stops, who_of}
 use Rattle.node.specs.declared.parts.Parts.{Parts}
-
--- a store's fault, told as the node's, leaves it so
-pub fails_so : {R : Type 0} (old : Parts R) (fault : RecordsFault) (first answer : Fault) (new : Parts R) → first ≡ told fault → answer ≡ first → Stops old first new → AfterStoreFault old fault answer new
-fails_so old Refused first answer new is same stops = (same ∙ is, subst (λ f. Stops old f new) is stops)
-fails_so old OutOfMemory first answer new is same stops = (same ∙ is, subst (λ f. Stops old f new) is stops)
-fails_so old Broken first answer new is same stops = (same ∙ is, subst (λ f. Stops old f new) is stops)
 
 -- what a second call of the store tells, after a first that was Ok
 pub counts_then : (first mid last : ℕ) (fault : RecordsFault) → mid ≡ first → CountsFaults {T = Unit {0}} (Err fault) mid last → CountsFaults {T = Unit {0}} (Err fault) first last

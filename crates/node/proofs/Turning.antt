@@ -1,12 +1,10 @@
 -- A proposer's turns are the cases of the node's table.
 use Rattle.std.proofs.Common.{◌≡◌, ℕ, ◌+◌, ◌-◌, Bool, true, false, cond, ◌&&◌, not, ◌==◌, nat_eq, nat_le, nat_lt, List, [], ◌∷◌, length, refl, ap, ◌∙◌, Result, Ok, Err}
 use Rattle.std.specs.List.{list_any}
-use Rattle.std.proofs.lemmas.Bool.{leb-true, ltb-true, and_parts}
-use Rattle.ballots.specs.Limits.{most_places, longest_value, IsPlace, IsValue}
-use Rattle.ballots.specs.Ballots.{ballot_node}
+use Rattle.std.proofs.lemmas.Bool.{and_parts}
+use Rattle.ballots.specs.Limits.{most_places, longest_value}
 use Rattle.ballots.specs.declared.letters.Cast.{Cast}
-use Rattle.ballots.specs.declared.letters.Letter.{Letter}
-use Rattle.ballots.specs.declared.letters.Note.TheVariants.{Prepare, Promise, Accept}
+use Rattle.ballots.specs.declared.letters.Note.TheVariants.{Accept}
 use Rattle.proposer.specs.Bounds.{in_log}
 use Rattle.proposer.specs.Joining.{join, place_after}
 use Rattle.proposer.specs.Turns as turn
@@ -15,7 +13,7 @@ use Rattle.proposer.specs.declared.role.Role.{Role}
 use Rattle.proposer.specs.declared.role.Role.TheVariants.{Idle, Preparing, Leading}
 use Rattle.proposer.specs.declared.fault.NodeFault.{NodeFault as Fault}
 use Rattle.node.specs.View.{View}
-use Rattle.node.specs.Step.{Outcome, nothing, sends, promise, after_promise, offer, proposals, are_votes, is_place, is_value, is_sound, is_heeded, to_all}
+use Rattle.node.specs.Step.{Outcome, nothing, sends, promise, after_promise, offer, proposals, are_votes, is_place, is_value, to_all}
 
 -- what a turn leaves of a view
 abbrev pub turned : View → Turn → Outcome
@@ -79,22 +77,3 @@ all_in_log b q (vote ∷ votes) are =
     let place = and_parts (nat_le q vote.0) (is_place vote.0) two.0 in
     let within = and_parts (nat_lt 0 vote.0) (nat_le vote.0 most_places) place.1 in
     ap (λ x. cond x (vote ∷ in_log votes) (in_log votes)) within.1 ∙ ap (λ r. vote ∷ r) (all_in_log b (vote.0 + 1) votes all.1)
-
--- what soundness of a letter says
-pub place_sound : (p : ℕ) → is_place p ≡ true → IsPlace p
-place_sound p is = let both = and_parts (nat_lt 0 p) (nat_le p most_places) is in (ltb-true 0 p both.0, leb-true p most_places both.1)
-
-pub value_sound : (v : List ℕ) → is_value v ≡ true → IsValue v
-value_sound v is = leb-true (length v) longest_value is
-
-pub prepare_sound : (l : Letter) (b q : ℕ) → is_sound l (Prepare b q) ≡ true → IsPlace q
-prepare_sound l b q sound = place_sound q (and_parts (is_place q) (ballot_node b == l.from) sound).0
-
-pub promise_sound : (l : Letter) (b q : ℕ) (votes : List (ℕ × Cast)) → is_sound l (Promise b q votes) ≡ true → are_votes b q votes ≡ true
-promise_sound l b q votes sound = (and_parts (is_place q && ballot_node b == l.to) (are_votes b q votes) sound).1
-
-pub accept_sound : (l : Letter) (b p : ℕ) (v : List ℕ) → is_sound l (Accept b p v) ≡ true → IsPlace p × IsValue v
-accept_sound l b p v sound =
-    let both = and_parts (is_place p && is_value v) (ballot_node b == l.from) sound in
-    let two = and_parts (is_place p) (is_value v) both.0 in
-    (place_sound p two.0, value_sound v two.1)

@@ -19,7 +19,7 @@ ghost use Rattle.node.specs.Calls.Cause.{Receive, Lead, Offer, Tell};
 
 use ballots::{Bytes, Letter, Members, NodeId};
 use map_release::Numbered;
-use proposer::NodeFault;
+use proposer::{NodeFault, Role};
 
 /// A node of a run. What is said of where it stands holds where its records are honest after the call.
 pub trait Node: Drop {
@@ -62,6 +62,11 @@ pub trait Node: Drop {
 
     fn failures(&self) -> u64
         ensures { result ≡ (who self.now).failures };
+
+    /// Whether it prepares or leads a ballot, and which.
+    fn role(&self) -> &Role
+        ensures same { result.now ≡ role self.now }
+        ensures standing { (view : View) → stands self.now (Running view) → view.role ≡ role self.now };
 
     /// The value that is learned at a place.
     fn learned(&self, place: u64) -> Option<&Bytes>

@@ -15,7 +15,7 @@ use crate::parts::Parts;
 use acceptor::Records;
 use ballots::{Bytes, Letter, Members, NodeId};
 use map_release::Numbered;
-use proposer::{NodeFault, Proposer};
+use proposer::{NodeFault, Proposer, Role};
 use std::alloc::Global;
 
 /// A node of the scheduler over its records. While these are honest there is a standing that it may be in.
@@ -78,6 +78,10 @@ impl<R: Records + Drop> Node for SchedNode<R> {
 
     fn failures(&self) -> u64 {
         self.parts.records.failures()
+    }
+
+    fn role(&self) -> &Role {
+        self.parts.proposer.role()
     }
 
     fn learned(&self, place: u64) -> Option<&Bytes> {

@@ -1,2 +1,4 @@
+mod Bands
+mod Firsts
 mod Rendered
 mod Sizes

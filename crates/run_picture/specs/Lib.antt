@@ -4,5 +4,6 @@ pub mod Marks
 pub mod Arrows
 pub mod Words
 pub mod Heads
+pub mod Roles
 pub mod Parts
 pub mod Pictures

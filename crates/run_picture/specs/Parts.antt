@@ -1,5 +1,5 @@
 -- The parts of a run's picture: of each event, and of each letter.
-use Rattle.std.specs.Prelude.{ℕ, ◌+◌, ◌-◌, Bool, true, false, nat_lt, if◌then◌else◌, List, ◌++◌, Option, Some, None, codes, decimal, length, slice_get, take}
+use Rattle.std.specs.Prelude.{ℕ, ◌+◌, ◌-◌, Bool, true, false, nat_lt, if◌then◌else◌, List, ◌++◌, Option, Some, None, codes, decimal, length, slice_get}
 use Rattle.ballots.specs.declared.letters.Letter.{Letter}
 use Rattle.world_events.specs.declared.event.Event.{Event}
 use Rattle.seats.specs.declared.answer.Answer.{Answer}
@@ -10,10 +10,11 @@ use Rattle.xml_text.specs.Xml.Tag.{Line, Words as WordsAt}
 use Rattle.xml_text.specs.Xml.Xml.{Nothing}
 use Rattle.run_picture.specs.declared.scene.Scene.{Scene}
 use Rattle.run_picture.specs.declared.scene.Part.{Part}
-use Rattle.run_picture.specs.declared.scene.Part.TheVariants.{Rule, Number, Happening, Answered, Mark, Arrow, Hearing, Label}
+use Rattle.run_picture.specs.declared.scene.Part.TheVariants.{Rule, Number, Happening, Answered, Mark, Arrow, Hearing, Label, Told}
 use Rattle.run_picture.specs.Lanes.{lane_of, lane_x, lanes_end, mark_x}
 use Rattle.run_picture.specs.Marks.{has_failed, kind_name, mark_shape, mark_title}
-use Rattle.run_picture.specs.Arrows.{delivered, heard, is_delivered, letter_arrow, letter_stub, output_arrow}
+use Rattle.run_picture.specs.Arrows.{delivered, heard, letter_arrow, letter_stub, output_arrow}
+use Rattle.run_picture.specs.Roles.{comes_right, seen_told}
 use Rattle.run_picture.specs.Words.{event_words, note_words}
 
 abbrev pub lanes : Scene → ℕ
@@ -45,13 +46,13 @@ abbrev pub mark : Scene → ℕ → Event → Answer → ℕ → Xml
 mark s i event answer y = titled (mark_title i answer) (shape (mark_shape (has_failed answer) s.letters.now (event_x s event) y event answer))
 
 -- the arrow of the letter that event i delivers
-abbrev pub arrow_from : Scene → (i l : ℕ) → Option Letter → Option ℕ → ℕ → Xml
-arrow_from s i l (Some letter) (Some sent) y = letter_arrow (lanes s) (is_delivered l (take i s.events.now) s.answers.now) l letter sent y
-arrow_from s i l letter sent y = Nothing
+abbrev pub arrow_from : Scene → (i l : ℕ) → Option Letter → (sent first : Option ℕ) → ℕ → Xml
+arrow_from s i l (Some letter) (Some sent) (Some first) y = letter_arrow (lanes s) (nat_lt first i) l letter sent y
+arrow_from s i l letter sent first y = Nothing
 
 abbrev pub arrow : Scene → ℕ → Option ℕ → ℕ → Xml
 arrow s i None y = Nothing
-arrow s i (Some l) y = arrow_from s i l (slice_get s.letters.now l) (slice_get s.senders.now l) y
+arrow s i (Some l) y = arrow_from s i l (slice_get s.letters.now l) (slice_get s.senders.now l) (slice_get s.firsts.now l) y
 
 -- the arrow of the output that a modem hears
 abbrev pub hearing_from : Scene → (k o : ℕ) → Option ReleasedOutput → Option ℕ → ℕ → Xml
@@ -85,6 +86,7 @@ part_of s Mark i event answer y = mark s i event answer y
 part_of s Arrow i event answer y = arrow s i (delivered event answer) y
 part_of s Hearing i event answer y = hearing s (lane_of s.members s.modems s.letters.now event) (heard event answer) y
 part_of s Label i event answer y = label s (delivered event answer) y
+part_of s Told i event answer y = seen_told (lanes s) s.members (comes_right s.letters.now (delivered event answer)) y (slice_get s.sights.now i)
 
 abbrev pub part_for : Scene → Part → ℕ → Option Event → Option Answer → Option ℕ → Xml
 part_for s part i (Some event) (Some answer) (Some y) = part_of s part i event answer y
@@ -103,5 +105,9 @@ abbrev pub stub_unless : Bool → Scene → ℕ → Xml
 stub_unless true s l = Nothing
 stub_unless false s l = stub_from s l (slice_get s.letters.now l) (slice_get s.senders.now l)
 
+abbrev pub stub_past : Scene → ℕ → Option ℕ → Xml
+stub_past s l None = Nothing
+stub_past s l (Some first) = stub_unless (nat_lt first (length s.events.now)) s l
+
 abbrev pub stub_at : Scene → ℕ → Xml
-stub_at s l = stub_unless (is_delivered l s.events.now s.answers.now) s l
+stub_at s l = stub_past s l (slice_get s.firsts.now l)

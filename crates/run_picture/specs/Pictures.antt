@@ -1,5 +1,5 @@
 -- The picture of a run.
-use Rattle.std.specs.Prelude.{◌≡◌, ℕ, ◌+◌, nat_lt, ◌-◌, Bool, true, false, List, ◌++◌, codes, decimal, length}
+use Rattle.std.specs.Prelude.{◌≡◌, ℕ, nat_lt, ◌-◌, Bool, true, false, List, ◌++◌, Option, codes, decimal, length, slice_get}
 use Rattle.ballots.specs.declared.letters.Letter.{Letter}
 use Rattle.world_events.specs.declared.event.Event.{Event}
 use Rattle.seats.specs.declared.answer.Answer.{Answer}
@@ -9,10 +9,15 @@ use Rattle.xml_text.specs.Xml.Tag.{Line, Words}
 use Rattle.xml_text.specs.Each.{each}
 use Rattle.run_picture.specs.declared.scene.Scene.{Scene}
 use Rattle.run_picture.specs.declared.scene.Part.{Part}
-use Rattle.run_picture.specs.declared.scene.Part.TheVariants.{Rule, Number, Happening, Answered, Mark, Arrow, Hearing, Label}
+use Rattle.run_picture.specs.declared.scene.Part.TheVariants.{Rule, Number, Happening, Answered, Mark, Arrow, Hearing, Label, Told}
+use Rattle.run_picture.specs.Arrows.{AreFirsts}
 use Rattle.run_picture.specs.Lanes.{lane_x}
 use Rattle.run_picture.specs.Rows.{first_row, givers_from, released_count, rows_from, sent_count}
 use Rattle.run_picture.specs.Parts.{lanes, part_at, stub_at}
+use Rattle.run_picture.specs.Roles.{bands_from, chosen_from}
+use Rattle.shown_choices.specs.Choices.{choices}
+use Rattle.watched_runs.specs.declared.post.Post.TheVariants.{Idle}
+use Rattle.watched_runs.specs.declared.sight.Sight.{Sight}
 
 -- a part of each event, in order
 abbrev pub of_events : Scene → Part → Xml
@@ -29,21 +34,34 @@ name_if false members k = codes "modem " ++ decimal (k - members)
 abbrev pub lane_name : Scene → ℕ → Xml
 lane_name s k = said (Words (lane_x (lanes s) k) 124 (codes "c b")) (name_if (nat_lt k s.members) s.members k)
 
--- the layers: lanes down to the bottom, arrows and stubs, and words behind a legend
+-- the bands of node k
+abbrev pub node_bands : Scene → (bottom k : ℕ) → Xml
+node_bands s bottom k = bands_from (lanes s) bottom k s.sights.now Idle first_row 0 s.rows.now
+
+-- the line where letter l shows that a place is chosen
+abbrev pub chosen_at : Scene → ℕ → Xml
+chosen_at s l = chosen_from (lanes s) (slice_get s.choices.now l) (slice_get s.senders.now l)
+
+-- the layers: thin lines of rows and lines where places are chosen, bands and lanes down to the bottom, arrows and stubs, and words behind a legend
+abbrev pub rules_of : Scene → Xml
+rules_of s = join (of_events s Rule) (each (length s.letters.now) (chosen_at s))
+
 abbrev pub bands_of : Scene → (bottom : ℕ) → Xml
-bands_of s bottom = each (lanes s) (lane_line s bottom)
+bands_of s bottom = join (each s.members (node_bands s bottom)) (each (lanes s) (lane_line s bottom))
 
 abbrev pub arrows_of : Scene → Xml
 arrows_of s = join (join (of_events s Arrow) (of_events s Hearing)) (each (length s.letters.now) (stub_at s))
 
 abbrev pub labels_of : Scene → (legend : Xml) → Xml
-labels_of s legend = join (join (join (join (join legend (each (lanes s) (lane_name s))) (of_events s Number)) (of_events s Happening)) (of_events s Answered)) (of_events s Label)
+labels_of s legend =
+    join (join (join (join (join (join legend (each (lanes s) (lane_name s))) (of_events s Number)) (of_events s Happening)) (of_events s Answered)) (of_events s Label)) (of_events s Told)
 
 abbrev pub layers : Scene → (bottom : ℕ) → (legend : Xml) → Drawn
-layers s bottom legend = record { rules = of_events s Rule; bands = bands_of s bottom; arrows = arrows_of s; marks = of_events s Mark; labels = labels_of s legend }
+layers s bottom legend = record { rules = rules_of s; bands = bands_of s bottom; arrows = arrows_of s; marks = of_events s Mark; labels = labels_of s legend }
 
--- a scene of so many nodes, with modems of these ids, and of what happened, with the row of each event and of what gave each letter and each output
-pub record IsSceneOf (s : Scene) (members : ℕ) (ids : List ℕ) (events : List Event) (answers : List Answer) (letters : List Letter) (outputs : List ReleasedOutput) : Type 0 where
+-- a scene of so many nodes, with modems of these ids, and of what happened, with the row of each event and of what gave each letter and each output, and the first event
+-- that delivers each letter
+pub record IsSceneOf (s : Scene) (members : ℕ) (ids : List ℕ) (events : List Event) (answers : List Answer) (sights : List (Option Sight)) (letters : List Letter) (outputs : List ReleasedOutput) : Type 0 where
   pub members_told : s.members ≡ members
   pub modems_told : s.modems ≡ length ids
   pub events_told : s.events.now ≡ events
@@ -53,6 +71,9 @@ pub record IsSceneOf (s : Scene) (members : ℕ) (ids : List ℕ) (events : List
   pub rows_told : s.rows.now ≡ rows_from first_row answers
   pub senders_told : s.senders.now ≡ givers_from sent_count first_row answers
   pub releasers_told : s.releasers.now ≡ givers_from released_count first_row answers
+  pub firsts_told : AreFirsts s.firsts.now (length letters) events answers
+  pub sights_told : s.sights.now ≡ sights
+  pub choices_told : s.choices.now ≡ choices members letters
 
 -- a text draws a scene: in some size, with some title, style, definitions and legend
 pub record Draws (s : Scene) (text : List ℕ) : Type 0 where
@@ -66,5 +87,5 @@ pub record Draws (s : Scene) (text : List ℕ) : Type 0 where
   pub rendered : text ≡ render (drawing width height title style definitions (layers s bottom legend))
 
 -- a text is a picture of what happened
-abbrev pub IsPictureOf : (members : ℕ) → (ids : List ℕ) → List Event → List Answer → List Letter → List ReleasedOutput → List ℕ → Type 0
-IsPictureOf members ids events answers letters outputs text = (s : Scene) × IsSceneOf s members ids events answers letters outputs × Draws s text
+abbrev pub IsPictureOf : (members : ℕ) → (ids : List ℕ) → List Event → List Answer → List (Option Sight) → List Letter → List ReleasedOutput → List ℕ → Type 0
+IsPictureOf members ids events answers sights letters outputs text = (s : Scene) × IsSceneOf s members ids events answers sights letters outputs × Draws s text

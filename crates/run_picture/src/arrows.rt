@@ -1,8 +1,8 @@
 //! Arrows of what is delivered and heard, and stubs of letters that are never delivered.
 
-ghost use Rattle.std.specs.Prelude.{◌≡◌, ◌++◌, ◌<◌, ◌^◌, OnOk, IfOk, string_bytes, drop};
+ghost use Rattle.std.specs.Prelude.{◌≡◌, ◌++◌, ◌<◌, ◌^◌, ℕ, if◌then◌else◌, length, get_or, OnOk, IfOk, string_bytes, slice_get};
 ghost use Rattle.xml_text.specs.Xml.{render};
-ghost use Rattle.run_picture.specs.Arrows.{letter_brought, output_brought, delivered, heard, is_this, is_delivered, bow, straight, arrow_steps, letter_title, arrow_class, letter_arrow, output_title, output_arrow, stub_steps, stub_title, letter_stub};
+ghost use Rattle.run_picture.specs.Arrows.{letter_brought, output_brought, delivered, heard, is_this, delivered_by, AreFirsts, bow, straight, arrow_steps, letter_title, arrow_class, letter_arrow, output_title, output_arrow, stub_steps, stub_title, letter_stub};
 
 use crate::lanes::lane_x;
 use crate::marks::{has_failed, kind_name};
@@ -64,19 +64,48 @@ fn is_this(l: usize, brought: Option<usize>) -> bool
     }
 }
 
-/// Whether any of these events delivers letter `l`.
-pub(crate) fn is_delivered(l: usize, events: &[Event], answers: &[Answer]) -> bool
-    ensures { result ≡ is_delivered l events.now answers.now }
+/// Which letter event `i` delivers, if there is such an event with an answer.
+fn delivered_at(events: &[Event], answers: &[Answer], i: usize) -> Option<usize>
+    ensures { result ≡ delivered_by (slice_get events.now i) (slice_get answers.now i) }
 {
-    for (i, event) in events.iter().enumerate() {
-        if i >= answers.len() {
-            return false;
-        }
-        if is_this(l, delivered(event, answers[i])) {
-            return true;
-        }
+    if i >= events.len() {
+        return None;
     }
-    false
+    if i >= answers.len() {
+        return None;
+    }
+    delivered(&events[i], answers[i])
+}
+
+/// Event `i` is the first so far that delivers the letter, if it does and there is such a letter.
+fn note_first(firsts: &mut Vec<usize>, i: usize, brought: Option<usize>)
+    ensures size { length firsts.new.items ≡ length firsts.old.items }
+    ensures noted { (l : ℕ) → l < length firsts.old.items → get_or firsts.new.items l 0 ≡ (if is_this l brought then i else get_or firsts.old.items l 0) }
+{
+    let Some(l) = brought else {
+        return;
+    };
+    if l < firsts.len() {
+        firsts[l] = i;
+    }
+}
+
+/// For each of so many letters the number of the first event that delivers it, or that of events where none does.
+pub(crate) fn firsts_of(
+    alloc: Global,
+    count: usize,
+    events: &[Event],
+    answers: &[Answer],
+) -> Result<Vec<usize>, AllocError>
+    ensures { IfOk result (λ firsts. AreFirsts firsts.items count events.now answers.now) }
+{
+    let total = events.len();
+    let mut firsts = vec![in alloc; total; count]?;
+    for passed in 0..total {
+        let i = total - 1 - passed;
+        note_first(&mut firsts, i, delivered_at(events, answers, i));
+    }
+    Ok(firsts)
 }
 
 /// A bow to the right, from a lane to itself.

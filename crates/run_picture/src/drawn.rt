@@ -4,17 +4,22 @@ ghost use Rattle.std.specs.Prelude.{◌≡◌, ◌++◌, ◌<◌, ◌^◌, IfOk,
 ghost use Rattle.xml_text.specs.Xml.{Xml, render};
 ghost use Rattle.xml_text.specs.Each.{each};
 ghost use Rattle.xml_text.specs.Drawings.{AreDrawn};
+ghost use Rattle.ballots.specs.Members.{member_count};
 ghost use Rattle.run_picture.specs.Parts.{lanes};
-ghost use Rattle.run_picture.specs.Pictures.{arrows_of, bands_of, labels_of, lane_line, lane_name, layers, name_if, of_events, Draws, IsPictureOf};
+ghost use Rattle.run_picture.specs.Pictures.{arrows_of, bands_of, chosen_at, labels_of, node_bands, rules_of, lane_line, lane_name, layers, name_if, of_events, Draws, IsPictureOf};
 
+use crate::arrows::firsts_of;
 use crate::heads::{NOTES, STYLE, heads, legend};
 use crate::lanes::{lane_x, lanes_end};
 use crate::parts::{add_part, add_stubs, lanes};
+use crate::roles::{add_bands, add_chosen};
 use crate::rows::{releasers_of, rows_of, senders_of};
 use crate::scene::{Part, Scene};
-use ballots::Letter;
+use ballots::{Letter, Members};
 use seats::{Answer, ReleasedOutput};
+use shown_choices::choices;
 use std::alloc::{AllocError, Global};
+use watched_runs::Sight;
 use world_events::Event;
 use xml_text::{Layers, add_line, add_words, drawing};
 
@@ -103,13 +108,57 @@ fn of_events(alloc: Global, scene: &Scene<'_>, part: Part) -> Result<String, All
     Ok(out)
 }
 
-/// The lines of lanes, down to the bottom.
+/// The bands of each node.
+fn add_all_bands(
+    alloc: Global,
+    out: &mut String,
+    scene: &Scene<'_>,
+    bottom: u64,
+) -> Result<(), AllocError>
+    requires members { scene.now.members < 2 ^ 32 }
+    requires modems { scene.now.modems < 2 ^ 32 }
+    ensures { OnOk result (string_bytes out.new ≡ string_bytes out.old ++ render (each scene.now.members (node_bands scene.now bottom))) }
+{
+    for k in 0..scene.members {
+        let lanes = lanes(scene);
+        add_bands(alloc, out, lanes, bottom, k, scene.sights, scene.rows)?;
+    }
+    Ok(())
+}
+
+/// The line of each letter that shows that a place is chosen.
+fn add_choices(alloc: Global, out: &mut String, scene: &Scene<'_>) -> Result<(), AllocError>
+    requires members { scene.now.members < 2 ^ 32 }
+    requires modems { scene.now.modems < 2 ^ 32 }
+    ensures { OnOk result (string_bytes out.new ≡ string_bytes out.old ++ render (each (length scene.now.letters.now) (chosen_at scene.now))) }
+{
+    for l in 0..scene.letters.len() {
+        let lanes = lanes(scene);
+        add_chosen(alloc, out, lanes, scene.choices, scene.senders, l)?;
+    }
+    Ok(())
+}
+
+/// The thin lines of rows, and lines where places are chosen.
+fn rules_of(alloc: Global, scene: &Scene<'_>) -> Result<String, AllocError>
+    requires members { scene.now.members < 2 ^ 32 }
+    requires modems { scene.now.modems < 2 ^ 32 }
+    ensures { IfOk result (λ text. string_bytes text ≡ render (rules_of scene.now)) }
+{
+    let mut out = String::new(alloc);
+    add_part(alloc, &mut out, scene, Part::Rule)?;
+    add_choices(alloc, &mut out, scene)?;
+    Ok(out)
+}
+
+/// Bands, and the lines of lanes, down to the bottom.
 fn bands_of(alloc: Global, scene: &Scene<'_>, bottom: u64) -> Result<String, AllocError>
     requires members { scene.now.members < 2 ^ 32 }
     requires modems { scene.now.modems < 2 ^ 32 }
     ensures { IfOk result (λ text. string_bytes text ≡ render (bands_of scene.now bottom)) }
 {
     let mut out = String::new(alloc);
+    add_all_bands(alloc, &mut out, scene, bottom)?;
     add_lanes(alloc, &mut out, scene, bottom)?;
     Ok(out)
 }
@@ -138,6 +187,7 @@ fn add_labels(alloc: Global, out: &mut String, scene: &Scene<'_>) -> Result<(), 
     add_part(alloc, out, scene, Part::Happening)?;
     add_part(alloc, out, scene, Part::Answered)?;
     add_part(alloc, out, scene, Part::Label)?;
+    add_part(alloc, out, scene, Part::Told)?;
     Ok(())
 }
 
@@ -147,7 +197,7 @@ fn layers_of(alloc: Global, scene: &Scene<'_>, bottom: u64) -> Result<Layers, Al
     requires modems { scene.now.modems < 2 ^ 32 }
     ensures { IfOk result (λ all. (known : Xml) × AreDrawn all (layers scene.now bottom known)) }
 {
-    let rules = of_events(alloc, scene, Part::Rule)?;
+    let rules = rules_of(alloc, scene)?;
     let bands = bands_of(alloc, scene, bottom)?;
     let arrows = arrows_of(alloc, scene)?;
     let marks = of_events(alloc, scene, Part::Mark)?;
@@ -157,7 +207,7 @@ fn layers_of(alloc: Global, scene: &Scene<'_>, bottom: u64) -> Result<Layers, Al
         scene.events.len(),
         scene.letters.len(),
     );
-    let mut labels = legend(alloc, counts, NOTES[0], NOTES[1], NOTES[2])?;
+    let mut labels = legend(alloc, counts, NOTES[0], NOTES[1], NOTES[2], NOTES[3])?;
     add_labels(alloc, &mut labels, scene)?;
     Ok(Layers {
         rules,
@@ -214,22 +264,25 @@ fn drawn_scene(alloc: Global, scene: &Scene<'_>) -> Result<String, AllocError>
 /// answered, every letter that was sent and every output that was released.
 pub fn picture(
     alloc: Global,
-    members: u8,
+    members: Members,
     ids: &[u32],
     events: &[Event],
     answers: &[Answer],
+    sights: &[Option<Sight>],
     letters: &[Letter],
     outputs: &[ReleasedOutput],
 ) -> Result<String, AllocError>
     requires modems { length ids.now < 2 ^ 32 }
     requires answers { length answers.now < 2 ^ 27 }
-    ensures { IfOk result (λ text. IsPictureOf members ids.now events.now answers.now letters.now outputs.now (string_bytes text)) }
+    ensures { IfOk result (λ text. IsPictureOf (member_count members) ids.now events.now answers.now sights.now letters.now outputs.now (string_bytes text)) }
 {
     let rows = rows_of(alloc, answers)?;
     let senders = senders_of(alloc, answers)?;
     let releasers = releasers_of(alloc, answers)?;
+    let firsts = firsts_of(alloc, letters.len(), events, answers)?;
+    let choices = choices(alloc, members, letters)?;
     let scene = Scene {
-        members: u64::from(members),
+        members: u64::from(members.count()),
         modems: ids.len() as u64,
         events,
         answers,
@@ -238,6 +291,9 @@ pub fn picture(
         rows: rows.as_slice(),
         senders: senders.as_slice(),
         releasers: releasers.as_slice(),
+        firsts: firsts.as_slice(),
+        sights,
+        choices: choices.as_slice(),
     };
     drawn_scene(alloc, &scene)
 }

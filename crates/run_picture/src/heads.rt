@@ -8,10 +8,11 @@ use std::alloc::{AllocError, Global};
 use xml_text::{add_arrow_head, add_words};
 
 /// What marks, arrows and stubs mean, a line each.
-pub(crate) const NOTES: [&str; 3] = [
+pub(crate) const NOTES: [&str; 4] = [
     "triangle up: asked to lead; square: offered; dot: delivered or heard; diamond: releases; cross: crashes; circle: restarts",
     "triangle down: wants; triangle right: tells or transmits; speck: idle; red ring: the event failed, and nothing was done",
     "dashed: delivered again; dotted: an output that is heard; short with a cross: a letter that is never delivered",
+    "blue band: prepares a ballot; gold: leads; line: chosen",
 ];
 
 /// The rules of both light and dark.
@@ -30,13 +31,15 @@ pub(crate) const STYLE: &str = "text{font:11px ui-sans-serif,system-ui,'DejaVu S
 .f-accept{fill:#c75000}.s-accept{stroke:#c75000}.f-voted{fill:#8f2f68}.s-voted{stroke:#8f2f68}\
 .f-higher{fill:#7a6200}.s-higher{stroke:#7a6200}.f-known{fill:#4d5d8a}.s-known{stroke:#4d5d8a}\
 .f-output{fill:#7f4f24}.s-output{stroke:#7f4f24}.f-ask{fill:#1f2328}\
+.lead{fill:#ffe08a}.prep{fill:#d6ebfa}.chosen{stroke:#e3b100;stroke-width:2}\
 @media(prefers-color-scheme:dark){\
 .bg{fill:#0d1117}text{fill:#e6edf3}.mute{fill:#8d96a0}.rule{stroke:#21262d}.lane{stroke:#6e7681}.halo{stroke:#0d1117}\
 .bad{fill:#ff6b6b}.sbad{stroke:#ff6b6b}.ring{fill:#0d1117;stroke:#ff6b6b}.start{fill:#0d1117;stroke:#2ccf9f}\
 .f-prepare{fill:#58b5ee}.s-prepare{stroke:#58b5ee}.f-promise{fill:#2ccf9f}.s-promise{stroke:#2ccf9f}\
 .f-accept{fill:#ff9145}.s-accept{stroke:#ff9145}.f-voted{fill:#e99ac8}.s-voted{stroke:#e99ac8}\
 .f-higher{fill:#e8d94a}.s-higher{stroke:#e8d94a}.f-known{fill:#a9b8e8}.s-known{stroke:#a9b8e8}\
-.f-output{fill:#d8a26a}.s-output{stroke:#d8a26a}.f-ask{fill:#e6edf3}}";
+.f-output{fill:#d8a26a}.s-output{stroke:#d8a26a}.f-ask{fill:#e6edf3}\
+.lead{fill:#5c4a00}.prep{fill:#12304a}.chosen{stroke:#9a7b00}}";
 
 /// The heads of all arrows.
 pub(crate) fn heads(alloc: Global) -> Result<String, AllocError>
@@ -94,13 +97,14 @@ fn add_counts(
 }
 
 /// What is above a run of so many nodes and modems: how many events and letters there are, the kinds of arrows, and
-/// three notes.
+/// four notes.
 pub(crate) fn legend(
     alloc: Global,
     counts: (u64, u64, usize, usize),
     first: &str,
     second: &str,
     third: &str,
+    fourth: &str,
 ) -> Result<String, AllocError>
     ensures { IfOk result (λ text. IsRendered (string_bytes text)) }
 {
@@ -109,5 +113,6 @@ pub(crate) fn legend(
     add_words(alloc, &mut out, (16, 43), "s mute", first)?;
     add_words(alloc, &mut out, (16, 57), "s mute", second)?;
     add_words(alloc, &mut out, (16, 71), "s mute", third)?;
+    add_words(alloc, &mut out, (450, 92), "s mute", fourth)?;
     Ok(out)
 }

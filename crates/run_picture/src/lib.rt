@@ -7,6 +7,7 @@ mod heads;
 mod lanes;
 mod marks;
 mod parts;
+mod roles;
 mod rows;
 mod scene;
 mod words;

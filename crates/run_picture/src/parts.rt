@@ -3,13 +3,13 @@
 ghost use Rattle.std.specs.Prelude.{◌≡◌, false, true, ◌++◌, ◌<◌, ◌^◌, OnOk, IfSome, string_bytes, length, slice_get};
 ghost use Rattle.xml_text.specs.Xml.{render};
 ghost use Rattle.xml_text.specs.Each.{each};
-ghost use Rattle.run_picture.specs.Parts.{lanes, event_x, rule, number_words, happening, answer_class, answered, mark, arrow, hearing_from, hearing, label_on, label, part_of, part_at, stub_unless, stub_at};
+ghost use Rattle.run_picture.specs.Roles.{comes_right, seen_told};
+ghost use Rattle.run_picture.specs.Parts.{lanes, event_x, rule, number_words, happening, answer_class, answered, mark, arrow, hearing_from, hearing, label_on, label, part_of, part_at, stub_from, stub_past, stub_unless, stub_at};
 
-use crate::arrows::{
-    add_letter_arrow, add_letter_stub, add_output_arrow, delivered, heard, is_delivered,
-};
+use crate::arrows::{add_letter_arrow, add_letter_stub, add_output_arrow, delivered, heard};
 use crate::lanes::{lane_of, lane_x, lanes_end, mark_x};
 use crate::marks::{add_mark_shape, has_failed, kind_name, mark_title};
+use crate::roles::{add_seen_told, comes_right};
 use crate::scene::{Part, Scene};
 use crate::words::{event_words, note_words};
 use ballots::Letter;
@@ -143,7 +143,10 @@ fn add_arrow(
     if l >= scene.senders.len() {
         return Ok(());
     }
-    let again = is_delivered(l, &scene.events[..i], scene.answers);
+    if l >= scene.firsts.len() {
+        return Ok(());
+    }
+    let again = scene.firsts[l] < i;
     let sent = u64::from(scene.senders[l]);
     let letter = &scene.letters[l];
     add_letter_arrow(alloc, out, lanes(scene), again, l, letter, sent, y)
@@ -277,6 +280,25 @@ fn add_label(
     add_label_on(alloc, out, from < to, x, y, letter)
 }
 
+/// What is told of the node at event `i`, on the side from which no letter came.
+fn add_told(
+    alloc: Global,
+    out: &mut String,
+    scene: &Scene<'_>,
+    i: usize,
+    brought: Option<usize>,
+    y: u64,
+) -> Result<(), AllocError>
+    requires members { scene.now.members < 2 ^ 32 }
+    requires modems { scene.now.modems < 2 ^ 32 }
+    requires row { y < 2 ^ 32 }
+    ensures { OnOk result (string_bytes out.new ≡ string_bytes out.old ++ render (seen_told (lanes scene.now) scene.now.members (comes_right scene.now.letters.now brought) y (slice_get scene.now.sights.now i))) }
+{
+    let left = comes_right(scene.letters, brought);
+    let members = scene.members;
+    add_seen_told(alloc, out, lanes(scene), members, left, y, scene.sights, i)
+}
+
 /// A part of event `i`, whose row is at `y`.
 fn add_part_of(
     alloc: Global,
@@ -306,6 +328,7 @@ fn add_part_of(
             add_hearing(alloc, out, scene, lane, heard(event, answer), y)
         }
         Part::Label => add_label(alloc, out, scene, delivered(event, answer), y),
+        Part::Told => add_told(alloc, out, scene, i, delivered(event, answer), y),
     }
 }
 
@@ -352,6 +375,22 @@ pub(crate) fn add_part(
     Ok(())
 }
 
+/// The stub of letter `l`.
+fn add_stub(alloc: Global, out: &mut String, scene: &Scene<'_>, l: usize) -> Result<(), AllocError>
+    requires members { scene.now.members < 2 ^ 32 }
+    requires modems { scene.now.modems < 2 ^ 32 }
+    ensures { OnOk result (string_bytes out.new ≡ string_bytes out.old ++ render (stub_from scene.now l (slice_get scene.now.letters.now l) (slice_get scene.now.senders.now l))) }
+{
+    if l >= scene.letters.len() {
+        return Ok(());
+    }
+    if l >= scene.senders.len() {
+        return Ok(());
+    }
+    let sent = u64::from(scene.senders[l]);
+    add_letter_stub(alloc, out, lanes(scene), l, &scene.letters[l], sent)
+}
+
 /// The stub of letter `l`, unless it is delivered.
 fn add_stub_at(
     alloc: Global,
@@ -363,17 +402,13 @@ fn add_stub_at(
     requires modems { scene.now.modems < 2 ^ 32 }
     ensures { OnOk result (string_bytes out.new ≡ string_bytes out.old ++ render (stub_at scene.now l)) }
 {
-    if is_delivered(l, scene.events, scene.answers) {
+    if l >= scene.firsts.len() {
         return Ok(());
     }
-    if l >= scene.letters.len() {
+    if scene.firsts[l] < scene.events.len() {
         return Ok(());
     }
-    if l >= scene.senders.len() {
-        return Ok(());
-    }
-    let sent = u64::from(scene.senders[l]);
-    add_letter_stub(alloc, out, lanes(scene), l, &scene.letters[l], sent)
+    add_stub(alloc, out, scene, l)
 }
 
 /// The stub of each letter that is never delivered.

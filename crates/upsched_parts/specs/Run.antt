@@ -1,19 +1,33 @@
 -- What `run` prints of a script.
-use Rattle.std.specs.Prelude.{ℕ, Bool, List, Option, Some, None}
+use Rattle.std.specs.Prelude.{ℕ, Bool, true, false, List, Option, Some, None}
 use Rattle.std.specs.Io.KnownBytes.{Appends}
 use Rattle.ballots.specs.declared.members.Members.{Members}
 use Rattle.ballots.specs.Members.{member_count}
 use Rattle.seats.specs.declared.answer.Answer.{Answer}
 use Rattle.world_events.specs.declared.event.Event.{Event}
-use Rattle.network_script.specs.Next.{Run}
+use Rattle.network_script.specs.Next.{Goes}
 use Rattle.script_text.specs.Script.{IsScript}
-use Rattle.network_script.specs.World.{Written}
-use Rattle.upsched_parts.specs.RunLines.{run_lines}
+use Rattle.network_script.specs.World.{Written, opening}
+use Rattle.watched_runs.specs.Sights.{GoesWatched}
+use Rattle.watched_runs.specs.declared.sight.Sight.{Sight}
+use Rattle.upsched_parts.specs.RunLines.{event_lines, run_lines}
+
+-- in a world of so many members these events may be answered so, and with a trace this is seen of each
+abbrev pub GoesTraced : Bool → ℕ → Written → List Event → List Answer → List (Option Sight) → Written → Type 0
+GoesTraced true members w events report sights w' = GoesWatched members w events report sights w'
+GoesTraced false members w events report sights w' = Goes members w events report w'
+
+-- from one world the events may go so to another, and what is printed is the lines of their answers, traced or not
+abbrev pub PrintsGoing : Bool → ℕ → Written → List Event → Option (List ℕ) → Option (List ℕ) → Written → Type 0
+PrintsGoing trace members w events old new w' =
+    (report : List Answer) × (sights : List (Option Sight)) × GoesTraced trace members w events report sights w'
+    × Appends old new (event_lines trace events report sights w'.letters w'.outputs)
 
 -- the events may go so, over so many fresh nodes and new modems of these ids, and what is printed is the lines of that run, traced or not
 abbrev pub PrintsEvents : Bool → ℕ → List ℕ → List Event → Option (List ℕ) → Option (List ℕ) → Type 0
 PrintsEvents trace members ids events old new =
-    (report : List Answer) × (w : Written) × Run members ids events report w × Appends old new (run_lines trace events report w)
+    (report : List Answer) × (sights : List (Option Sight)) × (w : Written) × GoesTraced trace members (opening members ids) events report sights w
+    × Appends old new (run_lines trace events report sights w)
 
 -- what is printed is the lines of a run of the script, traced or not, where the script's text is known
 abbrev pub PrintsScript : Bool → Option (List ℕ) → Option (List ℕ) → Option (List ℕ) → Type 0

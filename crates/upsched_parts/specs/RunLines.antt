@@ -11,6 +11,9 @@ use Rattle.world_events.specs.declared.event.Event.TheVariants.{Deliver, Deliver
 use Rattle.printed_outputs.specs.Texts.{output_text}
 use Rattle.printed_answers.specs.Texts.{answer_text}
 use Rattle.printed_letters.specs.Texts.{letter_text}
+use Rattle.watched_runs.specs.declared.post.Post.{Post}
+use Rattle.watched_runs.specs.declared.sight.Sight.{Sight}
+use Rattle.watched_runs.specs.Texts.{post_text}
 
 -- the line of an answer with its event's number
 abbrev pub answer_line : ℕ → Answer → List ℕ
@@ -41,6 +44,24 @@ came_lines sent (Some (Deliver i)) = came_line i (slice_get sent i)
 came_lines sent (Some (DeliverThenCrash i)) = came_line i (slice_get sent i)
 came_lines sent other = []
 
+-- the lines of what is seen of a node: its post, where that changed, and the place that it learned
+abbrev pub post_line : ℕ → Option Post → List ℕ
+post_line k None = []
+post_line k (Some post) = codes "node " ++ (decimal k ++ (codes " " ++ (post_text post ++ 10 ∷ [])))
+
+abbrev pub learned_line : ℕ → Option ℕ → List ℕ
+learned_line k None = []
+learned_line k (Some place) = codes "node " ++ (decimal k ++ (codes " learned " ++ (decimal place ++ 10 ∷ [])))
+
+abbrev pub sight_lines : Option Sight → List ℕ
+sight_lines None = []
+sight_lines (Some sight) = post_line sight.node sight.post ++ learned_line sight.node sight.learned
+
+-- the lines of the sight of this number
+abbrev pub seen_lines : Option (Option Sight) → List ℕ
+seen_lines None = []
+seen_lines (Some sight) = sight_lines sight
+
 -- how many outputs an answer tells
 abbrev pub released_count : Answer → ℕ
 released_count (Released n) = n
@@ -61,25 +82,26 @@ answer_lines n (a ∷ answers) outputs =
 abbrev pub sent_with : ℕ → Answer → List Letter → List Letter
 sent_with before a letters = take (sent_count a) (drop before letters)
 
--- the same with a trace: each answer has the letter that came, its outputs, and the letters that it tells, by the numbers that `deliver` names them by,
--- which go on from event to event
-abbrev pub traced_lines : ℕ → ℕ → List Event → List Answer → List Letter → List ReleasedOutput → List ℕ
-traced_lines n before events [] letters outputs = []
-traced_lines n before events (a ∷ answers) letters outputs =
-    answer_line n a ++ came_lines (take before letters) (slice_get events n) ++ place_lines (take (released_count a) outputs)
+-- the same with a trace: each answer has the letter that came, what is seen of the node, its outputs, and the letters that it tells, by the numbers
+-- that `deliver` names them by, which go on from event to event
+abbrev pub traced_lines : ℕ → ℕ → List Event → List Answer → List (Option Sight) → List Letter → List ReleasedOutput → List ℕ
+traced_lines n before events [] sights letters outputs = []
+traced_lines n before events (a ∷ answers) sights letters outputs =
+    answer_line n a ++ came_lines (take before letters) (slice_get events n) ++ seen_lines (slice_get sights n) ++ place_lines (take (released_count a) outputs)
     ++ letter_lines before (sent_with before a letters)
-    ++ traced_lines (n + 1) (before + length (sent_with before a letters)) events answers letters (drop (released_count a) outputs)
+    ++ traced_lines (n + 1) (before + length (sent_with before a letters)) events answers sights letters (drop (released_count a) outputs)
 
 -- the lines of the answers to events, traced or not
-abbrev pub event_lines : Bool → List Event → List Answer → List Letter → List ReleasedOutput → List ℕ
-event_lines true events answers letters outputs = traced_lines 0 0 events answers letters outputs
-event_lines false events answers letters outputs = answer_lines 0 answers outputs
+abbrev pub event_lines : Bool → List Event → List Answer → List (Option Sight) → List Letter → List ReleasedOutput → List ℕ
+event_lines true events answers sights letters outputs = traced_lines 0 0 events answers sights letters outputs
+event_lines false events answers sights letters outputs = answer_lines 0 answers outputs
 
 -- the last line
 abbrev pub counts_line : ℕ → ℕ → ℕ → List ℕ
 counts_line letters outputs transmissions =
     codes "letters " ++ (decimal letters ++ (codes " outputs " ++ (decimal outputs ++ (codes " transmissions " ++ (decimal transmissions ++ 10 ∷ [])))))
 
--- all lines of a run of these events that gave this report and left this world, traced or not
-abbrev pub run_lines : Bool → List Event → List Answer → Written → List ℕ
-run_lines trace events report w = event_lines trace events report w.letters w.outputs ++ counts_line (length w.letters) (length w.outputs) (length w.transmissions)
+-- all lines of a run of these events that gave this report, of which this was seen, and which left this world, traced or not
+abbrev pub run_lines : Bool → List Event → List Answer → List (Option Sight) → Written → List ℕ
+run_lines trace events report sights w =
+    event_lines trace events report sights w.letters w.outputs ++ counts_line (length w.letters) (length w.outputs) (length w.transmissions)

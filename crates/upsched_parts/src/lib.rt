@@ -5,5 +5,7 @@ mod report;
 mod script_run;
 mod trace;
 
+pub use report::parted;
 pub use script_run::{Telling, print_script, run_script, script_of, trace_script};
+pub use trace::{first_letters, parted_letters};
 pub use upsched_map_parts::{Fault, RunWords, Status};

@@ -22,7 +22,7 @@ fn released_count(answer: Answer) -> usize
 }
 
 /// The outputs that an answer tells, and those of the answers behind it.
-pub(crate) fn parted<'a>(
+pub fn parted<'a>(
     outputs: &'a [ReleasedOutput],
     answer: Answer,
 ) -> (&'a [ReleasedOutput], &'a [ReleasedOutput])

@@ -5,12 +5,13 @@ ghost use Rattle.ballots.specs.Members.{member_count};
 ghost use Rattle.seats.specs.Receiving.{AreNew};
 ghost use Rattle.seats.specs.Fresh.{AreFresh};
 ghost use Rattle.script_text.specs.Script.{IsScript};
-ghost use Rattle.network_script.specs.Worlds.{AreHonest};
+ghost use Rattle.network_script.specs.World.{Written};
+ghost use Rattle.network_script.specs.Worlds.{AreHonest, StandsFor};
 ghost use Rattle.upsched_map_parts.specs.declared.status.Status.TheVariants.{Done, NotUnderstood};
-ghost use Rattle.upsched_parts.specs.Run.{NoScript, PrintsEvents, PrintsScript};
+ghost use Rattle.upsched_parts.specs.Run.{NoScript, PrintsEvents, PrintsGoing, PrintsScript};
 
-use crate::report::print_counts;
-use crate::trace::print_told;
+use crate::report::{print_answers, print_counts};
+use crate::trace::print_traced;
 use log::{Log, warn};
 use modem::Modem;
 use network_script::World;
@@ -21,6 +22,7 @@ use seats::{Answer, new_modems, plain_nodes};
 use std::alloc::Global;
 use std::io::{Read, Write};
 use upsched_map_parts::{Fault, RunWords, Status, text_of};
+use watched_runs::watch;
 use world_events::Event;
 
 /// What is told of a run beside its answers and outputs.
@@ -28,7 +30,7 @@ use world_events::Event;
 pub struct Telling {
     /// Whether each fault of a node and each crash is logged.
     pub verbose: bool,
-    /// Whether the letters that an event delivers and sends are printed behind its answer.
+    /// Whether the letters that an event delivers and sends, and what is seen of its node, are printed behind its answer.
     pub trace: bool,
 }
 
@@ -50,6 +52,78 @@ fn warn_of<R: Log>(rt: &R, answers: &[Answer]) {
     }
 }
 
+/// The events happen, and their answers are printed.
+fn print_answered<'a, R: Log + AllocGlobal, N: Node, O: Write>(
+    rt: &R,
+    world: &mut World<N>,
+    events: &[Event],
+    verbose: bool,
+    output: &mut O,
+) -> Result<(), Fault<'a>>
+    ensures honesty { AreHonest world.new → AreHonest world.old }
+    ensures printed { OnOk result (AreHonest world.new → (w : Written) → StandsFor world.old w →
+        (w' : Written) × PrintsGoing false (length w.nodes) w events.now (O.contents output.old) (O.contents output.new) w' × StandsFor world.new w') }
+{
+    let Ok(report) = world.run(events) else {
+        return Err(Fault::Memory);
+    };
+    if verbose {
+        warn_of(rt, report.answers());
+    }
+    print_answers(rt.alloc(), report.answers(), world.outputs(), output)?;
+    Ok(())
+}
+
+/// The events happen and are watched, and their answers are printed with a trace.
+fn print_watched<'a, R: Log + AllocGlobal, N: Node, O: Write>(
+    rt: &R,
+    world: &mut World<N>,
+    events: &[Event],
+    verbose: bool,
+    output: &mut O,
+) -> Result<(), Fault<'a>>
+    ensures honesty { AreHonest world.new → AreHonest world.old }
+    ensures printed { OnOk result (AreHonest world.new → (w : Written) → StandsFor world.old w →
+        (w' : Written) × PrintsGoing true (length w.nodes) w events.now (O.contents output.old) (O.contents output.new) w' × StandsFor world.new w') }
+{
+    let Ok(watched) = watch(rt.alloc(), world, events) else {
+        return Err(Fault::Memory);
+    };
+    let (answers, sights) = (watched.answers.as_slice(), watched.sights.as_slice());
+    if verbose {
+        warn_of(rt, answers);
+    }
+    print_traced(
+        rt.alloc(),
+        events,
+        answers,
+        sights,
+        world.letters(),
+        world.outputs(),
+        output,
+    )?;
+    Ok(())
+}
+
+/// The events happen, and their answers are printed, traced or not.
+fn print_going<'a, R: Log + AllocGlobal, N: Node, O: Write>(
+    rt: &R,
+    world: &mut World<N>,
+    events: &[Event],
+    telling: Telling,
+    output: &mut O,
+) -> Result<(), Fault<'a>>
+    ensures honesty { AreHonest world.new → AreHonest world.old }
+    ensures printed { OnOk result (AreHonest world.new → (w : Written) → StandsFor world.old w →
+        (w' : Written) × PrintsGoing telling.trace (length w.nodes) w events.now (O.contents output.old) (O.contents output.new) w' × StandsFor world.new w') }
+{
+    if telling.trace {
+        print_watched(rt, world, events, telling.verbose, output)
+    } else {
+        print_answered(rt, world, events, telling.verbose, output)
+    }
+}
+
 /// What the events do to fresh nodes and new modems is printed. The world is given back as they left
 /// it: the promise of the printed lines holds where its nodes are honest.
 fn print_events<'a, R: Log + AllocGlobal, N: Node, O: Write>(
@@ -68,22 +142,7 @@ fn print_events<'a, R: Log + AllocGlobal, N: Node, O: Write>(
     let Ok(mut world) = World::new(rt.alloc(), nodes, modems) else {
         return Err(Fault::Memory);
     };
-    let Ok(report) = world.run(events) else {
-        return Err(Fault::Memory);
-    };
-    if telling.verbose {
-        warn_of(rt, report.answers());
-    }
-    let (answers, sent) = (report.answers(), world.letters());
-    print_told(
-        rt.alloc(),
-        telling.trace,
-        events,
-        answers,
-        sent,
-        world.outputs(),
-        output,
-    )?;
+    print_going(rt, &mut world, events, telling, output)?;
     let letters = world.letters().len();
     let outputs = world.outputs().len();
     print_counts(letters, outputs, world.transmissions().len(), output)?;
@@ -177,8 +236,9 @@ pub fn run_script<R: Log + AllocGlobal, F: Read, O: Write, E: Write>(
     }
 }
 
-/// As `run_script`, but behind each answer comes the letter that the event delivers, and behind the outputs come the
-/// letters that it sent: each with the number by which `deliver` names it, its sender, its addressee and what it says.
+/// As `run_script`, but behind each answer come the letter that the event delivers, and whether the node that it asks
+/// prepares or leads from then on and what it learned. Behind the outputs come the letters that it sent. Each letter has
+/// the number by which `deliver` names it, its sender, its addressee and what it says.
 pub fn trace_script<R: Log + AllocGlobal, F: Read, O: Write, E: Write>(
     rt: &R,
     script: &mut F,

@@ -1,16 +1,17 @@
-//! Prints what came of a run, with the letters that came and were sent.
+//! Prints what came of a run, with the letters that came and were sent, and with what is seen of nodes.
 
 ghost use Rattle.std.specs.Prelude.{◌≡◌, ◌+◌, ◌<◌, ◌≤◌, ◌^◌, OnOk, take, drop, length, slice_get};
 ghost use Rattle.std.specs.Io.KnownBytes.{Appends};
-ghost use Rattle.upsched_parts.specs.RunLines.{came_line, came_lines, event_lines, letter_line, letter_lines, sent_count, traced_lines};
+ghost use Rattle.upsched_parts.specs.RunLines.{came_line, came_lines, learned_line, letter_line, letter_lines, post_line, seen_lines, sent_count, sight_lines, traced_lines};
 
-use crate::report::{parted, print_answer, print_answers, print_places};
+use crate::report::{parted, print_answer, print_places};
 use ballots::Letter;
 use printed_letters::letter_text;
 use seats::{Answer, ReleasedOutput};
 use std::alloc::Global;
 use std::io::Write;
 use upsched_map_parts::Fault;
+use watched_runs::{Post, Sight, post_text};
 use world_events::Event;
 
 /// How many letters an answer tells.
@@ -24,7 +25,7 @@ fn sent_count(answer: Answer) -> usize
 }
 
 /// The letters of a run, parted behind as many as were sent before.
-fn parted_letters(letters: &[Letter], before: usize) -> (&[Letter], &[Letter])
+pub fn parted_letters(letters: &[Letter], before: usize) -> (&[Letter], &[Letter])
     requires { before ≤ length letters.now }
     ensures sent { result.0.now ≡ take before letters.now }
     ensures unsent { result.1.now ≡ drop before letters.now }
@@ -33,7 +34,7 @@ fn parted_letters(letters: &[Letter], before: usize) -> (&[Letter], &[Letter])
 }
 
 /// The letters that an answer tells, of those that weren't sent before.
-fn first_letters(letters: &[Letter], answer: Answer) -> &[Letter]
+pub fn first_letters(letters: &[Letter], answer: Answer) -> &[Letter]
     ensures same { result.now ≡ take (sent_count answer) letters.now }
     ensures fits { length result.now ≤ length letters.now }
 {
@@ -115,17 +116,86 @@ fn print_came<'a, O: Write>(
     }
 }
 
-/// The lines of the answers to events, numbered from 0 on, each followed by those of the letter that came, of the
-/// outputs and of the letters that the answer tells.
-fn print_traced<'a, O: Write>(
+/// The line of a node's post, where that changed.
+fn print_post<'a, O: Write>(
+    alloc: Global,
+    node: usize,
+    post: Option<Post>,
+    output: &mut O,
+) -> Result<(), Fault<'a>>
+    ensures { OnOk result (Appends (O.contents output.old) (O.contents output.new) (post_line node post)) }
+{
+    let Some(post) = post else {
+        return Ok(());
+    };
+    let Ok(text) = post_text(alloc, post) else {
+        return Err(Fault::Memory);
+    };
+    match writeln!(output, "node {node} {text}") {
+        Ok(()) => Ok(()),
+        Err(_) => Err(Fault::Output),
+    }
+}
+
+/// The line of a place that a node learned.
+fn print_learned<'a, O: Write>(
+    node: usize,
+    learned: Option<u64>,
+    output: &mut O,
+) -> Result<(), Fault<'a>>
+    ensures { OnOk result (Appends (O.contents output.old) (O.contents output.new) (learned_line node learned)) }
+{
+    let Some(place) = learned else {
+        return Ok(());
+    };
+    match writeln!(output, "node {node} learned {place}") {
+        Ok(()) => Ok(()),
+        Err(_) => Err(Fault::Output),
+    }
+}
+
+/// The lines of what is seen of the node that an event asks, if it asks one.
+fn print_sight<'a, O: Write>(
+    alloc: Global,
+    sight: Option<Sight>,
+    output: &mut O,
+) -> Result<(), Fault<'a>>
+    ensures { OnOk result (Appends (O.contents output.old) (O.contents output.new) (sight_lines sight)) }
+{
+    let Some(sight) = sight else {
+        return Ok(());
+    };
+    print_post(alloc, sight.node, sight.post, output)?;
+    print_learned(sight.node, sight.learned, output)
+}
+
+/// The lines of what is seen at event `number`.
+fn print_seen<'a, O: Write>(
+    alloc: Global,
+    sights: &[Option<Sight>],
+    number: usize,
+    output: &mut O,
+) -> Result<(), Fault<'a>>
+    ensures { OnOk result (Appends (O.contents output.old) (O.contents output.new) (seen_lines (slice_get sights.now number))) }
+{
+    if number >= sights.len() {
+        return Ok(());
+    }
+    print_sight(alloc, sights[number], output)
+}
+
+/// The lines of the answers to events, numbered from 0 on, each followed by those of the letter that came, of what is
+/// seen of the node, of the outputs and of the letters that the answer tells.
+pub(crate) fn print_traced<'a, O: Write>(
     alloc: Global,
     events: &[Event],
     answers: &[Answer],
+    sights: &[Option<Sight>],
     letters: &[Letter],
     outputs: &[ReleasedOutput],
     output: &mut O,
 ) -> Result<(), Fault<'a>>
-    ensures { OnOk result (Appends (O.contents output.old) (O.contents output.new) (traced_lines 0 0 events.now answers.now letters.now outputs.now)) }
+    ensures { OnOk result (Appends (O.contents output.old) (O.contents output.new) (traced_lines 0 0 events.now answers.now sights.now letters.now outputs.now)) }
 {
     let mut before = 0;
     let mut rest = outputs;
@@ -135,30 +205,11 @@ fn print_traced<'a, O: Write>(
         let now = first_letters(unsent, *answer);
         print_answer(alloc, number, *answer, output)?;
         print_came(alloc, events, number, sent, output)?;
+        print_seen(alloc, sights, number, output)?;
         print_places(alloc, told, output)?;
         print_letters(alloc, before, now, output)?;
         before += now.len();
         rest = later;
     }
     Ok(())
-}
-
-/// The lines of the answers to events, numbered from 0 on, each followed by those of the outputs that it tells; with a
-/// trace also by those of the letter that came and of the letters that it tells.
-pub fn print_told<'a, O: Write>(
-    alloc: Global,
-    trace: bool,
-    events: &[Event],
-    answers: &[Answer],
-    letters: &[Letter],
-    outputs: &[ReleasedOutput],
-    output: &mut O,
-) -> Result<(), Fault<'a>>
-    ensures { OnOk result (Appends (O.contents output.old) (O.contents output.new) (event_lines trace events.now answers.now letters.now outputs.now)) }
-{
-    if trace {
-        print_traced(alloc, events, answers, letters, outputs, output)
-    } else {
-        print_answers(alloc, answers, outputs, output)
-    }
 }

@@ -1,5 +1,5 @@
 -- What is drawn of a run.
-use Rattle.std.proofs.Common.{◌≡◌, ℕ, List, [], ◌∷◌, ◌++◌, length, map, Option, Some, None, IfSome, Result, Ok, Err, OnOk, subst, ◌∙◌, sym}
+use Rattle.std.proofs.Common.{◌≡◌, ℕ, List, [], ◌∷◌, ◌++◌, length, Option, Some, None, IfSome, Result, Ok, Err, OnOk, subst, ◌∙◌}
 use Rattle.std.proofs.lemmas.List.{length-replicate}
 use Rattle.std.specs.Io.KnownBytes.{Appends}
 use Rattle.seats.specs.declared.answer.Answer.{Answer}
@@ -10,7 +10,8 @@ use Rattle.seats.specs.declared.answer.ReleasedOutput.{ReleasedOutput}
 use Rattle.acceptor.specs.Content.{no_content}
 use Rattle.node.specs.View.{started}
 use Rattle.node.specs.View.Standing.{Running}
-use Rattle.network_script.specs.Next.{Goes, Run}
+use Rattle.watched_runs.specs.Sights.{GoesWatched}
+use Rattle.watched_runs.specs.declared.sight.Sight.{Sight}
 use Rattle.script_text.specs.Script.{IsScript}
 use Rattle.network_script.specs.World.{Written, opening}
 use Rattle.ballots.specs.Members.{member_count}
@@ -18,16 +19,16 @@ use Rattle.run_picture.specs.Pictures.{IsPictureOf}
 use Rattle.upsched_picture_parts.specs.Draws.{DrawsEvents, DrawsRun, DrawsScript}
 
 -- a run is drawn whole
-pub run_drawn : (members nodes : ℕ) (ids given : List ℕ) (events : List Event) (report answers : List Answer) (w : Written) (letters : List Letter) (outputs : List ReleasedOutput) (old new : Option (List ℕ))
-    → Goes (length (opening nodes given).nodes) (opening nodes given) events report w → nodes ≡ members → given ≡ ids
-    → answers ≡ report → letters ≡ w.letters → outputs ≡ w.outputs
-    → ((text : List ℕ) × IsPictureOf members ids events answers letters outputs text × Appends old new (text ++ 10 ∷ []))
+pub run_drawn : (members nodes : ℕ) (ids given : List ℕ) (events : List Event) (report answers : List Answer) (sights seen : List (Option Sight)) (w : Written) (letters : List Letter) (outputs : List ReleasedOutput) (old new : Option (List ℕ))
+    → GoesWatched (length (opening nodes given).nodes) (opening nodes given) events report sights w → nodes ≡ members → given ≡ ids
+    → answers ≡ report → seen ≡ sights → letters ≡ w.letters → outputs ≡ w.outputs
+    → ((text : List ℕ) × IsPictureOf members ids events answers seen letters outputs text × Appends old new (text ++ 10 ∷ []))
     → DrawsEvents members ids events old new
-run_drawn members nodes ids given events report answers w letters outputs old new goes is_count is_ids is_report is_letters is_outputs printed =
-    let run : Run nodes given events report w = subst (λ (m : ℕ). Goes m (opening nodes given) events report w) (length-replicate nodes (Running (started no_content))) goes in
-    let same : Run members ids events report w = rw (is_count, is_ids) at run in
-    let drawn : DrawsRun members ids events report w old new = rw (is_report, is_letters, is_outputs) at printed in
-    (report, w, same, drawn)
+run_drawn members nodes ids given events report answers sights seen w letters outputs old new goes is_count is_ids is_report is_seen is_letters is_outputs printed =
+    let run : GoesWatched nodes (opening nodes given) events report sights w = subst (λ (m : ℕ). GoesWatched m (opening nodes given) events report sights w) (length-replicate nodes (Running (started no_content))) goes in
+    let same : GoesWatched members (opening members ids) events report sights w = rw (is_count, is_ids) at run in
+    let drawn : DrawsRun members ids events report sights w old new = rw (is_report, is_seen, is_letters, is_outputs) at printed in
+    (report, sights, w, same, drawn)
 
 -- a picture of a run of a script that is read off a text is what the text draws
 script_drawn : (known old new : Option (List ℕ)) (count : Members) (ids : List ℕ) (events : List Event) → IfSome known (λ text. IsScript text count ids events)

@@ -11,7 +11,7 @@ ghost use Rattle.upsched_parts.specs.Run.{NoScript};
 ghost use Rattle.run_picture.specs.Pictures.{IsPictureOf};
 ghost use Rattle.upsched_picture_parts.specs.Draws.{DrawsEvents, DrawsScript};
 
-use ballots::Letter;
+use ballots::{Letter, Members};
 use modem::Modem;
 use network_script::World;
 use node::Node;
@@ -22,6 +22,7 @@ use std::alloc::Global;
 use std::io::{Read, Write};
 use upsched_map_parts::{Fault, Status};
 use upsched_parts::script_of;
+use watched_runs::{Sight, watch};
 use world_events::Event;
 
 /// As many events and modems as a picture may have: more would not fit into memory.
@@ -30,21 +31,24 @@ const MANY: usize = 100_000_000;
 /// The picture of what happened is printed.
 fn print_picture<'a, O: Write>(
     alloc: Global,
-    members: u8,
+    members: Members,
     ids: &[u32],
     events: &[Event],
     answers: &[Answer],
+    sights: &[Option<Sight>],
     letters: &[Letter],
     outputs: &[ReleasedOutput],
     output: &mut O,
 ) -> Result<(), Fault<'a>>
-    ensures { OnOk result ((text : List ℕ) × IsPictureOf members ids.now events.now answers.now letters.now outputs.now text
+    ensures { OnOk result ((text : List ℕ) × IsPictureOf (member_count members) ids.now events.now answers.now sights.now letters.now outputs.now text
         × Appends (O.contents output.old) (O.contents output.new) (text ++ 10 ∷ [])) }
 {
     if answers.len() > MANY || ids.len() > MANY {
         return Err(Fault::Memory);
     }
-    let Ok(text) = picture(alloc, members, ids, events, answers, letters, outputs) else {
+    let Ok(text) = picture(
+        alloc, members, ids, events, answers, sights, letters, outputs,
+    ) else {
         return Err(Fault::Memory);
     };
     if writeln!(output, "{text}").is_err() {
@@ -62,28 +66,29 @@ fn draw_events<'a, N: Node, O: Write>(
     alloc: Global,
     nodes: Vec<N>,
     modems: Vec<Modem>,
-    members: u8,
+    members: Members,
     ids: &[u32],
     events: &[Event],
     output: &mut O,
 ) -> Result<World<N>, Fault<'a>>
     requires nodes { AreFresh N.who N.honest N.stands nodes.items }
     requires modems { AreNew modems.items }
-    requires members { length nodes.items ≡ members }
+    requires members { length nodes.items ≡ member_count members }
     requires ids { map (λ modem. modem.id) modems.items ≡ ids.now }
-    ensures { IfOk result (λ world. AreHonest world → DrawsEvents members ids.now events.now (O.contents output.old) (O.contents output.new)) }
+    ensures { IfOk result (λ world. AreHonest world → DrawsEvents (member_count members) ids.now events.now (O.contents output.old) (O.contents output.new)) }
 {
     let Ok(mut world) = World::new(alloc, nodes, modems) else {
         return Err(Fault::Memory);
     };
-    let Ok(report) = world.run(events) else {
+    let Ok(watched) = watch(alloc, &mut world, events) else {
         return Err(Fault::Memory);
     };
-    let answers = report.answers();
+    let answers = watched.answers.as_slice();
+    let sights = watched.sights.as_slice();
     let letters = world.letters();
     let outputs = world.outputs();
     print_picture(
-        alloc, members, ids, events, answers, letters, outputs, output,
+        alloc, members, ids, events, answers, sights, letters, outputs, output,
     )?;
     Ok(world)
 }
@@ -100,8 +105,7 @@ fn draw_plain<'a, O: Write>(alloc: Global, script: &Script, output: &mut O) -> R
     let Ok(modems) = new_modems(alloc, ids) else {
         return Err(Fault::Memory);
     };
-    let members = script.members.count();
-    draw_events(alloc, nodes, modems, members, ids, events, output)?;
+    draw_events(alloc, nodes, modems, script.members, ids, events, output)?;
     Ok(())
 }
 

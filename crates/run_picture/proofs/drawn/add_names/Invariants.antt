@@ -1,4 +1,4 @@
-use Rattle.std.proofs.Common.{◌≡◌, ◌++◌, ◌≤◌, string_bytes}
+use Rattle.std.proofs.Common.{◌≡◌, ◌++◌, string_bytes}
 use Rattle.xml_text.specs.Xml.{render}
 use Rattle.xml_text.specs.Each.{each}
 use Rattle.run_picture.specs.Pictures.{lane_name}

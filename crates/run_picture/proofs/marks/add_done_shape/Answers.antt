@@ -1,5 +1,4 @@
 use Rattle.std.proofs.Common.{◌-◌, string_bytes, codes, ap, refl, ◌∙◌}
-use Rattle.xml_text.specs.Xml.{Tag}
 use Rattle.xml_text.specs.Xml.Tag.{Circle}
 use Rattle.run_picture.specs.Marks.{done_shape, path_at}
 use Rattle.run_picture.proofs.Rendered.{other_tag}

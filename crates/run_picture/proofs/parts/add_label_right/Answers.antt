@@ -1,4 +1,4 @@
-use Rattle.std.proofs.Common.{◌+◌, ◌-◌, ◌++◌, string_bytes, codes, ap, ◌∙◌}
+use Rattle.std.proofs.Common.{◌+◌, ◌++◌, string_bytes, codes, ap, ◌∙◌}
 use Rattle.xml_text.specs.Xml.Tag.{Words}
 use Rattle.run_picture.specs.Marks.{kind_name}
 use Rattle.run_picture.specs.Words.{note_words}

@@ -5,4 +5,4 @@ use Rattle.upsched_picture_parts.proofs.draw.draw_plain.Goals as goal
 pub returns : goal.returns
 returns g c =
     let told = c.in_ok-draw_events.ensures (λ k d below. refl) in
-    rw (c.count-members.ensures, c.as_slice-ids.ensures.value, c.as_slice-events.ensures.value) at told
+    rw (c.as_slice-ids.ensures.value, c.as_slice-events.ensures.value) at told
