@@ -45,15 +45,6 @@ goes_on : (q : ℕ) (xs ys all : List (ℕ × ℕ)) (before after : Option Tally
 goes_on q xs ys all before after whole was is =
     is ∙ ap (λ (t : Option Tally). fold (tally_step q) t ys) was ∙ sym (fold-append (tally_step q) None xs ys) ∙ ap (λ (gs : List (ℕ × ℕ)). tally_at gs q) (sym whole)
 
-pub holds_none : (s : Stats) → s.maps.entries ≡ [] → s.uses.entries ≡ [] → s.sids.entries ≡ [] → Holds [] s
-holds_none s maps uses sids = record {
-  shown = [];
-  shows = refl;
-  maps = λ q. rw maps refl;
-  uses = λ q. rw uses refl;
-  sids = λ q. rw sids refl;
-}
-
 pub holds_other : (os : List Output) (s : Stats) (o : Output) → maps_in o ≡ [] → ShowsOne o [] → Holds os s → Holds (os ++ o ∷ []) s
 holds_other os s o none one held = record {
   shown = held.shown;

@@ -3,7 +3,9 @@ use Rattle.std.specs.Prelude.{◌≡◌, ℕ, ◌+◌, ◌-◌, ◌*◌, ◌^◌
 use Rattle.map_body.specs.declared.interval.Interval.{Interval}
 use Rattle.map_body.specs.Body.{Body}
 use Rattle.map_body.specs.Intervals.{intervals}
-use Rattle.map_body.specs.Layout.{IsBody}
+use Rattle.map_body.specs.Layout.{IsBody, ReadingFault}
+use Rattle.map_body.specs.declared.fault.MapFault.{MapFault}
+use Rattle.map_body.specs.declared.fault.MapFault.TheVariants.{OutOfMemory}
 use Rattle.map_body.specs.Sids.{everybody}
 use Rattle.grant_machine.specs.declared.output.Output.{Output}
 use Rattle.grant_machine.specs.declared.output.Output.TheVariants.{Nothing, ChannelSet, Assigned, Map, Refused}
@@ -45,3 +47,11 @@ uses_of shown = map (λ s. use_given s.0 s.1) shown
 
 abbrev pub sids_of : List (ℕ × Interval) → List (ℕ × ℕ)
 sids_of shown = flat_map (λ s. sid_given s.0 s.1) shown
+
+-- why an output isn't added: want of memory, or the first fault of a MAP's bytes
+abbrev pub AddingFault : Output → MapFault → Type 0
+AddingFault (Map ch start len bytes) fault = ReadingFault bytes fault
+AddingFault Nothing fault = fault ≡ OutOfMemory
+AddingFault (ChannelSet ch ucd) fault = fault ≡ OutOfMemory
+AddingFault (Assigned modem ch sid first last) fault = fault ≡ OutOfMemory
+AddingFault (Refused number) fault = fault ≡ OutOfMemory

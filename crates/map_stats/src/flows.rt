@@ -55,15 +55,16 @@ fn happen(
 }
 
 impl Flows {
-    ghost use Rattle.std.specs.Prelude.{◌≡◌, ℕ, ◌<◌, ◌^◌, List, [], ◌∷◌, ◌++◌, flat_map, length, OnOk};
+    ghost use Rattle.std.specs.Prelude.{◌≡◌, ℕ, ◌<◌, ◌^◌, List, [], ◌∷◌, ◌++◌, flat_map, length, IfErr, OnOk};
     ghost use Rattle.map_body.specs.Body.{Body};
     ghost use Rattle.map_body.specs.Intervals.{intervals};
-    ghost use Rattle.map_body.specs.Layout.{IsBody};
+    ghost use Rattle.map_body.specs.Layout.{IsBody, ReadingFault};
     ghost use Rattle.grant_machine.specs.declared.command.Command.{Command};
     ghost use Rattle.grant_machine.specs.declared.output.Output.{Output};
     ghost use Rattle.map_stats.specs.declared.happening.Happening.{Happening};
     ghost use Rattle.map_stats.specs.declared.happening.Happening.TheVariants.{Mapped};
     ghost use Rattle.map_stats.specs.Happenings.{key_of, given_by, mapped, taken, leased, TellsOne};
+    ghost use Rattle.map_stats.specs.Given.{AddingFault};
     ghost use Rattle.map_stats.specs.FlowsHeld.{HoldsFlows, Grows, IsOfFlow};
 
     /// Of no command.
@@ -139,7 +140,8 @@ impl Flows {
         bytes: &[u8],
     ) -> Result<(), MapFault>
         requires { start < 2 ^ 63 }
-        ensures { OnOk result ((body : Body) × IsBody bytes.now body × Grows (mapped ch start len (intervals body.elements)) self.old self.new) }
+        ensures fault { IfErr result (ReadingFault bytes.now) }
+        ensures grown { OnOk result ((body : Body) × IsBody bytes.now body × Grows (mapped ch start len (intervals body.elements)) self.old self.new) }
     {
         let map = decode(alloc, bytes)?;
         let found = map.intervals(alloc)?;
@@ -194,7 +196,8 @@ impl Flows {
         command: &Command,
         output: &Output,
     ) -> Result<(), MapFault>
-        ensures { OnOk result ((told : List (ℕ × Happening)) × TellsOne command.now output.now told × Grows told self.old self.new) }
+        ensures fault { IfErr result (AddingFault output.now) }
+        ensures told { OnOk result ((told : List (ℕ × Happening)) × TellsOne command.now output.now told × Grows told self.old self.new) }
     {
         match output {
             Output::Map {
@@ -219,7 +222,8 @@ impl Flows {
     /// Adds a command and its output. Where there is no memory, or a number would pass 2^64 - 1, it is OutOfMemory. Bytes
     /// of a MAP that are no body have their first fault.
     pub fn add(&mut self, alloc: Global, command: &Command, output: &Output) -> Result<(), MapFault>
-        ensures { OnOk result ((cs : List Command) (os : List Output) → length cs ≡ length os → HoldsFlows cs os self.old
+        ensures fault { IfErr result (AddingFault output.now) }
+        ensures held { OnOk result ((cs : List Command) (os : List Output) → length cs ≡ length os → HoldsFlows cs os self.old
             → HoldsFlows (cs ++ command.now ∷ []) (os ++ output.now ∷ []) self.new) }
     {
         self.add_told(alloc, command, output)

@@ -16,15 +16,15 @@ pub struct Stats {
 }
 
 impl Stats {
-    ghost use Rattle.std.specs.Prelude.{◌≡◌, ℕ, List, [], ◌∷◌, ◌++◌, map, flat_map, fold, IfOk, OnOk};
+    ghost use Rattle.std.specs.Prelude.{◌≡◌, ℕ, List, [], ◌∷◌, ◌++◌, map, flat_map, fold, IfOk, IfErr, OnOk};
     ghost use Rattle.std.specs.Ordering.{nat_cmp};
     ghost use Rattle.std.specs.BTreeMap.{get};
     ghost use Rattle.map_body.specs.Body.{Body};
     ghost use Rattle.map_body.specs.Intervals.{intervals};
-    ghost use Rattle.map_body.specs.Layout.{IsBody};
+    ghost use Rattle.map_body.specs.Layout.{IsBody, ReadingFault};
     ghost use Rattle.grant_machine.specs.declared.output.Output.{Output};
     ghost use Rattle.map_stats.specs.Tallies.{tally_step};
-    ghost use Rattle.map_stats.specs.Given.{use_given, sid_given};
+    ghost use Rattle.map_stats.specs.Given.{use_given, sid_given, AddingFault};
     ghost use Rattle.map_stats.specs.Held.{Holds, AddsIntervals};
 
     /// Of no output.
@@ -71,6 +71,7 @@ impl Stats {
     fn add_map(&mut self, alloc: Global, ch: u8, len: u16, bytes: &[u8]) -> Result<(), MapFault>
         ensures maps { OnOk result ((q : ℕ) → get nat_cmp self.new.maps q ≡ tally_step q (get nat_cmp self.old.maps q) (ch, len)) }
         ensures given { OnOk result ((body : Body) × IsBody bytes.now body × AddsIntervals ch (intervals body.elements) self.old self.new) }
+        ensures fault { IfErr result (ReadingFault bytes.now) }
     {
         let map = decode(alloc, bytes)?;
         add(&mut self.maps, u32::from(ch), len)?;
@@ -82,7 +83,8 @@ impl Stats {
     /// Adds the MAP of an output, if it is one. Bytes that are no body have their first fault. Where there is no memory, or
     /// a number would pass 2^64 - 1, it is OutOfMemory.
     pub fn add(&mut self, alloc: Global, output: &Output) -> Result<(), MapFault>
-        ensures { OnOk result ((os : List Output) → Holds os self.old → Holds (os ++ output.now ∷ []) self.new) }
+        ensures held { OnOk result ((os : List Output) → Holds os self.old → Holds (os ++ output.now ∷ []) self.new) }
+        ensures fault { IfErr result (AddingFault output.now) }
     {
         match output {
             Output::Map { ch, len, bytes, .. } => self.add_map(alloc, *ch, *len, bytes.as_slice()),

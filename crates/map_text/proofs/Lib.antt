@@ -1,2 +1,3 @@
 mod Covering
+mod Faulting
 mod Fitting

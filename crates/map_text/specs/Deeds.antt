@@ -1,8 +1,10 @@
 -- What the commands of a plan gave, as far as MAPs show it: a deed for each command.
-use Rattle.std.specs.Prelude.{◌≡◌, ℕ, IsTrue, List, [], ◌∷◌}
+use Rattle.std.specs.Prelude.{◌≡◌, ℕ, ◌⊎◌, IsTrue, List, [], ◌∷◌}
 use Rattle.map_body.specs.Body.{Body}
 use Rattle.map_body.specs.Intervals.{intervals}
-use Rattle.map_body.specs.Layout.{IsBody}
+use Rattle.map_body.specs.Layout.{IsBody, FirstFault}
+use Rattle.map_body.specs.declared.fault.MapFault.{MapFault}
+use Rattle.map_body.specs.declared.fault.MapFault.TheVariants.{Short, Trailing, Expansion, OutOfOrder, NoNull, OutOfMemory, TooMany}
 use Rattle.grant_machine.specs.declared.command.Command.{Command}
 use Rattle.grant_machine.specs.declared.command.Command.TheVariants as commands
 use Rattle.grant_machine.specs.declared.output.Output.{Output}
@@ -36,6 +38,26 @@ IsDeedOf c (outputs.ChannelSet ch ucd) d = d ≡ deeds.Channel ch
 IsDeedOf c (outputs.Assigned modem ch sid first last) d = d ≡ flow_deed c modem ch sid first last
 IsDeedOf c (outputs.Map ch start len bytes) d = (body : Body) × IsBody bytes body × IsTrue (follow 0 (intervals body.elements) len) × (d ≡ deeds.Map ch start len body)
 IsDeedOf c (outputs.Refused number) d = d ≡ deeds.Other
+
+-- why there is no body of so many minislots: the first fault of bytes that are none; a body that leaves a minislot out is OutOfOrder 0;
+-- and of bytes that are a body nothing else but want of memory
+abbrev pub BodyFault : ℕ → List ℕ → MapFault → Type 0
+BodyFault len bytes (OutOfOrder i) =
+    FirstFault bytes (OutOfOrder i) ⊎ ((i ≡ 0) × (body : Body) × IsBody bytes body × ¬ IsTrue (follow 0 (intervals body.elements) len))
+BodyFault len bytes OutOfMemory = (body : Body) × IsBody bytes body
+BodyFault len bytes Short = FirstFault bytes Short
+BodyFault len bytes Trailing = FirstFault bytes Trailing
+BodyFault len bytes (Expansion i) = FirstFault bytes (Expansion i)
+BodyFault len bytes NoNull = FirstFault bytes NoNull
+BodyFault len bytes TooMany = ⊥
+
+-- why there is no deed of an output: its MAP's bytes alone can be at fault
+abbrev pub IsDeedFault : Output → MapFault → Type 0
+IsDeedFault (outputs.Map ch start len bytes) fault = BodyFault len bytes fault
+IsDeedFault outputs.Nothing fault = ⊥
+IsDeedFault (outputs.ChannelSet ch ucd) fault = ⊥
+IsDeedFault (outputs.Assigned modem ch sid first last) fault = ⊥
+IsDeedFault (outputs.Refused number) fault = ⊥
 
 -- those of commands with their outputs, one for each
 abbrev pub AreDeeds : List Command → List Output → List Deed → Type 0

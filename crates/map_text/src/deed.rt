@@ -1,11 +1,13 @@
 //! What the commands of a plan gave, as far as MAPs show it.
 
-ghost use Rattle.std.specs.Prelude.{◌≡◌, IfOk, IsTrue};
+ghost use Rattle.std.specs.Prelude.{◌≡◌, IfOk, IfErr, IsTrue};
+ghost use Rattle.map_body.specs.declared.fault.MapFault.TheVariants.{OutOfMemory};
 ghost use Rattle.map_body.specs.Intervals.{intervals};
 ghost use Rattle.map_body.specs.Layout.{IsBody};
 ghost use Rattle.grant_machine.specs.declared.command.Command.{Command};
 ghost use Rattle.map_text.specs.Cover.{follow};
-ghost use Rattle.map_text.specs.Deeds.{quiet_deed, flow_deed, IsDeedOf};
+ghost use Rattle.map_text.specs.declared.deed.Deed.{Deed};
+ghost use Rattle.map_text.specs.Deeds.{quiet_deed, flow_deed, BodyFault, IsDeedOf, IsDeedFault};
 
 use flow_state::FlowKind;
 use grant_machine::{Command, Output};
@@ -104,6 +106,7 @@ fn follow(intervals: &[Interval], len: u16) -> bool
 fn whole_body(alloc: Global, len: u16, bytes: &[u8]) -> Result<MapBody, MapFault>
     ensures body { IfOk result (IsBody bytes.now) }
     ensures whole { IfOk result (λ body. IsTrue (follow 0 (intervals body.elements) len)) }
+    ensures fault { IfErr result (BodyFault len bytes.now) }
 {
     let body = decode(alloc, bytes)?;
     let intervals = body.intervals(alloc)?;
@@ -113,10 +116,10 @@ fn whole_body(alloc: Global, len: u16, bytes: &[u8]) -> Result<MapBody, MapFault
     Ok(body)
 }
 
-/// What a command with this output did. Bytes that are no body have their first fault; a body that leaves one of the MAP's
-/// minislots out is OutOfOrder.
-pub fn deed_of(alloc: Global, command: &Command, output: &Output) -> Result<Deed, MapFault>
-    ensures { IfOk result (IsDeedOf command.now output.now) }
+/// What a command with this output did, or the fault of its MAP's bytes.
+fn deed_told(alloc: Global, command: &Command, output: &Output) -> Result<Deed, MapFault>
+    ensures deed { IfOk result (IsDeedOf command.now output.now) }
+    ensures fault { IfErr result (IsDeedFault output.now) }
 {
     match output {
         Output::Nothing => Ok(quiet_deed(command)),
@@ -144,4 +147,14 @@ pub fn deed_of(alloc: Global, command: &Command, output: &Output) -> Result<Deed
         }
         Output::Refused(_) => Ok(Deed::Other),
     }
+}
+
+/// What a command with this output did. Bytes that are no body have their first fault; a body that leaves one of the MAP's
+/// minislots out is OutOfOrder 0; where there is a deed, nothing but want of memory is an error.
+pub fn deed_of(alloc: Global, command: &Command, output: &Output) -> Result<Deed, MapFault>
+    ensures deed { IfOk result (IsDeedOf command.now output.now) }
+    ensures fault { IfErr result (IsDeedFault output.now) }
+    ensures given { (deed : Deed) → IsDeedOf command.now output.now deed → IfErr result (λ fault. fault ≡ OutOfMemory) }
+{
+    deed_told(alloc, command, output)
 }

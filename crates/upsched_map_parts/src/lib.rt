@@ -13,6 +13,7 @@ mod words;
 
 pub use body_show::{body_of, show};
 pub use fault::Fault;
+pub use lines::{element_text, head_text};
 pub use plan::{PlanFault, read_plan};
 pub use plan_run::{maps, plan_of};
 pub use status::Status;

@@ -28,13 +28,6 @@ records-append n (x ∷ xs) ys =
     ap (λ (t : List ℕ). record_of (n % 2 ^ 32) (frame_of x) ++ t) (rw count at rest)
     ∙ sym (append_assoc (record_of (n % 2 ^ 32) (frame_of x)) (records_from (n + 1) xs) (records_from (n + length (x ∷ xs)) ys))
 
--- one MAP is one record
-pub one_record : (old new : Option (List ℕ)) (before seconds : ℕ) (bytes written : List ℕ) → seconds ≡ before % 2 ^ 32 → written ≡ record_of seconds (frame_of bytes)
-    → Appends old new written → Appends old new (records_from before (bytes ∷ []))
-one_record old new before seconds bytes written time is grown =
-    let whole : written ≡ record_of (before % 2 ^ 32) (frame_of bytes) ++ [] = is ∙ ap (λ (n : ℕ). record_of n (frame_of bytes)) time ∙ sym (append-nil (record_of (before % 2 ^ 32) (frame_of bytes))) in
-    rw whole at grown
-
 -- the outputs and the rows after one command more
 pub outputs_next : (cs : List Command) (i : ℕ) (d : Command) (m : Rows) → i < length cs → m ≡ rows_after (take i cs)
     → outputs_of (take (i + 1) cs) ≡ outputs_of (take i cs) ++ (step m (get_or cs i d)).output ∷ []

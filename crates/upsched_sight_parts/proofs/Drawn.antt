@@ -1,6 +1,6 @@
 -- What a list of commands did, one command after another, and what is told of it.
-use Rattle.std.proofs.Common.{◌≡◌, ℕ, ◌+◌, ◌<◌, ◌≤◌, List, [], ◌∷◌, ◌++◌, length, take, get_or, Option, Some, None, IfSome, Result, Ok, Err, OnOk, ap, ◌∙◌, sym, subst}
-use Rattle.std.proofs.lemmas.List.{take_more, take_all}
+use Rattle.std.proofs.Common.{◌≡◌, ℕ, ◌+◌, ◌<◌, ◌≤◌, List, [], ◌∷◌, ◌++◌, length, take, get_or, Option, Some, None, IfSome, Result, Ok, Err, OnOk, ◌∙◌, sym, subst}
+use Rattle.std.proofs.lemmas.List.{take_more}
 use Rattle.std.specs.Io.KnownBytes.{Appends}
 use Rattle.flow_state.specs.Rows.{Rows}
 use Rattle.grant_machine.specs.declared.command.Command.{Command}
@@ -11,7 +11,8 @@ use Rattle.map_text.specs.declared.deed.Deed.{Deed}
 use Rattle.map_text.specs.Deeds.{IsDeedOf, AreDeeds}
 use Rattle.map_text.specs.Texts.{plan_text}
 use Rattle.upsched_map_parts.specs.Plan.{IsPlan}
-use Rattle.upsched_sight_parts.specs.Draws.{TellsMaps}
+use Rattle.map_picture.specs.Pictures.{IsPictureOf}
+use Rattle.upsched_sight_parts.specs.Draws.{DrawsMaps, TellsMaps}
 use Rattle.upsched_sight_parts.proofs.Captured.{outputs_next, rows_next}
 
 -- one deed more
@@ -42,12 +43,15 @@ one_done cs i b m m' ds d below before rows is =
           (subst (λ (xs : List Command). AreDeeds xs (outputs_of (take i cs) ++ (step m c).output ∷ []) (ds ++ d ∷ [])) (sym whole) more);
     }
 
-pub all_done : (cs : List Command) (i : ℕ) (m : Rows) (ds : List Deed) → length cs ≤ i → Did cs i m ds → AreDeeds cs (outputs_of cs) ds
-all_done cs i m ds end did = let same = take_all i cs end in rw same at did.deeds
-
 -- where the text of what a plan's commands did was printed, the plan's was told
 pub maps_told : {T E : Type 0} (r : Result T E) (known old new : Option (List ℕ)) (cs : List Command) (ds : List Deed) → IfSome known (λ text. IsPlan text cs)
     → AreDeeds cs (outputs_of cs) ds → OnOk r (Appends old new (plan_text ds)) → OnOk r (TellsMaps known old new)
 maps_told (Err e) known old new cs ds plan are printed = tt
 maps_told (Ok x) None old new cs ds plan are printed = tt
 maps_told (Ok x) (Some text) old new cs ds plan are printed = (cs, ds, plan, are, printed)
+
+-- and where a picture of it was
+pub maps_drawn : (known old new : Option (List ℕ)) (cs : List Command) (ds : List Deed) → IfSome known (λ text. IsPlan text cs)
+    → AreDeeds cs (outputs_of cs) ds → (svg : List ℕ) × IsPictureOf ds svg × Appends old new (svg ++ 10 ∷ []) → DrawsMaps known old new
+maps_drawn None old new cs ds plan are printed = tt
+maps_drawn (Some text) old new cs ds plan are printed = (cs, ds, printed.0, plan, are, printed.1, printed.2)

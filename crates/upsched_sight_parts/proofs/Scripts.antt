@@ -6,7 +6,7 @@ use Rattle.script_text.specs.CommandTable.{SpellsCommand}
 use Rattle.script_text.specs.Items.{items_at, AllMean}
 use Rattle.grant_machine.specs.declared.command.Command.{Command}
 use Rattle.upsched_map_parts.specs.Plan.{IsPlan, NoPlan}
-use Rattle.upsched_sight_parts.specs.Plans.{IsScriptText, IsScriptAlone, IsKnownScript}
+use Rattle.upsched_sight_parts.specs.Plans.{IsScriptAlone, IsKnownScript}
 
 none_mean : (items : Option (List Data)) (cs : List Command) → AllMean SpellsCommand items [] → AllMean SpellsCommand items cs → cs ≡ []
 none_mean None cs empty means = absurd empty

@@ -3,7 +3,7 @@ use Rattle.std.proofs.Common.{◌≡◌, ℕ, ◌+◌, ◌<◌, ◌≤◌, List,
 use Rattle.std.specs.List.{flat_map}
 use Rattle.std.proofs.KnownBytes.{Appends-trans}
 use Rattle.map_stats.specs.declared.tally.Tally.{Tally}
-use Rattle.std.proofs.lemmas.List.{take_all, take_more}
+use Rattle.std.proofs.lemmas.List.{take_more}
 use Rattle.std.specs.Io.KnownBytes.{Appends}
 use Rattle.std.specs.Ordering.{nat_cmp}
 use Rattle.std.specs.BTreeMap.{IsOrdered}
@@ -48,10 +48,6 @@ one_counted cs i d m m' s t f g output below before rows is adds flows =
           let whole = sym (take_more cs i d below) in
           rw (all, whole) at more;
     }
-
-pub all_counted : (cs : List Command) (i : ℕ) (m : Rows) (s : Stats) (f : Flows) → length cs ≤ i → Counted cs i m s f
-    → Holds (outputs_of cs) s × HoldsFlows cs (outputs_of cs) f
-all_counted cs i m s f end counted = let same = take_all i cs end in (rw same at counted.holds, rw same at counted.flows)
 
 -- tables in the order of their keys are the tallies
 pub are_stats : (s : Stats) → IsOrdered nat_cmp s.maps → IsOrdered nat_cmp s.uses → IsOrdered nat_cmp s.sids

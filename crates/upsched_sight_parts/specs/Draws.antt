@@ -1,14 +1,21 @@
--- What is told of a plan by its MAPs' text.
-use Rattle.std.specs.Prelude.{ℕ, List, Option, Some, None}
+-- What is told of a plan by its MAPs' text, and by their picture.
+use Rattle.std.specs.Prelude.{ℕ, List, [], ◌∷◌, ◌++◌, Option, Some, None}
 use Rattle.std.specs.Io.KnownBytes.{Appends}
 use Rattle.grant_machine.specs.declared.command.Command.{Command}
 use Rattle.grant_machine.specs.Runs.{outputs_of}
 use Rattle.map_text.specs.declared.deed.Deed.{Deed}
 use Rattle.map_text.specs.Deeds.{AreDeeds}
 use Rattle.map_text.specs.Texts.{plan_text}
+use Rattle.map_picture.specs.Pictures.{IsPictureOf}
 use Rattle.upsched_map_parts.specs.Plan.{IsPlan}
 
 -- what is printed is the text of what the plan's commands did, where the plan's text is known
 abbrev pub TellsMaps : Option (List ℕ) → Option (List ℕ) → Option (List ℕ) → Type 0
 TellsMaps None old new = Unit {0}
 TellsMaps (Some text) old new = (cs : List Command) × (ds : List Deed) × IsPlan text cs × AreDeeds cs (outputs_of cs) ds × Appends old new (plan_text ds)
+
+-- what is printed is a picture of what the plan's commands did, where the plan's text is known
+abbrev pub DrawsMaps : Option (List ℕ) → Option (List ℕ) → Option (List ℕ) → Type 0
+DrawsMaps None old new = Unit {0}
+DrawsMaps (Some text) old new =
+    (cs : List Command) × (ds : List Deed) × (svg : List ℕ) × IsPlan text cs × AreDeeds cs (outputs_of cs) ds × IsPictureOf ds svg × Appends old new (svg ++ 10 ∷ [])

@@ -3,3 +3,4 @@ pub mod Reports
 pub mod Plans
 pub mod Stats
 pub mod Draws
+pub mod Named

@@ -1,7 +1,7 @@
 -- What the words tell that look into a plan.
-use Rattle.std.specs.Prelude.{◌≡◌, ℕ, ◌≤◌, true, List, [], ◌∷◌, length, Option, Some, None, flat_map}
+use Rattle.std.specs.Prelude.{◌≡◌, ℕ, ◌≤◌, Bool, true, ◌&&◌, not, is_some, codes, List, [], ◌∷◌, length, Option, Some, None, flat_map}
 use Rattle.std.specs.Io.KnownBytes.{Appends}
-use Rattle.toml.specs.Data.{table, Members}
+use Rattle.toml.specs.Data.{Data, get, table, Members}
 use Rattle.toml.specs.Parse.{parse_document}
 use Rattle.grant_machine.specs.declared.command.Command.{Command}
 use Rattle.grant_machine.specs.declared.output.Output.{Output}
@@ -22,7 +22,14 @@ IsScriptText text = (ms : Members) × (parse_document text ≡ Some ms) × (is_s
 abbrev pub IsScriptAlone : List ℕ → Type 0
 IsScriptAlone text = IsPlan text [] × IsScriptText text
 
--- the text is known to be that
+-- the text has the key of a plan's commands, and none of a script's
+abbrev pub is_plan : Data → Bool
+is_plan d = is_some (get (codes "command") d) && not (is_script d)
+
+abbrev pub IsPlanText : List ℕ → Type 0
+IsPlanText text = (ms : Members) × (parse_document text ≡ Some ms) × (is_plan (table ms) ≡ true)
+
+-- the text is known to be a script without commands
 abbrev pub IsKnownScript : Option (List ℕ) → Type 0
 IsKnownScript None = ⊥
 IsKnownScript (Some text) = IsScriptAlone text

@@ -1,6 +1,6 @@
-//! `upsched draw PLAN --plan --text`: the MAPs of a plan for a terminal.
+//! `upsched draw PLAN --plan`: the MAPs of a plan as a picture, or with `--text` for a terminal.
 
-ghost use Rattle.std.specs.Prelude.{◌≡◌, ◌≢◌, flat_map, IfOk, OnOk};
+ghost use Rattle.std.specs.Prelude.{◌≡◌, ◌≢◌, ◌++◌, ◌∷◌, [], ℕ, List, flat_map, IfOk, OnOk};
 ghost use Rattle.std.specs.Io.KnownBytes.{Appends};
 ghost use Rattle.grant_machine.specs.Steps.{step};
 ghost use Rattle.grant_machine.specs.Runs.{outputs_of, IsReached};
@@ -9,16 +9,21 @@ ghost use Rattle.map_text.specs.Texts.{channel_text, plan_text};
 ghost use Rattle.upsched_map_parts.specs.declared.status.Status.TheVariants.{Done, NotUnderstood};
 ghost use Rattle.upsched_map_parts.specs.Plan.{NoPlan};
 ghost use Rattle.upsched_sight_parts.specs.Plans.{IsKnownScript};
-ghost use Rattle.upsched_sight_parts.specs.Draws.{TellsMaps};
+ghost use Rattle.map_picture.specs.Pictures.{IsPictureOf};
+ghost use Rattle.upsched_sight_parts.specs.Draws.{DrawsMaps, TellsMaps};
 
 use crate::captures::{answer_of, write_bytes};
 use crate::plan_stats::not_added;
 use crate::plan_words::{Refusal, commands_of};
 use grant_machine::{Command, Machine};
+use map_picture::picture;
 use map_text::{Deed, channel_text, channels_of, deed_of};
 use std::alloc::Global;
 use std::io::{Read, Write};
 use upsched_map_parts::{Fault, Status};
+
+/// As many commands as a picture may have: more would not fit into memory.
+const MANY: usize = 10_000_000;
 
 /// Applies a command: what it did.
 fn deed_done<'a>(alloc: Global, machine: &mut Machine, command: &Command) -> Result<Deed, Fault<'a>>
@@ -125,6 +130,66 @@ pub fn draw_text<R: Read, O: Write, E: Write>(
     ensures understood { result ≢ NotUnderstood }
 {
     match print_plan(alloc, plan, path, output) {
+        Ok(()) => Status::Done,
+        Err(refusal) => refusal.told(errors),
+    }
+}
+
+/// The picture of what commands did is printed.
+fn print_picture<'a, O: Write>(
+    alloc: Global,
+    deeds: &[Deed],
+    output: &mut O,
+) -> Result<(), Fault<'a>>
+    ensures { OnOk result ((text : List ℕ) × IsPictureOf deeds.now text × Appends (O.contents output.old) (O.contents output.new) (text ++ 10 ∷ [])) }
+{
+    if deeds.len() > MANY {
+        return Err(Fault::Memory);
+    }
+    let Ok(text) = picture(alloc, deeds) else {
+        return Err(Fault::Memory);
+    };
+    if writeln!(output, "{text}").is_err() {
+        return Err(Fault::Output);
+    }
+    match output.flush() {
+        Ok(()) => Ok(()),
+        Err(_) => Err(Fault::Output),
+    }
+}
+
+fn print_drawn<'a, R: Read, O: Write>(
+    alloc: Global,
+    plan: &mut R,
+    path: &'a str,
+    output: &mut O,
+) -> Result<(), Refusal<'a>>
+    ensures told { OnOk result (DrawsMaps (R.remaining plan.old) (O.contents output.old) (O.contents output.new)) }
+    ensures no_plan { NoPlan (R.remaining plan.old) → output.new ≡ output.old }
+    ensures script { IsKnownScript (R.remaining plan.old) → output.new ≡ output.old }
+{
+    let commands = commands_of(alloc, plan, path)?;
+    let deeds = deeds_of(alloc, commands.as_slice())?;
+    print_picture(alloc, deeds.as_slice(), output)?;
+    Ok(())
+}
+
+/// Applies a plan's commands to one scheduler and prints a picture of its MAPs as an SVG document. A fault of the plan,
+/// and a script without commands, are told in one line before anything is printed.
+pub fn draw_plan<R: Read, O: Write, E: Write>(
+    alloc: Global,
+    plan: &mut R,
+    path: &str,
+    output: &mut O,
+    errors: &mut E,
+) -> Status
+    ensures told { result ≡ Done → DrawsMaps (R.remaining plan.old) (O.contents output.old) (O.contents output.new) }
+    ensures quiet { result ≡ Done → errors.new ≡ errors.old }
+    ensures no_plan { NoPlan (R.remaining plan.old) → output.new ≡ output.old }
+    ensures script { IsKnownScript (R.remaining plan.old) → output.new ≡ output.old }
+    ensures understood { result ≢ NotUnderstood }
+{
+    match print_drawn(alloc, plan, path, output) {
         Ok(()) => Status::Done,
         Err(refusal) => refusal.told(errors),
     }

@@ -3,7 +3,8 @@
 ghost use Rattle.std.specs.Prelude.{◌≡◌, ◌↔◌, ◌≢◌, IfOk, IfSome, true};
 ghost use Rattle.upsched_map_parts.specs.declared.status.Status.TheVariants.{Faulted};
 ghost use Rattle.upsched_map_parts.specs.Plan.{IsPlan};
-ghost use Rattle.upsched_sight_parts.specs.Plans.{IsScriptText, IsScriptAlone};
+ghost use Rattle.toml.specs.View.{view};
+ghost use Rattle.upsched_sight_parts.specs.Plans.{is_plan, IsPlanText, IsScriptText, IsScriptAlone};
 
 use crate::form::is_script;
 use grant_machine::Command;
@@ -53,6 +54,35 @@ impl<'a> Refusal<'a> {
             }
         }
     }
+}
+
+/// Whether the key of a plan's commands is there, and none of a script's.
+fn is_plan(whole: &Value) -> bool
+    ensures { result ≡ is_plan (view whole.now) }
+{
+    whole.get("command").is_some() && !is_script(whole)
+}
+
+/// Whether a text is that of a plan, and of no script.
+pub fn is_plan_text<'a>(alloc: Global, text: &str) -> Result<bool, Fault<'a>>
+    ensures { IfOk result (λ is. (is ≡ true) ↔ IsPlanText text.now) }
+{
+    match toml::table_from_str(alloc, text) {
+        Ok(found) => Ok(is_plan(&Value::Table(found))),
+        Err(error) if error.is_memory() => Err(Fault::Memory),
+        Err(_) => Ok(false),
+    }
+}
+
+/// Tells that a plan is where a script is due, and what takes it.
+pub fn tell_plan<E: Write>(path: &str, errors: &mut E) -> Status
+    ensures { result ≡ Faulted }
+{
+    let _ = writeln!(
+        errors,
+        "upsched: {path} is a plan: upsched draw --plan takes it"
+    );
+    Status::Faulted
 }
 
 /// Whether a text has a key of a script.

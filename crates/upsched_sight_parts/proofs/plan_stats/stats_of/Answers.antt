@@ -1,4 +1,4 @@
-use Rattle.upsched_sight_parts.proofs.Told.{one_counted, all_counted}
+use Rattle.upsched_sight_parts.proofs.Told.{one_counted}
 use Rattle.upsched_sight_parts.proofs.plan_stats.stats_of.Goals as goal
 
 pub loop-command-preserved : goal.loop-command-preserved

@@ -1,6 +1,5 @@
 use Rattle.std.proofs.Common.{◌≡◌, false, true, List, [], length, sym, ◌∙◌, ap}
 use Rattle.std.proofs.lemmas.Bool.{false≢true, both_ways, eq-eqb}
-use Rattle.grant_machine.specs.declared.command.Command.{Command}
 use Rattle.upsched_sight_parts.proofs.Scripts.{only_plan}
 use Rattle.upsched_sight_parts.proofs.plan_words.is_script_alone.Goals as goal
 

@@ -1,0 +1,73 @@
+-- A MAP as a strip of cells, a cell an interval, on an axis of its own.
+use Rattle.std.specs.Prelude.{◌≡◌, ℕ, ◌+◌, ◌-◌, ◌*◌, ◌/◌, ◌%◌, ◌==◌, ◌<◌, nat_lt, if◌then◌else◌, max, IsTrue, List, [], ◌∷◌, ◌++◌, length, codes, decimal, slice_get, Option, Some, None}
+use Rattle.map_body.specs.declared.interval.Interval.{Interval}
+use Rattle.map_body.specs.Iucs.{request}
+use Rattle.map_body.specs.Sids.{everybody}
+use Rattle.map_text.specs.Cover.{follow}
+use Rattle.xml_text.specs.Xml.{Xml, join, said, shape, titled}
+use Rattle.xml_text.specs.Xml.Tag.{Rectangle, Words}
+use Rattle.xml_text.specs.Xml.Xml.{Nothing}
+use Rattle.xml_text.specs.Each.{each}
+
+-- the colour of a SID, by its remainder by 7
+abbrev pub colour : ℕ → List ℕ
+colour r =
+    if r == 0 then codes "g0" else if r == 1 then codes "g1" else if r == 2 then codes "g2" else if r == 3 then codes "g3"
+    else if r == 4 then codes "g4" else if r == 5 then codes "g5" else codes "g6"
+
+abbrev pub class_of : ℕ → List ℕ
+class_of sid = if sid == everybody then codes "open" else colour (sid % 7)
+
+-- how high an interval is, of 14: a poll is less
+abbrev pub high : Interval → ℕ
+high i = if i.sid == everybody then 14 else if i.iuc == request then 6 else 14
+
+-- what words on it look like
+abbrev pub words_class : ℕ → List ℕ
+words_class sid = if sid == everybody then codes "s mute" else codes "s k"
+
+-- where a minislot of a MAP of so many begins: 768 units for all of them, from 104 on
+abbrev pub cell_x : (len x : ℕ) → ℕ
+cell_x len x = 104 + x * 768 / max len 1
+
+abbrev pub cell_width : (len : ℕ) → Interval → ℕ
+cell_width len i = cell_x len i.to - cell_x len i.from
+
+-- whose minislots of a SID are
+abbrev pub owner_name : ℕ → List ℕ
+owner_name sid = if sid == everybody then codes "all" else codes "sid " ++ decimal sid
+
+-- what a cell tells: whose it is, its use, where it begins, how long it is
+abbrev pub cell_title : Interval → List ℕ
+cell_title i =
+    owner_name i.sid ++ (codes ", iuc " ++ (decimal i.iuc ++ (codes ": offset " ++ (decimal i.from ++ (codes ", " ++ (decimal (i.to - i.from) ++ codes " long"))))))
+
+abbrev pub cell_shape : (len y : ℕ) → Interval → Xml
+cell_shape len y i = titled (cell_title i) (shape (Rectangle (cell_x len i.from) y (cell_width len i) (high i) 0 (class_of i.sid)))
+
+-- whose it is, where there is room for it
+abbrev pub cell_words : (len y : ℕ) → Interval → Xml
+cell_words len y i = if nat_lt (cell_width len i) 44 then Nothing else said (Words (cell_x len i.from + 4) (y + 11) (words_class i.sid)) (owner_name i.sid)
+
+abbrev pub cell : (len y : ℕ) → Interval → Xml
+cell len y i = join (cell_shape len y i) (cell_words len y i)
+
+abbrev pub cell_for : (len y : ℕ) → Option Interval → Xml
+cell_for len y (Some i) = cell len y i
+cell_for len y None = Nothing
+
+abbrev pub cell_at : (len y : ℕ) → List Interval → ℕ → Xml
+cell_at len y is k = cell_for len y (slice_get is k)
+
+-- all of them
+abbrev pub cells : (len y : ℕ) → List Interval → Xml
+cells len y is = each (length is) (cell_at len y is)
+
+-- how wide intervals are together, where minislots begin there
+abbrev pub widths : (ℕ → ℕ) → List Interval → ℕ
+widths x [] = 0
+widths x (i ∷ is) = (x i.to - x i.from) + widths x is
+
+-- the cells of intervals that follow one another from a MAP's first minislot to its last one fill the strip
+abbrev pub CellsFill : Type 0
+CellsFill = (is : List Interval) (len : ℕ) → 0 < len → IsTrue (follow 0 is len) → widths (cell_x len) is ≡ 768

@@ -1,0 +1,6 @@
+pub mod Axis
+pub mod Picked
+pub mod Cells
+pub mod Owners
+pub mod Asked
+pub mod Pictures

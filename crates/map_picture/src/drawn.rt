@@ -1,0 +1,216 @@
+//! The MAPs of a plan as one picture.
+
+ghost use Rattle.std.specs.Prelude.{◌≡◌, ◌++◌, ◌+◌, ◌*◌, ◌<◌, ◌^◌, IfOk, OnOk, length, string_bytes};
+ghost use Rattle.xml_text.specs.Xml.{Xml, render};
+ghost use Rattle.xml_text.specs.Drawings.{AreDrawn};
+ghost use Rattle.xml_text.specs.Each.{each};
+ghost use Rattle.map_text.specs.Texts.{channels_of};
+ghost use Rattle.map_picture.specs.declared.picked.Section.TheVariants.{Owners, Requests, Maps};
+ghost use Rattle.map_picture.specs.Picked.{picked};
+ghost use Rattle.map_picture.specs.Pictures.{channel, channel_at, channel_height, channel_rows, channels_drawn, first_top, heading, layers, tops_from, IsPictureOf};
+
+use crate::axis::{Page, axis_of};
+use crate::picked::{Section, picked};
+use crate::rows::{add_frames, add_section};
+use crate::style::{NOTE, STYLE, legend, patterns};
+use map_text::{Deed, channels_of};
+use std::alloc::{AllocError, Global};
+use xml_text::{Layers, add_words, drawing};
+
+fn channel_height(alloc: Global, deeds: &[Deed], ch: u8) -> Result<u64, AllocError>
+    requires { length deeds.now < 2 ^ 27 }
+    ensures value { IfOk result (λ height. height ≡ channel_height deeds.now ch) }
+    ensures small { IfOk result (λ height. height < 2 ^ 34) }
+{
+    let owners = picked(alloc, Section::Owners, ch, deeds)?.len() as u64;
+    let requests = picked(alloc, Section::Requests, ch, deeds)?.len() as u64;
+    let maps = picked(alloc, Section::Maps, ch, deeds)?.len() as u64;
+    Ok(64 + 22 * owners + 22 * requests + 22 * maps)
+}
+
+/// Where channels begin, and where the last one ends.
+fn tops_of(alloc: Global, deeds: &[Deed], channels: &[u8]) -> Result<Vec<u64>, AllocError>
+    requires deeds { length deeds.now < 2 ^ 27 }
+    requires channels { length channels.now < 2 ^ 26 }
+    ensures { IfOk result (λ tops. tops.items ≡ tops_from deeds.now first_top channels.now) }
+{
+    let mut tops = Vec::new(alloc);
+    let mut y: u64 = 56;
+    for ch in channels {
+        tops.push(y)?;
+        y += channel_height(alloc, deeds, *ch)?;
+    }
+    tops.push(y)?;
+    Ok(tops)
+}
+
+fn add_heading(alloc: Global, out: &mut String, ch: u8, y: u64) -> Result<(), AllocError>
+    requires { y < 2 ^ 62 }
+    ensures { OnOk result (string_bytes out.new ≡ string_bytes out.old ++ render (heading ch y)) }
+{
+    let words = format!(in alloc; "channel {ch}")?;
+    add_words(alloc, out, (16, y + 16), "h", words.as_str())
+}
+
+/// The rows of a channel, from a height down.
+fn add_rows(
+    alloc: Global,
+    out: &mut String,
+    page: Page,
+    deeds: &[Deed],
+    y: u64,
+    owners: &[usize],
+    requests: &[usize],
+    maps: &[usize],
+) -> Result<(), AllocError>
+    requires y { y < 2 ^ 60 }
+    requires deeds { length deeds.now < 2 ^ 27 }
+    requires few_owners { length owners.now < 2 ^ 27 }
+    requires few_requests { length requests.now < 2 ^ 27 }
+    requires few_maps { length maps.now < 2 ^ 27 }
+    ensures { OnOk result (string_bytes out.new ≡ string_bytes out.old ++ render (channel_rows page deeds.now y owners.now requests.now maps.now)) }
+{
+    let first = 22 * (owners.len() as u64);
+    let second = 22 * (requests.len() as u64);
+    add_heading(alloc, out, page.ch, y)?;
+    add_frames(alloc, out, page, deeds, y + 26, first + second + 2, maps)?;
+    add_section(alloc, out, page, deeds, y + 30, owners)?;
+    add_section(alloc, out, page, deeds, y + 30 + first, requests)?;
+    add_section(alloc, out, page, deeds, y + 44 + first + second, maps)?;
+    Ok(())
+}
+
+fn add_channel(
+    alloc: Global,
+    out: &mut String,
+    deeds: &[Deed],
+    ch: u8,
+    y: u64,
+) -> Result<(), AllocError>
+    requires y { y < 2 ^ 60 }
+    requires deeds { length deeds.now < 2 ^ 27 }
+    ensures { OnOk result (string_bytes out.new ≡ string_bytes out.old ++ render (channel deeds.now ch y)) }
+{
+    let owners = picked(alloc, Section::Owners, ch, deeds)?;
+    let requests = picked(alloc, Section::Requests, ch, deeds)?;
+    let maps = picked(alloc, Section::Maps, ch, deeds)?;
+    let axis = axis_of(deeds, ch);
+    let page = Page { ch, axis };
+    add_rows(alloc, out, page, deeds, y, &owners, &requests, &maps)?;
+    Ok(())
+}
+
+fn add_channel_at(
+    alloc: Global,
+    out: &mut String,
+    deeds: &[Deed],
+    channels: &[u8],
+    tops: &[u64],
+    k: usize,
+) -> Result<(), AllocError>
+    requires { length deeds.now < 2 ^ 27 }
+    ensures { OnOk result (string_bytes out.new ≡ string_bytes out.old ++ render (channel_at deeds.now channels.now tops.now k)) }
+{
+    if k >= channels.len() {
+        return Ok(());
+    }
+    if k >= tops.len() {
+        return Ok(());
+    }
+    if tops[k] >= 1 << 60 {
+        return Err(AllocError);
+    }
+    add_channel(alloc, out, deeds, channels[k], tops[k])
+}
+
+fn add_channels(
+    alloc: Global,
+    out: &mut String,
+    deeds: &[Deed],
+    channels: &[u8],
+    tops: &[u64],
+) -> Result<(), AllocError>
+    requires { length deeds.now < 2 ^ 27 }
+    ensures { OnOk result (string_bytes out.new ≡ string_bytes out.old ++ render (each (length channels.now) (channel_at deeds.now channels.now tops.now))) }
+{
+    for k in 0..channels.len() {
+        add_channel_at(alloc, out, deeds, channels, tops, k)?;
+    }
+    Ok(())
+}
+
+/// The channels of deeds.
+fn channels_drawn(
+    alloc: Global,
+    deeds: &[Deed],
+    channels: &[u8],
+    tops: &[u64],
+) -> Result<String, AllocError>
+    requires deeds { length deeds.now < 2 ^ 27 }
+    requires channels { channels.now ≡ channels_of deeds.now }
+    requires tops { tops.now ≡ tops_from deeds.now first_top channels.now }
+    ensures { IfOk result (λ text. string_bytes text ≡ render (channels_drawn deeds.now)) }
+{
+    let mut out = String::new(alloc);
+    add_channels(alloc, &mut out, deeds, channels, tops)?;
+    Ok(out)
+}
+
+/// The layers of a picture: channels below a legend.
+fn layers_of(
+    alloc: Global,
+    deeds: &[Deed],
+    channels: &[u8],
+    tops: &[u64],
+) -> Result<Layers, AllocError>
+    requires deeds { length deeds.now < 2 ^ 27 }
+    requires channels { channels.now ≡ channels_of deeds.now }
+    requires tops { tops.now ≡ tops_from deeds.now first_top channels.now }
+    ensures { IfOk result (λ all. (known : Xml) × AreDrawn all (layers deeds.now known)) }
+{
+    let title = format!(in alloc; "The MAPs of a plan of {} commands", deeds.len())?;
+    let bands = channels_drawn(alloc, deeds, channels, tops)?;
+    let labels = legend(alloc, title.as_str(), NOTE)?;
+    Ok(Layers {
+        rules: String::new(alloc),
+        bands,
+        arrows: String::new(alloc),
+        marks: String::new(alloc),
+        labels,
+    })
+}
+
+/// The picture of layers in this size, with a title and a style.
+fn drawn_so(
+    alloc: Global,
+    deeds: &[Deed],
+    size: (u64, u64),
+    title: &str,
+    style: &str,
+    all: &Layers,
+) -> Result<String, AllocError>
+    requires { (known : Xml) × AreDrawn all.now (layers deeds.now known) }
+    ensures { IfOk result (λ text. IsPictureOf deeds.now (string_bytes text)) }
+{
+    let known = patterns(alloc)?;
+    let text = drawing(alloc, size, title, style, known.as_str(), all)?;
+    Ok(text)
+}
+
+/// The picture of what the commands of a plan did, as an SVG document.
+pub fn picture(alloc: Global, deeds: &[Deed]) -> Result<String, AllocError>
+    requires { length deeds.now < 2 ^ 26 }
+    ensures { IfOk result (λ text. IsPictureOf deeds.now (string_bytes text)) }
+{
+    let channels = channels_of(alloc, deeds)?;
+    if channels.len() >= 1 << 26 {
+        return Err(AllocError);
+    }
+    let tops = tops_of(alloc, deeds, &channels)?;
+    let all = layers_of(alloc, deeds, &channels, &tops)?;
+    let height = match tops.last() {
+        Some(top) => *top,
+        None => 0,
+    };
+    drawn_so(alloc, deeds, (1082, height), "upsched MAPs", STYLE, &all)
+}
