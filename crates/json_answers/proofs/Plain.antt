@@ -1,5 +1,5 @@
 -- What is said of an event as JSON has no fraction, and hardly nests.
-use Rattle.std.proofs.Common.{◌≡◌, ℕ, ◌≤◌, false, List, [], ◌∷◌, codes, Option, Some, None, refl, arith}
+use Rattle.std.proofs.Common.{◌≡◌, ℕ, ◌≤◌, false, List, [], ◌∷◌, codes, Option, Some, None, refl, sym, subst, arith}
 use Rattle.std.proofs.Math.Nat.{max-le}
 use Rattle.std.specs.List.{AllZip}
 use Rattle.modem.specs.declared.types.Sending.{Sending}
@@ -16,10 +16,14 @@ use Rattle.serde_json.specs.View.{items_of}
 use Rattle.serde_json.specs.Written.{items_have_float}
 use Rattle.json_outputs.specs.Fields.{with_number}
 use Rattle.json_outputs.specs.Texts.{IsPlain}
-use Rattle.json_outputs.proofs.Callers.{Small, AreSmall, both, none_small, field_small, with_number_small, with_text_small, object_small, output_small}
+use Rattle.json_outputs.proofs.Callers.{Small, AreSmall, both, none_small, field_small, with_number_small, with_text_small, with_time_small, object_small, output_small}
+use Rattle.watched_runs.specs.declared.post.Post.{Post}
+use Rattle.watched_runs.specs.declared.post.Post.TheVariants.{Idle, Prepares, Leads}
+use Rattle.watched_runs.specs.declared.sight.Sight.{Sight}
+use Rattle.json_letters.proofs.Callers.{letters_small}
 use Rattle.json_answers.specs.Names.{want_fault_name}
 use Rattle.json_answers.specs.Answers.{with_name, with_sid, with_sending, with_fault, with_answer}
-use Rattle.json_answers.specs.Events.{place_members, TellsRelease, event_members, counts_data}
+use Rattle.json_answers.specs.Events.{place_members, TellsRelease, TellsEvent, Trace, event_members, counts_data, with_changed, with_learned, with_sight, with_trace}
 
 -- the fields of an answer
 name_small : (k : ℕ) (name : List ℕ) (ms : Members) → AreSmall k ms → AreSmall k (with_name name ms)
@@ -69,14 +73,47 @@ releases_shallow (x ∷ xs) (d ∷ ds) told = max-le (release_small x d told.0).
 releases_small : (xs : List ReleasedOutput) (ds : List Data) → AllZip TellsRelease xs ds → Small 4 (array (items_of ds))
 releases_small xs ds told = record { whole = releases_whole xs ds told; shallow = let below = releases_shallow xs ds told in omega arith }
 
--- what is said of an event, and the counts
+fields_small : (n : ℕ) (a : Answer) (xs : List ReleasedOutput) (ds : List Data) → AllZip TellsRelease xs ds
+    → AreSmall 4 (put (codes "outputs") (array (items_of ds)) (event_members n a))
+fields_small n a xs ds told =
+    let fields = answer_small 4 a (with_number (codes "event") n no_members) (with_number_small 4 (codes "event") n no_members (none_small 4)) in
+    field_small 4 (codes "outputs") (array (items_of ds)) (event_members n a) (releases_small xs ds told) fields
+
+object_plain : (ms : Members) → AreSmall 4 ms → IsPlain (object ms)
+object_plain ms xs =
+    let all = object_small 4 ms xs in
+    let below : depth (object ms) ≤ 5 = all.shallow in
+    (all.whole, omega arith)
+
+same_members : (a b : Members) → object a ≡ object b → a ≡ b
+same_members a b e = cc
+
+-- what is said of an event, with its trace too, and the counts
 pub event_plain : (n : ℕ) (a : Answer) (xs : List ReleasedOutput) (ds : List Data) → AllZip TellsRelease xs ds
     → IsPlain (object (put (codes "outputs") (array (items_of ds)) (event_members n a)))
-event_plain n a xs ds told =
-    let fields = answer_small 4 a (with_number (codes "event") n no_members) (with_number_small 4 (codes "event") n no_members (none_small 4)) in
-    let all = object_small 4 _ (field_small 4 (codes "outputs") (array (items_of ds)) (event_members n a) (releases_small xs ds told) fields) in
-    let below : depth (object (put (codes "outputs") (array (items_of ds)) (event_members n a))) ≤ 5 = all.shallow in
-    (all.whole, omega arith)
+event_plain n a xs ds told = object_plain _ (fields_small n a xs ds told)
+
+post_small : (k : ℕ) (post : Option Post) (ms : Members) → AreSmall k ms → AreSmall k (with_changed post ms)
+post_small k None ms xs = xs
+post_small k (Some Idle) ms xs = with_text_small k (codes "post") (codes "idle") ms xs
+post_small k (Some (Prepares b)) ms xs = with_time_small k (codes "ballot") b _ (with_text_small k (codes "post") (codes "prepares") ms xs)
+post_small k (Some (Leads b)) ms xs = with_time_small k (codes "ballot") b _ (with_text_small k (codes "post") (codes "leads") ms xs)
+
+learned_small : (k : ℕ) (learned : Option ℕ) (ms : Members) → AreSmall k ms → AreSmall k (with_learned learned ms)
+learned_small k None ms xs = xs
+learned_small k (Some place) ms xs = with_number_small k (codes "learned") place ms xs
+
+sight_small : (k : ℕ) (sight : Option Sight) (ms : Members) → AreSmall k ms → AreSmall k (with_sight sight ms)
+sight_small k None ms xs = xs
+sight_small k (Some sight) ms xs =
+    learned_small k sight.learned _ (post_small k sight.post _ (with_number_small k (codes "node") sight.node ms xs))
+
+pub trace_plain : (n : ℕ) (a : Answer) (xs : List ReleasedOutput) (trace : Trace) (ms : Members) → TellsEvent n a xs (object ms)
+    → IsPlain (object (with_trace trace ms))
+trace_plain n a xs trace ms (ds, told, is) =
+    let fields : AreSmall 4 ms = subst (AreSmall 4) (sym (same_members ms _ is)) (fields_small n a xs ds told) in
+    object_plain _ (sight_small 4 trace.sight _ (letters_small (codes "sent") trace.sent.0 trace.sent.1 _
+    (letters_small (codes "came") trace.came.0 trace.came.1 ms fields)))
 
 pub counts_plain : (letters outputs transmissions : ℕ) → IsPlain (counts_data letters outputs transmissions)
 counts_plain letters outputs transmissions =

@@ -1,5 +1,5 @@
 -- What is said of an event, from what each step left.
-use Rattle.std.proofs.Common.{◌≡◌, ℕ, ◌+◌, ◌<◌, List, [], ◌∷◌, ◌++◌, length, take, get_or, map, subst, codes, Result, Ok, Err, IfOk, ap, ◌∙◌, String, BTreeMap, Global, Vec, string_bytes}
+use Rattle.std.proofs.Common.{◌≡◌, ℕ, ◌+◌, ◌<◌, List, [], ◌∷◌, ◌++◌, length, take, get_or, map, subst, codes, Result, Ok, Err, IfOk, ap, sym, ◌∙◌, String, BTreeMap, Global, Vec, string_bytes}
 use Rattle.std.proofs.lemmas.List.{take_more, map-append}
 use Rattle.std.proofs.lemmas.Slice.Zip.{all_zipped_more}
 use Rattle.std.specs.List.{AllZip}
@@ -13,8 +13,8 @@ use Rattle.json_outputs.specs.Fields.{with_number}
 use Rattle.json_outputs.specs.Outputs.{TellsOutput}
 use Rattle.json_outputs.specs.Texts.{IsPlain, IsTextOf, IsTextWhere}
 use Rattle.json_answers.specs.Answers.{with_answer}
-use Rattle.json_answers.specs.Events.{TellsRelease, TellsEvent, event_members}
-use Rattle.json_answers.proofs.Plain.{event_plain}
+use Rattle.json_answers.specs.Events.{TellsRelease, TellsEvent, TellsTraced, Trace, event_members, with_trace}
+use Rattle.json_answers.proofs.Plain.{event_plain, trace_plain}
 
 -- an output that was released
 pub release_said : (x : ReleasedOutput) (m : BTreeMap (String Global) Value) (a b : Members) → a ≡ with_number (codes "node") x.node no_members
@@ -35,12 +35,24 @@ releases_more xs i x vs items v below before here told is =
 -- an event
 pub event_said : (n : ℕ) (a : Answer) (xs : List ReleasedOutput) (m : BTreeMap (String Global) Value) (v : Vec Value Global) (one two : Members)
     → AllZip TellsRelease xs (map view v.items) → one ≡ with_number (codes "event") n no_members → two ≡ with_answer a one
-    → members_view m.entries ≡ put (codes "outputs") (view (Array v)) two → TellsEvent n a xs (view (Object m))
+    → members_view m.entries ≡ put (codes "outputs") (view (Array v)) two → TellsEvent n a xs (object (members_view m.entries))
 event_said n a xs m v one two told first second last =
     let f : Data → Members = λ d. put (codes "outputs") d two in
     let g : Members → Members = λ ms. put (codes "outputs") (array (items_of (map view v.items))) ms in
     let fields : members_view m.entries ≡ g (event_members n a) = last ∙ (ap f (view-Array v) ∙ ap g (second ∙ ap (with_answer a) first)) in
-    (map view v.items, told, view-Object m ∙ ap object fields)
+    (map view v.items, told, ap object fields)
+
+-- with its trace
+pub traced_said : (n : ℕ) (a : Answer) (xs : List ReleasedOutput) (trace : Trace) (m : BTreeMap (String Global) Value) (one : Members)
+    → TellsEvent n a xs (object one) → members_view m.entries ≡ with_trace trace one → TellsTraced n a xs trace (view (Object m))
+traced_said n a xs trace m one told last = (one, told, view-Object m ∙ ap object last)
+
+pub object_said : (n : ℕ) (a : Answer) (xs : List ReleasedOutput) (m : BTreeMap (String Global) Value) → TellsEvent n a xs (object (members_view m.entries))
+    → TellsEvent n a xs (view (Object m))
+object_said n a xs m told = subst (TellsEvent n a xs) (sym (view-Object m)) told
+
+pub traced_plain : (n : ℕ) (a : Answer) (xs : List ReleasedOutput) (trace : Trace) (d : Data) → TellsTraced n a xs trace d → IsPlain d
+traced_plain n a xs trace d (ms, told, is) = rw is (trace_plain n a xs trace ms told)
 
 pub said_plain : (n : ℕ) (a : Answer) (xs : List ReleasedOutput) (d : Data) → TellsEvent n a xs d → IsPlain d
 said_plain n a xs d (shown, told, is) = rw is (event_plain n a xs shown told)

@@ -2,7 +2,8 @@
 
 ghost use Rattle.std.specs.Prelude.{◌≡◌, IfOk, map, string_bytes};
 ghost use Rattle.std.specs.List.{AllZip};
-ghost use Rattle.serde_json.specs.View.{view};
+ghost use Rattle.serde_json.specs.Data.{object};
+ghost use Rattle.serde_json.specs.View.{members_view, view};
 ghost use Rattle.json_outputs.specs.Texts.{IsTextOf, IsTextWhere};
 ghost use Rattle.json_answers.specs.Events.{TellsRelease, TellsEvent, counts_data};
 
@@ -34,6 +35,23 @@ fn release_values(alloc: Global, released: &[ReleasedOutput]) -> Result<Vec<Valu
     Ok(values)
 }
 
+/// The fields of an event: its number, its answer, and the outputs that it released.
+pub(crate) fn event_fields(
+    alloc: Global,
+    number: usize,
+    answer: Answer,
+    released: &[ReleasedOutput],
+) -> Result<Map<String, Value>, AllocError>
+    ensures { IfOk result (λ map. TellsEvent number answer released.now (object (members_view map.entries))) }
+{
+    let values = release_values(alloc, released)?;
+    let mut map = Map::new(alloc);
+    put_number(&mut map, alloc, "event", number as u64)?;
+    put_answer(&mut map, alloc, answer)?;
+    put(&mut map, alloc, "outputs", Value::Array(values))?;
+    Ok(map)
+}
+
 /// The event of this number: its answer, and the outputs that it released. Without a line's end.
 pub fn event_text(
     alloc: Global,
@@ -43,12 +61,7 @@ pub fn event_text(
 ) -> Result<String, AllocError>
     ensures { IfOk result (λ text. IsTextWhere (TellsEvent number answer released.now) (string_bytes text)) }
 {
-    let values = release_values(alloc, released)?;
-    let mut map = Map::new(alloc);
-    put_number(&mut map, alloc, "event", number as u64)?;
-    put_answer(&mut map, alloc, answer)?;
-    put(&mut map, alloc, "outputs", Value::Array(values))?;
-    let value = Value::Object(map);
+    let value = Value::Object(event_fields(alloc, number, answer, released)?);
     text_of(alloc, &value)
 }
 

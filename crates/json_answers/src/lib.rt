@@ -4,5 +4,7 @@
 mod answers;
 mod events;
 mod names;
+mod traces;
 
 pub use events::{counts_text, event_text};
+pub use traces::{EventTrace, traced_text};

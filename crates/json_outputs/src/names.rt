@@ -4,7 +4,7 @@ ghost use Rattle.std.specs.Prelude.{◌≡◌};
 ghost use Rattle.json_outputs.specs.Names.{iuc_name, refusal_name};
 
 /// The name of an IUC.
-pub(crate) fn iuc_name(iuc: u8) -> &'static str
+pub fn iuc_name(iuc: u8) -> &'static str
     ensures { result.now ≡ iuc_name iuc }
 {
     match iuc {

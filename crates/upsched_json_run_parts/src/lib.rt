@@ -4,4 +4,4 @@
 mod report;
 mod script_run;
 
-pub use script_run::run_as_json;
+pub use script_run::{print_script_as_json, run_as_json};

@@ -4,5 +4,5 @@ use Rattle.upsched_json_run_parts.proofs.script_run.print_plain.Goals as goal
 -- records in memory are always honest
 pub returns : goal.returns
 returns g c =
-    let told = c.in_ok-print_script.ensures (λ k d below. refl) in
+    let told = c.in_ok-print_script_as_json.ensures (λ k d below. refl) in
     rw c.in-Ok.ensures.count at told

@@ -4,7 +4,7 @@ use Rattle.upsched_json_run_parts.proofs.script_run.print_text.Goals as goal
 
 pub returns-clause-printed : goal.returns-clause-printed
 returns-clause-printed g c =
-    plain_printed c.print_plain.result (g.F.Read.remaining c.args.script.now) _ _ c.in_ok-script.script.members c.in_ok-script.script.modems.items c.in_ok-script.script.events.items c.in_ok-script.ensures c.print_plain.ensures
+    plain_printed c.args.is_traced c.print_plain.result (g.F.Read.remaining c.args.script.now) _ _ c.in_ok-script.script.members c.in_ok-script.script.modems.items c.in_ok-script.script.events.items c.in_ok-script.ensures c.print_plain.ensures
 
 pub returns-clause-no_script : goal.returns-clause-no_script
 returns-clause-no_script g c = λ none.

@@ -1,0 +1,6 @@
+//! The letters of nodes as JSON.
+#![tactic(auto)]
+
+mod letters;
+
+pub use letters::put_letters;
