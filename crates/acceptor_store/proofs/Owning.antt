@@ -1,6 +1,6 @@
 -- What is known of a connection that was opened for an owner.
 use Rattle.std.proofs.Common.{◌≡◌, ◌≢◌, ◌⊎◌, inl, inr, true, false, Bool, Some, None, IsSome, IsTrue, refl, sym, ap, subst, ◌∙◌}
-use Rattle.acceptor_store.proofs.Words.{Content, Ghosts, Trees, Database, State, HasCleanDisk, Survives, Held, state, survives_then, IsClean, Third, Owner, schema_of, blank_schema, AreByRowid, Rereads, AreTablesFor, IsOwner, OwnedBy, HasFacts, HoldsNone, HoldsNoneOwned, IsBroken, IsUnowned, HasOwned, MayHaveOwned, serves_for, tables_as, tables_for, Numbers, OpenFault, Foreign, OwnerFault, Open, Blank, Unowned, OtherNode, OtherMembers, Examines, Had, IsLeftWhole, MakesReady, SeesForeign, StaysAs, AdoptsFor, ExaminesFor, FindsFor, HadBefore, IsDue, IsDueBefore, IsLeftAs, IsLeftBefore, Names, PreparesFor}
+use Rattle.acceptor_store.proofs.Words.{Content, Ghosts, Trees, Database, State, HasCleanDisk, Survives, Held, state, survives_then, Third, Owner, schema_of, blank_schema, AreByRowid, AreTablesFor, IsOwner, OwnedBy, HasFacts, HoldsNone, HoldsNoneOwned, IsBroken, IsUnowned, HasOwned, MayHaveOwned, serves_for, tables_as, tables_for, Numbers, OpenFault, Foreign, OwnerFault, Open, Blank, Unowned, OtherNode, OtherMembers, Examines, Had, IsLeftWhole, MakesReady, SeesForeign, StaysAs, AdoptsFor, ExaminesFor, FindsFor, HadBefore, IsDue, IsDueBefore, IsLeftAs, IsLeftBefore, PreparesFor}
 use Rattle.acceptor_store.specs.declared.OpenFault.TheVariants.{Refused, Broken, OutOfMemory}
 use Rattle.acceptor_store.proofs.Reopening.{by_rowid, still_by_rowid}
 

@@ -1,6 +1,6 @@
 -- What is known of a connection that was opened anew.
-use Rattle.std.proofs.Common.{◌≡◌, ◌⊎◌, inl, inr, ℕ, Bool, true, ◌&&◌, ◌==◌, if◌then◌else◌, List, [], ◌∷◌, length, map, Some, None, Option, Ok, Err, Result, IfErr, IfOk, IfSome, OnOk, IsTrue, refl, sym, ap, subst, subst₂, ◌∙◌, arith}
-use Rattle.acceptor_store.proofs.Words.{and_from, and_parts, ∥∥₁_map, ∥∥₁_elim, ∥∥₁_prop, Cast, number_of, Content, AreRowsFrom, AreValues, greatest, Holds, HoldsEither, AddsNothing, Files, FileStore, over_files, file_state, image_of, IsOpened, Finds, survives_then, opens_again, Ghosts, Trees, Database, IsDatabase, State, HasCleanDisk, Survives, Opens, IsUnchanged, Version, First, Second, Third, AreByRowid, AreShaped, Rereads, Held, state, AllByRecursion, HasFacts, HoldsNone, IsForeignSchema, IsClean, Numbers, OpenFault, Foreign, IsReread, Owner, schema_of, blank_schema, AreTablesOf, HasLearned, KeepsLearned, IsNumber, IsCast, IsLearned, vote_row, learned_row, AreTablesFor, schema_for, ServesFor, ServesAs, StillServes, DoesNotServe, one_content, AreNumbersOf, Linked, MayFind, MayFindIn, IsHonest, is_clean_in, IsLinked, IsServing, Stands, IsTested, ServesNone, CannotBeRead, Tells, Leaves, Reopens, Examines, Had, IsIn, IsFoundIn, MakesReady, SeesForeign, HasNumbers, StaysAs, no_doubt, clean_of}
+use Rattle.std.proofs.Common.{◌≡◌, ◌⊎◌, inl, inr, ℕ, Bool, true, ◌&&◌, ◌==◌, if◌then◌else◌, List, [], ◌∷◌, length, map, Some, None, Option, Ok, Err, Result, IfOk, IfSome, OnOk, IsTrue, refl, sym, ap, subst, subst₂, ◌∙◌, arith}
+use Rattle.acceptor_store.proofs.Words.{and_from, and_parts, ∥∥₁_map, ∥∥₁_elim, ∥∥₁_prop, Cast, number_of, Content, AreRowsFrom, AreValues, greatest, Holds, HoldsEither, AddsNothing, Files, FileStore, over_files, file_state, image_of, IsOpened, Finds, survives_then, opens_again, Ghosts, Trees, Database, IsDatabase, State, HasCleanDisk, Survives, Opens, IsUnchanged, Version, First, Second, Third, AreByRowid, AreShaped, Rereads, Held, state, AllByRecursion, HasFacts, IsForeignSchema, Numbers, IsReread, Owner, schema_of, blank_schema, AreTablesOf, HasLearned, KeepsLearned, IsNumber, IsCast, IsLearned, vote_row, learned_row, AreTablesFor, schema_for, ServesFor, ServesAs, StillServes, DoesNotServe, one_content, AreNumbersOf, Linked, MayFind, MayFindIn, IsHonest, is_clean_in, IsLinked, IsServing, Stands, IsTested, CannotBeRead, Tells, Leaves, Reopens, Examines, Had, IsIn, IsFoundIn, SeesForeign, HasNumbers, StaysAs, no_doubt, clean_of}
 use Rattle.sqlite_schema.specs.declared.schema.Schema.{Schema}
 use Rattle.sqlite_disk.specs.declared.Disk as disk
 use Rattle.sqlite_schema.specs.Names.{same_name}

@@ -3,4 +3,4 @@ pub use Rattle.acceptor_store_parts.proofs.Once.{content_once, tables_prop, one_
 pub use Rattle.acceptor_store_parts.proofs.Places.{all_rows}
 pub use Rattle.acceptor_store_parts.proofs.Shapes.{all_shown, all_learned_shown}
 pub use Rattle.acceptor_store_parts.proofs.Answered.{table_of_learned}
-pub use Rattle.acceptor_store_parts.proofs.Owners.{as_version, keeps_learned, serves_as, serves_for, tables_as, tables_for}
+pub use Rattle.acceptor_store_parts.proofs.Owners.{as_version, serves_as, serves_for, tables_as, tables_for}

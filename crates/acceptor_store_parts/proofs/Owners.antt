@@ -1,6 +1,6 @@
 -- Tables for an owner are tables of its version.
 use Rattle.std.proofs.Common.{◌≡◌, List, [], ◌∷◌, Option, Some, None, Result, IfOk, refl, sym, subst}
-use Rattle.acceptor_store_parts.proofs.Words.{IfOk-weaker, Content, Schema, Error, Null, Blob, Row, overlay, State, IsPlain, Version, Second, Third, Owner, schema_of, facts_query, AreTablesOf, KeepsLearned, fact_shown, AreTablesFor, IsOwnedBy, OwnedBy, owner_bytes, schema_for, version_for, ServesAs, ServesFor}
+use Rattle.acceptor_store_parts.proofs.Words.{IfOk-weaker, Content, Schema, Error, Null, Blob, Row, overlay, State, IsPlain, Version, Second, Third, Owner, schema_of, facts_query, AreTablesOf, fact_shown, AreTablesFor, IsOwnedBy, OwnedBy, owner_bytes, schema_for, version_for, ServesAs, ServesFor}
 use Rattle.sqlite.specs.Tree.{Trees}
 use Rattle.sqlite.specs.State.{Shown}
 use Rattle.sqlite.specs.Listing.{understood}
@@ -10,10 +10,6 @@ use Rattle.acceptor_store_parts.proofs.RowsShown.{shown_all}
 pub as_version : (owner : Option Owner) → schema_for owner ≡ schema_of (version_for owner)
 as_version None = refl
 as_version (Some owner) = refl
-
-pub keeps_learned : (owner : Option Owner) → KeepsLearned (version_for owner)
-keeps_learned None = tt
-keeps_learned (Some owner) = tt
 
 pub always_plain : (sql : List _) → ((version : Version) → IsPlain (understood (schema_of version) sql)) → (owner : Option Owner) → IsPlain (understood (schema_for owner) sql)
 always_plain sql plain None = plain Second

@@ -1,5 +1,5 @@
 -- What a test of a connection tells.
-use Rattle.std.proofs.Common.{◌≡◌, inl, inr, ℕ, List, true, false, Some, None, sym, ap, ◌∙◌}
+use Rattle.std.proofs.Common.{◌≡◌, inl, inr, ℕ, List, true, false, Some, sym, ap, ◌∙◌}
 use Rattle.acceptor_store_parts.proofs.Words.{Row, State, HasCause, IsUnchanged, store_error, Error, StoreError, OutOfMemory, Io, Corrupt, Full, Broken, Unstorable, IsShutBy, tells_open}
 use Rattle.sqlite.specs.State.{IsNotRun}
 

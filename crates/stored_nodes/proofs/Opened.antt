@@ -3,16 +3,15 @@ use Rattle.std.proofs.Common.{◌≡◌, inl, inr, Bool, Some, Ok, Err, Result, 
 use Rattle.std.proofs.Math.Logic.{∥∥₁_map}
 use Rattle.acceptor.specs.Content.{Content}
 use Rattle.acceptor.specs.Found.{Holds}
-use Rattle.acceptor_store.specs.Linked.{Linked, MayFind, IsHonest, MightLeave}
+use Rattle.acceptor_store.specs.Linked.{Linked, MayFind, IsHonest}
 use Rattle.acceptor_store.specs.Owning.{HadAs}
 use Rattle.acceptor_store_parts.specs.declared.owner.Owner.{Owner}
 use Rattle.acceptor_store_parts.specs.Owned.{AreTablesFor}
-use Rattle.stored_nodes.specs.Kept.{IsKeptFor, IsOwnedIn, IsFoundFor}
+use Rattle.stored_nodes.specs.Kept.{IsOwnedIn, IsFoundFor}
 use Rattle.sqlite.specs.Effect.{Database, IsDatabase}
 use Rattle.sqlite.specs.Files.{over_files, file_state, image_of, IsOpened, Finds}
 use Rattle.sqlite.specs.Held.{Held}
 use Rattle.sqlite.specs.State.{HasCleanDisk}
-use Rattle.sqlite.specs.Tree.{Trees}
 use Rattle.sqlite.proofs.Theorems.{opens_again}
 use Rattle.sqlite_disk.specs.declared.Disk as disk
 use Rattle.sqlite_disk.specs.declared.Files.{Files}

@@ -7,11 +7,15 @@ mod fresh;
 mod own_file;
 mod owned;
 mod start;
+mod states;
 mod stored;
+mod survey;
 
 pub use fault::StoreFault;
 pub use folder::nodes_in;
 pub use own_file::{new_node_of, node_of};
 pub use owned::{begun_node, records_for, resumed_node};
 pub use start::StartFault;
+pub use states::{FilesState, state_of_files};
 pub use stored::{StoredNode, stored_nodes};
+pub use survey::states_in;

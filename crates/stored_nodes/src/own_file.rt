@@ -18,7 +18,7 @@ use std::fs;
 use std::io::ErrorKind;
 
 /// Whether there is a file of this path. What is there has to be a regular file.
-fn is_there(rt: &HostRuntime, path: &str) -> Result<bool, StartFault> {
+pub(crate) fn is_there(rt: &HostRuntime, path: &str) -> Result<bool, StartFault> {
     match fs::symlink_metadata(rt, path) {
         Ok(found) if found.is_file() => Ok(true),
         Ok(_) => Err(StartFault::Unusable),

@@ -3,6 +3,7 @@
 ghost use Rattle.std.specs.Prelude.{◌≡◌, ◌<◌, IsTrue, IfOk, length};
 ghost use Rattle.ballots.specs.Members.{member_count};
 ghost use Rattle.seats.specs.Fresh.{AreFresh, IsFreshAt};
+ghost use Rattle.stored_nodes.specs.States.{StayFiles, StaysFile};
 
 use crate::fault::StoreFault;
 use crate::fresh::{examine_records, fresh_node};
@@ -35,6 +36,7 @@ fn stored_node<D: Disk + Drop>(
 /// What a file holds, in memory.
 fn copied<D: Disk>(alloc: Global, file: &mut D) -> io::Result<Memory>
     requires { IsTrue (D.Disk.is_usable file.old) }
+    ensures { StaysFile D.Disk file.old file.new }
 {
     let length = file.len()?;
     let mut bytes = Vec::new(alloc);
@@ -45,14 +47,26 @@ fn copied<D: Disk>(alloc: Global, file: &mut D) -> io::Result<Memory>
     Ok(copy)
 }
 
+/// What two files hold, in memory.
+pub(crate) fn copy_of<D: Disk>(alloc: Global, files: &mut Files<D>) -> io::Result<Files<Memory>>
+    requires log { IsTrue (D.Disk.is_usable files.old.log) }
+    requires db { IsTrue (D.Disk.is_usable files.old.db) }
+    ensures { StayFiles D.Disk files.old files.new }
+{
+    let log = copied(alloc, &mut files.log)?;
+    let db = copied(alloc, &mut files.db)?;
+    Ok(Files { log, db })
+}
+
 /// Refuses files that a fresh node can't start over. It opens a copy of them in memory, so nothing is written to them.
-fn examine<D: Disk>(alloc: Global, files: &mut Files<D>) -> Result<(), StoreFault> {
+pub(crate) fn examine<D: Disk>(alloc: Global, files: &mut Files<D>) -> Result<(), StoreFault>
+    ensures { StayFiles D.Disk files.old files.new }
+{
     if !files.may_be_used() {
         return Err(StoreFault::Unusable);
     }
-    let log = copied(alloc, &mut files.log)?;
-    let db = copied(alloc, &mut files.db)?;
-    examine_copy(alloc, Files { log, db })
+    let copy = copy_of(alloc, files)?;
+    examine_copy(alloc, copy)
 }
 
 fn examine_copy<D: Disk + Drop>(alloc: Global, files: Files<D>) -> Result<(), StoreFault> {

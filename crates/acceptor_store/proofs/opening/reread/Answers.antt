@@ -1,6 +1,5 @@
 use Rattle.std.proofs.Common.{Err, sym, ap, ◌∙◌, arith}
 use Rattle.acceptor_store.proofs.Words.{HasCleanDisk, state}
-use Rattle.acceptor_store.specs.declared.OpenFault.TheVariants.{Refused}
 use Rattle.acceptor_store.proofs.Refusing.{fails_anew, told_stop}
 use Rattle.acceptor_store.proofs.opening.reread.Goals as goal
 

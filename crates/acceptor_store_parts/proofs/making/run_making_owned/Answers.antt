@@ -1,5 +1,5 @@
-use Rattle.std.proofs.Common.{◌≡◌, true, None, Some, OnOk, refl, sym, subst, rules}
-use Rattle.acceptor_store_parts.proofs.Words.{Content, no_content, HasCleanDisk, Survives, state, survives_weaker, AreTablesFor, blank_schema, IsBlank, ServesFor}
+use Rattle.std.proofs.Common.{◌≡◌, true, Some, OnOk, refl, sym, subst, rules}
+use Rattle.acceptor_store_parts.proofs.Words.{no_content, HasCleanDisk, Survives, state, survives_weaker, AreTablesFor, blank_schema, IsBlank, ServesFor}
 use Rattle.acceptor_store_parts.proofs.Makes.{committed, may_commit, on_ok, inside_then, make_then_own}
 use Rattle.acceptor_store_parts.proofs.making.run_making_owned.Goals as goal
 

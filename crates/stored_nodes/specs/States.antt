@@ -1,0 +1,65 @@
+-- What opening files tells of them, and what stays of files that are only read.
+use Rattle.std.specs.Prelude.{◌≡◌, ℕ, Bool, true, false, List, Result, Ok, Err}
+use Rattle.acceptor_store.specs.declared.OpenFault.{OpenFault}
+use Rattle.acceptor_store.specs.declared.OpenFault.TheVariants as opening
+use Rattle.acceptor_store.specs.declared.owned.OwnerFault.{OwnerFault}
+use Rattle.acceptor_store.specs.declared.owned.OwnerFault.TheVariants as owner
+use Rattle.proposer.specs.declared.fault.NodeFault.{NodeFault}
+use Rattle.proposer.specs.declared.fault.NodeFault.TheVariants as node
+use Rattle.sqlite_disk.specs.declared.Disk as disk
+use Rattle.sqlite_disk.specs.declared.Files.{Files}
+use Rattle.stored_nodes.specs.declared.fault.StoreFault.{StoreFault}
+use Rattle.stored_nodes.specs.declared.fault.StoreFault.TheVariants as store
+use Rattle.stored_nodes.specs.declared.start.StartFault.{StartFault}
+use Rattle.stored_nodes.specs.declared.start.StartFault.TheVariants as start
+use Rattle.stored_nodes.specs.declared.states.FilesState.{FilesState}
+use Rattle.stored_nodes.specs.declared.states.FilesState.TheVariants.{Fresh, Used, Unowned, Foreign, Locked, OtherNode, Unusable}
+use Rattle.stored_nodes.specs.declared.states.Told.{Told}
+use Rattle.stored_nodes.specs.declared.states.Told.TheVariants.{State, NoOwner, Memory}
+
+-- by what an open says of the tables
+abbrev pub told_open : OpenFault → Told
+told_open opening.Refused = State Foreign
+told_open opening.Foreign = State Foreign
+told_open opening.Broken = State Unusable
+told_open opening.OutOfMemory = Memory
+
+-- by what an open for an owner says; files without tables are as new
+abbrev pub told_owner : OwnerFault → Told
+told_owner (owner.Open fault) = told_open fault
+told_owner owner.Blank = State Fresh
+told_owner owner.Unowned = NoOwner
+told_owner owner.OtherNode = State OtherNode
+told_owner owner.OtherMembers = State OtherNode
+
+abbrev pub told_unread : NodeFault → Told
+told_unread node.OutOfMemory = Memory
+told_unread other = State Unusable
+
+abbrev pub told_start : StartFault → Told
+told_start (start.Unopened fault) = told_owner fault
+told_start (start.Unread fault) = told_unread fault
+told_start start.OutOfMemory = Memory
+told_start start.InUse = State Locked
+told_start other = State Unusable
+
+-- by the open for an owner: whether the records hold nothing, or why there are none
+abbrev pub told_owned : Result Bool StartFault → Told
+told_owned (Ok true) = State Fresh
+told_owned (Ok false) = State Used
+told_owned (Err fault) = told_start fault
+
+-- by the open for nobody, which is asked for where there is no owner
+abbrev pub told_unowned : {U : Type 0} → Result U StoreFault → Told
+told_unowned (Ok _) = State Fresh
+told_unowned (Err store.NotFresh) = State Unowned
+told_unowned (Err store.Unusable) = State Foreign
+told_unowned (Err store.OutOfMemory) = Memory
+
+-- a read of a file gives what it gave, and a crash leaves nothing that it couldn't leave before
+abbrev pub StaysFile : {D : Type 0} → disk.Ghosts D → D → D → Type 0
+StaysFile g old new = (g.seen new ≡ g.seen old) × ((bytes : List ℕ) → g.may_leave new bytes → g.may_leave old bytes)
+
+-- so of a log and of a database
+abbrev pub StayFiles : {D : Type 0} → disk.Ghosts D → Files D → Files D → Type 0
+StayFiles g old new = StaysFile g old.log new.log × StaysFile g old.db new.db

@@ -1,0 +1,195 @@
+//! What a node's files are, found out without a change of them.
+
+ghost use Rattle.std.specs.Prelude.{◌≡◌, ◌<◌, IsTrue, OnOk};
+ghost use Rattle.ballots.specs.Members.{member_count};
+ghost use Rattle.stored_nodes.specs.States.{StayFiles, StaysFile, told_open, told_owned, told_owner, told_start, told_unowned, told_unread};
+
+use crate::fault::StoreFault;
+use crate::owned::records_for;
+use crate::start::StartFault;
+use crate::stored::{copy_of, examine};
+use acceptor_store::{OpenFault, OwnerFault};
+use ballots::{Members, NodeId};
+use node::{Node, NodeFault, SchedNode};
+use sqlite::Files;
+use sqlite_disk::Disk;
+use std::alloc::{AllocError, Global};
+
+/// What a node's files are.
+#[derive(Clone, Copy, Debug, PartialEq, Eq)]
+pub enum FilesState {
+    /// They have no tables, or hold nothing, as this node's or nobody's.
+    Fresh,
+    /// They are this node's, and hold a ballot, a vote or a learned value.
+    Used,
+    /// They are nobody's, and hold one of these. No node goes on over them.
+    Unowned,
+    /// They hold no database that a node wrote.
+    Foreign,
+    /// Another process has them open.
+    Locked,
+    /// They are another node's, or one's of other members.
+    OtherNode,
+    /// A file can't be used: it is no regular file, or not to be read or written.
+    Unusable,
+}
+
+/// What an open tells of the files.
+#[derive(Clone, Copy, Debug)]
+enum Told {
+    State(FilesState),
+    /// They have no owner.
+    NoOwner,
+    /// Nothing, for want of memory.
+    Memory,
+}
+
+fn told_open(fault: OpenFault) -> Told
+    ensures { result ≡ told_open fault }
+{
+    match fault {
+        OpenFault::Refused => Told::State(FilesState::Foreign),
+        OpenFault::Foreign => Told::State(FilesState::Foreign),
+        OpenFault::Broken => Told::State(FilesState::Unusable),
+        OpenFault::OutOfMemory => Told::Memory,
+    }
+}
+
+fn told_owner(fault: OwnerFault) -> Told
+    ensures { result ≡ told_owner fault }
+{
+    match fault {
+        OwnerFault::Open(fault) => told_open(fault),
+        OwnerFault::Blank => Told::State(FilesState::Fresh),
+        OwnerFault::Unowned => Told::NoOwner,
+        OwnerFault::OtherNode => Told::State(FilesState::OtherNode),
+        OwnerFault::OtherMembers => Told::State(FilesState::OtherNode),
+    }
+}
+
+fn told_unread(fault: NodeFault) -> Told
+    ensures { result ≡ told_unread fault }
+{
+    match fault {
+        NodeFault::OutOfMemory => Told::Memory,
+        _ => Told::State(FilesState::Unusable),
+    }
+}
+
+fn told_start(fault: StartFault) -> Told
+    ensures { result ≡ told_start fault }
+{
+    match fault {
+        StartFault::Unopened(fault) => told_owner(fault),
+        StartFault::Unread(fault) => told_unread(fault),
+        StartFault::OutOfMemory => Told::Memory,
+        StartFault::InUse => Told::State(FilesState::Locked),
+        _ => Told::State(FilesState::Unusable),
+    }
+}
+
+/// What an open for an owner tells: whether its records hold nothing, or why there are none.
+fn told_owned(opened: Result<bool, StartFault>) -> Told
+    ensures { result ≡ told_owned opened }
+{
+    match opened {
+        Ok(true) => Told::State(FilesState::Fresh),
+        Ok(false) => Told::State(FilesState::Used),
+        Err(fault) => told_start(fault),
+    }
+}
+
+/// What an open for nobody tells of files that have no owner.
+fn told_unowned(opened: Result<(), StoreFault>) -> Told
+    ensures { result ≡ told_unowned opened }
+{
+    match opened {
+        Ok(()) => Told::State(FilesState::Fresh),
+        Err(StoreFault::NotFresh) => Told::State(FilesState::Unowned),
+        Err(StoreFault::Unusable) => Told::State(FilesState::Foreign),
+        Err(StoreFault::OutOfMemory) => Told::Memory,
+    }
+}
+
+/// Whether the records of this node, as one of these members, hold nothing.
+fn is_fresh_over<D: Disk + Drop>(
+    alloc: Global,
+    files: Files<D>,
+    id: NodeId,
+    members: Members,
+) -> Result<bool, StartFault>
+    requires { id < member_count members }
+{
+    let records = records_for(alloc, files, id, members, false)?;
+    let mut node = SchedNode::new(alloc, id, members, records);
+    Ok(node.is_fresh()?)
+}
+
+/// The same over a copy of the files.
+fn is_fresh_copy<D: Disk>(
+    alloc: Global,
+    files: &mut Files<D>,
+    id: NodeId,
+    members: Members,
+) -> Result<bool, StartFault>
+    requires { id < member_count members }
+    ensures { StayFiles D.Disk files.old files.new }
+{
+    if !files.may_be_used() {
+        return Err(StartFault::Unusable);
+    }
+    let copy = copy_of(alloc, files)?;
+    is_fresh_over(alloc, copy, id, members)
+}
+
+/// The same as one of five members, or of three.
+fn is_fresh_owned<D: Disk>(
+    alloc: Global,
+    files: &mut Files<D>,
+    id: NodeId,
+) -> Result<bool, StartFault>
+    ensures { StayFiles D.Disk files.old files.new }
+{
+    let five = is_fresh_copy(alloc, files, id, Members::Five);
+    if let Err(StartFault::Unopened(OwnerFault::OtherMembers)) = five {
+        if id.number() < 3 {
+            return is_fresh_copy(alloc, files, id, Members::Three);
+        }
+    }
+    five
+}
+
+/// What an open of a copy tells of the files, for this node and then for nobody.
+fn told_of<D: Disk>(alloc: Global, files: &mut Files<D>, id: NodeId) -> Told
+    ensures { StayFiles D.Disk files.old files.new }
+{
+    match told_owned(is_fresh_owned(alloc, files, id)) {
+        Told::NoOwner => told_unowned(examine(alloc, files)),
+        told => told,
+    }
+}
+
+/// The state that was told. Files that neither an owner nor nobody wrote are foreign.
+fn state_told(told: Told) -> Result<FilesState, AllocError> {
+    match told {
+        Told::State(state) => Ok(state),
+        Told::NoOwner => Ok(FilesState::Foreign),
+        Told::Memory => Err(AllocError),
+    }
+}
+
+/// What the files of this node are. A copy of them is opened in memory, so that they stay as they are.
+pub fn state_of_files<D: Disk>(
+    alloc: Global,
+    files: &mut Files<D>,
+    id: NodeId,
+) -> Result<FilesState, AllocError>
+    ensures { StayFiles D.Disk files.old files.new }
+{
+    state_told(told_of(alloc, files, id))
+}
+
+/// What files are that weren't opened.
+pub fn state_unopened(fault: StartFault) -> Result<FilesState, AllocError> {
+    state_told(told_start(fault))
+}
