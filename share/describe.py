@@ -44,8 +44,9 @@ class Word:
 
 def item_of(text):
     spelled, _, about = text.strip().partition("  ")
-    value = re.search(r"<([^>]+)>", spelled)
-    return Item(re.findall(r"--?[\w-]+", spelled) or [spelled.split()[0]], value.group(1) if value else "", about.strip())
+    value = re.search(r"<([^>]+)>|^\[([^\]]+)\]$", spelled)
+    named = value.group(1) or value.group(2) if value else ""
+    return Item(re.findall(r"--?[\w-]+", spelled) or [spelled.split()[0]], named, about.strip())
 
 
 def items_of(lines):

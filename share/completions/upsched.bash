@@ -12,12 +12,12 @@ _upsched() {
     case ${COMP_WORDS[1]} in
         maps) options="--json -h --help" ;;
         run) options="--store --trace --verbose --json -h --help" ;;
-        check) options="--plan --script -h --help" ;;
+        check) options="--plan --script --store -h --help" ;;
         capture) options="-h --help" ;;
         stats) options="-h --help" ;;
         script) options="--seed --lose --repeat --crash --takeover --members --plan --modems -h --help" ;;
         draw) options="--plan --text -h --help" ;;
-        show) options="--json -h --help" ;;
+        show) options="--names --json -h --help" ;;
         live) options="--turns --verbose -h --help" ;;
         node) options="--members --store --new --journal --journal-sync -h --help" ;;
         audit) options="--members -h --help" ;;

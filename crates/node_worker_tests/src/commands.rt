@@ -55,12 +55,17 @@ fn read_as(alloc: Global, words: &[&str]) -> Result<String, Fail> {
     }
 }
 
-const WORDS: [(&[&str], &str); 56] = [
+const WORDS: [(&[&str], &str); 64] = [
     (
         &["maps", "a plan.toml"],
         "Maps(MapsWords { plan: \"a plan.toml\" })",
     ),
     (&["show", "00fF"], "Show(ShowWords { hex: \"00fF\" })"),
+    (
+        &["show", "00", "--names"],
+        "ShowNames(ShowWords { hex: \"00\" })",
+    ),
+    (&["show", "00", "--names", "--json"], "NotUnderstood"),
     (
         &["maps", "plan.toml", "--json"],
         "MapsAsJson(MapsWords { plan: \"plan.toml\" })",
@@ -75,6 +80,14 @@ const WORDS: [(&[&str], &str); 56] = [
     ),
     (
         &["run", "--json", "script.toml", "--store", "a folder"],
+        "RunAsJson(RunWords { script: \"script.toml\", verbose: false, store: Some(\"a folder\") })",
+    ),
+    (
+        &["run", "--json", "script.toml", "--trace"],
+        "TraceAsJson(RunWords { script: \"script.toml\", verbose: false, store: None })",
+    ),
+    (
+        &["run", "--json", "script.toml", "--verbose"],
         "NotUnderstood",
     ),
     (
@@ -170,6 +183,13 @@ const WORDS: [(&[&str], &str); 56] = [
         "Check(CheckWords { path: \"script.toml\", form: Some(Script) })",
     ),
     (&["check", "a.toml", "--plan", "--script"], "NotUnderstood"),
+    (
+        &["check", "--store", "a folder"],
+        "CheckStore(StoreWords { folder: \"a folder\" })",
+    ),
+    (&["check", "a.toml", "--store", "a folder"], "NotUnderstood"),
+    (&["check", "--plan", "--store", "a folder"], "NotUnderstood"),
+    (&["check"], "NotUnderstood"),
     (
         &["capture", "plan.toml"],
         "Capture(CaptureWords { plan: \"plan.toml\" })",

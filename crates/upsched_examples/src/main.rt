@@ -1,6 +1,7 @@
 //! Runs each example of the folders below as the program would, and tells which prints anything
 //! but what stands beside it: `NAME.stdout` where all goes well, `NAME.stderr` where it faults. Scripts
 //! run a second time with `--store` and a third time over files in memory, plans of `live` with fewer turns and `--verbose`, and plans with a fault by `live` too.
+//! `check --store` is run on folders of databases.
 #![tactic(auto)]
 
 mod older;
@@ -288,6 +289,48 @@ impl<T: Threads + Wait + Clock + Sync + AllocGlobal> Host<'_, T> {
         Ok(false)
     }
 
+    /// Whether `check --store` ends so of a folder, with these lines.
+    fn is_surveyed<O: Write>(
+        &self,
+        folder: &str,
+        status: Status,
+        lines: &str,
+        output: &mut O,
+    ) -> io::Result<bool> {
+        let words = ["check", "--store", folder];
+        let run = self.run_given(words.as_slice(), b"".as_slice())?;
+        if run.status == status
+            && run.output.as_slice() == lines.as_bytes()
+            && run.errors.is_empty()
+        {
+            return Ok(true);
+        }
+        writeln!(
+            output,
+            "check --store {folder} prints something else: {run:?}"
+        )?;
+        Ok(false)
+    }
+
+    /// Whether `check --store` tells what the files of these folders are, and leaves them as they were.
+    fn surveys_agree<O: Write>(&self, output: &mut O) -> io::Result<bool> {
+        let foreign = "strange.store/node-1.db: foreign\n";
+        let mut agree = self.is_surveyed("strange.store", Status::Faulted, foreign, output)?;
+        if !has_so_many(self.rt, "strange.store", 1)? {
+            writeln!(output, "a check left files in strange.store")?;
+            agree = false;
+        }
+        let voted = "voted.store/node-0.db: used, of nobody\n";
+        agree &= self.is_surveyed("voted.store", Status::Faulted, voted, output)?;
+        make_older_folder(self.rt, "fresh.store", FRESH)?;
+        let fresh = "fresh.store/node-0.db: fresh\n";
+        agree &= self.is_surveyed("fresh.store", Status::Done, fresh, output)?;
+        fs::create_dir(self.rt, "empty.store")?;
+        let none = "empty.store: no file of a node\n";
+        agree &= self.is_surveyed("empty.store", Status::Faulted, none, output)?;
+        Ok(agree)
+    }
+
     /// Whether folders that can't be used are refused, and left as they were.
     fn refusals_agree<O: Write>(&self, output: &mut O) -> io::Result<bool> {
         let mut agree = self.is_refused(
@@ -369,6 +412,7 @@ impl<T: Threads + Wait + Clock + Sync + AllocGlobal> Host<'_, T> {
         }
         all_agree &= self.refusals_agree(output)?;
         all_agree &= self.older_stores_agree(output)?;
+        all_agree &= self.surveys_agree(output)?;
         Ok(all_agree)
     }
 }

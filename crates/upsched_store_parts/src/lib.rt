@@ -6,6 +6,7 @@ mod audit_run;
 mod journal_file;
 mod node_run;
 mod program;
+mod store_check;
 mod stored_node_run;
 mod stored_run;
 

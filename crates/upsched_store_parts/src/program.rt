@@ -2,7 +2,8 @@
 
 use crate::audit_run::run_audit;
 use crate::node_run::run_node;
-use crate::stored_run::run_stored_script;
+use crate::store_check::check_store;
+use crate::stored_run::{run_stored_as_json, run_stored_script};
 use log::Log;
 use std::alloc::Global;
 use std::io::{ErrorKind, Read, Write};
@@ -14,11 +15,16 @@ use std::{env, fs};
 use upsched_json_parts::{maps_as_json, show_as_json};
 use upsched_json_run_parts::run_as_json;
 use upsched_live_parts::live;
-use upsched_map_parts::{Fault, LiveWords, MapsWords, RunWords, ScriptWords, Status, maps, show};
+use upsched_map_parts::{
+    Fault, LiveWords, MapsWords, RunWords, ScriptWords, Status, maps, show, text_of,
+};
 use upsched_parts::{run_script, trace_script};
 use upsched_picture_parts::draw_script;
 use upsched_script_parts::script;
-use upsched_sight_parts::{CaptureWords, CheckWords, StatsWords, capture, check, draw_text, stats};
+use upsched_sight_parts::{
+    CaptureWords, CheckWords, StatsWords, capture, check, draw_plan, draw_text, is_plan_text,
+    show_names, stats, tell_plan,
+};
 use upsched_words::{DrawWords, Subject, Words, read_words, refused};
 
 /// Opens the plan and ends as `maps` does.
@@ -103,7 +109,29 @@ fn run_script_words<R: Files + AllocGlobal, O: Write, E: Write>(
     }
 }
 
-/// Opens the script or the plan and ends as `draw_script` or `draw_text` does.
+/// Ends as `draw_script` does, or tells that a plan is no script.
+fn draw_run<F: Read, O: Write, E: Write>(
+    alloc: Global,
+    file: &mut F,
+    path: &str,
+    output: &mut O,
+    errors: &mut E,
+) -> Status {
+    let text = match text_of(alloc, file, path) {
+        Ok(text) => text,
+        Err(fault) => return fault.told(errors),
+    };
+    match is_plan_text(alloc, text.as_str()) {
+        Ok(true) => tell_plan(path, errors),
+        Ok(false) => {
+            let mut bytes = text.as_bytes();
+            draw_script(alloc, &mut bytes, path, output, errors)
+        }
+        Err(fault) => fault.told(errors),
+    }
+}
+
+/// Opens the script or the plan and ends as `draw_script`, `draw_plan` or `draw_text` does.
 fn run_draw<R: Files + AllocGlobal, O: Write, E: Write>(
     rt: &R,
     words: &DrawWords<'_>,
@@ -112,7 +140,8 @@ fn run_draw<R: Files + AllocGlobal, O: Write, E: Write>(
 ) -> Status {
     match fs::open(rt, words.path) {
         Ok(mut file) => match words.subject {
-            Subject::Run => draw_script(rt.alloc(), &mut file, words.path, output, errors),
+            Subject::Run => draw_run(rt.alloc(), &mut file, words.path, output, errors),
+            Subject::Plan => draw_plan(rt.alloc(), &mut file, words.path, output, errors),
             Subject::PlanText => draw_text(rt.alloc(), &mut file, words.path, output, errors),
         },
         Err(error) => Fault::of_reading(&error, words.path).told(errors),
@@ -140,15 +169,21 @@ fn run_run<O: Write, E: Write>(
     }
 }
 
-/// Opens the script and ends as `run_as_json` does.
-fn run_run_as_json<R: Files + AllocGlobal, O: Write, E: Write>(
-    rt: &R,
+/// Opens the script and ends as `run_as_json` does, or as `run_stored_as_json` where the words name a folder.
+fn run_run_as_json<O: Write, E: Write>(
+    rt: &HostRuntime,
     words: &RunWords<'_>,
+    is_traced: bool,
     output: &mut O,
     errors: &mut E,
 ) -> Status {
     match fs::open(rt, words.script) {
-        Ok(mut script) => run_as_json(rt.alloc(), &mut script, words, output, errors),
+        Ok(mut script) => match words.store {
+            None => run_as_json(rt.alloc(), &mut script, words, is_traced, output, errors),
+            Some(folder) => {
+                run_stored_as_json(rt, &mut script, words, folder, is_traced, output, errors)
+            }
+        },
         Err(error) => Fault::of_reading(&error, words.script).told(errors),
     }
 }
@@ -205,13 +240,16 @@ pub fn run_words<
         Ok(Words::Run(words)) => run_run(rt, &words, false, output, errors),
         Ok(Words::Trace(words)) => run_run(rt, &words, true, output, errors),
         Ok(Words::MapsAsJson(words)) => run_maps_as_json(rt, &words, output, errors),
-        Ok(Words::RunAsJson(words)) => run_run_as_json(rt, &words, output, errors),
+        Ok(Words::RunAsJson(words)) => run_run_as_json(rt, &words, false, output, errors),
+        Ok(Words::TraceAsJson(words)) => run_run_as_json(rt, &words, true, output, errors),
         Ok(Words::Check(words)) => run_check(rt, &words, output, errors),
+        Ok(Words::CheckStore(words)) => check_store(rt, &words, output, errors),
         Ok(Words::Capture(words)) => run_capture(rt, &words, output, errors),
         Ok(Words::Stats(words)) => run_stats(rt, &words, output, errors),
         Ok(Words::Script(words)) => run_script_words(rt, &words, output, errors),
         Ok(Words::Draw(words)) => run_draw(rt, &words, output, errors),
         Ok(Words::Show(words)) => show(rt.alloc(), &words, output, errors),
+        Ok(Words::ShowNames(words)) => show_names(rt.alloc(), &words, output, errors),
         Ok(Words::ShowAsJson(words)) => show_as_json(rt.alloc(), &words, output, errors),
         Ok(Words::Live(words)) => run_live(rt, threads, &words, output, errors),
         Ok(Words::Node(words, journal)) => run_node(rt, &words, journal, input, output, errors),

@@ -3,4 +3,6 @@
 
 mod words;
 
-pub use words::{AuditWords, DrawWords, JournalWords, Subject, Words, read_words, refused};
+pub use words::{
+    AuditWords, DrawWords, JournalWords, StoreWords, Subject, Words, read_words, refused,
+};

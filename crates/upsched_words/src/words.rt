@@ -32,11 +32,20 @@ pub struct AuditWords<'a> {
     pub journals: Vec<&'a str>,
 }
 
+/// What `check` is told of the files of nodes.
+#[derive(Clone, Copy, Debug)]
+pub struct StoreWords<'a> {
+    /// The path of their folder.
+    pub folder: &'a str,
+}
+
 /// What `draw` is to draw.
 #[derive(Clone, Copy, Debug, PartialEq, Eq)]
 pub enum Subject {
     /// What happens in a script.
     Run,
+    /// The MAPs of a plan.
+    Plan,
     /// The MAPs of a plan, for a terminal.
     PlanText,
 }
@@ -60,10 +69,14 @@ pub enum Words<'a> {
     Run(RunWords<'a>),
     /// Runs a script and prints its answers and its letters.
     Trace(RunWords<'a>),
-    /// The same as JSON.
+    /// Runs a script and prints its answers as JSON.
     RunAsJson(RunWords<'a>),
+    /// The same with the letters of each event, and what is seen of its node.
+    TraceAsJson(RunWords<'a>),
     /// Tells what is wrong with a plan or a script.
     Check(CheckWords<'a>),
+    /// Tells what the files of nodes are.
+    CheckStore(StoreWords<'a>),
     /// Writes a plan's MAPs as a capture file.
     Capture(CaptureWords<'a>),
     /// Prints what a plan's MAPs give.
@@ -74,6 +87,8 @@ pub enum Words<'a> {
     Draw(DrawWords<'a>),
     /// Prints a MAP body.
     Show(ShowWords<'a>),
+    /// Prints a MAP body with the names of its uses.
+    ShowNames(ShowWords<'a>),
     /// The same as JSON.
     ShowAsJson(ShowWords<'a>),
     /// Works on a plan with a thread for each node, and prints whether the records agree.
@@ -132,7 +147,7 @@ fn run_command<'a>(alloc: Global) -> Result<Command<'a>, Error> {
         .long("trace")
         .action(ArgAction::SetTrue)
         .help(
-            "Also prints for each event the letter that came and those that it sent, by the numbers that deliver takes",
+            "Also prints for each event its letters, by the numbers that deliver takes, and what its node does from then on",
         );
     let store = Arg::new(alloc, "store")
         .long("store")
@@ -140,10 +155,7 @@ fn run_command<'a>(alloc: Global) -> Result<Command<'a>, Error> {
         .help(
             "Keeps the records of node K in DIR/node-K.db, a SQLite database that is made if it isn't there",
         );
-    let json = json_flag(alloc)
-        .conflicts_with("store")?
-        .conflicts_with("trace")?
-        .conflicts_with("verbose")?;
+    let json = json_flag(alloc).conflicts_with("verbose")?;
     let run = Command::new(alloc, "run")
         .about("Runs a script over three or five nodes and their modems and prints its answers")
         .after_help("Example: upsched run examples/scripts/one_leader.toml --trace")
@@ -156,9 +168,9 @@ fn run_command<'a>(alloc: Global) -> Result<Command<'a>, Error> {
 }
 
 fn check_command<'a>(alloc: Global) -> Result<Command<'a>, Error> {
-    let path = Arg::new(alloc, "FILE").required(true).help(
-        "A plan or a script in TOML (docs/formats.md); a script is known by its keys",
-    );
+    let path = Arg::new(alloc, "FILE")
+        .required_unless_present("store")?
+        .help("A plan or a script in TOML (docs/formats.md); a script is known by its keys");
     let plan = Arg::new(alloc, "plan")
         .long("plan")
         .action(ArgAction::SetTrue)
@@ -168,12 +180,22 @@ fn check_command<'a>(alloc: Global) -> Result<Command<'a>, Error> {
         .action(ArgAction::SetTrue)
         .conflicts_with("plan")?
         .help("Looks at it as a script, whatever its keys");
+    let store = Arg::new(alloc, "store")
+        .long("store")
+        .value_name("DIR")
+        .conflicts_with("FILE")?
+        .conflicts_with("plan")?
+        .conflicts_with("script")?
+        .help(
+            "Tells of each DIR/node-K.db whether it is fresh, used, foreign, locked or of another node",
+        );
     let check = Command::new(alloc, "check")
         .about("Tells whether a plan or a script is good and, if not, what is wrong where")
         .after_help("Example: upsched check examples/faults/plans/key_missing.toml")
         .arg(path)?
         .arg(plan)?
-        .arg(script)?;
+        .arg(script)?
+        .arg(store)?;
     Ok(check)
 }
 
@@ -260,7 +282,6 @@ fn draw_command<'a>(alloc: Global) -> Result<Command<'a>, Error> {
     let plan = Arg::new(alloc, "plan")
         .long("plan")
         .action(ArgAction::SetTrue)
-        .requires_arg("text")?
         .help("Draws the MAPs of a plan, and what became of its requests");
     let text = Arg::new(alloc, "text")
         .long("text")
@@ -268,7 +289,7 @@ fn draw_command<'a>(alloc: Global) -> Result<Command<'a>, Error> {
         .requires_arg("plan")?
         .help("Prints them for a terminal of 100 columns");
     let draw = Command::new(alloc, "draw")
-        .about("Draws what happens in a script as a picture (SVG), or the MAPs of a plan as text")
+        .about("Draws what happens in a script, or the MAPs of a plan, as a picture (SVG)")
         .after_help("Example: upsched draw examples/scripts/takeover.toml > takeover.svg")
         .arg(file)?
         .arg(plan)?
@@ -280,9 +301,18 @@ fn show_command<'a>(alloc: Global) -> Result<Command<'a>, Error> {
     let hex = Arg::new(alloc, "HEX")
         .required(true)
         .help("A MAP body in hexadecimal, without spaces");
+    let names = Arg::new(alloc, "names")
+        .long("names")
+        .action(ArgAction::SetTrue)
+        .conflicts_with("json")?
+        .help("Also prints the name of each element's use (IUC), behind its number");
     let show = Command::new(alloc, "show")
         .about("Prints what a MAP body holds")
+        .after_help(
+            "Example: upsched show 01070300000003e8000003e30205030800058000fffc40140001c064 --names",
+        )
         .arg(hex)?
+        .arg(names)?
         .arg(json_flag(alloc))?;
     Ok(show)
 }
@@ -416,14 +446,14 @@ fn maps_words<'a>(words: &ArgMatches<'a>) -> Option<Words<'a>> {
     })
 }
 
-/// What `show` is told: likewise.
+/// What `show` is told: likewise, or to print names too.
 fn show_words<'a>(words: &ArgMatches<'a>) -> Option<Words<'a>> {
     let hex = words.get_str("HEX")?;
     let told = ShowWords { hex };
-    Some(if words.get_flag("json") {
-        Words::ShowAsJson(told)
-    } else {
-        Words::Show(told)
+    Some(match (words.get_flag("json"), words.get_flag("names")) {
+        (true, _) => Words::ShowAsJson(told),
+        (false, true) => Words::ShowNames(told),
+        (false, false) => Words::Show(told),
     })
 }
 
@@ -438,7 +468,8 @@ fn run_words<'a>(words: &ArgMatches<'a>) -> Option<Words<'a>> {
         store,
     };
     Some(match (words.get_flag("json"), words.get_flag("trace")) {
-        (true, _) => Words::RunAsJson(told),
+        (true, true) => Words::TraceAsJson(told),
+        (true, false) => Words::RunAsJson(told),
         (false, true) => Words::Trace(told),
         (false, false) => Words::Run(told),
     })
@@ -447,10 +478,10 @@ fn run_words<'a>(words: &ArgMatches<'a>) -> Option<Words<'a>> {
 /// What `draw` is told.
 fn draw_words<'a>(words: &ArgMatches<'a>) -> Option<DrawWords<'a>> {
     let path = words.get_str("FILE")?;
-    let subject = if words.get_flag("plan") && words.get_flag("text") {
-        Subject::PlanText
-    } else {
-        Subject::Run
+    let subject = match (words.get_flag("plan"), words.get_flag("text")) {
+        (true, true) => Subject::PlanText,
+        (true, false) => Subject::Plan,
+        (false, _) => Subject::Run,
     };
     Some(DrawWords { path, subject })
 }
@@ -514,15 +545,18 @@ fn live_words<'a>(words: &ArgMatches<'a>) -> Option<LiveWords<'a>> {
     })
 }
 
-/// What `check` is told.
-fn check_words<'a>(words: &ArgMatches<'a>) -> Option<CheckWords<'a>> {
+/// What `check` is told: a text, or the folder of nodes' files.
+fn check_words<'a>(words: &ArgMatches<'a>) -> Option<Words<'a>> {
+    if let Some(folder) = words.get_str("store") {
+        return Some(Words::CheckStore(StoreWords { folder }));
+    }
     let path = words.get_str("FILE")?;
     let form = match (words.get_flag("plan"), words.get_flag("script")) {
         (true, _) => Some(Form::Plan),
         (false, true) => Some(Form::Script),
         (false, false) => None,
     };
-    Some(CheckWords { path, form })
+    Some(Words::Check(CheckWords { path, form }))
 }
 
 /// What the command's words say.
@@ -530,7 +564,7 @@ fn command_of<'a>(alloc: Global, matches: &ArgMatches<'a>) -> Result<Option<Word
     Ok(match matches.subcommand() {
         Some(("maps", words)) => maps_words(words),
         Some(("run", words)) => run_words(words),
-        Some(("check", words)) => check_words(words).map(|words| Words::Check(words)),
+        Some(("check", words)) => check_words(words),
         Some(("capture", words)) => words
             .get_str("PLAN")
             .map(|plan| Words::Capture(CaptureWords { plan })),
