@@ -32,10 +32,6 @@ none_until ds from block to end none times sid due ge lt is =
           omega arith
     ] refl
 
--- all of them
-pub none_behind : (ds : Dues) (from blocks end : ℕ) → NoneDue ds from (64 * blocks) end → length ds.least.items ≤ blocks → (to : ℕ) → NoneDue ds from to end
-none_behind ds from blocks end none few to sid due ge lt is = none sid due ge (let there : sid / 64 < length ds.least.items = is.1.0 in omega arith) is
-
 -- what was read at a place
 pub read_at : (ns : List ℕ) (place x : ℕ) → place < length ns → x ≡ get_or ns place x → get_or ns place 0 ≡ x
 read_at ns place x lt e = get_or_from_slice_get ns place x 0 (slice_get_read ns (length ns) place x refl lt e)

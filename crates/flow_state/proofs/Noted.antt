@@ -1,5 +1,5 @@
 -- What is kept of the flows' due times, and the flows that are due.
-use Rattle.std.proofs.Common.{◌≡◌, ◌≢◌, ℕ, zero, suc, slice_get, ◌+◌, ◌<◌, ◌≤◌, Bool, true, false, cond, not, ◌&&◌, leb, ltb, List, [], ◌∷◌, ◌++◌, map, filter, Option, Some, None, refl, sym, ap, subst, ◌∙◌, nat_eq, arith, inl, inr}
+use Rattle.std.proofs.Common.{◌≡◌, ◌≢◌, ℕ, zero, suc, ◌+◌, ◌<◌, ◌≤◌, Bool, true, false, cond, not, ◌&&◌, leb, ltb, List, [], ◌∷◌, ◌++◌, map, filter, Option, Some, None, refl, sym, ap, subst, ◌∙◌, nat_eq, arith, inl, inr}
 use Rattle.std.specs.Prelude.{IsSome, IfSome, IfNone, option_to_list}
 use Rattle.std.specs.List.{AllByRecursion, IsDistinct}
 use Rattle.std.specs.Map.{set_value, lookup, remove_entry, keys_of}
@@ -155,21 +155,6 @@ absent [] low high sid r le = refl
 absent (e ∷ es) low high sid r le =
     let more : low < e.0 = r.0 in
     ap (λ b. cond b (Some e.1) (lookup (nat_eq sid) es)) (let off : nat_eq sid e.0 ≡ false = grind (arith, more, le) in off) ∙ absent es e.0 high sid r.2 (omega arith)
-
--- the flow at a place is that of its SID
-key_above : (es : Flows) (low high k : ℕ) (e : ℕ × Flow) → Rise low (keys es) high → slice_get es k ≡ Some e → low < e.0
-key_above [] low high k e r at = absurd cc
-key_above (x ∷ es) low high zero e r at = let same : x ≡ e = cc in subst (λ (y : ℕ × Flow). low < y.0) same r.0
-key_above (x ∷ es) low high (suc k) e r at = let more = key_above es x.0 high k e r.2 at in omega (arith, r.0)
-
-pub found_at : (es : Flows) (low high k : ℕ) (e : ℕ × Flow) → Rise low (keys es) high → slice_get es k ≡ Some e → lookup (nat_eq e.0) es ≡ Some e.1
-found_at [] low high k e r at = absurd cc
-found_at (x ∷ es) low high zero e r at =
-    let same : x ≡ e = cc in
-    ap (λ b. cond b (Some x.1) (lookup (nat_eq e.0) es)) (ap (λ (y : ℕ × Flow). nat_eq e.0 y.0) same ∙ (let on : nat_eq e.0 e.0 ≡ true = grind arith in on)) ∙ ap (λ (y : ℕ × Flow). Some y.1) same
-found_at (x ∷ es) low high (suc k) e r at =
-    let more : x.0 < e.0 = key_above es x.0 high k e r.2 at in
-    ap (λ b. cond b (Some x.1) (lookup (nat_eq e.0) es)) (let off : nat_eq e.0 x.0 ≡ false = grind (arith, more) in off) ∙ found_at es x.0 high k e r.2 at
 
 -- a flow that isn't due
 not_due : (ds : Dues) (e : ℕ × Flow) (from to end : ℕ) → NoneDue ds from to end → (is_timed e.1.kind ≡ true → IsDueFrom ds e.0 e.1.due) → from ≤ e.0 → e.0 < to → is_due_stored end e.1 ≡ false

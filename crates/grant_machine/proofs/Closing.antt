@@ -2,7 +2,6 @@
 use Rattle.std.proofs.Common.{◌≡◌, ℕ, ◌+◌, ◌<◌, ◌≤◌, Bool, true, false, cond, not, ◌&&◌, max, List, [], ◌∷◌, ◌++◌, map, filter, length, Option, Some, None, refl, sym, ap, subst, ◌∙◌, arith, inl, inr, eqb, leb, ltb, ◌^◌}
 use Rattle.std.specs.List.{find, list_any, filter_map, flat_map, range_with_len, AllByRecursion, AllZip}
 use Rattle.std.specs.Option.{option_map_or}
-use Rattle.std.specs.Prelude.{IfSome}
 use Rattle.std.proofs.lemmas.Bool.{eqb-true, le-leb}
 use Rattle.minislot_time.specs.Extent.{Extent}
 use Rattle.map_body.specs.declared.element.Element.{Element}
@@ -389,8 +388,3 @@ module _ (t : Table) (len not_before ack : ℕ) (x : Draft) (r : IsReachedTable 
   pub made_output : outputs.Map r.channel made.span.start len (layout (head_of t.row.channel made.span.start made.ack) (elements_in t.row.channel x) 0) ≡ (step r.rows (commands.Cut r.channel len not_before ack)).output
   made_output =
       ap (λ (es : List Element). outputs.Map r.channel made.span.start len (layout (head_of t.row.channel made.span.start made.ack) es 0)) drawn_are ∙ ap (λ (s : Step). s.output) (sym step_is)
-
--- a time is what it was made of
-pub slot_is : (o : Option ℕ) (s n : ℕ) → o ≡ Some s → IfSome o (λ t. (t ≡ n) × (n < 2 ^ 63)) → s ≡ n
-slot_is (Some t) s n e h = let same : t ≡ s = cc in sym same ∙ h.0
-slot_is None s n e h = absurd cc

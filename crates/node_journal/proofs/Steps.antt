@@ -60,9 +60,6 @@ adds_none sent me old new Waits quiet same = same
 adds_none sent me old new Ends quiet same = same
 adds_none sent me old new Torn quiet same = same
 
-pub stays : (text : List ℕ) (sent : List Letter) (f : Follower) (step : Step) → IsQuiet step → IsFollowed text f → Steps text sent f step f
-stays text sent f step quiet old = record { followed = old; id = refl; members = refl; adds = adds_none sent f.id f.kept.entries f.kept.entries step quiet refl }
-
 -- the journal goes on by a part, and the node did nothing
 moved : (text : List ℕ) (sent : List Letter) (f : Follower) (part : List ℕ) (n : ℕ) (phase : Phase) (step : Step) → IsFollowed text f → IsQuiet step → length part ≡ n → BeginsWith part (drop f.place text)
     → Writes f.id f.members (take f.place text ++ part) f.kept.entries phase → Steps text sent f step (record f { place = f.place + n; phase = phase })
@@ -201,25 +198,3 @@ module _ (text : List ℕ) (sent : List Letter) (f : Follower) (line after : Lis
 pub halves : (text : List ℕ) (sent : List Letter) (f : Follower) (n : ℕ) → IsFollowed text f → f.phase ≡ Up → IsHalf (drop f.place text) n → Steps text sent f Moved (record f { place = f.place + n; phase = Cut })
 halves text sent f n old is half =
     moved text sent f half.0 n Cut Moved old tt half.1 half.2 (ends (take f.place text) f.kept.entries half.0 (written_in text f Up old is) half.3)
-
--- one that differs in nothing that counts
-pub followed_same : (text : List ℕ) (f g : Follower) → SamePlace f g → g.kept ≡ f.kept → IsFollowed text f → IsFollowed text g
-followed_same text f g same kept old = record {
-  node = same.node ∙ (old.node ∙ sym same.id);
-  members = same.count ∙ (old.members ∙ ap member_count (sym same.members));
-  within = subst (λ p. p ≤ length text) (sym same.place) old.within;
-  written = subst (λ (me : ℕ). Writes me g.members (take g.place text) g.kept.entries g.phase) (sym same.id)
-      (subst (λ (ms : Members). Writes f.id ms (take g.place text) g.kept.entries g.phase) (sym same.members)
-      (subst (λ (p : ℕ). Writes f.id f.members (take p text) g.kept.entries g.phase) (sym same.place)
-      (subst (λ (es : List EntryView). Writes f.id f.members (take f.place text) es g.phase) (sym (ap (λ k. k.entries) kept))
-      (subst (λ (p : Phase). Writes f.id f.members (take f.place text) f.kept.entries p) (sym same.phase) old.written))));
-}
-
-pub steps_same : (text : List ℕ) (sent : List Letter) (f g h : Follower) (step : Step) → SamePlace f g → g.kept ≡ f.kept → Steps text sent g step h → Steps text sent f step h
-steps_same text sent f g h step same kept steps = record {
-  followed = steps.followed;
-  id = steps.id ∙ same.id;
-  members = steps.members ∙ same.members;
-  adds = subst (λ (me : ℕ). Adds sent me f.kept.entries step h.kept.entries) same.id
-      (subst (λ (es : List EntryView). Adds sent g.id es step h.kept.entries) (ap (λ k. k.entries) kept) steps.adds);
-}

@@ -1,8 +1,7 @@
 -- What nodes did in the lives of their processes is a replay.
-use Rattle.std.proofs.Common.{◌≡◌, ◌∙◌, ◌⊎◌, inl, inr, ℕ, ◌<◌, List, [], ◌∷◌, ◌++◌, Option, None, Some, Result, Ok, Err, IsTrue, is_ok, refl, sym, ap, subst}
+use Rattle.std.proofs.Common.{◌≡◌, ◌∙◌, ◌⊎◌, inl, inr, ℕ, ◌<◌, List, [], ◌∷◌, ◌++◌, Option, None, Result, Ok, IsTrue, is_ok, refl, sym, ap, subst}
 use Rattle.acceptor.specs.Content.{Content, Write, after_write, no_content}
-use Rattle.map_release.specs.declared.numbered.Numbered.{Numbered}
-use Rattle.node.specs.Calls.{Course, IsStop, MayGoOn}
+use Rattle.node.specs.Calls.{Course, MayGoOn}
 use Rattle.node.specs.Calls.Cause.{Lead as AskedToLead, Offer as Offered, Receive as Received, Tell as AskedToTell}
 use Rattle.node.specs.Calls.{Cause as Call}
 use Rattle.node.specs.Step.{Outcome}
@@ -11,19 +10,17 @@ use Rattle.node.specs.View.Standing.{Running, Stopped}
 use Rattle.node_lines.specs.Lines.{Asks}
 use Rattle.node_lines.specs.declared.request.Request.{Request}
 use Rattle.node_lines.specs.declared.request.Request.TheVariants as request
-use Rattle.node_lives.specs.Lives.{AreLives, AreTold, HaveLived, IsKilled, IsTold, LivesAreSound, Tells, cause_of, crash_entry, restart_entry}
+use Rattle.node_lives.specs.Lives.{AreLives, AreTold, IsKilled, IsTold, LivesAreSound, cause_of, crash_entry, restart_entry}
 use Rattle.node_service.specs.Seated.{asked_of}
 use Rattle.node_service.specs.declared.outgoing.Reply.{Reply}
 use Rattle.node_service.specs.declared.outgoing.Reply.TheVariants.{Acted, Fresh, Refused, Restarted}
 use Rattle.node_worker.specs.Entries.{EntryView}
-use Rattle.node_worker.specs.Legal.{IsSound, entries_of}
+use Rattle.node_worker.specs.Legal.{entries_of}
 use Rattle.node_worker.specs.Replays.{EntryStep, IsSurvived, Replays, answer_of, answer_to, ask_of}
-use Rattle.node_worker.specs.declared.entry.Done.{Done}
 use Rattle.node_worker.specs.declared.entry.Ended.{Ended}
-use Rattle.node_worker.specs.declared.entry.Ended.TheVariants.{FailedEither}
 use Rattle.proposer.specs.declared.fault.NodeFault.{NodeFault}
 use Rattle.proposer.specs.declared.fault.NodeFault.TheVariants.{Down}
-use Rattle.seats.specs.Moves.{Ask, Move, Moves, quiet}
+use Rattle.seats.specs.Moves.{Ask, Moves, quiet}
 use Rattle.seats.specs.Moves.Ask.{Call as IsCalled}
 use Rattle.seats.specs.declared.answer.Answer.{Answer}
 use Rattle.seats.specs.declared.answer.Answer.TheVariants.{Fault}

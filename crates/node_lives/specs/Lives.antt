@@ -3,7 +3,7 @@ use Rattle.std.specs.Prelude.{◌≡◌, ◌⊎◌, ℕ, ◌<◌, List, [], ◌�
 use Rattle.acceptor.specs.Content.{Content, after_write, no_content}
 use Rattle.node.specs.Calls.{Cause as Call, Course}
 use Rattle.node.specs.Step.{Outcome}
-use Rattle.node.specs.View.{Standing, View, started}
+use Rattle.node.specs.View.{View, started}
 use Rattle.node.specs.View.Standing.{Running}
 use Rattle.node_lines.specs.Lines.{Asks}
 use Rattle.node_lines.specs.declared.request.Request.{Request}

@@ -6,7 +6,6 @@ use Rattle.text_faults.specs.declared.kind.Kind.{Kind}
 use Rattle.text_faults.specs.declared.kind.Kind.TheVariants as kinds
 use Rattle.text_faults.specs.declared.row.Key.{Key}
 use Rattle.text_faults.specs.declared.row.Wants.{Wants}
-use Rattle.text_faults.specs.declared.fault.Found.{Found}
 use Rattle.text_faults.specs.declared.fault.Found.TheVariants as found
 use Rattle.text_faults.specs.declared.fault.Place.{Place}
 use Rattle.text_faults.specs.declared.fault.Place.TheVariants as places

@@ -13,7 +13,7 @@ use Rattle.node_service.specs.declared.outgoing.Reply.TheVariants as reply
 use Rattle.node_service.specs.declared.service.End.{End}
 use Rattle.node_service.specs.declared.service.End.TheVariants as ends
 use Rattle.node_service.specs.Texts.{reply_text}
-use Rattle.seats.specs.Occupant.{is_up, node_of, who_of}
+use Rattle.seats.specs.Occupant.{is_up, node_of}
 use Rattle.seats.specs.Seat.{Shown}
 use Rattle.seats.specs.declared.seat.Seat.{Seat}
 use Rattle.upsched_map_parts.specs.declared.status.Status.TheVariants.{Done, Faulted}
@@ -35,14 +35,3 @@ told : {I O F : Type 0} (input : Inputs I) (output : Outputs O) (id : ℕ) (coun
 told input output id count (Ok done) end i o sent i' o' written serves tells =
     (sent, written, subst (λ (x : End). ServesAs input output (member_count count) id (Running (started no_content)) x i sent i' o') (tells.0 refl) serves)
 told input output id count (Err fault) end i o sent i' o' written serves tells = inr (sent, end, written, (λ is. let wrong : false ≡ true = tells.1 is in cc), serves)
-
--- a new node told who it is and served
-pub ran : {N I O F : Type 0} {g : Ghosts N} (input : Inputs I) (output : Outputs O) (id : ℕ) (count : Members) (seat : Seat N g) (r : Result (Unit {0}) F) (end : End) (i : I) (o sent : O) (i' : I) (o' : O)
-    → IsNewSeat id (member_count count) seat → Appends (output.bytes_held o) (output.bytes_held sent) (reply_text (reply.Fresh id count))
-    → ServesAs input output (who_of seat).members (who_of seat).id (Running (started no_content)) end i sent i' o'
-    → (IsOk r ↔ (end ≡ ends.Input)) → MatchResult r (λ done. RunsNode input output id count Done i o i' o') (λ fault. RunsNode input output id count Faulted i o i' o')
-ran input output id count seat r end i o sent i' o' new written serves tells =
-    told input output id count r end i o sent i' o' written
-    (subst (λ (members : ℕ). ServesAs input output members id (Running (started no_content)) end i sent i' o') new.members
-    (subst (λ (me : ℕ). ServesAs input output (who_of seat).members me (Running (started no_content)) end i sent i' o') new.id serves))
-    tells

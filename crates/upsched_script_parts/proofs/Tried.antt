@@ -1,5 +1,5 @@
 -- A script that was read back and run is as asked, and so is what is printed of it.
-use Rattle.std.proofs.Common.{◌≡◌, ℕ, List, length, subst, sym, ◌∙◌, refl, Bool, true, false, IsTrue, Option, None, Some, Result, Ok, Err, IfOk, IfErr, IfSome, OnOk, String, Global, string_bytes, option_map}
+use Rattle.std.proofs.Common.{◌≡◌, ℕ, List, length, subst, ◌∙◌, Bool, true, false, IsTrue, Option, Result, Ok, Err, IfOk, IfSome, OnOk, String, Global, string_bytes, option_map}
 use Rattle.std.proofs.lemmas.List.{length-replicate}
 use Rattle.std.specs.Io.KnownBytes.{Appends, Keeps}
 use Rattle.std.proofs.KnownBytes.{Appends-kept}
@@ -14,7 +14,6 @@ use Rattle.seats.specs.declared.answer.Answer.{Answer}
 use Rattle.network_script.specs.Next.{Goes, Run}
 use Rattle.network_script.specs.World.{Written, opening}
 use Rattle.script_text.specs.Script.{IsScript}
-use Rattle.printed_scripts.specs.Texts.{script_text}
 use Rattle.script_counts.specs.Counts.{crashes, takeovers, OffersAll}
 use Rattle.upsched_map_parts.specs.Plan.{IsPlan, NoPlan}
 use Rattle.upsched_map_parts.proofs.Callers.{no_plan_read}

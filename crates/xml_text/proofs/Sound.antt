@@ -2,8 +2,8 @@
 use Rattle.std.proofs.Common.{◌≡◌, ℕ, zero, suc, ◌+◌, ◌/◌, ◌%◌, ◌<◌, ◌==◌, Bool, true, false, ◌&&◌, if◌then◌else◌, List, [], ◌∷◌, ◌++◌, codes, decimal, refl, arith}
 use Rattle.std.proofs.lemmas.Bool.Decides.{nat_tests}
 use Rattle.std.specs.Fmt.{digits, digits_onto, digit_glyph}
-use Rattle.std.specs.List.{AllByRecursion, list_all}
-use Rattle.xml_text.specs.Xml.{Attribute, Drawn, Tag, Xml, attributes_of, contents, drawing, is_plain, name_of, plain, plain_byte, render}
+use Rattle.std.specs.List.{list_all}
+use Rattle.xml_text.specs.Xml.{Drawn, Tag, Xml, attributes_of, contents, drawing, is_plain, name_of, plain, plain_byte, render}
 use Rattle.xml_text.specs.Xml.Tag.{Svg, Title, Style, Definitions, Group, ArrowHead, Pattern, Line, Rectangle, Circle, Path, Words}
 use Rattle.xml_text.specs.Xml.Xml.{Nothing, Hollow, Saying, Holding}
 use Rattle.xml_text.specs.WellFormed.{AreAttributes, IsContent, IsDocument, IsText, is_name}

@@ -1,6 +1,6 @@
 -- Layers that are being written, and what they draw.
 use Rattle.std.specs.Prelude.{◌≡◌, string_bytes}
-use Rattle.xml_text.specs.Xml.{Xml, Drawn, render}
+use Rattle.xml_text.specs.Xml.{Drawn, render}
 use Rattle.xml_text.specs.Xml.Xml.{Nothing}
 use Rattle.xml_text.specs.declared.layers.Layers.{Layers}
 

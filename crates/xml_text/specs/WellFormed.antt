@@ -1,7 +1,7 @@
 -- When bytes are well-formed XML: elements whose tags balance, with attributes and texts in which nothing is to be escaped.
-use Rattle.std.specs.Prelude.{ℕ, Bool, false, true, nat_lt, ◌==◌, ◌&&◌, ◌||◌, not, IsTrue, List, [], ◌∷◌, ◌++◌, map, codes}
+use Rattle.std.specs.Prelude.{ℕ, Bool, false, true, nat_lt, ◌==◌, ◌&&◌, ◌||◌, not, IsTrue, List, [], ◌∷◌, ◌++◌, map}
 use Rattle.std.specs.List.{AllByRecursion, list_all, list_any}
-use Rattle.xml_text.specs.Xml.{Attribute, Xml, render, hollow_text, whole_text, is_plain}
+use Rattle.xml_text.specs.Xml.{Attribute, hollow_text, whole_text, is_plain}
 
 -- a text has no quote, ampersand or angle bracket
 abbrev pub IsText : List ℕ → Type 0
