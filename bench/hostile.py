@@ -302,21 +302,24 @@ def text_of(rng, changeable, made, array):
 
 # The words that take a plan. Turns that find nothing to do take a millisecond each, so there are few.
 PLANNED = {"maps": ["maps"], "maps --json": ["maps", "--json"], "check": ["check", "--plan"], "capture": ["capture"]}
-PLANNED |= {"stats": ["stats"], "draw --plan": ["draw", "--plan", "--text"], "live": ["live", "--turns", "12"]}
+PLANNED |= {"stats": ["stats"], "live": ["live", "--turns", "12"]}
+PLANNED |= {"draw --plan": ["draw", "--plan"], "draw --plan --text": ["draw", "--plan", "--text"]}
 # And those that take a script.
 SCRIPTED = {"run": ["run"], "run --trace": ["run", "--trace"], "run --json": ["run", "--json"], "draw": ["draw"]}
-WORDS = ["maps", "maps", *PLANNED, "show", "show", "run", "run", *SCRIPTED, "run --store", "run --store"]
+SCRIPTED |= {"run --json --trace": ["run", "--json", "--trace"]}
+SHOWN = {"show": ["show", "--"], "show --names": ["show", "--names", "--"]}
+WORDS = ["maps", "maps", *PLANNED, *SHOWN, "run", "run", *SCRIPTED, "run --store", "run --store"]
 
 
 def words_of(how):
     """The words of a good text."""
-    return {"show": ["show", "--"], **PLANNED, **SCRIPTED}.get(how, ["run"])
+    return {**SHOWN, **PLANNED, **SCRIPTED}.get(how, ["run"])
 
 
 def case_of(seed, k):
     rng = random.Random("%d %d" % (seed, k))
     how = rng.choice(WORDS)
-    if how == "show":
+    if how in SHOWN:
         return Case(how, words_of(how), hex_text(rng).replace(b"\0", b"0")[:LONGEST_WORD])
     if how in PLANNED:
         return Case(how, PLANNED[how], text_of(rng, PLANS, made_plan, b"command"))
@@ -335,7 +338,7 @@ class Runner:
         self.text, self.store, self.errors = (os.path.join(folder, name) for name in ("text", "store", "errors"))
 
     def words(self, case):
-        if case.how == "show":
+        if case.how in SHOWN:
             return case.words + [case.text]
         with open(self.text, "wb") as file:
             file.write(case.text)
@@ -363,7 +366,7 @@ class Runner:
 
 def good_text(how, size):
     """A good text of about this length."""
-    if how == "show":
+    if how in SHOWN:
         return read(os.path.join(HERE, "examples/bodies/first_grant.hex")).strip()
     table = b"[[command]]\nkind = 'noop'\n" if how in PLANNED else b"[[event]]\nkind = 'tick'\nmodem = 0\nch = 1\nslot = 0\nrandom = 0\n"
     return b"members = 3\nmodems = [1]\n" + table * (size // len(table))
@@ -386,7 +389,7 @@ class Pace:
 
     def good(self, how, length):
         """The time of the good text whose length is the greatest power of two up to this one."""
-        return self.taken(how, 0 if how == "show" else 1 << max(length, 64).bit_length() - 1)
+        return self.taken(how, 0 if how in SHOWN else 1 << max(length, 64).bit_length() - 1)
 
 
 def faults(case, ended, pace):
