@@ -146,7 +146,14 @@ pub fn run_stored_as_json<F: Read, O: Write, E: Write>(
     ensures no_script { NoScript (F.remaining script.old) → output.new ≡ output.old }
     ensures understood { result ≢ NotUnderstood }
 {
-    match print_in(rt, script, words.script, folder, Form::Json(is_traced), output) {
+    match print_in(
+        rt,
+        script,
+        words.script,
+        folder,
+        Form::Json(is_traced),
+        output,
+    ) {
         Ok(()) => Status::Done,
         Err(fault) => fault.told(errors),
     }
