@@ -5,6 +5,7 @@ use Rattle.std.specs.Ordering.{nat_cmp}
 use Rattle.std.specs.BTreeMap.{insert_entry}
 use Rattle.std.specs.Borrow.{Bor}
 use Rattle.std.proofs.lemmas.Bool.{le-leb, ltb-true, ltb-false}
+use Rattle.std.proofs.lemmas.List.{length-append, take-append-le}
 use Rattle.std.proofs.lemmas.Option.{slice_get_past, slice_get_within, slice_get_read}
 use Rattle.std.proofs.Common.{get_or}
 use Rattle.ballots.specs.Limits.{most_places}
@@ -31,16 +32,6 @@ output_is rows n place items some items_are =
     ap (λ (os : List Output). slice_get os (place - 1)) (items_are ∙ outputs_first n (gapless rows))
     ∙ sym (output_among record { learned = rows; applied = n } place some)
 
-take_front : {X : Type 0} (n : ℕ) (xs ys : List X) → n ≤ length xs → take n (xs ++ ys) ≡ take n xs
-take_front zero xs ys le = refl
-take_front (suc n) [] ys le = absurd (omega arith)
-take_front {X} (suc n) (x ∷ xs) ys le = ap (λ (zs : List X). x ∷ zs) (take_front n xs ys (omega arith))
-
-length_front : {X : Type 0} (n : ℕ) (xs ys : List X) → n ≤ length xs → n ≤ length (xs ++ ys)
-length_front zero xs ys le = omega arith
-length_front (suc n) [] ys le = absurd (omega arith)
-length_front (suc n) (x ∷ xs) ys le = omega (arith, length_front n xs ys (omega arith))
-
 -- a value learned at a new place leaves the applied ones
 pub log_put : (rows new : Rows) (n q : ℕ) (v : List ℕ) → IsLog record { learned = rows; applied = n } → 1 ≤ q → q ≤ most_places → value_at rows q ≡ None → new ≡ insert_entry nat_cmp rows q v
     → IsLog record { learned = new; applied = n } × (take n (gapless new) ≡ take n (gapless rows))
@@ -49,9 +40,9 @@ log_put rows new n q v log lo hi none is =
     let values : gapless new ≡ gapless rows ++ grown.0 = ap gapless is ∙ grown.1 in (
       record {
         rows = subst (AreRows 1) (sym is) (are_rows_put 1 q v rows log.rows lo hi);
-        gapless = subst (λ (vs : List (List ℕ)). n ≤ length vs) (sym values) (length_front n (gapless rows) grown.0 log.gapless);
+        gapless = (let few = log.gapless in omega (arith, ap length values, length-append (gapless rows) grown.0));
       },
-      ap (take n) values ∙ take_front n (gapless rows) grown.0 log.gapless,
+      ap (take n) values ∙ take-append-le n (gapless rows) grown.0 log.gapless,
     )
 
 -- the next value is learned where there are more without a gap than applied

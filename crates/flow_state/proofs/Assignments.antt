@@ -1,5 +1,5 @@
 -- Leases of SIDs, and the one that a flow that isn't refused is given.
-use Rattle.std.proofs.Common.{◌≡◌, ◌⊎◌, ℕ, ◌<◌, ◌≤◌, Bool, true, false, cond, not, ◌&&◌, List, [], ◌∷◌, ◌++◌, filter, Option, Some, None, refl, sym, ap, ◌∙◌, arith, eqb, ltb, inl, inr, is_some, is_none}
+use Rattle.std.proofs.Common.{◌≡◌, ◌⊎◌, ℕ, ◌<◌, ◌≤◌, Bool, true, false, cond, not, ◌&&◌, List, [], ◌∷◌, ◌++◌, filter, Option, Some, None, refl, sym, ap, ◌∙◌, arith, eqb, ltb, inl, inr, is_some, is_none, slice_get}
 use Rattle.std.specs.List.{find}
 use Rattle.std.specs.Prelude.{unwrap_or}
 use Rattle.std.proofs.lemmas.Bool.{eqb-true, leb-true, and_parts, not-true}
@@ -8,7 +8,8 @@ use Rattle.flow_state.specs.declared.refusal.Refusal.TheVariants.{BadValue, Sids
 use Rattle.flow_state.specs.Limits.{is_good_kind, last_time}
 use Rattle.flow_state.specs.Rows.{Table, Lease, is_over, is_lease_of, lease_of, is_of_sid, is_given, is_leased, unicast_sids, free_sid, first_of, put_lease}
 use Rattle.flow_state.specs.Refusals.{is_good_last, table_flow_refusal}
-use Rattle.flow_state.proofs.Members.{Has, has_any, none_has, found_has, has_either, has_filter}
+use Rattle.flow_state.proofs.Members.{Has, has_any, none_has, found_has, has_between}
+use Rattle.flow_state.proofs.Filters.{filter_append, filter_between, filter_none, find_is}
 
 module _ {X : Type 0} (p : X → Bool) where
   pub find_kept : (xs : List X) (a b : X) → find p xs ≡ Some a → find p (xs ++ b ∷ []) ≡ Some a
@@ -22,12 +23,7 @@ module _ {X : Type 0} (p : X → Bool) where
       elim (p x) as (λ c. cond c (Some x) (find p (xs ++ b ∷ [])) ≡ Some a → (cond c (Some x) (find p xs) ≡ Some a) ⊎ (b ≡ a)) [ true ↦ λ f. inl f | false ↦ λ f. find_pushed xs a b f ] e
 
   pub find_passes : (xs : List X) (a : X) → find p xs ≡ Some a → p a ≡ true
-  find_passes [] a e = absurd cc
-  find_passes (x ∷ xs) a e =
-      elim (p x) as (λ c. p x ≡ c → cond c (Some x) (find p xs) ≡ Some a → p a ≡ true) [
-        | true ↦ λ h f. let same : x ≡ a = cc in ap p (sym same) ∙ h
-        | false ↦ λ h f. find_passes xs a f
-      ] refl e
+  find_passes xs a e = (found_has p xs a e).1
 
 pub eqb_same : (n : ℕ) → eqb n n ≡ true
 eqb_same n = grind arith
@@ -83,84 +79,39 @@ first_early t sid = elim (is_given t sid) as (λ b. cond b t.row.next_start 0 �
 -- ---- a lease in its place
 
 pub has_put : (l : Lease) (ls : List Lease) (x : Lease) → Has (put_lease l ls) x → Has ls x ⊎ (l ≡ x)
-has_put l ls x h = elim (has_either (filter (λ o. ltb o.sid l.sid) ls) (l ∷ filter (λ o. ltb l.sid o.sid) ls) x h) [
-  | inl front ↦ inl (has_filter (λ o. ltb o.sid l.sid) ls x front).0
-  | inr back ↦ elim back [ inl e ↦ inr e | inr more ↦ inl (has_filter (λ o. ltb l.sid o.sid) ls x more).0 ]
-]
+has_put l ls x h = elim (has_between (λ o. ltb o.sid l.sid) (λ o. ltb l.sid o.sid) l ls x h) [ inl old ↦ inl old.0 | inr is ↦ inr is ]
 
 -- the latest lease of the SID is the one that was put
 pub put_found : (l : Lease) (ls : List Lease) → find (is_of_sid l.sid) (put_lease l ls) ≡ Some l
-put_found l ls = by ls
+put_found l ls =
+    let p : Lease → Bool = is_of_sid l.sid in
+    let front : List Lease = filter (λ o. ltb o.sid l.sid) ls in
+    let back : List Lease = filter (λ o. ltb l.sid o.sid) ls in
+    find_is p (put_lease l ls) ∙ ap (λ (os : List Lease). slice_get os 0) (
+    filter_append p front (l ∷ back) ∙ ap (λ (os : List Lease). os ++ filter p (l ∷ back)) (filter_none p (λ o. ltb o.sid l.sid) (λ o e. apart o.sid (eqb-true o.sid l.sid e)) ls)
+    ∙ ap (λ b. cond b (l ∷ filter p back) (filter p back)) (eqb_same l.sid))
   where
-    back : List Lease
-    back = filter (λ o. ltb l.sid o.sid) ls
-
-    apart : (m n : ℕ) → ltb m n ≡ true → eqb m n ≡ false
-    apart m n e = grind (arith, e)
-
-    by : (os : List Lease) → find (is_of_sid l.sid) (filter (λ o. ltb o.sid l.sid) os ++ l ∷ back) ≡ Some l
-    by [] = ap (λ b. cond b (Some l) (find (is_of_sid l.sid) back)) (eqb_same l.sid)
-    by (o ∷ os) = elim (ltb o.sid l.sid) as (λ b. ltb o.sid l.sid ≡ b → find (is_of_sid l.sid) (cond b (o ∷ filter (λ o. ltb o.sid l.sid) os) (filter (λ o. ltb o.sid l.sid) os) ++ l ∷ back) ≡ Some l) [
-      | true ↦ λ e. ap (λ b. cond b (Some o) (find (is_of_sid l.sid) (filter (λ o. ltb o.sid l.sid) os ++ l ∷ back))) (apart o.sid l.sid e) ∙ by os
-      | false ↦ λ e. by os
-    ] refl
+    apart : (m : ℕ) → m ≡ l.sid → ltb m l.sid ≡ false
+    apart m same = grind (arith, same)
 
 -- the latest leases of the others stay
 pub put_others : (l : Lease) (ls : List Lease) (sid : ℕ) → eqb l.sid sid ≡ false → find (is_of_sid sid) (put_lease l ls) ≡ find (is_of_sid sid) ls
-put_others l ls sid off = split (filter (λ o. ltb o.sid l.sid) ls) ∙ parts ls
+put_others l ls sid off =
+    find_is (is_of_sid sid) (put_lease l ls)
+    ∙ ap (λ (os : List Lease). slice_get os 0) (filter_between (is_of_sid sid) (λ o. ltb o.sid l.sid) (λ o. ltb l.sid o.sid) l ls off (side l.sid off))
+    ∙ sym (find_is (is_of_sid sid) ls)
   where
-    or_else : Option Lease → Option Lease → Option Lease
-    or_else (Some x) o = Some x
-    or_else None o = o
+    after : (n : ℕ) → ltb sid n ≡ false → eqb n sid ≡ false → ltb n sid ≡ true
+    after n e o = grind (arith, e, o)
 
-    split : (xs : List Lease) → find (is_of_sid sid) (xs ++ l ∷ filter (λ o. ltb l.sid o.sid) ls) ≡ or_else (find (is_of_sid sid) xs) (find (is_of_sid sid) (filter (λ o. ltb l.sid o.sid) ls))
-    split [] = ap (λ b. cond b (Some l) (find (is_of_sid sid) (filter (λ o. ltb l.sid o.sid) ls))) off
-    split (x ∷ xs) = elim (is_of_sid sid x) as (λ b. cond b (Some x) (find (is_of_sid sid) (xs ++ l ∷ filter (λ o. ltb l.sid o.sid) ls)) ≡ or_else (cond b (Some x) (find (is_of_sid sid) xs)) (find (is_of_sid sid) (filter (λ o. ltb l.sid o.sid) ls))) [ true ↦ refl | false ↦ split xs ]
+    not_after : (n : ℕ) → ltb sid n ≡ true → ltb n sid ≡ false
+    not_after n e = grind (arith, e)
 
-    same : (m n : ℕ) → eqb m n ≡ true → m ≡ n
-    same m n e = eqb-true m n e
-
-    absent : (p : Lease → Bool) → ((x : Lease) → x.sid ≡ sid → p x ≡ false) → (xs : List Lease) → find (is_of_sid sid) (filter p xs) ≡ None
-    absent p none [] = refl
-    absent p none (x ∷ xs) = elim (p x) as (λ b. p x ≡ b → find (is_of_sid sid) (cond b (x ∷ filter p xs) (filter p xs)) ≡ None) [
-      | true ↦ λ on. elim (is_of_sid sid x) as (λ c. is_of_sid sid x ≡ c → cond c (Some x) (find (is_of_sid sid) (filter p xs)) ≡ None) [
-        | true ↦ λ e. absurd (let none' = none x (eqb-true x.sid sid e) in cc)
-        | false ↦ λ e. absent p none xs
-      ] refl
-      | false ↦ λ e. absent p none xs
+    side : (n : ℕ) → eqb n sid ≡ false → ((o : Lease) → is_of_sid sid o ≡ true → (ltb o.sid n ≡ true) × (ltb n o.sid ≡ false)) ⊎ ((o : Lease) → is_of_sid sid o ≡ true → (ltb o.sid n ≡ false) × (ltb n o.sid ≡ true))
+    side n e = elim (ltb sid n) as (λ b. ltb sid n ≡ b → ((o : Lease) → is_of_sid sid o ≡ true → (ltb o.sid n ≡ true) × (ltb n o.sid ≡ false)) ⊎ ((o : Lease) → is_of_sid sid o ≡ true → (ltb o.sid n ≡ false) × (ltb n o.sid ≡ true))) [
+      | true ↦ λ lt. inl (λ o h. rw (eqb-true o.sid sid h) (lt, not_after n lt))
+      | false ↦ λ ge. inr (λ o h. rw (eqb-true o.sid sid h) (ge, after n ge e))
     ] refl
-
-    present : (p : Lease → Bool) → ((x : Lease) → x.sid ≡ sid → p x ≡ true) → (xs : List Lease) → find (is_of_sid sid) (filter p xs) ≡ find (is_of_sid sid) xs
-    present p all [] = refl
-    present p all (x ∷ xs) = elim (p x) as (λ b. p x ≡ b → find (is_of_sid sid) (cond b (x ∷ filter p xs) (filter p xs)) ≡ cond (is_of_sid sid x) (Some x) (find (is_of_sid sid) xs)) [
-      | true ↦ λ on. ap (λ o. cond (is_of_sid sid x) (Some x) o) (present p all xs)
-      | false ↦ λ e. present p all xs ∙ elim (is_of_sid sid x) as (λ c. is_of_sid sid x ≡ c → find (is_of_sid sid) xs ≡ cond c (Some x) (find (is_of_sid sid) xs)) [
-        | true ↦ λ i. absurd (let on = all x (eqb-true x.sid sid i) in cc)
-        | false ↦ λ i. refl
-      ] refl
-    ] refl
-
-    less : (m n : ℕ) → m ≡ sid → eqb n sid ≡ false → ltb sid n ≡ true → ltb m n ≡ true
-    less m n e o lt = ap (λ k. ltb k n) e ∙ lt
-
-    parts : (ls : List Lease) → or_else (find (is_of_sid sid) (filter (λ o. ltb o.sid l.sid) ls)) (find (is_of_sid sid) (filter (λ o. ltb l.sid o.sid) ls)) ≡ find (is_of_sid sid) ls
-    parts ls = by (ltb sid l.sid) refl
-      where
-        after : (n : ℕ) → ltb sid n ≡ false → eqb n sid ≡ false → ltb n sid ≡ true
-        after n e o = grind (arith, e, o)
-
-        not_before : (n : ℕ) → ltb sid n ≡ true → ltb n sid ≡ false
-        not_before n e = grind (arith, e)
-
-        by : (b : Bool) → ltb sid l.sid ≡ b → or_else (find (is_of_sid sid) (filter (λ o. ltb o.sid l.sid) ls)) (find (is_of_sid sid) (filter (λ o. ltb l.sid o.sid) ls)) ≡ find (is_of_sid sid) ls
-        by true e = ap (or_else (find (is_of_sid sid) (filter (λ o. ltb o.sid l.sid) ls))) (absent (λ o. ltb l.sid o.sid) (λ x s. ap (ltb l.sid) s ∙ not_before l.sid e) ls)
-            ∙ or_none (find (is_of_sid sid) (filter (λ o. ltb o.sid l.sid) ls)) ∙ present (λ o. ltb o.sid l.sid) (λ x s. ap (λ k. ltb k l.sid) s ∙ e) ls
-          where
-            or_none : (o : Option Lease) → or_else o None ≡ o
-            or_none (Some x) = refl
-            or_none None = refl
-        by false e = ap (λ o. or_else o (find (is_of_sid sid) (filter (λ o. ltb l.sid o.sid) ls))) (absent (λ o. ltb o.sid l.sid) (λ x s. ap (λ k. ltb k l.sid) s ∙ e) ls)
-            ∙ present (λ o. ltb l.sid o.sid) (λ x s. ap (ltb l.sid) s ∙ after l.sid e off) ls
 
 -- ---- a flow that isn't refused
 

@@ -197,22 +197,22 @@ cleared_keys end zero ps = refl
 cleared_keys end (suc k) [] = refl
 cleared_keys end (suc k) (p ∷ ps) = ap (λ (ns : List ℕ). p.0 ∷ ns) (cleared_keys end k ps)
 
-pub cleared_all : (end k : ℕ) (ps : Places) → length ps ≤ k → there (cleared end k ps) ≡ filter (λ e. leb end e.1.last) (there ps)
+pub cleared_all : (end k : ℕ) (ps : Places) → length ps ≤ k → there (cleared end k ps) ≡ filter (λ e. leb end e.1.lease.last) (there ps)
 cleared_all end zero [] le = refl
 cleared_all end (suc k) [] le = refl
 cleared_all end zero (p ∷ ps) le = absurd (omega (arith, le))
 cleared_all end (suc k) ((s, None) ∷ ps) le = cleared_all end k ps (omega (arith, le))
 cleared_all end (suc k) ((s, Some f) ∷ ps) le =
-    elim (ltb f.last end) as (λ b. ltb f.last end ≡ b → there ((s, cond b None (Some f)) ∷ cleared end k ps) ≡ filter (λ e. leb end e.1.last) ((s, f) ∷ there ps)) [
-      | true ↦ λ h. cleared_all end k ps (omega (arith, le)) ∙ ap (λ b. cond b ((s, f) ∷ filter (λ e. leb end e.1.last) (there ps)) (filter (λ e. leb end e.1.last) (there ps))) (let off : false ≡ leb end f.last = grind (arith, h) in off)
+    elim (ltb f.lease.last end) as (λ b. ltb f.lease.last end ≡ b → there ((s, cond b None (Some f)) ∷ cleared end k ps) ≡ filter (λ e. leb end e.1.lease.last) ((s, f) ∷ there ps)) [
+      | true ↦ λ h. cleared_all end k ps (omega (arith, le)) ∙ ap (λ b. cond b ((s, f) ∷ filter (λ e. leb end e.1.lease.last) (there ps)) (filter (λ e. leb end e.1.lease.last) (there ps))) (let off : false ≡ leb end f.lease.last = grind (arith, h) in off)
       | false ↦ λ h.
           ap (λ (es : Flows). (s, f) ∷ es) (cleared_all end k ps (omega (arith, le)))
-          ∙ ap (λ b. cond b ((s, f) ∷ filter (λ e. leb end e.1.last) (there ps)) (filter (λ e. leb end e.1.last) (there ps))) (let on : true ≡ leb end f.last = grind (arith, h) in on)
+          ∙ ap (λ b. cond b ((s, f) ∷ filter (λ e. leb end e.1.lease.last) (there ps)) (filter (λ e. leb end e.1.lease.last) (there ps))) (let on : true ≡ leb end f.lease.last = grind (arith, h) in on)
     ] refl
 
 -- ---- the first end
 
-ends_step : (ps : Places) (k first least : ℕ) → least ≤ first → ((f : Flow) → flow_at ps k ≡ Some f → least ≤ f.last) → EndFrom first (there (take k ps)) → EndFrom least (there (take (suc k) ps))
+ends_step : (ps : Places) (k first least : ℕ) → least ≤ first → ((f : Flow) → flow_at ps k ≡ Some f → least ≤ f.lease.last) → EndFrom first (there (take k ps)) → EndFrom least (there (take (suc k) ps))
 ends_step [] zero first least le one all = tt
 ends_step [] (suc k) first least le one all = tt
 ends_step ((s, None) ∷ ps) zero first least le one all = tt
@@ -220,7 +220,7 @@ ends_step ((s, Some f) ∷ ps) zero first least le one all = (one f refl, tt)
 ends_step ((s, None) ∷ ps) (suc k) first least le one all = ends_step ps k first least le one all
 ends_step ((s, Some f) ∷ ps) (suc k) first least le one all = (omega (arith, all.0, le), ends_step ps k first least le one all.1)
 
-pub ends_next : (ps : Places) (k first least : ℕ) → least ≤ first → ((f : Flow) → flow_at ps k ≡ Some f → least ≤ f.last) → EndFrom first (there (take k ps)) → EndFrom least (there (take (k + 1) ps))
+pub ends_next : (ps : Places) (k first least : ℕ) → least ≤ first → ((f : Flow) → flow_at ps k ≡ Some f → least ≤ f.lease.last) → EndFrom first (there (take k ps)) → EndFrom least (there (take (k + 1) ps))
 ends_next ps k first least le one all = rw add-one (ends_step ps k first least le one all)
 
 -- ---- flows by number
@@ -293,8 +293,8 @@ module _ (a : Inside) (now : BySid) (kept : IsBySid a) (view : by_sid a ≡ now)
 
 -- ---- what loops take
 
-pub ends_some : (ps : Places) (k first least : ℕ) (f : Flow) → flow_at ps k ≡ Some f → least ≤ f.last → least ≤ first → EndFrom first (there (take k ps)) → EndFrom least (there (take (k + 1) ps))
-ends_some ps k first least f at last le all = ends_next ps k first least le (λ g e. let same : f ≡ g = cc in subst (λ (x : Flow). least ≤ x.last) same last) all
+pub ends_some : (ps : Places) (k first least : ℕ) (f : Flow) → flow_at ps k ≡ Some f → least ≤ f.lease.last → least ≤ first → EndFrom first (there (take k ps)) → EndFrom least (there (take (k + 1) ps))
+ends_some ps k first least f at last le all = ends_next ps k first least le (λ g e. let same : f ≡ g = cc in subst (λ (x : Flow). least ≤ x.lease.last) same last) all
 
 pub ends_none : (ps : Places) (k first : ℕ) → flow_at ps k ≡ None → EndFrom first (there (take k ps)) → EndFrom first (there (take (k + 1) ps))
 ends_none ps k first at all = ends_next ps k first first (omega arith) (λ g e. absurd cc) all

@@ -6,10 +6,10 @@ use Rattle.flow_state.specs.declared.flow.FlowKind.{FlowKind}
 use Rattle.flow_state.specs.declared.flow.FlowKind.TheVariants.{BestEffort, Ugs, Poll}
 use Rattle.flow_state.specs.Limits.{is_good_kind, is_size, is_schedule, due_time, due_index, IsDueTime}
 
-some_interval : (interval jitter base : ℕ) → is_schedule interval jitter base ≡ true → 0 < interval
+pub some_interval : (interval jitter base : ℕ) → is_schedule interval jitter base ≡ true → 0 < interval
 some_interval interval jitter base good = let least : 1 ≤ interval = leb-true 1 interval (and_parts _ _ (and_parts _ _ (and_parts _ _ good).0).0).0 in omega arith
 
-number_is : (base interval i : ℕ) → 0 < interval → (base + i * interval - base) / interval ≡ i
+pub number_is : (base interval i : ℕ) → 0 < interval → (base + i * interval - base) / interval ≡ i
 number_is base interval i some = ap (λ n. n / interval) (add-sub_cancel_left base (i * interval)) ∙ mul-div_cancel i some
 
 -- due time number i of a flow within the limits has the number i, where it has due times

@@ -8,6 +8,7 @@ use Rattle.flow_state.specs.declared.refusal.Refusal.TheVariants.{NoChannel}
 use Rattle.flow_state.specs.Rows.{Rows, Table, Lease, is_table, table_of, change_table}
 use Rattle.flow_state.specs.Refusals.{on_table}
 use Rattle.flow_state.specs.Changes.{flow_among}
+use Rattle.flow_state.proofs.Assignments.{find_kept, find_passes}
 
 -- a change keeps each table's channel
 abbrev pub KeepsId : (Table → Table) → Type 0
@@ -40,21 +41,11 @@ find_changed (r ∷ rows) ch at change t keeps e =
 
 -- a channel that is set later is found behind those that are
 pub find_added : (rows : Rows) (ch : ℕ) (n t : Table) → table_of rows ch ≡ Some t → table_of (rows ++ n ∷ []) ch ≡ Some t
-find_added [] ch n t e = absurd cc
-find_added (r ∷ rows) ch n t e =
-    elim (is_table ch r) as (λ b. cond b (Some r) (table_of rows ch) ≡ Some t → cond b (Some r) (table_of (rows ++ n ∷ []) ch) ≡ Some t) [
-      | true ↦ λ f. f
-      | false ↦ λ f. find_added rows ch n t f
-    ] e
+find_added rows ch n t e = find_kept (is_table ch) rows t n e
 
 -- the table found at a channel is the channel's
 pub is_found : (rows : Rows) (ch : ℕ) (t : Table) → table_of rows ch ≡ Some t → is_table ch t ≡ true
-is_found [] ch t e = absurd cc
-is_found (r ∷ rows) ch t e =
-    elim (is_table ch r) as (λ b. is_table ch r ≡ b → cond b (Some r) (table_of rows ch) ≡ Some t → is_table ch t ≡ true) [
-      | true ↦ λ h f. ap (is_table ch) (sym (some_is r t f)) ∙ h
-      | false ↦ λ h f. is_found rows ch t f
-    ] refl e
+is_found rows ch t e = find_passes (is_table ch) rows t e
 
 -- a table that is found after a change was found before it
 pub found_before : (rows : Rows) (ch at : ℕ) (change : Table → Table) (u : Table) → KeepsId change → table_of (change_table rows at change) ch ≡ Some u

@@ -6,7 +6,6 @@ pub mod DueBounds
 pub mod BySid
 pub mod Noted
 pub mod Stored
-pub mod Requests
 pub mod Adding
 pub mod Tables
 pub mod Members

@@ -1,5 +1,6 @@
 -- Which elements a list has.
 use Rattle.std.proofs.Common.{◌≡◌, ◌⊎◌, ℕ, zero, suc, ◌+◌, ◌<◌, ◌≤◌, Bool, true, false, cond, ◌||◌, List, [], ◌∷◌, ◌++◌, map, filter, length, Some, None, refl, sym, ap, subst, ◌∙◌, arith, inl, inr, slice_get, slice_index_or, Contains}
+use Rattle.std.proofs.lemmas.Bool.{false_from_ne_true}
 use Rattle.std.specs.List.{list_any, find, flat_map, range_with_len, AllByRecursion}
 
 -- x is an element of the list
@@ -114,11 +115,7 @@ module _ {X : Type 0} (p : X → Bool) where
       or_true false = refl
 
   pub none_has : (xs : List X) (x : X) → list_any p xs ≡ false → Has xs x → p x ≡ false
-  none_has xs x e h = by (p x) refl
-    where
-      by : (b : Bool) → p x ≡ b → p x ≡ false
-      by true on = absurd (let any = has_any xs x h on in cc)
-      by false off = off
+  none_has xs x e h = false_from_ne_true (p x) (λ on. let any = has_any xs x h on in cc)
 
   pub found_has : (xs : List X) (x : X) → find p xs ≡ Some x → Has xs x × (p x ≡ true)
   found_has [] x e = absurd cc
@@ -137,11 +134,15 @@ module _ {X : Type 0} (p : X → Bool) where
       ] refl
 
   pub unfound : (xs : List X) (x : X) → find p xs ≡ None → Has xs x → p x ≡ false
-  unfound xs x e h = by (p x) refl
-    where
-      by : (b : Bool) → p x ≡ b → p x ≡ false
-      by true on = absurd (let f = has_found xs x h on in let g : find p xs ≡ Some f.0 = f.1 in cc)
-      by false off = off
+  unfound xs x e h = false_from_ne_true (p x) (λ on. let f = has_found xs x h on in let g : find p xs ≡ Some f.0 = f.1 in cc)
+
+-- what an item between those that pass one test and those that pass another has on either side
+pub has_between : {X : Type 0} (p q : X → Bool) (x : X) (xs : List X) (y : X) → Has (filter p xs ++ x ∷ filter q xs) y → (Has xs y × ((p y ≡ true) ⊎ (q y ≡ true))) ⊎ (x ≡ y)
+has_between p q x xs y h = elim (has_either (filter p xs) (x ∷ filter q xs) y h) [
+  | inl front ↦ let f = has_filter p xs y front in inl (f.0, inl f.1)
+  | inr (inl is) ↦ inr is
+  | inr (inr back) ↦ let f = has_filter q xs y back in inl (f.0, inr f.1)
+]
 
 pub range_has : (a n x : ℕ) → Has (range_with_len a n) x → (a ≤ x) × (x < a + n)
 range_has a zero x h = absurd h

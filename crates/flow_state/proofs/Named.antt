@@ -1,15 +1,12 @@
 -- Leases that are named: the one of a modem and tag, and the names with one more lease.
-use Rattle.std.proofs.Common.{◌≡◌, ◌≢◌, ℕ, ◌≤◌, Bool, true, false, cond, not, ◌&&◌, List, length, slice_get, Option, Some, None, refl, sym, ap, ◌∙◌, eqb, ltb, arith}
+use Rattle.std.proofs.Common.{◌≡◌, ◌≢◌, ℕ, ◌≤◌, true, false, cond, not, ◌&&◌, List, length, slice_get, Option, Some, None, refl, sym, ap, ◌∙◌, eqb, ltb, arith}
 use Rattle.std.specs.List.{find}
 use Rattle.std.specs.Option.{option_map_or}
-use Rattle.std.proofs.lemmas.Bool.{eqb-true, and_parts}
+use Rattle.std.proofs.lemmas.Bool.{eqb-true, and_parts, false_from_ne_true}
 use Rattle.std.proofs.lemmas.Option.{same_Some}
 use Rattle.flow_state.specs.Rows.{Lease}
 use Rattle.flow_state.specs.StoredLeases.{Names, AreNamedFrom, AreNamed, NameLeases, named, is_after, is_lease_from, put_at}
 use Rattle.flow_state.proofs.Puts.{find_placed, find_nowhere, at_put, other_put}
-
-lease_same : (a b : Lease) → Some a ≡ Some b → a ≡ b
-lease_same a b e = cc
 
 module _ (start modem tag : ℕ) (es : Names) (ls : List Lease) (are : AreNamedFrom start es ls) where
   here : (q : ℕ) (m : Lease) → slice_get ls q ≡ Some m → is_lease_from start modem tag m ≡ true → named es modem tag ≡ Some q
@@ -25,39 +22,27 @@ module _ (start modem tag : ℕ) (es : Names) (ls : List Lease) (are : AreNamedF
   pub named_found : (k : ℕ) (l : Lease) → named es modem tag ≡ Some k → slice_get ls k ≡ Some l → is_lease_from start modem tag l ≡ true → find (is_lease_from start modem tag) ls ≡ Some l
   named_found k l name e is =
       find_placed (is_lease_from start modem tag) ls k l e is (λ q m lt f.
-      elim (is_lease_from start modem tag m) as (λ b. is_lease_from start modem tag m ≡ b → b ≡ false) [
-        | true ↦ λ g. let same : k ≡ q = same_Some k q (sym name ∙ here q m f g) in absurd (omega arith)
-        | false ↦ λ g. refl
-      ] refl)
+      false_from_ne_true (is_lease_from start modem tag m) (λ g. let same : k ≡ q = same_Some k q (sym name ∙ here q m f g) in omega arith))
 
   pub named_nowhere : ((k : ℕ) (l : Lease) → named es modem tag ≡ Some k → slice_get ls k ≡ Some l → is_lease_from start modem tag l ≡ false) → find (is_lease_from start modem tag) ls ≡ None
   named_nowhere none =
       find_nowhere (is_lease_from start modem tag) ls (λ q m f.
-      elim (is_lease_from start modem tag m) as (λ b. is_lease_from start modem tag m ≡ b → b ≡ false) [
-        | true ↦ λ g. sym g ∙ none q m (here q m f g) f
-        | false ↦ λ g. refl
-      ] refl)
+      false_from_ne_true (is_lease_from start modem tag m) (λ g. let off = none q m (here q m f g) f in cc))
 
   -- as a look-up by name finds it
   pub found_at : (place from : ℕ) (l : Lease) → Some place ≡ named es modem tag → from ≡ place → Some l ≡ slice_get ls from → true ≡ is_lease_from start modem tag l → Some l ≡ find (is_lease_from start modem tag) ls
   found_at place from l name at e is = sym (named_found place l (sym name) (ap (slice_get ls) (sym at) ∙ sym e) (sym is))
 
   pub no_place : None ≡ named es modem tag → None ≡ find (is_lease_from start modem tag) ls
-  no_place name = sym (named_nowhere (λ k l f e. absurd (none_some k (name ∙ f))))
-    where
-      none_some : (k : ℕ) → None ≡ Some k → ⊥
-      none_some k e = cc
+  no_place name = sym (named_nowhere (λ k l f e. absurd (let is : None ≡ Some k = name ∙ f in cc)))
 
   pub no_lease : (place from : ℕ) → Some place ≡ named es modem tag → from ≡ place → None ≡ slice_get ls from → None ≡ find (is_lease_from start modem tag) ls
-  no_lease place from name at none = sym (named_nowhere (λ k l f e. let same : place ≡ k = same_Some place k (name ∙ f) in absurd (none_some l (none ∙ ap (slice_get ls) (at ∙ same) ∙ e))))
-    where
-      none_some : (l : Lease) → None ≡ Some l → ⊥
-      none_some l e = cc
+  no_lease place from name at none = sym (named_nowhere (λ k l f e. let same : place ≡ k = same_Some place k (name ∙ f) in absurd (let is : None ≡ Some l = none ∙ ap (slice_get ls) (at ∙ same) ∙ e in cc)))
 
   pub other_lease : (place from : ℕ) (o : Lease) → Some place ≡ named es modem tag → from ≡ place → Some o ≡ slice_get ls from → false ≡ is_lease_from start modem tag o → None ≡ find (is_lease_from start modem tag) ls
   other_lease place from o name at stands is = sym (named_nowhere (λ k l f e.
       let same : place ≡ k = same_Some place k (name ∙ f) in
-      let lease : o ≡ l = lease_same o l (stands ∙ ap (slice_get ls) (at ∙ same) ∙ e) in
+      let lease : o ≡ l = same_Some o l (stands ∙ ap (slice_get ls) (at ∙ same) ∙ e) in
       ap (is_lease_from start modem tag) (sym lease) ∙ sym is))
 
 -- ---- without the name of a lease that stood at a place
@@ -85,10 +70,7 @@ pub one_holder : (a b c d : ℕ) → true ≡ (eqb a b && eqb c d) → (a ≡ b)
 one_holder a b c d e = let parts = and_parts (eqb a b) (eqb c d) (sym e) in (eqb-true a b parts.0, eqb-true c d parts.1)
 
 pub none_named : (o : Option ℕ) (place : ℕ) → o ≡ None → o ≡ Some place → ⊥
-none_named o place none is = none_some (sym none ∙ is)
-  where
-    none_some : None ≡ Some place → ⊥
-    none_some e = cc
+none_named o place none is = cc
 
 -- ---- with a lease put at a place
 
@@ -103,15 +85,12 @@ module _ (ls : List Lease) (place : ℕ) (l : Lease) (before after : Option ℕ)
     (later : (n : ℕ) → is_after after n ≡ true → is_after before n ≡ true)
     (ended : (p : ℕ) (o : Lease) → named_before ≡ Some p → slice_get ls p ≡ Some o → is_after after o.last ≡ false)
   where
-    false_true : {b : Bool} → b ≡ false → b ≡ true → ⊥
-    false_true e f = cc
-
     pub named_put : AreNamed after fs (put_at ls place l)
     named_put p m e is =
         elim (eqb p place) as (λ b. eqb p place ≡ b → named fs m.modem m.tag ≡ Some p) [
           | true ↦ λ f.
               let same : p ≡ place = eqb-true p place f in
-              let lease : m ≡ l = lease_same m l (sym e ∙ ap (slice_get (put_at ls place l)) same ∙ at_put ls place l within) in
+              let lease : m ≡ l = same_Some m l (sym e ∙ ap (slice_get (put_at ls place l)) same ∙ at_put ls place l within) in
               rw (lease, same) (own_kept ∙ own)
           | false ↦ λ f.
               let apart : p ≢ place = grind (arith, f) in
@@ -122,7 +101,7 @@ module _ (ls : List Lease) (place : ℕ) (l : Lease) (before after : Option ℕ)
                     let parts = and_parts (eqb l.modem m.modem) (eqb l.tag m.tag) g in
                     let of_modem : l.modem ≡ m.modem = eqb-true l.modem m.modem parts.0 in
                     let of_tag : l.tag ≡ m.tag = eqb-true l.tag m.tag parts.1 in
-                    absurd (false_true (ended p m (was ∙ ap (λ n. named es n l.tag) of_modem ∙ ap (named es m.modem) of_tag ∙ name) stood) is)
+                    absurd (let over = ended p m (was ∙ ap (λ n. named es n l.tag) of_modem ∙ ap (named es m.modem) of_tag ∙ name) stood in cc)
                 | false ↦ λ g. kept m.modem m.tag p (others m.modem m.tag g ∙ name) apart
               ] refl
         ] refl
@@ -139,10 +118,8 @@ module _ (ls : List Lease) (place : ℕ) (l : Lease) (es added fs : Names)
     same_holder a b c d e f g =
         let first : eqb a b ≡ true = grind (arith, e) in
         let second : eqb c d ≡ true = grind (arith, f) in
-        true_false (sym (ap (λ q. q && eqb c d) first ∙ second) ∙ g)
-      where
-        true_false : true ≡ false → ⊥
-        true_false h = cc
+        let on : (eqb a b && eqb c d) ≡ true = ap (λ q. q && eqb c d) first ∙ second in
+        cc
 
     pub names_put : NameLeases fs (put_at ls place l)
     names_put m t p e =

@@ -1,5 +1,5 @@
 -- What is kept of the flows' due times, and the flows that are due.
-use Rattle.std.proofs.Common.{◌≡◌, ◌≢◌, ℕ, zero, suc, ◌+◌, ◌<◌, ◌≤◌, Bool, true, false, cond, not, ◌&&◌, leb, ltb, List, [], ◌∷◌, ◌++◌, map, filter, Option, Some, None, refl, sym, ap, subst, ◌∙◌, nat_eq, arith, inl, inr}
+use Rattle.std.proofs.Common.{◌≡◌, ◌≢◌, ℕ, ◌+◌, ◌<◌, ◌≤◌, Bool, true, false, cond, ◌&&◌, ltb, List, [], ◌∷◌, ◌++◌, map, filter, Some, None, refl, sym, ap, subst, ◌∙◌, nat_eq, arith, inl, inr}
 use Rattle.std.specs.Prelude.{IsSome, IfSome, IfNone, option_to_list}
 use Rattle.std.specs.List.{AllByRecursion, IsDistinct}
 use Rattle.std.specs.Map.{set_value, lookup, remove_entry, keys_of}
@@ -15,7 +15,7 @@ use Rattle.flow_state.specs.View.{flow_view}
 use Rattle.flow_state.proofs.Keyed.{All-set_value}
 use Rattle.flow_state.proofs.Members.{Has}
 use Rattle.flow_state.proofs.Soundness.{all_filter, rise_higher, sids}
-use Rattle.flow_state.proofs.Stored.{Flows, AreStored, rows, put_entry, keys_are}
+use Rattle.flow_state.proofs.Stored.{Flows, AreStored, after_write, all_put, rows, put_entry, keys_are}
 
 abbrev pub keys : Flows → List ℕ
 keys es = map (λ e. e.0) es
@@ -46,16 +46,10 @@ noted_above ds other es sid high r kept all = by es sid r all (omega arith)
 pub noted_filter : (ds : Dues) (p : ℕ × Flow → Bool) (es : Flows) → AreNoted ds es → AreNoted ds (filter p es)
 noted_filter ds p es all = all_filter (λ e. is_timed e.1.kind ≡ true → IsDueFrom ds e.0 e.1.due) (λ e. is_timed e.1.kind ≡ true → IsDueFrom ds e.0 e.1.due) p es (λ e k h. h) all
 
-noted_append : (ds : Dues) (xs ys : Flows) → AreNoted ds xs → AreNoted ds ys → AreNoted ds (xs ++ ys)
-noted_append ds [] ys all more = more
-noted_append ds (x ∷ xs) ys all more = (all.0, noted_append ds xs ys all.1 more)
-
 -- a flow in its place, after what is kept of its SID
 pub noted_put : (ds other : Dues) (sid : ℕ) (f : Flow) (es : Flows) → lookup (nat_eq sid) es ≡ None → ((k due : ℕ) → k ≢ sid → IsDueFrom ds k due → IsDueFrom other k due)
     → (is_timed f.kind ≡ true → IsDueFrom other sid f.due) → AreNoted ds es → AreNoted other (put_entry sid f es)
-noted_put ds other sid f es none kept is all =
-    let after : AreNoted other es = noted_others ds other es sid none kept all in
-    noted_append other (filter (λ e. leb e.0 sid) es) ((sid, f) ∷ filter (λ e. not (leb e.0 sid)) es) (noted_filter other (λ e. leb e.0 sid) es after) (is, noted_filter other (λ e. not (leb e.0 sid)) es after)
+noted_put ds other sid f es none kept is all = all_put (λ e. is_timed e.1.kind ≡ true → IsDueFrom other e.0 e.1.due) sid f es (noted_others ds other es sid none kept all) is
 
 -- a flow's next due time, where the flow is there
 pub noted_set : (ds other : Dues) (es : Flows) (sid due low high : ℕ) (f : Flow) → Rise low (keys es) high → lookup (nat_eq sid) es ≡ Some f
@@ -83,18 +77,12 @@ noted_removed ds other (x ∷ es) sid low high r kept all =
 -- a flow that is written, where it is there
 pub noted_due : (ds other : Dues) (es fs : Flows) (sid due low high : ℕ) → Rise low (keys es) high → (HasRoom ds sid → IsDueFrom other sid due) → ((k time : ℕ) → k ≢ sid → IsDueFrom ds k time → IsDueFrom other k time) → AreNoted ds es
     → IfSome (lookup (nat_eq sid) es) (λ f. fs ≡ set_value (nat_eq sid) es (with_next_due f due)) → IfNone (lookup (nat_eq sid) es) (fs ≡ es) → AreNoted other fs
-noted_due ds other es fs sid due low high r is kept all some none = by (lookup (nat_eq sid) es) refl some none
-  where
-    by : (o : Option Flow) → lookup (nat_eq sid) es ≡ o → IfSome o (λ f. fs ≡ set_value (nat_eq sid) es (with_next_due f due)) → IfNone o (fs ≡ es) → AreNoted other fs
-    by (Some f) e s n = subst (AreNoted other) (sym s) (noted_set ds other es sid due low high f r e is kept all)
-    by None e s n = subst (AreNoted other) (sym n) (noted_others ds other es sid e kept all)
+noted_due ds other es fs sid due low high r is kept all some none =
+    after_write (AreNoted other) es fs sid (λ f. with_next_due f due) (λ f e. noted_set ds other es sid due low high f r e is kept all) (λ e. noted_others ds other es sid e kept all) some none
 
 pub noted_sent : (ds : Dues) (es fs : Flows) (sid sent : ℕ) → AreNoted ds es → IfSome (lookup (nat_eq sid) es) (λ f. fs ≡ set_value (nat_eq sid) es (with_sent f sent)) → IfNone (lookup (nat_eq sid) es) (fs ≡ es) → AreNoted ds fs
-noted_sent ds es fs sid sent all some none = by (lookup (nat_eq sid) es) refl some none
-  where
-    by : (o : Option Flow) → lookup (nat_eq sid) es ≡ o → IfSome o (λ f. fs ≡ set_value (nat_eq sid) es (with_sent f sent)) → IfNone o (fs ≡ es) → AreNoted ds fs
-    by (Some f) e s n = subst (AreNoted ds) (sym s) (All-set_value (λ (x : ℕ × Flow). is_timed x.1.kind ≡ true → IsDueFrom ds x.0 x.1.due) es sid f (with_sent f sent) all e (λ k h. h))
-    by None e s n = subst (AreNoted ds) (sym n) all
+noted_sent ds es fs sid sent all some none =
+    after_write (AreNoted ds) es fs sid (λ f. with_sent f sent) (λ f e. All-set_value (λ (x : ℕ × Flow). is_timed x.1.kind ≡ true → IsDueFrom ds x.0 x.1.due) es sid f (with_sent f sent) all e (λ k h. h)) (λ e. all) some none
 
 -- the SIDs of the entries rise
 pub keys_rise : (es : Flows) (low high : ℕ) → AreStored es → Rise low (sids (rows es)) high → Rise low (keys es) high

@@ -1,7 +1,7 @@
 -- Each change keeps what holds of every table.
-use Rattle.std.proofs.Common.{◌≡◌, ℕ, ◌+◌, ◌<◌, ◌≤◌, Bool, true, false, cond, not, List, [], ◌∷◌, ◌++◌, map, filter, length, refl, sym, ap, subst, ◌∙◌, Some, eqb, leb, arith, length-append, inl, inr}
+use Rattle.std.proofs.Common.{◌≡◌, ℕ, ◌+◌, ◌<◌, ◌≤◌, Bool, true, false, cond, not, List, [], ◌∷◌, map, filter, length, refl, sym, ap, subst, ◌∙◌, Some, eqb, arith, length-append, inl, inr}
 use Rattle.std.specs.List.{AllByRecursion}
-use Rattle.std.proofs.lemmas.Bool.{not-true, ltb-false}
+use Rattle.std.proofs.lemmas.Bool.{eqb-false, not-true, ltb-false}
 use Rattle.flow_state.specs.declared.flow.FlowKind.{FlowKind}
 use Rattle.flow_state.specs.declared.flow.Waiting.{Waiting}
 use Rattle.flow_state.specs.Limits.{is_good_kind, last_sid, most_waiting}
@@ -11,7 +11,7 @@ use Rattle.flow_state.specs.Sound.{Rise, IsLeasedFlow, IsSound}
 use Rattle.flow_state.proofs.Assignments.{put_found, put_others}
 use Rattle.flow_state.proofs.Freed.{free_most, given_put, length_put, few_put}
 use Rattle.flow_state.proofs.Members.{Has, has_all, all_has, has_filter}
-use Rattle.flow_state.proofs.Wells.{has_inserted, free_range, free_apart, filter_fewer}
+use Rattle.flow_state.proofs.Wells.{RisingFrom, has_inserted, free_range, free_apart, filter_fewer, rising_filter, rising_inserted}
 
 abbrev pub sids : List FlowRow → List ℕ
 sids fs = map (λ f. f.sid) fs
@@ -19,17 +19,22 @@ sids fs = map (λ f. f.sid) fs
 abbrev pub AreGood : List FlowRow → Type 0
 AreGood fs = AllByRecursion (λ f. is_good_kind f.kind ≡ true) fs
 
-rise_below : (low mid : ℕ) (xs : List ℕ) (high : ℕ) → low ≤ mid → Rise mid xs high → Rise low xs high
-rise_below low mid [] high l r = tt
-rise_below low mid (x ∷ xs) high l r = (omega arith, r.1, r.2)
+-- the SIDs of flows in order, as the flows tell it
+rise_is : (fs : List FlowRow) (low high : ℕ) → Rise low (sids fs) high → RisingFrom (low + 1) fs
+rise_is [] low high r = tt
+rise_is (f ∷ fs) low high r = (omega (arith, r.0), rise_is fs f.sid high r.2)
 
-pub rise_filter : (p : FlowRow → Bool) (fs : List FlowRow) (low high : ℕ) → Rise low (sids fs) high → Rise low (sids (filter p fs)) high
-rise_filter p [] low high r = tt
-rise_filter p (f ∷ fs) low high r =
-    elim (p f) as (λ b. Rise low (sids (cond b (f ∷ filter p fs) (filter p fs))) high) [
-      | true ↦ (r.0, r.1, rise_filter p fs f.sid high r.2)
-      | false ↦ rise_below low f.sid (sids (filter p fs)) high (omega arith) (rise_filter p fs f.sid high r.2)
-    ]
+rise_of : (fs : List FlowRow) (low high : ℕ) → RisingFrom (low + 1) fs → ((f : FlowRow) → Has fs f → f.sid ≤ high) → Rise low (sids fs) high
+rise_of [] low high r most = tt
+rise_of (f ∷ fs) low high r most = (omega (arith, r.0), most f (inl refl), rise_of fs f.sid high r.1 (λ g h. most g (inr h)))
+
+rise_most : (fs : List FlowRow) (low high : ℕ) → Rise low (sids fs) high → (f : FlowRow) → Has fs f → f.sid ≤ high
+rise_most [] low high r f h = absurd h
+rise_most (g ∷ fs) low high r f (inl e) = subst (λ (x : FlowRow). x.sid ≤ high) e r.1
+rise_most (g ∷ fs) low high r f (inr h) = rise_most fs g.sid high r.2 f h
+
+rise_filter : (p : FlowRow → Bool) (fs : List FlowRow) (low high : ℕ) → Rise low (sids fs) high → Rise low (sids (filter p fs)) high
+rise_filter p fs low high r = rise_of (filter p fs) low high (rising_filter p (low + 1) fs (rise_is fs low high r)) (λ f h. rise_most fs low high r f (has_filter p fs f h).0)
 
 pub rise_higher : (xs : List ℕ) (low high more : ℕ) → high ≤ more → Rise low xs high → Rise low xs more
 rise_higher [] low high more le r = tt
@@ -37,41 +42,10 @@ rise_higher (x ∷ xs) low high more le r = (r.0, omega (arith, r.1), rise_highe
 
 -- ---- a flow in its place
 
-module _ {X : Type 0} (key : X → ℕ) (n : ℕ) where
-  -- where all are above there is nothing up to it
-  pub none_below : (xs : List X) (low high : ℕ) → Rise low (map key xs) high → n ≤ low → filter (λ x. leb (key x) n) xs ≡ []
-  none_below [] low high r le = refl
-  none_below (x ∷ xs) low high r le =
-      let more : low < key x = r.0 in
-      ap (λ b. cond b (x ∷ filter (λ y. leb (key y) n) xs) (filter (λ y. leb (key y) n) xs)) (let off : leb (key x) n ≡ false = grind (arith, more, le) in off) ∙ none_below xs (key x) high r.2 (omega arith)
-
-  pub all_above : (xs : List X) (low high : ℕ) → Rise low (map key xs) high → n ≤ low → filter (λ x. not (leb (key x) n)) xs ≡ xs
-  all_above [] low high r le = refl
-  all_above (x ∷ xs) low high r le =
-      let more : low < key x = r.0 in
-      ap (λ b. cond (not b) (x ∷ filter (λ y. not (leb (key y) n)) xs) (filter (λ y. not (leb (key y) n)) xs)) (let off : leb (key x) n ≡ false = grind (arith, more, le) in off) ∙ ap (λ (ys : List X). x ∷ ys) (all_above xs (key x) high r.2 (omega arith))
-
--- before the first that is above it, and else behind the first
-pub insert_here : (f g : FlowRow) (fs : List FlowRow) (high : ℕ) → leb g.sid f.sid ≡ false → Rise g.sid (sids fs) high → insert_flow f (g ∷ fs) ≡ f ∷ g ∷ fs
-insert_here f g fs high off r =
-    let lt : f.sid < g.sid = grind (arith, off) in
-    ap (λ b. cond b (g ∷ filter (λ h. leb h.sid f.sid) fs) (filter (λ h. leb h.sid f.sid) fs) ++ f ∷ cond (not b) (g ∷ filter (λ h. not (leb h.sid f.sid)) fs) (filter (λ h. not (leb h.sid f.sid)) fs)) off
-    ∙ ap (λ (front : List FlowRow). front ++ f ∷ g ∷ filter (λ h. not (leb h.sid f.sid)) fs) (none_below (λ (h : FlowRow). h.sid) f.sid fs g.sid high r (omega arith))
-    ∙ ap (λ (back : List FlowRow). f ∷ g ∷ back) (all_above (λ (h : FlowRow). h.sid) f.sid fs g.sid high r (omega arith))
-
-pub insert_later : (f g : FlowRow) (fs : List FlowRow) → leb g.sid f.sid ≡ true → insert_flow f (g ∷ fs) ≡ g ∷ insert_flow f fs
-insert_later f g fs on = ap (λ b. cond b (g ∷ filter (λ h. leb h.sid f.sid) fs) (filter (λ h. leb h.sid f.sid) fs) ++ f ∷ cond (not b) (g ∷ filter (λ h. not (leb h.sid f.sid)) fs) (filter (λ h. not (leb h.sid f.sid)) fs)) on
-
-rise_inserted : (f : FlowRow) (fs : List FlowRow) (low high : ℕ) → Rise low (sids fs) high → low < f.sid → f.sid ≤ high → ((g : FlowRow) → Has fs g → eqb f.sid g.sid ≡ false) → Rise low (sids (insert_flow f fs)) high
-rise_inserted f [] low high r more le apart = (more, le, tt)
-rise_inserted f (g ∷ fs) low high r more le apart = by (leb g.sid f.sid) refl (λ less. rise_inserted f fs g.sid high r.2 less le (λ h k. apart h (inr k)))
-  where
-    by : (b : Bool) → leb g.sid f.sid ≡ b → (g.sid < f.sid → Rise g.sid (sids (insert_flow f fs)) high) → Rise low (sids (insert_flow f (g ∷ fs))) high
-    by true e rest =
-        let off : eqb f.sid g.sid ≡ false = apart g (inl refl) in
-        rw (insert_later f g fs e) (r.0, r.1, rest (grind (arith, e, off)))
-    by false e rest =
-        rw (insert_here f g fs high e r.2) (more, le, ((let lt : f.sid < g.sid = grind (arith, e) in lt), r.1, r.2))
+rise_inserted : (f : FlowRow) (fs : List FlowRow) (high : ℕ) → Rise 0 (sids fs) high → 1 ≤ f.sid → f.sid ≤ high → ((g : FlowRow) → Has fs g → eqb f.sid g.sid ≡ false) → Rise 0 (sids (insert_flow f fs)) high
+rise_inserted f fs high r some most apart =
+    rise_of (insert_flow f fs) 0 high (rising_inserted f fs some (λ g h same. eqb-false f.sid g.sid (apart g h) (sym same)) (rise_is fs 0 high r))
+    (λ g h. elim (has_inserted f fs g h) [ inl old ↦ rise_most fs 0 high r g old | inr is ↦ subst (λ (x : FlowRow). x.sid ≤ high) is most ])
 
 sids_changed : (fs : List FlowRow) (sid : ℕ) (change : FlowRow → FlowRow) → ((f : FlowRow) → (change f).sid ≡ f.sid) → sids (map (λ f. cond (is_flow sid f) (change f) f) fs) ≡ sids fs
 sids_changed [] sid change same = refl
@@ -141,7 +115,7 @@ sound_added t l kind s good free goes_on =
     record {
       given = given_put l t.leases s.given range.0 next;
       few = few_put l t.leases s.given range.0 next s.few unicast;
-      rising = rise_inserted (new_flow l kind) t.flows 0 (length (put_lease l t.leases)) (rise_higher (sids t.flows) 0 (length t.leases) (length (put_lease l t.leases)) long.0 s.rising) (omega (arith, range.0)) long.1 (none_free t l.sid s free);
+      rising = rise_inserted (new_flow l kind) t.flows (length (put_lease l t.leases)) (rise_higher (sids t.flows) 0 (length t.leases) (length (put_lease l t.leases)) long.0 s.rising) (omega (arith, range.0)) long.1 (none_free t l.sid s free);
       kinds = all_inserted IsGoodFlow IsGoodFlow (new_flow l kind) t.flows good (λ f h g. g) s.kinds;
       leased = all_inserted (IsLeasedFlow t) (IsLeasedFlow (add_to_table t l kind)) (new_flow l kind) t.flows
           (record { lease = put_found l t.leases; goes_on = goes_on })

@@ -17,9 +17,9 @@ use Rattle.flow_state.specs.Sound.{Rise, IsSound}
 use Rattle.flow_state.specs.StoredTable.{IsStoredFlow, IsStored, EndFrom, AreNoted, is_ended_in}
 use Rattle.flow_state.specs.View.{flow_view, table_view}
 use Rattle.flow_state.proofs.Keyed.{AreKeyed, All-set_value, seen_found, seen_written, seen_absent, seen_removed}
-use Rattle.flow_state.proofs.Soundness.{sids, AreGood, all_filter}
+use Rattle.flow_state.proofs.Soundness.{sids, AreGood}
 use Rattle.flow_state.proofs.DueTimes.{due_named, first_index}
-use Rattle.flow_state.proofs.Members.{Has}
+use Rattle.flow_state.proofs.Members.{Has, all_has, has_all, has_between}
 
 abbrev pub Flows : Type 0
 Flows = List (ℕ × Flow)
@@ -50,29 +50,32 @@ flow_found es sid all = seen_found flow_view (λ f. f.sid) es sid (keyed es all)
 pub flow_removed : (es : Flows) (sid : ℕ) → AreStored es → IsDistinct nat_eq (keys_of es) → rows (remove_entry (nat_eq sid) es) ≡ filter (λ f. not (is_flow sid f)) (rows es)
 flow_removed es sid all apart = seen_removed flow_view (λ f. f.sid) es sid (keyed es all) apart
 
+-- what holds of the entries with a flow written, where it is there, and of those without it
+pub after_write : (P : Flows → Type 0) (es fs : Flows) (sid : ℕ) (write : Flow → Flow) → ((f : Flow) → lookup (nat_eq sid) es ≡ Some f → P (set_value (nat_eq sid) es (write f))) → (lookup (nat_eq sid) es ≡ None → P es)
+    → IfSome (lookup (nat_eq sid) es) (λ f. fs ≡ set_value (nat_eq sid) es (write f)) → IfNone (lookup (nat_eq sid) es) (fs ≡ es) → P fs
+after_write P es fs sid write there absent some none = by (lookup (nat_eq sid) es) refl some none
+  where
+    by : (o : Option Flow) → lookup (nat_eq sid) es ≡ o → IfSome o (λ f. fs ≡ set_value (nat_eq sid) es (write f)) → IfNone o (fs ≡ es) → P fs
+    by (Some f) e s n = subst P (sym s) (there f e)
+    by None e s n = subst P (sym n) (absent e)
+
 -- the rows after a flow is written, where it is there
 pub flow_written : (es fs : Flows) (sid : ℕ) (write : Flow → Flow) (change : FlowRow → FlowRow) → AreStored es → IsDistinct nat_eq (keys_of es) → ((f : Flow) → flow_view (write f) ≡ change (flow_view f))
     → IfSome (lookup (nat_eq sid) es) (λ f. fs ≡ set_value (nat_eq sid) es (write f)) → IfNone (lookup (nat_eq sid) es) (fs ≡ es) → rows fs ≡ map (λ f. cond (is_flow sid f) (change f) f) (rows es)
-flow_written es fs sid write change all apart same some none = by (lookup (nat_eq sid) es) refl some none
-  where
-    by : (o : Option Flow) → lookup (nat_eq sid) es ≡ o → IfSome o (λ f. fs ≡ set_value (nat_eq sid) es (write f)) → IfNone o (fs ≡ es) → rows fs ≡ map (λ f. cond (is_flow sid f) (change f) f) (rows es)
-    by (Some f) e s n = ap rows s ∙ seen_written flow_view (λ g. g.sid) es sid f (write f) change (keyed es all) apart e (same f)
-    by None e s n = ap rows n ∙ sym (seen_absent flow_view (λ g. g.sid) es sid change (keyed es all) e)
+flow_written es fs sid write change all apart same some none =
+    after_write (λ (gs : Flows). rows gs ≡ map (λ f. cond (is_flow sid f) (change f) f) (rows es)) es fs sid write
+    (λ f e. seen_written flow_view (λ g. g.sid) es sid f (write f) change (keyed es all) apart e (same f)) (λ e. sym (seen_absent flow_view (λ g. g.sid) es sid change (keyed es all) e)) some none
 
 pub stored_written : (es fs : Flows) (sid : ℕ) (write : Flow → Flow) → AreStored es → ((f : Flow) → lookup (nat_eq sid) es ≡ Some f → (k : ℕ) → IsStoredFlow (k, f) → IsStoredFlow (k, write f))
     → IfSome (lookup (nat_eq sid) es) (λ f. fs ≡ set_value (nat_eq sid) es (write f)) → IfNone (lookup (nat_eq sid) es) (fs ≡ es) → AreStored fs
-stored_written es fs sid write all keeps some none = by (lookup (nat_eq sid) es) refl some none
-  where
-    by : (o : Option Flow) → lookup (nat_eq sid) es ≡ o → IfSome o (λ f. fs ≡ set_value (nat_eq sid) es (write f)) → IfNone o (fs ≡ es) → AreStored fs
-    by (Some f) e s n = subst AreStored (sym s) (All-set_value IsStoredFlow es sid f (write f) all e (keeps f e))
-    by None e s n = subst AreStored (sym n) all
+stored_written es fs sid write all keeps some none = after_write AreStored es fs sid write (λ f e. All-set_value IsStoredFlow es sid f (write f) all e (keeps f e)) (λ e. all) some none
 
 -- a flow that is found stands under its SID
-pub sid_found : (es : Flows) (sid : ℕ) (f : Flow) → AreStored es → lookup (nat_eq sid) es ≡ Some f → f.sid ≡ sid
+pub sid_found : (es : Flows) (sid : ℕ) (f : Flow) → AreStored es → lookup (nat_eq sid) es ≡ Some f → f.lease.sid ≡ sid
 sid_found [] sid f all h = absurd cc
 sid_found (e ∷ es) sid f all h =
-    elim (nat_eq sid e.0) as (λ b. nat_eq sid e.0 ≡ b → cond b (Some e.1) (lookup (nat_eq sid) es) ≡ Some f → f.sid ≡ sid) [
-      | true ↦ λ is g. let same : e.1 ≡ f = cc in ap (λ (x : Flow). x.sid) (sym same) ∙ all.0.key ∙ sym (eqb-true _ _ is)
+    elim (nat_eq sid e.0) as (λ b. nat_eq sid e.0 ≡ b → cond b (Some e.1) (lookup (nat_eq sid) es) ≡ Some f → f.lease.sid ≡ sid) [
+      | true ↦ λ is g. let same : e.1 ≡ f = cc in ap (λ (x : Flow). x.lease.sid) (sym same) ∙ all.0.key ∙ sym (eqb-true _ _ is)
       | false ↦ λ is g. sid_found es sid f all.1 g
     ] refl h
 
@@ -120,18 +123,13 @@ rows_filter p q (e ∷ es) same all =
 abbrev pub put_entry : ℕ → Flow → Flows → Flows
 put_entry sid f es = filter (λ e. leb e.0 sid) es ++ (sid, f) ∷ filter (λ e. not (leb e.0 sid)) es
 
-all_joined : (es : Flows) (e : ℕ × Flow) (fs : Flows) → AreStored es → IsStoredFlow e → AreStored fs → AreStored (es ++ e ∷ fs)
-all_joined [] e fs all one more = (one, more)
-all_joined (x ∷ es) e fs all one more = (all.0, all_joined es e fs all.1 one more)
-
-pub stored_put : (sid : ℕ) (f : Flow) (es : Flows) → AreStored es → IsStoredFlow (sid, f) → AreStored (put_entry sid f es)
-stored_put sid f es all one =
-    all_joined (filter (λ e. leb e.0 sid) es) (sid, f) (filter (λ e. not (leb e.0 sid)) es)
-    (all_filter IsStoredFlow IsStoredFlow (λ e. leb e.0 sid) es (λ e k s. s) all) one (all_filter IsStoredFlow IsStoredFlow (λ e. not (leb e.0 sid)) es (λ e k s. s) all)
+-- what holds of each entry and of a new one holds of each with it
+pub all_put : (P : ℕ × Flow → Type 0) (sid : ℕ) (f : Flow) (es : Flows) → AllByRecursion P es → P (sid, f) → AllByRecursion P (put_entry sid f es)
+all_put P sid f es all new = all_has P (put_entry sid f es) (λ e h. elim (has_between (λ x. leb x.0 sid) (λ x. not (leb x.0 sid)) (sid, f) es e h) [ inl old ↦ has_all P es e all old.0 | inr is ↦ subst P is new ])
 
 -- a flow as it is added
 abbrev pub as_added : Lease → FlowKind → Flow
-as_added l kind = record { sid = l.sid; modem = l.modem; tag = l.tag; first = l.first; last = l.last; kind = kind; due = due_time kind 0; last_sent = None }
+as_added l kind = record { lease = l; kind = kind; due = due_time kind 0; last_sent = None }
 
 pub stored_added : (l : Lease) (kind : FlowKind) → is_good_kind kind ≡ true → IsStoredFlow (l.sid, as_added l kind)
 stored_added l kind good = record { key = refl; due = due_named kind (due_time kind 0) good (0, refl) }
@@ -152,41 +150,29 @@ ends_earlier [] first less le all = tt
 ends_earlier (e ∷ es) first less le all = (omega (arith, all.0), ends_earlier es first less le all.1)
 
 -- after a flow is written that keeps its lease's end
-pub ends_written : (es fs : Flows) (sid first : ℕ) (write : Flow → Flow) → EndFrom first es → ((f : Flow) → (write f).last ≡ f.last)
+pub ends_written : (es fs : Flows) (sid first : ℕ) (write : Flow → Flow) → EndFrom first es → ((f : Flow) → (write f).lease.last ≡ f.lease.last)
     → IfSome (lookup (nat_eq sid) es) (λ f. fs ≡ set_value (nat_eq sid) es (write f)) → IfNone (lookup (nat_eq sid) es) (fs ≡ es) → EndFrom first fs
-ends_written es fs sid first write all same some none = by (lookup (nat_eq sid) es) refl some none
-  where
-    by : (o : Option Flow) → lookup (nat_eq sid) es ≡ o → IfSome o (λ f. fs ≡ set_value (nat_eq sid) es (write f)) → IfNone o (fs ≡ es) → EndFrom first fs
-    by (Some f) e s n = subst (EndFrom first) (sym s) (All-set_value (λ (x : ℕ × Flow). first ≤ x.1.last) es sid f (write f) all e (λ k h. subst (λ m. first ≤ m) (sym (same f)) h))
-    by None e s n = subst (EndFrom first) (sym n) all
+ends_written es fs sid first write all same some none =
+    after_write (EndFrom first) es fs sid write (λ f e. All-set_value (λ (x : ℕ × Flow). first ≤ x.1.lease.last) es sid f (write f) all e (λ k h. subst (λ m. first ≤ m) (sym (same f)) h)) (λ e. all) some none
 
 -- after a flow is put in its place
-ends_append : (xs ys : Flows) (first : ℕ) → EndFrom first xs → EndFrom first ys → EndFrom first (xs ++ ys)
-ends_append [] ys first all rest = rest
-ends_append (x ∷ xs) ys first all rest = (all.0, ends_append xs ys first all.1 rest)
-
-ends_filter : (p : ℕ × Flow → Bool) (es : Flows) (first : ℕ) → EndFrom first es → EndFrom first (filter p es)
-ends_filter p es first all = all_filter (λ (e : ℕ × Flow). first ≤ e.1.last) (λ (e : ℕ × Flow). first ≤ e.1.last) p es (λ e k h. h) all
-
-pub ends_put : (sid : ℕ) (f : Flow) (es : Flows) (first less : ℕ) → less ≤ first → less ≤ f.last → EndFrom first es → EndFrom less (put_entry sid f es)
-ends_put sid f es first less le last all =
-    let earlier : EndFrom less es = ends_earlier es first less le all in
-    ends_append (filter (λ e. leb e.0 sid) es) ((sid, f) ∷ filter (λ e. not (leb e.0 sid)) es) less (ends_filter (λ e. leb e.0 sid) es less earlier) (last, ends_filter (λ e. not (leb e.0 sid)) es less earlier)
+pub ends_put : (sid : ℕ) (f : Flow) (es : Flows) (first less : ℕ) → less ≤ first → less ≤ f.lease.last → EndFrom first es → EndFrom less (put_entry sid f es)
+ends_put sid f es first less le last all = all_put (λ (e : ℕ × Flow). less ≤ e.1.lease.last) sid f es (ends_earlier es first less le all) last
 
 -- where no lease ends before a time, no flow goes
-pub none_ended : (es : Flows) (first end : ℕ) → EndFrom first es → end ≤ first → filter (λ e. leb end e.1.last) es ≡ es
+pub none_ended : (es : Flows) (first end : ℕ) → EndFrom first es → end ≤ first → filter (λ e. leb end e.1.lease.last) es ≡ es
 none_ended [] first end all le = refl
 none_ended (e ∷ es) first end all le =
-    let last : first ≤ e.1.last = all.0 in
-    ap (λ b. cond b (e ∷ filter (λ x. leb end x.1.last) es) (filter (λ x. leb end x.1.last) es)) (let on : leb end e.1.last ≡ true = grind (arith, last, le) in on)
+    let last : first ≤ e.1.lease.last = all.0 in
+    ap (λ b. cond b (e ∷ filter (λ x. leb end x.1.lease.last) es) (filter (λ x. leb end x.1.lease.last) es)) (let on : leb end e.1.lease.last ≡ true = grind (arith, last, le) in on)
     ∙ ap (λ (xs : Flows). e ∷ xs) (none_ended es first end all.1 le)
 
 pub not_ended : (es : Flows) (first end sid : ℕ) → EndFrom first es → end ≤ first → is_ended_in es end sid ≡ false
 not_ended [] first end sid all le = refl
 not_ended (e ∷ es) first end sid all le =
-    let last : first ≤ e.1.last = all.0 in
-    elim (nat_eq sid e.0) as (λ b. option_map_or (λ (f : Flow). ltb f.last end) (cond b (Some e.1) (lookup (nat_eq sid) es)) false ≡ false) [
-      | true ↦ (let off : ltb e.1.last end ≡ false = grind (arith, last, le) in off)
+    let last : first ≤ e.1.lease.last = all.0 in
+    elim (nat_eq sid e.0) as (λ b. option_map_or (λ (f : Flow). ltb f.lease.last end) (cond b (Some e.1) (lookup (nat_eq sid) es)) false ≡ false) [
+      | true ↦ (let off : ltb e.1.lease.last end ≡ false = grind (arith, last, le) in off)
       | false ↦ not_ended es first end sid all.1 le
     ]
 
@@ -201,7 +187,7 @@ filter_kept {X} p (x ∷ xs) none = ap (λ b. cond (not b) (x ∷ filter (λ y. 
 pub ended_is : (es : Flows) (end sid : ℕ) → AreStored es → is_ended_in es end sid ≡ option_map_or (is_ended end) (find (is_flow sid) (rows es)) false
 ended_is es end sid all = by (lookup (nat_eq sid) es) ∙ ap (λ (o : Option FlowRow). option_map_or (is_ended end) o false) (sym (flow_found es sid all))
   where
-    by : (o : Option Flow) → option_map_or (λ f. ltb f.last end) o false ≡ option_map_or (is_ended end) (option_map flow_view o) false
+    by : (o : Option Flow) → option_map_or (λ f. ltb f.lease.last end) o false ≡ option_map_or (is_ended end) (option_map flow_view o) false
     by (Some f) = refl
     by None = refl
 
@@ -211,12 +197,12 @@ good_at [] k e all h = absurd cc
 good_at (x ∷ es) zero e all h = let same : x ≡ e = cc in ap (λ (y : ℕ × Flow). is_good_kind y.1.kind) (sym same) ∙ all.0
 good_at (x ∷ es) (suc k) e all h = good_at es k e all.1 h
 
-pub sid_at : (es : Flows) (k : ℕ) (e : ℕ × Flow) (low high : ℕ) → Rise low (sids (rows es)) high → slice_get es k ≡ Some e → (low < e.1.sid) × (e.1.sid ≤ high)
+pub sid_at : (es : Flows) (k : ℕ) (e : ℕ × Flow) (low high : ℕ) → Rise low (sids (rows es)) high → slice_get es k ≡ Some e → (low < e.1.lease.sid) × (e.1.lease.sid ≤ high)
 sid_at [] k e low high rise h = absurd cc
-sid_at (x ∷ es) zero e low high rise h = let same : x ≡ e = cc in subst (λ (y : ℕ × Flow). (low < y.1.sid) × (y.1.sid ≤ high)) same (rise.0, rise.1)
-sid_at (x ∷ es) (suc k) e low high rise h = let rest = sid_at es k e x.1.sid high rise.2 h in (omega (arith, rest.0), rest.1)
+sid_at (x ∷ es) zero e low high rise h = let same : x ≡ e = cc in subst (λ (y : ℕ × Flow). (low < y.1.lease.sid) × (y.1.lease.sid ≤ high)) same (rise.0, rise.1)
+sid_at (x ∷ es) (suc k) e low high rise h = let rest = sid_at es k e x.1.lease.sid high rise.2 h in (omega (arith, rest.0), rest.1)
 
 -- the entries stand under the SIDs of the rows
 pub keys_are : (es : Flows) → AreStored es → map (λ e. e.0) es ≡ sids (rows es)
 keys_are [] all = refl
-keys_are (e ∷ es) all = ap (λ n. n ∷ map (λ (x : ℕ × Flow). x.0) es) (sym all.0.key) ∙ ap (λ (ns : List ℕ). e.1.sid ∷ ns) (keys_are es all.1)
+keys_are (e ∷ es) all = ap (λ n. n ∷ map (λ (x : ℕ × Flow). x.0) es) (sym all.0.key) ∙ ap (λ (ns : List ℕ). e.1.lease.sid ∷ ns) (keys_are es all.1)

@@ -12,7 +12,7 @@ use Rattle.flow_state.specs.Changes.{due_in_table, told_due, told_in_table, Tell
 abbrev pub due_set : ℕ → ℕ → FlowRow → FlowRow
 due_set sid due f = cond (is_flow sid f) (record f { index = due_index f.kind due }) f
 
-untold : (fs : List FlowRow) → map (told_due []) fs ≡ fs
+pub untold : (fs : List FlowRow) → map (told_due []) fs ≡ fs
 untold [] = refl
 untold (f ∷ fs) = ap (λ (gs : List FlowRow). f ∷ gs) (untold fs)
 
@@ -20,12 +20,12 @@ untold (f ∷ fs) = ap (λ (gs : List FlowRow). f ∷ gs) (untold fs)
 pub none_told : (t : Table) → told_in_table t [] ≡ t
 none_told t = ap (λ (fs : List FlowRow). record t { flows = fs }) (untold t.flows)
 
-pub told_after : (s : Flow) (ss : List Flow) (fs : List FlowRow) → map (told_due (s ∷ ss)) fs ≡ map (told_due ss) (map (due_set s.sid s.due) fs)
+pub told_after : (s : Flow) (ss : List Flow) (fs : List FlowRow) → map (told_due (s ∷ ss)) fs ≡ map (told_due ss) (map (due_set s.lease.sid s.due) fs)
 told_after s ss [] = refl
 told_after s ss (f ∷ fs) = ap (λ (gs : List FlowRow). told_due (s ∷ ss) f ∷ gs) (told_after s ss fs)
 
 -- the first of them is told first
-pub one_told : (t : Table) (s : Flow) (ss : List Flow) → told_in_table t (s ∷ ss) ≡ told_in_table (due_in_table t s.sid s.due) ss
+pub one_told : (t : Table) (s : Flow) (ss : List Flow) → told_in_table t (s ∷ ss) ≡ told_in_table (due_in_table t s.lease.sid s.due) ss
 one_told t s ss = ap (λ (fs : List FlowRow). record t { flows = fs }) (told_after s ss t.flows)
 
 -- ---- the kinds of flows stay
@@ -47,7 +47,7 @@ same_kind (Some g) sid due f P e all = let is : due_set sid due g ≡ f = cc in 
 same_kind None sid due f P e all = absurd cc
 
 tells : (t : Table) (sid due : ℕ) (s : Flow) → TellsDue t s → TellsDue (due_in_table t sid due) s
-tells t sid due s h f e = same_kind (flow_of t s.sid) sid due f (λ kind. IsDueTime kind s.due) (sym (found_set sid due s.sid t.flows) ∙ e) h
+tells t sid due s h f e = same_kind (flow_of t s.lease.sid) sid due f (λ kind. IsDueTime kind s.due) (sym (found_set sid due s.lease.sid t.flows) ∙ e) h
 
 pub all_tell : (t : Table) (sid due : ℕ) (ss : List Flow) → AllByRecursion (TellsDue t) ss → AllByRecursion (TellsDue (due_in_table t sid due)) ss
 all_tell t sid due [] all = tt

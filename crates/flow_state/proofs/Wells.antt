@@ -2,7 +2,7 @@
 use Rattle.std.proofs.Common.{◌≡◌, ◌⊎◌, ℕ, suc, ◌+◌, ◌*◌, ◌<◌, ◌≤◌, Bool, true, false, cond, not, ◌||◌, ◌&&◌, List, [], ◌∷◌, ◌++◌, map, filter, length, Option, Some, None, refl, sym, ap, subst, ◌∙◌, arith, inl, inr, eqb, leb, ltb, length-append}
 use Rattle.std.specs.Option.{option_map_or}
 use Rattle.std.specs.Prelude.{unwrap_or}
-use Rattle.std.proofs.lemmas.Bool.{eqb-true, leb-true, and_parts, or_parts, not-false, leb-false, ltb-false}
+use Rattle.std.proofs.lemmas.Bool.{eqb-true, leb-true, and_parts, or_parts, not-false, leb-false, ltb-false, false_from_ne_true}
 use Rattle.flow_state.specs.declared.channel.Channel.{Channel}
 use Rattle.flow_state.specs.declared.flow.FlowKind.{FlowKind}
 use Rattle.flow_state.specs.declared.flow.FlowKind.TheVariants.{BestEffort, Ugs, Poll}
@@ -10,12 +10,12 @@ use Rattle.flow_state.specs.declared.flow.Waiting.{Waiting}
 use Rattle.flow_state.specs.declared.refusal.Refusal.{Refusal}
 use Rattle.flow_state.specs.declared.refusal.Refusal.TheVariants.{BadValue, OldRequest, Busy}
 use Rattle.flow_state.specs.Limits.{last_time, longest_interval, last_sid, most_waiting, is_good_channel, is_good_kind, is_size, is_schedule, is_ugs, due_time}
-use Rattle.flow_state.specs.Rows.{Table, FlowRow, Lease, is_flow, is_of, flow_of, lease_of, is_of_sid, is_leased, unicast_sids, free_sid, insert_flow, waits, is_ended, has_ended}
-use Rattle.flow_state.specs.Sound.{lease_in, IsLeasedFlow}
+use Rattle.flow_state.specs.Rows.{Table, FlowRow, Lease, is_flow, is_of, flow_of, lease_of, is_of_sid, is_leased, unicast_sids, free_sid, insert_flow, waits, is_ended, has_ended, lease_in}
+use Rattle.flow_state.specs.Sound.{IsLeasedFlow}
 use Rattle.flow_state.specs.Refusals.{table_flow_refusal, table_request_refusal, request_refusal_on, is_old, is_repeated}
 use Rattle.flow_state.specs.Changes.{new_table, new_flow, new_lease, add_to_table, flow_among, drop_in_table, request_in_table}
-use Rattle.flow_state.proofs.Members.{Has, has_left, has_right, has_either, has_pushed, has_map, map_has, has_filter, filter_has, none_has, found_has, has_found, range_has, filter_empty}
-use Rattle.flow_state.proofs.Filters.{filter_append}
+use Rattle.flow_state.proofs.Members.{Has, has_between, has_left, has_right, has_pushed, has_map, map_has, has_filter, filter_has, none_has, found_has, has_found, range_has, filter_empty}
+use Rattle.flow_state.proofs.Filters.{filter_append, filter_swap}
 use Rattle.flow_state.proofs.Assignments.{eqb_same, unwrap_some, free_is_free, leased, first_early, has_put, put_found, put_others, is_added, IsAdded}
 
 -- a flow within the limits; its next due time is at most an interval behind the last time
@@ -107,10 +107,7 @@ rising_map change same low (f ∷ fs) r =
     (omega (arith, r.0, e), subst (λ n. RisingFrom (n + 1) (map change fs)) (sym e) (rising_map change same (f.sid + 1) fs r.1))
 
 pub has_inserted : (f : FlowRow) (fs : List FlowRow) (g : FlowRow) → Has (insert_flow f fs) g → Has fs g ⊎ (f ≡ g)
-has_inserted f fs g h = elim (has_either (filter (λ x. leb x.sid f.sid) fs) (f ∷ filter (λ x. not (leb x.sid f.sid)) fs) g h) [
-  | inl l ↦ inl (has_filter (λ x. leb x.sid f.sid) fs g l).0
-  | inr r ↦ elim r [ inl e ↦ inr e | inr m ↦ inl (has_filter (λ x. not (leb x.sid f.sid)) fs g m).0 ]
-]
+has_inserted f fs g h = elim (has_between (λ x. leb x.sid f.sid) (λ x. not (leb x.sid f.sid)) f fs g h) [ inl old ↦ inl old.0 | inr is ↦ inr is ]
 
 pub inserted_has : (f : FlowRow) (fs : List FlowRow) (g : FlowRow) → Has fs g → Has (insert_flow f fs) g
 inserted_has f fs g h = by (leb g.sid f.sid) refl
@@ -133,7 +130,7 @@ rising_above sid low (f ∷ fs) r =
       | false ↦ λ e. let lt = leb-false f.sid sid e in (omega arith, rising_filter (λ x. not (leb x.sid sid)) (f.sid + 1) fs r.1)
     ] refl
 
-rising_inserted : (f : FlowRow) (fs : List FlowRow) → 1 ≤ f.sid → ((g : FlowRow) → Has fs g → ¬ (g.sid ≡ f.sid)) → RisingFrom 1 fs → RisingFrom 1 (insert_flow f fs)
+pub rising_inserted : (f : FlowRow) (fs : List FlowRow) → 1 ≤ f.sid → ((g : FlowRow) → Has fs g → ¬ (g.sid ≡ f.sid)) → RisingFrom 1 fs → RisingFrom 1 (insert_flow f fs)
 rising_inserted f fs one other r =
     rising_join 1 (filter (λ x. leb x.sid f.sid) fs) f (filter (λ x. not (leb x.sid f.sid)) fs) one (rising_filter (λ x. leb x.sid f.sid) 1 fs r)
     (λ g h. below g (has_filter (λ x. leb x.sid f.sid) fs g h)) (rising_above f.sid 1 fs r)
@@ -152,13 +149,7 @@ filter_fewer p (x ∷ xs) = let less = filter_fewer p xs in elim (p x) as (λ b.
 
 -- what passes two tests is no more than what passes one
 pub filter_both : {X : Type 0} (p q : X → Bool) (xs : List X) → length (filter p (filter q xs)) ≤ length (filter p xs)
-filter_both p q [] = omega arith
-filter_both p q (x ∷ xs) =
-    let less = filter_both p q xs in
-    elim (q x) as (λ b. length (filter p (cond b (x ∷ filter q xs) (filter q xs))) ≤ length (cond (p x) (x ∷ filter p xs) (filter p xs))) [
-      | true ↦ elim (p x) as (λ c. length (cond c (x ∷ filter p (filter q xs)) (filter p (filter q xs))) ≤ length (cond c (x ∷ filter p xs) (filter p xs))) [ true ↦ omega arith | false ↦ less ]
-      | false ↦ elim (p x) as (λ c. length (filter p (filter q xs)) ≤ length (cond c (x ∷ filter p xs) (filter p xs))) [ true ↦ omega arith | false ↦ less ]
-    ]
+filter_both p q xs = rw (filter_swap p q xs) (filter_fewer q (filter p xs))
 
 -- ---- a channel as it is set
 
@@ -187,8 +178,9 @@ first_due (Ugs size interval jitter base) e = let schedule = and_parts (is_size 
     scheduled interval jitter base schedule.1
 first_due (Poll interval jitter base) e = scheduled interval jitter base e
 
-request_more : (fs gs : List FlowRow) (w : Waiting) → ((f : FlowRow) → Has fs f → Has gs f) → IsWellRequest fs w → IsWellRequest gs w
-request_more fs gs w more r = record { some = r.some; most = r.most; time = r.time; flow = r.flow; there = more r.flow r.there; sid = r.sid; last = r.last; after = r.after; before = r.before; asks = r.asks }
+-- the request's flow is among these too
+request_at : {fs : List FlowRow} {w : Waiting} (gs : List FlowRow) (r : IsWellRequest fs w) → Has gs r.flow → IsWellRequest gs w
+request_at gs r there = record { some = r.some; most = r.most; time = r.time; flow = r.flow; there = there; sid = r.sid; last = r.last; after = r.after; before = r.before; asks = r.asks }
 
 listed : (n : ℕ) → Has unicast_sids n → (1 ≤ n) × (n < 1 + last_sid)
 unfolding unicast_sids
@@ -204,15 +196,11 @@ flow_lease t f l = (found_has (is_of_sid f.sid) t.leases (lease_in f) l.lease).0
 
 -- a SID that is free isn't a flow's
 pub free_apart : (t : Table) (sid : ℕ) (f : FlowRow) → free_sid t ≡ Some sid → IsLeasedFlow t f → eqb sid f.sid ≡ false
-free_apart t sid f free l = by (eqb sid f.sid) refl
-  where
-    by : (b : Bool) → eqb sid f.sid ≡ b → b ≡ false
-    by true e = absurd (
-        let on : is_leased t f.sid ≡ true = leased t (lease_in f) (flow_lease t f l) l.goes_on in
-        let off : is_leased t sid ≡ false = free_is_free t sid free in
-        let same : is_leased t sid ≡ is_leased t f.sid = ap (is_leased t) (eqb-true sid f.sid e) in cc
-        )
-    by false e = refl
+free_apart t sid f free l = false_from_ne_true (eqb sid f.sid) (λ e.
+    let on : is_leased t f.sid ≡ true = leased t (lease_in f) (flow_lease t f l) l.goes_on in
+    let off : is_leased t sid ≡ false = free_is_free t sid free in
+    let same : is_leased t sid ≡ is_leased t f.sid = ap (is_leased t) (eqb-true sid f.sid e) in
+    cc)
 
 pub flow_is_well : (o : Option Lease) (t : Table) (modem tag last : ℕ) (kind : FlowKind) → lease_of t modem tag ≡ o → table_flow_refusal t modem tag last kind ≡ None → IsWell t → IsWell (flow_among o t modem tag last kind)
 flow_is_well (Some a) t modem tag last kind e ok w = w
@@ -243,7 +231,7 @@ flow_is_well None t modem tag last kind e ok w =
             | inl old ↦ w.leases l old
             | inr is ↦ subst (IsWellLease t.row.next_start) is (record { unicast = range.0; last = omega (arith, range.1); begun = early; whole = omega arith; ended = a.most })
           ];
-          requests = λ r h. request_more t.flows (insert_flow new t.flows) r (λ f k. inserted_has new t.flows f k) (w.requests r h);
+          requests = λ r h. let old = w.requests r h in request_at (insert_flow new t.flows) old (inserted_has new t.flows old.flow old.there);
           alone = w.alone;
           few = w.few;
         }
@@ -256,18 +244,7 @@ module _ (t : Table) (stays : FlowRow → Bool) (waits : Waiting → Bool) (w : 
   request_stays too r h =
       let kept = has_filter waits t.waiting r h in
       let old = w.requests r kept.0 in
-      record {
-        some = old.some;
-        most = old.most;
-        time = old.time;
-        flow = old.flow;
-        there = filter_has stays t.flows old.flow old.there (too r old.flow old.there old.sid kept.1);
-        sid = old.sid;
-        last = old.last;
-        after = old.after;
-        before = old.before;
-        asks = old.asks;
-      }
+      request_at (filter stays t.flows) old (filter_has stays t.flows old.flow old.there (too r old.flow old.there old.sid kept.1))
 
   one_waits : (sid : ℕ) → length (filter (is_of sid) (filter waits t.waiting)) ≤ 1
   one_waits sid = let less = filter_both (is_of sid) waits t.waiting in let one = w.alone sid in omega arith
@@ -400,18 +377,7 @@ request_is_well t sid n sent ok w =
     kept a r h =
         let old = w.requests r h in
         let other : is_flow sid old.flow ≡ false = ap (λ m. eqb m sid) old.sid ∙ none_has (is_of sid) t.waiting r a.idle h in
-        record {
-          some = old.some;
-          most = old.most;
-          time = old.time;
-          flow = old.flow;
-          there = subst (Has (map (asked sid sent) t.flows)) (ap (λ b. cond b (record old.flow { last_sent = Some sent }) old.flow) other) (map_has (asked sid sent) t.flows old.flow old.there);
-          sid = old.sid;
-          last = old.last;
-          after = old.after;
-          before = old.before;
-          asks = old.asks;
-        }
+        request_at (map (asked sid sent) t.flows) old (subst (Has (map (asked sid sent) t.flows)) (ap (λ b. cond b (record old.flow { last_sent = Some sent }) old.flow) other) (map_has (asked sid sent) t.flows old.flow old.there))
 
     none : IsAsked t sid n sent → filter (is_of sid) t.waiting ≡ []
     none a = filter_empty (is_of sid) t.waiting (λ r h. none_has (is_of sid) t.waiting r a.idle h)

@@ -120,14 +120,14 @@ with_cut_closed rows ch end ack = change_table rows ch (λ t. close_table t end 
 -- the flow with the next due time that flows of its SID tell, the last of some
 abbrev pub told_due : List Flow → FlowRow → FlowRow
 told_due [] f = f
-told_due (s ∷ ss) f = told_due ss (if is_flow s.sid f then record f { index = due_index f.kind s.due } else f)
+told_due (s ∷ ss) f = told_due ss (if is_flow s.lease.sid f then record f { index = due_index f.kind s.due } else f)
 
 abbrev pub told_in_table : Table → List Flow → Table
 told_in_table t served = record t { flows = map (told_due served) t.flows }
 
 -- what such a flow tells is one of the due times of the row of its SID
 abbrev pub TellsDue : Table → Flow → Type 0
-TellsDue t s = (f : FlowRow) → flow_of t s.sid ≡ Some f → IsDueTime f.kind s.due
+TellsDue t s = (f : FlowRow) → flow_of t s.lease.sid ≡ Some f → IsDueTime f.kind s.due
 
 -- the table after a cut: these are the next due times, these requests wait, and then its MAPs are closed
 abbrev pub finish_table : Table → List Flow → List Waiting → (end ack : ℕ) → Table

@@ -31,9 +31,13 @@ pub record Table : Type 0 where
 abbrev pub Rows : Type 0
 Rows = List Table
 
+-- the lease under which a flow was added
+abbrev pub lease_in : FlowRow → Lease
+lease_in f = record { sid = f.sid; modem = f.modem; tag = f.tag; first = f.first; last = f.last }
+
 -- a flow as it is lent: with the next due time in place of its index
 abbrev pub lent_flow : FlowRow → Flow
-lent_flow f = record { sid = f.sid; modem = f.modem; tag = f.tag; first = f.first; last = f.last; kind = f.kind; due = due_time f.kind f.index; last_sent = f.last_sent }
+lent_flow f = record { lease = lease_in f; kind = f.kind; due = due_time f.kind f.index; last_sent = f.last_sent }
 
 abbrev pub is_table : ℕ → Table → Bool
 is_table ch t = t.row.channel.id == ch

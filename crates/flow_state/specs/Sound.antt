@@ -2,16 +2,12 @@
 use Rattle.std.specs.Prelude.{◌≡◌, ℕ, ◌<◌, ◌≤◌, List, [], ◌∷◌, map, length, true, Some}
 use Rattle.std.specs.List.{find, AllByRecursion, range_with_len}
 use Rattle.flow_state.specs.Limits.{is_good_kind, last_sid, most_waiting}
-use Rattle.flow_state.specs.Rows.{Table, FlowRow, Lease, is_of_sid}
+use Rattle.flow_state.specs.Rows.{Table, FlowRow, lease_in, is_of_sid}
 
 -- the numbers rise, from above low to high at most
 abbrev pub Rise : ℕ → List ℕ → ℕ → Type 0
 Rise low [] high = Unit {0}
 Rise low (x ∷ xs) high = (low < x) × (x ≤ high) × Rise x xs high
-
--- the lease under which a flow was added
-abbrev pub lease_in : FlowRow → Lease
-lease_in f = record { sid = f.sid; modem = f.modem; tag = f.tag; first = f.first; last = f.last }
 
 -- the flow stands under the latest lease of its SID, which isn't over
 pub record IsLeasedFlow (t : Table) (f : FlowRow) : Type 0 where

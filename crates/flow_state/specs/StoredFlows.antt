@@ -35,7 +35,7 @@ pub record IsBySid (a : Inside) : Type 0 where
 
 -- a flow is there whose lease ends before a time
 abbrev pub is_ended_flow : ℕ → Option Flow → Bool
-is_ended_flow end flow = option_map_or (λ f. nat_lt f.last end) flow false
+is_ended_flow end flow = option_map_or (λ f. nat_lt f.lease.last end) flow false
 
 -- the place of a SID, and for 0 one behind those of all SIDs
 abbrev pub place_of : ℕ → ℕ

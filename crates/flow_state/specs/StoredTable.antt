@@ -21,12 +21,12 @@ abbrev pub is_due_stored : ℕ → Flow → Bool
 is_due_stored end f = is_timed f.kind && nat_lt f.due end
 
 pub record IsStoredFlow (e : ℕ × Flow) : Type 0 where
-  pub key : e.1.sid ≡ e.0
+  pub key : e.1.lease.sid ≡ e.0
   pub due : e.1.due ≡ due_time e.1.kind (due_index e.1.kind e.1.due)
 
 -- no lease of these flows ends before this
 abbrev pub EndFrom : ℕ → List (ℕ × Flow) → Type 0
-EndFrom first es = AllByRecursion (λ e. first ≤ e.1.last) es
+EndFrom first es = AllByRecursion (λ e. first ≤ e.1.lease.last) es
 
 -- flows stand under the leases of their SIDs, and each SID that was given has a place for one
 pub record IsStored (a : Inside) : Type 0 where
@@ -46,4 +46,4 @@ with_next_due f due = record f { due = due }
 
 -- a stored flow of this SID has a lease that ends before this time
 abbrev pub is_ended_in : List (ℕ × Flow) → (end sid : ℕ) → Bool
-is_ended_in es end sid = option_map_or (λ f. nat_lt f.last end) (lookup (nat_eq sid) es) false
+is_ended_in es end sid = option_map_or (λ f. nat_lt f.lease.last end) (lookup (nat_eq sid) es) false

@@ -157,7 +157,7 @@ fn set_due_times(table: &mut ChannelTable, served: &[Flow])
     ensures { table.new ≡ told_in_table table.old served.now }
 {
     for flow in served {
-        table.set_due(flow.sid, flow.due);
+        table.set_due(flow.lease.sid, flow.due);
     }
 }
 

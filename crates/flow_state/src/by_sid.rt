@@ -151,7 +151,7 @@ impl FlowsBySid {
 
     /// Forgets the flows whose leases end before this time.
     pub(crate) fn forget_ended(&mut self, end: u64)
-        ensures kept { self.new.entries ≡ filter (λ e. nat_le end e.1.last) self.old.entries }
+        ensures kept { self.new.entries ≡ filter (λ e. nat_le end e.1.lease.last) self.old.entries }
         ensures sids { self.new.sids ≡ self.old.sids }
     {
         empty_ended(&mut self.places, end);
@@ -164,7 +164,7 @@ impl FlowsBySid {
         let mut first = LAST_TIME;
         for place in 0..self.places.len() {
             if let Some(flow) = flow_at(&self.places, place) {
-                first = first.min(flow.last);
+                first = first.min(flow.lease.last);
             }
         }
         first
@@ -193,14 +193,14 @@ fn has_ended(places: &IndexMap<u16, Option<Flow>>, place: usize, end: u64) -> bo
     ensures { result ≡ is_ended_flow end (flow_at places.now.entries place) }
 {
     match flow_at(places, place) {
-        Some(flow) => flow.last < end,
+        Some(flow) => flow.lease.last < end,
         None => false,
     }
 }
 
 /// Empties the places of flows whose leases end before a time.
 fn empty_ended(places: &mut IndexMap<u16, Option<Flow>>, end: u64)
-    ensures kept { there places.new.entries ≡ filter (λ e. nat_le end e.1.last) (there places.old.entries) }
+    ensures kept { there places.new.entries ≡ filter (λ e. nat_le end e.1.lease.last) (there places.old.entries) }
     ensures keys { keys_of places.new.entries ≡ keys_of places.old.entries }
 {
     for place in 0..places.len() {

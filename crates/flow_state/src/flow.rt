@@ -102,15 +102,11 @@ pub struct Lease {
     pub last: u64,
 }
 
-/// A flow, with the first and the last minislot of its lease, the minislot time at which it is due
-/// next (0 where it is never due) and the one at which its last accepted request was sent.
+/// A flow under its lease, with the minislot time at which it is due next (0 where it is never due)
+/// and the one at which its last accepted request was sent.
 #[derive(Clone, Copy, Debug, PartialEq, Eq)]
 pub struct Flow {
-    pub sid: u16,
-    pub modem: u32,
-    pub tag: u32,
-    pub first: u64,
-    pub last: u64,
+    pub lease: Lease,
     pub kind: FlowKind,
     pub due: u64,
     pub last_sent: Option<u64>,
@@ -119,14 +115,10 @@ pub struct Flow {
 impl Flow {
     /// A flow as it is added under its lease.
     pub(crate) fn new(lease: Lease, kind: FlowKind) -> Flow
-        ensures { result ≡ record { sid = lease.sid; modem = lease.modem; tag = lease.tag; first = lease.first; last = lease.last; kind = kind; due = due_time kind 0; last_sent = None } }
+        ensures { result ≡ record { lease = lease; kind = kind; due = due_time kind 0; last_sent = None } }
     {
         Flow {
-            sid: lease.sid,
-            modem: lease.modem,
-            tag: lease.tag,
-            first: lease.first,
-            last: lease.last,
+            lease,
             kind,
             due: kind.first_due(),
             last_sent: None,
@@ -149,7 +141,7 @@ impl Flow {
     pub(crate) fn request_refusal(&self, n: u16, sent: u64, busy: bool) -> Option<Refusal>
         ensures { result ≡ first_refusal (flow_view self.now) n sent busy }
     {
-        if !is_size(n) || sent > LAST_TIME || self.last < sent || self.kind.is_ugs() {
+        if !is_size(n) || sent > LAST_TIME || self.lease.last < sent || self.kind.is_ugs() {
             Some(Refusal::BadValue)
         } else if self.is_old(sent) {
             Some(Refusal::OldRequest)
@@ -164,7 +156,7 @@ impl Flow {
     fn is_old(&self, sent: u64) -> bool
         ensures { result ≡ is_old (flow_view self.now) sent }
     {
-        sent < self.first || self.is_repeated(sent)
+        sent < self.lease.first || self.is_repeated(sent)
     }
 
     /// Was a request sent no later than the last accepted one?

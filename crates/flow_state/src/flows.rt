@@ -114,7 +114,7 @@ impl Flows {
     pub fn flow(&self, ch: u8, k: usize) -> Option<&Flow>
         ensures row { option_copied result ≡ flow_at self.now ch k }
         ensures good { IfSome result (λ flow. IsTrue (is_good_kind flow.now.kind)) }
-        ensures unicast { IfSome result (λ flow. (1 ≤ flow.now.sid) × (flow.now.sid ≤ last_sid)) }
+        ensures unicast { IfSome result (λ flow. (1 ≤ flow.now.lease.sid) × (flow.now.lease.sid ≤ last_sid)) }
     {
         match self.tables.get(&ch) {
             Some(table) => table.flow(k),

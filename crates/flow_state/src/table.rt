@@ -77,7 +77,7 @@ impl ChannelTable {
     pub(crate) fn flow(&self, k: usize) -> Option<&Flow>
         ensures row { option_copied result ≡ option_map lent_flow (slice_get self.now.flows k) }
         ensures good { IfSome result (λ flow. IsTrue (is_good_kind flow.now.kind)) }
-        ensures unicast { IfSome result (λ flow. (1 ≤ flow.now.sid) × (flow.now.sid ≤ last_sid)) }
+        ensures unicast { IfSome result (λ flow. (1 ≤ flow.now.lease.sid) × (flow.now.lease.sid ≤ last_sid)) }
     {
         self.flows.nth(k)
     }
@@ -324,7 +324,7 @@ fn has_ended(flows: &FlowsBySid, sid: u16, end: u64) -> bool
     ensures { result ≡ is_ended_in flows.now.entries end sid }
 {
     match flows.get(sid) {
-        Some(flow) => flow.last < end,
+        Some(flow) => flow.lease.last < end,
         None => false,
     }
 }
@@ -352,7 +352,7 @@ fn forget_all_ended(
     requires { EndFrom first_end_before flows.old.entries }
     ensures requests { waiting.new.items ≡ filter (λ w. not (is_ended_in flows.old.entries end w.sid)) waiting.old.items }
     ensures dues { (sid due : ℕ) → IsSome (lookup (nat_eq sid) flows.new.entries) → IsDueFrom dues.old sid due → IsDueFrom dues.new sid due }
-    ensures kept { flows.new.entries ≡ filter (λ e. nat_le end e.1.last) flows.old.entries }
+    ensures kept { flows.new.entries ≡ filter (λ e. nat_le end e.1.lease.last) flows.old.entries }
     ensures sids { flows.new.sids ≡ flows.old.sids }
     ensures ends { EndFrom result flows.new.entries }
 {

@@ -1,31 +1,31 @@
 -- The grants before a lease is told lie before it or are to other SIDs, and then its flow begins at due time number 0.
 use Rattle.std.proofs.Common.{◌≡◌, ℕ, zero, suc, ◌+◌, ◌<◌, ◌≤◌, Bool, true, false, cond, not, List, [], ◌∷◌, ◌++◌, filter, length, Option, Some, None, refl, sym, ap, subst, ◌∙◌, arith, eqb, inl, inr, slice_get, append_assoc}
+use Rattle.std.proofs.lemmas.Option.{same_Some}
 use Rattle.std.specs.List.{list_any, find}
 use Rattle.std.specs.List.Sorted.{IsStrictlyIncreasing}
 use Rattle.std.specs.Prelude.{unwrap_or, slice_index, nat_le}
-use Rattle.std.proofs.lemmas.Bool.{eqb-true}
-use Rattle.minislot_time.specs.Extent.{Extent}
+use Rattle.std.proofs.lemmas.Bool.{eqb-true, false_from_ne_true}
 use Rattle.flow_state.specs.declared.flow.FlowKind.{FlowKind}
 use Rattle.flow_state.specs.declared.flow.FlowKind.TheVariants.{Ugs}
 use Rattle.flow_state.specs.declared.refusal.Refusal.{Refusal}
-use Rattle.flow_state.specs.Sound.{lease_in}
 use Rattle.flow_state.specs.declared.flow.Lease.{Lease}
-use Rattle.flow_state.specs.Rows.{Rows, Table, FlowRow, is_flow, is_of, is_of_sid, is_given, is_table, table_of, change_table, lease_of, free_sid, first_of, put_lease, insert_flow}
+use Rattle.flow_state.specs.Rows.{Rows, Table, FlowRow, is_flow, is_of, is_of_sid, is_given, table_of, change_table, lease_of, free_sid, first_of, put_lease, insert_flow, lease_in}
 use Rattle.flow_state.specs.Refusals.{table_flow_refusal}
-use Rattle.flow_state.specs.Changes.{new_table, new_flow, new_lease, flow_among, flow_in_table, lease_among, lease_for, lease_on, lease_given}
+use Rattle.flow_state.specs.Changes.{new_flow, new_lease, flow_among, flow_in_table, lease_among, lease_for, lease_on, lease_given}
 use Rattle.grant_machine.specs.declared.command.Command.{Command}
 use Rattle.grant_machine.specs.declared.command.Command.TheVariants as commands
 use Rattle.grant_machine.specs.declared.output.Output.{Output}
 use Rattle.grant_machine.specs.declared.output.Output.TheVariants as outputs
-use Rattle.grant_machine_parts.specs.Cutting.{Filled, fill, span_of, ack_of, table_after}
-use Rattle.grant_machine.specs.Steps.{step, step_on, refusal_of, accepted, cut_on, lease_output}
-use Rattle.grant_machine.specs.Runs.{outputs_from, grants_from, Grant, grant_of, step_grants, step_grants_on}
+use Rattle.grant_machine_parts.specs.declared.placing.Placement.{Placement}
+use Rattle.grant_machine_parts.specs.Cutting.{Filled, fill, span_of, table_after}
+use Rattle.grant_machine.specs.Steps.{step, step_on, refusal_of, accepted, lease_output}
+use Rattle.grant_machine.specs.Runs.{outputs_from, grants_from, Grant, step_grants, step_grants_on}
 use Rattle.grant_machine.specs.Laws.{LeasedSid, UnsolicitedGrantsAreDue, is_grant_to}
-use Rattle.grant_machine_parts.proofs.Callers.{Rising, filter_sub, is_cut, fill_placed}
-use Rattle.flow_state.proofs.Callers.{find_changed, is_found, some_is, changed, KeepsId, eqb_same, at_same, refusal_there, flow_keeps_id, found_before, there, filter_append, filter_empty}
-use Rattle.flow_state.proofs.Callers.{Has, has_any, any_has, found_has, has_found, has_map, has_either, put_found, put_others, IsWell, flow_lease}
-use Rattle.grant_machine.proofs.Maps.{output_is, command_is, find_pushed, found_after}
-use Rattle.grant_machine.proofs.Leases.{IsNew, is_new, assigned_fields, put_has}
+use Rattle.grant_machine_parts.proofs.Callers.{Rising, cut_placed}
+use Rattle.flow_state.proofs.Callers.{some_is, eqb_same, flow_keeps_id, filter_append, filter_empty, filter_sub}
+use Rattle.flow_state.proofs.Callers.{Has, has_any, any_has, found_has, has_found, has_either, put_found, put_others, IsWell, flow_lease}
+use Rattle.grant_machine.proofs.Leases.{IsNew, is_new, flow_step_is, put_has}
+use Rattle.grant_machine.proofs.Turns.{made, Changes, before, found_changed}
 use Rattle.grant_machine.proofs.Reached.{Kept, Stands, stands_step, AllWell, none_well, well_step}
 use Rattle.grant_machine.proofs.Cuts.{cut_of_grant}
 use Rattle.grant_machine.proofs.Due.{none_granted, Holds, ServesDues, AreDue, due_from}
@@ -51,13 +51,9 @@ given_more n ls sid given = by (eqb n.sid sid) refl
         let found = has_found (is_of_sid sid) ls old.0 old.1 old.2 in
         any (put_lease n ls) found.0 (put_others n ls sid off ∙ found.1)
 
-behind_flow : (o : Option Lease) (t : Table) (modem tag last : ℕ) (kind : FlowKind) (sid start : ℕ) → Behind t sid start → Behind (flow_among o t modem tag last kind) sid start
-behind_flow (Some a) t modem tag last kind sid start b = b
-behind_flow None t modem tag last kind sid start b = record { given = given_more (new_lease t modem tag last (unwrap_or (free_sid t) 0)) t.leases sid b.given; past = b.past }
-
 behind_kept : (sid start : ℕ) → Kept (λ t. Behind t sid start)
 behind_kept sid start = record {
-  flow = λ t modem tag last kind ok b. behind_flow (lease_of t modem tag) t modem tag last kind sid start b;
+  flow = λ t modem tag last kind none ok b. record { given = given_more (new_lease t modem tag last (unwrap_or (free_sid t) 0)) t.leases sid b.given; past = b.past };
   drop = λ t at b. record { given = b.given; past = b.past };
   request = λ t at n sent ok b. record { given = b.given; past = b.past };
   cut = λ t len not_before ack ok b. record { given = b.given; past = (let past = b.past in let later : t.row.next_start ≤ (span_of t.row len not_before).start = omega arith in omega arith) };
@@ -69,25 +65,23 @@ IsBehind rows g = Stands (λ t. Behind t g.sid g.start) rows g.channel
 
 behind_now : (rows : Rows) (c : Command) (g : Grant) → AllWell rows → Has (step_grants rows c) g → IsBehind (step rows c).rows g
 behind_now rows c g w h =
-    let cut = cut_of_grant rows c g h in
+    let s = cut_of_grant rows c g h in
+    let cut = s.cut in
     let t : Table = cut.table in
-    let span : Extent = span_of t.row cut.len cut.not_before in
+    let p : Placement = s.placement in
     let f : Filled = fill t cut.len cut.not_before cut.ack in
-    let m = has_map (grant_of cut.channel f.span.start) f.placements g (subst (λ (gs : List Grant). Has gs g) cut.grants_are h) in
-    let well = w cut.channel t cut.found in
-    let end = (is_cut t cut.len cut.not_before cut.ack cut.ok).end in
-    let placed = (fill_placed t span (ack_of t.row cut.ack span.start) well end).each m.0 m.1 in
+    let well = w g.channel t cut.found in
+    let placed = (cut_placed t cut.len cut.not_before cut.ack well cut.ok).each p s.there in
     let flow : FlowRow = placed.leased.0 in
-    let to : flow.sid ≡ m.0.sid = placed.leased.2 in
+    let to : flow.sid ≡ p.sid = placed.leased.2 in
     let lease = flow_lease t flow (well.given flow placed.leased.1) in
-    let within : m.0.offset + m.0.size ≤ span.len = placed.within in
-    let some : 1 ≤ m.0.size = placed.some in
-    subst (IsBehind (step rows c).rows) m.2
-    (subst (λ (after : Rows). IsBehind after (grant_of cut.channel span.start m.0)) (sym cut.rows_are) (record {
+    let within : p.offset + p.size ≤ f.span.len = placed.within in
+    let some : 1 ≤ p.size = placed.some in
+    subst (IsBehind (step rows c).rows) s.is (record {
       table = table_after t f;
-      found = found_after rows cut.channel t f cut.found;
-      holds = record { given = has_any (is_of_sid m.0.sid) t.leases (lease_in flow) lease (ap (λ n. eqb n m.0.sid) to ∙ eqb_same m.0.sid); past = omega arith };
-    }))
+      found = cut.after;
+      holds = record { given = has_any (is_of_sid p.sid) t.leases (lease_in flow) lease (ap (λ n. eqb n p.sid) to ∙ eqb_same p.sid); past = omega arith };
+    })
 
 -- all of these grants
 abbrev AllBehind : Rows → List Grant → Type 0
@@ -111,18 +105,6 @@ Unheard rows lease = (t : Table) → table_of rows lease.channel ≡ Some t → 
 abbrev TellsNot : Output → LeasedSid → Type 0
 TellsNot out lease = (m : ℕ) → ¬ (out ≡ outputs.Assigned m lease.channel lease.sid lease.first lease.last)
 
-unheard_change : (rows : Rows) (at : ℕ) (change : Table → Table) (lease : LeasedSid) → KeepsId change → ((t : Table) → lease.channel ≡ at → table_of rows at ≡ Some t → NotThere lease t → NotThere lease (change t)) → Unheard rows lease → Unheard (change_table rows at change) lease
-unheard_change rows at change lease ids keeps u v e =
-    let before = found_before rows lease.channel at change v ids e in
-    subst (NotThere lease) (sym before.2) (by before.0 before.1)
-  where
-    by : (t : Table) → table_of rows lease.channel ≡ Some t → NotThere lease (changed at change t)
-    by t found =
-        elim (is_table at t) as (λ c. is_table at t ≡ c → NotThere lease (cond c (change t) t)) [
-          | true ↦ λ h. let same = at_same rows lease.channel at t found h in keeps t same (subst (λ n. table_of rows n ≡ Some t) same found) (u t found)
-          | false ↦ λ h. u t found
-        ] refl
-
 -- a flow is added under another lease
 unheard_flow : (o : Option Lease) (t : Table) (modem tag last : ℕ) (kind : FlowKind) (lease : LeasedSid)
     → (let l = lease_among o t modem tag last in l.sid ≡ lease.sid → l.first ≡ lease.first → l.last ≡ lease.last → ⊥) → NotThere lease t → NotThere lease (flow_among o t modem tag last kind)
@@ -132,35 +114,28 @@ unheard_flow None t modem tag last kind lease other none = λ l h sid first unti
   | inr old ↦ none l old.0 sid first until
 ]
 
-told_as : (modem ch : ℕ) (l : Lease) (lease : LeasedSid) → ch ≡ lease.channel → l.sid ≡ lease.sid → l.first ≡ lease.first → l.last ≡ lease.last → lease_output modem ch l ≡ outputs.Assigned modem lease.channel lease.sid lease.first lease.last
-told_as modem ch l lease a b c d =
-    ap (λ n. outputs.Assigned modem n l.sid l.first l.last) a ∙ ap (λ n. outputs.Assigned modem lease.channel n l.first l.last) b
-    ∙ ap (λ n. outputs.Assigned modem lease.channel lease.sid n l.last) c ∙ ap (λ n. outputs.Assigned modem lease.channel lease.sid lease.first n) d
+told_as : (modem : ℕ) (l : Lease) (lease : LeasedSid) → l.sid ≡ lease.sid → l.first ≡ lease.first → l.last ≡ lease.last → lease_output modem lease.channel l ≡ outputs.Assigned modem lease.channel lease.sid lease.first lease.last
+told_as modem l lease sid first last = rw (sid, first, last) refl
 
-unheard_accepted : (rows : Rows) (c : Command) (lease : LeasedSid) → TellsNot (accepted rows c).output lease → Unheard rows lease → Unheard (accepted rows c).rows lease
-unheard_accepted rows commands.Noop lease none u = u
-unheard_accepted rows (commands.Channel c) lease none u = λ t e. elim (find_pushed rows lease.channel (new_table c) t e) [
-  | inl f ↦ u t f
-  | inr same ↦ subst (NotThere lease) same (λ l h. absurd h)
-]
-unheard_accepted rows (commands.Flow at modem tag last kind) lease none u =
-    unheard_change rows at _ lease (λ t. flow_keeps_id (lease_of t modem tag) t modem tag last kind)
-    (λ t same found there. unheard_flow (lease_of t modem tag) t modem tag last kind lease
-    (λ sid first until. none modem (ap (λ o. lease_output modem at (lease_on o modem tag last)) found ∙ told_as modem at (lease_for t modem tag last) lease (sym same) sid first until)) there) u
-unheard_accepted rows (commands.Drop at other) lease none u = unheard_change rows at _ lease (λ t. refl) (λ t same found there. there) u
-unheard_accepted rows (commands.Request at other m sent) lease none u = unheard_change rows at _ lease (λ t. refl) (λ t same found there. there) u
-unheard_accepted rows (commands.Cut at len not_before ack) lease none u = by (table_of rows at)
-  where
-    by : (o : Option Table) → Unheard (cut_on o rows at len not_before ack).rows lease
-    by None = u
-    by (Some t) = unheard_change rows at _ lease (λ v. refl) (λ v same found there. there) u
+made_unheard : (rows : Rows) (c : Command) (t : Table) (lease : LeasedSid) → table_of rows lease.channel ≡ Some t → Changes c lease.channel t → TellsNot (accepted rows c).output lease → NotThere lease t → NotThere lease (made c t)
+made_unheard rows commands.Noop t lease found e none there = absurd e
+made_unheard rows (commands.Channel c) t lease found e none there = absurd e
+made_unheard rows (commands.Flow at modem tag last kind) t lease found e none there =
+    unheard_flow (lease_of t modem tag) t modem tag last kind lease (λ sid first until. none modem (
+    ap (λ n. lease_output modem n (lease_given rows n modem tag last)) e.0 ∙ ap (λ o. lease_output modem lease.channel (lease_on o modem tag last)) found
+    ∙ told_as modem (lease_for t modem tag last) lease sid first until)) there
+made_unheard rows (commands.Drop at other) t lease found e none there = there
+made_unheard rows (commands.Request at other m sent) t lease found e none there = there
+made_unheard rows (commands.Cut at len not_before ack) t lease found e none there = there
 
 unheard_step : (rows : Rows) (c : Command) (lease : LeasedSid) → TellsNot (step rows c).output lease → Unheard rows lease → Unheard (step rows c).rows lease
-unheard_step rows c lease none u = by (refusal_of rows c) none
-  where
-    by : (o : Option Refusal) → TellsNot (step_on o rows c).output lease → Unheard (step_on o rows c).rows lease
-    by (Some r) f = u
-    by None f = unheard_accepted rows c lease f u
+unheard_step rows c lease none u t e = elim (before rows c lease.channel t e) [
+  | inl old ↦ u t old
+  | inr (inl set) ↦ subst (NotThere lease) set.is (λ l h. absurd h)
+  | inr (inr (s, found, makes)) ↦
+      let quiet : TellsNot (accepted rows c).output lease = subst (λ (o : Option Refusal). TellsNot (step_on o rows c).output lease) makes.ok none in
+      subst (NotThere lease) makes.is (made_unheard rows c s lease found makes.changes quiet (u s found))
+]
 
 -- ---- the flow is added
 
@@ -210,38 +185,34 @@ module _ (lease : LeasedSid) (size interval jitter base : ℕ) where
     none = e;
   }
 
+  told_fields : (modem m : ℕ) (l : Lease) → lease_output modem lease.channel l ≡ outputs.Assigned m lease.channel lease.sid lease.first lease.last → (l.sid ≡ lease.sid) × (l.first ≡ lease.first) × (l.last ≡ lease.last)
+  told_fields modem m l e = (cc, cc, cc)
+
   -- a step that tells the lease first
   step_first : (rows : Rows) (modem tag m : ℕ) (kind : FlowKind) → AllWell rows → Unheard rows lease → refusal_of rows (commands.Flow lease.channel modem tag lease.last kind) ≡ None
       → lease_output modem lease.channel (lease_given rows lease.channel modem tag lease.last) ≡ outputs.Assigned m lease.channel lease.sid lease.first lease.last → IsFirst rows modem tag
   step_first rows modem tag m kind w u ok told =
-      let here = there (table_of rows lease.channel) (λ t. table_flow_refusal t modem tag lease.last kind) ok in
-      let t : Table = here.0 in
-      let l : Lease = lease_given rows lease.channel modem tag lease.last in
-      let fields = assigned_fields modem lease.channel l.sid l.first l.last m lease.channel lease.sid lease.first lease.last told in
-      let is : l ≡ lease_for t modem tag lease.last = ap (λ o. lease_on o modem tag lease.last) here.1 in
-      table_first rows t modem tag kind (lease_of t modem tag) here.1 (w lease.channel t here.1) (u t here.1) refl
-      (refusal_there rows lease.channel t (λ v. table_flow_refusal v modem tag lease.last kind) here.1 ok)
-      (ap (λ (x : Lease). x.sid) (sym is) ∙ fields.2) (ap (λ (x : Lease). x.first) (sym is) ∙ fields.3) (ap (λ (x : Lease). x.last) (sym is) ∙ fields.4)
+      let f = flow_step_is rows lease.channel modem tag lease.last kind ok in
+      let t : Table = f.table in
+      let fields = told_fields modem m (lease_for t modem tag lease.last) (ap (lease_output modem lease.channel) (sym f.gives) ∙ told) in
+      table_first rows t modem tag kind (lease_of t modem tag) f.found (w lease.channel t f.found) (u t f.found) refl f.ok fields.0 fields.1 fields.2
 
   -- the flow after it
   first_serves : (rows : Rows) (modem tag : ℕ) → IsFirst rows modem tag → ServesDues lease size interval jitter base (change_table rows lease.channel (λ t. flow_in_table t modem tag lease.last ugs_kind)) 0
-  first_serves rows modem tag f =
-      let t : Table = f.table in
-      let change : Table → Table = λ v. flow_in_table v modem tag lease.last ugs_kind in
-      record {
-        table = change t;
-        found = find_changed rows lease.channel lease.channel change t (λ v. flow_keeps_id (lease_of v modem tag) v modem tag lease.last ugs_kind) f.found ∙ ap (λ b. Some (cond b (change t) t)) (is_found rows lease.channel t f.found);
-        serving = inr (subst (λ (o : Option Lease). Holds lease size interval jitter base (flow_among o t modem tag lease.last ugs_kind) 0) (sym f.none) (holds f));
-      }
+  first_serves rows modem tag f = record {
+    table = flow_in_table f.table modem tag lease.last ugs_kind;
+    found = found_changed rows lease.channel (λ v. flow_in_table v modem tag lease.last ugs_kind) f.table (λ v. flow_keeps_id (lease_of v modem tag) v modem tag lease.last ugs_kind) f.found;
+    holds = inr (subst (λ (o : Option Lease). Holds lease size interval jitter base (flow_among o f.table modem tag lease.last ugs_kind) 0) (sym f.none) (holds f));
+  }
     where
       holds : (f : IsFirst rows modem tag) → Holds lease size interval jitter base (flow_among None f.table modem tag lease.last ugs_kind) 0
       holds f =
           let t : Table = f.table in
           let given : Lease = new_lease t modem tag lease.last (unwrap_or (free_sid t) 0) in
           let off = no_flow t f.well f.new in
-          let no_flows : filter (is_flow lease.sid) t.flows ≡ [] = filter_empty (is_flow lease.sid) t.flows (λ g h. not_its (eqb g.sid lease.sid) refl (λ e. off g h (eqb-true _ _ e))) in
+          let no_flows : filter (is_flow lease.sid) t.flows ≡ [] = filter_empty (is_flow lease.sid) t.flows (λ g h. false_from_ne_true (eqb g.sid lease.sid) (λ e. off g h (eqb-true _ _ e))) in
           let no_requests : filter (is_of lease.sid) t.waiting ≡ [] = filter_empty (is_of lease.sid) t.waiting
-          (λ w h. not_its (eqb w.sid lease.sid) refl (λ e. let r = f.well.requests w h in off r.flow r.there (r.sid ∙ eqb-true _ _ e))) in
+          (λ w h. false_from_ne_true (eqb w.sid lease.sid) (λ e. let r = f.well.requests w h in off r.flow r.there (r.sid ∙ eqb-true _ _ e))) in
           let test : eqb (unwrap_or (free_sid t) 0) lease.sid ≡ true = ap (λ n. eqb n lease.sid) f.sid_is ∙ eqb_same lease.sid in
           record {
             serving = record {
@@ -252,10 +223,6 @@ module _ (lease : LeasedSid) (size interval jitter base : ℕ) where
             found = ap (λ n. find (is_of_sid n) (put_lease given t.leases)) (sym f.sid_is) ∙ put_found given t.leases;
             last_is = refl;
           }
-        where
-          not_its : {b : Bool} (c : Bool) → b ≡ c → (b ≡ true → ⊥) → b ≡ false
-          not_its true e never = absurd (never e)
-          not_its false e never = e
 
   -- the grants before it aren't under the lease
   before_none : (rows : Rows) (modem tag : ℕ) (gs : List Grant) → IsFirst rows modem tag → AllBehind rows gs → filter (is_grant_to lease) gs ≡ []
@@ -287,8 +254,8 @@ module _ (lease : LeasedSid) (size interval jitter base : ℕ) where
   from_rows rows [] k modem tag gs w u all c_is o_is new = absurd cc
   from_rows rows (c ∷ cs) zero modem tag gs w u all c_is o_is new =
       let flow : Command = commands.Flow lease.channel modem tag lease.last ugs_kind in
-      let same : c ≡ flow = command_is c flow c_is in
-      let adds = step_adds rows modem tag modem w u (ap (λ (d : Command). (step rows d).output) (sym same) ∙ output_is _ _ o_is) in
+      let same : c ≡ flow = same_Some c flow c_is in
+      let adds = step_adds rows modem tag modem w u (ap (λ (d : Command). (step rows d).output) (sym same) ∙ same_Some _ _ o_is) in
       let rest = due_from lease size interval jitter base (step rows flow).rows cs 0 adds.1 in
       let front = before_none rows modem tag gs adds.0 all in
       let parts : filter (is_grant_to lease) (gs ++ grants_from rows (c ∷ cs)) ≡ filter (is_grant_to lease) (grants_from (step rows flow).rows cs) =

@@ -6,9 +6,8 @@ use Rattle.std.proofs.lemmas.Bool.{eqb-true, eqb-false, leb-false}
 use Rattle.flow_state.specs.declared.flow.FlowKind.{FlowKind}
 use Rattle.flow_state.specs.declared.flow.Waiting.{Waiting}
 use Rattle.flow_state.specs.declared.flow.Lease.{Lease}
-use Rattle.flow_state.specs.Rows.{Table, FlowRow, is_of, is_of_sid, is_flow, lease_of, free_sid, first_of, put_lease, has_ended}
+use Rattle.flow_state.specs.Rows.{Table, FlowRow, is_of, is_of_sid, is_flow, lease_of, free_sid, first_of, put_lease, has_ended, lease_in}
 use Rattle.flow_state.specs.Refusals.{is_repeated, table_flow_refusal, table_request_refusal}
-use Rattle.flow_state.specs.Sound.{lease_in}
 use Rattle.flow_state.specs.Changes.{new_flow, new_lease, flow_among, drop_in_table, request_in_table}
 use Rattle.grant_machine_parts.specs.declared.placing.Placement.{Placement}
 use Rattle.grant_machine_parts.specs.Cutting.{is_grant_of, still_waiting, fill, fill_refusal, span_of, ack_of, end_of, table_after}
@@ -44,9 +43,8 @@ sent_same : (f g : FlowRow) (sent : ℕ) → g.first ≡ f.first → g.last_sent
 sent_same f g sent first last (inl before) = inl (omega arith)
 sent_same f g sent first last (inr by) = inr (by.0, last ∙ by.1, by.2)
 
-asked_flow : (o : Option Lease) (t : Table) (modem tag last : ℕ) (kind : FlowKind) (sid sent : ℕ) → lease_of t modem tag ≡ o → table_flow_refusal t modem tag last kind ≡ None → WasAsked t sid sent → WasAsked (flow_among o t modem tag last kind) sid sent
-asked_flow (Some a) t modem tag last kind sid sent e ok w = w
-asked_flow None t modem tag last kind sid sent e ok w =
+asked_flow : (t : Table) (modem tag last : ℕ) (kind : FlowKind) (sid sent : ℕ) → lease_of t modem tag ≡ None → table_flow_refusal t modem tag last kind ≡ None → WasAsked t sid sent → WasAsked (flow_among None t modem tag last kind) sid sent
+asked_flow t modem tag last kind sid sent e ok w =
     let n = is_new t modem tag last kind e ok in
     by (eqb (unwrap_or (free_sid t) 0) sid) refl n
   where
@@ -144,7 +142,7 @@ asked_cut t len not_before ack sid sent ok w = record {
 
 pub asked_kept : (sid sent : ℕ) → Kept (λ t. WasAsked t sid sent)
 asked_kept sid sent = record {
-  flow = λ t modem tag last kind ok w. asked_flow (lease_of t modem tag) t modem tag last kind sid sent refl ok w;
+  flow = λ t modem tag last kind none ok w. asked_flow t modem tag last kind sid sent none ok w;
   drop = λ t at w. asked_drop t at sid sent w;
   request = λ t at n next ok w. asked_request t at n next sid sent ok w;
   cut = λ t len not_before ack ok w. asked_cut t len not_before ack sid sent ok w;
@@ -178,10 +176,6 @@ pub record IsGone (t : Table) (sid sent : ℕ) : Type 0 where
   pub past : WasAsked t sid sent
   pub none : (w : Waiting) → Has t.waiting w → w.sid ≡ sid → w.sent ≢ sent
 
-gone_flow : (o : Option Lease) (t : Table) (modem tag last : ℕ) (kind : FlowKind) (sid sent : ℕ) → lease_of t modem tag ≡ o → table_flow_refusal t modem tag last kind ≡ None → IsGone t sid sent → IsGone (flow_among o t modem tag last kind) sid sent
-gone_flow (Some a) t modem tag last kind sid sent e ok g = g
-gone_flow None t modem tag last kind sid sent e ok g = record { past = asked_flow None t modem tag last kind sid sent e ok g.past; none = g.none }
-
 gone_request : (t : Table) (at n next sid sent : ℕ) → table_request_refusal t at n next ≡ None → IsGone t sid sent → IsGone (request_in_table t at n next) sid sent
 gone_request t at n next sid sent ok g =
     let a = is_asked t at n next ok in
@@ -199,7 +193,7 @@ gone_request t at n next sid sent ok g =
 
 pub gone_kept : (sid sent : ℕ) → Kept (λ t. IsGone t sid sent)
 gone_kept sid sent = record {
-  flow = λ t modem tag last kind ok g. gone_flow (lease_of t modem tag) t modem tag last kind sid sent refl ok g;
+  flow = λ t modem tag last kind none ok g. record { past = asked_flow t modem tag last kind sid sent none ok g.past; none = g.none };
   drop = λ t at g. record { past = asked_drop t at sid sent g.past; none = λ w h. g.none w (has_filter (λ v. not (is_of at v)) t.waiting w h).0 };
   request = λ t at n next ok g. gone_request t at n next sid sent ok g;
   cut = λ t len not_before ack ok g. record {

@@ -1,8 +1,8 @@
 -- The rows after a MAP is closed, and the elements of its body.
-use Rattle.std.proofs.Common.{◌≡◌, ℕ, ◌+◌, ◌<◌, ◌≤◌, Bool, true, false, cond, not, ◌&&◌, max, List, [], ◌∷◌, ◌++◌, map, filter, length, Option, Some, None, refl, sym, ap, subst, ◌∙◌, arith, inl, inr, eqb, leb, ltb, ◌^◌}
-use Rattle.std.specs.List.{find, list_any, filter_map, flat_map, range_with_len, AllByRecursion, AllZip}
+use Rattle.std.proofs.Common.{◌≡◌, ℕ, ◌+◌, ◌<◌, ◌≤◌, Bool, true, false, cond, not, ◌&&◌, max, List, [], ◌∷◌, ◌++◌, map, filter, length, Option, Some, None, refl, sym, ap, subst, ◌∙◌, arith, eqb, leb, ltb}
+use Rattle.std.specs.List.{find, list_any, filter_map, range_with_len, AllByRecursion, AllZip}
 use Rattle.std.specs.Option.{option_map_or}
-use Rattle.std.proofs.lemmas.Bool.{eqb-true, le-leb}
+use Rattle.std.proofs.lemmas.Bool.{eqb-true, false_from_ne_true, le-leb}
 use Rattle.minislot_time.specs.Extent.{Extent}
 use Rattle.map_body.specs.declared.element.Element.{Element}
 use Rattle.map_body.specs.Layout.{layout}
@@ -19,7 +19,7 @@ use Rattle.flow_state.specs.Rows.{Rows, Table, FlowRow, is_table, table_of, chan
 use Rattle.flow_state.specs.Changes.{waiting_of, close_table, told_due, TellsDue, finish_table, with_cut_finished}
 use Rattle.grant_machine.specs.declared.cut.Draft.{Draft}
 use Rattle.grant_machine_parts.specs.declared.placing.Placement.{Placement}
-use Rattle.grant_machine_parts.specs.Cutting.{Filled, fill, fill_refusal, span_of, ack_of, end_of, in_order, priority_of, still_waiting, is_grant_of, flows_left, requests_left, table_after, flows_served}
+use Rattle.grant_machine_parts.specs.Cutting.{Filled, fill, fill_refusal, span_of, ack_of, end_of, in_order, still_waiting, is_grant_of, flows_left, requests_left, table_after, flows_served}
 use Rattle.grant_machine_parts.specs.Drawing.{begins_at, null_element, pending_element, elements_of, head_of}
 use Rattle.grant_machine.specs.Runs.{IsReached}
 use Rattle.grant_machine_parts.specs.Lent.{IsLent, IsUnicast}
@@ -29,16 +29,16 @@ use Rattle.grant_machine_parts.specs.declared.waiting.Ranked.{Ranked}
 use Rattle.grant_machine.specs.Plans.{IsFilledBy, elements_in}
 use Rattle.flow_state.proofs.Callers.{some_is}
 use Rattle.flow_state.proofs.Callers.{eqb_same}
-use Rattle.flow_state.proofs.Callers.{filter_append}
+use Rattle.flow_state.proofs.Callers.{filter_alike, filter_swap}
 use Rattle.flow_state.proofs.Callers.{Has, map_has, all_has, has_all, found_has, has_filter}
 use Rattle.flow_state.proofs.Callers.{IsWell, RisingFrom, one_flow}
 use Rattle.flow_state.specs.View.{flow_view}
 use Rattle.grant_machine_parts.proofs.Callers.{Moves, fill_moves, served_from, is_cut}
 use Rattle.grant_machine.proofs.Reached.{reached_is_well}
 use Rattle.grant_machine.proofs.Standing.{Apart, reached_apart}
-use Rattle.flow_state.proofs.Callers.{due_set, told_after}
+use Rattle.flow_state.proofs.Callers.{due_set, told_after, untold}
 use Rattle.grant_machine.proofs.Settling.{Stays, stays_served, unicast}
-use Rattle.grant_machine_parts.proofs.Callers.{cut_few}
+use Rattle.grant_machine_parts.proofs.Callers.{cut_few, passing_in_order}
 
 -- ---- changes of one channel's table
 
@@ -63,71 +63,46 @@ change_at (u ∷ rows) ch t first second a e same =
 
 abbrev set_flows : List Flow → List FlowRow → List FlowRow
 set_flows [] fs = fs
-set_flows (s ∷ ss) fs = set_flows ss (map (due_set s.sid s.due) fs)
+set_flows (s ∷ ss) fs = set_flows ss (map (due_set s.lease.sid s.due) fs)
 
 -- what is told flow by flow is set list by list
-told_none : (fs : List FlowRow) → map (told_due []) fs ≡ fs
-told_none [] = refl
-told_none (f ∷ fs) = ap (λ (gs : List FlowRow). f ∷ gs) (told_none fs)
-
 told_are : (ss : List Flow) (fs : List FlowRow) → map (told_due ss) fs ≡ set_flows ss fs
-told_are [] fs = told_none fs
-told_are (s ∷ ss) fs = told_after s ss fs ∙ told_are ss (map (due_set s.sid s.due) fs)
-
--- a flow of which another due time is next
-abbrev IsMoved : FlowRow → FlowRow → Type 0
-IsMoved f g = (k : ℕ) × (g ≡ record f { index = k })
-
-moved_twice : (fs bs gs : List FlowRow) → AllZip Moves fs bs → AllZip Moves bs gs → AllZip IsMoved fs gs
-moved_twice [] [] [] a b = tt
-moved_twice (f ∷ fs) (c ∷ bs) (g ∷ gs) a b =
-    let second = b.0 in
-    let first = a.0 in
-    ((second.index, second.is ∙ ap (λ (h : FlowRow). record h { index = second.index }) first.is), moved_twice fs bs gs a.1 b.1)
-moved_twice [] [] (g ∷ gs) a b = absurd b
-moved_twice [] (c ∷ bs) gs a b = absurd a
-moved_twice (f ∷ fs) [] gs a b = absurd a
-moved_twice (f ∷ fs) (c ∷ bs) [] a b = absurd b
-
-other_sid : (sid n : ℕ) → sid < n → eqb n sid ≡ false
-other_sid sid n lt = grind arith
+told_are [] fs = untold fs
+told_are (s ∷ ss) fs = told_after s ss fs ∙ told_are ss (map (due_set s.lease.sid s.due) fs)
 
 -- flows of greater SIDs stay
 unset : (sid due low : ℕ) (fs : List FlowRow) → RisingFrom low fs → sid < low → map (due_set sid due) fs ≡ fs
 unset sid due low [] r lt = refl
 unset sid due low (f ∷ fs) r lt =
-    let off : is_flow sid f ≡ false = other_sid sid f.sid (omega (arith, r.0)) in
+    let off : is_flow sid f ≡ false = false_from_ne_true (is_flow sid f) (λ e. let same : f.sid ≡ sid = eqb-true _ _ e in omega (arith, r.0)) in
     ap (λ b. cond b (record f { index = due_index f.kind due }) f ∷ map (due_set sid due) fs) off ∙ ap (λ (gs : List FlowRow). f ∷ gs) (unset sid due (f.sid + 1) fs r.1 (omega (arith, r.0)))
 
 abbrev AreAbove : ℕ → List Flow → Type 0
-AreAbove low ss = AllByRecursion (λ s. low ≤ s.sid) ss
+AreAbove low ss = AllByRecursion (λ s. low ≤ s.lease.sid) ss
 
 above_weaker : (low more : ℕ) (ss : List Flow) → low ≤ more → AreAbove more ss → AreAbove low ss
 above_weaker low more [] le a = tt
 above_weaker low more (s ∷ ss) le a = (omega (arith, a.0), above_weaker low more ss le a.1)
 
-moved_sid : (f : FlowRow) (s : Flow) → IsMoved f (flow_view s) → s.sid ≡ f.sid
-moved_sid f s m = ap (λ (g : FlowRow). g.sid) m.1
+moved_sid : (f : FlowRow) (s : Flow) → Moves f (flow_view s) → s.lease.sid ≡ f.sid
+moved_sid f s m = ap (λ (g : FlowRow). g.sid) m.is
 
 -- the first flow stays, where all others are above it
 head_stays : (g : FlowRow) (ss : List Flow) (fs : List FlowRow) → AreAbove (g.sid + 1) ss → set_flows ss (g ∷ fs) ≡ g ∷ set_flows ss fs
 head_stays g [] fs a = refl
 head_stays g (s ∷ ss) fs a =
-    let off : is_flow s.sid g ≡ false = lower s.sid g.sid (omega (arith, a.0)) in
-    ap (λ b. set_flows ss (cond b (record g { index = due_index g.kind s.due }) g ∷ map (due_set s.sid s.due) fs)) off ∙ head_stays g ss (map (due_set s.sid s.due) fs) a.1
-  where
-    lower : (sid n : ℕ) → n < sid → eqb n sid ≡ false
-    lower sid n lt = grind arith
+    let off : is_flow s.lease.sid g ≡ false = false_from_ne_true (is_flow s.lease.sid g) (λ e. let same : g.sid ≡ s.lease.sid = eqb-true _ _ e in omega (arith, a.0)) in
+    ap (λ b. set_flows ss (cond b (record g { index = due_index g.kind s.due }) g ∷ map (due_set s.lease.sid s.due) fs)) off ∙ head_stays g ss (map (due_set s.lease.sid s.due) fs) a.1
 
-is_set : (f : FlowRow) (s : Flow) → IsMoved f (flow_view s) → due_set s.sid s.due f ≡ flow_view s
+is_set : (f : FlowRow) (s : Flow) → Moves f (flow_view s) → due_set s.lease.sid s.due f ≡ flow_view s
 is_set f s m =
-    let kind : f.kind ≡ s.kind = sym (ap (λ (g : FlowRow). g.kind) m.1) in
-    let index : due_index s.kind s.due ≡ m.0 = ap (λ (g : FlowRow). g.index) m.1 in
+    let kind : f.kind ≡ s.kind = sym (ap (λ (g : FlowRow). g.kind) m.is) in
+    let index : due_index s.kind s.due ≡ m.index = ap (λ (g : FlowRow). g.index) m.is in
     ap (λ n. cond (eqb f.sid n) (record f { index = due_index f.kind s.due }) f) (moved_sid f s m)
     ∙ ap (λ b. cond b (record f { index = due_index f.kind s.due }) f) (eqb_same f.sid)
     ∙ ap (λ (k : FlowKind). record f { index = due_index k s.due }) kind
     ∙ ap (λ i. record f { index = i }) index
-    ∙ sym m.1
+    ∙ sym m.is
 
 -- those that were due of the flows that moved, one by one
 module _ (was : FlowRow → Bool) (keeps : (f : FlowRow) (i : ℕ) → was (record f { index = i }) ≡ was f) where
@@ -137,7 +112,7 @@ module _ (was : FlowRow → Bool) (keeps : (f : FlowRow) (i : ℕ) → was (reco
   first_due : (g : FlowRow) (gs : List FlowRow) → was g ≡ true → filter was (g ∷ gs) ≡ g ∷ filter was gs
   first_due g gs e = ap (λ b. cond b (g ∷ filter was gs) (filter was gs)) e
 
-  above : (low : ℕ) (fs gs : List FlowRow) (ss : List Flow) → RisingFrom low fs → AllZip IsMoved fs gs → filter was gs ≡ map flow_view ss → AreAbove low ss
+  above : (low : ℕ) (fs gs : List FlowRow) (ss : List Flow) → RisingFrom low fs → AllZip Moves fs gs → filter was gs ≡ map flow_view ss → AreAbove low ss
   above low [] [] [] r z e = tt
   above low [] [] (s ∷ ss) r z e = absurd cc
   above low [] (g ∷ gs) ss r z e = absurd z
@@ -151,10 +126,10 @@ module _ (was : FlowRow → Bool) (keeps : (f : FlowRow) (i : ℕ) → was (reco
           let there : g ∷ filter was gs ≡ flow_view u ∷ map flow_view us = sym (first_due g gs k) ∙ h in
           let first : g ≡ flow_view u = cc in
           let others : filter was gs ≡ map flow_view us = cc in
-          let same : u.sid ≡ f.sid = ap (λ (x : FlowRow). x.sid) (sym first) ∙ ap (λ (x : FlowRow). x.sid) z.0.1 in
+          let same : u.lease.sid ≡ f.sid = ap (λ (x : FlowRow). x.sid) (sym first) ∙ ap (λ (x : FlowRow). x.sid) z.0.is in
           (omega (arith, r.0, same), above_weaker low (f.sid + 1) us (omega (arith, r.0)) (rest us others))
 
-  all_set : (low : ℕ) (fs gs : List FlowRow) (ss : List Flow) → RisingFrom low fs → AllZip IsMoved fs gs → AllZip (Stays was) fs gs → filter was gs ≡ map flow_view ss → set_flows ss fs ≡ gs
+  all_set : (low : ℕ) (fs gs : List FlowRow) (ss : List Flow) → RisingFrom low fs → AllZip Moves fs gs → AllZip (Stays was) fs gs → filter was gs ≡ map flow_view ss → set_flows ss fs ≡ gs
   all_set low [] [] [] r z st e = refl
   all_set low [] [] (s ∷ ss) r z st e = absurd cc
   all_set low [] (g ∷ gs) ss r z st e = absurd z
@@ -164,19 +139,19 @@ module _ (was : FlowRow → Bool) (keeps : (f : FlowRow) (i : ℕ) → was (reco
       by : ((us : List Flow) → filter was gs ≡ map flow_view us → set_flows us fs ≡ gs) → (b : Bool) → was g ≡ b → (us : List Flow) → filter was (g ∷ gs) ≡ map flow_view us → set_flows us (f ∷ fs) ≡ g ∷ gs
       by rest false k us h =
           let others : filter was gs ≡ map flow_view us = sym (passed g gs k) ∙ h in
-          let moved : IsMoved f g = z.0 in
-          let same : g ≡ f = st.0 (sym (keeps f moved.0) ∙ ap was (sym moved.1) ∙ k) in
+          let moved : Moves f g = z.0 in
+          let same : g ≡ f = st.0 (sym (keeps f moved.index) ∙ ap was (sym moved.is) ∙ k) in
           head_stays f us fs (above (f.sid + 1) fs gs us r.1 z.1 others) ∙ ap (λ (hs : List FlowRow). f ∷ hs) (rest us others) ∙ ap (λ (x : FlowRow). x ∷ gs) (sym same)
       by rest true k [] h = absurd (let there : g ∷ filter was gs ≡ [] = sym (first_due g gs k) ∙ h in cc)
       by rest true k (u ∷ us) h =
           let there : g ∷ filter was gs ≡ flow_view u ∷ map flow_view us = sym (first_due g gs k) ∙ h in
           let first : g ≡ flow_view u = cc in
           let others : filter was gs ≡ map flow_view us = cc in
-          let moved : IsMoved f (flow_view u) = subst (IsMoved f) first z.0 in
+          let moved : Moves f (flow_view u) = subst (Moves f) first z.0 in
           let same = moved_sid f u moved in
-          ap (λ (x : FlowRow). set_flows us (x ∷ map (due_set u.sid u.due) fs)) (is_set f u moved)
-          ∙ ap (λ (xs : List FlowRow). set_flows us (flow_view u ∷ xs)) (unset u.sid u.due (f.sid + 1) fs r.1 (omega arith))
-          ∙ head_stays (flow_view u) us fs (above_weaker (u.sid + 1) (f.sid + 1) us (omega arith) (above (f.sid + 1) fs gs us r.1 z.1 others))
+          ap (λ (x : FlowRow). set_flows us (x ∷ map (due_set u.lease.sid u.due) fs)) (is_set f u moved)
+          ∙ ap (λ (xs : List FlowRow). set_flows us (flow_view u ∷ xs)) (unset u.lease.sid u.due (f.sid + 1) fs r.1 (omega arith))
+          ∙ head_stays (flow_view u) us fs (above_weaker (u.lease.sid + 1) (f.sid + 1) us (omega arith) (above (f.sid + 1) fs gs us r.1 z.1 others))
           ∙ ap (λ (xs : List FlowRow). flow_view u ∷ xs) (rest us others)
           ∙ ap (λ (x : FlowRow). x ∷ gs) (sym first)
 
@@ -185,35 +160,20 @@ module _ (was : FlowRow → Bool) (keeps : (f : FlowRow) (i : ℕ) → was (reco
 abbrev is_granted : List Placement → Waiting → Bool
 is_granted ps w = list_any (is_grant_of w) ps
 
-filter_twice : (p q : Waiting → Bool) (us : List Waiting) → filter p (filter q us) ≡ filter (λ u. q u && p u) us
-filter_twice p q [] = refl
-filter_twice p q (u ∷ us) = elim (q u) as (λ b. filter p (cond b (u ∷ filter q us) (filter q us)) ≡ cond (b && p u) (u ∷ filter (λ x. q x && p x) us) (filter (λ x. q x && p x) us)) [
-  | true ↦ ap (λ (xs : List Waiting). cond (p u) (u ∷ xs) xs) (filter_twice p q us)
-  | false ↦ filter_twice p q us
-]
-
-filter_same : (p q : Waiting → Bool) (us : List Waiting) → ((u : Waiting) → Has us u → p u ≡ q u) → filter p us ≡ filter q us
-filter_same p q [] same = refl
-filter_same p q (u ∷ us) same =
-    ap (λ b. cond b (u ∷ filter p us) (filter p us)) (same u (inl refl)) ∙ ap (λ (xs : List Waiting). cond (q u) (u ∷ xs) xs) (filter_same p q us (λ x h. same x (inr h)))
-
 -- ---- a MAP that is closed
 
 -- the next MAP's times are early
 pub table_early : (t : Table) → IsReachedTable t → (t.row.next_start ≤ last_time) × (t.row.ack ≤ last_time)
 table_early t r = let well = reached_is_well r.rows r.reached r.channel t r.found in let next = well.next in let ack = well.ack in (omega arith, omega arith)
 
-moved_rows : (t : Table) (span : Extent) → end_of span ≤ last_time → AllZip IsMoved t.flows (flows_served t span)
-moved_rows t span le = let twice = fill_moves t span le in moved_twice t.flows twice.between (flows_served t span) twice.first twice.second
-
 -- a lease ends as soon, whichever due time of its flow is next
-ended_same : (end sid : ℕ) (fs gs : List FlowRow) → AllZip IsMoved fs gs → option_map_or (is_ended end) (find (is_flow sid) gs) false ≡ option_map_or (is_ended end) (find (is_flow sid) fs) false
+ended_same : (end sid : ℕ) (fs gs : List FlowRow) → AllZip Moves fs gs → option_map_or (is_ended end) (find (is_flow sid) gs) false ≡ option_map_or (is_ended end) (find (is_flow sid) fs) false
 ended_same end sid [] [] z = refl
 ended_same end sid [] (g ∷ gs) z = absurd z
 ended_same end sid (f ∷ fs) [] z = absurd z
 ended_same end sid (f ∷ fs) (g ∷ gs) z =
-    ap (λ (x : FlowRow). option_map_or (is_ended end) (cond (is_flow sid x) (Some x) (find (is_flow sid) gs)) false) z.0.1
-    ∙ elim (is_flow sid f) as (λ b. option_map_or (is_ended end) (cond b (Some (record f { index = z.0.0 })) (find (is_flow sid) gs)) false ≡ option_map_or (is_ended end) (cond b (Some f) (find (is_flow sid) fs)) false) [
+    ap (λ (x : FlowRow). option_map_or (is_ended end) (cond (is_flow sid x) (Some x) (find (is_flow sid) gs)) false) z.0.is
+    ∙ elim (is_flow sid f) as (λ b. option_map_or (is_ended end) (cond b (Some (record f { index = z.0.index })) (find (is_flow sid) gs)) false ≡ option_map_or (is_ended end) (cond b (Some f) (find (is_flow sid) fs)) false) [
       | true ↦ refl
       | false ↦ ended_same end sid fs gs z.1
     ]
@@ -237,7 +197,7 @@ module _ (rows : Rows) (ch : ℕ) (t : Table) (len not_before ack : ℕ) (x : Dr
   rows_told : map (told_due x.flows.items) t.flows ≡ flows_served t span
   rows_told =
       told_are x.flows.items t.flows
-      ∙ all_set (was_due t (end_of span)) (λ f i. refl) 1 t.flows (flows_served t span) x.flows.items well.rising (moved_rows t span ended) (stays_served t span well) (sym by.flows)
+      ∙ all_set (was_due t (end_of span)) (λ f i. refl) 1 t.flows (flows_served t span) x.flows.items well.rising (fill_moves t span ended) (stays_served t span well) (sym by.flows)
 
   abbrev waits_on : List Waiting
   waits_on = still_waiting filled.placements t.waiting
@@ -249,8 +209,8 @@ module _ (rows : Rows) (ch : ℕ) (t : Table) (len not_before ack : ℕ) (x : Dr
   closed_is : after_of t (end_of span) filled.ack (flows_served t span) waits_on ≡ table_after t filled
   closed_is =
       ap (λ (ws : List Waiting). record { row = record t.row { next_start = end_of span; ack = filled.ack }; leases = t.leases; flows = flows_left span (flows_served t span); waiting = ws })
-      (filter_same (λ w. not (has_ended (record t { flows = flows_served t span; waiting = waits_on }) (end_of span) w)) (λ w. not (has_ended t (end_of span) w)) waits_on
-      (λ w h. ap not (ended_same (end_of span) w.sid t.flows (flows_served t span) (moved_rows t span ended))))
+      (filter_alike (λ w. not (has_ended (record t { flows = flows_served t span; waiting = waits_on }) (end_of span) w)) (λ w. not (has_ended t (end_of span) w)) waits_on
+      (λ w h. ap not (ended_same (end_of span) w.sid t.flows (flows_served t span) (fill_moves t span ended))))
 
   pub closed_rows : rows_closed rows ch x.flows.items x.filling.placements (end_of x.filling.span) filled.ack ≡ change_table rows ch (λ u. table_after u filled)
   closed_rows =
@@ -266,33 +226,13 @@ module _ (rows : Rows) (ch : ℕ) (t : Table) (len not_before ack : ℕ) (x : Dr
       let kept : Has (due_ones t (end_of span) (flows_served t span)) (flow_view f) = subst (λ (gs : List FlowRow). Has gs (flow_view f)) by.flows (map_has flow_view x.flows.items f h) in
       let there : Has (flows_served t span) (flow_view f) = (has_filter (was_due t (end_of span)) (flows_served t span) (flow_view f) kept).0 in
       let from = served_from t (flows_served t span) (flow_view f) (fill_moves t span ended) there in
-      let has = found_has (is_flow f.sid) t.flows row at in
+      let has = found_has (is_flow f.lease.sid) t.flows row at in
       let sid : row.sid ≡ from.0.sid = eqb-true _ _ has.1 ∙ from.2.sid in
       let same : row ≡ from.0 = one_flow 1 t.flows row from.0 well.rising has.0 from.1 sid in
       let kind : f.kind ≡ row.kind = from.2.kind ∙ ap (λ (g : FlowRow). g.kind) (sym same) in
       subst (λ (k : FlowKind). IsDueTime k f.due) kind (due_index f.kind f.due, (has_all IsLent x.flows.items f by.lent h).due))
 
 -- ---- the elements of its body
-
-filter_turned : (p q : Waiting → Bool) (ws : List Waiting) → filter p (filter q ws) ≡ filter q (filter p ws)
-filter_turned p q ws = filter_twice p q ws ∙ filter_same (λ w. q w && p w) (λ w. p w && q w) ws (λ w h. turned (q w) (p w)) ∙ sym (filter_twice q p ws)
-  where
-    turned : (a b : Bool) → (a && b) ≡ (b && a)
-    turned true true = refl
-    turned true false = refl
-    turned false true = refl
-    turned false false = refl
-
-listed : (p : ℕ → Waiting → Bool) (q : Waiting → Bool) (ws : List Waiting) (ns : List ℕ) → flat_map (λ n. filter (p n) (filter q ws)) ns ≡ filter q (flat_map (λ n. filter (p n) ws) ns)
-listed p q ws [] = refl
-listed p q ws (n ∷ ns) =
-    ap (λ (xs : List Waiting). xs ++ flat_map (λ m. filter (p m) (filter q ws)) ns) (filter_turned (p n) q ws)
-    ∙ ap (λ (xs : List Waiting). filter q (filter (p n) ws) ++ xs) (listed p q ws ns)
-    ∙ sym (filter_append q (filter (p n) ws) (flat_map (λ m. filter (p m) ws) ns))
-
--- requests that pass a test, in order
-passing_in_order : (t : Table) (q : Waiting → Bool) (ws : List Waiting) → filter q (in_order t ws) ≡ in_order t (filter q ws)
-passing_in_order t q ws = sym (listed (λ n w. eqb (priority_of t w) n) q ws (7 ∷ 6 ∷ 5 ∷ 4 ∷ 3 ∷ 2 ∷ 1 ∷ 0 ∷ []))
 
 -- a request goes on where its lease does
 goes_with : (t : Table) (end : ℕ) (w : Waiting) → end ≤ last_time → leb end (last_of t w.sid) ≡ not (has_ended t end w)
@@ -322,7 +262,7 @@ waiting_in_order t span ps rs le is lasts =
     let waits : Waiting → Bool = λ w. not (is_granted ps w) in
     ap (λ (ws : List Waiting). still_waiting ps ws) (going_requests t (end_of span) rs le lasts ∙ ap (λ (ws : List Waiting). filter goes ws) is ∙ passing_in_order t goes t.waiting)
     ∙ passing_in_order t waits (filter goes t.waiting)
-    ∙ ap (in_order t) (filter_turned waits goes t.waiting)
+    ∙ ap (in_order t) (filter_swap waits goes t.waiting)
 
 abbrev drawn : Channel → List Placement → ℕ → List Waiting → List Element
 drawn c ps len rs = filter_map (begins_at ps) (range_with_len 0 len) ++ null_element len ∷ map (pending_element c len) rs

@@ -1,3 +1,4 @@
+pub mod Turns
 pub mod Reached
 pub mod Cuts
 pub mod Asked

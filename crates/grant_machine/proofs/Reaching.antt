@@ -1,6 +1,5 @@
 -- One more command reaches the rows after it.
 use Rattle.std.proofs.Common.{◌≡◌, List, [], ◌∷◌, ◌++◌, refl, sym, ap, subst, ◌∙◌, Result, Ok, Err}
-use Rattle.std.specs.List.{AllByRecursion}
 use Rattle.std.specs.Prelude.{OnOk, OnErr, IsOk}
 use Rattle.std.specs.declared.alloc.AllocError.{AllocError}
 use Rattle.flow_state.specs.Rows.{Rows}
@@ -9,18 +8,15 @@ use Rattle.grant_machine.specs.declared.output.Output.{Output}
 use Rattle.grant_machine.specs.Steps.{step}
 use Rattle.grant_machine.specs.Runs.{rows_from, IsReached}
 use Rattle.grant_machine.specs.Fits.{FitsCommand}
+use Rattle.grant_machine_parts.proofs.Callers.{all_push}
 
 pub rows_push : (rows : Rows) (cs : List Command) (c : Command) → rows_from rows (cs ++ c ∷ []) ≡ (step (rows_from rows cs) c).rows
 rows_push rows [] c = refl
 rows_push rows (d ∷ cs) c = rows_push (step rows d).rows cs c
 
-fits_push : (cs : List Command) (c : Command) → AllByRecursion FitsCommand cs → FitsCommand c → AllByRecursion FitsCommand (cs ++ c ∷ [])
-fits_push [] c all fits = (fits, tt)
-fits_push (d ∷ cs) c all fits = (all.0, fits_push cs c all.1 fits)
-
 pub reached_step : (rows new : Rows) (c : Command) → IsReached rows → FitsCommand c → new ≡ (step rows c).rows → IsReached new
 reached_step rows new c r fits is =
-    (r.0 ++ c ∷ [], fits_push r.0 c r.1 fits, rows_push [] r.0 c ∙ ap (λ (s : Rows). (step s c).rows) r.2 ∙ sym is)
+    (r.0 ++ c ∷ [], all_push FitsCommand r.0 c r.1 fits, rows_push [] r.0 c ∙ ap (λ (s : Rows). (step s c).rows) r.2 ∙ sym is)
 
 -- a call that is one step, or changes nothing
 pub reached_call : (result : Result Output AllocError) (rows new : Rows) (c : Command) → IsReached rows → FitsCommand c → OnOk result (new ≡ (step rows c).rows) → OnErr result (new ≡ rows) → IsReached new

@@ -1,5 +1,6 @@
 -- What modems can rely on in the outputs of any list of commands.
 use Rattle.std.proofs.Common.{◌≡◌, ℕ, zero, suc, ◌+◌, ◌-◌, ◌<◌, ◌≤◌, List, [], ◌∷◌, ◌++◌, map, length, Some, None, refl, sym, ap, subst, ◌∙◌, arith, inl, inr, slice_get}
+use Rattle.std.proofs.lemmas.Option.{same_Some}
 use Rattle.std.specs.List.{AllByRecursion}
 use Rattle.std.proofs.lemmas.Bool.{eqb-true}
 use Rattle.minislot_time.specs.Wire.{wire}
@@ -22,16 +23,16 @@ use Rattle.grant_machine.specs.Fits.{FitsCommand}
 use Rattle.grant_machine.specs.Owner.{IsMapOf}
 use Rattle.grant_machine.specs.Laws.{IsLeasedAt, OutputsGoOn, MapsAreBodies, SharedMapsAreOne, SidsAreUnicast, OwnersAreOne}
 use Rattle.flow_state.proofs.Callers.{contains_at, found_has}
-use Rattle.grant_machine.proofs.Maps.{output_is, maps_are_disjoint}
+use Rattle.grant_machine.proofs.Maps.{maps_are_disjoint}
 use Rattle.flow_state.proofs.Callers.{is_found}
-use Rattle.grant_machine.proofs.Leases.{AllLeadBack, step_keeps, step_gives, leases_are_apart}
+use Rattle.grant_machine.proofs.Leases.{AllLeadBack, back_step, step_gives, leases_are_apart}
 use Rattle.flow_state.proofs.Callers.{IsWell}
 use Rattle.grant_machine_parts.proofs.Callers.{is_cut}
 use Rattle.grant_machine_parts.proofs.Callers.{count, null_at, none_before}
 use Rattle.grant_machine_parts.proofs.Callers.{pending, cut_placed, cut_most, pending_plain, cut_written}
-use Rattle.grant_machine.proofs.Reached.{At, AllWell, none_well, well_step, well_rows, FitsTable, none_fit, fit_rows}
-use Rattle.grant_machine.proofs.Cuts.{cut_of_map}
-use Rattle.grant_machine.proofs.Tellings.{map_parts, drawn_body, cut_cell}
+use Rattle.grant_machine.proofs.Reached.{At, AllWell, none_well, well_step, rows_keep, FitsTable, none_fit, fit_rows}
+use Rattle.grant_machine.proofs.Cuts.{map_parts, cut_of_map}
+use Rattle.grant_machine.proofs.Tellings.{drawn_body, cut_cell}
 
 -- ---- outputs of longer lists
 
@@ -58,7 +59,7 @@ pub record IsStepAt (rows : Rows) (cs : List Command) (o : Output) : Type 0 wher
 
 step_at : (rows : Rows) (cs : List Command) (k : ℕ) (o : Output) → slice_get (outputs_from rows cs) k ≡ Some o → IsStepAt rows cs o
 step_at rows [] k o e = absurd cc
-step_at rows (c ∷ cs) zero o e = record { front = []; command = c; fits = λ all. tt; gives = output_is _ _ e }
+step_at rows (c ∷ cs) zero o e = record { front = []; command = c; fits = λ all. tt; gives = same_Some _ _ e }
 step_at rows (c ∷ cs) (suc k) o e =
     let later = step_at (step rows c).rows cs k o e in
     record { front = c ∷ later.front; command = later.command; fits = λ all. (all.0, later.fits all.1); gives = later.gives }
@@ -79,30 +80,26 @@ pub record IsDrawn (ch start len : ℕ) (bytes : List ℕ) (P : Table → Type 0
 
 drawn_now : (P : Table → Type 0) (rows : Rows) (c : Command) (ch start len : ℕ) (bytes : List ℕ) → AllWell rows → ((at : ℕ) → At P rows at) → (step rows c).output ≡ outputs.Map ch start len bytes → IsDrawn ch start len bytes P
 drawn_now P rows c ch start len bytes w p out =
-    let cut = cut_of_map rows c ch start len bytes out in
+    let m = cut_of_map rows c ch start len bytes out in
+    let cut = m.cut in
     let t : Table = cut.table in
-    let f : Filled = fill t cut.len cut.not_before cut.ack in
-    let parts = map_parts ch f.span.start f.span.len cut.channel start len (bytes_of t f) bytes (sym cut.output_is ∙ out) in
-    let drawn : IsDrawn cut.channel f.span.start cut.len (bytes_of t f) P = record {
+    let drawn : IsDrawn ch start cut.len bytes P = record {
       table = t;
       not_before = cut.not_before;
       ack = cut.ack;
-      well = w cut.channel t cut.found;
-      holds = p cut.channel t cut.found;
+      well = w ch t cut.found;
+      holds = p ch t cut.found;
       ok = cut.ok;
-      channel_is = eqb-true _ _ (is_found rows cut.channel t cut.found);
-      start_is = refl;
-      bytes_is = refl;
+      channel_is = eqb-true _ _ (is_found rows ch t cut.found);
+      start_is = m.start_is;
+      bytes_is = m.bytes_is;
     } in
-    subst (λ (n : ℕ). IsDrawn n start len bytes P) parts.0
-    (subst (λ (n : ℕ). IsDrawn cut.channel n len bytes P) parts.1
-    (subst (λ (n : ℕ). IsDrawn cut.channel f.span.start n bytes P) parts.2
-    (subst (λ (bs : List ℕ). IsDrawn cut.channel f.span.start cut.len bs P) parts.3 drawn)))
+    subst (λ (n : ℕ). IsDrawn ch start n bytes P) m.len_is drawn
 
 drawn_at : (cs : List Command) (k ch start len : ℕ) (bytes : List ℕ) → slice_get (outputs_of cs) k ≡ Some (outputs.Map ch start len bytes) → IsDrawn ch start len bytes (λ t. Unit {0})
 drawn_at cs k ch start len bytes e =
     let s = step_at [] cs k (outputs.Map ch start len bytes) e in
-    drawn_now (λ t. Unit {0}) (rows_from [] s.front) s.command ch start len bytes (well_rows [] s.front none_well) (λ at t found. tt) s.gives
+    drawn_now (λ t. Unit {0}) (rows_from [] s.front) s.command ch start len bytes (rows_keep AllWell well_step [] s.front none_well) (λ at t found. tt) s.gives
 
 body_of_drawn : (ch start len : ℕ) (bytes : List ℕ) → IsDrawn ch start len bytes FitsTable → IsMapOf ch start len bytes
 body_of_drawn ch start len bytes d =
@@ -139,7 +136,7 @@ maps_are_bodies cs ch start len bytes all contains =
     let here = contains_at (outputs_of cs) (outputs.Map ch start len bytes) contains in
     let s = step_at [] cs here.0 (outputs.Map ch start len bytes) here.1 in
     body_of_drawn ch start len bytes
-    (drawn_now FitsTable (rows_from [] s.front) s.command ch start len bytes (well_rows [] s.front none_well) (fit_rows [] s.front (s.fits all) none_fit) s.gives)
+    (drawn_now FitsTable (rows_from [] s.front) s.command ch start len bytes (rows_keep AllWell well_step [] s.front none_well) (fit_rows [] s.front (s.fits all) none_fit) s.gives)
 
 -- two MAPs of a channel that share a minislot are the same
 pub shared_maps_are_one : SharedMapsAreOne
@@ -147,29 +144,25 @@ shared_maps_are_one cs ch m start len start' len' bytes bytes' a b p q =
     let j = contains_at (outputs_of cs) (outputs.Map ch start len bytes) a in
     let k = contains_at (outputs_of cs) (outputs.Map ch start' len' bytes') b in
     let same : j.0 ≡ k.0 = maps_are_disjoint cs j.0 k.0 ch m start len start' len' bytes bytes' j.1 k.1 p q in
-    let parts = map_parts ch start len ch start' len' bytes bytes' (output_is _ _ (sym j.1 ∙ ap (slice_get (outputs_of cs)) same ∙ k.1)) in
+    let parts = map_parts ch start len ch start' len' bytes bytes' (same_Some _ _ (sym j.1 ∙ ap (slice_get (outputs_of cs)) same ∙ k.1)) in
     (parts.1, parts.2, parts.3)
 
 -- ---- SIDs
-
-back_rows : (rows : Rows) (cs : List Command) → AllLeadBack rows → AllLeadBack (rows_from rows cs)
-back_rows rows [] good = good
-back_rows rows (c ∷ cs) good = back_rows (step rows c).rows cs (step_keeps rows c good).back
 
 -- a SID that a step gives leads to its lease, which is of a unicast one
 assigned_unicast : (rows : Rows) (c : Command) (m ch sid since until : ℕ) → AllWell rows → AllLeadBack rows → (step rows c).output ≡ outputs.Assigned m ch sid since until → (1 ≤ sid) × (sid ≤ last_sid)
 assigned_unicast rows c m ch sid since until w good e =
     let l = step_gives rows c m ch sid since until good e in
-    let had = found_has (is_of_sid sid) l.table.leases l.latest.lease l.latest.found in
-    let well = (well_step rows c w ch l.table l.found).leases l.latest.lease had.0 in
-    let same : l.latest.lease.sid ≡ sid = eqb-true _ _ had.1 in
+    let had = found_has (is_of_sid sid) l.table.leases l.holds.lease l.holds.found in
+    let well = (well_step rows c w ch l.table l.found).leases l.holds.lease had.0 in
+    let same : l.holds.lease.sid ≡ sid = eqb-true _ _ had.1 in
     (subst (λ n. 1 ≤ n) same well.unicast, subst (λ n. n ≤ last_sid) same well.last)
 
 pub sids_are_unicast : SidsAreUnicast
 sids_are_unicast cs m ch sid since until contains =
     let here = contains_at (outputs_of cs) (outputs.Assigned m ch sid since until) contains in
     let s = step_at [] cs here.0 (outputs.Assigned m ch sid since until) here.1 in
-    assigned_unicast (rows_from [] s.front) s.command m ch sid since until (well_rows [] s.front none_well) (back_rows [] s.front (λ c t f. absurd cc)) s.gives
+    assigned_unicast (rows_from [] s.front) s.command m ch sid since until (rows_keep AllWell well_step [] s.front none_well) (rows_keep AllLeadBack back_step [] s.front (λ c t f. absurd cc)) s.gives
 
 -- ---- owners
 

@@ -2,46 +2,41 @@
 use Rattle.std.proofs.Common.{◌≡◌, ℕ, ◌+◌, ◌-◌, ◌/◌, ◌≤◌, Bool, true, false, cond, ◌&&◌, ltb, inl, inr, List, [], ◌∷◌, ◌++◌, map, filter, eqb, Option, Some, None, refl, sym, ap, subst, ◌∙◌}
 use Rattle.std.specs.List.{AllByRecursion, AllZip, flat_map}
 use Rattle.std.specs.Option.{option_map, option_map_or}
-use Rattle.std.proofs.lemmas.Bool.{and_parts, eqb-true}
+use Rattle.std.proofs.lemmas.Bool.{and_parts}
+use Rattle.std.proofs.lemmas.List.{map-append}
 use Rattle.minislot_time.specs.Extent.{Extent}
 use Rattle.flow_state.specs.declared.channel.Channel.{Channel}
 use Rattle.flow_state.specs.declared.flow.Flow.{Flow}
 use Rattle.flow_state.specs.declared.flow.FlowKind.{FlowKind}
 use Rattle.flow_state.specs.declared.flow.FlowKind.TheVariants.{BestEffort, Ugs, Poll}
 use Rattle.flow_state.specs.declared.flow.Waiting.{Waiting}
-use Rattle.flow_state.specs.Limits.{last_sid, last_time, is_good_kind, is_timed, due_time, due_index}
-use Rattle.flow_state.specs.Rows.{Rows, Table, FlowRow, table_of, is_due, due_flows, is_flow, lent_flow, last_in, last_of}
+use Rattle.flow_state.specs.Limits.{last_sid, last_time, is_good_kind, due_time, due_index}
+use Rattle.flow_state.specs.Rows.{Table, FlowRow, is_due, due_flows, lent_flow, last_in, last_of}
 use Rattle.grant_machine_parts.specs.declared.services.Service.TheVariants.{Grants, Polls}
 use Rattle.grant_machine_parts.specs.declared.placing.Placement.{Placement}
-use Rattle.grant_machine_parts.specs.Cutting.{kind_priority, flow_priority, priority_of, Passed, Ran, pass, in_order, place_requests, fill_span, fill_polls, grants_of_flow, polls_of_flow, grants_of_kind, polls_of_kind, unsolicited_iuc, poll_iuc, due_at, end_of, run_due_times, run_flow, with_first, flows_served}
+use Rattle.grant_machine_parts.specs.Cutting.{kind_priority, flow_priority, priority_of, Passed, Ran, pass, in_order, place_requests, fill_span, fill_polls, grants_of_flow, polls_of_flow, due_at, end_of, run_due_times, run_flow, with_first, flows_served}
 use Rattle.grant_machine_parts.specs.declared.due_times.Periodic.{Periodic}
-use Rattle.grant_machine.specs.Runs.{IsReached}
 use Rattle.grant_machine_parts.specs.Filling.{PartMap}
 use Rattle.grant_machine_parts.specs.Lent.{IsLent, IsUnicast, given_to}
 use Rattle.grant_machine_parts.specs.Ranks.{of_priority, by_priority, requests_in, IsOfLast}
 use Rattle.grant_machine_parts.specs.declared.waiting.Ranked.{Ranked}
 use Rattle.grant_machine.specs.CutRows.{IsOfTable, IsReachedTable, was_due, due_ones, rank_in}
-use Rattle.flow_state.proofs.Callers.{Has, all_has, has_all, map_has, has_map, has_filter, has_flat_map, found_has, has_found, eqb_same, one_flow}
+use Rattle.flow_state.proofs.Callers.{Has, all_has, has_all, map_has, has_map, has_filter, has_flat_map, flow_found, filter_alike, number_is, some_interval}
 use Rattle.flow_state.proofs.Callers.{IsWell, IsWellFlow}
 use Rattle.flow_state.specs.View.{flow_view}
 use Rattle.grant_machine.proofs.Reached.{reached_is_well}
-use Rattle.grant_machine_parts.proofs.Callers.{in_order_has}
-use Rattle.grant_machine_parts.proofs.Callers.{schedule_pos, round_at}
+use Rattle.grant_machine_parts.proofs.Callers.{Asks, due_is, grants_of, in_order_has, polls_of, timed, zip_twice}
 use Rattle.grant_machine.proofs.Standing.{IsIdle, idle, reached_idle}
 
 -- the number of a due time is its own
 round_kind : (sid : ℕ) (kind : FlowKind) (i : ℕ) → is_good_kind kind ≡ true → idle kind i → due_index kind (due_time kind i) ≡ i
 round_kind sid (BestEffort priority) i good h = sym h
-round_kind sid (Ugs size interval jitter base) i good h = round_at base i interval (schedule_pos interval jitter base (and_parts _ _ good).1)
-round_kind sid (Poll interval jitter base) i good h = round_at base i interval (schedule_pos interval jitter base good)
+round_kind sid (Ugs size interval jitter base) i good h = number_is base interval i (some_interval interval jitter base (and_parts _ _ good).1)
+round_kind sid (Poll interval jitter base) i good h = number_is base interval i (some_interval interval jitter base good)
 
 -- a flow's row is what it was lent from
 pub row_back : (f : FlowRow) → IsWellFlow f → IsIdle f → flow_view (lent_flow f) ≡ f
 row_back f w h = ap (λ i. record f { index = i }) (round_kind f.sid f.kind f.index w.kind h)
-
-pub rows_back : (fs : List FlowRow) → AllByRecursion IsWellFlow fs → AllByRecursion IsIdle fs → map flow_view (map lent_flow fs) ≡ fs
-rows_back [] w h = refl
-rows_back (f ∷ fs) w h = rw (row_back f w.0 h.0, rows_back fs w.1 h.1) refl
 
 lent_one : (f : FlowRow) → IsWellFlow f → IsIdle f → IsLent (lent_flow f)
 lent_one f w h = record {
@@ -51,48 +46,36 @@ lent_one f w h = record {
   early = w.due;
 }
 
-lent_all : (fs : List FlowRow) → AllByRecursion IsWellFlow fs → AllByRecursion IsIdle fs → AllByRecursion IsLent (map lent_flow fs)
-lent_all [] w h = tt
-lent_all (f ∷ fs) w h = (lent_one f w.0 h.0, lent_all fs w.1 h.1)
-
-well_flows : (rows : Rows) (ch : ℕ) (t : Table) → IsReached rows → table_of rows ch ≡ Some t → AllByRecursion IsWellFlow t.flows
-well_flows rows ch t r e = all_has IsWellFlow t.flows (reached_is_well rows r ch t e).flows
-
 -- ---- the flows that are due
-
-filtered : (P : FlowRow → Type 0) (p : FlowRow → Bool) (fs : List FlowRow) → AllByRecursion P fs → AllByRecursion P (filter p fs)
-filtered P p fs all = all_has P (filter p fs) (λ f h. has_all P fs f all (has_filter p fs f h).0)
-
-filter_alike : (p q : FlowRow → Bool) (fs : List FlowRow) → ((f : FlowRow) → Has fs f → p f ≡ q f) → filter p fs ≡ filter q fs
-filter_alike p q [] same = refl
-filter_alike p q (f ∷ fs) same =
-    ap (λ b. cond b (f ∷ filter p fs) (filter p fs)) (same f (inl refl)) ∙ ap (λ (gs : List FlowRow). cond (q f) (f ∷ gs) gs) (filter_alike p q fs (λ g h. same g (inr h)))
 
 -- a flow of the table is the one of its SID
 was_here : (t : Table) (end : ℕ) → IsWell t → (f : FlowRow) → Has t.flows f → was_due t end f ≡ is_due end f
-was_here t end w f h =
-    let found = has_found (is_flow f.sid) t.flows f h (eqb_same f.sid) in
-    let there = found_has (is_flow f.sid) t.flows found.0 found.1 in
-    let same : found.0 ≡ f = one_flow 1 t.flows found.0 f w.rising there.0 h (eqb-true _ _ there.1) in
-    ap (λ (o : Option FlowRow). option_map_or (is_due end) o false) (found.1 ∙ ap (λ (g : FlowRow). Some g) same)
+was_here t end w f h = ap (λ (o : Option FlowRow). option_map_or (is_due end) o false) (flow_found t f w.rising h)
 
 well_of : (t : Table) → IsReachedTable t → IsWell t
 well_of t r = reached_is_well r.rows r.reached r.channel t r.found
 
-wells : (t : Table) → IsReachedTable t → AllByRecursion IsWellFlow t.flows
-wells t r = well_flows r.rows r.channel t r.reached r.found
-
-idles : (t : Table) → IsReachedTable t → AllByRecursion IsIdle t.flows
-idles t r = reached_idle r.rows r.reached r.channel t r.found
+-- a flow that is due is a row that may be lent
+due_row : (t : Table) (end : ℕ) → IsReachedTable t → (f : FlowRow) → Has (due_flows end t.flows) f → IsWellFlow f × IsIdle f
+due_row t end r f h =
+    let there = (has_filter (is_due end) t.flows f h).0 in
+    ((well_of t r).flows f there, has_all IsIdle t.flows f (reached_idle r.rows r.reached r.channel t r.found) there)
 
 -- what is lent of them
 pub due_lent : (t : Table) (end : ℕ) → IsReachedTable t → AllByRecursion IsLent (map lent_flow (due_flows end t.flows))
-due_lent t end r = lent_all (due_flows end t.flows) (filtered IsWellFlow (is_due end) t.flows (wells t r)) (filtered IsIdle (is_due end) t.flows (idles t r))
+due_lent t end r = all_has IsLent (map lent_flow (due_flows end t.flows)) (λ l h.
+    let m = has_map lent_flow (due_flows end t.flows) l h in
+    let row = due_row t end r m.0 m.1 in
+    subst IsLent m.2 (lent_one m.0 row.0 row.1))
 
 pub due_back : (t : Table) (end : ℕ) → IsReachedTable t → map flow_view (map lent_flow (due_flows end t.flows)) ≡ due_ones t end t.flows
 due_back t end r =
-    rows_back (due_flows end t.flows) (filtered IsWellFlow (is_due end) t.flows (wells t r)) (filtered IsIdle (is_due end) t.flows (idles t r))
+    back (due_flows end t.flows) (λ f h. let row = due_row t end r f h in row_back f row.0 row.1)
     ∙ filter_alike (is_due end) (was_due t end) t.flows (λ f h. sym (was_here t end (well_of t r) f h))
+  where
+    back : (fs : List FlowRow) → ((f : FlowRow) → Has fs f → flow_view (lent_flow f) ≡ f) → map flow_view (map lent_flow fs) ≡ fs
+    back [] same = refl
+    back (f ∷ fs) same = rw (same f (inl refl), back fs (λ g h. same g (inr h))) refl
 
 -- the requests by the priority of their flows
 of_number : (t : Table) (n : ℕ) (ws : List Waiting) → requests_in (of_priority (map (rank_in t) ws) n) ≡ filter (λ w. eqb (priority_of t w) n) ws
@@ -103,14 +86,10 @@ of_number t n (w ∷ ws) =
       | false ↦ of_number t n ws
     ]
 
-requests_append : (rs qs : List Ranked) → requests_in (rs ++ qs) ≡ requests_in rs ++ requests_in qs
-requests_append [] qs = refl
-requests_append (r ∷ rs) qs = ap (λ (ws : List Waiting). r.request ∷ ws) (requests_append rs qs)
-
 of_numbers : (t : Table) (ws : List Waiting) (ns : List ℕ) → requests_in (flat_map (of_priority (map (rank_in t) ws)) ns) ≡ flat_map (λ n. filter (λ w. eqb (priority_of t w) n) ws) ns
 of_numbers t ws [] = refl
 of_numbers t ws (n ∷ ns) =
-    requests_append (of_priority (map (rank_in t) ws) n) (flat_map (of_priority (map (rank_in t) ws)) ns)
+    map-append (λ (r : Ranked). r.request) (of_priority (map (rank_in t) ws) n) (flat_map (of_priority (map (rank_in t) ws)) ns)
     ∙ ap (λ (us : List Waiting). us ++ requests_in (flat_map (of_priority (map (rank_in t) ws)) ns)) (of_number t n ws)
     ∙ ap (λ (us : List Waiting). filter (λ w. eqb (priority_of t w) n) ws ++ us) (of_numbers t ws ns)
 
@@ -154,21 +133,15 @@ of_due was p = record { flows = filter was p.flows; placements = p.placements }
 late : (span : Extent) (p : Periodic) (i : ℕ) (ps : List Placement) → ltb (due_at p i) (end_of span) ≡ false → run_flow span (Some p) i ps ≡ record { placements = ps; index = i }
 late span p i ps h = ap (λ b. run_due_times span p (cond b ((end_of span - 1 - due_at p i) / p.interval + 1) 0) i ps) h
 
-unserved_grants : (c : Channel) (span : Extent) (f : FlowRow) (ps : List Placement) → is_due (end_of span) f ≡ false → run_flow span (grants_of_flow c f) f.index ps ≡ record { placements = ps; index = f.index }
-unserved_grants c span f ps e = by f.kind e
+unserved : (c : Channel) (span : Extent) (what : FlowRow → Option Periodic) → Asks c what → (f : FlowRow) (ps : List Placement) → is_due (end_of span) f ≡ false → run_flow span (what f) f.index ps ≡ record { placements = ps; index = f.index }
+unserved c span what asks f ps e = by (what f) refl
   where
-    by : (kind : FlowKind) → (is_timed kind && ltb (due_time kind f.index) (end_of span)) ≡ false → run_flow span (grants_of_kind c f.sid f.last kind) f.index ps ≡ record { placements = ps; index = f.index }
-    by (BestEffort priority) h = refl
-    by (Ugs size interval jitter base) h = late span (record { sid = f.sid; iuc = unsolicited_iuc c size; size = size; interval = interval; jitter = jitter; base = base; last = f.last }) f.index ps h
-    by (Poll interval jitter base) h = refl
-
-unserved_polls : (c : Channel) (span : Extent) (f : FlowRow) (ps : List Placement) → is_due (end_of span) f ≡ false → run_flow span (polls_of_flow c f) f.index ps ≡ record { placements = ps; index = f.index }
-unserved_polls c span f ps e = by f.kind e
-  where
-    by : (kind : FlowKind) → (is_timed kind && ltb (due_time kind f.index) (end_of span)) ≡ false → run_flow span (polls_of_kind c f.sid f.last kind) f.index ps ≡ record { placements = ps; index = f.index }
-    by (BestEffort priority) h = refl
-    by (Ugs size interval jitter base) h = refl
-    by (Poll interval jitter base) h = late span (record { sid = f.sid; iuc = poll_iuc; size = 1; interval = interval; jitter = jitter; base = base; last = f.last }) f.index ps h
+    by : (o : Option Periodic) → what f ≡ o → run_flow span o f.index ps ≡ record { placements = ps; index = f.index }
+    by None h = refl
+    by (Some p) h =
+        let of = asks f p h in
+        let due : ℕ = due_time f.kind f.index in
+        late span p f.index ps (ap (λ d. ltb d (end_of span)) (sym (due_is of f.index)) ∙ ap (λ b. b && ltb due (end_of span)) (sym (timed of)) ∙ e)
 
 module _ (span : Extent) (what : FlowRow → Option Periodic) (was : FlowRow → Bool) (keeps : (f : FlowRow) (i : ℕ) → was (record f { index = i }) ≡ was f)
     (unserved : (f : FlowRow) (ps : List Placement) → is_due (end_of span) f ≡ false → run_flow span (what f) f.index ps ≡ record { placements = ps; index = f.index }) where
@@ -211,23 +184,15 @@ was t span f = was_due t (end_of span) f
 not_due : (t : Table) (span : Extent) → IsWell t → AllByRecursion (NotDue (was t span) (end_of span)) t.flows
 not_due t span w = all_has (NotDue (was t span) (end_of span)) t.flows (λ f h e. sym (was_here t (end_of span) w f h) ∙ e)
 
-stays_twice : (d : FlowRow → Bool) (fs bs gs : List FlowRow) → AllZip (Stays d) fs bs → AllZip (Stays d) bs gs → AllZip (Stays d) fs gs
-stays_twice d [] [] [] a b = tt
-stays_twice d (f ∷ fs) (c ∷ bs) (g ∷ gs) a b = ((λ e. let first = a.0 e in b.0 (ap d first ∙ e) ∙ first), stays_twice d fs bs gs a.1 b.1)
-stays_twice d [] [] (g ∷ gs) a b = absurd b
-stays_twice d [] (c ∷ bs) gs a b = absurd a
-stays_twice d (f ∷ fs) [] gs a b = absurd a
-stays_twice d (f ∷ fs) (c ∷ bs) [] a b = absurd b
-
 -- those that weren't due are served nothing
 pub stays_served : (t : Table) (span : Extent) → IsWell t → AllZip (Stays (was_due t (end_of span))) t.flows (flows_served t span)
 stays_served t span w =
     let c = t.row.channel in
     let first : Passed = pass span (grants_of_flow c) t.flows [] in
-    stays_twice (was t span) t.flows first.flows (flows_served t span)
-    (pass_stays span (grants_of_flow c) (was t span) (λ f i. refl) (unserved_grants c span) t.flows [] (not_due t span w))
-    (pass_stays span (polls_of_flow c) (was t span) (λ f i. refl) (unserved_polls c span) first.flows first.placements
-    (pass_not_due span (grants_of_flow c) (was t span) (λ f i. refl) (unserved_grants c span) t.flows [] (not_due t span w)))
+    zip_twice (Stays (was t span)) (Stays (was t span)) (Stays (was t span)) (λ f g h a b e. let first = a e in b (ap (was t span) first ∙ e) ∙ first) t.flows first.flows (flows_served t span)
+    (pass_stays span (grants_of_flow c) (was t span) (λ f i. refl) (unserved c span (grants_of_flow c) (grants_of c)) t.flows [] (not_due t span w))
+    (pass_stays span (polls_of_flow c) (was t span) (λ f i. refl) (unserved c span (polls_of_flow c) (polls_of c)) first.flows first.placements
+    (pass_not_due span (grants_of_flow c) (was t span) (λ f i. refl) (unserved c span (grants_of_flow c) (grants_of c)) t.flows [] (not_due t span w)))
 
 -- two services and then the requests fill a MAP
 pub served_filled : (t : Table) (span : Extent) (ack : ℕ) → IsWell t → (c : Channel) (f0 f1 f2 : List Flow) (rs : List Waiting) (p1 p2 p3 : List Placement) → t.row.channel ≡ c → map flow_view f0 ≡ due_ones t (end_of span) t.flows
@@ -239,14 +204,14 @@ served_filled t span ack w c f0 f1 f2 rs p1 p2 p3 row start placed1 flows1 place
     let first : Passed = pass span (grants_of_flow t.row.channel) t.flows [] in
     let one : pass span (given_to Grants c) (map flow_view f0) [] ≡ of_due (was t span) first =
     ap (λ d. pass span (grants_of_flow d) (map flow_view f0) []) (sym row) ∙ ap (λ (fs : List FlowRow). pass span (grants_of_flow t.row.channel) fs []) start
-    ∙ pass_due span (grants_of_flow t.row.channel) (was t span) (λ f i. refl) (unserved_grants t.row.channel span) t.flows [] (not_due t span w) in
+    ∙ pass_due span (grants_of_flow t.row.channel) (was t span) (λ f i. refl) (unserved t.row.channel span (grants_of_flow t.row.channel) (grants_of t.row.channel)) t.flows [] (not_due t span w) in
     let p1_is : p1 ≡ first.placements = placed1 ∙ ap (λ (p : Passed). p.placements) one in
     let f1_is : map flow_view f1 ≡ due_ones t (end_of span) first.flows = flows1 ∙ ap (λ (p : Passed). p.flows) one in
     let two : pass span (given_to Polls c) (map flow_view f1) p1 ≡ of_due (was t span) (fill_polls t span first) =
     ap (λ d. pass span (polls_of_flow d) (map flow_view f1) p1) (sym row) ∙ ap (λ (fs : List FlowRow). pass span (polls_of_flow t.row.channel) fs p1) f1_is
     ∙ ap (λ (ps : List Placement). pass span (polls_of_flow t.row.channel) (due_ones t (end_of span) first.flows) ps) p1_is
-    ∙ pass_due span (polls_of_flow t.row.channel) (was t span) (λ f i. refl) (unserved_polls t.row.channel span) first.flows first.placements
-    (pass_not_due span (grants_of_flow t.row.channel) (was t span) (λ f i. refl) (unserved_grants t.row.channel span) t.flows [] (not_due t span w)) in
+    ∙ pass_due span (polls_of_flow t.row.channel) (was t span) (λ f i. refl) (unserved t.row.channel span (polls_of_flow t.row.channel) (polls_of t.row.channel)) first.flows first.placements
+    (pass_not_due span (grants_of_flow t.row.channel) (was t span) (λ f i. refl) (unserved t.row.channel span (grants_of_flow t.row.channel) (grants_of t.row.channel)) t.flows [] (not_due t span w)) in
     let p2_is : p2 ≡ (fill_polls t span first).placements = placed2 ∙ ap (λ (p : Passed). p.placements) two in (
       placed3 ∙ ap (λ d. place_requests span d (last_of t) rs p2) (sym row) ∙ ap (λ (ws : List Waiting). place_requests span t.row.channel (last_of t) ws p2) order
           ∙ ap (λ (ps : List Placement). place_requests span t.row.channel (last_of t) (in_order t t.waiting) ps) p2_is,
@@ -268,8 +233,8 @@ parts_filled t ack c a b d e f0 f1 f2 rs of empty same1 same2 placed1 flows1 pla
     of.requests_are (placed3 (last_of t) of.lasts_are ∙ ap (λ (s : Extent). place_requests s c (last_of t) (requests_in rs) d.placements) (same2 ∙ same1))
 
 -- what a flow that is lent tells of a request of its SID
-pub rank_some : (o : Option FlowRow) (f : Flow) (w : Waiting) → Some f ≡ option_map lent_flow o → ◌≡◌ {A = Ranked} (record { priority = kind_priority f.kind; last = f.last; request = w }) (record { priority = flow_priority o; last = last_in o; request = w })
-rank_some (Some g) f w e = let same : f ≡ lent_flow g = cc in ap {B = Ranked} (λ (x : Flow). record { priority = kind_priority x.kind; last = x.last; request = w }) same
+pub rank_some : (o : Option FlowRow) (f : Flow) (w : Waiting) → Some f ≡ option_map lent_flow o → ◌≡◌ {A = Ranked} (record { priority = kind_priority f.kind; last = f.lease.last; request = w }) (record { priority = flow_priority o; last = last_in o; request = w })
+rank_some (Some g) f w e = let same : f ≡ lent_flow g = cc in ap {B = Ranked} (λ (x : Flow). record { priority = kind_priority x.kind; last = x.lease.last; request = w }) same
 rank_some None f w e = absurd cc
 
 pub rank_none : (o : Option FlowRow) (w : Waiting) → None ≡ option_map lent_flow o → ◌≡◌ {A = Ranked} (record { priority = 0; last = last_time; request = w }) (record { priority = flow_priority o; last = last_in o; request = w })

@@ -1,5 +1,6 @@
 -- Each grant is told by the MAP that placed it, and a SID's minislots are in its grants.
 use Rattle.std.proofs.Common.{◌≡◌, ◌≢◌, ◌⊎◌, ℕ, zero, suc, ◌+◌, ◌-◌, ◌<◌, ◌≤◌, ◌^◌, true, List, [], ◌∷◌, ◌++◌, map, Some, None, refl, sym, ap, subst, ◌∙◌, arith, inl, inr, Option, slice_get}
+use Rattle.std.proofs.lemmas.Option.{same_Some}
 use Rattle.std.specs.List.{AllByRecursion}
 use Rattle.map_body.specs.declared.element.Element.{Element}
 use Rattle.map_body.specs.declared.head.Head.{Head}
@@ -21,20 +22,19 @@ use Rattle.grant_machine_parts.specs.declared.placing.Placement.{Placement}
 use Rattle.grant_machine_parts.specs.Placing.{holds}
 use Rattle.grant_machine_parts.specs.Cutting.{Filled, fill, fill_refusal}
 use Rattle.grant_machine_parts.specs.Drawing.{placed_element, body_of, bytes_of}
-use Rattle.grant_machine.specs.Steps.{step, step_on, refusal_of, accepted, map_output}
+use Rattle.grant_machine.specs.Steps.{step, step_on, accepted, map_output}
 use Rattle.grant_machine.specs.Runs.{outputs_from, grants_from, Grant, grant_of, step_grants}
 use Rattle.grant_machine.specs.Fits.{FitsCommand}
 use Rattle.grant_machine_parts.specs.declared.placing.Cause.{Cause}
 use Rattle.grant_machine_parts.specs.declared.placing.Cause.TheVariants.{Window, Sent}
 use Rattle.grant_machine.specs.Laws.{IsSetAt, IsUseOf, GrantsAreTold, CellsAreGranted}
-use Rattle.flow_state.proofs.Callers.{Has, has_at, place_of, has_left, has_right, has_either, has_map, map_has, is_found}
-use Rattle.grant_machine.proofs.Maps.{output_is}
+use Rattle.flow_state.proofs.Callers.{Has, has_at, place_of, has_left, has_right, has_either, map_has, is_found}
 use Rattle.flow_state.proofs.Callers.{IsWell}
 use Rattle.grant_machine_parts.proofs.Callers.{it_holds, holds_from, holds_below, cell_of_placement, cell_tells}
 use Rattle.grant_machine_parts.proofs.Callers.{pending, cut_placed, cut_most, pending_plain, cut_written}
 use Rattle.grant_machine.proofs.Reached.{At, at_step, OfChannel, channel_kept, AllWell, none_well, well_step, AllFit, none_fit, fit_step}
 use Rattle.grant_machine.proofs.Cuts.{cut_of_grant, cut_of_map}
-use Rattle.grant_machine.proofs.Leases.{AllLeadBack, step_keeps}
+use Rattle.grant_machine.proofs.Leases.{AllLeadBack, back_step}
 use Rattle.grant_machine.proofs.Timely.{IsUseBy, IsServed, IsGranted, grant_at, served_now, served_later, granted_by, flow_of_grant}
 
 -- ---- channels as they were set
@@ -52,14 +52,8 @@ module _ (IsSet : Channel → Type 0) where
   SetBy rows cs = (k : ℕ) (n : Channel) → slice_get cs k ≡ Some (commands.Channel n) → slice_get (outputs_from rows cs) k ≡ Some (outputs.ChannelSet n.id n.ucd) → IsSet n
 
   set_step : (rows : Rows) (c : Command) (cs : List Command) → SetBy rows (c ∷ cs) → AllSet rows → AllSet (step rows c).rows
-  set_step rows c cs new holds ch = by (refusal_of rows c) refl
-    where
-      set_now : (n : Channel) → refusal_of rows c ≡ None → c ≡ commands.Channel n → IsSet n
-      set_now n e is = new 0 n (ap (λ (d : Command). Some d) is) (ap (λ (o : Option Refusal). Some (step_on o rows c).output) e ∙ ap (λ (d : Command). Some (accepted rows d).output) is)
-
-      by : (o : Option Refusal) → refusal_of rows c ≡ o → At IsSetTable (step_on o rows c).rows ch
-      by (Some r) e = holds ch
-      by None e = subst (λ (o : Option Refusal). At IsSetTable (step_on o rows c).rows ch) e (at_step IsSetTable (channel_kept IsSet) rows c ch (λ n is good. set_now n e is) (holds ch))
+  set_step rows c cs new holds ch = at_step IsSetTable (channel_kept IsSet) rows c ch (λ n is ok.
+      new 0 n (ap (λ (d : Command). Some d) is) (ap (λ (o : Option Refusal). Some (step_on o rows c).output) ok ∙ ap (λ (d : Command). Some (accepted rows d).output) is)) (holds ch)
 
   -- ---- each grant is told
 
@@ -123,13 +117,13 @@ module _ (IsSet : Channel → Type 0) where
   told_from rows [] g w good fits set new all h = absurd h
   told_from rows (c ∷ cs) g w good fits set new all h = elim (has_either (step_grants rows c) (grants_from (step rows c).rows cs) g h) [
     | inl now ↦
-        let cut = cut_of_grant rows c g now in
+        let m = cut_of_grant rows c g now in
+        let cut = m.cut in
         let t : Table = cut.table in
-        let m = has_map (grant_of cut.channel (fill t cut.len cut.not_before cut.ack).span.start) (fill t cut.len cut.not_before cut.ack).placements g (subst (λ (gs : List Grant). Has gs g) cut.grants_are now) in
-        let small = fits cut.channel t cut.found in
-        subst (IsToldFrom rows (c ∷ cs)) m.2
-        (told_by rows (c ∷ cs) cut.channel cut.len cut.not_before cut.ack t m.0 (w cut.channel t cut.found) small.id small.ucd cut.ok (set cut.channel t cut.found) (eqb-true _ _ (is_found rows cut.channel t cut.found)) cut.found m.1 (ap (λ (o : Output). Some o) cut.output_is))
-    | inr later ↦ told_later rows c cs g good (told_from (step rows c).rows cs g (well_step rows c w) (step_keeps rows c good).back (fit_step rows c all.0 fits) (set_step rows c cs new set) (λ k n. new (suc k) n) all.1 later)
+        let small = fits g.channel t cut.found in
+        subst (IsToldFrom rows (c ∷ cs)) m.is
+        (told_by rows (c ∷ cs) g.channel cut.len cut.not_before cut.ack t m.placement (w g.channel t cut.found) small.id small.ucd cut.ok (set g.channel t cut.found) (eqb-true _ _ (is_found rows g.channel t cut.found)) cut.found m.there (ap (λ (o : Output). Some o) cut.output_is))
+    | inr later ↦ told_later rows c cs g good (told_from (step rows c).rows cs g (well_step rows c w) (back_step rows c good) (fit_step rows c all.0 fits) (set_step rows c cs new set) (λ k n. new (suc k) n) all.1 later)
   ]
 
 -- the use by what is served, with the flow that is
@@ -172,10 +166,6 @@ pub record IsGivenBy (rows : Rows) (cs : List Command) (ch sid m : ℕ) : Type 0
   pub begun : grant.start ≤ m
   pub not_ended : m < grant.start + grant.size
 
--- the parts of a MAP that is given
-pub map_parts : (ch s l at start len : ℕ) (b bytes : List ℕ) → outputs.Map at s l b ≡ outputs.Map ch start len bytes → (at ≡ ch) × (s ≡ start) × (l ≡ len) × (b ≡ bytes)
-map_parts ch s l at start len b bytes e = (cc, cc, cc, cc)
-
 -- a cell of a MAP lies within it, and if it isn't all modems', in a placement
 pub cut_cell : (t : Table) (len not_before ack x : ℕ) (map : Body) (e : Element) (w : IsWell t) (ok : fill_refusal t.row len not_before ack ≡ None) → map ≡ body_of t (fill t len not_before ack) → IsCell map x e
     → (x < len) × (((p : Placement) × Has (fill t len not_before ack).placements p × (holds x p ≡ true) × (placed_element p ≡ e)) ⊎ (e.sid ≡ everybody))
@@ -188,26 +178,25 @@ cut_cell t len not_before ack x map e w ok same c =
 given_now : (rows : Rows) (c : Command) (cs : List Command) (ch start len m : ℕ) (bytes : List ℕ) (map : Body) (e : Element) → AllWell rows → (step rows c).output ≡ outputs.Map ch start len bytes → IsBody bytes map
     → start ≤ m → IsCell map (m - start) e → e.sid ≢ everybody → IsGivenBy rows (c ∷ cs) ch e.sid m
 given_now rows c cs ch start len m bytes map e w out b from cell not_all =
-    let cut = cut_of_map rows c ch start len bytes out in
+    let m' = cut_of_map rows c ch start len bytes out in
+    let cut = m'.cut in
     let t : Table = cut.table in
     let f : Filled = fill t cut.len cut.not_before cut.ack in
-    let parts = map_parts ch f.span.start f.span.len cut.channel start len (bytes_of t f) bytes (sym cut.output_is ∙ out) in
-    let well = w cut.channel t cut.found in
-    let drawn = drawn_body t cut.len cut.not_before cut.ack bytes map well cut.ok parts.3 b in
-    let whose = cut_cell t cut.len cut.not_before cut.ack (m - start) map e well cut.ok drawn cell in
-    elim whose.1 [
-      | inl p ↦
-          let grants : Has (step_grants rows c) (grant_of cut.channel f.span.start p.0) =
-          subst (λ (gs : List Grant). Has gs (grant_of cut.channel f.span.start p.0)) (sym cut.grants_are) (map_has (grant_of cut.channel f.span.start) f.placements p.0 p.1) in
-          let low = holds_from (m - start) p.0 p.2 in
-          let high = holds_below (m - start) p.0 p.2 in
+    let well = w ch t cut.found in
+    let begins : f.span.start ≡ start = m'.start_is in
+    let drawn = drawn_body t cut.len cut.not_before cut.ack bytes map well cut.ok m'.bytes_is b in
+    elim (cut_cell t cut.len cut.not_before cut.ack (m - start) map e well cut.ok drawn cell).1 [
+      | inl (p, there, held, is) ↦
+          let low = holds_from (m - start) p held in
+          let high = holds_below (m - start) p held in
+          let grants : Has (step_grants rows c) (grant_of ch f.span.start p) = subst (λ (gs : List Grant). Has gs (grant_of ch f.span.start p)) (sym cut.grants_are) (map_has (grant_of ch f.span.start) f.placements p there) in
           record {
-            grant = grant_of cut.channel f.span.start p.0;
+            grant = grant_of ch f.span.start p;
             there = has_left (step_grants rows c) (grants_from (step rows c).rows cs) _ grants;
-            channel = parts.0;
-            sid_is = ap (λ (d : Element). d.sid) p.3;
-            begun = at_least f.span.start start m p.0.offset parts.1 from low;
-            not_ended = below f.span.start start m p.0.offset p.0.size parts.1 from high;
+            channel = refl;
+            sid_is = ap (λ (d : Element). d.sid) is;
+            begun = at_least f.span.start start m p.offset begins from low;
+            not_ended = below f.span.start start m p.offset p.size begins from high;
           }
       | inr all ↦ absurd (not_all all)
     ]
@@ -221,7 +210,7 @@ given_now rows c cs ch start len m bytes map e w out b from cell not_all =
 given_from : (rows : Rows) (cs : List Command) (k ch start len m : ℕ) (bytes : List ℕ) (map : Body) (e : Element) → AllWell rows → slice_get (outputs_from rows cs) k ≡ Some (outputs.Map ch start len bytes) → IsBody bytes map
     → start ≤ m → IsCell map (m - start) e → e.sid ≢ everybody → IsGivenBy rows cs ch e.sid m
 given_from rows [] k ch start len m bytes map e w out b from cell not_all = absurd cc
-given_from rows (c ∷ cs) zero ch start len m bytes map e w out b from cell not_all = given_now rows c cs ch start len m bytes map e w (output_is _ _ out) b from cell not_all
+given_from rows (c ∷ cs) zero ch start len m bytes map e w out b from cell not_all = given_now rows c cs ch start len m bytes map e w (same_Some _ _ out) b from cell not_all
 given_from rows (c ∷ cs) (suc k) ch start len m bytes map e w out b from cell not_all =
     let later = given_from (step rows c).rows cs k ch start len m bytes map e (well_step rows c w) out b from cell not_all in
     record { grant = later.grant; there = has_right (step_grants rows c) (grants_from (step rows c).rows cs) later.grant later.there; channel = later.channel; sid_is = later.sid_is; begun = later.begun; not_ended = later.not_ended }

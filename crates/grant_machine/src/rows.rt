@@ -19,7 +19,7 @@ fn rank(table: &ChannelTable, request: &Waiting) -> Ranked
     match table.flow_of(request.sid) {
         Some(flow) => Ranked {
             priority: kind_priority(flow.kind),
-            last: flow.last,
+            last: flow.lease.last,
             request: *request,
         },
         None => Ranked {

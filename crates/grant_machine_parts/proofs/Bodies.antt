@@ -1,5 +1,6 @@
 -- The body of a filled MAP: its elements are those of a body, and each minislot is its holder's.
 use Rattle.std.proofs.Common.{◌≡◌, ◌≢◌, ◌⊎◌, ℕ, suc, ◌+◌, ◌-◌, ◌<◌, ◌≤◌, ◌^◌, Bool, true, false, cond, ◌&&◌, ◌||◌, List, [], ◌∷◌, ◌++◌, map, length, Option, Some, None, refl, sym, ap, subst, ◌∙◌, arith, inl, inr, eqb, leb, ltb, is_some, slice_get, length-append}
+use Rattle.std.proofs.Math.Bool.{or-true}
 use Rattle.std.specs.List.{list_any, AllByRecursion}
 use Rattle.std.proofs.lemmas.Bool.{eqb-true, eqb-false, leb-true, ltb-true, le-leb, lt-ltb, cases_lt, and_parts}
 use Rattle.std.proofs.lemmas.Option.{same_Some}
@@ -17,10 +18,10 @@ use Rattle.grant_machine_parts.specs.Drawing.{placed_element, free_element, null
 use Rattle.grant_machine_parts.specs.Filling.{IsUseFor}
 use Rattle.map_body.proofs.Callers.{get_behind}
 use Rattle.flow_state.proofs.Callers.{Has, has_at, has_either, has_pushed, has_any, has_found, found_has, unfound, all_has}
-use Rattle.flow_state.proofs.Callers.{eqb_same}
+use Rattle.flow_state.proofs.Callers.{eqb_apart, eqb_same}
 use Rattle.flow_state.proofs.Callers.{IsWell}
 use Rattle.grant_machine_parts.proofs.Fillings.{IsUse, plain_request, IsFor, IsLeased, MayPlace, fill_keeps}
-use Rattle.grant_machine_parts.proofs.Offsets.{InList, begun, StandAt, begun_has, ascending, next_to, in_row, begun_count, at_front, named_twice}
+use Rattle.grant_machine_parts.proofs.Offsets.{InList, begun, StandAt, begun_has, next_to, in_row, begun_count, at_front, named_twice}
 
 -- ---- the placements of a filled MAP
 
@@ -32,7 +33,7 @@ pub record IsPlaced (t : Table) (span : Extent) (q : Placement) : Type 0 where
   pub last : q.sid ≤ last_sid
   pub iuc : IsUse q.iuc
   pub within : q.offset + q.size ≤ span.len
-  pub serves : IsFor t q q.cause
+  pub serves : IsFor t span q q.cause
   pub leased : IsLeased t span q
   pub use_is : IsUseFor t.row.channel.phy q.cause q.iuc
 
@@ -101,10 +102,7 @@ module _ (t : Table) (span : Extent) (ps : List Placement) (a : ArePlaced t span
   pub inside_none : (p : Placement) (z : ℕ) → Has ps p → p.offset < z → z < p.offset + p.size → begins_at ps z ≡ None
   inside_none p z h gt lt =
       ap (beginning z (holder ps (z - 1))) (holder_is z p h (it_holds z p (omega arith) lt))
-      ∙ ap (λ b. cond b (Some (placed_element p)) None) (apart p.offset z gt)
-    where
-      apart : (m n : ℕ) → m < n → eqb m n ≡ false
-      apart m n lt = grind arith
+      ∙ ap (λ b. cond b (Some (placed_element p)) None) (eqb_apart p.offset z gt)
 
   -- some element begins behind a placement
   pub behind_begins : (p : Placement) → Has ps p → begins_at ps (p.offset + p.size) ≢ None
@@ -119,16 +117,12 @@ module _ (t : Table) (span : Extent) (ps : List Placement) (a : ArePlaced t span
       before : holder ps (p.offset + p.size - 1) ≡ Some p
       before = holder_is (p.offset + p.size - 1) p h (it_holds (p.offset + p.size - 1) p (omega (arith, (a.each p h).some)) (omega (arith, (a.each p h).some)))
 
-      or_true : (b : Bool) → (b || true) ≡ true
-      or_true true = refl
-      or_true false = refl
-
       by : (o : Option Placement) → holder ps (p.offset + p.size) ≡ o → ⊥
       by None e =
           let begins : begins_at ps (p.offset + p.size) ≡ Some (free_element (p.offset + p.size)) =
           ap (beginning (p.offset + p.size) (holder ps (p.offset + p.size - 1))) e
           ∙ ap (λ (o : Option Placement). cond (eqb (p.offset + p.size) 0 || is_some o) (Some (free_element (p.offset + p.size))) None) before
-          ∙ ap (λ b. cond b (Some (free_element (p.offset + p.size))) None) (or_true (eqb (p.offset + p.size) 0)) in
+          ∙ ap (λ b. cond b (Some (free_element (p.offset + p.size))) None) (or-true (eqb (p.offset + p.size) 0)) in
           cc
       by (Some q) e =
           let found = found_has (holds (p.offset + p.size)) ps q e in
@@ -258,7 +252,7 @@ module _ (t : Table) (span : Extent) (ps : List Placement) (a : ArePlaced t span
         | inr le ↦
             let next = f.next in
             let below = f.below in
-            let up = ascending (begins_at ps) (stand_at t span ps a) 0 len (null_element len) rest f.place f.before f.here (omega arith) f.before_is (subst (λ k. slice_get es k ≡ Some f.here) f.next f.here_is) (omega arith) in
+            let up = (next_to (begins_at ps) (stand_at t span ps a) 0 len (null_element len) rest f.place f.before f.here (omega arith) f.before_is (subst (λ k. slice_get es k ≡ Some f.here) f.next f.here_is) (omega arith)).rises in
             omega arith
       ]
 
@@ -273,17 +267,13 @@ module _ (t : Table) (span : Extent) (ps : List Placement) (a : ArePlaced t span
       let few = a.few in
       omega arith
     where
-      or_true : (b : Bool) → (b || true) ≡ true
-      or_true true = refl
-      or_true false = refl
-
       named : (x : ℕ) (e : Element) → begins_at ps x ≡ Some e → (eqb 0 x || (list_any (λ p. eqb p.offset x) ps || list_any (λ p. eqb (p.offset + p.size) x) ps)) ≡ true
       named x e is = elim (what_begins t span ps a x e is) [
-        | inl p ↦ ap (λ b. eqb 0 x || (b || list_any (λ p. eqb (p.offset + p.size) x) ps)) (has_any (λ p. eqb p.offset x) ps p.0 p.1 (ap (λ n. eqb n x) p.2 ∙ eqb_same x)) ∙ or_true (eqb 0 x)
+        | inl p ↦ ap (λ b. eqb 0 x || (b || list_any (λ p. eqb (p.offset + p.size) x) ps)) (has_any (λ p. eqb p.offset x) ps p.0 p.1 (ap (λ n. eqb n x) p.2 ∙ eqb_same x)) ∙ or-true (eqb 0 x)
         | inr f ↦ elim f.after [
           | inl zero_is ↦ ap (λ b. b || (list_any (λ p. eqb p.offset x) ps || list_any (λ p. eqb (p.offset + p.size) x) ps)) (ap (λ n. eqb 0 n) zero_is)
           | inr q ↦ ap (λ b. eqb 0 x || (list_any (λ p. eqb p.offset x) ps || b)) (has_any (λ p. eqb (p.offset + p.size) x) ps q.0 q.1 (ap (λ n. eqb n x) q.2 ∙ eqb_same x))
-              ∙ ap (λ b. eqb 0 x || b) (or_true (list_any (λ p. eqb p.offset x) ps)) ∙ or_true (eqb 0 x)
+              ∙ ap (λ b. eqb 0 x || b) (or-true (list_any (λ p. eqb p.offset x) ps)) ∙ or-true (eqb 0 x)
         ]
       ]
 

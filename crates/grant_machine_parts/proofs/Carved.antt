@@ -1,16 +1,17 @@
 -- The gaps between placements: which are left once minislots are held, and the first that is wide enough.
 use Rattle.std.proofs.Common.{◌≡◌, ◌⊎◌, ℕ, zero, suc, ◌+◌, ◌-◌, ◌<◌, ◌≤◌, Bool, true, false, cond, not, ◌&&◌, ◌||◌, min, max, List, [], ◌∷◌, ◌++◌, length, Option, Some, None, is_none, IfSome, ⊎_elim, inl, inr, refl, sym, ap, subst, ◌∙◌, arith, leb, ltb, append_assoc}
 use Rattle.std.specs.List.{find, list_all, list_any, range_with_len, AllByRecursion}
-use Rattle.std.proofs.lemmas.Bool.{cases_lt, ltb-true, ltb-false, leb-true, leb-false, lt-ltb, lt-leb, le-leb, le-ltb, and_parts}
+use Rattle.std.proofs.lemmas.Bool.{cases_lt, ltb-true, ltb-false, leb-true, leb-false, lt-ltb, lt-leb, le-leb, le-ltb, and_parts, and_right, false_from_ne_true}
 use Rattle.minislot_time.specs.Extent.{Extent}
 use Rattle.flow_state.specs.declared.channel.Channel.{Channel}
 use Rattle.flow_state.specs.declared.flow.Waiting.{Waiting}
 use Rattle.grant_machine_parts.specs.Cutting.{end_of, place_requests}
 use Rattle.grant_machine_parts.specs.Placing.{Placement, most_placements, holds, holder, is_free, fits_at, first_fit}
-use Rattle.grant_machine_parts.specs.Filling.{PartMap, has_use, AreApart}
+use Rattle.grant_machine_parts.specs.Filling.{PartMap, AreApart}
 use Rattle.grant_machine_parts.specs.Gaps.{Gap, IsGap, AreGaps, covers, left_of, right_of, carved, gap_in}
 use Rattle.flow_state.proofs.Callers.{Has, all_has, has_all, has_pushed, find_kept}
-use Rattle.grant_machine_parts.proofs.Windows.{first_fit_tells}
+use Rattle.std.proofs.Math.Bool.{and-true}
+use Rattle.grant_machine_parts.proofs.Windows.{FitsAt, fits_tells, first_fit_tells}
 
 -- ---- carving
 
@@ -120,26 +121,18 @@ free_added (q ∷ ps) p x = elim (holds x q) as (λ b. is_none (cond b (Some q) 
 pub gaps_added : (ps : List Placement) (p : Placement) (len from to : ℕ) (gs : List Gap) → from ≡ p.offset → to ≡ p.offset + p.size → AreGaps (is_free ps) 0 len gs → AreGaps (is_free (ps ++ p ∷ [])) 0 len (carved from to gs)
 gaps_added ps p len from to gs at ends are = carved_are (is_free ps) (is_free (ps ++ p ∷ [])) from to len now else 0 gs are
   where
-    and_false : (b : Bool) → (b && false) ≡ false
-    and_false true = refl
-    and_false false = refl
-
-    and_true : (b : Bool) → (b && true) ≡ b
-    and_true true = refl
-    and_true false = refl
-
     held : (x : ℕ) → from ≤ x → x < to → holds x p ≡ true
     held x ge lt = rw (le-leb p.offset x (omega arith), lt-ltb x (p.offset + p.size) (omega arith)) refl
 
     now : (x : ℕ) → from ≤ x → x < to → is_free (ps ++ p ∷ []) x ≡ false
-    now x ge lt = free_added ps p x ∙ ap (λ b. is_free ps x && not b) (held x ge lt) ∙ and_false (is_free ps x)
+    now x ge lt = free_added ps p x ∙ ap (λ b. is_free ps x && not b) (held x ge lt) ∙ and_right (is_free ps x) false refl
 
     beside : (x : ℕ) → (x < from) ⊎ (to ≤ x) → holds x p ≡ false
     beside x (inl before) = ap (λ b. b && ltb x (p.offset + p.size)) (lt-leb p.offset x (omega arith))
-    beside x (inr behind) = ap (λ b. leb p.offset x && b) (le-ltb x (p.offset + p.size) (omega arith)) ∙ and_false (leb p.offset x)
+    beside x (inr behind) = ap (λ b. leb p.offset x && b) (le-ltb x (p.offset + p.size) (omega arith)) ∙ and_right (leb p.offset x) false refl
 
     else : (x : ℕ) → (x < from) ⊎ (to ≤ x) → is_free (ps ++ p ∷ []) x ≡ is_free ps x
-    else x out = free_added ps p x ∙ ap (λ b. is_free ps x && not b) (beside x out) ∙ and_true (is_free ps x)
+    else x out = free_added ps p x ∙ ap (λ b. is_free ps x && not b) (beside x out) ∙ and-true (is_free ps x)
 
 -- minislots that a gap covers are free
 covered_free : (f : ℕ → Bool) (from to a len : ℕ) (gs : List Gap) → list_any (covers from to) gs ≡ true → AreGaps f a len gs → (x : ℕ) → from ≤ x → x < to → f x ≡ true
@@ -201,56 +194,31 @@ all_in f x (suc n) each = rw (each x (omega arith) (omega arith)) (all_in f (x +
 not_all_in : (f : ℕ → Bool) (x n z : ℕ) → x ≤ z → z < x + n → f z ≡ false → list_all f (range_with_len x n) ≡ false
 not_all_in f x zero z le lt off = absurd (omega arith)
 not_all_in f x (suc n) z le lt off = ⊎_elim
-    (λ (more : x < z). ap (λ b. f x && b) (not_all_in f (x + 1) n z (omega arith) (omega arith) off) ∙ and_false (f x))
+    (λ (more : x < z). ap (λ b. f x && b) (not_all_in f (x + 1) n z (omega arith) (omega arith) off) ∙ and_right (f x) false refl)
     (λ (at : z ≤ x). let same : z ≡ x = omega arith in ap (λ b. b && list_all f (range_with_len (x + 1) n)) (ap f (sym same) ∙ off))
     (cases_lt x z)
-  where
-    and_false : (b : Bool) → (b && false) ≡ false
-    and_false true = refl
-    and_false false = refl
 
 module _ (span : Extent) (ps : List Placement) (n lo hi last : ℕ) where
   pub run_fits : (x : ℕ) → lo ≤ span.start + x → span.start + x ≤ hi → span.start + x + n ≤ last + 1 → x + n ≤ span.len → ((z : ℕ) → x ≤ z → z < x + n → is_free ps z ≡ true) → fits_at span ps n lo hi last x ≡ true
   run_fits x not_early not_late in_lease within free = rw (le-leb lo (span.start + x) not_early, le-leb (span.start + x) hi not_late, le-leb (span.start + x + n) (last + 1) in_lease, le-leb (x + n) span.len within) (all_in (is_free ps) x n free)
 
-  four : (a b c d : Bool) → (a && b && c && d && false) ≡ false
-  four true true true true = refl
-  four true true true false = refl
-  four true true false d = refl
-  four true false c d = refl
-  four false b c d = refl
+  unfit : (x : ℕ) → (FitsAt span ps n lo hi last x → ⊥) → fits_at span ps n lo hi last x ≡ false
+  unfit x never = false_from_ne_true (fits_at span ps n lo hi last x) (λ e. never (fits_tells span ps n lo hi last x e))
 
   held_unfit : (x z : ℕ) → x ≤ z → z < x + n → is_free ps z ≡ false → fits_at span ps n lo hi last x ≡ false
-  held_unfit x z from below held =
-      ap (λ b. leb lo (span.start + x) && leb (span.start + x) hi && leb (span.start + x + n) (last + 1) && leb (x + n) span.len && b) (not_all_in (is_free ps) x n z from below held)
-      ∙ four (leb lo (span.start + x)) (leb (span.start + x) hi) (leb (span.start + x + n) (last + 1)) (leb (x + n) span.len)
+  held_unfit x z from below held = unfit x (λ f. let on = f.free in let off = not_all_in (is_free ps) x n z from below held in cc)
 
   early_unfit : (x : ℕ) → span.start + x < lo → fits_at span ps n lo hi last x ≡ false
-  early_unfit x lt = rw (lt-leb lo (span.start + x) lt) refl
+  early_unfit x lt = unfit x (λ f. let from = f.not_early in omega arith)
 
   late_unfit : (x : ℕ) → hi < span.start + x → fits_at span ps n lo hi last x ≡ false
-  late_unfit x lt = ap (λ b. leb lo (span.start + x) && b && leb (span.start + x + n) (last + 1) && leb (x + n) span.len && list_all (is_free ps) (range_with_len x n)) (lt-leb (span.start + x) hi lt) ∙ by (leb lo (span.start + x)) _ _ _
-    where
-      by : (a b c d : Bool) → (a && false && b && c && d) ≡ false
-      by true b c d = refl
-      by false b c d = refl
+  late_unfit x lt = unfit x (λ f. let to = f.not_late in omega arith)
 
   over_unfit : (x : ℕ) → last + 1 < span.start + x + n → fits_at span ps n lo hi last x ≡ false
-  over_unfit x lt = ap (λ b. leb lo (span.start + x) && leb (span.start + x) hi && b && leb (x + n) span.len && list_all (is_free ps) (range_with_len x n)) (lt-leb (span.start + x + n) (last + 1) lt) ∙ by (leb lo (span.start + x)) (leb (span.start + x) hi) _ _
-    where
-      by : (a b c d : Bool) → (a && b && false && c && d) ≡ false
-      by true true c d = refl
-      by true false c d = refl
-      by false b c d = refl
+  over_unfit x lt = unfit x (λ f. let end = f.in_lease in omega arith)
 
   long_unfit : (x : ℕ) → span.len < x + n → fits_at span ps n lo hi last x ≡ false
-  long_unfit x lt = ap (λ b. leb lo (span.start + x) && leb (span.start + x) hi && leb (span.start + x + n) (last + 1) && b && list_all (is_free ps) (range_with_len x n)) (lt-leb (x + n) span.len lt) ∙ by (leb lo (span.start + x)) (leb (span.start + x) hi) (leb (span.start + x + n) (last + 1)) _
-    where
-      by : (a b c d : Bool) → (a && b && c && false && d) ≡ false
-      by true true true d = refl
-      by true true false d = refl
-      by true false c d = refl
-      by false b c d = refl
+  long_unfit x lt = unfit x (λ f. let end = f.within in omega arith)
 
 -- ---- the search
 
@@ -350,9 +318,9 @@ module _ (start len : ℕ) (ps : List Placement) (n lo hi last : ℕ) where
 
 -- ---- a filling
 
-pub all_push : (ps : List Placement) (p : Placement) → AllByRecursion has_use ps → has_use p → AllByRecursion has_use (ps ++ p ∷ [])
-all_push [] p a h = (h, tt)
-all_push (q ∷ ps) p a h = (a.0, all_push ps p a.1 h)
+pub all_push : {X : Type 0} (P : X → Type 0) (xs : List X) (x : X) → AllByRecursion P xs → P x → AllByRecursion P (xs ++ x ∷ [])
+all_push P [] x all new = (new, tt)
+all_push P (y ∷ xs) x all new = (all.0, all_push P xs x all.1 new)
 
 fit_within : (extent : Extent) (ps : List Placement) (n lo hi last : ℕ) (o : Option ℕ) → first_fit extent ps n lo hi last ≡ o → IfSome o (λ x. x + n ≤ extent.len)
 fit_within extent ps n lo hi last (Some x) e = (first_fit_tells extent ps n lo hi last x e).within

@@ -2,12 +2,13 @@
 use Rattle.std.proofs.Common.{◌≡◌, ℕ, zero, suc, ◌-◌, ◌==◌, ◌<◌, ◌≤◌, Bool, true, false, cond, List, [], ◌∷◌, ◌++◌, length, set, drop, Some, slice_get, slice_index, refl, sym, ap, subst, ◌∙◌, arith, inl, inr, eqb, append_assoc}
 use Rattle.std.specs.List.{AllByRecursion}
 use Rattle.std.proofs.Math.ListN.{length-set}
-use Rattle.std.proofs.lemmas.Bool.{eqb-true}
+use Rattle.std.proofs.lemmas.Bool.{eqb-true, false_from_ne_true}
 use Rattle.std.proofs.lemmas.Bool.Decides.{Decides-eqb}
 use Rattle.std.proofs.lemmas.Option.{slice_get_within}
 use Rattle.std.proofs.lemmas.List.{length-append, get_or-set_same, get_or-set_other}
 use Rattle.grant_machine_parts.specs.Ranks.{Ranked, of_priority}
 use Rattle.grant_machine_parts.specs.Chains.{Leads, AreFrom}
+use Rattle.grant_machine_parts.proofs.Splits.{item_at}
 
 -- ---- one place further to the front
 
@@ -28,11 +29,7 @@ leads_on rs i p k r at isnt (inl h) = inl (h.0, other rs i p r at isnt ∙ h.1)
 leads_on rs i p k r at isnt (inr h) = inr (h.0, h.1, h.2, h.3, h.4, other rs i p r at isnt ∙ h.5)
 
 differs : (m n : ℕ) → (m ≡ n → ⊥) → (m == n) ≡ false
-differs m n ne = by (eqb m n) refl
-  where
-    by : (b : Bool) → eqb m n ≡ b → (m == n) ≡ false
-    by true e = absurd (ne (eqb-true m n e))
-    by false e = e
+differs m n ne = false_from_ne_true (eqb m n) (λ e. ne (eqb-true m n e))
 
 one_request : (rs : List Ranked) (i : ℕ) (q r : Ranked) → slice_get rs i ≡ Some q → slice_get rs i ≡ Some r → q ≡ r
 one_request rs i q r a b = cc
@@ -128,12 +125,6 @@ more_to_come rs xs p place k n len (inr h) some =
     let one : length (of_priority (drop place rs) p) ≡ suc (length (of_priority (drop (suc h.0) rs) p)) = ap length h.5 in
     omega (arith, len, sum, one)
 
--- there is a request at each place
-pub request_at : (rs : List Ranked) (i : ℕ) → i < length rs → (r : Ranked) × (slice_get rs i ≡ Some r)
-request_at [] i lt = absurd (omega arith)
-request_at (x ∷ xs) zero lt = (x, refl)
-request_at (x ∷ xs) (suc i) lt = request_at xs i (omega arith)
-
 -- the one that is led to is added
 pub one_on : (firsts nexts : List ℕ) (rs xs ys total : List Ranked) (p place k next : ℕ) → AreFrom firsts nexts rs 0 → p < 8 → Leads rs p place k → 0 < k → xs ++ of_priority (drop place rs) p ≡ total
     → ((r : Ranked) → slice_get rs (k - 1) ≡ Some r → ys ≡ xs ++ r ∷ []) → next ≡ slice_index nexts (k - 1) → (ys ++ of_priority (drop k rs) p ≡ total) × Leads rs p k next
@@ -156,6 +147,6 @@ one_on firsts nexts rs xs ys total p place k next are known (inr h) some sum put
 pub fewer : (rs xs ys : List Ranked) (p place k n : ℕ) → length (xs ++ of_priority (drop place rs) p) ≡ n → Leads rs p place k → 0 < k → ((r : Ranked) → slice_get rs (k - 1) ≡ Some r → ys ≡ xs ++ r ∷ []) → n - length ys < n - length xs
 fewer rs xs ys p place k n len leads some put =
     let more = more_to_come rs xs p place k n len leads some in
-    let r = request_at rs (k - 1) (leads_within rs p place k leads some) in
+    let r = item_at rs (k - 1) (leads_within rs p place k leads some) in
     let added : length ys ≡ length (xs ++ r.0 ∷ []) = ap length (put r.0 r.1) in
     omega (arith, more, added, length-append xs (r.0 ∷ []))

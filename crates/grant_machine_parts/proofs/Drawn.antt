@@ -1,5 +1,6 @@
 -- The elements of a MAP: those of placements where minislots are held, and one for each longest free run.
 use Rattle.std.proofs.Common.{◌≡◌, ◌⊎◌, ℕ, zero, suc, ◌+◌, ◌-◌, ◌<◌, ◌≤◌, ◌^◌, Bool, true, false, cond, ◌||◌, List, [], ◌∷◌, ◌++◌, Option, Some, None, is_none, is_some, length, get_or, drop, inl, inr, refl, sym, ap, subst, ◌∙◌, arith, eqb, leb, ltb, append_assoc}
+use Rattle.std.proofs.Math.Bool.{or-true}
 use Rattle.std.specs.List.{filter_map, range_with_len, AllByRecursion}
 use Rattle.std.proofs.lemmas.Bool.{cases_lt, ltb-true, ltb-false, leb-true, le-leb, lt-ltb, and_parts}
 use Rattle.std.proofs.lemmas.List.{append-nil, drop_more}
@@ -10,7 +11,7 @@ use Rattle.grant_machine_parts.specs.Placing.{Placement, holds, holder, is_free}
 use Rattle.grant_machine_parts.specs.Gaps.{Gap, IsGap, AreGaps}
 use Rattle.grant_machine_parts.specs.Filling.{AreApart}
 use Rattle.grant_machine_parts.specs.Drawing.{placed_element, free_element, beginning, begins_at}
-use Rattle.flow_state.proofs.Callers.{has_all, found_has}
+use Rattle.flow_state.proofs.Callers.{eqb_apart, has_all, found_has}
 
 -- ---- what begins from an offset on and before another
 
@@ -67,10 +68,7 @@ inside_begins ps p x z apart e gt lt =
     let from : p.offset ≤ x = leb-true p.offset x (and_parts (leb p.offset x) (ltb x (p.offset + p.size)) found.1).0 in
     let on : holds z p ≡ true = rw (le-leb p.offset z (omega arith), lt-ltb z (p.offset + p.size) lt) refl in
     let held : holder ps z ≡ Some p = has_all (λ (q : Placement). (y : ℕ) → holds y q ≡ true → holder ps y ≡ Some q) ps p apart found.0 z on in
-    ap (beginning z (holder ps (z - 1))) held ∙ ap (λ b. cond b (Some (placed_element p)) None) (off p.offset z (omega arith))
-  where
-    off : (m n : ℕ) → m < n → eqb m n ≡ false
-    off m n below = grind arith
+    ap (beginning z (holder ps (z - 1))) held ∙ ap (λ b. cond b (Some (placed_element p)) None) (eqb_apart p.offset z (omega arith))
 
 -- a placement that holds x is its holder, where each alone holds its minislots
 pub holder_at : (ps : List Placement) (p : Placement) (k x : ℕ) → AreApart ps → true ≡ ltb k (length ps) → p ≡ get_or ps k p → holds x p ≡ true → Some p ≡ holder ps x
@@ -128,10 +126,6 @@ gap_begins ps len a g is anew = by (ltb g.from g.to) refl
         ∙ ap (λ (o : Option Placement). beginning z o None) (none_at (z - 1) (omega arith) (omega arith))
         ∙ ap (λ b. cond (b || false) (Some (free_element z)) None) (not_zero z (omega arith))
 
-    or_true : (b : Bool) → (b || true) ≡ true
-    or_true true = refl
-    or_true false = refl
-
     held_before : 0 < g.from → g.from < g.to → is_free ps (g.from - 1) ≡ false
     held_before some lt = elim (cases_lt a g.from) [
       | inl below ↦ is.before (g.from - 1) (omega arith) (omega arith)
@@ -150,7 +144,7 @@ gap_begins ps len a g is anew = by (ltb g.from g.to) refl
 
     tests : g.from < g.to → (eqb g.from 0 || is_some (holder ps (g.from - 1))) ≡ true
     tests lt = elim (cases_lt 0 g.from) [
-      | inl some ↦ ap (λ c. eqb g.from 0 || c) (is_held (holder ps (g.from - 1)) (held_before some lt)) ∙ or_true (eqb g.from 0)
+      | inl some ↦ ap (λ c. eqb g.from 0 || c) (is_held (holder ps (g.from - 1)) (held_before some lt)) ∙ or-true (eqb g.from 0)
       | inr none ↦ let zeroth : g.from ≡ 0 = omega arith in ap (λ c. c || is_some (holder ps (g.from - 1))) (ap (λ n. eqb n 0) zeroth)
     ]
 

@@ -12,14 +12,14 @@ use Rattle.flow_state.specs.declared.flow.FlowKind.TheVariants.{BestEffort, Ugs,
 use Rattle.flow_state.specs.declared.flow.Lease.{Lease}
 use Rattle.flow_state.specs.declared.flow.Waiting.{Waiting}
 use Rattle.flow_state.specs.declared.refusal.Refusal.TheVariants.{BadValue}
-use Rattle.flow_state.specs.Limits.{last_time, most_minislots, longest_interval, last_sid, is_good_kind, is_schedule, is_ugs, due_time}
-use Rattle.flow_state.specs.Rows.{Table, FlowRow, is_of, is_of_sid, flow_of, last_in, last_of, is_ended, has_ended}
-use Rattle.flow_state.specs.Sound.{lease_in}
+use Rattle.flow_state.specs.Limits.{last_time, most_minislots, longest_interval, last_sid, is_good_kind, is_schedule, is_timed, is_ugs, due_time}
+use Rattle.flow_state.specs.Rows.{Table, FlowRow, is_of, is_of_sid, flow_of, last_in, last_of, is_ended, has_ended, lease_in}
 use Rattle.grant_machine_parts.specs.Placing.{Cause, Window, Sent, Placement, holder, is_free, fits_at, first_fit, most_placements}
-use Rattle.grant_machine_parts.specs.Cutting.{Periodic, due_at, end_of, Missed, Placed, Kept, verdict, verdict_on, placement_at, Ran, run_due_times, run_flow, due_before, Passed, pass, grants_of_flow, polls_of_flow, grants_of_kind, polls_of_kind, sized_iuc, grant_iuc, unsolicited_on, unsolicited_iuc, priority_of, in_order, placement_for, place_requests, is_grant_of, Filled, fill, fill_span, fill_refusal, span_of, ack_of, table_after, flows_served}
+use Rattle.grant_machine_parts.specs.Cutting.{Periodic, due_at, end_of, Missed, Placed, Kept, verdict, verdict_on, placement_at, Ran, run_due_times, run_flow, due_before, Passed, pass, grants_of_flow, polls_of_flow, grants_of_kind, polls_of_kind, sized_iuc, grant_iuc, unsolicited_on, unsolicited_iuc, poll_iuc, priority_of, in_order, placement_for, place_requests, is_grant_of, Filled, fill, fill_span, fill_refusal, span_of, ack_of, table_after, flows_served}
 use Rattle.grant_machine_parts.specs.Filling.{IsRequestedUse, IsDueUse, IsUseFor}
 use Rattle.flow_state.proofs.Callers.{Has, has_filter, filter_has, has_flat_map}
-use Rattle.grant_machine_parts.proofs.Windows.{first_fit_tells, placed_is}
+use Rattle.grant_machine_parts.proofs.Offsets.{first_or_later}
+use Rattle.grant_machine_parts.proofs.Windows.{first_fit_tells, placed_is, placed_tells}
 use Rattle.flow_state.proofs.Callers.{IsWell, IsWellFlow, RisingFrom, filter_fewer, filter_both, flow_found, ended_with, rising_filter}
 
 -- ---- where a placement may go
@@ -37,13 +37,10 @@ none_is (Some x) e = absurd cc
 
 all_free : (ps : List Placement) (a n y : ℕ) → list_all (is_free ps) (range_with_len a n) ≡ true → a ≤ y → y < a + n → holder ps y ≡ None
 all_free ps a zero y e ge lt = absurd (omega arith)
-all_free ps a (suc n) y e ge lt = elim (first a y ge) [
+all_free ps a (suc n) y e ge lt = elim (first_or_later a y ge) [
   | inl same ↦ none_is (holder ps y) (subst (λ k. is_free ps k ≡ true) same (and_parts _ _ e).0)
   | inr more ↦ all_free ps (a + 1) n y (and_parts _ _ e).1 more (omega arith)
 ]
-  where
-    first : (a x : ℕ) → a ≤ x → (a ≡ x) ⊎ (a + 1 ≤ x)
-    first a x le = grind arith
 
 pub fit_tells : (span : Extent) (ps : List Placement) (n lo hi last x : ℕ) → first_fit span ps n lo hi last ≡ Some x → Fit span ps n last x
 fit_tells span ps n lo hi last x e =
@@ -106,53 +103,63 @@ unsolicited_use c n = by c.phy refl
     by Tdma e = inr (subst (λ (p : Phy). IsRequestedUse p (sized_iuc c.phy (leb n c.short_max))) e (grant_use c n))
     by Advanced e = inr refl
 
--- what a flow's kind asks for is at the flow's due times
-pub record IsOfFlow (phy : Phy) (f : FlowRow) (p : Periodic) : Type 0 where
-  pub well : IsWellPeriodic phy p
+-- what comes by itself for a flow: unsolicited grants, or polls
+pub record IsOfFlow (c : Channel) (f : FlowRow) (p : Periodic) : Type 0 where
   pub sid : p.sid ≡ f.sid
   pub last : p.last ≡ f.last
-  pub due : (i : ℕ) → due_time f.kind i ≡ due_at p i
+  pub is : ((f.kind ≡ Ugs p.size p.interval p.jitter p.base) × (p.iuc ≡ unsolicited_iuc c p.size)) ⊎ ((f.kind ≡ Poll p.interval p.jitter p.base) × (p.size ≡ 1) × (p.iuc ≡ poll_iuc))
+
+-- what a pass asks of flows is theirs
+abbrev pub Asks : Channel → (FlowRow → Option Periodic) → Type 0
+Asks c what = (f : FlowRow) (p : Periodic) → what f ≡ Some p → IsOfFlow c f p
+
+pub grants_of : (c : Channel) → Asks c (grants_of_flow c)
+grants_of c f p e = by f.kind refl e
+  where
+    by : (k : FlowKind) → f.kind ≡ k → grants_of_kind c f.sid f.last k ≡ Some p → IsOfFlow c f p
+    by (BestEffort priority) h g = absurd cc
+    by (Poll interval jitter base) h g = absurd cc
+    by (Ugs size interval jitter base) h g = subst (IsOfFlow c f) (same_Some _ p g) (record { sid = refl; last = refl; is = inl (h, refl) })
+
+pub polls_of : (c : Channel) → Asks c (polls_of_flow c)
+polls_of c f p e = by f.kind refl e
+  where
+    by : (k : FlowKind) → f.kind ≡ k → polls_of_kind c f.sid f.last k ≡ Some p → IsOfFlow c f p
+    by (BestEffort priority) h g = absurd cc
+    by (Ugs size interval jitter base) h g = absurd cc
+    by (Poll interval jitter base) h g = subst (IsOfFlow c f) (same_Some _ p g) (record { sid = refl; last = refl; is = inr (h, refl, refl) })
+
+-- they are at the flow's due times, and within the limits where the flow is
+pub due_is : {c : Channel} {f : FlowRow} {p : Periodic} → IsOfFlow c f p → (i : ℕ) → due_time f.kind i ≡ due_at p i
+due_is of i = elim of.is [ inl grants ↦ ap (λ k. due_time k i) grants.0 | inr polls ↦ ap (λ k. due_time k i) polls.0 ]
+
+pub timed : {c : Channel} {f : FlowRow} {p : Periodic} → IsOfFlow c f p → is_timed f.kind ≡ true
+timed of = elim of.is [ inl grants ↦ ap is_timed grants.0 | inr polls ↦ ap is_timed polls.0 ]
 
 short_interval : (interval jitter base : ℕ) → is_schedule interval jitter base ≡ true → interval ≤ longest_interval
 short_interval interval jitter base e = leb-true _ _ (and_parts _ _ (and_parts _ _ (and_parts _ _ e).0).0).1
 
-pub grants_of : (c : Channel) (f : FlowRow) (p : Periodic) → IsWellFlow f → grants_of_kind c f.sid f.last f.kind ≡ Some p → IsOfFlow c.phy f p
-grants_of c f p w e = by f.kind refl e
-  where
-    by : (k : FlowKind) → f.kind ≡ k → grants_of_kind c f.sid f.last k ≡ Some p → IsOfFlow c.phy f p
-    by (BestEffort priority) h g = absurd cc
-    by (Poll interval jitter base) h g = absurd cc
-    by (Ugs size interval jitter base) h g =
-        let good : is_good_kind (Ugs size interval jitter base) ≡ true = ap is_good_kind (sym h) ∙ w.kind in
-        let size_is = and_parts _ _ (and_parts _ _ good).0 in
-        subst (IsOfFlow c.phy f) (same_Some _ p g) (record {
-          well = record {
-            some = leb-true _ _ size_is.0;
-            most = leb-true _ _ size_is.1;
-            unicast = w.unicast;
-            last = w.last;
-            iuc = unsolicited_use c size;
-            short = short_interval interval jitter base (and_parts _ _ good).1;
-          };
-          sid = refl;
-          last = refl;
-          due = λ i. ap (λ k. due_time k i) h;
-        })
-
-pub polls_of : (c : Channel) (f : FlowRow) (p : Periodic) → IsWellFlow f → polls_of_kind c f.sid f.last f.kind ≡ Some p → IsOfFlow c.phy f p
-polls_of c f p w e = by f.kind refl e
-  where
-    by : (k : FlowKind) → f.kind ≡ k → polls_of_kind c f.sid f.last k ≡ Some p → IsOfFlow c.phy f p
-    by (BestEffort priority) h g = absurd cc
-    by (Ugs size interval jitter base) h g = absurd cc
-    by (Poll interval jitter base) h g =
-        let good : is_good_kind (Poll interval jitter base) ≡ true = ap is_good_kind (sym h) ∙ w.kind in
-        subst (IsOfFlow c.phy f) (same_Some _ p g) (record {
-          well = record { some = omega arith; most = omega arith; unicast = w.unicast; last = w.last; iuc = inl refl; short = short_interval interval jitter base good };
-          sid = refl;
-          last = refl;
-          due = λ i. ap (λ k. due_time k i) h;
-        })
+well_periodic : (c : Channel) (f : FlowRow) (p : Periodic) → IsWellFlow f → IsOfFlow c f p → IsWellPeriodic c.phy p
+well_periodic c f p w of =
+    let unicast : 1 ≤ p.sid = subst (λ n. 1 ≤ n) (sym of.sid) w.unicast in
+    let last : p.sid ≤ last_sid = subst (λ n. n ≤ last_sid) (sym of.sid) w.last in
+    elim of.is [
+      | inl (kind, iuc) ↦
+          let good : is_good_kind (Ugs p.size p.interval p.jitter p.base) ≡ true = ap is_good_kind (sym kind) ∙ w.kind in
+          let parts = and_parts _ _ good in
+          let size = and_parts _ _ parts.0 in
+          record {
+            some = leb-true _ _ size.0;
+            most = leb-true _ _ size.1;
+            unicast = unicast;
+            last = last;
+            iuc = subst (IsDueUse c.phy) (sym iuc) (unsolicited_use c p.size);
+            short = short_interval p.interval p.jitter p.base parts.1;
+          }
+      | inr (kind, one, iuc) ↦
+          let good : is_good_kind (Poll p.interval p.jitter p.base) ≡ true = ap is_good_kind (sym kind) ∙ w.kind in
+          record { some = omega arith; most = omega arith; unicast = unicast; last = last; iuc = inl iuc; short = short_interval p.interval p.jitter p.base good }
+    ]
 
 abbrev IndexUpTo : ℕ → Ran → Type 0
 IndexUpTo n ran = ran.index ≤ n
@@ -188,15 +195,15 @@ due_bound p i end most short le due =
     by : (a b c d e interval base : ℕ) → interval ≤ longest_interval → base + a < end → b ≤ end - 1 - (base + a) → e ≡ a + c → c ≡ b + d → d ≡ interval → base + e ≤ most + longest_interval
     by a b c d e interval base small lt most_q outer inner last = omega arith
 
-run_bound : (phy : Phy) (span : Extent) (o : Option Periodic) (f : FlowRow) (ps : List Placement) → end_of span ≤ last_time → IsWellFlow f → ((p : Periodic) → o ≡ Some p → IsOfFlow phy f p) → due_time f.kind (run_flow span o f.index ps).index ≤ last_time + longest_interval
-run_bound phy span None f ps le w of = w.due
-run_bound phy span (Some p) f ps le w of =
+run_bound : (c : Channel) (span : Extent) (o : Option Periodic) (f : FlowRow) (ps : List Placement) → end_of span ≤ last_time → IsWellFlow f → ((p : Periodic) → o ≡ Some p → IsOfFlow c f p) → due_time f.kind (run_flow span o f.index ps).index ≤ last_time + longest_interval
+run_bound c span None f ps le w of = w.due
+run_bound c span (Some p) f ps le w of =
     let its = of p refl in
     let k : ℕ = due_before p f.index (end_of span) in
-    let now : due_at p f.index ≤ last_time + longest_interval = subst (λ d. d ≤ last_time + longest_interval) (its.due f.index) w.due in
-    let bound = due_bound p f.index (end_of span) last_time its.well.short le now in
+    let now : due_at p f.index ≤ last_time + longest_interval = subst (λ d. d ≤ last_time + longest_interval) (due_is its f.index) w.due in
+    let bound = due_bound p f.index (end_of span) last_time (well_periodic c f p w its).short le now in
     let less = due_later p (run_flow span (Some p) f.index ps).index (f.index + k) (index_within span p k f.index ps) in
-    subst (λ d. d ≤ last_time + longest_interval) (sym (its.due (run_flow span (Some p) f.index ps).index)) (omega arith)
+    subst (λ d. d ≤ last_time + longest_interval) (sym (due_is its (run_flow span (Some p) f.index ps).index)) (omega arith)
 
 -- ---- a pass over flows
 
@@ -206,36 +213,37 @@ pub record Moves (f g : FlowRow) : Type 0 where
   pub is : g ≡ record f { index = index }
   pub well : IsWellFlow f → IsWellFlow g
 
--- what a pass asks of flows is at their due times
-abbrev pub AsksWell : Phy → (FlowRow → Option Periodic) → Type 0
-AsksWell phy what = (f : FlowRow) (p : Periodic) → IsWellFlow f → what f ≡ Some p → IsOfFlow phy f p
+-- what a pass does to each flow
+pub pass_zip : (R : FlowRow → FlowRow → Type 0) (span : Extent) (what : FlowRow → Option Periodic) → ((f : FlowRow) (ps : List Placement) → R f (record f { index = (run_flow span (what f) f.index ps).index }))
+    → (fs : List FlowRow) (ps : List Placement) → AllZip R fs (pass span what fs ps).flows
+pass_zip R span what each [] ps = tt
+pass_zip R span what each (f ∷ fs) ps = (each f ps, pass_zip R span what each fs (run_flow span (what f) f.index ps).placements)
 
-pub grants_ask_well : (c : Channel) → AsksWell c.phy (grants_of_flow c)
-grants_ask_well c f p w e = grants_of c f p w e
+pass_moves : (c : Channel) (span : Extent) (what : FlowRow → Option Periodic) (fs : List FlowRow) (ps : List Placement) → end_of span ≤ last_time → Asks c what → AllZip Moves fs (pass span what fs ps).flows
+pass_moves c span what fs ps le asks = pass_zip Moves span what (λ f qs. record {
+  index = (run_flow span (what f) f.index qs).index;
+  is = refl;
+  well = λ w. record { unicast = w.unicast; last = w.last; kind = w.kind; due = run_bound c span (what f) f qs le w (asks f) };
+}) fs ps
 
-pub polls_ask_well : (c : Channel) → AsksWell c.phy (polls_of_flow c)
-polls_ask_well c f p w e = polls_of c f p w e
-
-pub pass_moves : {phy : Phy} (span : Extent) (what : FlowRow → Option Periodic) (fs : List FlowRow) (ps : List Placement) → end_of span ≤ last_time → AsksWell phy what → AllZip Moves fs (pass span what fs ps).flows
-pass_moves {phy = phy} span what [] ps le asks = tt
-pass_moves {phy = phy} span what (f ∷ fs) ps le asks = (
-  record {
-    index = (run_flow span (what f) f.index ps).index;
-    is = refl;
-    well = λ w. record { unicast = w.unicast; last = w.last; kind = w.kind; due = run_bound phy span (what f) f ps le w (λ p e. asks f p w e) };
-  },
-  pass_moves {phy = phy} span what fs (run_flow span (what f) f.index ps).placements le asks,
-)
+-- two passes, one after the other
+pub zip_twice : {X : Type 0} (P Q R : X → X → Type 0) → ((a b c : X) → P a b → Q b c → R a c) → (xs ys zs : List X) → AllZip P xs ys → AllZip Q ys zs → AllZip R xs zs
+zip_twice P Q R both [] [] [] p q = tt
+zip_twice P Q R both (x ∷ xs) (y ∷ ys) (z ∷ zs) p q = (both x y z p.0 q.0, zip_twice P Q R both xs ys zs p.1 q.1)
+zip_twice P Q R both [] [] (z ∷ zs) p q = absurd q
+zip_twice P Q R both [] (y ∷ ys) zs p q = absurd p
+zip_twice P Q R both (x ∷ xs) [] zs p q = absurd p
+zip_twice P Q R both (x ∷ xs) (y ∷ ys) [] p q = absurd q
 
 -- the flow that a moved one was, and the one that it becomes
-pub moved_from : (fs gs : List FlowRow) (g : FlowRow) → AllZip Moves fs gs → Has gs g → (f : FlowRow) × Has fs f × Moves f g
+moved_from : (fs gs : List FlowRow) (g : FlowRow) → AllZip Moves fs gs → Has gs g → (f : FlowRow) × Has fs f × Moves f g
 moved_from [] [] g z h = absurd h
 moved_from [] (y ∷ gs) g z h = absurd z
 moved_from (x ∷ fs) [] g z h = absurd z
 moved_from (x ∷ fs) (y ∷ gs) g z (inl e) = (x, inl refl, subst (Moves x) e z.0)
 moved_from (x ∷ fs) (y ∷ gs) g z (inr h) = let m = moved_from fs gs g z.1 h in (m.0, inr m.1, m.2)
 
-pub moved_to : (fs gs : List FlowRow) (f : FlowRow) → AllZip Moves fs gs → Has fs f → (g : FlowRow) × Has gs g × Moves f g
+moved_to : (fs gs : List FlowRow) (f : FlowRow) → AllZip Moves fs gs → Has fs f → (g : FlowRow) × Has gs g × Moves f g
 moved_to [] [] f z h = absurd h
 moved_to [] (y ∷ gs) f z h = absurd z
 moved_to (x ∷ fs) [] f z h = absurd z
@@ -250,30 +258,27 @@ rising_moved low (x ∷ fs) (y ∷ gs) z r =
     let same : y.sid ≡ x.sid = ap (λ (v : FlowRow). v.sid) z.0.is in
     (omega (arith, r.0), subst (λ n. RisingFrom (n + 1) gs) (sym same) (rising_moved (x.sid + 1) fs gs z.1 r.1))
 
-pub moved_well : (fs gs : List FlowRow) → AllZip Moves fs gs → ((f : FlowRow) → Has fs f → IsWellFlow f) → (g : FlowRow) → Has gs g → IsWellFlow g
-moved_well fs gs z each g h = let m = moved_from fs gs g z h in m.2.well (each m.0 m.1)
-
 -- ---- what holds of the placements, kept by each one that is added
 
 module _ (K : List Placement → Type 0) where
   abbrev KeptIn : Ran → Type 0
   KeptIn ran = K ran.placements
 
-  run_keeps : (span : Extent) (p : Periodic) → ((ps : List Placement) (i x : ℕ) → K ps → Fit span ps p.size p.last x → K (ps ++ placement_at p i x ∷ [])) → (k i : ℕ) (ps : List Placement) → K ps → K (run_due_times span p k i ps).placements
+  run_keeps : (span : Extent) (p : Periodic) → ((ps : List Placement) (i x : ℕ) → K ps → verdict span ps p i ≡ Placed x → K (ps ++ placement_at p i x ∷ [])) → (k i : ℕ) (ps : List Placement) → K ps → K (run_due_times span p k i ps).placements
   run_keeps span p more zero i ps h = h
   run_keeps span p more (suc k) i ps h =
       elim (verdict span ps p i) as (λ v. verdict span ps p i ≡ v → KeptIn (elim v [ Missed ↦ run_due_times span p k (i + 1) ps | Placed x ↦ run_due_times span p k (i + 1) (ps ++ placement_at p i x ∷ []) | Kept ↦ record { placements = ps; index = i } ])) [
         | Missed ↦ λ e. run_keeps span p more k (i + 1) ps h
-        | Placed x ↦ λ e. run_keeps span p more k (i + 1) (ps ++ placement_at p i x ∷ []) (more ps i x h (placed_fit span ps p i x e))
+        | Placed x ↦ λ e. run_keeps span p more k (i + 1) (ps ++ placement_at p i x ∷ []) (more ps i x h e)
         | Kept ↦ λ e. h
       ] refl
 
-  flow_keeps : (span : Extent) (o : Option Periodic) (i : ℕ) → ((p : Periodic) → o ≡ Some p → (ps : List Placement) (j x : ℕ) → K ps → Fit span ps p.size p.last x → K (ps ++ placement_at p j x ∷ [])) → (ps : List Placement) → K ps → K (run_flow span o i ps).placements
+  flow_keeps : (span : Extent) (o : Option Periodic) (i : ℕ) → ((p : Periodic) → o ≡ Some p → (ps : List Placement) (j x : ℕ) → K ps → verdict span ps p j ≡ Placed x → K (ps ++ placement_at p j x ∷ [])) → (ps : List Placement) → K ps → K (run_flow span o i ps).placements
   flow_keeps span None i more ps h = h
   flow_keeps span (Some p) i more ps h = run_keeps span p (more p refl) (due_before p i (end_of span)) i ps h
 
   pub pass_keeps : (span : Extent) (what : FlowRow → Option Periodic) (fs : List FlowRow)
-      → ((f : FlowRow) → Has fs f → (p : Periodic) → what f ≡ Some p → (ps : List Placement) (j x : ℕ) → K ps → Fit span ps p.size p.last x → K (ps ++ placement_at p j x ∷ []))
+      → ((f : FlowRow) → Has fs f → (p : Periodic) → what f ≡ Some p → (ps : List Placement) (j x : ℕ) → K ps → verdict span ps p j ≡ Placed x → K (ps ++ placement_at p j x ∷ []))
       → (ps : List Placement) → K ps → K (pass span what fs ps).placements
   pass_keeps span what [] more ps h = h
   pass_keeps span what (f ∷ fs) more ps h =
@@ -295,10 +300,22 @@ in_order_has t ws w h =
     let m = has_flat_map (λ priority. filter (λ v. eqb (priority_of t v) priority) ws) (7 ∷ 6 ∷ 5 ∷ 4 ∷ 3 ∷ 2 ∷ 1 ∷ 0 ∷ []) w h in
     (has_filter (λ v. eqb (priority_of t v) m.0) ws w m.2).0
 
--- the request that a placement serves, if it serves one
-abbrev pub IsFor : Table → Placement → Cause → Type 0
-IsFor t q (Window i) = Unit {0}
-IsFor t q (Sent s) = (w : Waiting) × Has t.waiting w × (w.sid ≡ q.sid) × (w.n ≡ q.size) × (w.sent ≡ s)
+-- the placement is at due time number i of a flow of its SID, from the due time to jitter after it
+pub record IsDueOf (t : Table) (span : Extent) (q : Placement) (i : ℕ) : Type 0 where
+  pub flow : FlowRow
+  pub there : Has t.flows flow
+  pub sid : flow.sid ≡ q.sid
+  pub periodic : Periodic
+  pub of : IsOfFlow t.row.channel flow periodic
+  pub size : q.size ≡ periodic.size
+  pub iuc : q.iuc ≡ periodic.iuc
+  pub not_early : due_at periodic i ≤ span.start + q.offset
+  pub not_late : span.start + q.offset ≤ due_at periodic i + periodic.jitter
+
+-- what a placement serves: a due time, or a request whole, by the use of its size
+abbrev pub IsFor : Table → Extent → Placement → Cause → Type 0
+IsFor t span q (Window i) = IsDueOf t span q i
+IsFor t span q (Sent s) = (w : Waiting) × Has t.waiting w × (w.sid ≡ q.sid) × (w.n ≡ q.size) × (w.sent ≡ s) × (q.iuc ≡ grant_iuc t.row.channel q.size)
 
 -- the placement ends within the lease of its SID's flow
 abbrev pub IsLeased : Table → Extent → Placement → Type 0
@@ -313,12 +330,28 @@ pub record MayPlace (t : Table) (span : Extent) (ps : List Placement) (q : Place
   pub unicast : 1 ≤ q.sid
   pub last : q.sid ≤ last_sid
   pub iuc : IsUse q.iuc
-  pub serves : IsFor t q q.cause
+  pub serves : IsFor t span q q.cause
   pub leased : IsLeased t span q
   pub use_is : IsUseFor t.row.channel.phy q.cause q.iuc
 
-may_place_due : (t : Table) (span : Extent) (ps : List Placement) (p : Periodic) (i x : ℕ) → IsWellPeriodic t.row.channel.phy p → (f : FlowRow) → Has t.flows f → f.sid ≡ p.sid → f.last ≡ p.last → Fit span ps p.size p.last x → MayPlace t span ps (placement_at p i x)
-may_place_due t span ps p i x w f h same ends fit = record { lease_end = p.last; fit = fit; some = w.some; most = w.most; unicast = w.unicast; last = w.last; iuc = plain_due _ p.iuc w.iuc; serves = tt; leased = (f, h, same, let in_lease = fit.in_lease in omega arith); use_is = w.iuc }
+may_place_due : (t : Table) (span : Extent) (ps : List Placement) (p : Periodic) (i x : ℕ) (f : FlowRow) → IsWellFlow f → Has t.flows f → IsOfFlow t.row.channel f p → verdict span ps p i ≡ Placed x → MayPlace t span ps (placement_at p i x)
+may_place_due t span ps p i x f w h of e =
+    let well = well_periodic t.row.channel f p w of in
+    let fit = placed_fit span ps p i x e in
+    let tells = placed_tells span ps p i x e in
+    let early = tells.not_early in
+    record {
+      lease_end = p.last;
+      fit = fit;
+      some = well.some;
+      most = well.most;
+      unicast = well.unicast;
+      last = well.last;
+      iuc = plain_due _ p.iuc well.iuc;
+      serves = record { flow = f; there = h; sid = sym of.sid; periodic = p; of = of; size = refl; iuc = refl; not_early = omega arith; not_late = tells.not_late };
+      leased = (f, h, sym of.sid, let in_lease = fit.in_lease in let last = of.last in omega arith);
+      use_is = well.iuc;
+    }
 
 may_place_request : (t : Table) (span : Extent) (ps : List Placement) (w : Waiting) (x : ℕ) → IsWell t → Has t.waiting w → Fit span ps w.n (last_of t w.sid) x → MayPlace t span ps (placement_for t.row.channel w x)
 may_place_request t span ps w x well h fit =
@@ -334,7 +367,7 @@ may_place_request t span ps w x well h fit =
       unicast = subst (λ n. 1 ≤ n) r.sid f.unicast;
       last = subst (λ n. n ≤ last_sid) r.sid f.last;
       iuc = plain_requested _ _ (grant_use t.row.channel w.n);
-      serves = (w, h, refl, refl, refl);
+      serves = (w, h, refl, refl, refl, refl);
       leased = (r.flow, r.there, r.sid, let in_lease = fit.in_lease in omega arith);
       use_is = grant_use t.row.channel w.n;
     }
@@ -346,16 +379,14 @@ fill_keeps K t span ack w le none more =
     let c : Channel = t.row.channel in
     let first : Passed = pass span (grants_of_flow c) t.flows [] in
     let second : Passed = pass span (polls_of_flow c) first.flows first.placements in
-    let moves = pass_moves span (grants_of_flow c) t.flows [] le (grants_ask_well c) in
+    let moves = pass_moves c span (grants_of_flow c) t.flows [] le (grants_of c) in
     let granted : K first.placements = pass_keeps K span (grants_of_flow c) t.flows
-    (λ f h p e ps i x k fit.
-    let of = grants_ask_well c f p (w.flows f h) e in
-    more ps (placement_at p i x) k (may_place_due t span ps p i x of.well f h (sym of.sid) (sym of.last) fit)) [] none in
+    (λ f h p e ps i x k v. more ps (placement_at p i x) k (may_place_due t span ps p i x f (w.flows f h) h (grants_of c f p e) v)) [] none in
     let polled : K second.placements = pass_keeps K span (polls_of_flow c) first.flows
-    (λ g h p e ps i x k fit.
+    (λ g h p e ps i x k v.
     let m = moved_from t.flows first.flows g moves h in
-    let of = polls_ask_well c g p (m.2.well (w.flows m.0 m.1)) e in
-    more ps (placement_at p i x) k (may_place_due t span ps p i x of.well m.0 m.1 (ap (λ (f : FlowRow). f.sid) (sym m.2.is) ∙ sym of.sid) (ap (λ (f : FlowRow). f.last) (sym m.2.is) ∙ sym of.last) fit)) first.placements granted in
+    let of = subst (λ (f : FlowRow). IsOfFlow c f p) m.2.is (polls_of c g p e) in
+    more ps (placement_at p i x) k (may_place_due t span ps p i x m.0 (w.flows m.0 m.1) m.1 (record { sid = of.sid; last = of.last; is = of.is }) v)) first.placements granted in
     requests_keep K span c (last_of t) (in_order t t.waiting) (λ r h ps x k fit. more ps (placement_for c r x) k (may_place_request t span ps r x w (in_order_has t t.waiting r h) fit)) second.placements polled
 
 -- ---- the table after a MAP
@@ -379,21 +410,15 @@ is_cut t len not_before ack e =
     test true f = refl
     test false f = absurd cc
 
--- flows after both passes
-pub record MovesTwice (t : Table) (flows : List FlowRow) : Type 0 where
-  pub between : List FlowRow
-  pub first : AllZip Moves t.flows between
-  pub second : AllZip Moves between flows
-
-pub fill_moves : (t : Table) (span : Extent) → end_of span ≤ last_time → MovesTwice t (flows_served t span)
+pub fill_moves : (t : Table) (span : Extent) → end_of span ≤ last_time → AllZip Moves t.flows (flows_served t span)
 fill_moves t span le =
     let c : Channel = t.row.channel in
     let first : Passed = pass span (grants_of_flow c) t.flows [] in
-    record {
-      between = first.flows;
-      first = pass_moves span (grants_of_flow c) t.flows [] le (grants_ask_well c);
-      second = pass_moves span (polls_of_flow c) first.flows first.placements le (polls_ask_well c);
-    }
+    zip_twice Moves Moves Moves twice t.flows first.flows (flows_served t span)
+    (pass_moves c span (grants_of_flow c) t.flows [] le (grants_of c)) (pass_moves c span (polls_of_flow c) first.flows first.placements le (polls_of c))
+  where
+    twice : (f g h : FlowRow) → Moves f g → Moves g h → Moves f h
+    twice f g h m n = record { index = n.index; is = n.is ∙ ap (λ (x : FlowRow). record x { index = n.index }) m.is; well = λ w. n.well (m.well w) }
 
 -- what a flow before becomes, but for its due time
 pub record Becomes (f g : FlowRow) : Type 0 where
@@ -404,27 +429,18 @@ pub record Becomes (f g : FlowRow) : Type 0 where
   pub kind : g.kind ≡ f.kind
   pub last_sent : g.last_sent ≡ f.last_sent
 
-pub becomes : (f g h : FlowRow) → Moves f g → Moves g h → Becomes f h
-becomes f g h m n = record {
-  sid = ap (λ (x : FlowRow). x.sid) n.is ∙ ap (λ (x : FlowRow). x.sid) m.is;
-  first = ap (λ (x : FlowRow). x.first) n.is ∙ ap (λ (x : FlowRow). x.first) m.is;
-  last = ap (λ (x : FlowRow). x.last) n.is ∙ ap (λ (x : FlowRow). x.last) m.is;
-  lease = ap (λ (x : FlowRow). lease_in x) n.is ∙ ap (λ (x : FlowRow). lease_in x) m.is;
-  kind = ap (λ (x : FlowRow). x.kind) n.is ∙ ap (λ (x : FlowRow). x.kind) m.is;
-  last_sent = ap (λ (x : FlowRow). x.last_sent) n.is ∙ ap (λ (x : FlowRow). x.last_sent) m.is;
+becomes : (f g : FlowRow) → Moves f g → Becomes f g
+becomes f g m = record {
+  sid = ap (λ (x : FlowRow). x.sid) m.is;
+  first = ap (λ (x : FlowRow). x.first) m.is;
+  last = ap (λ (x : FlowRow). x.last) m.is;
+  lease = ap (λ (x : FlowRow). lease_in x) m.is;
+  kind = ap (λ (x : FlowRow). x.kind) m.is;
+  last_sent = ap (λ (x : FlowRow). x.last_sent) m.is;
 }
 
-pub served_from : (t : Table) (flows : List FlowRow) (h : FlowRow) → MovesTwice t flows → Has flows h → (f : FlowRow) × Has t.flows f × Becomes f h
-served_from t flows h m at =
-    let back = moved_from m.between flows h m.second at in
-    let first = moved_from t.flows m.between back.0 m.first back.1 in
-    (first.0, first.1, becomes first.0 back.0 h first.2 back.2)
-
-pub served_to : (t : Table) (flows : List FlowRow) (f : FlowRow) → MovesTwice t flows → Has t.flows f → (h : FlowRow) × Has flows h × Becomes f h
-served_to t flows f m at =
-    let on = moved_to t.flows m.between f m.first at in
-    let last = moved_to m.between flows on.0 m.second on.1 in
-    (last.0, last.1, becomes f on.0 last.0 on.2 last.2)
+pub served_from : (t : Table) (flows : List FlowRow) (h : FlowRow) → AllZip Moves t.flows flows → Has flows h → (f : FlowRow) × Has t.flows f × Becomes f h
+served_from t flows h moves at = let m = moved_from t.flows flows h moves at in (m.0, m.1, becomes m.0 h m.2)
 
 stays : (end : ℕ) (f : FlowRow) → not (is_ended end f) ≡ true → end ≤ f.last
 stays end f e = ltb-false f.last end (not-true (is_ended end f) e)
@@ -449,8 +465,8 @@ fill_is_well t span ack w later le =
       channel = w.channel;
       next = le;
       ack = omega arith;
-      flows = λ g h. moved_well m.between served m.second (moved_well t.flows m.between m.first w.flows) g (has_filter goes_on served g h).0;
-      rising = rising_filter goes_on 1 served (rising_moved 1 m.between served m.second (rising_moved 1 t.flows m.between m.first w.rising));
+      flows = λ g h. let from = moved_from t.flows served g m (has_filter goes_on served g h).0 in from.2.well (w.flows from.0 from.1);
+      rising = rising_filter goes_on 1 served (rising_moved 1 t.flows served m w.rising);
       given = λ g h.
           let from = flow_from t span (ack_of t.row ack span.start) g le h in
           record {
@@ -461,19 +477,20 @@ fill_is_well t span ack w later le =
       requests = λ r h.
           let left = has_filter waits_on (filter waits t.waiting) r h in
           let old = w.requests r (has_filter waits t.waiting r left.0).0 in
-          let to = served_to t served old.flow m old.there in
-          let on : goes_on to.0 ≡ true = ap (λ n. not (ltb n (end_of span))) to.2.last ∙ ap not (sym (ended_with t (end_of span) r old.flow w.rising old.there old.sid)) ∙ left.1 in
+          let moved = moved_to t.flows served old.flow m old.there in
+          let to = becomes old.flow moved.0 moved.2 in
+          let on : goes_on moved.0 ≡ true = ap (λ n. not (ltb n (end_of span))) to.last ∙ ap not (sym (ended_with t (end_of span) r old.flow w.rising old.there old.sid)) ∙ left.1 in
           record {
             some = old.some;
             most = old.most;
             time = old.time;
-            flow = to.0;
-            there = filter_has goes_on served to.0 to.1 on;
-            sid = to.2.sid ∙ old.sid;
-            last = to.2.last_sent ∙ old.last;
-            after = subst (λ n. n ≤ r.sent) (sym to.2.first) old.after;
-            before = subst (λ n. r.sent ≤ n) (sym to.2.last) old.before;
-            asks = ap is_ugs to.2.kind ∙ old.asks;
+            flow = moved.0;
+            there = filter_has goes_on served moved.0 moved.1 on;
+            sid = to.sid ∙ old.sid;
+            last = to.last_sent ∙ old.last;
+            after = subst (λ n. n ≤ r.sent) (sym to.first) old.after;
+            before = subst (λ n. r.sent ≤ n) (sym to.last) old.before;
+            asks = ap is_ugs to.kind ∙ old.asks;
           };
       alone = λ sid.
           let left = filter_both (is_of sid) waits_on (filter waits t.waiting) in

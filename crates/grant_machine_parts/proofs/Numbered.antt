@@ -1,5 +1,5 @@
 -- Where a request's grant is looked for first among placements.
-use Rattle.std.proofs.Common.{◌≡◌, ◌≢◌, ℕ, ◌+◌, ◌%◌, ◌<◌, Bool, true, false, ◌||◌, List, [], ◌∷◌, ◌++◌, length, set, take, get_or, refl, sym, ap, subst, ◌∙◌, arith, eqb}
+use Rattle.std.proofs.Common.{◌≡◌, ◌≢◌, ℕ, ◌+◌, ◌%◌, ◌<◌, Bool, true, false, ◌||◌, List, [], ◌∷◌, length, set, take, get_or, refl, sym, ap, subst, ◌∙◌, arith, eqb}
 use Rattle.std.proofs.Math.ListN.{length-set}
 use Rattle.std.specs.Prelude.{slice_index}
 use Rattle.std.specs.List.{list_any, AllByRecursion}
@@ -9,6 +9,7 @@ use Rattle.flow_state.specs.declared.flow.Waiting.{Waiting}
 use Rattle.grant_machine_parts.specs.Placing.{Placement}
 use Rattle.grant_machine_parts.specs.Cutting.{is_grant_of, is_cause_sent}
 use Rattle.grant_machine_parts.specs.Granted.{IsNumbered}
+use Rattle.grant_machine_parts.proofs.Carved.{all_push}
 
 -- a number that isn't 0 is written
 set_some : (ns : List ℕ) (k j v : ℕ) → k < length ns → v ≢ 0 → slice_index ns j ≢ 0 → slice_index (set ns k v) j ≢ 0
@@ -36,12 +37,8 @@ numbered_there ns v p lt some w is none =
 pub numbered_none : (ns : List ℕ) (p : Placement) → ((time : ℕ) → is_cause_sent p.cause time ≡ false) → IsNumbered ns p
 numbered_none ns p off w is = absurd (let on : is_cause_sent p.cause w.sent ≡ true = (and_parts (eqb p.sid w.sid) (is_cause_sent p.cause w.sent) is).1 in let no = off w.sent in cc)
 
-pub numbered_push : (ns : List ℕ) (ps : List Placement) (p : Placement) → AllByRecursion (IsNumbered ns) ps → IsNumbered ns p → AllByRecursion (IsNumbered ns) (ps ++ p ∷ [])
-numbered_push ns [] p all new = (new, tt)
-numbered_push ns (q ∷ ps) p all new = (all.0, numbered_push ns ps p all.1 new)
-
 pub numbered_more : (ns : List ℕ) (ps : List Placement) (i : ℕ) (p : Placement) → i < length ps → p ≡ get_or ps i p → AllByRecursion (IsNumbered ns) (take i ps) → IsNumbered ns p → AllByRecursion (IsNumbered ns) (take (i + 1) ps)
-numbered_more ns ps i p lt is all new = subst (AllByRecursion (IsNumbered ns)) (sym (take_more ps i p lt)) (numbered_push ns (take i ps) (get_or ps i p) all (subst (IsNumbered ns) is new))
+numbered_more ns ps i p lt is all new = subst (AllByRecursion (IsNumbered ns)) (sym (take_more ps i p lt)) (all_push (IsNumbered ns) (take i ps) (get_or ps i p) all (subst (IsNumbered ns) is new))
 
 pub numbered_put : (ns new : List ℕ) (ps : List Placement) (i k v : ℕ) (p : Placement) → new ≡ set ns k v → k ≡ p.sid % 256 → length ns ≡ 256 → v ≢ 0 → i < length ps → p ≡ get_or ps i p
     → AllByRecursion (IsNumbered ns) (take i ps) → (length new ≡ 256) × AllByRecursion (IsNumbered new) (take (i + 1) ps)

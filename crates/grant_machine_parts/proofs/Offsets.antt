@@ -5,7 +5,7 @@ use Rattle.std.proofs.lemmas.Bool.{eqb-true}
 use Rattle.std.proofs.lemmas.Option.{same_Some}
 use Rattle.map_body.specs.declared.element.Element.{Element}
 use Rattle.map_body.proofs.Callers.{get_front}
-use Rattle.flow_state.proofs.Callers.{Has, has_at}
+use Rattle.flow_state.proofs.Callers.{Has, eqb_apart, has_at}
 
 -- the first place or a later one
 pub first_or_later : (a x : ℕ) → a ≤ x → (a ≡ x) ⊎ (a + 1 ≤ x)
@@ -41,33 +41,13 @@ module _ (b : ℕ → Option Element) where
       ] refl h
 
   -- the first of them, or what stands behind them
-  pub first_from : StandAt → (a n : ℕ) (null : Element) (rest : List Element) (h : Element) → null.offset ≡ a + n → slice_get (begun a n ++ null ∷ rest) 0 ≡ Some h → (a ≤ h.offset) × (h.offset ≤ a + n)
+  first_from : StandAt → (a n : ℕ) (null : Element) (rest : List Element) (h : Element) → null.offset ≡ a + n → slice_get (begun a n ++ null ∷ rest) 0 ≡ Some h → (a ≤ h.offset) × (h.offset ≤ a + n)
   first_from at a zero null rest h end e = let same : null.offset ≡ h.offset = ap (λ (c : Element). c.offset) (same_Some null h e) in (omega arith, omega arith)
   first_from at a (suc n) null rest h end e =
       elim (b a) as (λ o. b a ≡ o → slice_get (cons_option o (begun (a + 1) n) ++ null ∷ rest) 0 ≡ Some h → (a ≤ h.offset) × (h.offset ≤ a + suc n)) [
         | None ↦ λ f g. let m = first_from at (a + 1) n null rest h (omega arith) g in (omega (arith, m.0), omega (arith, m.1))
         | Some d ↦ λ f g. let here : h.offset ≡ a = ap (λ (c : Element). c.offset) (sym (same_Some d h g)) ∙ at a d f in (omega arith, omega arith)
       ] refl e
-
-  -- offsets rise up to the one behind them
-  pub ascending : StandAt → (a n : ℕ) (null : Element) (rest : List Element) (place : ℕ) (before here : Element) → null.offset ≡ a + n
-      → slice_get (begun a n ++ null ∷ rest) place ≡ Some before → slice_get (begun a n ++ null ∷ rest) (suc place) ≡ Some here → suc place ≤ length (begun a n) → before.offset ≤ here.offset
-  ascending at a zero null rest place before here end d e le = absurd (omega arith)
-  ascending at a (suc n) null rest place before here end d e le =
-      elim (b a) as (λ o. b a ≡ o → slice_get (cons_option o (begun (a + 1) n) ++ null ∷ rest) place ≡ Some before → slice_get (cons_option o (begun (a + 1) n) ++ null ∷ rest) (suc place) ≡ Some here
-      → suc place ≤ length (cons_option o (begun (a + 1) n)) → before.offset ≤ here.offset) [
-        | None ↦ λ f g h k. ascending at (a + 1) n null rest place before here (omega arith) g h k
-        | Some x ↦ λ f. by x f place (λ p g h k. ascending at (a + 1) n null rest p before here (omega arith) g h k)
-      ] refl d e le
-    where
-      by : (x : Element) → b a ≡ Some x → (p : ℕ)
-          → ((q : ℕ) → slice_get (begun (a + 1) n ++ null ∷ rest) q ≡ Some before → slice_get (begun (a + 1) n ++ null ∷ rest) (suc q) ≡ Some here → suc q ≤ length (begun (a + 1) n) → before.offset ≤ here.offset)
-          → slice_get (x ∷ begun (a + 1) n ++ null ∷ rest) p ≡ Some before → slice_get (x ∷ begun (a + 1) n ++ null ∷ rest) (suc p) ≡ Some here → suc p ≤ suc (length (begun (a + 1) n)) → before.offset ≤ here.offset
-      by x f zero later g h k =
-          let first : before.offset ≡ a = ap (λ (c : Element). c.offset) (sym (same_Some x before g)) ∙ at a x f in
-          let next = first_from at (a + 1) n null rest here (omega arith) h in
-          omega (arith, next.0)
-      by x f (suc q) later g h k = later q g h (omega arith)
 
   -- no element begins before the first one
   first_gap : StandAt → (a n : ℕ) (null : Element) (rest : List Element) (h : Element) → null.offset ≡ a + n → slice_get (begun a n ++ null ∷ rest) 0 ≡ Some h → (z : ℕ) → a ≤ z → z < h.offset → b z ≡ None
@@ -81,8 +61,9 @@ module _ (b : ℕ → Option Element) where
         | Some d ↦ λ f g. absurd (let here : h.offset ≡ a = ap (λ (c : Element). c.offset) (sym (same_Some d h g)) ∙ at a d f in omega arith)
       ] refl e
 
-  -- what stands next to one of them: no element begins in between, and it begins at the end at the latest
+  -- what stands next to one of them: it doesn't begin earlier, no element begins in between, and it begins at the end at the latest
   pub record NextTo (a n : ℕ) (before here : Element) : Type 0 where
+    pub rises : before.offset ≤ here.offset
     pub gap : (z : ℕ) → before.offset < z → z < here.offset → b z ≡ None
     pub within : here.offset ≤ a + n
 
@@ -97,7 +78,7 @@ module _ (b : ℕ → Option Element) where
       ] refl d e le
     where
       widened : NextTo (a + 1) n before here → NextTo a (suc n) before here
-      widened m = let within = m.within in record { gap = m.gap; within = omega arith }
+      widened m = let within = m.within in record { rises = m.rises; gap = m.gap; within = omega arith }
 
       by : (x : Element) → b a ≡ Some x → (p : ℕ)
           → ((q : ℕ) → slice_get (begun (a + 1) n ++ null ∷ rest) q ≡ Some before → slice_get (begun (a + 1) n ++ null ∷ rest) (suc q) ≡ Some here → suc q ≤ length (begun (a + 1) n) → NextTo (a + 1) n before here)
@@ -105,7 +86,7 @@ module _ (b : ℕ → Option Element) where
       by x f zero later g h k =
           let first : before.offset ≡ a = ap (λ (c : Element). c.offset) (sym (same_Some x before g)) ∙ at a x f in
           let next = first_from at (a + 1) n null rest here (omega arith) h in
-          record { gap = λ z gt lt. first_gap at (a + 1) n null rest here (omega arith) h z (omega arith) lt; within = omega (arith, next.1) }
+          record { rises = omega (arith, next.0); gap = λ z gt lt. first_gap at (a + 1) n null rest here (omega arith) h z (omega arith) lt; within = omega (arith, next.1) }
       by x f (suc q) later g h k = widened (later q g h (omega arith))
 
   -- what stands first where no element begins up to x
@@ -178,10 +159,7 @@ either_count p q (x ∷ xs) =
 
 no_more : (k a n : ℕ) → k < a → length (filter (λ x. eqb k x) (range_with_len a n)) ≡ 0
 no_more k a zero lt = refl
-no_more k a (suc n) lt = ap (λ c. length (cond c (a ∷ filter (λ x. eqb k x) (range_with_len (a + 1) n)) (filter (λ x. eqb k x) (range_with_len (a + 1) n)))) (apart k a lt) ∙ no_more k (a + 1) n (omega arith)
-  where
-    apart : (k a : ℕ) → k < a → eqb k a ≡ false
-    apart k a lt = grind arith
+no_more k a (suc n) lt = ap (λ c. length (cond c (a ∷ filter (λ x. eqb k x) (range_with_len (a + 1) n)) (filter (λ x. eqb k x) (range_with_len (a + 1) n)))) (eqb_apart k a lt) ∙ no_more k (a + 1) n (omega arith)
 
 one_count : (k a n : ℕ) → length (filter (λ x. eqb k x) (range_with_len a n)) ≤ 1
 one_count k a zero = omega arith

@@ -1,11 +1,11 @@
 -- The waiting requests by priority are no more than those that wait.
-use Rattle.std.proofs.Common.{◌≡◌, ℕ, ◌+◌, ◌<◌, ◌≤◌, Bool, true, false, cond, List, [], ◌∷◌, filter, length, refl, sym, ap, subst, ◌∙◌, arith, eqb, length-append}
+use Rattle.std.proofs.Common.{◌≡◌, ℕ, ◌+◌, ◌<◌, ◌≤◌, Bool, true, false, cond, List, [], ◌∷◌, ◌++◌, filter, length, refl, sym, ap, subst, ◌∙◌, arith, eqb, length-append}
 use Rattle.std.specs.List.{flat_map}
 use Rattle.std.proofs.lemmas.Bool.{eqb-true}
 use Rattle.flow_state.specs.declared.flow.Waiting.{Waiting}
 use Rattle.flow_state.specs.Rows.{Table}
 use Rattle.grant_machine_parts.specs.Cutting.{priority_of, in_order}
-use Rattle.flow_state.proofs.Callers.{filter_append}
+use Rattle.flow_state.proofs.Callers.{filter_append, filter_swap}
 
 -- numbers that fall, from below a bound on
 abbrev Falling : ℕ → List ℕ → Type 0
@@ -36,60 +36,52 @@ once k bound (n ∷ ns) f =
       | false ↦ λ e. omega arith
     ] refl
 
-module _ {X : Type 0} (f : X → ℕ) (p : X → Bool) where
+module _ {X : Type 0} (f : X → ℕ) where
+  abbrev by_number : List X → List ℕ → List X
+  by_number xs ns = flat_map (λ n. filter (λ y. eqb (f y) n) xs) ns
+
   -- one more element is listed as often as its number
-  level_step : (n : ℕ) (x : X) (xs : List X) → length (filter p (filter (λ y. eqb (f y) n) (x ∷ xs))) ≤ cond (p x) (cond (eqb (f x) n) 1 0) 0 + length (filter p (filter (λ y. eqb (f y) n) xs))
-  level_step n x xs = by (eqb (f x) n) (p x) refl (filter (λ y. eqb (f y) n) xs)
-    where
-      by : (c d : Bool) → p x ≡ d → (ys : List X) → length (filter p (cond c (x ∷ ys) ys)) ≤ cond d (cond c 1 0) 0 + length (filter p ys)
-      by true true e ys = subst (λ b. length (cond b (x ∷ filter p ys) (filter p ys)) ≤ 1 + length (filter p ys)) (sym e) (omega arith)
-      by true false e ys = subst (λ b. length (cond b (x ∷ filter p ys) (filter p ys)) ≤ 0 + length (filter p ys)) (sym e) (omega arith)
-      by false true e ys = omega arith
-      by false false e ys = omega arith
-
-  total_step : (ns : List ℕ) (x : X) (xs : List X)
-      → length (filter p (flat_map (λ n. filter (λ y. eqb (f y) n) (x ∷ xs)) ns)) ≤ cond (p x) (times (f x) ns) 0 + length (filter p (flat_map (λ n. filter (λ y. eqb (f y) n) xs) ns))
-  total_step [] x xs = elim (p x) as (λ c. 0 ≤ cond c 0 0 + 0) [ true ↦ omega arith | false ↦ omega arith ]
+  total_step : (ns : List ℕ) (x : X) (xs : List X) → length (by_number (x ∷ xs) ns) ≡ times (f x) ns + length (by_number xs ns)
+  total_step [] x xs = refl
   total_step (n ∷ ns) x xs =
-      let here = level_step n x xs in
       let later = total_step ns x xs in
-      let new : length (filter p (flat_map (λ m. filter (λ y. eqb (f y) m) (x ∷ xs)) (n ∷ ns))) ≡ length (filter p (filter (λ y. eqb (f y) n) (x ∷ xs))) + length (filter p (flat_map (λ m. filter (λ y. eqb (f y) m) (x ∷ xs)) ns)) =
-      ap length (filter_append p (filter (λ y. eqb (f y) n) (x ∷ xs)) (flat_map (λ m. filter (λ y. eqb (f y) m) (x ∷ xs)) ns)) ∙ length-append _ _ in
-      let old : length (filter p (flat_map (λ m. filter (λ y. eqb (f y) m) xs) (n ∷ ns))) ≡ length (filter p (filter (λ y. eqb (f y) n) xs)) + length (filter p (flat_map (λ m. filter (λ y. eqb (f y) m) xs) ns)) =
-      ap length (filter_append p (filter (λ y. eqb (f y) n) xs) (flat_map (λ m. filter (λ y. eqb (f y) m) xs) ns)) ∙ length-append _ _ in
-      by (p x) (cond (eqb (f x) n) 1 0) (times (f x) ns) _ _ _ _ _ _ here later new old
-    where
-      by : (c : Bool) (i j a b u v s t : ℕ) → a ≤ cond c i 0 + u → b ≤ cond c j 0 + v → s ≡ a + b → t ≡ u + v → s ≤ cond c (i + j) 0 + t
-      by true i j a b u v s t h l m o = omega arith
-      by false i j a b u v s t h l m o = omega arith
+      let ys : List X = filter (λ y. eqb (f y) n) xs in
+      let old = length-append ys (by_number xs ns) in
+      elim (eqb (f x) n) as (λ b. length (cond b (x ∷ ys) ys ++ by_number (x ∷ xs) ns) ≡ cond {A = ℕ} b 1 0 + times (f x) ns + length (ys ++ by_number xs ns)) [
+        | true ↦ let new = length-append (x ∷ ys) (by_number (x ∷ xs) ns) in omega arith
+        | false ↦ let new = length-append ys (by_number (x ∷ xs) ns) in omega arith
+      ]
 
-  -- listed by falling numbers, no more elements pass than of the list itself
-  pub fewer_by_number : (bound : ℕ) (ns : List ℕ) → Falling bound ns → (xs : List X) → length (filter p (flat_map (λ n. filter (λ y. eqb (f y) n) xs) ns)) ≤ length (filter p xs)
+  -- listed by falling numbers, there are no more elements than in the list itself
+  fewer_by_number : (bound : ℕ) (ns : List ℕ) → Falling bound ns → (xs : List X) → length (by_number xs ns) ≤ length xs
   fewer_by_number bound ns falls [] = empty ns
     where
-      empty : (ms : List ℕ) → length (filter p (flat_map (λ n. filter (λ y. eqb (f y) n) []) ms)) ≤ 0
+      empty : (ms : List ℕ) → length (by_number [] ms) ≤ 0
       empty [] = omega arith
       empty (m ∷ ms) = empty ms
   fewer_by_number bound ns falls (x ∷ xs) =
       let later = fewer_by_number bound ns falls xs in
       let step = total_step ns x xs in
       let one = once (f x) bound ns falls in
-      by (p x) (times (f x) ns) _ _ (filter p xs) later step one
-    where
-      by : (c : Bool) (k a b : ℕ) (ys : List X) → b ≤ length ys → a ≤ cond c k 0 + b → k ≤ 1 → a ≤ length (cond c (x ∷ ys) ys)
-      by true k a b ys h s o = omega arith
-      by false k a b ys h s o = omega arith
-
-all_pass : {X : Type 0} (xs : List X) → filter (λ x. true) xs ≡ xs
-all_pass [] = refl
-all_pass {X} (x ∷ xs) = ap (λ (ys : List X). x ∷ ys) (all_pass xs)
+      omega arith
 
 priorities_fall : Falling 8 (7 ∷ 6 ∷ 5 ∷ 4 ∷ 3 ∷ 2 ∷ 1 ∷ 0 ∷ [])
 priorities_fall = (omega arith, (omega arith, (omega arith, (omega arith, (omega arith, (omega arith, (omega arith, (omega arith, tt))))))))
 
--- the requests in order that pass a test are no more than those that wait and pass it
-pub in_order_fewer : (p : Waiting → Bool) (t : Table) (ws : List Waiting) → length (filter p (in_order t ws)) ≤ length (filter p ws)
-in_order_fewer p t ws = fewer_by_number (priority_of t) p 8 (7 ∷ 6 ∷ 5 ∷ 4 ∷ 3 ∷ 2 ∷ 1 ∷ 0 ∷ []) priorities_fall ws
-
 pub in_order_length : (t : Table) (ws : List Waiting) → length (in_order t ws) ≤ length ws
-in_order_length t ws = subst (λ n. length (in_order t ws) ≤ n) (ap length (all_pass ws)) (subst (λ n. n ≤ length (filter (λ w. true) ws)) (ap length (all_pass (in_order t ws))) (in_order_fewer (λ w. true) t ws))
+in_order_length t ws = fewer_by_number (priority_of t) 8 (7 ∷ 6 ∷ 5 ∷ 4 ∷ 3 ∷ 2 ∷ 1 ∷ 0 ∷ []) priorities_fall ws
+
+listed : (p : ℕ → Waiting → Bool) (q : Waiting → Bool) (ws : List Waiting) (ns : List ℕ) → flat_map (λ n. filter (p n) (filter q ws)) ns ≡ filter q (flat_map (λ n. filter (p n) ws) ns)
+listed p q ws [] = refl
+listed p q ws (n ∷ ns) =
+    ap (λ (xs : List Waiting). xs ++ flat_map (λ m. filter (p m) (filter q ws)) ns) (filter_swap (p n) q ws)
+    ∙ ap (λ (xs : List Waiting). filter q (filter (p n) ws) ++ xs) (listed p q ws ns)
+    ∙ sym (filter_append q (filter (p n) ws) (flat_map (λ m. filter (p m) ws) ns))
+
+-- requests that pass a test, in order
+pub passing_in_order : (t : Table) (q : Waiting → Bool) (ws : List Waiting) → filter q (in_order t ws) ≡ in_order t (filter q ws)
+passing_in_order t q ws = sym (listed (λ n w. eqb (priority_of t w) n) q ws (7 ∷ 6 ∷ 5 ∷ 4 ∷ 3 ∷ 2 ∷ 1 ∷ 0 ∷ []))
+
+-- those that pass are no more than those that wait and pass
+pub in_order_fewer : (p : Waiting → Bool) (t : Table) (ws : List Waiting) → length (filter p (in_order t ws)) ≤ length (filter p ws)
+in_order_fewer p t ws = subst (λ (vs : List Waiting). length vs ≤ length (filter p ws)) (sym (passing_in_order t p ws)) (in_order_length t (filter p ws))

@@ -116,17 +116,17 @@ ends_by : (free : ℕ → Bool) (a len : ℕ) (x : Gap) (xs : List Gap) (i : ℕ
 ends_by free a len x xs zero g are at = let same : x ≡ g = cc in let ends : x.to ≡ g.to = ap (λ (y : Gap). y.to) same in omega arith
 ends_by free a len x xs (suc i) g are at = let rest = later_from free x.to len xs i g are.1 at in omega (arith, rest.0, rest.1)
 
--- there is a gap at each place
-at_place : (gs : List Gap) (i : ℕ) → i < length gs → (g : Gap) × (slice_get gs i ≡ Some g)
-at_place [] i lt = absurd (omega arith)
-at_place (x ∷ xs) zero lt = (x, refl)
-at_place (x ∷ xs) (suc i) lt = at_place xs i (omega arith)
+-- there is an item at each place
+pub item_at : {X : Type 0} (xs : List X) (i : ℕ) → i < length xs → (x : X) × (slice_get xs i ≡ Some x)
+item_at [] i lt = absurd (omega arith)
+item_at (x ∷ xs) zero lt = (x, refl)
+item_at (x ∷ xs) (suc i) lt = item_at xs i (omega arith)
 
 pub passed_over : (free : ℕ → Bool) (a len : ℕ) (gs : List Gap) (n first behind count : ℕ) → AreGaps free a len gs → 1 ≤ n → count ≤ length gs → HasPassed gs count first → gap_in (drop count gs) n first behind ≡ gap_in gs n first behind
 passed_over free a len gs n first behind zero are some le passed = refl
 passed_over free a len [] n first behind (suc c) are some le passed = refl
 passed_over free a len (x ∷ xs) n first behind (suc c) are some le passed =
-    let last = at_place (x ∷ xs) c (omega arith) in
+    let last = item_at (x ∷ xs) c (omega arith) in
     let by = passed c last.0 refl last.1 in
     let ends = ends_by free a len x xs c last.0 are last.1 in
     passed_over free x.to len xs n first behind c are.1 some (omega arith) (λ k g next at. passed (suc k) g (ap suc next) at)

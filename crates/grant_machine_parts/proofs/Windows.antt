@@ -16,7 +16,7 @@ pub record FitsAt (span : Extent) (ps : List Placement) (n lo hi last x : ℕ) :
   pub within : x + n ≤ span.len
   pub free : list_all (is_free ps) (range_with_len x n) ≡ true
 
-fits_tells : (span : Extent) (ps : List Placement) (n lo hi last x : ℕ) → fits_at span ps n lo hi last x ≡ true → FitsAt span ps n lo hi last x
+pub fits_tells : (span : Extent) (ps : List Placement) (n lo hi last x : ℕ) → fits_at span ps n lo hi last x ≡ true → FitsAt span ps n lo hi last x
 fits_tells span ps n lo hi last x e =
     let fifth = and_parts _ _ e in
     let fourth = and_parts _ _ fifth.0 in

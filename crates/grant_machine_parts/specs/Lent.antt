@@ -13,7 +13,7 @@ use Rattle.grant_machine_parts.specs.Ranks.{Ranked}
 
 -- a flow within the limits, at one of its due times
 pub record IsLent (f : Flow) : Type 0 where
-  pub sid : f.sid ≤ last_sid
+  pub sid : f.lease.sid ≤ last_sid
   pub kind : is_good_kind f.kind ≡ true
   pub due : f.due ≡ due_time f.kind (due_index f.kind f.due)
   pub early : f.due ≤ last_due

@@ -51,10 +51,10 @@ fn unsolicited_iuc(channel: &Channel, n: u16) -> Iuc
 /// What a service gives a flow, if anything.
 fn periodic_of(service: Service, channel: &Channel, flow: &Flow) -> Option<Periodic>
     requires { IsLent flow.now }
-    ensures same { result ≡ given service channel.now flow.now.sid flow.now.last flow.now.kind }
+    ensures same { result ≡ given service channel.now flow.now.lease.sid flow.now.lease.last flow.now.kind }
     ensures used { IfSome result (λ p. p.iuc < iucs.expansion) }
 {
-    let sid = Sid::new(flow.sid).unwrap();
+    let sid = Sid::new(flow.lease.sid).unwrap();
     match (service, flow.kind) {
         (
             Service::Grants,
@@ -71,7 +71,7 @@ fn periodic_of(service: Service, channel: &Channel, flow: &Flow) -> Option<Perio
             interval,
             jitter,
             base,
-            last: flow.last,
+            last: flow.lease.last,
         }),
         (
             Service::Polls,
@@ -87,7 +87,7 @@ fn periodic_of(service: Service, channel: &Channel, flow: &Flow) -> Option<Perio
             interval,
             jitter,
             base,
-            last: flow.last,
+            last: flow.lease.last,
         }),
         _ => None,
     }
@@ -102,8 +102,8 @@ fn next_due(
 ) -> Result<u64, AllocError>
     requires { IsLent flow.now }
     ensures span { filling.new.span ≡ filling.old.span }
-    ensures placed { OnOk result (filling.new.placements ≡ (run_flow filling.old.span (given service channel.now flow.now.sid flow.now.last flow.now.kind) (due_index flow.now.kind flow.now.due) filling.old.placements).placements) }
-    ensures index { IfOk result (λ due. due_index flow.now.kind due ≡ (run_flow filling.old.span (given service channel.now flow.now.sid flow.now.last flow.now.kind) (due_index flow.now.kind flow.now.due) filling.old.placements).index) }
+    ensures placed { OnOk result (filling.new.placements ≡ (run_flow filling.old.span (given service channel.now flow.now.lease.sid flow.now.lease.last flow.now.kind) (due_index flow.now.kind flow.now.due) filling.old.placements).placements) }
+    ensures index { IfOk result (λ due. due_index flow.now.kind due ≡ (run_flow filling.old.span (given service channel.now flow.now.lease.sid flow.now.lease.last flow.now.kind) (due_index flow.now.kind flow.now.due) filling.old.placements).index) }
     ensures is_due { IfOk result (λ due. due ≡ due_time flow.now.kind (due_index flow.now.kind due)) }
     ensures early { IfOk result (λ due. due ≤ last_due) }
 {

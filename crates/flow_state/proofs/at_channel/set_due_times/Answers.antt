@@ -5,12 +5,12 @@ use Rattle.std.proofs.Math.ListN.{get_or}
 use Rattle.std.proofs.lemmas.List.{drop_more, drop_all}
 use Rattle.flow_state.specs.declared.flow.Flow.{Flow}
 use Rattle.flow_state.specs.Rows.{Table}
-use Rattle.flow_state.specs.Changes.{told_in_table, TellsDue}
+use Rattle.flow_state.specs.Changes.{no_lease, told_in_table, TellsDue}
 use Rattle.flow_state.proofs.Told.{none_told, one_told, all_tell}
 use Rattle.flow_state.proofs.at_channel.set_due_times.Goals as goal
 
 abbrev blank : Flow
-blank = record { sid = 0; modem = 0; tag = 0; first = 0; last = 0; kind = BestEffort 0; due = 0; last_sent = None }
+blank = record { lease = no_lease; kind = BestEffort 0; due = 0; last_sent = None }
 
 pub loop-flow-preserved : goal.loop-flow-preserved
 loop-flow-preserved c =

@@ -6,7 +6,7 @@ use Rattle.grant_machine.proofs.rows.rank.Goals as goal
 
 pub returns-in-Some : goal.returns-in-Some
 returns-in-Some c =
-    ap {B = Ranked} (λ n. record { priority = n; last = c.in-Some.flow.now.last; request = c.args.request.now }) c.kind_priority.ensures
+    ap {B = Ranked} (λ n. record { priority = n; last = c.in-Some.flow.now.lease.last; request = c.args.request.now }) c.kind_priority.ensures
     ∙ rank_some (flow_of c.args.table.now c.args.request.now.sid) c.in-Some.flow.now c.args.request.now c.in-Some.ensures
 
 pub returns-in-None : goal.returns-in-None

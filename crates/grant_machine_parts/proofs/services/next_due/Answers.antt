@@ -5,7 +5,7 @@ use Rattle.grant_machine_parts.proofs.Giving.{GivenDue, given_due, round, round_
 use Rattle.grant_machine_parts.proofs.services.next_due.Goals as goal
 
 due : (c : goal.After-due_at) → GivenDue c.args.flow.now.kind c.in-Some.periodic
-due c = given_due c.args.service c.args.channel.now c.args.flow.now.sid c.args.flow.now.last c.args.flow.now.kind c.in-Some.periodic (sym c.in-Some.ensures.same) c.requires.kind
+due c = given_due c.args.service c.args.channel.now c.args.flow.now.lease.sid c.args.flow.now.lease.last c.args.flow.now.kind c.in-Some.periodic (sym c.in-Some.ensures.same) c.requires.kind
 
 pub returns-in_ok-next-in-Some-clause-index : goal.returns-in_ok-next-in-Some-clause-index
 returns-in_ok-next-in-Some-clause-index c =

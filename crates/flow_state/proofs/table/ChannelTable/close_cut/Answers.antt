@@ -23,17 +23,17 @@ closed : (c : goal.After-self-3-1) → table_view (record { row = record c.self.
     ≡ close_table (table_view c.self.inside) c.args.end c.args.ack
 closed c =
     left_same (table_view c.self.inside) c.args.end c.args.ack _ _ _ _
-    (ap rows c.forget_all_ended-self-inside.ensures.kept ∙ rows_filter (λ e. leb c.args.end e.1.last) (λ f. not (is_ended c.args.end f)) c.self.inside.flows.entries (λ e s. goes_on c.args.end e.1.last) c.self.invariant.flows)
+    (ap rows c.forget_all_ended-self-inside.ensures.kept ∙ rows_filter (λ e. leb c.args.end e.1.lease.last) (λ f. not (is_ended c.args.end f)) c.self.inside.flows.entries (λ e s. goes_on c.args.end e.1.lease.last) c.self.invariant.flows)
     (c.forget_all_ended-self-inside.ensures.requests ∙ (λ i. filter (λ w. not (ended_is c.self.inside.flows.entries c.args.end w.sid c.self.invariant.flows i)) c.self.inside.waiting.items))
 
 pub invariant_of-self : goal.invariant_of-self
 invariant_of-self c =
     stored_as _ (close_table (table_view c.self.inside) c.args.end c.args.ack)
-    (subst AreStored (sym c.forget_all_ended-self-inside.ensures.kept) (all_filter IsStoredFlow IsStoredFlow (λ e. leb c.args.end e.1.last) c.self.inside.flows.entries (λ e k s. s) c.self.invariant.flows))
+    (subst AreStored (sym c.forget_all_ended-self-inside.ensures.kept) (all_filter IsStoredFlow IsStoredFlow (λ e. leb c.args.end e.1.lease.last) c.self.inside.flows.entries (λ e k s. s) c.self.invariant.flows))
     (let enough = c.self.invariant.enough in let sids = c.forget_all_ended-self-inside.ensures.sids in omega (arith, enough, sids))
     (noted_from c.forget_all_ended-self-inside.new.dues c.settle.new.self c.forget_all_ended-self-inside.new.flows.entries c.settle.ensures
     (noted_there c.self.inside.dues c.forget_all_ended-self-inside.new.dues c.forget_all_ended-self-inside.new.flows.entries c.forget_all_ended-self-inside.ensures.dues
-    (subst (AreNoted c.self.inside.dues) (sym c.forget_all_ended-self-inside.ensures.kept) (noted_filter c.self.inside.dues (λ e. leb c.args.end e.1.last) c.self.inside.flows.entries c.self.invariant.noted))))
+    (subst (AreNoted c.self.inside.dues) (sym c.forget_all_ended-self-inside.ensures.kept) (noted_filter c.self.inside.dues (λ e. leb c.args.end e.1.lease.last) c.self.inside.flows.entries c.self.invariant.noted))))
     (closed c)
     (sound_closed (table_view c.self.inside) c.args.end c.args.ack c.self.invariant.sound)
     c.forget_all_ended-self-inside.ensures.ends

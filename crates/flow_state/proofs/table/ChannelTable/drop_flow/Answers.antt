@@ -43,7 +43,7 @@ invariant_of-self-2 c =
     (subst (AreNoted c.forget.new.self) (sym c.remove.ensures.removed) (noted_removed c.self.inside.dues c.forget.new.self c.self.inside.flows.entries c.args.sid 0 (length (table_view c.self.inside).leases) (keys_rise c.self.inside.flows.entries _ _ c.self.invariant.flows c.self.invariant.sound.rising) c.forget.ensures c.self.invariant.noted))
     (dropped c)
     (sound_dropped (table_view c.self.inside) c.args.sid c.self.invariant.sound)
-    (subst (EndFrom c.self.inside.first_end) (sym c.remove.ensures.removed) (All-remove_entry (λ e. c.self.inside.first_end ≤ e.1.last) c.self.inside.flows.entries c.args.sid c.self.invariant.ends))
+    (subst (EndFrom c.self.inside.first_end) (sym c.remove.ensures.removed) (All-remove_entry (λ e. c.self.inside.first_end ≤ e.1.lease.last) c.self.inside.flows.entries c.args.sid c.self.invariant.ends))
 
 -- where the SID has no flow
 same : (c : goal.Then-not-remove) → c.remove.new.self.entries ≡ c.self.inside.flows.entries

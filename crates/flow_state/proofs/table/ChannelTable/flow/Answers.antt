@@ -25,7 +25,7 @@ pub returns-clause-good : goal.returns-clause-good
 returns-clause-good c = holds c.nth.result _ _ c.nth.ensures (λ e at. good_at c.self.inside.flows.entries c.args.k e c.self.invariant.sound.kinds at)
 
 pub returns-clause-unicast : goal.returns-clause-unicast
-returns-clause-unicast c = holds c.nth.result _ (λ (f : Flow). (1 ≤ f.sid) × (f.sid ≤ last_sid)) c.nth.ensures (λ e at.
+returns-clause-unicast c = holds c.nth.result _ (λ (f : Flow). (1 ≤ f.lease.sid) × (f.lease.sid ≤ last_sid)) c.nth.ensures (λ e at.
     let range = sid_at c.self.inside.flows.entries c.args.k e 0 (length (table_view c.self.inside).leases) c.self.invariant.sound.rising at in
     let few : length (table_view c.self.inside).leases ≤ last_sid = c.self.invariant.sound.few in
     (omega (arith, range.0), omega (arith, range.1)))

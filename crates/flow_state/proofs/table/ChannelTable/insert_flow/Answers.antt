@@ -4,12 +4,12 @@ use Rattle.flow_state.specs.declared.flow.Flow.{Flow}
 use Rattle.flow_state.specs.Limits.{is_timed}
 use Rattle.flow_state.specs.Rows.{Table, Lease, free_sid}
 use Rattle.flow_state.specs.Changes.{add_to_table}
-use Rattle.flow_state.specs.StoredTable.{EndFrom, AreNoted}
+use Rattle.flow_state.specs.StoredTable.{IsStoredFlow, EndFrom, AreNoted}
 use Rattle.flow_state.specs.StoredDues.{IsDueFrom}
 use Rattle.flow_state.specs.View.{table_view}
 use Rattle.flow_state.proofs.Freed.{free_most, most_put}
 use Rattle.flow_state.proofs.Soundness.{none_free, sound_added}
-use Rattle.flow_state.proofs.Stored.{Flows, AreStored, rows, stored_as, as_added, put_entry, none_found, stored_put, stored_added, rows_added, ends_put, same_table}
+use Rattle.flow_state.proofs.Stored.{Flows, AreStored, rows, stored_as, as_added, put_entry, none_found, all_put, stored_added, rows_added, ends_put, same_table}
 use Rattle.flow_state.proofs.Noted.{noted_from, noted_put}
 use Rattle.flow_state.proofs.Wells.{free_range}
 use Rattle.flow_state.proofs.table.ChannelTable.insert_flow.Goals as goal
@@ -66,7 +66,7 @@ invariant_of-self-2 c =
     let start : c.self.inside.row.next_start ≡ c.args.self.now.row.next_start = ap (λ (t : Table). t.row.next_start) c.self.view_is in
     let later : c.args.self.now.row.next_start ≤ c.args.lease.last = c.requires.goes_on in
     stored_as _ (add_to_table (table_view c.self.inside) c.args.lease c.args.kind)
-    (subst AreStored (sym (flows_after c)) (stored_put c.args.lease.sid (as_added c.args.lease c.args.kind) c.self.inside.flows.entries c.self.invariant.flows (stored_added c.args.lease c.args.kind c.requires.good)))
+    (subst AreStored (sym (flows_after c)) (all_put IsStoredFlow c.args.lease.sid (as_added c.args.lease c.args.kind) c.self.inside.flows.entries c.self.invariant.flows (stored_added c.args.lease c.args.kind c.requires.good)))
     (enough c)
     (subst (AreNoted c.set.new.self) (sym (flows_after c))
     (noted_put c.make_room.new.self c.set.new.self c.args.lease.sid (as_added c.args.lease c.args.kind) c.self.inside.flows.entries

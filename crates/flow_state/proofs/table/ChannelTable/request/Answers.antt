@@ -5,7 +5,7 @@ use Rattle.flow_state.specs.Refusals.{table_request_refusal}
 use Rattle.flow_state.specs.Changes.{request_in_table}
 use Rattle.flow_state.specs.StoredTable.{with_sent}
 use Rattle.flow_state.specs.View.{table_view}
-use Rattle.flow_state.proofs.Requests.{request_room}
+use Rattle.flow_state.proofs.Wells.{is_asked}
 use Rattle.flow_state.proofs.Soundness.{sound_requested}
 use Rattle.flow_state.proofs.Stored.{stored_as, with_parts, stored_written, ends_written, flow_written}
 use Rattle.flow_state.proofs.Noted.{noted_sent, keys_apart}
@@ -23,7 +23,7 @@ accepted c = sym c.in_default.ensures
 
 pub invariant_of-self-2 : goal.invariant_of-self-2
 invariant_of-self-2 c =
-    let room : length c.self.inside.waiting.items < most_waiting = request_room (table_view c.self.inside) c.args.sid c.args.n c.args.sent (ap (λ (t : Table). table_request_refusal t c.args.sid c.args.n c.args.sent) c.self.view_is ∙ accepted c) in
+    let room : length c.self.inside.waiting.items < most_waiting = (is_asked (table_view c.self.inside) c.args.sid c.args.n c.args.sent (ap (λ (t : Table). table_request_refusal t c.args.sid c.args.n c.args.sent) c.self.view_is ∙ accepted c)).room in
     stored_as _ (request_in_table (table_view c.self.inside) c.args.sid c.args.n c.args.sent)
     (stored_written c.self.inside.flows.entries c.note_sent.new.self.entries c.args.sid (λ f. with_sent f c.args.sent) c.self.invariant.flows
     (λ f e k s. record { key = s.key; due = s.due }) c.note_sent.ensures.written c.note_sent.ensures.absent)

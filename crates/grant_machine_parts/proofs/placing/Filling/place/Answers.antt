@@ -4,6 +4,7 @@ use Rattle.std.proofs.lemmas.List.{length_push}
 use Rattle.grant_machine_parts.specs.Placing.{Placement, most_placements, is_free}
 use Rattle.grant_machine_parts.specs.Filling.{PartMap}
 use Rattle.grant_machine_parts.specs.Gaps.{carved}
+use Rattle.grant_machine_parts.specs.Filling.{has_use}
 use Rattle.grant_machine_parts.proofs.Carved.{gaps_added, apart_added, all_push}
 use Rattle.grant_machine_parts.proofs.placing.Filling.place.Goals as goal
 use Rattle.grant_machine_parts.proofs.placing.Filling.place.Goals.{then-self, else-self}
@@ -23,7 +24,7 @@ invariant_of-self-2 c =
       short = c.self.invariant.short;
       early = c.self.invariant.early;
       few = rw (put, length_push ps p) (omega arith);
-      uses = rw put (all_push ps p c.self.invariant.uses c.requires.use_of);
+      uses = rw put (all_push has_use ps p c.self.invariant.uses c.requires.use_of);
       apart = λ still. rw put (apart_added ps p c.self.inside.len c.get-from.result (c.get-from.result + p.size) c.self.inside.gaps.items c.self.inside.is_apart from to c.self.invariant.gaps c.self.invariant.apart (elim c.if-self.branch [
         | then-self w ↦ rw (w.if-self.true, c.in_ok-is_in_gap.ensures.covered (sym w.self-is ∙ still)) refl
         | else-self w ↦ absurd (let no : false ≡ true = sym w.if-self.false ∙ (sym w.self-is ∙ still) in cc)
