@@ -1,8 +1,7 @@
 -- The cells of a list of elements, one element after another, and that they are those of the map.
-use Rattle.std.proofs.Common.{◌≡◌, ℕ, zero, suc, ◌<◌, ◌≤◌, Bool, true, false, List, [], ◌∷◌, Option, Some, slice_get, refl, sym, ap, ◌∙◌, arith, ◌⊎◌, inl, inr}
-use Rattle.std.specs.Option.{option_map_or}
-use Rattle.std.proofs.lemmas.Option.{slice_get_within}
-use Rattle.std.proofs.lemmas.Bool.{eqb-true, eq-eqb}
+use Rattle.std.proofs.Common.{◌≡◌, ℕ, zero, suc, ◌<◌, ◌≤◌, false, List, [], ◌∷◌, Some, slice_get, refl, sym, ap, ◌∙◌, arith, ◌⊎◌, inl, inr}
+use Rattle.std.proofs.lemmas.Option.{slice_get_within, same_Some}
+use Rattle.std.proofs.lemmas.Bool.{eqb-true, eq-eqb, false_from_ne_true}
 use Rattle.map_body.specs.declared.element.Element.{Element}
 use Rattle.map_body.specs.declared.head.Head.{Head}
 use Rattle.map_body.specs.Body.{Body}
@@ -29,18 +28,14 @@ abbrev map_of : Head → List Element → Body
 map_of h es = record { head = h; elements = es }
 
 plain : (e : Element) → (e.iuc ≡ 7 → ⊥) → is_null e ≡ false
-plain e no_null = go (is_null e) refl
-  where
-    go : (b : Bool) → is_null e ≡ b → is_null e ≡ false
-    go true is = absurd (no_null (eqb-true _ _ is))
-    go false is = is
+plain e no_null = false_from_ne_true (is_null e) (λ is. no_null (eqb-true _ _ is))
 
-not_plain : (e : Element) → is_null e ≡ false → e.iuc ≡ 7 → ⊥
-not_plain e is null = no_true (sym is ∙ eq-eqb _ _ null)
+not_plain : (e f : Element) → is_null e ≡ false → Some e ≡ Some f → f.iuc ≡ 7 → ⊥
+not_plain e f is same null = no_true (sym is ∙ eq-eqb _ _ (ap (λ (d : Element). d.iuc) (same_Some e f same) ∙ null))
 
 -- no Null stands before the second element, where the first is none
 first_plain : (h : Head) (e : Element) (es : List Element) → is_null e ≡ false → NoNullBefore (e ∷ es) 1
-first_plain h e es is zero lt (f, at, null) = not_plain e is (ap (λ (o : Option Element). option_map_or (λ (d : Element). d.iuc) o 0) at ∙ null)
+first_plain h e es is zero lt (f, at, null) = not_plain e f is at null
 first_plain h e es is (suc k) lt null = absurd (omega (arith, lt))
 
 -- a cell of the elements after the first is one of all of them, where the first is no Null
@@ -61,7 +56,7 @@ later h e es x sid iuc is (c, cell, same_sid, same_iuc) = (
 )
   where
     before : NoNullBefore (e ∷ es) (suc (suc cell.place))
-    before zero lt (f, at, null) = not_plain e is (ap (λ (o : Option Element). option_map_or (λ (d : Element). d.iuc) o 0) at ∙ null)
+    before zero lt (f, at, null) = not_plain e f is at null
     before (suc k) lt null = cell.before_null k (omega arith) null
 
 pub cell_in : (h : Head) (es : List Element) (x sid iuc : ℕ) → Cell es x sid iuc → HasCell (map_of h es) x sid iuc

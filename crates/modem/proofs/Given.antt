@@ -1,5 +1,5 @@
 -- The cells that a map gives are those of its intervals before the Null.
-use Rattle.std.proofs.Common.{◌≡◌, ℕ, ◌+◌, ◌-◌, ◌<◌, ◌≤◌, Bool, true, false, cond, ◌==◌, ◌&&◌, max, Option, Some, List, [], ◌∷◌, map, refl, sym, ◌∙◌, ap, arith, ◌⊎◌, inl, inr, ◌↔◌}
+use Rattle.std.proofs.Common.{◌≡◌, ℕ, ◌-◌, ◌≤◌, Bool, true, false, cond, ◌==◌, ◌&&◌, max, Option, Some, List, [], ◌∷◌, map, refl, sym, ◌∙◌, ap, arith, ◌⊎◌, inl, inr, ◌↔◌}
 use Rattle.std.specs.List.{filter, filter_map}
 use Rattle.map_body.specs.declared.element.Element.{Element}
 use Rattle.map_body.specs.Body.{Body}
@@ -9,7 +9,7 @@ use Rattle.modem.proofs.CellList.{Cell, Covers, cell_in, cell_of}
 use Rattle.map_body.specs.declared.interval.Interval.{Interval}
 use Rattle.modem.specs.declared.known.Channel.{Channel}
 use Rattle.modem.specs.declared.kept.KeptInterval.{KeptInterval}
-use Rattle.modem.specs.State.{State, Kept, HasAt, channel_of, clock_of, with_channel, recent}
+use Rattle.modem.specs.State.{State, Kept, IsAt, HasAt, channel_of, clock_of, with_channel, recent}
 use Rattle.modem.specs.KeptIntervals.{kept_interval, interval_of, covered}
 use Rattle.modem.specs.Wants.{lasting}
 use Rattle.modem.proofs.Pieces.{HasAt-covered}
@@ -20,86 +20,62 @@ use Rattle.modem.proofs.Parts.{no_true}
 use Rattle.modem.proofs.Clocks.{clock_of-placed}
 
 -- the interval of a map of this channel and start covers minislot m
-pub record IsIn (ch start : ℕ) (i : Interval) (at_ch m sid iuc : ℕ) : Type 0 where
-  pub channel : ch ≡ at_ch
-  pub same_sid : i.sid ≡ sid
-  pub same_iuc : i.iuc ≡ iuc
-  pub from : start + i.from ≤ m
-  pub to : m < start + i.to
+abbrev IsIn : ℕ → ℕ → Interval → ℕ → ℕ → ℕ → ℕ → Type 0
+IsIn ch start i at_ch m sid iuc = IsAt (kept_interval (interval_of ch start i)) at_ch m sid iuc
 
 -- one of the intervals does
-abbrev pub SomeIn : ℕ → ℕ → List Interval → ℕ → ℕ → ℕ → ℕ → Type 0
-SomeIn ch start [] at_ch m sid iuc = ⊥
-SomeIn ch start (i ∷ is) at_ch m sid iuc = IsIn ch start i at_ch m sid iuc ⊎ SomeIn ch start is at_ch m sid iuc
+abbrev SomeIn : ℕ → ℕ → List Interval → ℕ → ℕ → ℕ → ℕ → Type 0
+SomeIn ch start is at_ch m sid iuc = HasAt (map kept_interval (map (interval_of ch start) is)) at_ch m sid iuc
 
--- a map's intervals, kept
-pub HasAt-new : (ch start : ℕ) (is : List Interval) (at_ch m sid iuc : ℕ) → HasAt (map kept_interval (map (interval_of ch start) is)) at_ch m sid iuc ↔ SomeIn ch start is at_ch m sid iuc
-HasAt-new ch start [] at_ch m sid iuc = (λ h. h, λ h. h)
-HasAt-new ch start (i ∷ is) at_ch m sid iuc =
-    let more = HasAt-new ch start is at_ch m sid iuc in (
-      λ h. elim h [ inl x ↦ inl (record { channel = x.same_channel; same_sid = x.same_sid; same_iuc = x.same_iuc; from = x.from; to = x.to }) | inr y ↦ inr (more.0 y) ],
-      λ h. elim h [ inl x ↦ inl (record { same_channel = x.channel; same_sid = x.same_sid; same_iuc = x.same_iuc; from = x.from; to = x.to }) | inr y ↦ inr (more.1 y) ],
-    )
-
--- one interval more
-filter_step : (q : ℕ → ℕ → Bool) (ch start : ℕ) (i : Interval) (is : List Interval) (at_ch m sid iuc : ℕ) → SomeIn ch start (filter (λ i. q i.sid i.iuc) is) at_ch m sid iuc ↔ ((q sid iuc ≡ true) × SomeIn ch start is at_ch m sid iuc) → (b : Bool) → q i.sid i.iuc ≡ b → SomeIn ch start (cond b (i ∷ filter (λ i. q i.sid i.iuc) is) (filter (λ i. q i.sid i.iuc) is)) at_ch m sid iuc ↔ ((q sid iuc ≡ true) × (IsIn ch start i at_ch m sid iuc ⊎ SomeIn ch start is at_ch m sid iuc))
-filter_step q ch start i is at_ch m sid iuc rest b e = go b e
+-- what is left of intervals by a test of their SID and IUC
+SomeIn-filter : (q : ℕ → ℕ → Bool) (ch start : ℕ) (is : List Interval) (at_ch m sid iuc : ℕ) → SomeIn ch start (filter (λ i. q i.sid i.iuc) is) at_ch m sid iuc ↔ ((q sid iuc ≡ true) × SomeIn ch start is at_ch m sid iuc)
+SomeIn-filter q ch start [] at_ch m sid iuc = (λ h. absurd h, λ h. h.1)
+SomeIn-filter q ch start (i ∷ is) at_ch m sid iuc = go (SomeIn-filter q ch start is at_ch m sid iuc) (q i.sid i.iuc) refl
   where
     same : IsIn ch start i at_ch m sid iuc → q i.sid i.iuc ≡ q sid iuc
     same x = ap (λ n. q n i.iuc) x.same_sid ∙ ap (λ n. q sid n) x.same_iuc
 
-    go : (b : Bool) → q i.sid i.iuc ≡ b → SomeIn ch start (cond b (i ∷ filter (λ i. q i.sid i.iuc) is) (filter (λ i. q i.sid i.iuc) is)) at_ch m sid iuc ↔ ((q sid iuc ≡ true) × (IsIn ch start i at_ch m sid iuc ⊎ SomeIn ch start is at_ch m sid iuc))
-    go true e = (
+    go : SomeIn ch start (filter (λ i. q i.sid i.iuc) is) at_ch m sid iuc ↔ ((q sid iuc ≡ true) × SomeIn ch start is at_ch m sid iuc) → (b : Bool) → q i.sid i.iuc ≡ b → SomeIn ch start (cond b (i ∷ filter (λ i. q i.sid i.iuc) is) (filter (λ i. q i.sid i.iuc) is)) at_ch m sid iuc ↔ ((q sid iuc ≡ true) × (IsIn ch start i at_ch m sid iuc ⊎ SomeIn ch start is at_ch m sid iuc))
+    go rest true e = (
       λ h. elim h [ inl x ↦ (sym (same x) ∙ e, inl x) | inr y ↦ let r = rest.0 y in (r.0, inr r.1) ],
       λ (k, h). elim h [ inl x ↦ inl x | inr y ↦ inr (rest.1 (k, y)) ],
     )
-    go false e = (
+    go rest false e = (
       λ y. let r = rest.0 y in (r.0, inr r.1),
       λ (k, h). elim h [ inl x ↦ no_true (sym e ∙ same x ∙ k) | inr y ↦ rest.1 (k, y) ],
     )
-
--- what is left of intervals by a test of their SID and IUC
-pub SomeIn-filter : (q : ℕ → ℕ → Bool) (ch start : ℕ) (is : List Interval) (at_ch m sid iuc : ℕ) → SomeIn ch start (filter (λ i. q i.sid i.iuc) is) at_ch m sid iuc ↔ ((q sid iuc ≡ true) × SomeIn ch start is at_ch m sid iuc)
-SomeIn-filter q ch start [] at_ch m sid iuc = (λ h. absurd h, λ h. h.1)
-SomeIn-filter q ch start (i ∷ is) at_ch m sid iuc = filter_step q ch start i is at_ch m sid iuc (SomeIn-filter q ch start is at_ch m sid iuc) (q i.sid i.iuc) refl
 
 -- one element more
 interval_step : (ch start : ℕ) (e f : Element) (es : List Element) (at_ch m sid iuc : ℕ) → SomeIn ch start (intervals (f ∷ es)) at_ch m sid iuc ↔ ((ch ≡ at_ch) × (start ≤ m) × Cell (f ∷ es) (m - start) sid iuc) → (b : Bool) → is_null e ≡ b → SomeIn ch start (cond b [] (record { sid = e.sid; iuc = e.iuc; from = e.offset; to = f.offset } ∷ intervals (f ∷ es))) at_ch m sid iuc ↔ ((ch ≡ at_ch) × (start ≤ m) × ((is_null e ≡ false) × (Covers e f (m - start) sid iuc ⊎ Cell (f ∷ es) (m - start) sid iuc)))
 interval_step ch start e f es at_ch m sid iuc rest true null = (λ h. absurd h, λ h. no_true (sym h.2.0 ∙ null))
 interval_step ch start e f es at_ch m sid iuc rest false null = (
   λ h. elim h [
-    | inl x ↦ let low : start ≤ m = omega (arith, x.from) in (x.channel, low, (null, inl (record { same_sid = x.same_sid; same_iuc = x.same_iuc; from = omega (arith, x.from); to = omega (arith, x.from, x.to) })))
+    | inl x ↦ let low : start ≤ m = omega (arith, x.from) in (x.same_channel, low, (null, inl (record { same_sid = x.same_sid; same_iuc = x.same_iuc; from = omega (arith, x.from); to = omega (arith, x.from, x.to) })))
     | inr y ↦ let r = rest.0 y in (r.0, r.1, (null, inr r.2))
   ],
-  λ (c, low, (_, h)). elim h [ inl x ↦ inl (record { channel = c; same_sid = x.same_sid; same_iuc = x.same_iuc; from = omega (arith, x.from); to = omega (arith, x.to) }) | inr y ↦ inr (rest.1 (c, low, y)) ],
+  λ (c, low, (_, h)). elim h [ inl x ↦ inl (record { same_channel = c; same_sid = x.same_sid; same_iuc = x.same_iuc; from = omega (arith, x.from); to = omega (arith, x.to) }) | inr y ↦ inr (rest.1 (c, low, y)) ],
 )
 
 -- the intervals before the Null have what the map's cells have
-pub SomeIn-intervals : (ch start : ℕ) (es : List Element) (at_ch m sid iuc : ℕ) → SomeIn ch start (intervals es) at_ch m sid iuc ↔ ((ch ≡ at_ch) × (start ≤ m) × Cell es (m - start) sid iuc)
+SomeIn-intervals : (ch start : ℕ) (es : List Element) (at_ch m sid iuc : ℕ) → SomeIn ch start (intervals es) at_ch m sid iuc ↔ ((ch ≡ at_ch) × (start ≤ m) × Cell es (m - start) sid iuc)
 SomeIn-intervals ch start [] at_ch m sid iuc = (λ h. absurd h, λ h. h.2)
 SomeIn-intervals ch start (e ∷ []) at_ch m sid iuc = (λ h. absurd h, λ h. h.2)
 SomeIn-intervals ch start (e ∷ f ∷ es) at_ch m sid iuc = interval_step ch start e f es at_ch m sid iuc (SomeIn-intervals ch start (f ∷ es) at_ch m sid iuc) (is_null e) refl
 
--- the intervals of a map that pass a test of SID and IUC have what the map gives of these
-pub HasAt-given : (q : ℕ → ℕ → Bool) (map₀ : Body) (start at_ch m sid iuc : ℕ) → HasAt (map kept_interval (map (interval_of map₀.head.channel start) (filter (λ i. q i.sid i.iuc) (intervals map₀.elements)))) at_ch m sid iuc ↔ ((q sid iuc ≡ true) × GivesCell map₀ start at_ch m sid iuc)
-HasAt-given q map₀ start at_ch m sid iuc =
-    let ch = map₀.head.channel in
-    let some = HasAt-new ch start (filter (λ (i : Interval). q i.sid i.iuc) (intervals map₀.elements)) at_ch m sid iuc in
-    let passed = SomeIn-filter q ch start (intervals map₀.elements) at_ch m sid iuc in
-    let given = SomeIn-intervals ch start map₀.elements at_ch m sid iuc in (
-      λ h. let p = passed.0 (some.0 h) in let g = given.0 p.1 in (p.0, record { channel = g.0; from = g.1; cell = cell_in map₀.head map₀.elements (m - start) sid iuc g.2 }),
-      λ h. some.1 (passed.1 (h.0, given.1 (h.1.channel, h.1.from, cell_of map₀.head map₀.elements (m - start) sid iuc h.1.cell))),
+-- the intervals of a map have what it gives
+HasAt-all : (map₀ : Body) (start at_ch m sid iuc : ℕ) → SomeIn map₀.head.channel start (intervals map₀.elements) at_ch m sid iuc ↔ GivesCell map₀ start at_ch m sid iuc
+HasAt-all map₀ start at_ch m sid iuc =
+    let given = SomeIn-intervals map₀.head.channel start map₀.elements at_ch m sid iuc in (
+      λ h. let g = given.0 h in record { channel = g.0; from = g.1; cell = cell_in map₀.head map₀.elements (m - start) sid iuc g.2 },
+      λ h. given.1 (h.channel, h.from, cell_of map₀.head map₀.elements (m - start) sid iuc h.cell),
     )
 
--- the intervals of a map have what it gives
-HasAt-all : (map₀ : Body) (start at_ch m sid iuc : ℕ) → HasAt (map kept_interval (map (interval_of map₀.head.channel start) (intervals map₀.elements))) at_ch m sid iuc ↔ GivesCell map₀ start at_ch m sid iuc
-HasAt-all map₀ start at_ch m sid iuc =
-    let ch = map₀.head.channel in
-    let some = HasAt-new ch start (intervals map₀.elements) at_ch m sid iuc in
-    let given = SomeIn-intervals ch start map₀.elements at_ch m sid iuc in (
-      λ h. let g = given.0 (some.0 h) in record { channel = g.0; from = g.1; cell = cell_in map₀.head map₀.elements (m - start) sid iuc g.2 },
-      λ h. some.1 (given.1 (h.channel, h.from, cell_of map₀.head map₀.elements (m - start) sid iuc h.cell)),
-    )
+-- those that pass a test of SID and IUC have what it gives of these
+HasAt-given : (q : ℕ → ℕ → Bool) (map₀ : Body) (start at_ch m sid iuc : ℕ) → SomeIn map₀.head.channel start (filter (λ i. q i.sid i.iuc) (intervals map₀.elements)) at_ch m sid iuc ↔ ((q sid iuc ≡ true) × GivesCell map₀ start at_ch m sid iuc)
+HasAt-given q map₀ start at_ch m sid iuc =
+    let passed = SomeIn-filter q map₀.head.channel start (intervals map₀.elements) at_ch m sid iuc in
+    let all = HasAt-all map₀ start at_ch m sid iuc in
+    (λ h. let p = passed.0 h in (p.0, all.0 p.1), λ h. passed.1 (h.0, all.1 h.1))
 
 -- what is kept after a map: from the clock on what was kept, and the map's
 abbrev pub KeepsWith : List Kept → ℕ → ℕ → List KeptInterval → List Kept → Type 0

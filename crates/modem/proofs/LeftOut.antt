@@ -1,10 +1,12 @@
 -- Quiet ticks may be left out: the next tick leaves the same modem.
-use Rattle.std.proofs.Common.{◌≡◌, ℕ, zero, suc, ◌+◌, ◌<◌, ◌≤◌, Bool, true, false, cond, ◌==◌, List, [], ◌∷◌, Option, Some, None, refl, sym, subst, ◌∙◌, ap, arith, ◌↔◌, MatchBool}
+use Rattle.std.proofs.Common.{◌≡◌, ℕ, zero, suc, ◌+◌, ◌<◌, ◌≤◌, Bool, true, false, cond, ◌==◌, List, [], ◌∷◌, Option, Some, None, refl, sym, subst, ◌∙◌, ap, arith, ◌↔◌}
 use Rattle.std.specs.List.{All}
 use Rattle.std.proofs.lemmas.Bool.{eq-eqb}
 use Rattle.std.proofs.lemmas.List.Elements.{All-cons}
 use Rattle.map_body.specs.Iucs as iucs
 use Rattle.map_body.specs.Sids.{everybody}
+use Rattle.modem.proofs.Parts.{where_false}
+use Rattle.modem.proofs.AtKept.{Counts-same}
 use Rattle.modem.proofs.Clocks.{replaced, channel_of-with_channel, clock_of-row, clock_of-placed}
 use Rattle.modem.specs.declared.known.Channel.{Channel}
 use Rattle.modem.specs.declared.known.OwnLease.{OwnLease}
@@ -12,11 +14,10 @@ use Rattle.modem.specs.declared.known.Progress.{Progress}
 use Rattle.modem.specs.declared.known.Progress.TheVariants.{Unsent, Sent}
 use Rattle.modem.specs.declared.known.Want.{Want}
 use Rattle.modem.specs.declared.types.Sending.{Sending}
-use Rattle.modem.specs.declared.types.Sending.TheVariants.{Unicast}
-use Rattle.modem.specs.State.{State, Kept, HasAt, channel_of, clock_of, with_channel}
-use Rattle.modem.specs.Wants.{unsent_of, lasting}
+use Rattle.modem.specs.State.{State, HasAt, channel_of, clock_of, with_channel}
+use Rattle.modem.specs.Wants.{lasting}
 use Rattle.modem.specs.Hears.{KeepsHeld}
-use Rattle.modem.specs.Ticks.{Ticks, Counts, Polls, TakesPart, Contends, Shares, SendsBy, backoff_number}
+use Rattle.modem.specs.Ticks.{Ticks, TakesPart, Contends, Shares, SendsBy, backoff_number}
 use Rattle.modem.specs.NextEvent.{IsQuiet, AreQuiet, ticked, Runs}
 
 -- a row that is put in the place of one that was put there
@@ -27,11 +28,8 @@ with_twice a b (d ∷ ds) same = ap (λ x. x ∷ with_channel a (with_channel b 
     test : (d.id == a.id) ≡ (d.id == b.id)
     test = ap (λ n. d.id == n) same
 
-    self : (n : ℕ) → (n == n) ≡ true
-    self n = eq-eqb n n refl
-
     head : (t : Bool) → (d.id == b.id) ≡ t → cond ((cond t b d).id == a.id) a (cond t b d) ≡ cond (d.id == a.id) a d
-    head true e = ap (λ t. cond t a b) (ap (λ n. b.id == n) same ∙ self b.id) ∙ sym (ap (λ t. cond t a d) (test ∙ e))
+    head true e = ap (λ t. cond t a b) (ap (λ n. b.id == n) same ∙ eq-eqb b.id b.id refl) ∙ sym (ap (λ t. cond t a d) (test ∙ e))
     head false e = refl
 
 -- what a channel's clock doesn't bear on
@@ -51,28 +49,17 @@ module _ (c : Channel) (clock : ℕ) where
   shares_same : (leases : List OwnLease) (wants : List Want) (slot random : ℕ) (b : Bool) (s : Option Sending) (new : List Want) → Shares leases wants at_clock slot random b s new ↔ Shares leases wants c slot random b s new
   shares_same leases wants slot random false s new = (λ h. h, λ h. h)
   shares_same leases wants slot random true s new = (
-    λ (least, is, h). (least, is, coe₀ (contends_same wants slot random s new least) h),
-    λ (least, is, h). (least, is, coe₀ (sym (contends_same wants slot random s new least)) h),
+    λ (least, is, h). (least, is, subst (λ (X : Type 0). X) (contends_same wants slot random s new least) h),
+    λ (least, is, h). (least, is, subst (λ (X : Type 0). X) (sym (contends_same wants slot random s new least)) h),
   )
-    where
-      coe₀ : {A B : Type 0} → A ≡ B → A → B
-      coe₀ e a = subst (λ (X : Type 0). X) e a
 
   sends_same : (leases : List OwnLease) (wants : List Want) (slot random : ℕ) (b : Bool) (s : Option Sending) (new : List Want) (counted : Option (ℕ × ℕ)) → SendsBy leases wants at_clock slot random b s new counted ↔ SendsBy leases wants c slot random b s new counted
   sends_same leases wants slot random b s new None = shares_same leases wants slot random b s new
-  sends_same leases wants slot random b s new (Some p) = by_grant (iucs.lets_transmit p.1)
-    where
-      by_poll : (t : Bool) → MatchBool t (Polls wants p.0 slot s new (unsent_of wants c.id p.0)) (Shares leases wants at_clock slot random b s new) ↔ MatchBool t (Polls wants p.0 slot s new (unsent_of wants c.id p.0)) (Shares leases wants c slot random b s new)
-      by_poll true = (λ h. h, λ h. h)
-      by_poll false = shares_same leases wants slot random b s new
-
-      by_grant : (t : Bool) → MatchBool t ((s ≡ Some (Unicast p.0)) × (new ≡ wants)) (MatchBool (iucs.lets_request p.1) (Polls wants p.0 slot s new (unsent_of wants c.id p.0)) (Shares leases wants at_clock slot random b s new)) ↔ MatchBool t ((s ≡ Some (Unicast p.0)) × (new ≡ wants)) (MatchBool (iucs.lets_request p.1) (Polls wants p.0 slot s new (unsent_of wants c.id p.0)) (Shares leases wants c slot random b s new))
-      by_grant true = (λ h. h, λ h. h)
-      by_grant false = by_poll (iucs.lets_request p.1)
-
-counts_same : (ks more : List Kept) (ch m : ℕ) (counted : Option (ℕ × ℕ)) → ((sid iuc : ℕ) → HasAt ks ch m sid iuc ↔ HasAt more ch m sid iuc) → Counts ks ch m counted → Counts more ch m counted
-counts_same ks more ch m None same h = λ sid iuc there. h sid iuc ((same sid iuc).1 there)
-counts_same ks more ch m (Some p) same h = ((same p.0 p.1).0 h.0, λ sid iuc there. h.1 sid iuc ((same sid iuc).1 there))
+  sends_same leases wants slot random b s new (Some p) =
+      let same = shares_same leases wants slot random b s new in (
+        where_false _ _ _ (iucs.lets_transmit p.1) (where_false _ _ _ (iucs.lets_request p.1) same.0),
+        where_false _ _ _ (iucs.lets_transmit p.1) (where_false _ _ _ (iucs.lets_request p.1) same.1),
+      )
 
 -- a tick that was quiet, and one later
 module _ (v w : State) (c : Channel) (m random slot later : ℕ) (sending answer : Option Sending) (new : State) (found : channel_of v.channels c.id ≡ Some c) (after : m < slot) (quiet : IsQuiet v c m) (first : Ticks v c m random sending w) where
@@ -94,29 +81,23 @@ module _ (v w : State) (c : Channel) (m random slot later : ℕ) (sending answer
   rises : new.channels ≡ with_channel (ticked c slot) w.channels → (ch : ℕ) → clock_of w.channels ch ≤ clock_of new.channels ch
   rises made ch = subst (λ cs. clock_of w.channels ch ≤ clock_of cs ch) (sym made) (clock_of-row d (slot + 1) c.backoff w.channels c.id ch found_after (omega (arith, after)))
 
-  held_on : KeepsHeld w new → new.channels ≡ with_channel (ticked c slot) w.channels → KeepsHeld v new
-  held_on held made = record {
-    grants = λ ch x sid iuc from.
-        let a = held.grants ch x sid iuc from in
-        let b = first.held.grants ch x sid iuc (omega (arith, from, rises made ch)) in
-        (λ h. b.0 (a.0 h), λ h. a.1 (b.1 h));
-    open_to_all = λ ch x from.
-        let a = held.open_to_all ch x from in
-        let b = first.held.open_to_all ch x (omega (arith, from, rises made ch)) in
-        (λ h. b.0 (a.0 h), λ h. a.1 (b.1 h));
-  }
+  held_same : new.channels ≡ with_channel (ticked c slot) w.channels → KeepsHeld w new ↔ KeepsHeld v new
+  held_same made = (
+    λ held. record {
+      grants = λ ch x sid iuc from. let a = held.grants ch x sid iuc from in let b = own ch x sid iuc from in (λ h. b.0 (a.0 h), λ h. a.1 (b.1 h));
+      open_to_all = λ ch x from. let a = held.open_to_all ch x from in let b = shared ch x from in (λ h. b.0 (a.0 h), λ h. a.1 (b.1 h));
+    },
+    λ held. record {
+      grants = λ ch x sid iuc from. let a = held.grants ch x sid iuc from in let b = own ch x sid iuc from in (λ h. b.1 (a.0 h), λ h. a.1 (b.0 h));
+      open_to_all = λ ch x from. let a = held.open_to_all ch x from in let b = shared ch x from in (λ h. b.1 (a.0 h), λ h. a.1 (b.0 h));
+    },
+  )
+    where
+      own : (ch x sid iuc : ℕ) → clock_of new.channels ch ≤ x → HasAt w.grants ch x sid iuc ↔ HasAt v.grants ch x sid iuc
+      own ch x sid iuc from = first.held.grants ch x sid iuc (omega (arith, from, rises made ch))
 
-  held_back : KeepsHeld v new → new.channels ≡ with_channel (ticked c slot) w.channels → KeepsHeld w new
-  held_back held made = record {
-    grants = λ ch x sid iuc from.
-        let a = held.grants ch x sid iuc from in
-        let b = first.held.grants ch x sid iuc (omega (arith, from, rises made ch)) in
-        (λ h. b.1 (a.0 h), λ h. a.1 (b.0 h));
-    open_to_all = λ ch x from.
-        let a = held.open_to_all ch x from in
-        let b = first.held.open_to_all ch x (omega (arith, from, rises made ch)) in
-        (λ h. b.1 (a.0 h), λ h. a.1 (b.0 h));
-  }
+      shared : (ch x : ℕ) → clock_of new.channels ch ≤ x → HasAt w.open_to_all ch x everybody iucs.request ↔ HasAt v.open_to_all ch x everybody iucs.request
+      shared ch x from = first.held.open_to_all ch x (omega (arith, from, rises made ch))
 
   at_slot : (sid iuc : ℕ) → HasAt w.grants c.id slot sid iuc ↔ HasAt v.grants c.id slot sid iuc
   at_slot sid iuc = first.held.grants c.id slot sid iuc (omega (arith, now, after))
@@ -129,10 +110,10 @@ module _ (v w : State) (c : Channel) (m random slot later : ℕ) (sending answer
     id = t.id ∙ first.id;
     channels = t.channels ∙ rows;
     leases = t.leases ∙ first.leases;
-    held = held_on t.held t.channels;
+    held = (held_same t.channels).0 t.held;
     sends = (
       t.sends.0,
-      counts_same w.grants v.grants c.id slot t.sends.0 at_slot t.sends.1,
+      Counts-same w.grants v.grants c.id slot slot t.sends.0 (λ sid iuc. ((at_slot sid iuc).1, (at_slot sid iuc).0)) t.sends.1,
       t.sends.2,
       (λ h. opens_at.0 (t.sends.3.0 h), λ h. t.sends.3.1 (opens_at.1 h)),
       t.sends.4,
@@ -146,10 +127,10 @@ module _ (v w : State) (c : Channel) (m random slot later : ℕ) (sending answer
     id = t.id ∙ sym first.id;
     channels = t.channels ∙ sym rows;
     leases = t.leases ∙ sym first.leases;
-    held = held_back t.held (t.channels ∙ sym rows);
+    held = (held_same (t.channels ∙ sym rows)).1 t.held;
     sends = (
       t.sends.0,
-      counts_same v.grants w.grants c.id slot t.sends.0 (λ sid iuc. ((at_slot sid iuc).1, (at_slot sid iuc).0)) t.sends.1,
+      Counts-same v.grants w.grants c.id slot slot t.sends.0 at_slot t.sends.1,
       t.sends.2,
       (λ h. opens_at.1 (t.sends.3.0 h), λ h. t.sends.3.1 (opens_at.0 h)),
       t.sends.4,

@@ -2,6 +2,7 @@ pub mod Callers
 mod Times
 mod CellList
 mod Parts
+mod Tests
 mod Least
 mod AtKept
 mod Order
@@ -20,3 +21,4 @@ mod NextEdges
 mod Sights
 mod Spans
 mod LeftOut
+mod Declined

@@ -1,17 +1,18 @@
 -- Kept intervals that are old: how many, and that none is left.
-use Rattle.std.proofs.Common.{◌≡◌, ℕ, zero, suc, ◌+◌, ◌-◌, ◌*◌, ◌/◌, ◌^◌, ◌<◌, ◌≤◌, Bool, true, false, cond, not, ◌==◌, ◌&&◌, nat_lt, nat_le, ltb, List, [], ◌∷◌, ◌++◌, Some, length, take, drop, map, get_or, refl, sym, subst, ◌∙◌, ap, arith, ◌⊎◌, inl, inr}
+use Rattle.std.proofs.Common.{◌≡◌, ℕ, zero, suc, ◌+◌, ◌-◌, ◌*◌, ◌/◌, ◌^◌, ◌<◌, ◌≤◌, Bool, true, false, cond, not, ◌==◌, ◌&&◌, nat_lt, nat_le, List, [], ◌∷◌, ◌++◌, Some, length, take, drop, map, get_or, refl, sym, subst, ◌∙◌, ap, arith, ◌⊎◌, inl, inr}
 use Rattle.std.specs.List.{AllWithin, filter}
 use Rattle.std.proofs.Math.Nat.{mul-le-mul_left, div-mul-le_self}
-use Rattle.std.proofs.lemmas.Bool.{cases_lt, ltb-true, ltb-false, and_parts, or_cases, eqb-true, eq-eqb}
+use Rattle.std.proofs.lemmas.Bool.{cases_lt, and_parts, or_cases, eqb-true, eq-eqb}
 use Rattle.std.proofs.lemmas.Bool.Decides.{nat_tests}
 use Rattle.std.proofs.lemmas.Grind.{common_steps}
 use Rattle.std.proofs.lemmas.List.{length-map, get_or-take, get_or-drop, length-take-le, get_or_append_left, get_or-append_right}
-use Rattle.modem.proofs.Parts.{no_true}
+use Rattle.modem.proofs.Parts.{no_true, at_least}
+use Rattle.modem.proofs.Order.{nothing}
 use Rattle.modem.proofs.Clocks.{clock_of-placed, found_id}
 use Rattle.modem.specs.declared.known.Channel.{Channel}
 use Rattle.modem.specs.declared.kept.KeptInterval.{KeptInterval}
 use Rattle.modem.specs.State.{State, Kept, channel_of, clock_of, with_channel}
-use Rattle.modem.specs.KeptIntervals.{kept_interval, place, place_of, AreKept, is_live}
+use Rattle.modem.specs.KeptIntervals.{kept_interval, place, place_of, AreKept, AreBefore, is_live}
 use Rattle.modem.specs.LetsGo.{old_intervals, HasNoOld, HasFewOld}
 
 with_first : (b : Bool) (x : Kept) (xs : List Kept) (n : ℕ) → (b ≡ true → suc (length xs) ≤ n) → length xs ≤ n → length (cond b (x ∷ xs) xs) ≤ n
@@ -48,88 +49,54 @@ is_old ch clock k t =
     let late : nat_le (k.start + 16384) clock ≡ true = parts.1 in
     record { same = eqb-true _ _ parts.0; old = grind (arith, nat_tests) }
 
-nothing : KeptInterval
-nothing = record { channel = 0; sid = 0; iuc = 0; start = 0; stop = 0 }
-
 -- the old ones stand behind those of lower channels and before those that began later
-pub few_old : (ks : List KeptInterval) (ch clock before old : ℕ) → AllWithin (λ k. ltb (place_of k) (place ch 0) ≡ true) ks 0 before → AllWithin (λ k. ltb (place_of k) (place ch (clock - 16383)) ≡ false) (drop before ks) old (length (drop before ks)) → length (old_intervals ch clock (map kept_interval ks)) ≤ old
-few_old ks ch clock before old low high = few_pass (λ k. (k.channel == ch) && nat_le (k.start + 2 ^ 14) clock) nothing ks before old only
+pub few_old : (ks : List KeptInterval) (ch clock from until : ℕ) → AreBefore (place ch 0) from ks → AllWithin (λ k. place ch (clock - 16383) ≤ place_of k) ks until (length ks) → length (old_intervals ch clock (map kept_interval ks)) ≤ until - from
+few_old ks ch clock from until low high = few_pass (λ k. (k.channel == ch) && nat_le (k.start + 2 ^ 14) clock) nothing ks from (until - from) only
   where
-    dropped : length (drop before ks) ≡ length ks - before
-    dropped = grind (arith, common_steps)
-
-    only : (i : ℕ) → i < length ks → (((get_or ks i nothing).channel == ch) && nat_le ((get_or ks i nothing).start + 2 ^ 14) clock) ≡ true → (before ≤ i) × (i < before + old)
-    only i lt t = (from (cases_lt i before), to (cases_lt i (before + old)))
-      where
-        here : IsOld ch clock (get_or ks i nothing)
-        here = is_old ch clock (get_or ks i nothing) t
-
-        from : (i < before) ⊎ (before ≤ i) → before ≤ i
-        from (inl early) =
-            let below = ltb-true _ _ (low i nothing (omega arith) early) in
-            let same : (get_or ks i nothing).channel ≡ ch = here.same in
-            absurd (omega (arith, below, same))
-        from (inr late) = late
-
-        to : (i < before + old) ⊎ (before + old ≤ i) → i < before + old
-        to (inl soon) = soon
-        to (inr late) =
-            let at : get_or (drop before ks) (i - before) nothing ≡ get_or ks (before + (i - before)) nothing = get_or-drop before ks (i - before) nothing in
-            let same_place : before + (i - before) ≡ i = omega (arith, late) in
-            let one : get_or (drop before ks) (i - before) nothing ≡ get_or ks i nothing = at ∙ ap (λ j. get_or ks j nothing) same_place in
-            let above = ltb-false _ _ (subst (λ (k : KeptInterval). ltb (place_of k) (place ch (clock - 16383)) ≡ false) one (high (i - before) nothing (omega (arith, late)) (omega (arith, dropped, lt, late)))) in
-            let same : (get_or ks i nothing).channel ≡ ch = here.same in
-            let began : (get_or ks i nothing).start + 16384 ≤ clock = here.old in
-            absurd (omega (arith, above, same, began))
+    only : (i : ℕ) → i < length ks → (((get_or ks i nothing).channel == ch) && nat_le ((get_or ks i nothing).start + 2 ^ 14) clock) ≡ true → (from ≤ i) × (i < from + (until - from))
+    only i lt t =
+        let here = is_old ch clock (get_or ks i nothing) t in
+        let first = at_least from i (λ early. let below = low.before i nothing (omega arith) early in omega (arith, below, here.same)) in
+        let last = at_least (suc i) until (λ late. let above = high i nothing (omega (arith, late)) lt in omega (arith, above, here.same, here.old)) in
+        (first, omega (arith, first, last))
 
 -- a run of ended ones that goes up to one that hasn't ended leaves none that is old
-pub none_old : (ks : List KeptInterval) (ch clock t before count : ℕ) → clock < 2 ^ 64 → t ≤ clock + 1 → AreKept ks → before ≤ length ks → count ≤ length (drop before ks) → AllWithin (λ k. ltb (place_of k) (place ch 0) ≡ true) ks 0 before → AllWithin (λ k. ltb (place_of k) (place ch 0) ≡ false) ks before (length ks) → ((d : KeptInterval) → count < length (drop before ks) → (is_live ch clock (get_or (drop before ks) count d) ≡ true) × ((get_or (drop before ks) count d).start < 2 ^ 64)) → old_intervals ch t (map kept_interval (take before ks ++ drop (before + count) ks)) ≡ []
-none_old ks ch clock t before count range soon kept within inside low high next = none_pass _ (few_pass (λ k. (k.channel == ch) && nat_le (k.start + 2 ^ 14) t) nothing left 0 0 (λ i lt is. absurd (none i lt (is_old ch t (get_or left i nothing) is))))
+pub none_old : (ks : List KeptInterval) (ch clock t from to : ℕ) → clock < 2 ^ 64 → t ≤ clock + 1 → AreKept ks → AreBefore (place ch 0) from ks → from ≤ to → to ≤ length ks → ((d : KeptInterval) → to < length ks → (is_live ch clock (get_or ks to d) ≡ true) × ((get_or ks to d).start < 2 ^ 64)) → old_intervals ch t (map kept_interval (take from ks ++ drop to ks)) ≡ []
+none_old ks ch clock t from to range soon kept low order within next = none_pass _ (few_pass (λ k. (k.channel == ch) && nat_le (k.start + 2 ^ 14) t) nothing left 0 0 (λ i lt is. absurd (none i lt (is_old ch t (get_or left i nothing) is) (cases_lt i from))))
   where
     left : List KeptInterval
-    left = take before ks ++ drop (before + count) ks
+    left = take from ks ++ drop to ks
 
-    front : length (take before ks) ≡ before
-    front = length-take-le before ks within
+    front : length (take from ks) ≡ from
+    front = length-take-le from ks low.bound
 
-    dropped : length (drop before ks) ≡ length ks - before
-    dropped = grind (arith, common_steps)
-
-    size : length left ≤ before + (length ks - (before + count))
+    size : length left ≤ from + (length ks - to)
     size = grind (arith, common_steps)
 
-    none : (i : ℕ) → i < length left → IsOld ch t (get_or left i nothing) → ⊥
-    none i lt old = by_side (cases_lt i before)
+    none : (i : ℕ) → i < length left → IsOld ch t (get_or left i nothing) → (i < from) ⊎ (from ≤ i) → ⊥
+    none i lt old (inl early) =
+        let here : get_or left i nothing ≡ get_or ks i nothing = get_or_append_left (take from ks) (drop to ks) nothing i (omega (arith, front, early)) ∙ get_or-take from ks i nothing early in
+        let below = low.before i nothing (omega arith) early in
+        let is : IsOld ch t (get_or ks i nothing) = subst (IsOld ch t) here old in
+        omega (arith, below, is.same)
+    none i lt old (inr late) =
+        let j : ℕ = to + (i - from) in
+        let here : get_or left i nothing ≡ get_or ks j nothing = get_or-append_right (take from ks) (drop to ks) from i nothing front late ∙ get_or-drop to ks (i - from) nothing in
+        let is : IsOld ch t (get_or ks j nothing) = subst (IsOld ch t) here old in
+        let some : to < length ks = omega (arith, size, lt, late) in
+        let live = next nothing some in
+        after (get_or ks to nothing) (get_or ks j nothing) is (low.from to nothing order some)
+        (kept.ordered to j nothing (omega (arith, late)) (omega (arith, size, lt, late)))
+        (kept.short to nothing some) live.0 live.1
       where
-        by_side : (i < before) ⊎ (before ≤ i) → ⊥
-        by_side (inl early) =
-            let here : get_or left i nothing ≡ get_or ks i nothing = get_or_append_left (take before ks) (drop (before + count) ks) nothing i (omega (arith, front, early)) ∙ get_or-take before ks i nothing early in
-            let below = ltb-true _ _ (low i nothing (omega arith) early) in
-            let is : IsOld ch t (get_or ks i nothing) = subst (IsOld ch t) here old in
-            let same : (get_or ks i nothing).channel ≡ ch = is.same in
-            omega (arith, below, same)
-        by_side (inr late) =
-            let j : ℕ = before + count + (i - before) in
-            let here : get_or left i nothing ≡ get_or ks j nothing = get_or-append_right (take before ks) (drop (before + count) ks) before i nothing front late ∙ get_or-drop (before + count) ks (i - before) nothing in
-            let is : IsOld ch t (get_or ks j nothing) = subst (IsOld ch t) here old in
-            let at : get_or (drop before ks) count nothing ≡ get_or ks (before + count) nothing = get_or-drop before ks count nothing in
-            let some : count < length (drop before ks) = omega (arith, dropped, size, lt, late) in
-            let live = next nothing some in
-            after (get_or ks (before + count) nothing) (get_or ks j nothing) is
-            (ltb-false _ _ (high (before + count) nothing (omega arith) (omega (arith, some, dropped))))
-            (kept.ordered (before + count) j nothing (omega (arith, late)) (omega (arith, size, lt, late)))
-            (kept.short (before + count) nothing (omega (arith, some, dropped)))
-            (subst (λ (k : KeptInterval). is_live ch clock k ≡ true) at live.0)
-            (subst (λ (k : KeptInterval). k.start < 2 ^ 64) at live.1)
-          where
-            after : (h k : KeptInterval) → IsOld ch t k → place ch 0 ≤ place_of h → place_of h ≤ place_of k → h.stop < h.start + 16384 → is_live ch clock h ≡ true → h.start < 2 ^ 64 → ⊥
-            after h k is from to short live bound =
-                let same : k.channel ≡ ch = is.same in
-                let began : k.start + 16384 ≤ t = is.old in
-                let one : h.channel ≡ ch = omega (arith, from, to, same, began, range, bound, soon) in
-                let open_still : nat_lt clock h.stop ≡ true = elim (or_cases (not (h.channel == ch)) (nat_lt clock h.stop) live) [ inl other ↦ no_true (sym (ap not (eq-eqb _ _ one)) ∙ other) | inr still ↦ still ] in
-                let not_ended : clock < h.stop = grind (arith, nat_tests) in
-                omega (arith, one, to, same, began, short, not_ended, soon)
+        after : (h k : KeptInterval) → IsOld ch t k → place ch 0 ≤ place_of h → place_of h ≤ place_of k → h.stop < h.start + 16384 → is_live ch clock h ≡ true → h.start < 2 ^ 64 → ⊥
+        after h k is first up short live bound =
+            let same : k.channel ≡ ch = is.same in
+            let began : k.start + 16384 ≤ t = is.old in
+            let one : h.channel ≡ ch = omega (arith, first, up, same, began, range, bound, soon) in
+            let open_still : nat_lt clock h.stop ≡ true = elim (or_cases (not (h.channel == ch)) (nat_lt clock h.stop) live) [ inl other ↦ no_true (sym (ap not (eq-eqb _ _ one)) ∙ other) | inr still ↦ still ] in
+            let not_ended : clock < h.stop = grind (arith, nat_tests) in
+            omega (arith, one, up, same, began, short, not_ended, soon)
 
 -- where the old ones aren't many, of so many channels
 pub few_of : (n old len channels : ℕ) → n ≤ old → (0 < old → channels < len / old / 2) → 2 * (channels + 1) * n ≤ len
@@ -164,32 +131,24 @@ HasFewOld-made old new c ch clock found made grants open_to_all =
     record { grants = as_now new.grants grants; open_to_all = as_now new.open_to_all open_to_all }
 
 -- few are old behind a minislot before that behind which one more is
-pub few_before : (ks : List KeptInterval) (n ch m before few : ℕ) → m < 2 ^ 64 → AreKept ks → AllWithin (λ k. ltb (place_of k) (place ch 0) ≡ true) ks 0 before → AllWithin (λ k. ltb (place_of k) (place ch 0) ≡ false) ks before (length ks) → 2 * (n + 1) * few ≤ length ks → ((d : KeptInterval) → before + few < length ks → ((get_or ks (before + few) d).start < 2 ^ 64) × ((get_or ks (before + few) d).channel ≡ ch → m < (get_or ks (before + few) d).start + 16383)) → 2 * (n + 1) * length (old_intervals ch (m + 1) (map kept_interval ks)) ≤ length (map kept_interval ks)
-few_before ks n ch m before few limit kept low high share next =
-    let some = few_old ks ch (m + 1) before few low later in
-    let all : 2 * (n + 1) * length (old_intervals ch (m + 1) (map kept_interval ks)) ≤ 2 * (n + 1) * few = mul-le-mul_left (2 * (n + 1)) some in
+pub few_before : (ks : List KeptInterval) (n ch m from few : ℕ) → m < 2 ^ 64 → AreKept ks → AreBefore (place ch 0) from ks → 2 * (n + 1) * few ≤ length ks → ((d : KeptInterval) → from + few < length ks → ((get_or ks (from + few) d).start < 2 ^ 64) × ((get_or ks (from + few) d).channel ≡ ch → m < (get_or ks (from + few) d).start + 16383)) → 2 * (n + 1) * length (old_intervals ch (m + 1) (map kept_interval ks)) ≤ length (map kept_interval ks)
+few_before ks n ch m from few limit kept low share next =
+    let some = few_old ks ch (m + 1) from (from + few) low later in
+    let all : 2 * (n + 1) * length (old_intervals ch (m + 1) (map kept_interval ks)) ≤ 2 * (n + 1) * few = mul-le-mul_left (2 * (n + 1)) (omega (arith, some)) in
     rw (length-map ks kept_interval) (omega (arith, all, share))
   where
-    dropped : length (drop before ks) ≡ length ks - before
-    dropped = grind (arith, common_steps)
+    begin : (k : KeptInterval) → place ch 0 ≤ place_of k → k.start < 2 ^ 64 → (k.channel ≡ ch → m < k.start + 16383) → (ch < k.channel) ⊎ (k.channel ≤ ch) → place ch (m + 1 - 16383) ≤ place_of k
+    begin k behind bound young (inl above) = omega (arith, above, limit)
+    begin k behind bound young (inr not_above) =
+        let same : k.channel ≡ ch = omega (arith, behind, bound, not_above) in
+        let soon : m < k.start + 16383 = young same in
+        omega (arith, same, soon)
 
-    later : (i : ℕ) (d : KeptInterval) → few ≤ i → i < length (drop before ks) → ltb (place_of (get_or (drop before ks) i d)) (place ch (m + 1 - 16383)) ≡ false
-    later i d from lt =
-        let there : get_or (drop before ks) i d ≡ get_or ks (before + i) d = get_or-drop before ks i d in
-        let within : before + i < length ks = omega (arith, dropped, lt) in
-        let first : before + few < length ks = omega (arith, within, from) in
-        let up : place_of (get_or ks (before + few) d) ≤ place_of (get_or ks (before + i) d) = kept.ordered (before + few) (before + i) d (omega (arith, from)) within in
-        let behind : place ch 0 ≤ place_of (get_or ks (before + few) d) = ltb-false _ _ (high (before + few) d (omega arith) first) in
+    later : (i : ℕ) (d : KeptInterval) → from + few ≤ i → i < length ks → place ch (m + 1 - 16383) ≤ place_of (get_or ks i d)
+    later i d late lt =
+        let first : from + few < length ks = omega (arith, late, lt) in
+        let k : KeptInterval = get_or ks (from + few) d in
+        let up : place_of k ≤ place_of (get_or ks i d) = kept.ordered (from + few) i d late lt in
         let begun = next d first in
-        let young : place ch (m + 1 - 16383) ≤ place_of (get_or ks (before + few) d) = begin (get_or ks (before + few) d) behind begun.0 begun.1 (cases_lt ch (get_or ks (before + few) d).channel) in
-        subst (λ (k : KeptInterval). ltb (place_of k) (place ch (m + 1 - 16383)) ≡ false) (sym there) (not_less _ _ (omega (arith, young, up)))
-      where
-        not_less : (a b : ℕ) → b ≤ a → ltb a b ≡ false
-        not_less a b le = grind (arith, nat_tests)
-
-        begin : (k : KeptInterval) → place ch 0 ≤ place_of k → k.start < 2 ^ 64 → (k.channel ≡ ch → m < k.start + 16383) → (ch < k.channel) ⊎ (k.channel ≤ ch) → place ch (m + 1 - 16383) ≤ place_of k
-        begin k behind bound young (inl above) = omega (arith, above, limit)
-        begin k behind bound young (inr not_above) =
-            let same : k.channel ≡ ch = omega (arith, behind, bound, not_above) in
-            let soon : m < k.start + 16383 = young same in
-            omega (arith, same, soon)
+        let young : place ch (m + 1 - 16383) ≤ place_of k = begin k (low.from (from + few) d (omega arith) first) begun.0 begun.1 (cases_lt ch k.channel) in
+        omega (arith, young, up)

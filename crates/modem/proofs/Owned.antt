@@ -26,22 +26,25 @@ owner_of outputs id (Assigned a c s f l) near ch m sid iuc schedule is_output ti
 owner_of outputs id (MapOutput c start len bytes) near ch m sid iuc schedule is_output timely (map, begin, starts, given) assigned =
     let facts = schedule.maps c start len bytes is_output in
     let one : facts.0 ≡ map = one_body bytes facts.0 map facts.1.body starts.body in
-    let P : Body → Type 0 = λ o. IsMapOf c start bytes o in
-    let here : IsMapOf c start bytes map = subst P one facts.1 in
+    let here : IsMapOf c start bytes map = subst (λ (o : Body). IsMapOf c start bytes o) one facts.1 in
     let near_start : IsNear map.head.start near start = record { low = here.start_is; not_earlier = omega (arith, timely.0); earlier = timely.1; fits = here.bound } in
     let same : begin ≡ start = near_once map.head.start near begin start starts.extension near_start in
     let channel : c ≡ ch = sym here.channel ∙ given.channel in
-    let O : ℕ → Type 0 = λ n. Contains outputs (MapOutput n start len bytes) in
-    let B : ℕ → Type 0 = λ n. n ≤ m in
-    let C : ℕ → Type 0 = λ n. IsCell map (m - n) given.cell.0 in
     let same_sid : given.cell.0.sid ≡ sid = given.cell.2 in
-    let A : ℕ → Type 0 = λ n. IsLeased outputs id ch n m in
-    let U : ℕ → Type 0 = λ n. (1 ≤ n) × (n ≤ 8191) in
     record {
       element = given.cell.0;
-      given = record { start = start; len = len; bytes = bytes; map = map; told = subst O channel is_output; body = starts.body; begun = subst B same given.from; cell = subst C same given.cell.1 };
-      unicast = subst U (sym same_sid) (schedule.unicast id ch sid assigned.first assigned.last assigned.assigned);
-      assigned = subst A (sym same_sid) assigned;
+      given = record {
+        start = start;
+        len = len;
+        bytes = bytes;
+        map = map;
+        body = starts.body;
+        told = subst (λ (n : ℕ). Contains outputs (MapOutput n start len bytes)) channel is_output;
+        begun = subst (λ (n : ℕ). n ≤ m) same given.from;
+        cell = subst (λ (n : ℕ). IsCell map (m - n) given.cell.0) same given.cell.1;
+      };
+      unicast = subst (λ (n : ℕ). (1 ≤ n) × (n ≤ 8191)) (sym same_sid) (schedule.unicast id ch sid assigned.first assigned.last assigned.assigned);
+      assigned = subst (λ (n : ℕ). IsLeased outputs id ch n m) (sym same_sid) assigned;
     }
 
 -- what a modem that heard outputs of a schedule holds, it owns

@@ -1,10 +1,10 @@
 -- The parts of intervals that leases cover have what the intervals have where a lease covers it.
-use Rattle.std.proofs.Common.{◌≡◌, ℕ, suc, ◌+◌, ◌<◌, ◌≤◌, ◌^◌, Bool, true, false, ◌==◌, ◌&&◌, nat_le, if◌then◌else◌, min, max, List, [], ◌∷◌, map, Some, None, refl, sym, ◌∙◌, arith, inl, inr, ◌↔◌}
+use Rattle.std.proofs.Common.{◌≡◌, ℕ, suc, ◌+◌, ◌<◌, ◌≤◌, ◌^◌, Bool, true, false, ◌==◌, if◌then◌else◌, min, max, List, [], ◌∷◌, map, Some, None, refl, sym, ◌∙◌, arith, inl, inr, ◌↔◌}
 use Rattle.std.specs.List.{All, filter_map, cons_option}
-use Rattle.std.proofs.lemmas.Bool.Decides.{nat_tests}
 use Rattle.std.proofs.lemmas.List.Elements.{All-nil, All-cons, All-append}
 use Rattle.std.proofs.lemmas.Bool.{and_parts, or_cases, or_left, or_right, and_from, eqb-true, eq-eqb}
 use Rattle.modem.proofs.Parts.{no_true}
+use Rattle.modem.proofs.Tests.{covers_tells, covers_from}
 use Rattle.modem.proofs.Order.{HasAt-joined}
 use Rattle.modem.specs.declared.kept.KeptInterval.{KeptInterval}
 use Rattle.modem.specs.declared.known.OwnLease.{OwnLease}
@@ -15,32 +15,19 @@ use Rattle.modem.specs.KeptIntervals.{kept_interval, IsShort, piece, covered}
 abbrev cut_to : KeptInterval → OwnLease → KeptInterval
 cut_to k l = record k { start = max k.start l.first; stop = min k.stop (l.last + 1) }
 
-at_most : (a b : ℕ) → nat_le a b ≡ true → a ≤ b
-at_most a b h = grind (arith, nat_tests)
-
-is_at_most : (a b : ℕ) → a ≤ b → nat_le a b ≡ true
-is_at_most a b h = grind (arith, nat_tests)
-
 -- a lease of the interval's SID: its part has what the interval has in the lease
 cut_in : (k : KeptInterval) (l : OwnLease) (ch m sid iuc : ℕ) → is_of k.channel k.sid l ≡ true → IsAt (kept_interval (cut_to k l)) ch m sid iuc → (covers ch sid m l ≡ true) × IsAt (kept_interval k) ch m sid iuc
 cut_in k l ch m sid iuc of x =
     let parts : ((l.channel == k.channel) ≡ true) × ((l.sid == k.sid) ≡ true) = and_parts _ _ of in
     let from : max k.start l.first ≤ m = x.from in
-    let to : m < min k.stop (l.last + 1) = x.to in
-    let first : l.first ≤ m = omega arith in
-    let last : m ≤ l.last = omega arith in (
-      and_from _ _
-          (and_from _ _ (eq-eqb _ _ (eqb-true _ _ parts.0 ∙ x.same_channel)) (eq-eqb _ _ (eqb-true _ _ parts.1 ∙ x.same_sid)))
-          (and_from _ _ (is_at_most l.first m first) (is_at_most m l.last last)),
+    let to : m < min k.stop (l.last + 1) = x.to in (
+      covers_from l.channel ch l.sid sid l.first l.last m (eqb-true _ _ parts.0 ∙ x.same_channel) (eqb-true _ _ parts.1 ∙ x.same_sid) (omega arith) (omega arith),
       record { same_channel = x.same_channel; same_sid = x.same_sid; same_iuc = x.same_iuc; from = omega arith; to = omega arith },
     )
 
 cut_out : (k : KeptInterval) (l : OwnLease) (ch m sid iuc : ℕ) → covers ch sid m l ≡ true → IsAt (kept_interval k) ch m sid iuc → IsAt (kept_interval (cut_to k l)) ch m sid iuc
 cut_out k l ch m sid iuc c x =
-    let parts : (is_of ch sid l ≡ true) × ((nat_le l.first m && nat_le m l.last) ≡ true) = and_parts _ _ c in
-    let range : (nat_le l.first m ≡ true) × (nat_le m l.last ≡ true) = and_parts _ _ parts.1 in
-    let first : l.first ≤ m = at_most l.first m range.0 in
-    let last : m ≤ l.last = at_most m l.last range.1 in
+    let (of_ch, of_sid, first, last) = covers_tells l.channel ch l.sid sid l.first l.last m c in
     let from : k.start ≤ m = x.from in
     let to : m < k.stop = x.to in
     record { same_channel = x.same_channel; same_sid = x.same_sid; same_iuc = x.same_iuc; from = omega arith; to = omega arith }
@@ -48,9 +35,8 @@ cut_out k l ch m sid iuc c x =
 -- a lease of another SID covers nothing of the interval
 not_of : (k : KeptInterval) (l : OwnLease) (ch m sid iuc : ℕ) → is_of k.channel k.sid l ≡ false → covers ch sid m l ≡ true → IsAt (kept_interval k) ch m sid iuc → ⊥
 not_of k l ch m sid iuc off c x =
-    let parts : (is_of ch sid l ≡ true) × ((nat_le l.first m && nat_le m l.last) ≡ true) = and_parts _ _ c in
-    let of : ((l.channel == ch) ≡ true) × ((l.sid == sid) ≡ true) = and_parts _ _ parts.0 in
-    no_true (sym off ∙ and_from _ _ (eq-eqb _ _ (eqb-true _ _ of.0 ∙ sym x.same_channel)) (eq-eqb _ _ (eqb-true _ _ of.1 ∙ sym x.same_sid)))
+    let (of_ch, of_sid, first, last) = covers_tells l.channel ch l.sid sid l.first l.last m c in
+    no_true (sym off ∙ and_from _ _ (eq-eqb _ _ (of_ch ∙ sym x.same_channel)) (eq-eqb _ _ (of_sid ∙ sym x.same_sid)))
 
 -- the parts of one interval
 HasAt-pieces : (leases : List OwnLease) (k : KeptInterval) (ch m sid iuc : ℕ) → HasAt (map kept_interval (filter_map (piece k) leases)) ch m sid iuc ↔ ((is_own_at leases ch sid m ≡ true) × IsAt (kept_interval k) ch m sid iuc)
@@ -78,15 +64,12 @@ HasAt-covered leases (k ∷ ks) ch m sid iuc =
       λ h. elim h.1 [ inl x ↦ joined.1 (inl (this.1 (h.0, x))) | inr y ↦ joined.1 (inr (rest.1 (h.0, y))) ],
     )
 
-short_cut : (k : KeptInterval) (l : OwnLease) → IsShort k → IsShort (cut_to k l)
-short_cut k l h = let short : k.stop < k.start + 2 ^ 14 = h in omega arith
-
 pub All-pieces : (leases : List OwnLease) (k : KeptInterval) → IsShort k → All IsShort (filter_map (piece k) leases)
 All-pieces [] k short = All-nil IsShort
 All-pieces (l ∷ ls) k short = go (All-pieces ls k short) (is_of k.channel k.sid l)
   where
     go : All IsShort (filter_map (piece k) ls) → (b : Bool) → All IsShort (cons_option (if b then Some (cut_to k l) else None) (filter_map (piece k) ls))
-    go rest true = All-cons IsShort (cut_to k l) (filter_map (piece k) ls) (short_cut k l short) rest
+    go rest true = All-cons IsShort (cut_to k l) (filter_map (piece k) ls) (let whole : k.stop < k.start + 2 ^ 14 = short in omega arith) rest
     go rest false = rest
 
 -- parts of short intervals are short

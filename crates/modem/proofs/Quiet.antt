@@ -2,10 +2,12 @@
 use Rattle.std.proofs.Common.{◌≡◌, ℕ, ◌+◌, ◌≤◌, Bool, true, false, cond, ◌==◌, ◌||◌, not, List, [], ◌∷◌, Option, Some, None, refl, sym, subst, ◌∙◌, ap, arith, inl, inr, ◌⊎◌, ◌↔◌, ◌&&◌, find, MatchBool}
 use Rattle.std.specs.List.{filter, list_any}
 use Rattle.std.proofs.lemmas.Map.Views.{any-filter_same}
-use Rattle.std.proofs.lemmas.Bool.{and_parts, eqb-true}
+use Rattle.std.proofs.lemmas.Bool.{and_parts, eqb-true, MatchBool-at_true, MatchBool-at_false}
+use Rattle.std.proofs.lemmas.List.Elements.{filter_agree}
 use Rattle.map_body.specs.Iucs as iucs
 use Rattle.map_body.specs.Sids.{everybody}
-use Rattle.modem.proofs.Parts.{no_true}
+use Rattle.modem.proofs.Parts.{no_true, where_false}
+use Rattle.modem.proofs.AtKept.{Counts-same}
 use Rattle.modem.specs.declared.known.Channel.{Channel}
 use Rattle.modem.specs.declared.known.OwnLease.{OwnLease}
 use Rattle.modem.specs.declared.known.Want.{Want}
@@ -47,21 +49,9 @@ least_once wants ch (Some v) (Some w) h k =
 
 module _ (v : State) (c : Channel) (m random : ℕ) (sending : Option Sending) (new : State) (ticks : Ticks v c m random sending new) where
   -- what a tick does by what counts
-  record By (counted : Option (ℕ × ℕ)) : Type 0 where
-    is_open : Bool
-    opens : (is_open ≡ true) ↔ HasAt v.open_to_all c.id m everybody 1
-    wants : List Want
-    sends : SendsBy v.leases v.wants c m random is_open sending wants counted
-    lasts : new.wants ≡ lasting v.leases c.id (m + 1) wants
-
-  by : (counted : Option (ℕ × ℕ)) → Counts v.grants c.id m counted → By counted
-  by counted counts = record {
-    is_open = ticks.sends.2;
-    opens = ticks.sends.3;
-    wants = ticks.sends.4;
-    sends = subst (λ o. SendsBy v.leases v.wants c m random ticks.sends.2 sending ticks.sends.4 o) (Counts-once v.grants c.id m ticks.sends.0 counted ticks.sends.1 counts) ticks.sends.5;
-    lasts = ticks.sends.6;
-  }
+  by : (counted : Option (ℕ × ℕ)) → Counts v.grants c.id m counted → SendsBy v.leases v.wants c m random ticks.sends.2 sending ticks.sends.4 counted
+  by counted counts =
+      subst (λ o. SendsBy v.leases v.wants c m random ticks.sends.2 sending ticks.sends.4 o) (Counts-once v.grants c.id m ticks.sends.0 counted ticks.sends.1 counts) ticks.sends.5
 
   -- nobody takes part
   silent : (is_open : Bool) (wants : List Want) → ((is_open ≡ true) ↔ HasAt v.open_to_all c.id m everybody 1) → NoneShares v c.id m → Shares v.leases v.wants c m random is_open sending wants → Silent v.wants sending wants
@@ -72,77 +62,47 @@ module _ (v : State) (c : Channel) (m random : ℕ) (sending : Option Sending) (
 
   silent_by : (counted : Option (ℕ × ℕ)) (is_open : Bool) (wants : List Want) → ((is_open ≡ true) ↔ HasAt v.open_to_all c.id m everybody 1) → NothingBy v c.id m counted → SendsBy v.leases v.wants c m random is_open sending wants counted → Silent v.wants sending wants
   silent_by None is_open wants opens none h = silent is_open wants opens none h
-  silent_by (Some p) is_open wants opens none h = by_grant (iucs.lets_transmit p.1) none h
+  silent_by (Some p) is_open wants opens none h = go (iucs.lets_transmit p.1) (iucs.lets_request p.1) none h
     where
-      by_poll : (b : Bool) → MatchBool b (unsent_of v.wants c.id p.0 ≡ None) (NoneShares v c.id m) → MatchBool b (Polls v.wants p.0 m sending wants (unsent_of v.wants c.id p.0)) (Shares v.leases v.wants c m random is_open sending wants) → Silent v.wants sending wants
-      by_poll true none h = subst (λ o. Polls v.wants p.0 m sending wants o) none h
-      by_poll false none h = silent is_open wants opens none h
-
-      by_grant : (b : Bool) → MatchBool b ⊥ (MatchBool (iucs.lets_request p.1) (unsent_of v.wants c.id p.0 ≡ None) (NoneShares v c.id m)) → MatchBool b ((sending ≡ Some (Unicast p.0)) × (wants ≡ v.wants)) (MatchBool (iucs.lets_request p.1) (Polls v.wants p.0 m sending wants (unsent_of v.wants c.id p.0)) (Shares v.leases v.wants c m random is_open sending wants)) → Silent v.wants sending wants
-      by_grant true none h = absurd none
-      by_grant false none h = by_poll (iucs.lets_request p.1) none h
+      go : (t r : Bool) → MatchBool t ⊥ (MatchBool r (unsent_of v.wants c.id p.0 ≡ None) (NoneShares v c.id m)) → MatchBool t ((sending ≡ Some (Unicast p.0)) × (wants ≡ v.wants)) (MatchBool r (Polls v.wants p.0 m sending wants (unsent_of v.wants c.id p.0)) (Shares v.leases v.wants c m random is_open sending wants)) → Silent v.wants sending wants
+      go true r none h = absurd none
+      go false true none h = subst (λ o. Polls v.wants p.0 m sending wants o) none h
+      go false false none h = silent is_open wants opens none h
 
 -- where nothing comes, and all wants stay
 pub idle_quiet : (v : State) (c : Channel) (m : ℕ) → IsIdle v c.id m → IsQuiet v c m
 idle_quiet v c m idle random sending new ticks =
-    let b = by v c m random sending new ticks idle.counted idle.counts in
-    let s = silent_by v c m random sending new ticks idle.counted b.is_open b.wants b.opens idle.nothing b.sends in
-    (s.0, b.lasts ∙ ap (λ ws. lasting v.leases c.id (m + 1) ws) s.1 ∙ idle.stay)
+    let s = silent_by v c m random sending new ticks idle.counted ticks.sends.2 ticks.sends.4 ticks.sends.3 idle.nothing (by v c m random sending new ticks idle.counted idle.counts) in
+    (s.0, ticks.sends.6 ∙ ap (λ ws. lasting v.leases c.id (m + 1) ws) s.1 ∙ idle.stay)
 
 -- a grant that counts is used
 pub granted : (v : State) (c : Channel) (m sid iuc : ℕ) → Counts v.grants c.id m (Some (sid, iuc)) → iucs.lets_transmit iuc ≡ true → EachTick v c m (λ random sending wants. sending ≡ Some (Unicast sid))
 granted v c m sid iuc counts lets random sending new ticks =
-    let b = by v c m random sending new ticks (Some (sid, iuc)) counts in
-    go b.is_open b.wants (iucs.lets_transmit iuc) lets b.sends
-  where
-    go : (is_open : Bool) (wants : List Want) (lets : Bool) → lets ≡ true → MatchBool lets ((sending ≡ Some (Unicast sid)) × (wants ≡ v.wants)) (MatchBool (iucs.lets_request iuc) (Polls v.wants sid m sending wants (unsent_of v.wants c.id sid)) (Shares v.leases v.wants c m random is_open sending wants)) → sending ≡ Some (Unicast sid)
-    go is_open wants true e h = h.0
-    go is_open wants false e h = no_true e
+    (MatchBool-at_true _ _ lets (by v c m random sending new ticks (Some (sid, iuc)) counts)).0
 
 -- a poll that counts
 pub polled : (v : State) (c : Channel) (m sid iuc : ℕ) (w : Want) → Counts v.grants c.id m (Some (sid, iuc)) → iucs.lets_transmit iuc ≡ false → iucs.lets_request iuc ≡ true → unsent_of v.wants c.id sid ≡ Some w → EachTick v c m (λ random sending wants. sending ≡ Some (Polled sid w.n))
 polled v c m sid iuc w counts no_grant lets found random sending new ticks =
-    let b = by v c m random sending new ticks (Some (sid, iuc)) counts in
-    go b.is_open b.wants (iucs.lets_transmit iuc) no_grant b.sends
-  where
-    at_poll : (is_open : Bool) (wants : List Want) (lets : Bool) → lets ≡ true → MatchBool lets (Polls v.wants sid m sending wants (unsent_of v.wants c.id sid)) (Shares v.leases v.wants c m random is_open sending wants) → sending ≡ Some (Polled sid w.n)
-    at_poll is_open wants true e h = (subst (λ o. Polls v.wants sid m sending wants o) found h).0
-    at_poll is_open wants false e h = no_true e
-
-    go : (is_open : Bool) (wants : List Want) (b : Bool) → b ≡ false → MatchBool b ((sending ≡ Some (Unicast sid)) × (wants ≡ v.wants)) (MatchBool (iucs.lets_request iuc) (Polls v.wants sid m sending wants (unsent_of v.wants c.id sid)) (Shares v.leases v.wants c m random is_open sending wants)) → sending ≡ Some (Polled sid w.n)
-    go is_open wants true e h = no_true (sym e)
-    go is_open wants false e h = at_poll is_open wants (iucs.lets_request iuc) lets h
+    let polls = MatchBool-at_true _ _ lets (MatchBool-at_false _ _ no_grant (by v c m random sending new ticks (Some (sid, iuc)) counts)) in
+    (subst (λ o. Polls v.wants sid m sending ticks.sends.4 o) found polls).0
 
 -- where no grant or poll counts
 to_shares : (leases : List OwnLease) (wants : List Want) (c : Channel) (m random : ℕ) (is_open : Bool) (sending : Option Sending) (new : List Want) (counted : Option (ℕ × ℕ)) → IsShared counted → SendsBy leases wants c m random is_open sending new counted → Shares leases wants c m random is_open sending new
 to_shares leases wants c m random is_open sending new None shared h = h
-to_shares leases wants c m random is_open sending new (Some p) shared h = by_grant (iucs.lets_transmit p.1) shared.0 h
-  where
-    by_poll : (b : Bool) → b ≡ false → MatchBool b (Polls wants p.0 m sending new (unsent_of wants c.id p.0)) (Shares leases wants c m random is_open sending new) → Shares leases wants c m random is_open sending new
-    by_poll true e h = no_true (sym e)
-    by_poll false e h = h
-
-    by_grant : (b : Bool) → b ≡ false → MatchBool b ((sending ≡ Some (Unicast p.0)) × (new ≡ wants)) (MatchBool (iucs.lets_request p.1) (Polls wants p.0 m sending new (unsent_of wants c.id p.0)) (Shares leases wants c m random is_open sending new)) → Shares leases wants c m random is_open sending new
-    by_grant true e h = no_true (sym e)
-    by_grant false e h = by_poll (iucs.lets_request p.1) shared.1 h
+to_shares leases wants c m random is_open sending new (Some p) shared h = MatchBool-at_false _ _ shared.1 (MatchBool-at_false _ _ shared.0 h)
 
 -- the least unsent want takes part
 pub contended : (v : State) (c : Channel) (m : ℕ) (counted : Option (ℕ × ℕ)) (w : Want) → Counts v.grants c.id m counted → IsShared counted → HasAt v.open_to_all c.id m everybody 1 → IsLeastUnsent (own_wants v.leases c.id m v.wants) c.id (Some w) → EachTick v c m (IsPartOf v c m w)
 contended v c m counted w counts shared shares least random sending new ticks =
-    let b = by v c m random sending new ticks counted counts in
-    go b.is_open b.wants (b.opens.1 shares) (to_shares v.leases v.wants c m random b.is_open sending b.wants counted shared b.sends) b.lasts
-  where
-    go : (is_open : Bool) (wants : List Want) → is_open ≡ true → Shares v.leases v.wants c m random is_open sending wants → new.wants ≡ lasting v.leases c.id (m + 1) wants → IsPartOf v c m w random sending new.wants
-    go true wants e (some, is_least, contends) lasts =
-        (wants, subst (λ o. Contends v.wants c m random sending wants o) (least_once _ c.id some (Some w) is_least least) contends, lasts)
-    go false wants e h lasts = no_true e
+    let wants = ticks.sends.4 in
+    let (some, is_least, contends) = MatchBool-at_true _ _ (ticks.sends.3.1 shares) (to_shares v.leases v.wants c m random ticks.sends.2 sending wants counted shared (by v c m random sending new ticks counted counts)) in
+    (wants, subst (λ o. Contends v.wants c m random sending wants o) (least_once _ c.id some (Some w) is_least least) contends, ticks.sends.6)
 
 -- a want goes whose leases end
 pub ended : (v : State) (c : Channel) (m : ℕ) (counted : Option (ℕ × ℕ)) (sid : ℕ) → Counts v.grants c.id m counted → NothingBy v c.id m counted → is_own_from v.leases c.id sid (m + 1) ≡ false → EachTick v c m (λ random sending wants. (sending ≡ None) × (list_any (is_want c.id sid) wants ≡ false))
 ended v c m counted sid counts nothing over random sending new ticks =
-    let b = by v c m random sending new ticks counted counts in
-    let s = silent_by v c m random sending new ticks counted b.is_open b.wants b.opens nothing b.sends in
-    let same : new.wants ≡ lasting v.leases c.id (m + 1) v.wants = b.lasts ∙ ap (λ ws. lasting v.leases c.id (m + 1) ws) s.1 in
+    let s = silent_by v c m random sending new ticks counted ticks.sends.2 ticks.sends.4 ticks.sends.3 nothing (by v c m random sending new ticks counted counts) in
+    let same : new.wants ≡ lasting v.leases c.id (m + 1) v.wants = ticks.sends.6 ∙ ap (λ ws. lasting v.leases c.id (m + 1) ws) s.1 in
     (s.0, ap (λ ws. list_any (is_want c.id sid) ws) same ∙ any-filter_same (is_want c.id sid) (is_lasting v.leases c.id (m + 1)) false goes v.wants)
   where
     goes : (w : Want) → is_want c.id sid w ≡ true → is_lasting v.leases c.id (m + 1) w ≡ false
@@ -153,22 +113,13 @@ ended v c m counted sid counts nothing over random sending new ticks =
         let past : is_own_from v.leases c.id w.sid (m + 1) ≡ false = ap (λ n. is_own_from v.leases c.id n (m + 1)) one ∙ over in
         ap (λ b. b || is_own_from v.leases c.id w.sid (m + 1)) here ∙ past
 
--- equal tests leave equal lists
-filter_same : (p q : Want → Bool) → ((w : Want) → p w ≡ q w) → (ws : List Want) → filter p ws ≡ filter q ws
-filter_same p q same [] = refl
-filter_same p q same (w ∷ ws) = ap (λ b. cond b (w ∷ filter p ws) (filter p ws)) (same w) ∙ ap (λ us. cond (q w) (w ∷ us) us) (filter_same p q same ws)
-
-pub counts_at : (ks : List Kept) (ch m x : ℕ) (counted : Option (ℕ × ℕ)) → ((sid iuc : ℕ) → HasAt ks ch x sid iuc ↔ HasAt ks ch m sid iuc) → Counts ks ch m counted → Counts ks ch x counted
-counts_at ks ch m x None same h = λ sid iuc there. h sid iuc ((same sid iuc).0 there)
-counts_at ks ch m x (Some p) same h = ((same p.0 p.1).1 h.0, λ sid iuc there. h.1 sid iuc ((same sid iuc).0 there))
-
 -- where what a tick looks at is the same, or nobody takes part, nothing comes either
 pub idle_by : (v : State) (ch m x : ℕ) → HasSame v.grants ch m x → CoverSame v.leases ch m x → (NoneShares v ch m → NoneShares v ch x) → IsIdle v ch m → IsIdle v ch x
 idle_by v ch m x grants leases shares idle = record {
   counted = idle.counted;
-  counts = counts_at v.grants ch m x idle.counted grants idle.counts;
+  counts = Counts-same v.grants v.grants ch m x idle.counted grants idle.counts;
   nothing = at_counted idle.counted idle.nothing;
-  stay = sym (filter_same _ _ lasts v.wants) ∙ idle.stay;
+  stay = sym (filter_agree _ _ lasts v.wants) ∙ idle.stay;
 }
   where
     lasts : (w : Want) → is_lasting v.leases ch (m + 1) w ≡ is_lasting v.leases ch (x + 1) w
@@ -176,15 +127,7 @@ idle_by v ch m x grants leases shares idle = record {
 
     at_counted : (counted : Option (ℕ × ℕ)) → NothingBy v ch m counted → NothingBy v ch x counted
     at_counted None none = shares none
-    at_counted (Some p) none = by_grant (iucs.lets_transmit p.1) none
-      where
-        by_poll : (b : Bool) → MatchBool b (unsent_of v.wants ch p.0 ≡ None) (NoneShares v ch m) → MatchBool b (unsent_of v.wants ch p.0 ≡ None) (NoneShares v ch x)
-        by_poll true h = h
-        by_poll false h = shares h
-
-        by_grant : (b : Bool) → MatchBool b ⊥ (MatchBool (iucs.lets_request p.1) (unsent_of v.wants ch p.0 ≡ None) (NoneShares v ch m)) → MatchBool b ⊥ (MatchBool (iucs.lets_request p.1) (unsent_of v.wants ch p.0 ≡ None) (NoneShares v ch x))
-        by_grant true h = h
-        by_grant false h = by_poll (iucs.lets_request p.1) h
+    at_counted (Some p) none = where_false _ _ _ (iucs.lets_transmit p.1) (where_false _ _ _ (iucs.lets_request p.1) shares) none
 
 -- the same intervals are open to all, and the same SIDs covered
 pub shares_same : (v : State) (ch m x : ℕ) → HasSame v.open_to_all ch m x → CoverSame v.leases ch m x → NoneShares v ch m → NoneShares v ch x
@@ -192,7 +135,7 @@ shares_same v ch m x opens leases (inl shut) = inl (λ h. shut ((opens everybody
 shares_same v ch m x opens leases (inr nobody) = inr (subst (λ ws. IsLeastUnsent ws ch None) own nobody)
   where
     own : own_wants v.leases ch m v.wants ≡ own_wants v.leases ch x v.wants
-    own = filter_same _ _ (λ w. sym (leases.own w.sid)) v.wants
+    own = filter_agree _ _ (λ w. sym (leases.own w.sid)) v.wants
 
 -- what isn't found among all isn't among some
 find_filter_none : (p q : Want → Bool) (ws : List Want) → find p ws ≡ None → find p (filter q ws) ≡ None

@@ -1,35 +1,32 @@
 -- Old leases count for nothing.
 use Rattle.std.proofs.Common.{◌≡◌, ℕ, ◌+◌, ◌^◌, ◌<◌, ◌≤◌, Bool, true, false, cond, List, [], ◌∷◌, ◌++◌, Some, None, refl, sym, ap, ◌∙◌, arith, ◌⊎◌, inl, inr, ◌↔◌, ◌==◌, ◌&&◌, ◌||◌, not, nat_lt, nat_le, if◌then◌else◌}
-use Rattle.std.specs.List.{list_any, filter, AllByRecursion}
+use Rattle.std.specs.List.{list_any, AllByRecursion}
 use Rattle.std.proofs.lemmas.List.Folds.{list_any-append}
+use Rattle.std.proofs.lemmas.List.Elements.{filter_agree}
 use Rattle.std.proofs.lemmas.Map.Views.{any-filter_same}
 use Rattle.std.proofs.lemmas.Bool.{and_parts, or_cases, or_left, or_right, eqb-true}
 use Rattle.std.proofs.lemmas.Bool.Decides.{nat_tests}
 use Rattle.modem.proofs.Parts.{no_true}
+use Rattle.modem.proofs.Tests.{covers_tells, lasts_tells}
 use Rattle.modem.proofs.Clocks.{clock_of-placed, found_id}
 use Rattle.modem.specs.declared.known.Channel.{Channel}
 use Rattle.modem.specs.declared.known.OwnLease.{OwnLease}
-use Rattle.modem.specs.State.{State, is_of, covers, is_own_at, is_own_from, is_lease, has_lease, with_lease, is_recent, recent, channel_of, clock_of, with_channel}
+use Rattle.modem.specs.State.{State, is_of, covers, is_own_at, is_own_from, is_lease, has_lease, with_lease, lease_of, is_recent, recent, channel_of, clock_of, with_channel}
 use Rattle.map_body.specs.declared.element.Element.{Element}
 use Rattle.map_body.specs.Rules.{FitsElement}
 use Rattle.map_body.specs.Intervals.{is_null, null_offset}
-use Rattle.modem.specs.declared.known.Want.{Want}
 use Rattle.modem.specs.Wants.{is_lasting}
 use Rattle.modem.specs.Intervals.{is_acknowledged, is_granted, is_pending, lost}
 use Rattle.modem.specs.OldLeases.{CoverAlike, ServeAlike}
 
 -- a lease that goes on to a minislot 2^14 of them before the clock, or later, is recent
-recent_yet : (l : OwnLease) (ch clock at_ch at_clock m : ℕ) → (at_ch ≡ ch → clock ≤ at_clock) → (l.channel == at_ch) ≡ true → nat_le m l.last ≡ true → at_clock < m + 16384 → is_recent ch clock l ≡ true
-recent_yet l ch clock at_ch at_clock m rises here goes_on late = by (l.channel == ch) refl
+recent_yet : (l : OwnLease) (ch clock at_ch at_clock m : ℕ) → (at_ch ≡ ch → clock ≤ at_clock) → l.channel ≡ at_ch → m ≤ l.last → at_clock < m + 16384 → is_recent ch clock l ≡ true
+recent_yet l ch clock at_ch at_clock m rises here last late = by (l.channel == ch) refl
   where
-    last : m ≤ l.last
-    last = grind (arith, nat_tests)
-
     by : (b : Bool) → (l.channel == ch) ≡ b → (not b || nat_lt clock (l.last + 2 ^ 14)) ≡ true
     by false e = refl
     by true e =
-        let same : at_ch ≡ ch = sym (eqb-true _ _ here) ∙ eqb-true _ _ e in
-        let up : clock ≤ at_clock = rises same in
+        let up : clock ≤ at_clock = rises (sym here ∙ eqb-true _ _ e) in
         let soon : clock < l.last + 16384 = omega (arith, up, late, last) in
         let tells : nat_lt clock (l.last + 16384) ≡ true = grind (arith, nat_tests) in
         tells
@@ -40,16 +37,13 @@ recent_alike leases ch clock at_ch at_clock rises = record {
   covers = λ sid m late.
       any-filter_same (covers at_ch sid m) (is_recent ch clock) true
       (λ l h.
-      let parts = and_parts (is_of at_ch sid l) (nat_le l.first m && nat_le m l.last) h in
-      let name = and_parts (l.channel == at_ch) (l.sid == sid) parts.0 in
-      let range = and_parts (nat_le l.first m) (nat_le m l.last) parts.1 in
-      recent_yet l ch clock at_ch at_clock m rises name.0 range.1 late) leases;
+      let (here, _, _, last) = covers_tells l.channel at_ch l.sid sid l.first l.last m h in
+      recent_yet l ch clock at_ch at_clock m rises here last late) leases;
   lasts = λ sid m late.
       any-filter_same (λ l. is_of at_ch sid l && nat_le m l.last) (is_recent ch clock) true
       (λ l h.
-      let parts = and_parts (is_of at_ch sid l) (nat_le m l.last) h in
-      let name = and_parts (l.channel == at_ch) (l.sid == sid) parts.0 in
-      recent_yet l ch clock at_ch at_clock m rises name.0 parts.1 late) leases;
+      let (here, _, last) = lasts_tells l.channel at_ch l.sid sid l.last m h in
+      recent_yet l ch clock at_ch at_clock m rises here last late) leases;
 }
 
 -- equal leases
@@ -72,32 +66,24 @@ gone_alike old new c ch clock backoff found made gone at_ch = rw gone (recent_al
         let one : clock_of new.channels at_ch ≡ clock_of new.channels c.id = ap (clock_of new.channels) same in
         omega (arith, placed, one)
 
--- an equal lease passes the same tests of its channel, SID, first and last minislot
-alike_test : (test : ℕ → ℕ → ℕ → ℕ → Bool) (l lease : OwnLease) → is_lease lease l ≡ true → test lease.channel lease.sid lease.first lease.last ≡ true → test l.channel l.sid l.first l.last ≡ true
-alike_test test l lease same c =
+-- leases that the test finds to be one
+same_lease : (l lease : OwnLease) → is_lease lease l ≡ true → lease ≡ l
+same_lease l lease same =
     let parts = and_parts _ _ same in
     let name = and_parts _ _ parts.0 in
     let range = and_parts _ _ parts.1 in
-    ap (λ a. test a l.sid l.first l.last) (eqb-true _ _ name.0)
-    ∙ ap (λ b. test lease.channel b l.first l.last) (eqb-true _ _ name.1)
-    ∙ ap (λ f. test lease.channel lease.sid f l.last) (eqb-true _ _ range.0)
-    ∙ ap (λ t. test lease.channel lease.sid lease.first t) (eqb-true _ _ range.1)
-    ∙ c
+    ap (λ a. lease_of a lease.sid lease.first lease.last) (sym (eqb-true _ _ name.0))
+    ∙ ap (λ b. lease_of l.channel b lease.first lease.last) (sym (eqb-true _ _ name.1))
+    ∙ ap (λ f. lease_of l.channel l.sid f lease.last) (sym (eqb-true _ _ range.0))
+    ∙ ap (λ t. lease_of l.channel l.sid l.first t) (sym (eqb-true _ _ range.1))
 
-pub same_covers : (ch sid m : ℕ) (l lease : OwnLease) → is_lease lease l ≡ true → covers ch sid m lease ≡ true → covers ch sid m l ≡ true
-same_covers ch sid m l lease same c = alike_test (λ a b f t. ((a == ch) && (b == sid)) && (nat_le f m && nat_le m t)) l lease same c
-
-pub same_lasts : (ch sid m : ℕ) (l lease : OwnLease) → is_lease lease l ≡ true → (is_of ch sid lease && nat_le m lease.last) ≡ true → (is_of ch sid l && nat_le m l.last) ≡ true
-same_lasts ch sid m l lease same c = alike_test (λ a b f t. ((a == ch) && (b == sid)) && nat_le m t) l lease same c
-
--- a test that equal leases pass alike
-module _ (test : OwnLease → Bool) (alike : (l lease : OwnLease) → is_lease lease l ≡ true → test lease ≡ true → test l ≡ true) where
+module _ (test : OwnLease → Bool) where
   passed_before : (leases : List OwnLease) (lease : OwnLease) → has_lease leases lease ≡ true → test lease ≡ true → list_any test leases ≡ true
   passed_before [] lease there c = no_true there
   passed_before (l ∷ ls) lease there c =
-      elim (or_cases _ _ there) [ inl this ↦ or_left _ _ (alike l lease this c) | inr more ↦ or_right _ _ (passed_before ls lease more c) ]
+      elim (or_cases _ _ there) [ inl this ↦ or_left _ _ (sym (ap test (same_lease l lease this)) ∙ c) | inr more ↦ or_right _ _ (passed_before ls lease more c) ]
 
-  -- the leases with one more
+  -- what a test finds among the leases with one more
   pub any_with : (leases : List OwnLease) (lease : OwnLease) → (list_any test (with_lease leases lease) ≡ true) ↔ ((test lease ≡ true) ⊎ (list_any test leases ≡ true))
   any_with leases lease = go (has_lease leases lease) refl
     where
@@ -108,11 +94,6 @@ module _ (test : OwnLease → Bool) (alike : (l lease : OwnLease) → is_lease l
             λ own. elim (or_cases _ _ (sym joined ∙ own)) [ inl was ↦ inr was | inr new ↦ elim (or_cases _ _ new) [ inl this ↦ inl this | inr none ↦ no_true none ] ],
             λ h. joined ∙ elim h [ inl this ↦ or_right _ _ (or_left _ _ this) | inr own ↦ or_left _ _ own ],
           )
-
--- equal tests leave equal lists
-filter_same : (p q : Want → Bool) → ((w : Want) → p w ≡ q w) → (ws : List Want) → filter p ws ≡ filter q ws
-filter_same p q same [] = refl
-filter_same p q same (w ∷ ws) = ap (λ b. cond b (w ∷ filter p ws) (filter p ws)) (same w) ∙ ap (λ us. cond (q w) (w ∷ us) us) (filter_same p q same ws)
 
 -- a map is shorter than 2^14 minislots
 short_map : (es : List Element) (len : ℕ) → AllByRecursion FitsElement es → null_offset es ≡ Some len → len < 16384
@@ -131,8 +112,8 @@ pub serve_alike : (ch clock : ℕ) (some other : List OwnLease) → CoverAlike c
 serve_alike ch clock some other alike = record {
   keeps = λ sid m late. alike.covers sid m (omega (arith, late));
   takes = λ sid m late. alike.lasts sid m (omega (arith, late));
-  shares = λ m wants late. filter_same (λ w. is_own_at some ch w.sid m) (λ w. is_own_at other ch w.sid m) (λ w. alike.covers w.sid m (omega (arith, late))) wants;
-  stay = λ m wants late. filter_same (is_lasting some ch m) (is_lasting other ch m) (λ w. ap (λ b. not (w.channel == ch) || b) (alike.lasts w.sid m (omega (arith, late)))) wants;
+  shares = λ m wants late. filter_agree (λ w. is_own_at some ch w.sid m) (λ w. is_own_at other ch w.sid m) (λ w. alike.covers w.sid m (omega (arith, late))) wants;
+  stay = λ m wants late. filter_agree (is_lasting some ch m) (is_lasting other ch m) (λ w. ap (λ b. not (w.channel == ch) || b) (alike.lasts w.sid m (omega (arith, late)))) wants;
   decides = λ bytes near map start stop ack w reads here late.
       let len = reads.extent.null.0 in
       let short : len < 16384 = short_map map.elements len reads.body.1.elements_fit reads.extent.null.1 in

@@ -1,5 +1,5 @@
 -- What a list of kept intervals stands for, and its order.
-use Rattle.std.specs.Prelude.{◌≡◌, ◌↔◌, ℕ, ◌+◌, ◌*◌, ◌^◌, ◌<◌, ◌≤◌, Bool, true, false, leb, length, not, ◌==◌, ◌&&◌, ◌||◌, nat_lt, nat_le, if◌then◌else◌, min, max, map, List, All, Option, Some, None}
+use Rattle.std.specs.Prelude.{◌≡◌, ◌↔◌, ℕ, ◌+◌, ◌*◌, ◌^◌, ◌<◌, ◌≤◌, Bool, true, leb, length, not, ◌==◌, ◌&&◌, ◌||◌, nat_lt, nat_le, if◌then◌else◌, min, max, map, List, All, Option, Some, None}
 use Rattle.std.specs.List.{flat_map, filter_map, AllWithin}
 use Rattle.std.specs.List.Sorted.{IsNonDecreasingBy}
 use Rattle.map_body.specs.Iucs as iucs
@@ -18,6 +18,14 @@ kept_interval k = record { channel = k.channel; sid = k.sid; iuc = k.iuc; start 
 -- an interval of a map that starts there
 abbrev pub interval_of : ℕ → ℕ → Interval → KeptInterval
 interval_of ch start i = record { channel = ch; sid = i.sid; iuc = i.iuc; start = start + i.from; stop = start + i.to }
+
+-- the interval covers the minislot
+abbrev pub covers : ℕ → ℕ → Kept → Bool
+covers ch m k = (k.channel == ch) && (nat_le k.start m && nat_lt m k.«end»)
+
+-- it covers the minislot, with this SID and IUC
+abbrev pub is_at : ℕ → ℕ → ℕ → ℕ → Kept → Bool
+is_at ch m sid iuc k = covers ch m k && ((k.sid == sid) && (k.iuc == iuc))
 
 -- an interval in which every modem may send a request
 abbrev pub is_shared : Interval → Bool
@@ -40,6 +48,12 @@ pub record AreKept (ks : List KeptInterval) : Type 0 where
   pub ordered : IsNonDecreasingBy place_of ks
   pub short : All IsShort ks
 
+-- so many of them stand before a place, and the others don't
+pub record AreBefore (limit count : ℕ) (ks : List KeptInterval) : Type 0 where
+  pub bound : count ≤ length ks
+  pub before : AllWithin (λ k. place_of k < limit) ks 0 count
+  pub from : AllWithin (λ k. limit ≤ place_of k) ks count (length ks)
+
 -- it stands at or before a minislot of a channel, and is of a lower channel or over by then
 abbrev pub is_past : ℕ → ℕ → KeptInterval → Bool
 is_past ch m k = leb (place_of k) (place ch m) && (nat_lt k.channel ch || nat_le k.stop m)
@@ -53,9 +67,7 @@ pub record ArePast (ch m count : ℕ) (ks : List KeptInterval) : Type 0 where
 pub record IsWindow (ch m : ℕ) (ks : List KeptInterval) (w : Window) : Type 0 where
   pub past : ArePast ch m w.past ks
   pub order : w.past ≤ w.begun
-  pub bound : w.begun ≤ length ks
-  pub begun : AllWithin (λ k. leb (place_of k) (place ch m) ≡ true) ks 0 w.begun
-  pub later : AllWithin (λ k. leb (place_of k) (place ch m) ≡ false) ks w.begun (length ks)
+  pub begun : AreBefore (place ch m + 1) w.begun ks
 
 -- so many of the first are past, of intervals as contracts see them
 abbrev pub ArePastOf : (ch m count : ℕ) → List Kept → Type 0
@@ -82,3 +94,8 @@ is_live ch clock k = not (k.channel == ch) || nat_lt clock k.stop
 abbrev pub IsOfChannel : ℕ → List Kept → List Kept → Type 0
 IsOfChannel ch all part =
     (at_ch m sid iuc : ℕ) → m < 2 ^ 64 → HasAt part at_ch m sid iuc ↔ ((at_ch ≡ ch) × HasAt all ch m sid iuc)
+
+-- of a channel's intervals those stay that cover a minislot from one on, and those of other channels
+abbrev pub KeepsFrom : List Kept → ℕ → ℕ → List Kept → Type 0
+KeepsFrom was ch clock now =
+    (at_ch m sid iuc : ℕ) → (ch ≡ at_ch → clock ≤ m) → HasAt now at_ch m sid iuc ↔ HasAt was at_ch m sid iuc

@@ -11,5 +11,5 @@ pub mod Spans
 pub mod OldLeases
 pub mod NextEvent
 pub mod Idle
-pub mod Steps
 pub mod Owner
+pub mod Declined

@@ -5,7 +5,7 @@ use Rattle.map_body.specs.Iucs as iucs
 use Rattle.map_body.specs.Sids.{everybody}
 use Rattle.modem.specs.declared.kept.KeptInterval.{KeptInterval}
 use Rattle.modem.specs.declared.sight.Sight.{Sight}
-use Rattle.modem.specs.KeptIntervals.{kept_interval, ArePast}
+use Rattle.modem.specs.KeptIntervals.{kept_interval, AreKept, ArePast}
 use Rattle.modem.specs.State.{Kept, HasAt}
 use Rattle.modem.specs.Ticks.{Counts}
 use Rattle.modem.specs.LetsGo.{old_intervals}
@@ -23,8 +23,7 @@ pub record IsFew (n ch m : ℕ) (grants opens : List Kept) : Type 0 where
 pub record IsSeen (n : ℕ) (grants opens : List Kept) (ch m : ℕ) (counted : Option (ℕ × ℕ)) (is_open : Bool) : Type 0 where
   pub counts : Counts grants ch m counted
   pub shared : (is_open ≡ true) ↔ HasAt opens ch m everybody iucs.request
-  pub few_grants : FewOld n ch (m + 1) grants
-  pub few_open : FewOld n ch (m + 1) opens
+  pub few : IsFew n ch m grants opens
 
 -- a sight is what there is at each minislot from its first one on and before its end, few intervals are old after those before another end, and so many of the first are past at its first one
 pub record Holds (n : ℕ) (grants opens : List KeptInterval) (s : Sight) : Type 0 where
@@ -36,6 +35,12 @@ pub record Holds (n : ℕ) (grants opens : List KeptInterval) (s : Sight) : Type
 -- each of them is
 abbrev pub AreSights : ℕ → List KeptInterval → List KeptInterval → List Sight → Type 0
 AreSights n grants opens ss = All (Holds n grants opens) ss
+
+-- intervals that are kept, and sights of them
+pub record AreSeen (n : ℕ) (own shared : List KeptInterval) (ss : List Sight) : Type 0 where
+  pub grants : AreKept own
+  pub opens : AreKept shared
+  pub sights : AreSights n own shared ss
 
 -- it is of the channel and its first minislot has come
 abbrev pub has_begun : ℕ → ℕ → Sight → Bool

@@ -1,6 +1,7 @@
 -- A modem's wants: at most one request of a SID, sent or not yet.
 use Rattle.std.specs.Prelude.{◌≡◌, ◌≢◌, ℕ, ◌≤◌, Bool, true, false, ◌==◌, ◌&&◌, ◌||◌, not, nat_lt, if◌then◌else◌, List, map, find, Option, Some, None}
 use Rattle.std.specs.List.{list_any, filter}
+use Rattle.std.specs.Option.{option_map_or}
 use Rattle.modem.specs.declared.known.Progress.{Progress}
 use Rattle.modem.specs.declared.known.Progress.TheVariants.{Unsent, Sent}
 use Rattle.modem.specs.declared.known.Want.{Want}
@@ -32,6 +33,10 @@ with_want row wants = map (λ w. if is_want row.channel row.sid w then row else 
 abbrev pub IsLeastUnsent : List Want → ℕ → Option Want → Type 0
 IsLeastUnsent wants ch None = (sid : ℕ) → unsent_of wants ch sid ≡ None
 IsLeastUnsent wants ch (Some w) = (unsent_of wants ch w.sid ≡ Some w) × ((sid : ℕ) → unsent_of wants ch sid ≢ None → w.sid ≤ sid)
+
+-- it is unsent on the channel, and of a lesser SID than this one, if there is one
+abbrev pub leads : ℕ → Option Want → Want → Bool
+leads ch least w = is_unsent_on ch w && option_map_or (λ best. nat_lt w.sid best.sid) least true
 
 -- the wants whose SIDs are the modem's at minislot m
 abbrev pub own_wants : List OwnLease → ℕ → ℕ → List Want → List Want

@@ -1,7 +1,7 @@
 //! Intervals that a modem keeps: one for each element that a map gave, in the order of their channels and,
 //! of one channel, of their starts.
 
-ghost use Rattle.std.specs.Prelude.{◌≡◌, ℕ, ◌+◌, ◌*◌, ◌<◌, ◌≤◌, ◌^◌, ◌↔◌, ◌⊎◌, ◌++◌, ◌∷◌, [], filter, map, take, drop, true, false, length, vec_len, vec_capacity, ltb, leb};
+ghost use Rattle.std.specs.Prelude.{◌≡◌, ℕ, ◌+◌, ◌*◌, ◌<◌, ◌≤◌, ◌^◌, ◌↔◌, ◌⊎◌, List, ◌++◌, ◌∷◌, [], filter, map, take, drop, true, false, length, vec_len, vec_capacity, ltb, leb};
 ghost use Rattle.std.specs.Prelude.{IfOk, OnOk, IfSome, IfNone, Contains};
 ghost use Rattle.std.specs.List.{All, list_any, filter_map, AllWithin};
 ghost use Rattle.map_body.specs.Iucs as iucs;
@@ -10,11 +10,10 @@ ghost use Rattle.std.proofs.Common.{get_or};
 ghost use Rattle.modem.specs.declared.kept.KeptInterval.{KeptInterval};
 ghost use Rattle.modem.specs.LetsGo.{old_intervals};
 ghost use Rattle.modem.specs.Sights.{FewOld};
-ghost use Rattle.modem.specs.State.{HasAt, IsAt};
+ghost use Rattle.modem.specs.State.{Kept, HasAt, IsAt};
 ghost use Rattle.modem.specs.Idle.{HasSame, IsBefore};
-ghost use Rattle.modem.specs.KeptIntervals.{kept_interval, interval_of, place, place_of, AreKept, is_past, ArePast, IsWindow, IsShort, is_live, is_shared, piece, covered, IsOfChannel};
-ghost use Rattle.modem.specs.Steps.{first_at, is_at};
-ghost use Rattle.modem.specs.Ticks.{Counts};
+ghost use Rattle.modem.specs.KeptIntervals.{kept_interval, interval_of, place, place_of, AreKept, AreBefore, is_past, ArePast, IsWindow, IsShort, is_live, covers, is_at, is_shared, piece, covered, IsOfChannel, KeepsFrom};
+ghost use Rattle.modem.specs.Ticks.{Counts, IsNotAfter};
 
 use crate::edges::sooner;
 use crate::known::OwnLease;
@@ -69,14 +68,12 @@ fn begins_by(interval: &KeptInterval, ch: u8, at: u64) -> bool
     interval.channel < ch || interval.channel == ch && start <= at
 }
 
-// How many of the first begin more than REACH before a minislot of a channel, and so are past. It costs the logarithm of
-// what is kept.
-fn long_past(kept: &[KeptInterval], ch: u8, at: u64) -> usize
+// How many stand before a minislot of a channel. It costs the logarithm of what is kept.
+fn count_before(kept: &[KeptInterval], ch: u8, at: u64) -> usize
     requires { AreKept kept.now }
-    ensures { ArePast ch at result kept.now }
+    ensures { AreBefore (place ch at) result kept.now }
 {
-    let first = at.saturating_sub(REACH);
-    kept.partition_point(|k| begins_before(k, ch, first))
+    kept.partition_point(|k| begins_before(k, ch, at))
 }
 
 // Is it of a lower channel, or does it begin and is over by a minislot of the channel?
@@ -87,41 +84,43 @@ fn is_past(interval: &KeptInterval, ch: u8, at: u64) -> bool
     begins_by(interval, ch, at) && (interval.channel < ch || stop <= at)
 }
 
-// How many at the front are past.
-fn count_past(kept: &[KeptInterval], ch: u8, at: u64) -> usize
-    ensures bound { result ≤ length kept.now }
-    ensures past { AllWithin (λ k. is_past ch at k ≡ true) kept.now 0 result }
+// How many at the front are past, if so many are.
+fn count_past(kept: &[KeptInterval], known: usize, ch: u8, at: u64) -> usize
+    requires { ArePast ch at known kept.now }
+    ensures order { known ≤ result }
+    ensures past { ArePast ch at result kept.now }
 {
-    for (i, interval) in kept.iter().enumerate() {
-        if !is_past(interval, ch, at) {
+    for i in known..kept.len() {
+        if !is_past(&kept[i], ch, at) {
             return i;
         }
     }
     kept.len()
 }
 
-// How many at the front begin by a minislot of a channel.
-fn count_begun(kept: &[KeptInterval], ch: u8, at: u64) -> usize
-    ensures bound { result ≤ length kept.now }
-    ensures begun { AllWithin (λ k. leb (place_of k) (place ch at) ≡ true) kept.now 0 result }
-    ensures next { (d : KeptInterval) → result < length kept.now → leb (place_of (get_or kept.now result d)) (place ch at) ≡ false }
+// How many stand at or before a minislot of a channel, if so many are past.
+fn count_begun(kept: &[KeptInterval], past: usize, ch: u8, at: u64) -> usize
+    requires kept { AreKept kept.now }
+    requires past { ArePast ch at past kept.now }
+    ensures order { past ≤ result }
+    ensures begun { AreBefore (place ch at + 1) result kept.now }
 {
-    for (i, interval) in kept.iter().enumerate() {
-        if !begins_by(interval, ch, at) {
+    for i in past..kept.len() {
+        if !begins_by(&kept[i], ch, at) {
             return i;
         }
     }
     kept.len()
 }
 
-// So many of the first are past, or where that is none, those that begin long before.
+// So many of the first are past, or where that is none, those that begin more than REACH before.
 fn known_past(kept: &[KeptInterval], ch: u8, at: u64, past: usize) -> usize
     requires kept { AreKept kept.now }
     requires past { ArePast ch at past kept.now }
     ensures { ArePast ch at result kept.now }
 {
     if past == 0 {
-        long_past(kept, ch, at)
+        count_before(kept, ch, at.saturating_sub(REACH))
     } else {
         past
     }
@@ -136,8 +135,8 @@ pub(crate) fn window_at(kept: &[KeptInterval], ch: u8, at: u64, past: usize) -> 
     ensures { IsWindow ch at kept.now result }
 {
     let known = known_past(kept, ch, at, past);
-    let past = known + count_past(&kept[known..], ch, at);
-    let begun = past + count_begun(&kept[past..], ch, at);
+    let past = count_past(kept, known, ch, at);
+    let begun = count_begun(kept, past, ch, at);
     Window { past, begun }
 }
 
@@ -150,22 +149,36 @@ fn around(kept: &[KeptInterval], ch: u8, at: u64, window: Window) -> &[KeptInter
     &kept[window.past..window.begun]
 }
 
+fn covers(interval: &KeptInterval, ch: u8, at: u64) -> bool
+    ensures { result ≡ covers ch at (kept_interval interval.now) }
+{
+    interval.channel == ch && (interval.start <= at && at < interval.stop)
+}
+
+// Whether an interval counts before a SID and IUC.
+fn comes_first(interval: &KeptInterval, sid: u16, iuc: u8) -> bool
+    ensures first { result ≡ true → IsNotAfter (interval.now.sid, interval.now.iuc) sid iuc }
+    ensures later { result ≡ false → IsNotAfter (sid, iuc) interval.now.sid interval.now.iuc }
+{
+    interval.sid < sid || interval.sid == sid && interval.iuc.get() < iuc
+}
+
+// What counts of intervals and one more.
 fn first_at(
     ch: u8,
     at: u64,
     first: Option<(u16, Iuc)>,
-    interval: KeptInterval,
+    interval: &KeptInterval,
 ) -> Option<(u16, Iuc)>
-    ensures { result ≡ first_at ch at first (kept_interval interval) }
+    ensures { (kept : List Kept) → Counts kept ch at first → Counts (kept ++ kept_interval interval.now ∷ []) ch at result }
 {
-    let covers = interval.channel == ch && (interval.start <= at && at < interval.stop);
-    if !covers {
+    if !covers(interval, ch, at) {
         return first;
     }
     let Some(best) = first else {
         return Some((interval.sid, interval.iuc));
     };
-    if interval.sid < best.0 || interval.sid == best.0 && interval.iuc.get() < best.1.get() {
+    if comes_first(interval, best.0, best.1.get()) {
         Some((interval.sid, interval.iuc))
     } else {
         Some(best)
@@ -177,7 +190,7 @@ fn counted_of(kept: &[KeptInterval], ch: u8, at: u64) -> Option<(u16, Iuc)>
 {
     let mut counted: Option<(u16, Iuc)> = None;
     for interval in kept {
-        counted = first_at(ch, at, counted, *interval);
+        counted = first_at(ch, at, counted, interval);
     }
     counted
 }
@@ -198,8 +211,7 @@ pub(crate) fn counted_in(
 fn is_at(interval: &KeptInterval, ch: u8, at: u64, sid: u16, iuc: Iuc) -> bool
     ensures { result ≡ is_at ch at sid iuc (kept_interval interval.now) }
 {
-    (interval.channel == ch && (interval.start <= at && at < interval.stop))
-        && (interval.sid == sid && interval.iuc == iuc)
+    covers(interval, ch, at) && (interval.sid == sid && interval.iuc == iuc)
 }
 
 fn has_at(kept: &[KeptInterval], ch: u8, at: u64, sid: Sid, iuc: Iuc) -> bool
@@ -229,15 +241,17 @@ fn is_live(interval: KeptInterval, ch: u8, clock: u64) -> bool
     !(interval.channel == ch) || clock < interval.stop
 }
 
-// How many at the front are of the channel and end at or before the clock.
-fn ended(kept: &[KeptInterval], ch: u8, clock: u64) -> usize
+// Up to which place those from one on are of the channel and end at or before the clock.
+fn ended(kept: &[KeptInterval], from: usize, ch: u8, clock: u64) -> usize
+    requires { from ≤ length kept.now }
+    ensures order { from ≤ result }
     ensures bound { result ≤ length kept.now }
-    ensures ended { AllWithin (λ k. is_live ch clock k ≡ false) kept.now 0 result }
+    ensures ended { AllWithin (λ k. is_live ch clock k ≡ false) kept.now from result }
     ensures next { (d : KeptInterval) → result < length kept.now
         → (is_live ch clock (get_or kept.now result d) ≡ true) × ((get_or kept.now result d).start < 2 ^ 64) }
 {
-    for (i, interval) in kept.iter().enumerate() {
-        if is_live(*interval, ch, clock) {
+    for i in from..kept.len() {
+        if is_live(kept[i], ch, clock) {
             return i;
         }
     }
@@ -261,13 +275,12 @@ fn cut(kept: &mut Vec<KeptInterval>, from: usize, to: usize)
 pub(crate) fn let_go(kept: &mut Vec<KeptInterval>, ch: u8, clock: u64)
     requires { AreKept kept.old.items }
     ensures kept { AreKept kept.new.items }
-    ensures held { (at_ch m sid iuc : ℕ) → (ch ≡ at_ch → clock ≤ m)
-        → HasAt (map kept_interval kept.new.items) at_ch m sid iuc ↔ HasAt (map kept_interval kept.old.items) at_ch m sid iuc }
+    ensures held { KeepsFrom (map kept_interval kept.old.items) ch clock (map kept_interval kept.new.items) }
     ensures none_old { (t : ℕ) → t ≤ clock + 1 → old_intervals ch t (map kept_interval kept.new.items) ≡ [] }
 {
-    let before = kept.partition_point(|k| begins_before(k, ch, 0));
-    let count = ended(&kept[before..], ch, clock);
-    cut(kept, before, before + count);
+    let from = count_before(kept.as_slice(), ch, 0);
+    let to = ended(kept.as_slice(), from, ch, clock);
+    cut(kept, from, to);
 }
 
 // Whether a channel's intervals that began more than REACH before the clock, and so have ended, are many: of so
@@ -277,9 +290,8 @@ fn has_many_old(kept: &[KeptInterval], ch: u8, clock: u64, channels: usize) -> b
     requires { AreKept kept.now }
     ensures { result ≡ false → FewOld channels ch clock (map kept_interval kept.now) }
 {
-    let first = clock.saturating_sub(REACH);
-    let before = kept.partition_point(|k| begins_before(k, ch, 0));
-    let old = kept[before..].partition_point(|k| begins_before(k, ch, first));
+    let until = count_before(kept, ch, clock.saturating_sub(REACH));
+    let old = until.saturating_sub(count_before(kept, ch, 0));
     old > 0 && kept.len() / old / 2 <= channels
 }
 
@@ -289,8 +301,7 @@ pub(crate) fn let_go_of_many(kept: &mut Vec<KeptInterval>, ch: u8, at: u64, chan
     requires kept { AreKept kept.old.items }
     requires time { at < 2 ^ 63 }
     ensures kept { AreKept kept.new.items }
-    ensures held { (at_ch m sid iuc : ℕ) → (ch ≡ at_ch → at ≤ m)
-        → HasAt (map kept_interval kept.new.items) at_ch m sid iuc ↔ HasAt (map kept_interval kept.old.items) at_ch m sid iuc }
+    ensures held { KeepsFrom (map kept_interval kept.old.items) ch at (map kept_interval kept.new.items) }
     ensures few { FewOld channels ch (at + 1) (map kept_interval kept.new.items) }
     ensures same { result ≡ false → kept.new.items ≡ kept.old.items }
 {
@@ -332,8 +343,7 @@ pub(crate) fn few_until(kept: &[KeptInterval], ch: u8, channels: usize) -> u64
     requires { AreKept kept.now }
     ensures { (m : ℕ) → m < result → FewOld channels ch (m + 1) (map kept_interval kept.now) }
 {
-    let before = kept.partition_point(|k| begins_before(k, ch, 0));
-    let next = before + few_of(kept.len(), channels);
+    let next = count_before(kept, ch, 0) + few_of(kept.len(), channels);
     if next < kept.len() {
         old_behind(kept[next], ch)
     } else {
@@ -355,12 +365,10 @@ fn interval_of(ch: u8, start: u64, interval: Interval) -> KeptInterval
     }
 }
 
-// Where one stands that begins there: behind those that begin by then. It is mostly the end.
+// How many stand at or before a minislot of a channel: where one is put that begins there. It is mostly the end.
 fn place_for(kept: &[KeptInterval], ch: u8, start: u64) -> usize
     requires { AreKept kept.now }
-    ensures bound { result ≤ length kept.now }
-    ensures low { AllWithin (λ k. leb (place_of k) (place ch start) ≡ true) kept.now 0 result }
-    ensures high { AllWithin (λ k. leb (place_of k) (place ch start) ≡ false) kept.now result (length kept.now) }
+    ensures { AreBefore (place ch start + 1) result kept.now }
 {
     let len = kept.len();
     if len > 0 && begins_by(&kept[len - 1], ch, start) {
@@ -497,10 +505,9 @@ pub(crate) fn of_channel(kept: &[KeptInterval], ch: u8) -> &[KeptInterval]
     requires { AreKept kept.now }
     ensures { IsOfChannel ch (map kept_interval kept.now) (map kept_interval result.now) }
 {
-    let before = kept.partition_point(|k| begins_before(k, ch, 0));
-    let rest = &kept[before..];
-    let count = rest.partition_point(|k| begins_by(k, ch, u64::MAX));
-    &rest[..count]
+    let from = count_before(kept, ch, 0);
+    let to = place_for(kept, ch, u64::MAX);
+    &kept[from..to]
 }
 
 fn start_in(interval: KeptInterval, ch: u8) -> Option<u64>
@@ -518,8 +525,7 @@ fn start_in(interval: KeptInterval, ch: u8) -> Option<u64>
 // The start of the first interval of a channel that begins after a minislot: what stands behind those that begin by then.
 fn next_start(kept: &[KeptInterval], ch: u8, at: u64, begun: usize) -> Option<u64>
     requires kept { AreKept kept.now }
-    requires low { AllWithin (λ k. leb (place_of k) (place ch at) ≡ true) kept.now 0 begun }
-    requires high { AllWithin (λ k. leb (place_of k) (place ch at) ≡ false) kept.now begun (length kept.now) }
+    requires begun { AreBefore (place ch at + 1) begun kept.now }
     ensures after { IfSome result (λ n. at < n) }
     ensures first { (x : ℕ) → x < 2 ^ 63 → IsBefore result x → All (λ k. k.channel ≡ ch → at < k.start → x < k.start) kept.now }
 {

@@ -16,31 +16,21 @@ pub(crate) fn is_of(lease: &OwnLease, ch: u8, sid: u16) -> bool
     lease.channel == ch && lease.sid == sid
 }
 
-fn is_lease(lease: &OwnLease, other: OwnLease) -> bool
-    ensures { result ≡ is_lease other lease.now }
-{
-    is_of(lease, other.channel, other.sid)
-        && (lease.first == other.first && lease.last == other.last)
-}
-
 // Whether the lease is one of them.
 fn has_lease(leases: &[OwnLease], lease: OwnLease) -> bool
     ensures { result ≡ has_lease leases.now lease }
 {
-    leases.iter().any(|l| is_lease(l, lease))
-}
-
-fn covers(lease: &OwnLease, ch: u8, sid: u16, at: u64) -> bool
-    ensures { result ≡ covers ch sid at lease.now }
-{
-    is_of(lease, ch, sid) && (lease.first <= at && at <= lease.last)
+    leases.iter().any(|l| is_of(l, lease.channel, lease.sid)
+        && (l.first == lease.first && l.last == lease.last))
 }
 
 /// Whether the SID is the modem's at a minislot.
 pub(crate) fn is_own_at(leases: &[OwnLease], ch: u8, sid: u16, at: u64) -> bool
     ensures { result ≡ is_own_at leases.now ch sid at }
 {
-    leases.iter().any(|l| covers(l, ch, sid, at))
+    leases
+        .iter()
+        .any(|l| is_of(l, ch, sid) && (l.first <= at && at <= l.last))
 }
 
 /// Whether a lease of the SID ends at a minislot or later.

@@ -1,6 +1,6 @@
 //! The modem core, which keeps one interval for each element that it was given, and lets go of those that have ended.
 
-ghost use Rattle.std.specs.Prelude.{◌≡◌, ℕ, ◌+◌, ◌^◌, ◌<◌, ◌≤◌, ◌↔◌, map, None, Some, Ok, Err, OnOk, OnErr, IfOk, IfErr, IfSome, IfNone, IsOkAnd, IsErr, List, Option, true, false, ◌∷◌, ◌++◌, [], ◌⊎◌, ◌==◌, MatchBool};
+ghost use Rattle.std.specs.Prelude.{◌≡◌, ℕ, ◌+◌, ◌^◌, ◌<◌, ◌≤◌, ◌↔◌, map, max, None, Some, Ok, Err, OnOk, OnErr, IfOk, IfErr, IfSome, IfNone, IsOkAnd, IsErr, List, Option, true, false, ◌∷◌, ◌++◌, [], ◌⊎◌, ◌==◌, MatchBool};
 ghost use Rattle.std.specs.Option.{option_map};
 ghost use Rattle.std.specs.List.{list_any};
 ghost use Rattle.map_body.specs.Layout.{IsBody};
@@ -13,6 +13,7 @@ ghost use Rattle.modem.specs.KeptIntervals.{kept_interval, ArePastOf, AreWindows
 ghost use Rattle.modem.specs.NextEvent.{Acts, AreQuiet, IsNext};
 ghost use Rattle.modem.specs.Idle.{SendsAt, SharesAt, IsIdle, HasSame, HasNoUnsent, IsBefore};
 ghost use Rattle.modem.specs.LetsGo.{HasNoOld, HasFewOld, LetsGo, LetsGoAfter};
+ghost use Rattle.modem.specs.Declined.{IsKnownTo, IsDeclined};
 
 use crate::action::{Action, NextEvent};
 use crate::edges::sooner;
@@ -22,9 +23,10 @@ use crate::known::{Channel, OwnLease, Progress, Want};
 use crate::sight::{self, Sight};
 use crate::span::{self, Span};
 use crate::types::{Heard, Sending, TimeBack, WantFault};
-use crate::{channels, intervals, leases, wants};
+use crate::wants::{self, Turn};
+use crate::{channels, intervals, leases};
 use grant_machine::Output;
-use map_body::{Iuc, MapBody, decode};
+use map_body::{Head, Iuc, MapBody, decode};
 use minislot_time::Slot;
 use std::alloc::{AllocError, Global};
 use std::marker::Model;
@@ -186,20 +188,13 @@ impl Modem {
         let shared = &mut self.open_to_all;
         let sight = sight::look(&mut self.sights, grants, shared, count, channel.id, at);
         let leases = self.leases.as_slice();
-        let Sight {
-            counted,
-            is_open,
-            ..
-        } = sight;
-        let sending = wants::send(
-            &mut self.wants,
-            leases,
+        let turn = Turn {
             channel,
             at,
             random,
-            counted,
-            is_open,
-        );
+            is_open: sight.is_open,
+        };
+        let sending = wants::send(&mut self.wants, leases, turn, sight.counted);
         span::keep_lasting(&mut self.spans, &mut self.wants, leases, channel.id, at);
         let clock = at + 1;
         channels::set(&mut self.channels, Channel { clock, ..channel });
@@ -297,16 +292,10 @@ impl Modem {
             return Ok(Heard::Unreadable);
         };
         let HeardMap { head, start, stop } = heard;
-        let Some(channel) = channels::find(self.channels.as_slice(), head.channel) else {
-            return Ok(Heard::OtherUcd);
+        let channel = match self.due(head, stop, near) {
+            Ok(channel) => channel,
+            Err(answer) => return Ok(answer),
         };
-        if channel.ucd != head.ucd {
-            return Ok(Heard::OtherUcd);
-        }
-        if stop <= channel.clock.max(near.get()) {
-            self.pass(channel, near);
-            return Ok(Heard::Past);
-        }
         let alloc = *self.wants.allocator();
         let Ok(map) = decode(alloc, bytes) else {
             return Err(AllocError);
@@ -327,20 +316,30 @@ impl Modem {
             return Ok(Heard::Unreadable);
         };
         let HeardMap { head, start, stop } = heard;
-        let Some(channel) = channels::find(self.channels.as_slice(), head.channel) else {
-            return Ok(Heard::OtherUcd);
+        let channel = match self.due(head, stop, near) {
+            Ok(channel) => channel,
+            Err(answer) => return Ok(answer),
         };
-        let ucd = head.ucd;
-        if channel.ucd != ucd {
-            return Ok(Heard::OtherUcd);
-        }
-        let clock = channel.clock.max(near.get());
-        if stop <= clock {
-            self.pass(channel, near);
-            return Ok(Heard::Past);
-        }
         self.take(map, start, channel, near)?;
         Ok(Heard::Taken)
+    }
+
+    // The channel of a map that is to be taken, or else the answer to the map. One that has ended moves the clock.
+    fn due(&mut self, head: Head, stop: u64, near: Slot) -> Result<Channel, Heard>
+        ensures due { IfOk result (λ c. IsKnownTo self.old head c × (max c.clock near < stop) × (self.new ≡ self.old)) }
+        ensures other { IfErr result (λ answer. IsDeclined self.old head near stop answer self.new) }
+    {
+        let Some(channel) = channels::find(self.channels.as_slice(), head.channel) else {
+            return Err(Heard::OtherUcd);
+        };
+        if channel.ucd != head.ucd {
+            return Err(Heard::OtherUcd);
+        }
+        if stop <= channel.clock.max(near.get()) {
+            self.pass(channel, near);
+            return Err(Heard::Past);
+        }
+        Ok(channel)
     }
 
     // Moves the clock of a channel, and lets go of what has ended.

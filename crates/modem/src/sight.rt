@@ -3,10 +3,9 @@
 
 ghost use Rattle.std.specs.Prelude.{◌≡◌, ℕ, ◌+◌, ◌<◌, ◌≤◌, ◌^◌, ◌==◌, ◌↔◌, if◌then◌else◌, map, List, IfSome, OnOk, OnErr};
 ghost use Rattle.modem.specs.declared.kept.KeptInterval.{KeptInterval};
-ghost use Rattle.modem.specs.State.{HasAt};
 ghost use Rattle.modem.specs.Idle.{IsBefore};
-ghost use Rattle.modem.specs.KeptIntervals.{kept_interval, AreKept, ArePast};
-ghost use Rattle.modem.specs.Sights.{FewOld, IsFew, IsSeen, Holds, AreSights, has_begun, with_sight, nowhere, forgotten};
+ghost use Rattle.modem.specs.KeptIntervals.{kept_interval, AreKept, ArePast, KeepsFrom};
+ghost use Rattle.modem.specs.Sights.{IsFew, AreSeen, IsSeen, Holds, AreSights, has_begun, with_sight, nowhere, forgotten};
 
 use crate::edges::sooner;
 use crate::kept::{self, KeptInterval, LIMIT};
@@ -127,8 +126,8 @@ pub(crate) fn forget(sights: &mut Vec<Sight>)
     forget_all(sights);
 }
 
-// The first number behind the minislots before a next one.
-fn end_before(next: Option<u64>) -> u64
+/// The first number behind the minislots before a next one.
+pub(crate) fn end_before(next: Option<u64>) -> u64
     ensures after { (at : ℕ) → at < 2 ^ 63 → IfSome next (λ n. at < n) → at < result }
     ensures before { (x : ℕ) → x < result → IsBefore next x × (x < 2 ^ 63) }
 {
@@ -179,19 +178,12 @@ fn let_go(
     ch: u8,
     at: u64,
 )
-    requires grants { AreKept grants.old.items }
-    requires opens { AreKept shared.old.items }
     requires time { at < 2 ^ 63 }
-    requires sights { AreSights channels grants.old.items shared.old.items sights.old.items }
-    ensures grants { AreKept grants.new.items }
-    ensures opens { AreKept shared.new.items }
-    ensures sights { AreSights channels grants.new.items shared.new.items sights.new.items }
-    ensures grants_held { (at_ch m sid iuc : ℕ) → (ch ≡ at_ch → at ≤ m)
-        → HasAt (map kept_interval grants.new.items) at_ch m sid iuc ↔ HasAt (map kept_interval grants.old.items) at_ch m sid iuc }
-    ensures opens_held { (at_ch m sid iuc : ℕ) → (ch ≡ at_ch → at ≤ m)
-        → HasAt (map kept_interval shared.new.items) at_ch m sid iuc ↔ HasAt (map kept_interval shared.old.items) at_ch m sid iuc }
-    ensures few_grants { FewOld channels ch (at + 1) (map kept_interval grants.new.items) }
-    ensures few_open { FewOld channels ch (at + 1) (map kept_interval shared.new.items) }
+    requires known { AreSeen channels grants.old.items shared.old.items sights.old.items }
+    ensures known { AreSeen channels grants.new.items shared.new.items sights.new.items }
+    ensures grants_held { KeepsFrom (map kept_interval grants.old.items) ch at (map kept_interval grants.new.items) }
+    ensures opens_held { KeepsFrom (map kept_interval shared.old.items) ch at (map kept_interval shared.new.items) }
+    ensures few { IsFew channels ch at (map kept_interval grants.new.items) (map kept_interval shared.new.items) }
 {
     let had_grants = kept::let_go_of_many(grants, ch, at, channels);
     let had_open = kept::let_go_of_many(shared, ch, at, channels);
@@ -209,19 +201,13 @@ fn renewed(
     last: Sight,
     at: u64,
 ) -> Sight
-    requires grants { AreKept grants.old.items }
-    requires opens { AreKept shared.old.items }
     requires time { at < 2 ^ 63 }
-    requires sights { AreSights channels grants.old.items shared.old.items sights.old.items }
+    requires known { AreSeen channels grants.old.items shared.old.items sights.old.items }
     requires from { last.from ≤ at }
     requires holds { Holds channels grants.old.items shared.old.items last }
-    ensures grants { AreKept grants.new.items }
-    ensures opens { AreKept shared.new.items }
-    ensures sights { AreSights channels grants.new.items shared.new.items sights.new.items }
-    ensures grants_held { (at_ch m sid iuc : ℕ) → (last.channel ≡ at_ch → at ≤ m)
-        → HasAt (map kept_interval grants.new.items) at_ch m sid iuc ↔ HasAt (map kept_interval grants.old.items) at_ch m sid iuc }
-    ensures opens_held { (at_ch m sid iuc : ℕ) → (last.channel ≡ at_ch → at ≤ m)
-        → HasAt (map kept_interval shared.new.items) at_ch m sid iuc ↔ HasAt (map kept_interval shared.old.items) at_ch m sid iuc }
+    ensures known { AreSeen channels grants.new.items shared.new.items sights.new.items }
+    ensures grants_held { KeepsFrom (map kept_interval grants.old.items) last.channel at (map kept_interval grants.new.items) }
+    ensures opens_held { KeepsFrom (map kept_interval shared.old.items) last.channel at (map kept_interval shared.new.items) }
     ensures few { IsFew channels last.channel at (map kept_interval grants.new.items) (map kept_interval shared.new.items) }
     ensures channel { result.channel ≡ last.channel }
     ensures from { result.from ≤ at }
@@ -251,17 +237,11 @@ pub(crate) fn look(
     ch: u8,
     at: u64,
 ) -> Sight
-    requires grants { AreKept grants.old.items }
-    requires opens { AreKept shared.old.items }
     requires time { at < 2 ^ 63 }
-    requires sights { AreSights channels grants.old.items shared.old.items sights.old.items }
-    ensures grants { AreKept grants.new.items }
-    ensures opens { AreKept shared.new.items }
-    ensures sights { AreSights channels grants.new.items shared.new.items sights.new.items }
-    ensures grants_held { (at_ch m sid iuc : ℕ) → (ch ≡ at_ch → at ≤ m)
-        → HasAt (map kept_interval grants.new.items) at_ch m sid iuc ↔ HasAt (map kept_interval grants.old.items) at_ch m sid iuc }
-    ensures opens_held { (at_ch m sid iuc : ℕ) → (ch ≡ at_ch → at ≤ m)
-        → HasAt (map kept_interval shared.new.items) at_ch m sid iuc ↔ HasAt (map kept_interval shared.old.items) at_ch m sid iuc }
+    requires known { AreSeen channels grants.old.items shared.old.items sights.old.items }
+    ensures known { AreSeen channels grants.new.items shared.new.items sights.new.items }
+    ensures grants_held { KeepsFrom (map kept_interval grants.old.items) ch at (map kept_interval grants.new.items) }
+    ensures opens_held { KeepsFrom (map kept_interval shared.old.items) ch at (map kept_interval shared.new.items) }
     ensures seen { IsSeen channels (map kept_interval grants.new.items) (map kept_interval shared.new.items) ch at result.counted result.is_open }
 {
     let last = find(sights.as_slice(), ch, at);

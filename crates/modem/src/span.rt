@@ -4,11 +4,11 @@ ghost use Rattle.std.specs.Prelude.{◌≡◌, ℕ, ◌+◌, ◌<◌, ◌^◌, m
 ghost use Rattle.std.specs.List.{All};
 ghost use Rattle.modem.specs.declared.known.OwnLease.{OwnLease};
 ghost use Rattle.modem.specs.declared.known.Want.{Want};
-ghost use Rattle.modem.specs.Idle.{IsBefore};
 ghost use Rattle.modem.specs.Wants.{is_lasting, lasting};
 ghost use Rattle.modem.specs.Spans.{Stay, AreSpans, is_within, with_span, forgotten};
 
 use crate::known::{OwnLease, Want};
+use crate::sight::end_before;
 use crate::{leases, wants};
 use std::alloc::AllocError;
 
@@ -99,15 +99,6 @@ pub(crate) fn forget(spans: &mut Vec<Span>)
     ensures { (leases : List OwnLease) (wants : List Want) → AreSpans leases wants spans.new.items }
 {
     forget_all(spans);
-}
-
-fn end_before(next: Option<u64>) -> u64
-    ensures { (x : ℕ) → x < result → IsBefore next x }
-{
-    match next {
-        Some(next) => next,
-        None => u64::MAX,
-    }
 }
 
 fn from_minislot(leases: &[OwnLease], ch: u8, at: u64) -> Span

@@ -1,14 +1,13 @@
 //! A modem's wants, over slices.
 
-ghost use Rattle.std.specs.Prelude.{◌≡◌, ◌+◌, ◌-◌, ◌<◌, ◌==◌, ◌&&◌, if◌then◌else◌, true, false, IfOk, IfSome, IfNone, Option, Some, None};
+ghost use Rattle.std.specs.Prelude.{◌≡◌, ◌+◌, ◌-◌, ◌<◌, ◌==◌, ◌&&◌, if◌then◌else◌, List, [], ◌∷◌, ◌++◌, true, false, IfOk, IfSome, IfNone, Option, Some, None};
 ghost use Rattle.std.specs.List.{filter_map, list_any};
 ghost use Rattle.modem.specs.declared.known.Want.{Want};
 ghost use Rattle.modem.specs.State.{is_own_at, is_own_from};
-ghost use Rattle.modem.specs.Wants.{is_want, is_unsent, is_unsent_on, unsent_of, with_want, IsLeastUnsent, own_wants, is_lasting, lasting};
+ghost use Rattle.modem.specs.Wants.{is_want, is_unsent, is_unsent_on, unsent_of, with_want, leads, IsLeastUnsent, own_wants, is_lasting, lasting};
 ghost use Rattle.map_body.specs.Intervals.{intervals};
 ghost use Rattle.modem.specs.Intervals.{is_granted, is_pending, is_acknowledged, lost, decided};
-ghost use Rattle.modem.specs.Steps.{lesser};
-ghost use Rattle.modem.specs.Ticks.{backoff_number, sent_at, Polls, Contends, SendsBy, Shares};
+ghost use Rattle.modem.specs.Ticks.{backoff_number, Polls, Contends, SendsBy, Shares};
 
 use crate::known::{Channel, OwnLease, Progress, Want};
 use crate::leases::{is_own_at, is_own_from};
@@ -57,9 +56,8 @@ pub(crate) fn has_unsent(wants: &[Want], ch: u8) -> bool
         .any(|w| w.channel == ch && is_unsent(w.progress))
 }
 
-// Whether a want becomes the least so far, if its SID is the modem's.
 fn leads(ch: u8, least: &Option<Want>, want: &Want) -> bool
-    ensures { lesser ch least.now want.now ≡ (if result then Some want.now else least.now) }
+    ensures { result ≡ leads ch least.now want.now }
 {
     if want.channel != ch || !is_unsent(want.progress) {
         return false;
@@ -70,10 +68,10 @@ fn leads(ch: u8, least: &Option<Want>, want: &Want) -> bool
     }
 }
 
-// The least so far with one more want, which counts only where its SID is the modem's.
+// The least of wants and one more, of those whose SIDs are the modem's.
 fn lesser_own(leases: &[OwnLease], ch: u8, at: u64, least: Option<Want>, want: Want) -> Option<Want>
-    ensures own { is_own_at leases.now ch want.sid at ≡ true → result ≡ lesser ch least want }
-    ensures strange { is_own_at leases.now ch want.sid at ≡ false → result ≡ least }
+    ensures { (wants : List Want) → IsLeastUnsent (own_wants leases.now ch at wants) ch least
+        → IsLeastUnsent (own_wants leases.now ch at (wants ++ want ∷ [])) ch result }
 {
     if !leads(ch, &least, &want) {
         return least;
@@ -130,37 +128,33 @@ fn backoff_number(channel: Channel, want: Want, random: u64) -> u16
     }
 }
 
-fn send_now(wants: &mut [Want], want: Want, at: u64)
-    ensures { wants.new ≡ with_want (sent_at at want) wants.old }
+fn put(wants: &mut [Want], want: Want, progress: Progress)
+    ensures { wants.new ≡ with_want (record want { progress = progress }) wants.old }
 {
-    let progress = Progress::Sent(at);
     set(wants, Want { progress, ..want });
 }
 
-fn wait(wants: &mut [Want], want: Want, number: u16)
-    ensures { wants.new ≡ with_want (record want { progress = Progress.Unsent (Some number) }) wants.old }
-{
-    let progress = Progress::Unsent(Some(number));
-    set(wants, Want { progress, ..want });
+/// A minislot of a channel at which a modem is asked: the number that is drawn there, and whether all may request in it.
+#[derive(Clone, Copy)]
+pub(crate) struct Turn {
+    pub channel: Channel,
+    pub at: u64,
+    pub random: u64,
+    pub is_open: bool,
 }
 
 // The unsent want of the least SID that is the modem's there takes part in a request minislot.
-fn share(
-    wants: &mut [Want],
-    leases: &[OwnLease],
-    channel: Channel,
-    at: u64,
-    random: u64,
-) -> Option<Sending>
-    ensures { (least : Option Want) × IsLeastUnsent (own_wants leases.now channel.id at wants.old) channel.id least × Contends wants.old channel at random result wants.new least }
+fn share(wants: &mut [Want], leases: &[OwnLease], turn: Turn) -> Option<Sending>
+    ensures { (least : Option Want) × IsLeastUnsent (own_wants leases.now turn.channel.id turn.«at» wants.old) turn.channel.id least
+        × Contends wants.old turn.channel turn.«at» turn.random result wants.new least }
 {
-    let want = least_unsent(wants, leases, channel.id, at)?;
-    let number = backoff_number(channel, want, random);
+    let want = least_unsent(wants, leases, turn.channel.id, turn.at)?;
+    let number = backoff_number(turn.channel, want, turn.random);
     if number == 0 {
-        send_now(wants, want, at);
+        put(wants, want, Progress::Sent(turn.at));
         Some(Sending::Request(want.sid, want.n))
     } else {
-        wait(wants, want, number - 1);
+        put(wants, want, Progress::Unsent(Some(number - 1)));
         None
     }
 }
@@ -169,7 +163,7 @@ fn poll(wants: &mut [Want], channel: Channel, sid: u16, at: u64) -> Option<Sendi
     ensures { Polls wants.old sid at result wants.new (unsent_of wants.old channel.id sid) }
 {
     let want = unsent(wants, channel.id, sid)?;
-    send_now(wants, want, at);
+    put(wants, want, Progress::Sent(at));
     Some(Sending::Polled(sid, want.n))
 }
 
@@ -177,55 +171,37 @@ fn poll(wants: &mut [Want], channel: Channel, sid: u16, at: u64) -> Option<Sendi
 pub(crate) fn send(
     wants: &mut Vec<Want>,
     leases: &[OwnLease],
-    channel: Channel,
-    at: u64,
-    random: u64,
+    turn: Turn,
     counted: Option<(u16, Iuc)>,
-    is_open: bool,
 ) -> Option<Sending>
-    ensures { SendsBy leases.now wants.old.items channel at random is_open result wants.new.items counted }
+    ensures { SendsBy leases.now wants.old.items turn.channel turn.«at» turn.random turn.is_open result wants.new.items counted }
 {
     let wants = wants.as_mut_slice();
     match counted {
-        Some(interval) => send_by(wants, leases, channel, at, random, interval, is_open),
-        None => send_shared(wants, leases, channel, at, random, is_open),
+        Some(interval) => send_by(wants, leases, turn, interval),
+        None => send_shared(wants, leases, turn),
     }
 }
 
 // By an interval of the modem's: its SID and IUC.
-fn send_by(
-    wants: &mut [Want],
-    leases: &[OwnLease],
-    channel: Channel,
-    at: u64,
-    random: u64,
-    interval: (u16, Iuc),
-    is_open: bool,
-) -> Option<Sending>
-    ensures { SendsBy leases.now wants.old channel at random is_open result wants.new (Some interval) }
+fn send_by(wants: &mut [Want], leases: &[OwnLease], turn: Turn, by: (u16, Iuc)) -> Option<Sending>
+    ensures { SendsBy leases.now wants.old turn.channel turn.«at» turn.random turn.is_open result wants.new (Some by) }
 {
-    let (sid, iuc) = interval;
+    let (sid, iuc) = by;
     if iuc.lets_transmit() {
         Some(Sending::Unicast(sid))
     } else if iuc.lets_request() {
-        poll(wants, channel, sid, at)
+        poll(wants, turn.channel, sid, turn.at)
     } else {
-        send_shared(wants, leases, channel, at, random, is_open)
+        send_shared(wants, leases, turn)
     }
 }
 
-fn send_shared(
-    wants: &mut [Want],
-    leases: &[OwnLease],
-    channel: Channel,
-    at: u64,
-    random: u64,
-    is_open: bool,
-) -> Option<Sending>
-    ensures { Shares leases.now wants.old channel at random is_open result wants.new }
+fn send_shared(wants: &mut [Want], leases: &[OwnLease], turn: Turn) -> Option<Sending>
+    ensures { Shares leases.now wants.old turn.channel turn.«at» turn.random turn.is_open result wants.new }
 {
-    if is_open {
-        share(wants, leases, channel, at, random)
+    if turn.is_open {
+        share(wants, leases, turn)
     } else {
         None
     }

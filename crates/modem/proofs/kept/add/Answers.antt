@@ -1,7 +1,5 @@
-use Rattle.std.proofs.Common.{◌≡◌, ◌-◌, leb, true, false, length, inl, inr, sym, arith}
-use Rattle.std.specs.List.{AllWithin, insert}
-use Rattle.modem.specs.declared.kept.KeptInterval.{KeptInterval}
-use Rattle.modem.specs.KeptIntervals.{place_of}
+use Rattle.std.proofs.Common.{◌-◌, inl, inr, sym, arith}
+use Rattle.std.specs.List.{insert}
 use Rattle.modem.proofs.Order.{HasAt-one, HasAt-insert, AreKept-insert, IsAt-equal, inserted}
 use Rattle.modem.proofs.kept.add.Goals as goal
 
@@ -18,11 +16,9 @@ pub returns-clause-kept : goal.returns-clause-kept
 returns-clause-kept c =
     let ks = c.args.kept.now.items in
     let before = c.place_for-before.result in
-    let low : AllWithin (λ (j : KeptInterval). leb (place_of j) (place_of c.args.interval) ≡ true) ks 0 before = rw c.as_slice.ensures.value at c.place_for-before.ensures.low in
-    let high : AllWithin (λ (j : KeptInterval). leb (place_of j) (place_of c.args.interval) ≡ false) ks before (length ks) = rw c.as_slice.ensures.value at c.place_for-before.ensures.high in
-    let bound = rw c.as_slice.ensures.value at c.place_for-before.ensures.bound in
+    let part = rw c.as_slice.ensures.value at c.place_for-before.ensures in
     rw (inserted c.insert-added.result (insert ks before c.args.interval) ks c.insert-added.new.self.items (c.insert-added.ensures.succeeds c.requires.room) c.insert-added.ensures.items)
-    (AreKept-insert ks before c.args.interval c.requires.kept c.requires.short bound low high)
+    (AreKept-insert ks before c.args.interval c.requires.kept c.requires.short part)
 
 pub returns-clause-held : goal.returns-clause-held
 returns-clause-held c = λ ch m sid iuc.

@@ -2,8 +2,7 @@ use Rattle.std.proofs.Common.{◌≡◌, false, sym, subst, ◌∙◌}
 use Rattle.std.specs.List.{list_any}
 use Rattle.std.proofs.lemmas.List.{take_all}
 use Rattle.modem.specs.declared.kept.KeptInterval.{KeptInterval}
-use Rattle.modem.specs.KeptIntervals.{kept_interval}
-use Rattle.modem.specs.Steps.{is_at}
+use Rattle.modem.specs.KeptIntervals.{kept_interval, is_at}
 use Rattle.modem.proofs.Parts.{no_true}
 use Rattle.modem.proofs.AtKept.{HasAt-kept}
 use Rattle.modem.proofs.kept.covering.Goals as goal

@@ -1,7 +1,6 @@
 use Rattle.std.proofs.Common.{◌≡◌, false, take}
 use Rattle.std.specs.List.{list_any}
-use Rattle.modem.specs.KeptIntervals.{kept_interval}
-use Rattle.modem.specs.Steps.{is_at}
+use Rattle.modem.specs.KeptIntervals.{kept_interval, is_at}
 use Rattle.modem.proofs.kept.covering.Given as goal
 
 abbrev pub invariant-loop-interval : goal.invariant-loop-interval

@@ -1,8 +1,6 @@
-use Rattle.std.proofs.Common.{◌≡◌, ◌+◌, ◌<◌, ◌^◌, ltb, subst, arith, ◌∙◌, rules}
-use Rattle.std.proofs.lemmas.List.Sorted.{IsPartitionedBy-ltb, IsPartitionPoint-from_clause}
+use Rattle.std.proofs.Common.{◌≡◌, ◌+◌, ◌<◌, ◌^◌, subst, arith, ◌∙◌}
 use Rattle.std.proofs.lemmas.List.{get_or_default}
 use Rattle.modem.specs.declared.kept.KeptInterval.{KeptInterval}
-use Rattle.modem.specs.KeptIntervals.{place, place_of}
 use Rattle.modem.proofs.Old.{few_before}
 use Rattle.modem.proofs.kept.few_until.Goals as goal
 
@@ -10,17 +8,14 @@ pub returns-then-next-kept : goal.returns-then-next-kept
 returns-then-next-kept c = λ m soon.
     let ks = c.args.kept.now in
     let one : KeptInterval = c.index-kept-next.result in
-    let part = IsPartitionPoint-from_clause (λ (y : KeptInterval). ltb (place_of y) (place c.args.ch 0)) ks c.partition_point-before.result c.partition_point-before.ensures.partitioned (IsPartitionedBy-ltb place_of ks (place c.args.ch 0) c.requires.ordered) (λ a r f' k. search rules) in
-    few_before ks c.args.channels c.args.ch m c.partition_point-before.result c.few_of.result (omega (arith, soon, c.old_behind.ensures.limit)) c.requires part.0 part.1 c.few_of.ensures.share
+    few_before ks c.args.channels c.args.ch m c.count_before.result c.few_of.result (omega (arith, soon, c.old_behind.ensures.limit)) c.requires c.count_before.ensures c.few_of.ensures.share
     (λ d first.
-    let here = get_or_default ks (c.partition_point-before.result + c.few_of.result) one d first in
+    let here = get_or_default ks (c.count_before.result + c.few_of.result) one d first in
     subst (λ (k : KeptInterval). (k.start < 2 ^ 64) × (k.channel ≡ c.args.ch → m < k.start + 16383)) (c.index-kept-next.is ∙ here)
     (c.old_behind.ensures.range, λ same. let top = c.old_behind.ensures.channel same in omega (arith, top, soon)))
 
 pub returns-else-next-kept : goal.returns-else-next-kept
 returns-else-next-kept c = λ m soon.
-    let ks = c.args.kept.now in
-    let part = IsPartitionPoint-from_clause (λ (y : KeptInterval). ltb (place_of y) (place c.args.ch 0)) ks c.partition_point-before.result c.partition_point-before.ensures.partitioned (IsPartitionedBy-ltb place_of ks (place c.args.ch 0) c.requires.ordered) (λ a r f' k. search rules) in
     let all = c.if-next-kept.false in
-    few_before ks c.args.channels c.args.ch m c.partition_point-before.result c.few_of.result (omega (arith, soon)) c.requires part.0 part.1 c.few_of.ensures.share
+    few_before c.args.kept.now c.args.channels c.args.ch m c.count_before.result c.few_of.result (omega (arith, soon)) c.requires c.count_before.ensures c.few_of.ensures.share
     (λ d first. absurd (omega (arith, all, first)))

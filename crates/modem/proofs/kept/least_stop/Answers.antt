@@ -2,7 +2,7 @@ use Rattle.std.proofs.Common.{◌≡◌, ◌<◌, ◌≤◌, take, subst}
 use Rattle.std.specs.List.{All}
 use Rattle.std.proofs.lemmas.List.{take_more, take_all}
 use Rattle.modem.specs.declared.kept.KeptInterval.{KeptInterval}
-use Rattle.modem.proofs.NextEdges.{All-push}
+use Rattle.std.proofs.lemmas.List.Elements.{All-push}
 use Rattle.modem.proofs.kept.least_stop.Goals as goal
 
 pub loop-interval-preserved : goal.loop-interval-preserved

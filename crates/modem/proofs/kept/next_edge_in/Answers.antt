@@ -2,7 +2,8 @@ use Rattle.std.proofs.Common.{List, map, subst}
 use Rattle.modem.specs.declared.kept.KeptInterval.{KeptInterval}
 use Rattle.modem.specs.State.{HasAt}
 use Rattle.modem.specs.KeptIntervals.{kept_interval}
-use Rattle.modem.proofs.NextEdges.{HasSame-made, HasAt-part}
+use Rattle.modem.proofs.Order.{HasAt-part}
+use Rattle.modem.proofs.NextEdges.{HasSame-made}
 use Rattle.modem.proofs.kept.next_edge_in.Goals as goal
 
 pub returns-clause-same : goal.returns-clause-same

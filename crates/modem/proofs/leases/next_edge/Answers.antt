@@ -3,7 +3,8 @@ use Rattle.std.specs.List.{All}
 use Rattle.std.proofs.lemmas.List.{take_more, take_all}
 use Rattle.modem.specs.declared.known.OwnLease.{OwnLease}
 use Rattle.modem.specs.Idle.{IsSameIn}
-use Rattle.modem.proofs.NextEdges.{All-push, CoverSame-made}
+use Rattle.std.proofs.lemmas.List.Elements.{All-push}
+use Rattle.modem.proofs.NextEdges.{CoverSame-made}
 use Rattle.modem.proofs.leases.next_edge.Goals as goal
 
 pub loop-lease-preserved : goal.loop-lease-preserved

@@ -7,8 +7,7 @@ pub returns-clause-seen : goal.returns-clause-seen
 returns-clause-seen c = λ n few. record {
   counts = c.counted_in.ensures;
   shared = c.is_open_in.ensures;
-  few_grants = few.few_grants;
-  few_open = few.few_open;
+  few = few;
 }
 
 pub returns-clause-holds : goal.returns-clause-holds

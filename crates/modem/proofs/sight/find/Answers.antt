@@ -1,4 +1,4 @@
-use Rattle.std.proofs.Common.{◌≡◌, ◌≤◌, ◌==◌, nat_le, true, sym, subst, ◌∙◌, arith}
+use Rattle.std.proofs.Common.{◌≡◌, ◌≤◌, ◌==◌, ◌&&◌, nat_le, true, sym, subst, ◌∙◌, arith}
 use Rattle.std.proofs.lemmas.Bool.{and_parts, eqb-true}
 use Rattle.std.proofs.lemmas.Bool.Decides.{nat_tests}
 use Rattle.modem.specs.declared.sight.Sight.{Sight}
@@ -9,14 +9,12 @@ use Rattle.modem.proofs.sight.find.Goals as goal
 pub returns-then-began-clause-channel : goal.returns-then-began-clause-channel
 returns-then-began-clause-channel c =
     let s : Sight = c.sight-item.result in
-    let parts = and_parts (s.channel == c.args.ch) (nat_le s.from c.args.«at») (sym c.began.ensures ∙ c.if-began.true) in
-    eqb-true _ _ parts.0
+    eqb-true _ _ (and_parts (s.channel == c.args.ch) (nat_le s.from c.args.«at») (sym c.began.ensures ∙ c.if-began.true)).0
 
 pub returns-then-began-clause-from : goal.returns-then-began-clause-from
 returns-then-began-clause-from c =
     let s : Sight = c.sight-item.result in
-    let parts = and_parts (s.channel == c.args.ch) (nat_le s.from c.args.«at») (sym c.began.ensures ∙ c.if-began.true) in
-    let by : nat_le s.from c.args.«at» ≡ true = parts.1 in
+    let by : ((s.channel == c.args.ch) && nat_le s.from c.args.«at») ≡ true = sym c.began.ensures ∙ c.if-began.true in
     let from : s.from ≤ c.args.«at» = grind (arith, nat_tests) in
     from
 

@@ -10,12 +10,12 @@ returns-then-at-last-clause-seen c =
     let grants = map kept_interval c.args.grants.now.items in
     let opens = map kept_interval c.args.shared.now.items in
     let last = c.find-last.result in
-    let holds = c.find-last.ensures.holds c.args.channels c.args.grants.now.items c.args.shared.now.items (rw c.as_slice.ensures.value c.requires.sights) in
+    let holds = c.find-last.ensures.holds c.args.channels c.args.grants.now.items c.args.shared.now.items (rw c.as_slice.ensures.value c.requires.known.sights) in
     subst (λ (ch : ℕ). IsSeen c.args.channels grants opens ch c.args.«at» last.counted last.is_open) c.find-last.ensures.channel (holds.seen c.args.«at» c.find-last.ensures.from c.if-at-last.true)
 
 pub renewed-known-requires-clause-holds : goal.renewed-known-requires-clause-holds
 renewed-known-requires-clause-holds c =
-    c.find-last.ensures.holds c.args.channels c.args.grants.now.items c.args.shared.now.items (rw c.as_slice.ensures.value c.requires.sights)
+    c.find-last.ensures.holds c.args.channels c.args.grants.now.items c.args.shared.now.items (rw c.as_slice.ensures.value c.requires.known.sights)
 
 pub anew-sight-requires-clause-past_grants : goal.anew-sight-requires-clause-past_grants
 anew-sight-requires-clause-past_grants c =
@@ -27,11 +27,15 @@ anew-sight-requires-clause-past_open c =
     let known = c.renewed-known.result in
     rw c.as_slice-3.ensures.value (still_past known.channel known.from c.args.«at» known.past_open c.renewed-known.new.shared.items c.renewed-known.ensures.from c.renewed-known.ensures.holds.past_open)
 
-pub returns-clause-sights : goal.returns-clause-sights
-returns-clause-sights c =
+pub returns-clause-known : goal.returns-clause-known
+returns-clause-known c =
     let known = c.renewed-known in
     let holds = rw (c.as_slice-2.ensures.value, c.as_slice-3.ensures.value) at c.anew-sight.ensures.holds in
-    rw c.set.ensures (AreSights-with c.args.channels known.new.grants.items known.new.shared.items c.anew-sight.result known.new.sights.items known.ensures.sights (holds c.args.channels known.ensures.holds.few))
+    record {
+      grants = known.ensures.known.grants;
+      opens = known.ensures.known.opens;
+      sights = rw c.set.ensures (AreSights-with c.args.channels known.new.grants.items known.new.shared.items c.anew-sight.result known.new.sights.items known.ensures.known.sights (holds c.args.channels known.ensures.holds.few));
+    }
 
 pub returns-clause-grants_held : goal.returns-clause-grants_held
 returns-clause-grants_held c = λ at_ch m sid iuc late.

@@ -5,9 +5,6 @@ use Rattle.modem.proofs.sight.renewed.Goals as goal
 pub returns-then-at-last-clause-few : goal.returns-then-at-last-clause-few
 returns-then-at-last-clause-few c = c.requires.holds.few c.args.«at» c.if-at-last.true
 
-pub returns-clause-few : goal.returns-clause-few
-returns-clause-few c = record { few_grants = c.let_go.ensures.few_grants; few_open = c.let_go.ensures.few_open }
-
 pub returns-clause-holds : goal.returns-clause-holds
 returns-clause-holds c =
     rw c.nowhere.ensures (Holds-begun c.args.channels c.let_go.new.grants.items c.let_go.new.shared.items c.args.last.channel c.min.result (λ m before.

@@ -1,12 +1,9 @@
-use Rattle.std.proofs.Common.{◌<◌, length, slice_index_or, arith}
+use Rattle.std.proofs.Common.{arith}
 use Rattle.std.proofs.lemmas.List.Edits.{map_over_more}
 use Rattle.std.proofs.lemmas.List.{get_or_default}
-use Rattle.modem.specs.declared.span.Span.{Span}
 use Rattle.modem.specs.Spans.{forgotten}
 use Rattle.modem.proofs.span.forget_in.Goals as goal
 
 pub loop-span-preserved : goal.loop-span-preserved
 loop-span-preserved c =
-    let now : Span = slice_index_or c.loop-span.spans c.loop-span.span-index (record { channel = 0; from = 0; until = 0 }) in
-    let here : c.loop-span.span-index < length c.loop-span.spans = omega arith in
-    (map_over_more forgotten c.args.spans.now c.loop-span.spans c.loop-span.span-index now c.loop-span-test.true c.loop-span.invariant (get_or_default c.loop-span.spans c.loop-span.span-index _ _ here))
+    (map_over_more forgotten c.args.spans.now c.loop-span.spans c.loop-span.span-index _ c.loop-span-test.true c.loop-span.invariant (get_or_default c.loop-span.spans c.loop-span.span-index _ _ (omega arith)))

@@ -1,4 +1,4 @@
-use Rattle.std.proofs.Common.{◌==◌, cond, ◌<◌, length, slice_index_or, arith}
+use Rattle.std.proofs.Common.{◌==◌, cond, arith}
 use Rattle.std.proofs.lemmas.List.Edits.{map_over_more}
 use Rattle.std.proofs.lemmas.List.{get_or_default}
 use Rattle.modem.specs.declared.span.Span.{Span}
@@ -6,6 +6,4 @@ use Rattle.modem.proofs.span.set_in.Goals as goal
 
 pub loop-span-preserved : goal.loop-span-preserved
 loop-span-preserved c =
-    let now : Span = slice_index_or c.loop-span.spans c.loop-span.span-index (record { channel = 0; from = 0; until = 0 }) in
-    let here : c.loop-span.span-index < length c.loop-span.spans = omega arith in
-    rw c.chosen.ensures (map_over_more (λ (s : Span). cond (s.channel == c.args.row.channel) c.args.row s) c.args.spans.now c.loop-span.spans c.loop-span.span-index now c.loop-span-test.true c.loop-span.invariant (get_or_default c.loop-span.spans c.loop-span.span-index _ _ here))
+    rw c.chosen.ensures (map_over_more (λ (s : Span). cond (s.channel == c.args.row.channel) c.args.row s) c.args.spans.now c.loop-span.spans c.loop-span.span-index _ c.loop-span-test.true c.loop-span.invariant (get_or_default c.loop-span.spans c.loop-span.span-index _ _ (omega arith)))

@@ -1,8 +1,8 @@
 use Rattle.std.proofs.Common.{Option, subst}
 use Rattle.modem.specs.declared.action.Action.{Action}
-use Rattle.modem.specs.NextEvent.{Acts}
 use Rattle.modem.specs.Idle.{SendsAt}
-use Rattle.modem.proofs.NextEdges.{some_also, none_also}
+use Rattle.std.proofs.lemmas.Option.{IfSome_then}
+use Rattle.modem.proofs.Extents.{where_none}
 use Rattle.modem.proofs.Quiet.{acts_sent, ended}
 use Rattle.modem.proofs.modem.Modem.action_at.Goals as goal
 
@@ -17,11 +17,11 @@ returns-in-None-clause-some c =
     let v = c.args.self.now in
     let (counted, counts, sends) = c.sending_at.ensures in
     let nothing = subst (λ (r : Option Action). SendsAt v c.args.channel.id c.args.«at» counted r) c.in-None.is sends in
-    some_also _ (Acts v c.args.channel c.args.«at») c.lease_end_at.result (λ a (sid, is, has, over). rw is (has, ended v c.args.channel c.args.«at» counted sid counts nothing over)) c.lease_end_at.ensures.some
+    IfSome_then c.lease_end_at.result c.lease_end_at.ensures.some (λ a (sid, is, has, over). rw is (has, ended v c.args.channel c.args.«at» counted sid counts nothing over))
 
 pub returns-in-None-clause-none : goal.returns-in-None-clause-none
 returns-in-None-clause-none c =
     let v = c.args.self.now in
     let (counted, counts, sends) = c.sending_at.ensures in
     let nothing = subst (λ (r : Option Action). SendsAt v c.args.channel.id c.args.«at» counted r) c.in-None.is sends in
-    none_also _ _ c.lease_end_at.result (λ stay. record { counted = counted; counts = counts; nothing = nothing; stay = stay }) c.lease_end_at.ensures.none
+    where_none c.lease_end_at.result (λ stay. record { counted = counted; counts = counts; nothing = nothing; stay = stay }) c.lease_end_at.ensures.none

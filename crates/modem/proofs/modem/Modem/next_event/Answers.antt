@@ -46,8 +46,7 @@ loop-at-preserved c =
 
 pub returns-in-Some-clause-next : goal.returns-in-Some-clause-next
 returns-in-Some-clause-next c =
-    let found : channel_of c.self.inside.channels.items c.args.ch ≡ Some c.in_ok-channel.channel = rw c.as_slice.ensures.value at (sym c.in_ok-channel.ensures) in
-    let known : channel_of c.args.self.now.channels c.args.ch ≡ Some c.in_ok-channel.channel = rw (← c.self.view_is) found in
+    let known : channel_of c.args.self.now.channels c.args.ch ≡ Some c.in_ok-channel.channel = rw (← c.self.view_is) (rw c.as_slice.ensures.value at (sym c.in_ok-channel.ensures)) in
     let limit = c.loop-at-test.true in
     rw known (record {
       from_on = c.loop-at.invariant.0;
@@ -58,13 +57,11 @@ returns-in-Some-clause-next c =
 
 pub returns-in_err-next-in-None-clause-never : goal.returns-in_err-next-in-None-clause-never
 returns-in_err-next-in-None-clause-never c =
-    let found : channel_of c.self.inside.channels.items c.args.ch ≡ Some c.in_ok-channel.channel = rw c.as_slice.ensures.value at (sym c.in_ok-channel.ensures) in
-    let known : channel_of c.args.self.now.channels c.args.ch ≡ Some c.in_ok-channel.channel = rw (← c.self.view_is) found in
+    let known : channel_of c.args.self.now.channels c.args.ch ≡ Some c.in_ok-channel.channel = rw (← c.self.view_is) (rw c.as_slice.ensures.value at (sym c.in_ok-channel.ensures)) in
     if_none (IfSome (channel_of c.args.self.now.channels c.args.ch) (λ k. AreQuiet c.args.self.now k c.args.from (2 ^ 63))) c.from_residual-in_err-next-in-None.result (rw known (λ m late limit. idle_quiet c.args.self.now c.in_ok-channel.channel m (idle_on c.args.self.now c.in_ok-channel.channel.id c.loop-at.«at» m (λ early. c.loop-at.invariant.2 m late early limit) (λ later. c.in_err-next-in-None.ensures.idle m later limit tt c.in-None.ensures.none))))
 
 pub returns-clause-never : goal.returns-clause-never
 returns-clause-never c =
-    let found : channel_of c.self.inside.channels.items c.args.ch ≡ Some c.in_ok-channel.channel = rw c.as_slice.ensures.value at (sym c.in_ok-channel.ensures) in
-    let known : channel_of c.args.self.now.channels c.args.ch ≡ Some c.in_ok-channel.channel = rw (← c.self.view_is) found in
+    let known : channel_of c.args.self.now.channels c.args.ch ≡ Some c.in_ok-channel.channel = rw (← c.self.view_is) (rw c.as_slice.ensures.value at (sym c.in_ok-channel.ensures)) in
     let past = c.loop-at-test.false in
     rw known (λ m late limit. idle_quiet c.args.self.now c.in_ok-channel.channel m (c.loop-at.invariant.2 m late (omega (arith, past, limit)) limit))

@@ -1,7 +1,6 @@
-use Rattle.std.proofs.Common.{◌≡◌, ◌+◌, ◌≤◌, Some, length, vec_len, map, refl, sym, ◌∙◌}
+use Rattle.std.proofs.Common.{◌≡◌, ◌+◌, ◌≤◌, Some, length, vec_len, refl, sym, ◌∙◌}
 use Rattle.modem.proofs.Old.{HasFewOld-made}
-use Rattle.modem.specs.State.{State, channel_of}
-use Rattle.modem.specs.KeptIntervals.{kept_interval}
+use Rattle.modem.specs.State.{channel_of}
 use Rattle.modem.specs.contracts.modem.Modem.{the_view}
 use Rattle.modem.proofs.Transmits.{Ticks-held}
 use Rattle.modem.proofs.Stands.{Ticks-seen, Ticks-stands}
@@ -19,9 +18,9 @@ pub invariant_of-self : goal.invariant_of-self
 invariant_of-self c =
     let fields = c.self.inside in
     let size : vec_len fields.channels ≡ length fields.channels.items = fields.channels.ok.0 in (
-      c.look-sight.ensures.grants,
-      c.look-sight.ensures.opens,
-      AreSights-moved c.len-count.result c.look-sight.new.grants.items c.look-sight.new.shared.items c.look-sight.new.sights.items (record c.in-Some.channel { clock = c.get-at.result + 1 }) fields.channels.items c.set.new.channels.items (c.len-count.ensures ∙ size) c.set.ensures c.look-sight.ensures.sights,
+      c.look-sight.ensures.known.grants,
+      c.look-sight.ensures.known.opens,
+      AreSights-moved c.len-count.result c.look-sight.new.grants.items c.look-sight.new.shared.items c.look-sight.new.sights.items (record c.in-Some.channel { clock = c.get-at.result + 1 }) fields.channels.items c.set.new.channels.items (c.len-count.ensures ∙ size) c.set.ensures c.look-sight.ensures.known.sights,
       rw c.as_slice-leases.ensures.value at c.keep_lasting.ensures.spans,
     )
 
@@ -38,41 +37,21 @@ returns-clause-ticks c =
 
 pub returns-clause-stands : goal.returns-clause-stands
 returns-clause-stands c hearings h =
-    let found : channel_of c.self.inside.channels.items c.args.ch ≡ Some c.in-Some.channel = rw c.as_slice.ensures.value at (sym c.in-Some.ensures) in
-    let seen = rw c.get-at.ensures.same at c.look-sight.ensures.seen in
-    let sends = rw (c.as_slice-leases.ensures.value, c.get-at.ensures.same) at c.send-sending.ensures in
-    let lasts = rw (c.as_slice-leases.ensures.value, c.get-at.ensures.same) at c.keep_lasting.ensures.wants in
-    let grants = rw c.get-at.ensures.same at c.look-sight.ensures.grants_held in
-    let open_to_all = rw c.get-at.ensures.same at c.look-sight.ensures.opens_held in
-    let made = rw c.get-at.ensures.same at c.set.ensures in
+    let known : channel_of c.args.self.now.channels c.args.ch ≡ Some c.in-Some.channel = rw (← c.self.view_is) (rw c.as_slice.ensures.value at (sym c.in-Some.ensures)) in
     let late : c.in-Some.channel.clock ≤ c.args.slot = rw c.get-at.ensures.same at c.if-at-channel.false in
-    let was = rw (← c.self.view_is) at h in
-    let old = the_view c.self.inside in
-    let new : State = record { id = old.id; channels = c.set.new.channels.items; leases = old.leases; grants = map kept_interval c.look-sight.new.grants.items; open_to_all = map kept_interval c.look-sight.new.shared.items; wants = c.keep_lasting.new.wants.items } in
-    let ticks = Ticks-seen c.len-count.result old new c.in-Some.channel c.args.ch c.args.slot c.args.random c.send-sending.result c.look-sight.result.counted c.look-sight.result.is_open c.send-sending.new.wants.items found refl refl grants open_to_all made seen sends lasts in
-    Ticks-stands old new c.in-Some.channel c.args.ch c.args.slot c.args.random c.send-sending.result hearings found late ticks was
+    Ticks-stands c.args.self.now _ c.in-Some.channel c.args.ch c.args.slot c.args.random c.send-sending.result hearings known late ((rw known at (returns-clause-ticks c)) late) h
 
 pub returns-clause-held : goal.returns-clause-held
 returns-clause-held c hearings sid h is =
-    let found : channel_of c.self.inside.channels.items c.args.ch ≡ Some c.in-Some.channel = rw c.as_slice.ensures.value at (sym c.in-Some.ensures) in
-    let seen = rw c.get-at.ensures.same at c.look-sight.ensures.seen in
-    let sends = rw (c.as_slice-leases.ensures.value, c.get-at.ensures.same) at c.send-sending.ensures in
-    let lasts = rw (c.as_slice-leases.ensures.value, c.get-at.ensures.same) at c.keep_lasting.ensures.wants in
-    let grants = rw c.get-at.ensures.same at c.look-sight.ensures.grants_held in
-    let open_to_all = rw c.get-at.ensures.same at c.look-sight.ensures.opens_held in
-    let made = rw c.get-at.ensures.same at c.set.ensures in
+    let known : channel_of c.args.self.now.channels c.args.ch ≡ Some c.in-Some.channel = rw (← c.self.view_is) (rw c.as_slice.ensures.value at (sym c.in-Some.ensures)) in
     let late : c.in-Some.channel.clock ≤ c.args.slot = rw c.get-at.ensures.same at c.if-at-channel.false in
-    let was = rw (← c.self.view_is) at h in
-    let old = the_view c.self.inside in
-    let new : State = record { id = old.id; channels = c.set.new.channels.items; leases = old.leases; grants = map kept_interval c.look-sight.new.grants.items; open_to_all = map kept_interval c.look-sight.new.shared.items; wants = c.keep_lasting.new.wants.items } in
-    let ticks = Ticks-seen c.len-count.result old new c.in-Some.channel c.args.ch c.args.slot c.args.random c.send-sending.result c.look-sight.result.counted c.look-sight.result.is_open c.send-sending.new.wants.items found refl refl grants open_to_all made seen sends lasts in
-    rw (← c.self.view_is) (Ticks-held old new c.in-Some.channel c.args.ch c.args.slot c.args.random c.send-sending.result hearings sid found late ticks was is)
+    Ticks-held c.args.self.now _ c.in-Some.channel c.args.ch c.args.slot c.args.random c.send-sending.result hearings sid known late ((rw known at (returns-clause-ticks c)) late) h is
 
 pub returns-clause-lets_go : goal.returns-clause-lets_go
 returns-clause-lets_go c =
     let found : channel_of c.self.inside.channels.items c.args.ch ≡ Some c.in-Some.channel = rw c.as_slice.ensures.value at (sym c.in-Some.ensures) in
     let size : vec_len c.self.inside.channels ≡ length c.self.inside.channels.items = c.self.inside.channels.ok.0 in
-    let grants = rw (c.get-at.ensures.same, c.len-count.ensures, size) at c.look-sight.ensures.seen.few_grants in
-    let open_to_all = rw (c.get-at.ensures.same, c.len-count.ensures, size) at c.look-sight.ensures.seen.few_open in
+    let grants = rw (c.get-at.ensures.same, c.len-count.ensures, size) at c.look-sight.ensures.seen.few.few_grants in
+    let open_to_all = rw (c.get-at.ensures.same, c.len-count.ensures, size) at c.look-sight.ensures.seen.few.few_open in
     let made = rw c.get-at.ensures.same at c.set.ensures in
     rw (← c.self.view_is, found) (λ late. HasFewOld-made (the_view c.self.inside) _ c.in-Some.channel c.args.ch (c.args.slot + 1) found made grants open_to_all)
