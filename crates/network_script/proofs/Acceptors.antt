@@ -19,11 +19,12 @@ use Rattle.node.specs.View.{View, Standing}
 use Rattle.node.specs.View.Standing.{Running}
 use Rattle.node.specs.Step.{nothing, sends, writes, learns, known, letter, to_all, known_letters, first_known, letters_told, prepare, tell, vote_at, accept}
 use Rattle.network_script.proofs.Invariant.{IsProposed, PromiseOk, OwnOk, WriteOk, RoleOk, UpOk, LetterOk, Invariant}
-use Rattle.network_script.proofs.Lists.{in_append, in_filter, into_filter}
+use Rattle.network_script.proofs.Kept.{NewLetters}
+use Rattle.network_script.proofs.Lists.{in_append, in_filter, in_take, into_filter}
 use Rattle.network_script.proofs.Rows.{at_in}
 use Rattle.network_script.proofs.Growth.{letter_grows}
 use Rattle.network_script.proofs.Writes.{write_grows, chosen_put}
-use Rattle.network_script.proofs.Sending.{in_take, Says, says_letter, to_all_says, known_says}
+use Rattle.network_script.proofs.Sending.{Says, says_letter, to_all_says, known_says}
 use Rattle.network_script.proofs.Sound.{Sound, IsOther, AreQuiet, quiet_letters, quiet_own}
 
 -- a letter that says a note which holds and proposes nothing
@@ -64,18 +65,13 @@ module _ (members : ℕ) (h : List Entry) (sent : List Letter) (states : List St
     written = was.written ∙ sym same;
   }
 
+  -- a view that differs in its hint and its role, and letters
+  pub turns_sound : (hint : ℕ) (role : Role) (more : List Letter) → NewLetters members h sent more k → RoleOk members h k view.content.tried role → OwnOk (sent ++ more) k view.content.tried role → Sound members h sent k view (sends (record view { hint = hint; role = role }) more)
+  turns_sound hint role more letters ok own = record { write = tt; content = refl; letters = letters; role = ok; own = own; counted = was.counted; learned = was.learned; written = was.written }
+
   -- letters alone that propose nothing
   pub sends_sound : (more : List Letter) → AreQuiet members h more → Sound members h sent k view (sends view more)
-  sends_sound more quiet = record {
-    write = tt;
-    content = refl;
-    letters = quiet_letters members h sent more k quiet;
-    role = was.role;
-    own = quiet_own members h sent more k view.content.tried view.role quiet was.own;
-    counted = was.counted;
-    learned = was.learned;
-    written = was.written;
-  }
+  sends_sound more quiet = turns_sound view.hint view.role more (quiet_letters members h sent more k quiet) was.role (quiet_own members h sent more k view.content.tried view.role quiet was.own)
 
   pub nothing_sound : Sound members h sent k view (nothing view)
   nothing_sound = sends_sound [] (quiet_none members h)

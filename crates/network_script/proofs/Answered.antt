@@ -79,10 +79,7 @@ module _ (w : Written) (k : ℕ) (view : View) (here : slice_get w.nodes k ≡ S
   fails_so IsCourse fault.OutOfMemory is = (quiet (Stopped view.content None), refl, refl)
   fails_so IsCourse fault.StoreRefused is = (quiet (Stopped view.content None), refl, refl)
   fails_so IsCourse fault.Down is = (quiet (Stopped view.content None), inl refl, refl)
-  fails_so IsCourse fault.NotLeading is = (quiet (Running view), (is, refl), stays_so)
-  fails_so IsCourse fault.LogFull is = (quiet (Running view), (is, refl), stays_so)
-  fails_so IsCourse fault.RoundsSpent is = (quiet (Running view), (is, refl), stays_so)
-  fails_so IsCourse fault.ValueTooLong is = (quiet (Running view), (is, refl), stays_so)
+  fails_so IsCourse declined is = (quiet (Running view), (is, refl), stays_so)
 
   ends_so : (IsCourse : Result Outcome Fault → Type 0) (course : Result Outcome Fault) → IsCourse course → Comes (Ends view IsCourse) w k (plain.ends w k view course).0 (plain.ends w k view course).1
   ends_so IsCourse (Ok o) is = (whole o, (o, is, refl, refl), refl)
@@ -165,6 +162,4 @@ each_is_answered w (event.Crash k) few none =
 each_is_answered w (event.Restart k) few none = restarts_so (length w.nodes) w k (slice_get w.nodes k) refl
 each_is_answered w (event.Release k now) few none =
     asks_so (length w.nodes) w k (ReleaseAt now) _ (slice_get w.nodes k) refl (λ c doubt. (refl, refl)) (λ view here. (gives view now, (refl, refl), refl))
-each_is_answered w (event.Hear m i near) few none = (w.modems, no_modems_so w.modems m _ none, same_world w [] refl)
-each_is_answered w (event.Want m ch sid n) few none = (w.modems, no_modems_so w.modems m _ none, same_world w [] refl)
-each_is_answered w (event.Tick m ch slot random) few none = (w.modems, no_modems_so w.modems m _ none, same_world w [] refl)
+each_is_answered w of_modem few none = (w.modems, no_modems_so w.modems _ _ none, same_world w [] refl)

@@ -3,16 +3,17 @@ use Rattle.std.proofs.Common.{◌≡◌, ◌<◌, ◌≤◌, ◌++◌, inl, inr,
 use Rattle.std.specs.Prelude.{OnErr, OnOk}
 use Rattle.std.proofs.lemmas.List.{map-set, map-append, length-map, length-set}
 use Rattle.std.proofs.lemmas.Option.{slice_get_past, slice_get_read}
+use Rattle.ballots.specs.Voting.{Entry}
 use Rattle.ballots.specs.declared.letters.Letter.{Letter}
 use Rattle.acceptor.specs.Content.{record_write}
 use Rattle.map_release.specs.declared.numbered.Numbered.{Numbered}
 use Rattle.node.specs.declared.node.Node.{Ghosts}
 use Rattle.node.specs.View.{Standing}
-use Rattle.node.specs.Calls.Cause.{Lead as AskedToLead, Offer as Offered, Receive as Received, Tell as AskedToTell}
+use Rattle.node.specs.Calls.Cause.{Receive as Received}
 use Rattle.seats.specs.Acts.{Acts, AnswersAsOwed, kept_of}
 use Rattle.seats.specs.Modems.{ModemNext, sent_at}
 use Rattle.seats.specs.Moves.{Ask, Move, Moves}
-use Rattle.seats.specs.Moves.Ask.{Call, TakeThenCrash, Release, Crash, Restart}
+use Rattle.seats.specs.Moves.Ask.{Call, TakeThenCrash, Restart}
 use Rattle.seats.specs.Occupant.{IsHonest, Stands, member}
 use Rattle.seats.specs.Owes.{Outside, outside}
 use Rattle.seats.specs.Receiver.{Receiver}
@@ -36,7 +37,7 @@ use Rattle.network_script.specs.Seats.{AllHonest, AllKeepTrust, AreStandings}
 use Rattle.network_script.specs.Trust.{NoFailedRestart}
 use Rattle.network_script.specs.World.{Written, released_by}
 use Rattle.network_script.specs.Worlds.{AreHonest, Happens, letters_of, outputs_of, receivers_of, seats_of, transmissions_of, written}
-use Rattle.network_script.proofs.Counted.{acted_accounts, count_one, count_still}
+use Rattle.network_script.proofs.Counted.{count_one, count_still, quiet_answer}
 use Rattle.network_script.proofs.Lists.{get_left}
 use Rattle.network_script.proofs.Places.{each_at, each_length, each_set, honest_at, honest_before, seen_at, trust_at, trust_same, who_at}
 use Rattle.network_script.proofs.Same.{same_world}
@@ -73,38 +74,42 @@ module _ {N : Type 0} {g : Ghosts N} (old : World N g) where
     pub called : called_by (map (λ (letter : Letter). letter.to) (letters_of old)) event ≡ Some k
     pub well : (answer : Answer) → NoFailedRestart event answer → (fault : NodeFault) → ask ≡ Restart → answer ≡ Fault fault → ⊥
 
+  -- an event of no node, by what it is in a written world and from without
+  apart : (new : World N g) (event : Event) (answer : Answer) → seats_of new ≡ seats_of old → letters_of new ≡ letters_of old → is_store_fault answer ≡ false
+      → ((modems : List Receiver) → Hold (receivers_of old) modems → (later : List Receiver) × Hold (receivers_of new) later
+      × ((nodes : List Standing) (history : List Entry) → length nodes ≡ length (seats_of old) → Next (length nodes) (written old nodes modems history) event answer (written new nodes later history))
+      × SeenNext (outward old modems) event answer (outward new later))
+      → HappensTo old event answer new
+  apart new event answer seats letters quiet goes = record {
+    honesty = λ honest. subst (λ (ss : List (Seat N g)). AllHonest ss) seats honest;
+    trust = λ well. subst (λ (ss : List (Seat N g)). AllKeepTrust (seats_of old) ss) (sym seats) (trust_same (seats_of old));
+    members = ap (λ (ss : List (Seat N g)). length ss) seats;
+    next = λ honest nodes modems history each hold.
+        let R : Seat N g → Standing → Type 0 = Stands in
+        let r = goes modems hold in
+        (nodes, r.0, history, subst (λ (ss : List (Seat N g)). AreStandings ss nodes) (sym seats) each, r.1, r.2 nodes history (each_length R (seats_of old) nodes each));
+    counted =
+        let F : Seat N g → ℕ = λ seat. (g.who seat.node).failures in
+        let same : counts new ≡ counts old = λ i. record { failures = map F (seats i); addressees = map (λ (letter : Letter). letter.to) (letters i) } in
+        subst (λ (n : Counts). CountNext (counts old) event answer n) (sym same) (count_still (counts old) event answer quiet);
+    seen = λ modems hold. let r = goes modems hold in (r.0, r.3, r.1);
+  }
+
   -- nothing changed
   unchanged : (new : World N g) (event : Event) (answer : Answer) → IsUnchanged old new → is_store_fault answer ≡ false
       → ((members : ℕ) (w : Written) → w.letters ≡ letters_of old → length w.nodes ≡ length (seats_of old) → Next members w event answer w)
       → ((o : Outward) → o.letters ≡ letters_of old → o.nodes ≡ map outside (seats_of old) → SeenNext o event answer o)
       → HappensTo old event answer new
-  unchanged new event answer same quiet next seen = record {
-    honesty = λ honest. subst (λ (ss : List (Seat N g)). AllHonest ss) same.0 honest;
-    trust = λ well. subst (λ (ss : List (Seat N g)). AllKeepTrust (seats_of old) ss) (sym same.0) (trust_same (seats_of old));
-    members = ap (λ (ss : List (Seat N g)). length ss) same.0;
-    next = λ honest nodes modems history each hold.
-        let R : Seat N g → Standing → Type 0 = Stands in
-        let w = written old nodes modems history in
-        let is : written new nodes modems history ≡ w = same_world (written new nodes modems history) w refl same.1 same.2 refl (ap (λ (r : Receivers). sent_by r) same.3) refl in (
-          nodes,
-          modems,
-          history,
-          subst (λ (ss : List (Seat N g)). AreStandings ss nodes) (sym same.0) each,
-          subst (λ (r : Receivers). Hold r modems) (sym same.3) hold,
-          subst (λ (v : Written). Next (length nodes) w event answer v) (sym is) (next (length nodes) w refl (each_length R (seats_of old) nodes each)),
-        );
-    counted =
-        let F : Seat N g → ℕ = λ seat. (g.who seat.node).failures in
-        let is : counts new ≡ counts old = λ i. record { failures = map F (same.0 i); addressees = map (λ (letter : Letter). letter.to) (same.1 i) } in
-        subst (λ (n : Counts). CountNext (counts old) event answer n) (sym is) (count_still (counts old) event answer quiet);
-    seen = λ modems hold.
-        let f : Seat N g → Outside = outside in
-        let is : outward new modems ≡ outward old modems = λ i. record { nodes = map f (same.0 i); letters = same.1 i; outputs = same.2 i; modems = modems; transmissions = sent_by (same.3 i) } in (
-          modems,
-          subst (λ (o : Outward). SeenNext (outward old modems) event answer o) (sym is) (seen (outward old modems) refl refl),
-          subst (λ (r : Receivers). Hold r modems) (sym same.3) hold,
-        );
-  }
+  unchanged new event answer same quiet next seen = apart new event answer same.0 same.1 quiet (λ modems hold.
+      let f : Seat N g → Outside = outside in
+      let is : outward new modems ≡ outward old modems = λ i. record { nodes = map f (same.0 i); letters = same.1 i; outputs = same.2 i; modems = modems; transmissions = sent_by (same.3 i) } in (
+        modems,
+        subst (λ (r : Receivers). Hold r modems) (sym same.3) hold,
+        (λ nodes history size.
+            let w = written old nodes modems history in
+            subst (λ (v : Written). Next (length nodes) w event answer v) (sym (same_world (written new nodes modems history) w refl same.1 same.2 refl (ap (λ (r : Receivers). sent_by r) same.3) refl)) (next (length nodes) w refl size)),
+        subst (λ (o : Outward). SeenNext (outward old modems) event answer o) (sym is) (seen (outward old modems) refl refl),
+      ))
 
   -- there is no node k
   missing : (new : World N g) (event : Event) (k : ℕ) (ask : Ask) → Calls event k ask → IsUnchanged old new → length (seats_of old) ≤ k → HappensTo old event (Refused NoNode) new
@@ -176,7 +181,7 @@ module _ {N : Type 0} {g : Ghosts N} (old : World N g) where
         rw (went.sent, map-append) (get_left (map To (letters_of old)) (map To went.letters) i n at) in
         count_one (counts old) (counts new) event answer k (F went.before) (F went.after) letters
         (seen_at F seats k went.before went.within went.at) (ap (λ (ss : List (Seat N g)). map F ss) went.seats ∙ map-set F seats k went.after)
-        acts.grows calls.called (acted_accounts answer ask (g.who went.before.node) (g.who went.after.node) acts.tells acts.rose)
+        acts.grows calls.called acts.rose (quiet_answer answer ask (g.who went.before.node) (g.who went.after.node) acts.tells)
 
     goes : HappensTo old event answer new
     goes = record {
@@ -195,26 +200,11 @@ module _ {N : Type 0} {g : Ghosts N} (old : World N g) where
   asked new event k ask answer calls (inr went) = goes new event k ask answer calls went
 
   -- one that asks by number, and for no restart
-  by_number : (event : Event) (k : ℕ) (ask : Ask) → ((members : ℕ) (w w' : Written) (answer : Answer) → OfNode members w k (slice_get w.nodes k) ask answer w' → Next members w event answer w')
+  pub by_number : (event : Event) (k : ℕ) (ask : Ask) → ((members : ℕ) (w w' : Written) (answer : Answer) → OfNode members w k (slice_get w.nodes k) ask answer w' → Next members w event answer w')
       → ((o o' : Outward) (answer : Answer) → SeenOfNode o k (slice_get o.nodes k) ask answer o' → SeenNext o event answer o')
       → called_by (map (λ (letter : Letter). letter.to) (letters_of old)) event ≡ Some k → (ask ≡ Restart → ⊥) → Calls event k ask
   by_number event k ask next seen called other =
       record { next = λ members w w' answer letters of. next members w w' answer of; seen = λ o o' answer letters of. seen o o' answer of; called = called; well = λ answer well fault is told. absurd (other is) }
-
-  pub to_lead : (k : ℕ) → Calls (event.Lead k) k (Call AskedToLead)
-  to_lead k = by_number (event.Lead k) k (Call AskedToLead) (λ members w w' answer of. of) (λ o o' answer of. of) refl (λ is. cc)
-
-  pub to_offer : (k : ℕ) (value : List ℕ) → Calls (event.Offer k value) k (Call (Offered value))
-  to_offer k value = by_number (event.Offer k value) k (Call (Offered value)) (λ members w w' answer of. of) (λ o o' answer of. of) refl (λ is. cc)
-
-  pub to_tell : (k to place : ℕ) → Calls (event.Tell k to place) k (Call (AskedToTell to place))
-  to_tell k to place = by_number (event.Tell k to place) k (Call (AskedToTell to place)) (λ members w w' answer of. of) (λ o o' answer of. of) refl (λ is. cc)
-
-  pub to_release : (k now : ℕ) → Calls (event.Release k now) k (Release now)
-  to_release k now = by_number (event.Release k now) k (Release now) (λ members w w' answer of. of) (λ o o' answer of. of) refl (λ is. cc)
-
-  pub to_crash : (k : ℕ) → Calls (event.Crash k) k Crash
-  to_crash k = by_number (event.Crash k) k Crash (λ members w w' answer of. of) (λ o o' answer of. of) refl (λ is. cc)
 
   pub to_restart : (k : ℕ) → Calls (event.Restart k) k Restart
   to_restart k = record { next = λ members w w' answer letters of. of; seen = λ o o' answer letters of. of; called = refl; well = λ answer well fault is told. well k fault refl told }
@@ -274,24 +264,13 @@ module _ {N : Type 0} {g : Ghosts N} (old : World N g) where
       → transmissions_of new ≡ transmissions_of old ++ sent_at event answer
       → ((modems : List Receiver) → Hold (receivers_of old) modems → (later : List Receiver) × ModemNext modems (outputs_of old) event answer later × Hold (receivers_of new) later)
       → HappensTo old event answer new
-  listened new event answer to_next to_seen seats letters outputs quiet transmissions next = record {
-    honesty = λ honest. subst (λ (ss : List (Seat N g)). AllHonest ss) seats honest;
-    trust = λ well. subst (λ (ss : List (Seat N g)). AllKeepTrust (seats_of old) ss) (sym seats) (trust_same (seats_of old));
-    members = ap (λ (ss : List (Seat N g)). length ss) seats;
-    next = λ honest nodes modems history each hold.
-        let r = next modems hold in
-        let w = written old nodes modems history in
-        let w' = written new nodes r.0 history in
-        let is : w' ≡ record w { modems = r.0; transmissions = w.transmissions ++ sent_at event answer } = same_world w' _ refl letters outputs refl transmissions refl in
-        (nodes, r.0, history, subst (λ (ss : List (Seat N g)). AreStandings ss nodes) (sym seats) each, r.2, to_next (length nodes) w w' (r.0, r.1, is));
-    counted =
-        let F : Seat N g → ℕ = λ seat. (g.who seat.node).failures in
-        let same : counts new ≡ counts old = λ i. record { failures = map F (seats i); addressees = map (λ (letter : Letter). letter.to) (letters i) } in
-        subst (λ (n : Counts). CountNext (counts old) event answer n) (sym same) (count_still (counts old) event answer quiet);
-    seen = λ modems hold.
-        let f : Seat N g → Outside = outside in
-        let r = next modems hold in
-        let is : outward new r.0 ≡ record (outward old modems) { modems = r.0; transmissions = transmissions_of old ++ sent_at event answer } =
-        λ i. record { nodes = map f (seats i); letters = letters i; outputs = outputs i; modems = r.0; transmissions = transmissions i } in
-        (r.0, to_seen (outward old modems) (outward new r.0) (r.0, r.1, is), r.2);
-  }
+  listened new event answer to_next to_seen seats letters outputs quiet transmissions next = apart new event answer seats letters quiet (λ modems hold.
+      let f : Seat N g → Outside = outside in
+      let r = next modems hold in
+      let is : outward new r.0 ≡ record (outward old modems) { modems = r.0; transmissions = transmissions_of old ++ sent_at event answer } =
+      λ i. record { nodes = map f (seats i); letters = letters i; outputs = outputs i; modems = r.0; transmissions = transmissions i } in (
+        r.0,
+        r.2,
+        (λ nodes history size. to_next (length nodes) (written old nodes modems history) (written new nodes r.0 history) (r.0, r.1, same_world (written new nodes r.0 history) _ refl letters outputs refl transmissions refl)),
+        to_seen (outward old modems) (outward new r.0) (r.0, r.1, is),
+      ))

@@ -1,17 +1,16 @@
 -- The counts of failures, event by event.
-use Rattle.std.proofs.Common.{◌≡◌, ◌≤◌, ◌+◌, ◌-◌, ◌^◌, ◌⊎◌, inl, inr, ℕ, List, [], ◌∷◌, Option, Some, None, Bool, true, false, Err, slice_get, slice_set, refl, sym, ap, ◌∙◌, subst, arith, ◌&&◌, if◌then◌else◌}
+use Rattle.std.proofs.Common.{◌≡◌, ◌≤◌, ◌+◌, ◌-◌, ◌^◌, ◌⊎◌, inl, inr, ℕ, List, [], ◌∷◌, Option, Some, None, Bool, true, false, slice_get, slice_set, refl, sym, ap, ◌∙◌, subst, arith, ◌&&◌, if◌then◌else◌}
 use Rattle.std.proofs.lemmas.Bool.Decides.{eqb_tells}
 use Rattle.std.proofs.lemmas.Bool.{cases_lt, and_parts, false≢true}
 use Rattle.std.proofs.lemmas.Option.{slice_get_within}
 use Rattle.std.proofs.Math.Nat.{min-eq_left, min-eq_right}
 use Rattle.acceptor.specs.Faults.{HasRisen}
-use Rattle.node.specs.Calls.{TellsStore, TellsStoreOfRestart, Who}
-use Rattle.proposer.specs.declared.fault.NodeFault.{NodeFault}
-use Rattle.proposer.specs.declared.fault.NodeFault.TheVariants.{NotLeading, LogFull, RoundsSpent, ValueTooLong, OutOfMemory, StoreRefused, Down}
+use Rattle.node.specs.Calls.{Who}
+use Rattle.proposer.specs.declared.fault.NodeFault.TheVariants.{StoreRefused, Down}
 use Rattle.seats.specs.Acts.{TellsStoreOf}
 use Rattle.seats.specs.Moves.{Ask}
-use Rattle.seats.specs.Moves.Ask.{Call, TakeThenCrash, Release, Crash, Restart}
-use Rattle.seats.specs.declared.answer.Answer.TheVariants.{Sent, Finished, Released, Refused, Fault, Crashed}
+use Rattle.seats.specs.Moves.Ask.{Restart}
+use Rattle.seats.specs.declared.answer.Answer.TheVariants.{Finished, Fault}
 use Rattle.world_events.specs.declared.event.Event.{Event}
 use Rattle.world_events.specs.declared.event.Event.TheVariants as event
 use Rattle.seats.specs.declared.answer.Answer.{Answer}
@@ -19,63 +18,14 @@ use Rattle.network_script.proofs.Lists.{get_same, get_other, set_again}
 use Rattle.network_script.specs.Counts.{Counts, CountNext, CountRun, called_by, is_node, faults_of, FewFaults}
 use Rattle.seats.specs.StoreFaults.{is_store_fault}
 
--- a store's fault is counted, and nothing else is
-abbrev pub Accounts : Bool → ℕ → ℕ → Type 0
-Accounts true before after = HasRisen before after
-Accounts false before after = after ≡ before
-
-accounts_loud : (b : Bool) (before after : ℕ) → Accounts b before after → b ≡ true → HasRisen before after
-accounts_loud true before after account loud = account
-accounts_loud false before after account loud = absurd (false≢true loud)
-
-accounts_quiet : (b : Bool) (before after : ℕ) → Accounts b before after → b ≡ false → after ≡ before
-accounts_quiet true before after account quiet = absurd (false≢true (sym quiet))
-accounts_quiet false before after account quiet = account
-
--- what an answer tells of a store, where it is no fault of that
-quiet_fault : (fault : NodeFault) (old new : Who) → TellsStore {T = Unit {0}} old (Err fault) new → is_store_fault (Fault fault) ≡ false → new.failures ≡ old.failures
-quiet_fault StoreRefused old new tells quiet = absurd (false≢true (sym quiet))
-quiet_fault Down old new tells quiet = absurd (false≢true (sym quiet))
-quiet_fault NotLeading old new tells quiet = tells.0
-quiet_fault LogFull old new tells quiet = tells.0
-quiet_fault RoundsSpent old new tells quiet = tells.0
-quiet_fault ValueTooLong old new tells quiet = tells.0
-quiet_fault OutOfMemory old new tells quiet = tells.0
-
-quiet_restart : (fault : NodeFault) (old new : Who) → TellsStoreOfRestart {T = Unit {0}} old (Err fault) new → is_store_fault (Fault fault) ≡ false → new.failures ≡ old.failures
-quiet_restart StoreRefused old new tells quiet = absurd (false≢true (sym quiet))
-quiet_restart Down old new tells quiet = absurd (false≢true (sym quiet))
-quiet_restart NotLeading old new tells quiet = tells.0
-quiet_restart LogFull old new tells quiet = tells.0
-quiet_restart RoundsSpent old new tells quiet = tells.0
-quiet_restart ValueTooLong old new tells quiet = tells.0
-quiet_restart OutOfMemory old new tells quiet = tells.0
-
-quiet_answer : (answer : Answer) (ask : Ask) (old new : Who) → TellsStoreOf answer ask old new → is_store_fault answer ≡ false → new.failures ≡ old.failures
-quiet_answer (Fault fault) Restart old new tells quiet = quiet_restart fault old new tells quiet
-quiet_answer (Fault fault) (Call cause) old new tells quiet = quiet_fault fault old new tells quiet
-quiet_answer (Fault fault) (TakeThenCrash l) old new tells quiet = quiet_fault fault old new tells quiet
-quiet_answer (Fault fault) (Release now) old new tells quiet = quiet_fault fault old new tells quiet
-quiet_answer (Fault fault) Crash old new tells quiet = quiet_fault fault old new tells quiet
+-- where the answer is no fault of its store, a node's count stays
+pub quiet_answer : (answer : Answer) (ask : Ask) (old new : Who) → TellsStoreOf answer ask old new → is_store_fault answer ≡ false → new.failures ≡ old.failures
+quiet_answer (Fault StoreRefused) ask old new tells quiet = absurd (false≢true (sym quiet))
+quiet_answer (Fault Down) ask old new tells quiet = absurd (false≢true (sym quiet))
+quiet_answer (Fault declined) Restart old new tells quiet = tells.0
+quiet_answer (Fault declined) ask old new tells quiet = tells.0
 quiet_answer Finished Restart old new tells quiet = tells.0
-quiet_answer Finished (Call cause) old new tells quiet = tells.0
-quiet_answer Finished (TakeThenCrash l) old new tells quiet = tells.0
-quiet_answer Finished (Release now) old new tells quiet = tells.0
-quiet_answer Finished Crash old new tells quiet = tells.0
-quiet_answer (Sent n) ask old new tells quiet = tells.0
-quiet_answer (Released n) ask old new tells quiet = tells.0
-quiet_answer (Refused why) ask old new tells quiet = tells.0
-quiet_answer Crashed ask old new tells quiet = tells.0
 quiet_answer other ask old new tells quiet = tells.0
-
-accounts_by : (b : Bool) (before after : ℕ) → (b ≡ true → HasRisen before after) → (b ≡ false → after ≡ before) → Accounts b before after
-accounts_by true before after loud quiet = loud refl
-accounts_by false before after loud quiet = quiet refl
-
--- the count of a node that answers so goes on as the answer tells
-pub acted_accounts : (answer : Answer) (ask : Ask) (old new : Who) → TellsStoreOf answer ask old new → (is_store_fault answer ≡ true → HasRisen old.failures new.failures)
-    → Accounts (is_store_fault answer) old.failures new.failures
-acted_accounts answer ask old new tells rose = accounts_by (is_store_fault answer) old.failures new.failures rose (quiet_answer answer ask old new tells)
 
 -- nothing was counted
 pub count_still : (c : Counts) (event : Event) (answer : Answer) → is_store_fault answer ≡ false → CountNext c event answer c
@@ -90,9 +40,9 @@ count_still c event answer quiet = record {
 pub count_one : (old new : Counts) (event : Event) (answer : Answer) (k before after : ℕ)
     → ((i n : ℕ) → slice_get old.addressees i ≡ Some n → slice_get new.addressees i ≡ Some n)
     → slice_get old.failures k ≡ Some before → new.failures ≡ slice_set old.failures k after → before ≤ after
-    → called_by old.addressees event ≡ Some k → Accounts (is_store_fault answer) before after
+    → called_by old.addressees event ≡ Some k → (is_store_fault answer ≡ true → HasRisen before after) → (is_store_fault answer ≡ false → after ≡ before)
     → CountNext old event answer new
-count_one old new event answer k before after letters at is le called account =
+count_one old new event answer k before after letters at is le called loud quiet =
     let there : slice_get new.failures k ≡ Some after = ap (λ fs. slice_get fs k) is ∙ get_same old.failures k after (slice_get_within old.failures k before at) in
     record {
       letters = letters;
@@ -104,29 +54,20 @@ count_one old new event answer k before after letters at is le called account =
             (after, there_j, rw b_is le)
         | inr (_, apart) ↦ (b, ap (λ fs. slice_get fs j) is ∙ (get_other old.failures k j after apart ∙ at_j), omega arith)
       ];
-      cause = λ loud. (k, before, after, called, at, there, accounts_loud (is_store_fault answer) before after account loud);
-      still = λ calm. is ∙ (ap (λ n. slice_set old.failures k n) (accounts_quiet (is_store_fault answer) before after account calm) ∙ set_again old.failures k before at);
+      cause = λ fault. (k, before, after, called, at, there, loud fault);
+      still = λ calm. is ∙ (ap (λ n. slice_set old.failures k n) (quiet calm) ∙ set_again old.failures k before at);
     }
 
 -- letters stay through a run
 run_letters : (old new : Counts) (events : List Event) (answers : List Answer) → CountRun old events answers new → (i n : ℕ) → slice_get old.addressees i ≡ Some n → slice_get new.addressees i ≡ Some n
 run_letters old new [] [] run i n at = ap (λ (c : Counts). slice_get c.addressees i) run ∙ at
 run_letters old new (event ∷ events) (answer ∷ answers) (mid, next, run) i n at = run_letters mid new events answers run i n (next.letters i n at)
-run_letters old new [] (answer ∷ answers) run i n at = absurd run
-run_letters old new (event ∷ events) [] run i n at = absurd run
+run_letters old new events answers run i n at = absurd run
 
 called_more : (to to' : List ℕ) (event : Event) (k : ℕ) → ((i n : ℕ) → slice_get to i ≡ Some n → slice_get to' i ≡ Some n) → called_by to event ≡ Some k → called_by to' event ≡ Some k
-called_more to to' (event.Lead j) k more at = at
-called_more to to' (event.Offer j value) k more at = at
-called_more to to' (event.Tell j n place) k more at = at
 called_more to to' (event.Deliver i) k more at = more i k at
 called_more to to' (event.DeliverThenCrash i) k more at = more i k at
-called_more to to' (event.Restart j) k more at = at
-called_more to to' (event.Release j now) k more at = at
-called_more to to' (event.Crash j) k more at = at
-called_more to to' (event.Hear m i near) k more at = at
-called_more to to' (event.Want m ch sid n) k more at = at
-called_more to to' (event.Tick m ch slot random) k more at = at
+called_more to to' by_number k more at = at
 
 node_is : (k : ℕ) (o : Option ℕ) (n : ℕ) → is_node k o ≡ true → o ≡ Some n → n ≡ k
 node_is k None n yes_it_is is = cc
@@ -167,8 +108,7 @@ run_grow old new (event ∷ events) (answer ∷ answers) (mid, next, run) k befo
     let after_is : why.2 ≡ grown.0 = cc in
     subst (λ (b : ℕ). HasRisen b grown.0) before_is (subst (λ (a : ℕ). HasRisen why.1 a) after_is why.6) in
     (later.0, later.1, omega arith, one_event k before grown.0 later.0 (faults_of k new.addressees events answers) _ grown.2 later.2 rose later.3)
-run_grow old new [] (answer ∷ answers) run k before at = absurd run
-run_grow old new (event ∷ events) [] run k before at = absurd run
+run_grow old new events answers run k before at = absurd run
 
 pub few_faults : FewFaults
 few_faults old new events answers run k before at =

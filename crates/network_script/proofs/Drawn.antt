@@ -79,12 +79,8 @@ step_drawn rows c ch start n bytes map is body = by (refusal_of rows c) refl is
     cut at len not_before ack (Some t) found ok made = cut_drawn rows at len not_before ack ch start n bytes map t found (rw found at ok) made body
 
     on : (d : Command) → refusal_of rows d ≡ None → (accepted rows d).output ≡ outputs.Map ch start n bytes → IsDrawn ch start map
-    on commands.Noop ok made = absurd (cc (made))
-    on (commands.Channel x) ok made = absurd (cc (made))
-    on (commands.Flow x modem tag last kind) ok made = absurd (cc (made))
-    on (commands.Drop x sid) ok made = absurd (cc (made))
-    on (commands.Request x sid k sent) ok made = absurd (cc (made))
     on (commands.Cut at len not_before ack) ok made = cut at len not_before ack (table_of rows at) refl ok made
+    on other ok made = absurd (cc (made))
 
     by : (o : Option Refusal) → refusal_of rows c ≡ o → (step_on o rows c).output ≡ outputs.Map ch start n bytes → IsDrawn ch start map
     by (Some r) refused made = absurd (cc (made))

@@ -15,10 +15,9 @@ count_more s t zero more = omega arith
 count_more s t (suc n) more = step (s n) (t n) refl refl (count_more s t n (λ m below. more m (omega arith)))
   where
     step : (a b : Bool) → s n ≡ a → t n ≡ b → count_below s n ≤ count_below t n → count_below s (suc n) ≤ count_below t (suc n)
-    step true true in_s in_t le = rw (in_s, in_t) (omega arith)
     step true false in_s in_t le = absurd (let e : t n ≡ true = more n (omega arith) in_s in let f : true ≡ false = sym e ∙ in_t in cc (f))
     step false true in_s in_t le = rw (in_s, in_t) (omega arith)
-    step false false in_s in_t le = rw (in_s, in_t) (omega arith)
+    step a b in_s in_t le = rw (in_s, in_t) (omega arith)
 
 -- whether an entry is this vote
 abbrev is_vote_of : ℕ → ℕ → ℕ → List ℕ → Entry → Bool
@@ -110,7 +109,7 @@ module _ (members : ℕ) (h : List Entry) where
       go (inl some) rest = one_from p some.0 some.1 rest
       go (inr not) rest = none_from p not
 
-place_in : Entry → ℕ
+abbrev place_in : Entry → ℕ
 place_in (Promised n b) = 0
 place_in (Vote n b p v) = p
 
@@ -124,15 +123,11 @@ in_last [] e here = absurd here
 in_last (x ∷ h) e (inl is) = let same : place_in e ≡ place_in x = ap place_in is in omega arith
 in_last (x ∷ h) e (inr there) = omega (arith, in_last h e there)
 
-vote_before_last : (h : List Entry) (n b p : ℕ) (v : List ℕ) → IsIn h (Vote n b p v) → p ≤ last_place_in h
-unfolding place_in
-vote_before_last h n b p v here = in_last h (Vote n b p v) here
-
 pub schedule_exists : (members : ℕ) (h : List Entry) → (c : List (List ℕ)) × IsSchedule members h c
 schedule_exists members h =
     let all : From members h 1 = from members h (last_place_in h) 1 (λ q v past chosen.
     let some = quorums_meet members chosen.quorum chosen.quorum in
-    let low : q ≤ last_place_in h = vote_before_last h some.0 chosen.ballot q v (chosen.votes some.0 some.1) in
+    let low : q ≤ last_place_in h = in_last h (Vote some.0 chosen.ballot q v) (chosen.votes some.0 some.1) in
     omega arith) in (
       all.values,
       record {

@@ -1,15 +1,15 @@
 -- What holds of a history still holds once a node's entry that may follow has joined it.
-use Rattle.std.proofs.Common.{◌≡◌, ◌≢◌, ◌⊎◌, inl, inr, ⊎_elim, ℕ, ◌<◌, List, ◌∷◌, ◌++◌, refl, sym, ◌∙◌, ap, Option, Some, None}
+use Rattle.std.proofs.Common.{◌≡◌, ◌≢◌, ◌⊎◌, inl, inr, ⊎_elim, ℕ, ◌<◌, List, ◌∷◌, ◌++◌, refl, sym, ◌∙◌, ap, Option, Some}
 use Rattle.ballots.specs.Ballots.{ballot_node}
 use Rattle.ballots.specs.declared.letters.Cast.{Cast}
 use Rattle.ballots.specs.declared.letters.Note.{Note}
 use Rattle.ballots.specs.declared.letters.Letter.{Letter}
-use Rattle.ballots.specs.declared.letters.Note.TheVariants.{Prepare, Promise, Accept, Voted, Higher, Known}
+use Rattle.ballots.specs.declared.letters.Note.TheVariants.{Promise, Accept, Voted, Known}
 use Rattle.ballots.specs.Voting.{Entry, node_of, IsIn, Quorum, IsOf, NoneBelow, HighestBelow, IsSafe, IsChosen, MayFollow}
 use Rattle.ballots.specs.Voting.Entry.{Promised, Vote}
 use Rattle.ballots.proofs.Callers.{old_vote}
 use Rattle.acceptor.specs.Content.{Content, Write}
-use Rattle.acceptor.specs.Content.Write.{Tries, Promises, Votes, Learns}
+use Rattle.acceptor.specs.Content.Write.{Votes, Learns}
 use Rattle.proposer.specs.declared.role.Role.{Role}
 use Rattle.node.specs.View.{Standing}
 use Rattle.proposer.specs.declared.role.Role.TheVariants.{Idle, Preparing, Leading}
@@ -85,12 +85,11 @@ module _ (members k : ℕ) (old new : List Entry) (grows : Grows k old new) wher
   role_grows j tried (Leading b next) ok = (ok.0, ok.1, leads_grows b next ok.2)
 
   pub letter_grows : (from : ℕ) (note : Note) → LetterOk members old from note → LetterOk members new from note
-  letter_grows from (Prepare b q) ok = tt
   letter_grows from (Promise b q votes) ok = promise_grows from b q votes ok
   letter_grows from (Accept b p v) ok = safe_grows b p v ok
   letter_grows from (Voted b p v) ok = grows.keeps (Vote from b p v) ok
-  letter_grows from (Higher b) ok = tt
   letter_grows from (Known p v) ok = chosen_grows p v ok
+  letter_grows from other ok = ok
 
   -- another node's content
   content_grows : (j : ℕ) (c : Content) → j ≢ k → ContentOk members old j c → ContentOk members new j c
@@ -118,8 +117,6 @@ module _ (members k : ℕ) (old new : List Entry) (grows : Grows k old new) wher
   }
     where
       write_more : (w : Option Write) → WriteOk members old sent c w → WriteOk members new (sent ++ more) c w
-      write_more None fine = tt
-      write_more (Some (Tries b)) fine = fine
-      write_more (Some (Promises b)) fine = fine
       write_more (Some (Votes p cast)) fine = (fine.0, (fine.1.0, in_left sent more fine.1.0 fine.1.1, fine.1.2))
       write_more (Some (Learns p v)) fine = chosen_grows p v fine
+      write_more other fine = fine

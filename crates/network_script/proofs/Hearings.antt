@@ -1,7 +1,7 @@
 -- What the modems of a run have heard was released, what they stand for is kept, and what they send is held.
 use Rattle.std.proofs.Common.{◌≡◌, ◌≢◌, ◌⊎◌, inl, inr, ⊎_elim, ℕ, List, [], ◌∷◌, ◌++◌, refl, sym, ◌∙◌, ap, subst, Option, Some, None, slice_get, slice_set, MatchBool, Bool, true, false, ◌==◌}
 use Rattle.std.proofs.lemmas.Bool.Decides.{eqb_tells}
-use Rattle.std.proofs.lemmas.Option.{slice_get_within}
+use Rattle.std.proofs.lemmas.Option.{same_Some, slice_get_within}
 use Rattle.ballots.specs.Voting.{IsIn}
 use Rattle.grant_machine.specs.declared.output.Output.{Output}
 use Rattle.grant_machine.specs.declared.output.Output.TheVariants as output
@@ -21,7 +21,7 @@ use Rattle.world_events.specs.declared.refusal.EventRefusal.TheVariants as refus
 use Rattle.seats.specs.declared.answer.ReleasedOutput.{ReleasedOutput}
 use Rattle.seats.specs.declared.answer.Transmission.{Transmission}
 use Rattle.seats.specs.Receiver.{Receiver}
-use Rattle.seats.specs.Modems.{HearsOutput, Listens, Wants, ComesToKnown, ComesToUnknown, ComesTo, OfModem, ModemNext, sent_at}
+use Rattle.seats.specs.Modems.{HearsOutput, Listens, Wants, ComesTo, OfModem, ModemNext, sent_at}
 use Rattle.network_script.proofs.Lists.{in_append, get_same, get_other, get_set, get_in}
 
 -- each output that was heard was released, and each MAP was heard near its start
@@ -70,9 +70,6 @@ set_forth xs k j x y z there is =
     (λ apart. inr (apart.1, get_other xs k j x (λ e. apart.1 (sym e)) ∙ is))
     (eqb_tells j k)
 
-some_same : {X : Type 0} (o : Option X) (x y : X) → o ≡ Some x → o ≡ Some y → x ≡ y
-some_same o x y is also = cc (is, also)
-
 -- the modems keep their ids, each stands for what it heard, which was released, and what was sent is held
 pub record ModemsOk (ids : List ℕ) (outputs : List ReleasedOutput) (modems : List Receiver) (sent : List Transmission) : Type 0 where
   pub named : (j : ℕ) (r : Receiver) → slice_get modems j ≡ Some r → slice_get ids j ≡ Some r.state.id
@@ -91,35 +88,27 @@ ok_more ids outputs modems sent more held ok = record {
   sends = λ x sid there is. ⊎_elim (λ old. ok.sends x sid old is) (λ new. held x sid new is) (in_append sent more x there);
 }
 
+-- what holds of each at its place, and of the one that is set, holds of each after
+set_each : {X : Type 0} (P : ℕ → X → Type 0) (xs : List X) (k : ℕ) (x : X) → ((j : ℕ) (y : X) → slice_get xs j ≡ Some y → P j y) → P k x → (j : ℕ) (y : X) → slice_get (slice_set xs k x) j ≡ Some y → P j y
+set_each P xs k x each here j y there = elim (get_set xs k j x y there) [
+  | inl is ↦ subst (λ i. P i y) (sym is.0) (subst (P k) (sym is.1) here)
+  | inr apart ↦ each j y apart.1
+]
+
 -- one modem goes on
 pub ok_set : (ids : List ℕ) (outputs : List ReleasedOutput) (modems : List Receiver) (sent : List Transmission) (m : ℕ) (r r' : Receiver) → slice_get modems m ≡ Some r → Follows outputs r r' → ModemsOk ids outputs modems sent → ModemsOk ids outputs (slice_set modems m r') sent
 ok_set ids outputs modems sent m r r' here goes ok = record {
-  named = λ j s there. named j s (get_set modems m j r' s there);
-  stands = λ j s there. stands j s (get_set modems m j r' s there);
-  heard = λ j s there. heard j s (get_set modems m j r' s there);
+  named = set_each (λ (j : ℕ) (s : Receiver). slice_get ids j ≡ Some s.state.id) modems m r' ok.named (ok.named m r here ∙ ap (λ (n : ℕ). Some n) (sym goes.id));
+  stands = set_each (λ (j : ℕ) (s : Receiver). HasHeard s.state s.heard) modems m r' ok.stands (goes.stands (ok.stands m r here));
+  heard = set_each (λ (j : ℕ) (s : Receiver). AreReleased outputs s.heard) modems m r' ok.heard (goes.heard (ok.heard m r here));
   sends = sends;
 }
   where
-    named : (j : ℕ) (s : Receiver) → ((j ≡ m) × (s ≡ r')) ⊎ ((j ≢ m) × (slice_get modems j ≡ Some s)) → slice_get ids j ≡ Some s.state.id
-    named j s (inl is) =
-        let old : slice_get ids m ≡ Some r.state.id = ok.named m r here in
-        let same : s.state.id ≡ r.state.id = ap (λ (x : Receiver). x.state.id) is.1 ∙ goes.id in
-        ap (slice_get ids) is.0 ∙ old ∙ ap (λ (n : ℕ). Some n) (sym same)
-    named j s (inr there) = ok.named j s there.1
-
-    stands : (j : ℕ) (s : Receiver) → ((j ≡ m) × (s ≡ r')) ⊎ ((j ≢ m) × (slice_get modems j ≡ Some s)) → HasHeard s.state s.heard
-    stands j s (inl is) = subst (λ (x : Receiver). HasHeard x.state x.heard) (sym is.1) (goes.stands (ok.stands m r here))
-    stands j s (inr there) = ok.stands j s there.1
-
-    heard : (j : ℕ) (s : Receiver) → ((j ≡ m) × (s ≡ r')) ⊎ ((j ≢ m) × (slice_get modems j ≡ Some s)) → AreReleased outputs s.heard
-    heard j s (inl is) = subst (λ (x : Receiver). AreReleased outputs x.heard) (sym is.1) (goes.heard (ok.heard m r here))
-    heard j s (inr there) = ok.heard j s there.1
-
     still : (x : Transmission) (sid : ℕ) (s : Receiver) → slice_get modems x.modem ≡ Some s → Held s.state.id s.heard x.channel x.slot sid
         → ((x.modem ≡ m) × (slice_get (slice_set modems m r') x.modem ≡ Some r')) ⊎ ((x.modem ≢ m) × (slice_get (slice_set modems m r') x.modem ≡ Some s))
         → (t : Receiver) × (slice_get (slice_set modems m r') x.modem ≡ Some t) × Held t.state.id t.heard x.channel x.slot sid
     still x sid s was held (inl is) =
-        let same : s ≡ r = some_same (slice_get modems m) s r (ap (slice_get modems) (sym is.0) ∙ was) here in
+        let same : s ≡ r = same_Some s r (sym was ∙ ap (slice_get modems) is.0 ∙ here) in
         let mine : Held r.state.id r.heard x.channel x.slot sid = subst (λ (y : Receiver). Held y.state.id y.heard x.channel x.slot sid) same held in
         (r', is.1, subst (λ (n : ℕ). Held n r'.heard x.channel x.slot sid) (sym goes.id) (goes.held r.state.id x.channel x.slot sid mine))
     still x sid s was held (inr there) = (s, there.1, held)
@@ -150,36 +139,26 @@ listens_follow : (outputs : List ReleasedOutput) (r r' : Receiver) (i near : ℕ
 listens_follow outputs r r' i near told None is unmoved = follows_same outputs r r' unmoved.1
 listens_follow outputs r r' i near told (Some x) is hears = hears_follow outputs r r' x near told (get_in outputs i x is) hears
 
-known_follow : (outputs : List ReleasedOutput) (r r' : Receiver) (ch slot random : ℕ) (c : KnownChannel) (told : Answer) → channel_of r.state.channels ch ≡ Some c → ComesToKnown r slot random c told r' → Follows outputs r r'
-known_follow outputs r r' ch slot random c (answer.Ticked sending) found is = record {
+comes_follow : (outputs : List ReleasedOutput) (r r' : Receiver) (ch slot random : ℕ) (told : Answer) (known : Option KnownChannel) → channel_of r.state.channels ch ≡ known → ComesTo r slot random known told r' → Follows outputs r r'
+comes_follow outputs r r' ch slot random (answer.Ticked sending) (Some c) found is = record {
   id = is.1.id;
   stands = λ s. subst (λ (hs : List Hearing). HasHeard r'.state hs) (sym is.2) (Ticks-stands r.state r'.state c ch slot random sending r.heard found is.0 is.1 s);
   heard = λ a. subst (AreReleased outputs) (sym is.2) a;
   held = λ n ch m sid held. subst (λ (hs : List Hearing). Held n hs ch m sid) (sym is.2) held;
 }
-known_follow outputs r r' ch slot random c (answer.Refused refusal.TimeBack) found is = follows_same outputs r r' is.1
-known_follow outputs r r' ch slot random c (answer.Refused refusal.OutOfMemory) found is = follows_same outputs r r' is.1
-known_follow outputs r r' ch slot random c told found none = absurd none
-
-unknown_follow : (outputs : List ReleasedOutput) (r r' : Receiver) (told : Answer) → ComesToUnknown r told r' → Follows outputs r r'
-unknown_follow outputs r r' (answer.Ticked sending) is = follows_same outputs r r' is.1
-unknown_follow outputs r r' (answer.Refused refusal.OutOfMemory) is = follows_same outputs r r' is
-unknown_follow outputs r r' told none = absurd none
-
-comes_follow : (outputs : List ReleasedOutput) (r r' : Receiver) (ch slot random : ℕ) (told : Answer) (known : Option KnownChannel) → channel_of r.state.channels ch ≡ known → ComesTo r slot random known told r' → Follows outputs r r'
-comes_follow outputs r r' ch slot random told (Some c) found is = known_follow outputs r r' ch slot random c told found is
-comes_follow outputs r r' ch slot random told None found is = unknown_follow outputs r r' told is
+comes_follow outputs r r' ch slot random (answer.Refused refusal.TimeBack) (Some c) found is = follows_same outputs r r' is.1
+comes_follow outputs r r' ch slot random (answer.Refused refusal.OutOfMemory) (Some c) found is = follows_same outputs r r' is.1
+comes_follow outputs r r' ch slot random (answer.Ticked sending) None found is = follows_same outputs r r' is.1
+comes_follow outputs r r' ch slot random (answer.Refused refusal.OutOfMemory) None found is = follows_same outputs r r' is
+comes_follow outputs r r' ch slot random told (Some c) found none = absurd none
+comes_follow outputs r r' ch slot random told None found none = absurd none
 
 -- a transmission that a tick made is held
-known_held : (r r' : Receiver) (ch slot random : ℕ) (c : KnownChannel) (sending : Sending) (sid : ℕ) → channel_of r.state.channels ch ≡ Some c → HasHeard r.state r.heard → ComesToKnown r slot random c (answer.Ticked (Some sending)) r' → unicast_sid (Some sending) ≡ Some sid
-    → Held r'.state.id r'.heard ch slot sid
-known_held r r' ch slot random c sending sid found stands is unicast =
-    let held = Ticks-held r.state r'.state c ch slot random (Some sending) r.heard sid found is.0 is.1 stands unicast in
-    subst (λ (n : ℕ). Held n r'.heard ch slot sid) (sym is.1.id) (subst (λ (hs : List Hearing). Held r.state.id hs ch slot sid) (sym is.2) held)
-
 tick_held : (r r' : Receiver) (ch slot random : ℕ) (sending : Sending) (sid : ℕ) (known : Option KnownChannel) → channel_of r.state.channels ch ≡ known → HasHeard r.state r.heard → ComesTo r slot random known (answer.Ticked (Some sending)) r' → unicast_sid (Some sending) ≡ Some sid
     → Held r'.state.id r'.heard ch slot sid
-tick_held r r' ch slot random sending sid (Some c) found stands is unicast = known_held r r' ch slot random c sending sid found stands is unicast
+tick_held r r' ch slot random sending sid (Some c) found stands is unicast =
+    let held = Ticks-held r.state r'.state c ch slot random (Some sending) r.heard sid found is.0 is.1 stands unicast in
+    subst (λ (n : ℕ). Held n r'.heard ch slot sid) (sym is.1.id) (subst (λ (hs : List Hearing). Held r.state.id hs ch slot sid) (sym is.2) held)
 tick_held r r' ch slot random sending sid None found stands is unicast = absurd (cc (is.0))
 
 module _ (ids : List ℕ) (outputs : List ReleasedOutput) (modems : List Receiver) (sent : List Transmission) (ok : ModemsOk ids outputs modems sent) where
@@ -209,15 +188,7 @@ module _ (ids : List ℕ) (outputs : List ReleasedOutput) (modems : List Receive
           subst (λ (y : Transmission). (s : Receiver) × (slice_get modems' y.modem ≡ Some s) × Held s.state.id s.heard y.channel y.slot sid) (sym same) (goes.0, there, held)
       one x sid unicast (inr none) = absurd none
   tick_sends m ch slot random (answer.Ticked (Some sending)) modems' None is goes = absurd (let e : answer.Ticked (Some sending) ≡ answer.Refused refusal.NoModem = goes.0 in cc (e))
-  tick_sends m ch slot random (answer.Ticked None) modems' r is goes = none_sent modems'
-  tick_sends m ch slot random (answer.Sent n) modems' r is goes = none_sent modems'
-  tick_sends m ch slot random answer.Finished modems' r is goes = none_sent modems'
-  tick_sends m ch slot random (answer.Released n) modems' r is goes = none_sent modems'
-  tick_sends m ch slot random (answer.Heard h) modems' r is goes = none_sent modems'
-  tick_sends m ch slot random (answer.WantRefused f) modems' r is goes = none_sent modems'
-  tick_sends m ch slot random (answer.Refused f) modems' r is goes = none_sent modems'
-  tick_sends m ch slot random (answer.Fault f) modems' r is goes = none_sent modems'
-  tick_sends m ch slot random answer.Crashed modems' r is goes = none_sent modems'
+  tick_sends m ch slot random told modems' r is goes = none_sent modems'
 
   pub modem_next : (happens : Event) (told : Answer) (modems' : List Receiver) → ModemNext modems outputs happens told modems' → ModemsOk ids outputs modems' (sent ++ sent_at happens told)
   modem_next (event.Hear m i near) told modems' goes =

@@ -10,8 +10,7 @@ use Rattle.network_script.specs.Headline.{RunsJoin}
 pub along_joins : {S : Type 0} (Step : S → Event → Answer → S → Type 0) (s mid last : S) (first second : List Event) (told more : List Answer) → Along Step s first told mid → Along Step mid second more last → Along Step s (first ++ second) (told ++ more) last
 along_joins {S} Step s mid last [] second [] more start rest = subst (λ (x : S). Along Step x second more last) start rest
 along_joins {S} Step s mid last (event ∷ first) second (answer ∷ told) more start rest = (start.0, start.1, along_joins Step start.0 mid last first second told more start.2 rest)
-along_joins {S} Step s mid last [] second (answer ∷ told) more start rest = absurd start
-along_joins {S} Step s mid last (event ∷ first) second [] more start rest = absurd start
+along_joins {S} Step s mid last first second told more start rest = absurd start
 
 pub runs_join : RunsJoin
 runs_join members = along_joins (Next members)

@@ -13,7 +13,7 @@ use Rattle.learner.specs.Tally.{Groups, IsVoteCounted, is_majority, is_voter, pu
 use Rattle.learner.proofs.Callers.{counted_more, voter_counted}
 use Rattle.proposer.specs.Roles.{role_after}
 use Rattle.network_script.proofs.Invariant.{OwnOk, RoleOk, UpOk, Invariant}
-use Rattle.network_script.proofs.Acceptors.{counts_sound, learns_sound, nothing_sound, quiet_none}
+use Rattle.network_script.proofs.Acceptors.{counts_sound, learns_sound, nothing_sound, quiet_none, turns_sound}
 use Rattle.network_script.proofs.Sound.{Sound, quiet_letters, quiet_own}
 
 -- each vote that is counted was cast
@@ -49,16 +49,7 @@ module _ (members : ℕ) (h : List Entry) (sent : List Letter) (states : List St
 
   -- a view that differs in its hint and perhaps gives its role up
   pub role_sound : (hint : ℕ) (role : Role) → RoleOk members h k view.content.tried role → OwnOk sent k view.content.tried role → Sound members h sent k view (nothing (record view { hint = hint; role = role }))
-  role_sound hint role ok own = record {
-    write = tt;
-    content = refl;
-    letters = quiet_letters members h sent [] k (quiet_none members h);
-    role = ok;
-    own = quiet_own members h sent [] k view.content.tried role (quiet_none members h) own;
-    counted = was.counted;
-    learned = was.learned;
-    written = was.written;
-  }
+  role_sound hint role ok own = turns_sound members h sent states k view inv here hint role [] (quiet_letters members h sent [] k (quiet_none members h)) ok (quiet_own members h sent [] k view.content.tried role (quiet_none members h) own)
 
   idle_or_not : (hint c b : ℕ) (role : Role) → RoleOk members h k view.content.tried role → OwnOk sent k view.content.tried role
       → Sound members h sent k view (nothing (record view { hint = hint; role = cond (nat_lt c b) Idle role }))

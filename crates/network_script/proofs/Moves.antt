@@ -125,32 +125,18 @@ module _ (members : ℕ) (w : Written) (inv : Invariant members w.history w.lett
     fails IsCourse sound told fault.Down m (inl is) = crashes told m is
     fails IsCourse sound told fault.Down m (inr is) =
         broken told is.0.write (sound is.0 is.1).write (after w k m) (ap (after w k) is.2 ∙ after_quiet w k (Stopped view.content is.0.write))
-    fails IsCourse sound told fault.NotLeading m is = stays told m is.1
-    fails IsCourse sound told fault.LogFull m is = stays told m is.1
-    fails IsCourse sound told fault.RoundsSpent m is = stays told m is.1
-    fails IsCourse sound told fault.ValueTooLong m is = stays told m is.1
+    fails IsCourse sound told declined m is = stays told m is.1
 
     ends : (IsCourse : Result Outcome Fault → Type 0) → AreSound IsCourse → (told : Answer) (m : Move) → Ends view IsCourse told m → Made told m
     ends IsCourse sound (answer.Sent n) m is = whole_moves _ is.0 (sound is.0 is.1) (after w k m) (ap (after w k) is.3 ∙ after_whole w k is.0)
     ends IsCourse sound answer.Crashed m is = loses _ is.0 (sound is.0 is.1) m is.3
     ends IsCourse sound (answer.Fault f) m is = fails IsCourse sound (answer.Fault f) f m is
-    ends IsCourse sound answer.Finished m is = absurd is
-    ends IsCourse sound (answer.Released n) m is = absurd is
-    ends IsCourse sound (answer.Heard h) m is = absurd is
-    ends IsCourse sound (answer.Ticked s) m is = absurd is
-    ends IsCourse sound (answer.WantRefused f) m is = absurd is
-    ends IsCourse sound (answer.Refused r) m is = absurd is
+    ends IsCourse sound other m is = absurd is
 
     ends_in_crash : (IsCourse : Result Outcome Fault → Type 0) → AreSound IsCourse → (told : Answer) (m : Move) → EndsInCrash view IsCourse told m → Made told m
     ends_in_crash IsCourse sound answer.Finished m is = loses _ is.0 (sound is.0 is.1) m is.2
     ends_in_crash IsCourse sound (answer.Fault f) m is = fails IsCourse sound (answer.Fault f) f m is
-    ends_in_crash IsCourse sound (answer.Sent n) m is = absurd is
-    ends_in_crash IsCourse sound answer.Crashed m is = absurd is
-    ends_in_crash IsCourse sound (answer.Released n) m is = absurd is
-    ends_in_crash IsCourse sound (answer.Heard h) m is = absurd is
-    ends_in_crash IsCourse sound (answer.Ticked s) m is = absurd is
-    ends_in_crash IsCourse sound (answer.WantRefused f) m is = absurd is
-    ends_in_crash IsCourse sound (answer.Refused r) m is = absurd is
+    ends_in_crash IsCourse sound other m is = absurd is
 
     view_was : UpOk members w.history w.letters k view
     view_was = inv.nodes k (Running view) here
@@ -182,12 +168,7 @@ module _ (members : ℕ) (w : Written) (inv : Invariant members w.history w.lett
     releases now answer.Crashed m is = crashes _ m is.1
     releases now (answer.Fault f) m is =
         fails (λ course. course ≡ Ok (nothing (released_all view))) (λ o course. let e : o ≡ nothing (released_all view) = cc (course) in subst (λ (x : Outcome). Sound members w.history w.letters k view x) (sym e) releases_sound) (answer.Fault f) f m is
-    releases now (answer.Sent n) m is = absurd is
-    releases now answer.Finished m is = absurd is
-    releases now (answer.Heard h) m is = absurd is
-    releases now (answer.Ticked s) m is = absurd is
-    releases now (answer.WantRefused f) m is = absurd is
-    releases now (answer.Refused r) m is = absurd is
+    releases now other m is = absurd is
 
     receives : (l : Letter) → IsIn w.letters l → AreSound (λ course. course ≡ Ok (receive members k view l))
     receives l sent_it o course =
@@ -231,20 +212,11 @@ module _ (members : ℕ) (w : Written) (inv : Invariant members w.history w.lett
         subst (Moves _) (sym (ap (after w k) with_it ∙ after_write_alone w k (Running (started (after_write c doubt))) doubt))
         (on_nodes _ _ w.letters k doubt (restarted_kept members w.history w.letters w.nodes k c doubt doubt inv here ok.doubt))
     starts (answer.Fault f) m failed = stays_down _ m failed.1
-    starts (answer.Sent n) m none = absurd none
-    starts (answer.Released n) m none = absurd none
-    starts (answer.Heard h) m none = absurd none
-    starts (answer.Ticked s) m none = absurd none
-    starts (answer.WantRefused f) m none = absurd none
-    starts (answer.Refused r) m none = absurd none
-    starts answer.Crashed m none = absurd none
+    starts other m none = absurd none
 
     moves_down : (asked : Ask) (told : Answer) (m : Move) → MovesDown c doubt asked told m → Moves told (after w k m)
     moves_down StartAgain told m is = starts told m is
-    moves_down (Call cause) told m is = stays_down told m is.1
-    moves_down (TakeThenCrash l) told m is = stays_down told m is.1
-    moves_down (ReleaseAt now) told m is = stays_down told m is.1
-    moves_down CrashNow told m is = stays_down told m is.1
+    moves_down other told m is = stays_down told m is.1
 
   of_node : (k : ℕ) (asked : Ask) → ((l : Letter) → taken asked ≡ Some l → IsIn w.letters l) → (told : Answer) (w' : Written)
       → (there : Option Standing) → slice_get w.nodes k ≡ there → OfNode members w k there asked told w' → Moves told w'
@@ -272,6 +244,4 @@ next_moves members w inv (event.DeliverThenCrash i) told w' goes =
 next_moves members w inv (event.Crash k) told w' goes = of_node members w inv (event.Crash k) k _ (λ l is. absurd (cc (is))) told w' (slice_get w.nodes k) refl goes
 next_moves members w inv (event.Restart k) told w' goes = of_node members w inv (event.Restart k) k _ (λ l is. absurd (cc (is))) told w' (slice_get w.nodes k) refl goes
 next_moves members w inv (event.Release k now) told w' goes = of_node members w inv (event.Release k now) k _ (λ l is. absurd (cc (is))) told w' (slice_get w.nodes k) refl goes
-next_moves members w inv (event.Hear m i near) told w' goes = on_modems members w inv (event.Hear m i near) told w' goes
-next_moves members w inv (event.Want m ch sid n) told w' goes = on_modems members w inv (event.Want m ch sid n) told w' goes
-next_moves members w inv (event.Tick m ch slot random) told w' goes = on_modems members w inv (event.Tick m ch slot random) told w' goes
+next_moves members w inv of_modem told w' goes = on_modems members w inv of_modem told w' goes

@@ -1,11 +1,11 @@
 -- Gapless learned values, the outputs that they give, and which of them stand in the outputs of the chosen values.
-use Rattle.std.proofs.Common.{◌≡◌, inl, inr, ⊎_elim, ℕ, zero, suc, ◌+◌, ◌<◌, ◌≤◌, Bool, true, false, cond, ◌==◌, List, [], ◌∷◌, length, drop, refl, sym, ap, subst, arith, Option, Some, None, slice_get}
+use Rattle.std.proofs.Common.{◌≡◌, inl, inr, ⊎_elim, ℕ, zero, suc, ◌+◌, ◌<◌, ◌≤◌, Bool, true, false, cond, ◌==◌, List, [], ◌∷◌, length, drop, refl, sym, ap, subst, arith, Option, Some, slice_get}
 use Rattle.std.proofs.lemmas.Bool.{eqb-true, cases_lt}
-use Rattle.std.proofs.lemmas.Option.{slice_get_within}
+use Rattle.std.proofs.lemmas.Option.{slice_get_cases, slice_get_within}
 use Rattle.ballots.specs.Voting.{Entry, IsIn, IsLegal, IsChosen}
 use Rattle.ballots.proofs.Callers.{agreement}
 use Rattle.acceptor.specs.Content.{Write, record_write}
-use Rattle.acceptor.specs.Content.Write.{Tries, Promises, Votes, Learns}
+use Rattle.acceptor.specs.Content.Write.{Promises, Votes}
 use Rattle.grant_machine.specs.declared.output.Output.{Output}
 use Rattle.command_log.specs.Values.{outputs_of_values}
 use Rattle.node.specs.View.{View, gapless, values_from}
@@ -38,9 +38,7 @@ beginning (x ∷ xs) (y ∷ ys) same short =
     (rest.0, λ i. first i ∷ rest.1 i)
 
 pub get_some : {X : Type 0} (xs : List X) (k : ℕ) → k < length xs → (x : X) × (slice_get xs k ≡ Some x)
-get_some [] k within = absurd (omega arith)
-get_some (x ∷ xs) zero within = (x, refl)
-get_some (x ∷ xs) (suc k) within = get_some xs k (omega arith)
+get_some xs k within = ⊎_elim (λ there. (there.0, there.2)) (λ past. absurd (omega (arith, past.0))) (slice_get_cases xs k).1
 
 earlier_some : {X : Type 0} (xs : List X) (k : ℕ) (x : X) (j : ℕ) → slice_get xs k ≡ Some x → j ≤ k → (y : X) × (slice_get xs j ≡ Some y)
 earlier_some xs k x j is le = let e : k < length xs = slice_get_within xs k x is in get_some xs j (omega arith)
@@ -78,11 +76,9 @@ in_released_by k (x ∷ xs) y (inl is) = inl (ap (λ (z : ReleasedOutput). z.num
 in_released_by k (x ∷ xs) y (inr there) = inr (in_released_by k xs y there)
 
 pub written_keeps : (k : ℕ) (w : Option Write) (h : List Entry) (e : Entry) → IsIn h e → IsIn (record_write k w h) e
-written_keeps k None h e here = here
-written_keeps k (Some (Tries b)) h e here = here
-written_keeps k (Some (Learns p v)) h e here = here
 written_keeps k (Some (Promises b)) h e here = inr here
 written_keeps k (Some (Votes p cast)) h e here = inr here
+written_keeps k other h e here = here
 
 pub chosen_keeps : (members : ℕ) (h later : List Entry) → ((e : Entry) → IsIn h e → IsIn later e) → (values : List (List ℕ)) → AreChosen members h values → AreChosen members later values
 chosen_keeps members h later keeps values chosen k v is = let c = chosen k v is in record { ballot = c.ballot; quorum = c.quorum; votes = λ n is_of. keeps _ (c.votes n is_of) }

@@ -57,10 +57,6 @@ leased_of outs released stand id (h ∷ earlier) ch sid m all (inr before) = lea
 
 -- a MAP that was heard near its start gives what it holds
 gives_owned : (cs : List Command) (o : Output) (near ch m sid iuc id : ℕ) → AreScheduled (outputs_of cs) → Contains (outputs_of cs) o → IsTimely o near → Gives o near ch m sid iuc → IsLeased (outputs_of cs) id ch sid m → Owns (outputs_of cs) ch m id
-gives_owned cs outputs.Nothing near ch m sid iuc id all there timely gives assigned = absurd gives
-gives_owned cs (outputs.Refused n) near ch m sid iuc id all there timely gives assigned = absurd gives
-gives_owned cs (outputs.ChannelSet c u) near ch m sid iuc id all there timely gives assigned = absurd gives
-gives_owned cs (outputs.Assigned a c s f l) near ch m sid iuc id all there timely gives assigned = absurd gives
 gives_owned cs (outputs.Map c start len bytes) near ch m sid iuc id all there timely (map, begin, starts, gives) assigned =
     let drawn = is_drawn cs c start len bytes map there starts.body in
     let near_start : IsNear map.head.start near start = record { low = drawn.start_is; not_earlier = omega (arith, timely.0); earlier = timely.1; fits = drawn.bound } in
@@ -82,6 +78,7 @@ gives_owned cs (outputs.Map c start len bytes) near ch m sid iuc id all there ti
       unicast = subst (λ (n : ℕ). (1 ≤ n) × (n ≤ last_sid)) sid_is (all.unicast id ch sid assigned.first assigned.last assigned.assigned);
       assigned = subst (λ (n : ℕ). IsLeased (outputs_of cs) id ch n m) sid_is assigned;
     }
+gives_owned cs other near ch m sid iuc id all there timely gives assigned = absurd gives
 
 held_owned : (cs : List Command) (released : List ReleasedOutput) → ((x : ReleasedOutput) → IsIn released x → Contains (outputs_of cs) x.numbered.output) → AreScheduled (outputs_of cs) → (id : ℕ) (hearings : List Hearing) (ch m sid iuc : ℕ) → AreReleased released hearings
     → HeldBy id hearings ch m sid iuc → Owns (outputs_of cs) ch m id

@@ -123,8 +123,7 @@ opened_stand {N} {g} (seat ∷ seats) fresh up honest =
 pub each_length : {A B : Type 0} (R : A → B → Type 0) (xs : List A) (ys : List B) → Each R xs ys → length ys ≡ length xs
 each_length R [] [] each = refl
 each_length R (x ∷ xs) (y ∷ ys) each = ap suc (each_length R xs ys each.1)
-each_length R [] (y ∷ ys) each = absurd each
-each_length R (x ∷ xs) [] each = absurd each
+each_length R xs ys each = absurd each
 
 -- what goes with the one at a place
 pub each_at : {A B : Type 0} (R : A → B → Type 0) (xs : List A) (ys : List B) (k : ℕ) (x : A) → Each R xs ys → k < length xs → x ≡ get_or xs k x → (y : B) × (slice_get ys k ≡ Some y) × R x y
@@ -138,8 +137,7 @@ pub each_set : {A B : Type 0} (R : A → B → Type 0) (xs : List A) (ys : List 
 each_set R [] [] k x y each here = tt
 each_set R (z ∷ xs) (w ∷ ys) zero x y each here = (here, each.1)
 each_set R (z ∷ xs) (w ∷ ys) (suc k) x y each here = (each.0, each_set R xs ys k x y each.1 here)
-each_set R [] (w ∷ ys) k x y each here = absurd each
-each_set R (z ∷ xs) [] k x y each here = absurd each
+each_set R xs ys k x y each here = absurd each
 
 -- who sits there, seen through the node
 seen_through : {N : Type 0} {g : Ghosts N} (f : N → ℕ × ℕ) (seats : List (Seat N g)) → map (λ (seat : Seat N g). f seat.node) seats ≡ map f (map node_of seats)

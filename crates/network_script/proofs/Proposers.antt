@@ -25,7 +25,7 @@ use Rattle.network_script.proofs.Kept.{NewLetters, proposed_split}
 use Rattle.network_script.proofs.Rows.{at_in}
 use Rattle.network_script.proofs.Joins.{HasAbove, join_up, join_in, join_from}
 use Rattle.network_script.proofs.Sending.{to_all_says, proposals_say, least_place_after, in_place_after}
-use Rattle.network_script.proofs.Acceptors.{nothing_sound, quiet_all}
+use Rattle.network_script.proofs.Acceptors.{nothing_sound, quiet_all, turns_sound}
 use Rattle.network_script.proofs.Sound.{Sound, IsOther, quiet_letters, quiet_own}
 
 counted_one : (counted : List ℕ) (n j : ℕ) → IsCounted (n ∷ counted) j → (j ≡ n) ⊎ IsCounted counted j
@@ -61,19 +61,6 @@ module _ (members : ℕ) (h : List Entry) (sent : List Letter) (states : List St
   was : UpOk members h sent k view
   was = inv.nodes k (Running view) here
 
-  -- the node changes its role and sends letters
-  role_and_letters : (role : Role) (more : List Letter) → NewLetters members h sent more k → RoleOk members h k view.content.tried role → OwnOk (sent ++ more) k view.content.tried role → Sound members h sent k view (sends (record view { role = role }) more)
-  role_and_letters role more letters ok own = record {
-    write = tt;
-    content = refl;
-    letters = letters;
-    role = ok;
-    own = own;
-    counted = was.counted;
-    learned = was.learned;
-    written = was.written;
-  }
-
   -- a majority of promises makes a leader, which proposes at each place where a vote was reported and at those below it
   module _ (b q : ℕ) (counted : List ℕ) (joined : List (ℕ × Cast)) (node : ballot_node b ≡ k) (tried : b ≤ view.content.tried) (ok : CountedOk members h b q counted joined) (own : OwnOk sent k view.content.tried (Preparing b q counted joined)) where
     abbrev next : ℕ
@@ -83,10 +70,10 @@ module _ (members : ℕ) (h : List Entry) (sent : List Letter) (states : List St
     more = proposals members k b joined q (next - q)
 
     prepares_on : Sound members h sent k view (nothing (record view { role = Preparing b q counted joined }))
-    prepares_on = role_and_letters (Preparing b q counted joined) [] (quiet_letters members h sent [] k (λ l none. absurd none)) (node, tried, ok) (quiet_own members h sent [] k view.content.tried (Preparing b q counted joined) (λ l none. absurd none) own)
+    prepares_on = turns_sound members h sent states k view inv here view.hint (Preparing b q counted joined) [] (quiet_letters members h sent [] k (λ l none. absurd none)) (node, tried, ok) (quiet_own members h sent [] k view.content.tried (Preparing b q counted joined) (λ l none. absurd none) own)
 
     leads : is_majority members (λ n. list_any (nat_eq n) counted) ≡ true → Sound members h sent k view (sends (record view { role = Leading b next }) more)
-    leads most = role_and_letters (Leading b next) more letters (node, tried, leader) own_after
+    leads most = turns_sound members h sent states k view inv here view.hint (Leading b next) more letters (node, tried, leader) own_after
       where
         quorum : Quorum members
         quorum = record { set = λ n. list_any (nat_eq n) counted; majority = ltb-true members (2 * count_below (λ n. list_any (nat_eq n) counted) members) most }
@@ -164,7 +151,7 @@ module _ (members : ℕ) (h : List Entry) (sent : List Letter) (states : List St
 
   -- a leader proposes at its next place
   offers : (b next : ℕ) (v : List ℕ) → RoleOk members h k view.content.tried (Leading b next) → OwnOk sent k view.content.tried (Leading b next) → Sound members h sent k view (sends (record view { role = Leading b (next + 1) }) (to_all members k (Accept b next v)))
-  offers b next v role own = role_and_letters (Leading b (next + 1)) more letters (role.0, role.1, leader) own_after
+  offers b next v role own = turns_sound members h sent states k view inv here view.hint (Leading b (next + 1)) more letters (role.0, role.1, leader) own_after
     where
       more : List Letter
       more = to_all members k (Accept b next v)

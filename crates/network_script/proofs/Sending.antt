@@ -1,5 +1,5 @@
 -- What the lists of letters that a call sends hold.
-use Rattle.std.proofs.Common.{◌≡◌, inl, inr, ⊎_elim, ℕ, zero, suc, ◌+◌, ◌<◌, ◌≤◌, List, [], ◌∷◌, take, refl, ap, arith}
+use Rattle.std.proofs.Common.{◌≡◌, inl, inr, ⊎_elim, ℕ, zero, suc, ◌+◌, ◌<◌, ◌≤◌, List, [], ◌∷◌, refl, ap, arith}
 use Rattle.ballots.specs.declared.letters.Cast.{Cast}
 use Rattle.ballots.specs.declared.letters.Note.{Note}
 use Rattle.ballots.specs.declared.letters.Letter.{Letter}
@@ -9,12 +9,6 @@ use Rattle.ballots.specs.Rows.{at}
 use Rattle.node.specs.Step.{letter, to_all, known_letters, proposals}
 use Rattle.proposer.specs.Joining.{proposal, place_after}
 use Rattle.network_script.proofs.Lists.{in_append}
-
-pub in_take : {X : Type 0} (n : ℕ) (xs : List X) (x : X) → IsIn (take n xs) x → IsIn xs x
-in_take zero xs x here = absurd here
-in_take (suc n) [] x here = absurd here
-in_take (suc n) (y ∷ xs) x (inl is) = inl is
-in_take (suc n) (y ∷ xs) x (inr there) = inr (in_take n xs x there)
 
 -- the sender and the note of a letter
 abbrev pub Says : Letter → ℕ → Note → Type 0

@@ -2,7 +2,7 @@
 use Rattle.std.proofs.Common.{◌≡◌, ⊎_elim, ℕ, ◌≤◌, List, ◌++◌, refl, sym, ap, subst, arith, Option, Some, None, slice_get, slice_set}
 use Rattle.ballots.specs.declared.letters.Note.{Note}
 use Rattle.ballots.specs.declared.letters.Letter.{Letter}
-use Rattle.ballots.specs.declared.letters.Note.TheVariants.{Prepare, Promise, Accept, Voted, Higher, Known}
+use Rattle.ballots.specs.declared.letters.Note.TheVariants.{Accept}
 use Rattle.ballots.specs.Voting.{Entry, IsIn, IsChosen}
 use Rattle.ballots.specs.Voting.Entry.{Vote}
 use Rattle.acceptor.specs.Content.{Content, Write, after_write, record_write}
@@ -29,12 +29,8 @@ pub record Sound (members : ℕ) (h : List Entry) (sent : List Letter) (k : ℕ)
 
 -- a letter that proposes nothing
 abbrev pub IsOther : Note → Type 0
-IsOther (Prepare b q) = Unit {0}
-IsOther (Promise b q votes) = Unit {0}
 IsOther (Accept b p v) = ⊥
-IsOther (Voted b p v) = Unit {0}
-IsOther (Higher b) = Unit {0}
-IsOther (Known p v) = Unit {0}
+IsOther other = Unit {0}
 
 -- letters that say what holds and propose nothing
 abbrev pub AreQuiet : ℕ → List Entry → List Letter → Type 0

@@ -39,23 +39,16 @@ module _ (members : ℕ) (h : List Entry) (sent : List Letter) (states : List St
   )
 
   pub write_grows : (w : Option Write) → WriteOk members h sent c w → Grows k h (record_write k w h)
-  write_grows None fine = grows_same k h
-  write_grows (Some (Tries b)) fine = grows_same k h
-  write_grows (Some (Learns p v)) fine = grows_same k h
   write_grows (Some (Promises b)) fine = grows_entry members h (Promised k b) (promise_may b fine)
   write_grows (Some (Votes p cast)) fine = grows_entry members h (Vote k cast.ballot p cast.value) (vote_may p cast fine.0 fine.1)
+  write_grows other fine = grows_same k h
 
   pub write_legal : (w : Option Write) → WriteOk members h sent c w → IsLegal members (record_write k w h)
-  write_legal None fine = inv.legal
-  write_legal (Some (Tries b)) fine = inv.legal
-  write_legal (Some (Learns p v)) fine = inv.legal
   write_legal (Some (Promises b)) fine = (promise_may b fine, inv.legal)
   write_legal (Some (Votes p cast)) fine = (vote_may p cast fine.0 fine.1, inv.legal)
+  write_legal other fine = inv.legal
 
   pub write_proposed : (w : Option Write) → WriteOk members h sent c w → (n b p : ℕ) (v : List ℕ) → IsIn (record_write k w h) (Vote n b p v) → IsProposed sent b p v
-  write_proposed None fine n b p v vote = inv.proposed n b p v vote
-  write_proposed (Some (Tries d)) fine n b p v vote = inv.proposed n b p v vote
-  write_proposed (Some (Learns q w)) fine n b p v vote = inv.proposed n b p v vote
   write_proposed (Some (Promises d)) fine n b p v (inl is) = absurd (cc (is))
   write_proposed (Some (Promises d)) fine n b p v (inr vote) = inv.proposed n b p v vote
   write_proposed (Some (Votes q cast)) fine n b p v (inl is) =
@@ -64,6 +57,7 @@ module _ (members : ℕ) (h : List Entry) (sent : List Letter) (states : List St
       let value : v ≡ cast.value = cc (is) in
       (fine.1.0, fine.1.1, fine.1.2 ∙ (λ i. Accept (sym ballot i) (sym place i) (sym value i)))
   write_proposed (Some (Votes q cast)) fine n b p v (inr vote) = inv.proposed n b p v vote
+  write_proposed other fine n b p v vote = inv.proposed n b p v vote
 
   -- what was chosen stays so once an entry has joined the history
   still : (e : Entry) → MayFollow members h e → (p : ℕ) (v : List ℕ) → IsChosen members h p v → IsChosen members (e ∷ h) p v
@@ -119,8 +113,5 @@ module _ (members : ℕ) (h : List Entry) (sent : List Letter) (states : List St
   write_content (Some (Learns p v)) fine = learned_content p v fine
 
 pub write_tried : (members : ℕ) (h : List Entry) (sent : List Letter) (c : Content) (w : Option Write) → WriteOk members h sent c w → c.tried ≤ (after_write c w).tried
-write_tried members h sent c None fine = omega arith
 write_tried members h sent c (Some (Tries b)) fine = fine
-write_tried members h sent c (Some (Promises b)) fine = omega arith
-write_tried members h sent c (Some (Votes p cast)) fine = omega arith
-write_tried members h sent c (Some (Learns p v)) fine = omega arith
+write_tried members h sent c other fine = omega arith

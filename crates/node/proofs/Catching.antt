@@ -10,20 +10,20 @@ use Rattle.node.specs.View.{View}
 use Rattle.node.specs.Step.{Outcome, first_known, heed, is_heeded, is_place, is_value, known, known_letters, letter, letters_told, nothing, receive}
 use Rattle.node.specs.CatchesUp.{Agree, AreOfLog, CatchesUp, after_all}
 
-in_take : {X : Type 0} (n : ℕ) (xs : List X) (x : X) → IsIn (take n xs) x → IsIn xs x
+pub in_take : {X : Type 0} (n : ℕ) (xs : List X) (x : X) → IsIn (take n xs) x → IsIn xs x
 in_take zero xs x here = absurd here
 in_take (suc n) [] x here = absurd here
 in_take (suc n) (y ∷ xs) x (inl is) = inl is
 in_take (suc n) (y ∷ xs) x (inr there) = inr (in_take n xs x there)
 
-in_filter : {X : Type 0} (test : X → Bool) (ys : List X) (x : X) → IsIn (filter test ys) x → IsIn ys x
+in_filter_step : {X : Type 0} (test : X → Bool) (y : X) (ys : List X) (x : X) (b : Bool) → test y ≡ b → IsIn (cond b (y ∷ filter test ys) (filter test ys)) x → (IsIn (filter test ys) x → IsIn ys x × (test x ≡ true)) → IsIn (y ∷ ys) x × (test x ≡ true)
+in_filter_step test y ys x true is (inl same) rest = (inl same, ap test same ∙ is)
+in_filter_step test y ys x true is (inr there) rest = let r = rest there in (inr r.0, r.1)
+in_filter_step test y ys x false is there rest = let r = rest there in (inr r.0, r.1)
+
+pub in_filter : {X : Type 0} (test : X → Bool) (ys : List X) (x : X) → IsIn (filter test ys) x → IsIn ys x × (test x ≡ true)
 in_filter test [] x here = absurd here
-in_filter test (y ∷ ys) x here = by_test (test y) here (in_filter test ys x)
-  where
-    by_test : (b : Bool) → IsIn (cond b (y ∷ filter test ys) (filter test ys)) x → (IsIn (filter test ys) x → IsIn ys x) → IsIn (y ∷ ys) x
-    by_test true (inl is) rest = inl is
-    by_test true (inr there) rest = inr (rest there)
-    by_test false there rest = inr (rest there)
+in_filter test (y ∷ ys) x here = in_filter_step test y ys x (test y) refl here (in_filter test ys x)
 
 module _ (view : View) (p : ℕ) (v : List ℕ) where
   -- a value that is learned stays
@@ -82,7 +82,7 @@ module _ (members me n : ℕ) (from : me < members) (to : n < members) where
 pub catches_up : CatchesUp
 catches_up members me n q learned view from to of_log single agree p v there =
     let told : letters_told members me learned n q ≡ first_known me learned n q = ap (λ (x : Bool). cond x (first_known me learned n q) []) (lt-ltb n members to) in
-    let was : (x : ℕ × List ℕ) → IsIn (take 64 (rows_from learned q)) x → IsIn learned x = λ x here. in_filter (λ row. nat_le q row.0) learned x (in_take 64 (rows_from learned q) x here) in
+    let was : (x : ℕ × List ℕ) → IsIn (take 64 (rows_from learned q)) x → IsIn learned x = λ x here. (in_filter (λ row. nat_le q row.0) learned x (in_take 64 (rows_from learned q) x here)).0 in
     subst (λ (letters : List Letter). at (after_all members n view letters).tally.learned p ≡ Some v) (sym told)
     (all_learn members me n from to (take 64 (rows_from learned q)) view (λ j w here. of_log j w (was (j, w) here)) (λ j x y one other. single j x y (was (j, x) one) (was (j, y) other))
     (λ j x y one other. agree j x y one (was (j, y) other)) p v there)

@@ -1,5 +1,5 @@
 -- How a call of a node that is up ends, by what its records did.
-use Rattle.std.proofs.Common.{◌≡◌, ◌⊎◌, inl, inr, refl, sym, ap, subst, true, false, List, None, Result, Ok, Err, Vec, ℕ, [], cond}
+use Rattle.std.proofs.Common.{◌≡◌, ◌⊎◌, ⊎_elim, inl, inr, refl, sym, ap, subst, true, false, List, None, Result, Ok, Err, Vec, ℕ, [], cond}
 use Rattle.ballots.specs.declared.letters.Letter.{Letter}
 use Rattle.acceptor.specs.Content.{Content, after_write}
 use Rattle.acceptor.specs.Found.{Holds, HoldsEither, AddsNothing, FindsSame, Keeps}
@@ -14,7 +14,7 @@ use Rattle.node.specs.Step.{Outcome, heed, is_heeded, nothing}
 use Rattle.node.specs.Calls.{Called}
 use Rattle.node.specs.Calls.Cause.{Receive}
 use Rattle.std.specs.declared.alloc.Global.{Global}
-use Rattle.node.specs.Calls.{CallEnds, IsStop, Restarts, answer}
+use Rattle.node.specs.Calls.{CallEnds, Restarts, answer}
 use Rattle.node.specs.Sched.{Stands, Does, AfterStoreFault, view_over}
 use Rattle.proposer.specs.declared.fault.NodeFault.{NodeFault as Fault}
 use Rattle.node.specs.declared.parts.Parts.{Parts}
@@ -51,14 +51,15 @@ module _ {R : Type 0} (may_find : R → Content → Type 0) (old : Parts R) (up 
     pub kept : (result : Result (List Letter) Fault) → result ≡ Err Fault.OutOfMemory → Holds (may_find a) content → EndsSo result later
     kept result is found = subst (λ r. EndsSo r later) (sym is) (Running (view_over old content), refl, (up, refl, found))
 
-    pub fails : (fault : RecordsFault) (told : Fault) (new : Parts R) → AfterStoreFault later fault told new
-        → (IsHarmless fault → FindsSame (may_find old.records) (may_find a))
-        → (HoldsEither (may_find a) content content ⊎ ((o : Outcome) × IsCourse (Ok o) × HoldsEither (may_find a) content (after_write content o.write)))
+    -- a store's fault, where the write of this outcome may have been made
+    pub fails : (May : Type 0) (o : Outcome) (fault : RecordsFault) (told : Fault) (new : Parts R) → AfterStoreFault later fault told new
+        → (IsHarmless fault → FindsSame (may_find old.records) (may_find a)) → (May → IsCourse (Ok o))
+        → HoldsEither (may_find a) content content ⊎ (May × HoldsEither (may_find a) content (after_write content o.write))
         → EndsSo (Err told) new
-    fails Refused told new so harmless doubt = subst (λ n. EndsSo (Err told) n) (sym so.1) (subst (λ f. EndsSo (Err f) later) (sym so.0) (Running (view_over old content), refl, (up, refl, still_holds (may_find old.records) (may_find a) content (harmless tt) holds)))
-    fails OutOfMemory told new so harmless doubt = subst (λ n. EndsSo (Err told) n) (sym so.1) (subst (λ f. EndsSo (Err f) later) (sym so.0) (Running (view_over old content), refl, (up, refl, still_holds (may_find old.records) (may_find a) content (harmless tt) holds)))
-    fails Broken told new so harmless (inl found) = subst (λ n. EndsSo (Err told) n) (sym so.1) (subst (λ f. EndsSo (Err f) record later { is_down = true }) (sym so.0) (Stopped content None, inl refl, (refl, found)))
-    fails Broken told new so harmless (inr (o, course, either)) = subst (λ n. EndsSo (Err told) n) (sym so.1) (subst (λ f. EndsSo (Err f) record later { is_down = true }) (sym so.0) (Stopped content o.write, inr (o, course, refl), (refl, either)))
+    fails May o Refused told new so harmless course doubt = rw (so.0, so.1) (Running (view_over old content), refl, (up, refl, still_holds (may_find old.records) (may_find a) content (harmless tt) holds))
+    fails May o OutOfMemory told new so harmless course doubt = rw (so.0, so.1) (Running (view_over old content), refl, (up, refl, still_holds (may_find old.records) (may_find a) content (harmless tt) holds))
+    fails May o Broken told new so harmless course (inl found) = rw (so.0, so.1) (Stopped content None, inl refl, (refl, found))
+    fails May o Broken told new so harmless course (inr (may, either)) = rw (so.0, so.1) (Stopped content o.write, inr (o, course may, refl), (refl, either))
 
 -- what a part of a call does, it does for each view that the node stands for
 pub for_view : {R : Type 0} (may_find : R → Content → Type 0) (old new : Parts R) (IsCourse : View → Result Outcome Fault → Type 0) (result : Result (Vec Letter Global) Fault)
@@ -71,28 +72,20 @@ module _ {R : Type 0} (may_find : R → Content → Type 0) (old : Parts R) (a :
   FailsSo s told new = (t : Standing) × Restarts s (Err told) t × Stands may_find new t
 
   pub restart_fails : (fault : RecordsFault) (told : Fault) (new : Parts R) → (IsHarmless fault → (c : Content) → Holds (may_find old.records) c → Holds (may_find a) c) → AfterStoreFault record old { records = a } fault told new → (s : Standing) → Stands may_find old s → FailsSo s told new
-  restart_fails Refused told new harmless so (Running view) stands = subst (λ n. FailsSo (Running view) told n) (sym so.1) (subst (λ f. FailsSo (Running view) f record old { records = a }) (sym so.0) (Running view, refl, (stands.0, stands.1, harmless tt view.content stands.2)))
-  restart_fails OutOfMemory told new harmless so (Running view) stands = subst (λ n. FailsSo (Running view) told n) (sym so.1) (subst (λ f. FailsSo (Running view) f record old { records = a }) (sym so.0) (Running view, refl, (stands.0, stands.1, harmless tt view.content stands.2)))
-  restart_fails Broken told new harmless so (Running view) stands = subst (λ n. FailsSo (Running view) told n) (sym so.1) (subst (λ f. FailsSo (Running view) f record old { records = a; is_down = true }) (sym so.0) (Stopped view.content None, refl, (refl, λ d is. inl (stands.2.1 d (adds d is)))))
-  restart_fails Refused told new harmless so (Stopped c doubt) stands = subst (λ n. FailsSo (Stopped c doubt) told n) (sym so.1) (Stopped c doubt, (subst IsStop (sym so.0) tt, refl), (stands.0, λ d is. stands.1 d (adds d is)))
-  restart_fails OutOfMemory told new harmless so (Stopped c doubt) stands = subst (λ n. FailsSo (Stopped c doubt) told n) (sym so.1) (Stopped c doubt, (subst IsStop (sym so.0) tt, refl), (stands.0, λ d is. stands.1 d (adds d is)))
-  restart_fails Broken told new harmless so (Stopped c doubt) stands = subst (λ n. FailsSo (Stopped c doubt) told n) (sym so.1) (Stopped c doubt, (subst IsStop (sym so.0) tt, refl), (refl, λ d is. stands.1 d (adds d is)))
+  restart_fails Refused told new harmless so (Running view) stands = rw (so.0, so.1) (Running view, refl, (stands.0, stands.1, harmless tt view.content stands.2))
+  restart_fails OutOfMemory told new harmless so (Running view) stands = rw (so.0, so.1) (Running view, refl, (stands.0, stands.1, harmless tt view.content stands.2))
+  restart_fails Broken told new harmless so (Running view) stands = rw (so.0, so.1) (Stopped view.content None, refl, (refl, λ d is. inl (stands.2.1 d (adds d is))))
+  restart_fails Broken told new harmless so (Stopped c doubt) stands = rw (so.0, so.1) (Stopped c doubt, (tt, refl), (refl, λ d is. stands.1 d (adds d is)))
+  restart_fails Refused told new harmless so (Stopped c doubt) stands = rw (so.0, so.1) (Stopped c doubt, (tt, refl), (stands.0, λ d is. stands.1 d (adds d is)))
+  restart_fails OutOfMemory told new harmless so (Stopped c doubt) stands = rw (so.0, so.1) (Stopped c doubt, (tt, refl), (stands.0, λ d is. stands.1 d (adds d is)))
 
 -- what a reopen and then a read leave, by what the read did
 module _ (old mid new : Content → Type 0) (finds : (a b : Content) → HoldsEither old a b → Holds mid a ⊎ Holds mid b) where
   held : (c : Content) → Holds old c → Holds mid c
-  held c holds = by_one (finds c c (either_same old c holds))
-    where
-      by_one : Holds mid c ⊎ Holds mid c → Holds mid c
-      by_one (inl h) = h
-      by_one (inr h) = h
+  held c holds = ⊎_elim (λ h. h) (λ h. h) (finds c c (either_same old c holds))
 
   pub reads : FindsSame mid new → (a b : Content) → HoldsEither old a b → Holds new a ⊎ Holds new b
-  reads same a b either = by_one (finds a b either)
-    where
-      by_one : Holds mid a ⊎ Holds mid b → Holds new a ⊎ Holds new b
-      by_one (inl h) = inl (still_holds mid new a same h)
-      by_one (inr h) = inr (still_holds mid new b same h)
+  reads same a b either = ⊎_elim (λ h. inl (still_holds mid new a same h)) (λ h. inr (still_holds mid new b same h)) (finds a b either)
 
   pub reads_harmless : (T : Type 0) (fault : RecordsFault) → Keeps {T = T} (Err fault) mid new → IsHarmless fault → (c : Content) → Holds old c → Holds new c
   reads_harmless T Refused keeps harmless c holds = still_holds mid new c keeps (held c holds)
@@ -109,16 +102,13 @@ adds_nothing T old mid new adds Broken keeps d is = adds d (keeps d is)
 pub restart_ends : {R : Type 0} (may_find : R → Content → Type 0) (old new : Parts R) → new.is_down ≡ false → ((c : Content) → Holds (may_find new.records) c → view_over new c ≡ started c)
     → ((a b : Content) → HoldsEither (may_find old.records) a b → Holds (may_find new.records) a ⊎ Holds (may_find new.records) b)
     → (s : Standing) → Stands may_find old s → (t : Standing) × Restarts s (Ok tt) t × Stands may_find new t
-restart_ends may_find old new up fresh finds (Running view) stands = by_one (finds view.content view.content (either_same (may_find old.records) view.content stands.2))
-  where
-    by_one : Holds (may_find new.records) view.content ⊎ Holds (may_find new.records) view.content → (t : Standing) × Restarts (Running view) (Ok tt) t × Stands may_find new t
-    by_one (inl h) = (Running (started view.content), refl, (up, sym (fresh view.content h), h))
-    by_one (inr h) = (Running (started view.content), refl, (up, sym (fresh view.content h), h))
-restart_ends may_find old new up fresh finds (Stopped c doubt) stands = by_one (finds c (after_write c doubt) stands.1)
-  where
-    by_one : Holds (may_find new.records) c ⊎ Holds (may_find new.records) (after_write c doubt) → (t : Standing) × Restarts (Stopped c doubt) (Ok tt) t × Stands may_find new t
-    by_one (inl h) = (Running (started c), inl refl, (up, sym (fresh c h), h))
-    by_one (inr h) = (Running (started (after_write c doubt)), inr refl, (up, sym (fresh (after_write c doubt) h), h))
+restart_ends may_find old new up fresh finds (Running view) stands =
+    let h = ⊎_elim (λ h. h) (λ h. h) (finds view.content view.content (either_same (may_find old.records) view.content stands.2)) in
+    (Running (started view.content), refl, (up, sym (fresh view.content h), h))
+restart_ends may_find old new up fresh finds (Stopped c doubt) stands = ⊎_elim
+    (λ h. (Running (started c), inl refl, (up, sym (fresh c h), h)))
+    (λ h. (Running (started (after_write c doubt)), inr refl, (up, sym (fresh (after_write c doubt) h), h)))
+    (finds c (after_write c doubt) stands.1)
 
 -- what is read of records is read of those after the read
 pub read_after : (old new : Content → Type 0) → FindsSame old new → (c : Content) → Holds new c → Holds old c

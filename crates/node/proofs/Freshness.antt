@@ -1,13 +1,13 @@
 -- Whether a node is fresh.
-use Rattle.std.proofs.Common.{length, ◌≡◌, inl, ◌↔◌, ℕ, ◌+◌, ◌≤◌, max, Bool, true, false, IsTrue, cond, List, [], ◌∷◌, refl, sym, ap, subst, ◌∙◌, arith, rules, Result, Ok, Err, IfOk, None}
-use Rattle.std.proofs.lemmas.Bool.{le-leb}
+use Rattle.std.proofs.Common.{length, ◌≡◌, inl, ◌↔◌, ℕ, ◌+◌, ◌≤◌, max, Bool, true, false, IsTrue, cond, ◌==◌, ◌&&◌, List, [], ◌∷◌, refl, sym, ap, subst, ◌∙◌, arith, rules, Result, Ok, Err, IfOk, None}
+use Rattle.std.proofs.lemmas.Bool.{and_from, and_parts, eq-eqb, eqb-true, le-leb}
 use Rattle.std.proofs.lemmas.List.{nil_from_length}
 use Rattle.std.proofs.Math.Logic.{∥∥₁_elim, ∥∥₁_prop}
 use Rattle.std.proofs.Math.Nat.{ℕ_set}
 use Rattle.ballots.specs.Rows.{rows_from}
 use Rattle.ballots.specs.declared.letters.Cast.{Cast}
 use Rattle.acceptor.specs.Content.{Content, IsSound, AreRowsFrom, no_content, promised}
-use Rattle.acceptor.specs.Found.{Findable, Holds, FindsSame, Keeps}
+use Rattle.acceptor.specs.Found.{Holds, FindsSame, Keeps}
 use Rattle.acceptor.specs.declared.records.RecordsFault.{RecordsFault}
 use Rattle.acceptor.specs.declared.records.RecordsFault.TheVariants.{Refused, Broken, OutOfMemory}
 use Rattle.acceptor.proofs.Callers.{greatest_apart}
@@ -27,7 +27,7 @@ all_rows p (row ∷ rows) first are =
     let at_first : 1 ≤ row.0 = omega (arith, first, are.0) in
     ap (λ b. cond b (row ∷ rows_from rows 1) (rows_from rows 1)) (le-leb 1 row.0 at_first) ∙ ap (λ r. row ∷ r) (all_rows (row.0 + 1) rows (omega (arith, at_first)) are.2)
 
-pub empty_content : (c : Content) (used : ℕ) → used ≡ max c.tried (promised c) → used ≡ 0 → IsSound c → rows_from c.votes 1 ≡ [] → rows_from c.learned 1 ≡ [] → c ≡ no_content
+empty_content : (c : Content) (used : ℕ) → used ≡ max c.tried (promised c) → used ≡ 0 → IsSound c → rows_from c.votes 1 ≡ [] → rows_from c.learned 1 ≡ [] → c ≡ no_content
 empty_content c used is none sound empty unlearned =
     let above : c.row ≤ promised c = omega (arith, greatest_apart c.row c.votes) in
     let tried : c.tried ≡ 0 = omega (arith, is, none) in
@@ -36,6 +36,19 @@ empty_content c used is none sound empty unlearned =
     let learned : c.learned ≡ [] = sym (all_rows 1 c.learned (omega arith) sound.1) ∙ unlearned in
     (λ i. record { tried = tried i; row = row i; votes = votes i; learned = learned i })
 
+-- records with no ballot, no vote and no learned row hold nothing, and no others do
+pub nothing_so : (c : Content) (used : ℕ) (votes : List (ℕ × Cast)) (rows : List (ℕ × List ℕ)) → IsSound c → used ≡ max c.tried (promised c) → votes ≡ rows_from c.votes 1 → rows ≡ rows_from c.learned 1
+    → IsTrue (used == 0 && length votes == 0 && length rows == 0) ↔ (c ≡ no_content)
+nothing_so c used votes rows sound is some more = (
+  λ none.
+      let x = and_parts (used == 0 && length votes == 0) (length rows == 0) none in
+      let y = and_parts (used == 0) (length votes == 0) x.0 in
+      empty_content c used is (eqb-true used 0 y.0) sound (sym some ∙ nil_from_length votes (eqb-true (length votes) 0 y.1)) (sym more ∙ nil_from_length rows (eqb-true (length rows) 0 x.1)),
+  λ empty. and_from (used == 0 && length votes == 0) (length rows == 0)
+      (and_from (used == 0) (length votes == 0) (eq-eqb used 0 (is ∙ ap (λ (d : Content). max d.tried (promised d)) empty)) (eq-eqb (length votes) 0 (ap length (some ∙ ap (λ (d : Content). rows_from d.votes 1) empty))))
+      (eq-eqb (length rows) 0 (ap length (more ∙ ap (λ (d : Content). rows_from d.learned 1) empty))),
+)
+
 module _ {R : Type 0} (may_find : R → Content → Type 0) (old : Parts R) (up : old.is_down ≡ false) where
   -- it is fresh exactly where it is untouched over no content
   pub fresh_so : (c : Content) → c ≡ no_content → (fresh : Bool) → (IsTrue fresh ↔ IsUntouched old) → IsTrue fresh ↔ (view_over old c ≡ started no_content)
@@ -43,15 +56,6 @@ module _ {R : Type 0} (may_find : R → Content → Type 0) (old : Parts R) (up 
     λ yes. let so = is.0 yes in (λ i. record { content = empty i; role = so.0 i; hint = so.1 i; tally = ap (λ (l : Learned). l.tally) so.2 i; cursor = ap (λ (l : Learned). l.cursor) so.2 i }),
     λ same. is.1 (ap (λ (v : View). v.role) same, ap (λ (v : View). v.hint) same, ap (λ (v : View). record { tally = v.tally; cursor = v.cursor }) same),
   )
-
-  pub used_content : (c : Content) (used : ℕ) → used ≡ max c.tried (promised c) → (used ≡ 0 → ⊥) → view_over old c ≡ started no_content → ⊥
-  used_content c used is some same = let empty : c ≡ no_content = ap (λ (v : View). v.content) same in some (is ∙ ap (λ (d : Content). max d.tried (promised d)) empty)
-
-  pub voted_content : (c : Content) (votes : List (ℕ × Cast)) → votes ≡ rows_from c.votes 1 → (votes ≡ [] → ⊥) → view_over old c ≡ started no_content → ⊥
-  voted_content c votes is some same = let empty : c ≡ no_content = ap (λ (v : View). v.content) same in some (is ∙ ap (λ (d : Content). rows_from d.votes 1) empty)
-
-  pub learned_content : (c : Content) (rows : List (ℕ × List ℕ)) → rows ≡ rows_from c.learned 1 → (rows ≡ [] → ⊥) → view_over old c ≡ started no_content → ⊥
-  learned_content c rows is some same = let empty : c ≡ no_content = ap (λ (v : View). v.content) same in some (is ∙ ap (λ (d : Content). rows_from d.learned 1) empty)
 
   module _ (a : R) where
     abbrev pub later : Parts R
@@ -66,18 +70,12 @@ module _ {R : Type 0} (may_find : R → Content → Type 0) (old : Parts R) (up 
     abbrev FailsSo : Standing → Fault → Parts R → Type 0
     FailsSo s told new = (t : Standing) × TellsFresh s (Err told) t × Stands may_find new t
 
-    pub tell_fails : (T : Type 0) (mid : Findable) (fault : RecordsFault) (told : Fault) (new : Parts R) → FindsSame (may_find old.records) mid → Keeps {T = T} (Err fault) mid (may_find a) → AfterStoreFault later fault told new
+    pub tell_fails : (fault : RecordsFault) (told : Fault) (new : Parts R) → Keeps {T = Bool} (Err fault) (may_find old.records) (may_find a) → AfterStoreFault later fault told new
         → (s : Standing) → Stands may_find old s → FailsSo s told new
-    tell_fails T mid Refused told new same keeps so (Running view) stands =
-        subst (λ n. FailsSo (Running view) told n) (sym so.1) (subst (λ f. FailsSo (Running view) f later) (sym so.0) (Running view, refl, (up, stands.1, still_holds mid (may_find a) view.content keeps (still_holds (may_find old.records) mid view.content same stands.2))))
-    tell_fails T mid OutOfMemory told new same keeps so (Running view) stands =
-        subst (λ n. FailsSo (Running view) told n) (sym so.1) (subst (λ f. FailsSo (Running view) f later) (sym so.0) (Running view, refl, (up, stands.1, still_holds mid (may_find a) view.content keeps (still_holds (may_find old.records) mid view.content same stands.2))))
-    tell_fails T mid Broken told new same keeps so (Running view) stands =
-        subst (λ n. FailsSo (Running view) told n) (sym so.1) (subst (λ f. FailsSo (Running view) f record later { is_down = true }) (sym so.0) (Stopped view.content None, refl, (refl, λ d is. inl (stands.2.1 d ((same d).1 (keeps d is))))))
-    tell_fails T mid fault told new same keeps so (Stopped c doubt) stands = absurd (cc (up, stands.0))
-
-pub same_found : (found : Findable) → FindsSame found found
-same_found found d = (λ is. is, λ is. is)
+    tell_fails Refused told new keeps so (Running view) stands = rw (so.0, so.1) (Running view, refl, (up, stands.1, still_holds (may_find old.records) (may_find a) view.content keeps stands.2))
+    tell_fails OutOfMemory told new keeps so (Running view) stands = rw (so.0, so.1) (Running view, refl, (up, stands.1, still_holds (may_find old.records) (may_find a) view.content keeps stands.2))
+    tell_fails Broken told new keeps so (Running view) stands = rw (so.0, so.1) (Stopped view.content None, refl, (refl, λ d is. inl (stands.2.1 d (keeps d is))))
+    tell_fails fault told new keeps so (Stopped c doubt) stands = absurd (cc (up, stands.0))
 
 -- it isn't fresh
 pub no_tell : (P : Type 0) → (P → ⊥) → IsTrue false ↔ P

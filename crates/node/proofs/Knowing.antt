@@ -1,5 +1,5 @@
 -- What a node has learned after one value more.
-use Rattle.std.proofs.Common.{◌≡◌, ◌⊎◌, inl, inr, ℕ, ◌≤◌, true, List, Option, Some, None, refl, sym, ap, subst, ◌∙◌}
+use Rattle.std.proofs.Common.{◌≡◌, ◌⊎◌, inl, inr, ℕ, ◌≤◌, List, Option, Some, None, refl, sym, ap, subst, ◌∙◌}
 use Rattle.ballots.specs.Rows.{at, put}
 use Rattle.learner.specs.Tally.{Tally, known}
 use Rattle.command_log.specs.Values.{Rows, outputs_of_values, gapless, values_from}

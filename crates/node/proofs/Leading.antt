@@ -17,19 +17,20 @@ use Rattle.node.specs.View.{View, values_from, gapless}
 use Rattle.node.specs.View.Standing.{Running, Stopped}
 use Rattle.node.specs.Step.{Leads, lead_with, limit}
 use Rattle.node.specs.Calls.{CallEnds}
+use Rattle.node.specs.Learned.{Learned}
 use Rattle.node.specs.Sched.{Stands, Stops, view_over}
 use Rattle.node.specs.declared.parts.Parts.{Parts}
 use Rattle.node.proofs.Endings.{EndsSo, still_holds}
 
 -- a node's own fault leaves its records
 pub honest_before : {R : Type 0} (is_honest : R → Bool) (old : Parts R) (fault : Fault) (new : Parts R) → Stops old fault new → IsTrue (is_honest new.records) → IsTrue (is_honest old.records)
-honest_before is_honest old Fault.LogFull new is honest = subst (λ n. IsTrue (is_honest n.records)) is honest
-honest_before is_honest old Fault.RoundsSpent new is honest = subst (λ n. IsTrue (is_honest n.records)) is honest
-honest_before is_honest old Fault.OutOfMemory new is honest = subst (λ n. IsTrue (is_honest n.records)) is honest
-honest_before is_honest old Fault.StoreRefused new is honest = subst (λ n. IsTrue (is_honest n.records)) is honest
-honest_before is_honest old Fault.NotLeading new is honest = subst (λ n. IsTrue (is_honest n.records)) is honest
-honest_before is_honest old Fault.ValueTooLong new is honest = subst (λ n. IsTrue (is_honest n.records)) is honest
 honest_before is_honest old Fault.Down new is honest = subst (λ n. IsTrue (is_honest n.records)) is honest
+honest_before is_honest old other new is honest = subst (λ n. IsTrue (is_honest n.records)) is honest
+
+-- a fault after which all but its records is as it was
+pub stops_at : {R : Type 0} (old : Parts R) (records : R) (proposer : Proposer) (knowledge : Learned) (fault : Fault) (new : Parts R) → knowledge ≡ old.knowledge → proposer ≡ old.proposer
+    → Stops record old { records = records; proposer = proposer; knowledge = knowledge } fault new → Stops record old { records = records } fault new
+stops_at old records proposer knowledge fault new same unchanged is = rw (same, unchanged) at is
 
 module _ {R : Type 0} (may_find : R → Content → Type 0) (old : Parts R) (up : old.is_down ≡ false) (content : Content) (holds : Holds (may_find old.records) content) (prefix : ℕ) (records : R)
     (short : prefix < most_places → prefix ≡ length (values_from 1 old.knowledge.tally.learned)) (full : most_places ≤ prefix → most_places ≤ length (values_from 1 old.knowledge.tally.learned)) where

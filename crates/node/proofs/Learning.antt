@@ -1,10 +1,9 @@
 -- A node that learns a value.
-use Rattle.std.proofs.Common.{◌≡◌, inr, ℕ, List, refl, sym, ap, subst, false, true, cond, Ok, Err, Option, Some, None, is_some, Bor}
+use Rattle.std.proofs.Common.{◌≡◌, inr, ℕ, List, refl, ap, false, true, cond, Ok, Err, Option, Some, None, is_some, Bor}
 use Rattle.std.specs.Option.{option_copied}
 use Rattle.acceptor.specs.Content.{Content, after_write}
 use Rattle.acceptor.specs.Content.Write.{Learns}
 use Rattle.acceptor.specs.Found.{Holds, HoldsEither, FindsSame}
-use Rattle.acceptor.specs.declared.records.RecordsFault.TheVariants.{OutOfMemory}
 use Rattle.proposer.specs.Faults.{IsHarmlessStop}
 use Rattle.proposer.specs.declared.fault.NodeFault.{NodeFault as Fault}
 use Rattle.learner.specs.Tally.{teaches, counts}
@@ -23,13 +22,10 @@ module _ {R : Type 0} (may_find : R → Content → Type 0) (old : Parts R) (up 
   -- the row of a value wasn't written, or is in doubt
   pub learn_fails : (fault : Fault) (new : Parts R) → IsStop fault → (IsHarmlessStop fault → FindsSame (may_find old.records) (may_find a)) → HoldsEither (may_find a) content (after_write content (Some (Learns p v)))
       → Stops record old { records = a } fault new → Ended fault new
-  learn_fails Fault.OutOfMemory new stop harmless doubt is = subst (λ n. Ended Fault.OutOfMemory n) (sym is) (Running (view_over old content), refl, (up, refl, still_holds (may_find old.records) (may_find a) content (harmless tt) holds))
-  learn_fails Fault.StoreRefused new stop harmless doubt is = subst (λ n. Ended Fault.StoreRefused n) (sym is) (Running (view_over old content), refl, (up, refl, still_holds (may_find old.records) (may_find a) content (harmless tt) holds))
-  learn_fails Fault.Down new stop harmless doubt is = subst (λ n. Ended Fault.Down n) (sym is) (Stopped content (Some (Learns p v)), inr (learns (view_over old content) p v, refl, refl), (refl, doubt))
-  learn_fails Fault.LogFull new stop harmless doubt is = absurd stop
-  learn_fails Fault.RoundsSpent new stop harmless doubt is = absurd stop
-  learn_fails Fault.NotLeading new stop harmless doubt is = absurd stop
-  learn_fails Fault.ValueTooLong new stop harmless doubt is = absurd stop
+  learn_fails Fault.OutOfMemory new stop harmless doubt is = rw is (Running (view_over old content), refl, (up, refl, still_holds (may_find old.records) (may_find a) content (harmless tt) holds))
+  learn_fails Fault.StoreRefused new stop harmless doubt is = rw is (Running (view_over old content), refl, (up, refl, still_holds (may_find old.records) (may_find a) content (harmless tt) holds))
+  learn_fails Fault.Down new stop harmless doubt is = rw is (Stopped content (Some (Learns p v)), inr (learns (view_over old content) p v, refl, refl), (refl, doubt))
+  learn_fails declined new stop harmless doubt is = absurd stop
 
 -- a place that is learned learns nothing more
 pub known_there : (view : View) (o : Option (List ℕ)) (p : ℕ) (v : List ℕ) → is_some o ≡ true → nothing view ≡ known view o p v

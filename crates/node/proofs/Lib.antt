@@ -15,3 +15,4 @@ pub mod Reading
 pub mod Learning
 pub mod Catching
 pub mod Told
+pub mod Callers

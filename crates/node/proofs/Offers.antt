@@ -17,7 +17,7 @@ use Rattle.node.specs.Calls.{CallEnds, TakesTurn, answer}
 use Rattle.node.specs.Sched.{view_over}
 use Rattle.node.specs.declared.parts.Parts.{Parts}
 use Rattle.node.proofs.Endings.{EndsSo, turns}
-use Rattle.node.proofs.Turning.{turned, turned_or, offer_so, never_down}
+use Rattle.node.proofs.Turning.{StopsTurn, never_stops, offer_so, turned, turned_or}
 
 module _ {R : Type 0} (may_find : R → Content → Type 0) (old : Parts R) (up : old.is_down ≡ false) (content : Content) (holds : Holds (may_find old.records) content) (v : List ℕ) (proposer : Proposer) (rest : proposer ≡ record old.proposer { role = proposer.role }) where
   abbrev view : View
@@ -40,13 +40,10 @@ module _ {R : Type 0} (may_find : R → Content → Type 0) (old : Parts R) (up 
   declines fault is = by_fault fault (sym (offer_so members me view old.proposer.role v ∙ ap (turned_or members me view) is)) is
     where
       by_fault : (fault : Fault) → Err fault ≡ offer members me view old.proposer.role v → turn.offer members me old.proposer.role v ≡ Err fault → CallEnds IsCourse view (Err fault) (Running view)
-      by_fault Fault.NotLeading course is = (course, refl)
-      by_fault Fault.LogFull course is = (course, refl)
-      by_fault Fault.RoundsSpent course is = (course, refl)
-      by_fault Fault.ValueTooLong course is = (course, refl)
       by_fault Fault.OutOfMemory course is = refl
       by_fault Fault.StoreRefused course is = refl
-      by_fault Fault.Down course is = absurd (never_down members me view old.proposer.role v is)
+      by_fault Fault.Down course is = absurd (never_stops members me view old.proposer.role v (subst StopsTurn (sym is) tt))
+      by_fault declined course is = (course, refl)
 
   pub offer_ends : (result : Result (Vec Letter Global) Fault) → IfOk result (λ letters. turn.offer members me old.proposer.role v ≡ Ok record { role = proposer.role; letters = letters.items })
       → IfErr result (λ fault. (turn.offer members me old.proposer.role v ≡ Err fault) ⊎ ((fault ≡ Fault.OutOfMemory) × IsTrue (is_ok (turn.offer members me old.proposer.role v)))) → OnErr result (proposer ≡ old.proposer)

@@ -1,43 +1,23 @@
 -- Want of memory and a store that fails come after what declines a call.
-use Rattle.std.proofs.Common.{◌≡◌, ◌⊎◌, inl, inr, List, ℕ, ◌+◌, ◌<◌, length, Bool, true, false, cond, sym, subst, Result, Ok, Err, Vec, IfErr, IsTrue, is_ok, nat_lt}
+use Rattle.std.proofs.Common.{◌≡◌, ◌⊎◌, inl, inr, List, ℕ, ◌<◌, length, true, sym, subst, Result, Ok, Err, Vec, IfErr, IsTrue, is_ok}
 use Rattle.std.specs.declared.alloc.Global.{Global}
 use Rattle.ballots.specs.Members.{member_count}
-use Rattle.ballots.specs.Limits.{most_places, longest_value}
+use Rattle.ballots.specs.Limits.{most_places}
 use Rattle.ballots.specs.declared.letters.Letter.{Letter}
-use Rattle.ballots.specs.declared.letters.Note.TheVariants.{Accept}
 use Rattle.acceptor.specs.Content.{Content}
 use Rattle.acceptor.specs.Found.{Findable}
 use Rattle.proposer.specs.Turns as turn
 use Rattle.proposer.specs.Turns.{Turn, DeclinesToLead}
-use Rattle.proposer.specs.declared.role.Role.{Role}
-use Rattle.proposer.specs.declared.role.Role.TheVariants.{Idle, Preparing, Leading}
 use Rattle.proposer.specs.declared.fault.NodeFault.{NodeFault as Fault}
 use Rattle.node.specs.View.{View, gapless}
 use Rattle.node.specs.View.Standing.{Running}
-use Rattle.node.specs.Step.{to_all}
-use Rattle.node.specs.Calls.{Cause, IsStop, StopsLast, answer}
+use Rattle.node.specs.Calls.{Cause, StopsLast, answer}
 use Rattle.node.specs.Calls.Cause.{Lead, Offer}
 use Rattle.node.specs.Sched.{Stands, view_over}
 use Rattle.node.specs.declared.parts.Parts.{Parts}
-use Rattle.node.proofs.Turning.{turned_or, offer_so}
-
--- a turn that is declined for want of memory or by a store
-abbrev pub StopsTurn : Result Turn Fault → Type 0
-StopsTurn (Ok t) = ⊥
-StopsTurn (Err fault) = IsStop fault
+use Rattle.node.proofs.Turning.{StopsTurn, never_stops, offer_so, turned_or}
 
 module _ (members me : ℕ) (view : View) where
-  -- an offer is declined by faults of its own alone
-  pub never_stops : (role : Role) (v : List ℕ) → StopsTurn (turn.offer members me role v) → ⊥
-  never_stops Idle v stops = stops
-  never_stops (Preparing b q counted joined) v stops = stops
-  never_stops (Leading b next) v stops = by_test (nat_lt longest_value (length v)) (nat_lt most_places next) stops
-    where
-      by_test : (x y : Bool) → StopsTurn (cond {A = Result Turn Fault} x (Err Fault.ValueTooLong) (cond y (Err Fault.LogFull) (Ok (record { role = Leading b (next + 1); letters = to_all members me (Accept b next v) })))) → ⊥
-      by_test true y stops = stops
-      by_test false true stops = stops
-      by_test false false stops = stops
-
   -- a turn that is not declined is an outcome
   is_outcome : (r : Result Turn Fault) → IsTrue (is_ok r) → IsTrue (is_ok (turned_or members me view r))
   is_outcome (Ok t) is = is
@@ -47,7 +27,7 @@ module _ (members me : ℕ) (view : View) where
       → IfErr result (λ fault. (turn.offer members me view.role v ≡ Err fault) ⊎ ((fault ≡ Fault.OutOfMemory) × IsTrue (is_ok (turn.offer members me view.role v))))
       → StopsLast members me view (Offer v) (answer result)
   offer_last v (Ok letters) declined = tt
-  offer_last v (Err fault) (inl is) = λ stops. absurd (never_stops view.role v (subst StopsTurn (sym is) stops))
+  offer_last v (Err fault) (inl is) = λ stops. absurd (never_stops members me view view.role v (subst StopsTurn (sym is) stops))
   offer_last v (Err fault) (inr wants) = λ stops. subst (λ r. IsTrue (is_ok r)) (sym (offer_so members me view view.role v)) (is_outcome (turn.offer members me view.role v) wants.1)
 
   -- a ballot is looked for only where the log has room
@@ -56,10 +36,7 @@ module _ (members me : ℕ) (view : View) where
   lead_last found hint prefix short Fault.OutOfMemory below stops = subst (λ n. n < most_places) (short below) below
   lead_last found hint prefix short Fault.StoreRefused below stops = subst (λ n. n < most_places) (short below) below
   lead_last found hint prefix short Fault.Down below stops = subst (λ n. n < most_places) (short below) below
-  lead_last found hint prefix short Fault.LogFull declines stops = absurd stops
-  lead_last found hint prefix short Fault.RoundsSpent declines stops = absurd stops
-  lead_last found hint prefix short Fault.NotLeading declines stops = absurd stops
-  lead_last found hint prefix short Fault.ValueTooLong declines stops = absurd stops
+  lead_last found hint prefix short declined declines stops = absurd stops
 
 -- a node that is down stands for no view
 pub in_no_view : {R : Type 0} (may_find : R → Content → Type 0) (n : Parts R) → n.is_down ≡ true → (view : View) → Stands may_find n (Running view) → ⊥

@@ -1,52 +1,21 @@
 -- Rows by place, and the values that they have without a gap.
-use Rattle.std.proofs.Common.{◌≡◌, ◌≢◌, ◌⊎◌, inl, inr, ℕ, zero, suc, ◌+◌, ◌<◌, ◌≤◌, cond, List, [], ◌∷◌, ◌++◌, length, take, Option, Some, None, slice_get, refl, sym, ap, subst, ◌∙◌, arith, length-append, length-take}
-use Rattle.std.proofs.lemmas.Bool.{cases_order, cases_eq, ne_eqb}
+use Rattle.std.proofs.Common.{◌≡◌, ◌≢◌, inl, inr, ℕ, zero, suc, ◌+◌, ◌<◌, ◌≤◌, cond, List, [], ◌∷◌, ◌++◌, length, take, Option, Some, None, slice_get, refl, sym, ap, subst, ◌∙◌, arith, length-append, length-take}
+use Rattle.std.proofs.lemmas.Bool.{cases_eq, ne_eqb}
 use Rattle.std.proofs.lemmas.Bool.Decides.{nat_tests}
 use Rattle.std.proofs.lemmas.Option.{slice_get_past}
 use Rattle.ballots.specs.Limits.{most_places}
 use Rattle.ballots.specs.Rows.{at, put}
+use Rattle.ballots.proofs.Callers.{at_put_other, at_put_same}
 use Rattle.command_log.specs.Values.{Rows, values_from, gapless}
 use Rattle.command_log.specs.View.{AreRows}
 use Rattle.command_log.proofs.Callers.{none_below, are_rows_put, put_same, values_grow, value_is_at, values_here}
 use Rattle.node.specs.Learned.{IsPart, AreLearned}
-
-put_equal : (row : ℕ × List ℕ) (rows : Rows) (p : ℕ) (v : List ℕ) → p ≡ row.0 → put (row ∷ rows) p v ≡ (row.0, v) ∷ rows
-put_equal row rows p v is = grind (arith, nat_tests)
-
-put_before : (row : ℕ × List ℕ) (rows : Rows) (p : ℕ) (v : List ℕ) → p < row.0 → put (row ∷ rows) p v ≡ (p, v) ∷ row ∷ rows
-put_before row rows p v is = grind (arith, nat_tests)
-
-put_after : (row : ℕ × List ℕ) (rows : Rows) (p : ℕ) (v : List ℕ) → row.0 < p → put (row ∷ rows) p v ≡ row ∷ put rows p v
-put_after row rows p v is = grind (arith, nat_tests)
 
 at_here : (row : ℕ × List ℕ) (rows : Rows) (p : ℕ) → p ≡ row.0 → at (row ∷ rows) p ≡ Some row.1
 at_here row rows p is = grind (arith, nat_tests)
 
 at_there : (row : ℕ × List ℕ) (rows : Rows) (p : ℕ) → p ≢ row.0 → at (row ∷ rows) p ≡ at rows p
 at_there row rows p is = grind (arith, nat_tests)
-
--- what stands at a place after a write there
-pub at_put_same : (rows : Rows) (p : ℕ) (v : List ℕ) → at (put rows p v) p ≡ Some v
-at_put_same [] p v = at_here (p, v) [] p refl
-at_put_same (row ∷ rows) p v = elim (cases_order p row.0) [
-  | inl is ↦ ap (λ (l : Rows). at l p) (put_equal row rows p v is) ∙ at_here (row.0, v) rows p is
-  | inr (inl before) ↦ ap (λ (l : Rows). at l p) (put_before row rows p v before) ∙ at_here (p, v) (row ∷ rows) p refl
-  | inr (inr after) ↦ ap (λ (l : Rows). at l p) (put_after row rows p v after) ∙ at_there row (put rows p v) p (omega arith) ∙ at_put_same rows p v
-]
-
--- and elsewhere
-pub at_put_other : (rows : Rows) (p : ℕ) (v : List ℕ) (j : ℕ) → j ≢ p → at (put rows p v) j ≡ at rows j
-at_put_other [] p v j other = at_there (p, v) [] j other
-at_put_other (row ∷ rows) p v j other = elim (cases_order p row.0) [
-  | inl is ↦ ap (λ (l : Rows). at l j) (put_equal row rows p v is) ∙ at_there (row.0, v) rows j (omega arith) ∙ sym (at_there row rows j (omega arith))
-  | inr (inl before) ↦ ap (λ (l : Rows). at l j) (put_before row rows p v before) ∙ at_there (p, v) (row ∷ rows) j other
-  | inr (inr after) ↦ ap (λ (l : Rows). at l j) (put_after row rows p v after) ∙ by_row (cases_order j row.0) (at_put_other rows p v j other)
-]
-  where
-    by_row : (j ≡ row.0) ⊎ ((j < row.0) ⊎ (row.0 < j)) → at (put rows p v) j ≡ at rows j → at (row ∷ put rows p v) j ≡ at (row ∷ rows) j
-    by_row (inl is) rest = at_here row (put rows p v) j is ∙ sym (at_here row rows j is)
-    by_row (inr (inl before)) rest = at_there row (put rows p v) j (omega arith) ∙ rest ∙ sym (at_there row rows j (omega arith))
-    by_row (inr (inr after)) rest = at_there row (put rows p v) j (omega arith) ∙ rest ∙ sym (at_there row rows j (omega arith))
 
 -- a value that stands in the second is put into the first
 pub part_put : (first second : Rows) (p : ℕ) (v : List ℕ) → IsPart first second → at second p ≡ Some v → IsPart (put first p v) second

@@ -12,12 +12,18 @@ use Rattle.proposer.specs.Turns.{Turn, are_majority}
 use Rattle.proposer.specs.declared.role.Role.{Role}
 use Rattle.proposer.specs.declared.role.Role.TheVariants.{Idle, Preparing, Leading}
 use Rattle.proposer.specs.declared.fault.NodeFault.{NodeFault as Fault}
+use Rattle.node.specs.Calls.{IsStop}
 use Rattle.node.specs.View.{View}
 use Rattle.node.specs.Step.{Outcome, nothing, sends, promise, after_promise, offer, proposals, are_votes, is_place, is_value, to_all}
 
 -- what a turn leaves of a view
 abbrev pub turned : View → Turn → Outcome
 turned view t = sends (record view { role = t.role }) t.letters
+
+-- a turn that is declined for want of memory or by a store
+abbrev pub StopsTurn : Result Turn Fault → Type 0
+StopsTurn (Ok t) = ⊥
+StopsTurn (Err fault) = IsStop fault
 
 module _ (members me : ℕ) (view : View) where
   stays : (role : Role) → view.role ≡ role → nothing view ≡ turned view (turn.stays role)
@@ -56,16 +62,16 @@ module _ (members me : ℕ) (view : View) where
       by_test false true = refl
       by_test false false = refl
 
-  -- an offer is declined by a fault of its own
-  pub never_down : (role : Role) (v : List ℕ) → turn.offer members me role v ≡ Err Fault.Down → ⊥
-  never_down Idle v is = absurd (cc (is))
-  never_down (Preparing b q counted joined) v is = absurd (cc (is))
-  never_down (Leading b next) v is = by_test (nat_lt longest_value (length v)) (nat_lt most_places next) is
+  -- an offer is declined by faults of its own alone
+  pub never_stops : (role : Role) (v : List ℕ) → StopsTurn (turn.offer members me role v) → ⊥
+  never_stops Idle v stops = stops
+  never_stops (Preparing b q counted joined) v stops = stops
+  never_stops (Leading b next) v stops = by_test (nat_lt longest_value (length v)) (nat_lt most_places next) stops
     where
-      by_test : (x y : Bool) → cond {A = Result Turn Fault} x (Err Fault.ValueTooLong) (cond y (Err Fault.LogFull) (Ok (record { role = Leading b (next + 1); letters = to_all members me (Accept b next v) }))) ≡ Err Fault.Down → ⊥
-      by_test true y is = absurd (cc (is))
-      by_test false true is = absurd (cc (is))
-      by_test false false is = absurd (cc (is))
+      by_test : (x y : Bool) → StopsTurn (cond {A = Result Turn Fault} x (Err Fault.ValueTooLong) (cond y (Err Fault.LogFull) (Ok (record { role = Leading b (next + 1); letters = to_all members me (Accept b next v) })))) → ⊥
+      by_test true y stops = stops
+      by_test false true stops = stops
+      by_test false false stops = stops
 
 -- the votes of a promise that is heeded are in the log
 pub all_in_log : (b q : ℕ) (votes : List (ℕ × Cast)) → are_votes b q votes ≡ true → in_log votes ≡ votes

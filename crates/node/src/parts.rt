@@ -1,15 +1,15 @@
 //! What a node is made of, and what its parts do with letters.
 
-ghost use Rattle.std.specs.Prelude.{◌≡◌, ◌≢◌, ◌++◌, ◌∷◌, [], ◌<◌, ◌≤◌, ◌↔◌, Ok, Err, length, true, false, IsTrue, IfErr, IfOk, IsOk, None, OnErr, OnOk, ℕ, ◌⊎◌, take, vec_capacity, vec_len};
+ghost use Rattle.std.specs.Prelude.{◌≡◌, ◌≢◌, ◌==◌, ◌&&◌, ◌++◌, ◌∷◌, [], ◌<◌, ◌≤◌, ◌↔◌, Ok, Err, length, true, false, IsTrue, IfErr, IfOk, IsOk, None, OnErr, OnOk, ℕ, ◌⊎◌, take, vec_capacity, vec_len};
 ghost use Rattle.ballots.specs.Ballots.{NoneAbove};
 ghost use Rattle.ballots.specs.Limits.{IsPlace, IsValue, most_places};
 ghost use Rattle.ballots.specs.Members.{member_count};
 ghost use Rattle.ballots.specs.Rows.{at};
 ghost use Rattle.ballots.specs.declared.letters.Note.TheVariants.{Voted as VotedNote};
 ghost use Rattle.node.specs.Answers.{accepted_letters, WroteNothing};
-ghost use Rattle.acceptor.specs.Calls.{KeepsTrust};
-ghost use Rattle.acceptor.specs.Content.{Content};
-ghost use Rattle.acceptor.specs.Found.{Holds};
+ghost use Rattle.acceptor.specs.Calls.{Accounts, KeepsTrust};
+ghost use Rattle.acceptor.specs.Content.{Content, no_content};
+ghost use Rattle.acceptor.specs.Found.{Holds, Keeps};
 ghost use Rattle.node.specs.Calls.{IsNothingNew, Kept, KeptByRestart, Restarts, StopsLast, TakesTurn, TellsFresh, answer, IsStop};
 ghost use Rattle.node.specs.Calls.Cause.{Lead, Offer};
 ghost use Rattle.node.specs.Releases.{Releases, outputs};
@@ -22,7 +22,7 @@ ghost use Rattle.node.specs.Step.{Leads, accept, after_higher, are_votes, first_
 use crate::knowledge::Knowledge;
 use crate::letters::{known_letters, one_letter, prepared_note};
 use acceptor::{Accepted, Records, RecordsFault, accept, greatest_used, prepare};
-use ballots::{Ballot, Bytes, Letter, NodeId, Note, Place, Value, Votes};
+use ballots::{Ballot, Bytes, Cast, Letter, NodeId, Note, Place, Value, Votes};
 use map_release::Numbered;
 use proposer::{NodeFault, Proposer, to_all};
 use std::alloc::{AllocError, Global};
@@ -51,6 +51,26 @@ fn place_of(number: u64) -> Place
     ensures { result ≡ number }
 {
     Place::new(number).unwrap()
+}
+
+/// Whether no ballot was used, and no vote cast and no value learned.
+fn is_nothing(used: u64, votes: &[(u64, Cast)], learned: &[(Place, Value)]) -> bool
+    ensures { result ≡ (used == 0 && length votes.now == 0 && length learned.now == 0) }
+{
+    used == 0 && votes.is_empty() && learned.is_empty()
+}
+
+/// Whether records hold nothing.
+fn hold_nothing<R: Records>(records: &mut R) -> Result<bool, RecordsFault>
+    ensures value { IsTrue (R.is_honest records.new) → IfOk result (λ empty. (c : Content) → Holds (R.may_find records.old) c → IsTrue empty ↔ (c ≡ no_content)) }
+    ensures kept { IsTrue (R.is_honest records.new) → Keeps result (R.may_find records.old) (R.may_find records.new) }
+    ensures trust { KeepsTrust R.is_honest R.is_clean records.old records.new }
+    ensures account { Accounts R.count_of R.is_broken records.old result records.new }
+{
+    let used = greatest_used(records)?;
+    let votes = records.votes_from(place_of(1))?;
+    let learned = records.learned_from(place_of(1))?;
+    Ok(is_nothing(used, votes.rows(), learned.as_slice()))
 }
 
 impl<R: Records> Parts<R> {
@@ -458,25 +478,11 @@ impl<R: Records> Parts<R> {
             → (t : Standing) × TellsFresh s result t × Stands R.may_find self.new t }
         ensures untouched { IfOk result (λ fresh. IsTrue fresh → IsUntouched self.new) }
     {
-        let used = match greatest_used(&mut self.records) {
-            Ok(used) => used,
+        let is_empty = match hold_nothing(&mut self.records) {
+            Ok(is_empty) => is_empty,
             Err(fault) => return Err(self.fail(fault)),
         };
-        let votes = match self.records.votes_from(place_of(1)) {
-            Ok(votes) => votes,
-            Err(fault) => return Err(self.fail(fault)),
-        };
-        let learned = match self.records.learned_from(place_of(1)) {
-            Ok(learned) => learned,
-            Err(fault) => return Err(self.fail(fault)),
-        };
-        if used != 0 {
-            return Ok(false);
-        }
-        if !votes.rows().is_empty() {
-            return Ok(false);
-        }
-        if !learned.as_slice().is_empty() {
+        if !is_empty {
             return Ok(false);
         }
         Ok(self.is_untouched())

@@ -15,25 +15,22 @@ use Rattle.node_worker.specs.Legal.{outputs_of}
 use Rattle.node_worker.specs.Places.{IsPlaceOf}
 use Rattle.node_worker.specs.Runs.{IsOfModem, IsOutputAt, ListensNext, ListensAlong, HaveListened, sent_by}
 use Rattle.node_worker.specs.declared.entry.Done.{Done}
+use Rattle.node_worker.proofs.Comparisons.{split_read}
 use Rattle.std.proofs.lemmas.Grind.{flat_map-append}
 use Rattle.std.proofs.lemmas.List.{append-nil, take_more, take-append-le}
-use Rattle.std.proofs.Math.Seq.{split_at}
 use Rattle.map_release.specs.declared.numbered.Numbered.{Numbered}
 
 -- a modem's event is the same where more was released
 step_more : (xs ys : List ReleasedOutput) (rs mid : List Receiver) (e : Event) (told : Answer) → IsOfModem (length xs) e → ModemNext rs xs e told mid → ListensNext (xs ++ ys) rs e told mid
 step_more xs ys rs mid (event.Hear m i near) told within next =
     (omega (arith, within, length-append xs ys), subst (λ (o : Option ReleasedOutput). OfModem rs m (slice_get rs m) (λ r. Listens r o near) told mid) (sym (get_front xs ys i within)) next)
-step_more xs ys rs mid (event.Want m ch sid n) told within next = (tt, next)
-step_more xs ys rs mid (event.Tick m ch slot random) told within next = (tt, next)
-step_more xs ys rs mid other told never next = absurd never
+step_more xs ys rs mid other told within next = (within, next)
 
 listens_more : (xs ys : List ReleasedOutput) (rs rs' : List Receiver) (events : List Event) (answers : List Answer) → ListensAlong xs rs events answers rs' → ListensAlong (xs ++ ys) rs events answers rs'
 listens_more xs ys rs rs' [] [] same = same
 listens_more xs ys rs rs' (e ∷ events) (told ∷ answers) (mid, (within, next), rest) =
     (mid, step_more xs ys rs mid e told within next, listens_more xs ys mid rs' events answers rest)
-listens_more xs ys rs rs' [] (told ∷ answers) never = absurd never
-listens_more xs ys rs rs' (e ∷ events) [] never = absurd never
+listens_more xs ys rs rs' events answers never = absurd never
 
 pub listened_more : (ids : List ℕ) (records more : List Done) (modems : List State) (sent : List Transmission) → HaveListened ids (outputs_of records) modems sent → HaveListened ids (outputs_of (records ++ more)) modems sent
 listened_more ids records more modems sent told = record {
@@ -71,12 +68,10 @@ pub output_of :
     → j < length records → r ≡ get_or records j r → length (outputs_of (take j records)) + left ≡ i → left < length r.entry.outputs → x ≡ get_or r.entry.outputs left x
     → IsOutputAt records i x.output
 output_of records j left i r x within at counted short is =
-    let P : Done → Type 0 = λ d. records ≡ take j records ++ d ∷ drop (suc j) records in
-    let cut : records ≡ take j records ++ r ∷ drop (suc j) records = subst P (sym at) (split_at records j r within) in
     let mine : List ReleasedOutput = released_by r.node r.entry.outputs in
     let later : List ReleasedOutput = outputs_of (drop (suc j) records) in
     let parts : outputs_of records ≡ outputs_of (take j records) ++ (mine ++ later) =
-    ap outputs_of cut ∙ outputs_of-append (take j records) (r ∷ drop (suc j) records) in (
+    ap outputs_of (split_read records j r within at) ∙ outputs_of-append (take j records) (r ∷ drop (suc j) records) in (
       record { node = r.node; numbered = x },
       ap (λ xs. slice_get xs i) parts
           ∙ (get_behind (outputs_of (take j records)) (mine ++ later) left i counted

@@ -1,6 +1,6 @@
 -- Records that go on with their node's next entry.
 use Rattle.std.proofs.Common.{◌≡◌, ℕ, ◌<◌, ◌≤◌, ◌+◌, ◌==◌, List, [], ◌∷◌, ◌++◌, length, take, get_or, sym, ap, subst, ◌∙◌, Some, None, slice_get, ⊎_elim, arith, set, length-append, count_by}
-use Rattle.std.proofs.lemmas.List.{append-nil, length-take, take_more, get_or-set_same, get_or-set_other}
+use Rattle.std.proofs.lemmas.List.{length-take, take_more, get_or-set_same, get_or-set_other}
 use Rattle.std.proofs.lemmas.List.Sums.{count_by-le-length}
 use Rattle.std.proofs.lemmas.Option.{same_Some, get_or_from_slice_get}
 use Rattle.network_script.proofs.Callers.{get_behind}
@@ -9,7 +9,7 @@ use Rattle.node_worker.specs.KeptView.{KeptView}
 use Rattle.node_worker.specs.Legal.{entries_of, letters_of, Comes, Begins}
 use Rattle.node_worker.specs.Audits.{Fits, FitsAt, IsEntry}
 use Rattle.node_worker.specs.declared.entry.Done.{Done}
-use Rattle.node_worker.proofs.Plants.{entries_of-append, entries_of_one}
+use Rattle.node_worker.proofs.Plants.{entries_of_last}
 use Rattle.node_worker.proofs.Comparisons.{one_begins}
 use Rattle.node_worker.proofs.Wholes.{fits_begin, length-entries_of}
 
@@ -54,21 +54,17 @@ pub counted_more :
 counted_more records i d counts n within is below counted each k small =
     let more : take (i + 1) records ≡ take i records ++ d ∷ [] =
     take_more records i d within ∙ ap (λ (x : Done). take i records ++ x ∷ []) (sym is) in
-    let both : entries_of k (take (i + 1) records) ≡ entries_of k (take i records) ++ entries_of k (d ∷ []) =
-    ap (entries_of k) more ∙ entries_of-append k (take i records) (d ∷ []) in
     ⊎_elim
     (λ same.
     let P : ℕ → Type 0 = λ m. get_or (set counts d.node (n + 1)) m 0 ≡ length (entries_of k (take (i + 1) records)) in
     let Q : ℕ → Type 0 = λ m. n ≡ length (entries_of m (take i records)) in
     let own : n ≡ length (entries_of k (take i records)) = subst Q same.0 counted in
     let longer : length (entries_of k (take (i + 1) records)) ≡ length (entries_of k (take i records)) + 1 =
-    ap length (both ∙ ap (λ es. entries_of k (take i records) ++ es) same.1) ∙ length-append (entries_of k (take i records)) (d.entry ∷ []) in
+    ap length (ap (entries_of k) more ∙ same.1) ∙ length-append (entries_of k (take i records)) (d.entry ∷ []) in
     subst P same.0 (get_or-set_same counts d.node (n + 1) 0 below ∙ omega (arith, own, longer)))
     (λ other.
-    let its : entries_of k (take (i + 1) records) ≡ entries_of k (take i records) =
-    both ∙ (ap (λ es. entries_of k (take i records) ++ es) other.1 ∙ append-nil (entries_of k (take i records))) in
-    get_or-set_other counts d.node k (n + 1) 0 (λ e. other.0 (sym e)) ∙ (each k small ∙ ap length (sym its)))
-    (entries_of_one k d)
+    get_or-set_other counts d.node k (n + 1) 0 (λ e. other.0 (sym e)) ∙ (each k small ∙ ap length (sym (ap (entries_of k) more ∙ other.1))))
+    (entries_of_last k (take i records) d)
 
 -- of the first i records no more than i are of one node
 pub few_of : (k : ℕ) (records : List Done) (i : ℕ) → length (entries_of k (take i records)) ≤ i

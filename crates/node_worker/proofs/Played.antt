@@ -1,5 +1,6 @@
 -- Sound records, and modems that listened to their outputs, are a run.
 use Rattle.std.proofs.Common.{inl, inr, ◌⊎◌, ◌≡◌, ℕ, zero, suc, ◌<◌, List, [], ◌∷◌, ◌++◌, length, take, map, replicate, refl, sym, ap, subst, ◌∙◌, append_assoc, Some, slice_get, slice_set, ⊎_elim, arith}
+use Rattle.std.proofs.lemmas.Bool.{eq-eqb}
 use Rattle.std.proofs.lemmas.List.{append-nil, length-set, length-replicate}
 use Rattle.std.proofs.lemmas.Option.{slice_get_within, get_or_from_slice_get, slice_get-get_or}
 use Rattle.std.proofs.lemmas.List.{get_or-replicate}
@@ -30,7 +31,8 @@ use Rattle.node_worker.specs.Entries.{EntryView}
 use Rattle.node_worker.specs.Replays.{EntryStep, Replays, answer_of, opening}
 use Rattle.node_worker.specs.Legal.{entries_of, letters_of, outputs_of, Comes, IsSound}
 use Rattle.node_worker.specs.Runs.{IsEvent, ReadAs, ListensAlong, sent_by, IsModemEvent, IsOfModem, IsSilent, Listened, HaveListened, SoundIsRun, SoundIsLegal, AreLegal, SendsAsOwner}
-use Rattle.node_worker.proofs.Plants.{entries_of-append, entries_of_one}
+use Rattle.node_worker.proofs.Comparisons.{entries_of_cons}
+use Rattle.node_worker.proofs.Plants.{entries_of_one}
 use Rattle.node_worker.proofs.Wholes.{at_one}
 use Rattle.node_worker.proofs.Moving.{entry_moves}
 use Rattle.node_worker.proofs.Listening.{listened_on}
@@ -64,8 +66,7 @@ modems_go members w (event.Tick m ch slot random ∷ events) (told ∷ answers) 
     let rest = modems_go members (after_modem w mid (event.Tick m ch slot random) told) events answers rs listens in
     record { script = event.Tick m ch slot random ∷ rest.script; report = told ∷ rest.report; world = rest.world; read = rest.read; goes = (after_modem w mid (event.Tick m ch slot random) told, (mid, step, refl), rest.goes); letters = rest.letters; outputs = rest.outputs; modems = rest.modems; transmissions = rest.transmissions ∙ append_assoc w.transmissions (sent_at (event.Tick m ch slot random) told) (sent_by events answers); stand = rest.stand }
 modems_go members w (other ∷ events) (told ∷ answers) rs listens = absurd listens.1.0
-modems_go members w [] (told ∷ answers) rs listens = absurd listens
-modems_go members w (e ∷ events) [] rs listens = absurd listens
+modems_go members w events answers rs listens = absurd listens
 
 -- each node's records replay from what it is
 abbrev EachGoes : ℕ → List Standing → List Done → Type 0
@@ -92,28 +93,17 @@ event_of sent k (Came l) comes = let at = contains_at sent l comes.1 in (event.D
 -- a cause of a node is no event of a modem
 no_modem : (sent : List Letter) (k : ℕ) (cause : Cause) (e : Event) → IsEvent sent k cause e → IsModemEvent e → ⊥
 no_modem sent k (Asked Lead) e is of_modem = subst IsModemEvent is of_modem
-no_modem sent k (Asked (Offer value)) e is of_modem = subst IsModemEvent is of_modem
-no_modem sent k (Asked (Tell to place)) e is of_modem = subst IsModemEvent is of_modem
-no_modem sent k (Asked (Release now)) e is of_modem = subst IsModemEvent is of_modem
-no_modem sent k (Asked Crash) e is of_modem = subst IsModemEvent is of_modem
-no_modem sent k (Asked Restart) e is of_modem = subst IsModemEvent is of_modem
+no_modem sent k (Asked ask) e is of_modem = subst IsModemEvent is of_modem
 no_modem sent k (Came l) e is of_modem = subst IsModemEvent is.3 of_modem
 
 -- one record is read as its event
 reads : (sent : List Letter) (d : Done) (ds : List Done) (e : Event) (script : List Event) (report : List Answer)
     → IsEvent sent d.node d.entry.cause e → ReadAs (sent ++ d.entry.letters) ds script report
     → ReadAs sent (d ∷ ds) (e ∷ script) (answer_of d.entry.cause d.entry.ended d.entry.letters d.entry.outputs ∷ report)
-reads sent d ds (event.Lead k) script report is rest = (is, refl, rest)
-reads sent d ds (event.Offer k value) script report is rest = (is, refl, rest)
-reads sent d ds (event.Tell k to place) script report is rest = (is, refl, rest)
-reads sent d ds (event.Deliver i) script report is rest = (is, refl, rest)
-reads sent d ds (event.DeliverThenCrash i) script report is rest = (is, refl, rest)
-reads sent d ds (event.Crash k) script report is rest = (is, refl, rest)
-reads sent d ds (event.Restart k) script report is rest = (is, refl, rest)
-reads sent d ds (event.Release k now) script report is rest = (is, refl, rest)
 reads sent d ds (event.Hear m i near) script report is rest = absurd (no_modem sent d.node d.entry.cause (event.Hear m i near) is tt)
 reads sent d ds (event.Want m ch sid n) script report is rest = absurd (no_modem sent d.node d.entry.cause (event.Want m ch sid n) is tt)
 reads sent d ds (event.Tick m ch slot random) script report is rest = absurd (no_modem sent d.node d.entry.cause (event.Tick m ch slot random) is tt)
+reads sent d ds of_node script report is rest = (is, refl, rest)
 
 goes : (members : ℕ) (w : Written) (records : List Done) (events : List Event) (answers : List Answer) (rs : List Receiver)
     → EachGoes members w.nodes records → ComesFrom w.letters records → Within (length w.nodes) records
@@ -123,9 +113,7 @@ goes members w (d ∷ ds) events answers rs each comes named listens =
     let within : d.node < length w.nodes = named zero d refl in
     let s : (s : Standing) × (slice_get w.nodes d.node ≡ Some s) = get_some w.nodes d.node within in
     let its : (t : Standing) × Replays members d.node s.0 (entries_of d.node (d ∷ ds)) t = each d.node s.0 s.1 in
-    let first : entries_of d.node (d ∷ ds) ≡ d.entry ∷ entries_of d.node ds =
-    entries_of-append d.node (d ∷ []) ds
-    ∙ ap (λ es. es ++ entries_of d.node ds) (⊎_elim (λ same. same.1) (λ other. absurd (other.0 refl)) (entries_of_one d.node d)) in
+    let first : entries_of d.node (d ∷ ds) ≡ d.entry ∷ entries_of d.node ds = entries_of_cons d.node d ds (eq-eqb d.node d.node refl) in
     let P : List EntryView → Type 0 = λ es. Replays members d.node s.0 es its.0 in
     let step : (m : Standing) × EntryStep members d.node s.0 d.entry m × Replays members d.node m (entries_of d.node ds) its.0 = subst P first its.1 in
     let Q : List Letter → Type 0 = λ ls. Comes ls d.node d.entry.cause in
@@ -142,9 +130,8 @@ goes members w (d ∷ ds) events answers rs each comes named listens =
     subst S is (subst R same.0 (its.0, step.2)))
     (λ other.
     let T : List EntryView → Type 0 = λ es. (t : Standing) × Replays members k u es t in
-    subst T (entries_of-append k (d ∷ []) ds ∙ ap (λ es. es ++ entries_of k ds) other.1)
-    (each k u (sym (get_other w.nodes d.node k step.0 other.0) ∙ at)))
-    (entries_of_one k d) in
+    subst T other.1 (each k u (sym (get_other w.nodes d.node k step.0 other.0) ∙ at)))
+    (entries_of_one k d ds) in
     let comes' : ComesFrom (w.letters ++ d.entry.letters) ds =
     λ i x at. subst (λ (ls : List Letter). Comes ls x.node x.entry.cause) (sym (append_assoc w.letters d.entry.letters (letters_of (take i ds)))) (comes (suc i) x at) in
     let named' : Within (length nodes) ds = λ i x at. subst (λ (n : ℕ). x.node < n) (sym (length-set w.nodes d.node step.0)) (named (suc i) x at) in
@@ -178,9 +165,8 @@ goes members w (d ∷ ds) events answers rs each comes named listens =
           (r.0, subst (λ (n : ℕ). slice_get rest.world.nodes n ≡ Some r.0) same.0 r.1, subst (λ (x : Standing). Replays members k x (entries_of k (d ∷ ds)) r.0) is there))
           (λ other.
           let r = rest.stand k u (ap (λ ns. slice_get ns k) m.2.nodes ∙ (get_other w.nodes d.node k step.0 other.0 ∙ at)) in
-          let less : entries_of k (d ∷ ds) ≡ entries_of k ds = entries_of-append k (d ∷ []) ds ∙ ap (λ es. es ++ entries_of k ds) other.1 in
-          (r.0, r.1, subst (λ (es : List EntryView). Replays members k u es r.0) (sym less) r.2))
-          (entries_of_one k d);
+          (r.0, r.1, subst (λ (es : List EntryView). Replays members k u es r.0) (sym other.1) r.2))
+          (entries_of_one k d ds);
     }
 
 -- node k of the opening world
@@ -221,10 +207,9 @@ sound_is_run members ids records modems sent sound listened =
 -- the modem that stands for a receiver
 state_of : (vs : List State) (rs : List Receiver) (j : ℕ) (r : Receiver) → AreReceivers vs rs → slice_get rs j ≡ Some r → (v : State) × (slice_get vs j ≡ Some v)
 state_of [] [] j r are at = absurd (cc (at))
-state_of [] (x ∷ rs) j r are at = absurd are
-state_of (w ∷ vs) [] j r are at = absurd are
 state_of (w ∷ vs) (x ∷ rs) zero r are at = (w, refl)
 state_of (w ∷ vs) (x ∷ rs) (suc j) r are at = state_of vs rs j r are.1 at
+state_of vs rs j r are at = absurd are
 
 -- modems are known by the ids of what they stand for
 named_by : (ids : List ℕ) (vs : List State) (rs : List Receiver) → AreReceivers vs rs → ((j : ℕ) (r : Receiver) → slice_get rs j ≡ Some r → slice_get ids j ≡ Some r.state.id)
@@ -256,14 +241,12 @@ sound_alone members records sound = sound_is_legal members records [] sound ([],
 sent_last : (events : List Event) (answers : List Answer) (e : Event) (told : Answer) → length events ≡ length answers → (x : Transmission) → IsIn (sent_at e told) x → IsIn (sent_by (events ++ e ∷ []) (answers ++ told ∷ [])) x
 sent_last [] [] e told same x here = subst (λ (xs : List Transmission). IsIn xs x) (sym (append-nil (sent_at e told))) here
 sent_last (f ∷ events) (answer ∷ answers) e told same x here = in_right (sent_at f answer) (sent_by (events ++ e ∷ []) (answers ++ told ∷ [])) x (sent_last events answers e told (omega (arith, same)) x here)
-sent_last [] (answer ∷ answers) e told same x here = absurd (omega (arith, same))
-sent_last (f ∷ events) [] e told same x here = absurd (omega (arith, same))
+sent_last events answers e told same x here = absurd (omega (arith, same))
 
 listens_length : (xs : List ReleasedOutput) (rs rs' : List Receiver) (events : List Event) (answers : List Answer) → ListensAlong xs rs events answers rs' → length events ≡ length answers
 listens_length xs rs rs' [] [] listens = refl
 listens_length xs rs rs' (e ∷ events) (told ∷ answers) (mid, step, rest) = ap suc (listens_length xs mid rs' events answers rest)
-listens_length xs rs rs' [] (told ∷ answers) listens = absurd listens
-listens_length xs rs rs' (e ∷ events) [] listens = absurd listens
+listens_length xs rs rs' events answers listens = absurd listens
 
 -- a modem that sends at its last event does so as the owner
 pub sends_as_owner : (members : ℕ) (ids : List ℕ) (records : List Done) (old new : List State) (sent : List Transmission) (e : Event) (told : Answer) → IsSound members records

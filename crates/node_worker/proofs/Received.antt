@@ -16,7 +16,6 @@ use Rattle.seats.specs.StoreFaults.{is_store_fault}
 use Rattle.seats.specs.declared.answer.Answer.{Answer}
 use Rattle.seats.specs.declared.answer.Answer.TheVariants.{Sent, Released, Finished, Refused, Fault, Crashed}
 use Rattle.seats.specs.declared.seat.Seat.{Seat}
-use Rattle.world_events.specs.declared.refusal.EventRefusal.TheVariants.{NodeDown, NodeUp}
 use Rattle.node_worker.specs.declared.entry.Cause.{Cause}
 use Rattle.node_worker.specs.declared.entry.Ended.{Ended}
 use Rattle.node_worker.specs.declared.entry.Ended.TheVariants.{FailedEither}
@@ -26,8 +25,6 @@ use Rattle.node_worker.specs.Replays.{Carries, IsSurvived, answer_to, ask_of}
 
 -- a fault that is told as one is one that the node survives
 survived : (answer : Answer) → IsSurvived (ended_of answer)
-survived (Refused refusal) = tt
-survived Crashed = tt
 survived (Fault OutOfMemory) = tt
 survived (Fault StoreRefused) = tt
 survived (Fault Down) = tt
@@ -39,65 +36,45 @@ abbrev IsReadAgain : Ask → Answer → List Letter → List Numbered → Type 0
 IsReadAgain ask answer letters outputs = (answer_to ask (ended_of answer) letters outputs ≡ answer) ⊎ (answer ≡ Fault StoreRefused)
 
 fault_again : (ask : Ask) (failed : NodeFault) (letters : List Letter) (outputs : List Numbered) → IsReadAgain ask (Fault failed) letters outputs
-fault_again ask OutOfMemory letters outputs = inl refl
 fault_again ask StoreRefused letters outputs = inr refl
+fault_again ask OutOfMemory letters outputs = inl refl
 fault_again ask Down letters outputs = inl refl
 fault_again ask declined letters outputs = inl refl
 
-read_up : (ask : Ask) (answer : Answer) (up : Bool) (letters : List Letter) (outputs : List Numbered) → MayAnswer true ask answer up → GoOut answer letters outputs → IsReadAgain ask answer letters outputs
-read_up (Call cause) (Sent n) up letters outputs may out = inl (ap (λ (count : ℕ). Sent count) (sym out.0))
-read_up (Call cause) Crashed up letters outputs may out = inl refl
-read_up (Call cause) (Fault failed) up letters outputs may out = fault_again (Call cause) failed letters outputs
-read_up (TakeThenCrash l) Finished up letters outputs may out = inl refl
-read_up (TakeThenCrash l) (Fault failed) up letters outputs may out = fault_again (TakeThenCrash l) failed letters outputs
-read_up (Release now) (Released n) up letters outputs may out = inl (ap (λ (count : ℕ). Released count) (sym out.1))
-read_up (Release now) Crashed up letters outputs may out = inl refl
-read_up (Release now) (Fault failed) up letters outputs may out = fault_again (Release now) failed letters outputs
-read_up Crash Finished up letters outputs may out = inl refl
-read_up Restart (Refused NodeUp) up letters outputs may out = inl refl
-read_up ask answer up letters outputs may out = absurd may
-
-read_down : (ask : Ask) (answer : Answer) (up : Bool) (letters : List Letter) (outputs : List Numbered) → MayAnswer false ask answer up → GoOut answer letters outputs → IsReadAgain ask answer letters outputs
-read_down Restart Finished up letters outputs may out = inl refl
-read_down Restart (Fault failed) up letters outputs may out = fault_again Restart failed letters outputs
-read_down Restart answer up letters outputs may out = absurd may
-read_down ask (Refused NodeDown) up letters outputs may out = inl refl
-read_down ask answer up letters outputs may out = absurd may
+read_again : (was : Bool) (ask : Ask) (answer : Answer) (up : Bool) (letters : List Letter) (outputs : List Numbered) → MayAnswer was ask answer up → GoOut answer letters outputs → IsReadAgain ask answer letters outputs
+read_again true (Call cause) (Sent n) up letters outputs may out = inl (ap (λ (count : ℕ). Sent count) (sym out.0))
+read_again true (Release now) (Released n) up letters outputs may out = inl (ap (λ (count : ℕ). Released count) (sym out.1))
+read_again true (TakeThenCrash l) Finished up letters outputs may out = inl refl
+read_again true Crash Finished up letters outputs may out = inl refl
+read_again false Restart Finished up letters outputs may out = inl refl
+read_again was ask (Fault failed) up letters outputs may out = fault_again ask failed letters outputs
+read_again was ask (Refused refusal) up letters outputs may out = inl refl
+read_again was ask Crashed up letters outputs may out = inl refl
+read_again was ask answer up letters outputs may out = absurd may
 
 -- a store that refused is a move as want of memory is
 as_memory : (members me : ℕ) (s : Standing) (ask : Ask) (m : Move) → Moves members me s ask (Fault StoreRefused) m → Moves members me s ask (Fault OutOfMemory) m
-as_memory members me (Running view) (Call cause) m moves = moves
-as_memory members me (Running view) (TakeThenCrash l) m moves = moves
-as_memory members me (Running view) (Release now) m moves = moves
 as_memory members me (Running view) Crash m (clash, is) = cc
 as_memory members me (Running view) Restart m (clash, is) = cc
+as_memory members me (Running view) ask m moves = moves
 as_memory members me (Stopped c doubt) Restart m moves = moves
-as_memory members me (Stopped c doubt) (Call cause) m (clash, is) = cc
-as_memory members me (Stopped c doubt) (TakeThenCrash l) m (clash, is) = cc
-as_memory members me (Stopped c doubt) (Release now) m (clash, is) = cc
-as_memory members me (Stopped c doubt) Crash m (clash, is) = cc
+as_memory members me (Stopped c doubt) ask m (clash, is) = cc
 
 -- the move is one of the answer that is read again
 reads : (members me : ℕ) (s : Standing) (ask : Ask) (answer : Answer) (was up : Bool) (letters : List Letter) (outputs : List Numbered) (m : Move)
     → MayAnswer was ask answer up → GoOut answer letters outputs → Moves members me s ask answer m → Moves members me s ask (answer_to ask (ended_of answer) letters outputs) m
-reads members me s ask answer true up letters outputs m may out moves = ⊎_elim
+reads members me s ask answer was up letters outputs m may out moves = ⊎_elim
     (λ again. subst (λ (a : Answer). Moves members me s ask a m) (sym again) moves)
     (λ refused. subst (λ (a : Answer). Moves members me s ask (answer_to ask (ended_of a) letters outputs) m) (sym refused) (as_memory members me s ask m (subst (λ (a : Answer). Moves members me s ask a m) refused moves)))
-    (read_up ask answer up letters outputs may out)
-reads members me s ask answer false up letters outputs m may out moves = ⊎_elim
-    (λ again. subst (λ (a : Answer). Moves members me s ask a m) (sym again) moves)
-    (λ refused. subst (λ (a : Answer). Moves members me s ask (answer_to ask (ended_of a) letters outputs) m) (sym refused) (as_memory members me s ask m (subst (λ (a : Answer). Moves members me s ask a m) refused moves)))
-    (read_down ask answer up letters outputs may out)
+    (read_again was ask answer up letters outputs may out)
 
 -- only a broken store ends so
 either_rose : (answer : Answer) → ended_of answer ≡ FailedEither → is_store_fault answer ≡ true
 either_rose (Fault Down) is = refl
-either_rose (Fault OutOfMemory) is = cc
 either_rose (Fault StoreRefused) is = refl
+either_rose (Fault OutOfMemory) is = cc
 either_rose (Fault declined) is = cc
-either_rose (Refused refusal) is = cc
-either_rose Crashed is = cc
-either_rose whole is = cc
+either_rose other is = cc
 
 module _ {N : Type 0} {g : Ghosts N} (old new : Seat N g) (cause : Cause) (answer : Answer) (letters : List Letter) (outputs : List Numbered) (ended : Ended) (is : ended ≡ ended_of answer) (acts : Acts old (ask_of cause) answer letters outputs new) where
   pub carries : IsHonest new → Carries (who_of old).members (who_of old).id (Stands old) (entry cause ended letters outputs) (Stands new)

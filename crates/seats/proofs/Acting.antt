@@ -14,8 +14,8 @@ use Rattle.map_release.specs.declared.numbered.Numbered.{Numbered}
 use Rattle.node.specs.declared.node.Node.{Ghosts}
 use Rattle.node.specs.View.{View, Standing, started, values_from}
 use Rattle.node.specs.View.Standing.{Running, Stopped}
-use Rattle.node.specs.Calls.{Called, Cause, Course, CallEnds, IsNothingNew, IsStop, Kept, KeptByRestart, Restarts, StopsLast, StoreFails, TakesTurn, Who, answer}
-use Rattle.node.specs.Calls.Cause.{Lead as AskedToLead, Offer as Offered, Receive as Received, Tell as AskedToTell}
+use Rattle.node.specs.Calls.{Called, Cause, Course, CallEnds, IsNothingNew, IsStop, Kept, KeptByRestart, MayGoOn, Restarts, StopsLast, StoreFails, TakesTurn, Who, answer}
+use Rattle.node.specs.Calls.Cause.{Lead as AskedToLead, Receive as Received}
 use Rattle.node.specs.Releases.{Releases, outputs, released_all}
 use Rattle.node.specs.Step.{Outcome, is_heeded, nothing}
 use Rattle.proposer.specs.Faults.{IsOfOffer}
@@ -127,19 +127,10 @@ restart_rose old new declined kept loud = absurd (false≢true loud)
 
 -- what a node tells of its store
 err_tells : (T : Type 0) (ask : Ask) (old new : Who) (failed : NodeFault) → (ask ≡ Restart → ⊥) → Kept {T = T} old (Err failed) new → TellsStoreOf (Fault failed) ask old new
-err_tells T (Call cause) old new StoreRefused other kept = kept.3
-err_tells T (Call cause) old new Down other kept = kept.3
-err_tells T (Call cause) old new declined other kept = kept.3
-err_tells T (TakeThenCrash l) old new StoreRefused other kept = kept.3
-err_tells T (TakeThenCrash l) old new Down other kept = kept.3
-err_tells T (TakeThenCrash l) old new declined other kept = kept.3
-err_tells T (Release now) old new StoreRefused other kept = kept.3
-err_tells T (Release now) old new Down other kept = kept.3
-err_tells T (Release now) old new declined other kept = kept.3
-err_tells T Crash old new StoreRefused other kept = kept.3
-err_tells T Crash old new Down other kept = kept.3
-err_tells T Crash old new declined other kept = kept.3
 err_tells T Restart old new failed other kept = absurd (other refl)
+err_tells T ask old new StoreRefused other kept = kept.3
+err_tells T ask old new Down other kept = kept.3
+err_tells T ask old new declined other kept = kept.3
 
 -- an offer fails as its proposer's turn says
 pub turn_fails : (members me : ℕ) (role : Role) (value : List ℕ) (given : Result (Vec Letter Global) NodeFault) → TakesTurn (offer members me role value) (answer given) → IfErr given IsOfOffer
@@ -200,21 +191,16 @@ pub owes_tell : (said : List Letter) (given : Result (Vec Letter Global) NodeFau
 owes_tell said (Ok letters) same some = same
 owes_tell said (Err failed) same some = λ none. absurd (false≢true (some none))
 
--- nothing declines a letter
-pub receives_last : (members me : ℕ) (view : View) (l : Letter) (given : Result (List Letter) NodeFault) → StopsLast members me view (Received l) given
-receives_last members me view l (Ok letters) = tt
-receives_last members me view l (Err failed) = λ stop. tt
+-- nothing declines the call
+pub goes_on_last : (members me : ℕ) (view : View) (cause : Cause) (given : Result (List Letter) NodeFault) → MayGoOn members me view cause → StopsLast members me view cause given
+goes_on_last members me view cause (Ok letters) goes = tt
+goes_on_last members me view cause (Err failed) goes = λ stop. goes
 
 -- where nothing changed, nothing beside the records did
 same_rest : (reply : Answer) (rest : View) → KeepsRest reply rest rest
 same_rest (Fault failed) rest = refl
 same_rest (Refused refusal) rest = refl
 same_rest reply rest = tt
-
--- nor to tell
-pub tells_last : (members me : ℕ) (view : View) (to place : ℕ) (given : Result (List Letter) NodeFault) → StopsLast members me view (AskedToTell to place) given
-tells_last members me view to place (Ok letters) = tt
-tells_last members me view to place (Err failed) = λ stop. tt
 
 -- a node that stays as it is keeps its trust
 pub same_trust : {N : Type 0} (honest clean : N → Bool) (node : N) → KeepsTrust honest clean node node
@@ -263,14 +249,8 @@ module _ {N : Type 0} {g : Ghosts N} (old : Seat N g) where
       stopped (Stopped c doubt) = (c, doubt, refl)
 
   pub refuses : (what : Asked) → (what ≡ asked.Restart → ⊥) → old.up ≡ false → Acts old (ask_of what) (Refused NodeDown) [] [] old
-  refuses asked.Lead other down = stays_down (Call AskedToLead) down refl (refl, refl) (λ c doubt. (refl, refl))
-  refuses (asked.Offer value) other down = stays_down (Call (Offered value.now)) down refl (refl, refl) (λ c doubt. (refl, refl))
-  refuses (asked.Tell to place) other down = stays_down (Call (AskedToTell to.now place)) down refl (refl, refl) (λ c doubt. (refl, refl))
-  refuses (asked.Receive letter) other down = stays_down (Call (Received letter.now)) down refl (refl, refl) (λ c doubt. (refl, refl))
-  refuses (asked.ReceiveThenCrash letter) other down = stays_down (TakeThenCrash letter.now) down refl (refl, refl) (λ c doubt. (refl, refl))
-  refuses (asked.Release now) other down = stays_down (Release now) down refl (refl, refl) (λ c doubt. (refl, refl))
-  refuses asked.Crash other down = stays_down Crash down refl (refl, refl) (λ c doubt. (refl, refl))
   refuses asked.Restart other down = absurd (other refl)
+  refuses what other down = stays_down (ask_of what) down refl (refl, refl) (λ c doubt. (refl, refl))
 
   -- a crash
   pub crashes : (runs : false ≡ true → (g.who old.node).down ≡ false) → old.up ≡ true → Acts old Crash Finished [] [] (record { node = old.node; up = false; runs = runs })
@@ -288,13 +268,14 @@ module _ {N : Type 0} {g : Ghosts N} (old : Seat N g) where
   }
 
   -- a call of a node that is up
-  built : (new : Seat N g) (ask : Ask) (answer : Answer) (letters : List Letter) (outs : List Numbered) (b : Bool) {T : Type 0} (given : Result T NodeFault) → old.up ≡ true → new.up ≡ b
+  built : (new : Seat N g) (ask : Ask) (answer : Answer) (letters : List Letter) (outs : List Numbered) (b : Bool) {T : Type 0} (given : Result T NodeFault) (Ends : Standing → Standing → Type 0) → old.up ≡ true → new.up ≡ b
       → KeepsTrust g.honest g.clean old.node new.node → Kept (g.who old.node) given (g.who new.node)
       → TellsStoreOf answer ask (g.who old.node) (g.who new.node) → (is_store_fault answer ≡ true → HasRisen (g.who old.node).failures (g.who new.node).failures)
       → MayAnswer true ask answer new.up → GoOut answer letters outs → Owes (g.who old.node).members (g.who old.node).id (outside old) ask answer letters → KeepsRest answer (g.rest old.node) (g.rest new.node)
-      → (IsTrue (g.honest new.node) → (view : View) → g.stands old.node (Running view) → GoesTo (g.who old.node).members (g.who old.node).id (Running view) ask answer letters outs (Shown b (g.stands new.node)))
+      → (IsTrue (g.honest new.node) → (s : Standing) → g.stands old.node s → (t : Standing) × Ends s t × g.stands new.node t)
+      → (IsTrue (g.honest new.node) → (view : View) → g.stands old.node (Running view) → (t : Standing) → Ends (Running view) t → g.stands new.node t → GoesTo (g.who old.node).members (g.who old.node).id (Running view) ask answer letters outs (Shown b (g.stands new.node)))
       → Acts old ask answer letters outs new
-  built new ask answer letters outs b given up turned trust kept tells rose may out owes rest goes = record {
+  built new ask answer letters outs b given Ends up turned trust kept tells rose may out owes rest done goes = record {
     same = (kept.0, kept.1);
     grows = kept.2;
     tells = tells;
@@ -304,8 +285,9 @@ module _ {N : Type 0} {g : Ghosts N} (old : Seat N g) where
     answers = record { may = subst (λ (was : Bool). MayAnswer was ask answer new.up) (sym up) may; goes_out = out; owes = λ on. owes; rest = rest };
     moves = λ honest s shown.
         let at = runs_at s up shown in
+        let one = done honest (Running at.0) at.2 in
         subst (λ (x : Standing). GoesTo (g.who old.node).members (g.who old.node).id x ask answer letters outs (Stands new)) (sym at.1)
-        (subst (λ (now : Bool). GoesTo (g.who old.node).members (g.who old.node).id (Running at.0) ask answer letters outs (Shown now (g.stands new.node))) (sym turned) (goes honest at.0 at.2));
+        (subst (λ (now : Bool). GoesTo (g.who old.node).members (g.who old.node).id (Running at.0) ask answer letters outs (Shown now (g.stands new.node))) (sym turned) (goes honest at.0 at.2 one.0 one.1 one.2));
   }
 
   -- one whose letters go out
@@ -315,13 +297,11 @@ module _ {N : Type 0} {g : Ghosts N} (old : Seat N g) where
       → (IsTrue (g.honest new.node) → (s : Standing) → g.stands old.node s → (t : Standing) × Called (g.who old.node).members (g.who old.node).id s cause (answer given) t × g.stands new.node t)
       → (IsTrue (g.honest new.node) → (view : View) → g.stands old.node (Running view) → StopsLast (g.who old.node).members (g.who old.node).id view cause (answer given))
       → Acts old (Call cause) (told (come_of acted.Sent given)) (letters_of (come_of acted.Sent given)) (outputs_of (come_of acted.Sent given)) new
-  calls new cause (Ok letters) up turned trust rest kept may owes done order = built new (Call cause) _ _ _ true (Ok letters) up turned trust kept kept.3 (λ loud. absurd (false≢true loud)) turned (refl, refl) owes tt (λ honest view runs.
-      let one = done honest (Running view) runs in
-      called (g.who old.node).members (g.who old.node).id view cause (g.stands new.node) (Ok letters) one.0 one.1 (order honest view runs) one.2)
-  calls new cause (Err failed) up turned trust rest kept may owes done order = built new (Call cause) _ _ _ (survives failed) {T = Vec Letter Global} (Err failed) up turned trust kept
-      (err_tells (Vec Letter Global) (Call cause) (g.who old.node) (g.who new.node) failed (λ e. cc) kept) (err_rose (Vec Letter Global) (g.who old.node) (g.who new.node) failed (old.runs up) kept) (may, turned) (refl, refl) owes rest (λ honest view runs.
-      let one = done honest (Running view) runs in
-      called (g.who old.node).members (g.who old.node).id view cause (g.stands new.node) (Err failed) one.0 one.1 (order honest view runs) one.2)
+  calls new cause (Ok letters) up turned trust rest kept may owes done order = built new (Call cause) _ _ _ true (Ok letters) _ up turned trust kept kept.3 (λ loud. absurd (false≢true loud)) turned (refl, refl) owes tt done
+      (λ honest view runs t ends at. called (g.who old.node).members (g.who old.node).id view cause (g.stands new.node) (Ok letters) t ends (order honest view runs) at)
+  calls new cause (Err failed) up turned trust rest kept may owes done order = built new (Call cause) _ _ _ (survives failed) {T = Vec Letter Global} (Err failed) _ up turned trust kept
+      (err_tells (Vec Letter Global) (Call cause) (g.who old.node) (g.who new.node) failed (λ e. cc) kept) (err_rose (Vec Letter Global) (g.who old.node) (g.who new.node) failed (old.runs up) kept) (may, turned) (refl, refl) owes rest done
+      (λ honest view runs t ends at. called (g.who old.node).members (g.who old.node).id view cause (g.stands new.node) (Err failed) t ends (order honest view runs) at)
 
   -- a letter that is taken before a crash
   pub takes : (new : Seat N g) (l : Letter) (given : Result (Vec Letter Global) NodeFault) → old.up ≡ true → new.up ≡ false
@@ -329,26 +309,22 @@ module _ {N : Type 0} {g : Ghosts N} (old : Seat N g) where
       → Owes (g.who old.node).members (g.who old.node).id (outside old) (TakeThenCrash l) (told (come_of (λ letters. acted.Finished) given)) (letters_of (come_of (λ letters. acted.Finished) given))
       → (IsTrue (g.honest new.node) → (s : Standing) → g.stands old.node s → (t : Standing) × Called (g.who old.node).members (g.who old.node).id s (Received l) (answer given) t × g.stands new.node t)
       → Acts old (TakeThenCrash l) (told (come_of (λ letters. acted.Finished) given)) (letters_of (come_of (λ letters. acted.Finished) given)) (outputs_of (come_of (λ letters. acted.Finished) given)) new
-  takes new l (Ok letters) up turned trust rest kept stop owes done = built new (TakeThenCrash l) _ _ _ false (Ok letters) up turned trust kept kept.3 (λ loud. absurd (false≢true loud)) turned (refl, refl) owes tt (λ honest view runs.
-      let one = done honest (Running view) runs in
-      called_last (g.who old.node).members (g.who old.node).id view l (g.stands new.node) (Ok letters) one.0 one.1 stop one.2)
-  takes new l (Err failed) up turned trust rest kept stop owes done = built new (TakeThenCrash l) _ _ _ false {T = Vec Letter Global} (Err failed) up turned trust kept
-      (err_tells (Vec Letter Global) (TakeThenCrash l) (g.who old.node) (g.who new.node) failed (λ e. cc) kept) (err_rose (Vec Letter Global) (g.who old.node) (g.who new.node) failed (old.runs up) kept) (stop, turned) (refl, refl) owes rest (λ honest view runs.
-      let one = done honest (Running view) runs in
-      called_last (g.who old.node).members (g.who old.node).id view l (g.stands new.node) (Err failed) one.0 one.1 stop one.2)
+  takes new l (Ok letters) up turned trust rest kept stop owes done = built new (TakeThenCrash l) _ _ _ false (Ok letters) _ up turned trust kept kept.3 (λ loud. absurd (false≢true loud)) turned (refl, refl) owes tt done
+      (λ honest view runs t ends at. called_last (g.who old.node).members (g.who old.node).id view l (g.stands new.node) (Ok letters) t ends stop at)
+  takes new l (Err failed) up turned trust rest kept stop owes done = built new (TakeThenCrash l) _ _ _ false {T = Vec Letter Global} (Err failed) _ up turned trust kept
+      (err_tells (Vec Letter Global) (TakeThenCrash l) (g.who old.node) (g.who new.node) failed (λ e. cc) kept) (err_rose (Vec Letter Global) (g.who old.node) (g.who new.node) failed (old.runs up) kept) (stop, turned) (refl, refl) owes rest done
+      (λ honest view runs t ends at. called_last (g.who old.node).members (g.who old.node).id view l (g.stands new.node) (Err failed) t ends stop at)
 
   -- a release
   pub releases : (new : Seat N g) (now : ℕ) (given : Result (Vec Numbered Global) NodeFault) → old.up ≡ true → new.up ≡ stays_up given
       → KeepsTrust g.honest g.clean old.node new.node → OnErr given (g.rest new.node ≡ g.rest old.node) → Kept (g.who old.node) given (g.who new.node) → IfErr given IsStop
       → (IsTrue (g.honest new.node) → (s : Standing) → g.stands old.node s → (t : Standing) × Releases s now (outputs given) t × g.stands new.node t)
       → Acts old (Release now) (told (come_of acted.Released given)) (letters_of (come_of acted.Released given)) (outputs_of (come_of acted.Released given)) new
-  releases new now (Ok released) up turned trust rest kept stop done = built new (Release now) _ _ _ true (Ok released) up turned trust kept kept.3 (λ loud. absurd (false≢true loud)) turned (refl, refl) tt tt (λ honest view runs.
-      let one = done honest (Running view) runs in
-      gave (g.who old.node).members (g.who old.node).id now view (g.stands new.node) (Ok released) one.0 one.1 one.2)
-  releases new now (Err failed) up turned trust rest kept stop done = built new (Release now) _ _ _ (survives failed) {T = Vec Numbered Global} (Err failed) up turned trust kept
-      (err_tells (Vec Numbered Global) (Release now) (g.who old.node) (g.who new.node) failed (λ e. cc) kept) (err_rose (Vec Numbered Global) (g.who old.node) (g.who new.node) failed (old.runs up) kept) (stop, turned ∙ stop_falls failed stop) (refl, refl) tt rest (λ honest view runs.
-      let one = done honest (Running view) runs in
-      gave (g.who old.node).members (g.who old.node).id now view (g.stands new.node) (Err failed) one.0 one.1 one.2)
+  releases new now (Ok released) up turned trust rest kept stop done = built new (Release now) _ _ _ true (Ok released) _ up turned trust kept kept.3 (λ loud. absurd (false≢true loud)) turned (refl, refl) tt tt done
+      (λ honest view runs t ends at. gave (g.who old.node).members (g.who old.node).id now view (g.stands new.node) (Ok released) t ends at)
+  releases new now (Err failed) up turned trust rest kept stop done = built new (Release now) _ _ _ (survives failed) {T = Vec Numbered Global} (Err failed) _ up turned trust kept
+      (err_tells (Vec Numbered Global) (Release now) (g.who old.node) (g.who new.node) failed (λ e. cc) kept) (err_rose (Vec Numbered Global) (g.who old.node) (g.who new.node) failed (old.runs up) kept) (stop, turned ∙ stop_falls failed stop) (refl, refl) tt rest done
+      (λ honest view runs t ends at. gave (g.who old.node).members (g.who old.node).id now view (g.stands new.node) (Err failed) t ends at)
 
   -- a restart of a node that crashed
   rises : (new : Seat N g) (given : Result (Unit {0}) NodeFault) → old.up ≡ false → new.up ≡ is_ok given

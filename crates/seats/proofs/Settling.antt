@@ -10,7 +10,7 @@ use Rattle.node.specs.View.Standing.{Running, Stopped}
 use Rattle.seats.specs.Acts.{Acts, GoOut, MayAnswer, Settles, TellsStoreOf}
 use Rattle.seats.specs.Gives.{gives}
 use Rattle.seats.specs.Moves.{Ask, Move, Moves, lost, quiet}
-use Rattle.seats.specs.Moves.Ask.{Call, TakeThenCrash, Release, Crash, Restart}
+use Rattle.seats.specs.Moves.Ask.{Call, TakeThenCrash, Release, Restart}
 use Rattle.proposer.specs.Turns.{Turn, offer}
 use Rattle.proposer.specs.declared.fault.NodeFault.{NodeFault}
 use Rattle.seats.specs.Owes.{Outside, Owes, TakesOffer, outside}
@@ -42,24 +42,9 @@ none_out answer letters outputs out none = out
 may_crash : (was : Bool) (ask : Ask) (answer : Answer) (up : Bool) → gives answer ≡ true → MayAnswer was ask answer up → MayAnswer was ask Crashed false
 may_crash true (Call cause) (Sent n) up more may = refl
 may_crash true (Release now) (Released n) up more may = refl
-may_crash true (Call cause) (Released n) up more may = absurd may
-may_crash true (Release now) (Sent n) up more may = absurd may
-may_crash true (TakeThenCrash l) (Sent n) up more may = absurd may
-may_crash true (TakeThenCrash l) (Released n) up more may = absurd may
-may_crash true Crash (Sent n) up more may = absurd may
-may_crash true Crash (Released n) up more may = absurd may
-may_crash true Restart (Sent n) up more may = absurd may
-may_crash true Restart (Released n) up more may = absurd may
-may_crash false (Call cause) (Sent n) up more may = absurd may
-may_crash false (Call cause) (Released n) up more may = absurd may
-may_crash false (Release now) (Sent n) up more may = absurd may
-may_crash false (Release now) (Released n) up more may = absurd may
-may_crash false (TakeThenCrash l) (Sent n) up more may = absurd may
-may_crash false (TakeThenCrash l) (Released n) up more may = absurd may
-may_crash false Crash (Sent n) up more may = absurd may
-may_crash false Crash (Released n) up more may = absurd may
 may_crash false Restart (Sent n) up more may = absurd may
-may_crash false Restart (Released n) up more may = absurd may
+may_crash was ask (Sent n) up more may = absurd may
+may_crash was ask (Released n) up more may = absurd may
 may_crash was ask answer up more may = absurd (false≢true more)
 
 -- a move with letters or outputs, and the one that lost them and crashed
@@ -71,24 +56,10 @@ loses members me (Running view) (Release now) (Released n) m true up more may (c
     (quiet (Stopped view.content None), (some_in _ n count more, refl), refl, refl, sym (ap (λ (x : Move). crashed x.standing) is))
 loses members me (Stopped c doubt) (Call cause) (Sent n) m true up more may (clash, is) = cc
 loses members me (Stopped c doubt) (Release now) (Released n) m true up more may (clash, is) = cc
-loses members me s (Call cause) (Released n) m true up more may moves = absurd may
-loses members me s (Release now) (Sent n) m true up more may moves = absurd may
-loses members me s (TakeThenCrash l) (Sent n) m true up more may moves = absurd may
-loses members me s (TakeThenCrash l) (Released n) m true up more may moves = absurd may
-loses members me s Crash (Sent n) m true up more may moves = absurd may
-loses members me s Crash (Released n) m true up more may moves = absurd may
-loses members me s Restart (Sent n) m true up more may moves = absurd may
-loses members me s Restart (Released n) m true up more may moves = absurd may
-loses members me s (Call cause) (Sent n) m false up more may moves = absurd may
-loses members me s (Call cause) (Released n) m false up more may moves = absurd may
-loses members me s (Release now) (Sent n) m false up more may moves = absurd may
-loses members me s (Release now) (Released n) m false up more may moves = absurd may
-loses members me s (TakeThenCrash l) (Sent n) m false up more may moves = absurd may
-loses members me s (TakeThenCrash l) (Released n) m false up more may moves = absurd may
-loses members me s Crash (Sent n) m false up more may moves = absurd may
-loses members me s Crash (Released n) m false up more may moves = absurd may
-loses members me s Restart (Sent n) m false up more may moves = absurd may
-loses members me s Restart (Released n) m false up more may moves = absurd may
+loses members me s ask (Sent n) m true up more may moves = absurd may
+loses members me s ask (Sent n) m false up more may moves = absurd may
+loses members me s ask (Released n) m true up more may moves = absurd may
+loses members me s ask (Released n) m false up more may moves = absurd may
 loses members me s ask answer m was up more may moves = absurd (false≢true more)
 
 -- an offer whose letters are lost

@@ -1,9 +1,9 @@
-use Rattle.std.proofs.Common.{◌≡◌, ◌∷◌, ◌++◌, [], ◌+◌, ◌<◌, length, take, ◌-◌, rules, arith, sym, ap, ◌∙◌}
+use Rattle.std.proofs.Common.{◌≡◌, ◌∷◌, ◌++◌, [], ◌+◌, ◌<◌, length, take, ◌-◌, rules, arith, sym, ap, ◌∙◌, append-nil, length-append}
 use Rattle.std.proofs.lemmas.Grind.{common_steps}
 use Rattle.ballots.specs.declared.letters.Note.TheVariants.{Known}
 use Rattle.ballots.specs.Rows.{rows_from}
 use Rattle.node.specs.Step.{known_letters, letter}
-use Rattle.node.proofs.Preparations.{known_step, length_with, letters_end, right_nil, row_fits, some_known}
+use Rattle.node.proofs.Preparations.{known_step, letters_end, row_fits, some_known}
 use Rattle.node.proofs.letters.known_letters.Goals as goal
 
 pub loop-told-init : goal.loop-told-init
@@ -23,7 +23,7 @@ loop-told-preserved c =
     let one = letter c.args.from c.args.to (Known c.in-Some.at c.in-Some.value.now) in (
       ap (λ ls. ls ++ known_letters c.args.from c.args.to (take (64 - length ls) more)) pushed ∙ sym step
           ∙ ap (λ it. c.loop-told.letters.items ++ known_letters c.args.from c.args.to (take (64 - length c.loop-told.letters.items) it)) (sym c.in-Some.ensures.row) ∙ c.loop-told.invariant.0,
-      omega (arith, c.loop-told.invariant.1, ap length pushed, length_with c.loop-told.letters.items one),
+      omega (arith, c.loop-told.invariant.1, ap length pushed, length-append c.loop-told.letters.items (one ∷ [])),
     )
 
 pub returns-in_default-clause-letters : goal.returns-in_default-clause-letters
@@ -35,7 +35,7 @@ pub returns-clause-letters : goal.returns-clause-letters
 returns-clause-letters c =
     let letters = c.loop-told.letters.items in
     let none_left : 64 - length letters ≡ 0 = omega (arith, c.loop-told.invariant.1, c.loop-told-test.false) in
-    sym (ap (λ k. letters ++ known_letters c.args.from c.args.to (take k (rows_from c.args.learned.now.entries c.loop-told.next))) none_left ∙ right_nil letters) ∙ c.loop-told.invariant.0
+    sym (ap (λ k. letters ++ known_letters c.args.from c.args.to (take k (rows_from c.args.learned.now.entries c.loop-told.next))) none_left ∙ append-nil letters) ∙ c.loop-told.invariant.0
 
 pub returns-in_err-copy-clause-no_memory : goal.returns-in_err-copy-clause-no_memory
 returns-in_err-copy-clause-no_memory c none =

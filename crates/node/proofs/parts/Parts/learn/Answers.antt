@@ -6,7 +6,7 @@ use Rattle.node.specs.Sched.{Stands, Stops, view_over}
 use Rattle.node.specs.Step.{learns}
 use Rattle.node.specs.View.Standing.{Running}
 use Rattle.node.proofs.Leading.{honest_before}
-use Rattle.node.proofs.Learning.{Ended, learn_fails}
+use Rattle.node.proofs.Learning.{learn_fails}
 use Rattle.node.proofs.parts.Parts.learn.Goals as goal
 
 pub returns-in-Ok-clause-done : goal.returns-in-Ok-clause-done
@@ -23,6 +23,5 @@ returns-clause-done g c honest content holds =
     let old = c.args.self.now in
     let before = honest_before g.R.Records.is_honest record old { records = c.learn.new.records; knowledge = c.learn.new.self } c.in-Err.fault c.stop.new.self c.stop.ensures.stops honest in
     let stops : Stops record old { records = c.learn.new.records } c.in-Err.fault c.stop.new.self = subst (λ (k : Learned). Stops record old { records = c.learn.new.records; knowledge = k } c.in-Err.fault c.stop.new.self) c.in-Err.ensures.unchanged c.stop.ensures.stops in
-    subst (λ f. Ended g.R.Records.may_find old c.requires.up content holds c.args.place c.args.value c.learn.new.records f c.stop.new.self) (sym c.stop.ensures.same)
-    (learn_fails g.R.Records.may_find old c.requires.up content holds c.args.place c.args.value c.learn.new.records c.in-Err.fault c.stop.new.self
+    rw c.stop.ensures.same (learn_fails g.R.Records.may_find old c.requires.up content holds c.args.place c.args.value c.learn.new.records c.in-Err.fault c.stop.new.self
     c.in-Err.ensures.stops (c.in-Err.ensures.harmless before) (c.in-Err.ensures.doubt before content holds) stops)

@@ -1,10 +1,9 @@
-use Rattle.std.proofs.Common.{◌≡◌, ◌⊎◌, inl, inr, refl, ap, subst, sym, Ok, Err, IsTrue, Result, rules, Some}
+use Rattle.std.proofs.Common.{◌≡◌, refl, ap, subst, sym, Ok, Err, IsTrue, rules}
 use Rattle.ballots.specs.Members.{member_count}
 use Rattle.acceptor.specs.Answers.{IsNewVote}
 use Rattle.acceptor.specs.Content.{after_write}
-use Rattle.acceptor.specs.Content.Write.{Votes}
-use Rattle.acceptor.specs.Found.{Holds, HoldsEither}
-use Rattle.node.specs.Step.{Outcome, accept}
+use Rattle.acceptor.specs.Found.{Holds}
+use Rattle.node.specs.Step.{accept}
 use Rattle.node.specs.Calls.{answer}
 use Rattle.node.specs.Sched.{view_over}
 use Rattle.proposer.specs.declared.fault.NodeFault.{NodeFault as Fault}
@@ -22,16 +21,12 @@ returns-in_err-letters-clause-done g c honest content holds =
 
 pub returns-in-Err-clause-done : goal.returns-in-Err-clause-done
 returns-in-Err-clause-done g c honest content holds =
-    let view = view_over c.args.self.now content in
+    let old = c.args.self.now in
+    let view = view_over old content in
+    let members = member_count old.proposer.members in
     let before = subst (λ (a : g.row.R.Denot). IsTrue (g.R.Records.is_honest a)) c.fail.ensures.records honest in
-    let found = g.R.Records.may_find c.accept.new.records in
-    let IsCourse : Result Outcome Fault → Type 0 = λ course. course ≡ Ok (accept (member_count c.args.self.now.proposer.members) c.args.self.now.proposer.id view c.args.ballot c.args.place c.args.value.now c.args.from) in
-    let doubt : HoldsEither found content content ⊎ (IsNewVote content c.args.ballot c.args.place × HoldsEither found content (after_write content (Some (Votes c.args.place record { ballot = c.args.ballot; value = c.in_ok-letters.kept })))) = c.in-Err.ensures.doubt before content holds in
-    let course : HoldsEither found content content ⊎ ((o : Outcome) × IsCourse (Ok o) × HoldsEither found content (after_write content o.write)) = elim doubt [
-      | inl h ↦ inl h
-      | inr h ↦ inr (_, ap Ok (sym (votes_so (member_count c.args.self.now.proposer.members) c.args.self.now.proposer.id c.args.from view c.args.ballot c.args.place c.args.value.now h.0)), rw c.in_ok-letters.ensures.1 at h.1)
-    ] in
-    fails g.R.Records.may_find c.args.self.now c.requires.up content holds IsCourse c.accept.new.records c.in-Err.fault c.fail.result c.fail.new.self c.fail.ensures.fails (c.in-Err.ensures.harmless before) course
+    fails g.R.Records.may_find old c.requires.up content holds (λ course. course ≡ Ok (accept members old.proposer.id view c.args.ballot c.args.place c.args.value.now c.args.from)) c.accept.new.records (IsNewVote content c.args.ballot c.args.place) _ c.in-Err.fault c.fail.result c.fail.new.self c.fail.ensures.fails (c.in-Err.ensures.harmless before)
+    (λ new. ap Ok (sym (votes_so members old.proposer.id c.args.from view c.args.ballot c.args.place c.args.value.now new))) (rw c.in_ok-letters.ensures.1 at c.in-Err.ensures.doubt before content holds)
 
 pub returns-in_err-after_vote-clause-done : goal.returns-in_err-after_vote-clause-done
 returns-in_err-after_vote-clause-done g c honest content holds =

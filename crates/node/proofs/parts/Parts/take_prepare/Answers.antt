@@ -1,8 +1,6 @@
-use Rattle.std.proofs.Common.{◌≡◌, ◌⊎◌, ◌<◌, inl, inr, refl, ap, subst, sym, Ok, Err, IsTrue, Result, ◌++◌, ◌∷◌, [], rules, Some}
+use Rattle.std.proofs.Common.{◌≡◌, ◌<◌, refl, ap, subst, sym, Ok, Err, IsTrue, ◌++◌, ◌∷◌, [], rules}
 use Rattle.acceptor.specs.Content.{after_write, promised}
-use Rattle.acceptor.specs.Content.Write.{Promises}
-use Rattle.acceptor.specs.Found.{HoldsEither}
-use Rattle.node.specs.Step.{Outcome, prepare, letter}
+use Rattle.node.specs.Step.{prepare, letter}
 use Rattle.node.specs.Calls.{answer}
 use Rattle.node.specs.Sched.{view_over}
 use Rattle.node.specs.Answers.{prepared_note}
@@ -19,16 +17,11 @@ returns-in_err-letters-clause-done g c honest content holds =
 
 pub returns-in-Err-clause-done : goal.returns-in-Err-clause-done
 returns-in-Err-clause-done g c honest content holds =
+    let old = c.args.self.now in
+    let view = view_over old content in
     let before = subst (λ (a : g.row.R.Denot). IsTrue (g.R.Records.is_honest a)) c.fail.ensures.records honest in
-    let found = g.R.Records.may_find c.prepare.new.records in
-    let view = view_over c.args.self.now content in
-    let IsCourse : Result Outcome Fault → Type 0 = λ course. course ≡ Ok (prepare c.args.self.now.proposer.id view c.args.ballot c.args.place c.args.from) in
-    let doubt : HoldsEither found content content ⊎ ((promised content < c.args.ballot) × HoldsEither found content (after_write content (Some (Promises c.args.ballot)))) = c.in-Err.ensures.doubt before content holds in
-    let course : HoldsEither found content content ⊎ ((o : Outcome) × IsCourse (Ok o) × HoldsEither found content (after_write content o.write)) = elim doubt [
-      | inl h ↦ inl h
-      | inr h ↦ inr (_, ap Ok (sym (promises_so c.args.self.now.proposer.id c.args.from view c.args.ballot c.args.place h.0)), h.1)
-    ] in
-    fails g.R.Records.may_find c.args.self.now c.requires content holds IsCourse c.prepare.new.records c.in-Err.fault c.fail.result c.fail.new.self c.fail.ensures.fails (c.in-Err.ensures.harmless before) course
+    fails g.R.Records.may_find old c.requires content holds (λ course. course ≡ Ok (prepare old.proposer.id view c.args.ballot c.args.place c.args.from)) c.prepare.new.records (promised content < c.args.ballot) _ c.in-Err.fault c.fail.result c.fail.new.self c.fail.ensures.fails (c.in-Err.ensures.harmless before)
+    (λ above. ap Ok (sym (promises_so old.proposer.id c.args.from view c.args.ballot c.args.place above))) (c.in-Err.ensures.doubt before content holds)
 
 pub returns-clause-done : goal.returns-clause-done
 returns-clause-done g c honest content holds =

@@ -1,7 +1,7 @@
 use Rattle.std.proofs.Common.{refl}
 use Rattle.node.specs.Calls.{answer}
 use Rattle.node.specs.Calls.Cause.{Lead, Offer, Receive, Tell}
-use Rattle.seats.proofs.Acting.{calls, crashes, owes_lead, owes_letter, owes_offer, owes_tell, receives_last, releases, same_err, same_trust, stays_up_so, takes, tells_last, turn_fails}
+use Rattle.seats.proofs.Acting.{calls, crashes, owes_lead, owes_letter, goes_on_last, owes_offer, owes_tell, releases, same_err, same_trust, stays_up_so, takes, turn_fails}
 use Rattle.seats.specs.Owes.{outside}
 use Rattle.seats.proofs.seat.Seat.act_up.Goals as goal
 
@@ -27,7 +27,7 @@ returns-in-Tell g c = rw (c.in-Tell.is, c.of_call-in-Tell.ensures) (
     let call = c.tell-given.ensures in
     calls was _ (Tell c.in-Tell.to.now c.in-Tell.place) c.tell-given.result c.requires c.stays_up-self-in-Tell.ensures (same_trust g.N.Node.honest g.N.Node.clean was.node) (same_err (g.N.Node.rest was.node) c.tell-given.result) call.kept (call.tells (was.runs c.requires))
     (owes_tell _ c.tell-given.result call.letters (call.no_memory (was.runs c.requires))) (λ honest s stands. (s, call.done s stands, stands))
-    (λ honest view stands. tells_last (g.N.Node.who was.node).members (g.N.Node.who was.node).id view c.in-Tell.to.now c.in-Tell.place (answer c.tell-given.result)))
+    (λ honest view stands. goes_on_last (g.N.Node.who was.node).members (g.N.Node.who was.node).id view (Tell c.in-Tell.to.now c.in-Tell.place) (answer c.tell-given.result) tt))
 
 pub returns-in-Receive : goal.returns-in-Receive
 returns-in-Receive g c = rw (c.in-Receive.is, c.of_call-in-Receive.ensures) (
@@ -35,7 +35,7 @@ returns-in-Receive g c = rw (c.in-Receive.is, c.of_call-in-Receive.ensures) (
     let call = c.receive-given.ensures in
     calls was _ (Receive c.in-Receive.letter.now) c.receive-given.result c.requires c.stays_up-self-in-Receive.ensures call.trust call.err call.kept call.tells
     (owes_letter (g.N.Node.who was.node).members (g.N.Node.who was.node).id (outside was) c.in-Receive.letter.now c.receive-given.result (call.passed_over (was.runs c.requires)) (call.no_memory (was.runs c.requires))).0 call.done
-    (λ honest view stands. receives_last (g.N.Node.who was.node).members (g.N.Node.who was.node).id view c.in-Receive.letter.now (answer c.receive-given.result)))
+    (λ honest view stands. goes_on_last (g.N.Node.who was.node).members (g.N.Node.who was.node).id view (Receive c.in-Receive.letter.now) (answer c.receive-given.result) tt))
 
 pub returns-in-ReceiveThenCrash : goal.returns-in-ReceiveThenCrash
 returns-in-ReceiveThenCrash g c = rw (c.in-ReceiveThenCrash.is, c.of_lost_call.ensures) (
