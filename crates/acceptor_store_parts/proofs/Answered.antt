@@ -36,10 +36,10 @@ table_of_learned First keeps db c h = absurd keeps
 table_of_learned Second keeps db c h = h
 table_of_learned Third keeps db c h = h
 
-module _ (old new : State) {X : Type 0} (r : Result X Error) (items : X → List Row) where
-  pub asked_found : (asked : Asked) (q : ℕ) → IfOk r (λ x. Shown (text_of asked) (Int (pos q) ∷ []) old new (items x)) → IfOk r (λ x. (c : Content) → Serves old c → items x ≡ shown_of asked q c)
-  asked_found asked q = IfOk-weaker r _ _ (λ x h c was. found was.0 old new c q was.1 (items x) asked h)
+pub asked_found : (old new : State) (rows : List Row) (asked : Asked) (q : ℕ) → Shown (text_of asked) (Int (pos q) ∷ []) old new rows → (c : Content) → Serves old c → rows ≡ shown_of asked q c
+asked_found old new rows asked q h c was = found was.0 old new c q was.1 rows asked h
 
+module _ (old new : State) {X : Type 0} (r : Result X Error) (items : X → List Row) where
   pub all_votes_found : IfOk r (λ x. Shown all_votes_query [] old new (items x)) → IfOk r (λ x. (version : Version) (c : Content) → ServesAs version old c → items x ≡ map vote_shown c.votes)
   all_votes_found = IfOk-weaker r _ _ (λ x h version c was. shown_all cast_in vote_shown 1 three_columns c.votes (rising 1 c.votes was.tables.sound.0) (overlay old.now.trees []) was.tables.votes_are (λ v. refl) (items x)
       ((reads (all_votes_query_is version) _ old new was.schema (items x) h).answer Null))

@@ -1,53 +1,41 @@
--- What is shown by ascending rowid is what there is, where that rises by its rowid.
-use Rattle.std.proofs.Common.{◌≡◌, inl, inr, ℕ, pos, ◌+◌, ◌≤◌, List, [], ◌∷◌, map, false, refl, ap, ◌∙◌, arith}
-use Rattle.acceptor_store_parts.proofs.Words.{AllByRecursion, is_lt, Less, IsPermutation, IsSorted, All-from_recursion, All-permutation, cases_lt, ints, value_cmp-Int, Value, Int, Row, column, value_cmp, Output, output_cmp, output, Query, Term}
+-- What a query by ascending rowid shows of a table: the rows that its terms let pass, in their order.
+use Rattle.std.proofs.Common.{◌≡◌, inl, inr, ℕ, List, [], ◌∷◌, map, Bool, refl, ap, subst, ◌∙◌}
+use Rattle.std.specs.List.{filter, list_all}
+use Rattle.acceptor_store_parts.proofs.Words.{IsPermutation, Less, cases_Bool, Row, value_cmp, Output, IsAnswer, IsTable, Query, matches, output, output_cmp, inner, end, Term}
+use Rattle.sqlite_sql.specs.Term.{eval_all, holds}
+use Rattle.sqlite_sql.proofs.QueryLemmas.{output_cmp_total}
+use Rattle.sqlite_keyed.proofs.ListLemmas.{ascending-filter, ascending-map, ascending_weaker, map-map}
+use Rattle.sqlite_keyed.proofs.SortLemmas.{sorted_unique}
+use Rattle.sqlite.specs.Tree.{Trees, rowid}
 use Rattle.acceptor_store_parts.proofs.Meaning.{rows_query}
-use Rattle.acceptor_store_parts.proofs.Ordered.{IsStep, only_order}
-use Rattle.acceptor_store_parts.proofs.Positions.{rising_mapped}
-use Rattle.acceptor_store_parts.proofs.Rising.{IsRisingBy}
 
-abbrev number_in : Value → ℕ
-number_in (Int (pos n)) = n
-number_in _ = 0
+module _ (tree : ℕ) (terms columns : List Term) (params : Row) where
+  abbrev query : Query
+  query = rows_query tree terms columns
 
-abbrev key : Output → ℕ
-key o = number_in (column o.0 0)
+  abbrev env : Row → List Row
+  env r = params ∷ r ∷ []
 
--- a query by ascending rowid puts no greater rowid before a lower one
-pub in_order : (tree : ℕ) (filter columns : List Term) (m n : ℕ) (a b : Row) → is_lt (output_cmp (rows_query tree filter columns) (Int (pos n) ∷ [], b) (Int (pos m) ∷ [], a)) ≡ false → m ≤ n
-in_order tree filter columns m n a b e = elim (cases_lt n m) [
-  | inl below ↦ absurd (let c : value_cmp (Int (pos n)) (Int (pos m)) ≡ Less = rw value_cmp-Int (grind (arith, ints)) in let f = rw c at e in cc)
-  | inr from ↦ from
-]
+  abbrev pub passes : Row → Bool
+  passes r = list_all (holds (params ∷ r ∷ [])) terms
 
-module _ {X : Type 0} (number : X → ℕ) (shown : X → Row) where
-  -- what a row is sorted by, and what is shown of it
-  abbrev pub out : X → Output
-  out x = (Int (pos (number x)) ∷ [], shown x)
+  -- what is shown of a row
+  abbrev pub cut : Row → Row
+  cut r = eval_all columns (params ∷ r ∷ [])
 
-  abbrev IsOut : Output → Type 0
-  IsOut o = (x : X) × (o ≡ out x)
+  matched : (rows : List Row) → matches (λ _. rows) terms (inner tree end) (params ∷ []) ≡ map env (filter passes rows)
+  matched [] = refl
+  matched (r ∷ rows) = elim (cases_Bool (passes r)) [
+    | inl here ↦ rw here (ap (λ es. env r ∷ es) (matched rows))
+    | inr other ↦ rw other (matched rows)
+  ]
 
-  all_out : (xs : List X) → AllByRecursion IsOut (map out xs)
-  all_out [] = tt
-  all_out (x ∷ xs) = ((x, refl), all_out xs)
-
-  each_shown : (xs : List X) → map (λ (o : Output). o.1) (map out xs) ≡ map shown xs
-  each_shown [] = refl
-  each_shown (x ∷ xs) = ap (λ rs. shown x ∷ rs) (each_shown xs)
-
-  pub outs : (query : Query) (env : X → List Row) → ((x : X) → output query (env x) ≡ out x) → (xs : List X) → map (output query) (map env xs) ≡ map out xs
-  outs query env each [] = refl
-  outs query env each (x ∷ xs) = let here = each x in let rest = outs query env each xs in λ i. here i ∷ rest i
-
-  pub in_this_order : (tree : ℕ) (filter columns : List Term) (xs : List X) (ordered : List Output) → IsRisingBy number xs → IsPermutation (map out xs) ordered → IsSorted (output_cmp (rows_query tree filter columns)) ordered
-      → map (λ (o : Output). o.1) ordered ≡ map shown xs
-  in_this_order tree filter columns xs ordered rises same sorted =
-      let all = All-permutation IsOut (map out xs) ordered same (All-from_recursion IsOut (map out xs) (all_out xs)) in
-      let step : IsStep key ordered = λ k d low.
-      let v = all k d (omega arith) in
-      let w = all (k + 1) d low in
-      let fall = rw (v.1, w.1) at (sorted k d (omega arith) low) in
-      rw (v.1, w.1) (in_order tree filter columns (number v.0) (number w.0) (shown v.0) (shown w.0) fall) in
-      let rising : IsRisingBy key (map out xs) = rising_mapped out key xs rises in
-      ap (map (λ (o : Output). o.1)) (only_order key (map out xs) ordered rising same step) ∙ each_shown xs
+  pub in_this_order : (db : Trees) → IsTable (db tree) → (got : List Row) → IsAnswer (rows_query tree terms columns) db params got → got ≡ map cut (filter passes (db tree))
+  in_this_order db table got a =
+      let rows = filter passes (db tree) in
+      let out = λ (r : Row). output query (env r) in
+      let rises : IsTable rows = ascending-filter _ passes (db tree) table in
+      let strict = ascending-map (λ o p. output_cmp query o p ≡ Less) out rows (ascending_weaker (λ r s. value_cmp (rowid r) (rowid s) ≡ Less) _ (λ r s less. rw less) rows rises) in
+      let kept : a.kept ≡ map out rows = a.distinct ∙ ap (map (output query)) (a.grouped ∙ matched (db tree)) ∙ map-map (output query) env rows in
+      let is = sorted_unique (output_cmp query) (output_cmp_total query) (map out rows) a.ordered strict (subst (λ ks. IsPermutation ks a.ordered) kept a.same) a.sorted in
+      a.shown ∙ ap (map (λ (o : Output). o.1)) is ∙ map-map (λ (o : Output). o.1) out rows

@@ -1,8 +1,9 @@
 -- What a call leaves that read, or failed.
-use Rattle.std.proofs.Common.{◌≡◌, ◌⊎◌, inl, inr, ℕ, List, [], false, Some, None, Option, Ok, Err, Result, IsTrue, OnOk, OnErr, IfOk, IfErr, sym, ap, subst, ◌∙◌}
-use Rattle.acceptor_store_parts.proofs.Words.{cases_Bool, Content, Returning, Error, Row, Database, Schema, Compiled, State, Executes, RunsCommand, shows_rows, ShowsRows, IsUnchanged, IsRolledBack, IsPlain, Owner, AreTablesFor, schema_for, ServesFor, StillServes, Stays}
+use Rattle.std.proofs.Common.{◌≡◌, ◌⊎◌, inl, inr, ℕ, List, false, Some, None, Option, Ok, Err, Result, IsTrue, OnOk, IfOk, IfErr, sym, ap, subst, ◌∙◌}
+use Rattle.acceptor_store_parts.proofs.Words.{cases_Bool, Content, Returning, Error, Row, Database, Schema, Compiled, State, Executes, RunsCommand, shows_rows, ShowsRows, IsUnchanged, IsRolledBack, IsPlain, never_commits, Owner, AreTablesFor, schema_for, ServesFor, StillServes, Stays}
 use Rattle.sqlite.specs.Listing.{understood}
-use Rattle.sqlite.specs.State.{ExecutesIn, FailsToQuery, IsNotRun, Shown}
+use Rattle.sqlite.specs.State.{CommitsShowing, ExecutesIn, FailsToQuery, IsNotRun, Shown}
+use Rattle.sqlite.specs.Tree.{Trees}
 
 -- as it was, or back at the last commit
 abbrev pub Keeps : State → State → Type 0
@@ -61,10 +62,6 @@ shown_open : (sql : List ℕ) (params : Row) (old new : State) (rows : List Row)
 shown_open sql params old new rows c None h = h.3.0.was_open
 shown_open sql params old new rows c (Some what) h = h.1.shown.was_open
 
-pub failed_serves : (sql : List ℕ) (params : Row) (old new : State) (r : Result ℕ Error) → Executes sql params old new r → OnErr r (IsTrue new.is_open → StillServes old new)
-failed_serves sql params old new (Ok count) h = tt
-failed_serves sql params old new (Err e) h = λ opened owner c was. still_serves owner old new c was (failed_keeps sql params old new e h) opened
-
 pub all_ok : (sql : List ℕ) (params : Row) (old new : State) → AlwaysPlain sql → (rows : List Row) → Shown sql params old new rows → Stays old new
 unfolding Shown
 all_ok sql params old new plain rows h = (
@@ -87,6 +84,10 @@ pub all_failed : (sql : List ℕ) (params : Row) (old new : State) → AlwaysPla
     → IsTrue new.is_open → StillServes old new
 all_failed sql params old new plain (Ok x) rows h g opened = (all_ok sql params old new plain (rows x) h).1
 all_failed sql params old new plain (Err e) rows h g opened = all_err sql params old new plain e g opened
+
+-- what is read is no commit
+pub writes_none : (sql : List ℕ) (params : Row) (old : State) (schema : Schema) → old.now.schema ≡ schema → IsPlain (understood schema sql) → (db : Trees) → CommitsShowing sql params old db → ⊥
+writes_none sql params old schema has plain db = never_commits sql params old db (subst (λ s. IsPlain (understood s sql)) (sym has) plain)
 
 -- what was read changed nothing
 pub all_same : (sql : List ℕ) (params : Row) (old new : State) (schema : Schema) → old.now.schema ≡ schema → IsPlain (understood schema sql) → {X : Type 0} (r : Result X Error) (rows : X → List Row) → IfOk r (λ x. Shown sql params old new (rows x))

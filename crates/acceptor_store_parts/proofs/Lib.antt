@@ -2,8 +2,6 @@ pub mod Words
 pub mod Callers
 pub mod Rising
 pub mod Filters
-pub mod Ordered
-pub mod Positions
 pub mod Places
 pub mod Meaning
 pub mod Puts
@@ -19,7 +17,6 @@ pub mod Once
 pub mod Numbers
 pub mod Shapes
 pub mod Makes
-pub mod Held
 pub mod Raw
 pub mod Casts
 pub mod Owners

@@ -1,13 +1,15 @@
 -- What queries show of a table whose rows rise by their rowids.
-use Rattle.std.proofs.Common.{◌≡◌, inl, inr, ℕ, pos, ◌==◌, ◌<◌, List, [], ◌∷◌, map, nat_le, true, false, refl, ap, subst, ◌∙◌, arith}
+use Rattle.std.proofs.Common.{◌≡◌, inl, inr, ℕ, pos, ◌==◌, ◌<◌, List, [], ◌∷◌, map, Bool, nat_le, true, false, refl, sym, ap, subst, ◌∙◌, arith}
 use Rattle.std.specs.List.{filter}
-use Rattle.acceptor_store_parts.proofs.Words.{IsPermutation, int_cmp, Less, Equal, Greater, cases_Bool, cases_lt, cases_eq, nat_tests, ints, rows_from, Eq, Ge, value_cmp-Int, Binary, Int, Row, is_true, IsAnswer, matches, output, inner, end, Term}
+use Rattle.std.proofs.Math.Bool.{and-true}
+use Rattle.acceptor_store_parts.proofs.Words.{int_cmp, Less, Equal, Greater, cases_lt, cases_eq, nat_tests, ints, rows_from, Eq, Ge, value_cmp-Int, Binary, Int, Row, value_cmp, is_true, IsAnswer, IsTable, Term}
 use Rattle.sqlite_sql.specs.declared.ops.BinaryOp.TheVariants as by
+use Rattle.sqlite_sql.specs.Term.{eval_all}
+use Rattle.sqlite_keyed.proofs.ListLemmas.{ascending-map, ascending_weaker, filter-map, filter_all, filter_same, all_of, map-map, map_same}
 use Rattle.sqlite.specs.Ops.{binary}
-use Rattle.sqlite.specs.Tree.{Trees}
+use Rattle.sqlite.specs.Tree.{Trees, rowid}
 use Rattle.acceptor_store_parts.proofs.Meaning.{rows_query, is_from, is_at}
-use Rattle.acceptor_store_parts.proofs.InOrder.{out, outs, in_this_order}
-use Rattle.acceptor_store_parts.proofs.Positions.{rising_kept}
+use Rattle.acceptor_store_parts.proofs.InOrder.{cut, passes, in_this_order}
 use Rattle.acceptor_store_parts.proofs.Rising.{IsRisingBy}
 
 at_least : (p q : ℕ) → is_true (binary (by.Compare Ge Binary) (Int (pos p)) (Int (pos q))) ≡ nat_le q p
@@ -38,49 +40,26 @@ equals p q = rw value_cmp-Int (elim (cases_eq p q) [
 ])
 
 -- rows of a table by their rowids and the columns that stand after these
-module _ {V : Type 0} (rest : ℕ × V → Row) (shown : ℕ × V → Row) where
+module _ {V : Type 0} (rest shown : ℕ × V → Row) (tree : ℕ) (columns : List Term) (rows : List (ℕ × V)) (rises : IsRisingBy (λ (v : ℕ × V). v.0) rows) (db : Trees) (is : db tree ≡ map (λ v. Int (pos v.0) ∷ rest v) rows) where
   abbrev stored : ℕ × V → Row
   stored v = Int (pos v.0) ∷ rest v
 
-  abbrev pub env : Row → ℕ × V → List Row
-  env params v = params ∷ (Int (pos v.0) ∷ rest v) ∷ []
+  table : IsTable (db tree)
+  table = subst IsTable (sym is) (ascending-map (λ r s. value_cmp (rowid r) (rowid s) ≡ Less) stored rows (ascending_weaker (λ (v w : ℕ × V). v.0 < w.0) _ (λ v w low. rw value_cmp-Int (grind (arith, ints))) rows rises))
 
-  each_from : (q : ℕ) (tree : ℕ) (rows : List (ℕ × V)) → matches (λ _. map stored rows) is_from (inner tree end) ((Int (pos q) ∷ []) ∷ []) ≡ map (env (Int (pos q) ∷ [])) (filter (λ v. nat_le q v.0) rows)
-  each_from q tree [] = refl
-  each_from q tree (v ∷ rows) = elim (cases_Bool (nat_le q v.0)) [
-    | inl from ↦ rw (at_least v.0 q, from) (ap (λ es. env (Int (pos q) ∷ []) v ∷ es) (each_from q tree rows))
-    | inr before ↦ rw (at_least v.0 q, before) (each_from q tree rows)
-  ]
+  -- those that the terms let pass
+  shown_by : (params : Row) (terms : List Term) (p : ℕ × V → Bool) → ((v : ℕ × V) → passes tree terms columns params (stored v) ≡ p v) → ((v : ℕ × V) → cut tree terms columns params (stored v) ≡ shown v)
+      → (got : List Row) → IsAnswer (rows_query tree terms columns) db params got → got ≡ map shown (filter p rows)
+  shown_by params terms p fits each got a =
+      let some : filter (passes tree terms columns params) (db tree) ≡ map stored (filter p rows) =
+      ap (filter (passes tree terms columns params)) is ∙ filter-map (passes tree terms columns params) stored rows ∙ ap (map stored) (filter_same _ p fits rows) in
+      in_this_order tree terms columns params db table got a ∙ ap (map (cut tree terms columns params)) some ∙ map-map (cut tree terms columns params) stored (filter p rows) ∙ map_same _ shown each (filter p rows)
 
-  each_at : (q : ℕ) (tree : ℕ) (rows : List (ℕ × V)) → matches (λ _. map stored rows) is_at (inner tree end) ((Int (pos q) ∷ []) ∷ []) ≡ map (env (Int (pos q) ∷ [])) (filter (λ v. v.0 == q) rows)
-  each_at q tree [] = refl
-  each_at q tree (v ∷ rows) = elim (cases_Bool (v.0 == q)) [
-    | inl here ↦ rw (equals v.0 q, here) (ap (λ es. env (Int (pos q) ∷ []) v ∷ es) (each_at q tree rows))
-    | inr other ↦ rw (equals v.0 q, other) (each_at q tree rows)
-  ]
+  pub shown_from : (q : ℕ) → ((v : ℕ × V) → eval_all columns ((Int (pos q) ∷ []) ∷ (Int (pos v.0) ∷ rest v) ∷ []) ≡ shown v) → (got : List Row) → IsAnswer (rows_query tree is_from columns) db (Int (pos q) ∷ []) got → got ≡ map shown (rows_from rows q)
+  shown_from q = shown_by (Int (pos q) ∷ []) is_from (λ v. nat_le q v.0) (λ v. rw (at_least v.0 q, and-true))
 
-  each_row : (tree : ℕ) (rows : List (ℕ × V)) → matches (λ _. map stored rows) [] (inner tree end) ([] ∷ []) ≡ map (env []) rows
-  each_row tree [] = refl
-  each_row tree (v ∷ rows) = ap (λ es. env [] v ∷ es) (each_row tree rows)
+  pub shown_at : (q : ℕ) → ((v : ℕ × V) → eval_all columns ((Int (pos q) ∷ []) ∷ (Int (pos v.0) ∷ rest v) ∷ []) ≡ shown v) → (got : List Row) → IsAnswer (rows_query tree is_at columns) db (Int (pos q) ∷ []) got → got ≡ map shown (filter (λ v. v.0 == q) rows)
+  shown_at q = shown_by (Int (pos q) ∷ []) is_at (λ v. v.0 == q) (λ v. rw (equals v.0 q, and-true))
 
-  module _ (tree : ℕ) (columns : List Term) (db : Trees) where
-    -- what is shown where these rows match
-    shown_by : (params : Row) (terms : List Term) (some : List (ℕ × V)) → IsRisingBy (λ (v : ℕ × V). v.0) some → matches db terms (inner tree end) (params ∷ []) ≡ map (env params) some
-        → ((v : ℕ × V) → output (rows_query tree terms columns) (env params v) ≡ out (λ v. v.0) shown v) → (got : List Row) → IsAnswer (rows_query tree terms columns) db params got → got ≡ map shown some
-    shown_by params terms some rises matched each got a =
-        let staged : a.staged ≡ map (env params) some = a.grouped ∙ matched in
-        let kept : a.kept ≡ map (out (λ v. v.0) shown) some = a.distinct ∙ ap (map (output (rows_query tree terms columns))) staged ∙ outs (λ v. v.0) shown (rows_query tree terms columns) (env params) each some in
-        let same : IsPermutation (map (out (λ v. v.0) shown) some) a.ordered = subst (λ ks. IsPermutation ks a.ordered) kept a.same in
-        a.shown ∙ in_this_order (λ v. v.0) shown tree terms columns some a.ordered rises same a.sorted
-
-  module _ (tree : ℕ) (columns : List Term) (rows : List (ℕ × V)) (rises : IsRisingBy (λ (v : ℕ × V). v.0) rows) (db : Trees) (is : db tree ≡ map (λ v. Int (pos v.0) ∷ rest v) rows) where
-    pub shown_from : (q : ℕ) → ((v : ℕ × V) → output (rows_query tree is_from columns) (env (Int (pos q) ∷ []) v) ≡ out (λ v. v.0) shown v) → (got : List Row)
-        → IsAnswer (rows_query tree is_from columns) db (Int (pos q) ∷ []) got → got ≡ map shown (rows_from rows q)
-    shown_from q = shown_by tree columns db (Int (pos q) ∷ []) is_from (filter (λ (v : ℕ × V). nat_le q v.0) rows) (rising_kept (λ (v : ℕ × V). v.0) (λ v. nat_le q v.0) rows rises) (rw is (each_from q tree rows))
-
-    pub shown_at : (q : ℕ) → ((v : ℕ × V) → output (rows_query tree is_at columns) (env (Int (pos q) ∷ []) v) ≡ out (λ v. v.0) shown v) → (got : List Row)
-        → IsAnswer (rows_query tree is_at columns) db (Int (pos q) ∷ []) got → got ≡ map shown (filter (λ v. v.0 == q) rows)
-    shown_at q = shown_by tree columns db (Int (pos q) ∷ []) is_at (filter (λ (v : ℕ × V). v.0 == q) rows) (rising_kept (λ (v : ℕ × V). v.0) (λ v. v.0 == q) rows rises) (rw is (each_at q tree rows))
-
-    pub shown_all : ((v : ℕ × V) → output (rows_query tree [] columns) (env [] v) ≡ out (λ v. v.0) shown v) → (got : List Row) → IsAnswer (rows_query tree [] columns) db [] got → got ≡ map shown rows
-    shown_all = shown_by tree columns db [] [] rows rises (rw is (each_row tree rows))
+  pub shown_all : ((v : ℕ × V) → eval_all columns ([] ∷ (Int (pos v.0) ∷ rest v) ∷ []) ≡ shown v) → (got : List Row) → IsAnswer (rows_query tree [] columns) db [] got → got ≡ map shown rows
+  shown_all each got a = shown_by [] [] (λ _. true) (λ _. refl) each got a ∙ ap (map shown) (filter_all (λ _. true) rows (all_of _ (λ _. refl) rows))

@@ -1,8 +1,9 @@
 //! Whether a schema is one that no node made.
 
-ghost use Rattle.std.specs.Prelude.{◌↔◌, IsTrue, codes};
+ghost use Rattle.std.specs.Prelude.{◌≡◌, ◌↔◌, ℕ, slice_get, IfNone, IfSome, IsTrue, Some};
+ghost use Rattle.sqlite_schema.specs.Names.{table_named};
 ghost use Rattle.acceptor_store_parts.specs.Foreign.{HasFacts, IsBroken, IsForeignSchema, IsPart, IsUnowned};
-ghost use Rattle.acceptor_store_parts.specs.Foreign.{IsThereWithout, LacksNumbers, LacksVotes, LacksLearned};
+ghost use Rattle.acceptor_store_parts.specs.Foreign.{LacksNumbers, LacksVotes, LacksLearned};
 
 use sqlite_schema::schema::{Schema, Table};
 
@@ -38,31 +39,13 @@ fn is_part(schema: &Schema) -> bool
     }
 }
 
-fn has_bad_numbers(schema: &Schema) -> bool
-    ensures { IsTrue result ↔ IsThereWithout schema.now (codes "ballot") LacksNumbers }
+/// The table of this name, where there is one.
+fn find_table<'a>(schema: &'a Schema, name: &[u8]) -> Option<&'a Table>
+    ensures some { IfSome result (λ t. (at : ℕ) × (table_named schema.now name.now ≡ Some at) × (slice_get schema.now.tables at ≡ Some t.now)) }
+    ensures none { IfNone result ((at : ℕ) (t : _) → table_named schema.now name.now ≡ Some at → slice_get schema.now.tables at ≡ Some t → ⊥) }
 {
-    match schema.table_named(b"ballot") {
-        Some(at) => schema.tables.as_slice().get(at).is_some_and(lacks_numbers),
-        None => false,
-    }
-}
-
-fn has_bad_votes(schema: &Schema) -> bool
-    ensures { IsTrue result ↔ IsThereWithout schema.now (codes "vote") LacksVotes }
-{
-    match schema.table_named(b"vote") {
-        Some(at) => schema.tables.as_slice().get(at).is_some_and(lacks_votes),
-        None => false,
-    }
-}
-
-fn has_bad_learned(schema: &Schema) -> bool
-    ensures { IsTrue result ↔ IsThereWithout schema.now (codes "learned") LacksLearned }
-{
-    match schema.table_named(b"learned") {
-        Some(at) => schema.tables.as_slice().get(at).is_some_and(lacks_learned),
-        None => false,
-    }
+    let at = schema.table_named(name)?;
+    schema.tables.as_slice().get(at)
 }
 
 /// Whether only a part of the tables is there, or one of them lacks a column.
@@ -70,7 +53,10 @@ pub fn is_broken(schema: &Schema) -> bool
     ensures yes { IsTrue result → IsBroken schema.now }
     ensures all { IsBroken schema.now → IsTrue result }
 {
-    is_part(schema) || has_bad_numbers(schema) || has_bad_votes(schema) || has_bad_learned(schema)
+    is_part(schema)
+        || find_table(schema, b"ballot").is_some_and(lacks_numbers)
+        || find_table(schema, b"vote").is_some_and(lacks_votes)
+        || find_table(schema, b"learned").is_some_and(lacks_learned)
 }
 
 /// Whether there is a table of facts, as where the database has an owner.

@@ -14,8 +14,8 @@ ghost use Rattle.acceptor_store_parts.specs.Tables.{schema_of};
 ghost use Rattle.acceptor_store_parts.specs.Tests.{IsFault};
 ghost use Rattle.acceptor_store_parts.specs.Rowids.{ShowsLearned};
 
+use crate::Stop;
 use crate::reads::{Asked, bytes_at, place_at, query_at};
-use crate::{Stop, stop_for};
 use ballots::{MOST_PLACES, Place, Value};
 use sqlite::types::ValueRef;
 use sqlite::{Alter, Connection, Error, Row};
@@ -103,10 +103,7 @@ pub fn learned_from<S: Alter>(
     ensures stays { HasCleanDisk (state S.Store conn.new) → StaysOpen result → StillServes (state S.Store conn.old) (state S.Store conn.new) }
     ensures survives { Survives (state S.Store conn.old) (state S.Store conn.new) (λ _. DoesNotServe (state S.Store conn.old)) }
 {
-    let rows = match query_at(conn, Asked::LearnedFrom, place) {
-        Ok(rows) => rows,
-        Err(error) => return Err(stop_for(conn, error)),
-    };
+    let rows = query_at(conn, Asked::LearnedFrom, place)?;
     read_learned(alloc, &rows)
 }
 
@@ -130,29 +127,8 @@ pub fn learned_row<S: Alter>(
     ensures stays { HasCleanDisk (state S.Store conn.new) → StaysOpen result → StillServes (state S.Store conn.old) (state S.Store conn.new) }
     ensures survives { Survives (state S.Store conn.old) (state S.Store conn.new) (λ _. DoesNotServe (state S.Store conn.old)) }
 {
-    let rows = match query_at(conn, Asked::LearnedAt, place) {
-        Ok(rows) => rows,
-        Err(error) => return Err(stop_for(conn, error)),
-    };
+    let rows = query_at(conn, Asked::LearnedAt, place)?;
     first_learned(alloc, &rows)
-}
-
-fn run_put_learned<S: Alter>(
-    conn: &mut Connection<S>,
-    place: Place,
-    value: &Value,
-) -> Result<usize, Error>
-    ensures ok { HasCleanDisk (state S.Store conn.new) → OnOk result (HasWritten (state S.Store conn.old) (state S.Store conn.new) (Learns place value.now)) }
-    ensures err { HasCleanDisk (state S.Store conn.new) → OnErr result (IsTrue (state S.Store conn.new).is_open
-        → StillServes (state S.Store conn.old) (state S.Store conn.new)) }
-    ensures survives { Survives (state S.Store conn.old) (state S.Store conn.new) (MayHaveWritten (state S.Store conn.old) (Learns place value.now)) }
-{
-    let at = ValueRef::Int(crate::signed_place(place));
-    let bytes = ValueRef::Blob(value.as_slice());
-    conn.execute(
-        "INSERT OR REPLACE INTO learned (place, value) VALUES (?1, ?2)",
-        &[at, bytes],
-    )
 }
 
 /// Writes the learned value of its place.
@@ -165,8 +141,11 @@ pub fn put_learned<S: Alter>(
     ensures err { HasCleanDisk (state S.Store conn.new) → IfErr result (λ e. LeavesOpen e → StillServes (state S.Store conn.old) (state S.Store conn.new)) }
     ensures survives { Survives (state S.Store conn.old) (state S.Store conn.new) (MayHaveWritten (state S.Store conn.old) (Learns place value.now)) }
 {
-    match run_put_learned(conn, place, value) {
-        Ok(_) => Ok(()),
-        Err(error) => Err(stop_for(conn, error)),
-    }
+    let at = ValueRef::Int(crate::signed_place(place));
+    let bytes = ValueRef::Blob(value.as_slice());
+    crate::run(
+        conn,
+        "INSERT OR REPLACE INTO learned (place, value) VALUES (?1, ?2)",
+        &[at, bytes],
+    )
 }

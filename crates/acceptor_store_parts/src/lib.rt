@@ -11,10 +11,11 @@ mod owner;
 mod reads;
 mod rereading;
 
-ghost use Rattle.std.specs.Prelude.{◌≡◌, ◌≢◌, ℕ, pos, true, false, [], ◌∷◌, IsTrue, IfOk, IfErr, OnOk, OnErr, Some};
+ghost use Rattle.std.specs.Prelude.{◌≡◌, ◌≢◌, ℕ, pos, true, false, [], ◌∷◌, IsTrue, IfOk, IfErr, Ok, OnOk, OnErr, Some};
 ghost use Rattle.acceptor.specs.Content.{Content};
 ghost use Rattle.acceptor.specs.Content.Write.{Tries, Promises, Votes as Casts};
-ghost use Rattle.sqlite.specs.State.{HasCleanDisk, Survives, IsUnchanged};
+ghost use Rattle.sqlite.specs.State.{CommitsBy, Executes, HasCleanDisk, Survives, IsUnchanged};
+ghost use Rattle.sqlite.specs.Values.{bound};
 ghost use Rattle.sqlite.specs.Held.{state};
 ghost use Rattle.sqlite.specs.declared.types.Value.TheVariants.{Int};
 ghost use Rattle.ballots.specs.Limits.{IsPlace};
@@ -144,16 +145,17 @@ pub fn stop_for<S: Alter>(conn: &mut Connection<S>, error: Error) -> Stop
     told_as(is_open, error)
 }
 
-fn run_put_tried<S: Alter>(conn: &mut Connection<S>, ballot: Ballot) -> Result<usize, Error>
-    ensures ok { HasCleanDisk (state S.Store conn.new) → OnOk result (HasWritten (state S.Store conn.old) (state S.Store conn.new) (Tries ballot)) }
-    ensures err { HasCleanDisk (state S.Store conn.new) → OnErr result (IsTrue (state S.Store conn.new).is_open → StillServes (state S.Store conn.old) (state S.Store conn.new)) }
-    ensures survives { Survives (state S.Store conn.old) (state S.Store conn.new) (MayHaveWritten (state S.Store conn.old) (Tries ballot)) }
+/// Runs a statement that shows no rows.
+fn run<S: Alter>(conn: &mut Connection<S>, sql: &str, params: &[ValueRef<'_>]) -> Result<(), Stop>
+    ensures ran { HasCleanDisk (state S.Store conn.new) → OnOk result ((count : ℕ)
+        × Executes sql.now (bound params.now) (state S.Store conn.old) (state S.Store conn.new) (Ok count)) }
+    ensures err { HasCleanDisk (state S.Store conn.new) → IfErr result (λ e. LeavesOpen e → StillServes (state S.Store conn.old) (state S.Store conn.new)) }
+    ensures survives { Survives (state S.Store conn.old) (state S.Store conn.new) (CommitsBy sql.now (bound params.now) (state S.Store conn.old)) }
 {
-    let number = ValueRef::Int(signed(ballot));
-    conn.execute(
-        "INSERT OR REPLACE INTO ballot (id, number) VALUES (0, ?1)",
-        &[number],
-    )
+    match conn.execute(sql, params) {
+        Ok(_) => Ok(()),
+        Err(error) => Err(stop_for(conn, error)),
+    }
 }
 
 /// The ballot of a number of the table, where 0 stands for none.
@@ -181,21 +183,11 @@ pub fn put_tried<S: Alter>(conn: &mut Connection<S>, ballot: Ballot) -> Result<(
     ensures err { HasCleanDisk (state S.Store conn.new) → IfErr result (λ e. LeavesOpen e → StillServes (state S.Store conn.old) (state S.Store conn.new)) }
     ensures survives { Survives (state S.Store conn.old) (state S.Store conn.new) (MayHaveWritten (state S.Store conn.old) (Tries ballot)) }
 {
-    match run_put_tried(conn, ballot) {
-        Ok(_) => Ok(()),
-        Err(error) => Err(stop_for(conn, error)),
-    }
-}
-
-fn run_put_promised<S: Alter>(conn: &mut Connection<S>, ballot: Ballot) -> Result<usize, Error>
-    ensures ok { HasCleanDisk (state S.Store conn.new) → OnOk result (HasWritten (state S.Store conn.old) (state S.Store conn.new) (Promises ballot)) }
-    ensures err { HasCleanDisk (state S.Store conn.new) → OnErr result (IsTrue (state S.Store conn.new).is_open → StillServes (state S.Store conn.old) (state S.Store conn.new)) }
-    ensures survives { Survives (state S.Store conn.old) (state S.Store conn.new) (MayHaveWritten (state S.Store conn.old) (Promises ballot)) }
-{
-    let number = ValueRef::Int(signed(ballot));
-    conn.execute(
-        "INSERT OR REPLACE INTO ballot (id, number) VALUES (1, ?1)",
-        &[number],
+    let tried = ValueRef::Int(signed(ballot));
+    run(
+        conn,
+        "INSERT OR REPLACE INTO ballot (id, number) VALUES (0, ?1)",
+        &[tried],
     )
 }
 
@@ -205,28 +197,11 @@ pub fn put_promised<S: Alter>(conn: &mut Connection<S>, ballot: Ballot) -> Resul
     ensures err { HasCleanDisk (state S.Store conn.new) → IfErr result (λ e. LeavesOpen e → StillServes (state S.Store conn.old) (state S.Store conn.new)) }
     ensures survives { Survives (state S.Store conn.old) (state S.Store conn.new) (MayHaveWritten (state S.Store conn.old) (Promises ballot)) }
 {
-    match run_put_promised(conn, ballot) {
-        Ok(_) => Ok(()),
-        Err(error) => Err(stop_for(conn, error)),
-    }
-}
-
-fn run_put_vote<S: Alter>(
-    conn: &mut Connection<S>,
-    place: Place,
-    ballot: Ballot,
-    value: &Value,
-) -> Result<usize, Error>
-    ensures ok { HasCleanDisk (state S.Store conn.new) → OnOk result (HasWritten (state S.Store conn.old) (state S.Store conn.new) (Casts place record { ballot = ballot; value = value.now })) }
-    ensures err { HasCleanDisk (state S.Store conn.new) → OnErr result (IsTrue (state S.Store conn.new).is_open → StillServes (state S.Store conn.old) (state S.Store conn.new)) }
-    ensures survives { Survives (state S.Store conn.old) (state S.Store conn.new) (MayHaveWritten (state S.Store conn.old) (Casts place record { ballot = ballot; value = value.now })) }
-{
-    let at = ValueRef::Int(signed_place(place));
-    let number = ValueRef::Int(signed(ballot));
-    let bytes = ValueRef::Blob(value.as_slice());
-    conn.execute(
-        "INSERT OR REPLACE INTO vote (place, ballot, value) VALUES (?1, ?2, ?3)",
-        &[at, number, bytes],
+    let promised = ValueRef::Int(signed(ballot));
+    run(
+        conn,
+        "INSERT OR REPLACE INTO ballot (id, number) VALUES (1, ?1)",
+        &[promised],
     )
 }
 
@@ -241,8 +216,12 @@ pub fn put_vote<S: Alter>(
     ensures err { HasCleanDisk (state S.Store conn.new) → IfErr result (λ e. LeavesOpen e → StillServes (state S.Store conn.old) (state S.Store conn.new)) }
     ensures survives { Survives (state S.Store conn.old) (state S.Store conn.new) (MayHaveWritten (state S.Store conn.old) (Casts place record { ballot = ballot; value = value.now })) }
 {
-    match run_put_vote(conn, place, ballot, value) {
-        Ok(_) => Ok(()),
-        Err(error) => Err(stop_for(conn, error)),
-    }
+    let at = ValueRef::Int(signed_place(place));
+    let number = ValueRef::Int(signed(ballot));
+    let bytes = ValueRef::Blob(value.as_slice());
+    run(
+        conn,
+        "INSERT OR REPLACE INTO vote (place, ballot, value) VALUES (?1, ?2, ?3)",
+        &[at, number, bytes],
+    )
 }

@@ -1,10 +1,8 @@
-use Rattle.std.proofs.Common.{sym, subst}
-use Rattle.sqlite.specs.Listing.{understood}
-use Rattle.acceptor_store_parts.proofs.Words.{state, survives_weaker, IsPlain, never_commits, Third, facts_query, schema_of}
+use Rattle.acceptor_store_parts.proofs.Words.{state, survives_weaker, Third, facts_query, schema_of}
 use Rattle.acceptor_store_parts.proofs.Meaning.{two_columns, facts_is, plain}
 use Rattle.acceptor_store_parts.proofs.Owners.{owner_shown}
 use Rattle.acceptor_store_parts.proofs.Raw.{facts_are_shown}
-use Rattle.acceptor_store_parts.proofs.Kept.{all_same}
+use Rattle.acceptor_store_parts.proofs.Kept.{all_same, writes_none}
 use Rattle.acceptor_store_parts.proofs.Fails.{facts_typed, all_fail}
 use Rattle.acceptor_store_parts.proofs.facts.query_facts.Goals as goal
 
@@ -22,9 +20,7 @@ returns-clause-same g c clean has =
 
 pub returns-clause-survives : goal.returns-clause-survives
 returns-clause-survives g c =
-    let old = state g.S.Store c.args.conn.now in
-    let new = state g.S.Store c.query_all.new.self in
-    survives_weaker old new _ _ (λ _ db may has. never_commits facts_query _ old db (subst (λ s. IsPlain (understood s facts_query)) (sym has) (plain facts_is)) may) c.query_all.ensures.survives
+    survives_weaker (state g.S.Store c.args.conn.now) (state g.S.Store c.query_all.new.self) _ _ (λ _ db may has. writes_none facts_query _ _ _ has (plain facts_is) db may) c.query_all.ensures.survives
 
 pub returns-clause-fails : goal.returns-clause-fails
 returns-clause-fails g c clean has = all_fail 3 two_columns facts_is facts_typed (state g.S.Store c.args.conn.now) (state g.S.Store c.query_all.new.self) has c.query_all.result (c.query_all.ensures.err clean)

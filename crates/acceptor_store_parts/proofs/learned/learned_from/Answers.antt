@@ -5,4 +5,4 @@ use Rattle.acceptor_store_parts.proofs.learned.learned_from.Goals as goal
 
 pub returns-clause-value : goal.returns-clause-value
 returns-clause-value g c clean =
-    IfOk-weaker c.read_learned.result _ _ (λ got shown d was. all_learned_shown got.items (rows_from d.learned c.args.place) (sym shown ∙ (c.deref.ensures.value ∙ c.in-Ok.ensures.value clean d was))) c.read_learned.ensures.ok
+    IfOk-weaker c.read_learned.result _ _ (λ got shown d was. all_learned_shown got.items (rows_from d.learned c.args.place) (sym shown ∙ (c.deref.ensures.value ∙ c.in_ok-rows.ensures.value clean d was))) c.read_learned.ensures.ok

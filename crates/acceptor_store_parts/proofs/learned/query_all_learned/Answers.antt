@@ -1,10 +1,8 @@
-use Rattle.std.proofs.Common.{sym, subst}
-use Rattle.sqlite.specs.Listing.{understood}
-use Rattle.acceptor_store_parts.proofs.Words.{state, survives_weaker, IsPlain, never_commits, all_learned_query, schema_of}
+use Rattle.acceptor_store_parts.proofs.Words.{state, survives_weaker, all_learned_query, schema_of}
 use Rattle.acceptor_store_parts.proofs.Meaning.{two_columns, all_learned_is, plain}
 use Rattle.acceptor_store_parts.proofs.Answered.{all_learned_found}
 use Rattle.acceptor_store_parts.proofs.Raw.{learned_are_shown}
-use Rattle.acceptor_store_parts.proofs.Kept.{all_same}
+use Rattle.acceptor_store_parts.proofs.Kept.{all_same, writes_none}
 use Rattle.acceptor_store_parts.proofs.Fails.{learned_typed, all_fail}
 use Rattle.acceptor_store_parts.proofs.learned.query_all_learned.Goals as goal
 
@@ -18,9 +16,7 @@ returns-clause-same g c clean version keeps has =
 
 pub returns-clause-survives : goal.returns-clause-survives
 returns-clause-survives g c =
-    let old = state g.S.Store c.args.conn.now in
-    let new = state g.S.Store c.query_all.new.self in
-    survives_weaker old new _ _ (λ _ db may version keeps has. never_commits all_learned_query _ old db (subst (λ s. IsPlain (understood s all_learned_query)) (sym has) (plain (all_learned_is version keeps))) may) c.query_all.ensures.survives
+    survives_weaker (state g.S.Store c.args.conn.now) (state g.S.Store c.query_all.new.self) _ _ (λ _ db may version keeps has. writes_none all_learned_query _ _ _ has (plain (all_learned_is version keeps)) db may) c.query_all.ensures.survives
 
 pub returns-clause-value : goal.returns-clause-value
 returns-clause-value g c clean =

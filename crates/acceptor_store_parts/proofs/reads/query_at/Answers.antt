@@ -1,29 +1,38 @@
-use Rattle.std.proofs.Common.{sym, subst, rules, SFits, w64}
-use Rattle.acceptor_store_parts.proofs.Words.{to_z-of_z, state, survives_weaker, IsPlain, never_commits}
-use Rattle.sqlite.specs.Listing.{understood}
+use Rattle.std.proofs.Common.{inl, rules, SFits, w64, arith}
+use Rattle.acceptor_store_parts.proofs.Words.{to_z-of_z, HasCleanDisk, State, state, survives_then, survives_weaker, DoesNotServe, Asked}
+use Rattle.sqlite.specs.State.{CommitsShowing}
+use Rattle.sqlite.specs.Tree.{Trees}
 use Rattle.acceptor_store_parts.specs.Asked.{text_of}
 use Rattle.acceptor_store_parts.proofs.Answered.{asked_found, asked_plain}
-use Rattle.acceptor_store_parts.proofs.Kept.{all_result, all_failed}
+use Rattle.acceptor_store_parts.proofs.Kept.{all_ok, all_err, still_serves, writes_none}
 use Rattle.acceptor_store_parts.proofs.reads.query_at.Goals as goal
 
-pub returns-clause-value : goal.returns-clause-value
-returns-clause-value g c clean =
+-- a query of what is served writes nothing
+none_of : (asked : Asked) (params : _) (old : State) (db : Trees) → CommitsShowing (text_of asked) params old db → DoesNotServe old
+none_of asked params old db may d was = writes_none (text_of asked) params old _ was.1.schema (asked_plain asked was.0) db may
+
+pub returns-in-Ok-clause-value : goal.returns-in-Ok-clause-value
+returns-in-Ok-clause-value g c clean =
     let fits : SFits w64 c.signed_place.result = search rules in
-    asked_found (state g.S.Store c.args.conn.now) (state g.S.Store c.query_all.new.self) c.query_all.result (λ x. x.items) c.args.asked c.args.place
-    (rw (to_z-of_z, c.signed_place.ensures.value, c.text_of.ensures) at (c.query_all.ensures.ok clean))
+    asked_found (state g.S.Store c.args.conn.now) (state g.S.Store c.query_all.new.self) c.in-Ok.rows.items c.args.asked c.args.place
+    (rw (to_z-of_z, c.signed_place.ensures.value, c.text_of.ensures) at (c.in-Ok.ensures.ok clean))
 
-pub returns-clause-ok : goal.returns-clause-ok
-returns-clause-ok g c clean =
-    all_result (text_of c.args.asked) _ (state g.S.Store c.args.conn.now) (state g.S.Store c.query_all.new.self) (asked_plain c.args.asked) c.query_all.result (λ x. x.items) (rw c.text_of.ensures at (c.query_all.ensures.ok clean))
+pub returns-in-Ok-clause-stays : goal.returns-in-Ok-clause-stays
+returns-in-Ok-clause-stays g c clean _ =
+    (all_ok (text_of c.args.asked) _ (state g.S.Store c.args.conn.now) (state g.S.Store c.query_all.new.self) (asked_plain c.args.asked) c.in-Ok.rows.items (rw c.text_of.ensures at (c.in-Ok.ensures.ok clean))).1
 
-pub returns-clause-err : goal.returns-clause-err
-returns-clause-err g c clean =
-    all_failed (text_of c.args.asked) _ (state g.S.Store c.args.conn.now) (state g.S.Store c.query_all.new.self) (asked_plain c.args.asked) c.query_all.result (λ x. x.items)
-    (rw c.text_of.ensures at (c.query_all.ensures.ok clean)) (rw c.text_of.ensures at (c.query_all.ensures.err clean))
+pub returns-in-Err-clause-stays : goal.returns-in-Err-clause-stays
+returns-in-Err-clause-stays g c clean leaves owner x was =
+    let mid = state g.S.Store c.query_all.new.self in
+    let sure : HasCleanDisk mid = omega (arith, c.stop_for.ensures.survives.clean, clean) in
+    let up = c.stop_for.ensures.up clean leaves in
+    let there = all_err (text_of c.args.asked) _ (state g.S.Store c.args.conn.now) mid (asked_plain c.args.asked) c.in-Err.error (rw c.text_of.ensures at (c.in-Err.ensures.err sure)) up.0.was_open owner x was in
+    still_serves owner mid (state g.S.Store c.stop_for.new.conn) x there (inl up) up.0.is_open
 
-pub returns-clause-survives : goal.returns-clause-survives
-returns-clause-survives g c =
-    let old = state g.S.Store c.args.conn.now in
-    let new = state g.S.Store c.query_all.new.self in
-    let sql = text_of c.args.asked in
-    survives_weaker old new _ _ (λ _ db may d was. never_commits sql _ old db (subst (λ s. IsPlain (understood s sql)) (sym was.1.schema) (asked_plain c.args.asked was.0)) may) (rw c.text_of.ensures at c.query_all.ensures.survives)
+pub returns-in-Ok-clause-survives : goal.returns-in-Ok-clause-survives
+returns-in-Ok-clause-survives g c =
+    survives_weaker (state g.S.Store c.args.conn.now) (state g.S.Store c.query_all.new.self) _ _ (λ _. none_of c.args.asked _ _) (rw c.text_of.ensures at c.query_all.ensures.survives)
+
+pub returns-in-Err-clause-survives : goal.returns-in-Err-clause-survives
+returns-in-Err-clause-survives g c =
+    survives_then (state g.S.Store c.args.conn.now) (state g.S.Store c.query_all.new.self) (state g.S.Store c.stop_for.new.conn) _ _ _ (λ _. none_of c.args.asked _ _) (λ _ db no. absurd no) (rw c.text_of.ensures at c.query_all.ensures.survives) c.stop_for.ensures.survives
