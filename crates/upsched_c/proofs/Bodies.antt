@@ -1,11 +1,11 @@
 -- Each MAP of a scheduler fits the room for a body.
-use Rattle.std.proofs.Common.{◌≡◌, ℕ, suc, ◌+◌, ◌*◌, ◌≤◌, List, [], ◌∷◌, ◌++◌, length, refl, sym, ap, subst, arith, Result, Ok, Err}
+use Rattle.std.proofs.Common.{◌≡◌, ℕ, suc, ◌+◌, ◌*◌, ◌≤◌, List, [], ◌∷◌, ◌++◌, length, refl, sym, subst, arith, Result, Ok, Err}
 use Rattle.std.specs.Prelude.{IfOk}
 use Rattle.std.specs.declared.alloc.AllocError.{AllocError}
-use Rattle.std.specs.List.{flat_map, AllByRecursion, Contains}
-use Rattle.map_body.specs.declared.element.Element.{Element}
+use Rattle.std.specs.List.{AllByRecursion, Contains}
 use Rattle.map_body.specs.Body.{Body}
-use Rattle.map_body.specs.Layout.{element_bytes, layout, IsBody, IsWritten}
+use Rattle.map_body.specs.Layout.{IsBody}
+use Rattle.map_body.proofs.Readings.{spelling_len}
 use Rattle.flow_state.specs.Rows.{Rows}
 use Rattle.grant_machine.specs.declared.command.Command.{Command}
 use Rattle.grant_machine.specs.declared.output.Output.{Output}
@@ -16,22 +16,9 @@ use Rattle.grant_machine.specs.Runs.{outputs_from, outputs_of, rows_from, IsReac
 use Rattle.grant_machine.specs.Steps.{step}
 use Rattle.upsched_c_parts.specs.Outputs.{FitsRoom}
 
-pub elements_len : (es : List Element) → length (flat_map element_bytes es) ≡ 4 * length es
-elements_len [] = refl
-elements_len (e ∷ es) = let rest = elements_len es in omega arith
-
-body_len : (bytes : List ℕ) (map : Body) → IsWritten bytes map → length bytes ≤ 1036
-body_len bytes map written =
-    let len : length bytes ≡ length (layout map.head map.elements 0) = ap length written.0.spelled in
-    let rest = elements_len map.elements in
-    omega (arith, len, rest, written.0.count)
-
 -- how many elements a body has, by its length
 pub body_count : (bytes : List ℕ) (map : Body) → IsBody bytes map → length bytes ≡ 16 + 4 * length map.elements
-body_count bytes map is =
-    let len : length bytes ≡ length (layout map.head map.elements is.0) = ap length is.1.spelled in
-    let rest = elements_len map.elements in
-    omega (arith, len, rest)
+body_count bytes map is = (spelling_len bytes map.head map.elements is.0 is.1).0
 
 fits_push : (cs : List Command) (c : Command) → AllByRecursion FitsCommand cs → FitsCommand c → AllByRecursion FitsCommand (cs ++ c ∷ [])
 fits_push [] c all fits = (fits, tt)
@@ -58,7 +45,7 @@ step_fits law rows c reached fits =
     let cs = reached.0 in
     let last : Contains (outputs_of (cs ++ c ∷ [])) (step rows c).output = subst (λ (r : Rows). Contains (outputs_of (cs ++ c ∷ [])) (step r c).output) reached.2 (last_output [] cs c) in
     let body = law (cs ++ c ∷ []) ch start len bytes (fits_push cs c reached.1 fits) (subst (λ (o : Output). Contains (outputs_of (cs ++ c ∷ [])) o) same last) in
-    body_len bytes body.map body.body)
+    omega (arith, body_count bytes body.map (0, body.body.0, body.body.1), body.body.0.count))
 
 -- where a command has an output, it fits
 pub fits_if_ok : (result : Result Output AllocError) → MapsAreBodies → (rows : Rows) (c : Command) → IsReached rows → FitsCommand c

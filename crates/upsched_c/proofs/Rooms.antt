@@ -12,7 +12,7 @@ use Rattle.upsched_c.specs.declared.structs.MapHead.{MapHead}
 use Rattle.upsched_c.specs.declared.structs.MapElement.{MapElement}
 use Rattle.upsched_c.specs.Codec.{AllFit, Decodes, LacksMemory, body_of, read}
 use Rattle.upsched_c.specs.Structs.{element_value, head_value}
-use Rattle.upsched_c.proofs.Bodies.{elements_len}
+use Rattle.map_body.proofs.Readings.{spelling_len}
 
 -- a body for which no memory was found is told of by its room first
 pub lacks : (bytes : List ℕ) (head : MapHead) (es : List MapElement) (old new : ℕ) (status : Status) (body : Body) → IsBody bytes body
@@ -33,18 +33,17 @@ all_fit : (es : List MapElement) → AllFit es → AllByRecursion FitsElement (m
 all_fit [] fit = tt
 all_fit (e ∷ es) fit = (fit 0 (omega arith) e refl, all_fit es (λ k lt d at. fit (suc k) (omega (arith, lt)) d at))
 
+-- how many bytes spell a head and elements
+pub spelled_len : (head : MapHead) (es : List MapElement) (bytes : List ℕ) (made : List Element) → made ≡ map element_value es → Spells bytes (head_value head) made 0
+    → length bytes ≡ 16 + 4 * length es
+spelled_len head es bytes made same spelled =
+    let count : length made ≡ length es = ap (λ (xs : List Element). length xs) same ∙ length-map es element_value in
+    omega (arith, (spelling_len bytes (head_value head) made 0 spelled).0, count)
+
 -- the bytes that elements of a body would be written as, and how many
 pub would_be : (head : MapHead) (es : List MapElement) → FitsHead (head_value head) → AllFit es → length es ≤ 255 → AreElements (map element_value es)
     → (bytes : List ℕ) × IsWritten bytes (body_of head es) × (length bytes ≡ 16 + 4 * length es)
 would_be head es fits fit few are =
     let spelled : Spells (layout (head_value head) (map element_value es) 0) (head_value head) (map element_value es) 0 =
     record { spelled = refl; count = omega (arith, length-map es element_value, few); head_fits = fits; elements_fit = all_fit es fit } in
-    (layout (head_value head) (map element_value es) 0, (spelled, are), omega (arith, elements_len (map element_value es), length-map es element_value))
-
--- and how many there are
-pub spelled_len : (head : MapHead) (es : List MapElement) (bytes : List ℕ) (made : List Element) → made ≡ map element_value es → Spells bytes (head_value head) made 0
-    → length bytes ≡ 16 + 4 * length es
-spelled_len head es bytes made same spelled =
-    let len : length bytes ≡ length (layout (head_value head) made 0) = ap (λ (xs : List ℕ). length xs) spelled.spelled in
-    let count : length made ≡ length es = ap (λ (xs : List Element). length xs) same ∙ length-map es element_value in
-    omega (arith, len, elements_len made, count)
+    (layout (head_value head) (map element_value es) 0, (spelled, are), spelled_len head es _ _ refl spelled)

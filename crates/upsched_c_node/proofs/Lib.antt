@@ -1,4 +1,3 @@
-pub mod Handles
 pub mod Exact
 pub mod Handing
 pub mod Sending

@@ -1,1 +1,3 @@
 pub mod Values
+pub mod Owners
+pub mod Steps

@@ -1,4 +1,4 @@
-use Rattle.std.proofs.Common.{◌≡◌, ◌⊎◌, ◌≤◌, ◌+◌, true, inl, inr, sym, subst, ap, ◌∙◌, arith, map, get_or}
+use Rattle.std.proofs.Common.{◌≡◌, ◌⊎◌, ◌≤◌, true, inl, inr, sym, subst, ap, ◌∙◌, arith, map, get_or}
 use Rattle.std.proofs.lemmas.Option.{slice_get-map}
 use Rattle.std.proofs.lemmas.List.{length-map}
 use Rattle.std.specs.Option.{option_map}

@@ -1,26 +1,4 @@
 -- `of` passes on what the loose box owns.
-use Rattle.std.proofs.Common.{◌≡◌, List, [], ◌∷◌, ◌++◌, refl, sym, subst}
-use mir.Syntax.{Fn}
-use mir.Val.{Val, vptr}
-use base.Logic.{SProp, ent, emp, id⊢}
-use base.Fml.{ftrue}
-use prog.Wp.{WpFn}
-use types.Kit.{‵, raw, ◌⊛◌, ◌$◌, ◌∵◌, !, qed, by, move, keep, drop, split, fsplit, fjoin, suffices, use0}
-use types.Run.{stop, fld, of_opd, no_more, and_then, returns, enter}
-use types.ByLocal.{alloc_all, pass_all, free_all, look_at, get, get_in, sets}
-use types.Part.{agg, sub, whole}
-use contract.Monad.{fact, fact_i}
-use contract.Running.{tables}
-use denote.RattleType.{RattleType, owns}
-use denote.Signature.{types_at, plain}
-use denote.RawPtr.{block_ptr}
-use denote.Steps.{nothing}
-use denote.Triple.Entry.{alive}
-use denote.Triple.Walked.{Stays, stay_dropped, walk_of}
-use Rattle.std.proofs.alloc.Calls.{Goes-blank}
-use Rattle.std.proofs.raw_atomic.Walks.{proved_at, leaves}
-use Rattle.std.specs.declared.option.Option.{Option}
-use Rattle.std.specs.declared.option.Option.TheVariants.{Some}
 use Rattle.std.specs.contracts.alloc.Global as heap
 use Rattle.std.proofs.alloc.Global.TheLaws as heap_laws
 use Rattle.std.specs.contracts.impls.GlobalAllocator.TheImpl.{ghosts}
@@ -28,11 +6,12 @@ use Rattle.upsched_c_node.specs.declared.handle.Held.{Held}
 use Rattle.upsched_c_node.specs.contracts.handle.Held as inner
 use Rattle.upsched_c_parts.specs.contracts.loose.Loose as loose
 use Rattle.upsched_c_parts.proofs.Values.{both, loose_good, loose_out}
-use Rattle.upsched_c_node.proofs.Handles.{alone, owner_in}
+use Rattle.upsched_c_parts.proofs.Owners.{alone, owner_in}
 use Rattle.upsched_c_node.specs.contracts.handle.Owner.of.{ended, clauses}
 use Rattle.upsched_c_node.specs.contracts.handle.Owner.of.Key.{name as #self}
 use Rattle.upsched_c_node.proofs.handle.Owner.of.Statement.{statement}
 use Rattle.upsched_c_node.proofs.handle.Owner.of.Code as code
+use Rattle.upsched_c_parts.proofs.Steps.{◌≡◌, List, [], ◌∷◌, ◌++◌, refl, sym, subst, Fn, Val, vptr, SProp, ent, emp, id⊢, ftrue, WpFn, ‵, raw, ◌⊛◌, ◌$◌, ◌∵◌, !, qed, by, move, keep, drop, split, fsplit, fjoin, suffices, use0, stop, fld, of_opd, no_more, and_then, returns, enter, alloc_all, pass_all, free_all, look_at, get, get_in, sets, agg, sub, whole, fact, fact_i, tables, RattleType, owns, types_at, plain, block_ptr, nothing, alive, Stays, stay_dropped, walk_of, Goes-blank, proved_at, leaves, Option, Some}
 
 pub of_spec : {M : Type 1} → statement M
 of_spec 𝓤 𝓛 𝓜 𝓡 wired =
@@ -48,7 +27,7 @@ of_spec 𝓤 𝓛 𝓜 𝓡 wired =
     sets ! (of_opd ! (get_in ! (fld ! refl (stop !)) (sub ! 0 refl (whole !)))) refl (tt, tt) $
     sets ! (of_opd ! (get ! refl)) refl (tt, tt) $
     sets ! (agg ! (and_then ! (get ! refl) (no_more !))) refl (tt, (tt, tt)) $
-    move ! (1 ∷ []) $ drop ! $ owner_in ! a b o l.value $
+    move ! (1 ∷ []) $ drop ! $ owner_in R ! a b o l.value $
     use0 𝓛 (raw (fact 𝓤 (some_x ≡ some_x))) (fact_i 𝓤 (some_x ≡ some_x) (emp 𝓤) refl) $ nothing ! $ nothing ! $ fjoin ! $
     returns ! (look_at ! 0 refl) $ free_all ! refl $ keep ! (4 ∷ 0 ∷ 2 ∷ 1 ∷ []) $
     by ! (leaves 𝓛 En hs c z (alone (vptr b o)) (record { at = block_ptr b o; value = some_x }) (tt, tt) (tt, tt)))))
