@@ -17,6 +17,9 @@ use map_text::{Deed, channels_of};
 use std::alloc::{AllocError, Global};
 use xml_text::{Layers, add_words, drawing};
 
+/// A time that is written in more than twelve digits.
+const LATE: u64 = 1_000_000_000_000;
+
 fn channel_height(alloc: Global, deeds: &[Deed], ch: u8) -> Result<u64, AllocError>
     requires { length deeds.now < 2 ^ 27 }
     ensures value { IfOk result (λ height. height ≡ channel_height deeds.now ch) }
@@ -168,7 +171,7 @@ fn layers_of(
     requires tops { tops.now ≡ tops_from deeds.now first_top channels.now }
     ensures { IfOk result (λ all. (known : Xml) × AreDrawn all (layers deeds.now known)) }
 {
-    let title = format!(in alloc; "The MAPs of a plan of {} commands", deeds.len())?;
+    let title = format!(in alloc; "The MAPs of {} commands", deeds.len())?;
     let bands = channels_drawn(alloc, deeds, channels, tops)?;
     let labels = legend(alloc, title.as_str(), NOTE)?;
     Ok(Layers {
@@ -197,7 +200,19 @@ fn drawn_so(
     Ok(text)
 }
 
-/// The picture of what the commands of a plan did, as an SVG document.
+/// How wide the picture is: the words on its right need more room where they tell a late time.
+fn width_of(deeds: &[Deed]) -> u64 {
+    for deed in deeds {
+        if let Deed::Map { start, .. } = deed {
+            if start.get() >= LATE {
+                return 1180;
+            }
+        }
+    }
+    1082
+}
+
+/// The picture of what commands did, as an SVG document.
 pub fn picture(alloc: Global, deeds: &[Deed]) -> Result<String, AllocError>
     requires { length deeds.now < 2 ^ 26 }
     ensures { IfOk result (λ text. IsPictureOf deeds.now (string_bytes text)) }
@@ -212,5 +227,6 @@ pub fn picture(alloc: Global, deeds: &[Deed]) -> Result<String, AllocError>
         Some(top) => *top,
         None => 0,
     };
-    drawn_so(alloc, deeds, (1082, height), "upsched MAPs", STYLE, &all)
+    let size = (width_of(deeds), height);
+    drawn_so(alloc, deeds, size, "upsched MAPs", STYLE, &all)
 }

@@ -126,10 +126,10 @@ id_faults n d =
     if is_number 4294967295 d then [] else
     record { place = places.Modem n; kind = kinds.Modem; key = keys.Id; wants = word; found = found_in d } ∷ []
 
--- the faults of items that are numbered from n on
-abbrev pub numbered : (ℕ → Data → List Fault) → ℕ → List Data → List Fault
-numbered faults n [] = []
-numbered faults n (d ∷ ds) = faults n d ++ numbered faults (n + 1) ds
+-- what is told of items that are numbered from n on
+abbrev pub numbered : {X : Type 0} → (ℕ → Data → List X) → ℕ → List Data → List X
+numbered told n [] = []
+numbered told n (d ∷ ds) = told n d ++ numbered told (n + 1) ds
 
 -- the faults of a plan, and of a script
 abbrev pub plan_faults : Data → List Fault

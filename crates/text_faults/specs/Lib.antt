@@ -5,3 +5,4 @@ pub mod Items
 pub mod Faults
 pub mod Texts
 pub mod Unfit
+pub mod Unread

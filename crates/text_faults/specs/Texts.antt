@@ -31,8 +31,8 @@ subject_text kinds.Command = []
 subject_text kinds.Event = []
 subject_text kind = codes ": " ++ kind_name kind
 
-abbrev pub head_text : Fault → List ℕ
-head_text f = place_text f.place ++ subject_text f.kind
+abbrev pub head_text : Place → Kind → List ℕ
+head_text place kind = place_text place ++ subject_text kind
 
 -- what is wanted at a key
 abbrev pub number_text : ℕ → List ℕ
@@ -82,11 +82,11 @@ is_nothing _ = false
 
 -- the table, the key, what is there, and what is wanted
 abbrev pub lacking_text : Fault → List ℕ
-lacking_text f = head_text f ++ (codes " lacks \"" ++ (key_name f.key ++ (codes "\", " ++ wanted_text f.wants)))
+lacking_text f = head_text f.place f.kind ++ (codes " lacks \"" ++ (key_name f.key ++ (codes "\", " ++ wanted_text f.wants)))
 
 abbrev pub unfit_text : Fault → List ℕ
 unfit_text f =
-    head_text f ++ (codes ": " ++ (key_name f.key ++ (codes " is " ++ (found_text f.wants f.found ++ (codes ", not " ++ wanted_text f.wants)))))
+    head_text f.place f.kind ++ (codes ": " ++ (key_name f.key ++ (codes " is " ++ (found_text f.wants f.found ++ (codes ", not " ++ wanted_text f.wants)))))
 
 abbrev pub fault_text : Fault → List ℕ
 fault_text f = if is_nothing f.found then lacking_text f else unfit_text f

@@ -6,6 +6,7 @@ mod kind;
 mod row;
 mod search;
 mod texts;
+mod unread;
 mod wants;
 
 pub use fault::{Fault, Found, Place};
@@ -13,3 +14,4 @@ pub use kind::{Group, Kind};
 pub use row::{Key, Wants};
 pub use search::{plan_faults, script_faults};
 pub use texts::fault_text;
+pub use unread::{Unread, plan_unread, script_unread, unread_text};

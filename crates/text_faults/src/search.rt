@@ -55,7 +55,7 @@ fn note_keys(
 }
 
 /// The further kind that a table of a kind names.
-fn chosen(kind: Kind, table: &Value) -> Option<Kind>
+pub(crate) fn chosen(kind: Kind, table: &Value) -> Option<Kind>
     ensures { result ≡ chosen kind (view table.now) }
 {
     let (key, group) = kind.choice()?;
@@ -144,7 +144,7 @@ fn note_offered(
 }
 
 /// Whether the table is of a kind that offers something.
-fn is_offer(table: &Value) -> bool
+pub(crate) fn is_offer(table: &Value) -> bool
     ensures { result ≡ is_offer (chosen kinds.Event (view table.now)) }
 {
     match chosen(Kind::Event, table) {
@@ -185,7 +185,7 @@ fn note_id(faults: &mut Vec<Fault>, index: usize, item: &Value) -> Result<(), Al
 }
 
 /// The items of the array under a key, none where there is no array.
-fn items_at<'a>(table: &'a Value, key: &str) -> &'a [Value]
+pub(crate) fn items_at<'a>(table: &'a Value, key: &str) -> &'a [Value]
     ensures { map view result.now ≡ items_at (view table.now) key.now }
 {
     match table.get(key) {

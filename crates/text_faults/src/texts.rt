@@ -31,11 +31,11 @@ fn subject_text(alloc: Global, kind: Kind) -> Result<String, AllocError>
     }
 }
 
-fn head_text(alloc: Global, fault: &Fault) -> Result<String, AllocError>
-    ensures { IfOk result (λ text. string_bytes text ≡ head_text fault.now) }
+pub(crate) fn head_text(alloc: Global, place: Place, kind: Kind) -> Result<String, AllocError>
+    ensures { IfOk result (λ text. string_bytes text ≡ head_text place kind) }
 {
-    let place = place_text(alloc, fault.place)?;
-    let subject = subject_text(alloc, fault.kind)?;
+    let place = place_text(alloc, place)?;
+    let subject = subject_text(alloc, kind)?;
     format!(in alloc; "{place}{subject}")
 }
 
@@ -95,7 +95,7 @@ fn found_text(alloc: Global, wants: Wants, found: Found) -> Result<String, Alloc
 pub fn fault_text(alloc: Global, fault: &Fault) -> Result<String, AllocError>
     ensures { IfOk result (λ text. string_bytes text ≡ fault_text fault.now) }
 {
-    let head = head_text(alloc, fault)?;
+    let head = head_text(alloc, fault.place, fault.kind)?;
     let key = fault.key.name();
     let wanted = wanted_text(alloc, fault.wants)?;
     if fault.found.is_nothing() {

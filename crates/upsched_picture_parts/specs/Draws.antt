@@ -1,15 +1,19 @@
--- What `draw` prints of a script.
+-- What `draw` prints of a script, and of the commands that nodes learn in it.
 use Rattle.std.specs.Prelude.{ℕ, List, [], ◌∷◌, ◌++◌, Option, Some, None}
 use Rattle.std.specs.Io.KnownBytes.{Appends}
 use Rattle.ballots.specs.declared.members.Members.{Members}
 use Rattle.ballots.specs.Members.{member_count}
 use Rattle.seats.specs.declared.answer.Answer.{Answer}
 use Rattle.world_events.specs.declared.event.Event.{Event}
+use Rattle.grant_machine.specs.declared.command.Command.{Command}
+use Rattle.network_script.specs.Next.{Run}
 use Rattle.network_script.specs.World.{Written, opening}
 use Rattle.watched_runs.specs.Sights.{GoesWatched}
 use Rattle.watched_runs.specs.declared.sight.Sight.{Sight}
 use Rattle.script_text.specs.Script.{IsScript}
 use Rattle.run_picture.specs.Pictures.{IsPictureOf}
+use Rattle.upsched_sight_parts.specs.Draws.{DrawsCommands, TellsCommands}
+use Rattle.learned_commands.specs.Learned.{AreMostLearned}
 
 -- what is printed is a picture of a run with this report, of which this was seen, and which left this world
 abbrev pub DrawsRun : ℕ → List ℕ → List Event → List Answer → List (Option Sight) → Written → Option (List ℕ) → Option (List ℕ) → Type 0
@@ -27,3 +31,23 @@ abbrev pub DrawsScript : Option (List ℕ) → Option (List ℕ) → Option (Lis
 DrawsScript None old new = Unit {0}
 DrawsScript (Some text) old new =
     (count : Members) × (ids : List ℕ) × (events : List Event) × IsScript text count ids events × DrawsEvents (member_count count) ids events old new
+
+-- ---- the MAPs of a run
+
+-- the events may go so, over so many fresh nodes and new modems of these ids, that in the end these are the commands of a node that has learned most
+abbrev pub LeavesLearned : ℕ → List ℕ → List Event → List Command → Type 0
+LeavesLearned members ids events cs = (report : List Answer) × (w : Written) × Run members ids events report w × AreMostLearned w.nodes cs
+
+-- so in the script that a text is
+abbrev pub LearnsFrom : List ℕ → List Command → Type 0
+LearnsFrom text cs = (count : Members) × (ids : List ℕ) × (events : List Event) × IsScript text count ids events × LeavesLearned (member_count count) ids events cs
+
+-- what is printed is a picture of what these commands do, as it is of a plan's, where the script's text is known
+abbrev pub DrawsLearned : Option (List ℕ) → Option (List ℕ) → Option (List ℕ) → Type 0
+DrawsLearned None old new = Unit {0}
+DrawsLearned (Some text) old new = (cs : List Command) × LearnsFrom text cs × DrawsCommands cs old new
+
+-- or the text of it
+abbrev pub TellsLearned : Option (List ℕ) → Option (List ℕ) → Option (List ℕ) → Type 0
+TellsLearned None old new = Unit {0}
+TellsLearned (Some text) old new = (cs : List Command) × LearnsFrom text cs × TellsCommands cs old new

@@ -12,7 +12,7 @@ use Rattle.map_text.specs.Deeds.{IsDeedOf, AreDeeds}
 use Rattle.map_text.specs.Texts.{plan_text}
 use Rattle.upsched_map_parts.specs.Plan.{IsPlan}
 use Rattle.map_picture.specs.Pictures.{IsPictureOf}
-use Rattle.upsched_sight_parts.specs.Draws.{DrawsMaps, TellsMaps}
+use Rattle.upsched_sight_parts.specs.Draws.{DrawsCommands, DrawsMaps, TellsCommands, TellsMaps}
 use Rattle.upsched_sight_parts.proofs.Captured.{outputs_next, rows_next}
 
 -- one deed more
@@ -43,15 +43,23 @@ one_done cs i b m m' ds d below before rows is =
           (subst (λ (xs : List Command). AreDeeds xs (outputs_of (take i cs) ++ (step m c).output ∷ []) (ds ++ d ∷ [])) (sym whole) more);
     }
 
--- where the text of what a plan's commands did was printed, the plan's was told
-pub maps_told : {T E : Type 0} (r : Result T E) (known old new : Option (List ℕ)) (cs : List Command) (ds : List Deed) → IfSome known (λ text. IsPlan text cs)
-    → AreDeeds cs (outputs_of cs) ds → OnOk r (Appends old new (plan_text ds)) → OnOk r (TellsMaps known old new)
-maps_told (Err e) known old new cs ds plan are printed = tt
-maps_told (Ok x) None old new cs ds plan are printed = tt
-maps_told (Ok x) (Some text) old new cs ds plan are printed = (cs, ds, plan, are, printed)
+-- where the text of what commands did was printed
+pub commands_told : {T E : Type 0} (r : Result T E) (old new : Option (List ℕ)) (cs : List Command) (ds : List Deed) → AreDeeds cs (outputs_of cs) ds
+    → OnOk r (Appends old new (plan_text ds)) → OnOk r (TellsCommands cs old new)
+commands_told (Err e) old new cs ds are printed = tt
+commands_told (Ok x) old new cs ds are printed = (ds, are, printed)
 
 -- and where a picture of it was
-pub maps_drawn : (known old new : Option (List ℕ)) (cs : List Command) (ds : List Deed) → IfSome known (λ text. IsPlan text cs)
-    → AreDeeds cs (outputs_of cs) ds → (svg : List ℕ) × IsPictureOf ds svg × Appends old new (svg ++ 10 ∷ []) → DrawsMaps known old new
-maps_drawn None old new cs ds plan are printed = tt
-maps_drawn (Some text) old new cs ds plan are printed = (cs, ds, printed.0, plan, are, printed.1, printed.2)
+pub commands_drawn : {T E : Type 0} (r : Result T E) (old new : Option (List ℕ)) (cs : List Command) (ds : List Deed) → AreDeeds cs (outputs_of cs) ds
+    → OnOk r ((svg : List ℕ) × IsPictureOf ds svg × Appends old new (svg ++ 10 ∷ [])) → OnOk r (DrawsCommands cs old new)
+commands_drawn (Err e) old new cs ds are printed = tt
+commands_drawn (Ok x) old new cs ds are printed = (ds, printed.0, are, printed.1, printed.2)
+
+-- and where the commands are a plan's
+pub maps_told : (known old new : Option (List ℕ)) (cs : List Command) → IfSome known (λ text. IsPlan text cs) → TellsCommands cs old new → TellsMaps known old new
+maps_told None old new cs plan told = tt
+maps_told (Some text) old new cs plan told = (cs, plan, told)
+
+pub maps_drawn : (known old new : Option (List ℕ)) (cs : List Command) → IfSome known (λ text. IsPlan text cs) → DrawsCommands cs old new → DrawsMaps known old new
+maps_drawn None old new cs plan drawn = tt
+maps_drawn (Some text) old new cs plan drawn = (cs, plan, drawn)

@@ -1,9 +1,7 @@
 -- Each MAP of a scheduler fits a frame.
-use Rattle.std.proofs.Common.{◌≡◌, ℕ, suc, ◌*◌, ◌≤◌, List, [], ◌∷◌, ◌++◌, length, refl, ap, subst, arith}
-use Rattle.std.specs.List.{flat_map, AllByRecursion, Contains}
-use Rattle.map_body.specs.declared.element.Element.{Element}
-use Rattle.map_body.specs.Body.{Body}
-use Rattle.map_body.specs.Layout.{element_bytes, layout, IsWritten}
+use Rattle.std.proofs.Common.{◌≡◌, ℕ, suc, ◌≤◌, List, [], ◌∷◌, ◌++◌, length, refl, subst, arith}
+use Rattle.std.specs.List.{AllByRecursion, Contains}
+use Rattle.map_body.proofs.Readings.{spelling_len}
 use Rattle.flow_state.specs.Rows.{Rows}
 use Rattle.grant_machine.specs.declared.command.Command.{Command}
 use Rattle.grant_machine.specs.declared.output.Output.{Output}
@@ -13,16 +11,6 @@ use Rattle.grant_machine.specs.Laws.{MapsAreBodies}
 use Rattle.grant_machine.specs.Runs.{outputs_from, outputs_of, rows_from, IsReached}
 use Rattle.grant_machine.specs.Steps.{step}
 use Rattle.upsched_sight_parts.specs.Plans.{FitsFrame}
-
-elements_len : (es : List Element) → length (flat_map element_bytes es) ≡ 4 * length es
-elements_len [] = refl
-elements_len (e ∷ es) = let rest = elements_len es in omega arith
-
-body_len : (bytes : List ℕ) (map : Body) → IsWritten bytes map → length bytes ≤ 1036
-body_len bytes map written =
-    let len : length bytes ≡ length (layout map.head map.elements 0) = ap length written.0.spelled in
-    let rest = elements_len map.elements in
-    omega (arith, len, rest, written.0.count)
 
 fits_push : (cs : List Command) (c : Command) → AllByRecursion FitsCommand cs → FitsCommand c → AllByRecursion FitsCommand (cs ++ c ∷ [])
 fits_push [] c all fits = (fits, tt)
@@ -49,4 +37,4 @@ step_fits law rows c reached fits =
     let cs = reached.0 in
     let last : Contains (outputs_of (cs ++ c ∷ [])) (step rows c).output = subst (λ (r : Rows). Contains (outputs_of (cs ++ c ∷ [])) (step r c).output) reached.2 (last_output [] cs c) in
     let body = law (cs ++ c ∷ []) ch start len bytes (fits_push cs c reached.1 fits) (subst (λ (o : Output). Contains (outputs_of (cs ++ c ∷ [])) o) same last) in
-    body_len bytes body.map body.body)
+    omega (arith, (spelling_len bytes body.map.head body.map.elements 0 body.body.0).0, body.body.0.count))

@@ -4,3 +4,4 @@ mod Fitting
 mod Captured
 mod Told
 mod Drawn
+mod Lines

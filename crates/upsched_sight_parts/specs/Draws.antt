@@ -1,4 +1,4 @@
--- What is told of a plan by its MAPs' text, and by their picture.
+-- What is told of commands, and of a plan, by the text and by the picture of their MAPs.
 use Rattle.std.specs.Prelude.{ℕ, List, [], ◌∷◌, ◌++◌, Option, Some, None}
 use Rattle.std.specs.Io.KnownBytes.{Appends}
 use Rattle.grant_machine.specs.declared.command.Command.{Command}
@@ -9,13 +9,19 @@ use Rattle.map_text.specs.Texts.{plan_text}
 use Rattle.map_picture.specs.Pictures.{IsPictureOf}
 use Rattle.upsched_map_parts.specs.Plan.{IsPlan}
 
--- what is printed is the text of what the plan's commands did, where the plan's text is known
+-- what is printed is the text of what these commands did
+abbrev pub TellsCommands : List Command → Option (List ℕ) → Option (List ℕ) → Type 0
+TellsCommands cs old new = (ds : List Deed) × AreDeeds cs (outputs_of cs) ds × Appends old new (plan_text ds)
+
+-- what is printed is a picture of what these commands did
+abbrev pub DrawsCommands : List Command → Option (List ℕ) → Option (List ℕ) → Type 0
+DrawsCommands cs old new = (ds : List Deed) × (svg : List ℕ) × AreDeeds cs (outputs_of cs) ds × IsPictureOf ds svg × Appends old new (svg ++ 10 ∷ [])
+
+-- so of the commands of a plan, where its text is known
 abbrev pub TellsMaps : Option (List ℕ) → Option (List ℕ) → Option (List ℕ) → Type 0
 TellsMaps None old new = Unit {0}
-TellsMaps (Some text) old new = (cs : List Command) × (ds : List Deed) × IsPlan text cs × AreDeeds cs (outputs_of cs) ds × Appends old new (plan_text ds)
+TellsMaps (Some text) old new = (cs : List Command) × IsPlan text cs × TellsCommands cs old new
 
--- what is printed is a picture of what the plan's commands did, where the plan's text is known
 abbrev pub DrawsMaps : Option (List ℕ) → Option (List ℕ) → Option (List ℕ) → Type 0
 DrawsMaps None old new = Unit {0}
-DrawsMaps (Some text) old new =
-    (cs : List Command) × (ds : List Deed) × (svg : List ℕ) × IsPlan text cs × AreDeeds cs (outputs_of cs) ds × IsPictureOf ds svg × Appends old new (svg ++ 10 ∷ [])
+DrawsMaps (Some text) old new = (cs : List Command) × IsPlan text cs × DrawsCommands cs old new

@@ -6,6 +6,7 @@ use Rattle.toml.specs.Parse.{parse_document}
 use Rattle.text_faults.specs.declared.fault.Fault.{Fault}
 use Rattle.text_faults.specs.Faults.{plan_faults, script_faults, IsPlanTable, IsScript}
 use Rattle.text_faults.specs.Texts.{fault_text}
+use Rattle.text_faults.specs.Unread.{KeyThere, plan_unread, script_unread, unread_text}
 use Rattle.upsched_sight_parts.specs.declared.form.Form.{Form}
 use Rattle.upsched_sight_parts.specs.declared.form.Form.TheVariants.{Plan, Script}
 use Rattle.upsched_sight_parts.specs.Lines.{line_of, column_of}
@@ -34,6 +35,10 @@ abbrev pub faults_of : Form → Data → List Fault
 faults_of Plan d = plan_faults d
 faults_of Script d = script_faults d
 
+abbrev pub unread_of : Form → Data → List KeyThere
+unread_of Plan d = plan_unread d
+unread_of Script d = script_unread d
+
 -- the table is read as this
 abbrev pub IsForm : Form → Members → Type 0
 IsForm Plan ms = IsPlanTable ms
@@ -47,6 +52,10 @@ IsGood said text = (ms : Members) × (parse_document text ≡ Some ms) × IsForm
 
 abbrev pub fault_line : List ℕ → Fault → List ℕ
 fault_line path f = path ++ (codes ": " ++ (fault_text f ++ 10 ∷ []))
+
+-- the line of a key that nothing reads
+abbrev pub unread_line : List ℕ → KeyThere → List ℕ
+unread_line path u = path ++ (codes ": " ++ (unread_text u ++ 10 ∷ []))
 
 -- what is told of a text without a fault, and also where that key isn't there
 abbrev pub good_text : Form → Bool → List ℕ
@@ -73,9 +82,14 @@ abbrev pub is_empty : List Fault → Bool
 is_empty [] = true
 is_empty (f ∷ fs) = false
 
+-- what is printed of a table that is looked at as this: of its faults, and then of each key that nothing reads
+abbrev pub form_lines : List ℕ → Form → Data → List ℕ
+form_lines path form d =
+    fault_lines path form (is_bare form d) (faults_of form d) ++ flat_map (unread_line path) (unread_of form d)
+
 -- what is printed of a table, and whether it is good
 abbrev pub table_lines : List ℕ → Option Form → Data → List ℕ
-table_lines path said d = fault_lines path (form_of said d) (is_bare (form_of said d) d) (faults_of (form_of said d) d)
+table_lines path said d = form_lines path (form_of said d) d
 
 abbrev pub is_good : Option Form → Data → Bool
 is_good said d = is_empty (faults_of (form_of said d) d)

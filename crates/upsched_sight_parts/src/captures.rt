@@ -116,6 +116,6 @@ pub fn capture<R: Read, O: Write, E: Write>(
 {
     match write_capture(alloc, plan, words.plan, output) {
         Ok(()) => Status::Done,
-        Err(refusal) => refusal.told(errors),
+        Err(refusal) => refusal.told("run", errors),
     }
 }

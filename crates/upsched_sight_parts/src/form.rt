@@ -1,12 +1,13 @@
 //! What a text is to be.
 
-ghost use Rattle.std.specs.Prelude.{◌≡◌, IfOk};
+ghost use Rattle.std.specs.Prelude.{◌≡◌, IfOk, map};
 ghost use Rattle.toml.specs.View.{view};
 ghost use Rattle.text_faults.specs.Faults.{TellsWhether};
-ghost use Rattle.upsched_sight_parts.specs.Reports.{IsForm, is_script, form_of, faults_of};
+ghost use Rattle.text_faults.specs.Unread.{key_there};
+ghost use Rattle.upsched_sight_parts.specs.Reports.{IsForm, is_script, form_of, faults_of, unread_of};
 
 use std::alloc::{AllocError, Global};
-use text_faults::{Fault, plan_faults, script_faults};
+use text_faults::{Fault, Unread, plan_faults, plan_unread, script_faults, script_unread};
 use toml::Value;
 
 /// What a text is looked at as.
@@ -74,5 +75,14 @@ pub(crate) fn faults_of(alloc: Global, form: Form, whole: &Value) -> Result<Vec<
     match form {
         Form::Plan => plan_faults(alloc, whole),
         Form::Script => script_faults(alloc, whole),
+    }
+}
+
+pub(crate) fn unread_of(alloc: Global, form: Form, whole: &Value) -> Result<Vec<Unread>, AllocError>
+    ensures { IfOk result (λ unread. map key_there unread.items ≡ unread_of form (view whole.now)) }
+{
+    match form {
+        Form::Plan => plan_unread(alloc, whole),
+        Form::Script => script_unread(alloc, whole),
     }
 }

@@ -15,7 +15,7 @@ mod sight;
 pub use captures::capture;
 pub use form::{CheckWords, Form};
 pub use named_body::show_names;
-pub use plan_draws::{draw_plan, draw_text};
+pub use plan_draws::{draw_commands, draw_plan, draw_text, tell_commands};
 pub use plan_stats::stats;
 pub use plan_words::{CaptureWords, StatsWords, is_plan_text, tell_plan};
 pub use sight::{check, report};

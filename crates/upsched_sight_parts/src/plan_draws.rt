@@ -10,7 +10,7 @@ ghost use Rattle.upsched_map_parts.specs.declared.status.Status.TheVariants.{Don
 ghost use Rattle.upsched_map_parts.specs.Plan.{NoPlan};
 ghost use Rattle.upsched_sight_parts.specs.Plans.{IsKnownScript};
 ghost use Rattle.map_picture.specs.Pictures.{IsPictureOf};
-ghost use Rattle.upsched_sight_parts.specs.Draws.{DrawsMaps, TellsMaps};
+ghost use Rattle.upsched_sight_parts.specs.Draws.{DrawsCommands, DrawsMaps, TellsCommands, TellsMaps};
 
 use crate::captures::{answer_of, write_bytes};
 use crate::plan_stats::not_added;
@@ -24,6 +24,9 @@ use upsched_map_parts::{Fault, Status};
 
 /// As many commands as a picture may have: more would not fit into memory.
 const MANY: usize = 10_000_000;
+
+/// The words that draw a script's MAPs.
+const MAPS_OF_A_SCRIPT: &str = "draw --maps";
 
 /// Applies a command: what it did.
 fn deed_done<'a>(alloc: Global, machine: &mut Machine, command: &Command) -> Result<Deed, Fault<'a>>
@@ -39,8 +42,8 @@ fn deed_done<'a>(alloc: Global, machine: &mut Machine, command: &Command) -> Res
     }
 }
 
-/// What the commands of a plan did.
-pub(crate) fn deeds_of<'a>(alloc: Global, commands: &[Command]) -> Result<Vec<Deed>, Fault<'a>>
+/// What commands did.
+fn deeds_of<'a>(alloc: Global, commands: &[Command]) -> Result<Vec<Deed>, Fault<'a>>
     ensures { IfOk result (λ deeds. AreDeeds commands.now (outputs_of commands.now) deeds.items) }
 {
     let mut machine = Machine::new(alloc);
@@ -82,21 +85,29 @@ fn print_channels<'a, O: Write>(
     Ok(())
 }
 
-fn print_deeds<'a, O: Write>(
-    alloc: Global,
-    deeds: &[Deed],
-    output: &mut O,
-) -> Result<(), Refusal<'a>>
+fn print_deeds<'a, O: Write>(alloc: Global, deeds: &[Deed], output: &mut O) -> Result<(), Fault<'a>>
     ensures { OnOk result (Appends (O.contents output.old) (O.contents output.new) (plan_text deeds.now)) }
 {
     let Ok(channels) = channels_of(alloc, deeds) else {
-        return Err(Refusal::Fault(Fault::Memory));
+        return Err(Fault::Memory);
     };
     print_channels(alloc, deeds, channels.as_slice(), output)?;
     match output.flush() {
         Ok(()) => Ok(()),
-        Err(_) => Err(Refusal::Fault(Fault::Output)),
+        Err(_) => Err(Fault::Output),
     }
+}
+
+/// Applies commands to one scheduler and prints its MAPs for a terminal of 100 columns.
+pub fn tell_commands<'a, O: Write>(
+    alloc: Global,
+    commands: &[Command],
+    output: &mut O,
+) -> Result<(), Fault<'a>>
+    ensures { OnOk result (TellsCommands commands.now (O.contents output.old) (O.contents output.new)) }
+{
+    let deeds = deeds_of(alloc, commands)?;
+    print_deeds(alloc, deeds.as_slice(), output)
 }
 
 fn print_plan<'a, R: Read, O: Write>(
@@ -110,8 +121,8 @@ fn print_plan<'a, R: Read, O: Write>(
     ensures script { IsKnownScript (R.remaining plan.old) → output.new ≡ output.old }
 {
     let commands = commands_of(alloc, plan, path)?;
-    let deeds = deeds_of(alloc, commands.as_slice())?;
-    print_deeds(alloc, deeds.as_slice(), output)
+    tell_commands(alloc, commands.as_slice(), output)?;
+    Ok(())
 }
 
 /// Applies a plan's commands to one scheduler and prints its MAPs for a terminal of 100 columns, and what became of
@@ -131,7 +142,7 @@ pub fn draw_text<R: Read, O: Write, E: Write>(
 {
     match print_plan(alloc, plan, path, output) {
         Ok(()) => Status::Done,
-        Err(refusal) => refusal.told(errors),
+        Err(refusal) => refusal.told(MAPS_OF_A_SCRIPT, errors),
     }
 }
 
@@ -158,6 +169,18 @@ fn print_picture<'a, O: Write>(
     }
 }
 
+/// Applies commands to one scheduler and prints a picture of its MAPs as an SVG document.
+pub fn draw_commands<'a, O: Write>(
+    alloc: Global,
+    commands: &[Command],
+    output: &mut O,
+) -> Result<(), Fault<'a>>
+    ensures { OnOk result (DrawsCommands commands.now (O.contents output.old) (O.contents output.new)) }
+{
+    let deeds = deeds_of(alloc, commands)?;
+    print_picture(alloc, deeds.as_slice(), output)
+}
+
 fn print_drawn<'a, R: Read, O: Write>(
     alloc: Global,
     plan: &mut R,
@@ -169,8 +192,7 @@ fn print_drawn<'a, R: Read, O: Write>(
     ensures script { IsKnownScript (R.remaining plan.old) → output.new ≡ output.old }
 {
     let commands = commands_of(alloc, plan, path)?;
-    let deeds = deeds_of(alloc, commands.as_slice())?;
-    print_picture(alloc, deeds.as_slice(), output)?;
+    draw_commands(alloc, commands.as_slice(), output)?;
     Ok(())
 }
 
@@ -191,6 +213,6 @@ pub fn draw_plan<R: Read, O: Write, E: Write>(
 {
     match print_drawn(alloc, plan, path, output) {
         Ok(()) => Status::Done,
-        Err(refusal) => refusal.told(errors),
+        Err(refusal) => refusal.told(MAPS_OF_A_SCRIPT, errors),
     }
 }

@@ -267,6 +267,6 @@ pub fn stats<R: Read, O: Write, E: Write>(
 {
     match print_stats(alloc, plan, words.plan, output) {
         Ok(()) => Status::Done,
-        Err(refusal) => refusal.told(errors),
+        Err(refusal) => refusal.told("run", errors),
     }
 }

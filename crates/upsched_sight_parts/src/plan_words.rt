@@ -42,14 +42,17 @@ impl<'a> From<Fault<'a>> for Refusal<'a> {
 }
 
 impl<'a> Refusal<'a> {
-    /// Writes its line and gives the status that goes with it.
-    pub fn told<E: Write>(&self, errors: &mut E) -> Status
+    /// Writes its line, which says of a script what takes it, and gives the status that goes with it.
+    pub fn told<E: Write>(&self, taker: &str, errors: &mut E) -> Status
         ensures { result ≡ Faulted }
     {
         match self {
             Refusal::Fault(fault) => fault.told(errors),
             Refusal::Script(path) => {
-                let _ = writeln!(errors, "upsched: {path} is a script: upsched run takes it");
+                let _ = writeln!(
+                    errors,
+                    "upsched: {path} is a script: upsched {taker} takes it"
+                );
                 Status::Faulted
             }
         }

@@ -1,20 +1,21 @@
 //! `upsched check FILE`: what is wrong with a text, line by line.
 
-ghost use Rattle.std.specs.Prelude.{◌≡◌, ◌≢◌, ◌≤◌, ◌↔◌, IfOk, OnOk, ℕ, List, flat_map, length, string_bytes, true};
+ghost use Rattle.std.specs.Prelude.{◌≡◌, ◌≢◌, ◌≤◌, ◌↔◌, IfOk, OnOk, ℕ, List, flat_map, map, length, string_bytes, true};
 ghost use Rattle.std.specs.Io.KnownBytes.{Appends};
 ghost use Rattle.toml.specs.Data.{table};
 ghost use Rattle.toml.specs.View.{view, table_view};
 ghost use Rattle.toml.specs.Parse.{parse_document};
 ghost use Rattle.toml.specs.Errors.{IsWithin};
 ghost use Rattle.text_faults.specs.Faults.{TellsWhether};
+ghost use Rattle.text_faults.specs.Unread.{key_there};
 ghost use Rattle.upsched_map_parts.specs.declared.status.Status.TheVariants.{Done, NotUnderstood};
-ghost use Rattle.upsched_sight_parts.specs.Reports.{IsForm, IsGood, fault_line, fault_lines, good_text, good_line, toml_line, form_of, is_empty, is_good, table_lines, TellsOf, Reports, ReportsKnown};
+ghost use Rattle.upsched_sight_parts.specs.Reports.{IsForm, IsGood, fault_line, fault_lines, good_text, good_line, toml_line, unread_line, unread_of, form_of, is_empty, is_good, table_lines, TellsOf, Reports, ReportsKnown};
 
-use crate::form::{CheckWords, Form, faults_of, form_of};
+use crate::form::{CheckWords, Form, faults_of, form_of, unread_of};
 use crate::place::place_behind;
 use std::alloc::{AllocError, Global};
 use std::io::{Read, Write};
-use text_faults::{Fault as TextFault, fault_text};
+use text_faults::{Fault as TextFault, Unread, fault_text, unread_text};
 use toml::de::Error;
 use toml::{Table, Value};
 use upsched_map_parts::{Fault, Status, text_of};
@@ -96,7 +97,56 @@ fn print_faults<'a, O: Write>(
     }
 }
 
-/// Prints what is wrong with a table, and gives whether it is good.
+fn print_key<'a, O: Write>(
+    alloc: Global,
+    path: &str,
+    key: &Unread,
+    output: &mut O,
+) -> Result<(), Fault<'a>>
+    ensures { OnOk result (Appends (O.contents output.old) (O.contents output.new) (unread_line path.now (key_there key.now))) }
+{
+    let Ok(text) = unread_text(alloc, key) else {
+        return Err(Fault::Memory);
+    };
+    match writeln!(output, "{path}: {text}") {
+        Ok(()) => Ok(()),
+        Err(_) => Err(Fault::Output),
+    }
+}
+
+fn print_keys<'a, O: Write>(
+    alloc: Global,
+    path: &str,
+    keys: &[Unread],
+    output: &mut O,
+) -> Result<(), Fault<'a>>
+    ensures { OnOk result (Appends (O.contents output.old) (O.contents output.new)
+        (flat_map (unread_line path.now) (map key_there keys.now))) }
+{
+    for key in keys {
+        print_key(alloc, path, key, output)?;
+    }
+    Ok(())
+}
+
+/// Prints the keys of a table that nothing reads.
+fn print_unread<'a, O: Write>(
+    alloc: Global,
+    path: &str,
+    form: Form,
+    whole: &Value,
+    output: &mut O,
+) -> Result<(), Fault<'a>>
+    ensures { OnOk result (Appends (O.contents output.old) (O.contents output.new)
+        (flat_map (unread_line path.now) (unread_of form (view whole.now)))) }
+{
+    let Ok(unread) = unread_of(alloc, form, whole) else {
+        return Err(Fault::Memory);
+    };
+    print_keys(alloc, path, unread.as_slice(), output)
+}
+
+/// Prints what is wrong with a table and which keys nothing reads, and gives whether it is good.
 fn print_table<'a, O: Write>(
     alloc: Global,
     found: Table,
@@ -116,6 +166,7 @@ fn print_table<'a, O: Write>(
     };
     let bare = whole.get(form.key()).is_none();
     print_faults(alloc, path, form, bare, faults.as_slice(), output)?;
+    print_unread(alloc, path, form, &whole, output)?;
     Ok(faults.is_empty())
 }
 

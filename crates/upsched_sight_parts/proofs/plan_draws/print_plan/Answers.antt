@@ -4,11 +4,14 @@ use Rattle.upsched_sight_parts.proofs.plan_draws.print_plan.Goals as goal
 
 pub returns-clause-told : goal.returns-clause-told
 returns-clause-told g c =
-    maps_told c.print_deeds.result (g.R.Read.remaining c.args.plan.now) _ _ c.in_ok-commands.commands.items c.in_ok-deeds.deeds.items c.in_ok-commands.ensures.plan
-    (rw c.as_slice.ensures.value at c.in_ok-deeds.ensures) (rw c.as_slice-2.ensures.value at c.print_deeds.ensures)
+    maps_told (g.R.Read.remaining c.args.plan.now) _ _ c.in_ok-commands.commands.items c.in_ok-commands.ensures.plan
+    (rw c.as_slice.ensures.value at c.in_ok-tell_commands.ensures)
 
 pub returns-clause-no_plan : goal.returns-clause-no_plan
 returns-clause-no_plan g c = λ none. absurd (no_plan_read (g.R.Read.remaining c.args.plan.now) c.in_ok-commands.commands.items none c.in_ok-commands.ensures.plan)
 
 pub returns-clause-script : goal.returns-clause-script
 returns-clause-script g c = λ script. absurd (no_script_read (g.R.Read.remaining c.args.plan.now) script c.in_ok-commands.ensures.script)
+
+pub returns-in_err-tell_commands-clause-no_plan : goal.returns-in_err-tell_commands-clause-no_plan
+returns-in_err-tell_commands-clause-no_plan g c = λ none. absurd (no_plan_read (g.R.Read.remaining c.args.plan.now) c.in_ok-commands.commands.items none c.in_ok-commands.ensures.plan)

@@ -1,0 +1,14 @@
+use Rattle.std.proofs.Common.{ℕ, List, length, map}
+use Rattle.modem.specs.State.{State}
+use Rattle.ballots.specs.Members.{member_count}
+use Rattle.network_script.specs.World.{opening}
+use Rattle.upsched_picture_parts.proofs.Learned.{run_learned}
+use Rattle.upsched_picture_parts.proofs.maps.learned_after.Goals as goal
+
+pub returns : goal.returns
+returns g c = λ honest.
+    let nodes : ℕ = length c.args.nodes.items in
+    let given : List ℕ = map {A = State} {B = ℕ} (λ modem. modem.id) c.args.modems.items in
+    let told = c.in_ok-run.ensures.run honest (opening nodes given) (c.in_ok-world.ensures.opens (c.in_ok-run.ensures.honesty honest)) in
+    run_learned (member_count c.args.members) nodes c.args.ids.now given c.args.events.now _ told.0 c.in_ok-commands.commands.items
+    told.1 c.requires.members c.requires.ids (c.in_ok-commands.ensures told.0.nodes (c.seats.ensures.written told.0 told.2))

@@ -1,0 +1,140 @@
+//! `upsched draw SCRIPT --maps`: the MAPs that the commands of a run give, as a picture, or with `--text` for a
+//! terminal.
+
+ghost use Rattle.std.specs.Prelude.{◌≡◌, ◌≢◌, IfOk, IfSome, OnOk, length, map};
+ghost use Rattle.ballots.specs.Members.{member_count};
+ghost use Rattle.seats.specs.Receiving.{AreNew};
+ghost use Rattle.seats.specs.Fresh.{AreFresh};
+ghost use Rattle.network_script.specs.Worlds.{AreHonest};
+ghost use Rattle.upsched_map_parts.specs.declared.status.Status.TheVariants.{Done, NotUnderstood};
+ghost use Rattle.upsched_parts.specs.Run.{NoScript};
+ghost use Rattle.upsched_picture_parts.specs.Draws.{DrawsLearned, LearnsFrom, LeavesLearned, TellsLearned};
+
+use ballots::Members;
+use grant_machine::Command;
+use learned_commands::most_learned;
+use modem::Modem;
+use network_script::World;
+use node::Node;
+use script_text::Script;
+use seats::{OutOfMemory, new_modems, plain_nodes};
+use std::alloc::Global;
+use std::io::{Read, Write};
+use upsched_map_parts::{Fault, Status};
+use upsched_parts::script_of;
+use upsched_sight_parts::{draw_commands, tell_commands};
+use world_events::Event;
+
+/// The commands that the events have fresh nodes learn. The world is given back as they left it: what is promised of
+/// the commands holds where its nodes are honest.
+fn learned_after<N: Node>(
+    alloc: Global,
+    nodes: Vec<N>,
+    modems: Vec<Modem>,
+    members: Members,
+    ids: &[u32],
+    events: &[Event],
+) -> Result<(Vec<Command>, World<N>), OutOfMemory>
+    requires nodes { AreFresh N.who N.honest N.stands nodes.items }
+    requires modems { AreNew modems.items }
+    requires members { length nodes.items ≡ member_count members }
+    requires ids { map (λ modem. modem.id) modems.items ≡ ids.now }
+    ensures { IfOk result (λ left. AreHonest left.1 → LeavesLearned (member_count members) ids.now events.now left.0.items) }
+{
+    let mut world = World::new(alloc, nodes, modems)?;
+    world.run(events)?;
+    let commands = most_learned(alloc, world.seats())?;
+    Ok((commands, world))
+}
+
+/// The commands that a script has nodes with records in memory learn.
+fn learned_by<'a>(alloc: Global, script: &Script) -> Result<Vec<Command>, Fault<'a>>
+    ensures { IfOk result (λ commands. LeavesLearned (member_count script.now.members) script.now.modems.items script.now.events.items commands.items) }
+{
+    let (ids, events) = (script.modems.as_slice(), script.events.as_slice());
+    let nodes = plain_nodes(alloc, script.members)?;
+    let modems = new_modems(alloc, ids)?;
+    match learned_after(alloc, nodes, modems, script.members, ids, events) {
+        Ok((commands, _world)) => Ok(commands),
+        Err(OutOfMemory) => Err(Fault::Memory),
+    }
+}
+
+/// The commands that nodes learn in the script that a text is.
+fn learned_in<'a, F: Read>(
+    alloc: Global,
+    script: &mut F,
+    path: &'a str,
+) -> Result<Vec<Command>, Fault<'a>>
+    ensures { IfOk result (λ commands. IfSome (F.remaining script.old) (λ text. LearnsFrom text commands.items)) }
+{
+    let script = script_of(alloc, script, path)?;
+    learned_by(alloc, &script)
+}
+
+fn draw_learned<'a, F: Read, O: Write>(
+    alloc: Global,
+    script: &mut F,
+    path: &'a str,
+    output: &mut O,
+) -> Result<(), Fault<'a>>
+    ensures printed { OnOk result (DrawsLearned (F.remaining script.old) (O.contents output.old) (O.contents output.new)) }
+    ensures no_script { NoScript (F.remaining script.old) → output.new ≡ output.old }
+{
+    let commands = learned_in(alloc, script, path)?;
+    draw_commands(alloc, commands.as_slice(), output)
+}
+
+fn tell_learned<'a, F: Read, O: Write>(
+    alloc: Global,
+    script: &mut F,
+    path: &'a str,
+    output: &mut O,
+) -> Result<(), Fault<'a>>
+    ensures printed { OnOk result (TellsLearned (F.remaining script.old) (O.contents output.old) (O.contents output.new)) }
+    ensures no_script { NoScript (F.remaining script.old) → output.new ≡ output.old }
+{
+    let commands = learned_in(alloc, script, path)?;
+    tell_commands(alloc, commands.as_slice(), output)
+}
+
+/// Runs a script over nodes with records in memory, and prints a picture of the MAPs that the commands give which a
+/// node has learned in the end: of a node that is up and has learned most from place 1 on without a gap. It is the
+/// picture that a plan of these commands has. A fault of the script is found before anything happens, and is told in
+/// one line.
+pub fn draw_maps<F: Read, O: Write, E: Write>(
+    alloc: Global,
+    script: &mut F,
+    path: &str,
+    output: &mut O,
+    errors: &mut E,
+) -> Status
+    ensures printed { result ≡ Done → DrawsLearned (F.remaining script.old) (O.contents output.old) (O.contents output.new) }
+    ensures quiet { result ≡ Done → errors.new ≡ errors.old }
+    ensures no_script { NoScript (F.remaining script.old) → output.new ≡ output.old }
+    ensures understood { result ≢ NotUnderstood }
+{
+    match draw_learned(alloc, script, path, output) {
+        Ok(()) => Status::Done,
+        Err(fault) => fault.told(errors),
+    }
+}
+
+/// The same MAPs for a terminal of 100 columns, and what became of each request.
+pub fn tell_maps<F: Read, O: Write, E: Write>(
+    alloc: Global,
+    script: &mut F,
+    path: &str,
+    output: &mut O,
+    errors: &mut E,
+) -> Status
+    ensures printed { result ≡ Done → TellsLearned (F.remaining script.old) (O.contents output.old) (O.contents output.new) }
+    ensures quiet { result ≡ Done → errors.new ≡ errors.old }
+    ensures no_script { NoScript (F.remaining script.old) → output.new ≡ output.old }
+    ensures understood { result ≢ NotUnderstood }
+{
+    match tell_learned(alloc, script, path, output) {
+        Ok(()) => Status::Done,
+        Err(fault) => fault.told(errors),
+    }
+}
