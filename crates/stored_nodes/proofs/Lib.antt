@@ -1,2 +1,4 @@
 mod Counts
 mod Opened
+mod Told
+mod Started

@@ -1,5 +1,5 @@
 -- What opening files tells of them, and what stays of files that are only read.
-use Rattle.std.specs.Prelude.{◌≡◌, ℕ, Bool, true, false, List, Result, Ok, Err}
+use Rattle.std.specs.Prelude.{◌≡◌, ℕ, Bool, true, false, List, Option, Some, None, Result, Ok, Err}
 use Rattle.acceptor_store.specs.declared.OpenFault.{OpenFault}
 use Rattle.acceptor_store.specs.declared.OpenFault.TheVariants as opening
 use Rattle.acceptor_store.specs.declared.owned.OwnerFault.{OwnerFault}
@@ -55,6 +55,12 @@ told_unowned (Ok _) = State Fresh
 told_unowned (Err store.NotFresh) = State Unowned
 told_unowned (Err store.Unusable) = State Foreign
 told_unowned (Err store.OutOfMemory) = Memory
+
+-- the state that was told, if one was: files that neither an owner nor nobody wrote are foreign
+abbrev pub state_told : Told → Option FilesState
+state_told (State state) = Some state
+state_told NoOwner = Some Foreign
+state_told Memory = None
 
 -- a read of a file gives what it gave, and a crash leaves nothing that it couldn't leave before
 abbrev pub StaysFile : {D : Type 0} → disk.Ghosts D → D → D → Type 0

@@ -1,5 +1,6 @@
 //! Why fresh nodes don't start over files.
 
+use crate::start::StartFault;
 use acceptor_store::OpenFault;
 use node::NodeFault;
 use sqlite_std_file::OpenError;
@@ -61,10 +62,11 @@ impl From<OpenFault> for StoreFault {
     }
 }
 
-impl From<NodeFault> for StoreFault {
-    fn from(fault: NodeFault) -> StoreFault {
+impl From<StartFault> for StoreFault {
+    fn from(fault: StartFault) -> StoreFault {
         match fault {
-            NodeFault::OutOfMemory => StoreFault::OutOfMemory,
+            StartFault::NotFresh => StoreFault::NotFresh,
+            StartFault::Unread(NodeFault::OutOfMemory) => StoreFault::OutOfMemory,
             _ => StoreFault::Unusable,
         }
     }

@@ -10,6 +10,7 @@ mod start;
 mod states;
 mod stored;
 mod survey;
+mod uses;
 
 pub use fault::StoreFault;
 pub use folder::nodes_in;
@@ -19,3 +20,4 @@ pub use start::StartFault;
 pub use states::{FilesState, state_of_files};
 pub use stored::{StoredNode, stored_nodes};
 pub use survey::states_in;
+pub use uses::{NodeUse, NodesUse, use_node_at, use_nodes_in, use_nodes_over};

@@ -11,6 +11,7 @@ ghost use Rattle.seats.specs.Fresh.{IsFreshAt};
 ghost use Rattle.sqlite.specs.Files.{over_files};
 ghost use Rattle.stored_nodes.specs.Kept.{IsFoundFor};
 
+use crate::fresh::{begun_with, resumed_with};
 use crate::start::StartFault;
 use crate::stored::StoredNode;
 use acceptor_store::{OpenFault, OwnerFault, SqlRecords};
@@ -81,9 +82,7 @@ pub fn resumed_node<D: Disk + Drop>(
         × ⟦<SchedNode<SqlRecords<FileStore<D>>> as Node>⟧.stands node (Running (started c))) }
 {
     let records = records_for(alloc, files, id, members, false)?;
-    let mut node = SchedNode::new(alloc, id, members, records);
-    node.restart()?;
-    Ok(node)
+    resumed_with(alloc, id, members, records)
 }
 
 /// A node that begins over files that are new, or its own with nothing in them.
@@ -98,12 +97,7 @@ pub fn begun_node<D: Disk + Drop>(
         ⟦<SchedNode<SqlRecords<FileStore<D>>> as Node>⟧.stands (member_count members) id) }
 {
     let records = records_for(alloc, files, id, members, true)?;
-    let mut node = SchedNode::new(alloc, id, members, records);
-    if node.is_fresh()? {
-        Ok(node)
-    } else {
-        Err(StartFault::NotFresh)
-    }
+    begun_with(alloc, id, members, records)
 }
 
 /// The same over files that may not have been opened.

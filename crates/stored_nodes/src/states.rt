@@ -1,16 +1,19 @@
 //! What a node's files are, found out without a change of them.
 
-ghost use Rattle.std.specs.Prelude.{◌≡◌, ◌<◌, IsTrue, OnOk};
+ghost use Rattle.std.specs.Prelude.{◌≡◌, ◌<◌, ◌&&◌, Err, IfOk, IsOkAnd, None, OnErr, Some, false};
 ghost use Rattle.ballots.specs.Members.{member_count};
-ghost use Rattle.stored_nodes.specs.States.{StayFiles, StaysFile, told_open, told_owned, told_owner, told_start, told_unowned, told_unread};
+ghost use Rattle.stored_nodes.specs.declared.states.FilesState.TheVariants.{Unusable};
+ghost use Rattle.stored_nodes.specs.declared.states.Told.TheVariants.{State};
+ghost use Rattle.stored_nodes.specs.States.{StayFiles, StaysFile, state_told, told_open, told_owned, told_owner, told_start, told_unowned, told_unread};
 
 use crate::fault::StoreFault;
+use crate::fresh::hold_nothing;
 use crate::owned::records_for;
 use crate::start::StartFault;
 use crate::stored::{copy_of, examine};
 use acceptor_store::{OpenFault, OwnerFault};
 use ballots::{Members, NodeId};
-use node::{Node, NodeFault, SchedNode};
+use node::NodeFault;
 use sqlite::Files;
 use sqlite_disk::Disk;
 use std::alloc::{AllocError, Global};
@@ -121,8 +124,7 @@ fn is_fresh_over<D: Disk + Drop>(
     requires { id < member_count members }
 {
     let records = records_for(alloc, files, id, members, false)?;
-    let mut node = SchedNode::new(alloc, id, members, records);
-    Ok(node.is_fresh()?)
+    hold_nothing(alloc, id, members, records)
 }
 
 /// The same over a copy of the files.
@@ -133,7 +135,8 @@ fn is_fresh_copy<D: Disk>(
     members: Members,
 ) -> Result<bool, StartFault>
     requires { id < member_count members }
-    ensures { StayFiles D.Disk files.old files.new }
+    ensures files { StayFiles D.Disk files.old files.new }
+    ensures unusable { (D.Disk.is_usable files.old.log && D.Disk.is_usable files.old.db) ≡ false → result ≡ Err StartFault.Unusable }
 {
     if !files.may_be_used() {
         return Err(StartFault::Unusable);
@@ -148,7 +151,8 @@ fn is_fresh_owned<D: Disk>(
     files: &mut Files<D>,
     id: NodeId,
 ) -> Result<bool, StartFault>
-    ensures { StayFiles D.Disk files.old files.new }
+    ensures files { StayFiles D.Disk files.old files.new }
+    ensures unusable { (D.Disk.is_usable files.old.log && D.Disk.is_usable files.old.db) ≡ false → result ≡ Err StartFault.Unusable }
 {
     let five = is_fresh_copy(alloc, files, id, Members::Five);
     if let Err(StartFault::Unopened(OwnerFault::OtherMembers)) = five {
@@ -161,7 +165,8 @@ fn is_fresh_owned<D: Disk>(
 
 /// What an open of a copy tells of the files, for this node and then for nobody.
 fn told_of<D: Disk>(alloc: Global, files: &mut Files<D>, id: NodeId) -> Told
-    ensures { StayFiles D.Disk files.old files.new }
+    ensures files { StayFiles D.Disk files.old files.new }
+    ensures unusable { (D.Disk.is_usable files.old.log && D.Disk.is_usable files.old.db) ≡ false → result ≡ State Unusable }
 {
     match told_owned(is_fresh_owned(alloc, files, id)) {
         Told::NoOwner => told_unowned(examine(alloc, files)),
@@ -170,7 +175,10 @@ fn told_of<D: Disk>(alloc: Global, files: &mut Files<D>, id: NodeId) -> Told
 }
 
 /// The state that was told. Files that neither an owner nor nobody wrote are foreign.
-fn state_told(told: Told) -> Result<FilesState, AllocError> {
+fn state_told(told: Told) -> Result<FilesState, AllocError>
+    ensures state { IfOk result (λ state. state_told told ≡ Some state) }
+    ensures memory { OnErr result (state_told told ≡ None) }
+{
     match told {
         Told::State(state) => Ok(state),
         Told::NoOwner => Ok(FilesState::Foreign),
@@ -178,18 +186,23 @@ fn state_told(told: Told) -> Result<FilesState, AllocError> {
     }
 }
 
-/// What the files of this node are. A copy of them is opened in memory, so that they stay as they are.
+/// What the files of this node are. A copy of them is opened in memory, so that they stay as they are. Files that may not
+/// be used are unusable.
 pub fn state_of_files<D: Disk>(
     alloc: Global,
     files: &mut Files<D>,
     id: NodeId,
 ) -> Result<FilesState, AllocError>
-    ensures { StayFiles D.Disk files.old files.new }
+    ensures files { StayFiles D.Disk files.old files.new }
+    ensures unusable { (D.Disk.is_usable files.old.log && D.Disk.is_usable files.old.db) ≡ false → IsOkAnd result (λ state. state ≡ Unusable) }
 {
     state_told(told_of(alloc, files, id))
 }
 
 /// What files are that weren't opened.
-pub fn state_unopened(fault: StartFault) -> Result<FilesState, AllocError> {
+pub fn state_unopened(fault: StartFault) -> Result<FilesState, AllocError>
+    ensures state { IfOk result (λ state. state_told (told_start fault) ≡ Some state) }
+    ensures memory { OnErr result (state_told (told_start fault) ≡ None) }
+{
     state_told(told_start(fault))
 }

@@ -19,7 +19,7 @@ use upsched_map_parts::{
     Fault, LiveWords, MapsWords, RunWords, ScriptWords, Status, maps, show, text_of,
 };
 use upsched_parts::{run_script, trace_script};
-use upsched_picture_parts::draw_script;
+use upsched_picture_parts::{draw_maps, draw_script, tell_maps};
 use upsched_script_parts::script;
 use upsched_sight_parts::{
     CaptureWords, CheckWords, StatsWords, capture, check, draw_plan, draw_text, is_plan_text,
@@ -109,29 +109,33 @@ fn run_script_words<R: Files + AllocGlobal, O: Write, E: Write>(
     }
 }
 
-/// Ends as `draw_script` does, or tells that a plan is no script.
+/// Ends as `draw_script`, `draw_maps` or `tell_maps` does, or tells that a plan is no script.
 fn draw_run<F: Read, O: Write, E: Write>(
     alloc: Global,
     file: &mut F,
-    path: &str,
+    words: &DrawWords<'_>,
     output: &mut O,
     errors: &mut E,
 ) -> Status {
-    let text = match text_of(alloc, file, path) {
+    let text = match text_of(alloc, file, words.path) {
         Ok(text) => text,
         Err(fault) => return fault.told(errors),
     };
     match is_plan_text(alloc, text.as_str()) {
-        Ok(true) => tell_plan(path, errors),
+        Ok(true) => tell_plan(words.path, errors),
         Ok(false) => {
             let mut bytes = text.as_bytes();
-            draw_script(alloc, &mut bytes, path, output, errors)
+            match words.subject {
+                Subject::Maps => draw_maps(alloc, &mut bytes, words.path, output, errors),
+                Subject::MapsText => tell_maps(alloc, &mut bytes, words.path, output, errors),
+                _ => draw_script(alloc, &mut bytes, words.path, output, errors),
+            }
         }
         Err(fault) => fault.told(errors),
     }
 }
 
-/// Opens the script or the plan and ends as `draw_script`, `draw_plan` or `draw_text` does.
+/// Opens the script or the plan and ends as `draw_run`, `draw_plan` or `draw_text` does.
 fn run_draw<R: Files + AllocGlobal, O: Write, E: Write>(
     rt: &R,
     words: &DrawWords<'_>,
@@ -140,9 +144,9 @@ fn run_draw<R: Files + AllocGlobal, O: Write, E: Write>(
 ) -> Status {
     match fs::open(rt, words.path) {
         Ok(mut file) => match words.subject {
-            Subject::Run => draw_run(rt.alloc(), &mut file, words.path, output, errors),
             Subject::Plan => draw_plan(rt.alloc(), &mut file, words.path, output, errors),
             Subject::PlanText => draw_text(rt.alloc(), &mut file, words.path, output, errors),
+            _ => draw_run(rt.alloc(), &mut file, words, output, errors),
         },
         Err(error) => Fault::of_reading(&error, words.path).told(errors),
     }

@@ -1,21 +1,19 @@
 //! `upsched node K --members M --store FILE`: the node keeps its records in a file of its own.
 
-ghost use Rattle.std.specs.Prelude.{◌≡◌, ◌<◌, ℕ, IfOk, false};
+ghost use Rattle.std.specs.Prelude.{◌≡◌, ◌<◌, ℕ};
 ghost use Rattle.ballots.specs.Members.{member_count};
 ghost use Rattle.ballots.specs.declared.members.Members.{Members};
 ghost use Rattle.upsched_map_parts.specs.declared.status.Status.TheVariants.{NotUnderstood};
 ghost use Rattle.upsched_node_parts.specs.Member.{NamesMember};
 
-use acceptor_store::{OpenFault, OwnerFault, SqlRecords};
+use acceptor_store::{OpenFault, OwnerFault};
 use ballots::{Members, NodeId};
-use node::{Node, NodeFault, SchedNode};
+use node::{Node, NodeFault};
 use node_service::{Input, Output, Reply};
 use seats::Seat;
-use sqlite::FileStore;
-use sqlite_disk::Disk;
 use std::alloc::Global;
 use std::io::Write;
-use stored_nodes::{StartFault, StoredNode, new_node_of, node_of};
+use stored_nodes::{NodeUse, StartFault, use_node_at};
 use upsched_map_parts::{Fault, NodeWords, Status};
 use upsched_node_parts::{NO_MEMBER, ended, member_of, serve_member, unwritten};
 
@@ -43,25 +41,40 @@ fn not_started<'a>(fault: StartFault) -> Fault<'a> {
     }
 }
 
-/// A node that was started tells this first, and then replies to each line that comes.
-fn serve_started<'a, D: Disk + Drop, I: Input, O: Output>(
+/// A node that has started tells so first, and then replies to each line that comes.
+#[derive(Drop)]
+struct Serving<'a, I, O> {
     alloc: Global,
-    started: Result<StoredNode<D>, StartFault>,
-    first: &Reply,
-    input: &mut I,
-    output: &mut O,
-) -> Result<(), Fault<'a>>
-    requires { IfOk started (λ node. (⟦<SchedNode<SqlRecords<FileStore<D>>> as Node>⟧.who node).down ≡ false) }
-{
-    let node = match started {
-        Ok(node) => node,
-        Err(fault) => return Err(not_started(fault)),
-    };
-    if let Err(why) = output.write_reply(alloc, first) {
-        return Err(unwritten(why));
+    input: &'a mut I,
+    output: &'a mut O,
+}
+
+impl<I: Input, O: Output> NodeUse for Serving<'_, I, O> {
+    type Answer = Result<(), Fault<'static>>;
+
+    fn use_node<N: Node + Drop>(
+        self,
+        node: N,
+        member: (NodeId, Members),
+        is_new: bool,
+    ) -> Result<(), Fault<'static>> {
+        let Serving {
+            alloc,
+            input,
+            output,
+        } = self;
+        let (id, members) = member;
+        let first = if is_new {
+            Reply::Fresh(id, members)
+        } else {
+            Reply::Restarted(id, members)
+        };
+        if let Err(why) = output.write_reply(alloc, &first) {
+            return Err(unwritten(why));
+        }
+        let mut seat = Seat::new(node);
+        ended(serve_member(alloc, &mut seat, input, output))
     }
-    let mut seat = Seat::new(node);
-    ended(serve_member(alloc, &mut seat, input, output))
 }
 
 /// Serves over the database of a path: as a new node, or as one that goes on over what it left there.
@@ -75,25 +88,16 @@ fn serve_over<'a, I: Input, O: Output>(
 ) -> Result<(), Fault<'a>>
     requires { member.0 < member_count member.1 }
 {
-    let (id, members) = member;
-    if words.is_new {
-        let started = new_node_of(rt, path, id, members);
-        return serve_started(
-            rt.alloc(),
-            started,
-            &Reply::Fresh(id, members),
-            input,
-            output,
-        );
-    }
-    let started = node_of(rt, path, id, members);
-    serve_started(
-        rt.alloc(),
-        started,
-        &Reply::Restarted(id, members),
+    let alloc = rt.alloc();
+    let serving = Serving {
+        alloc,
         input,
         output,
-    )
+    };
+    match use_node_at(rt, path, member, words.is_new, serving) {
+        Ok(served) => served,
+        Err(fault) => Err(not_started(fault)),
+    }
 }
 
 /// Serves as the member that the words name, with its records in the database of a path. A fault is told in one line.

@@ -1,19 +1,16 @@
 //! `upsched run SCRIPT --store DIR`: the nodes keep their records in files.
 
-ghost use Rattle.std.specs.Prelude.{◌≡◌, ◌≢◌, IfOk};
-ghost use Rattle.seats.specs.Fresh.{AreFresh};
+ghost use Rattle.std.specs.Prelude.{◌≡◌, ◌≢◌};
 ghost use Rattle.upsched_map_parts.specs.declared.status.Status.TheVariants.{NotUnderstood};
 ghost use Rattle.upsched_parts.specs.Run.{NoScript};
 
-use acceptor::Records;
-use acceptor_store::SqlRecords;
 use log::Log;
-use node::{Node, SchedNode};
+use node::Node;
 use script_text::Script;
-use sqlite::{FileStore, Files};
+use sqlite::Files;
 use sqlite_disk::Disk;
 use std::io::{Read, Write};
-use stored_nodes::{StoreFault, StoredNode, nodes_in, stored_nodes};
+use stored_nodes::{NodesUse, StoreFault, use_nodes_in, use_nodes_over};
 use upsched_json_run_parts::print_script_as_json;
 use upsched_map_parts::{Fault, RunWords, Status};
 use upsched_parts::{Telling, print_script, script_of};
@@ -35,56 +32,44 @@ enum Form {
     Json(bool),
 }
 
-/// What a script does to these fresh nodes is printed, and then they are dropped.
-fn print_run<'a, R: Log + AllocGlobal, N: Node + Drop, O: Write>(
-    rt: &R,
-    nodes: Vec<N>,
-    script: &Script,
+/// What a script does to fresh nodes is printed, and then they are dropped.
+#[derive(Drop)]
+struct Printing<'a, R, O> {
+    rt: &'a R,
+    script: &'a Script,
     form: Form,
-    output: &mut O,
-) -> Result<(), Fault<'a>>
-    requires { AreFresh N.who N.honest N.stands nodes.items }
-{
-    let _world = match form {
-        Form::Lines(telling) => print_script(rt, nodes, script, telling, output)?,
-        Form::Json(is_traced) => {
-            print_script_as_json(rt.alloc(), is_traced, nodes, script, output)?
-        }
-    };
-    Ok(())
+    output: &'a mut O,
 }
 
-/// The same of nodes over any records.
-fn print_recorded<'a, R: Log + AllocGlobal, S: Records + Drop, O: Write>(
-    rt: &R,
-    nodes: Vec<SchedNode<S>>,
-    script: &Script,
-    form: Form,
-    output: &mut O,
-) -> Result<(), Fault<'a>>
-    requires { AreFresh ⟦<SchedNode<S> as Node>⟧.who ⟦<SchedNode<S> as Node>⟧.honest ⟦<SchedNode<S> as Node>⟧.stands nodes.items }
-{
-    print_run(rt, nodes, script, form, output)
+impl<R: Log + AllocGlobal, O: Write> NodesUse for Printing<'_, R, O> {
+    type Answer = Result<(), Fault<'static>>;
+
+    fn use_nodes<N: Node + Drop>(self, nodes: Vec<N>) -> Result<(), Fault<'static>> {
+        let Printing {
+            rt,
+            script,
+            form,
+            output,
+        } = self;
+        let _world = match form {
+            Form::Lines(telling) => print_script(rt, nodes, script, telling, output)?,
+            Form::Json(is_traced) => {
+                print_script_as_json(rt.alloc(), is_traced, nodes, script, output)?
+            }
+        };
+        Ok(())
+    }
 }
 
-/// The same of nodes over files, where they start. Their files are closed afterwards.
-fn print_stored<'a, R: Log + AllocGlobal, D: Disk + Drop, O: Write>(
-    rt: &R,
-    nodes: Result<Vec<StoredNode<D>>, StoreFault>,
-    script: &Script,
-    form: Form,
-    output: &mut O,
-) -> Result<(), Fault<'a>>
-    requires { IfOk nodes (λ nodes. AreFresh ⟦<SchedNode<SqlRecords<FileStore<D>>> as Node>⟧.who ⟦<SchedNode<SqlRecords<FileStore<D>>> as Node>⟧.honest
-        ⟦<SchedNode<SqlRecords<FileStore<D>>> as Node>⟧.stands nodes.items) }
-{
-    match nodes {
-        Ok(nodes) => print_recorded(rt, nodes, script, form, output),
+/// What is told where nodes over files were to be used so.
+fn printed<'a>(used: Result<Result<(), Fault<'static>>, StoreFault>) -> Result<(), Fault<'a>> {
+    match used {
+        Ok(printed) => printed,
         Err(fault) => Err(fault_of(fault)),
     }
 }
 
-/// What a script does to fresh nodes over a pair of files for each member is printed.
+/// What a script does to fresh nodes over a pair of files for each member is printed. The files are closed afterwards.
 pub fn print_over<'a, R: Log + AllocGlobal, D: Disk + Drop, O: Write>(
     rt: &R,
     files: Vec<Files<D>>,
@@ -92,8 +77,15 @@ pub fn print_over<'a, R: Log + AllocGlobal, D: Disk + Drop, O: Write>(
     telling: Telling,
     output: &mut O,
 ) -> Result<(), Fault<'a>> {
-    let nodes = stored_nodes(rt.alloc(), script.members, files);
-    print_stored(rt, nodes, script, Form::Lines(telling), output)
+    let form = Form::Lines(telling);
+    let members = script.members;
+    let printing = Printing {
+        rt,
+        script,
+        form,
+        output,
+    };
+    printed(use_nodes_over(rt.alloc(), members, files, printing))
 }
 
 fn print_in<'a, F: Read, O: Write>(
@@ -107,8 +99,14 @@ fn print_in<'a, F: Read, O: Write>(
     ensures { NoScript (F.remaining script.old) → output.new ≡ output.old }
 {
     let script = script_of(rt.alloc(), script, path)?;
-    let nodes = nodes_in(rt, folder, script.members);
-    print_stored(rt, nodes, &script, form, output)
+    let members = script.members;
+    let printing = Printing {
+        rt,
+        script: &script,
+        form,
+        output,
+    };
+    printed(use_nodes_in(rt, folder, members, printing))
 }
 
 /// Runs a script over fresh nodes with files in a folder, and prints as `run_script` does, or with a trace as

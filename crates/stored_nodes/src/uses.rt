@@ -1,0 +1,147 @@
+//! Nodes over files, for whoever needn't know what they keep their records in.
+
+ghost use Rattle.std.specs.Prelude.{◌≡◌, ◌<◌, ℕ, Bool, ⊤, IfOk, length};
+ghost use Rattle.ballots.specs.Members.{member_count};
+ghost use Rattle.seats.specs.Fresh.{AreFresh};
+ghost use Rattle.stored_nodes.specs.Starts.{HasStarted};
+
+use crate::fault::StoreFault;
+use crate::folder::nodes_in;
+use crate::own_file::{new_node_of, node_of};
+use crate::start::StartFault;
+use crate::stored::{StoredNode, stored_nodes};
+use acceptor_store::SqlRecords;
+use ballots::{Members, NodeId};
+use node::{Node, SchedNode};
+use sqlite::{File, FileStore, Files};
+use sqlite_disk::Disk;
+use std::alloc::Global;
+
+/// What is done with the fresh nodes of a network, whatever they keep their records in.
+pub trait NodesUse: Drop {
+    /// What comes of it.
+    type Answer;
+
+    // What may come of so many nodes.
+    ghost comes: { Self → ℕ → Self.Answer → Type 0 } = { λ _ _ _. ⊤ };
+
+    /// Uses all nodes of the network, by number.
+    fn use_nodes<N: Node + Drop>(self, nodes: Vec<N>) -> Self::Answer
+        requires { AreFresh N.who N.honest N.stands nodes.items }
+        ensures { comes self (length nodes.items) result };
+}
+
+/// What is done with a node that has started over its own files, whatever it keeps its records in.
+pub trait NodeUse: Drop {
+    /// What comes of it.
+    type Answer;
+
+    // What may come of a node of this number among so many members, which is new or goes on.
+    ghost comes: { Self → ℕ → ℕ → Bool → Self.Answer → Type 0 } = { λ _ _ _ _ _. ⊤ };
+
+    /// Uses a node, which is this member and is new or goes on.
+    fn use_node<N: Node + Drop>(
+        self,
+        node: N,
+        member: (NodeId, Members),
+        is_new: bool,
+    ) -> Self::Answer
+        requires { HasStarted N.who N.honest N.stands (member_count member.1) member.0 is_new node }
+        ensures { comes self member.0 (member_count member.1) is_new result };
+}
+
+/// The nodes are used, where there are any. So one call alone is made for their large type.
+fn use_nodes<D: Disk + Drop, U: NodesUse>(
+    nodes: Result<Vec<StoredNode<D>>, StoreFault>,
+    members: Members,
+    user: U,
+) -> Result<U::Answer, StoreFault>
+    requires fresh { IfOk nodes (λ nodes. AreFresh ⟦<SchedNode<SqlRecords<FileStore<D>>> as Node>⟧.who ⟦<SchedNode<SqlRecords<FileStore<D>>> as Node>⟧.honest
+        ⟦<SchedNode<SqlRecords<FileStore<D>>> as Node>⟧.stands nodes.items) }
+    requires count { IfOk nodes (λ nodes. length nodes.items ≡ member_count members) }
+    ensures { IfOk result (U.comes user (member_count members)) }
+{
+    match nodes {
+        Ok(nodes) => Ok(user.use_nodes(nodes)),
+        Err(fault) => Err(fault),
+    }
+}
+
+/// Likewise a node.
+fn use_node<D: Disk + Drop, U: NodeUse>(
+    node: Result<StoredNode<D>, StartFault>,
+    member: (NodeId, Members),
+    is_new: bool,
+    user: U,
+) -> Result<U::Answer, StartFault>
+    requires { IfOk node (HasStarted ⟦<SchedNode<SqlRecords<FileStore<D>>> as Node>⟧.who ⟦<SchedNode<SqlRecords<FileStore<D>>> as Node>⟧.honest
+        ⟦<SchedNode<SqlRecords<FileStore<D>>> as Node>⟧.stands (member_count member.1) member.0 is_new) }
+    ensures { IfOk result (U.comes user member.0 (member_count member.1) is_new) }
+{
+    match node {
+        Ok(node) => Ok(user.use_node(node, member, is_new)),
+        Err(fault) => Err(fault),
+    }
+}
+
+/// Uses the nodes of `nodes_in`. Where it gives a fault, that is given, and nothing is used.
+pub fn use_nodes_in<U: NodesUse>(
+    rt: &HostRuntime,
+    folder: &str,
+    members: Members,
+    user: U,
+) -> Result<U::Answer, StoreFault>
+    ensures { IfOk result (U.comes user (member_count members)) }
+{
+    let nodes = nodes_in(rt, folder, members);
+    use_nodes(nodes, members, user)
+}
+
+/// Uses those of `stored_nodes`. Where it gives a fault, that is given, and nothing is used.
+pub fn use_nodes_over<D: Disk + Drop, U: NodesUse>(
+    alloc: Global,
+    members: Members,
+    files: Vec<Files<D>>,
+    user: U,
+) -> Result<U::Answer, StoreFault>
+    ensures { IfOk result (U.comes user (member_count members)) }
+{
+    let nodes = stored_nodes(alloc, members, files);
+    use_nodes(nodes, members, user)
+}
+
+/// The node of `new_node_of`, or of `node_of` where it isn't new.
+fn started_at(
+    rt: &HostRuntime,
+    path: &str,
+    member: (NodeId, Members),
+    is_new: bool,
+) -> Result<StoredNode<File>, StartFault>
+    requires { member.0 < member_count member.1 }
+    ensures { IfOk result (HasStarted ⟦<SchedNode<SqlRecords<FileStore<File>>> as Node>⟧.who ⟦<SchedNode<SqlRecords<FileStore<File>>> as Node>⟧.honest
+        ⟦<SchedNode<SqlRecords<FileStore<File>>> as Node>⟧.stands (member_count member.1) member.0 is_new) }
+{
+    let (id, members) = member;
+    if is_new {
+        new_node_of(rt, path, id, members)
+    } else {
+        node_of(rt, path, id, members)
+    }
+}
+
+/// Uses the node of `new_node_of`, or of `node_of` where it isn't new. Where that gives a fault, that is given, and
+/// nothing is used.
+pub fn use_node_at<U: NodeUse>(
+    rt: &HostRuntime,
+    path: &str,
+    member: (NodeId, Members),
+    is_new: bool,
+    user: U,
+) -> Result<U::Answer, StartFault>
+    requires { member.0 < member_count member.1 }
+    ensures { IfOk result (U.comes user member.0 (member_count member.1) is_new) }
+{
+    let (id, members) = member;
+    let node = started_at(rt, path, (id, members), is_new);
+    use_node(node, (id, members), is_new, user)
+}
