@@ -16,7 +16,7 @@ _upsched() {
         capture) options="-h --help" ;;
         stats) options="-h --help" ;;
         script) options="--seed --lose --repeat --crash --takeover --members --plan --modems -h --help" ;;
-        draw) options="--plan --text -h --help" ;;
+        draw) options="--plan --maps --text -h --help" ;;
         show) options="--names --json -h --help" ;;
         live) options="--turns --verbose -h --help" ;;
         node) options="--members --store --new --journal --journal-sync -h --help" ;;

@@ -6,7 +6,7 @@ ghost use Rattle.upsched_map_parts.specs.declared.status.Status.TheVariants.{Fau
 
 use clap::builder::ValueParser;
 use clap::error::ErrorKind;
-use clap::{Arg, ArgAction, ArgMatches, Command, Error, value_parser};
+use clap::{Arg, ArgAction, ArgGroup, ArgMatches, Command, Error, value_parser};
 use std::alloc::Global;
 use std::io::Write;
 use upsched_map_parts::{
@@ -48,6 +48,10 @@ pub enum Subject {
     Plan,
     /// The MAPs of a plan, for a terminal.
     PlanText,
+    /// The MAPs of what nodes learn in a script.
+    Maps,
+    /// The same for a terminal.
+    MapsText,
 }
 
 /// What `draw` is told.
@@ -283,17 +287,25 @@ fn draw_command<'a>(alloc: Global) -> Result<Command<'a>, Error> {
         .long("plan")
         .action(ArgAction::SetTrue)
         .help("Draws the MAPs of a plan, and what became of its requests");
+    let maps = Arg::new(alloc, "maps")
+        .long("maps")
+        .action(ArgAction::SetTrue)
+        .help("Draws the MAPs of the commands that nodes learn in a script");
     let text = Arg::new(alloc, "text")
         .long("text")
         .action(ArgAction::SetTrue)
-        .requires_arg("plan")?
-        .help("Prints them for a terminal of 100 columns");
+        .help("Prints these MAPs for a terminal of 100 columns");
+    let drawn = ArgGroup::new(alloc, "MAPS").arg("plan")?.arg("maps")?;
     let draw = Command::new(alloc, "draw")
-        .about("Draws what happens in a script, or the MAPs of a plan, as a picture (SVG)")
+        .about(
+            "Draws what happens in a script, or the MAPs of a plan or a script, as a picture (SVG)",
+        )
         .after_help("Example: upsched draw examples/scripts/takeover.toml > takeover.svg")
         .arg(file)?
         .arg(plan)?
-        .arg(text)?;
+        .arg(maps)?
+        .arg(text.requires_arg("MAPS")?)?
+        .group(drawn)?;
     Ok(draw)
 }
 
@@ -478,10 +490,13 @@ fn run_words<'a>(words: &ArgMatches<'a>) -> Option<Words<'a>> {
 /// What `draw` is told.
 fn draw_words<'a>(words: &ArgMatches<'a>) -> Option<DrawWords<'a>> {
     let path = words.get_str("FILE")?;
-    let subject = match (words.get_flag("plan"), words.get_flag("text")) {
-        (true, true) => Subject::PlanText,
-        (true, false) => Subject::Plan,
-        (false, _) => Subject::Run,
+    let is_text = words.get_flag("text");
+    let subject = match (words.get_flag("plan"), words.get_flag("maps")) {
+        (true, _) if is_text => Subject::PlanText,
+        (true, _) => Subject::Plan,
+        (false, true) if is_text => Subject::MapsText,
+        (false, true) => Subject::Maps,
+        (false, false) => Subject::Run,
     };
     Some(DrawWords { path, subject })
 }
