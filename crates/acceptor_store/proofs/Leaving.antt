@@ -1,6 +1,6 @@
 -- What is left where an open fails.
 use Rattle.std.proofs.Common.{◌≡◌, ◌⊎◌, inl, inr, ap, subst, ◌∙◌, arith}
-use Rattle.acceptor_store.proofs.Words.{Ghosts, Trees, Database, State, HasCleanDisk, Survives, Held, state, survives_then, Version, First, schema_of, ServesAs, IsOther, MayHaveRaised, Numbers, FindsContent, IsLeftWhole}
+use Rattle.acceptor_store.proofs.Words.{Ghosts, Trees, Database, State, HasCleanDisk, Survives, Held, state, survives_then, Version, First, schema_of, ServesAs, IsOther, MayBeMade, Raised, Numbers, FindsContent, IsLeftWhole}
 
 -- the reads of a version's tables commit nothing
 pub reads_leave : (version : Version) (old mid late new : State) → Survives old mid (λ _. IsOther old) → Survives mid late (λ _. IsOther mid) → Survives late new (λ _. late.now.schema ≡ schema_of version → ⊥)
@@ -18,6 +18,6 @@ reads_leave version old mid late new one two three same next =
 -- a migration that failed leaves the tables of version 1, or those of version 2 with their content
 pub raises_whole : {S : Type 0} (g : Ghosts S) (version : Version) (conn found : Held S) (numbers : Numbers) (db : Trees) → version ≡ First
     → (HasCleanDisk (state g found) → (db : Trees) → (state g found).may_leave db → (state g conn).may_leave db) → HasCleanDisk (state g found) → FindsContent g version conn found numbers
-    → (state g found).may_leave db ⊎ MayHaveRaised (state g found) db → IsLeftWhole g conn db
+    → (state g found).may_leave db ⊎ MayBeMade Raised (state g found) db → IsLeftWhole g conn db
 raises_whole g version conn found numbers db is leaves clean f (inl before) = inl (leaves clean db before)
-raises_whole g version conn found numbers db is leaves clean f (inr raised) = inr (f.0, inr (version, f.1), raised f.0 (subst (λ v. ServesAs v (state g found) f.0) is f.2))
+raises_whole g version conn found numbers db is leaves clean f (inr raised) = inr (f.0, inr (version, f.1), let was = subst (λ v. ServesAs v (state g found) f.0) is f.2 in raised f.0 (was.schema, was.tables))

@@ -1,6 +1,6 @@
 -- What is known of a connection that was opened for an owner.
 use Rattle.std.proofs.Common.{◌≡◌, ◌≢◌, ◌⊎◌, inl, inr, true, false, Bool, Some, None, IsSome, IsTrue, refl, sym, ap, subst, ◌∙◌}
-use Rattle.acceptor_store.proofs.Words.{Content, Ghosts, Trees, Database, State, HasCleanDisk, Survives, Held, state, survives_then, Third, Owner, schema_of, blank_schema, AreByRowid, AreTablesFor, IsOwner, OwnedBy, HasFacts, HoldsNone, HoldsNoneOwned, IsBroken, IsUnowned, HasOwned, MayHaveOwned, serves_for, tables_as, tables_for, Numbers, OpenFault, Foreign, OwnerFault, Open, Blank, Unowned, OtherNode, OtherMembers, Examines, Had, IsLeftWhole, MakesReady, SeesForeign, StaysAs, AdoptsFor, ExaminesFor, FindsFor, HadBefore, IsDue, IsDueBefore, IsLeftAs, IsLeftBefore, PreparesFor}
+use Rattle.acceptor_store.proofs.Words.{Content, Ghosts, Trees, Database, State, HasCleanDisk, Survives, Held, state, survives_then, Third, Owner, schema_of, blank_schema, AreByRowid, AreTablesFor, IsOwner, OwnedBy, HasFacts, HoldsNone, HoldsNoneOwned, IsBroken, IsUnowned, IsMade, MayBeMade, Owned, serves_for, tables_as, tables_for, Numbers, OpenFault, Foreign, OwnerFault, Open, Blank, Unowned, OtherNode, OtherMembers, Examines, Had, IsLeftWhole, MakesReady, SeesForeign, StaysAs, AdoptsFor, ExaminesFor, FindsFor, HadBefore, IsDue, IsDueBefore, IsLeftAs, IsLeftBefore, PreparesFor}
 use Rattle.acceptor_store.specs.declared.OpenFault.TheVariants.{Refused, Broken, OutOfMemory}
 use Rattle.acceptor_store.proofs.Reopening.{by_rowid, still_by_rowid}
 
@@ -60,8 +60,8 @@ module _ {S : Type 0} (g : Ghosts S) (owner : Owner) (conn : Held S) where
   had_before c none tables (inr had) = inl (none, had.0, had.1)
 
   pub adopts_plain : (mid new : Held S) (numbers : Numbers) → (HasFacts (state g conn).now.schema → ⊥) → ((state g conn).now.schema ≡ blank_schema → ⊥) → MakesReady g conn mid numbers
-      → HasOwned owner (state g mid) (state g new) → AdoptsFor g owner conn new numbers
-  adopts_plain mid new numbers none tables it owned = (it.0, had_before it.0 none tables it.1, owned it.0 it.2, it.3)
+      → IsMade (Owned owner) (state g mid) (state g new) → AdoptsFor g owner conn new numbers
+  adopts_plain mid new numbers none tables it owned = (it.0, had_before it.0 none tables it.1, owned it.0 (it.2.schema, it.2.tables), it.3)
 
   pub left_owned : (db : Trees) → IsLeftAs g owner false conn db → IsLeftBefore g owner conn db
   left_owned db (inl before) = inl before
@@ -72,11 +72,11 @@ module _ {S : Type 0} (g : Ghosts S) (owner : Owner) (conn : Held S) where
   left_plain db (inr raised) = inr (raised.0, raised.1, inl raised.2)
 
   pub left_adopting : ((s : S) (db : Trees) → IsTrue (g.view s).is_open → g.recovers s db → db ≡ (g.view s).committed) → (mid : Held S) (numbers : Numbers) → MakesReady g conn mid numbers
-      → (db : Trees) → (state g mid).may_leave db ⊎ MayHaveOwned owner (state g mid) db → IsLeftBefore g owner conn db
+      → (db : Trees) → (state g mid).may_leave db ⊎ MayBeMade (Owned owner) (state g mid) db → IsLeftBefore g owner conn db
   left_adopting settled mid numbers it db (inl may) =
       let same : db ≡ (state g mid).now.trees = settled mid.store db it.2.is_open may ∙ ap (λ (d : Database). d.trees) (sym it.2.settled) in
       inr (it.0, it.1, inl (subst (λ t. AreTablesFor None t it.0) (sym same) it.2.tables))
-  left_adopting settled mid numbers it db (inr owned) = inr (it.0, it.1, inr (owned it.0 it.2))
+  left_adopting settled mid numbers it db (inr owned) = inr (it.0, it.1, inr (owned it.0 (it.2.schema, it.2.tables)))
 
   pub owned_due : (fault : OwnerFault) → HasFacts (state g conn).now.schema → IsDue g owner false conn fault → IsDueBefore g owner conn fault
   owned_due Blank facts due = due.0

@@ -1,7 +1,7 @@
 -- Words of other libraries and of the specs that proofs use.
 pub use Rattle.acceptor.proofs.Callers.{greatest_apart, greatest_max, replaced}
 pub use Rattle.acceptor.specs.Calls.{KeepsTrust, Writes}
-pub use Rattle.acceptor.specs.Content.{AreRowsFrom, AreValues, Content, IsSound, Write, after_write, greatest, promised}
+pub use Rattle.acceptor.specs.Content.{AreRowsFrom, AreValues, Content, IsSound, Write, after_write, greatest, no_content, promised}
 pub use Rattle.acceptor.specs.Content.Write.{Promises, Votes}
 pub use Rattle.acceptor.specs.Faults.{IsHarmless}
 pub use Rattle.acceptor.specs.Found.{AddsNothing, AddsOnly, Findable, FindsSame, HasMade, Holds, HoldsEither, Keeps, MayHaveMade}
@@ -16,9 +16,10 @@ pub use Rattle.acceptor_store.specs.declared.owned.OwnerFault.{OwnerFault}
 pub use Rattle.acceptor_store.specs.declared.owned.OwnerFault.TheVariants.{Blank, Open, OtherMembers, OtherNode, Unowned}
 pub use Rattle.acceptor_store_parts.proofs.Callers.{all_learned_shown, all_rows, all_shown, as_version, content_once, one_content, serves_as, serves_for, tables_as, tables_for}
 pub use Rattle.acceptor_store_parts.specs.Foreign.{HasFacts, HoldsNone, HoldsNoneOwned, IsBroken, IsForeignSchema, IsUnowned}
+pub use Rattle.acceptor_store_parts.specs.Making.{IsMade, MayBeMade}
 pub use Rattle.acceptor_store_parts.specs.Owned.{AreTablesFor, IsOwner, OwnedBy, owner_bytes, schema_for, version_for}
 pub use Rattle.acceptor_store_parts.specs.Rowids.{AreByRowid, AreShaped, IsReread, Rereads}
-pub use Rattle.acceptor_store_parts.specs.Serves.{DoesNotServe, HasOwned, HasWritten, IsOther, MayHaveOwned, MayHaveRaised, MayHaveWritten, Serves, ServesAs, ServesFor, StillServes}
+pub use Rattle.acceptor_store_parts.specs.Serves.{DoesNotServe, HasWritten, IsOther, MayHaveWritten, Serves, ServesAs, ServesFor, StillServes}
 pub use Rattle.acceptor_store_parts.specs.Stops.{LeavesOpen, leaves_open}
 pub use Rattle.acceptor_store_parts.specs.Stored.{AreTablesOf, HasLearned, IsCast, IsLearned, IsNumber, KeepsLearned, learned_row, numbers_of, vote_row}
 pub use Rattle.acceptor_store_parts.specs.Tables.{blank_schema, schema_of}
@@ -27,6 +28,7 @@ pub use Rattle.acceptor_store_parts.specs.declared.Stop.{Stop}
 pub use Rattle.acceptor_store_parts.specs.declared.Stop.TheVariants.{Down, Memory}
 pub use Rattle.acceptor_store_parts.specs.declared.Version.{Version}
 pub use Rattle.acceptor_store_parts.specs.declared.Version.TheVariants.{First, Second, Third}
+pub use Rattle.acceptor_store_parts.specs.declared.making.Making.TheVariants.{Owned, OwnedTables, Raised, Tables}
 pub use Rattle.acceptor_store_parts.specs.declared.owner.Owner.{Owner}
 pub use Rattle.ballots.proofs.Callers.{in_order, put_after, put_before, put_here}
 pub use Rattle.ballots.specs.Ballots.{number_of}

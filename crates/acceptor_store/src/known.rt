@@ -4,15 +4,15 @@ ghost use Rattle.std.specs.Prelude.{◌≡◌, ◌==◌, ◌≤◌, max, false, 
 ghost use Rattle.ballots.specs.Ballots.{number_of};
 ghost use Rattle.ballots.specs.declared.letters.Cast.{Cast};
 ghost use Rattle.acceptor.specs.Content.{Content, after_write, greatest, no_content, promised};
-ghost use Rattle.acceptor.specs.Content.Write.{Promises, Votes as Casts};
 ghost use Rattle.sqlite.specs.State.{HasCleanDisk, Survives};
 ghost use Rattle.sqlite.specs.Held.{state};
+ghost use Rattle.acceptor_store_parts.specs.Asked.{write_of};
 ghost use Rattle.acceptor_store_parts.specs.Serves.{ServesFor, StillServes, HasWritten, MayHaveWritten, DoesNotServe, StaysOpen};
 ghost use Rattle.acceptor_store_parts.specs.Stops.{LeavesOpen};
 ghost use Rattle.acceptor_store.specs.Linked.{AreNumbersOf, greatest_beside};
 
-use acceptor_store_parts::{Owner, Stop, version_of_owner};
-use ballots::{Ballot, Cast, Place, Value, Votes, higher};
+use acceptor_store_parts::{Owner, Put, Stop, version_of_owner};
+use ballots::{Ballot, Cast, Place, Votes, higher};
 use sqlite::{Alter, Connection};
 use std::alloc::Global;
 
@@ -84,7 +84,7 @@ fn ballots_in<S: Alter>(
     let Some(first) = Place::new(1) else {
         return Err(Stop::Down);
     };
-    let votes = acceptor_store_parts::votes_from(alloc, conn, first)?;
+    let votes: Votes = acceptor_store_parts::find(alloc, conn, first)?;
     Ok((numbers.0, numbers.1, votes))
 }
 
@@ -112,88 +112,62 @@ fn is_below(ballot: Ballot, other: Option<Ballot>) -> bool
     }
 }
 
-/// The promised ballot once this one stands in the promised row. A query is made only where it is below that of before.
-fn promised_with_row<S: Alter>(
+/// The numbers once this row is written. A query is made only where its ballot is below the promised one.
+fn numbers_with<S: Alter>(
     alloc: Global,
     conn: &mut Connection<S>,
     owner: Option<Owner>,
-    before: Option<Ballot>,
-    ballot: Ballot,
-) -> Result<Option<Ballot>, Stop>
-    ensures value { HasCleanDisk (state S.Store conn.new) → IfOk result (λ b. (c : Content) → ServesFor owner (state S.Store conn.old) c
-        → number_of before ≡ promised c
-        → number_of b ≡ promised (after_write c (Some (Promises ballot)))) }
+    before: Numbers,
+    put: &Put<'_>,
+) -> Result<Numbers, Stop>
+    ensures value { HasCleanDisk (state S.Store conn.new) → IfOk result (λ n. (c : Content) → ServesFor owner (state S.Store conn.old) c
+        → AreNumbersOf before c → AreNumbersOf n (after_write c (Some (write_of put.now)))) }
     ensures stays { HasCleanDisk (state S.Store conn.new) → StaysOpen result → StillServes (state S.Store conn.old) (state S.Store conn.new) }
     ensures survives { Survives (state S.Store conn.old) (state S.Store conn.new) (λ _. DoesNotServe (state S.Store conn.old)) }
 {
-    if !is_below(ballot, before) {
-        return Ok(Some(ballot));
+    let mut numbers = before;
+    match *put {
+        Put::Tried(ballot) => {
+            numbers.tried = Some(ballot);
+            Ok(numbers)
+        }
+        Put::Promised(ballot) => {
+            if !is_below(ballot, before.promised) {
+                numbers.promised = Some(ballot);
+                return Ok(numbers);
+            }
+            let (_tried, _row, votes) = ballots_in(alloc, conn, owner)?;
+            numbers.promised = greatest_of(Some(ballot), votes.rows());
+            Ok(numbers)
+        }
+        Put::Vote(place, ballot, _) => {
+            if !is_below(ballot, before.promised) {
+                numbers.promised = Some(ballot);
+                return Ok(numbers);
+            }
+            let (_tried, row, votes) = ballots_in(alloc, conn, owner)?;
+            numbers.promised = greatest_without(higher(row, ballot), votes.rows(), place.number());
+            Ok(numbers)
+        }
+        Put::Learned(_, _) => Ok(numbers),
     }
-    let (_tried, _row, votes) = ballots_in(alloc, conn, owner)?;
-    Ok(greatest_of(Some(ballot), votes.rows()))
 }
 
-/// The promised ballot once a vote in this one stands at the place. A query is made only where it is below that of before.
-fn promised_with_vote<S: Alter>(
+/// Writes a row, and gives the numbers then.
+pub fn written<S: Alter>(
     alloc: Global,
     conn: &mut Connection<S>,
     owner: Option<Owner>,
-    before: Option<Ballot>,
-    place: Place,
-    ballot: Ballot,
-) -> Result<Option<Ballot>, Stop>
-    ensures value { HasCleanDisk (state S.Store conn.new) → IfOk result (λ b. (c : Content) (cast : Cast) → cast.ballot ≡ ballot
-        → ServesFor owner (state S.Store conn.old) c → number_of before ≡ promised c → number_of b ≡ promised (after_write c (Some (Casts place cast)))) }
-    ensures stays { HasCleanDisk (state S.Store conn.new) → StaysOpen result → StillServes (state S.Store conn.old) (state S.Store conn.new) }
-    ensures survives { Survives (state S.Store conn.old) (state S.Store conn.new) (λ _. DoesNotServe (state S.Store conn.old)) }
-{
-    if !is_below(ballot, before) {
-        return Ok(Some(ballot));
-    }
-    let (_tried, row, votes) = ballots_in(alloc, conn, owner)?;
-    Ok(greatest_without(higher(row, ballot), votes.rows(), place.number()))
-}
-
-/// Writes the promised row, and gives the promised ballot then.
-pub fn promise<S: Alter>(
-    alloc: Global,
-    conn: &mut Connection<S>,
-    owner: Option<Owner>,
-    before: Option<Ballot>,
-    ballot: Ballot,
-) -> Result<Option<Ballot>, Stop>
-    ensures value { HasCleanDisk (state S.Store conn.new) → IfOk result (λ b. (c : Content) → ServesFor owner (state S.Store conn.old) c
-        → number_of before ≡ promised c
-        → number_of b ≡ promised (after_write c (Some (Promises ballot)))) }
-    ensures ok { HasCleanDisk (state S.Store conn.new) → OnOk result (HasWritten (state S.Store conn.old) (state S.Store conn.new) (Promises ballot)) }
+    before: Numbers,
+    put: &Put<'_>,
+) -> Result<Numbers, Stop>
+    ensures value { HasCleanDisk (state S.Store conn.new) → IfOk result (λ n. (c : Content) → ServesFor owner (state S.Store conn.old) c
+        → AreNumbersOf before c → AreNumbersOf n (after_write c (Some (write_of put.now)))) }
+    ensures ok { HasCleanDisk (state S.Store conn.new) → OnOk result (HasWritten (state S.Store conn.old) (state S.Store conn.new) (write_of put.now)) }
     ensures err { HasCleanDisk (state S.Store conn.new) → IfErr result (λ e. LeavesOpen e → StillServes (state S.Store conn.old) (state S.Store conn.new)) }
-    ensures survives { Survives (state S.Store conn.old) (state S.Store conn.new) (MayHaveWritten (state S.Store conn.old) (Promises ballot)) }
+    ensures survives { Survives (state S.Store conn.old) (state S.Store conn.new) (MayHaveWritten (state S.Store conn.old) (write_of put.now)) }
 {
-    let promised = promised_with_row(alloc, conn, owner, before, ballot)?;
-    acceptor_store_parts::put_promised(conn, ballot)?;
-    Ok(promised)
-}
-
-/// Writes the vote at its place, and gives the promised ballot then.
-pub fn cast_vote<S: Alter>(
-    alloc: Global,
-    conn: &mut Connection<S>,
-    owner: Option<Owner>,
-    before: Option<Ballot>,
-    place: Place,
-    ballot: Ballot,
-    value: &Value,
-) -> Result<Option<Ballot>, Stop>
-    ensures value { HasCleanDisk (state S.Store conn.new) → IfOk result (λ b. (c : Content) → ServesFor owner (state S.Store conn.old) c
-        → number_of before ≡ promised c
-        → number_of b ≡ promised (after_write c (Some (Casts place record { ballot = ballot; value = value.now })))) }
-    ensures ok { HasCleanDisk (state S.Store conn.new)
-        → OnOk result (HasWritten (state S.Store conn.old) (state S.Store conn.new) (Casts place record { ballot = ballot; value = value.now })) }
-    ensures err { HasCleanDisk (state S.Store conn.new) → IfErr result (λ e. LeavesOpen e → StillServes (state S.Store conn.old) (state S.Store conn.new)) }
-    ensures survives { Survives (state S.Store conn.old) (state S.Store conn.new)
-        (MayHaveWritten (state S.Store conn.old) (Casts place record { ballot = ballot; value = value.now })) }
-{
-    let promised = promised_with_vote(alloc, conn, owner, before, place, ballot)?;
-    acceptor_store_parts::put_vote(conn, place, ballot, value)?;
-    Ok(promised)
+    let numbers = numbers_with(alloc, conn, owner, before, put)?;
+    acceptor_store_parts::put_row(conn, put)?;
+    Ok(numbers)
 }

@@ -8,31 +8,29 @@ mod owned;
 
 ghost use Rattle.std.specs.Prelude.{◌≡◌, ◌≤◌, ◌↔◌, ◌⊎◌, ◌&&◌, false, not, if◌then◌else◌, Err, None, Some};
 ghost use Rattle.std.specs.Prelude.{IfOk, IfErr, IfSome, IsErrAnd, IsSome, IsSomeAnd, IsTrue, OnOk};
-ghost use Rattle.ballots.specs.Ballots.{number_of};
 ghost use Rattle.acceptor.specs.Calls.{Accounts, KeepsTrust, Writes};
 ghost use Rattle.acceptor.specs.Faults.{BreaksByReopen, CountsFaults, HasRisen, IsHarmless, IsStoreFault};
 ghost use Rattle.acceptor.specs.declared.records.RecordsFault.TheVariants.{OutOfMemory};
-ghost use Rattle.acceptor.specs.Content.{Content, IsSound, promised, greatest};
-ghost use Rattle.ballots.specs.Rows.{at, rows_from};
-ghost use Rattle.acceptor.specs.Content.Write.{Tries, Promises, Votes as Casts, Learns};
+ghost use Rattle.acceptor.specs.Content.{Content, IsSound, promised};
 ghost use Rattle.acceptor.specs.Found.{Holds, HoldsEither, AddsNothing, FindsSame, Keeps};
-ghost use Rattle.sqlite.specs.Files.{over_files, file_state};
+ghost use Rattle.sqlite.specs.Files.{over_files};
 ghost use Rattle.sqlite.specs.Tree.{Trees};
 ghost use Rattle.sqlite.specs.State.{HasCleanDisk, Survives};
 ghost use Rattle.sqlite.specs.Held.{AreDatabases, state};
-ghost use Rattle.sqlite_trees.specs.View.{IsClean, doubt};
+ghost use Rattle.sqlite_trees.specs.View.{IsClean};
+ghost use Rattle.acceptor_store_parts.specs.Asked.{write_of};
 ghost use Rattle.acceptor_store_parts.specs.Foreign.{IsForeignSchema};
 ghost use Rattle.acceptor_store_parts.specs.Owned.{schema_for};
-ghost use Rattle.acceptor_store_parts.specs.Serves.{Serves, ServesFor, StillServes, DoesNotServe, StaysOpen};
+ghost use Rattle.acceptor_store_parts.specs.Serves.{StillServes};
 ghost use Rattle.acceptor_store_parts.specs.Stops.{LeavesOpen, leaves_open};
 ghost use Rattle.acceptor_store.specs.Stopped.{answer_of};
-ghost use Rattle.acceptor_store.specs.Linked.{MayFind, IsHonest, is_clean_in, is_honest, CannotBeRead, Tells, Leaves, Reopens};
+ghost use Rattle.acceptor_store.specs.Linked.{MayFind, IsHonest, is_clean_in, is_honest, CannotBeRead, Tells};
 ghost use Rattle.acceptor_store.specs.Linked.{Had, HasFurther, IsFoundIn, IsLeftWhole, IsRefused, SeesForeign};
 
 use crate::anew::{end_unopened, opened_anew};
-use crate::known::{Numbers, cast_vote, numbers_of, promise};
+use crate::known::{Numbers, numbers_of, written};
 use acceptor::{Records, RecordsFault};
-use acceptor_store_parts::{Owner, Stop, version_of_owner};
+use acceptor_store_parts::{Answer, Owner, Put, Stop, version_of_owner};
 use ballots::{Ballot, Cast, Place, Value, Votes};
 pub use owned::OwnerFault;
 use sqlite::{Alter, Connection, Error as SqlError, ErrorCode, FileStore, Files};
@@ -226,6 +224,51 @@ impl<S: OpensAnew> SqlRecords<S> {
             None => None,
         }
     }
+
+    /// What the tables have there, or from there on.
+    fn find<T: Answer>(&mut self, place: Place) -> Result<T, RecordsFault>
+        ensures value { IsHonest S.Store self.new → IfOk result (λ x. (c : Content) → Holds (MayFind S.Store self.old.owner self.old.held) c
+            → T.is_found x place c) }
+        ensures sound { IsHonest S.Store self.new → OnOk result ((c : Content) → Holds (MayFind S.Store self.old.owner self.old.held) c → IsSound c) }
+        ensures kept { IsHonest S.Store self.new → Keeps result (MayFind S.Store self.old.owner self.old.held) (MayFind S.Store self.new.owner self.new.held) }
+        ensures trust { KeepsTrust (is_honest S.Store) (λ r. is_clean_in S.Store r.held) self.old self.new }
+        ensures account { Accounts (λ r. r.failures) (λ r. not r.is_up) self.old result self.new }
+    {
+        let alloc = self.alloc;
+        if !self.is_up {
+            return Err(end(&mut self.is_up, &mut self.failures, Stop::Down));
+        }
+        let Some(conn) = &mut self.conn else {
+            return Err(end(&mut self.is_up, &mut self.failures, Stop::Down));
+        };
+        match acceptor_store_parts::find(alloc, conn, place) {
+            Ok(found) => Ok(found),
+            Err(stop) => Err(end(&mut self.is_up, &mut self.failures, stop)),
+        }
+    }
+
+    /// Writes a row.
+    fn put(&mut self, put: &Put<'_>) -> Result<(), RecordsFault>
+        ensures writes { IsHonest S.Store self.new
+            → Writes result (MayFind S.Store self.old.owner self.old.held) (MayFind S.Store self.new.owner self.new.held) (write_of put.now) }
+        ensures trust { KeepsTrust (is_honest S.Store) (λ r. is_clean_in S.Store r.held) self.old self.new }
+        ensures account { Accounts (λ r. r.failures) (λ r. not r.is_up) self.old result self.new }
+    {
+        let alloc = self.alloc;
+        if !self.is_up {
+            return Err(end(&mut self.is_up, &mut self.failures, Stop::Down));
+        }
+        let Some(conn) = &mut self.conn else {
+            return Err(end(&mut self.is_up, &mut self.failures, Stop::Down));
+        };
+        match written(alloc, conn, self.owner, self.numbers, put) {
+            Ok(known) => {
+                self.numbers = known;
+                Ok(())
+            }
+            Err(stop) => Err(end(&mut self.is_up, &mut self.failures, stop)),
+        }
+    }
 }
 
 fn unopened(error: SqlError) -> OpenFault
@@ -299,92 +342,27 @@ impl<S: OpensAnew> Records for SqlRecords<S> {
     }
 
     fn vote(&mut self, place: Place) -> Result<Option<Cast>, RecordsFault> {
-        let alloc = self.alloc;
-        if !self.is_up {
-            return Err(end(&mut self.is_up, &mut self.failures, Stop::Down));
-        }
-        let Some(conn) = &mut self.conn else {
-            return Err(end(&mut self.is_up, &mut self.failures, Stop::Down));
-        };
-        match acceptor_store_parts::vote(alloc, conn, place) {
-            Ok(found) => Ok(found),
-            Err(stop) => Err(end(&mut self.is_up, &mut self.failures, stop)),
-        }
+        self.find(place)
     }
 
     fn votes_from(&mut self, place: Place) -> Result<Votes, RecordsFault> {
-        let alloc = self.alloc;
-        if !self.is_up {
-            return Err(end(&mut self.is_up, &mut self.failures, Stop::Down));
-        }
-        let Some(conn) = &mut self.conn else {
-            return Err(end(&mut self.is_up, &mut self.failures, Stop::Down));
-        };
-        match acceptor_store_parts::votes_from(alloc, conn, place) {
-            Ok(found) => Ok(found),
-            Err(stop) => Err(end(&mut self.is_up, &mut self.failures, stop)),
-        }
+        self.find(place)
     }
 
     fn learned_row(&mut self, place: Place) -> Result<Option<Value>, RecordsFault> {
-        let alloc = self.alloc;
-        if !self.is_up {
-            return Err(end(&mut self.is_up, &mut self.failures, Stop::Down));
-        }
-        let Some(conn) = &mut self.conn else {
-            return Err(end(&mut self.is_up, &mut self.failures, Stop::Down));
-        };
-        match acceptor_store_parts::learned_row(alloc, conn, place) {
-            Ok(found) => Ok(found),
-            Err(stop) => Err(end(&mut self.is_up, &mut self.failures, stop)),
-        }
+        self.find(place)
     }
 
     fn learned_from(&mut self, place: Place) -> Result<Vec<(Place, Value)>, RecordsFault> {
-        let alloc = self.alloc;
-        if !self.is_up {
-            return Err(end(&mut self.is_up, &mut self.failures, Stop::Down));
-        }
-        let Some(conn) = &mut self.conn else {
-            return Err(end(&mut self.is_up, &mut self.failures, Stop::Down));
-        };
-        match acceptor_store_parts::learned_from(alloc, conn, place) {
-            Ok(found) => Ok(found),
-            Err(stop) => Err(end(&mut self.is_up, &mut self.failures, stop)),
-        }
+        self.find(place)
     }
 
     fn put_tried(&mut self, ballot: Ballot) -> Result<(), RecordsFault> {
-        if !self.is_up {
-            return Err(end(&mut self.is_up, &mut self.failures, Stop::Down));
-        }
-        let Some(conn) = &mut self.conn else {
-            return Err(end(&mut self.is_up, &mut self.failures, Stop::Down));
-        };
-        match acceptor_store_parts::put_tried(conn, ballot) {
-            Ok(()) => {
-                self.numbers.tried = Some(ballot);
-                Ok(())
-            }
-            Err(stop) => Err(end(&mut self.is_up, &mut self.failures, stop)),
-        }
+        self.put(&Put::Tried(ballot))
     }
 
     fn put_promised(&mut self, ballot: Ballot) -> Result<(), RecordsFault> {
-        let alloc = self.alloc;
-        if !self.is_up {
-            return Err(end(&mut self.is_up, &mut self.failures, Stop::Down));
-        }
-        let Some(conn) = &mut self.conn else {
-            return Err(end(&mut self.is_up, &mut self.failures, Stop::Down));
-        };
-        match promise(alloc, conn, self.owner, self.numbers.promised, ballot) {
-            Ok(promised) => {
-                self.numbers.promised = promised;
-                Ok(())
-            }
-            Err(stop) => Err(end(&mut self.is_up, &mut self.failures, stop)),
-        }
+        self.put(&Put::Promised(ballot))
     }
 
     fn put_vote(
@@ -393,34 +371,11 @@ impl<S: OpensAnew> Records for SqlRecords<S> {
         ballot: Ballot,
         value: &Value,
     ) -> Result<(), RecordsFault> {
-        let alloc = self.alloc;
-        if !self.is_up {
-            return Err(end(&mut self.is_up, &mut self.failures, Stop::Down));
-        }
-        let Some(conn) = &mut self.conn else {
-            return Err(end(&mut self.is_up, &mut self.failures, Stop::Down));
-        };
-        let before = self.numbers.promised;
-        match cast_vote(alloc, conn, self.owner, before, place, ballot, value) {
-            Ok(promised) => {
-                self.numbers.promised = promised;
-                Ok(())
-            }
-            Err(stop) => Err(end(&mut self.is_up, &mut self.failures, stop)),
-        }
+        self.put(&Put::Vote(place, ballot, value))
     }
 
     fn put_learned(&mut self, place: Place, value: &Value) -> Result<(), RecordsFault> {
-        if !self.is_up {
-            return Err(end(&mut self.is_up, &mut self.failures, Stop::Down));
-        }
-        let Some(conn) = &mut self.conn else {
-            return Err(end(&mut self.is_up, &mut self.failures, Stop::Down));
-        };
-        match acceptor_store_parts::put_learned(conn, place, value) {
-            Ok(()) => Ok(()),
-            Err(stop) => Err(end(&mut self.is_up, &mut self.failures, stop)),
-        }
+        self.put(&Put::Learned(place, value))
     }
 
     /// Where it couldn't open the store, what is left is kept for the next reopen. Where it opened it

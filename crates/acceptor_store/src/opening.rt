@@ -12,14 +12,14 @@ ghost use Rattle.acceptor_store_parts.specs.Foreign.{HoldsNone, IsForeignSchema}
 ghost use Rattle.acceptor_store_parts.specs.Rowids.{AreByRowid, IsReread};
 ghost use Rattle.acceptor_store_parts.specs.Tables.{schema_of};
 ghost use Rattle.acceptor_store_parts.specs.Stored.{HasLearned, KeepsLearned, IsCast, IsLearned, IsNumber, IsOfNode, learned_row, vote_row};
-ghost use Rattle.acceptor_store_parts.specs.Serves.{ServesAs, IsOther, HasRaised, MayHaveRaised};
+ghost use Rattle.acceptor_store_parts.specs.Serves.{ServesAs, IsOther};
 ghost use Rattle.acceptor_store.specs.Stopped.{fault_of};
 ghost use Rattle.acceptor_store.specs.Linked.{HasFurther, Examines, MakesReady, SeesForeign, HasNumbers, HasStopped, StaysAs};
 ghost use Rattle.acceptor_store.specs.Linked.{FailsAnew, FindsContent, IsLeftWhole, IsRefused, IsToMake};
 
 use crate::OpenFault;
 use crate::known::{Numbers, greatest_of};
-use acceptor_store_parts::{Stop, Version};
+use acceptor_store_parts::{Making, Stop, Version};
 use ballots::{Ballot, Place, Value, Votes};
 use sqlite::{Alter, Connection};
 use sqlite_schema::schema::Schema;
@@ -260,7 +260,7 @@ fn brought_up<S: Alter + Drop>(
     };
     match version {
         Version::Second => Ok(found),
-        Version::First => match acceptor_store_parts::raise_version(found.0) {
+        Version::First => match acceptor_store_parts::make(found.0, Making::Raised) {
             Ok(raised) => Ok((raised, found.1)),
             Err(refused) => Err((stopped(refused.0), refused.1)),
         },
@@ -271,7 +271,7 @@ fn brought_up<S: Alter + Drop>(
 /// The connection with its tables tested or made, and their numbers.
 pub fn prepared<S: Alter + Drop>(
     alloc: Global,
-    mut conn: Connection<S>,
+    conn: Connection<S>,
 ) -> Result<(Connection<S>, Numbers), (OpenFault, S)>
     ensures tables { IfOk result (λ r. HasCleanDisk (state S.Store r.0) → MakesReady S.Store conn r.0 r.1) }
     ensures ours { OnOk result (IsForeignSchema (state S.Store conn).now.schema → ⊥) }
@@ -289,9 +289,9 @@ pub fn prepared<S: Alter + Drop>(
         return Err((OpenFault::Refused, conn.into_store()));
     }
     if acceptor_store_parts::is_blank(conn.schema()) {
-        return match acceptor_store_parts::make_tables(&mut conn) {
-            Ok(()) => Ok((conn, Numbers::none())),
-            Err(stop) => Err((stopped(stop), conn.into_store())),
+        return match acceptor_store_parts::make(conn, Making::Tables) {
+            Ok(made) => Ok((made, Numbers::none())),
+            Err((stop, store)) => Err((stopped(stop), store)),
         };
     }
     match judged(alloc, conn.schema()) {

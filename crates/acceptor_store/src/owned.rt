@@ -10,7 +10,6 @@ ghost use Rattle.sqlite_trees.specs.View.{IsClean, doubt};
 ghost use Rattle.acceptor_store_parts.specs.Foreign.{HoldsNoneOwned, IsBroken, IsUnowned};
 ghost use Rattle.acceptor_store_parts.specs.Owned.{IsOwner, OwnedBy};
 ghost use Rattle.acceptor_store_parts.specs.Rowids.{AreByRowid, IsReread};
-ghost use Rattle.acceptor_store_parts.specs.Serves.{HasOwned, MayHaveOwned};
 ghost use Rattle.acceptor_store_parts.specs.Tables.{blank_schema, schema_of};
 ghost use Rattle.acceptor_store.specs.Linked.{FailsAnew, HasStopped, IsHonest, MayFind, StaysAs, is_clean_in};
 ghost use Rattle.acceptor_store.specs.Owning.{AdoptsFor, ExaminesFor, FindsFor, HadAs, HadBefore, HasFurtherAs};
@@ -19,7 +18,7 @@ ghost use Rattle.acceptor_store.specs.Owning.{IsDue, IsDueBefore, IsLeftAs, IsLe
 use crate::known::Numbers;
 use crate::opening::{examined, is_of, prepared, stopped};
 use crate::{OpenFault, SqlRecords};
-use acceptor_store_parts::{Owner, Version};
+use acceptor_store_parts::{Making, Owner, Version};
 use ballots::{Members, NodeId};
 use sqlite::{Alter, Connection};
 use sqlite_schema::schema::Schema;
@@ -201,7 +200,7 @@ fn claimed<S: Alter + Drop>(
 /// The connection with this owner's tables tested or made, and their numbers.
 fn prepared_for<S: Alter + Drop>(
     alloc: Global,
-    mut conn: Connection<S>,
+    conn: Connection<S>,
     owner: &Owner,
     is_new: bool,
 ) -> Result<(Connection<S>, Numbers), (OwnerFault, S)>
@@ -227,9 +226,9 @@ fn prepared_for<S: Alter + Drop>(
         if !is_new {
             return Err((OwnerFault::Blank, conn.into_store()));
         }
-        return match acceptor_store_parts::make_owned_tables(&mut conn, *owner) {
-            Ok(()) => Ok((conn, Numbers::none())),
-            Err(stop) => Err((OwnerFault::Open(stopped(stop)), conn.into_store())),
+        return match acceptor_store_parts::make(conn, Making::OwnedTables(*owner)) {
+            Ok(made) => Ok((made, Numbers::none())),
+            Err((stop, store)) => Err((OwnerFault::Open(stopped(stop)), store)),
         };
     }
     match judged(alloc, conn.schema()) {
@@ -266,7 +265,7 @@ fn adopted<S: Alter + Drop>(
         Ok(found) => found,
         Err((fault, store)) => return Err((OwnerFault::Open(fault), store)),
     };
-    match acceptor_store_parts::own(found.0, *owner) {
+    match acceptor_store_parts::make(found.0, Making::Owned(*owner)) {
         Ok(owned) => Ok((owned, found.1)),
         Err((stop, store)) => Err((OwnerFault::Open(stopped(stop)), store)),
     }

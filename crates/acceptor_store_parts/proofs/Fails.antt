@@ -1,5 +1,5 @@
 -- Why a query of a whole table fails.
-use Rattle.std.proofs.Common.{◌≡◌, ◌⊎◌, inl, inr, List, [], ◌≤◌, length, true, false, Ok, Err, Result, IfErr, ℕ, None, refl, sym, ap, subst, ◌∙◌, le_refl}
+use Rattle.std.proofs.Common.{◌≡◌, inl, inr, List, [], ◌≤◌, length, true, Ok, Err, Result, IfErr, ℕ, None, refl, sym, ap, subst, ◌∙◌, le_refl}
 use Rattle.acceptor_store_parts.proofs.Words.{accepts_program, ProgramOverflows, timed, Schema, Term, Database, misses_table, IsSourceOf, Compiled, State, HasCause, IsNoStatement, FailsToShow, store_error, Error, StoreError, OutOfMemory, Io, Corrupt, Full, Broken, Unstorable, Version, First, Second, Third, KeepsLearned, schema_of, IsFault}
 use Rattle.sqlite.specs.Tree.{Trees}
 use Rattle.sqlite.specs.Listing.{understood}

@@ -1,6 +1,6 @@
 -- What the texts make that make the tables.
-use Rattle.std.proofs.Common.{◌≡◌, ℕ, ◌/◌, List, [], ◌∷◌, length, map, pos, true, false, Option, Some, None, Ok, Err, Result, OnOk, IsTrue, refl, sym, ap, subst, ◌∙◌, arith}
-use Rattle.acceptor_store_parts.proofs.Words.{Row, Schema, Values, Replace, Int, Insert, InsertOr, CreateTable, created, next_tree, KeepsRows, Tally, Does, lacks_sequence, put_row, Database, value_rows, Term, table_defined_by, State, HasCleanDisk, Survives, Writes, Executes, Shows, Ghosts, Held, state, mode_of, edited, with_rowid, cast_row, Written, value_cmp-Int, Content, IsSound, no_content, Owner, number_row, vote_row, learned_row, fact_row, fact_shown, three, AreTablesOf, AreTablesFor, owner_bytes, schema_for, one_step, statement_of, survives_begin, survives_then, schema_of, blank_schema, ballot_table, vote_table, learned_table, fact_table, ballot_text, vote_text, learned_text, fact_text, fact_put, version_put, First, Second, Third, ServesFor, HoldsFor, IsBlank, Makes}
+use Rattle.std.proofs.Common.{◌≡◌, ℕ, ◌/◌, List, [], ◌∷◌, length, map, pos, true, false, Option, Some, None, Ok, Err, Result, OnOk, refl, sym, ap, subst, ◌∙◌, arith}
+use Rattle.acceptor_store_parts.proofs.Words.{Row, Schema, Values, Replace, Int, Insert, InsertOr, CreateTable, created, next_tree, KeepsRows, Tally, Does, lacks_sequence, put_row, Database, value_rows, Term, table_defined_by, State, HasCleanDisk, Survives, Writes, Executes, Shows, Ghosts, Held, state, mode_of, edited, with_rowid, cast_row, Written, value_cmp-Int, Content, IsSound, no_content, Owner, number_row, vote_row, learned_row, fact_row, fact_shown, three, AreTablesOf, AreTablesFor, owner_bytes, schema_for, one_step, statement_of, survives_begin, survives_then, schema_of, blank_schema, ballot_table, vote_table, learned_table, fact_table, ballot_text, vote_text, learned_text, fact_text, fact_put, version_put, First, Second, Third, ServesFor, HoldsFor}
 use Rattle.sqlite.specs.Tree.{Trees}
 use Rattle.sqlite.specs.Listing.{understood}
 use Rattle.sqlite.specs.Table.{Table}
@@ -187,13 +187,6 @@ module _ {S : Type 0} (g : Ghosts S) (conn end : Held S) (mid : State) (Was : Da
   pub may_commit : Survives (state g conn) (state g end) (λ db. (c : Content) → Was (state g conn).now c → AreTablesFor owner db c)
   may_commit = survives_then (state g conn) mid (state g end) (λ _. ⊥) (λ db. db ≡ mid.now.trees) _ (λ _ db no. absurd no)
       (λ clean db is c was. subst (λ t. AreTablesFor owner t c) (sym is) (made (omega (arith, ends.clean, clean)) c was).1) (survives_begin g conn mid _ ran) ends
-
--- tables that were made are the owner's then
-pub make_then_own : (owner : Owner) (old mid new : State) → Survives mid new (λ _. ⊥) → (HasCleanDisk mid → Makes IsBlank None old mid) → (HasCleanDisk new → IsTrue mid.in_transaction → Makes (HoldsFor None) (Some owner) mid new)
-    → HasCleanDisk new → (c : Content) → IsBlank old.now c → HoldsFor (Some owner) new.now c
-make_then_own owner old mid new ran made owned clean c was =
-    let first = made (omega (arith, ran.clean, clean)) in
-    (owned clean first.0).1 c (first.1 c was)
 
 pub on_ok : {T E A B : Type 0} (r : Result T E) → OnOk r A → (A → B) → OnOk r B
 on_ok (Ok x) h f = f h

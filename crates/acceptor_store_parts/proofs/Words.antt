@@ -3,10 +3,10 @@ pub use Rattle.acceptor.proofs.Callers.{rows_put, values_put}
 pub use Rattle.acceptor.specs.Content.{AreRowsFrom, AreValues, Content, IsSound, Write, after_write, no_content}
 pub use Rattle.acceptor.specs.Content.Write.{Learns, Promises, Votes}
 pub use Rattle.acceptor_store_parts.specs.Asked.{shown_of}
-pub use Rattle.acceptor_store_parts.specs.Making.{HoldsFirst, HoldsFor, IsBlank, Makes}
+pub use Rattle.acceptor_store_parts.specs.Making.{HoldsFirst, HoldsFor, IsBlank, IsMade, Makes, MayBeMade, Was, owner_then}
 pub use Rattle.acceptor_store_parts.specs.Owned.{AreTablesFor, IsOwnedBy, OwnedBy, number_for, owner_bytes, schema_for, version_for}
 pub use Rattle.acceptor_store_parts.specs.Rowids.{AreByRowid, AreShaped, ShowsFacts, ShowsLearned, ShowsNumbers, ShowsVotes}
-pub use Rattle.acceptor_store_parts.specs.Serves.{DoesNotServe, HasOwned, HasRaised, HasWritten, MayHaveOwned, MayHaveRaised, MayHaveWritten, Serves, ServesAs, ServesFor, Stays, StillServes}
+pub use Rattle.acceptor_store_parts.specs.Serves.{DoesNotServe, HasWritten, MayHaveWritten, Serves, ServesAs, ServesFor, Stays, StillServes}
 pub use Rattle.acceptor_store_parts.specs.Stored.{AreTablesOf, HasLearned, IsCast, IsLearned, KeepsLearned, fact_row, fact_shown, first_of, learned_row, learned_shown, number_row, number_shown, numbers_of, numbers_shown, three, vote_row, vote_shown}
 pub use Rattle.acceptor_store_parts.specs.Tables.{all_learned_query, all_votes_query, ballot_table, ballot_text, blank_schema, fact_put, fact_table, fact_text, facts_query, learned_put, learned_table, learned_text, numbers_query, promised_put, schema_of, strict_table, tried_put, version_put, vote_put, vote_table, vote_text}
 pub use Rattle.acceptor_store_parts.specs.Tests.{IsFault, IsShutBy, tells_open}

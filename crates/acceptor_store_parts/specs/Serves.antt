@@ -1,5 +1,5 @@
 -- A connection that serves the records.
-use Rattle.std.specs.Prelude.{◌≡◌, false, IsTrue, Option, Some, None, Result, Ok, Err}
+use Rattle.std.specs.Prelude.{◌≡◌, false, IsTrue, Option, Some, Result, Ok, Err}
 use Rattle.sqlite.specs.State.{State}
 use Rattle.sqlite.specs.Tree.{Trees}
 use Rattle.acceptor.specs.Content.{Content, Write, after_write}
@@ -7,7 +7,6 @@ use Rattle.acceptor_store_parts.specs.Tables.{schema_of}
 use Rattle.acceptor_store_parts.specs.declared.Stop.{Stop}
 use Rattle.acceptor_store_parts.specs.Stops.{LeavesOpen}
 use Rattle.acceptor_store_parts.specs.declared.Version.{Version}
-use Rattle.acceptor_store_parts.specs.declared.Version.TheVariants.{First}
 use Rattle.acceptor_store_parts.specs.declared.owner.Owner.{Owner}
 use Rattle.acceptor_store_parts.specs.Stored.{AreTablesOf}
 use Rattle.acceptor_store_parts.specs.Owned.{AreTablesFor, schema_for}
@@ -43,22 +42,6 @@ DoesNotServe s = (c : Content) → Serves s c → ⊥
 -- its schema is that of no version
 abbrev pub IsOther : State → Type 0
 IsOther s = (version : Version) → s.now.schema ≡ schema_of version → ⊥
-
--- what it served in version 1, it serves in version 2
-abbrev pub HasRaised : State → State → Type 0
-HasRaised old new = (c : Content) → ServesAs First old c → ServesFor None new c
-
--- the trees are what it served in version 1, in tables of version 2
-abbrev pub MayHaveRaised : State → Trees → Type 0
-MayHaveRaised old db = (c : Content) → ServesAs First old c → AreTablesFor None db c
-
--- what it served for no owner, it serves for this one
-abbrev pub HasOwned : Owner → State → State → Type 0
-HasOwned owner old new = (c : Content) → ServesFor None old c → ServesFor (Some owner) new c
-
--- the trees are what it served for no owner, in tables of this one
-abbrev pub MayHaveOwned : Owner → State → Trees → Type 0
-MayHaveOwned owner old db = (c : Content) → ServesFor None old c → AreTablesFor (Some owner) db c
 
 -- the connection was open, and serves what it served
 abbrev pub Stays : State → State → Type 0

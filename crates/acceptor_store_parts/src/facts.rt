@@ -1,12 +1,10 @@
 //! The table of facts, which tells whose a database is.
 
-ghost use Rattle.std.specs.Prelude.{◌≡◌, [], ◌∷◌, IfErr, IfNone, IfOk, IfSome, IsTrue, OnOk, Some};
-ghost use Rattle.acceptor.specs.Content.{Content};
+ghost use Rattle.std.specs.Prelude.{◌≡◌, [], ◌∷◌, IfErr, IfNone, IfOk, IfSome, OnOk, Some};
 ghost use Rattle.sqlite.specs.State.{HasCleanDisk, Survives, IsUnchanged};
 ghost use Rattle.sqlite.specs.Held.{state};
-ghost use Rattle.acceptor_store_parts.specs.Owned.{IsOwner, OwnedBy, owner_bytes, schema_for};
+ghost use Rattle.acceptor_store_parts.specs.Owned.{IsOwner, OwnedBy, owner_bytes};
 ghost use Rattle.acceptor_store_parts.specs.Rowids.{ShowsFacts};
-ghost use Rattle.acceptor_store_parts.specs.Serves.{ServesFor, StillServes, Stays};
 ghost use Rattle.acceptor_store_parts.specs.Stored.{fact_shown};
 ghost use Rattle.acceptor_store_parts.specs.Tables.{schema_of};
 ghost use Rattle.acceptor_store_parts.specs.Tests.{IsFault};

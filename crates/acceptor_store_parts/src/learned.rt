@@ -1,23 +1,20 @@
 //! The learned values, read and written.
 
-ghost use Rattle.std.specs.Prelude.{◌≡◌, ◌≢◌, ℕ, List, false, map, IfErr, IfOk, OnOk, OnErr, IsTrue};
+ghost use Rattle.std.specs.Prelude.{◌≡◌, ◌≢◌, ℕ, List, false, map, IfErr, IfOk, OnOk, IsTrue};
 ghost use Rattle.std.specs.List.{AllByRecursion};
 ghost use Rattle.ballots.specs.Rows.{at, rows_from};
 ghost use Rattle.acceptor.specs.Content.{AreRowsFrom, Content};
-ghost use Rattle.acceptor.specs.Content.Write.{Learns};
 ghost use Rattle.sqlite.specs.State.{HasCleanDisk, Survives, IsUnchanged};
 ghost use Rattle.sqlite.specs.Held.{state};
 ghost use Rattle.acceptor_store_parts.specs.Stored.{IsLearned, KeepsLearned, learned_shown, first_of};
-ghost use Rattle.acceptor_store_parts.specs.Serves.{Serves, ServesAs, StillServes, DoesNotServe, HasWritten, MayHaveWritten, Stays, StaysOpen};
-ghost use Rattle.acceptor_store_parts.specs.Stops.{LeavesOpen};
+ghost use Rattle.acceptor_store_parts.specs.Serves.{ServesAs};
 ghost use Rattle.acceptor_store_parts.specs.Tables.{schema_of};
 ghost use Rattle.acceptor_store_parts.specs.Tests.{IsFault};
 ghost use Rattle.acceptor_store_parts.specs.Rowids.{ShowsLearned};
 
 use crate::Stop;
-use crate::reads::{Asked, bytes_at, place_at, query_at};
+use crate::reads::{Answer, Asked, bytes_at, place_at};
 use ballots::{MOST_PLACES, Place, Value};
-use sqlite::types::ValueRef;
 use sqlite::{Alter, Connection, Error, Row};
 use std::alloc::Global;
 
@@ -93,18 +90,18 @@ pub fn query_all_learned<S: Alter>(conn: &mut Connection<S>) -> Result<Vec<Row>,
 }
 
 /// The learned values from the place on.
-pub fn learned_from<S: Alter>(
-    alloc: Global,
-    conn: &mut Connection<S>,
-    place: Place,
-) -> Result<Vec<(Place, Value)>, Stop>
-    ensures value { HasCleanDisk (state S.Store conn.new) → IfOk result (λ learned. (c : Content) → Serves (state S.Store conn.old) c
-        → learned.items ≡ rows_from c.learned place) }
-    ensures stays { HasCleanDisk (state S.Store conn.new) → StaysOpen result → StillServes (state S.Store conn.old) (state S.Store conn.new) }
-    ensures survives { Survives (state S.Store conn.old) (state S.Store conn.new) (λ _. DoesNotServe (state S.Store conn.old)) }
-{
-    let rows = query_at(conn, Asked::LearnedFrom, place)?;
-    read_learned(alloc, &rows)
+impl Answer for Vec<(Place, Value)> {
+    ghost use Rattle.acceptor_store_parts.specs.declared.reads.Asked.TheVariants.{LearnedFrom};
+
+    const ASKED: Asked = Asked::LearnedFrom;
+
+    ghost ASKED = { LearnedFrom };
+
+    ghost is_found = { λ learned place c. learned.items ≡ rows_from c.learned place };
+
+    fn read(alloc: Global, rows: &[Row]) -> Result<Vec<(Place, Value)>, Stop> {
+        read_learned(alloc, rows)
+    }
 }
 
 fn first_learned(alloc: Global, rows: &[Row]) -> Result<Option<Value>, Stop>
@@ -117,35 +114,16 @@ fn first_learned(alloc: Global, rows: &[Row]) -> Result<Option<Value>, Stop>
 }
 
 /// The learned value of the place.
-pub fn learned_row<S: Alter>(
-    alloc: Global,
-    conn: &mut Connection<S>,
-    place: Place,
-) -> Result<Option<Value>, Stop>
-    ensures value { HasCleanDisk (state S.Store conn.new) → IfOk result (λ value. (c : Content) → Serves (state S.Store conn.old) c
-        → value ≡ at c.learned place) }
-    ensures stays { HasCleanDisk (state S.Store conn.new) → StaysOpen result → StillServes (state S.Store conn.old) (state S.Store conn.new) }
-    ensures survives { Survives (state S.Store conn.old) (state S.Store conn.new) (λ _. DoesNotServe (state S.Store conn.old)) }
-{
-    let rows = query_at(conn, Asked::LearnedAt, place)?;
-    first_learned(alloc, &rows)
-}
+impl Answer for Option<Value> {
+    ghost use Rattle.acceptor_store_parts.specs.declared.reads.Asked.TheVariants.{LearnedAt};
 
-/// Writes the learned value of its place.
-pub fn put_learned<S: Alter>(
-    conn: &mut Connection<S>,
-    place: Place,
-    value: &Value,
-) -> Result<(), Stop>
-    ensures ok { HasCleanDisk (state S.Store conn.new) → OnOk result (HasWritten (state S.Store conn.old) (state S.Store conn.new) (Learns place value.now)) }
-    ensures err { HasCleanDisk (state S.Store conn.new) → IfErr result (λ e. LeavesOpen e → StillServes (state S.Store conn.old) (state S.Store conn.new)) }
-    ensures survives { Survives (state S.Store conn.old) (state S.Store conn.new) (MayHaveWritten (state S.Store conn.old) (Learns place value.now)) }
-{
-    let at = ValueRef::Int(crate::signed_place(place));
-    let bytes = ValueRef::Blob(value.as_slice());
-    crate::run(
-        conn,
-        "INSERT OR REPLACE INTO learned (place, value) VALUES (?1, ?2)",
-        &[at, bytes],
-    )
+    const ASKED: Asked = Asked::LearnedAt;
+
+    ghost ASKED = { LearnedAt };
+
+    ghost is_found = { λ value place c. value ≡ at c.learned place };
+
+    fn read(alloc: Global, rows: &[Row]) -> Result<Option<Value>, Stop> {
+        first_learned(alloc, rows)
+    }
 }

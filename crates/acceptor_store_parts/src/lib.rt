@@ -10,17 +10,15 @@ mod opening;
 mod owner;
 mod reads;
 mod rereading;
+mod writing;
 
-ghost use Rattle.std.specs.Prelude.{◌≡◌, ◌≢◌, ℕ, pos, true, false, [], ◌∷◌, IsTrue, IfOk, IfErr, Ok, OnOk, OnErr, Some};
-ghost use Rattle.acceptor.specs.Content.{Content};
-ghost use Rattle.acceptor.specs.Content.Write.{Tries, Promises, Votes as Casts};
+ghost use Rattle.std.specs.Prelude.{◌≡◌, ℕ, pos, true, false, IfOk, IfErr, Ok, OnOk, OnErr, Some};
 ghost use Rattle.sqlite.specs.State.{CommitsBy, Executes, HasCleanDisk, Survives, IsUnchanged};
 ghost use Rattle.sqlite.specs.Values.{bound};
 ghost use Rattle.sqlite.specs.Held.{state};
-ghost use Rattle.sqlite.specs.declared.types.Value.TheVariants.{Int};
 ghost use Rattle.ballots.specs.Limits.{IsPlace};
 ghost use Rattle.ballots.specs.Ballots.{number_of};
-ghost use Rattle.acceptor_store_parts.specs.Serves.{Serves, StillServes, HasWritten, MayHaveWritten, Stays, DoesNotServe};
+ghost use Rattle.acceptor_store_parts.specs.Serves.{StillServes};
 ghost use Rattle.acceptor_store_parts.specs.Stops.{LeavesOpen};
 ghost use Rattle.acceptor_store_parts.specs.Tests.{IsShutBy, IsTold, tells_open, told_as};
 ghost use Rattle.acceptor_store_parts.specs.Stored.{IsNumber};
@@ -29,17 +27,16 @@ use ballots::{Ballot, Place, Value};
 pub use declared::is_column;
 pub use facts::{query_facts, read_owner};
 pub use foreign::{has_facts, is_broken, is_foreign, is_unowned};
-pub use learned::{
-    are_rising, learned_from, learned_row, put_learned, query_all_learned, read_learned,
-};
-pub use making::{is_blank, make_owned_tables, make_tables, own, raise_version};
+pub use learned::{are_rising, query_all_learned, read_learned};
+pub use making::{Making, is_blank, make};
 pub use opening::{both_numbers, read_numbers, version_of};
 pub use owner::{Owner, bytes_of, owner_of, version_of_owner};
-pub use reads::{query_all_votes, query_numbers, read_votes, vote, votes_from};
+pub use reads::{Answer, find, query_all_votes, query_numbers, read_votes};
 pub use rereading::{are_in_order, reread};
 use sqlite::types::ValueRef;
 use sqlite::{Alter, Connection, Error, ErrorCode};
 use std::alloc::{AllocError, AllocFailed};
+pub use writing::{Put, put_row};
 
 /// What tables there are: those of ballots and votes alone in the first version, that of learned
 /// values beside them in the second, and in the third that of facts, which tells the owner.
@@ -175,53 +172,4 @@ pub fn ballot_of(number: i64) -> Result<Option<Ballot>, Stop>
         Some(ballot) => Ok(Some(ballot)),
         None => Err(Stop::Down),
     }
-}
-
-/// Writes the last ballot tried.
-pub fn put_tried<S: Alter>(conn: &mut Connection<S>, ballot: Ballot) -> Result<(), Stop>
-    ensures ok { HasCleanDisk (state S.Store conn.new) → OnOk result (HasWritten (state S.Store conn.old) (state S.Store conn.new) (Tries ballot)) }
-    ensures err { HasCleanDisk (state S.Store conn.new) → IfErr result (λ e. LeavesOpen e → StillServes (state S.Store conn.old) (state S.Store conn.new)) }
-    ensures survives { Survives (state S.Store conn.old) (state S.Store conn.new) (MayHaveWritten (state S.Store conn.old) (Tries ballot)) }
-{
-    let tried = ValueRef::Int(signed(ballot));
-    run(
-        conn,
-        "INSERT OR REPLACE INTO ballot (id, number) VALUES (0, ?1)",
-        &[tried],
-    )
-}
-
-/// Writes the promised row.
-pub fn put_promised<S: Alter>(conn: &mut Connection<S>, ballot: Ballot) -> Result<(), Stop>
-    ensures ok { HasCleanDisk (state S.Store conn.new) → OnOk result (HasWritten (state S.Store conn.old) (state S.Store conn.new) (Promises ballot)) }
-    ensures err { HasCleanDisk (state S.Store conn.new) → IfErr result (λ e. LeavesOpen e → StillServes (state S.Store conn.old) (state S.Store conn.new)) }
-    ensures survives { Survives (state S.Store conn.old) (state S.Store conn.new) (MayHaveWritten (state S.Store conn.old) (Promises ballot)) }
-{
-    let promised = ValueRef::Int(signed(ballot));
-    run(
-        conn,
-        "INSERT OR REPLACE INTO ballot (id, number) VALUES (1, ?1)",
-        &[promised],
-    )
-}
-
-/// Writes the vote at its place.
-pub fn put_vote<S: Alter>(
-    conn: &mut Connection<S>,
-    place: Place,
-    ballot: Ballot,
-    value: &Value,
-) -> Result<(), Stop>
-    ensures ok { HasCleanDisk (state S.Store conn.new) → OnOk result (HasWritten (state S.Store conn.old) (state S.Store conn.new) (Casts place record { ballot = ballot; value = value.now })) }
-    ensures err { HasCleanDisk (state S.Store conn.new) → IfErr result (λ e. LeavesOpen e → StillServes (state S.Store conn.old) (state S.Store conn.new)) }
-    ensures survives { Survives (state S.Store conn.old) (state S.Store conn.new) (MayHaveWritten (state S.Store conn.old) (Casts place record { ballot = ballot; value = value.now })) }
-{
-    let at = ValueRef::Int(signed_place(place));
-    let number = ValueRef::Int(signed(ballot));
-    let bytes = ValueRef::Blob(value.as_slice());
-    run(
-        conn,
-        "INSERT OR REPLACE INTO vote (place, ballot, value) VALUES (?1, ?2, ?3)",
-        &[at, number, bytes],
-    )
 }

@@ -4,7 +4,7 @@ use Rattle.acceptor_store.proofs.known.ballots_in.Goals as goal
 
 pub returns-clause-value : goal.returns-clause-value
 returns-clause-value g c clean d was =
-    let before : HasCleanDisk (state g.S.Store c.read_numbers.new.conn) = omega (arith, c.votes_from.ensures.survives.clean, clean) in
+    let before : HasCleanDisk (state g.S.Store c.read_numbers.new.conn) = omega (arith, c.find.ensures.survives.clean, clean) in
     let mid = c.in_ok-numbers.ensures.stays before tt c.args.owner d was in
     let told = subst (λ o. IfSome o (λ r. (x : Content) → ServesAs c.version_of_owner.result (state g.S.Store c.args.conn.now) x → (number_of r.0 ≡ x.tried) × (number_of r.1 ≡ x.row))) c.in-Some.is (c.in_ok-numbers.ensures.value before) in
     let ours = subst (λ v. ServesAs v (state g.S.Store c.args.conn.now) d) (sym c.version_of_owner.ensures) (serves_as c.args.owner (state g.S.Store c.args.conn.now) d was) in
@@ -14,14 +14,14 @@ returns-clause-value g c clean d was =
 
 pub returns-clause-survives : goal.returns-clause-survives
 returns-clause-survives g c =
-    survives_then (state g.S.Store c.args.conn.now) (state g.S.Store c.read_numbers.new.conn) (state g.S.Store c.votes_from.new.conn) _ _ _ (λ _ db none. none)
+    survives_then (state g.S.Store c.args.conn.now) (state g.S.Store c.read_numbers.new.conn) (state g.S.Store c.find.new.conn) _ _ _ (λ _ db none. none)
     (λ clean db none x was.
-    let before : HasCleanDisk (state g.S.Store c.read_numbers.new.conn) = omega (arith, c.votes_from.ensures.survives.clean, clean) in
-    none x (was.0, c.in_ok-numbers.ensures.stays before tt was.0 x was.1)) c.read_numbers.ensures.survives c.votes_from.ensures.survives
+    let before : HasCleanDisk (state g.S.Store c.read_numbers.new.conn) = omega (arith, c.find.ensures.survives.clean, clean) in
+    none x (was.0, c.in_ok-numbers.ensures.stays before tt was.0 x was.1)) c.read_numbers.ensures.survives c.find.ensures.survives
 
 pub returns-in_err-votes-clause-survives : goal.returns-in_err-votes-clause-survives
 returns-in_err-votes-clause-survives g c =
-    survives_then (state g.S.Store c.args.conn.now) (state g.S.Store c.read_numbers.new.conn) (state g.S.Store c.votes_from.new.conn) _ _ _ (λ _ db none. none)
+    survives_then (state g.S.Store c.args.conn.now) (state g.S.Store c.read_numbers.new.conn) (state g.S.Store c.find.new.conn) _ _ _ (λ _ db none. none)
     (λ clean db none x was.
-    let before : HasCleanDisk (state g.S.Store c.read_numbers.new.conn) = omega (arith, c.votes_from.ensures.survives.clean, clean) in
-    none x (was.0, c.in_ok-numbers.ensures.stays before tt was.0 x was.1)) c.read_numbers.ensures.survives c.votes_from.ensures.survives
+    let before : HasCleanDisk (state g.S.Store c.read_numbers.new.conn) = omega (arith, c.find.ensures.survives.clean, clean) in
+    none x (was.0, c.in_ok-numbers.ensures.stays before tt was.0 x was.1)) c.read_numbers.ensures.survives c.find.ensures.survives

@@ -1,5 +1,5 @@
-use Rattle.std.proofs.Common.{inl, Err, sym, ap, subst, ◌∙◌, inr}
-use Rattle.acceptor_store.proofs.Words.{IfErr-weaker, IfOk-weaker, IsForeignSchema, HasFurther}
+use Rattle.std.proofs.Common.{inl, Err, refl, sym, ap, subst, ◌∙◌, inr}
+use Rattle.acceptor_store.proofs.Words.{IfErr-weaker, IfOk-weaker, no_content, IsForeignSchema, HasFurther}
 use Rattle.acceptor_store.proofs.Reopening.{always, not_third}
 use Rattle.acceptor_store.proofs.opening.prepared.Goals as goal
 
@@ -40,3 +40,13 @@ returns-in-Err-judged-clause-refused g c refused clean = inr (inl (
   λ version is. c.in-Err-judged.ensures.refused (ap Err refused) version (c.schema-2.ensures.value ∙ is),
   λ is. absurd (let e = c.if-is_blank.ensures.all (c.schema.ensures.value ∙ is) in cc),
 ))
+
+pub returns-in-Ok-clause-tables : goal.returns-in-Ok-clause-tables
+returns-in-Ok-clause-tables g c clean =
+    let blank = sym c.schema.ensures.value ∙ c.if-is_blank.ensures.yes refl in
+    (no_content, inl (blank, refl), c.in-Ok.ensures.made clean no_content (blank, refl), c.none.ensures)
+
+pub returns-in-Err-clause-whole : goal.returns-in-Err-clause-whole
+returns-in-Err-clause-whole g c sure db may =
+    let blank = sym c.schema.ensures.value ∙ c.if-is_blank.ensures.yes refl in
+    elim (c.in-Err.ensures.left sure db may) [ inl before ↦ inl before | inr made ↦ inr (no_content, inl (blank, refl), made no_content (blank, refl)) ]

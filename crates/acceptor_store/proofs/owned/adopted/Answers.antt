@@ -20,17 +20,17 @@ returns-in-Err-clause-due g c sure =
 pub returns-in-Err-clause-whole : goal.returns-in-Err-clause-whole
 returns-in-Err-clause-whole g c sure db may = left_plain g.S.Store c.args.owner.now c.args.conn db (c.in-Err.ensures.whole sure db may)
 
-pub returns-in-Ok-own-clause-tables : goal.returns-in-Ok-own-clause-tables
-returns-in-Ok-own-clause-tables g c clean =
-    let mid : HasCleanDisk (state g.S.Store c.in-Ok.found.0) = omega (arith, c.in-Ok-own.ensures.clean, clean) in
-    adopts_plain g.S.Store c.args.owner.now c.args.conn c.in-Ok.found.0 c.in-Ok-own.owned c.in-Ok.found.1
+pub returns-in-Ok-make-clause-tables : goal.returns-in-Ok-make-clause-tables
+returns-in-Ok-make-clause-tables g c clean =
+    let mid : HasCleanDisk (state g.S.Store c.in-Ok.found.0) = omega (arith, c.in-Ok-make.ensures.clean, clean) in
+    adopts_plain g.S.Store c.args.owner.now c.args.conn c.in-Ok.found.0 c.in-Ok-make.owned c.in-Ok.found.1
     (λ facts. absurd (let e = c.if-has_facts.ensures.all (subst HasFacts (sym c.schema-2.ensures.value) facts) in cc))
-    (λ blank. absurd (let e = c.if-is_blank.ensures.all (c.schema.ensures.value ∙ blank) in cc)) (c.in-Ok.ensures.tables mid) (c.in-Ok-own.ensures.owned clean)
+    (λ blank. absurd (let e = c.if-is_blank.ensures.all (c.schema.ensures.value ∙ blank) in cc)) (c.in-Ok.ensures.tables mid) (c.in-Ok-make.ensures.made clean)
 
-pub returns-in-Err-own-clause-due : goal.returns-in-Err-own-clause-due
-returns-in-Err-own-clause-due g c sure = store_due_before g.S.Store c.args.owner.now c.args.conn c.stopped.result c.stopped.ensures.ours
+pub returns-in-Err-make-clause-due : goal.returns-in-Err-make-clause-due
+returns-in-Err-make-clause-due g c sure = store_due_before g.S.Store c.args.owner.now c.args.conn c.stopped.result c.stopped.ensures.ours
 
-pub returns-in-Err-own-clause-whole : goal.returns-in-Err-own-clause-whole
-returns-in-Err-own-clause-whole g c sure db may =
-    let mid : HasCleanDisk (state g.S.Store c.in-Ok.found.0) = omega (arith, c.in-Err-own.ensures.trusted, sure) in
-    left_adopting g.S.Store c.args.owner.now c.args.conn g.met.S.Store.settled c.in-Ok.found.0 c.in-Ok.found.1 (c.in-Ok.ensures.tables mid) db (c.in-Err-own.ensures.left sure db may)
+pub returns-in-Err-make-clause-whole : goal.returns-in-Err-make-clause-whole
+returns-in-Err-make-clause-whole g c sure db may =
+    let mid : HasCleanDisk (state g.S.Store c.in-Ok.found.0) = omega (arith, c.in-Err-make.ensures.trusted, sure) in
+    left_adopting g.S.Store c.args.owner.now c.args.conn g.met.S.Store.settled c.in-Ok.found.0 c.in-Ok.found.1 (c.in-Ok.ensures.tables mid) db (c.in-Err-make.ensures.left sure db may)

@@ -1,5 +1,5 @@
-use Rattle.std.proofs.Common.{sym, subst, ◌∙◌, inl, inr, Err, ap}
-use Rattle.acceptor_store.proofs.Words.{IfErr-weaker, IfOk-weaker, IsBroken, IsUnowned, HasFurtherAs}
+use Rattle.std.proofs.Common.{refl, sym, subst, ◌∙◌, inl, inr, Err, ap}
+use Rattle.acceptor_store.proofs.Words.{IfErr-weaker, IfOk-weaker, no_content, IsBroken, IsUnowned, HasFurtherAs}
 use Rattle.acceptor_store.proofs.Owning.{prepares_for, schema_due}
 use Rattle.acceptor_store.proofs.owned.prepared_for.Goals as goal
 
@@ -48,3 +48,13 @@ returns-in-Err-judged-clause-refused g c refused clean =
       λ is. it.2 (c.schema-2.ensures.value ∙ is),
       λ is. absurd (let e = c.if-is_blank.ensures.all (c.schema.ensures.value ∙ is) in cc),
     ))
+
+pub returns-in-Ok-clause-tables : goal.returns-in-Ok-clause-tables
+returns-in-Ok-clause-tables g c clean =
+    let blank = sym c.schema.ensures.value ∙ c.if-is_blank.ensures.yes refl in
+    (no_content, inl (blank, c.if-not-is_new.false, refl), c.in-Ok.ensures.made clean no_content (blank, refl), c.none.ensures)
+
+pub returns-in-Err-clause-whole : goal.returns-in-Err-clause-whole
+returns-in-Err-clause-whole g c sure db may =
+    let blank = sym c.schema.ensures.value ∙ c.if-is_blank.ensures.yes refl in
+    elim (c.in-Err.ensures.left sure db may) [ inl before ↦ inl before | inr made ↦ inr (blank, c.if-not-is_new.false, made no_content (blank, refl)) ]
