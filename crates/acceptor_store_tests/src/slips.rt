@@ -1,13 +1,16 @@
-//! Records over a file that fails at one call alone, which are reopened until they come back.
+//! Records over a file that fails at one call alone, which are reopened until they come back, and a node over such.
 
-ghost use Rattle.std.specs.Prelude.{◌≡◌, ◌+◌, ◌≤◌, false};
+ghost use Rattle.std.specs.Prelude.{◌≡◌, ◌+◌, ◌<◌, ◌≤◌, false, IsTrue};
 ghost use Rattle.sqlite_disk.specs.Disk.{CountsFault};
 ghost use Rattle.sqlite_disk.specs.Refusal.{finds_no_room};
+ghost use Rattle.acceptor.specs.Content.{Content};
+ghost use Rattle.acceptor.specs.Found.{Holds};
 
 use crate::files::{Stopped, closed, content, opened};
 use acceptor::{Records, RecordsFault};
-use acceptor_store::SqlRecords;
-use ballots::Ballot;
+use acceptor_store::{SqlRecords, open_files};
+use ballots::{Ballot, Members, NodeId};
+use node::{Node, SchedNode};
 use sqlite::{FileStore, Files};
 use sqlite_disk::{Disk, Memory, Tally};
 use std::alloc::Global;
@@ -203,6 +206,58 @@ fn the_database_slips(rt: HostRuntime) -> Result<(), Fail> {
 #[test]
 fn the_log_slips(rt: HostRuntime) -> Result<(), Fail> {
     let count = slips(rt.alloc(), Stopped::Log)?;
+    assert!(rt; count > 0, "{count}");
+    Ok(())
+}
+
+/// Whether a node over these records can't restart at first, and does so the next time.
+fn node_comes_back<R: Records + Drop>(alloc: Global, id: NodeId, records: R) -> Result<bool, Fail>
+    requires member { id < 3 }
+    requires certain { IsTrue (R.is_honest records) → ∥ ((c : Content) × Holds (R.may_find records) c) ∥₁ }
+{
+    let mut node = SchedNode::new(alloc, id, Members::Three, records);
+    if node.restart().is_ok() {
+        return Ok(false);
+    }
+    if node.restart().is_ok() {
+        Ok(true)
+    } else {
+        Err(Fail::new("the node doesn't come back"))
+    }
+}
+
+/// The same of node 0 over these files.
+fn node_comes_back_in<D: Disk + Drop>(alloc: Global, files: Files<D>) -> Result<bool, Fail> {
+    let Some(id) = NodeId::new(0) else {
+        return Err(Fail::new("a node"));
+    };
+    let Ok(records) = open_files(alloc, files) else {
+        return Err(Fail::new("the records aren't opened"));
+    };
+    node_comes_back(alloc, id, records)
+}
+
+/// How many calls on the database are made until records are opened in empty files, and closed.
+fn calls_of_an_open(alloc: Global) -> Result<u64, Fail> {
+    let Ok(records) = opened(alloc, slipping(alloc, Stopped::Database, u64::MAX)) else {
+        return Err(Fail::new("the records aren't opened"));
+    };
+    let files = closed(records)?;
+    Ok(u64::MAX - files.db.calls_left)
+}
+
+/// A node whose restart failed, as the database slipped, is up after the next.
+#[test]
+fn the_database_of_a_node_slips(rt: HostRuntime) -> Result<(), Fail> {
+    let before = calls_of_an_open(rt.alloc())?;
+    let mut count = 0u64;
+    for further in 0..4u64 {
+        let calls = before.saturating_add(further);
+        let files = slipping(rt.alloc(), Stopped::Database, calls);
+        if node_comes_back_in(rt.alloc(), files)? {
+            count = count.saturating_add(1);
+        }
+    }
     assert!(rt; count > 0, "{count}");
     Ok(())
 }
