@@ -1,3 +1,4 @@
 mod Filled
 mod Rendered
 mod Sizes
+mod Wedged

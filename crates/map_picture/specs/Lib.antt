@@ -3,4 +3,5 @@ pub mod Picked
 pub mod Cells
 pub mod Owners
 pub mod Asked
+pub mod Wedges
 pub mod Pictures

@@ -1,5 +1,6 @@
--- The picture of a plan's MAPs.
+-- The picture of the MAPs of commands, and of what modems transmitted in them.
 use Rattle.std.specs.Prelude.{◌≡◌, ℕ, ◌+◌, ◌*◌, List, [], ◌∷◌, ◌++◌, codes, decimal, drop, length, slice_get, Option, Some, None}
+use Rattle.std.specs.List.Sorted.{IsPermutation}
 use Rattle.map_body.specs.Body.{Body}
 use Rattle.map_body.specs.Intervals.{intervals}
 use Rattle.map_text.specs.declared.deed.Deed.{Deed}
@@ -13,17 +14,19 @@ use Rattle.xml_text.specs.Each.{each}
 use Rattle.map_picture.specs.declared.axis.Page.{Page}
 use Rattle.map_picture.specs.declared.picked.Section.{Section}
 use Rattle.map_picture.specs.declared.picked.Section.TheVariants.{Owners, Requests, Maps}
+use Rattle.map_picture.specs.declared.sent.Sent.{Sent}
 use Rattle.map_picture.specs.Axis.{at, axis_of, wide}
 use Rattle.map_picture.specs.Picked.{picked}
 use Rattle.map_picture.specs.Cells.{cells}
 use Rattle.map_picture.specs.Owners.{owner}
 use Rattle.map_picture.specs.Asked.{asked}
+use Rattle.map_picture.specs.Wedges.{wedges}
 
 -- a text is the rendering of elements
 abbrev pub IsRendered : List ℕ → Type 0
 IsRendered text = (x : Xml) × (text ≡ render x)
 
--- the strip of MAP k: its number, from 1 on, its cells, and which command gave it when
+-- the strip of MAP k: its number, from 1 on, its cells, what modems transmitted in it, and which command gave it when
 abbrev pub strip_name : (y k : ℕ) → Xml
 strip_name y k = said (Words 98 (y + 11) (codes "s e b")) (codes "MAP " ++ decimal (k + 1))
 
@@ -33,34 +36,35 @@ strip_text i start len = codes "command " ++ (decimal (i + 1) ++ (codes ": " ++ 
 abbrev pub strip_words : (y i start len : ℕ) → Xml
 strip_words y i start len = said (Words 880 (y + 11) (codes "s mute")) (strip_text i start len)
 
-abbrev pub strip : (y k i start len : ℕ) → Body → Xml
-strip y k i start len map = join (join (strip_name y k) (cells len y (intervals map.elements))) (strip_words y i start len)
+abbrev pub strip : List Sent → (y k i ch start len : ℕ) → Body → Xml
+strip ts y k i ch start len map =
+    join (join (join (strip_name y k) (cells len y (intervals map.elements))) (wedges ts ch start len y)) (strip_words y i start len)
 
 -- the row of deed i, the k-th of its section
-abbrev pub row : Page → List Deed → (y k i : ℕ) → Deed → Xml
-row p ds y k i (deeds.Flow c sid modem first last kind) = owner p ds y sid modem kind
-row p ds y k i (deeds.Request c sid n sent) =
+abbrev pub row : Page → List Deed → List Sent → (y k i : ℕ) → Deed → Xml
+row p ds ts y k i (deeds.Flow c sid modem first last kind) = owner p ds y sid modem kind
+row p ds ts y k i (deeds.Request c sid n sent) =
     asked p.axis y (i + 1) (record { ch = c; sid = sid; n = n; sent = sent })
     (fate_of (record { ch = c; sid = sid; n = n; sent = sent }) 0 (drop (i + 1) ds))
-row p ds y k i (deeds.Map c start len map) = strip y k i start len map
-row p ds y k i (deeds.Channel c) = Nothing
-row p ds y k i (deeds.Drop c sid) = Nothing
-row p ds y k i deeds.Other = Nothing
+row p ds ts y k i (deeds.Map c start len map) = strip ts y k i c start len map
+row p ds ts y k i (deeds.Channel c) = Nothing
+row p ds ts y k i (deeds.Drop c sid) = Nothing
+row p ds ts y k i deeds.Other = Nothing
 
-abbrev pub row_for : Page → List Deed → (y k i : ℕ) → Option Deed → Xml
-row_for p ds y k i (Some d) = row p ds y k i d
-row_for p ds y k i None = Nothing
+abbrev pub row_for : Page → List Deed → List Sent → (y k i : ℕ) → Option Deed → Xml
+row_for p ds ts y k i (Some d) = row p ds ts y k i d
+row_for p ds ts y k i None = Nothing
 
-abbrev pub row_of : Page → List Deed → (y k : ℕ) → Option ℕ → Xml
-row_of p ds y k (Some i) = row_for p ds y k i (slice_get ds i)
-row_of p ds y k None = Nothing
+abbrev pub row_of : Page → List Deed → List Sent → (y k : ℕ) → Option ℕ → Xml
+row_of p ds ts y k (Some i) = row_for p ds ts y k i (slice_get ds i)
+row_of p ds ts y k None = Nothing
 
-abbrev pub row_at : Page → List Deed → ℕ → List ℕ → ℕ → Xml
-row_at p ds top rows k = row_of p ds (top + 22 * k) k (slice_get rows k)
+abbrev pub row_at : Page → List Deed → List Sent → ℕ → List ℕ → ℕ → Xml
+row_at p ds ts top rows k = row_of p ds ts (top + 22 * k) k (slice_get rows k)
 
 -- a section: a row each, 22 high
-abbrev pub section : Page → List Deed → ℕ → List ℕ → Xml
-section p ds top rows = each (length rows) (row_at p ds top rows)
+abbrev pub section : Page → List Deed → List Sent → ℕ → List ℕ → Xml
+section p ds ts top rows = each (length rows) (row_at p ds ts top rows)
 
 -- the frame of MAP k on the axis of time, down to the last request
 abbrev pub frame_title : ℕ → List ℕ
@@ -97,14 +101,14 @@ abbrev pub heading : (ch y : ℕ) → Xml
 heading ch y = said (Words 16 (y + 16) (codes "h")) (codes "channel " ++ decimal ch)
 
 -- a channel from y down: frames of its MAPs round a row an owner and a row a request, and then a row a MAP
-abbrev pub channel_rows : Page → List Deed → (y : ℕ) → (owners requests maps : List ℕ) → Xml
-channel_rows p ds y owners requests maps =
+abbrev pub channel_rows : Page → List Deed → List Sent → (y : ℕ) → (owners requests maps : List ℕ) → Xml
+channel_rows p ds ts y owners requests maps =
     join (join (join (join (heading p.ch y) (frames p ds (y + 26) (22 * length owners + 22 * length requests + 2) maps))
-    (section p ds (y + 30) owners)) (section p ds (y + 30 + 22 * length owners) requests))
-    (section p ds (y + 44 + 22 * length owners + 22 * length requests) maps)
+    (section p ds ts (y + 30) owners)) (section p ds ts (y + 30 + 22 * length owners) requests))
+    (section p ds ts (y + 44 + 22 * length owners + 22 * length requests) maps)
 
-abbrev pub channel : List Deed → (ch y : ℕ) → Xml
-channel ds ch y = channel_rows (record { ch = ch; axis = axis_of ds ch }) ds y (picked Owners ch ds) (picked Requests ch ds) (picked Maps ch ds)
+abbrev pub channel : List Deed → List Sent → (ch y : ℕ) → Xml
+channel ds ts ch y = channel_rows (record { ch = ch; axis = axis_of ds ch }) ds ts y (picked Owners ch ds) (picked Requests ch ds) (picked Maps ch ds)
 
 -- how high it is
 abbrev pub channel_height : List Deed → ℕ → ℕ
@@ -115,30 +119,32 @@ abbrev pub tops_from : List Deed → ℕ → List ℕ → List ℕ
 tops_from ds y [] = y ∷ []
 tops_from ds y (ch ∷ channels) = y ∷ tops_from ds (y + channel_height ds ch) channels
 
-abbrev pub channel_for : List Deed → Option ℕ → Option ℕ → Xml
-channel_for ds (Some ch) (Some y) = channel ds ch y
-channel_for ds ch y = Nothing
+abbrev pub channel_for : List Deed → List Sent → Option ℕ → Option ℕ → Xml
+channel_for ds ts (Some ch) (Some y) = channel ds ts ch y
+channel_for ds ts ch y = Nothing
 
-abbrev pub channel_at : List Deed → (channels tops : List ℕ) → ℕ → Xml
-channel_at ds channels tops k = channel_for ds (slice_get channels k) (slice_get tops k)
+abbrev pub channel_at : List Deed → List Sent → (channels tops : List ℕ) → ℕ → Xml
+channel_at ds ts channels tops k = channel_for ds ts (slice_get channels k) (slice_get tops k)
 
 -- the channels that deeds set, one below the other
 abbrev pub first_top : ℕ
 first_top = 56
 
-abbrev pub channels_drawn : List Deed → Xml
-channels_drawn ds = each (length (channels_of ds)) (channel_at ds (channels_of ds) (tops_from ds first_top (channels_of ds)))
+abbrev pub channels_drawn : List Deed → List Sent → Xml
+channels_drawn ds ts = each (length (channels_of ds)) (channel_at ds ts (channels_of ds) (tops_from ds first_top (channels_of ds)))
 
 -- the layers: channels below a legend
-abbrev pub layers : List Deed → (legend : Xml) → Drawn
-layers ds legend = record { rules = Nothing; bands = channels_drawn ds; arrows = Nothing; marks = Nothing; labels = legend }
+abbrev pub layers : List Deed → List Sent → (legend : Xml) → Drawn
+layers ds ts legend = record { rules = Nothing; bands = channels_drawn ds ts; arrows = Nothing; marks = Nothing; labels = legend }
 
--- a text is a picture of deeds: in some size, with some title, style, definitions and legend
-pub record IsPictureOf (ds : List Deed) (text : List ℕ) : Type 0 where
+-- a text is a picture of deeds and of what modems transmitted, in whatever order: in some size, with some title, style, definitions and legend
+pub record IsPictureOf (ds : List Deed) (ts : List Sent) (text : List ℕ) : Type 0 where
+  pub drawn : List Sent
+  pub same : IsPermutation ts drawn
   pub width : ℕ
   pub height : ℕ
   pub title : List ℕ
   pub style : List ℕ
   pub definitions : Xml
   pub legend : Xml
-  pub rendered : text ≡ render (drawing width height title style definitions (layers ds legend))
+  pub rendered : text ≡ render (drawing width height title style definitions (layers ds drawn legend))

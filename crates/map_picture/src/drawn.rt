@@ -1,6 +1,7 @@
-//! The MAPs of a plan as one picture.
+//! The MAPs of commands as one picture.
 
 ghost use Rattle.std.specs.Prelude.{◌≡◌, ◌++◌, ◌+◌, ◌*◌, ◌<◌, ◌^◌, IfOk, OnOk, length, string_bytes};
+ghost use Rattle.std.specs.List.Sorted.{IsPermutation};
 ghost use Rattle.xml_text.specs.Xml.{Xml, render};
 ghost use Rattle.xml_text.specs.Drawings.{AreDrawn};
 ghost use Rattle.xml_text.specs.Each.{each};
@@ -8,11 +9,13 @@ ghost use Rattle.map_text.specs.Texts.{channels_of};
 ghost use Rattle.map_picture.specs.declared.picked.Section.TheVariants.{Owners, Requests, Maps};
 ghost use Rattle.map_picture.specs.Picked.{picked};
 ghost use Rattle.map_picture.specs.Pictures.{channel, channel_at, channel_height, channel_rows, channels_drawn, first_top, heading, layers, tops_from, IsPictureOf};
+ghost use Rattle.map_picture.specs.Wedges.{IsInOrder};
 
 use crate::axis::{Page, axis_of};
 use crate::picked::{Section, picked};
 use crate::rows::{add_frames, add_section};
-use crate::style::{NOTE, STYLE, legend, patterns};
+use crate::sent::{Sent, in_order};
+use crate::style::{STYLE, legend_for, patterns};
 use map_text::{Deed, channels_of};
 use std::alloc::{AllocError, Global};
 use xml_text::{Layers, add_words, drawing};
@@ -61,6 +64,7 @@ fn add_rows(
     out: &mut String,
     page: Page,
     deeds: &[Deed],
+    sent: &[Sent],
     y: u64,
     owners: &[usize],
     requests: &[usize],
@@ -71,15 +75,16 @@ fn add_rows(
     requires few_owners { length owners.now < 2 ^ 27 }
     requires few_requests { length requests.now < 2 ^ 27 }
     requires few_maps { length maps.now < 2 ^ 27 }
-    ensures { OnOk result (string_bytes out.new ≡ string_bytes out.old ++ render (channel_rows page deeds.now y owners.now requests.now maps.now)) }
+    requires order { IsInOrder sent.now }
+    ensures { OnOk result (string_bytes out.new ≡ string_bytes out.old ++ render (channel_rows page deeds.now sent.now y owners.now requests.now maps.now)) }
 {
     let first = 22 * (owners.len() as u64);
     let second = 22 * (requests.len() as u64);
     add_heading(alloc, out, page.ch, y)?;
     add_frames(alloc, out, page, deeds, y + 26, first + second + 2, maps)?;
-    add_section(alloc, out, page, deeds, y + 30, owners)?;
-    add_section(alloc, out, page, deeds, y + 30 + first, requests)?;
-    add_section(alloc, out, page, deeds, y + 44 + first + second, maps)?;
+    add_section(alloc, out, page, deeds, sent, y + 30, owners)?;
+    add_section(alloc, out, page, deeds, sent, y + 30 + first, requests)?;
+    add_section(alloc, out, page, deeds, sent, y + 44 + first + second, maps)?;
     Ok(())
 }
 
@@ -87,19 +92,21 @@ fn add_channel(
     alloc: Global,
     out: &mut String,
     deeds: &[Deed],
+    sent: &[Sent],
     ch: u8,
     y: u64,
 ) -> Result<(), AllocError>
     requires y { y < 2 ^ 60 }
     requires deeds { length deeds.now < 2 ^ 27 }
-    ensures { OnOk result (string_bytes out.new ≡ string_bytes out.old ++ render (channel deeds.now ch y)) }
+    requires order { IsInOrder sent.now }
+    ensures { OnOk result (string_bytes out.new ≡ string_bytes out.old ++ render (channel deeds.now sent.now ch y)) }
 {
     let owners = picked(alloc, Section::Owners, ch, deeds)?;
     let requests = picked(alloc, Section::Requests, ch, deeds)?;
     let maps = picked(alloc, Section::Maps, ch, deeds)?;
     let axis = axis_of(deeds, ch);
     let page = Page { ch, axis };
-    add_rows(alloc, out, page, deeds, y, &owners, &requests, &maps)?;
+    add_rows(alloc, out, page, deeds, sent, y, &owners, &requests, &maps)?;
     Ok(())
 }
 
@@ -107,12 +114,14 @@ fn add_channel_at(
     alloc: Global,
     out: &mut String,
     deeds: &[Deed],
+    sent: &[Sent],
     channels: &[u8],
     tops: &[u64],
     k: usize,
 ) -> Result<(), AllocError>
-    requires { length deeds.now < 2 ^ 27 }
-    ensures { OnOk result (string_bytes out.new ≡ string_bytes out.old ++ render (channel_at deeds.now channels.now tops.now k)) }
+    requires deeds { length deeds.now < 2 ^ 27 }
+    requires order { IsInOrder sent.now }
+    ensures { OnOk result (string_bytes out.new ≡ string_bytes out.old ++ render (channel_at deeds.now sent.now channels.now tops.now k)) }
 {
     if k >= channels.len() {
         return Ok(());
@@ -123,21 +132,24 @@ fn add_channel_at(
     if tops[k] >= 1 << 60 {
         return Err(AllocError);
     }
-    add_channel(alloc, out, deeds, channels[k], tops[k])
+    add_channel(alloc, out, deeds, sent, channels[k], tops[k])
 }
 
 fn add_channels(
     alloc: Global,
     out: &mut String,
     deeds: &[Deed],
+    sent: &[Sent],
     channels: &[u8],
     tops: &[u64],
 ) -> Result<(), AllocError>
-    requires { length deeds.now < 2 ^ 27 }
-    ensures { OnOk result (string_bytes out.new ≡ string_bytes out.old ++ render (each (length channels.now) (channel_at deeds.now channels.now tops.now))) }
+    requires deeds { length deeds.now < 2 ^ 27 }
+    requires order { IsInOrder sent.now }
+    ensures { OnOk result (string_bytes out.new ≡ string_bytes out.old
+        ++ render (each (length channels.now) (channel_at deeds.now sent.now channels.now tops.now))) }
 {
     for k in 0..channels.len() {
-        add_channel_at(alloc, out, deeds, channels, tops, k)?;
+        add_channel_at(alloc, out, deeds, sent, channels, tops, k)?;
     }
     Ok(())
 }
@@ -146,16 +158,18 @@ fn add_channels(
 fn channels_drawn(
     alloc: Global,
     deeds: &[Deed],
+    sent: &[Sent],
     channels: &[u8],
     tops: &[u64],
 ) -> Result<String, AllocError>
     requires deeds { length deeds.now < 2 ^ 27 }
     requires channels { channels.now ≡ channels_of deeds.now }
     requires tops { tops.now ≡ tops_from deeds.now first_top channels.now }
-    ensures { IfOk result (λ text. string_bytes text ≡ render (channels_drawn deeds.now)) }
+    requires order { IsInOrder sent.now }
+    ensures { IfOk result (λ text. string_bytes text ≡ render (channels_drawn deeds.now sent.now)) }
 {
     let mut out = String::new(alloc);
-    add_channels(alloc, &mut out, deeds, channels, tops)?;
+    add_channels(alloc, &mut out, deeds, sent, channels, tops)?;
     Ok(out)
 }
 
@@ -163,17 +177,19 @@ fn channels_drawn(
 fn layers_of(
     alloc: Global,
     deeds: &[Deed],
+    sent: &[Sent],
     channels: &[u8],
     tops: &[u64],
 ) -> Result<Layers, AllocError>
     requires deeds { length deeds.now < 2 ^ 27 }
     requires channels { channels.now ≡ channels_of deeds.now }
     requires tops { tops.now ≡ tops_from deeds.now first_top channels.now }
-    ensures { IfOk result (λ all. (known : Xml) × AreDrawn all (layers deeds.now known)) }
+    requires order { IsInOrder sent.now }
+    ensures { IfOk result (λ all. (known : Xml) × AreDrawn all (layers deeds.now sent.now known)) }
 {
     let title = format!(in alloc; "The MAPs of {} commands", deeds.len())?;
-    let bands = channels_drawn(alloc, deeds, channels, tops)?;
-    let labels = legend(alloc, title.as_str(), NOTE)?;
+    let bands = channels_drawn(alloc, deeds, sent, channels, tops)?;
+    let labels = legend_for(alloc, title.as_str(), !sent.is_empty())?;
     Ok(Layers {
         rules: String::new(alloc),
         bands,
@@ -183,17 +199,20 @@ fn layers_of(
     })
 }
 
-/// The picture of layers in this size, with a title and a style.
+/// The picture of layers in this size, with a title and a style. The layers have what was sent in order.
 fn drawn_so(
     alloc: Global,
     deeds: &[Deed],
+    sent: &[Sent],
+    ordered: &[Sent],
     size: (u64, u64),
     title: &str,
     style: &str,
     all: &Layers,
 ) -> Result<String, AllocError>
-    requires { (known : Xml) × AreDrawn all.now (layers deeds.now known) }
-    ensures { IfOk result (λ text. IsPictureOf deeds.now (string_bytes text)) }
+    requires same { IsPermutation sent.now ordered.now }
+    requires drawn { (known : Xml) × AreDrawn all.now (layers deeds.now ordered.now known) }
+    ensures { IfOk result (λ text. IsPictureOf deeds.now sent.now (string_bytes text)) }
 {
     let known = patterns(alloc)?;
     let text = drawing(alloc, size, title, style, known.as_str(), all)?;
@@ -212,21 +231,47 @@ fn width_of(deeds: &[Deed]) -> u64 {
     1082
 }
 
-/// The picture of what commands did, as an SVG document.
-pub fn picture(alloc: Global, deeds: &[Deed]) -> Result<String, AllocError>
-    requires { length deeds.now < 2 ^ 26 }
-    ensures { IfOk result (λ text. IsPictureOf deeds.now (string_bytes text)) }
+/// The picture of what was sent and is now in order.
+fn drawn_in_order(
+    alloc: Global,
+    deeds: &[Deed],
+    sent: &[Sent],
+    ordered: &[Sent],
+) -> Result<String, AllocError>
+    requires deeds { length deeds.now < 2 ^ 26 }
+    requires same { IsPermutation sent.now ordered.now }
+    requires order { IsInOrder ordered.now }
+    ensures { IfOk result (λ text. IsPictureOf deeds.now sent.now (string_bytes text)) }
 {
     let channels = channels_of(alloc, deeds)?;
     if channels.len() >= 1 << 26 {
         return Err(AllocError);
     }
     let tops = tops_of(alloc, deeds, &channels)?;
-    let all = layers_of(alloc, deeds, &channels, &tops)?;
+    let all = layers_of(alloc, deeds, ordered, &channels, &tops)?;
     let height = match tops.last() {
         Some(top) => *top,
         None => 0,
     };
     let size = (width_of(deeds), height);
-    drawn_so(alloc, deeds, size, "upsched MAPs", STYLE, &all)
+    drawn_so(
+        alloc,
+        deeds,
+        sent,
+        ordered,
+        size,
+        "upsched MAPs",
+        STYLE,
+        &all,
+    )
+}
+
+/// The picture of what commands did, and of what modems sent in the minislots of their MAPs, as an SVG document. What
+/// was sent is sorted once; then each transmission is looked at for each channel whose MAPs have its minislot.
+pub fn picture(alloc: Global, deeds: &[Deed], sent: &[Sent]) -> Result<String, AllocError>
+    requires { length deeds.now < 2 ^ 26 }
+    ensures { IfOk result (λ text. IsPictureOf deeds.now sent.now (string_bytes text)) }
+{
+    let ordered = in_order(alloc, sent)?;
+    drawn_in_order(alloc, deeds, sent, ordered.as_slice())
 }

@@ -1,4 +1,5 @@
-//! The MAPs of a plan as a picture: for each channel a row an owner, a row a request and a row a MAP.
+//! The MAPs of commands as a picture: for each channel a row an owner, a row a request, and a row a MAP with a wedge for
+//! each transmission in it.
 #![tactic(auto)]
 
 mod asked;
@@ -8,9 +9,12 @@ mod drawn;
 mod owners;
 mod picked;
 mod rows;
+mod sent;
 mod shapes;
 mod style;
+mod wedges;
 mod words;
 
 pub use cells::cells_fill;
 pub use drawn::picture;
+pub use sent::Sent;

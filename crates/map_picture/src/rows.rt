@@ -5,12 +5,15 @@ ghost use Rattle.map_text.specs.Fates.{fate_of};
 ghost use Rattle.xml_text.specs.Xml.{render};
 ghost use Rattle.map_picture.specs.Asked.{asked};
 ghost use Rattle.map_picture.specs.Pictures.{frame, frame_at, frame_title, frames, row, row_at, section, strip, strip_name, strip_text, strip_words};
+ghost use Rattle.map_picture.specs.Wedges.{IsInOrder};
 
 use crate::asked::add_asked;
 use crate::axis::{Page, at, wide};
 use crate::cells::add_cells;
 use crate::owners::add_owner;
+use crate::sent::Sent;
 use crate::shapes::add_block;
+use crate::wedges::add_wedges;
 use map_body::MapBody;
 use map_text::{Deed, Ended, Request, fate_of};
 use std::alloc::{AllocError, Global};
@@ -50,13 +53,15 @@ fn add_strip_words(
     add_words(alloc, out, (880, y + 11), "s mute", words.as_str())
 }
 
-/// The strip of MAP `k`, of deed `i`.
+/// The strip of MAP `k`, of deed `i`, and what modems sent in it.
 fn add_strip(
     alloc: Global,
     out: &mut String,
+    sent: &[Sent],
     y: u64,
     k: usize,
     i: usize,
+    ch: u8,
     start: u64,
     len: u16,
     map: &MapBody,
@@ -64,11 +69,14 @@ fn add_strip(
     requires y { y < 2 ^ 62 }
     requires k { k < 2 ^ 62 }
     requires i { i < 2 ^ 62 }
-    ensures { OnOk result (string_bytes out.new ≡ string_bytes out.old ++ render (strip y k i start len map.now)) }
+    requires order { IsInOrder sent.now }
+    requires start { start < 2 ^ 63 }
+    ensures { OnOk result (string_bytes out.new ≡ string_bytes out.old ++ render (strip sent.now y k i ch start len map.now)) }
 {
     let intervals = map.intervals(alloc)?;
     add_strip_name(alloc, out, y, k)?;
     add_cells(alloc, out, len, y, &intervals)?;
+    add_wedges(alloc, out, sent, ch, start, len, y)?;
     add_strip_words(alloc, out, y, i, start, len)?;
     Ok(())
 }
@@ -109,6 +117,7 @@ fn add_row(
     out: &mut String,
     page: Page,
     deeds: &[Deed],
+    sent: &[Sent],
     y: u64,
     k: usize,
     i: usize,
@@ -118,7 +127,8 @@ fn add_row(
     requires k { k < 2 ^ 62 }
     requires i { i < length deeds.now }
     requires deeds { length deeds.now < 2 ^ 27 }
-    ensures { OnOk result (string_bytes out.new ≡ string_bytes out.old ++ render (row page deeds.now y k i deed.now)) }
+    requires order { IsInOrder sent.now }
+    ensures { OnOk result (string_bytes out.new ≡ string_bytes out.old ++ render (row page deeds.now sent.now y k i deed.now)) }
 {
     match deed {
         Deed::Flow {
@@ -137,11 +147,11 @@ fn add_row(
             add_request(alloc, out, page, deeds, y, i, &request)
         }
         Deed::Map {
+            ch,
             start,
             len,
             body,
-            ..
-        } => add_strip(alloc, out, y, k, i, start.get(), *len, body),
+        } => add_strip(alloc, out, sent, y, k, i, *ch, start.get(), *len, body),
         Deed::Channel(_) => Ok(()),
         Deed::Drop { .. } => Ok(()),
         Deed::Other => Ok(()),
@@ -153,6 +163,7 @@ fn add_row_at(
     out: &mut String,
     page: Page,
     deeds: &[Deed],
+    sent: &[Sent],
     top: u64,
     rows: &[usize],
     k: usize,
@@ -160,7 +171,8 @@ fn add_row_at(
     requires top { top < 2 ^ 61 }
     requires deeds { length deeds.now < 2 ^ 27 }
     requires rows { length rows.now < 2 ^ 27 }
-    ensures { OnOk result (string_bytes out.new ≡ string_bytes out.old ++ render (row_at page deeds.now top rows.now k)) }
+    requires order { IsInOrder sent.now }
+    ensures { OnOk result (string_bytes out.new ≡ string_bytes out.old ++ render (row_at page deeds.now sent.now top rows.now k)) }
 {
     if k >= rows.len() {
         return Ok(());
@@ -169,7 +181,8 @@ fn add_row_at(
         return Ok(());
     }
     let y = top + 22 * (k as u64);
-    add_row(alloc, out, page, deeds, y, k, rows[k], &deeds[rows[k]])
+    let deed = &deeds[rows[k]];
+    add_row(alloc, out, page, deeds, sent, y, k, rows[k], deed)
 }
 
 /// A section's rows.
@@ -178,16 +191,18 @@ pub(crate) fn add_section(
     out: &mut String,
     page: Page,
     deeds: &[Deed],
+    sent: &[Sent],
     top: u64,
     rows: &[usize],
 ) -> Result<(), AllocError>
     requires top { top < 2 ^ 61 }
     requires deeds { length deeds.now < 2 ^ 27 }
     requires rows { length rows.now < 2 ^ 27 }
-    ensures { OnOk result (string_bytes out.new ≡ string_bytes out.old ++ render (section page deeds.now top rows.now)) }
+    requires order { IsInOrder sent.now }
+    ensures { OnOk result (string_bytes out.new ≡ string_bytes out.old ++ render (section page deeds.now sent.now top rows.now)) }
 {
     for k in 0..rows.len() {
-        add_row_at(alloc, out, page, deeds, top, rows, k)?;
+        add_row_at(alloc, out, page, deeds, sent, top, rows, k)?;
     }
     Ok(())
 }

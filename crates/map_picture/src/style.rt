@@ -1,4 +1,4 @@
-//! What is above the picture of a plan's MAPs, and what its classes look like.
+//! What is above the picture of MAPs, and what its classes look like.
 
 ghost use Rattle.std.specs.Prelude.{IfOk, string_bytes};
 ghost use Rattle.map_picture.specs.Pictures.{IsRendered};
@@ -7,8 +7,12 @@ use std::alloc::{AllocError, Global};
 use xml_text::{add_pattern, add_words};
 
 /// What rows and marks mean.
-pub(crate) const NOTE: &str =
+const NOTE: &str =
     "block: a grant, coloured by SID; low block: a poll; line below: when it is due; dot: sent; ring: told to wait; red: waits or was dropped";
+
+/// What wedges mean.
+const WEDGES: &str =
+    "wedge below a MAP: a modem transmits in this minislot; red: another one does too, a collision";
 
 /// The rules of both light and dark.
 pub(crate) const STYLE: &str = "text{font:11px ui-sans-serif,system-ui,'DejaVu Sans',sans-serif}\
@@ -32,11 +36,35 @@ pub(crate) fn patterns(alloc: Global) -> Result<String, AllocError>
 }
 
 /// What is above channels.
-pub(crate) fn legend(alloc: Global, title: &str, note: &str) -> Result<String, AllocError>
+fn legend(alloc: Global, title: &str, note: &str) -> Result<String, AllocError>
     ensures { IfOk result (λ text. IsRendered (string_bytes text)) }
 {
     let mut out = String::new(alloc);
     add_words(alloc, &mut out, (16, 26), "h", title)?;
     add_words(alloc, &mut out, (16, 43), "s mute", note)?;
     Ok(out)
+}
+
+/// With one more line below.
+fn longer_legend(alloc: Global, title: &str, note: &str, more: &str) -> Result<String, AllocError>
+    ensures { IfOk result (λ text. IsRendered (string_bytes text)) }
+{
+    let mut out = legend(alloc, title, note)?;
+    add_words(alloc, &mut out, (16, 55), "s mute", more)?;
+    Ok(out)
+}
+
+/// What is above channels of MAPs with or without wedges.
+pub(crate) fn legend_for(
+    alloc: Global,
+    title: &str,
+    with_wedges: bool,
+) -> Result<String, AllocError>
+    ensures { IfOk result (λ text. IsRendered (string_bytes text)) }
+{
+    if with_wedges {
+        longer_legend(alloc, title, NOTE, WEDGES)
+    } else {
+        legend(alloc, title, NOTE)
+    }
 }

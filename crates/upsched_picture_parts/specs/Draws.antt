@@ -1,5 +1,5 @@
--- What `draw` prints of a script, and of the commands that nodes learn in it.
-use Rattle.std.specs.Prelude.{ℕ, List, [], ◌∷◌, ◌++◌, Option, Some, None}
+-- What `draw` prints of a script, and of the commands that nodes learn and what modems transmit in it.
+use Rattle.std.specs.Prelude.{◌≡◌, ℕ, List, [], ◌∷◌, ◌++◌, map, Option, Some, None}
 use Rattle.std.specs.Io.KnownBytes.{Appends}
 use Rattle.ballots.specs.declared.members.Members.{Members}
 use Rattle.ballots.specs.Members.{member_count}
@@ -14,6 +14,8 @@ use Rattle.script_text.specs.Script.{IsScript}
 use Rattle.run_picture.specs.Pictures.{IsPictureOf}
 use Rattle.upsched_sight_parts.specs.Draws.{DrawsCommands, TellsCommands}
 use Rattle.learned_commands.specs.Learned.{AreMostLearned}
+use Rattle.map_picture.specs.declared.sent.Sent.{Sent}
+use Rattle.upsched_picture_parts.specs.Transmitted.{told}
 
 -- what is printed is a picture of a run with this report, of which this was seen, and which left this world
 abbrev pub DrawsRun : ℕ → List ℕ → List Event → List Answer → List (Option Sight) → Written → Option (List ℕ) → Option (List ℕ) → Type 0
@@ -34,20 +36,23 @@ DrawsScript (Some text) old new =
 
 -- ---- the MAPs of a run
 
--- the events may go so, over so many fresh nodes and new modems of these ids, that in the end these are the commands of a node that has learned most
-abbrev pub LeavesLearned : ℕ → List ℕ → List Event → List Command → Type 0
-LeavesLearned members ids events cs = (report : List Answer) × (w : Written) × Run members ids events report w × AreMostLearned w.nodes cs
+-- the events may go so, over so many fresh nodes and new modems of these ids, that in the end these are the commands of a node that has learned most,
+-- and this is what the modems have transmitted
+abbrev pub LeavesLearned : ℕ → List ℕ → List Event → List Command → List Sent → Type 0
+LeavesLearned members ids events cs ts =
+    (report : List Answer) × (w : Written) × Run members ids events report w × AreMostLearned w.nodes cs × (ts ≡ map (told ids) w.transmissions)
 
 -- so in the script that a text is
-abbrev pub LearnsFrom : List ℕ → List Command → Type 0
-LearnsFrom text cs = (count : Members) × (ids : List ℕ) × (events : List Event) × IsScript text count ids events × LeavesLearned (member_count count) ids events cs
+abbrev pub LearnsFrom : List ℕ → List Command → List Sent → Type 0
+LearnsFrom text cs ts =
+    (count : Members) × (ids : List ℕ) × (events : List Event) × IsScript text count ids events × LeavesLearned (member_count count) ids events cs ts
 
--- what is printed is a picture of what these commands do, as it is of a plan's, where the script's text is known
+-- what is printed is a picture of what these commands do, as it is of a plan's, and of what modems transmitted in the same run, where the text is known
 abbrev pub DrawsLearned : Option (List ℕ) → Option (List ℕ) → Option (List ℕ) → Type 0
 DrawsLearned None old new = Unit {0}
-DrawsLearned (Some text) old new = (cs : List Command) × LearnsFrom text cs × DrawsCommands cs old new
+DrawsLearned (Some text) old new = (cs : List Command) × (ts : List Sent) × LearnsFrom text cs ts × DrawsCommands cs ts old new
 
--- or the text of it
+-- or the text of what the commands do
 abbrev pub TellsLearned : Option (List ℕ) → Option (List ℕ) → Option (List ℕ) → Type 0
 TellsLearned None old new = Unit {0}
-TellsLearned (Some text) old new = (cs : List Command) × LearnsFrom text cs × TellsCommands cs old new
+TellsLearned (Some text) old new = (cs : List Command) × (ts : List Sent) × LearnsFrom text cs ts × TellsCommands cs old new

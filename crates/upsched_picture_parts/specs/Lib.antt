@@ -1,1 +1,2 @@
+pub mod Transmitted
 pub mod Draws

@@ -3,6 +3,7 @@
 
 mod draw;
 mod maps;
+mod transmitted;
 
 pub use draw::draw_script;
 pub use maps::{draw_maps, tell_maps};

@@ -1,5 +1,5 @@
-//! `upsched draw SCRIPT --maps`: the MAPs that the commands of a run give, as a picture, or with `--text` for a
-//! terminal.
+//! `upsched draw SCRIPT --maps`: the MAPs that the commands of a run give, and what its modems transmit in them, as a
+//! picture; or with `--text` the MAPs for a terminal.
 
 ghost use Rattle.std.specs.Prelude.{◌≡◌, ◌≢◌, IfOk, IfSome, OnOk, length, map};
 ghost use Rattle.ballots.specs.Members.{member_count};
@@ -10,9 +10,11 @@ ghost use Rattle.upsched_map_parts.specs.declared.status.Status.TheVariants.{Don
 ghost use Rattle.upsched_parts.specs.Run.{NoScript};
 ghost use Rattle.upsched_picture_parts.specs.Draws.{DrawsLearned, LearnsFrom, LeavesLearned, TellsLearned};
 
+use crate::transmitted::all_told;
 use ballots::Members;
 use grant_machine::Command;
 use learned_commands::most_learned;
+use map_picture::Sent;
 use modem::Modem;
 use network_script::World;
 use node::Node;
@@ -25,8 +27,17 @@ use upsched_parts::script_of;
 use upsched_sight_parts::{draw_commands, tell_commands};
 use world_events::Event;
 
-/// The commands that the events have fresh nodes learn. The world is given back as they left it: what is promised of
-/// the commands holds where its nodes are honest.
+/// What a run leaves for a picture of its MAPs.
+#[derive(Drop)]
+struct Learned {
+    /// The commands that a node has learned.
+    commands: Vec<Command>,
+    /// What modems have transmitted.
+    sent: Vec<Sent>,
+}
+
+/// The commands that the events have fresh nodes learn, and what they have modems transmit. The world is given back as
+/// they left it: what is promised of both holds where its nodes are honest.
 fn learned_after<N: Node>(
     alloc: Global,
     nodes: Vec<N>,
@@ -34,39 +45,41 @@ fn learned_after<N: Node>(
     members: Members,
     ids: &[u32],
     events: &[Event],
-) -> Result<(Vec<Command>, World<N>), OutOfMemory>
+) -> Result<(Learned, World<N>), OutOfMemory>
     requires nodes { AreFresh N.who N.honest N.stands nodes.items }
     requires modems { AreNew modems.items }
     requires members { length nodes.items ≡ member_count members }
     requires ids { map (λ modem. modem.id) modems.items ≡ ids.now }
-    ensures { IfOk result (λ left. AreHonest left.1 → LeavesLearned (member_count members) ids.now events.now left.0.items) }
+    ensures { IfOk result (λ left. AreHonest left.1 → LeavesLearned (member_count members) ids.now events.now left.0.commands.items left.0.sent.items) }
 {
     let mut world = World::new(alloc, nodes, modems)?;
     world.run(events)?;
     let commands = most_learned(alloc, world.seats())?;
-    Ok((commands, world))
+    let sent = all_told(alloc, ids, world.transmissions())?;
+    Ok((Learned { commands, sent }, world))
 }
 
-/// The commands that a script has nodes with records in memory learn.
-fn learned_by<'a>(alloc: Global, script: &Script) -> Result<Vec<Command>, Fault<'a>>
-    ensures { IfOk result (λ commands. LeavesLearned (member_count script.now.members) script.now.modems.items script.now.events.items commands.items) }
+/// What a script has nodes with records in memory learn, and modems transmit.
+fn learned_by<'a>(alloc: Global, script: &Script) -> Result<Learned, Fault<'a>>
+    ensures { IfOk result (λ learned. LeavesLearned (member_count script.now.members) script.now.modems.items script.now.events.items
+        learned.commands.items learned.sent.items) }
 {
     let (ids, events) = (script.modems.as_slice(), script.events.as_slice());
     let nodes = plain_nodes(alloc, script.members)?;
     let modems = new_modems(alloc, ids)?;
     match learned_after(alloc, nodes, modems, script.members, ids, events) {
-        Ok((commands, _world)) => Ok(commands),
+        Ok((learned, _world)) => Ok(learned),
         Err(OutOfMemory) => Err(Fault::Memory),
     }
 }
 
-/// The commands that nodes learn in the script that a text is.
+/// The same in the script that a text is.
 fn learned_in<'a, F: Read>(
     alloc: Global,
     script: &mut F,
     path: &'a str,
-) -> Result<Vec<Command>, Fault<'a>>
-    ensures { IfOk result (λ commands. IfSome (F.remaining script.old) (λ text. LearnsFrom text commands.items)) }
+) -> Result<Learned, Fault<'a>>
+    ensures { IfOk result (λ learned. IfSome (F.remaining script.old) (λ text. LearnsFrom text learned.commands.items learned.sent.items)) }
 {
     let script = script_of(alloc, script, path)?;
     learned_by(alloc, &script)
@@ -81,8 +94,9 @@ fn draw_learned<'a, F: Read, O: Write>(
     ensures printed { OnOk result (DrawsLearned (F.remaining script.old) (O.contents output.old) (O.contents output.new)) }
     ensures no_script { NoScript (F.remaining script.old) → output.new ≡ output.old }
 {
-    let commands = learned_in(alloc, script, path)?;
-    draw_commands(alloc, commands.as_slice(), output)
+    let learned = learned_in(alloc, script, path)?;
+    let (commands, sent) = (learned.commands.as_slice(), learned.sent.as_slice());
+    draw_commands(alloc, commands, sent, output)
 }
 
 fn tell_learned<'a, F: Read, O: Write>(
@@ -94,14 +108,14 @@ fn tell_learned<'a, F: Read, O: Write>(
     ensures printed { OnOk result (TellsLearned (F.remaining script.old) (O.contents output.old) (O.contents output.new)) }
     ensures no_script { NoScript (F.remaining script.old) → output.new ≡ output.old }
 {
-    let commands = learned_in(alloc, script, path)?;
-    tell_commands(alloc, commands.as_slice(), output)
+    let learned = learned_in(alloc, script, path)?;
+    tell_commands(alloc, learned.commands.as_slice(), output)
 }
 
 /// Runs a script over nodes with records in memory, and prints a picture of the MAPs that the commands give which a
 /// node has learned in the end: of a node that is up and has learned most from place 1 on without a gap. It is the
-/// picture that a plan of these commands has. A fault of the script is found before anything happens, and is told in
-/// one line.
+/// picture that a plan of these commands has, with a wedge for each minislot of a MAP in which a modem transmitted. A
+/// fault of the script is found before anything happens, and is told in one line.
 pub fn draw_maps<F: Read, O: Write, E: Write>(
     alloc: Global,
     script: &mut F,

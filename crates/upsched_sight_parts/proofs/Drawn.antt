@@ -1,5 +1,5 @@
 -- What a list of commands did, one command after another, and what is told of it.
-use Rattle.std.proofs.Common.{◌≡◌, ℕ, ◌+◌, ◌<◌, ◌≤◌, List, [], ◌∷◌, ◌++◌, length, take, get_or, Option, Some, None, IfSome, Result, Ok, Err, OnOk, ◌∙◌, sym, subst}
+use Rattle.std.proofs.Common.{◌≡◌, ℕ, ◌+◌, ◌<◌, List, [], ◌∷◌, ◌++◌, length, take, get_or, Option, Some, None, IfSome, Result, Ok, Err, OnOk, ◌∙◌, sym, subst}
 use Rattle.std.proofs.lemmas.List.{take_more}
 use Rattle.std.specs.Io.KnownBytes.{Appends}
 use Rattle.flow_state.specs.Rows.{Rows}
@@ -11,6 +11,7 @@ use Rattle.map_text.specs.declared.deed.Deed.{Deed}
 use Rattle.map_text.specs.Deeds.{IsDeedOf, AreDeeds}
 use Rattle.map_text.specs.Texts.{plan_text}
 use Rattle.upsched_map_parts.specs.Plan.{IsPlan}
+use Rattle.map_picture.specs.declared.sent.Sent.{Sent}
 use Rattle.map_picture.specs.Pictures.{IsPictureOf}
 use Rattle.upsched_sight_parts.specs.Draws.{DrawsCommands, DrawsMaps, TellsCommands, TellsMaps}
 use Rattle.upsched_sight_parts.proofs.Captured.{outputs_next, rows_next}
@@ -50,16 +51,16 @@ commands_told (Err e) old new cs ds are printed = tt
 commands_told (Ok x) old new cs ds are printed = (ds, are, printed)
 
 -- and where a picture of it was
-pub commands_drawn : {T E : Type 0} (r : Result T E) (old new : Option (List ℕ)) (cs : List Command) (ds : List Deed) → AreDeeds cs (outputs_of cs) ds
-    → OnOk r ((svg : List ℕ) × IsPictureOf ds svg × Appends old new (svg ++ 10 ∷ [])) → OnOk r (DrawsCommands cs old new)
-commands_drawn (Err e) old new cs ds are printed = tt
-commands_drawn (Ok x) old new cs ds are printed = (ds, printed.0, are, printed.1, printed.2)
+pub commands_drawn : {T E : Type 0} (r : Result T E) (old new : Option (List ℕ)) (cs : List Command) (ts : List Sent) (ds : List Deed) → AreDeeds cs (outputs_of cs) ds
+    → OnOk r ((svg : List ℕ) × IsPictureOf ds ts svg × Appends old new (svg ++ 10 ∷ [])) → OnOk r (DrawsCommands cs ts old new)
+commands_drawn (Err e) old new cs ts ds are printed = tt
+commands_drawn (Ok x) old new cs ts ds are printed = (ds, printed.0, are, printed.1, printed.2)
 
 -- and where the commands are a plan's
 pub maps_told : (known old new : Option (List ℕ)) (cs : List Command) → IfSome known (λ text. IsPlan text cs) → TellsCommands cs old new → TellsMaps known old new
 maps_told None old new cs plan told = tt
 maps_told (Some text) old new cs plan told = (cs, plan, told)
 
-pub maps_drawn : (known old new : Option (List ℕ)) (cs : List Command) → IfSome known (λ text. IsPlan text cs) → DrawsCommands cs old new → DrawsMaps known old new
+pub maps_drawn : (known old new : Option (List ℕ)) (cs : List Command) → IfSome known (λ text. IsPlan text cs) → DrawsCommands cs [] old new → DrawsMaps known old new
 maps_drawn None old new cs plan drawn = tt
 maps_drawn (Some text) old new cs plan drawn = (cs, plan, drawn)

@@ -6,6 +6,7 @@ use Rattle.grant_machine.specs.Runs.{outputs_of}
 use Rattle.map_text.specs.declared.deed.Deed.{Deed}
 use Rattle.map_text.specs.Deeds.{AreDeeds}
 use Rattle.map_text.specs.Texts.{plan_text}
+use Rattle.map_picture.specs.declared.sent.Sent.{Sent}
 use Rattle.map_picture.specs.Pictures.{IsPictureOf}
 use Rattle.upsched_map_parts.specs.Plan.{IsPlan}
 
@@ -13,15 +14,16 @@ use Rattle.upsched_map_parts.specs.Plan.{IsPlan}
 abbrev pub TellsCommands : List Command → Option (List ℕ) → Option (List ℕ) → Type 0
 TellsCommands cs old new = (ds : List Deed) × AreDeeds cs (outputs_of cs) ds × Appends old new (plan_text ds)
 
--- what is printed is a picture of what these commands did
-abbrev pub DrawsCommands : List Command → Option (List ℕ) → Option (List ℕ) → Type 0
-DrawsCommands cs old new = (ds : List Deed) × (svg : List ℕ) × AreDeeds cs (outputs_of cs) ds × IsPictureOf ds svg × Appends old new (svg ++ 10 ∷ [])
+-- what is printed is a picture of what these commands did, and of what modems transmitted
+abbrev pub DrawsCommands : List Command → List Sent → Option (List ℕ) → Option (List ℕ) → Type 0
+DrawsCommands cs ts old new =
+    (ds : List Deed) × (svg : List ℕ) × AreDeeds cs (outputs_of cs) ds × IsPictureOf ds ts svg × Appends old new (svg ++ 10 ∷ [])
 
--- so of the commands of a plan, where its text is known
+-- so of the commands of a plan, where its text is known: nothing is transmitted in a plan
 abbrev pub TellsMaps : Option (List ℕ) → Option (List ℕ) → Option (List ℕ) → Type 0
 TellsMaps None old new = Unit {0}
 TellsMaps (Some text) old new = (cs : List Command) × IsPlan text cs × TellsCommands cs old new
 
 abbrev pub DrawsMaps : Option (List ℕ) → Option (List ℕ) → Option (List ℕ) → Type 0
 DrawsMaps None old new = Unit {0}
-DrawsMaps (Some text) old new = (cs : List Command) × IsPlan text cs × DrawsCommands cs old new
+DrawsMaps (Some text) old new = (cs : List Command) × IsPlan text cs × DrawsCommands cs [] old new

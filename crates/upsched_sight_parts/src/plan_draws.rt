@@ -1,4 +1,5 @@
-//! `upsched draw PLAN --plan`: the MAPs of a plan as a picture, or with `--text` for a terminal.
+//! `upsched draw PLAN --plan`: the MAPs of a plan as a picture, or with `--text` for a terminal. Commands that are at
+//! hand, as those of a run, are drawn likewise.
 
 ghost use Rattle.std.specs.Prelude.{◌≡◌, ◌≢◌, ◌++◌, ◌∷◌, [], ℕ, List, flat_map, IfOk, OnOk};
 ghost use Rattle.std.specs.Io.KnownBytes.{Appends};
@@ -16,7 +17,7 @@ use crate::captures::{answer_of, write_bytes};
 use crate::plan_stats::not_added;
 use crate::plan_words::{Refusal, commands_of};
 use grant_machine::{Command, Machine};
-use map_picture::picture;
+use map_picture::{Sent, picture};
 use map_text::{Deed, channel_text, channels_of, deed_of};
 use std::alloc::Global;
 use std::io::{Read, Write};
@@ -146,18 +147,19 @@ pub fn draw_text<R: Read, O: Write, E: Write>(
     }
 }
 
-/// The picture of what commands did is printed.
+/// The picture of what commands did, and of what modems transmitted, is printed.
 fn print_picture<'a, O: Write>(
     alloc: Global,
     deeds: &[Deed],
+    sent: &[Sent],
     output: &mut O,
 ) -> Result<(), Fault<'a>>
-    ensures { OnOk result ((text : List ℕ) × IsPictureOf deeds.now text × Appends (O.contents output.old) (O.contents output.new) (text ++ 10 ∷ [])) }
+    ensures { OnOk result ((text : List ℕ) × IsPictureOf deeds.now sent.now text × Appends (O.contents output.old) (O.contents output.new) (text ++ 10 ∷ [])) }
 {
     if deeds.len() > MANY {
         return Err(Fault::Memory);
     }
-    let Ok(text) = picture(alloc, deeds) else {
+    let Ok(text) = picture(alloc, deeds, sent) else {
         return Err(Fault::Memory);
     };
     if writeln!(output, "{text}").is_err() {
@@ -169,16 +171,18 @@ fn print_picture<'a, O: Write>(
     }
 }
 
-/// Applies commands to one scheduler and prints a picture of its MAPs as an SVG document.
+/// Applies commands to one scheduler and prints a picture of its MAPs, and of what modems transmitted in them, as an
+/// SVG document.
 pub fn draw_commands<'a, O: Write>(
     alloc: Global,
     commands: &[Command],
+    sent: &[Sent],
     output: &mut O,
 ) -> Result<(), Fault<'a>>
-    ensures { OnOk result (DrawsCommands commands.now (O.contents output.old) (O.contents output.new)) }
+    ensures { OnOk result (DrawsCommands commands.now sent.now (O.contents output.old) (O.contents output.new)) }
 {
     let deeds = deeds_of(alloc, commands)?;
-    print_picture(alloc, deeds.as_slice(), output)
+    print_picture(alloc, deeds.as_slice(), sent, output)
 }
 
 fn print_drawn<'a, R: Read, O: Write>(
@@ -192,7 +196,7 @@ fn print_drawn<'a, R: Read, O: Write>(
     ensures script { IsKnownScript (R.remaining plan.old) → output.new ≡ output.old }
 {
     let commands = commands_of(alloc, plan, path)?;
-    draw_commands(alloc, commands.as_slice(), output)?;
+    draw_commands(alloc, commands.as_slice(), &[], output)?;
     Ok(())
 }
 

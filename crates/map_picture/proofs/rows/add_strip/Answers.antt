@@ -2,6 +2,7 @@ use Rattle.xml_text.specs.Xml.{Xml, join}
 use Rattle.map_body.specs.Intervals.{intervals}
 use Rattle.map_picture.specs.Cells.{cells}
 use Rattle.map_picture.specs.Pictures.{strip_name, strip_words}
+use Rattle.map_picture.specs.Wedges.{wedges}
 use Rattle.map_picture.proofs.Rendered.{behind}
 use Rattle.map_picture.proofs.rows.add_strip.Goals as goal
 
@@ -9,6 +10,8 @@ pub returns : goal.returns
 returns c =
     let name : Xml = strip_name c.args.y c.args.k in
     let all : Xml = cells c.args.len c.args.y (intervals c.args.map.now.elements) in
-    behind _ _ _ (join name all) (strip_words c.args.y c.args.i c.args.start c.args.len)
+    let sent : Xml = wedges c.args.sent.now c.args.ch c.args.start c.args.len c.args.y in
+    behind _ _ _ (join (join name all) sent) (strip_words c.args.y c.args.i c.args.start c.args.len)
+    (behind _ _ _ (join name all) sent
     (behind _ _ _ name all c.in_ok-add_strip_name.ensures (rw (c.deref.ensures.value, c.in_ok-intervals.ensures) at c.in_ok-add_cells.ensures))
-    c.in_ok-add_strip_words.ensures
+    c.in_ok-add_wedges.ensures) c.in_ok-add_strip_words.ensures

@@ -10,5 +10,6 @@ returns g c = λ honest.
     let nodes : ℕ = length c.args.nodes.items in
     let given : List ℕ = map {A = State} {B = ℕ} (λ modem. modem.id) c.args.modems.items in
     let told = c.in_ok-run.ensures.run honest (opening nodes given) (c.in_ok-world.ensures.opens (c.in_ok-run.ensures.honesty honest)) in
-    run_learned (member_count c.args.members) nodes c.args.ids.now given c.args.events.now _ told.0 c.in_ok-commands.commands.items
+    run_learned (member_count c.args.members) nodes c.args.ids.now given c.args.events.now _ told.0 c.in_ok-commands.commands.items c.transmissions.result.now c.in_ok-sent.sent.items
     told.1 c.requires.members c.requires.ids (c.in_ok-commands.ensures told.0.nodes (c.seats.ensures.written told.0 told.2))
+    (c.transmissions.ensures.written told.0 told.2) c.in_ok-sent.ensures

@@ -3,7 +3,9 @@ use Rattle.upsched_picture_parts.proofs.maps.tell_learned.Goals as goal
 
 pub returns-clause-printed : goal.returns-clause-printed
 returns-clause-printed g c =
-    learned_told c.tell_commands.result (g.F.Read.remaining c.args.script.now) _ _ c.in_ok-commands.commands.items c.in_ok-commands.ensures (rw c.as_slice.ensures.value at c.tell_commands.ensures)
+    learned_told c.tell_commands.result (g.F.Read.remaining c.args.script.now) _ _ c.in_ok-learned.learned.commands.items c.in_ok-learned.learned.sent.items c.in_ok-learned.ensures
+    (rw c.as_slice.ensures.value at c.tell_commands.ensures)
 
 pub returns-clause-no_script : goal.returns-clause-no_script
-returns-clause-no_script g c = λ none. absurd (none_learned (g.F.Read.remaining c.args.script.now) c.in_ok-commands.commands.items none c.in_ok-commands.ensures)
+returns-clause-no_script g c = λ none.
+    absurd (none_learned (g.F.Read.remaining c.args.script.now) c.in_ok-learned.learned.commands.items c.in_ok-learned.learned.sent.items none c.in_ok-learned.ensures)
