@@ -85,6 +85,38 @@ pub fn resumed_node<D: Disk + Drop>(
     resumed_with(alloc, id, members, records)
 }
 
+/// A node that begins over records in files, which hold nothing. Every node that begins is made here, since a call for
+/// the large type of such records is dear to prove.
+pub(crate) fn begun_on<D: Disk + Drop>(
+    alloc: Global,
+    records: SqlRecords<FileStore<D>>,
+    id: NodeId,
+    members: Members,
+) -> Result<StoredNode<D>, StartFault>
+    requires member { id < member_count members }
+    requires certain { IsHonest over_files records → ∥ ((c : Content) × Holds (MayFind over_files records.owner records.held) c) ∥₁ }
+    ensures { IfOk result (IsFreshAt ⟦<SchedNode<SqlRecords<FileStore<D>>> as Node>⟧.who ⟦<SchedNode<SqlRecords<FileStore<D>>> as Node>⟧.honest
+        ⟦<SchedNode<SqlRecords<FileStore<D>>> as Node>⟧.stands (member_count members) id) }
+{
+    begun_with(alloc, id, members, records)
+}
+
+/// A node that begins over files that are its own with nothing in them, or new ones where they may be.
+pub(crate) fn begun_as<D: Disk + Drop>(
+    alloc: Global,
+    files: Files<D>,
+    id: NodeId,
+    members: Members,
+    is_new: bool,
+) -> Result<StoredNode<D>, StartFault>
+    requires { id < member_count members }
+    ensures { IfOk result (IsFreshAt ⟦<SchedNode<SqlRecords<FileStore<D>>> as Node>⟧.who ⟦<SchedNode<SqlRecords<FileStore<D>>> as Node>⟧.honest
+        ⟦<SchedNode<SqlRecords<FileStore<D>>> as Node>⟧.stands (member_count members) id) }
+{
+    let records = records_for(alloc, files, id, members, is_new)?;
+    begun_on(alloc, records, id, members)
+}
+
 /// A node that begins over files that are new, or its own with nothing in them.
 pub fn begun_node<D: Disk + Drop>(
     alloc: Global,
@@ -96,8 +128,7 @@ pub fn begun_node<D: Disk + Drop>(
     ensures { IfOk result (IsFreshAt ⟦<SchedNode<SqlRecords<FileStore<D>>> as Node>⟧.who ⟦<SchedNode<SqlRecords<FileStore<D>>> as Node>⟧.honest
         ⟦<SchedNode<SqlRecords<FileStore<D>>> as Node>⟧.stands (member_count members) id) }
 {
-    let records = records_for(alloc, files, id, members, true)?;
-    begun_with(alloc, id, members, records)
+    begun_as(alloc, files, id, members, true)
 }
 
 /// The same over files that may not have been opened.

@@ -7,10 +7,9 @@ ghost use Rattle.stored_nodes.specs.declared.states.Told.TheVariants.{State};
 ghost use Rattle.stored_nodes.specs.States.{StayFiles, StaysFile, state_told, told_open, told_owned, told_owner, told_start, told_unowned, told_unread};
 
 use crate::fault::StoreFault;
-use crate::fresh::hold_nothing;
-use crate::owned::records_for;
+use crate::owned::begun_as;
 use crate::start::StartFault;
-use crate::stored::{copy_of, examine};
+use crate::stored::{copy_of, examine, let_go};
 use acceptor_store::{OpenFault, OwnerFault};
 use ballots::{Members, NodeId};
 use node::NodeFault;
@@ -123,8 +122,14 @@ fn is_fresh_over<D: Disk + Drop>(
 ) -> Result<bool, StartFault>
     requires { id < member_count members }
 {
-    let records = records_for(alloc, files, id, members, false)?;
-    hold_nothing(alloc, id, members, records)
+    match begun_as(alloc, files, id, members, false) {
+        Ok(node) => {
+            let_go(node);
+            Ok(true)
+        }
+        Err(StartFault::NotFresh) => Ok(false),
+        Err(fault) => Err(fault),
+    }
 }
 
 /// The same over a copy of the files.

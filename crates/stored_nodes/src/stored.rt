@@ -6,9 +6,9 @@ ghost use Rattle.seats.specs.Fresh.{AreFresh, IsFreshAt};
 ghost use Rattle.stored_nodes.specs.States.{StayFiles, StaysFile};
 
 use crate::fault::StoreFault;
-use crate::fresh::{examine_records, fresh_node};
+use crate::owned::begun_on;
 use acceptor_store::{SqlRecords, open_files};
-use ballots::Members;
+use ballots::{Members, NodeId};
 use node::{Node, SchedNode};
 use sqlite::{FileStore, Files};
 use sqlite_disk::{Disk, Memory};
@@ -29,9 +29,15 @@ fn stored_node<D: Disk + Drop>(
     ensures { IfOk result (IsFreshAt ⟦<SchedNode<SqlRecords<FileStore<D>>> as Node>⟧.who ⟦<SchedNode<SqlRecords<FileStore<D>>> as Node>⟧.honest
         ⟦<SchedNode<SqlRecords<FileStore<D>>> as Node>⟧.stands (member_count members) number) }
 {
+    let Some(id) = NodeId::new(number) else {
+        unreachable!();
+    };
     let records = open_files(alloc, files)?;
-    fresh_node(alloc, number, members, records)
+    Ok(begun_on(alloc, records, id, members)?)
 }
+
+/// Lets go of a node, which nothing more is asked.
+pub(crate) fn let_go<D: Disk + Drop>(_node: StoredNode<D>) {}
 
 /// What a file holds, in memory.
 fn copied<D: Disk>(alloc: Global, file: &mut D) -> io::Result<Memory>
@@ -70,7 +76,8 @@ pub(crate) fn examine<D: Disk>(alloc: Global, files: &mut Files<D>) -> Result<()
 }
 
 fn examine_copy<D: Disk + Drop>(alloc: Global, files: Files<D>) -> Result<(), StoreFault> {
-    examine_records(alloc, open_files(alloc, files)?)
+    let_go(stored_node(alloc, 0, Members::Three, files)?);
+    Ok(())
 }
 
 fn examine_all<D: Disk>(alloc: Global, files: &mut [Files<D>]) -> Result<(), StoreFault> {

@@ -1,10 +1,10 @@
-//! The program: `upsched_store_parts` does what its words say.
+//! The program: `upsched_commands` does what its words say.
 #![tactic(auto)]
 
 use std::io::BufWriter;
 use std::process::ExitCode;
+use upsched_commands::run;
 use upsched_map_parts::Fault;
-use upsched_store_parts::run;
 
 fn main(rt: HostRuntime) -> ExitCode {
     let mut errors = rt.stderr();

@@ -1,15 +1,14 @@
-//! From the words of the command line to how the program ends: the files that they name are opened, and a script's nodes
-//! may keep their records in some.
+//! Nodes that keep their records in files: what a script does to them, one that serves over lines, and what their files
+//! are. What does so with records in memory is handed on, so that the program names one crate for both.
 #![tactic(auto)]
 
-mod audit_run;
-mod journal_file;
-mod node_run;
-mod program;
 mod store_check;
 mod stored_node_run;
 mod stored_run;
 
-pub use program::{run, run_words};
+pub use store_check::check_store;
 pub use stored_node_run::stored_node;
-pub use stored_run::{print_over, run_stored_script};
+pub use stored_run::{print_over, run_stored_as_json, run_stored_script};
+pub use upsched_json_run_parts::run_as_json;
+pub use upsched_node_parts::{member_of, node};
+pub use upsched_parts::{Telling, run_script, script_of, trace_script};

@@ -10,7 +10,6 @@ use crate::stored_run::fault_of;
 use std::io::Write;
 use stored_nodes::{FilesState, states_in};
 use upsched_map_parts::{Fault, Status};
-use upsched_words::StoreWords;
 
 fn state_text(state: FilesState) -> &'static str
     ensures { result.now ≡ state_text state }
@@ -125,18 +124,18 @@ fn report_folder<'a, O: Write>(
 
 /// Tells what the files of a folder's nodes are. Where no node can begin or go on over one of them, or none is there, it
 /// ends as faulted.
-pub(crate) fn check_store<O: Write, E: Write>(
+pub fn check_store<O: Write, E: Write>(
     rt: &HostRuntime,
-    words: &StoreWords<'_>,
+    folder: &str,
     output: &mut O,
     errors: &mut E,
 ) -> Status
     ensures serve { result ≡ Done → (states : List (ℕ × Found)) × IsTrue (all_serve states)
-        × Appends (O.contents output.old) (O.contents output.new) (state_lines words.now.folder.now states) }
+        × Appends (O.contents output.old) (O.contents output.new) (state_lines folder.now states) }
     ensures quiet { result ≡ Done → errors.new ≡ errors.old }
     ensures understood { result ≢ NotUnderstood }
 {
-    match report_folder(rt, words.folder, output) {
+    match report_folder(rt, folder, output) {
         Ok(true) => Status::Done,
         Ok(false) => Status::Faulted,
         Err(fault) => fault.told(errors),

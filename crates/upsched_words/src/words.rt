@@ -7,7 +7,7 @@ ghost use Rattle.upsched_map_parts.specs.declared.status.Status.TheVariants.{Fau
 use clap::builder::ValueParser;
 use clap::error::ErrorKind;
 use clap::{Arg, ArgAction, ArgGroup, ArgMatches, Command, Error, value_parser};
-use std::alloc::Global;
+use std::alloc::{AllocError, Global};
 use std::io::Write;
 use upsched_map_parts::{
     Fault, LiveWords, MapsWords, NodeWords, RunWords, ScriptWords, ShowWords, Status,
@@ -120,331 +120,290 @@ examples/ has some of each.";
 /// What the help says of a plan's path.
 const PLAN_HELP: &str = "A file of commands in TOML (docs/formats.md, \"Plans\")";
 
+/// What the help says of the flag with which a command prints JSON.
+const JSON_HELP: &str = "Prints JSON, an object a line (docs/formats.md, \"JSON lines\")";
+
+/// What the help says of how many nodes there are.
+const MEMBERS_HELP: &str = "How many nodes there are, 3 or 5";
+
+/// A word that has to be there, at its place.
+fn place<'a>(alloc: Global, id: &'a str, help: &'a str) -> Arg<'a> {
+    Arg::new(alloc, id).required(true).help(help)
+}
+
+fn flag<'a>(alloc: Global, id: &'a str, help: &'a str) -> Arg<'a> {
+    Arg::new(alloc, id)
+        .long(id)
+        .action(ArgAction::SetTrue)
+        .help(help)
+}
+
 /// The flag with which a command prints JSON.
 fn json_flag<'a>(alloc: Global) -> Arg<'a> {
-    Arg::new(alloc, "json")
-        .long("json")
-        .action(ArgAction::SetTrue)
-        .help("Prints JSON, an object a line (docs/formats.md, \"JSON lines\")")
+    flag(alloc, "json", JSON_HELP)
 }
 
-fn maps_command<'a>(alloc: Global) -> Result<Command<'a>, Error> {
-    let plan = Arg::new(alloc, "PLAN").required(true).help(PLAN_HELP);
-    let maps = Command::new(alloc, "maps")
+/// An option with a value, which the help calls so.
+fn option<'a>(alloc: Global, id: &'a str, value: &'a str, help: &'a str) -> Arg<'a> {
+    Arg::new(alloc, id).long(id).value_name(value).help(help)
+}
+
+/// How many nodes there are, which has to be told.
+fn members_option<'a>(alloc: Global) -> Arg<'a> {
+    option(alloc, "members", "M", MEMBERS_HELP).required(true)
+}
+
+/// An option whose value is a number: one of these, and this one where the words don't say.
+fn numeric<'a>(option: Arg<'a>, numbers: ValueParser<'a>, not_given: &'a str) -> Arg<'a> {
+    option.value_parser(numbers).default_value(not_given)
+}
+
+/// The command with one more argument, which may not be there beside any of the others.
+fn with_exclusive<'a>(
+    command: Command<'a>,
+    argument: Arg<'a>,
+    others: &[&'a str],
+) -> Result<Command<'a>, AllocError> {
+    let argument = argument.conflicts_with_all(others)?;
+    command.arg(argument)
+}
+
+/// The command with one more argument, which may be there beside another one alone.
+fn with_dependent<'a>(
+    command: Command<'a>,
+    argument: Arg<'a>,
+    other: &'a str,
+) -> Result<Command<'a>, AllocError> {
+    let argument = argument.requires_arg(other)?;
+    command.arg(argument)
+}
+
+fn maps_command<'a>(alloc: Global) -> Result<Command<'a>, AllocError> {
+    Command::new(alloc, "maps")
         .about("Applies a plan's commands to one scheduler and prints their outputs")
-        .arg(plan)?
-        .arg(json_flag(alloc))?;
-    Ok(maps)
+        .arg(place(alloc, "PLAN", PLAN_HELP))?
+        .arg(json_flag(alloc))
 }
 
-fn run_command<'a>(alloc: Global) -> Result<Command<'a>, Error> {
-    let script = Arg::new(alloc, "SCRIPT").required(true).help(
-        "A file of events in TOML (docs/formats.md, \"Scripts\", and docs/node.md, \"Events\")",
-    );
-    let verbose = Arg::new(alloc, "verbose")
-        .long("verbose")
-        .action(ArgAction::SetTrue)
-        .help(
-            "Also logs each fault and each crash of a node on standard error; what is printed stays the same",
-        );
-    let trace = Arg::new(alloc, "trace")
-        .long("trace")
-        .action(ArgAction::SetTrue)
-        .help(
-            "Also prints for each event its letters, by the numbers that deliver takes, and what its node does from then on",
-        );
-    let store = Arg::new(alloc, "store")
-        .long("store")
-        .value_name("DIR")
-        .help(
-            "Keeps the records of node K in DIR/node-K.db, a SQLite database that is made if it isn't there",
-        );
-    let json = json_flag(alloc).conflicts_with("verbose")?;
+fn run_command<'a>(alloc: Global) -> Result<Command<'a>, AllocError> {
+    let script =
+        "A file of events in TOML (docs/formats.md, \"Scripts\", and docs/node.md, \"Events\")";
+    let store =
+        "Keeps the records of node K in DIR/node-K.db, a SQLite database that is made if it isn't there";
+    let trace =
+        "Also prints for each event its letters, by the numbers that deliver takes, and what its node does from then on";
+    let verbose =
+        "Also logs each fault and each crash of a node on standard error; what is printed stays the same";
     let run = Command::new(alloc, "run")
         .about("Runs a script over three or five nodes and their modems and prints its answers")
         .after_help("Example: upsched run examples/scripts/one_leader.toml --trace")
-        .arg(script)?
-        .arg(store)?
-        .arg(trace)?
-        .arg(verbose)?
-        .arg(json)?;
-    Ok(run)
+        .arg(place(alloc, "SCRIPT", script))?
+        .arg(option(alloc, "store", "DIR", store))?
+        .arg(flag(alloc, "trace", trace))?
+        .arg(flag(alloc, "verbose", verbose))?;
+    with_exclusive(run, json_flag(alloc), &["verbose"])
 }
 
-fn check_command<'a>(alloc: Global) -> Result<Command<'a>, Error> {
+fn check_command<'a>(alloc: Global) -> Result<Command<'a>, AllocError> {
+    let path = "A plan or a script in TOML (docs/formats.md); a script is known by its keys";
+    let plan = "Looks at it as a plan, whatever its keys";
+    let script = "Looks at it as a script, whatever its keys";
+    let store =
+        "Tells of each DIR/node-K.db whether it is fresh, used, foreign, locked or of another node";
     let path = Arg::new(alloc, "FILE")
-        .required_unless_present("store")?
-        .help("A plan or a script in TOML (docs/formats.md); a script is known by its keys");
-    let plan = Arg::new(alloc, "plan")
-        .long("plan")
-        .action(ArgAction::SetTrue)
-        .help("Looks at it as a plan, whatever its keys");
-    let script = Arg::new(alloc, "script")
-        .long("script")
-        .action(ArgAction::SetTrue)
-        .conflicts_with("plan")?
-        .help("Looks at it as a script, whatever its keys");
-    let store = Arg::new(alloc, "store")
-        .long("store")
-        .value_name("DIR")
-        .conflicts_with("FILE")?
-        .conflicts_with("plan")?
-        .conflicts_with("script")?
-        .help(
-            "Tells of each DIR/node-K.db whether it is fresh, used, foreign, locked or of another node",
-        );
+        .help(path)
+        .required_unless_present("store")?;
     let check = Command::new(alloc, "check")
         .about("Tells whether a plan or a script is good and, if not, what is wrong where")
         .after_help("Example: upsched check examples/faults/plans/key_missing.toml")
         .arg(path)?
-        .arg(plan)?
-        .arg(script)?
-        .arg(store)?;
-    Ok(check)
+        .arg(flag(alloc, "plan", plan))?;
+    let check = with_exclusive(check, flag(alloc, "script", script), &["plan"])?;
+    let store = option(alloc, "store", "DIR", store);
+    with_exclusive(check, store, &["FILE", "plan", "script"])
 }
 
-fn capture_command<'a>(alloc: Global) -> Result<Command<'a>, Error> {
-    let plan = Arg::new(alloc, "PLAN").required(true).help(PLAN_HELP);
-    let capture = Command::new(alloc, "capture")
+fn capture_command<'a>(alloc: Global) -> Result<Command<'a>, AllocError> {
+    Command::new(alloc, "capture")
         .about("Writes a plan's MAPs as DOCSIS frames, in a capture file that Wireshark opens")
         .after_help("Example: upsched capture examples/plans/first_grant.toml > maps.pcap")
-        .arg(plan)?;
-    Ok(capture)
+        .arg(place(alloc, "PLAN", PLAN_HELP))
 }
 
-fn stats_command<'a>(alloc: Global) -> Result<Command<'a>, Error> {
-    let plan = Arg::new(alloc, "PLAN").required(true).help(PLAN_HELP);
-    let stats = Command::new(alloc, "stats")
+fn stats_command<'a>(alloc: Global) -> Result<Command<'a>, AllocError> {
+    Command::new(alloc, "stats")
         .about("Prints what a plan's MAPs give, by channel, by use (IUC) and by SID")
         .after_help("Example: upsched stats examples/plans/voice_and_poll.toml")
-        .arg(plan)?;
-    Ok(stats)
+        .arg(place(alloc, "PLAN", PLAN_HELP))
 }
 
-/// A number that the words may tell, 0 where they don't.
-fn number<'a>(
+/// One of the numbers that `script` may be told.
+fn script_number<'a>(
     alloc: Global,
-    name: &'a str,
+    id: &'a str,
     value: &'a str,
     numbers: ValueParser<'a>,
     help: &'a str,
 ) -> Arg<'a> {
-    Arg::new(alloc, name)
-        .long(name)
-        .value_name(value)
-        .value_parser(numbers)
-        .default_value(NONE_GIVEN)
-        .help(help)
+    numeric(option(alloc, id, value, help), numbers, NONE_GIVEN)
+}
+
+/// One of these numbers that is a percentage.
+fn script_percent<'a>(alloc: Global, id: &'a str, help: &'a str) -> Arg<'a> {
+    script_number(alloc, id, "P", value_parser!(u8).range(0..=100), help)
 }
 
 /// `script` with the numbers that it may be told.
-fn numbered_script<'a>(alloc: Global) -> Result<Command<'a>, Error> {
+fn numbered_script<'a>(alloc: Global) -> Result<Command<'a>, AllocError> {
     let seed = "Which of the many such scripts it is";
     let lose = "How many letters in a hundred are lost";
     let repeat = "How many letters in a hundred come again";
     let crash = "How many times a node crashes";
     let takeover = "How many times another node takes over, fewer than the plan has commands";
-    let percent = value_parser!(u8).range(0..=100);
-    let again = value_parser!(u8).range(0..=100);
-    let script = Command::new(alloc, "script")
-        .arg(number(alloc, "seed", "S", value_parser!(u64), seed))?
-        .arg(number(alloc, "lose", "P", percent, lose))?
-        .arg(number(alloc, "repeat", "P", again, repeat))?
-        .arg(number(alloc, "crash", "N", value_parser!(u32), crash))?
-        .arg(number(alloc, "takeover", "N", value_parser!(u32), takeover))?;
-    Ok(script)
+    Command::new(alloc, "script")
+        .arg(script_number(alloc, "seed", "S", value_parser!(u64), seed))?
+        .arg(script_percent(alloc, "lose", lose))?
+        .arg(script_percent(alloc, "repeat", repeat))?
+        .arg(script_number(alloc, "crash", "N", value_parser!(u32), crash))?
+        .arg(script_number(alloc, "takeover", "N", value_parser!(u32), takeover))
 }
 
-fn script_command<'a>(alloc: Global) -> Result<Command<'a>, Error> {
-    let members = Arg::new(alloc, "members")
-        .long("members")
-        .value_name("M")
-        .required(true)
-        .help("How many nodes there are, 3 or 5");
-    let plan = Arg::new(alloc, "plan").long("plan").value_name("PLAN").help(
-        "A plan whose commands are offered in order (docs/formats.md, \"Plans\")",
-    );
-    let modems = Arg::new(alloc, "modems")
-        .long("modems")
-        .value_name("IDS")
-        .help("The ids of modems that hear, want and tick, as in 50,51");
-    let script = numbered_script(alloc)?
+fn script_command<'a>(alloc: Global) -> Result<Command<'a>, AllocError> {
+    let plan = "A plan whose commands are offered in order (docs/formats.md, \"Plans\")";
+    let modems = "The ids of modems that hear, want and tick, as in 50,51";
+    numbered_script(alloc)?
         .about("Makes a script that runs as the words say, and prints it")
         .after_help(
             "Example: upsched script --members 3 --plan examples/plans/polls.toml --takeover 1",
         )
-        .arg(members)?
-        .arg(plan)?
-        .arg(modems)?;
-    Ok(script)
+        .arg(members_option(alloc))?
+        .arg(option(alloc, "plan", "PLAN", plan))?
+        .arg(option(alloc, "modems", "IDS", modems))
 }
 
-fn draw_command<'a>(alloc: Global) -> Result<Command<'a>, Error> {
-    let file = Arg::new(alloc, "FILE").required(true).help(
-        "A script in TOML, or a plan where --plan says so (docs/formats.md)",
-    );
-    let plan = Arg::new(alloc, "plan")
-        .long("plan")
-        .action(ArgAction::SetTrue)
-        .help("Draws the MAPs of a plan, and what became of its requests");
-    let maps = Arg::new(alloc, "maps")
-        .long("maps")
-        .action(ArgAction::SetTrue)
-        .help("Draws the MAPs of the commands that nodes learn in a script");
-    let text = Arg::new(alloc, "text")
-        .long("text")
-        .action(ArgAction::SetTrue)
-        .help("Prints these MAPs for a terminal of 100 columns");
-    let drawn = ArgGroup::new(alloc, "MAPS").arg("plan")?.arg("maps")?;
+fn draw_command<'a>(alloc: Global) -> Result<Command<'a>, AllocError> {
+    let path = "A script in TOML, or a plan where --plan says so (docs/formats.md)";
+    let plan = "Draws the MAPs of a plan, and what became of its requests";
+    let maps = "Draws the MAPs of the commands that nodes learn in a script";
+    let text = "Prints these MAPs for a terminal of 100 columns";
     let draw = Command::new(alloc, "draw")
         .about(
             "Draws what happens in a script, or the MAPs of a plan or a script, as a picture (SVG)",
         )
         .after_help("Example: upsched draw examples/scripts/takeover.toml > takeover.svg")
-        .arg(file)?
-        .arg(plan)?
-        .arg(maps)?
-        .arg(text.requires_arg("MAPS")?)?
-        .group(drawn)?;
-    Ok(draw)
+        .arg(place(alloc, "FILE", path))?
+        .arg(flag(alloc, "plan", plan))?
+        .arg(flag(alloc, "maps", maps))?;
+    let draw = with_dependent(draw, flag(alloc, "text", text), "MAPS")?;
+    let drawn = ArgGroup::new(alloc, "MAPS").arg("plan")?.arg("maps")?;
+    draw.group(drawn)
 }
 
-fn show_command<'a>(alloc: Global) -> Result<Command<'a>, Error> {
-    let hex = Arg::new(alloc, "HEX")
-        .required(true)
-        .help("A MAP body in hexadecimal, without spaces");
-    let names = Arg::new(alloc, "names")
-        .long("names")
-        .action(ArgAction::SetTrue)
-        .conflicts_with("json")?
-        .help("Also prints the name of each element's use (IUC), behind its number");
+fn show_command<'a>(alloc: Global) -> Result<Command<'a>, AllocError> {
+    let names = "Also prints the name of each element's use (IUC), behind its number";
     let show = Command::new(alloc, "show")
         .about("Prints what a MAP body holds")
         .after_help(
             "Example: upsched show 01070300000003e8000003e30205030800058000fffc40140001c064 --names",
         )
-        .arg(hex)?
-        .arg(names)?
-        .arg(json_flag(alloc))?;
-    Ok(show)
+        .arg(place(alloc, "HEX", "A MAP body in hexadecimal, without spaces"))?;
+    with_exclusive(show, flag(alloc, "names", names), &["json"])?.arg(json_flag(alloc))
 }
 
-fn live_command<'a>(alloc: Global) -> Result<Command<'a>, Error> {
-    let plan = Arg::new(alloc, "PLAN").required(true).help(PLAN_HELP);
-    let turns = Arg::new(alloc, "turns")
-        .long("turns")
-        .value_name("T")
-        .value_parser(value_parser!(u32).range(0..=1_000_000))
-        .default_value(TURNS_NOT_GIVEN)
-        .help(
-            "How many turns each node has, 0 to 1000000; one that finds nothing to do sleeps a millisecond",
-        );
-    let verbose = Arg::new(alloc, "verbose")
-        .long("verbose")
-        .action(ArgAction::SetTrue)
-        .help(
-            "Also logs on standard error what each node recorded and learned; what is printed stays the same",
-        );
-    let live = Command::new(alloc, "live")
+/// How many turns each node of `live` has.
+fn turns_option<'a>(alloc: Global) -> Arg<'a> {
+    let help =
+        "How many turns each node has, 0 to 1000000; one that finds nothing to do sleeps a millisecond";
+    let turns = value_parser!(u32).range(0..=1_000_000);
+    numeric(option(alloc, "turns", "T", help), turns, TURNS_NOT_GIVEN)
+}
+
+fn live_command<'a>(alloc: Global) -> Result<Command<'a>, AllocError> {
+    let verbose =
+        "Also logs on standard error what each node recorded and learned; what is printed stays the same";
+    Command::new(alloc, "live")
         .about(
             "Has three nodes, each in a thread, work on a plan's commands and audits their records",
         )
-        .arg(plan)?
-        .arg(turns)?
-        .arg(verbose)?;
-    Ok(live)
+        .arg(place(alloc, "PLAN", PLAN_HELP))?
+        .arg(turns_option(alloc))?
+        .arg(flag(alloc, "verbose", verbose))
 }
 
-fn node_command<'a>(alloc: Global) -> Result<Command<'a>, Error> {
-    let number = Arg::new(alloc, "K")
-        .required(true)
-        .help("The node's number, from 0 on and below M");
-    let members = Arg::new(alloc, "members")
-        .long("members")
-        .value_name("M")
-        .required(true)
-        .help("How many nodes there are, 3 or 5");
-    let store = Arg::new(alloc, "store")
-        .long("store")
-        .value_name("FILE")
-        .help(
-            "Keeps its records in this SQLite database; without it they are in memory, and end with the process",
-        );
-    let new = Arg::new(alloc, "new")
-        .long("new")
-        .action(ArgAction::SetTrue)
-        .requires_arg("store")?
-        .help(
-            "Begins with a new database; a node that ever promised or voted must start without it",
-        );
+/// `node` with what it is told of its journal.
+fn with_journal<'a>(alloc: Global, node: Command<'a>) -> Result<Command<'a>, AllocError> {
+    let journal =
+        "Appends each line to this file before it is obeyed, and its reply before it goes out";
+    let sync = "Syncs the journal behind each line and each reply, for where the power may fail";
+    let node = node.arg(option(alloc, "journal", "FILE", journal))?;
+    with_dependent(node, flag(alloc, "journal-sync", sync), "journal")
+}
+
+fn node_command<'a>(alloc: Global) -> Result<Command<'a>, AllocError> {
+    let number = "The node's number, from 0 on and below M";
+    let store =
+        "Keeps its records in this SQLite database; without it they are in memory, and end with the process";
+    let new =
+        "Begins with a new database; a node that ever promised or voted must start without it";
     let node = Command::new(alloc, "node")
         .about("Is one node that reads lines on standard input and replies to each")
         .after_help("Example: upsched node 0 --members 3 --store node-0.db --new")
-        .arg(number)?
-        .arg(members)?
-        .arg(store)?
-        .arg(new)?
-        .arg(journal_argument(alloc))?
-        .arg(journal_sync_argument(alloc)?)?;
-    Ok(node)
+        .arg(place(alloc, "K", number))?
+        .arg(members_option(alloc))?
+        .arg(option(alloc, "store", "FILE", store))?;
+    let node = with_dependent(node, flag(alloc, "new", new), "store")?;
+    with_journal(alloc, node)
 }
 
-fn journal_argument<'a>(alloc: Global) -> Arg<'a> {
-    Arg::new(alloc, "journal")
-        .long("journal")
-        .value_name("FILE")
-        .help(
-            "Appends each line to this file before it is obeyed, and its reply before it goes out",
-        )
-}
-
-fn journal_sync_argument<'a>(alloc: Global) -> Result<Arg<'a>, Error> {
-    let sync = Arg::new(alloc, "journal-sync")
-        .long("journal-sync")
-        .action(ArgAction::SetTrue)
-        .requires_arg("journal")?
-        .help("Syncs the journal behind each line and each reply, for where the power may fail");
-    Ok(sync)
-}
-
-fn audit_command<'a>(alloc: Global) -> Result<Command<'a>, Error> {
-    let members = Arg::new(alloc, "members")
-        .long("members")
-        .value_name("M")
-        .required(true)
-        .help("How many nodes there are, 3 or 5");
-    let journals = Arg::new(alloc, "JOURNAL")
-        .required(true)
-        .num_args(1..)
-        .help("The journal of each node, that of node 0 first");
-    let audit = Command::new(alloc, "audit")
+fn audit_command<'a>(alloc: Global) -> Result<Command<'a>, AllocError> {
+    let journals = "The journal of each node, that of node 0 first";
+    Command::new(alloc, "audit")
         .about("Tells whether journals are the lines of nodes that kept the rules")
         .after_help(
             "Example: upsched audit --members 3 node-0.journal node-1.journal node-2.journal",
         )
-        .arg(members)?
-        .arg(journals)?;
-    Ok(audit)
+        .arg(members_option(alloc))?
+        .arg(place(alloc, "JOURNAL", journals).num_args(1..))
 }
 
-fn program<'a>(alloc: Global) -> Result<Command<'a>, Error> {
+/// The program with one more command.
+fn with_command<'a>(
+    program: Command<'a>,
+    command: Result<Command<'a>, AllocError>,
+) -> Result<Command<'a>, AllocError> {
+    program.subcommand(command?)
+}
+
+/// The program with the commands that run a plan or a script, or look at one.
+fn with_runs<'a>(alloc: Global, program: Command<'a>) -> Result<Command<'a>, AllocError> {
+    let program = with_command(program, maps_command(alloc))?;
+    let program = with_command(program, run_command(alloc))?;
+    with_command(program, check_command(alloc))
+}
+
+/// The program with the commands that make something of a plan or a script, or print a body.
+fn with_views<'a>(alloc: Global, program: Command<'a>) -> Result<Command<'a>, AllocError> {
+    let program = with_command(program, capture_command(alloc))?;
+    let program = with_command(program, stats_command(alloc))?;
+    let program = with_command(program, script_command(alloc))?;
+    let program = with_command(program, draw_command(alloc))?;
+    with_command(program, show_command(alloc))
+}
+
+/// The program with the commands for nodes that are threads or processes.
+fn with_nodes<'a>(alloc: Global, program: Command<'a>) -> Result<Command<'a>, AllocError> {
+    let program = with_command(program, live_command(alloc))?;
+    let program = with_command(program, node_command(alloc))?;
+    with_command(program, audit_command(alloc))
+}
+
+fn program<'a>(alloc: Global) -> Result<Command<'a>, AllocError> {
     let program = Command::new(alloc, "upsched")
         .version(VERSION)
         .about("A DOCSIS upstream scheduler over three or five nodes")
         .after_help(WHERE_TO_READ_ON)
-        .subcommand_required(true)
-        .subcommand(maps_command(alloc)?)?
-        .subcommand(run_command(alloc)?)?
-        .subcommand(check_command(alloc)?)?
-        .subcommand(capture_command(alloc)?)?
-        .subcommand(stats_command(alloc)?)?
-        .subcommand(script_command(alloc)?)?
-        .subcommand(draw_command(alloc)?)?
-        .subcommand(show_command(alloc)?)?
-        .subcommand(live_command(alloc)?)?
-        .subcommand(node_command(alloc)?)?
-        .subcommand(audit_command(alloc)?)?;
-    Ok(program)
+        .subcommand_required(true);
+    with_nodes(alloc, with_views(alloc, with_runs(alloc, program)?)?)
 }
 
 /// What `maps` is told: to print lines or JSON.
@@ -487,8 +446,20 @@ fn run_words<'a>(words: &ArgMatches<'a>) -> Option<Words<'a>> {
     })
 }
 
+/// What `capture` is told.
+fn capture_words<'a>(words: &ArgMatches<'a>) -> Option<Words<'a>> {
+    let plan = words.get_str("PLAN")?;
+    Some(Words::Capture(CaptureWords { plan }))
+}
+
+/// What `stats` is told.
+fn stats_words<'a>(words: &ArgMatches<'a>) -> Option<Words<'a>> {
+    let plan = words.get_str("PLAN")?;
+    Some(Words::Stats(StatsWords { plan }))
+}
+
 /// What `draw` is told.
-fn draw_words<'a>(words: &ArgMatches<'a>) -> Option<DrawWords<'a>> {
+fn draw_words<'a>(words: &ArgMatches<'a>) -> Option<Words<'a>> {
     let path = words.get_str("FILE")?;
     let is_text = words.get_flag("text");
     let subject = match (words.get_flag("plan"), words.get_flag("maps")) {
@@ -498,29 +469,30 @@ fn draw_words<'a>(words: &ArgMatches<'a>) -> Option<DrawWords<'a>> {
         (false, true) => Subject::Maps,
         (false, false) => Subject::Run,
     };
-    Some(DrawWords { path, subject })
+    Some(Words::Draw(DrawWords { path, subject }))
 }
 
 /// What `node` is told.
-fn node_words<'a>(words: &ArgMatches<'a>) -> Option<NodeWords<'a>> {
+fn node_words<'a>(words: &ArgMatches<'a>) -> Option<Words<'a>> {
     let number = words.get_str("K")?;
     let members = words.get_str("members")?;
     let store = words.get_str("store");
     let is_new = words.get_flag("new");
-    Some(NodeWords {
+    let told = NodeWords {
         number,
         members,
         store,
         is_new,
-    })
+    };
+    Some(Words::Node(told, journal_words(words)))
 }
 
 /// What `script` is told.
-fn script_words<'a>(words: &ArgMatches<'a>) -> Option<ScriptWords<'a>> {
+fn script_words<'a>(words: &ArgMatches<'a>) -> Option<Words<'a>> {
     let members = words.get_str("members")?;
     let plan = words.get_str("plan");
     let modems = words.get_str("modems");
-    Some(ScriptWords {
+    let told = ScriptWords {
         members,
         plan,
         seed: words.get_one::<u64>("seed")?,
@@ -529,7 +501,8 @@ fn script_words<'a>(words: &ArgMatches<'a>) -> Option<ScriptWords<'a>> {
         crashes: words.get_one::<u32>("crash")?,
         takeovers: words.get_one::<u32>("takeover")?,
         modems,
-    })
+    };
+    Some(Words::Script(told))
 }
 
 /// What `node` is told of its journal, if it keeps one.
@@ -540,24 +513,24 @@ fn journal_words<'a>(words: &ArgMatches<'a>) -> Option<JournalWords<'a>> {
 }
 
 /// What `audit` is told.
-fn audit_words<'a>(alloc: Global, words: &ArgMatches<'a>) -> Result<Option<AuditWords<'a>>, Error> {
+fn audit_words<'a>(alloc: Global, words: &ArgMatches<'a>) -> Result<Option<Words<'a>>, AllocError> {
     let (Some(members), Some(given)) = (words.get_str("members"), words.get_strs("JOURNAL")) else {
         return Ok(None);
     };
     let journals = Vec::from_slice(alloc, given)?;
-    Ok(Some(AuditWords { members, journals }))
+    Ok(Some(Words::Audit(AuditWords { members, journals })))
 }
 
 /// What `live` is told.
-fn live_words<'a>(words: &ArgMatches<'a>) -> Option<LiveWords<'a>> {
+fn live_words<'a>(words: &ArgMatches<'a>) -> Option<Words<'a>> {
     let plan = words.get_str("PLAN")?;
     let turns = words.get_one::<u32>("turns")?;
     let verbose = words.get_flag("verbose");
-    Some(LiveWords {
+    Some(Words::Live(LiveWords {
         plan,
         turns,
         verbose,
-    })
+    }))
 }
 
 /// What `check` is told: a text, or the folder of nodes' files.
@@ -575,36 +548,44 @@ fn check_words<'a>(words: &ArgMatches<'a>) -> Option<Words<'a>> {
 }
 
 /// What the command's words say.
-fn command_of<'a>(alloc: Global, matches: &ArgMatches<'a>) -> Result<Option<Words<'a>>, Error> {
-    Ok(match matches.subcommand() {
-        Some(("maps", words)) => maps_words(words),
-        Some(("run", words)) => run_words(words),
-        Some(("check", words)) => check_words(words),
-        Some(("capture", words)) => words
-            .get_str("PLAN")
-            .map(|plan| Words::Capture(CaptureWords { plan })),
-        Some(("stats", words)) => words
-            .get_str("PLAN")
-            .map(|plan| Words::Stats(StatsWords { plan })),
-        Some(("script", words)) => script_words(words).map(|words| Words::Script(words)),
-        Some(("draw", words)) => draw_words(words).map(|words| Words::Draw(words)),
-        Some(("show", words)) => show_words(words),
-        Some(("live", words)) => live_words(words).map(|words| Words::Live(words)),
-        Some(("node", words)) => {
-            let journal = journal_words(words);
-            node_words(words).map(|node| Words::Node(node, journal))
-        }
-        Some(("audit", words)) => audit_words(alloc, words)?.map(|words| Words::Audit(words)),
+fn command_of<'a>(
+    alloc: Global,
+    matches: &ArgMatches<'a>,
+) -> Result<Option<Words<'a>>, AllocError> {
+    let Some((name, words)) = matches.subcommand() else {
+        return Ok(None);
+    };
+    Ok(match name {
+        "maps" => maps_words(words),
+        "run" => run_words(words),
+        "check" => check_words(words),
+        "capture" => capture_words(words),
+        "stats" => stats_words(words),
+        "script" => script_words(words),
+        "draw" => draw_words(words),
+        "show" => show_words(words),
+        "live" => live_words(words),
+        "node" => node_words(words),
+        "audit" => audit_words(alloc, words)?,
         _ => None,
     })
+}
+
+/// The command that the words name, where they name one.
+fn named_command<'a>(
+    alloc: Global,
+    program: &mut Command<'a>,
+    words: &'a [String],
+) -> Result<Option<Words<'a>>, Error> {
+    let matches = program.try_get_matches_from_mut(words)?;
+    Ok(command_of(alloc, &matches)?)
 }
 
 /// Reads the words, the program's own name first. What it doesn't understand, and what asks for help or
 /// for the version, is an error, for `refused` to tell.
 pub fn read_words<'a>(alloc: Global, words: &'a [String]) -> Result<Words<'a>, Error> {
     let mut program = program(alloc)?;
-    let matches = program.try_get_matches_from_mut(words)?;
-    match command_of(alloc, &matches)? {
+    match named_command(alloc, &mut program, words)? {
         Some(command) => Ok(command),
         None => Err(program.error(ErrorKind::MissingSubcommand, "no command")?),
     }

@@ -1,11 +1,10 @@
 //! `upsched node K --members M`, with its records in memory or in a file, and with a journal or without one.
 
 use crate::journal_file::JournalFile;
-use crate::stored_node_run::stored_node;
 use node_tape::{Heard, Spoken};
 use std::io::{BufReader, BufWriter, Read, Write};
 use upsched_map_parts::{Fault, NodeWords, Status};
-use upsched_node_parts::{member_of, node};
+use upsched_store_parts::{member_of, node, stored_node};
 use upsched_words::JournalWords;
 
 /// Ends as `node` does, or as `stored_node` where the words name a file of records.

@@ -1,0 +1,12 @@
+//! From the words of the command line to how the program ends: the files that they name are opened.
+#![tactic(auto)]
+
+mod audit_run;
+mod journal_file;
+mod node_run;
+mod opening;
+mod plan_runs;
+mod program;
+mod script_runs;
+
+pub use program::{run, run_words};

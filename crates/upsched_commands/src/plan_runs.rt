@@ -1,0 +1,119 @@
+//! Commands that read one plan, or one text.
+
+use crate::opening::opened;
+use std::alloc::Global;
+use std::io::{Read, Write};
+use upsched_json_parts::maps_as_json;
+use upsched_map_parts::{Fault, MapsWords, ScriptWords, Status, maps, text_of};
+use upsched_picture_parts::{draw_maps, draw_script, tell_maps};
+use upsched_script_parts::script;
+use upsched_sight_parts::{
+    CaptureWords, CheckWords, StatsWords, capture, check, draw_plan, draw_text, is_plan_text,
+    stats, tell_plan,
+};
+use upsched_words::{DrawWords, Subject};
+
+/// Opens the plan and ends as `maps` does.
+pub(crate) fn run_maps<'a, O: Write, E: Write>(
+    rt: &HostRuntime,
+    words: &MapsWords<'a>,
+    output: &mut O,
+    errors: &mut E,
+) -> Result<Status, Fault<'a>> {
+    let mut plan = opened(rt, words.plan)?;
+    Ok(maps(rt.alloc(), &mut plan, words, output, errors))
+}
+
+/// Opens the plan and ends as `maps_as_json` does.
+pub(crate) fn run_maps_as_json<'a, O: Write, E: Write>(
+    rt: &HostRuntime,
+    words: &MapsWords<'a>,
+    output: &mut O,
+    errors: &mut E,
+) -> Result<Status, Fault<'a>> {
+    let mut plan = opened(rt, words.plan)?;
+    Ok(maps_as_json(rt.alloc(), &mut plan, words, output, errors))
+}
+
+/// Opens the text and ends as `check` does.
+pub(crate) fn run_check<'a, O: Write, E: Write>(
+    rt: &HostRuntime,
+    words: &CheckWords<'a>,
+    output: &mut O,
+    errors: &mut E,
+) -> Result<Status, Fault<'a>> {
+    let mut text = opened(rt, words.path)?;
+    Ok(check(rt.alloc(), &mut text, words, output, errors))
+}
+
+/// Opens the plan and ends as `capture` does.
+pub(crate) fn run_capture<'a, O: Write, E: Write>(
+    rt: &HostRuntime,
+    words: &CaptureWords<'a>,
+    output: &mut O,
+    errors: &mut E,
+) -> Result<Status, Fault<'a>> {
+    let mut plan = opened(rt, words.plan)?;
+    Ok(capture(rt.alloc(), &mut plan, words, output, errors))
+}
+
+/// Opens the plan and ends as `stats` does.
+pub(crate) fn run_stats<'a, O: Write, E: Write>(
+    rt: &HostRuntime,
+    words: &StatsWords<'a>,
+    output: &mut O,
+    errors: &mut E,
+) -> Result<Status, Fault<'a>> {
+    let mut plan = opened(rt, words.plan)?;
+    Ok(stats(rt.alloc(), &mut plan, words, output, errors))
+}
+
+/// Opens the plan, if the words name one, and ends as `script` does.
+pub(crate) fn run_script_words<'a, O: Write, E: Write>(
+    rt: &HostRuntime,
+    words: &ScriptWords<'a>,
+    output: &mut O,
+    errors: &mut E,
+) -> Result<Status, Fault<'a>> {
+    let Some(path) = words.plan else {
+        let mut no_plan: &[u8] = &[];
+        return Ok(script(rt.alloc(), &mut no_plan, words, output, errors));
+    };
+    let mut plan = opened(rt, path)?;
+    Ok(script(rt.alloc(), &mut plan, words, output, errors))
+}
+
+/// Ends as `draw_script`, `draw_maps` or `tell_maps` does, or tells that a plan is no script.
+fn draw_run<'a, F: Read, O: Write, E: Write>(
+    alloc: Global,
+    file: &mut F,
+    words: &DrawWords<'a>,
+    output: &mut O,
+    errors: &mut E,
+) -> Result<Status, Fault<'a>> {
+    let text = text_of(alloc, file, words.path)?;
+    if is_plan_text(alloc, text.as_str())? {
+        return Ok(tell_plan(words.path, errors));
+    }
+    let mut bytes = text.as_bytes();
+    Ok(match words.subject {
+        Subject::Maps => draw_maps(alloc, &mut bytes, words.path, output, errors),
+        Subject::MapsText => tell_maps(alloc, &mut bytes, words.path, output, errors),
+        _ => draw_script(alloc, &mut bytes, words.path, output, errors),
+    })
+}
+
+/// Opens the script or the plan and ends as `draw_run`, `draw_plan` or `draw_text` does.
+pub(crate) fn run_draw<'a, O: Write, E: Write>(
+    rt: &HostRuntime,
+    words: &DrawWords<'a>,
+    output: &mut O,
+    errors: &mut E,
+) -> Result<Status, Fault<'a>> {
+    let mut file = opened(rt, words.path)?;
+    match words.subject {
+        Subject::Plan => Ok(draw_plan(rt.alloc(), &mut file, words.path, output, errors)),
+        Subject::PlanText => Ok(draw_text(rt.alloc(), &mut file, words.path, output, errors)),
+        _ => draw_run(rt.alloc(), &mut file, words, output, errors),
+    }
+}
