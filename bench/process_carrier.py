@@ -94,7 +94,7 @@ class Cluster:
 
     def __init__(self, program, files=(None,) * MEMBERS, new=True):
         self.nodes = [Process(program, node, file, new) for node, file in enumerate(files)]
-        self.library, self.rooms = built(), []
+        self.carrier, self.rooms = built(), []
 
     def ask(self, node, line):
         self.nodes[node].unsent += line + b"\n"
@@ -118,7 +118,7 @@ class Cluster:
         if not self.rooms or len(text) > len(self.rooms[0]):
             self.rooms = [ctypes.create_string_buffer(2 * len(text)) for _ in range(MEMBERS)]
         held = Carried(lines=(ctypes.c_void_p * MEMBERS)(*map(ctypes.addressof, self.rooms)))
-        self.library.carry(text, ctypes.c_size_t(len(text)), ctypes.byref(held))
+        self.carrier.carry(text, ctypes.c_size_t(len(text)), ctypes.byref(held))
         return held
 
     def carry(self, node, text):
