@@ -4,7 +4,7 @@ use crate::faulty_nodes::{FaultyNode, faulty_nodes};
 use ballots::Members;
 use faulty_records::{Failure, Trouble};
 use network_script::World;
-use node::NodeFault;
+use node::{Node, NodeFault};
 use script_text::read_script;
 use seats::{Answer, OutOfMemory};
 use std::alloc::Global;
@@ -59,17 +59,11 @@ const LEARNT: [Answer; 13] = [
     Answer::Released(2),
 ];
 
-/// What is put between the leader's lead and its offer, or between its vote and what nodes learn, and its answers.
-#[derive(Clone, Copy)]
-struct Between<'a> {
-    events: &'a str,
-    answers: &'a [Answer],
-}
+/// The events that are put between the leader's lead and its offer, or between its vote and what
+/// nodes learn, and their answers.
+type Between = (&'static str, &'static [Answer]);
 
-const NOTHING: Between<'static> = Between {
-    events: "",
-    answers: &[],
-};
+const NOTHING: Between = ("", &[]);
 
 /// A node whose records fail, how, and the first and the last of their calls that do.
 type Faulty = (u8, Failure, u64, u64);
@@ -87,34 +81,53 @@ fn opening(alloc: Global, faulty: Faulty) -> Result<FaultyWorld, OutOfMemory> {
 }
 
 /// The answers that are wanted: those of each part, in order.
-fn wanted(alloc: Global, early: &Between<'_>, late: &Between<'_>) -> Result<Vec<Answer>, Fail> {
-    let mut answers = Vec::from_slice(alloc, &LED)?;
-    answers.extend_from_slice(early.answers)?;
-    answers.extend_from_slice(&OFFERED)?;
-    answers.extend_from_slice(late.answers)?;
-    answers.extend_from_slice(&LEARNT)?;
+fn wanted(alloc: Global, early: Between, late: Between) -> Result<Vec<Answer>, Fail> {
+    let mut answers = Vec::new(alloc);
+    for part in [LED.as_slice(), early.1, &OFFERED, late.1, &LEARNT] {
+        answers.extend_from_slice(part)?;
+    }
     Ok(answers)
 }
 
 /// The events of all parts, in order.
-fn events(alloc: Global, early: &Between<'_>, late: &Between<'_>) -> Result<Vec<Event>, Fail> {
+fn events(alloc: Global, early: Between, late: Between) -> Result<Vec<Event>, Fail> {
     let text = format!(in alloc;
         "members = 3\nevent = [{LEADS}{}{OFFERS}{}{LEARN}]",
-        early.events, late.events
+        early.0, late.0
     )?;
     Ok(read_script(alloc, text.as_str())?.events)
 }
 
-/// Whether the run with these events between answers as wanted, and ends with 23 letters and four outputs.
-fn goes_on(
-    alloc: Global,
-    world: &mut FaultyWorld,
-    early: &Between<'_>,
-    late: &Between<'_>,
+/// Whether a world answers these events so, and then has 23 letters and four outputs.
+fn answers_so<N: Node>(
+    world: &mut World<N>,
+    events: &[Event],
+    answers: &[Answer],
 ) -> Result<bool, Fail> {
-    let report = world.run(events(alloc, early, late)?.as_slice())?;
-    let is_wanted = report.answers() == wanted(alloc, early, late)?.as_slice();
+    let report = world.run(events)?;
+    let is_wanted = report.answers() == answers;
     Ok(is_wanted && world.letters().len() == 23 && world.outputs().len() == 4)
+}
+
+/// Whether a world's run with these events between answers as wanted.
+fn goes_on<N: Node>(
+    mut world: World<N>,
+    alloc: Global,
+    early: Between,
+    late: Between,
+) -> Result<bool, Fail> {
+    let events = events(alloc, early, late)?;
+    let answers = wanted(alloc, early, late)?;
+    answers_so(&mut world, events.as_slice(), answers.as_slice())
+}
+
+/// Whose records fail, and what is put between.
+type Run = (Faulty, Between, Between);
+
+/// The same of the opening world of a run.
+fn run_goes_on(alloc: Global, run: Run) -> Result<bool, Fail> {
+    let (faulty, early, late) = run;
+    goes_on(opening(alloc, faulty)?, alloc, early, late)
 }
 
 // Of the calls on node 1's records a Prepare makes three and an Accept three, of which the last one writes. The Voted
@@ -124,50 +137,47 @@ const FIRST_VOTE: u64 = 6;
 const FIRST_LEARNED: u64 = 7;
 
 /// Node 1's vote is refused.
-const REFUSED_VOTE: Between<'static> = Between {
-    events: "{kind = 'deliver', letter = 6}, {kind = 'deliver', letter = 6}, {kind = 'restart', node = 1},
+const REFUSED_VOTE: Between = (
+    "{kind = 'deliver', letter = 6}, {kind = 'deliver', letter = 6}, {kind = 'restart', node = 1},
 {kind = 'deliver', letter = 6},",
-    answers: &[
+    &[
         Answer::Fault(NodeFault::StoreRefused),
         Answer::Refused(EventRefusal::NodeDown),
         Answer::Finished,
         Answer::Sent(3),
     ],
-};
+);
 
 /// Node 1's records break at its vote.
-const BROKEN_VOTE: Between<'static> = Between {
-    events: "{kind = 'deliver', letter = 6}, {kind = 'restart', node = 1}, {kind = 'deliver', letter = 6},",
-    answers: &[
+const BROKEN_VOTE: Between = (
+    "{kind = 'deliver', letter = 6}, {kind = 'restart', node = 1}, {kind = 'deliver', letter = 6},",
+    &[
         Answer::Fault(NodeFault::Down),
         Answer::Finished,
         Answer::Sent(3),
     ],
-};
+);
 
-const VOTED: Between<'static> = Between {
-    events: VOTES,
-    answers: &[Answer::Sent(3)],
-};
+const VOTED: Between = (VOTES, &[Answer::Sent(3)]);
 
 const ASKS_NODE_2: &str = "{kind = 'deliver', letter = 2}, {kind = 'restart', node = 2},";
 
 /// Node 2 neither promises nor restarts, and the rest goes on without it.
-const REFUSES: Between<'static> = Between {
-    events: ASKS_NODE_2,
-    answers: &[
+const REFUSES: Between = (
+    ASKS_NODE_2,
+    &[
         Answer::Fault(NodeFault::StoreRefused),
         Answer::Fault(NodeFault::StoreRefused),
     ],
-};
+);
 
-const BREAKS: Between<'static> = Between {
-    events: ASKS_NODE_2,
-    answers: &[
+const BREAKS: Between = (
+    ASKS_NODE_2,
+    &[
         Answer::Fault(NodeFault::Down),
         Answer::Fault(NodeFault::Down),
     ],
-};
+);
 
 const LEARNS: &str =
     "{kind = 'deliver', letter = 6}, {kind = 'deliver', letter = 9}, {kind = 'deliver', letter = 12},
@@ -175,28 +185,27 @@ const LEARNS: &str =
 
 /// The write of node 1's first learned row fails, and the node restarts: it has learned the value or hears of the
 /// votes again.
-const REFUSED_ROW: Between<'static> = Between {
-    events: LEARNS,
-    answers: &[
+const REFUSED_ROW: Between = (
+    LEARNS,
+    &[
         Answer::Sent(3),
         Answer::Sent(0),
         Answer::Fault(NodeFault::StoreRefused),
         Answer::Finished,
     ],
-};
+);
 
-const BROKEN_ROW: Between<'static> = Between {
-    events: LEARNS,
-    answers: &[
+const BROKEN_ROW: Between = (
+    LEARNS,
+    &[
         Answer::Sent(3),
         Answer::Sent(0),
         Answer::Fault(NodeFault::Down),
         Answer::Finished,
     ],
-};
+);
 
-/// Whose records fail, and what is put between.
-const RUNS: [(Faulty, Between<'static>, Between<'static>); 8] = [
+const RUNS: [Run; 8] = [
     (
         (1, Failure::Refused, FIRST_VOTE, FIRST_VOTE),
         NOTHING,
@@ -233,12 +242,8 @@ const RUNS: [(Faulty, Between<'static>, Between<'static>); 8] = [
 
 #[test]
 fn runs_go_on(rt: HostRuntime) -> Result<(), Fail> {
-    for (faulty, early, late) in RUNS {
-        let mut world = opening(rt.alloc(), faulty)?;
-        assert!(rt;
-            goes_on(rt.alloc(), &mut world, &early, &late)?,
-            "{faulty:?}"
-        );
+    for run in RUNS {
+        assert!(rt; run_goes_on(rt.alloc(), run)?, "{:?}", run.0);
     }
     Ok(())
 }

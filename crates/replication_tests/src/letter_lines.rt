@@ -140,31 +140,44 @@ fn line_for_receiver(alloc: Global, letter: Letter) -> Result<Vec<u8>, Fail> {
     Ok(line)
 }
 
-/// An `Accept` of 64 bytes where it has no votes, and else a promise that reports so many of such values.
-fn long_letter(alloc: Global, votes: u64) -> Result<Letter, Fail> {
-    let ballot = Ballot::new(8).ok_or("ballot")?;
+fn longest_value(alloc: Global) -> Result<Bytes, Fail> {
+    Ok(Bytes::new(Vec::from_elem(alloc, 7, 64)?))
+}
+
+/// So many votes of a ballot for longest values, from the first place on.
+fn long_votes(alloc: Global, ballot: Ballot, count: u64) -> Result<Votes, Fail> {
     let mut rows = Vec::new(alloc);
-    for place in 1..=votes {
-        let value = Bytes::new(Vec::from_elem(alloc, 7, 64)?);
+    for place in 1..=count {
+        let value = longest_value(alloc)?;
         rows.push((place, Cast { ballot, value }))?;
     }
-    let note = if votes == 0 {
-        Note::Accept {
+    Ok(Votes::new(rows))
+}
+
+/// An `Accept` of the longest value where it has no votes, and else a promise that reports so many
+/// of such values.
+fn long_note(alloc: Global, ballot: Ballot, votes: u64) -> Result<Note, Fail> {
+    if votes == 0 {
+        return Ok(Note::Accept {
             ballot,
             place: 1,
-            value: Bytes::new(Vec::from_elem(alloc, 7, 64)?),
-        }
-    } else {
-        Note::Promise {
-            ballot,
-            place: 1,
-            votes: Votes::new(rows),
-        }
-    };
+            value: longest_value(alloc)?,
+        });
+    }
+    Ok(Note::Promise {
+        ballot,
+        place: 1,
+        votes: long_votes(alloc, ballot, votes)?,
+    })
+}
+
+/// A letter with such a note.
+fn long_letter(alloc: Global, votes: u64) -> Result<Letter, Fail> {
+    let ballot = Ballot::new(8).ok_or("ballot")?;
     Ok(Letter {
         from: NodeId::new(0).ok_or("node")?,
         to: NodeId::new(1).ok_or("node")?,
-        note,
+        note: long_note(alloc, ballot, votes)?,
     })
 }
 
@@ -181,6 +194,20 @@ fn asked(request: Request) -> (char, u64) {
     }
 }
 
+/// What a line asks.
+fn asked_on(alloc: Global, line: Bytes) -> Result<(char, u64), Fail> {
+    Ok(asked(read_line(alloc, line)?))
+}
+
+/// Why a line asks nothing.
+fn fault_of(alloc: Global, line: Bytes) -> Option<LineFault> {
+    read_line(alloc, line).err()
+}
+
+fn line(alloc: Global, text: &str) -> Result<Bytes, Fail> {
+    Ok(Bytes::new(Vec::from_slice(alloc, text.as_bytes())?))
+}
+
 /// How long each line of an input is, up to its end or a line that is refused.
 fn lengths(alloc: Global, mut input: &[u8]) -> Result<Vec<usize>, Fail> {
     let mut lengths = Vec::new(alloc);
@@ -193,26 +220,28 @@ fn lengths(alloc: Global, mut input: &[u8]) -> Result<Vec<usize>, Fail> {
     Ok(lengths)
 }
 
+/// What a letter's line says, and whether the letter goes out as that line.
+fn read_and_sent(alloc: Global, line: &[u8]) -> Result<(Fields, bool), Fail> {
+    let letter = letter_in(alloc, line)?;
+    let fields = fields(&letter);
+    let sent = line_for_receiver(alloc, letter)?;
+    Ok((fields, sent.as_slice() == line))
+}
+
 #[test]
 fn a_letter_of_each_kind(rt: HostRuntime) -> Result<(), Fail> {
-    let alloc = rt.alloc();
     for (digits, want) in SAMPLES {
-        let line = format!(in alloc; "letter {digits}\n")?;
-        let letter = letter_in(alloc, line.as_bytes())?;
-        assert_eq!(rt; fields(&letter), want);
-        assert_eq!(rt;
-            line_for_receiver(alloc, letter)?.as_slice(),
-            line.as_bytes()
-        );
+        let line = format!(in rt.alloc(); "letter {digits}\n")?;
+        assert_eq!(rt; read_and_sent(rt.alloc(), line.as_bytes())?, (want, true));
     }
     Ok(())
 }
 
 #[test]
 fn lines_that_ask_nothing(rt: HostRuntime) -> Result<(), Fail> {
-    for (text, want) in REFUSED {
-        let line = Bytes::new(Vec::from_slice(rt.alloc(), text.as_bytes())?);
-        assert_eq!(rt; read_line(rt.alloc(), line).err(), Some(want), "{text}");
+    for (text, want) in &REFUSED {
+        let line = line(rt.alloc(), text)?;
+        assert_eq!(rt; fault_of(rt.alloc(), line), Some(*want), "{text}");
     }
     Ok(())
 }
@@ -220,8 +249,8 @@ fn lines_that_ask_nothing(rt: HostRuntime) -> Result<(), Fail> {
 #[test]
 fn lines_that_ask_something(rt: HostRuntime) -> Result<(), Fail> {
     for (text, want) in ASKED {
-        let line = Bytes::new(Vec::from_slice(rt.alloc(), text.as_bytes())?);
-        assert_eq!(rt; asked(read_line(rt.alloc(), line)?), want, "{text}");
+        let line = line(rt.alloc(), text)?;
+        assert_eq!(rt; asked_on(rt.alloc(), line)?, want, "{text}");
     }
     Ok(())
 }
@@ -239,9 +268,9 @@ fn command_line(alloc: Global, len: usize) -> Result<Bytes, Fail> {
 fn commands_as_long_as_they_may_be(rt: HostRuntime) -> Result<(), Fail> {
     let alloc = rt.alloc();
     let longest = command_line(alloc, LONGEST_COMMAND)?;
-    assert_eq!(rt; asked(read_line(alloc, longest)?), ('o', 1));
+    assert_eq!(rt; asked_on(alloc, longest)?, ('o', 1));
     let longer = command_line(alloc, LONGEST_COMMAND + 1)?;
-    assert_eq!(rt; read_line(alloc, longer).err(), Some(LineFault::TooLong));
+    assert_eq!(rt; fault_of(alloc, longer), Some(LineFault::TooLong));
     Ok(())
 }
 
@@ -254,14 +283,18 @@ fn half_a_line_is_none(rt: HostRuntime) -> Result<(), Fail> {
     Ok(())
 }
 
+/// How long the line of a letter is for its receiver, and whether it is read as that letter.
+fn sent_and_read(alloc: Global, letter: &Letter) -> Result<(usize, bool), Fail> {
+    let line = line_for_receiver(alloc, letter.copy(alloc)?)?;
+    let read = letter_in(alloc, &line)?;
+    Ok((line.len(), read.is_same(letter)))
+}
+
 #[test]
 fn long_letters(rt: HostRuntime) -> Result<(), Fail> {
-    let alloc = rt.alloc();
     for (votes, len) in [(0, 190), (1_000, 176_062)] {
-        let letter = long_letter(alloc, votes)?;
-        let line = line_for_receiver(alloc, letter.copy(alloc)?)?;
-        assert_eq!(rt; line.len(), len);
-        assert!(rt; letter_in(alloc, &line)?.is_same(&letter));
+        let letter = long_letter(rt.alloc(), votes)?;
+        assert_eq!(rt; sent_and_read(rt.alloc(), &letter)?, (len, true));
     }
     Ok(())
 }

@@ -28,9 +28,9 @@ fn told(alloc: Global, votes: &Votes) -> Result<String, Fail> {
 }
 
 /// What an acceptor answers to a ballot.
-fn prepare(
+fn prepare<R: Records>(
+    acceptor: &mut Acceptor<R>,
     alloc: Global,
-    acceptor: &mut Acceptor<PlainRecords>,
     number: u64,
 ) -> Result<String, Fail> {
     match acceptor.prepare(ballot(number)?, place(1)?)? {
@@ -40,9 +40,9 @@ fn prepare(
 }
 
 /// What it answers to a value.
-fn accept(
+fn accept<R: Records>(
+    acceptor: &mut Acceptor<R>,
     alloc: Global,
-    acceptor: &mut Acceptor<PlainRecords>,
     number: u64,
     byte: u8,
 ) -> Result<String, Fail> {
@@ -53,15 +53,15 @@ fn accept(
 }
 
 /// What it answers to a ballot, or to a value where there is one.
-fn answer(
+fn answer<R: Records>(
+    acceptor: &mut Acceptor<R>,
     alloc: Global,
-    acceptor: &mut Acceptor<PlainRecords>,
     number: u64,
     byte: Option<u8>,
 ) -> Result<String, Fail> {
     match byte {
-        None => prepare(alloc, acceptor, number),
-        Some(byte) => accept(alloc, acceptor, number, byte),
+        None => prepare(acceptor, alloc, number),
+        Some(byte) => accept(acceptor, alloc, number, byte),
     }
 }
 
@@ -79,39 +79,82 @@ const ASKED: [(u64, Option<u8>, &str); 10] = [
     (24, None, "promised 1 18 [66]"),
 ];
 
+/// How many rows an acceptor answers so, up to the first that it doesn't.
+fn rows_answered<R: Records>(acceptor: &mut Acceptor<R>, alloc: Global) -> Result<usize, Fail> {
+    let mut count: usize = 0;
+    for (number, byte, want) in ASKED {
+        if answer(acceptor, alloc, number, byte)?.as_str() != want {
+            return Ok(count);
+        }
+        count = count.saturating_add(1);
+    }
+    Ok(count)
+}
+
+/// The same of an acceptor over fresh records.
+fn rows_answered_anew(alloc: Global) -> Result<usize, Fail> {
+    rows_answered(&mut Acceptor::new(PlainRecords::new(alloc)), alloc)
+}
+
 #[test]
 fn promises_and_votes(rt: HostRuntime) -> Result<(), Fail> {
-    let mut acceptor = Acceptor::new(PlainRecords::new(rt.alloc()));
-    for (number, byte, want) in ASKED {
-        let answer = answer(rt.alloc(), &mut acceptor, number, byte)?;
-        assert_eq!(rt; answer.as_str(), want);
-    }
+    assert_eq!(rt; rows_answered_anew(rt.alloc())?, ASKED.len());
     Ok(())
 }
 
-fn learn(alloc: Global, records: &mut PlainRecords, number: u64, byte: u8) -> Result<(), Fail> {
+fn learn<R: Records>(records: &mut R, alloc: Global, number: u64, byte: u8) -> Result<(), Fail> {
     Ok(records.put_learned(place(number)?, &value(alloc, byte)?)?)
 }
 
 /// The first byte that was learned of a place, 0 where nothing was.
-fn learned(records: &mut PlainRecords, number: u64) -> Result<u8, Fail> {
+fn learned<R: Records>(records: &mut R, number: u64) -> Result<u8, Fail> {
     match records.learned_row(place(number)?)? {
         Some(value) => Ok(value.as_slice().first().copied().unwrap_or(0)),
         None => Ok(0),
     }
 }
 
-/// How many bytes are kept, as vote and as learned value of a place, of so many that are written.
+/// Writes a value as vote and as learned value of a place.
+fn keep<R: Records>(records: &mut R, place: Place, value: &Value) -> Result<(), Fail> {
+    records.put_vote(place, ballot(8)?, value)?;
+    Ok(records.put_learned(place, value)?)
+}
+
+/// How many bytes the vote of a place has.
+fn vote_length<R: Records>(records: &mut R, place: Place) -> Result<usize, Fail> {
+    match records.vote(place)? {
+        Some(vote) => Ok(vote.value.as_slice().len()),
+        None => Err("a vote".into()),
+    }
+}
+
+/// How many bytes the learned value of a place has.
+fn learned_length<R: Records>(records: &mut R, place: Place) -> Result<usize, Fail> {
+    match records.learned_row(place)? {
+        Some(value) => Ok(value.as_slice().len()),
+        None => Err("a value".into()),
+    }
+}
+
+/// How many bytes are kept, as vote and as learned value of a place, of a value that is written.
+fn kept_lengths<R: Records>(
+    records: &mut R,
+    place: Place,
+    value: &Value,
+) -> Result<(usize, usize), Fail> {
+    keep(records, place, value)?;
+    Ok((
+        vote_length(records, place)?,
+        learned_length(records, place)?,
+    ))
+}
+
+/// The same of so many bytes in fresh records.
 fn lengths(alloc: Global, number: u64, len: usize) -> Result<(usize, usize), Fail> {
-    let mut records = PlainRecords::new(alloc);
     let bytes = Bytes::new(Vec::from_elem(alloc, 7, len)?);
     let value = Value::new(bytes).ok_or("a value")?;
     let place = place(number)?;
-    records.put_vote(place, ballot(8)?, &value)?;
-    records.put_learned(place, &value)?;
-    let vote = records.vote(place)?.ok_or("a vote")?;
-    let learned = records.learned_row(place)?.ok_or("a value")?;
-    Ok((vote.value.as_slice().len(), learned.as_slice().len()))
+    kept_lengths(&mut PlainRecords::new(alloc), place, &value)
 }
 
 #[test]
@@ -126,14 +169,25 @@ fn the_longest_value_at_the_last_place(rt: HostRuntime) -> Result<(), Fail> {
     Ok(())
 }
 
+/// What is learned of places 1 to 3 after values of place 3, of place 2 and of place 3 again.
+fn learned_in_turn<R: Records>(records: &mut R, alloc: Global) -> Result<[u8; 3], Fail> {
+    for (number, byte) in [(3, b'C'), (2, b'B'), (3, b'D')] {
+        learn(records, alloc, number, byte)?;
+    }
+    Ok([
+        learned(records, 1)?,
+        learned(records, 2)?,
+        learned(records, 3)?,
+    ])
+}
+
+/// The same in fresh records.
+fn learned_anew(alloc: Global) -> Result<[u8; 3], Fail> {
+    learned_in_turn(&mut PlainRecords::new(alloc), alloc)
+}
+
 #[test]
 fn learned_rows(rt: HostRuntime) -> Result<(), Fail> {
-    let mut records = PlainRecords::new(rt.alloc());
-    for (number, byte) in [(3, b'C'), (2, b'B'), (3, b'D')] {
-        learn(rt.alloc(), &mut records, number, byte)?;
-    }
-    for (number, want) in [(1, 0), (2, b'B'), (3, b'D')] {
-        assert_eq!(rt; learned(&mut records, number)?, want, "at {number}");
-    }
+    assert_eq!(rt; learned_anew(rt.alloc())?, [0, b'B', b'D']);
     Ok(())
 }

@@ -72,11 +72,21 @@ fn node_0(alloc: Global) -> Result<PlainNode, Fail> {
     Ok(SchedNode::new(alloc, id, Members::Three, PlainRecords::new(alloc)))
 }
 
-/// Whether a fresh node sends nothing to this letter and is fresh still.
-fn is_passed_over(alloc: Global, letter: &Letter) -> Result<bool, Fail> {
-    let mut node = node_0(alloc)?;
-    let sent = node.receive(letter)?;
+/// Whether a node sends nothing to a letter that says this, and is fresh then.
+fn passes_over<N: Node>(
+    mut node: N,
+    alloc: Global,
+    from: u8,
+    to: u8,
+    told: Told,
+) -> Result<bool, Fail> {
+    let sent = node.receive(&letter(alloc, from, to, told)?)?;
     Ok(sent.is_empty() && node.is_fresh()?)
+}
+
+/// The same of node 0, which was fresh before.
+fn is_passed_over(alloc: Global, from: u8, to: u8, told: Told) -> Result<bool, Fail> {
+    passes_over(node_0(alloc)?, alloc, from, to, told)
 }
 
 /// From whom to whom, what, and whether it is passed over.
@@ -96,21 +106,53 @@ const LETTERS: [(u8, u8, Told, bool); 10] = [
 #[test]
 fn letters_to_a_fresh_node(rt: HostRuntime) -> Result<(), Fail> {
     for (from, to, told, want) in LETTERS {
-        let letter = letter(rt.alloc(), from, to, told)?;
-        assert_eq!(rt; is_passed_over(rt.alloc(), &letter)?, want, "{from} {to}");
+        assert_eq!(rt;
+            is_passed_over(rt.alloc(), from, to, told)?,
+            want,
+            "{from} {to}"
+        );
     }
     Ok(())
 }
 
-/// What a leader answers to an offer of so many bytes: the number of its fault, 0 where it proposes them to three nodes.
-fn offered(alloc: Global, len: usize) -> Result<u8, Fail> {
-    let mut node = preparing(alloc, 1)?;
-    heard(alloc, &mut node, Told::Promise(8, &[]))?;
-    match node.offer(Vec::from_elem(alloc, 7, len)?.as_slice()) {
+/// Asks a node to lead so many times: after one node 0 prepares ballot 8, after two 16.
+fn prepare<N: Node>(node: &mut N, leads: usize) -> Result<(), Fail> {
+    for _ in 0..leads {
+        node.lead()?;
+    }
+    Ok(())
+}
+
+/// How many letters a node sends to this from nodes 1 and 2, and whether it leads then.
+fn heard<N: Node>(node: &mut N, alloc: Global, told: Told) -> Result<(usize, bool), Fail> {
+    let mut sent: usize = 0;
+    for from in [1, 2] {
+        let letters = node.receive(&letter(alloc, from, 0, told)?)?;
+        sent = sent.saturating_add(letters.len());
+    }
+    Ok((sent, node.offer(b"A").is_ok()))
+}
+
+/// The number of a node's fault at an offer, 0 where it proposes the value to three nodes.
+fn answered<N: Node>(node: &mut N, value: &[u8]) -> Result<u8, Fail> {
+    match node.offer(value) {
         Ok(letters) if letters.len() == 3 => Ok(0),
         Ok(_) => Err("letters".into()),
         Err(fault) => Ok(fault.number()),
     }
+}
+
+/// The same of so many bytes that are offered to a node which leads its first ballot.
+fn answered_by_leader<N: Node>(mut node: N, alloc: Global, len: usize) -> Result<u8, Fail> {
+    prepare(&mut node, 1)?;
+    heard(&mut node, alloc, Told::Promise(8, &[]))?;
+    let value = Vec::from_elem(alloc, 7, len)?;
+    answered(&mut node, value.as_slice())
+}
+
+/// The same of node 0.
+fn offered(alloc: Global, len: usize) -> Result<u8, Fail> {
+    answered_by_leader(node_0(alloc)?, alloc, len)
 }
 
 #[test]
@@ -121,23 +163,20 @@ fn offers_to_a_leader(rt: HostRuntime) -> Result<(), Fail> {
     Ok(())
 }
 
-/// Node 0 after so many leads of its own: with one it prepares ballot 8, with two 16.
-fn preparing(alloc: Global, leads: usize) -> Result<PlainNode, Fail> {
-    let mut node = node_0(alloc)?;
-    for _ in 0..leads {
-        node.lead()?;
-    }
-    Ok(node)
+/// What `heard` says of a node that was asked to lead so many times.
+fn heard_after_leads<N: Node>(
+    mut node: N,
+    alloc: Global,
+    leads: usize,
+    told: Told,
+) -> Result<(usize, bool), Fail> {
+    prepare(&mut node, leads)?;
+    heard(&mut node, alloc, told)
 }
 
-/// How many letters the node sends to this from nodes 1 and 2, and whether it leads then.
-fn heard(alloc: Global, node: &mut PlainNode, told: Told) -> Result<(usize, bool), Fail> {
-    let mut sent: usize = 0;
-    for from in [1, 2] {
-        let letters = node.receive(&letter(alloc, from, 0, told)?)?;
-        sent = sent.saturating_add(letters.len());
-    }
-    Ok((sent, node.offer(b"A").is_ok()))
+/// The same of node 0.
+fn promised(alloc: Global, leads: usize, told: Told) -> Result<(usize, bool), Fail> {
+    heard_after_leads(node_0(alloc)?, alloc, leads, told)
 }
 
 /// How often node 0 led, what nodes 1 and 2 promise it, how many letters it sends, and whether it leads.
@@ -153,8 +192,7 @@ const PROMISES: [(usize, Told, (usize, bool)); 6] = [
 #[test]
 fn promises_to_a_node_that_prepares(rt: HostRuntime) -> Result<(), Fail> {
     for (leads, told, want) in PROMISES {
-        let mut node = preparing(rt.alloc(), leads)?;
-        assert_eq!(rt; heard(rt.alloc(), &mut node, told)?, want, "{leads} leads");
+        assert_eq!(rt; promised(rt.alloc(), leads, told)?, want, "{leads} leads");
     }
     Ok(())
 }

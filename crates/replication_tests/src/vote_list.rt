@@ -70,24 +70,44 @@ fn hear(learner: &mut Learner, alloc: Global, members: Members, vote: Vote) -> R
     Ok(())
 }
 
+/// Whether both have learned the same at places 1 and 2 after a vote.
+fn is_alike(
+    learner: &mut Learner,
+    plain: &mut Plain,
+    alloc: Global,
+    members: Members,
+    vote: Vote,
+) -> Result<bool, Fail> {
+    hear(learner, alloc, members, vote)?;
+    plain.voted(members, vote)?;
+    Ok(learned(learner, 1) == plain.learned(1) && learned(learner, 2) == plain.learned(2))
+}
+
 /// What is learned at places 1 and 2 after these votes, where after each one both had learned the same.
 fn alike(
+    learner: &mut Learner,
+    plain: &mut Plain,
+    alloc: Global,
+    members: Members,
+    votes: &[Vote],
+) -> Result<Option<(Option<u8>, Option<u8>)>, Fail> {
+    for vote in votes {
+        if !is_alike(learner, plain, alloc, members, *vote)? {
+            return Ok(None);
+        }
+    }
+    Ok(Some((plain.learned(1), plain.learned(2))))
+}
+
+/// The same of a new learner and a new list.
+fn alike_anew(
     alloc: Global,
     members: Members,
     votes: &[Vote],
 ) -> Result<Option<(Option<u8>, Option<u8>)>, Fail> {
     let mut learner = Learner::new(alloc);
     let mut plain = Plain::new(alloc);
-    for vote in votes {
-        hear(&mut learner, alloc, members, *vote)?;
-        plain.voted(members, *vote)?;
-        for place in [1, 2] {
-            if learned(&learner, place) != plain.learned(place) {
-                return Ok(None);
-            }
-        }
-    }
-    Ok(Some((plain.learned(1), plain.learned(2))))
+    alike(&mut learner, &mut plain, alloc, members, votes)
 }
 
 /// Members, votes, and what is learned at places 1 and 2 after them.
@@ -136,7 +156,7 @@ const ROWS: [(Members, &[Vote], (Option<u8>, Option<u8>)); 3] = [
 #[test]
 fn lists_and_sets_learn_alike(rt: HostRuntime) -> Result<(), Fail> {
     for (members, votes, want) in ROWS {
-        assert_eq!(rt; alike(rt.alloc(), members, votes)?, Some(want));
+        assert_eq!(rt; alike_anew(rt.alloc(), members, votes)?, Some(want));
     }
     Ok(())
 }

@@ -325,33 +325,52 @@ fn is_alike(output: &Output, end: u64, told: &[u8]) -> bool {
     }
 }
 
-/// How many steps of a channel whose first MAP begins at a time are alike by the machine and by the first body, up
-/// to the first that isn't, and how many the machine refuses.
+/// Whether a step gives the same by the machine and by the first body, where the machine doesn't
+/// refuse it. A flow has this tag.
+fn compared(
+    machine: &mut Machine,
+    plain: &mut Plain,
+    step: Step,
+    tag: u32,
+) -> Result<Option<bool>, AllocError> {
+    let output = machine.apply(&command(step, tag))?;
+    if matches!(output, Output::Refused(_)) {
+        return Ok(None);
+    }
+    let told = plain.take(step)?;
+    Ok(Some(is_alike(&output, plain.next_start, told.as_slice())))
+}
+
+/// How many steps of a channel are alike by the machine and by the first body, up to the first that
+/// isn't, and how many the machine refuses.
+fn counted(
+    machine: &mut Machine,
+    plain: &mut Plain,
+    steps: &[Step],
+) -> Result<(usize, usize), AllocError> {
+    let mut counts: (usize, usize) = (0, 0);
+    let mut tag: u32 = 0;
+    machine.apply(&channel(plain.next_start))?;
+    for step in steps {
+        tag = tag.saturating_add(1);
+        match compared(machine, plain, *step, tag)? {
+            Some(true) => counts.0 = counts.0.saturating_add(1),
+            Some(false) => return Ok(counts),
+            None => counts.1 = counts.1.saturating_add(1),
+        }
+    }
+    Ok(counts)
+}
+
+/// The same of a channel whose first MAP begins at a time.
 fn alike(alloc: Global, base: u64, steps: &[Step]) -> Result<(usize, usize), AllocError> {
-    let mut machine = Machine::new(alloc);
     let mut plain = Plain {
         alloc,
         next_start: base,
         flows: Vec::new(alloc),
         requests: Vec::new(alloc),
     };
-    let mut counts: (usize, usize) = (0, 0);
-    let mut tag: u32 = 0;
-    machine.apply(&channel(base))?;
-    for step in steps {
-        tag = tag.saturating_add(1);
-        let output = machine.apply(&command(*step, tag))?;
-        if matches!(output, Output::Refused(_)) {
-            counts.1 = counts.1.saturating_add(1);
-            continue;
-        }
-        let told = plain.take(*step)?;
-        if !is_alike(&output, plain.next_start, told.as_slice()) {
-            return Ok(counts);
-        }
-        counts.0 = counts.0.saturating_add(1);
-    }
-    Ok(counts)
+    counted(&mut Machine::new(alloc), &mut plain, steps)
 }
 
 const FOUR: Due = Due {

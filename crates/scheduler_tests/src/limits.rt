@@ -92,9 +92,8 @@ fn refusal(machine: &mut Machine, command: Command) -> Result<u8, Fail> {
     }
 }
 
-/// A machine with channel 1 and a flow of each SID, of which the last 117 wait.
-fn with_all_sids(alloc: Global) -> Result<Machine, Fail> {
-    let mut machine = Machine::new(alloc);
+/// Gives a machine channel 1 and a flow of each SID, of which the last 117 wait.
+fn fill(machine: &mut Machine) -> Result<(), Fail> {
     machine.apply(&CHANNEL)?;
     for tag in 1..=8191u32 {
         machine.apply(&flow(tag, LAST_TIME))?;
@@ -102,7 +101,7 @@ fn with_all_sids(alloc: Global) -> Result<Machine, Fail> {
     for sid in 8075..=8191u16 {
         machine.apply(&request(sid, 990))?;
     }
-    Ok(machine)
+    Ok(())
 }
 
 /// A flow that finds no SID, one SID's last request in time and its repeat, the last request that may wait, one more,
@@ -119,23 +118,43 @@ fn at_the_limits() -> [(Command, u8); 6] {
     ]
 }
 
+/// How many of these a machine answers so once it is full, up to the first that it doesn't.
+fn right(machine: &mut Machine, rows: &[(Command, u8)]) -> Result<usize, Fail> {
+    fill(machine)?;
+    let mut count: usize = 0;
+    for (command, want) in rows {
+        if refusal(machine, *command)? != *want {
+            return Ok(count);
+        }
+        count = count.saturating_add(1);
+    }
+    Ok(count)
+}
+
+/// The same of a new machine.
+fn right_anew(alloc: Global, rows: &[(Command, u8)]) -> Result<usize, Fail> {
+    right(&mut Machine::new(alloc), rows)
+}
+
 #[test]
 fn all_sids_and_waiting_requests(rt: HostRuntime) -> Result<(), Fail> {
-    let mut machine = with_all_sids(rt.alloc())?;
-    for (i, (command, want)) in at_the_limits().into_iter().enumerate() {
-        assert_eq!(rt; refusal(&mut machine, command)?, want, "command {i}");
-    }
+    let rows = at_the_limits();
+    assert_eq!(rt; right_anew(rt.alloc(), &rows)?, rows.len());
     Ok(())
 }
 
 /// The last minislot of the lease of a new flow, 0 where it is refused.
-fn leased(alloc: Global, last: u64) -> Result<u64, Fail> {
-    let mut machine = Machine::new(alloc);
+fn leased(machine: &mut Machine, last: u64) -> Result<u64, Fail> {
     machine.apply(&CHANNEL)?;
     match machine.apply(&flow(1, last))? {
         Output::Assigned { last, .. } => Ok(last),
         _ => Ok(0),
     }
+}
+
+/// The same of a new machine.
+fn leased_anew(alloc: Global, last: u64) -> Result<u64, Fail> {
+    leased(&mut Machine::new(alloc), last)
 }
 
 #[test]
@@ -145,7 +164,7 @@ fn the_longest_lease(rt: HostRuntime) -> Result<(), Fail> {
         ((1 << 62) - 1, (1 << 62) - 1),
         ((1 << 62) + 1, 0),
     ] {
-        assert_eq!(rt; leased(rt.alloc(), last)?, want, "{last}");
+        assert_eq!(rt; leased_anew(rt.alloc(), last)?, want, "{last}");
     }
     Ok(())
 }
@@ -160,16 +179,33 @@ fn learned(log: &mut Log, place: u64, value: &[u8]) -> u8 {
 
 const LONGEST: [u8; 64] = [0; 64];
 
+/// A place, the bytes learned at it one row after another, and the number of the fault.
+const LEARNED: [(u64, &[u8], u8); 5] = [
+    (1_000_000, &LONGEST, 0),
+    (1_000_000, &LONGEST, 0),
+    (1_000_000, &[0], 1),
+    (1_000_001, &[0], 2),
+    (0, &[0], 2),
+];
+
+/// How many rows a log learns so, up to the first that it doesn't.
+fn rows_learned(log: &mut Log) -> usize {
+    let mut count: usize = 0;
+    for (place, value, want) in LEARNED {
+        if learned(log, place, value) != want {
+            return count;
+        }
+        count = count.saturating_add(1);
+    }
+    count
+}
+
+/// The same of a new log.
+fn rows_learned_anew(alloc: Global) -> usize {
+    rows_learned(&mut Log::new(alloc))
+}
+
 #[test]
 fn the_last_place_of_a_log(rt: HostRuntime) {
-    let mut log = Log::new(rt.alloc());
-    for (place, value, want) in [
-        (1_000_000, LONGEST.as_slice(), 0),
-        (1_000_000, LONGEST.as_slice(), 0),
-        (1_000_000, &[0], 1),
-        (1_000_001, &[0], 2),
-        (0, &[0], 2),
-    ] {
-        assert_eq!(rt; learned(&mut log, place, value), want, "place {place}");
-    }
+    assert_eq!(rt; rows_learned_anew(rt.alloc()), LEARNED.len());
 }
