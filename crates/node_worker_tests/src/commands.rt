@@ -5,6 +5,7 @@ use log::{Level, Logged};
 use std::alloc::Global;
 use std::io;
 use std::io::Write;
+use std::process::Abort;
 use std::test::Fail;
 use upsched_map_parts::{MapsWords, RunWords, Status, maps};
 use upsched_parts::run_script;
@@ -55,7 +56,7 @@ fn read_as(alloc: Global, words: &[&str]) -> Result<String, Fail> {
     }
 }
 
-const WORDS: [(&[&str], &str); 64] = [
+static WORDS: [(&[&str], &str); 64] = [
     (
         &["maps", "a plan.toml"],
         "Maps(MapsWords { plan: \"a plan.toml\" })",
@@ -254,12 +255,17 @@ const WORDS: [(&[&str], &str); 64] = [
     (&["--version"], "Done"),
 ];
 
-#[test]
-fn words_of_the_program(rt: HostRuntime) -> Result<(), Fail> {
-    for (words, want) in WORDS {
-        assert_eq!(rt; read_as(rt.alloc(), words)?.as_str(), want, "{words:?}");
+/// The words of each row are read as it says.
+fn are_read_so(rt: &impl Abort, alloc: Global, rows: &[(&[&str], &str)]) -> Result<(), Fail> {
+    for (words, want) in rows {
+        assert_eq!(rt; read_as(alloc, words)?.as_str(), *want, "{words:?}");
     }
     Ok(())
+}
+
+#[test]
+fn words_of_the_program(rt: HostRuntime) -> Result<(), Fail> {
+    are_read_so(&rt, rt.alloc(), &WORDS)
 }
 
 /// Whether words that name no command print this among other things on standard output.
