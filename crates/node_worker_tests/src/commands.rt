@@ -56,7 +56,7 @@ fn read_as(alloc: Global, words: &[&str]) -> Result<String, Fail> {
     }
 }
 
-static WORDS: [(&[&str], &str); 64] = [
+static RUN_WORDS: [(&[&str], &str); 16] = [
     (
         &["maps", "a plan.toml"],
         "Maps(MapsWords { plan: \"a plan.toml\" })",
@@ -115,6 +115,9 @@ static WORDS: [(&[&str], &str); 64] = [
         &["run", "script.toml", "--store", "a folder"],
         "Run(RunWords { script: \"script.toml\", verbose: false, store: Some(\"a folder\") })",
     ),
+];
+
+static NODE_WORDS: [(&[&str], &str); 11] = [
     (
         &["live", "plan.toml"],
         "Live(LiveWords { plan: \"plan.toml\", turns: 2000, verbose: false })",
@@ -165,6 +168,9 @@ static WORDS: [(&[&str], &str); 64] = [
         &["node", "0", "--members", "3", "--journal-sync"],
         "NotUnderstood",
     ),
+];
+
+static CHECK_WORDS: [(&[&str], &str); 19] = [
     (
         &["audit", "--members", "3", "a", "b c"],
         "Audit(AuditWords { members: \"3\", journals: [\"a\", \"b c\"] })",
@@ -232,6 +238,9 @@ static WORDS: [(&[&str], &str); 64] = [
         &["script", "--members", "3", "--lose", "101"],
         "NotUnderstood",
     ),
+];
+
+static FAULTY_WORDS: [(&[&str], &str); 18] = [
     (&[], "NotUnderstood"),
     (&["maps"], "NotUnderstood"),
     (&["show"], "NotUnderstood"),
@@ -264,8 +273,23 @@ fn are_read_so(rt: &impl Abort, alloc: Global, rows: &[(&[&str], &str)]) -> Resu
 }
 
 #[test]
-fn words_of_the_program(rt: HostRuntime) -> Result<(), Fail> {
-    are_read_so(&rt, rt.alloc(), &WORDS)
+fn words_that_show_and_run(rt: HostRuntime) -> Result<(), Fail> {
+    are_read_so(&rt, rt.alloc(), &RUN_WORDS)
+}
+
+#[test]
+fn words_of_nodes(rt: HostRuntime) -> Result<(), Fail> {
+    are_read_so(&rt, rt.alloc(), &NODE_WORDS)
+}
+
+#[test]
+fn words_that_check_and_make(rt: HostRuntime) -> Result<(), Fail> {
+    are_read_so(&rt, rt.alloc(), &CHECK_WORDS)
+}
+
+#[test]
+fn words_of_no_command(rt: HostRuntime) -> Result<(), Fail> {
+    are_read_so(&rt, rt.alloc(), &FAULTY_WORDS)
 }
 
 /// Whether words that name no command print this among other things on standard output.
