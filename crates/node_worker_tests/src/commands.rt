@@ -240,7 +240,7 @@ static CHECK_WORDS: [(&[&str], &str); 19] = [
     ),
 ];
 
-static FAULTY_WORDS: [(&[&str], &str); 18] = [
+static OTHER_WORDS: [(&[&str], &str); 18] = [
     (&[], "NotUnderstood"),
     (&["maps"], "NotUnderstood"),
     (&["show"], "NotUnderstood"),
@@ -288,8 +288,8 @@ fn words_that_check_and_make(rt: HostRuntime) -> Result<(), Fail> {
 }
 
 #[test]
-fn words_of_no_command(rt: HostRuntime) -> Result<(), Fail> {
-    are_read_so(&rt, rt.alloc(), &FAULTY_WORDS)
+fn other_words(rt: HostRuntime) -> Result<(), Fail> {
+    are_read_so(&rt, rt.alloc(), &OTHER_WORDS)
 }
 
 /// Whether words that name no command print this among other things on standard output.
