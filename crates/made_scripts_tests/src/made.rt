@@ -8,9 +8,11 @@ use network_script::World;
 use printed_scripts::script_text;
 use script_counts::{crashes, offers_all, takeovers};
 use script_text::{Script, read_script};
-use seats::{ReleasedOutput, Report, new_modems, plain_nodes};
+use seats::{Answer, OutOfMemory, PlainNode, ReleasedOutput, new_modems, plain_nodes};
 use std::alloc::Global;
+use std::process::Abort;
 use std::test::Fail;
+use world_events::Event;
 
 const CHANNEL: Command = Command::Channel(Channel {
     id: 1,
@@ -37,7 +39,7 @@ const CUT: Command = Command::Cut {
     ack: 0,
 };
 
-const PLAN: [Command; 6] = [CHANNEL, FLOW, CUT, Command::Noop, CUT, CUT];
+static PLAN: [Command; 6] = [CHANNEL, FLOW, CUT, Command::Noop, CUT, CUT];
 
 const NOTHING_LOST: Wishes<'static> = Wishes {
     members: Members::Three,
@@ -49,7 +51,7 @@ const NOTHING_LOST: Wishes<'static> = Wishes {
     takeovers: 0,
 };
 
-const WISHES: [(Wishes<'static>, bool); 4] = [
+static WISHES: [(Wishes<'static>, bool); 4] = [
     (NOTHING_LOST, true),
     (
         Wishes {
@@ -96,43 +98,71 @@ fn is_whole(outputs: &[ReleasedOutput], members: Members) -> bool {
     true
 }
 
-/// Whether a run of the script reports what was wished.
+/// Whether a run reports what was wished.
 fn is_as_wished(
     alloc: Global,
     wishes: &Wishes<'_>,
-    script: &Script,
-    report: &Report,
-) -> Result<bool, Fail> {
-    let events = script.events.as_slice();
-    let answers = report.answers();
-    Ok(
-        crashes(events, answers) == wishes.crashes as usize
-            && takeovers(events, answers) == wishes.takeovers as usize
-            && offers_all(alloc, &PLAN, events, answers)?,
-    )
+    events: &[Event],
+    answers: &[Answer],
+) -> Result<bool, OutOfMemory> {
+    if crashes(events, answers) != wishes.crashes as usize {
+        return Ok(false);
+    }
+    if takeovers(events, answers) != wishes.takeovers as usize {
+        return Ok(false);
+    }
+    Ok(offers_all(alloc, &PLAN, events, answers)?)
 }
 
-/// Whether the script that is made of these wishes is one of them, and whether each node releases the whole plan.
-fn comes_out(alloc: Global, wishes: &Wishes<'_>) -> Result<(bool, bool), Fail> {
+/// The script that is made of these wishes, read back from its text.
+fn read_back(alloc: Global, wishes: &Wishes<'_>) -> Result<Script, Fail> {
     let made = made_script(alloc, &PLAN, wishes)?;
-    let script = read_script(alloc, script_text(alloc, &made)?.as_str())?;
+    let text = script_text(alloc, &made)?;
+    Ok(read_script(alloc, text.as_str())?)
+}
+
+/// The fresh nodes and modems of a script.
+fn opened(alloc: Global, script: &Script) -> Result<World<PlainNode>, OutOfMemory> {
     let nodes = plain_nodes(alloc, script.members)?;
     let modems = new_modems(alloc, script.modems.as_slice())?;
-    let mut world = World::new(alloc, nodes, modems)?;
-    let report = world.run(script.events.as_slice())?;
-    let is_wished = is_as_wished(alloc, wishes, &script, &report)?;
+    World::new(alloc, nodes, modems)
+}
+
+/// Whether a run of the script reports what was wished, and whether each node releases the whole
+/// plan.
+fn comes_out(
+    alloc: Global,
+    wishes: &Wishes<'_>,
+    script: &Script,
+) -> Result<(bool, bool), OutOfMemory> {
+    let mut world = opened(alloc, script)?;
+    let events = script.events.as_slice();
+    let report = world.run(events)?;
+    let is_wished = is_as_wished(alloc, wishes, events, report.answers())?;
     Ok((is_wished, is_whole(world.outputs(), wishes.members)))
+}
+
+/// Scripts of four seeds come out as wished.
+fn come_out(
+    rt: &impl Abort,
+    alloc: Global,
+    wishes: &Wishes<'_>,
+    loses_nothing: bool,
+) -> Result<(), Fail> {
+    for seed in 0..4 {
+        let wishes = Wishes { seed, ..*wishes };
+        let script = read_back(alloc, &wishes)?;
+        let (is_wished, is_whole) = comes_out(alloc, &wishes, &script)?;
+        assert!(rt; is_wished);
+        assert!(rt; is_whole || !loses_nothing);
+    }
+    Ok(())
 }
 
 #[test]
 fn made_scripts_come_out_as_wished(rt: HostRuntime) -> Result<(), Fail> {
-    for (wishes, loses_nothing) in WISHES {
-        for seed in 0..4 {
-            let wishes = Wishes { seed, ..wishes };
-            let (is_wished, is_whole) = comes_out(rt.alloc(), &wishes)?;
-            assert!(rt; is_wished);
-            assert!(rt; is_whole || !loses_nothing);
-        }
+    for (wishes, loses_nothing) in &WISHES {
+        come_out(&rt, rt.alloc(), wishes, *loses_nothing)?;
     }
     Ok(())
 }

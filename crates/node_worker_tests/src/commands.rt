@@ -5,6 +5,7 @@ use log::{Level, Logged};
 use std::alloc::Global;
 use std::io;
 use std::io::Write;
+use std::process::Abort;
 use std::test::Fail;
 use upsched_map_parts::{MapsWords, RunWords, Status, maps};
 use upsched_parts::run_script;
@@ -55,7 +56,7 @@ fn read_as(alloc: Global, words: &[&str]) -> Result<String, Fail> {
     }
 }
 
-const WORDS: [(&[&str], &str); 64] = [
+static RUN_WORDS: [(&[&str], &str); 16] = [
     (
         &["maps", "a plan.toml"],
         "Maps(MapsWords { plan: \"a plan.toml\" })",
@@ -114,6 +115,9 @@ const WORDS: [(&[&str], &str); 64] = [
         &["run", "script.toml", "--store", "a folder"],
         "Run(RunWords { script: \"script.toml\", verbose: false, store: Some(\"a folder\") })",
     ),
+];
+
+static NODE_WORDS: [(&[&str], &str); 11] = [
     (
         &["live", "plan.toml"],
         "Live(LiveWords { plan: \"plan.toml\", turns: 2000, verbose: false })",
@@ -164,6 +168,9 @@ const WORDS: [(&[&str], &str); 64] = [
         &["node", "0", "--members", "3", "--journal-sync"],
         "NotUnderstood",
     ),
+];
+
+static CHECK_WORDS: [(&[&str], &str); 19] = [
     (
         &["audit", "--members", "3", "a", "b c"],
         "Audit(AuditWords { members: \"3\", journals: [\"a\", \"b c\"] })",
@@ -231,6 +238,9 @@ const WORDS: [(&[&str], &str); 64] = [
         &["script", "--members", "3", "--lose", "101"],
         "NotUnderstood",
     ),
+];
+
+static OTHER_WORDS: [(&[&str], &str); 18] = [
     (&[], "NotUnderstood"),
     (&["maps"], "NotUnderstood"),
     (&["show"], "NotUnderstood"),
@@ -254,12 +264,32 @@ const WORDS: [(&[&str], &str); 64] = [
     (&["--version"], "Done"),
 ];
 
-#[test]
-fn words_of_the_program(rt: HostRuntime) -> Result<(), Fail> {
-    for (words, want) in WORDS {
-        assert_eq!(rt; read_as(rt.alloc(), words)?.as_str(), want, "{words:?}");
+/// The words of each row are read as it says.
+fn are_read_so(rt: &impl Abort, alloc: Global, rows: &[(&[&str], &str)]) -> Result<(), Fail> {
+    for (words, want) in rows {
+        assert_eq!(rt; read_as(alloc, words)?.as_str(), *want, "{words:?}");
     }
     Ok(())
+}
+
+#[test]
+fn words_that_show_and_run(rt: HostRuntime) -> Result<(), Fail> {
+    are_read_so(&rt, rt.alloc(), &RUN_WORDS)
+}
+
+#[test]
+fn words_of_nodes(rt: HostRuntime) -> Result<(), Fail> {
+    are_read_so(&rt, rt.alloc(), &NODE_WORDS)
+}
+
+#[test]
+fn words_that_check_and_make(rt: HostRuntime) -> Result<(), Fail> {
+    are_read_so(&rt, rt.alloc(), &CHECK_WORDS)
+}
+
+#[test]
+fn other_words(rt: HostRuntime) -> Result<(), Fail> {
+    are_read_so(&rt, rt.alloc(), &OTHER_WORDS)
 }
 
 /// Whether words that name no command print this among other things on standard output.

@@ -1,8 +1,11 @@
 //! What may be recorded, and what an audit says of it.
 
+ghost use Rattle.seats.specs.Fresh.{AreFresh};
+
 use ballots::{Bytes, Members};
+use node::Node;
 use node_worker::{Ask, Cause, Done, Kept, Plant, Torn, WorkFault, audit, keep_all};
-use seats::{PlainNode, plain_nodes};
+use seats::{OutOfMemory, plain_nodes};
 use std::alloc::Global;
 use std::test::*;
 
@@ -23,23 +26,20 @@ enum Act {
     Audit(bool, Result<(), Torn>),
 }
 
-/// The nodes, what they did, and a plant of three.
-#[derive(Drop)]
-struct Site {
-    kepts: Vec<Kept<PlainNode>>,
-    dones: Vec<Option<Done>>,
-    plant: Plant<PlainNode>,
-}
-
-fn made_site(alloc: Global, others: Members, quota: usize) -> Result<Site, Fail> {
-    let mut kepts = keep_all(alloc, plain_nodes(alloc, Members::Three)?, quota)?;
-    let mut more = keep_all(alloc, plain_nodes(alloc, others)?, quota)?;
+/// Three nodes and further ones, with nothing done, that may each do so many things.
+fn kept_nodes<N: Node>(
+    alloc: Global,
+    nodes: Vec<N>,
+    others: Vec<N>,
+    quota: usize,
+) -> Result<Vec<Kept<N>>, OutOfMemory>
+    requires nodes { AreFresh N.who N.honest N.stands nodes.items }
+    requires others { AreFresh N.who N.honest N.stands others.items }
+{
+    let mut kepts = keep_all(alloc, nodes, quota)?;
+    let mut more = keep_all(alloc, others, quota)?;
     kepts.append(&mut more)?;
-    Ok(Site {
-        kepts,
-        dones: Vec::new(alloc),
-        plant: Plant::new(alloc, Members::Three, Vec::new(alloc), 6)?,
-    })
+    Ok(kepts)
 }
 
 /// The letter of what was done, as a cause.
@@ -49,80 +49,124 @@ fn letter(alloc: Global, dones: &[Option<Done>], n: usize, i: usize) -> Option<C
     Some(Cause::Letter(letter.copy(alloc).ok()?))
 }
 
+/// What was done comes last. Whether it was done; nothing where there is no memory to tell of it.
+fn noted(dones: &mut Vec<Option<Done>>, done: Option<Done>) -> Option<bool> {
+    let is_done = done.is_some();
+    dones.push(done).ok()?;
+    Some(is_done)
+}
+
 /// Whether a node does one thing.
-fn works(site: &mut Site, k: usize, cause: Cause) -> Result<bool, Fail> {
-    let kept = site.kepts.get_mut(k).ok_or("node")?;
-    match kept.work(cause) {
-        Ok(done) => {
-            site.dones.push(Some(done))?;
-            Ok(true)
-        }
-        Err(_) => Ok(false),
-    }
+fn works<N: Node>(kept: &mut Kept<N>, dones: &mut Vec<Option<Done>>, cause: Cause) -> Option<bool> {
+    noted(dones, kept.work(cause).ok())
 }
 
 /// Whether a node has done as much as it may.
-fn is_full(kepts: &mut [Kept<PlainNode>], k: usize) -> bool {
-    match kepts.get_mut(k) {
-        Some(kept) => matches!(kept.work(Cause::Ask(Ask::Lead)), Err(WorkFault::Full)),
-        None => false,
-    }
+fn is_full<N: Node>(kept: &mut Kept<N>) -> bool {
+    kept.work(Cause::Ask(Ask::Lead)).err() == Some(WorkFault::Full)
 }
 
 /// Whether what was done is taken as the node's; else it is there again.
-fn is_recorded(site: &mut Site, k: usize, n: usize) -> Option<bool> {
-    let kept = site.kepts.get(k)?;
-    let done = site.dones.get_mut(n)?;
-    match site.plant.record(kept, done.take()?) {
+fn is_recorded<N: Node>(
+    plant: &mut Plant<N>,
+    kept: &Kept<N>,
+    place: &mut Option<Done>,
+) -> Option<bool> {
+    match plant.record(kept, place.take()?) {
         Ok(()) => Some(true),
         Err(back) => {
-            *done = Some(back);
+            *place = Some(back);
             Some(false)
         }
     }
 }
 
-/// What an audit of the first three nodes says.
-fn audited(alloc: Global, site: &mut Site, is_backwards: bool) -> Result<Result<(), Torn>, Fail> {
+/// What was done and isn't recorded.
+fn taken(alloc: Global, dones: &mut [Option<Done>]) -> Option<Vec<Done>> {
     let mut records = Vec::new(alloc);
-    for done in &mut site.dones {
+    for done in dones {
         if let Some(done) = done.take() {
-            records.push(done)?;
+            records.push(done).ok()?;
         }
     }
+    Some(records)
+}
+
+/// What an audit of the first three nodes says.
+fn audited<N: Node>(
+    kepts: &[Kept<N>],
+    mut records: Vec<Done>,
+    is_backwards: bool,
+) -> Option<Result<(), Torn>> {
     if is_backwards {
         records.reverse();
     }
-    let three = site.kepts.get(..3).ok_or("three nodes")?;
-    Ok(audit(three, records.as_slice()))
+    Some(audit(kepts.get(..3)?, records.as_slice()))
 }
 
-/// Whether an act ends as it says.
-fn is_right(alloc: Global, site: &mut Site, act: Act) -> Result<bool, Fail> {
+/// Whether an act ends as it says; nothing where there is no such node or letter, or no memory.
+fn is_right<N: Node>(
+    alloc: Global,
+    kepts: &mut [Kept<N>],
+    dones: &mut Vec<Option<Done>>,
+    plant: &mut Plant<N>,
+    act: Act,
+) -> Option<bool> {
     match act {
-        Act::Lead(k) => works(site, k, Cause::Ask(Ask::Lead)),
-        Act::Offer(k) => works(site, k, Cause::Ask(Ask::Offer(Bytes::new(Vec::new(alloc))))),
-        Act::Letter(k, n, i) => {
-            let cause = letter(alloc, site.dones.as_slice(), n, i).ok_or("letter")?;
-            works(site, k, cause)
+        Act::Lead(k) => works(kepts.get_mut(k)?, dones, Cause::Ask(Ask::Lead)),
+        Act::Offer(k) => {
+            let cause = Cause::Ask(Ask::Offer(Bytes::new(Vec::new(alloc))));
+            works(kepts.get_mut(k)?, dones, cause)
         }
-        Act::Full(k) => Ok(is_full(&mut site.kepts, k)),
-        Act::Record(k, n, want) => Ok(is_recorded(site, k, n) == Some(want)),
-        Act::Audit(is_backwards, want) => Ok(audited(alloc, site, is_backwards)? == want),
+        Act::Letter(k, n, i) => {
+            let cause = letter(alloc, dones.as_slice(), n, i)?;
+            works(kepts.get_mut(k)?, dones, cause)
+        }
+        Act::Full(k) => Some(is_full(kepts.get_mut(k)?)),
+        Act::Record(k, n, want) => {
+            Some(is_recorded(plant, kepts.get(k)?, dones.get_mut(n)?)? == want)
+        }
+        Act::Audit(is_backwards, want) => {
+            let records = taken(alloc, dones)?;
+            Some(audited(kepts, records, is_backwards)? == want)
+        }
     }
 }
 
-/// How many acts end as they say, up to the first that doesn't.
-fn right(alloc: Global, others: Members, quota: usize, acts: &[Act]) -> Result<usize, Fail> {
-    let mut site = made_site(alloc, others, quota)?;
+/// How many acts of these nodes end as they say, up to the first that doesn't.
+fn right<N: Node>(
+    alloc: Global,
+    nodes: Vec<N>,
+    others: Vec<N>,
+    quota: usize,
+    acts: &[Act],
+) -> Result<usize, OutOfMemory>
+    requires nodes { AreFresh N.who N.honest N.stands nodes.items }
+    requires others { AreFresh N.who N.honest N.stands others.items }
+{
+    let mut kepts = kept_nodes(alloc, nodes, others, quota)?;
+    let mut plant = Plant::new(alloc, Members::Three, Vec::new(alloc), 6)?;
+    let mut dones = Vec::new(alloc);
     let mut count: usize = 0;
     for act in acts {
-        if !is_right(alloc, &mut site, *act)? {
+        if is_right(alloc, &mut kepts, &mut dones, &mut plant, *act) != Some(true) {
             return Ok(count);
         }
         count = count.saturating_add(1);
     }
     Ok(count)
+}
+
+/// The same, of three nodes and of as many further ones as these members are.
+fn plainly_right(
+    alloc: Global,
+    others: Members,
+    quota: usize,
+    acts: &[Act],
+) -> Result<usize, OutOfMemory> {
+    let nodes = plain_nodes(alloc, Members::Three)?;
+    let others = plain_nodes(alloc, others)?;
+    right(alloc, nodes, others, quota, acts)
 }
 
 /// The further nodes, how much each node may do, and what is done.
@@ -205,7 +249,7 @@ const ROWS: [(Members, usize, &[Act]); 8] = [
 #[test]
 fn records_and_audits(rt: HostRuntime) -> Result<(), Fail> {
     for (others, quota, acts) in ROWS {
-        assert_eq!(rt; right(rt.alloc(), others, quota, acts)?, acts.len());
+        assert_eq!(rt; plainly_right(rt.alloc(), others, quota, acts)?, acts.len());
     }
     Ok(())
 }

@@ -1,11 +1,15 @@
 //! Three nodes that agree on a channel and a cut, and a modem that hears of it.
 
+ghost use Rattle.seats.specs.Fresh.{AreFresh};
+
 use ballots::{Bytes, Letter, Members};
 use minislot_time::Slot;
 use modem::{Heard, WantFault};
+use node::Node;
 use node_worker::{Ask, Cause, Kept, Plant, Record, keep_all, step};
-use seats::{Answer, PlainNode, new_modems, plain_nodes};
+use seats::{Answer, OutOfMemory, new_modems, plain_nodes};
 use std::alloc::Global;
+use std::process::Abort;
 use std::test::*;
 use world_events::{Event, EventRefusal};
 
@@ -18,17 +22,24 @@ enum Act {
     Release(usize),
 }
 
-/// Letter number i of all that were sent.
-fn letter_at(records: &[Record], i: usize) -> Option<&Letter> {
+/// The record that sent letter number i of all, and the letter's number in it.
+fn place_of(records: &[Record], i: usize) -> Option<(usize, usize)> {
     let mut left = i;
-    for record in records {
-        let letters = record.entry.letters();
-        if left < letters.len() {
-            return Some(&letters[left]);
+    for k in 0..records.len() {
+        let count = records[k].entry.letters().len();
+        if left < count {
+            return Some((k, left));
         }
-        left -= letters.len();
+        left -= count;
     }
     None
+}
+
+/// Letter number i of all that were sent.
+fn letter_at(alloc: Global, records: &[Record], i: usize) -> Option<Letter> {
+    let (k, n) = place_of(records, i)?;
+    let letter = records.get(k)?.entry.letters().get(n)?;
+    letter.copy(alloc).ok()
 }
 
 /// The node that acts, and why.
@@ -40,7 +51,7 @@ fn cause(alloc: Global, records: &[Record], act: Act) -> Option<(usize, Cause)> 
             Some((0, Cause::Ask(Ask::Offer(bytes))))
         }
         Act::Deliver(i) => {
-            let letter = letter_at(records, i)?.copy(alloc).ok()?;
+            let letter = letter_at(alloc, records, i)?;
             Some((usize::from(letter.to.number()), Cause::Letter(letter)))
         }
         Act::Release(k) => Some((k, Cause::Ask(Ask::Release(0)))),
@@ -48,10 +59,10 @@ fn cause(alloc: Global, records: &[Record], act: Act) -> Option<(usize, Cause)> 
 }
 
 /// Whether an act is done and recorded.
-fn is_done(
+fn is_done<N: Node>(
     alloc: Global,
-    kepts: &mut [Kept<PlainNode>],
-    plant: &mut Plant<PlainNode>,
+    kepts: &mut [Kept<N>],
+    plant: &mut Plant<N>,
     act: Act,
 ) -> Option<bool> {
     let (k, cause) = cause(alloc, plant.records(), act)?;
@@ -89,9 +100,11 @@ const ACTS: [Act; 21] = [
     Act::Release(1),
 ];
 
-/// The plant after this, with one modem; none where an act isn't done.
-fn plant_after(alloc: Global) -> Result<Option<Plant<PlainNode>>, Fail> {
-    let mut kepts = keep_all(alloc, plain_nodes(alloc, Members::Three)?, 16)?;
+/// The plant of three nodes after this, with one modem; none where an act isn't done.
+fn plant_after<N: Node>(alloc: Global, nodes: Vec<N>) -> Result<Option<Plant<N>>, OutOfMemory>
+    requires { AreFresh N.who N.honest N.stands nodes.items }
+{
+    let mut kepts = keep_all(alloc, nodes, 16)?;
     let mut plant = Plant::new(alloc, Members::Three, new_modems(alloc, &[50])?, 48)?;
     for act in ACTS {
         if is_done(alloc, &mut kepts, &mut plant, act) != Some(true) {
@@ -112,7 +125,7 @@ enum Asked {
     Want,
 }
 
-fn answer(plant: &mut Plant<PlainNode>, slot: Slot, asked: Asked) -> Answer {
+fn answer<N: Node>(plant: &mut Plant<N>, slot: Slot, asked: Asked) -> Answer {
     match asked {
         Asked::Hear(i) => plant.modem_step(&Event::Hear(0, i, slot)),
         Asked::Tick => plant.modem_step(&Event::Tick(0, 1, slot, 0)),
@@ -129,12 +142,20 @@ const ANSWERS: [(Asked, Answer); 5] = [
     (Asked::Hear(4), Answer::Refused(EventRefusal::NoOutput)),
 ];
 
-#[test]
-fn a_modem_hears_what_two_nodes_release(rt: HostRuntime) -> Result<(), Fail> {
-    let mut plant = plant_after(rt.alloc())?.ok_or("a plant")?;
+/// A modem answers so after what two of these three nodes did.
+fn hears<N: Node>(rt: &impl Abort, alloc: Global, nodes: Vec<N>) -> Result<(), Fail>
+    requires { AreFresh N.who N.honest N.stands nodes.items }
+{
+    let mut plant = plant_after(alloc, nodes)?.ok_or("a plant")?;
     let slot = Slot::new(1000).ok_or("slot")?;
     for (asked, want) in ANSWERS {
         assert_eq!(rt; answer(&mut plant, slot, asked), want);
     }
     Ok(())
+}
+
+#[test]
+fn a_modem_hears_what_two_nodes_release(rt: HostRuntime) -> Result<(), Fail> {
+    let nodes = plain_nodes(rt.alloc(), Members::Three)?;
+    hears(&rt, rt.alloc(), nodes)
 }
