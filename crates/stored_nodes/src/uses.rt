@@ -16,6 +16,7 @@ use node::{Node, SchedNode};
 use sqlite::{File, FileStore, Files};
 use sqlite_disk::Disk;
 use std::alloc::Global;
+use store_anew::OpensAnew;
 
 /// What is done with the fresh nodes of a network, whatever they keep their records in.
 pub trait NodesUse: Drop {
@@ -50,14 +51,15 @@ pub trait NodeUse: Drop {
         ensures { comes self member.0 (member_count member.1) is_new result };
 }
 
-/// The nodes are used, where there are any. So one call alone is made for their large type.
-fn use_nodes<D: Disk + Drop, U: NodesUse>(
-    nodes: Result<Vec<StoredNode<D>>, StoreFault>,
+/// The nodes are used, where there are any. Over any store a call for nodes is proved in a quarter of the time that it
+/// takes over files.
+fn use_nodes<S: OpensAnew, U: NodesUse>(
+    nodes: Result<Vec<SchedNode<SqlRecords<S>>>, StoreFault>,
     members: Members,
     user: U,
 ) -> Result<U::Answer, StoreFault>
-    requires fresh { IfOk nodes (λ nodes. AreFresh ⟦<SchedNode<SqlRecords<FileStore<D>>> as Node>⟧.who ⟦<SchedNode<SqlRecords<FileStore<D>>> as Node>⟧.honest
-        ⟦<SchedNode<SqlRecords<FileStore<D>>> as Node>⟧.stands nodes.items) }
+    requires fresh { IfOk nodes (λ nodes. AreFresh ⟦<SchedNode<SqlRecords<S>> as Node>⟧.who ⟦<SchedNode<SqlRecords<S>> as Node>⟧.honest
+        ⟦<SchedNode<SqlRecords<S>> as Node>⟧.stands nodes.items) }
     requires count { IfOk nodes (λ nodes. length nodes.items ≡ member_count members) }
     ensures { IfOk result (U.comes user (member_count members)) }
 {
@@ -68,14 +70,14 @@ fn use_nodes<D: Disk + Drop, U: NodesUse>(
 }
 
 /// Likewise a node.
-fn use_node<D: Disk + Drop, U: NodeUse>(
-    node: Result<StoredNode<D>, StartFault>,
+fn use_node<S: OpensAnew, U: NodeUse>(
+    node: Result<SchedNode<SqlRecords<S>>, StartFault>,
     member: (NodeId, Members),
     is_new: bool,
     user: U,
 ) -> Result<U::Answer, StartFault>
-    requires { IfOk node (HasStarted ⟦<SchedNode<SqlRecords<FileStore<D>>> as Node>⟧.who ⟦<SchedNode<SqlRecords<FileStore<D>>> as Node>⟧.honest
-        ⟦<SchedNode<SqlRecords<FileStore<D>>> as Node>⟧.stands (member_count member.1) member.0 is_new) }
+    requires { IfOk node (HasStarted ⟦<SchedNode<SqlRecords<S>> as Node>⟧.who ⟦<SchedNode<SqlRecords<S>> as Node>⟧.honest
+        ⟦<SchedNode<SqlRecords<S>> as Node>⟧.stands (member_count member.1) member.0 is_new) }
     ensures { IfOk result (U.comes user member.0 (member_count member.1) is_new) }
 {
     match node {
