@@ -1,11 +1,12 @@
 use acceptor::{Accepted, Prepared, Records, accept, prepare};
-use acceptor_store::open_files;
+use acceptor_store::{OpenFault, SqlRecords, open_files};
 use ballots::{Ballot, Bytes, Place, Value};
 use sqlite::Files;
 use sqlite_disk::{Disk, Memory};
 use std::alloc::Global;
 use std::process::Abort;
 use std::test::Fail;
+use store_anew::OpensAnew;
 
 fn no_files(alloc: Global) -> Files<Memory> {
     Files {
@@ -206,15 +207,25 @@ fn passes<R: Records + Drop>(
     }
 }
 
-/// Whether the records in these files pass. What holds records is generic over the disk: at one
-/// disk the proof is dear.
+/// Whether the records pass, where they are open. It knows no store: at a store over files the
+/// proof is dear.
+fn passes_open<S: OpensAnew>(
+    rt: &impl Abort,
+    alloc: Global,
+    records: Result<SqlRecords<S>, OpenFault>,
+    trial: Trial,
+) -> Result<bool, Fail> {
+    passes(rt, alloc, records?, trial)
+}
+
+/// Whether the records in these files pass.
 fn passes_over<D: Disk + Drop>(
     rt: &impl Abort,
     alloc: Global,
     files: Files<D>,
     trial: Trial,
 ) -> Result<bool, Fail> {
-    passes(rt, alloc, open_files(alloc, files)?, trial)
+    passes_open(rt, alloc, open_files(alloc, files), trial)
 }
 
 /// Whether fresh records pass.

@@ -1,8 +1,5 @@
 //! Files in memory that stop, what a stop leaves of them, and what the records in them hold.
 
-use acceptor::Records;
-use acceptor_store::SqlRecords;
-use ballots::{Ballot, Place, Votes};
 use sqlite::{Alter, Connection, Error, FileStore, Files, Options};
 use sqlite_disk::{Crash, Disk, Fuse, Memory};
 use std::alloc::Global;
@@ -135,11 +132,6 @@ pub fn linked<D: Disk + Drop>(
     }
 }
 
-/// A connection to a database without tables.
-pub fn blank(alloc: Global) -> Result<Connection<FileStore<Fused>>, Fail> {
-    linked(alloc, stopping(alloc, (&[], &[]), Stopped::Log, u64::MAX)?)
-}
-
 /// Runs these texts.
 pub fn run<S: Alter + Drop>(conn: &mut Connection<S>, texts: &[&str]) -> Result<(), Error> {
     for text in texts {
@@ -148,52 +140,18 @@ pub fn run<S: Alter + Drop>(conn: &mut Connection<S>, texts: &[&str]) -> Result<
     Ok(())
 }
 
-/// The records in the files, or the files again.
-pub fn opened<D: Disk + Drop>(
+/// The store after this text.
+fn ran<S: Alter + Drop>(mut conn: Connection<S>, text: &str) -> Result<S, Fail> {
+    run(&mut conn, &[text])?;
+    Ok(conn.into_store())
+}
+
+/// The files after this text.
+pub fn files_after<D: Disk + Drop>(
     alloc: Global,
     files: Files<D>,
-) -> Result<SqlRecords<FileStore<D>>, Files<D>> {
-    let conn = connected(alloc, files)?;
-    match SqlRecords::open(alloc, conn) {
-        Ok(records) => Ok(records),
-        Err((_, store)) => Err(store.close()),
-    }
-}
-
-/// The files of the records.
-pub fn closed<D: Disk + Drop>(records: SqlRecords<FileStore<D>>) -> Result<Files<D>, Fail> {
-    match records.into_store() {
-        Some(store) => Ok(store.close()),
-        None => Err(Fail::new("no store")),
-    }
-}
-
-fn number(ballot: Option<Ballot>) -> u64 {
-    match ballot {
-        Some(ballot) => ballot.number(),
-        None => 0,
-    }
-}
-
-/// Place, ballot and bytes of each vote, behind this text.
-fn with_votes(alloc: Global, mut text: String, votes: &Votes) -> Result<String, Fail> {
-    for (place, cast) in votes.rows() {
-        let vote = format!(in alloc;
-            " {place} {} {:?}",
-            cast.ballot.number(),
-            cast.value.as_slice()
-        )?;
-        text.push_str(vote.as_str())?;
-    }
-    Ok(text)
-}
-
-/// The ballot tried and the promised one, and place, ballot and bytes of each vote.
-pub fn content<R: Records>(alloc: Global, records: &mut R) -> Result<String, Fail> {
-    let tried = number(records.tried()?);
-    let promised = number(records.promised()?);
-    let first = Place::new(1).ok_or("a place")?;
-    let votes = records.votes_from(first)?;
-    let text = format!(in alloc; "{tried} {promised}")?;
-    with_votes(alloc, text, &votes)
+    text: &str,
+) -> Result<Files<D>, Fail> {
+    let store = ran(linked(alloc, files)?, text)?;
+    Ok(store.close())
 }

@@ -14,4 +14,6 @@ mod stops;
 #[cfg(test)]
 mod tables;
 #[cfg(test)]
+mod uses;
+#[cfg(test)]
 mod versions;

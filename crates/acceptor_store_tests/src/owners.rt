@@ -1,17 +1,18 @@
 //! Records that have an owner, also where a file stops as they are made or adopted.
 
 use crate::files::{
-    Bodies, FOUND, Fused, Stopped, blank, closed, connected, content, found, is_again, left_behind,
-    run, stopping,
+    Bodies, FOUND, Fused, Stopped, files_after, found, is_again, left_behind, stopping,
+};
+use crate::uses::{
+    Opens, ReadsContent, RecordsUse, Unopened, Way, answer_in, answered, content, fault_after,
+    used_in,
 };
 use acceptor::Records;
-use acceptor_store::{OpenFault, OwnerFault, SqlRecords};
-use ballots::{Ballot, Members, NodeId};
-use sqlite::{Alter, Connection, FileStore, Files};
-use sqlite_disk::Disk;
+use acceptor_store::{OpenFault, OwnerFault};
+use ballots::Ballot;
+use sqlite::Files;
 use std::alloc::Global;
 use std::test::Fail;
-use store_anew::OpensAnew;
 
 /// Tables of version 2: tried 16, the promised row 18, and a vote of ballot 17 for the byte 65 at
 /// place 1.
@@ -28,81 +29,33 @@ const HELD: &str = "16 18 1 17 [65]";
 /// What fresh records hold.
 const EMPTY: &str = "0 0";
 
-/// How the records of node 1 of three are opened.
-#[derive(Clone, Copy, Debug)]
-enum Way {
-    /// By `open`.
-    Plain,
-    /// By `open_as`, where the database may be new.
-    New,
-    /// By `open_as`, where it may not.
-    Old,
-    /// By `adopt`.
-    Adopt,
-}
-
-fn opened_by<S: OpensAnew>(
-    alloc: Global,
-    conn: Connection<S>,
-    way: Way,
-    node: NodeId,
-) -> Result<SqlRecords<S>, (OwnerFault, S)> {
-    match way {
-        Way::Plain => match SqlRecords::open(alloc, conn) {
-            Ok(records) => Ok(records),
-            Err((fault, store)) => Err((OwnerFault::Open(fault), store)),
-        },
-        Way::New => SqlRecords::open_as(alloc, conn, node, Members::Three, true),
-        Way::Old => SqlRecords::open_as(alloc, conn, node, Members::Three, false),
-        Way::Adopt => SqlRecords::adopt(alloc, conn, node, Members::Three),
-    }
-}
-
-fn node() -> Result<NodeId, Fail> {
-    Ok(NodeId::new(1).ok_or("a node")?)
-}
-
-fn fault_of<S: OpensAnew>(
-    alloc: Global,
-    conn: Connection<S>,
-    way: Way,
-) -> Result<Option<OwnerFault>, Fail> {
-    match opened_by(alloc, conn, way, node()?) {
-        Ok(_) => Ok(None),
-        Err((fault, _)) => Ok(Some(fault)),
-    }
-}
-
-/// How records open over a database that these texts made.
-fn opened(alloc: Global, texts: &[&str], way: Way) -> Result<Option<OwnerFault>, Fail> {
-    let mut conn = blank(alloc)?;
-    run(&mut conn, texts)?;
-    fault_of(alloc, conn, way)
-}
-
 const FOREIGN: Option<OwnerFault> = Some(OwnerFault::Open(OpenFault::Foreign));
 
 const REFUSED: Option<OwnerFault> = Some(OwnerFault::Open(OpenFault::Refused));
 
+/// The texts that make a database, without tables, of version 2 or of version 3, and how it is
+/// opened in each way.
+const OPENED: [([&str; 2], Way, Option<OwnerFault>); 12] = [
+    (["", ""], Way::Plain, None),
+    (["", ""], Way::New, None),
+    (["", ""], Way::Old, Some(OwnerFault::Blank)),
+    (["", ""], Way::Adopt, Some(OwnerFault::Blank)),
+    ([SECOND, ""], Way::Plain, None),
+    ([SECOND, ""], Way::New, Some(OwnerFault::Unowned)),
+    ([SECOND, ""], Way::Old, Some(OwnerFault::Unowned)),
+    ([SECOND, ""], Way::Adopt, None),
+    ([SECOND, THIRD], Way::Plain, FOREIGN),
+    ([SECOND, THIRD], Way::New, None),
+    ([SECOND, THIRD], Way::Old, None),
+    ([SECOND, THIRD], Way::Adopt, None),
+];
+
 /// How a database without tables, one of version 2 and one of version 3 are opened.
 #[test]
 fn each_version_in_each_way(rt: HostRuntime) -> Result<(), Fail> {
-    for (texts, way, fault) in [
-        (["", ""], Way::Plain, None),
-        (["", ""], Way::New, None),
-        (["", ""], Way::Old, Some(OwnerFault::Blank)),
-        (["", ""], Way::Adopt, Some(OwnerFault::Blank)),
-        ([SECOND, ""], Way::Plain, None),
-        ([SECOND, ""], Way::New, Some(OwnerFault::Unowned)),
-        ([SECOND, ""], Way::Old, Some(OwnerFault::Unowned)),
-        ([SECOND, ""], Way::Adopt, None),
-        ([SECOND, THIRD], Way::Plain, FOREIGN),
-        ([SECOND, THIRD], Way::New, None),
-        ([SECOND, THIRD], Way::Old, None),
-        ([SECOND, THIRD], Way::Adopt, None),
-    ] {
+    for (texts, way, fault) in OPENED {
         assert_eq!(rt;
-            opened(rt.alloc(), &texts, way)?,
+            fault_after(rt.alloc(), &texts, way)?,
             fault,
             "{texts:?} {way:?}"
         );
@@ -110,37 +63,40 @@ fn each_version_in_each_way(rt: HostRuntime) -> Result<(), Fail> {
     Ok(())
 }
 
+/// Changes of a database of version 3, and how it is opened then.
+const CHANGED: [(&str, Option<OwnerFault>); 16] = [
+    (
+        "UPDATE fact SET bytes = x'0003'",
+        Some(OwnerFault::OtherNode),
+    ),
+    (
+        "UPDATE fact SET bytes = x'0005'",
+        Some(OwnerFault::OtherNode),
+    ),
+    (
+        "UPDATE fact SET bytes = x'0105'",
+        Some(OwnerFault::OtherMembers),
+    ),
+    ("UPDATE fact SET bytes = x'0104'", FOREIGN),
+    ("UPDATE fact SET bytes = x'0503'", FOREIGN),
+    ("UPDATE fact SET bytes = x'01'", FOREIGN),
+    ("UPDATE fact SET bytes = x'010300'", FOREIGN),
+    ("UPDATE fact SET id = 1", FOREIGN),
+    ("INSERT INTO fact VALUES (1, x'0103')", FOREIGN),
+    ("DELETE FROM fact", FOREIGN),
+    ("UPDATE ballot SET number = 2 WHERE id = 2", FOREIGN),
+    ("INSERT INTO vote VALUES (0, 16, x'0907')", FOREIGN),
+    ("DROP TABLE vote", FOREIGN),
+    ("DROP TABLE fact", Some(OwnerFault::Unowned)),
+    ("CREATE INDEX by_bytes ON fact (bytes)", REFUSED),
+    ("BEGIN", REFUSED),
+];
+
 /// Each change of a database of version 3, and how it is opened then.
 #[test]
 fn what_an_owner_refuses(rt: HostRuntime) -> Result<(), Fail> {
-    for (text, fault) in [
-        (
-            "UPDATE fact SET bytes = x'0003'",
-            Some(OwnerFault::OtherNode),
-        ),
-        (
-            "UPDATE fact SET bytes = x'0005'",
-            Some(OwnerFault::OtherNode),
-        ),
-        (
-            "UPDATE fact SET bytes = x'0105'",
-            Some(OwnerFault::OtherMembers),
-        ),
-        ("UPDATE fact SET bytes = x'0104'", FOREIGN),
-        ("UPDATE fact SET bytes = x'0503'", FOREIGN),
-        ("UPDATE fact SET bytes = x'01'", FOREIGN),
-        ("UPDATE fact SET bytes = x'010300'", FOREIGN),
-        ("UPDATE fact SET id = 1", FOREIGN),
-        ("INSERT INTO fact VALUES (1, x'0103')", FOREIGN),
-        ("DELETE FROM fact", FOREIGN),
-        ("UPDATE ballot SET number = 2 WHERE id = 2", FOREIGN),
-        ("INSERT INTO vote VALUES (0, 16, x'0907')", FOREIGN),
-        ("DROP TABLE vote", FOREIGN),
-        ("DROP TABLE fact", Some(OwnerFault::Unowned)),
-        ("CREATE INDEX by_bytes ON fact (bytes)", REFUSED),
-        ("BEGIN", REFUSED),
-    ] {
-        let found = opened(rt.alloc(), &[SECOND, THIRD, text], Way::Old)?;
+    for (text, fault) in CHANGED {
+        let found = fault_after(rt.alloc(), &[SECOND, THIRD, text], Way::Old)?;
         assert_eq!(rt; found, fault, "{text}");
     }
     Ok(())
@@ -154,24 +110,9 @@ enum Kind {
     Owned,
 }
 
-/// The records of node 1 of three in the files, or why they don't open.
-fn records_in<D: Disk + Drop>(
-    alloc: Global,
-    files: Files<D>,
-    way: Way,
-) -> Result<Result<SqlRecords<FileStore<D>>, OwnerFault>, Fail> {
-    let Ok(conn) = connected(alloc, files) else {
-        return Err(Fail::new("no connection"));
-    };
-    match opened_by(alloc, conn, way, node()?) {
-        Ok(records) => Ok(Ok(records)),
-        Err((fault, _)) => Ok(Err(fault)),
-    }
-}
-
 /// Records that have an owner hold this.
-fn owned<R: Records + Drop>(alloc: Global, mut records: R, held: &str) -> Result<Kind, Fail> {
-    if content(alloc, &mut records)?.as_str() == held {
+fn owned(content: &str, held: &str) -> Result<Kind, Fail> {
+    if content == held {
         Ok(Kind::Owned)
     } else {
         Err(Fail::new("it holds something else"))
@@ -179,13 +120,23 @@ fn owned<R: Records + Drop>(alloc: Global, mut records: R, held: &str) -> Result
 }
 
 /// Of which kind a database is. One that has an owner holds this.
-fn kind_of<D: Disk + Drop>(alloc: Global, files: Files<D>, held: &str) -> Result<Kind, Fail> {
-    match records_in(alloc, files, Way::Old)? {
-        Ok(records) => owned(alloc, records, held),
-        Err(OwnerFault::Unowned) => Ok(Kind::Unowned),
-        Err(OwnerFault::Blank) => Ok(Kind::Blank),
-        Err(fault) => Err(Fail::new(format_args!("it doesn't open: {fault}"))),
+fn kind_of(alloc: Global, files: Files<Fused>, held: &str) -> Result<Kind, Fail> {
+    let (content, _) = used_in(alloc, files, Way::Old, ReadsContent)?;
+    match content {
+        Err(Unopened::Fault(OwnerFault::Unowned)) => Ok(Kind::Unowned),
+        Err(Unopened::Fault(OwnerFault::Blank)) => Ok(Kind::Blank),
+        content => owned(answered(content)?.as_str(), held),
     }
+}
+
+/// The same of what is found of files.
+fn kind_found(
+    alloc: Global,
+    bodies: &Bodies,
+    which: (bool, bool),
+    held: &str,
+) -> Result<Kind, Fail> {
+    kind_of(alloc, found(alloc, bodies, which)?, held)
 }
 
 /// Whether one of this kind, and whether one that has an owner, is among what may be found.
@@ -200,7 +151,7 @@ fn kinds_of(
         if is_again(bodies, which) {
             continue;
         }
-        match kind_of(alloc, found(alloc, bodies, which)?, held)? {
+        match kind_found(alloc, bodies, which, held)? {
             Kind::Owned => kinds.1 = true,
             kind if kind == before => kinds.0 = true,
             kind => return Err(Fail::new(format_args!("{kind:?}"))),
@@ -210,19 +161,9 @@ fn kinds_of(
 }
 
 /// Opens the files: whether that went through, and the files again.
-fn tried<D: Disk + Drop>(
-    alloc: Global,
-    files: Files<D>,
-    way: Way,
-) -> Result<(bool, Files<D>), Fail> {
-    let conn = match connected(alloc, files) {
-        Ok(conn) => conn,
-        Err(files) => return Ok((false, files)),
-    };
-    match opened_by(alloc, conn, way, node()?) {
-        Ok(records) => Ok((true, closed(records)?)),
-        Err((_, store)) => Ok((false, store.close())),
-    }
+fn tried(alloc: Global, files: Files<Fused>, way: Way) -> Result<(bool, Files<Fused>), Fail> {
+    let (answer, files) = used_in(alloc, files, way, Opens)?;
+    Ok((answer.is_ok(), files))
 }
 
 /// What an open in this way leaves that stops after so many calls, and whether it went through.
@@ -247,7 +188,7 @@ fn stops(
     stopped: Stopped,
     held: &str,
 ) -> Result<(u64, u64), Fail> {
-    let before = kind_of(alloc, found(alloc, bodies, (true, true))?, held)?;
+    let before = kind_found(alloc, bodies, (true, true), held)?;
     let mut counts = (0u64, 0u64);
     for calls in 0..300u64 {
         let (is_open, left) = stop_at(alloc, bodies, way, stopped, calls)?;
@@ -264,11 +205,7 @@ fn stops(
 /// What files leave after this text.
 fn bodies_of(alloc: Global, text: &str) -> Result<Bodies, Fail> {
     let files = stopping(alloc, (&[], &[]), Stopped::Log, u64::MAX)?;
-    let Ok(mut conn) = connected(alloc, files) else {
-        return Err(Fail::new("no connection"));
-    };
-    run(&mut conn, &[text])?;
-    left_behind(alloc, conn.into_store().close())
+    left_behind(alloc, files_after(alloc, files, text)?)
 }
 
 /// Tables that are made for an owner are there whole, or not at all.
@@ -298,24 +235,18 @@ fn the_database_stops_as_tables_are_adopted(rt: HostRuntime) -> Result<(), Fail>
     Ok(())
 }
 
-/// Writes a ballot, and reopens the records.
-fn written<R: Records>(records: &mut R) -> Result<(), Fail> {
-    records.put_tried(Ballot::new(25).ok_or("a ballot")?)?;
-    Ok(records.reopen()?)
-}
+/// What records hold that are reopened after a write of a ballot.
+#[derive(Drop)]
+struct WrittenContent;
 
-/// What the records in the files hold that are adopted, and reopened after a write. The files come
-/// back.
-fn adopted_and_written<D: Disk + Drop>(
-    alloc: Global,
-    files: Files<D>,
-) -> Result<(String, Files<D>), Fail> {
-    let Ok(mut records) = records_in(alloc, files, Way::Adopt)? else {
-        return Err(Fail::new("it isn't adopted"));
-    };
-    written(&mut records)?;
-    let text = content(alloc, &mut records)?;
-    Ok((text, closed(records)?))
+impl RecordsUse for WrittenContent {
+    type Answer = String;
+
+    fn use_records<R: Records>(self, alloc: Global, records: &mut R) -> Result<String, Fail> {
+        records.put_tried(Ballot::new(25).ok_or("a ballot")?)?;
+        records.reopen()?;
+        content(alloc, records)
+    }
 }
 
 /// Records that have an owner keep what they wrote, and it, over a reopen.
@@ -323,7 +254,7 @@ fn adopted_and_written<D: Disk + Drop>(
 fn owned_records_are_reopened(rt: HostRuntime) -> Result<(), Fail> {
     let bodies = bodies_of(rt.alloc(), SECOND)?;
     let files = found(rt.alloc(), &bodies, (true, true))?;
-    let (text, files) = adopted_and_written(rt.alloc(), files)?;
+    let (text, files) = answer_in(rt.alloc(), files, Way::Adopt, WrittenContent)?;
     assert_eq!(rt; text.as_str(), "25 18 1 17 [65]");
     let kind = kind_of(rt.alloc(), files, "25 18 1 17 [65]")?;
     assert_eq!(rt; kind, Kind::Owned);

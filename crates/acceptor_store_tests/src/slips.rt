@@ -1,21 +1,23 @@
 //! Records over a file that fails at one call alone, which are reopened until they come back, and a node over such.
 
-ghost use Rattle.std.specs.Prelude.{◌≡◌, ◌+◌, ◌<◌, ◌≤◌, false, IsTrue};
+ghost use Rattle.std.specs.Prelude.{◌≡◌, ◌+◌, ◌<◌, ◌≤◌, false, IfOk, IsTrue};
 ghost use Rattle.sqlite_disk.specs.Disk.{CountsFault};
 ghost use Rattle.sqlite_disk.specs.Refusal.{finds_no_room};
 ghost use Rattle.acceptor.specs.Content.{Content};
 ghost use Rattle.acceptor.specs.Found.{Holds};
 
-use crate::files::{Stopped, closed, content, opened};
+use crate::files::Stopped;
+use crate::uses::{Opens, RecordsUse, Way, answer_in, content};
 use acceptor::{Records, RecordsFault};
-use acceptor_store::{SqlRecords, open_files};
+use acceptor_store::{OpenFault, SqlRecords, open_files};
 use ballots::{Ballot, Members, NodeId};
 use node::{Node, SchedNode};
-use sqlite::{FileStore, Files};
+use sqlite::Files;
 use sqlite_disk::{Disk, Memory, Tally};
 use std::alloc::Global;
 use std::io;
 use std::test::Fail;
+use store_anew::OpensAnew;
 
 /// A file that fails at one call, after so many that pass, and at no other. A sync is no such call.
 #[derive(Drop)]
@@ -140,82 +142,49 @@ fn comes_back<R: Records>(alloc: Global, records: &mut R) -> Result<bool, Fail> 
     Ok(content(alloc, records)?.as_str() == "8 0")
 }
 
-/// Records in the files, in which one write was made.
-fn written<D: Disk + Drop>(
-    alloc: Global,
-    files: Files<D>,
-) -> Result<SqlRecords<FileStore<D>>, Fail> {
-    let Ok(mut records) = opened(alloc, files) else {
-        return Err(Fail::new("the records aren't opened"));
-    };
-    records.put_tried(Ballot::new(8).ok_or("a ballot")?)?;
-    Ok(records)
-}
-
 /// Whether a reopen of these records fails, and the next one brings them back.
-fn fails_once<R: Records + Drop>(alloc: Global, mut records: R) -> Result<bool, Fail> {
+fn fails_once<R: Records>(alloc: Global, records: &mut R) -> Result<bool, Fail> {
     if records.reopen().is_ok() {
         return Ok(false);
     }
-    if comes_back(alloc, &mut records)? {
+    if comes_back(alloc, records)? {
         Ok(true)
     } else {
         Err(Fail::new("the records don't come back"))
     }
 }
 
-/// The same of records in these files, in which one write was made.
-fn fails_once_in<D: Disk + Drop>(alloc: Global, files: Files<D>) -> Result<bool, Fail> {
-    let records = written(alloc, files)?;
-    fails_once(alloc, records)
+fn write<R: Records>(records: &mut R) -> Result<(), Fail> {
+    Ok(records.put_tried(Ballot::new(8).ok_or("a ballot")?)?)
 }
 
-/// How many calls on this file are made until the records hold their write.
-fn calls_before(alloc: Global, which: Stopped) -> Result<u64, Fail> {
-    let records = written(alloc, slipping(alloc, which, u64::MAX))?;
-    let files = closed(records)?;
-    let left = match which {
-        Stopped::Database => files.db.calls_left,
-        Stopped::Log => files.log.calls_left,
-    };
-    Ok(u64::MAX - left)
-}
+/// Records in which one write is made.
+#[derive(Drop)]
+struct Writes;
 
-/// How many of the first calls on this file in a reopen have it fail where they slip.
-fn slips(alloc: Global, which: Stopped) -> Result<u64, Fail> {
-    let before = calls_before(alloc, which)?;
-    let mut count = 0u64;
-    for further in 0..4u64 {
-        let files = slipping(alloc, which, before.saturating_add(further));
-        if fails_once_in(alloc, files)? {
-            count = count.saturating_add(1);
-        }
+impl RecordsUse for Writes {
+    type Answer = ();
+
+    fn use_records<R: Records>(self, _alloc: Global, records: &mut R) -> Result<(), Fail> {
+        write(records)
     }
-    Ok(count)
 }
 
-/// A reopen that failed once, as the database slipped, is made good by the next.
-#[test]
-fn the_database_slips(rt: HostRuntime) -> Result<(), Fail> {
-    let count = slips(rt.alloc(), Stopped::Database)?;
-    assert!(rt; count > 0, "{count}");
-    Ok(())
+/// Whether a reopen of records fails once, in which one write is made.
+#[derive(Drop)]
+struct FailsOnce;
+
+impl RecordsUse for FailsOnce {
+    type Answer = bool;
+
+    fn use_records<R: Records>(self, alloc: Global, records: &mut R) -> Result<bool, Fail> {
+        write(records)?;
+        fails_once(alloc, records)
+    }
 }
 
-/// The same where the log slips.
-#[test]
-fn the_log_slips(rt: HostRuntime) -> Result<(), Fail> {
-    let count = slips(rt.alloc(), Stopped::Log)?;
-    assert!(rt; count > 0, "{count}");
-    Ok(())
-}
-
-/// Whether a node over these records can't restart at first, and does so the next time.
-fn node_comes_back<R: Records + Drop>(alloc: Global, id: NodeId, records: R) -> Result<bool, Fail>
-    requires member { id < 3 }
-    requires certain { IsTrue (R.is_honest records) → ∥ ((c : Content) × Holds (R.may_find records) c) ∥₁ }
-{
-    let mut node = SchedNode::new(alloc, id, Members::Three, records);
+/// Whether a node can't restart at first, and does so the next time.
+fn restarts_again<N: Node>(node: &mut N) -> Result<bool, Fail> {
     if node.restart().is_ok() {
         return Ok(false);
     }
@@ -226,38 +195,117 @@ fn node_comes_back<R: Records + Drop>(alloc: Global, id: NodeId, records: R) -> 
     }
 }
 
-/// The same of node 0 over these files.
-fn node_comes_back_in<D: Disk + Drop>(alloc: Global, files: Files<D>) -> Result<bool, Fail> {
+/// The same of a node over these records.
+fn node_comes_back<R: Records + Drop>(alloc: Global, id: NodeId, records: R) -> Result<bool, Fail>
+    requires member { id < 3 }
+    requires certain { IsTrue (R.is_honest records) → ∥ ((c : Content) × Holds (R.may_find records) c) ∥₁ }
+{
+    let mut node = SchedNode::new(alloc, id, Members::Three, records);
+    restarts_again(&mut node)
+}
+
+/// The same of node 0 over these, where they are open. It knows no store: at a store over files the
+/// proof is dear.
+fn node_comes_back_over<S: OpensAnew>(
+    alloc: Global,
+    records: Result<SqlRecords<S>, OpenFault>,
+) -> Result<bool, Fail>
+    requires certain { IfOk records (λ r. IsTrue (⟦<SqlRecords<S> as Records>⟧.is_honest r) → ∥ ((c : Content) × Holds (⟦<SqlRecords<S> as Records>⟧.may_find r) c) ∥₁) }
+{
     let Some(id) = NodeId::new(0) else {
         return Err(Fail::new("a node"));
     };
-    let Ok(records) = open_files(alloc, files) else {
-        return Err(Fail::new("the records aren't opened"));
-    };
-    node_comes_back(alloc, id, records)
+    match records {
+        Ok(records) => node_comes_back(alloc, id, records),
+        Err(_) => Err(Fail::new("the records aren't opened")),
+    }
 }
 
-/// How many calls on the database are made until records are opened in empty files, and closed.
-fn calls_of_an_open(alloc: Global) -> Result<u64, Fail> {
-    let Ok(records) = opened(alloc, slipping(alloc, Stopped::Database, u64::MAX)) else {
-        return Err(Fail::new("the records aren't opened"));
+/// The same over these files.
+fn node_comes_back_in<D: Disk + Drop>(alloc: Global, files: Files<D>) -> Result<bool, Fail> {
+    node_comes_back_over(alloc, open_files(alloc, files))
+}
+
+/// What is done again where a file slipped at it.
+#[derive(Clone, Copy, Debug)]
+enum Again {
+    /// A reopen of records in which one write was made.
+    Reopen,
+    /// A restart of a node over records that are opened by `open_files`.
+    Restart,
+}
+
+/// The files after what comes before the first reopen, or before records are opened for a node.
+fn files_before<D: Disk + Drop>(
+    alloc: Global,
+    files: Files<D>,
+    again: Again,
+) -> Result<Files<D>, Fail> {
+    let (_, files) = match again {
+        Again::Reopen => answer_in(alloc, files, Way::Plain, Writes)?,
+        Again::Restart => answer_in(alloc, files, Way::Plain, Opens)?,
     };
-    let files = closed(records)?;
-    Ok(u64::MAX - files.db.calls_left)
+    Ok(files)
+}
+
+/// Whether it fails over these files, and the next time does not.
+fn fails_once_in<D: Disk + Drop>(
+    alloc: Global,
+    files: Files<D>,
+    again: Again,
+) -> Result<bool, Fail> {
+    match again {
+        Again::Reopen => {
+            let (fails, _) = answer_in(alloc, files, Way::Plain, FailsOnce)?;
+            Ok(fails)
+        }
+        Again::Restart => node_comes_back_in(alloc, files),
+    }
+}
+
+/// How many calls on this file are made before.
+fn calls_before(alloc: Global, which: Stopped, again: Again) -> Result<u64, Fail> {
+    let files = files_before(alloc, slipping(alloc, which, u64::MAX), again)?;
+    let left = match which {
+        Stopped::Database => files.db.calls_left,
+        Stopped::Log => files.log.calls_left,
+    };
+    Ok(u64::MAX - left)
+}
+
+/// How many of the first calls on this file after those have it fail where they slip.
+fn slips(alloc: Global, which: Stopped, again: Again) -> Result<u64, Fail> {
+    let before = calls_before(alloc, which, again)?;
+    let mut count = 0u64;
+    for further in 0..4u64 {
+        let files = slipping(alloc, which, before.saturating_add(further));
+        if fails_once_in(alloc, files, again)? {
+            count = count.saturating_add(1);
+        }
+    }
+    Ok(count)
+}
+
+/// A reopen that failed once, as the database slipped, is made good by the next.
+#[test]
+fn the_database_slips(rt: HostRuntime) -> Result<(), Fail> {
+    let count = slips(rt.alloc(), Stopped::Database, Again::Reopen)?;
+    assert!(rt; count > 0, "{count}");
+    Ok(())
+}
+
+/// The same where the log slips.
+#[test]
+fn the_log_slips(rt: HostRuntime) -> Result<(), Fail> {
+    let count = slips(rt.alloc(), Stopped::Log, Again::Reopen)?;
+    assert!(rt; count > 0, "{count}");
+    Ok(())
 }
 
 /// A node whose restart failed, as the database slipped, is up after the next.
 #[test]
 fn the_database_of_a_node_slips(rt: HostRuntime) -> Result<(), Fail> {
-    let before = calls_of_an_open(rt.alloc())?;
-    let mut count = 0u64;
-    for further in 0..4u64 {
-        let calls = before.saturating_add(further);
-        let files = slipping(rt.alloc(), Stopped::Database, calls);
-        if node_comes_back_in(rt.alloc(), files)? {
-            count = count.saturating_add(1);
-        }
-    }
+    let count = slips(rt.alloc(), Stopped::Database, Again::Restart)?;
     assert!(rt; count > 0, "{count}");
     Ok(())
 }

@@ -1,13 +1,11 @@
 //! The four writes that a node makes up to its first grant, stopped at each call on one of its
 //! files in turn.
 
-use crate::files::{
-    Bodies, FOUND, Stopped, closed, content, found, is_again, left_behind, opened, stopping,
-};
+use crate::files::{Bodies, FOUND, Fused, Stopped, found, is_again, left_behind, stopping};
+use crate::uses::{ReadsContent, RecordsUse, Way, answer_in, used_in};
 use acceptor::{Records, RecordsFault};
 use ballots::{Ballot, Bytes, Place, Value};
 use sqlite::Files;
-use sqlite_disk::Disk;
 use std::alloc::Global;
 use std::test::Fail;
 
@@ -102,18 +100,23 @@ const UNOPENED: Reached = Reached {
     fault: None,
 };
 
+impl RecordsUse for &Writes {
+    type Answer = Reached;
+
+    fn use_records<R: Records>(self, _alloc: Global, records: &mut R) -> Result<Reached, Fail> {
+        Ok(put_all(records, self))
+    }
+}
+
 /// Opens the files and makes the writes: how far they came, and the files as the stop left them.
-fn written<D: Disk + Drop>(
+fn written(
     alloc: Global,
-    files: Files<D>,
+    files: Files<Fused>,
     writes: &Writes,
-) -> Result<(Reached, Files<D>), Fail> {
-    match opened(alloc, files) {
-        Ok(mut records) => {
-            let reached = put_all(&mut records, writes);
-            Ok((reached, closed(records)?))
-        }
-        Err(files) => Ok((UNOPENED, files)),
+) -> Result<(Reached, Files<Fused>), Fail> {
+    match used_in(alloc, files, Way::Plain, writes)? {
+        (Ok(reached), files) => Ok((reached, files)),
+        (Err(_), files) => Ok((UNOPENED, files)),
     }
 }
 
@@ -122,16 +125,10 @@ fn made_of(text: &str) -> Option<usize> {
     CONTENTS.iter().position(|content| *content == text)
 }
 
-fn content_in<R: Records + Drop>(alloc: Global, mut records: R) -> Result<String, Fail> {
-    content(alloc, &mut records)
-}
-
 /// What the records in the files hold.
-fn content_of<D: Disk + Drop>(alloc: Global, files: Files<D>) -> Result<String, Fail> {
-    match opened(alloc, files) {
-        Ok(records) => content_in(alloc, records),
-        Err(_) => Err(Fail::new("what is left doesn't open")),
-    }
+fn content_of(alloc: Global, files: Files<Fused>) -> Result<String, Fail> {
+    let (content, _) = answer_in(alloc, files, Way::Plain, ReadsContent)?;
+    Ok(content)
 }
 
 /// What the files hold, by a node's number of writes. Every database that is found opens, and holds

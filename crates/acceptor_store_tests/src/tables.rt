@@ -1,9 +1,7 @@
-use crate::files::{blank, run};
-use acceptor_store::{OpenFault, SqlRecords};
-use sqlite::Connection;
+use crate::uses::{Way, fault_after};
+use acceptor_store::{OpenFault, OwnerFault};
 use std::alloc::Global;
 use std::test::Fail;
-use store_anew::OpensAnew;
 
 /// Tables of version 1.
 const TABLES: &str =
@@ -15,19 +13,13 @@ const LEARNED: &str =
 
 const SECOND: &str = "INSERT INTO ballot (id, number) VALUES (2, 2)";
 
-/// How records over the connection open.
-fn fault_of<S: OpensAnew>(alloc: Global, conn: Connection<S>) -> Option<OpenFault> {
-    match SqlRecords::open(alloc, conn) {
-        Ok(_) => None,
-        Err((fault, _)) => Some(fault),
-    }
-}
-
 /// How records open over a database that these texts made.
 fn opened(alloc: Global, texts: &[&str]) -> Result<Option<OpenFault>, Fail> {
-    let mut conn = blank(alloc)?;
-    run(&mut conn, texts)?;
-    Ok(fault_of(alloc, conn))
+    match fault_after(alloc, texts, Way::Plain)? {
+        None => Ok(None),
+        Some(OwnerFault::Open(fault)) => Ok(Some(fault)),
+        Some(fault) => Err(Fail::new(format_args!("it has no owner: {fault}"))),
+    }
 }
 
 /// Tables of records open.

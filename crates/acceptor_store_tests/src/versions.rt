@@ -1,14 +1,13 @@
 //! Files of version 1 that are opened, also where a file stops, and learned values that are kept.
 
 use crate::files::{
-    Bodies, FOUND, Fused, Stopped, closed, content, found, is_again, left_behind, linked, opened,
-    run, stopping,
+    Bodies, FOUND, Fused, Stopped, files_after, found, is_again, left_behind, linked, stopping,
 };
+use crate::uses::{Opens, RecordsUse, Way, answer_in, answered, content, used_in, used_over};
 use acceptor::Records;
-use acceptor_store::SqlRecords;
 use acceptor_store_parts::{Version, version_of};
 use ballots::{Bytes, Place, Value};
-use sqlite::{Alter, Connection, FileStore, Files};
+use sqlite::{Alter, Connection, Files};
 use sqlite_disk::Disk;
 use std::alloc::Global;
 use std::test::Fail;
@@ -22,22 +21,6 @@ const FIRST: &str =
 /// What they hold, of tables of either version.
 const HELD: &str = "16 18 1 17 [65]";
 
-/// The store after this text.
-fn ran<S: Alter + Drop>(mut conn: Connection<S>, text: &str) -> Result<S, Fail> {
-    run(&mut conn, &[text])?;
-    Ok(conn.into_store())
-}
-
-/// The files after this text.
-fn files_after<D: Disk + Drop>(
-    alloc: Global,
-    files: Files<D>,
-    text: &str,
-) -> Result<Files<D>, Fail> {
-    let store = ran(linked(alloc, files)?, text)?;
-    Ok(store.close())
-}
-
 /// What the files with these tables leave.
 fn first_files(alloc: Global) -> Result<Bodies, Fail> {
     let files = stopping(alloc, (&[], &[]), Stopped::Log, u64::MAX)?;
@@ -48,13 +31,6 @@ fn first_files(alloc: Global) -> Result<Bodies, Fail> {
 fn first_found(alloc: Global) -> Result<Files<Fused>, Fail> {
     let bodies = first_files(alloc)?;
     Ok(found(alloc, &bodies, (true, true))?)
-}
-
-fn records_over<S: OpensAnew>(alloc: Global, conn: Connection<S>) -> Result<SqlRecords<S>, Fail> {
-    match SqlRecords::open(alloc, conn) {
-        Ok(records) => Ok(records),
-        Err((fault, _)) => Err(Fail::new(format_args!("it doesn't open: {fault}"))),
-    }
 }
 
 /// Whether the numbers have the row that tells version 2.
@@ -73,12 +49,17 @@ fn version<S: Alter>(alloc: Global, conn: &mut Connection<S>) -> Result<Version,
     }
 }
 
+/// Adds place and bytes of a learned value to the text.
+fn push_learned(alloc: Global, text: &mut String, place: Place, value: &Value) -> Result<(), Fail> {
+    let row = format!(in alloc; "{} {:?};", place.number(), value.as_slice())?;
+    Ok(text.push_str(row.as_str())?)
+}
+
 /// Place and bytes of each learned value from the place on.
 fn learned_from<R: Records>(alloc: Global, records: &mut R, place: u64) -> Result<String, Fail> {
     let mut text = String::new(alloc);
     for (place, value) in records.learned_from(Place::new(place).ok_or("a place")?)? {
-        let row = format!(in alloc; "{} {:?};", place.number(), value.as_slice())?;
-        text.push_str(row.as_str())?;
+        push_learned(alloc, &mut text, place, &value)?;
     }
     Ok(text)
 }
@@ -125,23 +106,34 @@ fn holds_the_first<R: Records>(alloc: Global, records: &mut R) -> Result<bool, F
     )
 }
 
-/// The records over the connection, and of which version its tables were.
-fn raised<S: OpensAnew>(
-    alloc: Global,
-    mut conn: Connection<S>,
-) -> Result<(Version, SqlRecords<S>), Fail> {
-    let version = version(alloc, &mut conn)?;
-    Ok((version, records_over(alloc, conn)?))
+/// Whether records hold what the tables of version 1 held, and nothing learned.
+#[derive(Drop)]
+struct HoldsTheFirst;
+
+impl RecordsUse for HoldsTheFirst {
+    type Answer = bool;
+
+    fn use_records<R: Records>(self, alloc: Global, records: &mut R) -> Result<bool, Fail> {
+        holds_the_first(alloc, records)
+    }
 }
 
-/// Opens the files, and tells which version they were of; with the files again. Whatever that was,
-/// they hold the same.
-fn reopened<D: Disk + Drop>(alloc: Global, files: Files<D>) -> Result<(Version, Files<D>), Fail> {
-    let (version, mut records) = raised(alloc, linked(alloc, files)?)?;
-    if !holds_the_first(alloc, &mut records)? {
-        return Err(Fail::new("it holds something else"));
+/// Opens the records over the connection, and tells of which version its tables were; with the
+/// store again. Whatever that was, they hold the same.
+fn raised<S: OpensAnew>(alloc: Global, mut conn: Connection<S>) -> Result<(Version, S), Fail> {
+    let version = version(alloc, &mut conn)?;
+    let (is_same, store) = used_over(alloc, conn, Way::Plain, HoldsTheFirst)?;
+    if answered(is_same)? {
+        Ok((version, store))
+    } else {
+        Err(Fail::new("it holds something else"))
     }
-    Ok((version, closed(records)?))
+}
+
+/// The same of records in files, with the files again.
+fn reopened<D: Disk + Drop>(alloc: Global, files: Files<D>) -> Result<(Version, Files<D>), Fail> {
+    let (version, store) = raised(alloc, linked(alloc, files)?)?;
+    Ok((version, store.close()))
 }
 
 /// A database of version 1 holds the same once it was opened, and nothing learned, in tables of
@@ -187,42 +179,54 @@ fn holds_learned<R: Records>(alloc: Global, records: &mut R) -> Result<bool, Fai
     )
 }
 
-fn records_in<D: Disk + Drop>(
+/// Whether records keep learned values as they are reopened.
+#[derive(Drop)]
+struct KeepsLearned;
+
+impl RecordsUse for KeepsLearned {
+    type Answer = bool;
+
+    fn use_records<R: Records>(self, alloc: Global, records: &mut R) -> Result<bool, Fail> {
+        learn_two(alloc, records)?;
+        holds_learned(alloc, records)
+    }
+}
+
+/// Whether records hold these learned values.
+#[derive(Drop)]
+struct HoldsLearned;
+
+impl RecordsUse for HoldsLearned {
+    type Answer = bool;
+
+    fn use_records<R: Records>(self, alloc: Global, records: &mut R) -> Result<bool, Fail> {
+        holds_learned(alloc, records)
+    }
+}
+
+/// What comes of the use of the records in the files. The files come back.
+fn used<U: RecordsUse>(
     alloc: Global,
-    files: Files<D>,
-) -> Result<SqlRecords<FileStore<D>>, Fail> {
-    records_over(alloc, linked(alloc, files)?)
-}
-
-/// Whether the records in the files keep learned values as they are reopened. The files come back.
-fn keeps_learned<D: Disk + Drop>(alloc: Global, files: Files<D>) -> Result<(bool, Files<D>), Fail> {
-    let mut records = records_in(alloc, files)?;
-    learn_two(alloc, &mut records)?;
-    let is_kept = holds_learned(alloc, &mut records)?;
-    Ok((is_kept, closed(records)?))
-}
-
-/// Whether the records in the files hold these learned values.
-fn still_learned<D: Disk + Drop>(alloc: Global, files: Files<D>) -> Result<bool, Fail> {
-    let mut again = records_in(alloc, files)?;
-    holds_learned(alloc, &mut again)
+    files: Files<Fused>,
+    user: U,
+) -> Result<(U::Answer, Files<Fused>), Fail> {
+    answer_in(alloc, files, Way::Plain, user)
 }
 
 /// Learned values are kept as the records are reopened, and as their files are opened anew.
 #[test]
 fn learned_values_are_kept(rt: HostRuntime) -> Result<(), Fail> {
-    let (is_kept, files) = keeps_learned(rt.alloc(), first_found(rt.alloc())?)?;
+    let (is_kept, files) = used(rt.alloc(), first_found(rt.alloc())?, KeepsLearned)?;
     assert!(rt; is_kept);
-    assert!(rt; still_learned(rt.alloc(), files)?);
+    let (is_still_there, _) = used(rt.alloc(), files, HoldsLearned)?;
+    assert!(rt; is_still_there);
     Ok(())
 }
 
 /// Opens the files: whether that went through, and the files again.
-fn tried<D: Disk + Drop>(alloc: Global, files: Files<D>) -> Result<(bool, Files<D>), Fail> {
-    match opened(alloc, files) {
-        Ok(records) => Ok((true, closed(records)?)),
-        Err(files) => Ok((false, files)),
-    }
+fn tried(alloc: Global, files: Files<Fused>) -> Result<(bool, Files<Fused>), Fail> {
+    let (answer, files) = used_in(alloc, files, Way::Plain, Opens)?;
+    Ok((answer.is_ok(), files))
 }
 
 /// Opens the files, one of which stops after so many calls: whether that went through, and what the
