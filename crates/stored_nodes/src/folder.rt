@@ -1,15 +1,12 @@
 //! The files of nodes in a folder.
 
-ghost use Rattle.std.specs.Prelude.{◌≡◌, IfOk, length};
+ghost use Rattle.std.specs.Prelude.{IfOk};
 ghost use Rattle.ballots.specs.Members.{member_count};
-ghost use Rattle.seats.specs.Fresh.{AreFresh};
 
 use crate::fault::StoreFault;
-use crate::stored::{StoredNode, nodes_over};
-use acceptor_store::SqlRecords;
+use crate::uses::{NodesUse, use_nodes_over};
 use ballots::Members;
-use node::{Node, SchedNode};
-use sqlite::{File, FileStore, Files, Unknown};
+use sqlite::{File, Files, Unknown};
 use std::fs;
 use std::io::ErrorKind;
 
@@ -65,22 +62,23 @@ fn remove_all(rt: &HostRuntime, paths: Vec<String>) {
     }
 }
 
-/// The fresh nodes of so many members over the files of a folder, `node-K.db` and its log for node K.
-/// Where they are refused, what wasn't there before is taken away again.
-pub fn nodes_in(
+/// Uses the nodes over the files of a folder, `node-K.db` and its log for node K. Where that gives a fault, it is given,
+/// nothing is used, and what wasn't there before is taken away again.
+pub fn use_nodes_in<U: NodesUse>(
     rt: &HostRuntime,
     folder: &str,
     members: Members,
-) -> Result<Vec<StoredNode<File>>, StoreFault>
-    ensures fresh { IfOk result (λ nodes. AreFresh ⟦<SchedNode<SqlRecords<FileStore<File>>> as Node>⟧.who ⟦<SchedNode<SqlRecords<FileStore<File>>> as Node>⟧.honest
-        ⟦<SchedNode<SqlRecords<FileStore<File>>> as Node>⟧.stands nodes.items) }
-    ensures count { IfOk result (λ nodes. length nodes.items ≡ member_count members) }
+    user: U,
+) -> Result<U::Answer, StoreFault>
+    ensures { IfOk result (U.comes user (member_count members)) }
 {
     let mut missing = Vec::new(rt.alloc());
-    let pairs = open_pairs(rt, folder, members, &mut missing);
-    let nodes = nodes_over(rt.alloc(), members, pairs);
-    if nodes.is_err() {
+    let answer = match open_pairs(rt, folder, members, &mut missing) {
+        Ok(pairs) => use_nodes_over(rt.alloc(), members, pairs, user),
+        Err(fault) => Err(fault),
+    };
+    if answer.is_err() {
         remove_all(rt, missing);
     }
-    nodes
+    answer
 }

@@ -13,11 +13,11 @@ mod survey;
 mod uses;
 
 pub use fault::StoreFault;
-pub use folder::nodes_in;
+pub use folder::use_nodes_in;
 pub use own_file::{new_node_of, node_of};
 pub use owned::{begun_node, records_for, resumed_node};
 pub use start::StartFault;
 pub use states::{FilesState, state_of_files};
 pub use stored::{StoredNode, stored_nodes};
 pub use survey::states_in;
-pub use uses::{NodeUse, NodesUse, use_node_at, use_nodes_in, use_nodes_over};
+pub use uses::{NodeUse, NodesUse, use_node_at, use_nodes_over};

@@ -87,22 +87,6 @@ fn examine_all<D: Disk>(alloc: Global, files: &mut [Files<D>]) -> Result<(), Sto
     Ok(())
 }
 
-/// The nodes over the files, where these could be opened.
-pub fn nodes_over<D: Disk + Drop>(
-    alloc: Global,
-    members: Members,
-    files: Result<Vec<Files<D>>, StoreFault>,
-) -> Result<Vec<StoredNode<D>>, StoreFault>
-    ensures fresh { IfOk result (λ nodes. AreFresh ⟦<SchedNode<SqlRecords<FileStore<D>>> as Node>⟧.who ⟦<SchedNode<SqlRecords<FileStore<D>>> as Node>⟧.honest
-        ⟦<SchedNode<SqlRecords<FileStore<D>>> as Node>⟧.stands nodes.items) }
-    ensures count { IfOk result (λ nodes. length nodes.items ≡ member_count members) }
-{
-    match files {
-        Ok(files) => stored_nodes(alloc, members, files),
-        Err(fault) => Err(fault),
-    }
-}
-
 /// The fresh nodes of so many members, by number, each over its files. Files that hold anything else
 /// than a fresh node's records, or nothing, are refused before any of them is written to.
 pub fn stored_nodes<D: Disk + Drop>(

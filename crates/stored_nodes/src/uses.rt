@@ -6,7 +6,6 @@ ghost use Rattle.seats.specs.Fresh.{AreFresh};
 ghost use Rattle.stored_nodes.specs.Starts.{HasStarted};
 
 use crate::fault::StoreFault;
-use crate::folder::nodes_in;
 use crate::own_file::{new_node_of, node_of};
 use crate::start::StartFault;
 use crate::stored::{StoredNode, stored_nodes};
@@ -86,20 +85,7 @@ fn use_node<S: OpensAnew, U: NodeUse>(
     }
 }
 
-/// Uses the nodes of `nodes_in`. Where it gives a fault, that is given, and nothing is used.
-pub fn use_nodes_in<U: NodesUse>(
-    rt: &HostRuntime,
-    folder: &str,
-    members: Members,
-    user: U,
-) -> Result<U::Answer, StoreFault>
-    ensures { IfOk result (U.comes user (member_count members)) }
-{
-    let nodes = nodes_in(rt, folder, members);
-    use_nodes(nodes, members, user)
-}
-
-/// Uses those of `stored_nodes`. Where it gives a fault, that is given, and nothing is used.
+/// Uses the nodes of `stored_nodes`. Where it gives a fault, that is given, and nothing is used.
 pub fn use_nodes_over<D: Disk + Drop, U: NodesUse>(
     alloc: Global,
     members: Members,

@@ -7,12 +7,17 @@ use upsched_audit_parts::{NO_JOURNALS, audit, audited_members, journal_of};
 use upsched_map_parts::{Fault, Status};
 use upsched_words::AuditWords;
 
+/// The journal at this path.
+fn journal_at<'a>(rt: &HostRuntime, path: &'a str) -> Result<Bytes, Fault<'a>> {
+    let mut file = opened(rt, path)?;
+    journal_of(rt.alloc(), &mut file, path)
+}
+
 /// The journals at these paths.
 fn journals_at<'a>(rt: &HostRuntime, paths: &[&'a str]) -> Result<Vec<Bytes>, Fault<'a>> {
     let mut journals = Vec::new(rt.alloc());
     for path in paths {
-        let mut file = opened(rt, *path)?;
-        let journal = journal_of(rt.alloc(), &mut file, *path)?;
+        let journal = journal_at(rt, *path)?;
         if journals.push(journal).is_err() {
             return Err(Fault::Memory);
         }

@@ -46,11 +46,11 @@ fn serve_journaled<I: Read + Drop, O: Write, E: Write>(
 }
 
 /// Reads lines from the input and ends as `node` does. Words that name no member are told before a journal is opened.
-pub(crate) fn run_node<I: Read + Drop, O: Write, E: Write>(
+pub(crate) fn run_node<I: Read, O: Write, E: Write>(
     rt: &HostRuntime,
     words: &NodeWords<'_>,
     journal: Option<JournalWords<'_>>,
-    input: I,
+    input: &mut I,
     output: &mut O,
     errors: &mut E,
 ) -> Status {

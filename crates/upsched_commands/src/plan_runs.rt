@@ -83,7 +83,22 @@ pub(crate) fn run_script_words<'a, O: Write, E: Write>(
     Ok(script(rt.alloc(), &mut plan, words, output, errors))
 }
 
-/// Ends as `draw_script`, `draw_maps` or `tell_maps` does, or tells that a plan is no script.
+/// Ends as `draw_script`, `draw_maps` or `tell_maps` does.
+fn draw_what_is_asked<'a, F: Read, O: Write, E: Write>(
+    alloc: Global,
+    script: &mut F,
+    words: &DrawWords<'a>,
+    output: &mut O,
+    errors: &mut E,
+) -> Status {
+    match words.subject {
+        Subject::Maps => draw_maps(alloc, script, words.path, output, errors),
+        Subject::MapsText => tell_maps(alloc, script, words.path, output, errors),
+        _ => draw_script(alloc, script, words.path, output, errors),
+    }
+}
+
+/// Draws what is asked of a script, or tells that a plan is none.
 fn draw_run<'a, F: Read, O: Write, E: Write>(
     alloc: Global,
     file: &mut F,
@@ -95,12 +110,8 @@ fn draw_run<'a, F: Read, O: Write, E: Write>(
     if is_plan_text(alloc, text.as_str())? {
         return Ok(tell_plan(words.path, errors));
     }
-    let mut bytes = text.as_bytes();
-    Ok(match words.subject {
-        Subject::Maps => draw_maps(alloc, &mut bytes, words.path, output, errors),
-        Subject::MapsText => tell_maps(alloc, &mut bytes, words.path, output, errors),
-        _ => draw_script(alloc, &mut bytes, words.path, output, errors),
-    })
+    let mut script = text.as_bytes();
+    Ok(draw_what_is_asked(alloc, &mut script, words, output, errors))
 }
 
 /// Opens the script or the plan and ends as `draw_run`, `draw_plan` or `draw_text` does.

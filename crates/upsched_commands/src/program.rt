@@ -37,17 +37,11 @@ fn given_words<R: Env + AllocGlobal, E: Write>(
 }
 
 /// Ends as the command does that the words name. A file of it that can't be opened is a fault.
-fn run_command<
-    'a,
-    T: Threads + Wait + Clock + Sync + AllocGlobal,
-    I: Read + Drop,
-    O: Write,
-    E: Write,
->(
+fn run_command<'a, T: Threads + Wait + Clock + Sync + AllocGlobal, I: Read, O: Write, E: Write>(
     rt: &HostRuntime,
     threads: &T,
     words: &Words<'a>,
-    input: I,
+    input: &mut I,
     output: &mut O,
     errors: &mut E,
 ) -> Result<Status, Fault<'a>> {
@@ -84,7 +78,7 @@ pub fn run_words<
     rt: &HostRuntime,
     threads: &T,
     given: &[String],
-    input: I,
+    mut input: I,
     output: &mut O,
     errors: &mut E,
 ) -> Status {
@@ -92,7 +86,7 @@ pub fn run_words<
         Ok(words) => words,
         Err(error) => return refused(&error, output, errors),
     };
-    match run_command(rt, threads, &words, input, output, errors) {
+    match run_command(rt, threads, &words, &mut input, output, errors) {
         Ok(status) => status,
         Err(fault) => fault.told(errors),
     }
