@@ -210,7 +210,8 @@ fn node_comes_back_over<S: OpensAnew>(
     alloc: Global,
     records: Result<SqlRecords<S>, OpenFault>,
 ) -> Result<bool, Fail>
-    requires certain { IfOk records (λ r. IsTrue (⟦<SqlRecords<S> as Records>⟧.is_honest r) → ∥ ((c : Content) × Holds (⟦<SqlRecords<S> as Records>⟧.may_find r) c) ∥₁) }
+    requires certain { IfOk records (λ r. IsTrue (⟦<SqlRecords<S> as Records>⟧.is_honest r)
+        → ∥ ((c : Content) × Holds (⟦<SqlRecords<S> as Records>⟧.may_find r) c) ∥₁) }
 {
     let Some(id) = NodeId::new(0) else {
         return Err(Fail::new("a node"));
