@@ -1,9 +1,9 @@
-use acceptor::{Accepted, Prepared, Records, accept, prepare};
+use acceptor::{Accepted, Prepared, Records, RecordsFault, accept, prepare};
 use acceptor_store::{OpenFault, SqlRecords, open_files};
-use ballots::{Ballot, Bytes, Place, Value};
+use ballots::{Ballot, Bytes, Place, Value, Votes};
 use sqlite::Files;
 use sqlite_disk::{Disk, Memory};
-use std::alloc::Global;
+use std::alloc::{AllocError, Global};
 use std::process::Abort;
 use std::test::Fail;
 use store_anew::OpensAnew;
@@ -24,6 +24,17 @@ fn ballot(rt: &impl Abort, number: u64) -> Ballot {
     Ballot::new(number).expect(rt, "a ballot")
 }
 
+fn promised_text(alloc: Global, votes: &Votes) -> Result<String, AllocError> {
+    match votes.rows() {
+        [] => format!(in alloc; "promised"),
+        [(place, cast), ..] => format!(in alloc;
+            "promised {place} {} {:?}",
+            cast.ballot.number(),
+            cast.value.as_slice()
+        ),
+    }
+}
+
 /// What an acceptor over the records answers to a ballot.
 fn prepared<R: Records>(
     rt: &impl Abort,
@@ -32,17 +43,16 @@ fn prepared<R: Records>(
     number: u64,
 ) -> Result<String, Fail> {
     let place = Place::new(1).expect(rt, "a place");
-    let votes = match prepare(records, ballot(rt, number), place)? {
-        Prepared::Higher(other) => return Ok(format!(in alloc; "higher {}", other.number())?),
-        Prepared::Promised(votes) => votes,
-    };
-    match votes.rows() {
-        [] => Ok(format!(in alloc; "promised")?),
-        [(place, cast), ..] => Ok(format!(in alloc;
-            "promised {place} {} {:?}",
-            cast.ballot.number(),
-            cast.value.as_slice()
-        )?),
+    match prepare(records, ballot(rt, number), place)? {
+        Prepared::Higher(other) => Ok(format!(in alloc; "higher {}", other.number())?),
+        Prepared::Promised(votes) => Ok(promised_text(alloc, &votes)?),
+    }
+}
+
+fn accepted_text(alloc: Global, answer: &Accepted) -> Result<String, AllocError> {
+    match answer {
+        Accepted::Higher(other) => format!(in alloc; "higher {}", other.number()),
+        Accepted::Voted(bytes) => format!(in alloc; "voted {:?}", bytes.as_slice()),
     }
 }
 
@@ -52,13 +62,11 @@ fn accepted<R: Records>(
     alloc: Global,
     records: &mut R,
     number: u64,
-    byte: u8,
+    value: Value,
 ) -> Result<String, Fail> {
     let place = Place::new(1).expect(rt, "a place");
-    match accept(records, ballot(rt, number), place, value(rt, alloc, byte)?)? {
-        Accepted::Higher(other) => Ok(format!(in alloc; "higher {}", other.number())?),
-        Accepted::Voted(bytes) => Ok(format!(in alloc; "voted {:?}", bytes.as_slice())?),
-    }
+    let answer = accept(records, ballot(rt, number), place, value)?;
+    Ok(accepted_text(alloc, &answer)?)
 }
 
 fn is_answered<R: Records>(
@@ -69,7 +77,7 @@ fn is_answered<R: Records>(
 ) -> Result<bool, Fail> {
     let answer = match case.1 {
         None => prepared(rt, alloc, records, case.0)?,
-        Some(byte) => accepted(rt, alloc, records, case.0, byte)?,
+        Some(byte) => accepted(rt, alloc, records, case.0, value(rt, alloc, byte)?)?,
     };
     Ok(answer.as_str() == case.2)
 }
@@ -112,6 +120,26 @@ fn write<R: Records>(rt: &impl Abort, alloc: Global, records: &mut R) -> Result<
     Ok(records.put_promised(ballot(rt, 8))?)
 }
 
+/// The tried and the promised ballot.
+fn numbers<R: Records>(records: &mut R) -> Result<(u64, u64), RecordsFault> {
+    let tried = records.tried()?;
+    let promised = records.promised()?;
+    Ok((number(tried), number(promised)))
+}
+
+/// The ballot of the vote at a place.
+fn vote_at<R: Records>(records: &mut R, place: Place) -> Result<u64, RecordsFault> {
+    match records.vote(place)? {
+        Some(cast) => Ok(cast.ballot.number()),
+        None => Ok(0),
+    }
+}
+
+/// How many votes there are from a place on.
+fn votes_from<R: Records>(records: &mut R, place: Place) -> Result<usize, RecordsFault> {
+    Ok(records.votes_from(place)?.rows().len())
+}
+
 /// Whether these are the tried and the promised ballot, the ballot of the vote at place 2, and how
 /// many votes there are.
 fn holds<R: Records>(
@@ -119,17 +147,10 @@ fn holds<R: Records>(
     records: &mut R,
     want: (u64, u64, u64, usize),
 ) -> Result<bool, Fail> {
-    let tried = number(records.tried()?);
-    let promised = number(records.promised()?);
-    let second = records.vote(Place::new(2).expect(rt, "a place"))?;
-    let votes = records.votes_from(Place::new(1).expect(rt, "a place"))?;
-    let found = (
-        tried,
-        promised,
-        number(second.map(|cast| cast.ballot)),
-        votes.rows().len(),
-    );
-    Ok(found == want)
+    let (tried, promised) = numbers(records)?;
+    let second = vote_at(records, Place::new(2).expect(rt, "a place"))?;
+    let count = votes_from(records, Place::new(1).expect(rt, "a place"))?;
+    Ok((tried, promised, second, count) == want)
 }
 
 /// The same once they are reopened.
@@ -150,44 +171,32 @@ fn write_over<R: Records>(rt: &impl Abort, alloc: Global, records: &mut R) -> Re
 }
 
 /// Whether each case is answered as it says, with no failure.
-fn has_answers<R: Records + Drop>(
-    rt: &impl Abort,
-    alloc: Global,
-    mut records: R,
-) -> Result<bool, Fail> {
-    let are = are_answered(rt, alloc, &mut records)?;
+fn has_answers<R: Records>(rt: &impl Abort, alloc: Global, records: &mut R) -> Result<bool, Fail> {
+    let are = are_answered(rt, alloc, records)?;
     Ok(are && records.failures() == 0)
 }
 
 /// Whether there is no row, and whether the rows that are written are found, also over a reopen.
-fn has_rows<R: Records + Drop>(
-    rt: &impl Abort,
-    alloc: Global,
-    mut records: R,
-) -> Result<bool, Fail> {
-    if !holds(rt, &mut records, (0, 0, 0, 0))? {
+fn has_rows<R: Records>(rt: &impl Abort, alloc: Global, records: &mut R) -> Result<bool, Fail> {
+    if !holds(rt, records, (0, 0, 0, 0))? {
         return Ok(false);
     }
-    write(rt, alloc, &mut records)?;
-    if !holds(rt, &mut records, (16, 17, 9, 2))? {
+    write(rt, alloc, records)?;
+    if !holds(rt, records, (16, 17, 9, 2))? {
         return Ok(false);
     }
-    keeps(rt, &mut records, (16, 17, 9, 2))
+    keeps(rt, records, (16, 17, 9, 2))
 }
 
 /// Whether a vote over another is found, and the rest as before, with no failure.
-fn has_other<R: Records + Drop>(
-    rt: &impl Abort,
-    alloc: Global,
-    mut records: R,
-) -> Result<bool, Fail> {
-    write_over(rt, alloc, &mut records)?;
-    let is_kept = keeps(rt, &mut records, (16, 24, 24, 2))?;
+fn has_other<R: Records>(rt: &impl Abort, alloc: Global, records: &mut R) -> Result<bool, Fail> {
+    write_over(rt, alloc, records)?;
+    let is_kept = keeps(rt, records, (16, 24, 24, 2))?;
     Ok(is_kept && records.failures() == 0)
 }
 
 /// What is tried on fresh records.
-#[derive(Clone, Copy, Debug)]
+#[derive(Clone, Copy)]
 enum Trial {
     Answers,
     Rows,
@@ -197,13 +206,13 @@ enum Trial {
 fn passes<R: Records + Drop>(
     rt: &impl Abort,
     alloc: Global,
-    records: R,
+    mut records: R,
     trial: Trial,
 ) -> Result<bool, Fail> {
     match trial {
-        Trial::Answers => has_answers(rt, alloc, records),
-        Trial::Rows => has_rows(rt, alloc, records),
-        Trial::Other => has_other(rt, alloc, records),
+        Trial::Answers => has_answers(rt, alloc, &mut records),
+        Trial::Rows => has_rows(rt, alloc, &mut records),
+        Trial::Other => has_other(rt, alloc, &mut records),
     }
 }
 

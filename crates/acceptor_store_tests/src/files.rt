@@ -5,7 +5,7 @@ use sqlite_disk::{Crash, Disk, Fuse, Memory};
 use std::alloc::Global;
 use std::io;
 use std::test::Fail;
-use store_anew::open_again;
+use store_anew::{OpensAnew, open_again};
 
 pub type Fused = Fuse<Memory>;
 
@@ -140,10 +140,14 @@ pub fn run<S: Alter + Drop>(conn: &mut Connection<S>, texts: &[&str]) -> Result<
     Ok(())
 }
 
-/// The store after this text.
-fn ran<S: Alter + Drop>(mut conn: Connection<S>, text: &str) -> Result<S, Fail> {
+/// What is left of the store after this text. It knows no store: at a store over files the proof is dear.
+fn left_after<S: OpensAnew>(
+    conn: Result<Connection<S>, Fail>,
+    text: &str,
+) -> Result<S::Left, Fail> {
+    let mut conn = conn?;
     run(&mut conn, &[text])?;
-    Ok(conn.into_store())
+    Ok(conn.into_store().given_up())
 }
 
 /// The files after this text.
@@ -152,6 +156,5 @@ pub fn files_after<D: Disk + Drop>(
     files: Files<D>,
     text: &str,
 ) -> Result<Files<D>, Fail> {
-    let store = ran(linked(alloc, files)?, text)?;
-    Ok(store.close())
+    left_after(linked(alloc, files), text)
 }
