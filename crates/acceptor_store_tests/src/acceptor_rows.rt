@@ -1,3 +1,4 @@
+use crate::uses::number;
 use acceptor::{Accepted, Prepared, Records, RecordsFault, accept, prepare};
 use acceptor_store::{OpenFault, SqlRecords, open_files};
 use ballots::{Ballot, Bytes, Place, Value, Votes};
@@ -103,13 +104,6 @@ fn are_answered<R: Records>(rt: &impl Abort, alloc: Global, records: &mut R) -> 
         }
     }
     Ok(true)
-}
-
-fn number(ballot: Option<Ballot>) -> u64 {
-    match ballot {
-        Some(ballot) => ballot.number(),
-        None => 0,
-    }
 }
 
 fn write<R: Records>(rt: &impl Abort, alloc: Global, records: &mut R) -> Result<(), Fail> {

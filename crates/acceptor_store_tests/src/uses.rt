@@ -179,7 +179,7 @@ pub fn fault_after(alloc: Global, texts: &[&str], way: Way) -> Result<Option<Own
     }
 }
 
-fn number(ballot: Option<Ballot>) -> u64 {
+pub fn number(ballot: Option<Ballot>) -> u64 {
     match ballot {
         Some(ballot) => ballot.number(),
         None => 0,
