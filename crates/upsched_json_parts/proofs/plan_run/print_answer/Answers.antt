@@ -7,4 +7,4 @@ pub returns : goal.returns
 returns g c =
     line_printed c.print_line.result (TellsCommand c.args.number c.args.answer.now) (string_bytes c.in_ok-text.text)
     (g.O.Write.contents c.args.output.now) (g.O.Write.contents c.print_line.new.output) c.in_ok-text.ensures
-    (rw c.as_str.ensures.value at c.print_line.ensures)
+    (rw c.as_str.ensures.value at c.print_line.ensures.printed)

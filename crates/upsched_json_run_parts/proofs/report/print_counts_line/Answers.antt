@@ -7,4 +7,4 @@ pub returns-in-Ok : goal.returns-in-Ok
 returns-in-Ok g c =
     value_printed c.print_line.result (counts_data c.args.letters c.args.outputs c.args.transmissions) (string_bytes c.in-Ok.text)
     (g.O.Write.contents c.args.output.now) (g.O.Write.contents c.print_line.new.output) c.in-Ok.ensures
-    (rw c.as_str.ensures.value at c.print_line.ensures)
+    (rw c.as_str.ensures.value at c.print_line.ensures.printed)
