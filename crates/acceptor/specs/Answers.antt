@@ -32,7 +32,8 @@ VotedBefore c b p told write = (promised c ≤ b) × (at c.votes p ≡ Some reco
 abbrev pub VotesNow : Content → ℕ → ℕ → List ℕ → List ℕ → Option Write → Type 0
 VotesNow c b p v told write = IsNewVote c b p × (told ≡ v) × (write ≡ Some (Votes p record { ballot = b; value = v }))
 
--- a ballot that isn't below the promised one is answered with the place's vote of that ballot, and else the promised one is told
+-- a ballot that isn't below the promised one is answered with the place's vote of that ballot, and else the promised
+-- one is told
 abbrev pub Accepts : Content → ℕ → ℕ → List ℕ → Accepted → Option Write → Type 0
 Accepts c b p v (Voted told) write = VotedBefore c b p told write ⊎ VotesNow c b p v told write
 Accepts c b p v (HigherVote other) write = (b < promised c) × (other ≡ promised c) × (write ≡ None)

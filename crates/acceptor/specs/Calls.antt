@@ -16,7 +16,8 @@ pub record Accounts {R T : Type 0} (count_of : R → ℕ) (is_broken : R → Boo
   pub count : CountsFaults result (count_of old) (count_of new)
   pub broken : BreaksBy result (is_broken old) (is_broken new)
 
--- a write that is Ok was made, a harmless fault changed nothing, any other may have made it, and nothing else was written
+-- a write that is Ok was made, a harmless fault changed nothing, any other may have made it, and nothing else was
+-- written
 pub record Writes {T : Type 0} (result : Result T RecordsFault) (old new : Findable) (write : Write) : Type 0 where
   pub ok : OnOk result (HasMade old new write)
   pub harmless : IfErr result (λ e. IsHarmless e → FindsSame old new)

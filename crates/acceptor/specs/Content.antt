@@ -32,7 +32,8 @@ AreRowsFrom p (row ∷ rows) = (p ≤ row.0) × (row.0 ≤ most_places) × AreRo
 abbrev pub AreValues : List (ℕ × List ℕ) → Type 0
 AreValues rows = AllByRecursion (λ row. IsValue row.1) rows
 
--- its votes and its learned values stand at places of the log, by ascending place, and what is learned are values of the log
+-- its votes and its learned values stand at places of the log, by ascending place, and what is learned are values of
+-- the log
 abbrev pub IsSound : Content → Type 0
 IsSound c = AreRowsFrom 1 c.votes × AreRowsFrom 1 c.learned × AreValues c.learned
 

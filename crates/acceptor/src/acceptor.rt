@@ -90,7 +90,8 @@ pub fn greatest_used<R: Records>(records: &mut R) -> Result<u64, RecordsFault>
     Ok(number(tried).max(number(promised)))
 }
 
-/// Promises to take part in no lower ballot, where the ballot is above the promise. The promise is written before it is answered.
+/// Promises to take part in no lower ballot, where the ballot is above the promise. The promise is written before it is
+/// answered.
 pub fn prepare<R: Records>(
     records: &mut R,
     ballot: Ballot,
@@ -99,7 +100,8 @@ pub fn prepare<R: Records>(
     ensures ok { IsTrue (R.is_honest records.new) → IfOk result (λ answer. (c : Content) → Holds (R.may_find records.old) c
         → (write : Option Write) × Prepares c ballot place answer write × Holds (R.may_find records.new) (after_write c write)) }
     ensures harmless { IsTrue (R.is_honest records.new) → IfErr result (λ e. IsHarmless e → FindsSame (R.may_find records.old) (R.may_find records.new)) }
-    ensures doubt { IsTrue (R.is_honest records.new) → OnErr result ((c : Content) → Holds (R.may_find records.old) c → MayHavePromised c ballot (R.may_find records.new)) }
+    ensures doubt { IsTrue (R.is_honest records.new)
+        → OnErr result ((c : Content) → Holds (R.may_find records.old) c → MayHavePromised c ballot (R.may_find records.new)) }
     ensures memory { IsTrue (R.is_honest records.new) → IfErr result (λ e. e ≡ OutOfMemory → ((mid : R) × R.finds_no_memory mid records.new)
         ⊎ ((c : Content) → Holds (R.may_find records.old) c → promised c < ballot)) }
     ensures trust { KeepsTrust R.is_honest R.is_clean records.old records.new }
@@ -114,7 +116,8 @@ pub fn prepare<R: Records>(
     Ok(Prepared::Promised(votes))
 }
 
-/// Votes for the value, where the ballot isn't below the promise and the place has no vote of the ballot. The vote is written before it is answered. One that is there is answered again, and nothing is written.
+/// Votes for the value, where the ballot isn't below the promise and the place has no vote of the ballot. The vote is
+/// written before it is answered. One that is there is answered again, and nothing is written.
 pub fn accept<R: Records>(
     records: &mut R,
     ballot: Ballot,
@@ -124,7 +127,8 @@ pub fn accept<R: Records>(
     ensures ok { IsTrue (R.is_honest records.new) → IfOk result (λ answer. (c : Content) → Holds (R.may_find records.old) c
         → (write : Option Write) × Accepts c ballot place value answer write × Holds (R.may_find records.new) (after_write c write)) }
     ensures harmless { IsTrue (R.is_honest records.new) → IfErr result (λ e. IsHarmless e → FindsSame (R.may_find records.old) (R.may_find records.new)) }
-    ensures doubt { IsTrue (R.is_honest records.new) → OnErr result ((c : Content) → Holds (R.may_find records.old) c → MayHaveVoted c ballot place value (R.may_find records.new)) }
+    ensures doubt { IsTrue (R.is_honest records.new)
+        → OnErr result ((c : Content) → Holds (R.may_find records.old) c → MayHaveVoted c ballot place value (R.may_find records.new)) }
     ensures memory { IsTrue (R.is_honest records.new) → IfErr result (λ e. e ≡ OutOfMemory → ((mid : R) × R.finds_no_memory mid records.new)
         ⊎ ((c : Content) → Holds (R.may_find records.old) c → IsNewVote c ballot place)) }
     ensures trust { KeepsTrust R.is_honest R.is_clean records.old records.new }
@@ -149,9 +153,11 @@ fn vote_now<R: Records>(
     value: Value,
 ) -> Result<Bytes, RecordsFault>
     ensures told { IfOk result (λ told. told ≡ value) }
-    ensures ok { IsTrue (R.is_honest records.new) → OnOk result (HasMade (R.may_find records.old) (R.may_find records.new) (Casts place record { ballot = ballot; value = value })) }
+    ensures ok { IsTrue (R.is_honest records.new)
+        → OnOk result (HasMade (R.may_find records.old) (R.may_find records.new) (Casts place record { ballot = ballot; value = value })) }
     ensures harmless { IsTrue (R.is_honest records.new) → IfErr result (λ e. IsHarmless e → FindsSame (R.may_find records.old) (R.may_find records.new)) }
-    ensures doubt { IsTrue (R.is_honest records.new) → MayHaveMade (R.may_find records.old) (R.may_find records.new) (Casts place record { ballot = ballot; value = value }) }
+    ensures doubt { IsTrue (R.is_honest records.new)
+        → MayHaveMade (R.may_find records.old) (R.may_find records.new) (Casts place record { ballot = ballot; value = value }) }
     ensures trust { KeepsTrust R.is_honest R.is_clean records.old records.new }
     ensures account { Accounts R.count_of R.is_broken records.old result records.new }
 {
@@ -184,7 +190,8 @@ impl<R: Records> Acceptor<R> {
         ensures ok { IsTrue (R.is_honest self.new) → IfOk result (λ answer. (c : Content) → Holds (R.may_find self.old) c
             → (write : Option Write) × Prepares c ballot place answer write × Holds (R.may_find self.new) (after_write c write)) }
         ensures harmless { IsTrue (R.is_honest self.new) → IfErr result (λ e. IsHarmless e → FindsSame (R.may_find self.old) (R.may_find self.new)) }
-        ensures doubt { IsTrue (R.is_honest self.new) → OnErr result ((c : Content) → Holds (R.may_find self.old) c → MayHavePromised c ballot (R.may_find self.new)) }
+        ensures doubt { IsTrue (R.is_honest self.new)
+            → OnErr result ((c : Content) → Holds (R.may_find self.old) c → MayHavePromised c ballot (R.may_find self.new)) }
         ensures memory { IsTrue (R.is_honest self.new) → IfErr result (λ e. e ≡ OutOfMemory → ((mid : R) × R.finds_no_memory mid self.new)
             ⊎ ((c : Content) → Holds (R.may_find self.old) c → promised c < ballot)) }
         ensures trust { KeepsTrust R.is_honest R.is_clean self.old self.new }
@@ -203,7 +210,8 @@ impl<R: Records> Acceptor<R> {
         ensures ok { IsTrue (R.is_honest self.new) → IfOk result (λ answer. (c : Content) → Holds (R.may_find self.old) c
             → (write : Option Write) × Accepts c ballot place value answer write × Holds (R.may_find self.new) (after_write c write)) }
         ensures harmless { IsTrue (R.is_honest self.new) → IfErr result (λ e. IsHarmless e → FindsSame (R.may_find self.old) (R.may_find self.new)) }
-        ensures doubt { IsTrue (R.is_honest self.new) → OnErr result ((c : Content) → Holds (R.may_find self.old) c → MayHaveVoted c ballot place value (R.may_find self.new)) }
+        ensures doubt { IsTrue (R.is_honest self.new)
+            → OnErr result ((c : Content) → Holds (R.may_find self.old) c → MayHaveVoted c ballot place value (R.may_find self.new)) }
         ensures memory { IsTrue (R.is_honest self.new) → IfErr result (λ e. e ≡ OutOfMemory → ((mid : R) × R.finds_no_memory mid self.new)
             ⊎ ((c : Content) → Holds (R.may_find self.old) c → IsNewVote c ballot place)) }
         ensures trust { KeepsTrust R.is_honest R.is_clean self.old self.new }

@@ -64,7 +64,8 @@ impl Model for PlainRecords {
 
     ghost view = { λ r. record { tried = number_of r.tried; row = number_of r.row; votes = r.votes.entries; learned = r.learned.entries } };
 
-    ghost invariant = { λ r. (number_of r.highest ≡ greatest (number_of r.row) r.votes.entries) × IsSound record { tried = number_of r.tried; row = number_of r.row; votes = r.votes.entries; learned = r.learned.entries } };
+    ghost invariant = { λ r. (number_of r.highest ≡ greatest (number_of r.row) r.votes.entries)
+        × IsSound record { tried = number_of r.tried; row = number_of r.row; votes = r.votes.entries; learned = r.learned.entries } };
 }
 
 impl PlainRecords {
@@ -106,7 +107,8 @@ fn is_of(ballot: Option<Ballot>, number: u64) -> bool
     }
 }
 
-/// The greatest ballot after `ballot` took the place of `replaced`, and none where a lower ballot took the place of the greatest, so that only the votes can tell.
+/// The greatest ballot after `ballot` took the place of `replaced`, and none where a lower ballot took the place of the
+/// greatest, so that only the votes can tell.
 fn raised(highest: Option<Ballot>, replaced: Option<Ballot>, ballot: Ballot) -> Option<Ballot>
     ensures { IfSome result (λ b. (others : ℕ) → number_of highest ≡ max (number_of replaced) others → b ≡ max ballot others) }
 {
@@ -131,7 +133,8 @@ fn highest_after(
     votes: &Table<Vote>,
 ) -> Option<Ballot>
     requires { AreRowsFrom 1 votes.now.entries }
-    ensures { (others : ℕ) → number_of highest ≡ max (number_of replaced) others → greatest (number_of row) votes.now.entries ≡ max ballot others → number_of result ≡ greatest (number_of row) votes.now.entries }
+    ensures { (others : ℕ) → number_of highest ≡ max (number_of replaced) others → greatest (number_of row) votes.now.entries ≡ max ballot others
+        → number_of result ≡ greatest (number_of row) votes.now.entries }
 {
     if let Some(highest) = raised(highest, replaced, ballot) {
         return Some(highest);
@@ -318,7 +321,8 @@ impl Records for PlainRecords {
 
     fn reopen(&mut self) -> Result<(), RecordsFault>
         ensures no_memory { IsOk result }
-        ensures ok { IsTrue (never_lie self.new) → OnOk result ((a b : Content) → HoldsEither (is_it self.old) a b → Holds (is_it self.new) a ⊎ Holds (is_it self.new) b) }
+        ensures ok { IsTrue (never_lie self.new)
+            → OnOk result ((a b : Content) → HoldsEither (is_it self.old) a b → Holds (is_it self.new) a ⊎ Holds (is_it self.new) b) }
         ensures reopened { OnOk result (self.new ≡ self.old) }
         ensures kept { IsTrue (never_lie self.new) → AddsNothing (is_it self.old) (is_it self.new) }
         ensures trust { OnOk result (KeepsTrust never_lie never_lie self.old self.new) }

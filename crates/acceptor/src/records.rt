@@ -45,7 +45,12 @@ impl<T: Drop> From<AllocFailed<T>> for RecordsFault {
     }
 }
 
-/// What a node keeps over a crash: the last ballot that it tried, its promised row, one vote a place, and the value that it learned of a place. A read changes nothing and a write changes its one row, committed before an `Ok`. Refused and Broken come only in a call in which the count of failures rose. After a Broken one each call is Broken until a `reopen` is Ok, which tells what is there. A write adds nothing but what may be found with it to what may be found, also while that is more than one content. What is said of content stands where the records are honest after the call. Honesty once lost isn't regained, and isn't lost while the store is clean, but by a `reopen` that failed.
+/// What a node keeps over a crash: the last ballot that it tried, its promised row, one vote a place, and the value
+/// that it learned of a place. A read changes nothing and a write changes its one row, committed before an `Ok`.
+/// Refused and Broken come only in a call in which the count of failures rose. After a Broken one each call is Broken
+/// until a `reopen` is Ok, which tells what is there. A write adds nothing but what may be found with it to what may be
+/// found, also while that is more than one content. What is said of content stands where the records are honest after
+/// the call. Honesty once lost isn't regained, and isn't lost while the store is clean, but by a `reopen` that failed.
 pub trait Records {
     // What a reopen now may find.
     ghost may_find: { Self → Content → Type 0 };
@@ -120,9 +125,11 @@ pub trait Records {
         ensures trust { KeepsTrust is_honest is_clean self.old self.new }
         ensures account { Accounts count_of is_broken self.old result self.new };
 
-    /// The values that the node has learned of places from the place on, by ascending place, also those behind a place of which it has learned none.
+    /// The values that the node has learned of places from the place on, by ascending place, also those behind a place
+    /// of which it has learned none.
     fn learned_from(&mut self, place: Place) -> Result<Vec<(Place, Value)>, RecordsFault>
-        ensures value { IsTrue (is_honest self.new) → IfOk result (λ rows. (c : Content) → Holds (may_find self.old) c → rows.items ≡ rows_from c.learned place) }
+        ensures value { IsTrue (is_honest self.new)
+            → IfOk result (λ rows. (c : Content) → Holds (may_find self.old) c → rows.items ≡ rows_from c.learned place) }
         ensures memory { IfErr result (λ e. e ≡ OutOfMemory → finds_no_memory self.old self.new) }
         ensures sound { IsTrue (is_honest self.new) → OnOk result ((c : Content) → Holds (may_find self.old) c → IsSound c) }
         ensures kept { IsTrue (is_honest self.new) → Keeps result (may_find self.old) (may_find self.new) }
@@ -143,7 +150,8 @@ pub trait Records {
 
     /// Writes the vote at the place, over the one that is there.
     fn put_vote(&mut self, place: Place, ballot: Ballot, value: &Value) -> Result<(), RecordsFault>
-        ensures writes { IsTrue (is_honest self.new) → Writes result (may_find self.old) (may_find self.new) (Casts place record { ballot = ballot; value = value.now }) }
+        ensures writes { IsTrue (is_honest self.new)
+            → Writes result (may_find self.old) (may_find self.new) (Casts place record { ballot = ballot; value = value.now }) }
         ensures trust { KeepsTrust is_honest is_clean self.old self.new }
         ensures account { Accounts count_of is_broken self.old result self.new };
 
@@ -155,7 +163,8 @@ pub trait Records {
 
     /// Opens the records again as a new run would. Of a write in doubt it keeps what it finds.
     fn reopen(&mut self) -> Result<(), RecordsFault>
-        ensures ok { IsTrue (is_honest self.new) → OnOk result ((a b : Content) → HoldsEither (may_find self.old) a b → Holds (may_find self.new) a ⊎ Holds (may_find self.new) b) }
+        ensures ok { IsTrue (is_honest self.new)
+            → OnOk result ((a b : Content) → HoldsEither (may_find self.old) a b → Holds (may_find self.new) a ⊎ Holds (may_find self.new) b) }
         ensures reopened { OnOk result (reopens self.old self.new) }
         ensures harmless { IsTrue (is_honest self.new) → IfErr result (λ e. IsHarmless e → FindsSame (may_find self.old) (may_find self.new)) }
         ensures kept { IsTrue (is_honest self.new) → AddsNothing (may_find self.old) (may_find self.new) }

@@ -177,7 +177,8 @@ HadIn g version conn c = ((state g conn).now.schema ≡ schema_of version) × Ar
 abbrev pub Had : {S : Type 0} → Ghosts S → Held S → Content → Type 0
 Had g conn c = (((state g conn).now.schema ≡ blank_schema) × (c ≡ no_content)) ⊎ ((version : Version) × HadIn g version conn c)
 
--- a crash left it before too, or these are tables of version 2 of the content that the connection had, which a node wrote: of a database that no node wrote nothing else is left
+-- a crash left it before too, or these are tables of version 2 of the content that the connection had, which a node
+-- wrote: of a database that no node wrote nothing else is left
 abbrev pub IsLeftWhole : {S : Type 0} → Ghosts S → Held S → Trees → Type 0
 IsLeftWhole g conn db = (state g conn).may_leave db ⊎ ((c : Content) × Had g conn c × AreTablesFor None db c)
 
@@ -190,7 +191,8 @@ FindsContent g version old new numbers =
 abbrev pub SeesForeign : {S : Type 0} → Ghosts S → Held S → Type 0
 SeesForeign g conn = IsForeign (state g conn).now.schema (state g conn).committed.trees
 
--- tables, indexes or views beside the tables of a version or without them, or these declared otherwise, of which a node made none or all
+-- tables, indexes or views beside the tables of a version or without them, or these declared otherwise, of which a node
+-- made none or all
 abbrev pub HasFurther : Schema → Type 0
 HasFurther s = (IsForeignSchema s → ⊥) × ((version : Version) → s ≢ schema_of version) × (s ≢ blank_schema)
 
@@ -206,7 +208,8 @@ FailsAnew {S} g version conn store = (again : Held S) × Rereads version (state 
 abbrev pub IsToMake : {S : Type 0} → Ghosts S → Held S → Type 0
 IsToMake g conn = ((state g conn).now.schema ≡ blank_schema) ⊎ ((c : Content) × HadIn g First conn c)
 
--- why an open is Refused that gives this store back: an open transaction, what stands beside the tables, tables that were to be made, or a disk that failed
+-- why an open is Refused that gives this store back: an open transaction, what stands beside the tables, tables that
+-- were to be made, or a disk that failed
 abbrev pub IsRefused : {S : Type 0} → Ghosts S → Held S → S → Type 0
 IsRefused g conn store = IsTrue (state g conn).in_transaction ⊎ (HasFurther (state g conn).now.schema ⊎ (IsToMake g conn ⊎ ((version : Version) × FailsAnew g version conn store)))
 

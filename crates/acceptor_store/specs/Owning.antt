@@ -59,7 +59,8 @@ IsDue g owner is_new conn (Open OutOfMemory) = Unit {0}
 abbrev pub HasFurtherAs : Schema → Type 0
 HasFurtherAs s = (IsBroken s → ⊥) × (IsUnowned s → ⊥) × (s ≢ schema_of Third) × (s ≢ blank_schema)
 
--- why it is Refused, and gives this store back: an open transaction, what stands beside the tables, tables that were to be made, or a disk that failed
+-- why it is Refused, and gives this store back: an open transaction, what stands beside the tables, tables that were to
+-- be made, or a disk that failed
 abbrev pub IsRefusedFor : {S : Type 0} → Ghosts S → Held S → S → Type 0
 IsRefusedFor g conn store = IsTrue (state g conn).in_transaction ⊎ (HasFurtherAs (state g conn).now.schema ⊎ (((state g conn).now.schema ≡ blank_schema) ⊎ FailsAnew g Third conn store))
 

@@ -47,7 +47,8 @@ fact_shown v = Int (pos v.0) ∷ Blob v.1 ∷ []
 abbrev pub three : ℕ → ℕ → ℕ → List (ℕ × ℕ)
 three number tried row = (0, tried) ∷ (1, row) ∷ (2, number) ∷ []
 
--- the table of numbers: row 0 is the ballot tried, row 1 the promised row, and from version 2 on row 2 the version's number
+-- the table of numbers: row 0 is the ballot tried, row 1 the promised row, and from version 2 on row 2 the version's
+-- number
 abbrev pub numbers_of : Version → ℕ → ℕ → List (ℕ × ℕ)
 numbers_of First tried row = (0, tried) ∷ (1, row) ∷ []
 numbers_of Second tried row = three 2 tried row

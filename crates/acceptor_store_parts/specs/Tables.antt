@@ -57,7 +57,8 @@ learned_table = strict_table (codes "learned") 2 (column (codes "place") Integer
 abbrev pub fact_table : Table
 fact_table = strict_table (codes "fact") 3 (column (codes "id") Integer false ∷ column (codes "bytes") Blob true ∷ [])
 
--- version 1 has the tables of ballots and votes alone, version 2 that of learned values beside them, and version 3 that of facts too
+-- version 1 has the tables of ballots and votes alone, version 2 that of learned values beside them, and version 3 that
+-- of facts too
 abbrev pub schema_of : Version → Schema
 schema_of First = record { tables = ballot_table ∷ vote_table ∷ []; indexes = []; views = [] }
 schema_of Second = record { tables = ballot_table ∷ vote_table ∷ learned_table ∷ []; indexes = []; views = [] }

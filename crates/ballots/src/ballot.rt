@@ -44,7 +44,8 @@ impl NodeId {
     }
 }
 
-/// The number of a proposal, which orders them (Lamport, Paxos Made Simple, section 2.2): `round * 8 + node`, with rounds from 1 to 2^40 - 1. So nodes share none, and 0 is no ballot.
+/// The number of a proposal, which orders them (Lamport, Paxos Made Simple, section 2.2): `round * 8 + node`, with
+/// rounds from 1 to 2^40 - 1. So nodes share none, and 0 is no ballot.
 #[derive(Debug, Drop, Clone, Copy, PartialEq, Eq, PartialOrd, Ord)]
 pub struct Ballot {
     number: u64,
@@ -97,7 +98,8 @@ impl Ballot {
 #[error("RoundsSpent")]
 pub struct RoundsSpent;
 
-/// The least ballot of the node above a number, which may be 0 or any other. It is refused only where the node has none, from its ballot of round 2^40 - 1 on.
+/// The least ballot of the node above a number, which may be 0 or any other. It is refused only where the node has
+/// none, from its ballot of round 2^40 - 1 on.
 pub fn least_above(above: u64, node: NodeId) -> Result<Ballot, RoundsSpent>
     ensures { MatchResult result (λ b. IsLeastAbove above node b) (λ _. NoneAbove above node) }
 {

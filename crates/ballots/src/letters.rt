@@ -1,4 +1,5 @@
-//! The letters that nodes send to one another (Lamport, Paxos Made Simple, section 2.2). They say what their sender put in: a node has to test it.
+//! The letters that nodes send to one another (Lamport, Paxos Made Simple, section 2.2). They say what their sender put
+//! in: a node has to test it.
 
 ghost use Rattle.std.specs.Prelude.{◌≡◌, ◌↔◌, IfOk, IsTrue};
 

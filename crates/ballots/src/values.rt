@@ -74,7 +74,8 @@ impl Model for Value {
 }
 
 impl Value {
-    /// The value of these bytes, and none where they are more than 64. It takes no memory, and lets bytes that it refuses go.
+    /// The value of these bytes, and none where they are more than 64. It takes no memory, and lets bytes that it
+    /// refuses go.
     pub fn new(bytes: Bytes) -> Option<Value>
         ensures some { OnSome result (result ≡ Some bytes) }
         ensures fits { IsSome result ↔ IsValue bytes }

@@ -71,7 +71,8 @@ impl Faults {
         None
     }
 
-    /// Counts a call other than a reopen, and tells how it fails. While the records are broken each fails, and writes nothing.
+    /// Counts a call other than a reopen, and tells how it fails. While the records are broken each fails, and writes
+    /// nothing.
     fn begin(&mut self) -> Option<Failure>
         ensures counted { self.new ≡ record self.old { calls = next self.old.calls } }
         ensures broken { self.old.is_broken ≡ true → result ≡ Some BrokenUnwritten }

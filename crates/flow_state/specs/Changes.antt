@@ -105,7 +105,8 @@ due_in_table t sid due = change_flow t sid (λ f. record f { index = due_index f
 abbrev pub with_due : Rows → ℕ → ℕ → ℕ → Rows
 with_due rows ch sid due = change_table rows ch (λ t. due_in_table t sid due)
 
--- the channel's MAPs reach to end, and this is its Ack Time; the flows whose leases end before are gone, with their waiting requests
+-- the channel's MAPs reach to end, and this is its Ack Time; the flows whose leases end before are gone, with their
+-- waiting requests
 abbrev pub close_table : Table → (end ack : ℕ) → Table
 close_table t end ack = record {
   row = record t.row { next_start = end; ack = ack };

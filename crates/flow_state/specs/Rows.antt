@@ -10,7 +10,8 @@ pub use Rattle.flow_state.specs.declared.flow.Lease.{Lease}
 use Rattle.flow_state.specs.declared.flow.Waiting.{Waiting}
 use Rattle.flow_state.specs.Limits.{due_time, is_timed, last_sid, last_time}
 
--- a flow that isn't dropped, with the minislots of its lease: which of its due times is next, and when the last accepted request was sent
+-- a flow that isn't dropped, with the minislots of its lease: which of its due times is next, and when the last
+-- accepted request was sent
 pub record FlowRow : Type 0 where
   pub sid : ℕ
   pub modem : ℕ
@@ -21,7 +22,8 @@ pub record FlowRow : Type 0 where
   pub index : ℕ
   pub last_sent : Option ℕ
 
--- a channel: its row, the latest lease of each SID that was given, by SID, its flows by SID, its waiting requests by arrival
+-- a channel: its row, the latest lease of each SID that was given, by SID, its flows by SID, its waiting requests by
+-- arrival
 pub record Table : Type 0 where
   pub row : ChannelRow
   pub leases : List Lease

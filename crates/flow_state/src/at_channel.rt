@@ -23,7 +23,8 @@ pub(crate) fn set_channel(
     tables: &mut IndexMap<u8, ChannelTable>,
     channel: Channel,
 ) -> Result<(), Refusal>
-    ensures ok { OnOk result ((entry_refusal tables.old.entries channel ≡ None) × (tables.new.entries ≡ tables.old.entries ++ (channel.id, new_table channel) ∷ [])) }
+    ensures ok { OnOk result ((entry_refusal tables.old.entries channel ≡ None)
+        × (tables.new.entries ≡ tables.old.entries ++ (channel.id, new_table channel) ∷ [])) }
     ensures err { IfErr result (λ refusal. Refuses (entry_refusal tables.old.entries channel) refusal × (tables.new.entries ≡ tables.old.entries)) }
     ensures unique { IsUnique nat_eq tables.old → IsUnique nat_eq tables.new }
 {
@@ -48,10 +49,12 @@ pub(crate) fn add_flow(
     last: u64,
     kind: FlowKind,
 ) -> Result<Lease, Refusal>
-    ensures ok { OnOk result ((on_entry tables.old.entries ch (λ t. table_flow_refusal t modem tag last kind) ≡ None) × (tables.new.entries ≡ change_entry tables.old.entries ch (λ t. flow_in_table t modem tag last kind))) }
+    ensures ok { OnOk result ((on_entry tables.old.entries ch (λ t. table_flow_refusal t modem tag last kind) ≡ None)
+        × (tables.new.entries ≡ change_entry tables.old.entries ch (λ t. flow_in_table t modem tag last kind))) }
     ensures lease { IfOk result (λ lease. lease ≡ lease_on (get nat_eq tables.old ch) modem tag last) }
     ensures known { IsTrue (option_map_or (λ t. is_some (lease_of t modem tag)) (get nat_eq tables.old ch) false) → IsOk result }
-    ensures err { IfErr result (λ refusal. Refuses (on_entry tables.old.entries ch (λ t. table_flow_refusal t modem tag last kind)) refusal × (tables.new.entries ≡ tables.old.entries)) }
+    ensures err { IfErr result (λ refusal. Refuses (on_entry tables.old.entries ch (λ t. table_flow_refusal t modem tag last kind)) refusal
+        × (tables.new.entries ≡ tables.old.entries)) }
     ensures unique { IsUnique nat_eq tables.old → IsUnique nat_eq tables.new }
 {
     match tables.get_mut(&ch) {
@@ -67,8 +70,10 @@ pub(crate) fn drop_flow(
     ch: u8,
     sid: u16,
 ) -> Result<(), Refusal>
-    ensures ok { OnOk result ((on_entry tables.old.entries ch (λ t. table_drop_refusal t sid) ≡ None) × (tables.new.entries ≡ change_entry tables.old.entries ch (λ t. drop_in_table t sid))) }
-    ensures err { IfErr result (λ refusal. (on_entry tables.old.entries ch (λ t. table_drop_refusal t sid) ≡ Some refusal) × (tables.new.entries ≡ tables.old.entries)) }
+    ensures ok { OnOk result ((on_entry tables.old.entries ch (λ t. table_drop_refusal t sid) ≡ None)
+        × (tables.new.entries ≡ change_entry tables.old.entries ch (λ t. drop_in_table t sid))) }
+    ensures err { IfErr result (λ refusal. (on_entry tables.old.entries ch (λ t. table_drop_refusal t sid) ≡ Some refusal)
+        × (tables.new.entries ≡ tables.old.entries)) }
     ensures unique { IsUnique nat_eq tables.old → IsUnique nat_eq tables.new }
 {
     match tables.get_mut(&ch) {
@@ -86,8 +91,10 @@ pub(crate) fn request(
     n: u16,
     sent: u64,
 ) -> Result<(), Refusal>
-    ensures ok { OnOk result ((on_entry tables.old.entries ch (λ t. table_request_refusal t sid n sent) ≡ None) × (tables.new.entries ≡ change_entry tables.old.entries ch (λ t. request_in_table t sid n sent))) }
-    ensures err { IfErr result (λ refusal. Refuses (on_entry tables.old.entries ch (λ t. table_request_refusal t sid n sent)) refusal × (tables.new.entries ≡ tables.old.entries)) }
+    ensures ok { OnOk result ((on_entry tables.old.entries ch (λ t. table_request_refusal t sid n sent) ≡ None)
+        × (tables.new.entries ≡ change_entry tables.old.entries ch (λ t. request_in_table t sid n sent))) }
+    ensures err { IfErr result (λ refusal. Refuses (on_entry tables.old.entries ch (λ t. table_request_refusal t sid n sent)) refusal
+        × (tables.new.entries ≡ tables.old.entries)) }
     ensures unique { IsUnique nat_eq tables.old → IsUnique nat_eq tables.new }
 {
     match tables.get_mut(&ch) {
@@ -115,7 +122,8 @@ pub(crate) fn keep_waiting<F: FnMut(&Waiting) -> bool>(
     keep: F,
 )
     requires { F.IsAlwaysCallable keep }
-    ensures written { (kept : List Waiting) × IsFiltered (CalledAt F.FnMut) keep (waiting_of (get nat_eq tables.old ch)) kept × (tables.new.entries ≡ change_entry tables.old.entries ch (λ t. waiting_in_table t kept)) }
+    ensures written { (kept : List Waiting) × IsFiltered (CalledAt F.FnMut) keep (waiting_of (get nat_eq tables.old ch)) kept
+        × (tables.new.entries ≡ change_entry tables.old.entries ch (λ t. waiting_in_table t kept)) }
     ensures unique { IsUnique nat_eq tables.old → IsUnique nat_eq tables.new }
 {
     if let Some(table) = tables.get_mut(&ch) {
@@ -174,7 +182,8 @@ pub(crate) fn finish_cut<F: FnMut(&Waiting) -> bool>(
     requires callable { F.IsAlwaysCallable keep }
     requires dues { (t : Table) → get nat_eq tables.old ch ≡ Some t → AllByRecursion (TellsDue t) served.now }
     ensures found { result ≡ is_some (get nat_eq tables.old ch) }
-    ensures written { (kept : List Waiting) × IsFiltered (CalledAt F.FnMut) keep (waiting_of (get nat_eq tables.old ch)) kept × (tables.new.entries ≡ change_entry tables.old.entries ch (λ t. finish_table t served.now kept end ack)) }
+    ensures written { (kept : List Waiting) × IsFiltered (CalledAt F.FnMut) keep (waiting_of (get nat_eq tables.old ch)) kept
+        × (tables.new.entries ≡ change_entry tables.old.entries ch (λ t. finish_table t served.now kept end ack)) }
     ensures unique { IsUnique nat_eq tables.old → IsUnique nat_eq tables.new }
 {
     match tables.get_mut(&ch) {

@@ -135,7 +135,8 @@ impl FlowsBySid {
     /// Sets a flow's next due time. False where the SID has no flow.
     pub(crate) fn note_due(&mut self, sid: u16, due: u64) -> bool
         ensures found { result ≡ is_some (lookup (nat_eq sid) self.old.entries) }
-        ensures written { IfSome (lookup (nat_eq sid) self.old.entries) (λ f. self.new.entries ≡ set_value (nat_eq sid) self.old.entries (with_next_due f due)) }
+        ensures written { IfSome (lookup (nat_eq sid) self.old.entries)
+            (λ f. self.new.entries ≡ set_value (nat_eq sid) self.old.entries (with_next_due f due)) }
         ensures absent { IfNone (lookup (nat_eq sid) self.old.entries) (self.new.entries ≡ self.old.entries) }
         ensures sids { self.new.sids ≡ self.old.sids }
     {

@@ -162,7 +162,8 @@ impl Flows {
     /// changes nothing else. It takes no memory.
     pub fn keep_waiting<F: FnMut(&Waiting) -> bool>(&mut self, ch: u8, keep: F)
         requires { F.IsAlwaysCallable keep }
-        ensures { (kept : List Waiting) × IsFiltered (CalledAt F.FnMut) keep (waiting_of (table_of self.old ch)) kept × (self.new ≡ with_waiting self.old ch kept) }
+        ensures { (kept : List Waiting) × IsFiltered (CalledAt F.FnMut) keep (waiting_of (table_of self.old ch)) kept
+            × (self.new ≡ with_waiting self.old ch kept) }
     {
         at_channel::keep_waiting(&mut self.tables, ch, keep);
     }
@@ -201,7 +202,8 @@ impl Flows {
         requires callable { F.IsAlwaysCallable keep }
         requires dues { (t : Table) → table_of self.old ch ≡ Some t → AllByRecursion (TellsDue t) served.now }
         ensures found { result ≡ is_some (table_of self.old ch) }
-        ensures rows { (kept : List Waiting) × IsFiltered (CalledAt F.FnMut) keep (waiting_of (table_of self.old ch)) kept × (self.new ≡ with_cut_finished self.old ch served.now kept end ack) }
+        ensures rows { (kept : List Waiting) × IsFiltered (CalledAt F.FnMut) keep (waiting_of (table_of self.old ch)) kept
+            × (self.new ≡ with_cut_finished self.old ch served.now kept end ack) }
     {
         at_channel::finish_cut(&mut self.tables, ch, served, keep, end, ack)
     }

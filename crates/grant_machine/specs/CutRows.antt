@@ -25,7 +25,8 @@ due_ones t end fs = filter (was_due t end) fs
 abbrev pub rank_in : Table → Waiting → Ranked
 rank_in t w = record { priority = priority_of t w; last = last_of t w.sid; request = w }
 
--- the rows after a cut: the flows' next due times are set, the requests that are granted are taken out, and then the MAP is closed
+-- the rows after a cut: the flows' next due times are set, the requests that are granted are taken out, and then the
+-- MAP is closed
 abbrev pub rows_closed : Rows → ℕ → List Flow → List Placement → (end ack : ℕ) → Rows
 rows_closed rows ch served ps end ack = with_cut_finished rows ch served (still_waiting ps (waiting_of (table_of rows ch))) end ack
 

@@ -115,7 +115,8 @@ pub record IsDueGrant (kind : FlowKind) (size jitter : ℕ) (g : Grant) (i : ℕ
   pub not_early : due_time kind i ≤ g.start
   pub not_late : g.start ≤ due_time kind i + jitter
 
--- the grants of an unsolicited grant flow under its lease, in order, begin within the jitter of due times whose numbers rise
+-- the grants of an unsolicited grant flow under its lease, in order, begin within the jitter of due times whose numbers
+-- rise
 abbrev pub UnsolicitedGrantsAreDue : Type 0
 UnsolicitedGrantsAreDue =
     (cs : List Command) (k : ℕ) (lease : LeasedSid) (size interval jitter base : ℕ)
@@ -158,7 +159,8 @@ abbrev pub IsUseOf : List Command → Channel → Grant → (iuc : ℕ) → Caus
 IsUseOf cs c g iuc (Sent time) = iuc ≡ grant_iuc c g.size
 IsUseOf cs c g iuc (Window i) = (served : IsOfFlow cs g i) × IsDueUseOf c served.kind g.size iuc
 
--- the grant is told: a MAP's body gives each of its minislots to its SID by one element, of the one use of what it serves on its channel as it was set
+-- the grant is told: a MAP's body gives each of its minislots to its SID by one element, of the one use of what it
+-- serves on its channel as it was set
 pub record IsTold (cs : List Command) (g : Grant) : Type 0 where
   pub place : ℕ
   pub start : ℕ

@@ -22,7 +22,8 @@ pub record IsFilledBy (t : Table) (span : Extent) (f : Draft) : Type 0 where
   pub requests : requests_in f.ranked.items ≡ in_order t t.waiting
   pub lasts : AllByRecursion (IsOfLast (last_of t)) f.ranked.items
 
--- the elements of a filled MAP: those by offset, the Null at its length, then those of the requests that still wait and go on
+-- the elements of a filled MAP: those by offset, the Null at its length, then those of the requests that still wait and
+-- go on
 abbrev pub elements_in : Channel → Draft → List Element
 elements_in c f =
     filter_map (begins_at f.filling.placements) (range_with_len 0 f.filling.span.len)

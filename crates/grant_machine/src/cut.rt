@@ -91,8 +91,10 @@ fn place_all(
     requires lent { AllByRecursion IsLent flows.old }
     requires unicast { AllByRecursion IsUnicast ranked.now }
     ensures span { filling.new.span ≡ filling.old.span }
-    ensures placed { OnOk result ((t : Table) (ack : ℕ) → IsOfTable t (end_of filling.old.span) channel.now flows.old ranked.now → filling.new.placements ≡ (fill_span t filling.old.span ack).placements) }
-    ensures flows { OnOk result ((t : Table) → IsOfTable t (end_of filling.old.span) channel.now flows.old ranked.now → map flow_view flows.new ≡ due_ones t (end_of filling.old.span) (flows_served t filling.old.span)) }
+    ensures placed { OnOk result ((t : Table) (ack : ℕ) → IsOfTable t (end_of filling.old.span) channel.now flows.old ranked.now
+        → filling.new.placements ≡ (fill_span t filling.old.span ack).placements) }
+    ensures flows { OnOk result ((t : Table) → IsOfTable t (end_of filling.old.span) channel.now flows.old ranked.now
+        → map flow_view flows.new ≡ due_ones t (end_of filling.old.span) (flows_served t filling.old.span)) }
     ensures lent { OnOk result (AllByRecursion IsLent flows.new) }
 {
     serve(Service::Grants, channel, filling, flows)?;
@@ -167,7 +169,8 @@ fn make_map(
     requires begun { table.now.row.next_start ≤ start }
     requires good { fill_refusal table.now.row len start ack ≡ None }
     ensures filled { OnOk result (IsFilledBy table.now (record { start = start; len = len }) desk.new.filled) }
-    ensures output { IfOk result (λ output. output ≡ outputs.Map ch start len (layout (head_of table.now.row.channel start ack) (elements_in table.now.row.channel desk.new.filled) 0)) }
+    ensures output { IfOk result (λ output. output
+        ≡ outputs.Map ch start len (layout (head_of table.now.row.channel start ack) (elements_in table.now.row.channel desk.new.filled) 0)) }
 {
     fill(table, &mut desk.filled, &mut desk.by_arrival, start, len)?;
     let slot = Slot::new(start).unwrap();

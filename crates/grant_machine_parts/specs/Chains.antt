@@ -4,7 +4,8 @@ use Rattle.grant_machine_parts.specs.declared.chains.Chains.{Chains}
 use Rattle.grant_machine_parts.specs.declared.chains.TheConstants.{PRIORITIES, MOST_CHAINED}
 use Rattle.grant_machine_parts.specs.Ranks.{Ranked, of_priority}
 
--- the number, from 1, of the first request of a priority from a place on, which has the others of it behind it; 0 where there is none
+-- the number, from 1, of the first request of a priority from a place on, which has the others of it behind it; 0 where
+-- there is none
 abbrev pub Leads : List Ranked → (priority place number : ℕ) → Type 0
 Leads rs priority place number =
     ((number ≡ 0) × (of_priority (drop place rs) priority ≡ []))

@@ -1,4 +1,5 @@
--- How a MAP is filled: unsolicited grants, polls, then requests (CM-SP-MULPIv3.1, upstream scheduling services; this profile's order).
+-- How a MAP is filled: unsolicited grants, polls, then requests (CM-SP-MULPIv3.1, upstream scheduling services; this
+-- profile's order).
 use Rattle.std.specs.Prelude.{ℕ, zero, suc, ◌+◌, ◌-◌, ◌*◌, ◌/◌, ◌==◌, Bool, false, not, ◌&&◌, nat_lt, nat_le, if◌then◌else◌, min, max, List, [], ◌∷◌, ◌++◌, Option, Some, None}
 use Rattle.std.specs.List.{filter, list_any, flat_map}
 use Rattle.minislot_time.specs.Extent.{Extent}
@@ -15,7 +16,8 @@ use Rattle.flow_state.specs.declared.refusal.Refusal.TheVariants.{BadValue}
 use Rattle.flow_state.specs.Limits.{last_time, most_minislots}
 use Rattle.flow_state.specs.Rows.{Table, FlowRow, flow_of, last_of, is_ended, has_ended}
 use Rattle.grant_machine_parts.specs.Placing.{Cause, Window, Sent, Placement, first_fit}
--- what comes at each due time of a flow: minislots of this size and use, from the due time to jitter after it, up to the last one of its lease
+-- what comes at each due time of a flow: minislots of this size and use, from the due time to jitter after it, up to
+-- the last one of its lease
 pub use Rattle.grant_machine_parts.specs.declared.due_times.Periodic.{Periodic}
 
 -- the use of a short grant to a request, and of a long one, on each kind of channel

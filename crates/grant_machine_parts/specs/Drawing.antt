@@ -14,7 +14,8 @@ use Rattle.flow_state.specs.Rows.{Table}
 use Rattle.grant_machine_parts.specs.Placing.{Placement, holder}
 use Rattle.grant_machine_parts.specs.Cutting.{Filled, grant_iuc, in_order}
 
--- the element of a placement; of free minislots, which all modems may use for requests; of the end; of a request that waits
+-- the element of a placement; of free minislots, which all modems may use for requests; of the end; of a request that
+-- waits
 abbrev pub placed_element : Placement → Element
 placed_element p = record { sid = p.sid; iuc = p.iuc; offset = p.offset }
 

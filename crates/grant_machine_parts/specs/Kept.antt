@@ -7,7 +7,8 @@ use Rattle.grant_machine_parts.specs.Placing.{most_placements, is_free}
 use Rattle.grant_machine_parts.specs.Filling.{has_use, AreApart}
 use Rattle.grant_machine_parts.specs.Gaps.{AreGaps}
 
--- the gaps are what no placement holds, sizes, times and uses are within their limits, and placements are apart where it says so
+-- the gaps are what no placement holds, sizes, times and uses are within their limits, and placements are apart where
+-- it says so
 pub record IsKept (a : Inside) : Type 0 where
   pub gaps : AreGaps (is_free a.placements.items) 0 a.len a.gaps.items
   pub short : a.len ≤ most_minislots

@@ -3,7 +3,8 @@ use Rattle.std.specs.Prelude.{ℕ, ◌+◌, Bool, ◌&&◌, if◌then◌else◌,
 use Rattle.std.specs.List.{find, list_all, range_with_len}
 use Rattle.minislot_time.specs.Extent.{Extent}
 use Rattle.grant_machine_parts.specs.declared.placing.TheConstants.{MOST_PLACEMENTS}
--- what a placement serves (the due time of this number, or the request that was sent at this time), and a placement: minislots that are given to a SID, so many from an offset on
+-- what a placement serves (the due time of this number, or the request that was sent at this time), and a placement:
+-- minislots that are given to a SID, so many from an offset on
 pub use Rattle.grant_machine_parts.specs.declared.placing.Cause.{Cause}
 pub use Rattle.grant_machine_parts.specs.declared.placing.Cause.TheVariants.{Window, Sent}
 pub use Rattle.grant_machine_parts.specs.declared.placing.Placement.{Placement}
@@ -23,7 +24,8 @@ is_free ps x = is_none (holder ps x)
 abbrev pub cells : Extent → List Placement → List (Option Placement)
 cells span ps = map (holder ps) (range_with_len 0 span.len)
 
--- n minislots from offset x on are free and end within the MAP and by a last one, and the first of them lies from lo to hi
+-- n minislots from offset x on are free and end within the MAP and by a last one, and the first of them lies from lo to
+-- hi
 abbrev pub fits_at : Extent → List Placement → (n lo hi last x : ℕ) → Bool
 fits_at span ps n lo hi last x =
     nat_le lo (span.start + x) && nat_le (span.start + x) hi && nat_le (span.start + x + n) (last + 1) && nat_le (x + n) span.len
@@ -33,7 +35,8 @@ fits_at span ps n lo hi last x =
 abbrev pub most_placements : ℕ
 most_placements = MOST_PLACEMENTS
 
--- the least offset where n minislots fit that begin from lo to hi and end by the last one; none once there are 60 placements
+-- the least offset where n minislots fit that begin from lo to hi and end by the last one; none once there are 60
+-- placements
 abbrev pub first_fit : Extent → List Placement → (n lo hi last : ℕ) → Option ℕ
 first_fit span ps n lo hi last =
     if nat_lt (length ps) most_placements then find (fits_at span ps n lo hi last) (range_with_len 0 span.len) else None

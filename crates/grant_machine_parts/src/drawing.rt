@@ -166,7 +166,9 @@ fn put_pending(
     ranked: &[Ranked],
 ) -> Result<(), AllocError>
     requires { AllByRecursion IsUnicast ranked.now }
-    ensures { OnOk result (elements.new.items ≡ elements.old.items ++ map (pending_element channel.now filling.now.span.len) (still_waiting filling.now.placements (requests_in (going_on (end_of filling.now.span) ranked.now)))) }
+    ensures { OnOk result (elements.new.items
+        ≡ elements.old.items ++ map (pending_element channel.now filling.now.span.len)
+        (still_waiting filling.now.placements (requests_in (going_on (end_of filling.now.span) ranked.now)))) }
 {
     let placements = filling.placements();
     let grants = Grants::of(placements);
@@ -193,7 +195,10 @@ pub fn draw(
     ranked: &[Ranked],
 ) -> Result<(), AllocError>
     requires { AllByRecursion IsUnicast ranked.now }
-    ensures { OnOk result (elements.new.items ≡ filter_map (begins_at filling.now.placements) (range_with_len 0 filling.now.span.len) ++ null_element filling.now.span.len ∷ map (pending_element channel.now filling.now.span.len) (still_waiting filling.now.placements (requests_in (going_on (end_of filling.now.span) ranked.now)))) }
+    ensures { OnOk result (elements.new.items
+        ≡ filter_map (begins_at filling.now.placements) (range_with_len 0 filling.now.span.len)
+        ++ null_element filling.now.span.len ∷ map (pending_element channel.now filling.now.span.len)
+        (still_waiting filling.now.placements (requests_in (going_on (end_of filling.now.span) ranked.now)))) }
 {
     let len = filling.len();
     elements.clear();

@@ -57,7 +57,8 @@ impl Periodic {
         requires room { length filling.old.placements < most_placements }
         ensures span { filling.new.span ≡ filling.old.span }
         ensures goes { IfOk result (λ goes. goes ≡ goes_on (verdict filling.old.span filling.old.placements self.now i)) }
-        ensures placed { OnOk result (filling.new.placements ≡ placements_on (verdict filling.old.span filling.old.placements self.now i) filling.old.placements self.now i) }
+        ensures placed { OnOk result (filling.new.placements
+            ≡ placements_on (verdict filling.old.span filling.old.placements self.now i) filling.old.placements self.now i) }
     {
         let due = self.due_at(i);
         let last_start = due + u64::from(self.jitter);

@@ -95,7 +95,8 @@ fn is_in_gap(gaps: &[Gap], number: usize, from: u16, to: u16) -> bool
 /// Splits a gap in its place once some of its minislots, from an offset to another, are held.
 fn split(gaps: &mut Vec<Gap>, number: usize, from: u16, to: u16) -> Result<(), AllocError>
     requires { IsInGap gaps.old.items number from to }
-    ensures ok { OnOk result ((g : Gap) → slice_get gaps.old.items number ≡ Some g → gaps.new.items ≡ take number gaps.old.items ++ (carved_gap from to g ++ drop (suc number) gaps.old.items)) }
+    ensures ok { OnOk result ((g : Gap) → slice_get gaps.old.items number ≡ Some g
+        → gaps.new.items ≡ take number gaps.old.items ++ (carved_gap from to g ++ drop (suc number) gaps.old.items)) }
     ensures err { OnErr result (gaps.new.items ≡ gaps.old.items) }
 {
     let gap = gaps[number];
@@ -185,7 +186,8 @@ pub fn first_fit(
     last: u64,
 ) -> Option<usize>
     requires { start + len < 2 ^ 63 }
-    ensures { (ps : List Placement) → AreGaps (is_free ps) 0 len gaps.now → result ≡ find (fits_at (record { start = start; len = len }) ps n lo hi last) (range_with_len 0 len) }
+    ensures { (ps : List Placement) → AreGaps (is_free ps) 0 len gaps.now
+        → result ≡ find (fits_at (record { start = start; len = len }) ps n lo hi last) (range_with_len 0 len) }
 {
     let len = u64::from(len);
     let first = lo.saturating_sub(start).min(len);

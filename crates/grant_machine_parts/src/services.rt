@@ -102,8 +102,12 @@ fn next_due(
 ) -> Result<u64, AllocError>
     requires { IsLent flow.now }
     ensures span { filling.new.span ≡ filling.old.span }
-    ensures placed { OnOk result (filling.new.placements ≡ (run_flow filling.old.span (given service channel.now flow.now.lease.sid flow.now.lease.last flow.now.kind) (due_index flow.now.kind flow.now.due) filling.old.placements).placements) }
-    ensures index { IfOk result (λ due. due_index flow.now.kind due ≡ (run_flow filling.old.span (given service channel.now flow.now.lease.sid flow.now.lease.last flow.now.kind) (due_index flow.now.kind flow.now.due) filling.old.placements).index) }
+    ensures placed { OnOk result (filling.new.placements
+        ≡ (run_flow filling.old.span (given service channel.now flow.now.lease.sid flow.now.lease.last flow.now.kind)
+        (due_index flow.now.kind flow.now.due) filling.old.placements).placements) }
+    ensures index { IfOk result (λ due. due_index flow.now.kind due
+        ≡ (run_flow filling.old.span (given service channel.now flow.now.lease.sid flow.now.lease.last flow.now.kind)
+        (due_index flow.now.kind flow.now.due) filling.old.placements).index) }
     ensures is_due { IfOk result (λ due. due ≡ due_time flow.now.kind (due_index flow.now.kind due)) }
     ensures early { IfOk result (λ due. due ≤ last_due) }
 {
@@ -126,8 +130,10 @@ pub fn serve(
 ) -> Result<(), AllocError>
     requires { AllByRecursion IsLent flows.old }
     ensures span { filling.new.span ≡ filling.old.span }
-    ensures placed { OnOk result (filling.new.placements ≡ (pass filling.old.span (given_to service channel.now) (map flow_view flows.old) filling.old.placements).placements) }
-    ensures flows { OnOk result (map flow_view flows.new ≡ (pass filling.old.span (given_to service channel.now) (map flow_view flows.old) filling.old.placements).flows) }
+    ensures placed { OnOk result (filling.new.placements
+        ≡ (pass filling.old.span (given_to service channel.now) (map flow_view flows.old) filling.old.placements).placements) }
+    ensures flows { OnOk result (map flow_view flows.new
+        ≡ (pass filling.old.span (given_to service channel.now) (map flow_view flows.old) filling.old.placements).flows) }
     ensures lent { OnOk result (AllByRecursion IsLent flows.new) }
 {
     for flow in flows.iter_mut() {

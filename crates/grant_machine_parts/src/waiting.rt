@@ -41,7 +41,8 @@ pub fn place_requests(
 ) -> Result<(), AllocError>
     requires { AllByRecursion IsUnicast ranked.now }
     ensures span { filling.new.span ≡ filling.old.span }
-    ensures placed { OnOk result ((last : ℕ → ℕ) → AllByRecursion (IsOfLast last) ranked.now → filling.new.placements ≡ place_requests filling.old.span channel.now last (requests_in ranked.now) filling.old.placements) }
+    ensures placed { OnOk result ((last : ℕ → ℕ) → AllByRecursion (IsOfLast last) ranked.now
+        → filling.new.placements ≡ place_requests filling.old.span channel.now last (requests_in ranked.now) filling.old.placements) }
 {
     let start = filling.start();
     let end = filling.end();
@@ -66,7 +67,8 @@ fn place_request(
     requires begun { start ≡ filling.old.span.start }
     requires ended { end ≡ end_of filling.old.span }
     ensures span { filling.new.span ≡ filling.old.span }
-    ensures placed { OnOk result ((last : ℕ → ℕ) → IsOfLast last ranked.now → filling.new.placements ≡ place_requests filling.old.span channel.now last (ranked.now.request ∷ []) filling.old.placements) }
+    ensures placed { OnOk result ((last : ℕ → ℕ) → IsOfLast last ranked.now
+        → filling.new.placements ≡ place_requests filling.old.span channel.now last (ranked.now.request ∷ []) filling.old.placements) }
 {
     let request = ranked.request;
     let n = request.n;

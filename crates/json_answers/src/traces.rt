@@ -101,7 +101,8 @@ fn put_trace(
 ) -> Result<(), AllocError>
     requires came { trace.now.came_first + length trace.now.came.now < 2 ^ 64 }
     requires sent { trace.now.sent_first + length trace.now.sent.now < 2 ^ 64 }
-    ensures { OnOk result (members_view map.new.entries ≡ with_trace (trace_of trace.now.came_first trace.now.came.now trace.now.sent_first trace.now.sent.now trace.now.sight)
+    ensures { OnOk result (members_view map.new.entries
+        ≡ with_trace (trace_of trace.now.came_first trace.now.came.now trace.now.sent_first trace.now.sent.now trace.now.sight)
         (members_view map.old.entries)) }
 {
     put_letters(map, alloc, "came", trace.came_first, trace.came)?;

@@ -62,7 +62,10 @@ impl Learner {
         &self.learned
     }
 
-    /// A value is known to be chosen at a place: where that isn't learned, learns it once `write` has written it down in `rows`, and answers what `write` gave. The room comes first: where memory is refused nothing is written. Where the write fails nothing is learned. Where the place is learned its value stays, `write` isn't called, and that takes no memory.
+    /// A value is known to be chosen at a place: where that isn't learned, learns it once `write` has written it down
+    /// in `rows`, and answers what `write` gave. The room comes first: where memory is refused nothing is written.
+    /// Where the write fails nothing is learned. Where the place is learned its value stays, `write` isn't called, and
+    /// that takes no memory.
     pub fn learn_after<W, E, F: FnOnce(&mut W) -> Result<(), E>>(
         &mut self,
         place: u64,
@@ -98,7 +101,9 @@ impl Learner {
         self.learn_after(place, value, &mut (), |_nothing| Ok(()))?
     }
 
-    /// A vote of a node was heard, and counts once for its ballot and value. Where with it a majority of the members has voted so, the value is given back: it is chosen (Lamport, Paxos Made Simple, section 2.3), nothing changed, and the caller learns it.
+    /// A vote of a node was heard, and counts once for its ballot and value. Where with it a majority of the members
+    /// has voted so, the value is given back: it is chosen (Lamport, Paxos Made Simple, section 2.3), nothing changed,
+    /// and the caller learns it.
     pub fn voted(
         &mut self,
         members: Members,

@@ -30,6 +30,7 @@ pub record ReportsAll (l : Letter) : Type 0 where
   pub all : length votes ≡ most_places
   pub values : All (λ row. length row.1.value ≡ longest_value) votes
 
--- three bytes, a ballot, a place and how many votes; and for each place a vote: its place, its ballot, its value's length and bytes
+-- three bytes, a ballot, a place and how many votes; and for each place a vote: its place, its ballot, its value's
+-- length and bytes
 abbrev pub longest_letter : ℕ
 longest_letter = (3 + 3 * 8) + most_places * (3 * 8 + longest_value)

@@ -170,7 +170,8 @@ letter_of bytes = do
   note ← note_at address.0.0 address.1
   if length note.1 == 0 then Ok (record { from = address.0.1; to = address.0.2; note = note.0 }) else Err Trailing
 
--- Memory is taken for values and votes alone, each once it was read. Of so many votes there is a first one, without a fault
+-- Memory is taken for values and votes alone, each once it was read. Of so many votes there is a first one, without a
+-- fault
 abbrev pub HasVote : ℕ → List ℕ → Type 0
 HasVote count bytes = (0 < count) × IsOk (vote_at bytes)
 

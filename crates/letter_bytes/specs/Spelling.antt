@@ -1,5 +1,5 @@
--- Letters as bytes, one spelling a letter (this project's format): a byte for the kind of note, one for the sender, one for the receiver,
--- and the note's fields, numbers in eight bytes, most significant first.
+-- Letters as bytes, one spelling a letter (this project's format): a byte for the kind of note, one for the sender, one
+-- for the receiver, and the note's fields, numbers in eight bytes, most significant first.
 use Rattle.std.specs.Prelude.{◌≡◌, ℕ, ◌<◌, ◌^◌, List, [], ◌∷◌, ◌++◌, length, All}
 use Rattle.std.specs.List.{flat_map}
 use Rattle.std.specs.Int.{w64, to_be_bytes}

@@ -468,7 +468,8 @@ impl<'a> Making<'a> {
 }
 
 /// A script of these wishes, whose nodes are offered these commands in order. What comes of it is to be read off a run
-/// of it: nothing is promised here. The same commands and wishes make the same script. The only fault is want of memory.
+/// of it: nothing is promised here. The same commands and wishes make the same script. The only fault is want of
+/// memory.
 pub fn made_script(
     alloc: Global,
     commands: &[Command],

@@ -1,4 +1,5 @@
--- The intervals of a MAP, its length, and the elements after its Null (CM-SP-MULPIv3.1, MAP message: an interval ends where the next element begins).
+-- The intervals of a MAP, its length, and the elements after its Null (CM-SP-MULPIv3.1, MAP message: an interval ends
+-- where the next element begins).
 use Rattle.std.specs.Prelude.{ℕ, Bool, ◌==◌, cond, if◌then◌else◌, List, [], ◌∷◌, Option, Some, None}
 use Rattle.map_body.specs.declared.element.Element.{Element}
 use Rattle.map_body.specs.declared.interval.Interval.{Interval}

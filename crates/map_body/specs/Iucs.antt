@@ -43,7 +43,8 @@ lets_transmit iuc =
     (iuc == short_data_grant) || (iuc == long_data_grant)
     || (iuc == advanced_short_data_grant) || (iuc == advanced_long_data_grant) || (iuc == advanced_unsolicited_grant)
 
--- an element of the SID answers a request that waits: granted before the Null, pending after it; no unsolicited grant does
+-- an element of the SID answers a request that waits: granted before the Null, pending after it; no unsolicited grant
+-- does
 abbrev pub answers_request : ℕ → Bool
 answers_request iuc =
     (iuc == short_data_grant) || (iuc == long_data_grant)

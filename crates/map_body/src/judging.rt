@@ -75,7 +75,8 @@ fn look_at_all(count: u8, bytes: &[u8]) -> Seen
 // The offset of the Null of so many elements, or their first fault.
 fn judge_elements(count: u8, bytes: &[u8]) -> Result<Offset, MapFault>
     requires { length bytes.now ≡ 4 * count }
-    ensures { (es : List Element) × AreLaid bytes.now count es × MatchResult result (λ len. AreElements es × (null_offset es ≡ Some len)) (λ fault. FirstElementFault es fault) }
+    ensures { (es : List Element) × AreLaid bytes.now count es
+        × MatchResult result (λ len. AreElements es × (null_offset es ≡ Some len)) (λ fault. FirstElementFault es fault) }
 {
     let seen = look_at_all(count, bytes);
     if let Some(fault) = seen.fault {

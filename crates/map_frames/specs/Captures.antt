@@ -14,7 +14,8 @@ unfoldable pub record_of : ℕ → List ℕ → List ℕ
 record_of seconds frame =
     to_le_bytes w32 seconds ++ (0 ∷ 0 ∷ 0 ∷ 0 ∷ []) ++ to_le_bytes w32 (length frame) ++ to_le_bytes w32 (length frame) ++ frame
 
--- the frames of bodies one after another: the first one's time is this many seconds, of which 32 bits are kept, and each next one's a second later
+-- the frames of bodies one after another: the first one's time is this many seconds, of which 32 bits are kept, and
+-- each next one's a second later
 abbrev pub records_from : ℕ → List (List ℕ) → List ℕ
 records_from seconds [] = []
 records_from seconds (body ∷ bodies) = record_of (seconds % 2 ^ 32) (frame_of body) ++ records_from (seconds + 1) bodies

@@ -21,7 +21,8 @@ unfoldable pub below : ℕ → List ℕ → List Bool
 below zero powers = []
 below (suc n) powers = list_any (λ k. k == n) powers ∷ below n powers
 
--- what so many steps of long division leave of a dividend, where the divisor's first coefficient is 1 and these follow it
+-- what so many steps of long division leave of a dividend, where the divisor's first coefficient is 1 and these follow
+-- it
 unfoldable pub left_of : List Bool → ℕ → List Bool → List Bool
 left_of divisor zero ds = ds
 left_of divisor (suc m) [] = []

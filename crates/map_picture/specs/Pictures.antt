@@ -137,7 +137,8 @@ channels_drawn ds ts = each (length (channels_of ds)) (channel_at ds ts (channel
 abbrev pub layers : List Deed → List Sent → (legend : Xml) → Drawn
 layers ds ts legend = record { rules = Nothing; bands = channels_drawn ds ts; arrows = Nothing; marks = Nothing; labels = legend }
 
--- a text is a picture of deeds and of what modems transmitted, in whatever order: in some size, with some title, style, definitions and legend
+-- a text is a picture of deeds and of what modems transmitted, in whatever order: in some size, with some title, style,
+-- definitions and legend
 pub record IsPictureOf (ds : List Deed) (ts : List Sent) (text : List ℕ) : Type 0 where
   pub drawn : List Sent
   pub same : IsPermutation ts drawn

@@ -1,5 +1,5 @@
-//! The MAPs of commands as a picture: for each channel a row an owner, a row a request, and a row a MAP with a wedge for
-//! each transmission in it.
+//! The MAPs of commands as a picture: for each channel a row an owner, a row a request, and a row a MAP with a wedge
+//! for each transmission in it.
 #![tactic(auto)]
 
 mod asked;

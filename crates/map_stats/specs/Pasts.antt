@@ -9,8 +9,9 @@ use Rattle.map_stats.specs.declared.reach.Term.{Term}
 use Rattle.map_stats.specs.declared.windows.Windows.{Windows}
 use Rattle.map_stats.specs.Windows.{windows_of, windows_past, windows_missed}
 
--- its lease, its windows while it has some, the request that waits, how many were accepted, the delay of each that was granted, from
--- its sending to its grant's start; the starts of other grants since the windows began; the windows that passed, and those missed, before
+-- its lease, its windows while it has some, the request that waits, how many were accepted, the delay of each that was
+-- granted, from its sending to its grant's start; the starts of other grants since the windows began; the windows that
+-- passed, and those missed, before
 pub record Past : Type 0 where
   pub term : Option Term
   pub windows : Option Windows

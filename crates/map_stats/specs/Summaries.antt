@@ -12,8 +12,8 @@ use Rattle.map_stats.specs.declared.summary.Why.{Why}
 use Rattle.map_stats.specs.declared.summary.Why.TheVariants.{LeaseEnds, NoMap, NoGap, Placements}
 use Rattle.map_stats.specs.Pasts.{Past, settled}
 
--- why a request of a lease waits: it fits no later MAP within the lease; no MAP came; the last one left no gap so long; else it left
--- one, so that it had as many placements as a MAP may have
+-- why a request of a lease waits: it fits no later MAP within the lease; no MAP came; the last one left no gap so long;
+-- else it left one, so that it had as many placements as a MAP may have
 abbrev pub why_in : Reach → Term → Ask → Why
 why_in r t a =
     if nat_lt (t.last + 1) (r.end + a.n) then LeaseEnds

@@ -219,8 +219,8 @@ impl Flows {
         }
     }
 
-    /// Adds a command and its output. Where there is no memory, or a number would pass 2^64 - 1, it is OutOfMemory. Bytes
-    /// of a MAP that are no body have their first fault.
+    /// Adds a command and its output. Where there is no memory, or a number would pass 2^64 - 1, it is OutOfMemory.
+    /// Bytes of a MAP that are no body have their first fault.
     pub fn add(&mut self, alloc: Global, command: &Command, output: &Output) -> Result<(), MapFault>
         ensures fault { IfErr result (AddingFault output.now) }
         ensures held { OnOk result ((cs : List Command) (os : List Output) → length cs ≡ length os → HoldsFlows cs os self.old

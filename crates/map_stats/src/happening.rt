@@ -9,7 +9,8 @@ use map_body::{Interval, Sid};
 /// What happens to the flow of a SID, or to its channel.
 #[derive(Clone, Copy, Debug, PartialEq, Eq)]
 pub enum Happening {
-    /// A flow of this kind is added under a lease, from its first minislot to its last one, or this lease is told again.
+    /// A flow of this kind is added under a lease, from its first minislot to its last one, or this lease is told
+    /// again.
     Leased {
         first: u64,
         last: u64,

@@ -6,8 +6,8 @@ use map_body::{Interval, MapFault, Sid, decode};
 use std::alloc::{AllocError, Global};
 use std::collections::BTreeMap;
 
-/// What the MAPs of outputs give, by key: of MAPs the channel, of intervals the channel and the use, and of those of one
-/// SID the channel, the SID and the use.
+/// What the MAPs of outputs give, by key: of MAPs the channel, of intervals the channel and the use, and of those of
+/// one SID the channel, the SID and the use.
 #[derive(Drop)]
 pub struct Stats {
     pub maps: Tallies,
@@ -80,8 +80,8 @@ impl Stats {
         Ok(())
     }
 
-    /// Adds the MAP of an output, if it is one. Bytes that are no body have their first fault. Where there is no memory, or
-    /// a number would pass 2^64 - 1, it is OutOfMemory.
+    /// Adds the MAP of an output, if it is one. Bytes that are no body have their first fault. Where there is no
+    /// memory, or a number would pass 2^64 - 1, it is OutOfMemory.
     pub fn add(&mut self, alloc: Global, output: &Output) -> Result<(), MapFault>
         ensures held { OnOk result ((os : List Output) → Holds os self.old → Holds (os ++ output.now ∷ []) self.new) }
         ensures fault { IfErr result (AddingFault output.now) }

@@ -34,7 +34,8 @@ fn more(tally: Option<Tally>, minislots: u16) -> Option<Tally>
     Some(Tally { count, minislots })
 }
 
-/// Adds one of so many minislots under a key. Where there is no memory, or a number would pass 2^64 - 1, nothing changes.
+/// Adds one of so many minislots under a key. Where there is no memory, or a number would pass 2^64 - 1, nothing
+/// changes.
 pub(crate) fn add(tallies: &mut Tallies, key: u32, minislots: u16) -> Result<(), AllocError>
     ensures { OnOk result ((q : ℕ) → get nat_cmp tallies.new q ≡ tally_step q (get nat_cmp tallies.old q) (key, minislots)) }
 {

@@ -39,8 +39,8 @@ IsDeedOf c (outputs.Assigned modem ch sid first last) d = d ≡ flow_deed c mode
 IsDeedOf c (outputs.Map ch start len bytes) d = (body : Body) × IsBody bytes body × IsTrue (follow 0 (intervals body.elements) len) × (d ≡ deeds.Map ch start len body)
 IsDeedOf c (outputs.Refused number) d = d ≡ deeds.Other
 
--- why there is no body of so many minislots: the first fault of bytes that are none; a body that leaves a minislot out is OutOfOrder 0;
--- and of bytes that are a body nothing else but want of memory
+-- why there is no body of so many minislots: the first fault of bytes that are none; a body that leaves a minislot out
+-- is OutOfOrder 0; and of bytes that are a body nothing else but want of memory
 abbrev pub BodyFault : ℕ → List ℕ → MapFault → Type 0
 BodyFault len bytes (OutOfOrder i) =
     FirstFault bytes (OutOfOrder i) ⊎ ((i ≡ 0) × (body : Body) × IsBody bytes body × ¬ IsTrue (follow 0 (intervals body.elements) len))

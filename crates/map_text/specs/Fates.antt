@@ -12,7 +12,8 @@ use Rattle.map_text.specs.declared.fates.Seen.{Seen}
 use Rattle.map_text.specs.declared.fates.Seen.TheVariants.{Nothing, Waits, Granted, Dropped}
 use Rattle.map_text.specs.Seen.{waits_in, granted_in, why_waits}
 
--- what a MAP of the request's channel does with it where no element tells it to wait: it grants it, or its lease has ended
+-- what a MAP of the request's channel does with it where no element tells it to wait: it grants it, or its lease has
+-- ended
 abbrev pub answered_by : Option ℕ → ℕ → Seen
 answered_by (Some offset) start = Granted (start + offset)
 answered_by None start = Dropped
@@ -31,7 +32,8 @@ seen_by r (deeds.Flow ch sid modem first last kind) = Nothing
 seen_by r (deeds.Request ch sid n sent) = Nothing
 seen_by r deeds.Other = Nothing
 
--- its fate: by the first deed that ends its waiting; and what the last MAP before that told it. So many MAPs of its channel came before
+-- its fate: by the first deed that ends its waiting; and what the last MAP before that told it. So many MAPs of its
+-- channel came before
 abbrev pub fate_from : Request → (maps : ℕ) → Option Told → List Deed → Ended
 fate_from r maps told [] = record { fate = fates.Waits; told = told }
 fate_from r maps told (d ∷ ds) =

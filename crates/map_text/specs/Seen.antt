@@ -39,7 +39,8 @@ abbrev pub longest_free : List Interval → ℕ
 longest_free [] = 0
 longest_free (i ∷ is) = max (free_of i) (longest_free is)
 
--- why a request for n minislots waits: as much is placed as may be; a gap is long enough, so that its lease ends first; no gap is left; or none is longer than this
+-- why a request for n minislots waits: as much is placed as may be; a gap is long enough, so that its lease ends first;
+-- no gap is left; or none is longer than this
 abbrev pub why_waits : List Interval → ℕ → Why
 why_waits is n =
     if nat_le most_placements (placed_in is) then Full

@@ -149,8 +149,8 @@ fn deed_told(alloc: Global, command: &Command, output: &Output) -> Result<Deed, 
     }
 }
 
-/// What a command with this output did. Bytes that are no body have their first fault; a body that leaves one of the MAP's
-/// minislots out is OutOfOrder 0; where there is a deed, nothing but want of memory is an error.
+/// What a command with this output did. Bytes that are no body have their first fault; a body that leaves one of the
+/// MAP's minislots out is OutOfOrder 0; where there is a deed, nothing but want of memory is an error.
 pub fn deed_of(alloc: Global, command: &Command, output: &Output) -> Result<Deed, MapFault>
     ensures deed { IfOk result (IsDeedOf command.now output.now) }
     ensures fault { IfErr result (IsDeedFault output.now) }

@@ -34,7 +34,8 @@ pub record KeepsHeld (old new : State) : Type 0 where
   pub grants : (ch m sid iuc : ℕ) → clock_of new.channels ch ≤ m → HasAt new.grants ch m sid iuc ↔ HasAt old.grants ch m sid iuc
   pub open_to_all : (ch m : ℕ) → clock_of new.channels ch ≤ m → HasAt new.open_to_all ch m everybody iucs.request ↔ HasAt old.open_to_all ch m everybody iucs.request
 
--- the map, heard too late, moves the clock of its channel, which wants of ended leases don't outlast, and old leases don't; nothing else changes
+-- the map, heard too late, moves the clock of its channel, which wants of ended leases don't outlast, and old leases
+-- don't; nothing else changes
 pub record Passes (old : State) (c : Channel) (near : ℕ) (new : State) : Type 0 where
   pub id : new.id ≡ old.id
   pub channels : new.channels ≡ with_channel (record c { clock = max c.clock near }) old.channels
@@ -47,7 +48,8 @@ abbrev pub IsAckTime : ℕ → ℕ → Option ℕ → Type 0
 IsAckTime wire start None = (t : ℕ) → ¬ IsNear wire start t
 IsAckTime wire start (Some t) = IsNear wire start t
 
--- the map is taken: what it gives the modem's SIDs where their leases cover it and what it opens to all is held from then on, its back-offs are the channel's, it decides wants, and those of ended leases go, as do old leases
+-- the map is taken: what it gives the modem's SIDs where their leases cover it and what it opens to all is held from
+-- then on, its back-offs are the channel's, it decides wants, and those of ended leases go, as do old leases
 pub record Takes (old : State) (c : Channel) (near : ℕ) (map : Body) (start : ℕ) (new : State) : Type 0 where
   pub id : new.id ≡ old.id
   pub channels : new.channels ≡ with_channel (record c { clock = max c.clock near; backoff = map.head.data_backoff }) old.channels
@@ -60,7 +62,8 @@ pub record Takes (old : State) (c : Channel) (near : ℕ) (map : Body) (start : 
 abbrev pub IsDue : State → List ℕ → ℕ → Type 0
 IsDue old bytes near = (map : Body) × (start : ℕ) × («end» : ℕ) × Reads bytes near map start «end» × (c : Channel) × (channel_of old.channels map.head.channel ≡ Some c) × (c.ucd ≡ map.head.ucd) × (max c.clock near < «end»)
 
--- what hearing an output near a time may take memory for: a channel that isn't known, a recent lease that is new to it, a map that is to be taken
+-- what hearing an output near a time may take memory for: a channel that isn't known, a recent lease that is new to it,
+-- a map that is to be taken
 abbrev pub MayGrow : State → Output → ℕ → Type 0
 MayGrow old Nothing near = ⊥
 MayGrow old (Refused _) near = ⊥

@@ -67,7 +67,8 @@ abbrev pub WasLeasedFrom : ℕ → List Hearing → ℕ → ℕ → ℕ → Type
 WasLeasedFrom id [] ch sid m = ⊥
 WasLeasedFrom id (h ∷ earlier) ch sid m = LeasesFrom id h.output ch sid m ⊎ WasLeasedFrom id earlier ch sid m
 
--- some map that the modem heard as Taken gives the SID minislot m, and a lease that it had heard before covers it; the newest hearing first
+-- some map that the modem heard as Taken gives the SID minislot m, and a lease that it had heard before covers it; the
+-- newest hearing first
 abbrev pub HeldBy : ℕ → List Hearing → ℕ → ℕ → ℕ → ℕ → Type 0
 HeldBy id [] ch m sid iuc = ⊥
 HeldBy id (h ∷ earlier) ch m sid iuc = ((h.answer ≡ Taken) × Gives h.output h.near ch m sid iuc × WasLeased id earlier ch sid m) ⊎ HeldBy id earlier ch m sid iuc
@@ -80,7 +81,8 @@ Held id hearings ch m sid = (iuc : ℕ) × HeldBy id hearings ch m sid iuc
 abbrev pub IsLate : State → ℕ → ℕ → Type 0
 IsLate v ch m = clock_of v.channels ch < m + 2 ^ 14
 
--- a modem in this state may have heard just this, the newest first: but for what is long past its leases cover what was leased to it and go on as long, and from its clock on what it holds is exactly what was held
+-- a modem in this state may have heard just this, the newest first: but for what is long past its leases cover what was
+-- leased to it and go on as long, and from its clock on what it holds is exactly what was held
 pub record HasHeard (v : State) (hearings : List Hearing) : Type 0 where
   pub leases : (ch sid m : ℕ) → IsLate v ch m → (is_own_at v.leases ch sid m ≡ true) ↔ WasLeased v.id hearings ch sid m
   pub lasts : (ch sid m : ℕ) → IsLate v ch m → (is_own_from v.leases ch sid m ≡ true) ↔ WasLeasedFrom v.id hearings ch sid m

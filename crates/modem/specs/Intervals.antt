@@ -29,7 +29,8 @@ is_acknowledged ch (Some ack) w (Sent «at») = (w.channel == ch) && nat_lt «at
 abbrev pub lost : Want → Option Want
 lost w = if nat_le 16 (w.tries + 1) then None else Some (record w { tries = w.tries + 1; progress = Unsent None })
 
--- what a map of this start makes of a want whose SID is the modem's where it starts: granted it is gone, pending it stays, else it is lost
+-- what a map of this start makes of a want whose SID is the modem's where it starts: granted it is gone, pending it
+-- stays, else it is lost
 abbrev pub decided : List OwnLease → Body → ℕ → Option ℕ → Want → Option Want
 decided leases map start ack w =
     if is_acknowledged map.head.channel ack w w.progress && is_own_at leases map.head.channel w.sid start

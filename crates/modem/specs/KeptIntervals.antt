@@ -63,7 +63,8 @@ pub record ArePast (ch m count : ℕ) (ks : List KeptInterval) : Type 0 where
   pub bound : count ≤ length ks
   pub past : AllWithin (λ k. is_past ch m k ≡ true) ks 0 count
 
--- a window splits intervals in order: those that are past, others that stand at or before a minislot, and those that stand behind it
+-- a window splits intervals in order: those that are past, others that stand at or before a minislot, and those that
+-- stand behind it
 pub record IsWindow (ch m : ℕ) (ks : List KeptInterval) (w : Window) : Type 0 where
   pub past : ArePast ch m w.past ks
   pub order : w.past ≤ w.begun

@@ -31,7 +31,8 @@ IsPartOf v c slot w random sending wants =
     × TakesPart v.wants slot sending after w (backoff_number c w random w.progress)
     × (wants ≡ lasting v.leases c.id (slot + 1) after)
 
--- what a tick at a minislot does: it uses a grant that is kept, sends a request at a poll, has a want take part where all may request, or lets a want go
+-- what a tick at a minislot does: it uses a grant that is kept, sends a request at a poll, has a want take part where
+-- all may request, or lets a want go
 abbrev pub Acts : State → KnownChannel → ℕ → Action → Type 0
 Acts v c slot (Grant sid iuc first last) =
     (iucs.lets_transmit iuc ≡ true)
@@ -64,7 +65,8 @@ pub record IsNext (v : State) (c : KnownChannel) (from slot : ℕ) (action : Act
 abbrev pub ticked : KnownChannel → ℕ → KnownChannel
 ticked c slot = record c { clock = slot + 1 }
 
--- a tick at each of n minislots from m on, whatever numbers are drawn: what they answer, and how they leave the modem and the channel
+-- a tick at each of n minislots from m on, whatever numbers are drawn: what they answer, and how they leave the modem
+-- and the channel
 abbrev pub Runs : ℕ → State → KnownChannel → ℕ → List (Option Sending) → State → KnownChannel → Type 0
 Runs zero v c m answers w d = (answers ≡ []) × (w ≡ v) × (d ≡ c)
 Runs (suc n) v c m answers w d =
@@ -83,7 +85,8 @@ pub record QuietRun (n : ℕ) (v : State) (c : KnownChannel) (ch m : ℕ) (answe
   pub quiet : AreQuiet v c m (m + n)
   pub runs : Runs n v c m answers w d
 
--- from a minislot on, each tick of the one modem is a tick of the other, with the same answer and leaving the same modem
+-- from a minislot on, each tick of the one modem is a tick of the other, with the same answer and leaving the same
+-- modem
 abbrev pub TickAlike : State → KnownChannel → State → KnownChannel → ℕ → Type 0
 TickAlike v c w d from =
     (slot random : ℕ) (sending : Option Sending) (new : State) → from ≤ slot → Ticks w d slot random sending new ↔ Ticks v c slot random sending new

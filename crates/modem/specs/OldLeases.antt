@@ -19,7 +19,8 @@ DecideAlike ch clock some other =
     (bytes : List ℕ) (near : ℕ) (map : Body) (start «end» : ℕ) (ack : Option ℕ) (w : Want)
     → Reads bytes near map start «end» → map.head.channel ≡ ch → clock < «end» → decided some map start ack w ≡ decided other map start ack w
 
--- from a clock of the channel on, a modem with either keeps the same of maps, takes the same requests, has the same wants take part, keeps the same wants, and decides them alike
+-- from a clock of the channel on, a modem with either keeps the same of maps, takes the same requests, has the same
+-- wants take part, keeps the same wants, and decides them alike
 pub record ServeAlike (ch clock : ℕ) (some other : List OwnLease) : Type 0 where
   pub keeps : (sid m : ℕ) → clock ≤ m → is_own_at some ch sid m ≡ is_own_at other ch sid m
   pub takes : (sid m : ℕ) → clock ≤ m → is_own_from some ch sid m ≡ is_own_from other ch sid m

@@ -25,7 +25,8 @@ pub record IsSeen (n : ℕ) (grants opens : List Kept) (ch m : ℕ) (counted : O
   pub shared : (is_open ≡ true) ↔ HasAt opens ch m everybody iucs.request
   pub few : IsFew n ch m grants opens
 
--- a sight is what there is at each minislot from its first one on and before its end, few intervals are old after those before another end, and so many of the first are past at its first one
+-- a sight is what there is at each minislot from its first one on and before its end, few intervals are old after those
+-- before another end, and so many of the first are past at its first one
 pub record Holds (n : ℕ) (grants opens : List KeptInterval) (s : Sight) : Type 0 where
   pub seen : (m : ℕ) → s.from ≤ m → m < s.until → IsSeen n (map kept_interval grants) (map kept_interval opens) s.channel m s.counted s.is_open
   pub few : (m : ℕ) → m < s.few_until → IsFew n s.channel m (map kept_interval grants) (map kept_interval opens)

@@ -26,7 +26,8 @@ pub(crate) struct HeardMap {
 }
 
 fn extended(outline: Outline, near: Slot) -> Option<HeardMap>
-    ensures found { IfSome result (λ heard. (heard.head ≡ outline.head) × IsNear outline.head.start near heard.start × (heard.stop ≡ heard.start + outline.len) × (heard.stop < 2 ^ 63)) }
+    ensures found { IfSome result (λ heard. (heard.head ≡ outline.head) × IsNear outline.head.start near heard.start
+        × (heard.stop ≡ heard.start + outline.len) × (heard.stop < 2 ^ 63)) }
     ensures none { IfNone result ((start : ℕ) → IsNear outline.head.start near start → 2 ^ 63 ≤ start + outline.len) }
 {
     let Outline { head, len } = outline;

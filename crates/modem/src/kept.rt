@@ -127,8 +127,8 @@ fn known_past(kept: &[KeptInterval], ch: u8, at: u64, past: usize) -> usize
 }
 
 /// Where a look at a minislot finds its intervals, if so many of the first are known to be past. It costs those that
-/// became past since, and those that begin by then and aren't past; where none is known to be, it costs what begins less
-/// than 2^14 minislots before, and the logarithm of what is kept.
+/// became past since, and those that begin by then and aren't past; where none is known to be, it costs what begins
+/// less than 2^14 minislots before, and the logarithm of what is kept.
 pub(crate) fn window_at(kept: &[KeptInterval], ch: u8, at: u64, past: usize) -> Window
     requires kept { AreKept kept.now }
     requires past { ArePast ch at past kept.now }
@@ -337,8 +337,8 @@ fn old_behind(interval: KeptInterval, ch: u8) -> u64
     }
 }
 
-/// Up to which minislot few of the channel's intervals are old: that at which one more than a channel's share of half of
-/// what is kept is. It costs the logarithm of what is kept.
+/// Up to which minislot few of the channel's intervals are old: that at which one more than a channel's share of half
+/// of what is kept is. It costs the logarithm of what is kept.
 pub(crate) fn few_until(kept: &[KeptInterval], ch: u8, channels: usize) -> u64
     requires { AreKept kept.now }
     ensures { (m : ℕ) → m < result → FewOld channels ch (m + 1) (map kept_interval kept.now) }
@@ -384,7 +384,8 @@ fn add(kept: &mut Vec<KeptInterval>, interval: KeptInterval)
     requires room { vec_len kept.old < vec_capacity kept.old }
     ensures kept { AreKept kept.new.items }
     ensures held { (ch m sid iuc : ℕ)
-        → HasAt (map kept_interval kept.new.items) ch m sid iuc ↔ (HasAt (map kept_interval kept.old.items) ch m sid iuc ⊎ IsAt (kept_interval interval) ch m sid iuc) }
+        → HasAt (map kept_interval kept.new.items) ch m sid iuc
+        ↔ (HasAt (map kept_interval kept.old.items) ch m sid iuc ⊎ IsAt (kept_interval interval) ch m sid iuc) }
     ensures more { vec_len kept.new ≤ vec_len kept.old + 1 }
     ensures room { vec_capacity kept.old ≤ vec_capacity kept.new }
 {
@@ -405,7 +406,8 @@ pub(crate) fn add_all(kept: &mut Vec<KeptInterval>, intervals: &[KeptInterval])
     requires room { vec_len kept.old + length intervals.now ≤ vec_capacity kept.old }
     ensures kept { AreKept kept.new.items }
     ensures held { (at_ch m sid iuc : ℕ)
-        → HasAt (map kept_interval kept.new.items) at_ch m sid iuc ↔ (HasAt (map kept_interval kept.old.items) at_ch m sid iuc ⊎ HasAt (map kept_interval intervals.now) at_ch m sid iuc) }
+        → HasAt (map kept_interval kept.new.items) at_ch m sid iuc
+        ↔ (HasAt (map kept_interval kept.old.items) at_ch m sid iuc ⊎ HasAt (map kept_interval intervals.now) at_ch m sid iuc) }
 {
     for interval in intervals {
         add(kept, *interval);
@@ -522,7 +524,8 @@ fn start_in(interval: KeptInterval, ch: u8) -> Option<u64>
     }
 }
 
-// The start of the first interval of a channel that begins after a minislot: what stands behind those that begin by then.
+// The start of the first interval of a channel that begins after a minislot: what stands behind those that begin by
+// then.
 fn next_start(kept: &[KeptInterval], ch: u8, at: u64, begun: usize) -> Option<u64>
     requires kept { AreKept kept.now }
     requires begun { AreBefore (place ch at + 1) begun kept.now }

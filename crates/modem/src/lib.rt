@@ -1,4 +1,5 @@
-//! A cable modem's part in upstream bandwidth allocation: it hears MAPs, keeps what they give it, and says what it sends at each minislot.
+//! A cable modem's part in upstream bandwidth allocation: it hears MAPs, keeps what they give it, and says what it
+//! sends at each minislot.
 #![tactic(auto)]
 
 mod action;

@@ -61,7 +61,14 @@ impl Model for Modem {
 
     ghost Value = { State };
 
-    ghost view = { λ m. record { id = m.id; channels = m.channels.items; leases = m.leases.items; grants = map kept_interval m.grants.items; open_to_all = map kept_interval m.open_to_all.items; wants = m.wants.items } };
+    ghost view = { λ m. record {
+      id = m.id;
+      channels = m.channels.items;
+      leases = m.leases.items;
+      grants = map kept_interval m.grants.items;
+      open_to_all = map kept_interval m.open_to_all.items;
+      wants = m.wants.items;
+    } };
 
     ghost invariant = { λ m. AreKept m.grants.items × AreKept m.open_to_all.items
         × AreSights (length m.channels.items) m.grants.items m.open_to_all.items m.sights.items
@@ -115,8 +122,8 @@ impl Modem {
         self.wants.as_slice()
     }
 
-    /// The leases that the modem keeps, of all channels. One that ended 2^14 minislots or more before its channel's clock
-    /// goes as the modem hears a lease of its own, or a MAP of the channel that is Taken or Past.
+    /// The leases that the modem keeps, of all channels. One that ended 2^14 minislots or more before its channel's
+    /// clock goes as the modem hears a lease of its own, or a MAP of the channel that is Taken or Past.
     pub fn leases(&self) -> &[OwnLease]
         ensures { result.now ≡ self.now.leases }
     {
@@ -128,7 +135,8 @@ impl Modem {
     pub fn want(&mut self, ch: u8, sid: u16, n: u16) -> Result<(), WantFault>
         ensures ok { OnOk result ((want_refusal self.old ch sid n ≡ None) × (self.new ≡ record self.old { wants = self.old.wants ++ new_want ch sid n ∷ [] })) }
         ensures declined { IfSome (want_refusal self.old ch sid n) (λ fault. result ≡ Err fault) }
-        ensures err { IfErr result (λ e. (self.new ≡ self.old) × ((want_refusal self.old ch sid n ≡ Some e) ⊎ ((want_refusal self.old ch sid n ≡ None) × (e ≡ WantFault.OutOfMemory)))) }
+        ensures err { IfErr result (λ e. (self.new ≡ self.old)
+            × ((want_refusal self.old ch sid n ≡ Some e) ⊎ ((want_refusal self.old ch sid n ≡ None) × (e ≡ WantFault.OutOfMemory)))) }
         ensures stands { (hearings : List Hearing) → HasHeard self.old hearings → HasHeard self.new hearings }
     {
         if !self.is_own_now(ch, sid) {
@@ -171,9 +179,11 @@ impl Modem {
     pub fn tick(&mut self, ch: u8, slot: Slot, random: u64) -> Result<Option<Sending>, TimeBack>
         ensures unknown { channel_of self.old.channels ch ≡ None → (result ≡ Ok None) × (self.new ≡ self.old) }
         ensures back { IfSome (channel_of self.old.channels ch) (λ c. slot < channel_clock c → IsErr result × (self.new ≡ self.old)) }
-        ensures ticks { IfSome (channel_of self.old.channels ch) (λ c. channel_clock c ≤ slot → IsOkAnd result (λ sending. Ticks self.old c slot random sending self.new)) }
+        ensures ticks { IfSome (channel_of self.old.channels ch)
+            (λ c. channel_clock c ≤ slot → IsOkAnd result (λ sending. Ticks self.old c slot random sending self.new)) }
         ensures lets_go { IfSome (channel_of self.old.channels ch) (λ c. channel_clock c ≤ slot → HasFewOld self.new ch) }
-        ensures held { IfOk result (λ sending. (hearings : List Hearing) (sid : ℕ) → HasHeard self.old hearings → unicast_sid sending ≡ Some sid → Held self.old.id hearings ch slot sid) }
+        ensures held { IfOk result (λ sending. (hearings : List Hearing) (sid : ℕ) → HasHeard self.old hearings → unicast_sid sending ≡ Some sid
+            → Held self.old.id hearings ch slot sid) }
         ensures stands { (hearings : List Hearing) → HasHeard self.old hearings → HasHeard self.new hearings }
     {
         let Some(channel) = channels::find(self.channels.as_slice(), ch) else {
@@ -203,14 +213,15 @@ impl Modem {
 
     /// Hears an output near a time. Of a Map only the bytes are looked at. It takes memory only for a channel
     /// that wasn't known, for a new lease of its own, and for a map that is taken; every other answer is given
-    /// however little there is. It costs the map's elements times the modem's SIDs and wants, and for each element that is
-    /// kept the logarithm of what is kept, whatever was heard before.
+    /// however little there is. It costs the map's elements times the modem's SIDs and wants, and for each element that
+    /// is kept the logarithm of what is kept, whatever was heard before.
     pub fn hear(&mut self, output: &Output, near: Slot) -> Result<Heard, AllocError>
         ensures ok { IfOk result (λ answer. Hears self.old output.now near answer self.new) }
         ensures err { OnErr result (self.new ≡ self.old) }
         ensures memory { IsErr result → MayGrow self.old output.now near }
         ensures lets_go { IfOk result (λ answer. LetsGo output.now answer self.new) }
-        ensures stands { IfOk result (λ answer. (hearings : List Hearing) → HasHeard self.old hearings → HasHeard self.new (record { output = output.now; near = near; answer = answer } ∷ hearings)) }
+        ensures stands { IfOk result (λ answer. (hearings : List Hearing) → HasHeard self.old hearings
+            → HasHeard self.new (record { output = output.now; near = near; answer = answer } ∷ hearings)) }
     {
         match output {
             Output::Nothing => Ok(Heard::NotMine),
@@ -241,7 +252,8 @@ impl Modem {
     }
 
     fn hear_channel(&mut self, ch: u8, ucd: u8) -> Result<Heard, AllocError>
-        ensures ok { IfOk result (λ answer. (answer ≡ Heard.Taken) × (self.new ≡ record self.old { channels = with_ucd self.old.channels ch ucd (channel_of self.old.channels ch) })) }
+        ensures ok { IfOk result (λ answer. (answer ≡ Heard.Taken)
+            × (self.new ≡ record self.old { channels = with_ucd self.old.channels ch ucd (channel_of self.old.channels ch) })) }
         ensures err { OnErr result (self.new ≡ self.old) }
         ensures memory { IsErr result → channel_of self.old.channels ch ≡ None }
     {
@@ -265,7 +277,9 @@ impl Modem {
     }
 
     fn hear_assigned(&mut self, modem: u32, lease: OwnLease) -> Result<Heard, AllocError>
-        ensures ok { IfOk result (λ answer. MatchBool (modem == self.old.id) ((answer ≡ Heard.Taken) × (self.new ≡ record self.old { leases = leases_heard self.old lease })) ((answer ≡ Heard.NotMine) × (self.new ≡ self.old))) }
+        ensures ok { IfOk result (λ answer. MatchBool (modem == self.old.id)
+            ((answer ≡ Heard.Taken) × (self.new ≡ record self.old { leases = leases_heard self.old lease }))
+            ((answer ≡ Heard.NotMine) × (self.new ≡ self.old))) }
         ensures err { OnErr result (self.new ≡ self.old) }
         ensures memory { IsErr result → (modem ≡ self.old.id) × (has_lease self.old.leases lease ≡ false)
             × (is_recent lease.channel (clock_of self.old.channels lease.channel) lease ≡ true) }
@@ -286,7 +300,8 @@ impl Modem {
         ensures err { OnErr result (self.new ≡ self.old) }
         ensures memory { IsErr result → IsDue self.old bytes.now near }
         ensures lets_go { IfOk result (λ answer. LetsGoAfter bytes.now answer self.new) }
-        ensures stands { IfOk result (λ answer. (hearings : List Hearing) (ch start len : ℕ) → HasHeard self.old hearings → HasHeard self.new (record { output = Output.Map ch start len bytes.now; near = near; answer = answer } ∷ hearings)) }
+        ensures stands { IfOk result (λ answer. (hearings : List Hearing) (ch start len : ℕ) → HasHeard self.old hearings
+            → HasHeard self.new (record { output = Output.Map ch start len bytes.now; near = near; answer = answer } ∷ hearings)) }
     {
         let Some(heard) = intervals::heard_near(bytes, near) else {
             return Ok(Heard::Unreadable);
@@ -310,7 +325,8 @@ impl Modem {
         ensures err { OnErr result (self.new ≡ self.old) }
         ensures memory { IsErr result → (bytes : List ℕ) → IsBody bytes map.now → IsDue self.old bytes near }
         ensures lets_go { IfOk result (λ answer. (answer ≡ Heard.Taken) ⊎ (answer ≡ Heard.Past) → HasNoOld self.new map.now.head.channel) }
-        ensures stands { IfOk result (λ answer. (hearings : List Hearing) (ch start len : ℕ) (bytes : List ℕ) → IsBody bytes map.now → HasHeard self.old hearings → HasHeard self.new (record { output = Output.Map ch start len bytes; near = near; answer = answer } ∷ hearings)) }
+        ensures stands { IfOk result (λ answer. (hearings : List Hearing) (ch start len : ℕ) (bytes : List ℕ) → IsBody bytes map.now
+            → HasHeard self.old hearings → HasHeard self.new (record { output = Output.Map ch start len bytes; near = near; answer = answer } ∷ hearings)) }
     {
         let Some(heard) = intervals::body_near(map, near) else {
             return Ok(Heard::Unreadable);
@@ -519,14 +535,16 @@ impl Modem {
     // A want that goes after a minislot.
     fn lease_end_at(&self, ch: u8, at: u64) -> Option<Action>
         requires { at < 2 ^ 63 }
-        ensures some { IfSome result (λ a. (sid : ℕ) × (a ≡ Action.LeaseEnd sid) × (list_any (is_want ch sid) self.now.wants ≡ true) × (is_own_from self.now.leases ch sid (at + 1) ≡ false)) }
+        ensures some { IfSome result (λ a. (sid : ℕ) × (a ≡ Action.LeaseEnd sid) × (list_any (is_want ch sid) self.now.wants ≡ true)
+            × (is_own_from self.now.leases ch sid (at + 1) ≡ false)) }
         ensures none { IfNone result (lasting self.now.leases ch (at + 1) self.now.wants ≡ self.now.wants) }
     {
         let sid = wants::first_over(self.wants.as_slice(), self.leases.as_slice(), ch, at + 1)?;
         Some(Action::LeaseEnd { sid })
     }
 
-    // The next minislot at which an interval that is open to all begins or is over. Where no want is unsent none counts.
+    // The next minislot at which an interval that is open to all begins or is over. Where no want is unsent none
+    // counts.
     fn next_open_edge(&self, ch: u8, at: u64, near: Windows) -> Option<u64>
         requires { AreWindows ch at self.now near }
         ensures after { IfSome result (λ n. at < n) }

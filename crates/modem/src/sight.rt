@@ -226,9 +226,9 @@ fn renewed(
     }
 }
 
-/// What counts at a minislot of a channel, and whether it is open to all. Where the channel's sight holds there it costs
-/// only the channels, else also what became past since the last look; and what a first look at the intervals costs where
-/// no sight holds, or many intervals are old.
+/// What counts at a minislot of a channel, and whether it is open to all. Where the channel's sight holds there it
+/// costs only the channels, else also what became past since the last look; and what a first look at the intervals
+/// costs where no sight holds, or many intervals are old.
 pub(crate) fn look(
     sights: &mut Vec<Sight>,
     grants: &mut Vec<KeptInterval>,

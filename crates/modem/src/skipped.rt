@@ -9,6 +9,8 @@ ghost use Rattle.modem.specs.NextEvent.{QuietRun, TickAlike};
 /// Ticks one after another at quiet minislots answer nothing, and the next tick answers and leaves the modem as if they
 /// hadn't been.
 pub fn quiet_ticks()
-    ensures silent { (v w : State) (c d : KnownChannel) (ch m n : ℕ) (answers : List (Option Sending)) → QuietRun n v c ch m answers w d → All (λ s. s ≡ None) answers }
-    ensures left_out { (v w : State) (c d : KnownChannel) (ch m n : ℕ) (answers : List (Option Sending)) → QuietRun n v c ch m answers w d → TickAlike v c w d (m + n) }
+    ensures silent { (v w : State) (c d : KnownChannel) (ch m n : ℕ) (answers : List (Option Sending)) → QuietRun n v c ch m answers w d
+        → All (λ s. s ≡ None) answers }
+    ensures left_out { (v w : State) (c d : KnownChannel) (ch m n : ℕ) (answers : List (Option Sending)) → QuietRun n v c ch m answers w d
+        → TickAlike v c w d (m + n) }
 {}

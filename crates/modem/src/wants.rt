@@ -134,7 +134,8 @@ fn put(wants: &mut [Want], want: Want, progress: Progress)
     set(wants, Want { progress, ..want });
 }
 
-/// A minislot of a channel at which a modem is asked: the number that is drawn there, and whether all may request in it.
+/// A minislot of a channel at which a modem is asked: the number that is drawn there, and whether all may request in
+/// it.
 #[derive(Clone, Copy)]
 pub(crate) struct Turn {
     pub channel: Channel,

@@ -34,7 +34,8 @@ called_by addressees (event.Release k now) = Some k
 called_by addressees (event.Crash k) = Some k
 called_by addressees other = None
 
--- an event lets no count fall. Where a store's fault is answered, the count of the node that it called rose, and else none did
+-- an event lets no count fall. Where a store's fault is answered, the count of the node that it called rose, and else
+-- none did
 pub record CountNext (old : Counts) (event : Event) (answer : Answer) (new : Counts) : Type 0 where
   pub letters : (i n : ℕ) → slice_get old.addressees i ≡ Some n → slice_get new.addressees i ≡ Some n
   pub grow : (k before : ℕ) → slice_get old.failures k ≡ Some before → (after : ℕ) × (slice_get new.failures k ≡ Some after) × (before ≤ after)

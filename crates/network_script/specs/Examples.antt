@@ -51,13 +51,15 @@ LearnedOutlivesCrash =
     (runs 3 (one_leader ++ Crash 1 ∷ Restart 1 ∷ Release 1 0 ∷ [])).1.outputs
     ≡ given 0 1 (ChannelSet 1 7) ∷ given 0 2 (Map 1 1000 1 map_one) ∷ given 1 1 (ChannelSet 1 7) ∷ given 1 2 (Map 1 1000 1 map_one) ∷ given 1 1 (ChannelSet 1 7) ∷ given 1 2 (Map 1 1000 1 map_one) ∷ []
 
--- five nodes: a leader's one Accept has reached node 1 as it crashes. A takeover that hears of node 1 proposes that value
+-- five nodes: a leader's one Accept has reached node 1 as it crashes. A takeover that hears of node 1 proposes that
+-- value
 abbrev pub TakesOver : Type 0
 TakesOver =
     answers 5 (Lead 0 ∷ Deliver 0 ∷ Deliver 1 ∷ Deliver 2 ∷ Deliver 5 ∷ Deliver 6 ∷ Deliver 7 ∷ Offer 0 (7 ∷ []) ∷ Deliver 9 ∷ Crash 0 ∷ Lead 2 ∷ Deliver 19 ∷ Deliver 20 ∷ Deliver 21 ∷ Deliver 23 ∷ Deliver 24 ∷ Deliver 25 ∷ [])
     ≡ Sent 5 ∷ Sent 1 ∷ Sent 1 ∷ Sent 1 ∷ Sent 0 ∷ Sent 0 ∷ Sent 0 ∷ Sent 5 ∷ Sent 5 ∷ Finished ∷ Sent 5 ∷ Sent 1 ∷ Sent 1 ∷ Sent 1 ∷ Sent 0 ∷ Sent 0 ∷ Sent 5 ∷ []
 
--- one that doesn't proposes nothing, and then what is offered. The old Accept is answered by Higher, which the restarted leader heeds as it leads, and by node 1 with its vote again
+-- one that doesn't proposes nothing, and then what is offered. The old Accept is answered by Higher, which the
+-- restarted leader heeds as it leads, and by node 1 with its vote again
 abbrev pub TakesOverAfresh : Type 0
 TakesOverAfresh =
     answers 5 (Lead 0 ∷ Deliver 0 ∷ Deliver 1 ∷ Deliver 2 ∷ Deliver 5 ∷ Deliver 6 ∷ Deliver 7 ∷ Offer 0 (7 ∷ []) ∷ Deliver 9 ∷ Crash 0 ∷ Lead 2 ∷ Deliver 20 ∷ Deliver 21 ∷ Deliver 22 ∷ Deliver 23 ∷ Deliver 24 ∷ Deliver 25

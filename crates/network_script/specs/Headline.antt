@@ -97,7 +97,8 @@ CoversOnce members ids w c =
 
 -- ---- the one owner
 
--- modem j, whose id this is, holds minislot m of a channel by a SID: a MAP that it heard as Taken gives the SID that minislot, and the SID was its own
+-- modem j, whose id this is, holds minislot m of a channel by a SID: a MAP that it heard as Taken gives the SID that
+-- minislot, and the SID was its own
 pub record HoldsAt (ids : List ℕ) (w : Written) (j id ch m sid : ℕ) : Type 0 where
   pub receiver : Receiver
   pub named : slice_get ids j ≡ Some id
@@ -153,7 +154,8 @@ pub record FollowsOneSchedule (members : ℕ) (ids : List ℕ) (w : Written) (c 
   pub sent : SentIsHeld members ids w
   pub by_owner : SentByOwner members ids w c
 
--- For every script of deliveries, losses, repeats, reorderings, takeovers, crashes and restarts: no log place has two chosen values, every released MAP is the one
--- that the chosen values give its minislots, and every unicast transmission is made by the one owner of its minislot.
+-- For every script of deliveries, losses, repeats, reorderings, takeovers, crashes and restarts: no log place has two
+-- chosen values, every released MAP is the one that the chosen values give its minislots, and every unicast
+-- transmission is made by the one owner of its minislot.
 abbrev pub Headline : Type 0
 Headline = OfEveryRun (λ members ids w. (c : List (List ℕ)) × FollowsOneSchedule members ids w c)

@@ -1,4 +1,5 @@
--- What is seen of a world without its nodes' content, and what each event does to it. It holds whether or not records are honest.
+-- What is seen of a world without its nodes' content, and what each event does to it. It holds whether or not records
+-- are honest.
 use Rattle.std.specs.Prelude.{◌≡◌, ℕ, List, ◌++◌, Option, Some, None, length, map, slice_get, slice_set}
 use Rattle.ballots.specs.declared.letters.Letter.{Letter}
 use Rattle.map_release.specs.declared.numbered.Numbered.{Numbered}
@@ -47,7 +48,8 @@ outward world modems = record {
 abbrev pub Still : Outward → Answer → Answer → Outward → Type 0
 Still o told answer o' = (answer ≡ told) × (o' ≡ o)
 
--- node k, if there is one, is asked so: it answers as a node that is seen so may, and what it sends and releases is added
+-- node k, if there is one, is asked so: it answers as a node that is seen so may, and what it sends and releases is
+-- added
 abbrev pub SeenOfNode : Outward → ℕ → Option Outside → Ask → Answer → Outward → Type 0
 SeenOfNode o k None ask answer o' = Still o (Refused NoNode) answer o'
 SeenOfNode o k (Some was) ask answer o' =

@@ -56,7 +56,8 @@ written world nodes modems history = record {
   history = history;
 }
 
--- a world stands for each written world whose nodes stand as its nodes may, and whose modems may be its modems, whatever the history
+-- a world stands for each written world whose nodes stand as its nodes may, and whose modems may be its modems,
+-- whatever the history
 abbrev pub StandsFor : {N : Type 0} {g : Ghosts N} → World N g → Written → Type 0
 StandsFor world w = (w ≡ written world w.nodes w.modems w.history) × AreStandings (seats_of world) w.nodes × Hold (receivers_of world) w.modems
 

@@ -12,7 +12,8 @@ pub fn votes_legal()
     ensures learned { OfEveryRun LearnedIsChosen }
 {}
 
-/// What a node that is up has learned is, at any time of a run, what its learned rows hold: a restart gives all of it back and nothing else.
+/// What a node that is up has learned is, at any time of a run, what its learned rows hold: a restart gives all of it
+/// back and nothing else.
 pub fn learned_is_kept()
     ensures { OfEveryRun LearnedIsWritten }
 {}
@@ -28,9 +29,9 @@ pub fn one_schedule()
     ensures covers { OfEveryRun (WithSchedule CoversOnce) }
 {}
 
-/// The modems are known by their ids. What a modem holds, it owns by the outputs of the chosen values, and a minislot has one owner at
-/// most, so modems of two ids hold no minislot both. Each unicast transmission is at a minislot that its modem holds, and so is made by its one
-/// owner.
+/// The modems are known by their ids. What a modem holds, it owns by the outputs of the chosen values, and a minislot
+/// has one owner at most, so modems of two ids hold no minislot both. Each unicast transmission is at a minislot that
+/// its modem holds, and so is made by its one owner.
 pub fn one_owner()
     ensures named { OfEveryRun ModemsAreNamed }
     ensures held { OfEveryRun (WithSchedule HeldIsOwned) }

@@ -89,7 +89,8 @@ fn seated<N: Node>(alloc: Global, nodes: Vec<N>) -> Result<Vec<Seat<N>>, AllocEr
     Ok(seats)
 }
 
-/// A world: its nodes, by number, every letter that was ever sent, what the nodes released, and its modems with what they sent.
+/// A world: its nodes, by number, every letter that was ever sent, what the nodes released, and its modems with what
+/// they sent.
 #[derive(Drop)]
 pub struct World<N: Node> {
     seats: Vec<Seat<N>>,
@@ -114,7 +115,8 @@ impl<N: Node> World<N> {
         requires modems { AreNew modems.items }
         ensures seated { IfOk result (λ world. AreSeated nodes.items (seats_of world)) }
         ensures opens { IfOk result (λ world. AreHonest world → StandsFor world (opening (length nodes.items) (map (λ modem. modem.id) modems.items))) }
-        ensures nothing { IfOk result (λ world. (letters_of world ≡ []) × (outputs_of world ≡ []) × (transmissions_of world ≡ []) × Hold (receivers_of world) (new_receivers modems.items)) }
+        ensures nothing { IfOk result (λ world. (letters_of world ≡ []) × (outputs_of world ≡ []) × (transmissions_of world ≡ [])
+            × Hold (receivers_of world) (new_receivers modems.items)) }
     {
         let seats = seated(alloc, nodes)?;
         Ok(World {

@@ -16,7 +16,8 @@ use Rattle.proposer.specs.declared.fault.NodeFault.{NodeFault as Fault}
 use Rattle.proposer.specs.declared.fault.NodeFault.TheVariants.{OutOfMemory, StoreRefused, Down}
 use Rattle.node.specs.Step.{Outcome, receive, offer, tell, Leads}
 
--- a node by its number, the number of members, how often its store failed, whether that is broken, and whether the node waits for a restart
+-- a node by its number, the number of members, how often its store failed, whether that is broken, and whether the node
+-- waits for a restart
 pub record Who : Type 0 where
   pub id : ℕ
   pub members : ℕ
@@ -43,7 +44,8 @@ abbrev pub answer : Result (Vec Letter Global) Fault → Result (List Letter) Fa
 answer (Ok letters) = Ok letters.items
 answer (Err fault) = Err fault
 
--- a call of a running node ends so. Want of memory and a store that refused change nothing, a broken store leaves the node down, the one write of the call there or not, and any other fault is the case's
+-- a call of a running node ends so. Want of memory and a store that refused change nothing, a broken store leaves the
+-- node down, the one write of the call there or not, and any other fault is the case's
 abbrev pub CallEnds : (Result Outcome Fault → Type 0) → View → Result (List Letter) Fault → Standing → Type 0
 CallEnds IsCourse view (Ok letters) new = (o : Outcome) × IsCourse (Ok o) × (letters ≡ o.letters) × (new ≡ Running o.view)
 CallEnds IsCourse view (Err OutOfMemory) new = new ≡ Running view
@@ -56,7 +58,8 @@ abbrev pub Called : ℕ → ℕ → Standing → Cause → Result (List Letter) 
 Called members me (Running view) cause result new = CallEnds (Course members me view cause) view result new
 Called members me (Stopped c doubt) cause result new = (result ≡ Err Down) × (new ≡ Stopped c doubt)
 
--- a letter from node n says nothing new to a node with this role and these learned values: a higher ballot, a promise that isn't counted, or a value at a place that is learned
+-- a letter from node n says nothing new to a node with this role and these learned values: a higher ballot, a promise
+-- that isn't counted, or a value at a place that is learned
 abbrev pub IsNothingNew : Role → List (ℕ × List ℕ) → ℕ → Note → Type 0
 IsNothingNew role learned n (Higher b) = Unit {0}
 IsNothingNew role learned n (Promise b q votes) = is_counted role b q n ≡ false
@@ -112,7 +115,8 @@ StoreFailed old new = HasRisen old.failures new.failures
 abbrev pub StoreServed : Who → Who → Type 0
 StoreServed old new = (new.failures ≡ old.failures) × (new.broken ≡ old.broken)
 
--- StoreRefused comes exactly where the store failed and isn't broken, Down where it is broken now or where the node was down, and anything else where it didn't fail
+-- StoreRefused comes exactly where the store failed and isn't broken, Down where it is broken now or where the node was
+-- down, and anything else where it didn't fail
 abbrev pub TellsStore : {T : Type 0} → Who → Result T Fault → Who → Type 0
 TellsStore old (Err StoreRefused) new = StoreFailed old new × (new.broken ≡ false)
 TellsStore old (Err Down) new = (StoreFailed old new × (new.broken ≡ true)) ⊎ ((old.down ≡ true) × StoreServed old new)
@@ -122,7 +126,8 @@ TellsStore old other new = StoreServed old new
 abbrev pub MayBeMended : Who → Who → Type 0
 MayBeMended old new = (new.broken ≡ false) ⊎ (new.broken ≡ old.broken)
 
--- the same of a restart, which mends a broken store where it is Ok, and may have mended it where it failed as it read what was learned
+-- the same of a restart, which mends a broken store where it is Ok, and may have mended it where it failed as it read
+-- what was learned
 abbrev pub TellsStoreOfRestart : {T : Type 0} → Who → Result T Fault → Who → Type 0
 TellsStoreOfRestart old (Ok _) new = (new.failures ≡ old.failures) × (new.broken ≡ false)
 TellsStoreOfRestart old (Err StoreRefused) new = StoreFailed old new × MayBeMended old new

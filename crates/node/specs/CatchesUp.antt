@@ -19,7 +19,8 @@ AreOfLog rows = (p : ℕ) (v : List ℕ) → IsIn rows (p, v) → (is_place p �
 abbrev pub Agree : List (ℕ × List ℕ) → List (ℕ × List ℕ) → Type 0
 Agree rows others = (p : ℕ) (v w : List ℕ) → IsIn rows (p, v) → IsIn others (p, w) → v ≡ w
 
--- node n takes all letters by which node me tells it what it has learned from place q on: then each value that was told is learned there
+-- node n takes all letters by which node me tells it what it has learned from place q on: then each value that was told
+-- is learned there
 abbrev pub CatchesUp : Type 0
 CatchesUp =
     (members me n q : ℕ) (learned : List (ℕ × List ℕ)) (view : View) → me < members → n < members

@@ -19,7 +19,8 @@ outputs (Err fault) = Err fault
 abbrev pub released_all : View → View
 released_all view = record view { cursor = length (gapless view) }
 
--- a running node releases the outputs of its gapless values behind the cursor, without the MAPs that have ended, and one that is down answers so
+-- a running node releases the outputs of its gapless values behind the cursor, without the MAPs that have ended, and
+-- one that is down answers so
 abbrev pub Releases : Standing → (now : ℕ) → Result (List Numbered) Fault → Standing → Type 0
 Releases (Running view) now (Ok numbered) new = (numbered ≡ released now view.cursor (outputs_of_values (gapless view))) × (new ≡ Running (released_all view))
 Releases (Running view) now (Err fault) new = StoreFails view fault new

@@ -27,7 +27,8 @@ rest_of n = view_over n no_content
 abbrev pub who_of : {R : Type 0} → (R → ℕ) → (R → Bool) → Parts R → Who
 who_of count_of is_broken n = record { id = n.proposer.id; members = member_count n.proposer.members; failures = count_of n.records; broken = is_broken n.records; down = n.is_down }
 
--- a node that is up stands for its view over what its records hold, and one that is down for contents of which they hold one
+-- a node that is up stands for its view over what its records hold, and one that is down for contents of which they
+-- hold one
 abbrev pub Stands : {R : Type 0} → (R → Content → Type 0) → Parts R → Standing → Type 0
 Stands may_find n (Running view) = (n.is_down ≡ false) × (view ≡ view_over n view.content) × Holds (may_find n.records) view.content
 Stands may_find n (Stopped c doubt) = (n.is_down ≡ true) × HoldsEither (may_find n.records) c (after_write c doubt)

@@ -44,7 +44,8 @@ is_place p = nat_lt 0 p && nat_le p most_places
 abbrev pub is_value : List ℕ → Bool
 is_value v = nat_le (length v) longest_value
 
--- votes by ascending place, one a place, none before the place, none above the last place or with too long a value, each of a ballot below b
+-- votes by ascending place, one a place, none before the place, none above the last place or with too long a value,
+-- each of a ballot below b
 abbrev pub are_votes : ℕ → ℕ → List (ℕ × Cast) → Bool
 are_votes b place [] = true
 are_votes b place (vote ∷ votes) = nat_le place vote.0 && is_place vote.0 && is_value vote.1.value && nat_lt vote.1.ballot b && are_votes b (vote.0 + 1) votes

@@ -22,7 +22,8 @@ made c = record { content = c; role = Idle; hint = 0; tally = no_tally; cursor =
 abbrev pub started : Content → View
 started c = record (made c) { tally = record { counted = []; learned = c.learned } }
 
--- where a node stands: it runs, or it has its content alone and perhaps a write of which nobody knows whether it was made
+-- where a node stands: it runs, or it has its content alone and perhaps a write of which nobody knows whether it was
+-- made
 pub data Standing : Type 0 where
   Running : View → Standing
   Stopped : Content → (doubt : Option Write) → Standing

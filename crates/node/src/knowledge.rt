@@ -28,8 +28,8 @@ use proposer::NodeFault;
 use std::alloc::{AllocError, Global};
 use std::marker::Model;
 
-/// What a node counted and learned, the log to which it applies that, how far it released, and of how many places from the
-/// first on it told that they are learned.
+/// What a node counted and learned, the log to which it applies that, how far it released, and of how many places from
+/// the first on it told that they are learned.
 #[derive(Drop)]
 pub(crate) struct Knowledge {
     learner: Learner,
@@ -49,7 +49,8 @@ impl Model for Knowledge {
     ghost invariant = { IsKept };
 }
 
-/// Applies the learned values that follow those of the log without a gap, each looked up once, and tells how many are applied.
+/// Applies the learned values that follow those of the log without a gap, each looked up once, and tells how many are
+/// applied.
 fn apply(log: &mut Log, learned: &Table<Bytes>) -> Result<u64, AllocError>
     requires rows { AreRows 1 learned.now.entries }
     requires part { IsPart log.old.learned learned.now.entries }
@@ -104,7 +105,9 @@ impl Knowledge {
         alloc: Global,
         records: &mut R,
     ) -> Result<Knowledge, RecordsFault>
-        ensures value { IsTrue (R.is_honest records.new) → IfOk result (λ k. (c : Content) → Holds (R.may_find records.old) c → k ≡ record { tally = record { counted = []; learned = c.learned }; cursor = 0 }) }
+        ensures value { IsTrue (R.is_honest records.new)
+            → IfOk result (λ k. (c : Content) → Holds (R.may_find records.old) c
+            → k ≡ record { tally = record { counted = []; learned = c.learned }; cursor = 0 }) }
         ensures kept { IsTrue (R.is_honest records.new) → Keeps result (R.may_find records.old) (R.may_find records.new) }
         ensures trust { KeepsTrust R.is_honest R.is_clean records.old records.new }
         ensures count { CountsFaults result (R.count_of records.old) (R.count_of records.new) }
@@ -146,8 +149,8 @@ impl Knowledge {
         self.learner.values()
     }
 
-    /// How many places from the first on are learned without a gap, as far as the last place. Those that it told of before
-    /// aren't looked at again.
+    /// How many places from the first on are learned without a gap, as far as the last place. Those that it told of
+    /// before aren't looked at again.
     pub(crate) fn prefix_len(&mut self) -> u64
         ensures same { self.new ≡ self.old }
         ensures below { result < most_places → result ≡ length (values_from 1 self.old.tally.learned) }
@@ -170,8 +173,10 @@ impl Knowledge {
         ensures unchanged { OnErr result (self.new ≡ self.old) }
         ensures stops { IfErr result IsStop }
         ensures ok { IsTrue (R.is_honest records.new) → OnOk result (HasMade (R.may_find records.old) (R.may_find records.new) (Learns place value.now)) }
-        ensures harmless { IsTrue (R.is_honest records.new) → IfErr result (λ fault. IsHarmlessStop fault → FindsSame (R.may_find records.old) (R.may_find records.new)) }
-        ensures doubt { IsTrue (R.is_honest records.new) → OnErr result (MayHaveMade (R.may_find records.old) (R.may_find records.new) (Learns place value.now)) }
+        ensures harmless { IsTrue (R.is_honest records.new)
+            → IfErr result (λ fault. IsHarmlessStop fault → FindsSame (R.may_find records.old) (R.may_find records.new)) }
+        ensures doubt { IsTrue (R.is_honest records.new)
+            → OnErr result (MayHaveMade (R.may_find records.old) (R.may_find records.new) (Learns place value.now)) }
         ensures trust { KeepsTrust R.is_honest R.is_clean records.old records.new }
         ensures count { CountsStops result (R.count_of records.old) (R.count_of records.new) }
         ensures broken { BreaksByStop result (R.is_broken records.old) (R.is_broken records.new) }
@@ -194,17 +199,20 @@ impl Knowledge {
         value: Bytes,
         from: NodeId,
     ) -> Result<Option<Bytes>, AllocError>
-        ensures taught { IfOk result (λ taught. is_some taught ≡ teaches (member_count members) self.old.tally (at self.old.tally.learned place) ballot place value from) }
+        ensures taught { IfOk result (λ taught. is_some taught
+            ≡ teaches (member_count members) self.old.tally (at self.old.tally.learned place) ballot place value from) }
         ensures value { IfOk result (λ taught. OnSome taught (taught ≡ Some value)) }
         ensures unchanged { IfOk result (λ taught. OnSome taught (self.new ≡ self.old)) }
-        ensures counted { IfOk result (λ taught. taught ≡ None → self.new ≡ record self.old { tally = counts self.old.tally (at self.old.tally.learned place) ballot place value from }) }
+        ensures counted { IfOk result (λ taught. taught ≡ None
+            → self.new ≡ record self.old { tally = counts self.old.tally (at self.old.tally.learned place) ballot place value from }) }
         ensures err { OnErr result (self.new ≡ self.old) }
     {
         self.learner
             .voted(members, ballot, place.number(), value, from)
     }
 
-    /// The outputs of the gapless values behind the cursor, without the MAPs that end at `now` (in minislots) or before.
+    /// The outputs of the gapless values behind the cursor, without the MAPs that end at `now` (in minislots) or
+    /// before.
     pub(crate) fn release(&mut self, alloc: Global, now: u64) -> Result<Vec<Numbered>, AllocError>
         ensures released { IfOk result (λ outputs. outputs.items ≡ released now self.old.cursor (outputs_of_values (values_from 1 self.old.tally.learned))) }
         ensures ok { OnOk result (self.new ≡ record self.old { cursor = length (values_from 1 self.old.tally.learned) }) }

@@ -60,7 +60,8 @@ pub(crate) fn known_letters(
     Ok(letters)
 }
 
-/// How many places from the first on are learned without a gap, as far as the last place. So many are, and aren't looked at.
+/// How many places from the first on are learned without a gap, as far as the last place. So many are, and aren't
+/// looked at.
 pub(crate) fn prefix_len(learned: &Table<Bytes>, known: u64) -> u64
     requires rows { AreRows 1 learned.now.entries }
     requires known { AreLearned learned.now.entries known }

@@ -74,19 +74,22 @@ pub trait Node: Drop {
         ensures values { (view : View) → stands self.now (Running view) → view.tally.learned ≡ values self.now }
         ensures rest_values { values self.now ≡ (rest self.now).tally.learned };
 
-    /// A letter comes. One that isn't from a member to this one, or says what no member may say, is passed over, without memory and whatever the records do. One that says nothing new takes no memory either.
+    /// A letter comes. One that isn't from a member to this one, or says what no member may say, is passed over,
+    /// without memory and whatever the records do. One that says nothing new takes no memory either.
     fn receive(&mut self, letter: &Letter) -> Result<Vec<Letter>, NodeFault>
         ensures trust { KeepsTrust honest clean self.old self.new }
         ensures err { OnErr result (rest self.new ≡ rest self.old) }
         ensures kept { Kept (who self.old) result (who self.new) }
         ensures down { (who self.old).down ≡ true → result ≡ Err NodeFault.Down }
         ensures tells { IfErr result IsStop }
-        ensures passed_over { (who self.old).down ≡ false → is_heeded (who self.old).members (who self.old).id letter.now ≡ false → IsOkAnd result (λ letters. letters.items ≡ []) }
+        ensures passed_over { (who self.old).down ≡ false → is_heeded (who self.old).members (who self.old).id letter.now ≡ false
+            → IsOkAnd result (λ letters. letters.items ≡ []) }
         ensures no_memory { (who self.old).down ≡ false → IsNothingNew (role self.old) (values self.old) letter.now.from letter.now.note → IsOk result }
         ensures done { IsTrue (honest self.new) → (s : Standing) → stands self.old s
             → (t : Standing) × Called (who self.old).members (who self.old).id s (Receive letter.now) (answer result) t × stands self.new t };
 
-    /// The node is asked to lead. LogFull comes exactly where the places learned without a gap fill the log, and where it heard of its last ballot it reads no records.
+    /// The node is asked to lead. LogFull comes exactly where the places learned without a gap fill the log, and where
+    /// it heard of its last ballot it reads no records.
     fn lead(&mut self) -> Result<Vec<Letter>, NodeFault>
         ensures trust { KeepsTrust honest clean self.old self.new }
         ensures err { OnErr result (rest self.new ≡ rest self.old) }
@@ -117,7 +120,8 @@ pub trait Node: Drop {
             → StopsLast (who self.old).members (who self.old).id view (Offer value.now) (answer result) }
         ensures turn { (who self.old).down ≡ false → TakesTurn (offer (who self.old).members (who self.old).id (role self.old) value.now) (answer result) };
 
-    /// Tells a node what it has learned, of the first 64 learned places from one on, as it does first where a Prepare comes. Who is no member is told nothing. Nothing changes, and to tell nothing takes no memory.
+    /// Tells a node what it has learned, of the first 64 learned places from one on, as it does first where a Prepare
+    /// comes. Who is no member is told nothing. Nothing changes, and to tell nothing takes no memory.
     fn tell(&self, to: NodeId, place: u64) -> Result<Vec<Letter>, NodeFault>
         ensures kept { Kept (who self.now) result (who self.now) }
         ensures down { (who self.now).down ≡ true → result ≡ Err NodeFault.Down }
@@ -126,7 +130,8 @@ pub trait Node: Drop {
         ensures no_memory { (who self.now).down ≡ false → letters_told (who self.now).members (who self.now).id (values self.now) to place ≡ [] → IsOk result }
         ensures done { (s : Standing) → stands self.now s → Called (who self.now).members (who self.now).id s (Tell to place) (answer result) s };
 
-    /// The outputs of its gapless learned values behind those that it released before, in order, without the MAPs that end at `now` (in minislots) or before.
+    /// The outputs of its gapless learned values behind those that it released before, in order, without the MAPs that
+    /// end at `now` (in minislots) or before.
     fn release(&mut self, now: u64) -> Result<Vec<Numbered>, NodeFault>
         ensures trust { KeepsTrust honest clean self.old self.new }
         ensures err { OnErr result (rest self.new ≡ rest self.old) }

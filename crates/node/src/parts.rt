@@ -62,7 +62,8 @@ fn is_nothing(used: u64, votes: &[(u64, Cast)], learned: &[(Place, Value)]) -> b
 
 /// Whether records hold nothing.
 fn hold_nothing<R: Records>(records: &mut R) -> Result<bool, RecordsFault>
-    ensures value { IsTrue (R.is_honest records.new) → IfOk result (λ empty. (c : Content) → Holds (R.may_find records.old) c → IsTrue empty ↔ (c ≡ no_content)) }
+    ensures value { IsTrue (R.is_honest records.new)
+        → IfOk result (λ empty. (c : Content) → Holds (R.may_find records.old) c → IsTrue empty ↔ (c ≡ no_content)) }
     ensures kept { IsTrue (R.is_honest records.new) → Keeps result (R.may_find records.old) (R.may_find records.new) }
     ensures trust { KeepsTrust R.is_honest R.is_clean records.old records.new }
     ensures account { Accounts R.count_of R.is_broken records.old result records.new }
@@ -154,7 +155,8 @@ impl<R: Records> Parts<R> {
         ensures kept { Kept (who_of R.count_of R.is_broken self.old) result (who_of R.count_of R.is_broken self.new) }
         ensures tells { IfErr result IsStop }
         ensures done { IsTrue (R.is_honest self.new.records)
-            → Does R.may_find self.old (λ view course. course ≡ Ok (promise (member_count self.old.proposer.members) self.old.proposer.id view view.role ballot place votes.now from)) result self.new }
+            → Does R.may_find self.old (λ view course. course
+            ≡ Ok (promise (member_count self.old.proposer.members) self.old.proposer.id view view.role ballot place votes.now from)) result self.new }
         ensures no_memory { is_counted self.old.proposer.role ballot place from ≡ false → IsOk result }
     {
         Ok(self.proposer.promise(from, ballot, place, votes.rows())?)
@@ -187,7 +189,8 @@ impl<R: Records> Parts<R> {
         value: &Bytes,
     ) -> Result<(Vec<Letter>, Value), AllocError>
         requires { IsValue value.now }
-        ensures { IfOk result (λ parts. (parts.0.items ≡ to_all (member_count self.now.proposer.members) self.now.proposer.id (VotedNote ballot place value.now)) × (parts.1 ≡ value.now)) }
+        ensures { IfOk result (λ parts. (parts.0.items
+            ≡ to_all (member_count self.now.proposer.members) self.now.proposer.id (VotedNote ballot place value.now)) × (parts.1 ≡ value.now)) }
     {
         let kept = value_of(value.copy(self.alloc)?);
         let letters = self.voted_letters(ballot, place, value.copy(self.alloc)?)?;
@@ -205,7 +208,8 @@ impl<R: Records> Parts<R> {
         value: &Bytes,
     ) -> Result<Vec<Letter>, AllocError>
         requires { ready.items ≡ to_all (member_count self.now.proposer.members) self.now.proposer.id (VotedNote ballot place value.now) }
-        ensures ok { IfOk result (λ letters. letters.items ≡ accepted_letters (member_count self.now.proposer.members) self.now.proposer.id from ballot place answer) }
+        ensures ok { IfOk result (λ letters. letters.items
+            ≡ accepted_letters (member_count self.now.proposer.members) self.now.proposer.id from ballot place answer) }
         ensures err { OnErr result (WroteNothing answer value.now) }
     {
         match answer {
@@ -234,7 +238,8 @@ impl<R: Records> Parts<R> {
         ensures kept { Kept (who_of R.count_of R.is_broken self.old) result (who_of R.count_of R.is_broken self.new) }
         ensures tells { IfErr result IsStop }
         ensures done { IsTrue (R.is_honest self.new.records)
-            → Does R.may_find self.old (λ view course. course ≡ Ok (accept (member_count self.old.proposer.members) self.old.proposer.id view ballot place value.now from)) result self.new }
+            → Does R.may_find self.old (λ view course. course
+            ≡ Ok (accept (member_count self.old.proposer.members) self.old.proposer.id view ballot place value.now from)) result self.new }
     {
         let (letters, kept) = self.before_vote(ballot, place, value)?;
         let answer = match accept(&mut self.records, ballot, place, kept) {
@@ -280,7 +285,8 @@ impl<R: Records> Parts<R> {
         ensures kept { Kept (who_of R.count_of R.is_broken self.old) result (who_of R.count_of R.is_broken self.new) }
         ensures tells { IfErr result IsStop }
         ensures done { IsTrue (R.is_honest self.new.records)
-            → Does R.may_find self.old (λ view course. course ≡ Ok (voted (member_count self.old.proposer.members) view (at view.tally.learned place) ballot place value.now from)) result self.new }
+            → Does R.may_find self.old (λ view course. course
+            ≡ Ok (voted (member_count self.old.proposer.members) view (at view.tally.learned place) ballot place value.now from)) result self.new }
         ensures no_memory { at self.old.knowledge.tally.learned place ≢ None → IsOk result }
     {
         if self.knowledge.learned(place.number()).is_some() {
@@ -335,8 +341,10 @@ impl<R: Records> Parts<R> {
         ensures err { OnErr result (rest_of self.new ≡ rest_of self.old) }
         ensures kept { Kept (who_of R.count_of R.is_broken self.old) result (who_of R.count_of R.is_broken self.new) }
         ensures done { IsTrue (R.is_honest self.new.records)
-            → Does R.may_find self.old (λ view course. course ≡ offer (member_count self.old.proposer.members) self.old.proposer.id view view.role value.now) result self.new }
-        ensures order { (c : Content) → StopsLast (member_count self.old.proposer.members) self.old.proposer.id (view_over self.old c) (Offer value.now) (answer result) }
+            → Does R.may_find self.old (λ view course. course
+            ≡ offer (member_count self.old.proposer.members) self.old.proposer.id view view.role value.now) result self.new }
+        ensures order { (c : Content) → StopsLast (member_count self.old.proposer.members) self.old.proposer.id (view_over self.old c)
+            (Offer value.now) (answer result) }
         ensures turn { TakesTurn (turn.offer (member_count self.old.proposer.members) self.old.proposer.id self.old.proposer.role value.now) (answer result) }
     {
         self.proposer.offer(value)
@@ -379,7 +387,8 @@ impl<R: Records> Parts<R> {
         ensures kept { Kept (who_of R.count_of R.is_broken self.old) result (who_of R.count_of R.is_broken self.new) }
         ensures tells { IfErr result IsStop }
         ensures done { IsTrue (R.is_honest self.new.records)
-            → Does R.may_find self.old (λ view course. course ≡ Ok (heed (member_count self.old.proposer.members) self.old.proposer.id view letter.now.from letter.now.note)) result self.new }
+            → Does R.may_find self.old (λ view course. course
+            ≡ Ok (heed (member_count self.old.proposer.members) self.old.proposer.id view letter.now.from letter.now.note)) result self.new }
         ensures no_memory { IsNothingNew self.old.proposer.role self.old.knowledge.tally.learned letter.now.from letter.now.note → IsOk result }
     {
         match &letter.note {
@@ -409,8 +418,10 @@ impl<R: Records> Parts<R> {
     /// The letters that tell a node what is learned.
     pub(crate) fn told(&self, to: NodeId, place: u64) -> Result<Vec<Letter>, NodeFault>
         ensures tells { IfErr result (λ fault. fault ≡ NodeFault.OutOfMemory) }
-        ensures letters { IfOk result (λ letters. letters.items ≡ letters_told (member_count self.now.proposer.members) self.now.proposer.id self.now.knowledge.tally.learned to place) }
-        ensures no_memory { letters_told (member_count self.now.proposer.members) self.now.proposer.id self.now.knowledge.tally.learned to place ≡ [] → IsOk result }
+        ensures letters { IfOk result (λ letters. letters.items
+            ≡ letters_told (member_count self.now.proposer.members) self.now.proposer.id self.now.knowledge.tally.learned to place) }
+        ensures no_memory { letters_told (member_count self.now.proposer.members) self.now.proposer.id self.now.knowledge.tally.learned to place ≡ []
+            → IsOk result }
     {
         if to.number() >= self.proposer.members().count() {
             return Ok(Vec::new(self.alloc));

@@ -26,11 +26,13 @@ pub struct SchedNode<R: Records> {
 }
 
 impl<R: Records + Drop> SchedNode<R> {
-    /// A node over these records, with a member's number, that has read none of them: of what they hold as learned a restart tells it. Where they are honest they hold some content, and so aren't in doubt of a write.
+    /// A node over these records, with a member's number, that has read none of them: of what they hold as learned a
+    /// restart tells it. Where they are honest they hold some content, and so aren't in doubt of a write.
     pub fn new(alloc: Global, id: NodeId, members: Members, records: R) -> SchedNode<R>
         requires member { id < member_count members }
         requires certain { IsTrue (R.is_honest records) → ∥ ((c : Content) × Holds (R.may_find records) c) ∥₁ }
-        ensures who { ⟦<SchedNode<R> as Node>⟧.who result ≡ record { id = id; members = member_count members; failures = R.count_of records; broken = R.is_broken records; down = false } }
+        ensures who { ⟦<SchedNode<R> as Node>⟧.who result
+            ≡ record { id = id; members = member_count members; failures = R.count_of records; broken = R.is_broken records; down = false } }
         ensures honest { ⟦<SchedNode<R> as Node>⟧.honest result ≡ R.is_honest records }
         ensures clean { ⟦<SchedNode<R> as Node>⟧.clean result ≡ R.is_clean records }
         ensures stands { (c : Content) → Holds (R.may_find records) c → ⟦<SchedNode<R> as Node>⟧.stands result (Running (made c)) }

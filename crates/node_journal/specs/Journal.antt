@@ -1,5 +1,6 @@
--- What a node writes into its journal, life after life, and what it did by then. A life begins with an empty line and the
--- line that says who the node is; then each line that it reads is followed by its reply, until the process is killed at any point.
+-- What a node writes into its journal, life after life, and what it did by then. A life begins with an empty line and
+-- the line that says who the node is; then each line that it reads is followed by its reply, until the process is
+-- killed at any point.
 use Rattle.std.specs.Prelude.{◌⊎◌, ℕ, List, [], ◌∷◌, ◌++◌}
 use Rattle.ballots.specs.declared.members.Members.{Members}
 use Rattle.node_lines.specs.Input.{IsLine}

@@ -8,7 +8,8 @@ use Rattle.node_worker.specs.Legal.{IsSound, entries_of}
 use Rattle.node_worker.specs.Runs.{AreLegal}
 use Rattle.node_worker.specs.declared.entry.Done.{Done}
 
--- there is a journal of each member, these records are a sound order of what the members did, and each journal is what its member wrote as it did its part
+-- there is a journal of each member, these records are a sound order of what the members did, and each journal is what
+-- its member wrote as it did its part
 pub record AreLinesOf (members : Members) (journals : List (List ℕ)) (records : List Done) : Type 0 where
   pub each : length journals ≡ member_count members
   pub sound : IsSound (member_count members) records

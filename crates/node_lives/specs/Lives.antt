@@ -45,7 +45,8 @@ crash_entry = entry (Asked Crash) Whole [] []
 abbrev pub restart_entry : EntryView
 restart_entry = entry (Asked Restart) Whole [] []
 
--- a line and the reply to it, as what the node did: nothing where the line was refused, and else one thing, for what the line asks, which the reply tells
+-- a line and the reply to it, as what the node did: nothing where the line was refused, and else one thing, for what
+-- the line asks, which the reply tells
 abbrev pub IsTold : List ℕ → Reply → List EntryView → Type 0
 IsTold line (Acted acted) done = (e : EntryView) × (asked : Request) × (done ≡ e ∷ []) × Asks line asked × (e.cause ≡ cause_of asked) × Tells acted e × IsSurvived e.ended
 IsTold line (Refused why) done = done ≡ []
@@ -57,7 +58,8 @@ abbrev pub AreTold : List (List ℕ × Reply) → List EntryView → Type 0
 AreTold [] done = done ≡ []
 AreTold (turn ∷ turns) done = (first rest : List EntryView) × (done ≡ first ++ rest) × IsTold turn.0 turn.1 first × AreTold turns rest
 
--- node me with this view is killed and leaves a content: between two calls its own, and within one its own or that after the call's one write
+-- node me with this view is killed and leaves a content: between two calls its own, and within one its own or that
+-- after the call's one write
 abbrev pub IsKilled : ℕ → ℕ → View → EntryView → Content → Type 0
 IsKilled members me view e left =
     ((e ≡ crash_entry) × (left ≡ view.content))
@@ -69,7 +71,8 @@ pub record IsLife (members me : ℕ) (c : Content) (turns : List (List ℕ × Re
   pub runs : RunsAs members me (Running (started c)) turns (Running view)
   pub told : AreTold turns done
 
--- lives, the first over this content, and each next one over what the one before left; this is what the node did in them
+-- lives, the first over this content, and each next one over what the one before left; this is what the node did in
+-- them
 abbrev pub AreLives : ℕ → ℕ → Content → List (List (List ℕ × Reply)) → List EntryView → Type 0
 AreLives members me c [] done = done ≡ []
 AreLives members me c (turns ∷ []) done = (view : View) × IsLife members me c turns done view

@@ -49,8 +49,8 @@ pub record ServesLines {A I O : Type 0} (doer : Actors A) (input : Inputs I) (ou
   pub read : Consumes (input.bytes_left i) (input.bytes_left i') (lines_of turns)
   pub written : Appends (output.bytes_held o) (output.bytes_held o') (text_of turns)
 
--- lines were served, and then: no whole one was left; or the doer was down; or the input failed; or one more line was read and done,
--- and its reply failed; or these are all that a run may have
+-- lines were served, and then: no whole one was left; or the doer was down; or the input failed; or one more line was
+-- read and done, and its reply failed; or these are all that a run may have
 abbrev pub EndsBy : {A I O : Type 0} → Actors A → Inputs I → Outputs O → End → A → I → O → A → I → O → Type 0
 EndsBy {A} {I} {O} doer input output ends.Input a i o a' i' o' =
     (turns : List (List ℕ × Reply)) × (rest : I) × (left : List ℕ) × ServesLines doer input output turns a i o a' rest o' × (doer.up a' ≡ true)

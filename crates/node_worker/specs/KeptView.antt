@@ -4,8 +4,8 @@ use Rattle.node.specs.View.{Standing}
 use Rattle.node_worker.specs.Entries.{EntryView}
 use Rattle.node_worker.specs.Replays.{EntryStep, ReplaysTo}
 
--- the node's number, the number of members, the quota, the entries, whether the node is up, how often its store failed, and
--- whether its store returned what it committed
+-- the node's number, the number of members, the quota, the entries, whether the node is up, how often its store failed,
+-- and whether its store returned what it committed
 pub record KeptView : Type 0 where
   pub node : ℕ
   pub members : ℕ

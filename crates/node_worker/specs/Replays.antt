@@ -38,7 +38,8 @@ whole_answer (IsCalled call) letters outputs = answer.Sent (length letters)
 whole_answer (ReleaseAt now) letters outputs = answer.Released (length outputs)
 whole_answer ask letters outputs = answer.Finished
 
--- how it ended, read as an answer: a crash before the write as want of memory, one with the write in doubt as a broken store
+-- how it ended, read as an answer: a crash before the write as want of memory, one with the write in doubt as a broken
+-- store
 abbrev pub answer_to : Ask → Ended → List Letter → List Numbered → Answer
 answer_to ask Whole letters outputs = whole_answer ask letters outputs
 answer_to ask (Fault fault) letters outputs = answer.Fault fault

@@ -26,7 +26,8 @@ use Rattle.node_worker.specs.Legal.{IsSound, entries_of, letters_of, outputs_of}
 use Rattle.node.specs.View.{Standing}
 use Rattle.node_worker.specs.Replays.{ReplaysTo, answer_of}
 
--- a cause at node k is this event, after these letters were sent: a letter that comes is one of them that is to the node
+-- a cause at node k is this event, after these letters were sent: a letter that comes is one of them that is to the
+-- node
 abbrev pub IsEvent : List Letter → ℕ → Cause → Event → Type 0
 IsEvent sent k (Asked Lead) e = e ≡ event.Lead k
 IsEvent sent k (Asked (Offer value)) e = e ≡ event.Offer k value
@@ -47,7 +48,8 @@ ReadAs sent (d ∷ records) (e ∷ events) (told ∷ answers) =
     IsEvent sent d.node d.entry.cause e × (told ≡ answer_of d.entry.cause d.entry.ended d.entry.letters d.entry.outputs) × ReadAs (sent ++ d.entry.letters) records events answers
 ReadAs sent records events answers = ⊥
 
--- records, read as events in their order, and what the modems did in between, are a run of so many nodes and modems with these ids, in which the modems sent this
+-- records, read as events in their order, and what the modems did in between, are a run of so many nodes and modems
+-- with these ids, in which the modems sent this
 pub record IsRun (members : ℕ) (ids : List ℕ) (records : List Done) (modems : List State) (sent : List Transmission) : Type 0 where
   pub script : List Event
   pub report : List Answer
@@ -112,7 +114,8 @@ SoundIsRun =
     (members : ℕ) (ids : List ℕ) (records : List Done) (modems : List State) (sent : List Transmission)
     → IsSound members records → HaveListened ids (outputs_of records) modems sent → IsRun members ids records modems sent
 
--- records and modems are legal: each node's records are a replay and letters come after they were sent; read as events they are a run; and so they have one schedule, with all that holds of a run
+-- records and modems are legal: each node's records are a replay and letters come after they were sent; read as events
+-- they are a run; and so they have one schedule, with all that holds of a run
 pub record AreLegal (members : ℕ) (records : List Done) (modems : List State) : Type 0 where
   pub sound : IsSound members records
   pub ids : List ℕ

@@ -29,7 +29,8 @@ fn is_entry<N: Node>(kepts: &[Kept<N>], next: &Record, n: usize) -> bool
     }
 }
 
-// Whether the record is entry number n of its node, and may come after these. The search for a received letter begins at a place.
+// Whether the record is entry number n of its node, and may come after these. The search for a received letter begins
+// at a place.
 fn follows<N: Node>(
     kepts: &[Kept<N>],
     before: &[Record],
@@ -42,8 +43,8 @@ fn follows<N: Node>(
     is_entry(kepts, next, n) && has_come(before, next, place)
 }
 
-// How many records fit, one after another. Each is compared with its node's next entry alone, and its letter is looked for
-// from where its node's last one was found.
+// How many records fit, one after another. Each is compared with its node's next entry alone, and its letter is looked
+// for from where its node's last one was found.
 fn count_fitting<N: Node>(kepts: &[Kept<N>], records: &[Record]) -> usize
     ensures within { result ≤ length records.now }
     ensures before { (j : ℕ) → j < result → FitsAt kepts.now records.now j }

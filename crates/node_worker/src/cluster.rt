@@ -84,7 +84,8 @@ pub fn run_cluster<
     let pairs = paired(alloc, kepts, carriers)?;
     let (kepts, carriers) = work_in_threads(rt, alloc, pairs, &plant, gate)?;
     let plant = plant.into_inner();
-    // The records aren't wanted here: this call tells that they and the modems are legal (`legal`), which `into_inner` doesn't.
+    // The records aren't wanted here: this call tells that they and the modems are legal (`legal`), which `into_inner`
+    // doesn't.
     let _ = plant.records();
     Ok((kepts, carriers, plant))
 }

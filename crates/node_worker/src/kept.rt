@@ -44,9 +44,18 @@ impl<N: Node> Model for Kept<N> {
     ghost use Rattle.seats.specs.Occupant.{Stands, IsHonest, is_up, node_of, who_of};
     ghost use Rattle.node_worker.specs.Replays.{IsKept};
 
-    ghost view = { λ k. record { node = (who_of k.seat).id; members = (who_of k.seat).members; quota = k.quota; entries = k.entries.items; up = is_up k.seat; failures = (who_of k.seat).failures; honest = N.honest (node_of k.seat) } };
+    ghost view = { λ k. record {
+      node = (who_of k.seat).id;
+      members = (who_of k.seat).members;
+      quota = k.quota;
+      entries = k.entries.items;
+      up = is_up k.seat;
+      failures = (who_of k.seat).failures;
+      honest = N.honest (node_of k.seat);
+    } };
 
-    ghost invariant = { λ k. (vec_len k.entries ≤ k.quota) × (IsHonest k.seat → IsKept (who_of k.seat).members (who_of k.seat).id (Stands k.seat) k.entries.items) };
+    ghost invariant = { λ k. (vec_len k.entries ≤ k.quota)
+        × (IsHonest k.seat → IsKept (who_of k.seat).members (who_of k.seat).id (Stands k.seat) k.entries.items) };
 }
 
 impl<N: Node> Kept<N> {
@@ -54,7 +63,15 @@ impl<N: Node> Kept<N> {
     pub fn new(alloc: Global, node: N, quota: usize) -> Result<Kept<N>, OutOfMemory>
         requires fresh { IsTrue (N.honest node) → N.stands node opening }
         requires up { (N.who node).down ≡ false }
-        ensures { IfOk result (λ k. k ≡ record { node = (N.who node).id; members = (N.who node).members; quota = quota; entries = []; up = true; failures = (N.who node).failures; honest = N.honest node }) }
+        ensures { IfOk result (λ k. k ≡ record {
+          node = (N.who node).id;
+          members = (N.who node).members;
+          quota = quota;
+          entries = [];
+          up = true;
+          failures = (N.who node).failures;
+          honest = N.honest node;
+        }) }
     {
         let entries = Vec::with_capacity(alloc, quota)?;
         Ok(Kept {
@@ -78,7 +95,8 @@ impl<N: Node> Kept<N> {
         ensures members { (N.who result.now).members ≡ self.now.members }
         ensures failures { (N.who result.now).failures ≡ self.now.failures }
         ensures honest { N.honest result.now ≡ self.now.honest }
-        ensures replay { IsTrue (N.honest result.now) → IsKept (N.who result.now).members (N.who result.now).id (Shown self.now.up (N.stands result.now)) self.now.entries }
+        ensures replay { IsTrue (N.honest result.now)
+            → IsKept (N.who result.now).members (N.who result.now).id (Shown self.now.up (N.stands result.now)) self.now.entries }
     {
         self.seat.node()
     }

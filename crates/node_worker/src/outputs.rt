@@ -15,7 +15,8 @@ pub struct OutputPlace {
     pub before: usize,
 }
 
-// Where the search for output number i begins: at the place, or before all records where the output stands before the place.
+// Where the search for output number i begins: at the place, or before all records where the output stands before the
+// place.
 fn begin_of(records: &[Record], place: OutputPlace, i: usize) -> OutputPlace
     requires { IsPlaceOf records.now place.record place.before }
     ensures place { IsPlaceOf records.now result.record result.before }
@@ -31,8 +32,9 @@ fn begin_of(records: &[Record], place: OutputPlace, i: usize) -> OutputPlace
     }
 }
 
-/// Output number i of all that the records released. The search for it begins at a place, or at the first record where it stands
-/// before the place, and leaves the place where it found it: so outputs that are looked for in their order are each found at once.
+/// Output number i of all that the records released. The search for it begins at a place, or at the first record where
+/// it stands before the place, and leaves the place where it found it: so outputs that are looked for in their order
+/// are each found at once.
 pub fn output_at<'a>(records: &'a [Record], i: usize, place: &mut OutputPlace) -> Option<&'a Output>
     requires { IsPlaceOf records.now place.old.record place.old.before }
     ensures found { MatchOption result (length (outputs_of records.now) ≤ i) (λ o. IsOutputAt records.now i o.now) }

@@ -59,7 +59,8 @@ impl<N: Node> Model for Plant<N> {
 
     ghost view = { λ p. record { members = member_count p.members; room = p.room; records = p.records.items; modems = p.modems.items } };
 
-    ghost invariant = { λ p. (p.room ≤ p.records.cap) × (AreTrusted N.honest → IsSound (member_count p.members) p.records.items) × Listened (outputs_of p.records.items) p.modems.items × IsPlaceOf p.records.items p.last_output.record p.last_output.before };
+    ghost invariant = { λ p. (p.room ≤ p.records.cap) × (AreTrusted N.honest → IsSound (member_count p.members) p.records.items)
+        × Listened (outputs_of p.records.items) p.modems.items × IsPlaceOf p.records.items p.last_output.record p.last_output.before };
 }
 
 impl<N: Node> Plant<N> {
@@ -124,12 +125,13 @@ impl<N: Node> Plant<N> {
         Ok(())
     }
 
-    /// A modem hears an output that a record released, wants to send, or comes to a minislot, which takes no memory. Where
-    /// it sends by a grant or at a poll, it is the minislot's one owner, if the records are sound.
+    /// A modem hears an output that a record released, wants to send, or comes to a minislot, which takes no memory.
+    /// Where it sends by a grant or at a poll, it is the minislot's one owner, if the records are sound.
     pub fn modem_step(&mut self, event: &Event) -> Answer
         requires { IsModemEvent event.now }
         ensures same { self.new ≡ record self.old { modems = self.new.modems } }
-        ensures next { (rs : List Receiver) → AreReceivers self.old.modems rs → (after : List Receiver) × ModemNext rs (outputs_of self.old.records) event.now result after × AreReceivers self.new.modems after }
+        ensures next { (rs : List Receiver) → AreReceivers self.old.modems rs
+            → (after : List Receiver) × ModemNext rs (outputs_of self.old.records) event.now result after × AreReceivers self.new.modems after }
         ensures memory { IsTick event.now → result ≢ Refused refusal.OutOfMemory }
         ensures owner { AreTrusted N.honest → SendsAsOwner self.new.members self.new.records self.new.modems event.now result }
         ensures sound { (members : ℕ) → IsSound members self.new.records → SendsAsOwner members self.new.records self.new.modems event.now result }
@@ -172,7 +174,8 @@ pub(crate) fn go_on(
 ) -> Answer
     requires event { IsModemEvent event.now }
     requires place { IsPlaceOf records.now place.old.record place.old.before }
-    ensures next { (rs : List Receiver) → AreReceivers modems.old.items rs → (after : List Receiver) × ModemNext rs (outputs_of records.now) event.now result after × AreReceivers modems.new.items after }
+    ensures next { (rs : List Receiver) → AreReceivers modems.old.items rs
+        → (after : List Receiver) × ModemNext rs (outputs_of records.now) event.now result after × AreReceivers modems.new.items after }
     ensures memory { IsTick event.now → result ≢ Refused refusal.OutOfMemory }
     ensures within { (modems.new.items ≡ modems.old.items) × IsSilent result ⊎ IsOfModem (length (outputs_of records.now)) event.now }
     ensures place { IsPlaceOf records.now place.new.record place.new.before }
@@ -195,7 +198,8 @@ fn hear(
     place: &mut OutputPlace,
 ) -> Answer
     requires { IsPlaceOf records.now place.old.record place.old.before }
-    ensures next { (rs : List Receiver) → AreReceivers modems.old.items rs → (after : List Receiver) × ModemNext rs (outputs_of records.now) (event.Hear m i near) result after × AreReceivers modems.new.items after }
+    ensures next { (rs : List Receiver) → AreReceivers modems.old.items rs
+        → (after : List Receiver) × ModemNext rs (outputs_of records.now) (event.Hear m i near) result after × AreReceivers modems.new.items after }
     ensures within { (modems.new.items ≡ modems.old.items) × IsSilent result ⊎ i < length (outputs_of records.now) }
     ensures place { IsPlaceOf records.now place.new.record place.new.before }
 {
@@ -211,7 +215,8 @@ fn hear(
 
 // Modem m wants to send a request of n minislots.
 fn want(modems: &mut Vec<Modem>, m: usize, ch: u8, sid: u16, n: u16) -> Answer
-    ensures next { (rs : List Receiver) (outputs : List ReleasedOutput) → AreReceivers modems.old.items rs → (after : List Receiver) × ModemNext rs outputs (event.Want m ch sid n) result after × AreReceivers modems.new.items after }
+    ensures next { (rs : List Receiver) (outputs : List ReleasedOutput) → AreReceivers modems.old.items rs
+        → (after : List Receiver) × ModemNext rs outputs (event.Want m ch sid n) result after × AreReceivers modems.new.items after }
 {
     if m >= modems.len() {
         return Answer::Refused(EventRefusal::NoModem);
@@ -222,7 +227,8 @@ fn want(modems: &mut Vec<Modem>, m: usize, ch: u8, sid: u16, n: u16) -> Answer
 
 // Modem m comes to a minislot of a channel.
 fn tick(modems: &mut Vec<Modem>, m: usize, ch: u8, slot: Slot, random: u64) -> Answer
-    ensures next { (rs : List Receiver) (outputs : List ReleasedOutput) → AreReceivers modems.old.items rs → (after : List Receiver) × ModemNext rs outputs (event.Tick m ch slot random) result after × AreReceivers modems.new.items after }
+    ensures next { (rs : List Receiver) (outputs : List ReleasedOutput) → AreReceivers modems.old.items rs
+        → (after : List Receiver) × ModemNext rs outputs (event.Tick m ch slot random) result after × AreReceivers modems.new.items after }
     ensures memory { result ≢ Refused refusal.OutOfMemory }
 {
     if m >= modems.len() {

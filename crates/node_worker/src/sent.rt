@@ -39,7 +39,8 @@ fn place_among(letters: &[Letter], letter: &Letter, begin: usize) -> Option<usiz
     }
 }
 
-// Where the first of the records that sent the letter has it. Among the first record's letters the search begins at one of them.
+// Where the first of the records that sent the letter has it. Among the first record's letters the search begins at one
+// of them.
 fn first_sent(records: &[Record], letter: &Letter, begin: usize) -> Option<LetterPlace>
     ensures sent { IsSome result ↔ Contains (letters_of records.now) letter.now }
     ensures within { IfSome result (λ p. p.record < length records.now) }
@@ -75,8 +76,8 @@ fn sent_at(records: &[Record], letter: &Letter, begin: LetterPlace) -> Option<Le
     }
 }
 
-/// Whether a record sent the letter. The search begins at a place and goes round, and leaves the place where it found the
-/// letter: so letters that are looked for in the order in which they were sent are each found at once.
+/// Whether a record sent the letter. The search begins at a place and goes round, and leaves the place where it found
+/// the letter: so letters that are looked for in the order in which they were sent are each found at once.
 pub fn was_sent(records: &[Record], letter: &Letter, place: &mut LetterPlace) -> bool
     ensures { IsTrue result ↔ Contains (letters_of records.now) letter.now }
 {

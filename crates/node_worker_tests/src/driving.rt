@@ -126,8 +126,8 @@ impl Carrier for Errands {
     }
 }
 
-/// Holds nobody, and counts the nodes that pass each point as they should: what a node did is recorded between the first
-/// point and the second.
+/// Holds nobody, and counts the nodes that pass each point as they should: what a node did is recorded between the
+/// first point and the second.
 #[derive(Drop)]
 pub struct Points {
     worked: AtomicU32,

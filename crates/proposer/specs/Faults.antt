@@ -62,7 +62,8 @@ BreaksByStop (Err Fault.Down) old new = new ≡ true
 BreaksByStop (Err Fault.StoreRefused) old new = (old ≡ false) × (new ≡ false)
 BreaksByStop other old new = new ≡ old
 
--- the answer to a lead where no ballot is left: RoundsSpent, unless the store failed, or a read of the ballots found no memory
+-- the answer to a lead where no ballot is left: RoundsSpent, unless the store failed, or a read of the ballots found no
+-- memory
 abbrev pub TellsSpent : {T : Type 0} → (Lacks : Type 0) → Result T Fault → Type 0
 TellsSpent Lacks (Err Fault.RoundsSpent) = Unit {0}
 TellsSpent Lacks (Err Fault.StoreRefused) = Unit {0}

@@ -29,14 +29,16 @@ stays role = record { role = role; letters = [] }
 abbrev pub are_majority : ℕ → List ℕ → Bool
 are_majority members nodes = nat_lt members (2 * count_below (λ n. list_any (nat_eq n) nodes) members)
 
--- after one more promise of ballot b was counted, a majority leads: it proposes again what was reported, and fills the gaps (Lamport, Paxos Made Simple, section 3)
+-- after one more promise of ballot b was counted, a majority leads: it proposes again what was reported, and fills the
+-- gaps (Lamport, Paxos Made Simple, section 3)
 abbrev pub after_promise : ℕ → ℕ → ℕ → ℕ → List ℕ → List (ℕ × Cast) → Turn
 after_promise members me b q counted joined =
     if are_majority members counted
     then record { role = Leading b (place_after q joined); letters = proposals members me b joined q (place_after q joined - q) }
     else stays (Preparing b q counted joined)
 
--- whether a promise of ballot b for the places from q on, from node n, is counted: the node's first of the ballot that is prepared
+-- whether a promise of ballot b for the places from q on, from node n, is counted: the node's first of the ballot that
+-- is prepared
 abbrev pub is_counted : Role → ℕ → ℕ → ℕ → Bool
 is_counted (Preparing c place counted joined) b q n = b == c && q == place && not (list_any (nat_eq n) counted)
 is_counted Idle b q n = false

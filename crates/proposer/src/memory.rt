@@ -10,7 +10,8 @@ use crate::proposer::Proposer;
 use acceptor::PlainRecords;
 use ballots::Letter;
 
-/// Where the log has room and no ballot is left, a lead over records in memory is answered by RoundsSpent, and so takes no memory.
+/// Where the log has room and no ballot is left, a lead over records in memory is answered by RoundsSpent, and so takes
+/// no memory.
 pub fn lead_without_ballots(
     proposer: &mut Proposer,
     records: &mut PlainRecords,

@@ -111,7 +111,8 @@ impl Proposer {
 
     /// A value is offered. A leader proposes it at its next place.
     pub fn offer(&mut self, value: &[u8]) -> Result<Vec<Letter>, NodeFault>
-        ensures ok { IfOk result (λ letters. offer (member_count self.old.members) self.old.id self.old.role value.now ≡ Ok record { role = self.new.role; letters = letters.items }) }
+        ensures ok { IfOk result (λ letters. offer (member_count self.old.members) self.old.id self.old.role value.now
+            ≡ Ok record { role = self.new.role; letters = letters.items }) }
         ensures declined { IfErr result (λ fault. (offer (member_count self.old.members) self.old.id self.old.role value.now ≡ Err fault)
             ⊎ ((fault ≡ NodeFault.OutOfMemory) × IsTrue (is_ok (offer (member_count self.old.members) self.old.id self.old.role value.now)))) }
         ensures unchanged { OnErr result (self.new ≡ self.old) }
@@ -141,7 +142,8 @@ impl Proposer {
         Ok(letters)
     }
 
-    /// The promises counted and the votes joined with those of one more promise, where it is one of the ballot that is prepared, and its node is new.
+    /// The promises counted and the votes joined with those of one more promise, where it is one of the ballot that is
+    /// prepared, and its node is new.
     fn counts(
         &self,
         from: NodeId,
@@ -151,7 +153,8 @@ impl Proposer {
     ) -> Result<Option<(Nodes, Joined)>, AllocError>
         ensures counted { IfOk result (λ counted. MatchOption counted
             (promise (member_count self.now.members) self.now.id self.now.role ballot place (in_log votes.now) from ≡ stays self.now.role)
-            (λ both. promise (member_count self.now.members) self.now.id self.now.role ballot place (in_log votes.now) from ≡ after_promise (member_count self.now.members) self.now.id ballot place both.0 both.1)) }
+            (λ both. promise (member_count self.now.members) self.now.id self.now.role ballot place (in_log votes.now) from
+            ≡ after_promise (member_count self.now.members) self.now.id ballot place both.0 both.1)) }
         ensures uncounted { is_counted self.now.role ballot place from ≡ false → result ≡ Ok None }
     {
         let Role::Preparing {
@@ -193,7 +196,9 @@ impl Proposer {
         Ok(letters)
     }
 
-    /// A node promised the ballot, and reports its votes from the place on. With a majority the proposer leads: it proposes what was reported again, and the Noop command in gaps. A vote at a place beyond the log is passed over. A promise that isn't counted takes no memory.
+    /// A node promised the ballot, and reports its votes from the place on. With a majority the proposer leads: it
+    /// proposes what was reported again, and the Noop command in gaps. A vote at a place beyond the log is passed over.
+    /// A promise that isn't counted takes no memory.
     pub fn promise(
         &mut self,
         from: NodeId,
@@ -201,7 +206,8 @@ impl Proposer {
         place: u64,
         votes: &[(u64, Cast)],
     ) -> Result<Vec<Letter>, AllocError>
-        ensures ok { IfOk result (λ letters. promise (member_count self.old.members) self.old.id self.old.role ballot place (in_log votes.now) from ≡ record { role = self.new.role; letters = letters.items }) }
+        ensures ok { IfOk result (λ letters. promise (member_count self.old.members) self.old.id self.old.role ballot place (in_log votes.now) from
+            ≡ record { role = self.new.role; letters = letters.items }) }
         ensures uncounted { is_counted self.old.role ballot place from ≡ false → IsOk result }
         ensures unchanged { OnErr result (self.new ≡ self.old) }
         ensures rest { self.new ≡ record self.old { role = self.new.role } }
@@ -231,27 +237,33 @@ impl Proposer {
         least_above(self.hint, self.id).is_ok()
     }
 
-    /// Tries its least ballot above those that it tried, promised or heard of, for the places after a prefix of the log: makes its letters, writes the ballot as tried, and then prepares it. `prefix` counts places. Where it heard of its last ballot it reads no records.
+    /// Tries its least ballot above those that it tried, promised or heard of, for the places after a prefix of the
+    /// log: makes its letters, writes the ballot as tried, and then prepares it. `prefix` counts places. Where it heard
+    /// of its last ballot it reads no records.
     pub fn lead<R: Records>(
         &mut self,
         records: &mut R,
         prefix: u64,
     ) -> Result<Vec<Letter>, NodeFault>
         ensures ok { IsTrue (R.is_honest records.new) → IfOk result (λ letters. (b : ℕ) × IsNextBallot (R.may_find records.old) self.old.hint self.old.id b
-            × (tries (member_count self.old.members) self.old.id b (prefix + 1) ≡ record { role = self.new.role; letters = letters.items }) × HasMade (R.may_find records.old) (R.may_find records.new) (Tries b)) }
+            × (tries (member_count self.old.members) self.old.id b (prefix + 1) ≡ record { role = self.new.role; letters = letters.items })
+            × HasMade (R.may_find records.old) (R.may_find records.new) (Tries b)) }
         ensures room { OnOk result (prefix < most_places) }
         ensures full { result ≡ Err NodeFault.LogFull ↔ most_places ≤ prefix }
         ensures tells { IfErr result IsOfLead }
         ensures declined { IsTrue (R.is_honest records.new) → IfErr result (DeclinesToLead (R.may_find records.old) self.old.hint self.old.id prefix) }
-        ensures harmless { IsTrue (R.is_honest records.new) → IfErr result (λ fault. IsHarmlessStop fault → FindsSame (R.may_find records.old) (R.may_find records.new)) }
-        ensures doubt { IsTrue (R.is_honest records.new) → OnErr result (MayHaveTried (R.may_find records.old) (R.may_find records.new) self.old.hint self.old.id) }
+        ensures harmless { IsTrue (R.is_honest records.new)
+            → IfErr result (λ fault. IsHarmlessStop fault → FindsSame (R.may_find records.old) (R.may_find records.new)) }
+        ensures doubt { IsTrue (R.is_honest records.new)
+            → OnErr result (MayHaveTried (R.may_find records.old) (R.may_find records.new) self.old.hint self.old.id) }
         ensures trust { KeepsTrust R.is_honest R.is_clean records.old records.new }
         ensures memory { IsTrue (R.is_honest records.new) → IfErr result (λ fault. fault ≡ NodeFault.OutOfMemory
             → ((mid : R) × R.finds_no_memory mid records.new × R.finds_no_ballot mid records.new)
             ⊎ ((b : ℕ) × IsNextBallot (R.may_find records.old) self.old.hint self.old.id b)) }
         ensures heard { prefix < most_places → NoneAbove self.old.hint self.old.id → result ≡ Err NodeFault.RoundsSpent }
         ensures spent { IsTrue (R.is_honest records.new) → (c : Content) → Holds (R.may_find records.old) c → prefix < most_places
-            → NoneAbove (limit c self.old.hint) self.old.id → TellsSpent ((mid : R) × R.finds_no_memory mid records.new × R.finds_no_ballot mid records.new) result }
+            → NoneAbove (limit c self.old.hint) self.old.id
+            → TellsSpent ((mid : R) × R.finds_no_memory mid records.new × R.finds_no_ballot mid records.new) result }
         ensures count { CountsStops result (R.count_of records.old) (R.count_of records.new) }
         ensures broken { BreaksByStop result (R.is_broken records.old) (R.is_broken records.new) }
         ensures unchanged { OnErr result (self.new ≡ self.old) }

@@ -21,7 +21,8 @@ fn faulty_node(
     trouble: Trouble,
 ) -> Result<FaultyNode, AllocError>
     requires { id < member_count members }
-    ensures { IfOk result (λ node. IsFreshAt ⟦<SchedNode<FaultyRecords> as Node>⟧.who ⟦<SchedNode<FaultyRecords> as Node>⟧.honest ⟦<SchedNode<FaultyRecords> as Node>⟧.stands (member_count members) id node) }
+    ensures { IfOk result (λ node. IsFreshAt ⟦<SchedNode<FaultyRecords> as Node>⟧.who ⟦<SchedNode<FaultyRecords> as Node>⟧.honest
+        ⟦<SchedNode<FaultyRecords> as Node>⟧.stands (member_count members) id node) }
 {
     let records = FaultyRecords::new(alloc, trouble);
     Ok(SchedNode::new(alloc, id, members, records))
@@ -34,7 +35,8 @@ pub fn faulty_nodes(
     faulty: u8,
     trouble: Trouble,
 ) -> Result<Vec<FaultyNode>, AllocError>
-    ensures fresh { IfOk result (λ nodes. AreFresh ⟦<SchedNode<FaultyRecords> as Node>⟧.who ⟦<SchedNode<FaultyRecords> as Node>⟧.honest ⟦<SchedNode<FaultyRecords> as Node>⟧.stands nodes.items) }
+    ensures fresh { IfOk result (λ nodes. AreFresh ⟦<SchedNode<FaultyRecords> as Node>⟧.who ⟦<SchedNode<FaultyRecords> as Node>⟧.honest
+        ⟦<SchedNode<FaultyRecords> as Node>⟧.stands nodes.items) }
     ensures count { IfOk result (λ nodes. length nodes.items ≡ member_count members) }
 {
     nodes_by_number(alloc, members, |id, members| {

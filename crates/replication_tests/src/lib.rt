@@ -1,7 +1,7 @@
 //! Tests of ballots, of letters as bytes and lines, of records that keep what is written and records that fail, of
 //! counted votes and of nodes, by the public calls of `ballots`, `letter_bytes`, `node_lines`, `acceptor`,
-//! `faulty_records`, `learner`, `node`, `script_text`, `seats` and `network_script`. What scripts print stands as data in
-//! examples/.
+//! `faulty_records`, `learner`, `node`, `script_text`, `seats` and `network_script`. What scripts print stands as data
+//! in examples/.
 #![tactic(auto)]
 
 #[cfg(test)]

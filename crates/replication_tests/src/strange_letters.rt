@@ -1,4 +1,5 @@
-//! Letters that no member may send to node 0 of three, which passes each over; and those that go as far as a member may.
+//! Letters that no member may send to node 0 of three, which passes each over; and those that go as far as a member
+//! may.
 
 use acceptor::PlainRecords;
 use ballots::{Ballot, Bytes, Cast, Letter, Members, NodeId, Note, Votes};

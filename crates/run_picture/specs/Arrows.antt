@@ -41,7 +41,8 @@ abbrev pub delivered_by : Option Event → Option Answer → Option ℕ
 delivered_by (Some event) (Some answer) = delivered event answer
 delivered_by event answer = None
 
--- the number of the first of these events that delivers letter l, where they are numbered from i on, or that of the end where none does
+-- the number of the first of these events that delivers letter l, where they are numbered from i on, or that of the end
+-- where none does
 abbrev pub first_from : (l i : ℕ) → List Event → List Answer → ℕ
 first_from l i [] answers = i
 first_from l i (e ∷ events) [] = first_from l (i + 1) events []

@@ -50,8 +50,8 @@ abbrev pub tick_shape : Bool → (x y : ℕ) → Tag
 tick_shape true x y = Circle x y 2 (codes "mute")
 tick_shape false x y = path_at (x - 5) (y - 6) (codes "l12 6l-12 6z") (codes "f-ask")
 
--- the mark of an event that went well: triangle up asked to lead, square offered, triangle right tells or transmits, dot
--- delivered or heard, cross crashes, ring with a dot restarts, diamond releases, triangle down wants, speck idle
+-- the mark of an event that went well: triangle up asked to lead, square offered, triangle right tells or transmits,
+-- dot delivered or heard, cross crashes, ring with a dot restarts, diamond releases, triangle down wants, speck idle
 abbrev pub done_shape : List Letter → (x y : ℕ) → Event → Answer → Tag
 done_shape letters x y (Lead k) answer = path_at x (y - 7) (codes "l7 12h-14z") (codes "f-prepare")
 done_shape letters x y (Offer k value) answer = path_at (x - 5) (y - 5) (codes "h11v11h-11z") (codes "f-accept")

@@ -42,7 +42,8 @@ node_bands s bottom k = bands_from (lanes s) bottom k s.sights.now Idle first_ro
 abbrev pub chosen_at : Scene → ℕ → Xml
 chosen_at s l = chosen_from (lanes s) (slice_get s.choices.now l) (slice_get s.senders.now l)
 
--- the layers: thin lines of rows and lines where places are chosen, bands and lanes down to the bottom, arrows and stubs, and words behind a legend
+-- the layers: thin lines of rows and lines where places are chosen, bands and lanes down to the bottom, arrows and
+-- stubs, and words behind a legend
 abbrev pub rules_of : Scene → Xml
 rules_of s = join (of_events s Rule) (each (length s.letters.now) (chosen_at s))
 
@@ -59,8 +60,8 @@ labels_of s legend =
 abbrev pub layers : Scene → (bottom : ℕ) → (legend : Xml) → Drawn
 layers s bottom legend = record { rules = rules_of s; bands = bands_of s bottom; arrows = arrows_of s; marks = of_events s Mark; labels = labels_of s legend }
 
--- a scene of so many nodes, with modems of these ids, and of what happened, with the row of each event and of what gave each letter and each output, and the first event
--- that delivers each letter
+-- a scene of so many nodes, with modems of these ids, and of what happened, with the row of each event and of what gave
+-- each letter and each output, and the first event that delivers each letter
 pub record IsSceneOf (s : Scene) (members : ℕ) (ids : List ℕ) (events : List Event) (answers : List Answer) (sights : List (Option Sight)) (letters : List Letter) (outputs : List ReleasedOutput) : Type 0 where
   pub members_told : s.members ≡ members
   pub modems_told : s.modems ≡ length ids

@@ -47,7 +47,8 @@ fn add_letter_dot(
     letters: &[Letter],
     i: usize,
 ) -> Result<(), AllocError>
-    ensures { OnOk result (string_bytes out.new ≡ string_bytes out.old ++ render (titled title.now (shape (letter_dot middle.0 middle.1 (slice_get letters.now i))))) }
+    ensures { OnOk result (string_bytes out.new
+        ≡ string_bytes out.old ++ render (titled title.now (shape (letter_dot middle.0 middle.1 (slice_get letters.now i))))) }
 {
     if i >= letters.len() {
         return add_titled_circle(alloc, out, title, middle, 5, "ring");
@@ -171,7 +172,8 @@ pub(crate) fn add_mark_shape(
     event: &Event,
     answer: Answer,
 ) -> Result<(), AllocError>
-    ensures { OnOk result (string_bytes out.new ≡ string_bytes out.old ++ render (titled title.now (shape (mark_shape failed letters.now x y event.now answer)))) }
+    ensures { OnOk result (string_bytes out.new
+        ≡ string_bytes out.old ++ render (titled title.now (shape (mark_shape failed letters.now x y event.now answer)))) }
 {
     if failed {
         return add_titled_circle(alloc, out, title, (x, y), 5, "ring");

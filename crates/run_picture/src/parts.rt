@@ -164,7 +164,8 @@ fn add_hearing_from(
     requires members { scene.now.members < 2 ^ 32 }
     requires modems { scene.now.modems < 2 ^ 32 }
     requires lane { k < 2 ^ 40 }
-    ensures { OnOk result (string_bytes out.new ≡ string_bytes out.old ++ render (hearing_from scene.now k o (slice_get scene.now.outputs.now o) (slice_get scene.now.releasers.now o) y)) }
+    ensures { OnOk result (string_bytes out.new
+        ≡ string_bytes out.old ++ render (hearing_from scene.now k o (slice_get scene.now.outputs.now o) (slice_get scene.now.releasers.now o) y)) }
 {
     if o >= scene.outputs.len() {
         return Ok(());
@@ -292,7 +293,9 @@ fn add_told(
     requires members { scene.now.members < 2 ^ 32 }
     requires modems { scene.now.modems < 2 ^ 32 }
     requires row { y < 2 ^ 32 }
-    ensures { OnOk result (string_bytes out.new ≡ string_bytes out.old ++ render (seen_told (lanes scene.now) scene.now.members (comes_right scene.now.letters.now brought) y (slice_get scene.now.sights.now i))) }
+    ensures { OnOk result (string_bytes out.new
+        ≡ string_bytes out.old ++ render
+        (seen_told (lanes scene.now) scene.now.members (comes_right scene.now.letters.now brought) y (slice_get scene.now.sights.now i))) }
 {
     let left = comes_right(scene.letters, brought);
     let members = scene.members;
@@ -379,7 +382,8 @@ pub(crate) fn add_part(
 fn add_stub(alloc: Global, out: &mut String, scene: &Scene<'_>, l: usize) -> Result<(), AllocError>
     requires members { scene.now.members < 2 ^ 32 }
     requires modems { scene.now.modems < 2 ^ 32 }
-    ensures { OnOk result (string_bytes out.new ≡ string_bytes out.old ++ render (stub_from scene.now l (slice_get scene.now.letters.now l) (slice_get scene.now.senders.now l))) }
+    ensures { OnOk result (string_bytes out.new
+        ≡ string_bytes out.old ++ render (stub_from scene.now l (slice_get scene.now.letters.now l) (slice_get scene.now.senders.now l))) }
 {
     if l >= scene.letters.len() {
         return Ok(());

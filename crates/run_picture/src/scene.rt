@@ -5,9 +5,9 @@ use seats::{Answer, ReleasedOutput};
 use watched_runs::Sight;
 use world_events::Event;
 
-/// A run as it is drawn: how many nodes and modems there are, what happened, the rows of events, of the events that sent
-/// each letter, and of those that released each output, the number of the first event that delivers each letter, what is
-/// seen of each event, and the place that each letter shows to be chosen.
+/// A run as it is drawn: how many nodes and modems there are, what happened, the rows of events, of the events that
+/// sent each letter, and of those that released each output, the number of the first event that delivers each letter,
+/// what is seen of each event, and the place that each letter shows to be chosen.
 #[derive(Clone, Copy)]
 pub(crate) struct Scene<'a> {
     pub members: u64,

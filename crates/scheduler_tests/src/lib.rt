@@ -1,6 +1,6 @@
 //! Tests of times, MAP bodies and commands as bytes, of a cut beside its first body, of modems, and of calls at their
-//! limits, by the public calls of `minislot_time`, `map_body`, `grant_machine`, `command_log` and `modem`. What plans print, and what
-//! modems of a script do, stands as data in examples/.
+//! limits, by the public calls of `minislot_time`, `map_body`, `grant_machine`, `command_log` and `modem`. What plans
+//! print, and what modems of a script do, stands as data in examples/.
 #![tactic(auto)]
 
 #[cfg(test)]

@@ -207,8 +207,8 @@ const ROWS: [((u32, u64, u64), &[Act]); 6] = [
     ),
 ];
 
-/// How many leases of SID 1, of 1,000 minislots each, a modem keeps that hears of so many. It hears of each when the one
-/// before begins.
+/// How many leases of SID 1, of 1,000 minislots each, a modem keeps that hears of so many. It hears of each when the
+/// one before begins.
 fn leases_kept(alloc: Global, count: u64) -> Result<usize, Fail> {
     let mut modem = modem_of(alloc, 50, 0, 999)?;
     for i in 1..count {

@@ -18,7 +18,8 @@ pub fn member<'a>(table: &'a Table, key: &str) -> Option<&'a Value>
     table.get(key)
 }
 
-/// The items of the array that the key of the text's table holds, none without the key. Nothing where it holds no array.
+/// The items of the array that the key of the text's table holds, none without the key. Nothing where it holds no
+/// array.
 pub fn items_at<'a>(table: &'a Table, key: &str) -> Option<&'a [Value]>
     ensures { option_map (λ items. map view items.now) result ≡ items_at (table_view table.now) key.now }
 {

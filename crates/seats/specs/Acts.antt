@@ -75,7 +75,8 @@ KeepsRest (Fault fault) old new = new ≡ old
 KeepsRest (Refused refusal) old new = new ≡ old
 KeepsRest answer old new = Unit {0}
 
--- node me of so many members was asked so, answered so and gave these letters and outputs, which it owes whatever its records do
+-- node me of so many members was asked so, answered so and gave these letters and outputs, which it owes whatever its
+-- records do
 pub record AnswersAsOwed (members me : ℕ) (was : Outside) (ask : Ask) (answer : Answer) (letters : List Letter) (outputs : List Numbered) (is : Outside) : Type 0 where
   pub may : MayAnswer was.up ask answer is.up
   pub goes_out : GoOut answer letters outputs

@@ -15,7 +15,8 @@ use Rattle.seats.specs.declared.answer.Answer.TheVariants.{Sent, Finished, Relea
 use Rattle.world_events.specs.declared.refusal.EventRefusal.TheVariants.{NodeDown, NodeUp}
 use Rattle.seats.specs.Release.{released, released_all}
 
--- what an event asks of a node: a call whose letters are sent, to take a letter and then crash, a release at a time, a crash, or a restart
+-- what an event asks of a node: a call whose letters are sent, to take a letter and then crash, a release at a time, a
+-- crash, or a restart
 pub data Ask : Type 0 where
   Call : Cause → Ask
   TakeThenCrash : Letter → Ask
@@ -50,8 +51,9 @@ gives view now = record { standing = Running (released_all view); letters = []; 
 abbrev pub Stays : Standing → Answer → Answer → Move → Type 0
 Stays s told answer m = (answer ≡ told) × (m ≡ quiet s)
 
--- a call of a node that was up with this view gives a fault. Want of memory and a store that refused are a crash before the
--- call's write, a broken store is a crash with that write in doubt, if it came to it, and any other fault is the case's and changes nothing
+-- a call of a node that was up with this view gives a fault. Want of memory and a store that refused are a crash before
+-- the call's write, a broken store is a crash with that write in doubt, if it came to it, and any other fault is the
+-- case's and changes nothing
 abbrev pub Fails : View → (Result Outcome NodeFault → Type 0) → NodeFault → Move → Type 0
 Fails view IsCourse fault.OutOfMemory m = m ≡ quiet (Stopped view.content None)
 Fails view IsCourse fault.StoreRefused m = m ≡ quiet (Stopped view.content None)
@@ -72,19 +74,22 @@ EndsInCrash view IsCourse Finished m = (o : Outcome) × IsCourse (Ok o) × (m �
 EndsInCrash view IsCourse (Fault fault) m = Fails view IsCourse fault m
 EndsInCrash view IsCourse answer m = ⊥
 
--- want of memory and a store that failed are told last: only where nothing that node me knows without its records declines the call
+-- want of memory and a store that failed are told last: only where nothing that node me knows without its records
+-- declines the call
 abbrev pub IsToldLast : ℕ → ℕ → View → Cause → Answer → Type 0
 IsToldLast members me view cause (Fault fault) = IsStop fault → MayGoOn members me view cause
 IsToldLast members me view cause answer = Unit {0}
 
--- it releases, or there is no room for what it released, which is lost, and it crashes, or it fails, having written nothing
+-- it releases, or there is no room for what it released, which is lost, and it crashes, or it fails, having written
+-- nothing
 abbrev pub Releases : View → ℕ → Answer → Move → Type 0
 Releases view now (Released n) m = (n ≡ length (released view now)) × (m ≡ gives view now)
 Releases view now Crashed m = (released view now ≢ []) × (m ≡ quiet (Stopped view.content None))
 Releases view now (Fault fault) m = Fails view (λ course. course ≡ Ok (nothing (released_all view))) fault m
 Releases view now answer m = ⊥
 
--- a restart over what a crash left: a write in doubt was made, or it was not. One that fails leaves the node down as it was
+-- a restart over what a crash left: a write in doubt was made, or it was not. One that fails leaves the node down as it
+-- was
 abbrev pub Starts : Content → Option Write → Answer → Move → Type 0
 Starts c doubt Finished m =
     (m ≡ quiet (Running (started c)))

@@ -19,7 +19,8 @@ use Rattle.seats.specs.Moves.{Ask}
 use Rattle.seats.specs.Moves.Ask.{Call, TakeThenCrash}
 use Rattle.seats.specs.Occupant.{is_up, node_of}
 
--- what is seen of a node without its records: whether it is up, its role, what it knows as learned, and all that it has beside them
+-- what is seen of a node without its records: whether it is up, its role, what it knows as learned, and all that it has
+-- beside them
 pub record Outside : Type 0 where
   pub up : Bool
   pub role : Role
@@ -39,7 +40,8 @@ abbrev pub TakesLetter : ℕ → ℕ → Outside → Letter → Answer → Answe
 TakesLetter members me was l taken answer =
     (is_heeded members me l ≡ false → answer ≡ taken) × (IsNothingNew was.role was.values l.from l.note → IsNoFault answer)
 
--- LogFull comes exactly where the places learned without a gap fill the log, and else a node that heard of its last ballot has spent its rounds
+-- LogFull comes exactly where the places learned without a gap fill the log, and else a node that heard of its last
+-- ballot has spent its rounds
 abbrev pub TakesLead : ℕ → Outside → Answer → Type 0
 TakesLead me was answer =
     (answer ≡ Fault LogFull ↔ most_places ≤ length (values_from 1 was.values))

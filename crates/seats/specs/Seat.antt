@@ -11,7 +11,8 @@ abbrev pub crashed : Standing → Standing
 crashed (Running view) = Stopped view.content None
 crashed (Stopped c doubt) = Stopped c doubt
 
--- what a node may be in the world: one that is up runs, as it stands for itself, and one that isn't has crashed, whatever it is for itself
+-- what a node may be in the world: one that is up runs, as it stands for itself, and one that isn't has crashed,
+-- whatever it is for itself
 abbrev pub Shown : Bool → (Standing → Type 0) → Standing → Type 0
 Shown true may s = may s × (view : View) × (s ≡ Running view)
 Shown false may s = (t : Standing) × may t × (s ≡ crashed t)

@@ -22,7 +22,8 @@ pub fn nodes_by_number<N: Node, E: From<AllocError>, F: FnMut(NodeId, Members) -
     mut make: F,
 ) -> Result<Vec<N>, E>
     requires callable { (state : F) (id : ℕ) → id < member_count members → F.pre state id members }
-    requires fresh { (state after : F) (id : ℕ) (node : N) → id < member_count members → F.step state id members (Ok node) after → IsFreshAt N.who N.honest N.stands (member_count members) id node }
+    requires fresh { (state after : F) (id : ℕ) (node : N) → id < member_count members → F.step state id members (Ok node) after
+        → IsFreshAt N.who N.honest N.stands (member_count members) id node }
     ensures fresh { IfOk result (λ nodes. AreFresh N.who N.honest N.stands nodes.items) }
     ensures count { IfOk result (λ nodes. length nodes.items ≡ member_count members) }
 {
@@ -40,7 +41,8 @@ pub fn nodes_by_number<N: Node, E: From<AllocError>, F: FnMut(NodeId, Members) -
 /// A fresh node, with a member's number, as `nodes_by_number` asks for it: this one needs no room.
 fn plain_node(alloc: Global, id: NodeId, members: Members) -> Result<PlainNode, AllocError>
     requires { id < member_count members }
-    ensures { IfOk result (λ node. IsFreshAt ⟦<SchedNode<PlainRecords> as Node>⟧.who ⟦<SchedNode<PlainRecords> as Node>⟧.honest ⟦<SchedNode<PlainRecords> as Node>⟧.stands (member_count members) id node) }
+    ensures { IfOk result (λ node. IsFreshAt ⟦<SchedNode<PlainRecords> as Node>⟧.who ⟦<SchedNode<PlainRecords> as Node>⟧.honest
+        ⟦<SchedNode<PlainRecords> as Node>⟧.stands (member_count members) id node) }
 {
     let records = PlainRecords::new(alloc);
     Ok(SchedNode::new(alloc, id, members, records))
@@ -48,7 +50,8 @@ fn plain_node(alloc: Global, id: NodeId, members: Members) -> Result<PlainNode, 
 
 /// The fresh nodes of so many members, by number.
 pub fn plain_nodes(alloc: Global, members: Members) -> Result<Vec<PlainNode>, AllocError>
-    ensures fresh { IfOk result (λ nodes. AreFresh ⟦<SchedNode<PlainRecords> as Node>⟧.who ⟦<SchedNode<PlainRecords> as Node>⟧.honest ⟦<SchedNode<PlainRecords> as Node>⟧.stands nodes.items) }
+    ensures fresh { IfOk result (λ nodes. AreFresh ⟦<SchedNode<PlainRecords> as Node>⟧.who ⟦<SchedNode<PlainRecords> as Node>⟧.honest
+        ⟦<SchedNode<PlainRecords> as Node>⟧.stands nodes.items) }
     ensures count { IfOk result (λ nodes. length nodes.items ≡ member_count members) }
 {
     nodes_by_number(alloc, members, |id, members| plain_node(alloc, id, members))

@@ -85,7 +85,8 @@ fn is_past(modem: &Modem, ch: u8, slot: Slot) -> bool
 
 /// A modem comes to a minislot of a channel. It takes no memory.
 pub fn tick_at(modem: &mut Modem, ch: u8, slot: Slot, random: u64) -> Answer
-    ensures comes { (r : Receiver) → IsReceiver modem.old r → (after : Receiver) × ComesTo r slot random (channel_of modem.old.channels ch) result after × IsReceiver modem.new after }
+    ensures comes { (r : Receiver) → IsReceiver modem.old r
+        → (after : Receiver) × ComesTo r slot random (channel_of modem.old.channels ch) result after × IsReceiver modem.new after }
     ensures memory { result ≢ Refused OutOfMemory }
     ensures quiet { is_store_fault result ≡ false }
 {
@@ -119,7 +120,8 @@ fn come_to(
     slot: Slot,
     random: u64,
 ) -> Answer
-    ensures comes { (r : Receiver) → IsReceiver modem.old r → (after : Receiver) × ComesTo r slot random (channel_of modem.old.channels ch) result after × IsReceiver modem.new after }
+    ensures comes { (r : Receiver) → IsReceiver modem.old r
+        → (after : Receiver) × ComesTo r slot random (channel_of modem.old.channels ch) result after × IsReceiver modem.new after }
     ensures sent { transmissions.new.items ≡ transmissions.old.items ++ sent_at (event.Tick m ch slot random) result }
     ensures quiet { is_store_fault result ≡ false }
 {
@@ -165,7 +167,8 @@ impl Receivers {
 
     /// Modem m hears output i near a minislot time.
     pub fn hear(&mut self, outputs: &[ReleasedOutput], m: usize, i: usize, near: Slot) -> Answer
-        ensures next { (modems : List Receiver) → Hold self.old modems → (after : List Receiver) × ModemNext modems outputs.now (event.Hear m i near) result after × Hold self.new after }
+        ensures next { (modems : List Receiver) → Hold self.old modems
+            → (after : List Receiver) × ModemNext modems outputs.now (event.Hear m i near) result after × Hold self.new after }
         ensures sent { sent_by self.new ≡ sent_by self.old ++ sent_at (event.Hear m i near) result }
         ensures quiet { is_store_fault result ≡ false }
     {
@@ -182,7 +185,8 @@ impl Receivers {
 
     /// Modem m wants to send a request of n minislots.
     pub fn want(&mut self, m: usize, ch: u8, sid: u16, n: u16) -> Answer
-        ensures next { (modems : List Receiver) (outputs : List ReleasedOutput) → Hold self.old modems → (after : List Receiver) × ModemNext modems outputs (event.Want m ch sid n) result after × Hold self.new after }
+        ensures next { (modems : List Receiver) (outputs : List ReleasedOutput) → Hold self.old modems
+            → (after : List Receiver) × ModemNext modems outputs (event.Want m ch sid n) result after × Hold self.new after }
         ensures sent { sent_by self.new ≡ sent_by self.old ++ sent_at (event.Want m ch sid n) result }
         ensures quiet { is_store_fault result ≡ false }
     {
@@ -195,7 +199,8 @@ impl Receivers {
 
     /// Modem m comes to a minislot of a channel.
     pub fn tick(&mut self, m: usize, ch: u8, slot: Slot, random: u64) -> Answer
-        ensures next { (modems : List Receiver) (outputs : List ReleasedOutput) → Hold self.old modems → (after : List Receiver) × ModemNext modems outputs (event.Tick m ch slot random) result after × Hold self.new after }
+        ensures next { (modems : List Receiver) (outputs : List ReleasedOutput) → Hold self.old modems
+            → (after : List Receiver) × ModemNext modems outputs (event.Tick m ch slot random) result after × Hold self.new after }
         ensures sent { sent_by self.new ≡ sent_by self.old ++ sent_at (event.Tick m ch slot random) result }
         ensures quiet { is_store_fault result ≡ false }
     {

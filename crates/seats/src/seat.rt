@@ -136,7 +136,8 @@ impl<N: Node> Seat<N> {
         }
     }
 
-    /// Ends what was done and answered so. Where there was no room for what the node gave, that is lost, and the node crashes.
+    /// Ends what was done and answered so. Where there was no room for what the node gave, that is lost, and the node
+    /// crashes.
     pub fn settle(&mut self, answer: Answer, kept: Result<(), AllocError>) -> Answer
         ensures answer { result ≡ settled answer (is_ok kept) }
         ensures settles { Settles answer (is_ok kept) self.old result self.new }

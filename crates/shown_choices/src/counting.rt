@@ -51,8 +51,8 @@ fn hear(
     }
 }
 
-/// For each letter, in the order of sending, the place that it shows to be chosen: it is the vote by which a majority of
-/// the members has voted for one value in one ballot there, and no letter before it showed that place.
+/// For each letter, in the order of sending, the place that it shows to be chosen: it is the vote by which a majority
+/// of the members has voted for one value in one ballot there, and no letter before it showed that place.
 pub fn choices(
     alloc: Global,
     members: Members,

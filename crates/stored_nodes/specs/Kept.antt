@@ -14,7 +14,8 @@ use Rattle.sqlite_disk.specs.declared.Files.{Files}
 use Rattle.sqlite_store.specs.declared.store.FileStore.{FileStore}
 use Rattle.sqlite_store.specs.FileStore.{recovers}
 
--- the trees are this owner's tables of the content, which a node wrote, or those of a database without tables, where it may be new and the content is none
+-- the trees are this owner's tables of the content, which a node wrote, or those of a database without tables, where it
+-- may be new and the content is none
 abbrev pub IsKeptFor : Owner → Bool → Trees → Content → Type 0
 IsKeptFor owner is_new db c =
     (AreTablesFor (Some owner) db c × IsOfNode c) ⊎ (IsDatabase (record { schema = blank_schema; trees = db }) × (is_new ≡ true) × (c ≡ no_content))
@@ -23,7 +24,8 @@ IsKeptFor owner is_new db c =
 abbrev pub IsOwnedIn : {D : Type 0} → disk.Ghosts D → Files D → Owner → Bool → Content → Type 0
 IsOwnedIn g files owner is_new c = (db : Trees) → HoldsDatabase (image_of g files) db → IsKeptFor owner is_new db c
 
--- the content is in the files as this owner's, and where a store might have left them, it is one of those that this store might leave
+-- the content is in the files as this owner's, and where a store might have left them, it is one of those that this
+-- store might leave
 abbrev pub IsFoundFor : {D : Type 0} → (g : disk.Ghosts D) → Files D → Owner → Bool → Content → Type 0
 IsFoundFor {D} g files owner is_new c =
     IsOwnedIn g files owner is_new c

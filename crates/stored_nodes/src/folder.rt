@@ -62,8 +62,8 @@ fn remove_all(rt: &HostRuntime, paths: Vec<String>) {
     }
 }
 
-/// Uses the nodes over the files of a folder, `node-K.db` and its log for node K. Where that gives a fault, it is given,
-/// nothing is used, and what wasn't there before is taken away again.
+/// Uses the nodes over the files of a folder, `node-K.db` and its log for node K. Where that gives a fault, it is
+/// given, nothing is used, and what wasn't there before is taken away again.
 pub fn use_nodes_in<U: NodesUse>(
     rt: &HostRuntime,
     folder: &str,

@@ -191,8 +191,8 @@ fn state_told(told: Told) -> Result<FilesState, AllocError>
     }
 }
 
-/// What the files of this node are. A copy of them is opened in memory, so that they stay as they are. Files that may not
-/// be used are unusable.
+/// What the files of this node are. A copy of them is opened in memory, so that they stay as they are. Files that may
+/// not be used are unusable.
 pub fn state_of_files<D: Disk>(
     alloc: Global,
     files: &mut Files<D>,

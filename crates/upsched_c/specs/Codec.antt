@@ -36,7 +36,8 @@ LacksMemory wanted room old new statuses.NoRoom = (room < wanted) × (new ≡ wa
 LacksMemory wanted room old new statuses.OutOfMemory = (wanted ≤ room) × (new ≡ old)
 LacksMemory wanted room old new _ = ⊥
 
--- bytes are read: they are a body that there is room for, a body that is longer, or no body; memory is wanted for a body with room alone
+-- bytes are read: they are a body that there is room for, a body that is longer, or no body; memory is wanted for a
+-- body with room alone
 abbrev pub Decodes : List ℕ → Read → Read → Status → Type 0
 Decodes bytes old new statuses.Done = (body : Body) × IsBody bytes body × IsReadTo body old new
 Decodes bytes old new statuses.NoRoom =
@@ -71,7 +72,8 @@ pub record IsFirstUnfit (es : List MapElement) (i : ℕ) : Type 0 where
 abbrev pub body_of : MapHead → List MapElement → Body
 body_of head es = record { head = head_value head; elements = map element_value es }
 
--- a head and elements are written where they make a body and there is room for its bytes; of what is wrong the first is told
+-- a head and elements are written where they make a body and there is room for its bytes; of what is wrong the first is
+-- told
 abbrev pub Encodes : MapHead → List MapElement → Written → Written → Status → Type 0
 Encodes head es old new statuses.Done =
     (bytes : List ℕ) × IsWritten bytes (body_of head es) × (length bytes ≤ length old.bytes)

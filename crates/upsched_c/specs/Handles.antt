@@ -16,7 +16,8 @@ Opens value None new statuses.OutOfMemory = new ≡ None
 Opens value None new _ = ⊥
 Opens value (Some h) new status = (status ≡ statuses.Open) × (new ≡ Some h)
 
--- a call is made on a handle and what it may write: a closed one stays closed and nothing is written; an open one stays open, with what the call does to what it holds
+-- a call is made on a handle and what it may write: a closed one stays closed and nothing is written; an open one stays
+-- open, with what the call does to what it holds
 abbrev pub Asks : {A : Type 0} → (Held → A → Held → A → Status → Type 0) → Option Held → A → Option Held → A → Status → Type 0
 Asks Does None out None out' status = (status ≡ statuses.Closed) × (out' ≡ out)
 Asks Does None out (Some _) out' status = ⊥

@@ -7,7 +7,8 @@ use Rattle.upsched_c.specs.declared.handle.Held.TheVariants as holds
 use Rattle.upsched_c.specs.declared.status.Status.{Status}
 use Rattle.upsched_c.specs.declared.status.Status.TheVariants as statuses
 
--- a handle is opened with the body that bytes are: a closed one is open then, or stays closed where they are none or memory is wanted; an open one stays as it is
+-- a handle is opened with the body that bytes are: a closed one is open then, or stays closed where they are none or
+-- memory is wanted; an open one stays as it is
 abbrev pub OpensMap : List ℕ → Option Held → Option Held → Status → Type 0
 OpensMap bytes None new statuses.Done = (body : Body) × IsBody bytes body × (new ≡ Some (holds.Map body))
 OpensMap bytes None new (statuses.Map fault) = FirstFault bytes fault × (new ≡ None)

@@ -72,7 +72,8 @@ pub extern "C" fn upsched_c_machine_apply(
     output: &mut OutputFields,
     body: &mut [u8; 1036],
 ) -> i32
-    ensures { Answers result (AsksMachine (command_value command.now) (held handle.old) (told output.old body.old) (held handle.new) (told output.new body.new)) }
+    ensures { Answers result (AsksMachine (command_value command.now) (held handle.old) (told output.old body.old) (held handle.new)
+        (told output.new body.new)) }
 {
     apply_to(alloc, handle, command_of(command), output, body).number()
 }

@@ -5,8 +5,8 @@ ghost use Rattle.upsched_c.specs.Modems.{event_fields as event_fields_lem, heard
 
 use modem::{Action, Heard, NextEvent, Sending};
 
-/// What a modem sends at a minislot: 0 nothing, 1 data by a grant, 2 a request at a poll, 3 a request where all may send
-/// one. A request is for so many minislots.
+/// What a modem sends at a minislot: 0 nothing, 1 data by a grant, 2 a request at a poll, 3 a request where all may
+/// send one. A request is for so many minislots.
 #[repr(C)]
 #[derive(Clone, Copy)]
 pub struct SendingFields {

@@ -38,7 +38,8 @@ abbrev pub status_of : Fault → Status
 status_of Fault.OutOfMemory = statuses.OutOfMemory
 status_of other = statuses.Node other
 
--- a call on a node: its letters are kept, its one write is handed out, and how many letters there are is told; or it is declined or lacks memory, and nothing changed
+-- a call on a node: its letters are kept, its one write is handed out, and how many letters there are is told; or it is
+-- declined or lacks memory, and nothing changed
 abbrev pub Sends : Cause → Held → Sent → Held → Sent → Status → Type 0
 Sends cause k old after new statuses.Done =
     (o : Outcome) × Takes k.node cause (Ok o)

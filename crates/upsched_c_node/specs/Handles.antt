@@ -13,7 +13,8 @@ held h = h.owner.value
 abbrev pub without_node : Handle → Status
 without_node h = if h.kind == 0 then statuses.Closed else statuses.OtherKind
 
--- what a call does by what a handle held before and after: one that held no node stays as it is and nothing is written, and one that held a node holds one still, with what the call does to it
+-- what a call does by what a handle held before and after: one that held no node stays as it is and nothing is written,
+-- and one that held a node holds one still, with what the call does to it
 abbrev pub AsksHeld : {A : Type 0} → (Held → A → Held → A → Status → Type 0) → Option Held → Option Held → Handle → A → Handle → A → Status → Type 0
 AsksHeld Does None _ h out new out' status = (status ≡ without_node h) × (new ≡ h) × (out' ≡ out)
 AsksHeld Does (Some k) (Some after) h out new out' status = Does k out after out' status

@@ -10,7 +10,8 @@ use Rattle.upsched_c_node.specs.Opening.{IsStarted}
 use Rattle.upsched_c_node.specs.States.{NodeState, Takes, started_as}
 use Rattle.upsched_c_node.specs.Writes.{HandsOut, HasStrange}
 
--- what happens to a node: a call that is OK and handed out these bytes, a release of its outputs, or a start over what it holds
+-- what happens to a node: a call that is OK and handed out these bytes, a release of its outputs, or a start over what
+-- it holds
 pub data Event : Type 0 where
   Call : Cause → WriteBytes → Event
   Release : Event
@@ -35,7 +36,8 @@ handed_out (Call cause r ∷ es) = r ∷ handed_out es
 handed_out (Release ∷ es) = handed_out es
 handed_out (Start ∷ es) = handed_out es
 
--- a node that is opened with all that was handed out, from when it was new, is the node that handed it out, started over what that held
+-- a node that is opened with all that was handed out, from when it was new, is the node that handed it out, started
+-- over what that held
 abbrev pub OpensAsLeft : Type 0
 OpensAsLeft =
     (id members : ℕ) (es : List Event) (last : NodeState) (k : Held) → AllHappen (started_as id members no_content) es last

@@ -93,7 +93,8 @@ TellsFields l old new statuses.NoRoom =
 TellsFields l old new statuses.BadField = ¬ ValuesFit l × (new ≡ old)
 TellsFields l old new _ = ⊥
 
--- what bytes are read as: a letter that they spell, or a status where they spell none, or where memory is wanted for what they carry
+-- what bytes are read as: a letter that they spell, or a status where they spell none, or where memory is wanted for
+-- what they carry
 abbrev pub Reads : List ℕ → Result Letter Status → Type 0
 Reads bytes (Ok l) = Spells bytes l
 Reads bytes (Err statuses.BadField) = SpellsNone bytes

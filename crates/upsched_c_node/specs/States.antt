@@ -45,7 +45,8 @@ SaysNew n (Tell to q) = letters_told n.members n.id n.view.tally.learned to q �
 abbrev pub MayLack : NodeState → Cause → Type 0
 MayLack n cause = ((o : Outcome) × Takes n cause (Ok o)) × SaysNew n cause
 
--- a call is answered with its letters and is whole, or it is declined, or for want of memory it isn't made; then nothing changed
+-- a call is answered with its letters and is whole, or it is declined, or for want of memory it isn't made; then
+-- nothing changed
 abbrev pub Answered : NodeState → Cause → Result (List Letter) Fault → NodeState → Type 0
 Answered n cause (Ok letters) after = (o : Outcome) × Takes n cause (Ok o) × (letters ≡ o.letters) × (after ≡ record n { view = o.view })
 Answered n cause (Err Fault.OutOfMemory) after = MayLack n cause × (after ≡ n)

@@ -14,7 +14,8 @@ use Rattle.upsched_c_node.specs.Writes.{SpellsOf}
 abbrev pub IsOfLog : ℕ → List ℕ → Type 0
 IsOfLog p v = IsPlace p × IsValue v
 
--- these bytes are the write that a note of node id tells of: the ballot that it prepares or promises, its vote; any other tells of none
+-- these bytes are the write that a note of node id tells of: the ballot that it prepares or promises, its vote; any
+-- other tells of none
 abbrev pub TellsWrite : ℕ → Note → WriteBytes → Type 0
 TellsWrite id (Prepare b q) r = SpellsOf id r (Some (Tries b))
 TellsWrite id (Promise b q votes) r = SpellsOf id r (Some (Promises b))
@@ -37,7 +38,8 @@ abbrev pub IsOpen : NodeState → Note → Option ℕ → Type 0
 IsOpen n note (Some p) = Teaches note p × IsPlace p × (at n.view.tally.learned p ≡ None)
 IsOpen n note None = (p : ℕ) → Teaches note p → IsPlace p → at n.view.tally.learned p ≢ None
 
--- these bytes are the write of a call that left the node and these letters: the value that is learned at the open place now, or what the last letter tells of
+-- these bytes are the write of a call that left the node and these letters: the value that is learned at the open place
+-- now, or what the last letter tells of
 abbrev pub WritesAfter : NodeState → List Letter → Option ℕ → WriteBytes → Type 0
 WritesAfter n letters (Some p) r = MatchOption (at n.view.tally.learned p) (SpellsOf n.id r None) (λ v. IsValue v → SpellsOf n.id r (Some (Learns p v)))
 WritesAfter n letters None r = MatchOption (slice_get letters (length letters - 1)) (SpellsOf n.id r None) (λ l. TellsWrite n.id l.note r)

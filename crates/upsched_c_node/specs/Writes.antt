@@ -48,7 +48,8 @@ IsStrange id r = (write : Option Write) → ¬ SpellsOf id r write
 abbrev pub SpellsStanding : ℕ → Content → WriteBytes → Type 0
 SpellsStanding id c r = (p : ℕ) × (cast : Cast) × (at c.votes p ≡ Some cast) × SpellsOf id r (Some (Votes p cast))
 
--- what a call of node id hands out, over this content: its one write. Where it makes none, because it tells a vote again, that may be the vote
+-- what a call of node id hands out, over this content: its one write. Where it makes none, because it tells a vote
+-- again, that may be the vote
 abbrev pub HandsOut : ℕ → Content → Option Write → WriteBytes → Type 0
 HandsOut id c write r = SpellsOf id r write ⊎ ((write ≡ None) × SpellsStanding id c r)
 

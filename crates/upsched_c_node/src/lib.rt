@@ -1,5 +1,5 @@
-//! What C calls of a node. `include/upsched_node.h` declares each function that is exported here, and says what a caller
-//! owes.
+//! What C calls of a node. `include/upsched_node.h` declares each function that is exported here, and says what a
+//! caller owes.
 #![tactic(auto)]
 
 pub(crate) mod asked;

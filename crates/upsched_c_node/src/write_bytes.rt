@@ -8,7 +8,8 @@ ghost use Rattle.upsched_c_node.specs.Writes.{HasBallot, HasPlace, HasValue, Spe
 use ballots::{Ballot, NodeId, Place};
 use upsched_c_parts::put_front;
 
-/// A write as bytes, numbers most significant byte first: 0 no write, 1 a ballot that is tried, 2 one that is promised, 3 a vote, 4 a learned value; the node; and the fields that it has, of which the others are 0.
+/// A write as bytes, numbers most significant byte first: 0 no write, 1 a ballot that is tried, 2 one that is promised,
+/// 3 a vote, 4 a learned value; the node; and the fields that it has, of which the others are 0.
 #[repr(C)]
 #[derive(Clone, Copy)]
 pub struct WriteBytes {

@@ -1,7 +1,7 @@
 //! Runs each example of the folders below as the program would, and tells which prints anything
 //! but what stands beside it: `NAME.stdout` where all goes well, `NAME.stderr` where it faults. Scripts
-//! run a second time with `--store` and a third time over files in memory, plans of `live` with fewer turns and `--verbose`, and plans with a fault by `live` too.
-//! `check --store` is run on folders of databases.
+//! run a second time with `--store` and a third time over files in memory, plans of `live` with fewer turns and
+//! `--verbose`, and plans with a fault by `live` too. `check --store` is run on folders of databases.
 #![tactic(auto)]
 
 mod in_memory;

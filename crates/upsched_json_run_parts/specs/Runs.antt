@@ -38,7 +38,8 @@ abbrev pub seen : Option (Option Sight) → Option Sight
 seen None = None
 seen (Some sight) = sight
 
--- answers, numbered from n on, each with the outputs and the letters that it tells, where so many letters were sent before
+-- answers, numbered from n on, each with the outputs and the letters that it tells, where so many letters were sent
+-- before
 abbrev pub rows_from : (n before : ℕ) → List Event → List Answer → List (Option Sight) → List Letter → List ReleasedOutput → List Row
 rows_from n before events [] sights letters outputs = []
 rows_from n before events (a ∷ answers) sights letters outputs =
@@ -73,7 +74,8 @@ PrintsGoing traced members w events old new w' =
     (report : List Answer) × (sights : List (Option Sight)) × GoesTraced traced members w events report sights w'
     × PrintsRows traced (rows_from 0 0 events report sights w'.letters w'.outputs) old new
 
--- the events may go so, over so many fresh nodes and new modems of these ids: a line for each, and one of how many letters, outputs and transmissions there were
+-- the events may go so, over so many fresh nodes and new modems of these ids: a line for each, and one of how many
+-- letters, outputs and transmissions there were
 abbrev pub PrintsEventsAsJson : Bool → ℕ → List ℕ → List Event → Option (List ℕ) → Option (List ℕ) → Type 0
 PrintsEventsAsJson traced members ids events old new =
     (mid : Option (List ℕ)) × (w : Written) × PrintsGoing traced members (opening members ids) events old mid w

@@ -88,7 +88,8 @@ fn print_event<'a, O: Write>(
     requires came { trace.now.came_first + length trace.now.came.now < 2 ^ 64 }
     requires sent { trace.now.sent_first + length trace.now.sent.now < 2 ^ 64 }
     ensures { OnOk result (PrintsLine (TellsOne is_traced number answer released.now
-        (trace_of trace.now.came_first trace.now.came.now trace.now.sent_first trace.now.sent.now trace.now.sight)) (O.contents output.old) (O.contents output.new)) }
+        (trace_of trace.now.came_first trace.now.came.now trace.now.sent_first trace.now.sent.now trace.now.sight)) (O.contents output.old)
+        (O.contents output.new)) }
 {
     match text_of_event(alloc, is_traced, number, answer, released, trace) {
         Ok(text) => print_line(text.as_str(), output),
@@ -96,7 +97,8 @@ fn print_event<'a, O: Write>(
     }
 }
 
-/// A line for each event, numbered from 0 on, with the outputs that it released, and with its trace where that is wanted.
+/// A line for each event, numbered from 0 on, with the outputs that it released, and with its trace where that is
+/// wanted.
 pub(crate) fn print_events<'a, O: Write>(
     alloc: Global,
     is_traced: bool,

@@ -56,8 +56,8 @@ pub struct Audited {
 
 /// Has three nodes with a thread and so many turns each work on a plan's commands, audits what they did and what was
 /// recorded of it, and prints the line of that. A fault of the plan is found before anything happens. With `verbose` it
-/// also logs how much each node recorded and learned. How much that is isn't promised; with no turn, or where no carrier
-/// found anything to do, there is nothing to audit, and the line is the same.
+/// also logs how much each node recorded and learned. How much that is isn't promised; with no turn, or where no
+/// carrier found anything to do, there is nothing to audit, and the line is the same.
 pub fn live_audited<'a, R: Log, T: Threads + Wait + Clock + Sync + AllocGlobal, F: Read, O: Write>(
     rt: &R,
     threads: &T,

@@ -23,7 +23,8 @@ PrintsGoing trace members w events old new w' =
     (report : List Answer) × (sights : List (Option Sight)) × GoesTraced trace members w events report sights w'
     × Appends old new (event_lines trace events report sights w'.letters w'.outputs)
 
--- the events may go so, over so many fresh nodes and new modems of these ids, and what is printed is the lines of that run, traced or not
+-- the events may go so, over so many fresh nodes and new modems of these ids, and what is printed is the lines of that
+-- run, traced or not
 abbrev pub PrintsEvents : Bool → ℕ → List ℕ → List Event → Option (List ℕ) → Option (List ℕ) → Type 0
 PrintsEvents trace members ids events old new =
     (report : List Answer) × (sights : List (Option Sight)) × (w : Written) × GoesTraced trace members (opening members ids) events report sights w

@@ -82,8 +82,8 @@ answer_lines n (a ∷ answers) outputs =
 abbrev pub sent_with : ℕ → Answer → List Letter → List Letter
 sent_with before a letters = take (sent_count a) (drop before letters)
 
--- the same with a trace: each answer has the letter that came, what is seen of the node, its outputs, and the letters that it tells, by the numbers
--- that `deliver` names them by, which go on from event to event
+-- the same with a trace: each answer has the letter that came, what is seen of the node, its outputs, and the letters
+-- that it tells, by the numbers that `deliver` names them by, which go on from event to event
 abbrev pub traced_lines : ℕ → ℕ → List Event → List Answer → List (Option Sight) → List Letter → List ReleasedOutput → List ℕ
 traced_lines n before events [] sights letters outputs = []
 traced_lines n before events (a ∷ answers) sights letters outputs =
@@ -101,7 +101,8 @@ abbrev pub counts_line : ℕ → ℕ → ℕ → List ℕ
 counts_line letters outputs transmissions =
     codes "letters " ++ (decimal letters ++ (codes " outputs " ++ (decimal outputs ++ (codes " transmissions " ++ (decimal transmissions ++ 10 ∷ [])))))
 
--- all lines of a run of these events that gave this report, of which this was seen, and which left this world, traced or not
+-- all lines of a run of these events that gave this report, of which this was seen, and which left this world, traced
+-- or not
 abbrev pub run_lines : Bool → List Event → List Answer → List (Option Sight) → Written → List ℕ
 run_lines trace events report sights w =
     event_lines trace events report sights w.letters w.outputs ++ counts_line (length w.letters) (length w.outputs) (length w.transmissions)

@@ -30,7 +30,8 @@ use world_events::Event;
 pub struct Telling {
     /// Whether each fault of a node and each crash is logged.
     pub verbose: bool,
-    /// Whether the letters that an event delivers and sends, and what is seen of its node, are printed behind its answer.
+    /// Whether the letters that an event delivers and sends, and what is seen of its node, are printed behind its
+    /// answer.
     pub trace: bool,
 }
 
@@ -237,8 +238,8 @@ pub fn run_script<R: Log + AllocGlobal, F: Read, O: Write, E: Write>(
 }
 
 /// As `run_script`, but behind each answer come the letter that the event delivers, and whether the node that it asks
-/// prepares or leads from then on and what it learned. Behind the outputs come the letters that it sent. Each letter has
-/// the number by which `deliver` names it, its sender, its addressee and what it says.
+/// prepares or leads from then on and what it learned. Behind the outputs come the letters that it sent. Each letter
+/// has the number by which `deliver` names it, its sender, its addressee and what it says.
 pub fn trace_script<R: Log + AllocGlobal, F: Read, O: Write, E: Write>(
     rt: &R,
     script: &mut F,

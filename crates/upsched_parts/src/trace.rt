@@ -195,7 +195,8 @@ pub(crate) fn print_traced<'a, O: Write>(
     outputs: &[ReleasedOutput],
     output: &mut O,
 ) -> Result<(), Fault<'a>>
-    ensures { OnOk result (Appends (O.contents output.old) (O.contents output.new) (traced_lines 0 0 events.now answers.now sights.now letters.now outputs.now)) }
+    ensures { OnOk result (Appends (O.contents output.old) (O.contents output.new)
+        (traced_lines 0 0 events.now answers.now sights.now letters.now outputs.now)) }
 {
     let mut before = 0;
     let mut rest = outputs;

@@ -22,7 +22,8 @@ abbrev pub DrawsRun : ℕ → List ℕ → List Event → List Answer → List (
 DrawsRun members ids events report sights w old new =
     (text : List ℕ) × IsPictureOf members ids events report sights w.letters w.outputs text × Appends old new (text ++ 10 ∷ [])
 
--- the events may go so, over so many fresh nodes and new modems of these ids, and what is printed is a picture of that run
+-- the events may go so, over so many fresh nodes and new modems of these ids, and what is printed is a picture of that
+-- run
 abbrev pub DrawsEvents : ℕ → List ℕ → List Event → Option (List ℕ) → Option (List ℕ) → Type 0
 DrawsEvents members ids events old new =
     (report : List Answer) × (sights : List (Option Sight)) × (w : Written) × GoesWatched members (opening members ids) events report sights w
@@ -36,8 +37,8 @@ DrawsScript (Some text) old new =
 
 -- ---- the MAPs of a run
 
--- the events may go so, over so many fresh nodes and new modems of these ids, that in the end these are the commands of a node that has learned most,
--- and this is what the modems have transmitted
+-- the events may go so, over so many fresh nodes and new modems of these ids, that in the end these are the commands of
+-- a node that has learned most, and this is what the modems have transmitted
 abbrev pub LeavesLearned : ℕ → List ℕ → List Event → List Command → List Sent → Type 0
 LeavesLearned members ids events cs ts =
     (report : List Answer) × (w : Written) × Run members ids events report w × AreMostLearned w.nodes cs × (ts ≡ map (told ids) w.transmissions)
@@ -47,7 +48,8 @@ abbrev pub LearnsFrom : List ℕ → List Command → List Sent → Type 0
 LearnsFrom text cs ts =
     (count : Members) × (ids : List ℕ) × (events : List Event) × IsScript text count ids events × LeavesLearned (member_count count) ids events cs ts
 
--- what is printed is a picture of what these commands do, as it is of a plan's, and of what modems transmitted in the same run, where the text is known
+-- what is printed is a picture of what these commands do, as it is of a plan's, and of what modems transmitted in the
+-- same run, where the text is known
 abbrev pub DrawsLearned : Option (List ℕ) → Option (List ℕ) → Option (List ℕ) → Type 0
 DrawsLearned None old new = Unit {0}
 DrawsLearned (Some text) old new = (cs : List Command) × (ts : List Sent) × LearnsFrom text cs ts × DrawsCommands cs ts old new

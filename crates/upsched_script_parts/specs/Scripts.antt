@@ -66,7 +66,8 @@ pub record IsWrittenSo (count : Members) (ids : List ℕ) (events : List Event) 
   pub modems : ids ≡ wished_ids
   pub written : text ≡ script_text count ids events
 
--- the text is the written script of these members, ids and of some events, is read back as that script, and it runs as asked
+-- the text is the written script of these members, ids and of some events, is read back as that script, and it runs as
+-- asked
 pub record IsAsAsked (commands : List Command) (count : Members) (ids : List ℕ) (crashed overtaken : ℕ) (text : List ℕ) : Type 0 where
   pub events : List Event
   pub script : IsScript text count ids events

@@ -1,5 +1,5 @@
-//! What the program does with the word `script`: it makes a script, reads it back, runs it, and prints it where it is as
-//! asked. It opens no file.
+//! What the program does with the word `script`: it makes a script, reads it back, runs it, and prints it where it is
+//! as asked. It opens no file.
 #![tactic(auto)]
 
 mod asked;

@@ -78,7 +78,8 @@ fn is_written_so<'a>(
     script: &Script,
     text: &str,
 ) -> Result<bool, Fault<'a>>
-    ensures { IfOk result (λ is. IsTrue is → IsWrittenSo script.now.members script.now.modems.items script.now.events.items wishes.now.members wishes.now.modems.now text.now) }
+    ensures { IfOk result (λ is. IsTrue is
+        → IsWrittenSo script.now.members script.now.modems.items script.now.events.items wishes.now.members wishes.now.modems.now text.now) }
 {
     let Ok(written) = script_text(alloc, script) else {
         return Err(Fault::Memory);

@@ -22,7 +22,8 @@ fn made_text<'a>(
     commands: &[Command],
     wishes: &Wishes<'_>,
 ) -> Result<String, Refusal<'a>>
-    ensures { IfOk result (λ text. IsAsAsked commands.now wishes.now.members wishes.now.modems.now wishes.now.crashes wishes.now.takeovers (string_bytes text)) }
+    ensures { IfOk result (λ text. IsAsAsked commands.now wishes.now.members wishes.now.modems.now wishes.now.crashes wishes.now.takeovers
+        (string_bytes text)) }
 {
     let Ok(script) = made_script(alloc, commands, wishes) else {
         return Err(Refusal::Fault(Fault::Memory));

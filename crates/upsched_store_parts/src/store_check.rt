@@ -122,8 +122,8 @@ fn report_folder<'a, O: Write>(
     }
 }
 
-/// Tells what the files of a folder's nodes are. Where no node can begin or go on over one of them, or none is there, it
-/// ends as faulted.
+/// Tells what the files of a folder's nodes are. Where no node can begin or go on over one of them, or none is there,
+/// it ends as faulted.
 pub fn check_store<O: Write, E: Write>(
     rt: &HostRuntime,
     folder: &str,

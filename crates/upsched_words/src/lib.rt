@@ -1,6 +1,8 @@
 //! The words of the command line, read and refused.
 #![tactic(auto)]
 
+mod commands;
+mod usages;
 mod words;
 
 pub use words::{

@@ -1,4 +1,5 @@
--- When bytes are well-formed XML: elements whose tags balance, with attributes and texts in which nothing is to be escaped.
+-- When bytes are well-formed XML: elements whose tags balance, with attributes and texts in which nothing is to be
+-- escaped.
 use Rattle.std.specs.Prelude.{ℕ, Bool, false, true, nat_lt, ◌==◌, ◌&&◌, ◌||◌, not, IsTrue, List, [], ◌∷◌, ◌++◌, map}
 use Rattle.std.specs.List.{AllByRecursion, list_all, list_any}
 use Rattle.xml_text.specs.Xml.{Attribute, hollow_text, whole_text, is_plain}

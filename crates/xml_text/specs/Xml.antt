@@ -3,7 +3,8 @@ use Rattle.std.specs.Prelude.{ℕ, Bool, if◌then◌else◌, nat_lt, ◌==◌, 
 
 -- ---- texts
 
--- the bytes that stand for themselves: those of ASCII from the space on, but the quote, the ampersand and angle brackets
+-- the bytes that stand for themselves: those of ASCII from the space on, but the quote, the ampersand and angle
+-- brackets
 abbrev pub is_plain : ℕ → Bool
 is_plain b = not (nat_lt b 32) && (nat_lt b 127 && not ((b == 34) || ((b == 38) || ((b == 60) || (b == 62)))))
 

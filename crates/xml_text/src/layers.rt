@@ -57,7 +57,8 @@ fn add_style(alloc: Global, out: &mut String, style: &str) -> Result<(), AllocEr
 
 /// Definitions, whose text is given.
 fn add_definitions(alloc: Global, out: &mut String, definitions: &str) -> Result<(), AllocError>
-    ensures { (known : Xml) → definitions.now ≡ render known → OnOk result (string_bytes out.new ≡ string_bytes out.old ++ render (Holding Definitions known Nothing)) }
+    ensures { (known : Xml) → definitions.now ≡ render known
+        → OnOk result (string_bytes out.new ≡ string_bytes out.old ++ render (Holding Definitions known Nothing)) }
 {
     let text = format!(in alloc; "<defs>{definitions}</defs>")?;
     out.push_str(text.as_str())
