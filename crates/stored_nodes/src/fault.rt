@@ -1,5 +1,10 @@
 //! Why fresh nodes don't start over files.
 
+ghost use Rattle.std.specs.Prelude.{◌≡◌, ◌⊎◌};
+ghost use Rattle.sqlite_std_file.specs.declared.pair.OpenError.TheVariants as pair;
+ghost use Rattle.stored_nodes.specs.Faults.{stored_open, stored_start};
+ghost use Rattle.stored_nodes.specs.declared.fault.StoreFault.TheVariants.{OutOfMemory, Unusable};
+
 use crate::start::StartFault;
 use acceptor_store::OpenFault;
 use node::NodeFault;
@@ -23,18 +28,24 @@ pub enum StoreFault {
 }
 
 impl From<AllocError> for StoreFault {
+    ghost from_gives = { λ _ given. given ≡ OutOfMemory };
+
     fn from(_fault: AllocError) -> StoreFault {
         StoreFault::OutOfMemory
     }
 }
 
 impl<T: Drop> From<AllocFailed<T>> for StoreFault {
+    ghost from_gives = { λ _ given. given ≡ OutOfMemory };
+
     fn from(_fault: AllocFailed<T>) -> StoreFault {
         StoreFault::OutOfMemory
     }
 }
 
 impl From<io::Error> for StoreFault {
+    ghost from_gives = { λ _ given. (given ≡ OutOfMemory) ⊎ (given ≡ Unusable) };
+
     fn from(error: io::Error) -> StoreFault {
         match error.kind() {
             ErrorKind::OutOfMemory => StoreFault::OutOfMemory,
@@ -44,6 +55,10 @@ impl From<io::Error> for StoreFault {
 }
 
 impl From<OpenError> for StoreFault {
+    ghost from_gives = { λ error given. ((given ≡ OutOfMemory) ⊎ (given ≡ Unusable))
+        × (error ≡ pair.OutOfMemory → given ≡ OutOfMemory)
+        × (error ≡ pair.Busy → given ≡ Unusable) × (error ≡ pair.HotJournal → given ≡ Unusable) };
+
     fn from(error: OpenError) -> StoreFault {
         match error {
             OpenError::OutOfMemory => StoreFault::OutOfMemory,
@@ -54,6 +69,8 @@ impl From<OpenError> for StoreFault {
 }
 
 impl From<OpenFault> for StoreFault {
+    ghost from_gives = { λ fault given. given ≡ stored_open fault };
+
     fn from(fault: OpenFault) -> StoreFault {
         match fault {
             OpenFault::OutOfMemory => StoreFault::OutOfMemory,
@@ -63,9 +80,12 @@ impl From<OpenFault> for StoreFault {
 }
 
 impl From<StartFault> for StoreFault {
+    ghost from_gives = { λ fault given. given ≡ stored_start fault };
+
     fn from(fault: StartFault) -> StoreFault {
         match fault {
             StartFault::NotFresh => StoreFault::NotFresh,
+            StartFault::OutOfMemory => StoreFault::OutOfMemory,
             StartFault::Unread(NodeFault::OutOfMemory) => StoreFault::OutOfMemory,
             _ => StoreFault::Unusable,
         }

@@ -1,6 +1,8 @@
 //! Why a node doesn't start over its files.
 
-ghost use Rattle.std.specs.Prelude.{◌≡◌};
+ghost use Rattle.std.specs.Prelude.{◌≡◌, ◌⊎◌};
+ghost use Rattle.sqlite_std_file.specs.declared.pair.OpenError.TheVariants as pair;
+ghost use Rattle.stored_nodes.specs.declared.start.StartFault.TheVariants.{InUse, OutOfMemory, Unusable};
 
 use acceptor_store::OwnerFault;
 use node::NodeFault;
@@ -56,18 +58,24 @@ impl From<NodeFault> for StartFault {
 }
 
 impl From<AllocError> for StartFault {
+    ghost from_gives = { λ _ given. given ≡ OutOfMemory };
+
     fn from(_fault: AllocError) -> StartFault {
         StartFault::OutOfMemory
     }
 }
 
 impl<T: Drop> From<AllocFailed<T>> for StartFault {
+    ghost from_gives = { λ _ given. given ≡ OutOfMemory };
+
     fn from(_fault: AllocFailed<T>) -> StartFault {
         StartFault::OutOfMemory
     }
 }
 
 impl From<io::Error> for StartFault {
+    ghost from_gives = { λ _ given. (given ≡ OutOfMemory) ⊎ (given ≡ Unusable) };
+
     fn from(error: io::Error) -> StartFault {
         match error.kind() {
             ErrorKind::OutOfMemory => StartFault::OutOfMemory,
@@ -77,6 +85,10 @@ impl From<io::Error> for StartFault {
 }
 
 impl From<OpenError> for StartFault {
+    ghost from_gives = { λ error given. ((given ≡ OutOfMemory) ⊎ (given ≡ Unusable) ⊎ (given ≡ InUse))
+        × (error ≡ pair.OutOfMemory → given ≡ OutOfMemory)
+        × (error ≡ pair.Busy → given ≡ InUse) × (error ≡ pair.HotJournal → given ≡ Unusable) };
+
     fn from(error: OpenError) -> StartFault {
         match error {
             OpenError::OutOfMemory => StartFault::OutOfMemory,

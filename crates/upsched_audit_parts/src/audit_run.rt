@@ -1,11 +1,12 @@
 //! `upsched audit --members M J0 J1 J2`: from journals to how the program ends.
 
-ghost use Rattle.std.specs.Prelude.{◌≡◌, ◌≢◌, IfOk};
+ghost use Rattle.std.specs.Prelude.{◌≡◌, ◌≢◌, IfOk, IfErr};
 ghost use Rattle.std.specs.Io.KnownBytes.{Appends};
 ghost use Rattle.node_journal.specs.Legal.{AreLegalJournals};
 ghost use Rattle.node_journal.specs.declared.audits.Verdict.TheVariants.{Yes};
 ghost use Rattle.upsched_audit_parts.specs.Audits.{verdict_line};
 ghost use Rattle.upsched_map_parts.specs.declared.status.Status.TheVariants.{Done, NotUnderstood};
+ghost use Rattle.upsched_map_parts.specs.Faults.{StopsPrint};
 
 use crate::verdict_line::{print_verdict, status_of};
 use ballots::{Bytes, Members};
@@ -23,6 +24,7 @@ pub fn print_audit<'a, O: Write>(
 ) -> Result<Verdict, Fault<'a>>
     ensures printed { IfOk result (λ verdict. Appends (O.contents output.old) (O.contents output.new) (verdict_line verdict)) }
     ensures legal { IfOk result (λ verdict. verdict ≡ Yes → AreLegalJournals members journals.now) }
+    ensures fault { IfErr result StopsPrint }
 {
     let Ok(verdict) = node_journal::audit(alloc, members, journals) else {
         return Err(Fault::Memory);

@@ -1,8 +1,9 @@
 //! The journals that words name.
 
-ghost use Rattle.std.specs.Prelude.{◌≡◌, IfOk, IfSome, MatchOption};
+ghost use Rattle.std.specs.Prelude.{◌≡◌, ◌⊎◌, IfErr, IfOk, IfSome, MatchOption};
 ghost use Rattle.ballots.specs.declared.members.Members.{Members};
 ghost use Rattle.upsched_audit_parts.specs.Audits.{NamesJournals};
+ghost use Rattle.upsched_map_parts.specs.declared.fault.Fault.TheVariants.{Memory, Unreadable};
 
 use ballots::{Bytes, Members};
 use std::alloc::Global;
@@ -32,7 +33,8 @@ pub fn journal_of<'a, R: Read>(
     file: &mut R,
     path: &'a str,
 ) -> Result<Bytes, Fault<'a>>
-    ensures { IfOk result (λ journal. IfSome (R.remaining file.old) (λ bytes. journal ≡ bytes)) }
+    ensures journal { IfOk result (λ journal. IfSome (R.remaining file.old) (λ bytes. journal ≡ bytes)) }
+    ensures fault { IfErr result (λ fault. (fault ≡ Memory) ⊎ (fault ≡ Unreadable path.entry)) }
 {
     let mut bytes = Vec::new(alloc);
     match file.read_to_end(&mut bytes) {

@@ -1,8 +1,9 @@
 //! What an audit found, as a printed line.
 
-ghost use Rattle.std.specs.Prelude.{◌≡◌, OnOk};
+ghost use Rattle.std.specs.Prelude.{◌≡◌, OnOk, IfErr};
 ghost use Rattle.std.specs.Io.KnownBytes.{Appends};
 ghost use Rattle.upsched_audit_parts.specs.Audits.{verdict_line, verdict_status};
+ghost use Rattle.upsched_map_parts.specs.Faults.{StopsPrint};
 
 use node_journal::Verdict;
 use std::io;
@@ -20,7 +21,8 @@ fn write_verdict<O: Write>(verdict: Verdict, output: &mut O) -> io::Result<()>
 
 /// Prints the line of what an audit found, and all that was printed goes out.
 pub(crate) fn print_verdict<'a, O: Write>(verdict: Verdict, output: &mut O) -> Result<(), Fault<'a>>
-    ensures { OnOk result (Appends (O.contents output.old) (O.contents output.new) (verdict_line verdict)) }
+    ensures printed { OnOk result (Appends (O.contents output.old) (O.contents output.new) (verdict_line verdict)) }
+    ensures fault { IfErr result StopsPrint }
 {
     if write_verdict(verdict, output).is_err() {
         return Err(Fault::Output);

@@ -1,10 +1,11 @@
 //! Prints what came of a run.
 
-ghost use Rattle.std.specs.Prelude.{◌≡◌, ◌+◌, ◌<◌, ◌^◌, IfOk, OnOk, take, drop, length, slice_get, string_bytes};
+ghost use Rattle.std.specs.Prelude.{◌≡◌, ◌+◌, ◌<◌, ◌^◌, IfOk, OnOk, take, drop, length, slice_get, string_bytes, IfErr};
 ghost use Rattle.json_outputs.specs.Texts.{IsTextWhere};
 ghost use Rattle.json_answers.specs.Events.{counts_data, trace_of};
 ghost use Rattle.upsched_json_parts.specs.Lines.{PrintsLine, PrintsValue};
 ghost use Rattle.upsched_json_run_parts.specs.Runs.{PrintsRows, TellsOne, came_by, rows_from, seen};
+ghost use Rattle.upsched_map_parts.specs.Faults.{StopsPrint};
 
 use ballots::Letter;
 use json_answers::{EventTrace, counts_text, event_text, traced_text};
@@ -87,9 +88,10 @@ fn print_event<'a, O: Write>(
 ) -> Result<(), Fault<'a>>
     requires came { trace.now.came_first + length trace.now.came.now < 2 ^ 64 }
     requires sent { trace.now.sent_first + length trace.now.sent.now < 2 ^ 64 }
-    ensures { OnOk result (PrintsLine (TellsOne is_traced number answer released.now
+    ensures printed { OnOk result (PrintsLine (TellsOne is_traced number answer released.now
         (trace_of trace.now.came_first trace.now.came.now trace.now.sent_first trace.now.sent.now trace.now.sight)) (O.contents output.old)
         (O.contents output.new)) }
+    ensures fault { IfErr result StopsPrint }
 {
     match text_of_event(alloc, is_traced, number, answer, released, trace) {
         Ok(text) => print_line(text.as_str(), output),
@@ -109,8 +111,9 @@ pub(crate) fn print_events<'a, O: Write>(
     outputs: &[ReleasedOutput],
     output: &mut O,
 ) -> Result<(), Fault<'a>>
-    ensures { OnOk result (PrintsRows is_traced (rows_from 0 0 events.now answers.now sights.now letters.now outputs.now)
+    ensures printed { OnOk result (PrintsRows is_traced (rows_from 0 0 events.now answers.now sights.now letters.now outputs.now)
         (O.contents output.old) (O.contents output.new)) }
+    ensures fault { IfErr result StopsPrint }
 {
     let mut before = 0;
     let mut rest = outputs;
@@ -141,7 +144,8 @@ fn print_counts_line<'a, O: Write>(
     transmissions: usize,
     output: &mut O,
 ) -> Result<(), Fault<'a>>
-    ensures { OnOk result (PrintsValue (counts_data letters outputs transmissions) (O.contents output.old) (O.contents output.new)) }
+    ensures printed { OnOk result (PrintsValue (counts_data letters outputs transmissions) (O.contents output.old) (O.contents output.new)) }
+    ensures fault { IfErr result StopsPrint }
 {
     match counts_text(alloc, letters, outputs, transmissions) {
         Ok(text) => print_line(text.as_str(), output),
@@ -157,7 +161,8 @@ pub(crate) fn print_counts<'a, O: Write>(
     transmissions: usize,
     output: &mut O,
 ) -> Result<(), Fault<'a>>
-    ensures { OnOk result (PrintsValue (counts_data letters outputs transmissions) (O.contents output.old) (O.contents output.new)) }
+    ensures printed { OnOk result (PrintsValue (counts_data letters outputs transmissions) (O.contents output.old) (O.contents output.new)) }
+    ensures fault { IfErr result StopsPrint }
 {
     print_counts_line(alloc, letters, outputs, transmissions, output)?;
     match output.flush() {

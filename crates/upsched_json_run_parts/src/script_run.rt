@@ -1,6 +1,6 @@
 //! `upsched run SCRIPT --json`: what happens to nodes and modems.
 
-ghost use Rattle.std.specs.Prelude.{◌≡◌, ◌≢◌, OnOk, IfOk, true, false, length, map};
+ghost use Rattle.std.specs.Prelude.{◌≡◌, ◌≢◌, OnOk, IfOk, true, false, length, map, IfErr};
 ghost use Rattle.ballots.specs.Members.{member_count};
 ghost use Rattle.seats.specs.Receiving.{AreNew};
 ghost use Rattle.seats.specs.Fresh.{AreFresh};
@@ -9,6 +9,7 @@ ghost use Rattle.network_script.specs.Worlds.{AreHonest, StandsFor};
 ghost use Rattle.upsched_map_parts.specs.declared.status.Status.TheVariants.{Done, NotUnderstood};
 ghost use Rattle.upsched_parts.specs.Run.{NoScript};
 ghost use Rattle.upsched_json_run_parts.specs.Runs.{PrintsEventsAsJson, PrintsGoing, PrintsScriptAsJson};
+ghost use Rattle.upsched_map_parts.specs.Faults.{StopsPrint};
 
 use crate::report::{print_counts, print_events};
 use modem::Modem;
@@ -33,6 +34,7 @@ fn print_answered<'a, N: Node, O: Write>(
     ensures honesty { AreHonest world.new → AreHonest world.old }
     ensures printed { OnOk result (AreHonest world.new → (w : Written) → StandsFor world.old w →
         (w' : Written) × PrintsGoing false (length w.nodes) w events.now (O.contents output.old) (O.contents output.new) w' × StandsFor world.new w') }
+    ensures fault { IfErr result StopsPrint }
 {
     let Ok(report) = world.run(events) else {
         return Err(Fault::Memory);
@@ -62,6 +64,7 @@ fn print_watched<'a, N: Node, O: Write>(
     ensures honesty { AreHonest world.new → AreHonest world.old }
     ensures printed { OnOk result (AreHonest world.new → (w : Written) → StandsFor world.old w →
         (w' : Written) × PrintsGoing true (length w.nodes) w events.now (O.contents output.old) (O.contents output.new) w' × StandsFor world.new w') }
+    ensures fault { IfErr result StopsPrint }
 {
     let Ok(watched) = watch(alloc, world, events) else {
         return Err(Fault::Memory);
@@ -91,6 +94,7 @@ fn print_going<'a, N: Node, O: Write>(
     ensures honesty { AreHonest world.new → AreHonest world.old }
     ensures printed { OnOk result (AreHonest world.new → (w : Written) → StandsFor world.old w →
         (w' : Written) × PrintsGoing is_traced (length w.nodes) w events.now (O.contents output.old) (O.contents output.new) w' × StandsFor world.new w') }
+    ensures fault { IfErr result StopsPrint }
 {
     if is_traced {
         print_watched(alloc, world, events, output)
@@ -111,8 +115,9 @@ fn print_run<'a, N: Node, O: Write>(
 ) -> Result<World<N>, Fault<'a>>
     requires nodes { AreFresh N.who N.honest N.stands nodes.items }
     requires modems { AreNew modems.items }
-    ensures { IfOk result (λ world. AreHonest world → PrintsEventsAsJson is_traced (length nodes.items) (map (λ modem. modem.id) modems.items) events.now
+    ensures printed { IfOk result (λ world. AreHonest world → PrintsEventsAsJson is_traced (length nodes.items) (map (λ modem. modem.id) modems.items) events.now
         (O.contents output.old) (O.contents output.new)) }
+    ensures fault { IfErr result StopsPrint }
 {
     let Ok(mut world) = World::new(alloc, nodes, modems) else {
         return Err(Fault::Memory);
@@ -133,8 +138,9 @@ pub fn print_script_as_json<'a, N: Node, O: Write>(
     output: &mut O,
 ) -> Result<World<N>, Fault<'a>>
     requires { AreFresh N.who N.honest N.stands nodes.items }
-    ensures { IfOk result (λ world. AreHonest world → PrintsEventsAsJson is_traced (length nodes.items) script.now.modems.items script.now.events.items
+    ensures printed { IfOk result (λ world. AreHonest world → PrintsEventsAsJson is_traced (length nodes.items) script.now.modems.items script.now.events.items
         (O.contents output.old) (O.contents output.new)) }
+    ensures fault { IfErr result StopsPrint }
 {
     let Ok(modems) = new_modems(alloc, script.modems.as_slice()) else {
         return Err(Fault::Memory);
@@ -156,8 +162,9 @@ fn print_plain<'a, O: Write>(
     script: &Script,
     output: &mut O,
 ) -> Result<(), Fault<'a>>
-    ensures { OnOk result (PrintsEventsAsJson is_traced (member_count script.now.members) script.now.modems.items script.now.events.items
+    ensures printed { OnOk result (PrintsEventsAsJson is_traced (member_count script.now.members) script.now.modems.items script.now.events.items
         (O.contents output.old) (O.contents output.new)) }
+    ensures fault { IfErr result StopsPrint }
 {
     let Ok(nodes) = plain_nodes(alloc, script.members) else {
         return Err(Fault::Memory);

@@ -1,10 +1,11 @@
 //! Whether what the nodes did was recorded, as a printed line.
 
-ghost use Rattle.std.specs.Prelude.{◌≡◌, ◌↔◌, IfOk, IsOk, OnOk, length, []};
+ghost use Rattle.std.specs.Prelude.{◌≡◌, ◌↔◌, IfOk, IsOk, OnOk, length, [], IfErr};
 ghost use Rattle.std.specs.Io.KnownBytes.{Appends};
 ghost use Rattle.node_worker.specs.Audits.{IsCluster, IsWhole};
 ghost use Rattle.node_worker.specs.Runs.{AreLegal};
 ghost use Rattle.upsched_live_parts.specs.Verdict.{verdict_line, verdict_status};
+ghost use Rattle.upsched_map_parts.specs.Faults.{StopsPrint};
 
 use node::Node;
 use node_worker::{Kept, Record, Torn, audit};
@@ -27,7 +28,8 @@ pub fn print_verdict<'a, O: Write>(
     verdict: Result<(), Torn>,
     output: &mut O,
 ) -> Result<(), Fault<'a>>
-    ensures { OnOk result (Appends (O.contents output.old) (O.contents output.new) (verdict_line verdict)) }
+    ensures printed { OnOk result (Appends (O.contents output.old) (O.contents output.new) (verdict_line verdict)) }
+    ensures fault { IfErr result StopsPrint }
 {
     if write_verdict(verdict, output).is_err() {
         return Err(Fault::Output);
@@ -57,6 +59,7 @@ pub fn print_audit<'a, N: Node, O: Write>(
     ensures printed { IfOk result (λ verdict. Appends (O.contents output.old) (O.contents output.new) (verdict_line verdict)) }
     ensures whole { IfOk result (λ verdict. IsOk verdict ↔ IsWhole kepts.now records.now) }
     ensures legal { IfOk result (λ verdict. IsOk verdict → IsCluster kepts.now → AreLegal (length kepts.now) records.now []) }
+    ensures fault { IfErr result StopsPrint }
 {
     let verdict = audit(kepts, records);
     print_verdict(verdict, output)?;

@@ -1,10 +1,12 @@
 -- A plan: commands under the key `command` of a TOML text. Positions count from 1.
-use Rattle.std.specs.Prelude.{◌≡◌, ℕ, ◌+◌, List, Option, Some, None, codes}
+use Rattle.std.specs.Prelude.{◌≡◌, ℕ, ◌+◌, List, Option, Some, None, IfSome, codes}
 use Rattle.std.specs.Io.KnownBytes.{Appends}
 use Rattle.toml.specs.Data.{Data, Members}
 use Rattle.toml.specs.Parse.{parse_document}
 use Rattle.grant_machine.specs.declared.command.Command.{Command}
 use Rattle.grant_machine.specs.Runs.{outputs_of}
+use Rattle.upsched_map_parts.specs.declared.fault.Fault.{Fault}
+use Rattle.upsched_map_parts.specs.declared.fault.Fault.TheVariants.{Plan}
 use Rattle.upsched_map_parts.specs.declared.plan.PlanFault.{PlanFault}
 use Rattle.upsched_map_parts.specs.declared.plan.PlanFault.TheVariants.{NotToml, BadCommand, OutOfMemory}
 use Rattle.script_text.specs.CommandTable.{SpellsCommand}
@@ -37,6 +39,10 @@ abbrev pub IsPlanFault : List ℕ → PlanFault → Type 0
 IsPlanFault text NotToml = parse_document text ≡ None
 IsPlanFault text (BadCommand position) = (ms : Members) × (parse_document text ≡ Some ms) × IsBadAt ms position
 IsPlanFault text OutOfMemory = Unit {0}
+
+-- the fault is why the text, where it is known, isn't read as a plan
+abbrev pub TellsPlanFault : Option (List ℕ) → Fault → Type 0
+TellsPlanFault text fault = (why : PlanFault) × (fault ≡ Plan why) × IfSome text (λ bytes. IsPlanFault bytes why)
 
 -- what is printed is the lines of the outputs of the plan's commands, where the plan's text is known
 abbrev pub PrintsPlan : Option (List ℕ) → Option (List ℕ) → Option (List ℕ) → Type 0

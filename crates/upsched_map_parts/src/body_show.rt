@@ -1,8 +1,11 @@
 //! `upsched show HEX`: a MAP body in words.
 
-ghost use Rattle.std.specs.Prelude.{◌≡◌, ◌≢◌, Ok, IfOk, OnOk};
+ghost use Rattle.std.specs.Prelude.{◌≡◌, ◌≢◌, ◌⊎◌, ℕ, List, Err, Ok, IfErr, IfOk, OnOk};
 ghost use Rattle.std.specs.Io.KnownBytes.{Appends};
+ghost use Rattle.hex.specs.Hex.{decode_of};
 ghost use Rattle.map_body.specs.Body.{Body};
+ghost use Rattle.map_body.specs.Faults.{map_fault_number};
+ghost use Rattle.map_body.specs.Layout.{ReadingFault};
 ghost use Rattle.upsched_map_parts.specs.declared.status.Status.TheVariants.{Done, NotUnderstood};
 ghost use Rattle.upsched_map_parts.specs.Lines.{element_line, element_lines, body_lines};
 ghost use Rattle.upsched_map_parts.specs.Show.{IsHexBody};
@@ -12,13 +15,16 @@ use crate::lines::{element_text, head_text};
 use crate::status::Status;
 use crate::words::ShowWords;
 use hex::FromHexError;
-use map_body::{Element, MapBody};
+use map_body::{Element, MapBody, MapFault};
 use std::alloc::Global;
 use std::io::Write;
 
 /// The body that hexadecimal digits give.
 pub fn body_of<'a>(alloc: Global, hex: &str) -> Result<MapBody, Fault<'a>>
-    ensures { IfOk result (IsHexBody hex.now) }
+    ensures body { IfOk result (IsHexBody hex.now) }
+    ensures fault { IfErr result (λ fault. (fault ≡ Fault.Memory) ⊎ ((why : FromHexError) × (decode_of hex.now ≡ Err why) × (fault ≡ Fault.Hex))
+        ⊎ ((bytes : List ℕ) × (why : MapFault) × (decode_of hex.now ≡ Ok bytes) × ReadingFault bytes why
+        × (fault ≡ Fault.Body (map_fault_number why) why))) }
 {
     let bytes = match hex::decode(alloc, hex) {
         Ok(bytes) => bytes,

@@ -49,6 +49,11 @@ pub enum Fault<'a> {
 
 /// Want of memory.
 impl From<AllocError> for Fault<'_> {
+    ghost use Rattle.std.specs.Prelude.{◌≡◌};
+    ghost use Rattle.upsched_map_parts.specs.declared.fault.Fault.TheVariants.{Memory};
+
+    ghost from_gives = { λ _ given. given ≡ Memory };
+
     fn from(_error: AllocError) -> Self {
         Fault::Memory
     }
@@ -56,13 +61,18 @@ impl From<AllocError> for Fault<'_> {
 
 /// The fault of a write of what is printed. That of a read is `Fault::of_reading`.
 impl From<io::Error> for Fault<'_> {
+    ghost use Rattle.std.specs.Prelude.{◌≡◌};
+    ghost use Rattle.upsched_map_parts.specs.declared.fault.Fault.TheVariants.{Output};
+
+    ghost from_gives = { λ _ given. given ≡ Output };
+
     fn from(_error: io::Error) -> Self {
         Fault::Output
     }
 }
 
 impl<'a> Fault<'a> {
-    ghost use Rattle.std.specs.Prelude.{◌≡◌, ◌≢◌};
+    ghost use Rattle.std.specs.Prelude.{◌≡◌, ◌≢◌, ◌⊎◌};
     ghost use Rattle.std.specs.IoError.{error_kind};
     ghost use Rattle.upsched_map_parts.specs.declared.status.Status.TheVariants.{Faulted};
     ghost use Rattle.upsched_map_parts.specs.declared.fault.Fault.TheVariants.{Memory, Unreadable};
@@ -71,6 +81,7 @@ impl<'a> Fault<'a> {
     pub fn of_reading(error: &io::Error, path: &'a str) -> Fault<'a>
         ensures memory { error_kind error.now ≡ ErrorKind.OutOfMemory → result ≡ Memory }
         ensures unreadable { error_kind error.now ≢ ErrorKind.OutOfMemory → result ≡ Unreadable path.entry }
+        ensures either { (result ≡ Memory) ⊎ (result ≡ Unreadable path.entry) }
     {
         if error.kind() == ErrorKind::OutOfMemory {
             Fault::Memory

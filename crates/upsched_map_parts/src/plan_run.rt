@@ -1,13 +1,14 @@
 //! `upsched maps PLAN`: from a plan to outputs.
 
-ghost use Rattle.std.specs.Prelude.{◌≡◌, ◌≢◌, IfOk, IfSome, OnOk};
+ghost use Rattle.std.specs.Prelude.{◌≡◌, ◌≢◌, ◌⊎◌, IfErr, IfOk, IfSome, OnOk};
 ghost use Rattle.std.specs.Io.KnownBytes.{Appends};
 ghost use Rattle.grant_machine.specs.declared.command.Command.{Command};
 ghost use Rattle.grant_machine.specs.Steps.{step};
 ghost use Rattle.grant_machine.specs.Runs.{outputs_of};
+ghost use Rattle.upsched_map_parts.specs.declared.fault.Fault.TheVariants.{Memory, Unreadable};
 ghost use Rattle.upsched_map_parts.specs.declared.status.Status.TheVariants.{Done, NotUnderstood};
 ghost use Rattle.upsched_map_parts.specs.Lines.{output_line, output_lines};
-ghost use Rattle.upsched_map_parts.specs.Plan.{IsPlan, NoPlan, PrintsPlan};
+ghost use Rattle.upsched_map_parts.specs.Plan.{IsPlan, NoPlan, PrintsPlan, TellsPlanFault};
 
 use crate::fault::Fault;
 use crate::plan::read_plan;
@@ -60,7 +61,8 @@ pub fn plan_of<'a, R: Read>(
     plan: &mut R,
     path: &'a str,
 ) -> Result<Vec<Command>, Fault<'a>>
-    ensures { IfOk result (λ commands. IfSome (R.remaining plan.old) (λ bytes. IsPlan bytes commands.items)) }
+    ensures plan { IfOk result (λ commands. IfSome (R.remaining plan.old) (λ bytes. IsPlan bytes commands.items)) }
+    ensures fault { IfErr result (λ fault. (fault ≡ Memory) ⊎ (fault ≡ Unreadable path.entry) ⊎ TellsPlanFault (R.remaining plan.old) fault) }
 {
     let text = text_of(alloc, plan, path)?;
     match read_plan(alloc, text.as_str()) {

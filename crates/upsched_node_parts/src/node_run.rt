@@ -1,6 +1,6 @@
 //! `upsched node K --members M`: from the words to how the program ends.
 
-ghost use Rattle.std.specs.Prelude.{◌≡◌, ◌<◌, ◌↔◌, ℕ, IsOk, MatchResult};
+ghost use Rattle.std.specs.Prelude.{◌≡◌, ◌<◌, ◌↔◌, ℕ, Err, IsOk, MatchResult};
 ghost use Rattle.ballots.specs.Members.{member_count};
 ghost use Rattle.ballots.specs.declared.members.Members.{Members};
 ghost use Rattle.node_service.specs.declared.service.End.TheVariants as ends;
@@ -27,7 +27,10 @@ const INPUT_NAME: &str = "standard input";
 pub const NO_MEMBER: &str = "error: K is one of the M members, from 0 on, and M is 3 or 5";
 
 /// What is told of a write that failed.
-pub fn unwritten<'a>(why: Unwritten) -> Fault<'a> {
+pub fn unwritten<'a>(why: Unwritten) -> Fault<'a>
+    ensures memory { why ≡ Unwritten.OutOfMemory → result ≡ Fault.Memory }
+    ensures output { why ≡ Unwritten.Output → result ≡ Fault.Output }
+{
     match why {
         Unwritten::OutOfMemory => Fault::Memory,
         Unwritten::Output => Fault::Output,
@@ -36,7 +39,10 @@ pub fn unwritten<'a>(why: Unwritten) -> Fault<'a> {
 
 /// What is told of how the lines ended: nothing where there are no more.
 pub fn ended<'a>(end: End) -> Result<(), Fault<'a>>
-    ensures { IsOk result ↔ (end ≡ ends.Input) }
+    ensures done { IsOk result ↔ (end ≡ ends.Input) }
+    ensures crashed { (result ≡ Err Fault.Crashed) ↔ (end ≡ ends.Crashed) }
+    ensures memory { end ≡ ends.Unwritten Unwritten.OutOfMemory → result ≡ Err Fault.Memory }
+    ensures output { end ≡ ends.Unwritten Unwritten.Output → result ≡ Err Fault.Output }
 {
     match end {
         End::Input => Ok(()),

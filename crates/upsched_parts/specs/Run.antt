@@ -1,12 +1,15 @@
 -- What `run` prints of a script.
-use Rattle.std.specs.Prelude.{ℕ, Bool, true, false, List, Option, Some, None}
+use Rattle.std.specs.Prelude.{◌≡◌, ℕ, Bool, true, false, List, Option, Some, None, IfSome}
 use Rattle.std.specs.Io.KnownBytes.{Appends}
 use Rattle.ballots.specs.declared.members.Members.{Members}
 use Rattle.ballots.specs.Members.{member_count}
 use Rattle.seats.specs.declared.answer.Answer.{Answer}
 use Rattle.world_events.specs.declared.event.Event.{Event}
 use Rattle.network_script.specs.Next.{Goes}
-use Rattle.script_text.specs.Script.{IsScript}
+use Rattle.script_text.specs.declared.script.ScriptFault.{ScriptFault}
+use Rattle.script_text.specs.Script.{IsScript, IsScriptFault}
+use Rattle.upsched_map_parts.specs.declared.fault.Fault.{Fault}
+use Rattle.upsched_map_parts.specs.declared.fault.Fault.TheVariants.{Script}
 use Rattle.network_script.specs.World.{Written, opening}
 use Rattle.watched_runs.specs.Sights.{GoesWatched}
 use Rattle.watched_runs.specs.declared.sight.Sight.{Sight}
@@ -35,6 +38,10 @@ abbrev pub PrintsScript : Bool → Option (List ℕ) → Option (List ℕ) → O
 PrintsScript trace None old new = Unit {0}
 PrintsScript trace (Some text) old new =
     (count : Members) × (ids : List ℕ) × (events : List Event) × IsScript text count ids events × PrintsEvents trace (member_count count) ids events old new
+
+-- the fault is why the text, where it is known, isn't read as a script
+abbrev pub TellsScriptFault : Option (List ℕ) → Fault → Type 0
+TellsScriptFault text fault = (why : ScriptFault) × (fault ≡ Script why) × IfSome text (λ bytes. IsScriptFault bytes why)
 
 -- the text is known to be no script
 abbrev pub NoScript : Option (List ℕ) → Type 0

@@ -1,7 +1,9 @@
 //! Prints what came of a run.
 
-ghost use Rattle.std.specs.Prelude.{◌≡◌, OnOk, take, drop};
+ghost use Rattle.std.specs.Prelude.{◌≡◌, IfErr, OnOk, take, drop};
 ghost use Rattle.std.specs.Io.KnownBytes.{Appends};
+ghost use Rattle.upsched_map_parts.specs.declared.fault.Fault.TheVariants.{Output};
+ghost use Rattle.upsched_map_parts.specs.Faults.{StopsPrint};
 ghost use Rattle.upsched_parts.specs.RunLines.{answer_line, answer_lines, place_line, place_lines, released_count, counts_line};
 
 use printed_answers::answer_text;
@@ -38,7 +40,8 @@ fn print_place<'a, O: Write>(
     released: &ReleasedOutput,
     output: &mut O,
 ) -> Result<(), Fault<'a>>
-    ensures { OnOk result (Appends (O.contents output.old) (O.contents output.new) (place_line released.now)) }
+    ensures printed { OnOk result (Appends (O.contents output.old) (O.contents output.new) (place_line released.now)) }
+    ensures fault { IfErr result StopsPrint }
 {
     let Ok(text) = output_text(alloc, &released.numbered.output) else {
         return Err(Fault::Memory);
@@ -54,7 +57,8 @@ pub(crate) fn print_places<'a, O: Write>(
     released: &[ReleasedOutput],
     output: &mut O,
 ) -> Result<(), Fault<'a>>
-    ensures { OnOk result (Appends (O.contents output.old) (O.contents output.new) (place_lines released.now)) }
+    ensures printed { OnOk result (Appends (O.contents output.old) (O.contents output.new) (place_lines released.now)) }
+    ensures fault { IfErr result StopsPrint }
 {
     for one in released {
         print_place(alloc, one, output)?;
@@ -68,7 +72,8 @@ pub(crate) fn print_answer<'a, O: Write>(
     answer: Answer,
     output: &mut O,
 ) -> Result<(), Fault<'a>>
-    ensures { OnOk result (Appends (O.contents output.old) (O.contents output.new) (answer_line number answer)) }
+    ensures printed { OnOk result (Appends (O.contents output.old) (O.contents output.new) (answer_line number answer)) }
+    ensures fault { IfErr result StopsPrint }
 {
     let Ok(text) = answer_text(alloc, answer) else {
         return Err(Fault::Memory);
@@ -86,7 +91,8 @@ pub fn print_answers<'a, O: Write>(
     outputs: &[ReleasedOutput],
     output: &mut O,
 ) -> Result<(), Fault<'a>>
-    ensures { OnOk result (Appends (O.contents output.old) (O.contents output.new) (answer_lines 0 answers.now outputs.now)) }
+    ensures printed { OnOk result (Appends (O.contents output.old) (O.contents output.new) (answer_lines 0 answers.now outputs.now)) }
+    ensures fault { IfErr result StopsPrint }
 {
     let mut rest = outputs;
     for (number, answer) in answers.iter().enumerate() {
@@ -105,7 +111,8 @@ pub fn print_counts<'a, O: Write>(
     transmissions: usize,
     output: &mut O,
 ) -> Result<(), Fault<'a>>
-    ensures { OnOk result (Appends (O.contents output.old) (O.contents output.new) (counts_line letters outputs transmissions)) }
+    ensures printed { OnOk result (Appends (O.contents output.old) (O.contents output.new) (counts_line letters outputs transmissions)) }
+    ensures fault { IfErr result (λ fault. fault ≡ Output) }
 {
     let line = writeln!(
         output,

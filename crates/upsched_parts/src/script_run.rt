@@ -1,14 +1,16 @@
 //! `upsched run SCRIPT`: what happens to nodes and modems.
 
-ghost use Rattle.std.specs.Prelude.{◌≡◌, ◌≢◌, false, true, IfOk, IfSome, OnOk, length, map};
+ghost use Rattle.std.specs.Prelude.{◌≡◌, ◌≢◌, ◌⊎◌, false, true, IfErr, IfOk, IfSome, OnOk, length, map};
 ghost use Rattle.ballots.specs.Members.{member_count};
 ghost use Rattle.seats.specs.Receiving.{AreNew};
 ghost use Rattle.seats.specs.Fresh.{AreFresh};
 ghost use Rattle.script_text.specs.Script.{IsScript};
 ghost use Rattle.network_script.specs.World.{Written};
 ghost use Rattle.network_script.specs.Worlds.{AreHonest, StandsFor};
+ghost use Rattle.upsched_map_parts.specs.declared.fault.Fault.TheVariants.{Memory, Unreadable};
 ghost use Rattle.upsched_map_parts.specs.declared.status.Status.TheVariants.{Done, NotUnderstood};
-ghost use Rattle.upsched_parts.specs.Run.{NoScript, PrintsEvents, PrintsGoing, PrintsScript};
+ghost use Rattle.upsched_map_parts.specs.Faults.{StopsPrint};
+ghost use Rattle.upsched_parts.specs.Run.{NoScript, PrintsEvents, PrintsGoing, PrintsScript, TellsScriptFault};
 
 use crate::report::{print_answers, print_counts};
 use crate::trace::print_traced;
@@ -64,6 +66,7 @@ fn print_answered<'a, R: Log + AllocGlobal, N: Node, O: Write>(
     ensures honesty { AreHonest world.new → AreHonest world.old }
     ensures printed { OnOk result (AreHonest world.new → (w : Written) → StandsFor world.old w →
         (w' : Written) × PrintsGoing false (length w.nodes) w events.now (O.contents output.old) (O.contents output.new) w' × StandsFor world.new w') }
+    ensures fault { IfErr result StopsPrint }
 {
     let Ok(report) = world.run(events) else {
         return Err(Fault::Memory);
@@ -86,6 +89,7 @@ fn print_watched<'a, R: Log + AllocGlobal, N: Node, O: Write>(
     ensures honesty { AreHonest world.new → AreHonest world.old }
     ensures printed { OnOk result (AreHonest world.new → (w : Written) → StandsFor world.old w →
         (w' : Written) × PrintsGoing true (length w.nodes) w events.now (O.contents output.old) (O.contents output.new) w' × StandsFor world.new w') }
+    ensures fault { IfErr result StopsPrint }
 {
     let Ok(watched) = watch(rt.alloc(), world, events) else {
         return Err(Fault::Memory);
@@ -117,6 +121,7 @@ fn print_going<'a, R: Log + AllocGlobal, N: Node, O: Write>(
     ensures honesty { AreHonest world.new → AreHonest world.old }
     ensures printed { OnOk result (AreHonest world.new → (w : Written) → StandsFor world.old w →
         (w' : Written) × PrintsGoing telling.trace (length w.nodes) w events.now (O.contents output.old) (O.contents output.new) w' × StandsFor world.new w') }
+    ensures fault { IfErr result StopsPrint }
 {
     if telling.trace {
         print_watched(rt, world, events, telling.verbose, output)
@@ -137,8 +142,9 @@ fn print_events<'a, R: Log + AllocGlobal, N: Node, O: Write>(
 ) -> Result<World<N>, Fault<'a>>
     requires nodes { AreFresh N.who N.honest N.stands nodes.items }
     requires modems { AreNew modems.items }
-    ensures { IfOk result (λ world. AreHonest world → PrintsEvents telling.trace (length nodes.items) (map (λ modem. modem.id) modems.items) events.now
+    ensures printed { IfOk result (λ world. AreHonest world → PrintsEvents telling.trace (length nodes.items) (map (λ modem. modem.id) modems.items) events.now
         (O.contents output.old) (O.contents output.new)) }
+    ensures fault { IfErr result StopsPrint }
 {
     let Ok(mut world) = World::new(rt.alloc(), nodes, modems) else {
         return Err(Fault::Memory);
@@ -159,8 +165,9 @@ pub fn print_script<'a, R: Log + AllocGlobal, N: Node, O: Write>(
     output: &mut O,
 ) -> Result<World<N>, Fault<'a>>
     requires { AreFresh N.who N.honest N.stands nodes.items }
-    ensures { IfOk result (λ world. AreHonest world → PrintsEvents telling.trace (length nodes.items) script.now.modems.items script.now.events.items
+    ensures printed { IfOk result (λ world. AreHonest world → PrintsEvents telling.trace (length nodes.items) script.now.modems.items script.now.events.items
         (O.contents output.old) (O.contents output.new)) }
+    ensures fault { IfErr result StopsPrint }
 {
     let Ok(modems) = new_modems(rt.alloc(), script.modems.as_slice()) else {
         return Err(Fault::Memory);
@@ -174,7 +181,8 @@ pub fn script_of<'a, F: Read>(
     text: &mut F,
     path: &'a str,
 ) -> Result<Script, Fault<'a>>
-    ensures { IfOk result (λ script. IfSome (F.remaining text.old) (λ bytes. IsScript bytes script.members script.modems.items script.events.items)) }
+    ensures script { IfOk result (λ script. IfSome (F.remaining text.old) (λ bytes. IsScript bytes script.members script.modems.items script.events.items)) }
+    ensures fault { IfErr result (λ fault. (fault ≡ Memory) ⊎ (fault ≡ Unreadable path.entry) ⊎ TellsScriptFault (F.remaining text.old) fault) }
 {
     let text = text_of(alloc, text, path)?;
     match read_script(alloc, text.as_str()) {
@@ -190,8 +198,9 @@ fn print_plain<'a, R: Log + AllocGlobal, O: Write>(
     telling: Telling,
     output: &mut O,
 ) -> Result<(), Fault<'a>>
-    ensures { OnOk result (PrintsEvents telling.trace (member_count script.now.members) script.now.modems.items script.now.events.items
+    ensures printed { OnOk result (PrintsEvents telling.trace (member_count script.now.members) script.now.modems.items script.now.events.items
         (O.contents output.old) (O.contents output.new)) }
+    ensures fault { IfErr result StopsPrint }
 {
     let Ok(nodes) = plain_nodes(rt.alloc(), script.members) else {
         return Err(Fault::Memory);

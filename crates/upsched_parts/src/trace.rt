@@ -1,7 +1,8 @@
 //! Prints what came of a run, with the letters that came and were sent, and with what is seen of nodes.
 
-ghost use Rattle.std.specs.Prelude.{◌≡◌, ◌+◌, ◌<◌, ◌≤◌, ◌^◌, OnOk, take, drop, length, slice_get};
+ghost use Rattle.std.specs.Prelude.{◌≡◌, ◌+◌, ◌<◌, ◌≤◌, ◌^◌, IfErr, OnOk, take, drop, length, slice_get};
 ghost use Rattle.std.specs.Io.KnownBytes.{Appends};
+ghost use Rattle.upsched_map_parts.specs.Faults.{StopsPrint};
 ghost use Rattle.upsched_parts.specs.RunLines.{came_line, came_lines, learned_line, letter_line, letter_lines, post_line, seen_lines, sent_count, sight_lines, traced_lines};
 
 use crate::report::{parted, print_answer, print_places};
@@ -48,7 +49,8 @@ fn print_letter<'a, O: Write>(
     letter: &Letter,
     output: &mut O,
 ) -> Result<(), Fault<'a>>
-    ensures { OnOk result (Appends (O.contents output.old) (O.contents output.new) (letter_line number letter.now)) }
+    ensures printed { OnOk result (Appends (O.contents output.old) (O.contents output.new) (letter_line number letter.now)) }
+    ensures fault { IfErr result StopsPrint }
 {
     let Ok(text) = letter_text(alloc, letter) else {
         return Err(Fault::Memory);
@@ -67,7 +69,8 @@ fn print_letters<'a, O: Write>(
     output: &mut O,
 ) -> Result<(), Fault<'a>>
     requires { first + length letters.now < 2 ^ 64 }
-    ensures { OnOk result (Appends (O.contents output.old) (O.contents output.new) (letter_lines first letters.now)) }
+    ensures printed { OnOk result (Appends (O.contents output.old) (O.contents output.new) (letter_lines first letters.now)) }
+    ensures fault { IfErr result StopsPrint }
 {
     for (index, letter) in letters.iter().enumerate() {
         print_letter(alloc, first + index, letter, output)?;
@@ -82,7 +85,8 @@ fn print_named<'a, O: Write>(
     sent: &[Letter],
     output: &mut O,
 ) -> Result<(), Fault<'a>>
-    ensures { OnOk result (Appends (O.contents output.old) (O.contents output.new) (came_line i (slice_get sent.now i))) }
+    ensures printed { OnOk result (Appends (O.contents output.old) (O.contents output.new) (came_line i (slice_get sent.now i))) }
+    ensures fault { IfErr result StopsPrint }
 {
     if i >= sent.len() {
         return Ok(());
@@ -104,7 +108,8 @@ fn print_came<'a, O: Write>(
     sent: &[Letter],
     output: &mut O,
 ) -> Result<(), Fault<'a>>
-    ensures { OnOk result (Appends (O.contents output.old) (O.contents output.new) (came_lines sent.now (slice_get events.now number))) }
+    ensures printed { OnOk result (Appends (O.contents output.old) (O.contents output.new) (came_lines sent.now (slice_get events.now number))) }
+    ensures fault { IfErr result StopsPrint }
 {
     if number >= events.len() {
         return Ok(());
@@ -123,7 +128,8 @@ fn print_post<'a, O: Write>(
     post: Option<Post>,
     output: &mut O,
 ) -> Result<(), Fault<'a>>
-    ensures { OnOk result (Appends (O.contents output.old) (O.contents output.new) (post_line node post)) }
+    ensures printed { OnOk result (Appends (O.contents output.old) (O.contents output.new) (post_line node post)) }
+    ensures fault { IfErr result StopsPrint }
 {
     let Some(post) = post else {
         return Ok(());
@@ -143,7 +149,8 @@ fn print_learned<'a, O: Write>(
     learned: Option<u64>,
     output: &mut O,
 ) -> Result<(), Fault<'a>>
-    ensures { OnOk result (Appends (O.contents output.old) (O.contents output.new) (learned_line node learned)) }
+    ensures printed { OnOk result (Appends (O.contents output.old) (O.contents output.new) (learned_line node learned)) }
+    ensures fault { IfErr result StopsPrint }
 {
     let Some(place) = learned else {
         return Ok(());
@@ -160,7 +167,8 @@ fn print_sight<'a, O: Write>(
     sight: Option<Sight>,
     output: &mut O,
 ) -> Result<(), Fault<'a>>
-    ensures { OnOk result (Appends (O.contents output.old) (O.contents output.new) (sight_lines sight)) }
+    ensures printed { OnOk result (Appends (O.contents output.old) (O.contents output.new) (sight_lines sight)) }
+    ensures fault { IfErr result StopsPrint }
 {
     let Some(sight) = sight else {
         return Ok(());
@@ -176,7 +184,8 @@ fn print_seen<'a, O: Write>(
     number: usize,
     output: &mut O,
 ) -> Result<(), Fault<'a>>
-    ensures { OnOk result (Appends (O.contents output.old) (O.contents output.new) (seen_lines (slice_get sights.now number))) }
+    ensures printed { OnOk result (Appends (O.contents output.old) (O.contents output.new) (seen_lines (slice_get sights.now number))) }
+    ensures fault { IfErr result StopsPrint }
 {
     if number >= sights.len() {
         return Ok(());
@@ -195,8 +204,9 @@ pub(crate) fn print_traced<'a, O: Write>(
     outputs: &[ReleasedOutput],
     output: &mut O,
 ) -> Result<(), Fault<'a>>
-    ensures { OnOk result (Appends (O.contents output.old) (O.contents output.new)
+    ensures printed { OnOk result (Appends (O.contents output.old) (O.contents output.new)
         (traced_lines 0 0 events.now answers.now sights.now letters.now outputs.now)) }
+    ensures fault { IfErr result StopsPrint }
 {
     let mut before = 0;
     let mut rest = outputs;

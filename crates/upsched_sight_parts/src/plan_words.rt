@@ -1,6 +1,7 @@
 //! What the words that look into a plan are told, and the plan that they look into.
 
-ghost use Rattle.std.specs.Prelude.{◌≡◌, ◌↔◌, ◌≢◌, IfOk, IfSome, true};
+ghost use Rattle.std.specs.Prelude.{◌≡◌, ◌↔◌, ◌≢◌, IfErr, IfOk, IfSome, true};
+ghost use Rattle.upsched_map_parts.specs.declared.fault.Fault.TheVariants.{Memory};
 ghost use Rattle.upsched_map_parts.specs.declared.status.Status.TheVariants.{Faulted};
 ghost use Rattle.upsched_map_parts.specs.Plan.{IsPlan};
 ghost use Rattle.toml.specs.View.{view};
@@ -36,6 +37,10 @@ pub(crate) enum Refusal<'a> {
 }
 
 impl<'a> From<Fault<'a>> for Refusal<'a> {
+    ghost use Rattle.upsched_sight_parts.specs.declared.plan_words.Refusal.TheVariants.{Fault};
+
+    ghost from_gives = { λ fault given. given ≡ Fault fault };
+
     fn from(fault: Fault<'a>) -> Refusal<'a> {
         Refusal::Fault(fault)
     }
@@ -68,7 +73,8 @@ fn is_plan(whole: &Value) -> bool
 
 /// Whether a text is that of a plan, and of no script.
 pub fn is_plan_text<'a>(alloc: Global, text: &str) -> Result<bool, Fault<'a>>
-    ensures { IfOk result (λ is. (is ≡ true) ↔ IsPlanText text.now) }
+    ensures plan { IfOk result (λ is. (is ≡ true) ↔ IsPlanText text.now) }
+    ensures fault { IfErr result (λ fault. fault ≡ Memory) }
 {
     match toml::table_from_str(alloc, text) {
         Ok(found) => Ok(is_plan(&Value::Table(found))),
@@ -90,7 +96,8 @@ pub fn tell_plan<E: Write>(path: &str, errors: &mut E) -> Status
 
 /// Whether a text has a key of a script.
 fn is_script_text<'a>(alloc: Global, text: &str) -> Result<bool, Fault<'a>>
-    ensures { IfOk result (λ is. (is ≡ true) ↔ IsScriptText text.now) }
+    ensures script { IfOk result (λ is. (is ≡ true) ↔ IsScriptText text.now) }
+    ensures fault { IfErr result (λ fault. fault ≡ Memory) }
 {
     match toml::table_from_str(alloc, text) {
         Ok(found) => Ok(is_script(&Value::Table(found))),
@@ -102,7 +109,8 @@ fn is_script_text<'a>(alloc: Global, text: &str) -> Result<bool, Fault<'a>>
 /// Whether a text that is read as a plan of these commands is a script without commands.
 fn is_script_alone<'a>(alloc: Global, text: &str, commands: &[Command]) -> Result<bool, Fault<'a>>
     requires { IsPlan text.now commands.now }
-    ensures { IfOk result (λ is. (is ≡ true) ↔ IsScriptAlone text.now) }
+    ensures alone { IfOk result (λ is. (is ≡ true) ↔ IsScriptAlone text.now) }
+    ensures fault { IfErr result (λ fault. fault ≡ Memory) }
 {
     if commands.is_empty() {
         is_script_text(alloc, text)

@@ -1,6 +1,6 @@
 //! `upsched check FILE`: what is wrong with a text, line by line.
 
-ghost use Rattle.std.specs.Prelude.{◌≡◌, ◌≢◌, ◌≤◌, ◌↔◌, IfOk, OnOk, ℕ, List, flat_map, map, length, string_bytes, true};
+ghost use Rattle.std.specs.Prelude.{◌≡◌, ◌≢◌, ◌≤◌, ◌↔◌, IfOk, OnOk, ℕ, List, flat_map, map, length, string_bytes, true, IfErr};
 ghost use Rattle.std.specs.Io.KnownBytes.{Appends};
 ghost use Rattle.toml.specs.Data.{table};
 ghost use Rattle.toml.specs.View.{view, table_view};
@@ -10,6 +10,7 @@ ghost use Rattle.text_faults.specs.Faults.{TellsWhether};
 ghost use Rattle.text_faults.specs.Unread.{key_there};
 ghost use Rattle.upsched_map_parts.specs.declared.status.Status.TheVariants.{Done, NotUnderstood};
 ghost use Rattle.upsched_sight_parts.specs.Reports.{IsForm, IsGood, fault_line, fault_lines, good_text, good_line, toml_line, unread_line, unread_of, form_of, is_empty, is_good, table_lines, TellsOf, Reports, ReportsKnown};
+ghost use Rattle.upsched_map_parts.specs.Faults.{StopsPrint};
 
 use crate::form::{CheckWords, Form, faults_of, form_of, unread_of};
 use crate::place::place_behind;
@@ -26,7 +27,8 @@ fn print_fault<'a, O: Write>(
     fault: &TextFault,
     output: &mut O,
 ) -> Result<(), Fault<'a>>
-    ensures { OnOk result (Appends (O.contents output.old) (O.contents output.new) (fault_line path.now fault.now)) }
+    ensures printed { OnOk result (Appends (O.contents output.old) (O.contents output.new) (fault_line path.now fault.now)) }
+    ensures fault { IfErr result StopsPrint }
 {
     let Ok(text) = fault_text(alloc, fault) else {
         return Err(Fault::Memory);
@@ -43,7 +45,8 @@ fn print_each<'a, O: Write>(
     faults: &[TextFault],
     output: &mut O,
 ) -> Result<(), Fault<'a>>
-    ensures { OnOk result (Appends (O.contents output.old) (O.contents output.new) (flat_map (fault_line path.now) faults.now)) }
+    ensures printed { OnOk result (Appends (O.contents output.old) (O.contents output.new) (flat_map (fault_line path.now) faults.now)) }
+    ensures fault { IfErr result StopsPrint }
 {
     for fault in faults {
         print_fault(alloc, path, fault, output)?;
@@ -69,7 +72,8 @@ fn print_good<'a, O: Write>(
     bare: bool,
     output: &mut O,
 ) -> Result<(), Fault<'a>>
-    ensures { OnOk result (Appends (O.contents output.old) (O.contents output.new) (good_line path.now form bare)) }
+    ensures printed { OnOk result (Appends (O.contents output.old) (O.contents output.new) (good_line path.now form bare)) }
+    ensures fault { IfErr result StopsPrint }
 {
     let Ok(text) = good_text(alloc, form, bare) else {
         return Err(Fault::Memory);
@@ -88,7 +92,8 @@ fn print_faults<'a, O: Write>(
     faults: &[TextFault],
     output: &mut O,
 ) -> Result<(), Fault<'a>>
-    ensures { OnOk result (Appends (O.contents output.old) (O.contents output.new) (fault_lines path.now form bare faults.now)) }
+    ensures printed { OnOk result (Appends (O.contents output.old) (O.contents output.new) (fault_lines path.now form bare faults.now)) }
+    ensures fault { IfErr result StopsPrint }
 {
     if faults.is_empty() {
         print_good(alloc, path, form, bare, output)
@@ -103,7 +108,8 @@ fn print_key<'a, O: Write>(
     key: &Unread,
     output: &mut O,
 ) -> Result<(), Fault<'a>>
-    ensures { OnOk result (Appends (O.contents output.old) (O.contents output.new) (unread_line path.now (key_there key.now))) }
+    ensures printed { OnOk result (Appends (O.contents output.old) (O.contents output.new) (unread_line path.now (key_there key.now))) }
+    ensures fault { IfErr result StopsPrint }
 {
     let Ok(text) = unread_text(alloc, key) else {
         return Err(Fault::Memory);
@@ -120,8 +126,9 @@ fn print_keys<'a, O: Write>(
     keys: &[Unread],
     output: &mut O,
 ) -> Result<(), Fault<'a>>
-    ensures { OnOk result (Appends (O.contents output.old) (O.contents output.new)
+    ensures printed { OnOk result (Appends (O.contents output.old) (O.contents output.new)
         (flat_map (unread_line path.now) (map key_there keys.now))) }
+    ensures fault { IfErr result StopsPrint }
 {
     for key in keys {
         print_key(alloc, path, key, output)?;
@@ -137,8 +144,9 @@ fn print_unread<'a, O: Write>(
     whole: &Value,
     output: &mut O,
 ) -> Result<(), Fault<'a>>
-    ensures { OnOk result (Appends (O.contents output.old) (O.contents output.new)
+    ensures printed { OnOk result (Appends (O.contents output.old) (O.contents output.new)
         (flat_map (unread_line path.now) (unread_of form (view whole.now)))) }
+    ensures fault { IfErr result StopsPrint }
 {
     let Ok(unread) = unread_of(alloc, form, whole) else {
         return Err(Fault::Memory);
@@ -158,6 +166,7 @@ fn print_table<'a, O: Write>(
         (table_lines path.now said (table (table_view found)))) }
     ensures good { IfOk result (λ good. good ≡ is_good said (table (table_view found))) }
     ensures whether { IfOk result (λ good. (good ≡ true) ↔ IsForm (form_of said (table (table_view found))) (table_view found)) }
+    ensures fault { IfErr result StopsPrint }
 {
     let whole = Value::Table(found);
     let form = form_of(said, &whole);
@@ -178,8 +187,9 @@ fn print_no_toml<'a, O: Write>(
     output: &mut O,
 ) -> Result<(), Fault<'a>>
     requires { IsWithin text.now error.now }
-    ensures { OnOk result ((start : ℕ) × (why : List ℕ) × (start ≤ length text.now)
+    ensures printed { OnOk result ((start : ℕ) × (why : List ℕ) × (start ≤ length text.now)
         × Appends (O.contents output.old) (O.contents output.new) (toml_line path.now text.now start why)) }
+    ensures fault { IfErr result StopsPrint }
 {
     let start = match error.span() {
         Some(range) => range.start,
@@ -202,6 +212,7 @@ fn print_text<'a, O: Write>(
 ) -> Result<bool, Fault<'a>>
     ensures told { IfOk result (λ good. Reports path.now said text.now good (O.contents output.old) (O.contents output.new)) }
     ensures good { IfOk result (λ good. (good ≡ true) ↔ IsGood said text.now) }
+    ensures fault { IfErr result StopsPrint }
 {
     match toml::table_from_str(alloc, text) {
         Ok(found) => print_table(alloc, found, path, said, output),
@@ -222,6 +233,7 @@ pub fn report<'a, O: Write>(
 ) -> Result<bool, Fault<'a>>
     ensures told { IfOk result (λ good. Reports words.now.path.now words.now.form text.now good (O.contents output.old) (O.contents output.new)) }
     ensures good { IfOk result (λ good. (good ≡ true) ↔ IsGood words.now.form text.now) }
+    ensures fault { IfErr result StopsPrint }
 {
     let good = print_text(alloc, text, words.path, words.form, output)?;
     match output.flush() {

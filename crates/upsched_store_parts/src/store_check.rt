@@ -1,10 +1,11 @@
 //! `upsched check --store DIR`: what the files of a folder's nodes are.
 
-ghost use Rattle.std.specs.Prelude.{◌≡◌, ◌≢◌, [], ℕ, List, IfOk, IsTrue, OnOk, flat_map};
+ghost use Rattle.std.specs.Prelude.{◌≡◌, ◌≢◌, [], ℕ, List, IfOk, IsTrue, OnOk, flat_map, IfErr};
 ghost use Rattle.std.specs.Io.KnownBytes.{Appends};
 ghost use Rattle.stored_nodes.specs.declared.states.FilesState.{FilesState as Found};
 ghost use Rattle.upsched_map_parts.specs.declared.status.Status.TheVariants.{Done, NotUnderstood};
 ghost use Rattle.upsched_store_parts.specs.Surveys.{all_serve, each_serves, serves, state_line, state_lines, state_text};
+ghost use Rattle.upsched_map_parts.specs.Faults.{StopsPrint};
 
 use crate::stored_run::fault_of;
 use std::io::Write;
@@ -40,7 +41,8 @@ fn print_one<'a, O: Write>(
     found: &(u8, FilesState),
     output: &mut O,
 ) -> Result<(), Fault<'a>>
-    ensures { OnOk result (Appends (O.contents output.old) (O.contents output.new) (state_line folder.now found.now)) }
+    ensures printed { OnOk result (Appends (O.contents output.old) (O.contents output.new) (state_line folder.now found.now)) }
+    ensures fault { IfErr result StopsPrint }
 {
     let number = found.0;
     let text = state_text(found.1);
@@ -53,7 +55,8 @@ fn print_each<'a, O: Write>(
     states: &[(u8, FilesState)],
     output: &mut O,
 ) -> Result<(), Fault<'a>>
-    ensures { OnOk result (Appends (O.contents output.old) (O.contents output.new) (flat_map (state_line folder.now) states.now)) }
+    ensures printed { OnOk result (Appends (O.contents output.old) (O.contents output.new) (flat_map (state_line folder.now) states.now)) }
+    ensures fault { IfErr result StopsPrint }
 {
     for found in states {
         print_one(folder, found, output)?;
@@ -62,7 +65,8 @@ fn print_each<'a, O: Write>(
 }
 
 fn print_none<'a, O: Write>(folder: &str, output: &mut O) -> Result<(), Fault<'a>>
-    ensures { OnOk result (Appends (O.contents output.old) (O.contents output.new) (state_lines folder.now [])) }
+    ensures printed { OnOk result (Appends (O.contents output.old) (O.contents output.new) (state_lines folder.now [])) }
+    ensures fault { IfErr result StopsPrint }
 {
     writeln!(output, "{folder}: no file of a node")?;
     Ok(())
@@ -73,7 +77,8 @@ fn print_states<'a, O: Write>(
     states: &[(u8, FilesState)],
     output: &mut O,
 ) -> Result<(), Fault<'a>>
-    ensures { OnOk result (Appends (O.contents output.old) (O.contents output.new) (state_lines folder.now states.now)) }
+    ensures printed { OnOk result (Appends (O.contents output.old) (O.contents output.new) (state_lines folder.now states.now)) }
+    ensures fault { IfErr result StopsPrint }
 {
     if states.is_empty() {
         print_none(folder, output)
@@ -102,6 +107,7 @@ pub fn report_states<'a, O: Write>(
 ) -> Result<bool, Fault<'a>>
     ensures printed { OnOk result (Appends (O.contents output.old) (O.contents output.new) (state_lines folder.now states.now)) }
     ensures serve { IfOk result (λ serve. serve ≡ all_serve states.now) }
+    ensures fault { IfErr result StopsPrint }
 {
     print_states(folder, states, output)?;
     output.flush()?;

@@ -3,8 +3,8 @@ use Rattle.json_answers.specs.Events.{counts_data}
 use Rattle.upsched_json_parts.proofs.Callers.{value_printed}
 use Rattle.upsched_json_run_parts.proofs.report.print_counts_line.Goals as goal
 
-pub returns-in-Ok : goal.returns-in-Ok
-returns-in-Ok g c =
+pub returns-in-Ok-clause-printed : goal.returns-in-Ok-clause-printed
+returns-in-Ok-clause-printed g c =
     value_printed c.print_line.result (counts_data c.args.letters c.args.outputs c.args.transmissions) (string_bytes c.in-Ok.text)
     (g.O.Write.contents c.args.output.now) (g.O.Write.contents c.print_line.new.output) c.in-Ok.ensures
     (rw c.as_str.ensures.value at c.print_line.ensures.printed)

@@ -7,6 +7,6 @@ returns-clause-printed g c = λ honest w stands.
     let went = c.in-Ok.ensures.run honest w stands in (
       went.0,
       answers_told (length w.nodes) w went.0 c.args.events.now c.in-Ok.report c.answers-2.result.now c.outputs.result.now (g.O.Write.contents c.args.output.now)
-          (g.O.Write.contents c.print_answers.new.output) went.1 c.answers-2.ensures (c.outputs.ensures.written went.0 went.2) c.in_ok-print_answers.ensures,
+          (g.O.Write.contents c.print_answers.new.output) went.1 c.answers-2.ensures (c.outputs.ensures.written went.0 went.2) c.in_ok-print_answers.ensures.printed,
       went.2,
     )

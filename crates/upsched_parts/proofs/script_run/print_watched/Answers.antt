@@ -8,6 +8,6 @@ returns-clause-printed g c = λ honest w stands.
       went.0,
       traces_told (length w.nodes) w went.0 c.args.events.now c.in-Ok.watched.answers.items c.as_slice-answers.result.now c.in-Ok.watched.sights.items c.as_slice-sights.result.now
           c.letters.result.now c.outputs.result.now (g.O.Write.contents c.args.output.now) (g.O.Write.contents c.print_traced.new.output) went.1 c.as_slice-answers.ensures.value
-          c.as_slice-sights.ensures.value (c.letters.ensures.written went.0 went.2) (c.outputs.ensures.written went.0 went.2) c.in_ok-print_traced.ensures,
+          c.as_slice-sights.ensures.value (c.letters.ensures.written went.0 went.2) (c.outputs.ensures.written went.0 went.2) c.in_ok-print_traced.ensures.printed,
       went.2,
     )

@@ -1,10 +1,10 @@
-use Rattle.std.proofs.Common.{◌≡◌, false, true, List, [], length, sym, ◌∙◌, ap}
+use Rattle.std.proofs.Common.{◌≡◌, [], length, sym, ◌∙◌, ap}
 use Rattle.std.proofs.lemmas.Bool.{false≢true, both_ways, eq-eqb}
 use Rattle.upsched_sight_parts.proofs.Scripts.{only_plan}
 use Rattle.upsched_sight_parts.proofs.plan_words.is_script_alone.Goals as goal
 
-pub returns-else-is_empty : goal.returns-else-is_empty
-returns-else-is_empty c = (
+pub returns-else-is_empty-clause-alone : goal.returns-else-is_empty-clause-alone
+returns-else-is_empty-clause-alone c = (
   λ same. absurd (false≢true same),
   λ alone.
       let none : c.args.commands.now ≡ [] = only_plan c.args.text.now c.args.commands.now alone.0 c.requires in
