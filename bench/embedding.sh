@@ -2,6 +2,7 @@
 # Runs the programs of docs/embedding.md, bench/drawing, bench/simulator and bench/embedding, and compares what each
 # prints with the file `stdout` beside it. The status is 1 where they differ.
 # What it builds is proved first, in a temporary workspace; with `unproved` it is built without proof, by `rt try`.
+# ./check reads the lines `compare NAME DEP..` and does the same with the libraries that it kept.
 #
 # Usage: bench/embedding.sh [unproved]
 set -euo pipefail

@@ -12,5 +12,6 @@ pub fn one_owner()
     ensures held { (outputs : List Output) (hearings : List Hearing) (id ch m sid : ℕ) → AreSoundOutputs outputs → HeardFrom outputs hearings
         → Held id hearings ch m sid → Owns outputs ch m id }
     ensures apart { (outputs : List Output) (hearings other_hearings : List Hearing) (id other ch m sid other_sid : ℕ) → AreSoundOutputs outputs
-        → HeardFrom outputs hearings → HeardFrom outputs other_hearings → Held id hearings ch m sid → Held other other_hearings ch m other_sid → id ≡ other }
+        → HeardFrom outputs hearings → HeardFrom outputs other_hearings
+        → Held id hearings ch m sid → Held other other_hearings ch m other_sid → id ≡ other }
 {}

@@ -115,7 +115,8 @@ fn print_run<'a, N: Node, O: Write>(
 ) -> Result<World<N>, Fault<'a>>
     requires nodes { AreFresh N.who N.honest N.stands nodes.items }
     requires modems { AreNew modems.items }
-    ensures printed { IfOk result (λ world. AreHonest world → PrintsEventsAsJson is_traced (length nodes.items) (map (λ modem. modem.id) modems.items) events.now
+    ensures printed { IfOk result (λ world. AreHonest world
+        → PrintsEventsAsJson is_traced (length nodes.items) (map (λ modem. modem.id) modems.items) events.now
         (O.contents output.old) (O.contents output.new)) }
     ensures fault { IfErr result StopsPrint }
 {
@@ -138,7 +139,8 @@ pub fn print_script_as_json<'a, N: Node, O: Write>(
     output: &mut O,
 ) -> Result<World<N>, Fault<'a>>
     requires { AreFresh N.who N.honest N.stands nodes.items }
-    ensures printed { IfOk result (λ world. AreHonest world → PrintsEventsAsJson is_traced (length nodes.items) script.now.modems.items script.now.events.items
+    ensures printed { IfOk result (λ world. AreHonest world
+        → PrintsEventsAsJson is_traced (length nodes.items) script.now.modems.items script.now.events.items
         (O.contents output.old) (O.contents output.new)) }
     ensures fault { IfErr result StopsPrint }
 {

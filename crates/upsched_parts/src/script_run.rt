@@ -142,7 +142,8 @@ fn print_events<'a, R: Log + AllocGlobal, N: Node, O: Write>(
 ) -> Result<World<N>, Fault<'a>>
     requires nodes { AreFresh N.who N.honest N.stands nodes.items }
     requires modems { AreNew modems.items }
-    ensures printed { IfOk result (λ world. AreHonest world → PrintsEvents telling.trace (length nodes.items) (map (λ modem. modem.id) modems.items) events.now
+    ensures printed { IfOk result (λ world. AreHonest world
+        → PrintsEvents telling.trace (length nodes.items) (map (λ modem. modem.id) modems.items) events.now
         (O.contents output.old) (O.contents output.new)) }
     ensures fault { IfErr result StopsPrint }
 {
@@ -165,7 +166,8 @@ pub fn print_script<'a, R: Log + AllocGlobal, N: Node, O: Write>(
     output: &mut O,
 ) -> Result<World<N>, Fault<'a>>
     requires { AreFresh N.who N.honest N.stands nodes.items }
-    ensures printed { IfOk result (λ world. AreHonest world → PrintsEvents telling.trace (length nodes.items) script.now.modems.items script.now.events.items
+    ensures printed { IfOk result (λ world. AreHonest world
+        → PrintsEvents telling.trace (length nodes.items) script.now.modems.items script.now.events.items
         (O.contents output.old) (O.contents output.new)) }
     ensures fault { IfErr result StopsPrint }
 {
