@@ -1,6 +1,7 @@
 -- Which fault is told of one below.
 use Rattle.acceptor_store.specs.declared.OpenFault.{OpenFault}
 use Rattle.acceptor_store.specs.declared.OpenFault.TheVariants as opening
+use Rattle.acceptor_store.specs.declared.owned.OwnerFault.TheVariants as owner
 use Rattle.proposer.specs.declared.fault.NodeFault.TheVariants as node
 use Rattle.stored_nodes.specs.declared.fault.StoreFault.{StoreFault}
 use Rattle.stored_nodes.specs.declared.fault.StoreFault.TheVariants.{NotFresh, Unusable, OutOfMemory}
@@ -16,5 +17,6 @@ stored_open other = Unusable
 abbrev pub stored_start : StartFault → StoreFault
 stored_start start.NotFresh = NotFresh
 stored_start start.OutOfMemory = OutOfMemory
+stored_start (start.Unopened (owner.Open opening.OutOfMemory)) = OutOfMemory
 stored_start (start.Unread node.OutOfMemory) = OutOfMemory
 stored_start other = Unusable

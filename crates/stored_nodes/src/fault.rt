@@ -6,7 +6,7 @@ ghost use Rattle.stored_nodes.specs.Faults.{stored_open, stored_start};
 ghost use Rattle.stored_nodes.specs.declared.fault.StoreFault.TheVariants.{OutOfMemory, Unusable};
 
 use crate::start::StartFault;
-use acceptor_store::OpenFault;
+use acceptor_store::{OpenFault, OwnerFault};
 use node::NodeFault;
 use sqlite_std_file::OpenError;
 use std::alloc::{AllocError, AllocFailed};
@@ -86,6 +86,8 @@ impl From<StartFault> for StoreFault {
         match fault {
             StartFault::NotFresh => StoreFault::NotFresh,
             StartFault::OutOfMemory => StoreFault::OutOfMemory,
+            StartFault::Unopened(OwnerFault::Open(OpenFault::OutOfMemory)) =>
+                StoreFault::OutOfMemory,
             StartFault::Unread(NodeFault::OutOfMemory) => StoreFault::OutOfMemory,
             _ => StoreFault::Unusable,
         }
