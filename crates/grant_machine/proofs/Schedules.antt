@@ -1,7 +1,7 @@
 -- What modems can rely on in the outputs of any list of commands.
-use Rattle.std.proofs.Common.{◌≡◌, ℕ, zero, suc, ◌+◌, ◌-◌, ◌<◌, ◌≤◌, List, [], ◌∷◌, ◌++◌, map, length, Some, None, refl, sym, ap, subst, ◌∙◌, arith, inl, inr, slice_get}
+use Rattle.std.proofs.Common.{◌≡◌, ℕ, zero, suc, ◌+◌, ◌-◌, ◌<◌, ◌≤◌, ◌==◌, cond, List, [], ◌∷◌, ◌++◌, map, length, Option, Some, None, refl, sym, ap, subst, ◌∙◌, arith, inl, inr, slice_get}
 use Rattle.std.proofs.lemmas.Option.{same_Some}
-use Rattle.std.specs.List.{AllByRecursion}
+use Rattle.std.specs.List.{AllByRecursion, cons_option, filter_map, range_with_len}
 use Rattle.std.proofs.lemmas.Bool.{eqb-true}
 use Rattle.minislot_time.specs.Wire.{wire}
 use Rattle.map_body.specs.declared.element.Element.{Element}
@@ -16,7 +16,8 @@ use Rattle.grant_machine.specs.declared.output.Output.{Output}
 use Rattle.grant_machine.specs.declared.output.Output.TheVariants as outputs
 use Rattle.grant_machine_parts.specs.declared.placing.Placement.{Placement}
 use Rattle.grant_machine_parts.specs.Cutting.{Filled, fill, fill_refusal, span_of}
-use Rattle.grant_machine_parts.specs.Drawing.{null_element, body_of, bytes_of}
+use Rattle.grant_machine_parts.specs.Placing.{holder, holds}
+use Rattle.grant_machine_parts.specs.Drawing.{beginning, begins_at, body_of, bytes_of, free_element, null_element, placed_element}
 use Rattle.grant_machine.specs.Steps.{step}
 use Rattle.grant_machine.specs.Runs.{outputs_from, outputs_of, rows_from}
 use Rattle.grant_machine.specs.Fits.{FitsCommand}
@@ -28,7 +29,7 @@ use Rattle.flow_state.proofs.Callers.{is_found}
 use Rattle.grant_machine.proofs.Leases.{AllLeadBack, back_step, step_gives, leases_are_apart}
 use Rattle.flow_state.proofs.Callers.{IsWell}
 use Rattle.grant_machine_parts.proofs.Callers.{is_cut}
-use Rattle.grant_machine_parts.proofs.Callers.{count, null_at, none_before}
+use Rattle.grant_machine_parts.proofs.Callers.{count, holds_from, null_at, none_before}
 use Rattle.grant_machine_parts.proofs.Callers.{pending, cut_placed, cut_most, pending_plain, cut_written}
 use Rattle.grant_machine.proofs.Reached.{At, AllWell, none_well, well_step, rows_keep, FitsTable, none_fit, fit_rows}
 use Rattle.grant_machine.proofs.Cuts.{map_parts, cut_of_map}
@@ -101,6 +102,25 @@ drawn_at cs k ch start len bytes e =
     let s = step_at [] cs k (outputs.Map ch start len bytes) e in
     drawn_now (λ t. Unit {0}) (rows_from [] s.front) s.command ch start len bytes (rows_keep AllWell well_step [] s.front none_well) (λ at t found. tt) s.gives
 
+-- ---- where a MAP begins
+
+-- an element begins at the first minislot: that of the placement that holds it, or of free minislots
+front : (ps : List Placement) → (e : Element) × (begins_at ps 0 ≡ Some e) × (e.offset ≡ 0)
+front ps = by (holder ps 0) refl
+  where
+    by : (o : Option Placement) → holder ps 0 ≡ o → (e : Element) × (begins_at ps 0 ≡ Some e) × (e.offset ≡ 0)
+    by None f = (free_element 0, ap (beginning 0 (holder ps (0 - 1))) f, refl)
+    by (Some p) f =
+        let from = holds_from 0 p (found_has (holds 0) ps p f).1 in
+        let here : p.offset ≡ 0 = omega (arith, from) in
+        (placed_element p, ap (beginning 0 (holder ps (0 - 1))) f ∙ ap (λ n. cond (n == 0) (Some (placed_element p)) None) here, here)
+
+-- what begins there is the first one
+first_is : (b : ℕ → Option Element) (len : ℕ) (rest : List Element) (d e : Element) → 1 ≤ len → b 0 ≡ Some d → slice_get (filter_map b (range_with_len 0 len) ++ rest) 0 ≡ Some e → d ≡ e
+first_is b zero rest d e some begins first = absurd (omega arith)
+first_is b (suc n) rest d e some begins first =
+    same_Some d e (sym (ap (λ (o : Option Element). slice_get (cons_option o (filter_map b (range_with_len 1 n)) ++ rest) 0) begins) ∙ first)
+
 body_of_drawn : (ch start len : ℕ) (bytes : List ℕ) → IsDrawn ch start len bytes FitsTable → IsMapOf ch start len bytes
 body_of_drawn ch start len bytes d =
     let t : Table = d.table in
@@ -117,6 +137,9 @@ body_of_drawn ch start len bytes d =
       body = subst (λ (bs : List ℕ). IsWritten bs (body_of t f)) d.bytes_is (cut_written t len d.not_before d.ack w ok d.holds.id d.holds.ucd);
       channel = d.channel_is;
       start_is = ap wire d.start_is;
+      begins = λ e first.
+          let d = front f.placements in
+          ap (λ (c : Element). c.offset) (sym (first_is (begins_at f.placements) len _ d.0 e cut.some d.1 first)) ∙ d.2;
       null = record {
         place = count t f.span f.placements a len refl most rest plain;
         null = null_element len;

@@ -47,13 +47,14 @@ pub record IsNullAt (map : Body) (offset : ℕ) : Type 0 where
   pub first : NoNullBefore map.elements place
   pub offset_is : null.offset ≡ offset
 
--- the bytes are a MAP body as it is written: of this channel, with the low bits of its start, as long as a MAP may be
--- up to the Null
+-- the bytes are a MAP body as it is written: of this channel, with the low bits of its start, from its first minislot on
+-- and as long as a MAP may be up to the Null
 pub record IsMapOf (ch start len : ℕ) (bytes : List ℕ) : Type 0 where
   pub map : Body
   pub body : IsWritten bytes map
   pub channel : map.head.channel ≡ ch
   pub start_is : map.head.start ≡ wire start
+  pub begins : (e : Element) → slice_get map.elements 0 ≡ Some e → e.offset ≡ 0
   pub null : IsNullAt map len
   pub some : 1 ≤ len
   pub most : len ≤ most_minislots

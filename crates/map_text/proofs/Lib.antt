@@ -1,3 +1,4 @@
 mod Covering
 mod Faulting
 mod Fitting
+mod Scheduled

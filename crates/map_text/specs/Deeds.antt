@@ -1,5 +1,6 @@
 -- What the commands of a plan gave, as far as MAPs show it: a deed for each command.
 use Rattle.std.specs.Prelude.{◌≡◌, ℕ, ◌⊎◌, IsTrue, List, [], ◌∷◌}
+use Rattle.std.specs.List.{AllByRecursion, Contains}
 use Rattle.map_body.specs.Body.{Body}
 use Rattle.map_body.specs.Intervals.{intervals}
 use Rattle.map_body.specs.Layout.{IsBody, FirstFault}
@@ -9,6 +10,8 @@ use Rattle.grant_machine.specs.declared.command.Command.{Command}
 use Rattle.grant_machine.specs.declared.command.Command.TheVariants as commands
 use Rattle.grant_machine.specs.declared.output.Output.{Output}
 use Rattle.grant_machine.specs.declared.output.Output.TheVariants as outputs
+use Rattle.grant_machine.specs.Fits.{FitsCommand}
+use Rattle.grant_machine.specs.Runs.{outputs_of}
 use Rattle.map_text.specs.Cover.{follow}
 use Rattle.map_text.specs.declared.deed.Deed.{Deed}
 use Rattle.map_text.specs.declared.deed.Deed.TheVariants as deeds
@@ -67,3 +70,7 @@ AreDeeds [] [] (d ∷ ds) = ⊥
 AreDeeds [] (o ∷ os) ds = ⊥
 AreDeeds (c ∷ cs) [] ds = ⊥
 AreDeeds (c ∷ cs) (o ∷ os) [] = ⊥
+
+-- a scheduler's MAP has each of its minislots, so there is a deed of each of its outputs
+abbrev pub OutputsHaveDeeds : Type 0
+OutputsHaveDeeds = (cs : List Command) (c : Command) (o : Output) → AllByRecursion FitsCommand cs → Contains (outputs_of cs) o → (d : Deed) × IsDeedOf c o d

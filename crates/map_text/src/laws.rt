@@ -2,6 +2,9 @@
 
 ghost use Rattle.map_text.specs.Cover.{CellsCover};
 ghost use Rattle.map_text.specs.Columns.{LinesFit};
+ghost use Rattle.map_text.specs.Deeds.{OutputsHaveDeeds};
+
+use grant_machine::maps_are_bodies;
 
 /// Intervals that follow one another have each minislot once, and as many together as there are.
 pub fn cells_cover()
@@ -12,3 +15,10 @@ pub fn cells_cover()
 pub fn lines_fit()
     ensures { LinesFit }
 {}
+
+/// A MAP of a scheduler has each of its minislots, so there is a deed of each output.
+pub fn outputs_have_deeds()
+    ensures { OutputsHaveDeeds }
+{
+    maps_are_bodies();
+}

@@ -1,6 +1,7 @@
 //! Why fresh nodes don't start over files.
 
-ghost use Rattle.std.specs.Prelude.{◌≡◌, ◌⊎◌};
+ghost use Rattle.std.specs.IoError.{error_kind};
+ghost use Rattle.std.specs.Prelude.{◌≡◌, ◌≢◌, ◌⊎◌};
 ghost use Rattle.sqlite_std_file.specs.declared.pair.OpenError.TheVariants as pair;
 ghost use Rattle.stored_nodes.specs.Faults.{stored_open, stored_start};
 ghost use Rattle.stored_nodes.specs.declared.fault.StoreFault.TheVariants.{OutOfMemory, Unusable};
@@ -46,7 +47,10 @@ impl<T: Drop> From<AllocFailed<T>> for StoreFault {
 impl From<io::Error> for StoreFault {
     ghost from_gives = { λ _ given. (given ≡ OutOfMemory) ⊎ (given ≡ Unusable) };
 
-    fn from(error: io::Error) -> StoreFault {
+    fn from(error: io::Error) -> StoreFault
+        ensures memory { error_kind error ≡ ErrorKind.OutOfMemory → result ≡ OutOfMemory }
+        ensures unusable { error_kind error ≢ ErrorKind.OutOfMemory → result ≡ Unusable }
+    {
         match error.kind() {
             ErrorKind::OutOfMemory => StoreFault::OutOfMemory,
             _ => StoreFault::Unusable,
@@ -59,7 +63,11 @@ impl From<OpenError> for StoreFault {
         × (error ≡ pair.OutOfMemory → given ≡ OutOfMemory)
         × (error ≡ pair.Busy → given ≡ Unusable) × (error ≡ pair.HotJournal → given ≡ Unusable) };
 
-    fn from(error: OpenError) -> StoreFault {
+    fn from(error: OpenError) -> StoreFault
+        ensures gives { ⟦<StoreFault as From<OpenError>>⟧.from_gives error result }
+        ensures memory { (fault : _) → error ≡ OpenError.Io fault → error_kind fault ≡ ErrorKind.OutOfMemory → result ≡ OutOfMemory }
+        ensures unusable { (fault : _) → error ≡ OpenError.Io fault → error_kind fault ≢ ErrorKind.OutOfMemory → result ≡ Unusable }
+    {
         match error {
             OpenError::OutOfMemory => StoreFault::OutOfMemory,
             OpenError::Io(error) => StoreFault::from(error),

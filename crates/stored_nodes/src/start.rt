@@ -1,6 +1,7 @@
 //! Why a node doesn't start over its files.
 
-ghost use Rattle.std.specs.Prelude.{◌≡◌, ◌⊎◌};
+ghost use Rattle.std.specs.IoError.{error_kind};
+ghost use Rattle.std.specs.Prelude.{◌≡◌, ◌≢◌, ◌⊎◌};
 ghost use Rattle.sqlite_std_file.specs.declared.pair.OpenError.TheVariants as pair;
 ghost use Rattle.stored_nodes.specs.declared.start.StartFault.TheVariants.{InUse, OutOfMemory, Unusable};
 
@@ -76,7 +77,10 @@ impl<T: Drop> From<AllocFailed<T>> for StartFault {
 impl From<io::Error> for StartFault {
     ghost from_gives = { λ _ given. (given ≡ OutOfMemory) ⊎ (given ≡ Unusable) };
 
-    fn from(error: io::Error) -> StartFault {
+    fn from(error: io::Error) -> StartFault
+        ensures memory { error_kind error ≡ ErrorKind.OutOfMemory → result ≡ OutOfMemory }
+        ensures unusable { error_kind error ≢ ErrorKind.OutOfMemory → result ≡ Unusable }
+    {
         match error.kind() {
             ErrorKind::OutOfMemory => StartFault::OutOfMemory,
             _ => StartFault::Unusable,
@@ -89,7 +93,11 @@ impl From<OpenError> for StartFault {
         × (error ≡ pair.OutOfMemory → given ≡ OutOfMemory)
         × (error ≡ pair.Busy → given ≡ InUse) × (error ≡ pair.HotJournal → given ≡ Unusable) };
 
-    fn from(error: OpenError) -> StartFault {
+    fn from(error: OpenError) -> StartFault
+        ensures gives { ⟦<StartFault as From<OpenError>>⟧.from_gives error result }
+        ensures memory { (fault : _) → error ≡ OpenError.Io fault → error_kind fault ≡ ErrorKind.OutOfMemory → result ≡ OutOfMemory }
+        ensures unusable { (fault : _) → error ≡ OpenError.Io fault → error_kind fault ≢ ErrorKind.OutOfMemory → result ≡ Unusable }
+    {
         match error {
             OpenError::OutOfMemory => StartFault::OutOfMemory,
             OpenError::Busy => StartFault::InUse,

@@ -1,1 +1,2 @@
 mod Tried
+mod Spelled

@@ -1,6 +1,7 @@
 -- What `script` prints: a script that was read back, run, and found as asked.
-use Rattle.std.specs.Prelude.{◌≡◌, ℕ, List, [], ◌∷◌, ◌++◌, Option, Some, None, IfSome, option_map, codes, decimal, flat_map}
+use Rattle.std.specs.Prelude.{◌≡◌, ◌≢◌, ℕ, ◌<◌, ◌^◌, List, [], ◌∷◌, ◌++◌, Option, Some, None, IfSome, option_map, codes, decimal, flat_map}
 use Rattle.std.specs.Io.KnownBytes.{Appends}
+use Rattle.std.specs.List.{AllByRecursion}
 use Rattle.ballots.specs.declared.members.Members.{Members}
 use Rattle.ballots.specs.declared.members.Members.TheVariants.{Three, Five}
 use Rattle.ballots.specs.Members.{member_count}
@@ -34,6 +35,10 @@ next_number n = codes "," ++ decimal n
 abbrev pub numbers_text : List ℕ → List ℕ
 numbers_text [] = []
 numbers_text (n ∷ ns) = decimal n ++ flat_map next_number ns
+
+-- some numbers of 32 bits
+abbrev pub AreIds : List ℕ → Type 0
+AreIds ids = (ids ≢ []) × AllByRecursion (λ id. id < 2 ^ 32) ids
 
 -- the ids of modems, none without the word
 abbrev pub NamesIds : Option (List ℕ) → List ℕ → Type 0

@@ -1,7 +1,10 @@
 //! What the words name.
 
-ghost use Rattle.std.specs.Prelude.{◌≡◌, ◌++◌, IfOk, IfSome, OnOk, Some, option_map, string_bytes, flat_map};
-ghost use Rattle.upsched_script_parts.specs.Scripts.{NamesIds, NamesMembers, next_number, numbers_text};
+ghost use Rattle.std.specs.Prelude.{◌≡◌, ◌≢◌, ◌⊎◌, ◌++◌, ℕ, List, Err, IfErr, IfOk, IsOk, IsSomeAnd, MatchOption, OnOk, None, option_map, string_bytes, flat_map};
+ghost use Rattle.ballots.specs.declared.members.Members.{Members};
+ghost use Rattle.upsched_map_parts.specs.declared.fault.Fault.TheVariants.{Memory};
+ghost use Rattle.upsched_script_parts.specs.Scripts.{AreIds, NamesIds, NamesMembers, next_number, numbers_text};
+ghost use Rattle.upsched_script_parts.specs.declared.refusal.Refusal.TheVariants as refused;
 
 use crate::refusal::Refusal;
 use ballots::Members;
@@ -10,7 +13,7 @@ use upsched_map_parts::{Fault, ScriptWords};
 
 /// How many members a word names, 3 or 5.
 pub fn members_of(word: &str) -> Option<Members>
-    ensures { IfSome result (NamesMembers word.now) }
+    ensures { MatchOption result ((members : Members) → ¬ NamesMembers word.now members) (NamesMembers word.now) }
 {
     match word {
         "3" => Some(Members::Three),
@@ -43,7 +46,9 @@ fn numbers_text(alloc: Global, numbers: &[u32]) -> Result<String, AllocError>
 }
 
 /// The numbers between the commas of a word, nothing where something else is there.
-fn numbers_in(alloc: Global, word: &str) -> Result<Option<Vec<u32>>, AllocError> {
+fn numbers_in(alloc: Global, word: &str) -> Result<Option<Vec<u32>>, AllocError>
+    ensures { IfOk result (λ found. (ids : List ℕ) → AreIds ids → word.now ≡ numbers_text ids → IsSomeAnd found (λ numbers. numbers.items ≡ ids)) }
+{
     let mut numbers = Vec::new(alloc);
     for part in word.split(',') {
         let Ok(number) = part.parse::<u32>() else {
@@ -56,7 +61,9 @@ fn numbers_in(alloc: Global, word: &str) -> Result<Option<Vec<u32>>, AllocError>
 
 /// The ids that a word names. A word that writes numbers in another way, as with a plus, is refused.
 fn ids_in<'a>(alloc: Global, word: &str) -> Result<Vec<u32>, Refusal<'a>>
-    ensures { IfOk result (λ ids. word.now ≡ numbers_text ids.items) }
+    ensures ids { IfOk result (λ ids. word.now ≡ numbers_text ids.items) }
+    ensures modems { result ≡ Err refused.Modems → (ids : List ℕ) → AreIds ids → word.now ≢ numbers_text ids }
+    ensures refusal { IfErr result (λ refusal. (refusal ≡ refused.Modems) ⊎ (refusal ≡ refused.Fault Memory)) }
 {
     let ids = match numbers_in(alloc, word) {
         Ok(Some(ids)) => ids,
@@ -72,7 +79,10 @@ fn ids_in<'a>(alloc: Global, word: &str) -> Result<Vec<u32>, Refusal<'a>>
 
 /// The ids of the modems that the words name, none without them.
 pub fn ids_of<'a>(alloc: Global, words: &ScriptWords<'_>) -> Result<Vec<u32>, Refusal<'a>>
-    ensures { IfOk result (λ ids. NamesIds (option_map (λ word. word.now) words.now.modems) ids.items) }
+    ensures ids { IfOk result (λ ids. NamesIds (option_map (λ word. word.now) words.now.modems) ids.items) }
+    ensures none { words.now.modems ≡ None → IsOk result }
+    ensures modems { result ≡ Err refused.Modems → (ids : List ℕ) → AreIds ids → ¬ NamesIds (option_map (λ word. word.now) words.now.modems) ids }
+    ensures refusal { IfErr result (λ refusal. (refusal ≡ refused.Modems) ⊎ (refusal ≡ refused.Fault Memory)) }
 {
     match words.modems {
         Some(word) => ids_in(alloc, word),

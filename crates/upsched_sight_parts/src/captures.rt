@@ -1,10 +1,14 @@
 //! `upsched capture PLAN`: the MAPs of a plan as frames in a capture file.
 
-ghost use Rattle.std.specs.Prelude.{◌≡◌, ◌≢◌, ◌≤◌, ◌+◌, ◌%◌, ◌^◌, IfOk, IfSome, OnOk, length};
+ghost use Rattle.std.specs.Prelude.{◌≡◌, ◌≢◌, ◌≤◌, ◌+◌, ◌%◌, ◌^◌, IfErr, IfOk, IfSome, OnOk, length};
 ghost use Rattle.std.specs.Io.KnownBytes.{Appends};
 ghost use Rattle.map_frames.specs.Captures.{records_from, capture_of};
 ghost use Rattle.grant_machine.specs.Steps.{step};
 ghost use Rattle.grant_machine.specs.Runs.{outputs_of, IsReached};
+ghost use Rattle.map_text.specs.Deeds.{IsDeedOf};
+ghost use Rattle.map_text.specs.declared.deed.Deed.{Deed};
+ghost use Rattle.upsched_map_parts.specs.Faults.{StopsPrint};
+ghost use Rattle.upsched_map_parts.specs.declared.fault.Fault.TheVariants.{Memory};
 ghost use Rattle.upsched_map_parts.specs.declared.status.Status.TheVariants.{Done, NotUnderstood};
 ghost use Rattle.upsched_map_parts.specs.Plan.{IsPlan, NoPlan};
 ghost use Rattle.upsched_sight_parts.specs.Plans.{IsScriptAlone, bodies_in, bodies_of, FitsFrame, CapturesPlan, IsKnownScript};
@@ -12,12 +16,14 @@ ghost use Rattle.upsched_sight_parts.specs.Plans.{IsScriptAlone, bodies_in, bodi
 use crate::plan_words::{CaptureWords, Refusal, commands_of};
 use grant_machine::{Command, Machine, Output, maps_are_bodies};
 use map_frames::{file_head, record};
+use map_text::outputs_have_deeds;
 use std::alloc::Global;
 use std::io::{Read, Write};
 use upsched_map_parts::{Fault, Status};
 
 pub(crate) fn write_bytes<'a, O: Write>(bytes: &[u8], output: &mut O) -> Result<(), Fault<'a>>
-    ensures { OnOk result (Appends (O.contents output.old) (O.contents output.new) bytes.now) }
+    ensures written { OnOk result (Appends (O.contents output.old) (O.contents output.new) bytes.now) }
+    ensures fault { IfErr result StopsPrint }
 {
     match output.write_all(bytes) {
         Ok(()) => Ok(()),
@@ -32,8 +38,11 @@ pub(crate) fn answer_of<'a>(machine: &mut Machine, command: &Command) -> Result<
     ensures rows { OnOk result (machine.new ≡ (step machine.old command.now).rows) }
     ensures reached { IsReached machine.new }
     ensures fits { IfOk result (λ output. FitsFrame output) }
+    ensures deed { IfOk result (λ output. (deed : Deed) × IsDeedOf command.now output deed) }
+    ensures fault { IfErr result (λ fault. fault ≡ Memory) }
 {
     maps_are_bodies();
+    outputs_have_deeds();
     match machine.apply(command) {
         Ok(output) => Ok(output),
         Err(_) => Err(Fault::Memory),

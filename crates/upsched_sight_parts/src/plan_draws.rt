@@ -1,12 +1,14 @@
 //! `upsched draw PLAN --plan`: the MAPs of a plan as a picture, or with `--text` for a terminal. Commands that are at
 //! hand, as those of a run, are drawn likewise.
 
-ghost use Rattle.std.specs.Prelude.{◌≡◌, ◌≢◌, ◌++◌, ◌∷◌, [], ℕ, List, flat_map, IfOk, OnOk};
+ghost use Rattle.std.specs.Prelude.{◌≡◌, ◌≢◌, ◌++◌, ◌∷◌, [], ℕ, List, flat_map, IfErr, IfOk, OnOk};
 ghost use Rattle.std.specs.Io.KnownBytes.{Appends};
 ghost use Rattle.grant_machine.specs.Steps.{step};
 ghost use Rattle.grant_machine.specs.Runs.{outputs_of, IsReached};
 ghost use Rattle.map_text.specs.Deeds.{IsDeedOf, AreDeeds};
 ghost use Rattle.map_text.specs.Texts.{channel_text, plan_text};
+ghost use Rattle.upsched_map_parts.specs.Faults.{StopsPrint};
+ghost use Rattle.upsched_map_parts.specs.declared.fault.Fault.TheVariants.{Memory};
 ghost use Rattle.upsched_map_parts.specs.declared.status.Status.TheVariants.{Done, NotUnderstood};
 ghost use Rattle.upsched_map_parts.specs.Plan.{NoPlan};
 ghost use Rattle.upsched_sight_parts.specs.Plans.{IsKnownScript};
@@ -35,6 +37,7 @@ fn deed_done<'a>(alloc: Global, machine: &mut Machine, command: &Command) -> Res
     ensures deed { IfOk result (IsDeedOf command.now (step machine.old command.now).output) }
     ensures rows { OnOk result (machine.new ≡ (step machine.old command.now).rows) }
     ensures reached { IsReached machine.new }
+    ensures fault { IfErr result (λ fault. fault ≡ Memory) }
 {
     let answer = answer_of(machine, command)?;
     match deed_of(alloc, command, &answer) {
@@ -45,7 +48,8 @@ fn deed_done<'a>(alloc: Global, machine: &mut Machine, command: &Command) -> Res
 
 /// What commands did.
 fn deeds_of<'a>(alloc: Global, commands: &[Command]) -> Result<Vec<Deed>, Fault<'a>>
-    ensures { IfOk result (λ deeds. AreDeeds commands.now (outputs_of commands.now) deeds.items) }
+    ensures deeds { IfOk result (λ deeds. AreDeeds commands.now (outputs_of commands.now) deeds.items) }
+    ensures fault { IfErr result (λ fault. fault ≡ Memory) }
 {
     let mut machine = Machine::new(alloc);
     let mut deeds = Vec::new(alloc);
@@ -64,7 +68,8 @@ fn print_channel<'a, O: Write>(
     ch: u8,
     output: &mut O,
 ) -> Result<(), Fault<'a>>
-    ensures { OnOk result (Appends (O.contents output.old) (O.contents output.new) (channel_text deeds.now ch)) }
+    ensures printed { OnOk result (Appends (O.contents output.old) (O.contents output.new) (channel_text deeds.now ch)) }
+    ensures fault { IfErr result StopsPrint }
 {
     let Ok(text) = channel_text(alloc, deeds, ch) else {
         return Err(Fault::Memory);
@@ -78,7 +83,8 @@ fn print_channels<'a, O: Write>(
     channels: &[u8],
     output: &mut O,
 ) -> Result<(), Fault<'a>>
-    ensures { OnOk result (Appends (O.contents output.old) (O.contents output.new) (flat_map (channel_text deeds.now) channels.now)) }
+    ensures printed { OnOk result (Appends (O.contents output.old) (O.contents output.new) (flat_map (channel_text deeds.now) channels.now)) }
+    ensures fault { IfErr result StopsPrint }
 {
     for ch in channels {
         print_channel(alloc, deeds, *ch, output)?;
@@ -87,7 +93,8 @@ fn print_channels<'a, O: Write>(
 }
 
 fn print_deeds<'a, O: Write>(alloc: Global, deeds: &[Deed], output: &mut O) -> Result<(), Fault<'a>>
-    ensures { OnOk result (Appends (O.contents output.old) (O.contents output.new) (plan_text deeds.now)) }
+    ensures printed { OnOk result (Appends (O.contents output.old) (O.contents output.new) (plan_text deeds.now)) }
+    ensures fault { IfErr result StopsPrint }
 {
     let Ok(channels) = channels_of(alloc, deeds) else {
         return Err(Fault::Memory);
@@ -105,7 +112,8 @@ pub fn tell_commands<'a, O: Write>(
     commands: &[Command],
     output: &mut O,
 ) -> Result<(), Fault<'a>>
-    ensures { OnOk result (TellsCommands commands.now (O.contents output.old) (O.contents output.new)) }
+    ensures told { OnOk result (TellsCommands commands.now (O.contents output.old) (O.contents output.new)) }
+    ensures fault { IfErr result StopsPrint }
 {
     let deeds = deeds_of(alloc, commands)?;
     print_deeds(alloc, deeds.as_slice(), output)
@@ -154,7 +162,8 @@ fn print_picture<'a, O: Write>(
     sent: &[Sent],
     output: &mut O,
 ) -> Result<(), Fault<'a>>
-    ensures { OnOk result ((text : List ℕ) × IsPictureOf deeds.now sent.now text × Appends (O.contents output.old) (O.contents output.new) (text ++ 10 ∷ [])) }
+    ensures printed { OnOk result ((text : List ℕ) × IsPictureOf deeds.now sent.now text × Appends (O.contents output.old) (O.contents output.new) (text ++ 10 ∷ [])) }
+    ensures fault { IfErr result StopsPrint }
 {
     if deeds.len() > MANY {
         return Err(Fault::Memory);
@@ -179,7 +188,8 @@ pub fn draw_commands<'a, O: Write>(
     sent: &[Sent],
     output: &mut O,
 ) -> Result<(), Fault<'a>>
-    ensures { OnOk result (DrawsCommands commands.now sent.now (O.contents output.old) (O.contents output.new)) }
+    ensures drawn { OnOk result (DrawsCommands commands.now sent.now (O.contents output.old) (O.contents output.new)) }
+    ensures fault { IfErr result StopsPrint }
 {
     let deeds = deeds_of(alloc, commands)?;
     print_picture(alloc, deeds.as_slice(), sent, output)

@@ -11,6 +11,7 @@ ghost use Rattle.map_stats.specs.FlowRows.{AreFlows};
 ghost use Rattle.map_stats.specs.FlowsHeld.{HoldsFlows};
 ghost use Rattle.map_stats.specs.FlowTexts.{flow_lines};
 ghost use Rattle.map_stats.specs.Held.{Holds};
+ghost use Rattle.upsched_map_parts.specs.declared.fault.Fault.TheVariants.{Memory};
 ghost use Rattle.upsched_map_parts.specs.declared.status.Status.TheVariants.{Done, NotUnderstood};
 ghost use Rattle.upsched_map_parts.specs.Plan.{NoPlan};
 ghost use Rattle.upsched_sight_parts.specs.Plans.{IsKnownScript};
@@ -28,7 +29,9 @@ use std::io::{Read, Write};
 use upsched_map_parts::{Fault, Status};
 
 /// What is told of a MAP that isn't added. Bytes that are no body come from no scheduler.
-pub(crate) fn not_added<'a>(fault: MapFault) -> Fault<'a> {
+pub(crate) fn not_added<'a>(fault: MapFault) -> Fault<'a>
+    ensures { fault ≡ MapFault.OutOfMemory → result ≡ Memory }
+{
     match fault {
         MapFault::OutOfMemory => Fault::Memory,
         other => Fault::Body {

@@ -12,4 +12,4 @@ loop-command-preserved g c = (
 pub returns-in-Ok : goal.returns-in-Ok
 returns-in-Ok g c =
     all_records c.args.commands.now c.loop-command.command-index c.loop-command.machine c.loop-command.count _ _ _ _
-    c.loop-command-test.false (rw c.file_head.ensures at c.in_ok-write_bytes.ensures) c.loop-command.invariant.1 c.in-Ok.ensures.bytes
+    c.loop-command-test.false (rw c.file_head.ensures at c.in_ok-write_bytes.ensures.written) c.loop-command.invariant.1 c.in-Ok.ensures.bytes

@@ -5,7 +5,7 @@ use Rattle.upsched_sight_parts.proofs.plan_draws.print_drawn.Goals as goal
 pub returns-clause-told : goal.returns-clause-told
 returns-clause-told g c =
     maps_drawn (g.R.Read.remaining c.args.plan.now) _ _ c.in_ok-commands.commands.items c.in_ok-commands.ensures.plan
-    (rw c.as_slice.ensures.value at c.in_ok-draw_commands.ensures)
+    (rw c.as_slice.ensures.value at c.in_ok-draw_commands.ensures.drawn)
 
 pub returns-clause-no_plan : goal.returns-clause-no_plan
 returns-clause-no_plan g c = λ none. absurd (no_plan_read (g.R.Read.remaining c.args.plan.now) c.in_ok-commands.commands.items none c.in_ok-commands.ensures.plan)
