@@ -11,9 +11,12 @@ and 0.85 of that memory holds what the kit plans for it; a proof takes idle proc
 time.
 """
 import argparse
-import functools
 import os
+import sys
 import time
+
+sys.dont_write_bytecode = True
+import kit  # noqa: E402
 
 ROOT = os.path.dirname(os.path.dirname(os.path.realpath(__file__)))
 TICK = os.sysconf("SC_CLK_TCK")
@@ -101,18 +104,11 @@ class Crates:
         """How many bytes the kit plans for a check of the crate."""
         below = self.below(name)
         libraries = {used for it in [name, *below] for used in self.uses[it] if used not in self.uses}
-        files = [f"{kit()}/rlibs/{it}.rlib/toolchain/checked.a" for it in libraries]
+        files = [f"{kit.folder()}/rlibs/{it}.rlib/toolchain/checked.a" for it in libraries]
         loaded = sum(os.path.getsize(file) for file in files if os.path.isfile(file))
         proofs = sum(lines_in(f"{ROOT}/crates/{name}/{part}", ".antt") for part in ("specs", "proofs"))
         own = 1_000_000_000 + 1_000_000 * self.lines[name] + 200_000 * proofs
         return own + 80_000 * sum(self.lines[it] for it in below) + min(5 * loaded, 2_500_000_000)
-
-
-@functools.cache
-def kit():
-    """The kit's folder."""
-    with os.popen("rt doc") as told:
-        return os.path.dirname(told.read().strip())
 
 
 def noted(path):

@@ -3,13 +3,10 @@
 
 The kit copies the comment of an enum's variant into the bodies that it writes, where it ends their line.
 """
-import importlib.machinery
-import importlib.util
-import os
-import shutil
 import sys
 
 sys.dont_write_bytecode = True
+import kit  # noqa: E402
 
 
 def without_comments(words):
@@ -19,10 +16,7 @@ def without_comments(words):
 
 
 def main():
-    file = f"{os.path.dirname(os.path.realpath(shutil.which('rt')))}/rt-plant"
-    loader = importlib.machinery.SourceFileLoader("rt_plant", file)
-    plant = importlib.util.module_from_spec(importlib.util.spec_from_loader("rt_plant", loader))
-    loader.exec_module(plant)
+    plant = kit.module("rt-plant")
     of_kit = plant.bodies.without_attributes
     plant.bodies.without_attributes = lambda words: without_comments(of_kit(without_comments(words)))
     return plant.main(*sys.argv[1:])

@@ -1,6 +1,7 @@
 //! What the words name.
 
-ghost use Rattle.std.specs.Prelude.{◌≡◌, ◌≢◌, ◌⊎◌, ◌++◌, ℕ, List, Err, IfErr, IfOk, IsOk, IsSomeAnd, MatchOption, OnOk, None, option_map, string_bytes, flat_map};
+ghost use Rattle.std.specs.Prelude.{◌≡◌, ◌≢◌, ◌⊎◌, ◌++◌, ℕ, List, None, Err, option_map, flat_map, string_bytes};
+ghost use Rattle.std.specs.Prelude.{IfErr, IfOk, IsOk, IsSomeAnd, MatchOption, OnOk};
 ghost use Rattle.ballots.specs.declared.members.Members.{Members};
 ghost use Rattle.upsched_map_parts.specs.declared.fault.Fault.TheVariants.{Memory};
 ghost use Rattle.upsched_script_parts.specs.Scripts.{AreIds, NamesIds, NamesMembers, next_number, numbers_text};
@@ -47,7 +48,8 @@ fn numbers_text(alloc: Global, numbers: &[u32]) -> Result<String, AllocError>
 
 /// The numbers between the commas of a word, nothing where something else is there.
 fn numbers_in(alloc: Global, word: &str) -> Result<Option<Vec<u32>>, AllocError>
-    ensures { IfOk result (λ found. (ids : List ℕ) → AreIds ids → word.now ≡ numbers_text ids → IsSomeAnd found (λ numbers. numbers.items ≡ ids)) }
+    ensures { IfOk result (λ found. (ids : List ℕ) → AreIds ids → word.now ≡ numbers_text ids
+        → IsSomeAnd found (λ numbers. numbers.items ≡ ids)) }
 {
     let mut numbers = Vec::new(alloc);
     for part in word.split(',') {

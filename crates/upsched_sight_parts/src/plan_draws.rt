@@ -162,7 +162,8 @@ fn print_picture<'a, O: Write>(
     sent: &[Sent],
     output: &mut O,
 ) -> Result<(), Fault<'a>>
-    ensures printed { OnOk result ((text : List ℕ) × IsPictureOf deeds.now sent.now text × Appends (O.contents output.old) (O.contents output.new) (text ++ 10 ∷ [])) }
+    ensures printed { OnOk result ((text : List ℕ) × IsPictureOf deeds.now sent.now text
+        × Appends (O.contents output.old) (O.contents output.new) (text ++ 10 ∷ [])) }
     ensures fault { IfErr result StopsPrint }
 {
     if deeds.len() > MANY {
