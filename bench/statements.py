@@ -35,7 +35,9 @@ def build(rt, jobs):
 
 def main():
     rt = kit.module("rtlib.py")
-    return build(rt, sys.argv[1:]) if "--statements" in rt.help_of("build") else NOT_HERE
+    # an older kit may not tell what its build can do
+    has_statements = hasattr(rt, "help_of") and "--statements" in rt.help_of("build")
+    return build(rt, sys.argv[1:]) if has_statements else NOT_HERE
 
 
 if __name__ == "__main__":
