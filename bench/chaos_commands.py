@@ -41,8 +41,10 @@ def channel(b):
 
 
 def table_of(b):
-    """The command that these bytes are; what is none is a noop. TOML holds no number above 2^63 - 1: its like is that one,
-    which is above all limits too."""
+    """The command that these bytes are; what is none is a noop.
+
+    TOML holds no number above 2^63 - 1: its like is that one, which is above all limits too.
+    """
     kind, size = b[:1], len(b)
     inside = None
     if kind in (b"\1", b"\6") and size == 17:

@@ -22,8 +22,8 @@ closure() {
     awk -v tops="$*" -f "$root/quick/closure.awk" "$root/crates.txt"
 }
 
-# workspace_over NAME DEP..: makes a workspace of its own for the sources bench/NAME/*.rt.in over these crates and libraries; its folder is
-# `workspace`.
+# workspace_over NAME DEP..: makes a workspace of its own for the sources bench/NAME/*.rt.in over these crates and
+# libraries; its folder is `workspace`.
 workspace_over() {
     local bench=${1}_bench sources=$root/bench/$1 source crate
     shift
@@ -45,8 +45,8 @@ run_over() {
     (cd "$workspace" && rt run --jobs "${BENCH_JOBS:-1}" ${arguments[@]+-- "${arguments[@]}"})
 }
 
-# try_over NAME DEP..: as run_over, with a build that isn't proved and stops at what a proof rules out. Each word is a file, of which
-# the program gets a copy under its last name.
+# try_over NAME DEP..: as run_over, with a build that isn't proved and stops at what a proof rules out. Each word is a
+# file, of which the program gets a copy under its last name.
 try_over() {
     local word given=()
     workspace_over "$@"

@@ -14,14 +14,18 @@ LONGEST_WORD = 131_000
 # A run that takes longer on the clock is ended by an alarm.
 PATIENCE = 300
 NUMBERS = [
-    "-1", "-0", "+0", "0", "1", "2", "7", "8", "15", "16", "64", "65", "117", "118", "119", "254", "255", "256", "4095", "4096", "4097",
-    "8191", "8192", "16383", "16384", "65535", "65536", "999999", "1000000", "1000001", "2147483647", "2147483648", "4294967295",
-    "4294967296", "8796093022207", "4611686018427387904", "4611686018427387905", "9223372036854775807", "9223372036854775808",
-    "-9223372036854775808", "-9223372036854775809", "18446744073709551615", "18446744073709551616", "1" + "0" * 400, "0x7fffffffffffffff",
-    "0o17", "0b1", "1_000", "1__0", "01", "1e3", "1e999", "-1e-999", "nan", "inf", "-inf", "1.5", "true", "1979-05-27", "07:32:00", "''",
-    '"1"', "[]", "[1]", "{}", "[[1]]", "{a=1}",
+    "-1", "-0", "+0", "0", "1", "2", "7", "8", "15", "16", "64", "65", "117", "118", "119", "254", "255", "256",
+    "4095", "4096", "4097", "8191", "8192", "16383", "16384", "65535", "65536", "999999", "1000000", "1000001",
+    "2147483647", "2147483648", "4294967295", "4294967296", "8796093022207", "4611686018427387904",
+    "4611686018427387905", "9223372036854775807", "9223372036854775808", "-9223372036854775808",
+    "-9223372036854775809", "18446744073709551615", "18446744073709551616", "1" + "0" * 400, "0x7fffffffffffffff",
+    "0o17", "0b1", "1_000", "1__0", "01", "1e3", "1e999", "-1e-999", "nan", "inf", "-inf", "1.5", "true", "1979-05-27",
+    "07:32:00", "''", '"1"', "[]", "[1]", "{}", "[[1]]", "{a=1}",
 ]
-KINDS = ["noop", "channel", "flow", "drop", "request", "cut", "lead", "crash", "restart", "offer", "tell", "deliver", "deliver_then_crash", "release", "hear", "want", "tick"]
+KINDS = [
+    "noop", "channel", "flow", "drop", "request", "cut", "lead", "crash", "restart", "offer", "tell", "deliver",
+    "deliver_then_crash", "release", "hear", "want", "tick",
+]
 
 Case = collections.namedtuple("Case", "how words text")
 
@@ -69,7 +73,11 @@ def flip(rng, text):
 def extreme(rng, text):
     """Some of the text's numbers, or all of them, become extreme ones."""
     share = rng.choice([0.02, 0.1, 1])
-    return re.sub(rb"-?\b\d+\b", lambda found: rng.choice(NUMBERS).encode() if rng.random() < share else found.group(), text)
+
+    def other(found):
+        return rng.choice(NUMBERS).encode() if rng.random() < share else found.group()
+
+    return re.sub(rb"-?\b\d+\b", other, text)
 
 
 def nested(rng, text):
@@ -99,7 +107,10 @@ def marked(rng, text):
 def no_text(rng, text):
     """Bytes that are no UTF-8, or control characters."""
     at = place(rng, text)
-    bad = rng.choice([b"\xff", b"\x80", b"\xc0\xaf", b"\xed\xa0\x80", b"\xf4\x90\x80\x80", b"\xf8\x88\x80\x80\x80", b"\xe2\x82", b"\x00", b"\x1b[2J", b"\r", b"\x0b", b"\xe2\x80\xa8"])
+    bad = rng.choice([
+        b"\xff", b"\x80", b"\xc0\xaf", b"\xed\xa0\x80", b"\xf4\x90\x80\x80", b"\xf8\x88\x80\x80\x80", b"\xe2\x82",
+        b"\x00", b"\x1b[2J", b"\r", b"\x0b", b"\xe2\x80\xa8",
+    ])
     return text[:at] + bad + text[at:]
 
 
@@ -115,7 +126,11 @@ def mixed_lines(rng, text):
 def other_words(rng, text):
     """Some kinds become others, or a key another."""
     words = KINDS + ["", "KIND", "kind", "ch", "node", "value", "00", "0" * 129, "\\u0000", "\\uD800", "x" * 1000]
-    return re.sub(rb"[a-z_]{2,}", lambda found: rng.choice(words).encode() if rng.random() < 0.05 else found.group(), text)
+
+    def other(found):
+        return rng.choice(words).encode() if rng.random() < 0.05 else found.group()
+
+    return re.sub(rb"[a-z_]{2,}", other, text)
 
 
 CHANGES = [cut, double, flip, extreme, nested, marked, no_text, mixed_lines, other_words]
@@ -130,8 +145,11 @@ def changed(rng, text):
 # Texts that hurt by their size, or have nothing of a plan or a script.
 
 def long_line(rng, array):
-    part = rng.choice([b"#", b"a", b" ", b"1", b"[", b"1,", b"{", b"\xc3\xa9", b"a.", b"'", b"\\", b'"', b"0_0", b"\r", b"="])
-    head = rng.choice([b"", b"a = ", b"a = '", b'a = "', b"a = [", b"# ", b"[", array + b" = [", b"members = 3\n" + array + b" = ["])
+    part = rng.choice([
+        b"#", b"a", b" ", b"1", b"[", b"1,", b"{", b"\xc3\xa9", b"a.", b"'", b"\\", b'"', b"0_0", b"\r", b"=",
+    ])
+    heads = [b"", b"a = ", b"a = '", b'a = "', b"a = [", b"# ", b"[", array + b" = ["]
+    head = rng.choice([*heads, b"members = 3\n" + array + b" = ["])
     return head + part * (LONG // len(part))
 
 
@@ -150,7 +168,8 @@ def many_tables(rng, array):
 
 
 def empty(rng, array):
-    return rng.choice([b"", b" ", b"\n", b"\r\n", b"\0", b"#", b"\xef\xbb\xbf", b"members = 3", b"members = 5", array + b" = []", b"members = 3\n" + array + b" = [{}]", b"\n" * MANY])
+    nearly = [b"", b" ", b"\n", b"\r\n", b"\0", b"#", b"\xef\xbb\xbf", b"members = 3", b"members = 5", array + b" = []"]
+    return rng.choice([*nearly, b"members = 3\n" + array + b" = [{}]", b"\n" * MANY])
 
 
 def noise(rng, array):
@@ -171,7 +190,10 @@ def whole(rng, array):
 
 def number(rng, most):
     """A number up to the most one that the field holds, often near an end or a limit."""
-    near = [0, 1, 2, 3, 7, 8, 15, 16, 118, 119, 255, 256, 1000, 4096, 4097, 8191, 8192, 10**6, 10**6 + 1, 2**32 - 1, 2**62 - 1, 2**62, 2**62 + 1, 2**63 - 1]
+    near = [
+        0, 1, 2, 3, 7, 8, 15, 16, 118, 119, 255, 256, 1000, 4096, 4097, 8191, 8192, 10**6, 10**6 + 1, 2**32 - 1,
+        2**62 - 1, 2**62, 2**62 + 1, 2**63 - 1,
+    ]
     draw = rng.choice(near) if rng.random() < 0.5 else rng.randint(0, min(most, 300))
     return min(draw, most)
 
@@ -184,12 +206,15 @@ def command(rng):
         keys["ch"] = ch
     if kind == "channel":
         pair = lambda: "[%d, %d]" % (rng.randint(0, 17), rng.randint(0, 17))
-        keys.update(ucd=rng.randint(0, 255), short_max=number(rng, 65535), ranging=pair(), data=pair(), base=number(rng, 2**63 - 1))
+        keys.update(ucd=rng.randint(0, 255), short_max=number(rng, 65535), ranging=pair(), data=pair())
+        keys.update(base=number(rng, 2**63 - 1))
         if rng.random() < 0.5:
             keys.update(phy=rng.choice(["'tdma'", "'advanced'", "'advanced'", "'Advanced'", "''", "1"]))
     elif kind == "flow":
-        keys.update(modem=rng.randint(0, 5), tag=rng.randint(0, 5), service="'%s'" % rng.choice(["best_effort", "ugs", "poll"]))
-        keys.update(priority=rng.randint(0, 9), size=number(rng, 65535), interval=number(rng, 2**32 - 1), jitter=number(rng, 2**32 - 1), base=number(rng, 2**63 - 1))
+        keys.update(modem=rng.randint(0, 5), tag=rng.randint(0, 5))
+        keys.update(service="'%s'" % rng.choice(["best_effort", "ugs", "poll"]))
+        keys.update(priority=rng.randint(0, 9), size=number(rng, 65535), interval=number(rng, 2**32 - 1))
+        keys.update(jitter=number(rng, 2**32 - 1), base=number(rng, 2**63 - 1))
         if rng.random() < 0.5:
             keys.update(last=number(rng, 2**63 - 1))
     elif kind == "drop":
@@ -210,7 +235,11 @@ def inline(keys):
 
 
 CHANNEL = {"kind": "'channel'", "ch": 1, "ucd": 7, "short_max": 16, "ranging": "[2, 5]", "data": "[3, 8]", "base": 1000}
-SPELLED = ["00", "01010700100205030800000000000003e8", "06010700100205030800000000000003e8", "020100000032000000010003", "0701000000320000000100000000000004190003", "0701000000320000000140000000000000000003", "03010001", "0401000100140000000000000" + "3de", "050100640000000000000000000000000000000a"]
+SPELLED = [
+    "00", "01010700100205030800000000000003e8", "06010700100205030800000000000003e8", "020100000032000000010003",
+    "0701000000320000000100000000000004190003", "0701000000320000000140000000000000000003", "03010001",
+    "0401000100140000000000000" + "3de", "050100640000000000000000000000000000000a",
+]
 
 
 def made_plan(rng):
@@ -240,8 +269,10 @@ def learned_script(rng):
         events.append("kind = 'offer'\nnode = 0\n" + what)
         events += ["kind = 'deliver'\nletter = %d\n" % (first + to) for to in (0, 1, 3, 6, 4, 7)]
     events += ["kind = 'release'\nnode = %d\nnow = %d\n" % (node, number(rng, 2**63 - 1)) for node in (0, 1)]
-    events += ["kind = 'hear'\nmodem = 0\noutput = %d\nnear = %d\n" % (k, number(rng, 2**63 - 1)) for k in range(offers)]
-    events += ["kind = 'tick'\nmodem = 0\nch = 1\nslot = %d\nrandom = %d\n" % (number(rng, 2**63 - 1), number(rng, 2**63 - 1)) for _ in range(3)]
+    hear = "kind = 'hear'\nmodem = 0\noutput = %d\nnear = %d\n"
+    tick = "kind = 'tick'\nmodem = 0\nch = 1\nslot = %d\nrandom = %d\n"
+    events += [hear % (k, number(rng, 2**63 - 1)) for k in range(offers)]
+    events += [tick % (number(rng, 2**63 - 1), number(rng, 2**63 - 1)) for _ in range(3)]
     return events
 
 
@@ -249,7 +280,9 @@ def any_event(rng):
     kind = rng.choice(KINDS[6:] + ["deliver"] * 20 + ["lead", "offer", "restart", "release"])
     nodes = [0, 0, 1, 1, 2, 2, 3, 4, 5, 2**63 - 1]
     keys = {
-        "lead": {"node": rng.choice(nodes)}, "crash": {"node": rng.choice(nodes)}, "restart": {"node": rng.choice(nodes)},
+        "lead": {"node": rng.choice(nodes)},
+        "crash": {"node": rng.choice(nodes)},
+        "restart": {"node": rng.choice(nodes)},
         "offer": {"node": rng.choice(nodes)}, "release": {"node": rng.choice(nodes), "now": number(rng, 2**63 - 1)},
         "tell": {"node": rng.choice(nodes), "to": rng.choice(nodes), "place": number(rng, 2**63 - 1)},
         "deliver": {"letter": rng.randint(0, 40)}, "deliver_then_crash": {"letter": rng.randint(0, 40)},
@@ -276,8 +309,13 @@ def made_body(rng):
     if rng.random() < 0.2:
         rng.shuffle(offsets)
     null = rng.randrange(count + 1)
-    words = [(rng.randint(0, 16383) << 18) | ((7 if k == null else rng.randint(0, 14 + (rng.random() < 0.02))) << 14) | offset for k, offset in enumerate(offsets)]
-    return bytes([1, 7, count, rng.randint(0, 255)]) + rng.randbytes(12) + b"".join(word.to_bytes(4, "big") for word in words)
+
+    def word(k, offset):
+        sid = rng.randint(0, 16383)
+        return sid << 18 | (7 if k == null else rng.randint(0, 14 + (rng.random() < 0.02))) << 14 | offset
+
+    words = [word(k, offset).to_bytes(4, "big") for k, offset in enumerate(offsets)]
+    return bytes([1, 7, count, rng.randint(0, 255)]) + rng.randbytes(12) + b"".join(words)
 
 
 def hex_text(rng):
@@ -289,7 +327,8 @@ def hex_text(rng):
         return body.hex().encode()
     if draw < 0.8:
         return rng.choice([cut, double, flip, marked, no_text])(rng, rng.choice(BODIES))
-    return rng.choice([b"", b"0", b"00", b"-", b"--", b"0x00", b"ff" * 1036, b"0" * LONGEST_WORD, b"f" * (LONGEST_WORD - 1), b" ", b"\n", rng.randbytes(100)])
+    long = [b"ff" * 1036, b"0" * LONGEST_WORD, b"f" * (LONGEST_WORD - 1), b" ", b"\n", rng.randbytes(100)]
+    return rng.choice([b"", b"0", b"00", b"-", b"--", b"0x00", *long])
 
 
 def text_of(rng, changeable, made, array):
@@ -368,7 +407,8 @@ def good_text(how, size):
     """A good text of about this length."""
     if how in SHOWN:
         return read(os.path.join(HERE, "examples/bodies/first_grant.hex")).strip()
-    table = b"[[command]]\nkind = 'noop'\n" if how in PLANNED else b"[[event]]\nkind = 'tick'\nmodem = 0\nch = 1\nslot = 0\nrandom = 0\n"
+    tick = b"[[event]]\nkind = 'tick'\nmodem = 0\nch = 1\nslot = 0\nrandom = 0\n"
+    table = b"[[command]]\nkind = 'noop'\n" if how in PLANNED else tick
     return b"members = 3\nmodems = [1]\n" + table * (size // len(table))
 
 

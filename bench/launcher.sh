@@ -220,7 +220,8 @@ ended=${PIPESTATUS[0]}
 wants 'a pipe that nobody reads on' 1 '1 *' 'upsched: output'
 if [ "$(id -u)" = 0 ]; then
     chmod -R go+rX -- "$made"
-    setpriv --reuid=65534 --regid=65534 --clear-groups "$upsched" run script.toml --store closed_to_all >"$made/output" 2>"$made/errors"
+    setpriv --reuid=65534 --regid=65534 --clear-groups "$upsched" run script.toml --store closed_to_all \
+        >"$made/output" 2>"$made/errors"
     ended=$?
 else
     "$upsched" run script.toml --store closed_to_all >"$made/output" 2>"$made/errors"

@@ -66,7 +66,8 @@ def too_long(program, megabytes):
     expect("a line that is too long", replies, [b"error 7 TooLong\n", b"released 0\n"])
     replies, without = answers(program, megabytes, b"")
     expect("a line without an end", replies, [])
-    print(f"a line of {megabytes} MB: error 7 TooLong; without its end: nothing; memory at most {memory:.0f} and {without:.0f} MB")
+    held = f"memory at most {memory:.0f} and {without:.0f} MB"
+    print(f"a line of {megabytes} MB: error 7 TooLong; without its end: nothing; {held}")
     if max(memory, without) > megabytes * 0.98:
         sys.exit("the line was read into memory")
     return max(memory, without)
@@ -81,7 +82,8 @@ class Takeover(Cluster):
         if self.is_mute:
             self.votes += sum(line.startswith(b"letter 0 04") for line in text.split(b"\n"))
             text = b"".join(line for line in text.splitlines(True) if not line.split(b" ")[-1].startswith(b"04"))
-        self.longest = max([self.longest] + [len(line) for line in text.split(b"\n") if line.split(b" ")[-1].startswith(b"02")])
+        promises = [line for line in text.split(b"\n") if line.split(b" ")[-1].startswith(b"02")]
+        self.longest = max([self.longest, *map(len, promises)])
         super().carry(node, text)
 
     def __init__(self, program, files):
@@ -104,7 +106,8 @@ def takes_over(program, kind, votes, files):
     cluster = Takeover(program, files)
     reported, taken = cluster.take_over(votes)
     memory = max(it.mebibytes() for it in cluster.nodes)
-    print(f"{kind}: a takeover behind {votes} open votes: reported in {reported:.2f} s, each released by all in {taken:.2f} s")
+    times = f"reported in {reported:.2f} s, each released by all in {taken:.2f} s"
+    print(f"{kind}: a takeover behind {votes} open votes: {times}")
     print(f"  the longest line of a promise: {cluster.longest} bytes; {memory:.0f} MiB of a node at most")
     cluster.end()
 
@@ -121,7 +124,8 @@ def main():
         sys.exit("memory grows with the line")
     takes_over(given.program, "in memory", given.votes, [None] * MEMBERS)
     with tempfile.TemporaryDirectory(dir=os.environ.get("PROCESS_BENCH_DIR")) as folder:
-        takes_over(given.program, "over files", given.votes, [os.path.join(folder, f"node-{k}.db") for k in range(MEMBERS)])
+        files = [os.path.join(folder, f"node-{k}.db") for k in range(MEMBERS)]
+        takes_over(given.program, "over files", given.votes, files)
 
 
 if __name__ == "__main__":

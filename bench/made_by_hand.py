@@ -2,8 +2,8 @@
 """Sees where want of memory is made by hand: made_by_hand.py
 
 A contract can't forbid it where a call may want memory: `encode` could give up above 240 elements. So `AllocError` and
-`OutOfMemory` are made in `From` impls, and else only in the functions of bench/made_by_hand.txt: a path of a source, the
-function, how often, and why no memory was there. Told is each place that isn't listed, and each line that no place
+`OutOfMemory` are made in `From` impls, and else only in the functions of bench/made_by_hand.txt: a path of a source,
+the function, how often, and why no memory was there. Told is each place that isn't listed, and each line that no place
 needs. The status is 0 where there is none.
 """
 import collections

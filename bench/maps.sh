@@ -41,16 +41,19 @@ plan() {
             interval = far ? 1 : 2048
             base = far ? 0 : 1000
             for (ch = 0; ch < 8; ch++)
-                command("kind = \"channel\"\nch = " ch "\nucd = 1\nshort_max = 16\nranging = [2, 5]\ndata = [3, 8]\nbase = 1000")
+                command("kind = \"channel\"\nch = " ch "\nucd = 1\nshort_max = 16\n" \
+                    "ranging = [2, 5]\ndata = [3, 8]\nbase = 1000")
             for (k = 0; k < 30; k++)
                 for (ch = 0; ch < 8; ch++)
                     command(flow(ch, k))
             for (round = 0; ; round++) {
                 for (k = 0; k < 118; k++) {
                     next_flow()
-                    command("kind = \"request\"\nch = " turn % 8 "\nsid = " sid "\nn = " 1 + (k * 7) % 40 "\nsent = " ++sent)
+                    command("kind = \"request\"\nch = " turn % 8 "\nsid = " sid "\nn = " 1 + (k * 7) % 40 \
+                        "\nsent = " ++sent)
                 }
-                command("kind = \"cut\"\nch = " round % 8 "\nlen = 4096\nnot_before = " sprintf("%.0f", far ? round * 1000000000 : 0) "\nack = " sent)
+                not_before = sprintf("%.0f", far ? round * 1000000000 : 0)
+                command("kind = \"cut\"\nch = " round % 8 "\nlen = 4096\nnot_before = " not_before "\nack = " sent)
             }
         }'
 }

@@ -2,8 +2,8 @@
 # Times the proved program on made scripts with modems: events a second and peak memory of each, and how much longer an
 # event takes in the longest script than in the shortest (at most 1.5 is wanted).
 #
-#   follow: scripts of 1,000, 10,000 and 100,000 events. A modem has a flow of unsolicited grants; it hears each MAP at its
-#           start and is asked what it sends in 13 of its minislots.
+#   follow: scripts of 1,000, 10,000 and 100,000 events. A modem has a flow of unsolicited grants; it hears each MAP at
+#           its start and is asked what it sends in 13 of its minislots.
 #   ahead:  the same events, but all MAPs are heard at the first one's start, before any minislot comes.
 #   many:   10, 100 and 1,000 modems that hear 40 MAPs of 4096 minislots each.
 #
@@ -22,10 +22,14 @@ shared='
         first = 5 + 9 * offered++
         deliver(first); deliver(first + 1); deliver(first + 3); deliver(first + 6)
     }
-    function channel() { offer("kind = \"channel\", ch = 1, ucd = 7, short_max = 16, ranging = [2, 5], data = [3, 8], base = 1000") }
+    function channel() {
+        offer("kind = \"channel\", ch = 1, ucd = 7, short_max = 16, ranging = [2, 5], data = [3, 8], base = 1000")
+    }
     function cut(len) { offer("kind = \"cut\", ch = 1, len = " len ", not_before = 0, ack = 0") }
     function release() { event("kind = \"release\"\nnode = 0\nnow = 0") }
-    function hear(modem, output, near) { event("kind = \"hear\"\nmodem = " modem "\noutput = " output "\nnear = " near) }
+    function hear(modem, output, near) {
+        event("kind = \"hear\"\nmodem = " modem "\noutput = " output "\nnear = " near)
+    }
     function tick(slot) { event("kind = \"tick\"\nmodem = 0\nch = 1\nslot = " slot "\nrandom = 0") }
     function ticks(map,    j) { for (j = 0; j < 13; j++) tick(1000 + 40 * map + 3 * j) }'
 
@@ -35,7 +39,8 @@ one_modem() {
         BEGIN {
             print "members = 3\nmodems = [50]"
             lead(); channel()
-            offer("kind = \"flow\", ch = 1, modem = 50, tag = 1, service = \"ugs\", size = 4, interval = 10, jitter = 4, base = 1000")
+            offer("kind = \"flow\", ch = 1, modem = 50, tag = 1, service = \"ugs\", size = 4, interval = 10, " \
+                "jitter = 4, base = 1000")
             release(); hear(0, 0, 0); hear(0, 1, 0)
             maps = int((count - made) / 20)
             for (i = 0; i < maps; i++) {

@@ -1,8 +1,8 @@
 #!/usr/bin/env bash
 # Lists the wrong bodies that the contracts of crates let through: plant.sh [NAME..], all libraries where none is named.
 # `rt plant` works in a scratch copy of the crate and of those that it is built on, over the work that checks kept. Each
-# crate has MINUTES (10) and MOST (400) bodies. Printed: what `rt plant` prints, behind the crate's name. docs/REFUSED.md
-# says why each survivor is right.
+# crate has MINUTES (10) and MOST (400) bodies. Printed: what `rt plant` prints, behind the crate's name.
+# docs/REFUSED.md says why each survivor is right.
 set -euo pipefail
 . "$(dirname -- "${BASH_SOURCE[0]}")/common.sh"
 
@@ -20,5 +20,6 @@ for name in "${names[@]}"; do
         grep -E "^$crate( [^:]*)?:" "$root/crates.txt" >>"$made/crates.txt"
     done
     echo "== $name"
-    (cd "$made/crates/$name" && "$root/bench/plant.py" --minutes "${MINUTES:-10}" --max "${MOST:-400}" --jobs "${PLANT_JOBS:-1}") || true
+    (cd "$made/crates/$name" &&
+        "$root/bench/plant.py" --minutes "${MINUTES:-10}" --max "${MOST:-400}" --jobs "${PLANT_JOBS:-1}") || true
 done

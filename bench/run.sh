@@ -1,6 +1,6 @@
 #!/usr/bin/env bash
-# Times the proved program on made scripts of 1,000, 10,000 and 100,000 events over three nodes with one leader: events a
-# second and peak memory of each, and how much longer an event takes in the longest script than in the shortest (at
+# Times the proved program on made scripts of 1,000, 10,000 and 100,000 events over three nodes with one leader: events
+# a second and peak memory of each, and how much longer an event takes in the longest script than in the shortest (at
 # most 1.5 is wanted).
 #
 # Node 0 leads, and proposes a channel, 32 best-effort flows, and then requests, with a cut of 4096 minislots after each
@@ -26,7 +26,8 @@ script() {
         function deliver(letter) { event("kind = \"deliver\"\nletter = " letter) }
         function command(i) {
             if (i == 0)
-                return "kind = \"channel\", ch = 1, ucd = 7, short_max = 16, ranging = [2, 5], data = [3, 8], base = 1000"
+                return "kind = \"channel\", ch = 1, ucd = 7, short_max = 16, ranging = [2, 5], data = [3, 8], " \
+                    "base = 1000"
             if (i <= 32)
                 return "kind = \"flow\", ch = 1, modem = " i ", tag = 1, service = \"best_effort\", priority = " i % 8
             if (i % 33 == 0)

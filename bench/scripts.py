@@ -58,7 +58,10 @@ def leads(count):
 
 
 def prepares(count):
-    """Values that node 2 learns and never voted for, then Prepares from place 1 on: each is answered with Known of 64 places."""
+    """Values that node 2 learns and never voted for, then Prepares from place 1 on.
+
+    Each is answered with Known of 64 places.
+    """
     script = Script()
     script.lead(0)
     learned = count // 6

@@ -1,7 +1,7 @@
 #!/usr/bin/env bash
-# Each word that looks at a plan, a script or a body, on every example that is good: it ends with status 0 and has nothing
-# to say on standard error. What is to be JSON is read by jq (of Debian's package), a line an object, and a picture by a
-# reader of XML. It prints how many of each there were, and ends with status 1 where one was otherwise.
+# Each word that looks at a plan, a script or a body, on every example that is good: it ends with status 0 and has
+# nothing to say on standard error. What is to be JSON is read by jq (of Debian's package), a line an object, and a
+# picture by a reader of XML. It prints how many of each there were, and ends with status 1 where one was otherwise.
 #
 # Usage: bench/sights.sh [PROGRAM]
 set -euo pipefail

@@ -1,7 +1,7 @@
 """Runs sqlite3 through the statements of the records, beside what a program says of its own calls.
 
-It reads lines `DISK VOTES CALL CALLS` (calls a second) and prints each with what sqlite3 makes in a second, and how many
-times its wall time a call takes. It ends with 1 where a write to a file takes more than 3 times sqlite3's."""
+It reads lines `DISK VOTES CALL CALLS` (calls a second) and prints each with what sqlite3 makes in a second, and how
+many times its wall time a call takes. It ends with 1 where a write to a file takes more than 3 times sqlite3's."""
 
 import os
 import sqlite3

@@ -1,6 +1,6 @@
 #!/usr/bin/env python3
-"""Compares what tshark reads of `upsched capture` with what `upsched maps` and `upsched show` print, for each plan of the
-examples, and both checks of each frame: the CRC with zlib's, the HCS with a table of its own and with tshark's."""
+"""Compares what tshark reads of `upsched capture` with what `upsched maps` and `upsched show` print, for each plan of
+the examples, and both checks of each frame: the CRC with zlib's, the HCS with a table of its own and with tshark's."""
 import json
 import re
 import struct
@@ -11,8 +11,10 @@ from pathlib import Path
 
 LINE = re.compile(r"channel (\d+) ucd (\d+) start (\d+) ack (\d+) ranging (\d+) (\d+) data (\d+) (\d+)")
 ELEMENT = re.compile(r"offset (\d+) sid (\d+) iuc (\d+)")
-HEAD = ["docsis_mgmt.upchid", "docsis_map.ucdcount", "docsis_map.allocstart", "docsis_map.acktime",
-        "docsis_map.rng_start", "docsis_map.rng_end", "docsis_map.data_start", "docsis_map.data_end", "docsis_map.numie"]
+HEAD = [
+    "docsis_mgmt.upchid", "docsis_map.ucdcount", "docsis_map.allocstart", "docsis_map.acktime", "docsis_map.rng_start",
+    "docsis_map.rng_end", "docsis_map.data_start", "docsis_map.data_end", "docsis_map.numie",
+]
 ELEMENTS = ["docsis_map.offset", "docsis_map.sid", "docsis_map.iuc"]
 # What is the same in each frame: fields of the MAC header, whose check has to be good, and of the message's.
 SAME = {
@@ -63,7 +65,8 @@ def frames_of(capture: bytes) -> list[tuple[int, bytes]]:
 def wrong_checks(frame: bytes) -> list[str]:
     """What is wrong with the lengths and the checks of a frame."""
     wrong = []
-    if struct.unpack_from(">H", frame, 2)[0] != len(frame) - 6 or struct.unpack_from(">H", frame, 18)[0] != len(frame) - 24:
+    lengths = [struct.unpack_from(">H", frame, at)[0] for at in (2, 18)]
+    if lengths != [len(frame) - 6, len(frame) - 24]:
         wrong.append("a length")
     if struct.unpack_from("<H", frame, 4)[0] != header_check(frame[:4]):
         wrong.append("the HCS")
@@ -91,7 +94,8 @@ def read_by_tshark(path: Path) -> list[tuple]:
         walk(packet["_source"]["layers"])
         one = {name: found[0] for name, found in flat.items()}
         elements = list(zip(*(flat.get(name, []) for name in ELEMENTS)))
-        read.append((float(one["frame.time_epoch"]), {name: one.get(name) for name in SAME}, tuple(one.get(name) for name in HEAD), elements))
+        same, head = {name: one.get(name) for name in SAME}, tuple(one.get(name) for name in HEAD)
+        read.append((float(one["frame.time_epoch"]), same, head, elements))
     return read
 
 
@@ -109,7 +113,8 @@ def differs(program: str, plan: Path, path: Path) -> tuple[int, list[str]]:
     capture = output_of(program, "capture", str(plan))
     path.write_bytes(capture)
     frames = frames_of(capture)
-    if [(number, bytes.fromhex(body)) for number, body in enumerate(bodies)] != [(seconds, frame[26:-4]) for seconds, frame in frames]:
+    wanted = [(number, bytes.fromhex(body)) for number, body in enumerate(bodies)]
+    if wanted != [(seconds, frame[26:-4]) for seconds, frame in frames]:
         return len(bodies), ["other bodies, or times"]
     wrong = [f"frame {number}: {what}" for number, (_, frame) in enumerate(frames) for what in wrong_checks(frame)]
     for number, (body, read) in enumerate(zip(bodies, read_by_tshark(path), strict=True)):

@@ -1,5 +1,5 @@
-// Both libraries in one program: three nodes agree on the commands of first_modem.cpp, one of them releases the outputs,
-// and a modem hears these. Link with -lupsched -lupsched_node.
+// Both libraries in one program: three nodes agree on the commands of first_modem.cpp, one of them releases the
+// outputs, and a modem hears these. Link with -lupsched -lupsched_node.
 #include <cstdio>
 #include <deque>
 #include <vector>

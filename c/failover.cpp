@@ -54,8 +54,8 @@ class Cluster {
     void print_letters() {
         for (const upsched::Letter &letter : letters_) {
             const upsched::LetterFields f = upsched::decode(letter);
-            std::printf("letter %u from %u to %u: ballot %" PRIu64 " place %" PRIu64 " votes %zu\n", f.kind, f.from, f.to,
-                        f.ballot, f.place, f.votes.size());
+            std::printf("letter %u from %u to %u: ballot %" PRIu64 " place %" PRIu64 " votes %zu\n", f.kind, f.from,
+                        f.to, f.ballot, f.place, f.votes.size());
             if (upsched::encode(f).bytes != letter.bytes) std::printf("other bytes\n");
         }
     }

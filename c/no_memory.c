@@ -72,7 +72,8 @@ static void small_rooms(const room *body, size_t len, const upsched_map_head *he
     size_t found = 0, written = 0;
     memset(&again, 0, sizeof again);
     if (upsched_map_decode(body->bytes, len, &read, elements, count - 1, &found) != UPSCHED_NO_ROOM || found != count ||
-        upsched_map_encode(head, elements, count, again.bytes, len - 1, &written) != UPSCHED_NO_ROOM || written != len) {
+        upsched_map_encode(head, elements, count, again.bytes, len - 1, &written) != UPSCHED_NO_ROOM ||
+        written != len) {
         printf("a room that is too small isn't told of\n");
         exit(1);
     }

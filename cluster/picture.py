@@ -128,7 +128,8 @@ class Picture:
             self.line(x, bottom + 2, x, bottom + 8, "#333", 1)
             self.text(x, bottom + 22, f"{second} s", "middle")
         places = len({words[2] for _, words in self.events if words[0] == "place"})
-        self.text(8, 18, f"A recorded run: each stroke is one of {places} places that the node released, with the same output on all three.")
+        stroke = f"each stroke is one of {places} places that the node released, with the same output on all three."
+        self.text(8, 18, f"A recorded run: {stroke}")
         head = f'<svg xmlns="http://www.w3.org/2000/svg" width="{LEFT + WIDTH + 20}" height="{bottom + 32}"'
         head += ' font-family="sans-serif" font-size="13" fill="none">'
         return "\n".join([head, '<rect width="100%" height="100%" fill="#fff"/>', *self.parts, "</svg>"]) + "\n"

@@ -6,8 +6,8 @@ Usage: supervisor.py MEMBERS PLAN [CUTS [SECONDS]]
 On standard output it writes `K LINE`: this line is for node K. On standard input it reads `K LINE`: a line of a reply
 of node K. The transport carries the letters among these by itself; here they only show what is proposed at each place.
 It offers the plan's commands in order, one after another, and then CUTS cuts like the plan's last one (none). It looks
-every SECONDS (0.1). What the nodes release goes to standard error, each place once a node, and whom it asks to lead; the last
-line there is `all PLACES`, when every node has released all that was offered.
+every SECONDS (0.1). What the nodes release goes to standard error, each place once a node, and whom it asks to lead;
+the last line there is `all PLACES`, when every node has released all that was offered.
 
 It asks each node to release, and again when it answered. It asks node 0 to lead, and the next one where no place is
 released for a second (SILENCE in the environment, which has to be longer than a slow disk or network takes for a
@@ -47,7 +47,8 @@ def bytes_of(command):
     if kind == "channel":
         backoffs = bytes(command["ranging"] + command["data"])
         first = bytes([6 if command.get("phy") == "advanced" else 1])
-        return first + ch + number(command["ucd"], 1) + number(command["short_max"], 2) + backoffs + number(command["base"], 8)
+        first += ch + number(command["ucd"], 1) + number(command["short_max"], 2)
+        return first + backoffs + number(command["base"], 8)
     if kind == "flow":
         return flow_bytes(command)
     if kind == "drop":

@@ -1,5 +1,5 @@
-/* Refuses one request for memory of the program it is loaded into: the one whose number REFUSED says, counted from 1; and with
-   COUNTED writes to that file how many there were. */
+/* Refuses one request for memory of the program it is loaded into: the one whose number REFUSED says, counted from 1; and
+   with COUNTED writes to that file how many there were. */
 #define _GNU_SOURCE
 #include <dlfcn.h>
 #include <errno.h>
@@ -31,8 +31,14 @@ static int is_refused(void) {
 
 void *malloc(size_t size) { return is_refused() ? (errno = ENOMEM, NULL) : next_malloc(size); }
 void *realloc(void *old, size_t size) { return is_refused() ? (errno = ENOMEM, NULL) : next_realloc(old, size); }
-void *aligned_alloc(size_t align, size_t size) { return is_refused() ? (errno = ENOMEM, NULL) : next_aligned(align, size); }
-int posix_memalign(void **out, size_t align, size_t size) { return is_refused() ? ENOMEM : next_posix(out, align, size); }
+void *aligned_alloc(size_t align, size_t size)
+{
+    return is_refused() ? (errno = ENOMEM, NULL) : next_aligned(align, size);
+}
+int posix_memalign(void **out, size_t align, size_t size)
+{
+    return is_refused() ? ENOMEM : next_posix(out, align, size);
+}
 
 __attribute__((destructor)) static void tell(void) {
     const char *path = getenv("COUNTED");

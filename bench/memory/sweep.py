@@ -1,4 +1,4 @@
-"""sweep.py SHIM PROGRAM TEXT: runs the program on the text once for each of its requests for memory, with that one refused."""
+"""sweep.py SHIM PROGRAM TEXT: runs the program on the text once for each of its requests for memory, with that refused."""
 import os
 import subprocess
 import sys
