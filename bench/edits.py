@@ -9,16 +9,20 @@ NAMES = re.compile(r"(\./)?proofs/.*(has no field|is not in scope|has no `|was n
 UNREAD = re.compile(r"is not in scope|has no field|is no name|operand is missing|expected the end|cannot continue")
 
 
+# where a function begins, and the impl or the trait around it; where a function of a module, or such a block, ends
+FUNCTION = re.compile(r"^( *)(?:pub(?:\([^)]*\))? )?fn (\w+)", re.M)
+BLOCK = re.compile(r"^(?:pub )?(?:impl|trait)\b([^{]*)", re.M)
+CLOSED = re.compile(r"^}", re.M)
+
+
 class BadEdit(Exception):
     """Why an edit can't be applied."""
 
 
-def edited(edit, crate):
-    """The texts of a crate's files that an edit changes, by path: pairs of 'old:' and 'new:' behind a 'file:'."""
-    path, old, texts = "", "", {}
-    with open(edit, encoding="utf-8") as file:
-        lines = file.read().split("\n")
-    for line in lines:
+def changes_of(edit, crate):
+    """What an edit changes, in order: the path of a file, the text that has to be in it once, and what comes there."""
+    path, old, found = "", "", []
+    for line in text_of(edit).split("\n"):
         key, _, value = line.partition(":")
         value = value.removeprefix(" ")
         if key == "file":
@@ -30,13 +34,50 @@ def edited(edit, crate):
         elif key == "new":
             if not path or not old:
                 raise BadEdit("a 'new:' has no 'file:' and 'old:' before it")
-            text = texts.get(path) or text_of(f"{crate}/{path}")
-            if text.count(old) != 1:
-                raise BadEdit(f"an 'old:' is in {path} {text.count(old)} times, and not once")
-            texts[path], old = text.replace(old, value), ""
-    if not texts:
+            found.append((path, old, value))
+            old = ""
+    if not found:
         raise BadEdit("it has no 'old:' and 'new:'")
+    return found
+
+
+def edited(edit, crate):
+    """The texts of a crate's files that an edit changes, by path: pairs of 'old:' and 'new:' behind a 'file:'."""
+    texts = {}
+    for path, old, new in changes_of(edit, crate):
+        text = texts.get(path) or text_of(f"{crate}/{path}")
+        if text.count(old) != 1:
+            raise BadEdit(f"an 'old:' is in {path} {text.count(old)} times, and not once")
+        texts[path] = text.replace(old, new)
     return texts
+
+
+def functions_of(edit, crate):
+    """The functions whose bodies an edit changes, by their paths below the crate. None where it changes more."""
+    changes = changes_of(edit, crate)
+    found = [function_at(path, text_of(f"{crate}/{path}"), old) for path, old, _ in changes]
+    return [] if None in found else sorted(set(found))
+
+
+def function_at(path, text, old):
+    """The path below the crate of the function where this text is, as the prover has it."""
+    module = re.fullmatch(r"src/(.*)\.rt", path)
+    above = text[: text.find(old)] if old in text else ""
+    heads = [*FUNCTION.finditer(above)]
+    if not module or not heads or CLOSED.search(above, heads[-1].end()):
+        return None
+    words = [] if module[1] in ("lib", "main") else module[1].split("/")
+    if heads[-1][1]:
+        words.append(owner_of(BLOCK.findall(above)[-1]))
+    return "::".join([*words, heads[-1][2]])
+
+
+def owner_of(head):
+    """What the prover calls the type of an impl, behind which it puts the trait's name, or a trait."""
+    while "<" in head:
+        head = re.sub(r"<[^<>]*>", "", head)
+    head = re.split(r"\bwhere\b|(?<!:):(?!:)", head)[0]
+    return "".join(it.split("::")[-1].strip() for it in reversed(head.split(" for ")))
 
 
 def text_of(path):
@@ -45,8 +86,15 @@ def text_of(path):
 
 
 def why_not_refused(said):
-    """Why what a check of an edited crate said isn't that a goal is false, '' where it is; and where it stops."""
+    """Why what a check of an edited crate, or of functions of it, said isn't that a goal is false, '' where it is.
+
+    And where it stops.
+    """
+    if re.search(r"^fn \S+: could not tell", said, re.M):
+        return "BAD EDIT: the prover could not tell", ""
     verdicts = re.findall(r"^logic=(\S+)", said, re.M)
+    for asked, proved in re.findall(r"^only=(\d+) proved=(\d+)$", said, re.M):
+        verdicts.append("proved" if asked == proved else "not-proved")
     if verdicts[-1:] == ["proved"]:
         return "NOT REFUSED: the crate is still proved with this edit", ""
     lines = said.split("\n")
