@@ -1,5 +1,5 @@
 -- What is told of files that may not be used.
-use Rattle.std.proofs.Common.{◌≡◌, Option, Some, None, Result, Ok, Err, IfOk, IsOkAnd, OnErr, ap, sym, ◌∙◌}
+use Rattle.std.proofs.Common.{◌≡◌, Some, None, Result, Ok, Err, IfOk, IsOkAnd, OnErr, ap, sym, ◌∙◌}
 use Rattle.std.proofs.lemmas.Option.{same_Some}
 use Rattle.stored_nodes.specs.declared.states.FilesState.{FilesState}
 use Rattle.stored_nodes.specs.declared.states.FilesState.TheVariants.{Unusable}

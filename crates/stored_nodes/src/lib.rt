@@ -1,9 +1,11 @@
 //! Nodes that keep their records in files: fresh ones over the files of a folder, and one over files that are its own.
 #![tactic(auto)]
 
+mod copies;
 mod fault;
 mod folder;
 mod fresh;
+mod opens;
 mod own_file;
 mod owned;
 mod start;
@@ -14,8 +16,9 @@ mod uses;
 
 pub use fault::StoreFault;
 pub use folder::use_nodes_in;
+pub use opens::records_for;
 pub use own_file::{new_node_of, node_of};
-pub use owned::{begun_node, records_for, resumed_node};
+pub use owned::{begun_node, resumed_node};
 pub use start::StartFault;
 pub use states::{FilesState, state_of_files};
 pub use stored::{StoredNode, stored_nodes};

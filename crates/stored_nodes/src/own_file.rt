@@ -7,13 +7,13 @@ ghost use Rattle.node.specs.View.{started};
 ghost use Rattle.node.specs.View.Standing.{Running};
 ghost use Rattle.seats.specs.Fresh.{IsFreshAt};
 
-use crate::owned::{begun_over, resumed_node};
+use crate::owned::{begun_opened, resumed_node};
 use crate::start::StartFault;
 use crate::stored::StoredNode;
 use acceptor_store::SqlRecords;
 use ballots::{Members, NodeId};
 use node::{Node, SchedNode};
-use sqlite::{File, FileStore, Unknown};
+use sqlite::{File, FileStore, Files, Unknown};
 use std::fs;
 use std::io::ErrorKind;
 
@@ -25,6 +25,14 @@ pub(crate) fn is_there(rt: &HostRuntime, path: &str) -> Result<bool, StartFault>
         Err(error) if error.kind() == ErrorKind::NotFound => Ok(false),
         Err(error) => Err(StartFault::from(error)),
     }
+}
+
+/// The database of a path and its log, `PATH-wal`. Without a database they are refused, and nothing is made.
+pub(crate) fn files_of(rt: &HostRuntime, path: &str) -> Result<Files<File>, StartFault> {
+    if !is_there(rt, path)? {
+        return Err(StartFault::NoFile);
+    }
+    Ok(sqlite_std_file::open(rt, path, Unknown)?)
 }
 
 /// The node that goes on over the database of a path and its log, `PATH-wal`. Without a database it is refused, and
@@ -42,20 +50,46 @@ pub fn node_of(
     ensures resumed { IfOk result (λ node. IsTrue (⟦<SchedNode<SqlRecords<FileStore<File>>> as Node>⟧.honest node)
         → (c : Content) × ⟦<SchedNode<SqlRecords<FileStore<File>>> as Node>⟧.stands node (Running (started c))) }
 {
-    if !is_there(rt, path)? {
-        return Err(StartFault::NoFile);
-    }
-    let files = sqlite_std_file::open(rt, path, Unknown)?;
+    let files = files_of(rt, path)?;
     resumed_node(rt.alloc(), files, id, members)
 }
 
-/// Takes these files away, as far as that goes, but those that were there before.
-fn remove_made(rt: &HostRuntime, database: (&str, bool), log: (&str, bool)) {
-    if !database.1 {
-        let _ = fs::remove_file(rt, database.0);
+/// The files of a path, which are made where they aren't there.
+#[derive(Drop)]
+pub(crate) struct NewFiles<'a> {
+    path: &'a str,
+    log: String,
+    has_database: bool,
+    has_log: bool,
+}
+
+impl<'a> NewFiles<'a> {
+    /// Looks which of them are there.
+    pub(crate) fn at(rt: &HostRuntime, path: &'a str) -> Result<NewFiles<'a>, StartFault> {
+        let log = format!(in rt.alloc(); "{path}-wal")?;
+        let has_database = is_there(rt, path)?;
+        let has_log = is_there(rt, log.as_str())?;
+        Ok(NewFiles {
+            path,
+            log,
+            has_database,
+            has_log,
+        })
     }
-    if !log.1 {
-        let _ = fs::remove_file(rt, log.0);
+
+    /// Opens them.
+    pub(crate) fn opened(&self, rt: &HostRuntime) -> Result<Files<File>, StartFault> {
+        Ok(sqlite_std_file::open(rt, self.path, Unknown)?)
+    }
+
+    /// Takes them away, as far as that goes, but those that were there before.
+    pub(crate) fn remove_made(&self, rt: &HostRuntime) {
+        if !self.has_database {
+            let _ = fs::remove_file(rt, self.path);
+        }
+        if !self.has_log {
+            let _ = fs::remove_file(rt, self.log.as_str());
+        }
     }
 }
 
@@ -71,13 +105,10 @@ pub fn new_node_of(
     ensures { IfOk result (IsFreshAt ⟦<SchedNode<SqlRecords<FileStore<File>>> as Node>⟧.who ⟦<SchedNode<SqlRecords<FileStore<File>>> as Node>⟧.honest
         ⟦<SchedNode<SqlRecords<FileStore<File>>> as Node>⟧.stands (member_count members) id) }
 {
-    let log = format!(in rt.alloc(); "{path}-wal")?;
-    let has_database = is_there(rt, path)?;
-    let has_log = is_there(rt, log.as_str())?;
-    let files = sqlite_std_file::open(rt, path, Unknown);
-    let node = begun_over(rt.alloc(), files, id, members);
+    let made = NewFiles::at(rt, path)?;
+    let node = begun_opened(rt.alloc(), made.opened(rt), id, members);
     if node.is_err() {
-        remove_made(rt, (path, has_database), (log.as_str(), has_log));
+        made.remove_made(rt);
     }
     node
 }

@@ -1,67 +1,89 @@
 //! A node over files that are its own.
 
-ghost use Rattle.std.specs.Prelude.{◌≡◌, ◌<◌, ◌&&◌, Err, false, true, IfErr, IfOk, IsTrue, Some};
+ghost use Rattle.std.specs.Prelude.{◌≡◌, ◌<◌, false, is_some, IfOk, IsTrue};
 ghost use Rattle.acceptor.specs.Content.{Content};
-ghost use Rattle.acceptor.specs.Found.{Holds};
-ghost use Rattle.acceptor_store.specs.Linked.{IsHonest, MayFind, is_clean_in};
 ghost use Rattle.ballots.specs.Members.{member_count};
 ghost use Rattle.node.specs.View.{started};
 ghost use Rattle.node.specs.View.Standing.{Running};
 ghost use Rattle.seats.specs.Fresh.{IsFreshAt};
-ghost use Rattle.sqlite.specs.Files.{over_files};
 ghost use Rattle.stored_nodes.specs.Kept.{IsFoundFor};
+ghost use Rattle.stored_nodes.specs.Starts.{HasStarted};
 
 use crate::fresh::{begun_with, resumed_with};
+use crate::opens::OpensRecords;
 use crate::start::StartFault;
 use crate::stored::StoredNode;
-use acceptor_store::{OpenFault, OwnerFault, SqlRecords};
+use acceptor_store::SqlRecords;
 use ballots::{Members, NodeId};
 use node::{Node, SchedNode};
-use sqlite::{Connection, Error as SqlError, ErrorCode, FileStore, Files, Options};
+use sqlite::{FileStore, Files};
 use sqlite_disk::Disk;
-use sqlite_std_file::OpenError;
 use std::alloc::Global;
 
-// The salts of a log need no secret here.
-const SEED: u64 = 0x5eed;
-
-fn unopened(error: SqlError) -> OwnerFault
-    ensures memory { error ≡ SqlError.SqliteFailure ErrorCode.OutOfMemory → result ≡ OwnerFault.Open OpenFault.OutOfMemory }
-    ensures refused { (error ≡ SqlError.SqliteFailure ErrorCode.OutOfMemory → ⊥) → result ≡ OwnerFault.Open OpenFault.Refused }
+/// A node that goes on over files of any kind. It is as one that starts over a content that is in them.
+pub(crate) fn resumed_over<F: OpensRecords>(
+    alloc: Global,
+    files: F,
+    id: NodeId,
+    members: Members,
+) -> Result<SchedNode<SqlRecords<F::Base>>, StartFault>
+    requires { id < member_count members }
+    ensures id { IfOk result (λ node. (⟦<SchedNode<SqlRecords<F::Base>> as Node>⟧.who node).id ≡ id) }
+    ensures members { IfOk result (λ node. (⟦<SchedNode<SqlRecords<F::Base>> as Node>⟧.who node).members ≡ member_count members) }
+    ensures up { IfOk result (λ node. (⟦<SchedNode<SqlRecords<F::Base>> as Node>⟧.who node).down ≡ false) }
+    ensures resumed { IfOk result (λ node. IsTrue (⟦<SchedNode<SqlRecords<F::Base>> as Node>⟧.honest node)
+        → (c : Content) × F.found_for files (record { node = id; members = members }) false c
+        × ⟦<SchedNode<SqlRecords<F::Base>> as Node>⟧.stands node (Running (started c))) }
 {
-    match error {
-        SqlError::SqliteFailure(ErrorCode::OutOfMemory) => OwnerFault::Open(OpenFault::OutOfMemory),
-        _ => OwnerFault::Open(OpenFault::Refused),
-    }
+    let records = files.opened_for(alloc, id, members, false)?;
+    resumed_with(alloc, id, members, records)
 }
 
-/// Records over the files, which are this node's as one of these members; tables are made where there are none and the
-/// files may be new. They hold what the files hold. Files of which a sync has failed are Broken.
-pub fn records_for<D: Disk + Drop>(
+/// Whose records a node begins over.
+#[derive(Clone, Copy)]
+pub(crate) enum Claim {
+    /// Its own, in files that may be new.
+    OwnOrNew,
+    Own,
+    /// Those of a node without an owner, in files that may be new.
+    Nobodys,
+}
+
+/// A node that begins over files of any kind with nothing in them.
+pub(crate) fn begun_over<F: OpensRecords>(
     alloc: Global,
-    files: Files<D>,
-    node: NodeId,
+    files: F,
+    id: NodeId,
     members: Members,
-    is_new: bool,
-) -> Result<SqlRecords<FileStore<D>>, OwnerFault>
-    ensures holds { IfOk result (λ r. IsHonest over_files r → (c : Content) × Holds (MayFind over_files r.owner r.held) c
-        × IsFoundFor D.Disk files (record { node = node; members = members }) is_new c) }
-    ensures owner { IfOk result (λ r. r.owner ≡ Some (record { node = node; members = members })) }
-    ensures sure { IfOk result (λ r. IsTrue (is_clean_in over_files r.held) → IsHonest over_files r) }
-    ensures broken { (D.Disk.is_usable files.log && D.Disk.is_usable files.db) ≡ false → result ≡ Err (OwnerFault.Open OpenFault.Broken) }
+    claim: Claim,
+) -> Result<SchedNode<SqlRecords<F::Base>>, StartFault>
+    requires { id < member_count members }
+    ensures { IfOk result (IsFreshAt ⟦<SchedNode<SqlRecords<F::Base>> as Node>⟧.who ⟦<SchedNode<SqlRecords<F::Base>> as Node>⟧.honest
+        ⟦<SchedNode<SqlRecords<F::Base>> as Node>⟧.stands (member_count members) id) }
 {
-    if !files.may_be_used() {
-        return Err(OwnerFault::Open(OpenFault::Broken));
-    }
-    match Connection::open_files(alloc, files, Options::new(SEED)) {
-        Ok(conn) => match SqlRecords::open_as(alloc, conn, node, members, is_new) {
-            Ok(records) => Ok(records),
-            Err((fault, _store)) => Err(fault),
-        },
-        Err((error, left)) => {
-            let _files = left.into_files();
-            Err(unopened(error))
-        }
+    let records = match claim {
+        Claim::OwnOrNew => files.opened_for(alloc, id, members, true)?,
+        Claim::Own => files.opened_for(alloc, id, members, false)?,
+        Claim::Nobodys => files.opened(alloc)?,
+    };
+    begun_with(alloc, id, members, records)
+}
+
+/// A node that begins so, or goes on where it doesn't begin.
+pub(crate) fn started_over<F: OpensRecords>(
+    alloc: Global,
+    files: F,
+    member: (NodeId, Members),
+    begins: Option<Claim>,
+) -> Result<SchedNode<SqlRecords<F::Base>>, StartFault>
+    requires { member.0 < member_count member.1 }
+    ensures { IfOk result (HasStarted ⟦<SchedNode<SqlRecords<F::Base>> as Node>⟧.who ⟦<SchedNode<SqlRecords<F::Base>> as Node>⟧.honest
+        ⟦<SchedNode<SqlRecords<F::Base>> as Node>⟧.stands (member_count member.1) member.0 (is_some begins)) }
+{
+    let (id, members) = member;
+    match begins {
+        Some(claim) => begun_over(alloc, files, id, members, claim),
+        None => resumed_over(alloc, files, id, members),
     }
 }
 
@@ -81,40 +103,7 @@ pub fn resumed_node<D: Disk + Drop>(
         → (c : Content) × IsFoundFor D.Disk files (record { node = id; members = members }) false c
         × ⟦<SchedNode<SqlRecords<FileStore<D>>> as Node>⟧.stands node (Running (started c))) }
 {
-    let records = records_for(alloc, files, id, members, false)?;
-    resumed_with(alloc, id, members, records)
-}
-
-/// A node that begins over records in files, which hold nothing. Every node that begins is made here, since a call for
-/// the large type of such records is dear to prove.
-pub(crate) fn begun_on<D: Disk + Drop>(
-    alloc: Global,
-    records: SqlRecords<FileStore<D>>,
-    id: NodeId,
-    members: Members,
-) -> Result<StoredNode<D>, StartFault>
-    requires member { id < member_count members }
-    requires certain { IsHonest over_files records → ∥ ((c : Content) × Holds (MayFind over_files records.owner records.held) c) ∥₁ }
-    ensures { IfOk result (IsFreshAt ⟦<SchedNode<SqlRecords<FileStore<D>>> as Node>⟧.who ⟦<SchedNode<SqlRecords<FileStore<D>>> as Node>⟧.honest
-        ⟦<SchedNode<SqlRecords<FileStore<D>>> as Node>⟧.stands (member_count members) id) }
-{
-    begun_with(alloc, id, members, records)
-}
-
-/// A node that begins over files that are its own with nothing in them, or new ones where they may be.
-pub(crate) fn begun_as<D: Disk + Drop>(
-    alloc: Global,
-    files: Files<D>,
-    id: NodeId,
-    members: Members,
-    is_new: bool,
-) -> Result<StoredNode<D>, StartFault>
-    requires { id < member_count members }
-    ensures { IfOk result (IsFreshAt ⟦<SchedNode<SqlRecords<FileStore<D>>> as Node>⟧.who ⟦<SchedNode<SqlRecords<FileStore<D>>> as Node>⟧.honest
-        ⟦<SchedNode<SqlRecords<FileStore<D>>> as Node>⟧.stands (member_count members) id) }
-{
-    let records = records_for(alloc, files, id, members, is_new)?;
-    begun_on(alloc, records, id, members)
+    resumed_over(alloc, files, id, members)
 }
 
 /// A node that begins over files that are new, or its own with nothing in them.
@@ -128,13 +117,13 @@ pub fn begun_node<D: Disk + Drop>(
     ensures { IfOk result (IsFreshAt ⟦<SchedNode<SqlRecords<FileStore<D>>> as Node>⟧.who ⟦<SchedNode<SqlRecords<FileStore<D>>> as Node>⟧.honest
         ⟦<SchedNode<SqlRecords<FileStore<D>>> as Node>⟧.stands (member_count members) id) }
 {
-    begun_as(alloc, files, id, members, true)
+    begun_over(alloc, files, id, members, Claim::OwnOrNew)
 }
 
 /// The same over files that may not have been opened.
-pub fn begun_over<D: Disk + Drop>(
+pub(crate) fn begun_opened<D: Disk + Drop>(
     alloc: Global,
-    files: Result<Files<D>, OpenError>,
+    files: Result<Files<D>, StartFault>,
     id: NodeId,
     members: Members,
 ) -> Result<StoredNode<D>, StartFault>
@@ -144,6 +133,6 @@ pub fn begun_over<D: Disk + Drop>(
 {
     match files {
         Ok(files) => begun_node(alloc, files, id, members),
-        Err(error) => Err(StartFault::from(error)),
+        Err(fault) => Err(fault),
     }
 }

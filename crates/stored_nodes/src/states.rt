@@ -6,10 +6,11 @@ ghost use Rattle.stored_nodes.specs.declared.states.FilesState.TheVariants.{Unus
 ghost use Rattle.stored_nodes.specs.declared.states.Told.TheVariants.{State};
 ghost use Rattle.stored_nodes.specs.States.{StayFiles, StaysFile, state_told, told_open, told_owned, told_owner, told_start, told_unowned, told_unread};
 
+use crate::copies::begins_by_copy;
 use crate::fault::StoreFault;
-use crate::owned::begun_as;
+use crate::owned::Claim;
 use crate::start::StartFault;
-use crate::stored::{copy_of, examine, let_go};
+use crate::stored::examine;
 use acceptor_store::{OpenFault, OwnerFault};
 use ballots::{Members, NodeId};
 use node::NodeFault;
@@ -113,26 +114,7 @@ fn told_unowned(opened: Result<(), StoreFault>) -> Told
     }
 }
 
-/// Whether the records of this node, as one of these members, hold nothing.
-fn is_fresh_over<D: Disk + Drop>(
-    alloc: Global,
-    files: Files<D>,
-    id: NodeId,
-    members: Members,
-) -> Result<bool, StartFault>
-    requires { id < member_count members }
-{
-    match begun_as(alloc, files, id, members, false) {
-        Ok(node) => {
-            let_go(node);
-            Ok(true)
-        }
-        Err(StartFault::NotFresh) => Ok(false),
-        Err(fault) => Err(fault),
-    }
-}
-
-/// The same over a copy of the files.
+/// Whether the records of this node, as one of these members, hold nothing in a copy of the files.
 fn is_fresh_copy<D: Disk>(
     alloc: Global,
     files: &mut Files<D>,
@@ -143,11 +125,11 @@ fn is_fresh_copy<D: Disk>(
     ensures files { StayFiles D.Disk files.old files.new }
     ensures unusable { (D.Disk.is_usable files.old.log && D.Disk.is_usable files.old.db) ≡ false → result ≡ Err StartFault.Unusable }
 {
-    if !files.may_be_used() {
-        return Err(StartFault::Unusable);
+    match begins_by_copy(alloc, files, id, members, Claim::Own) {
+        Ok(()) => Ok(true),
+        Err(StartFault::NotFresh) => Ok(false),
+        Err(fault) => Err(fault),
     }
-    let copy = copy_of(alloc, files)?;
-    is_fresh_over(alloc, copy, id, members)
 }
 
 /// The same as one of five members, or of three.

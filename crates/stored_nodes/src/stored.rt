@@ -1,90 +1,83 @@
 //! Nodes that keep their records in files.
 
-ghost use Rattle.std.specs.Prelude.{◌≡◌, ◌<◌, IsTrue, IfOk, length};
+ghost use Rattle.std.specs.Prelude.{◌≡◌, ◌<◌, IfOk, length};
 ghost use Rattle.ballots.specs.Members.{member_count};
 ghost use Rattle.seats.specs.Fresh.{AreFresh, IsFreshAt};
-ghost use Rattle.stored_nodes.specs.States.{StayFiles, StaysFile};
+ghost use Rattle.stored_nodes.specs.States.{StayFiles};
 
+use crate::copies::begins_by_copy;
 use crate::fault::StoreFault;
-use crate::owned::begun_on;
-use acceptor_store::{SqlRecords, open_files};
+use crate::opens::OpensRecords;
+use crate::owned::{Claim, begun_over};
+use acceptor_store::SqlRecords;
 use ballots::{Members, NodeId};
 use node::{Node, SchedNode};
 use sqlite::{FileStore, Files};
-use sqlite_disk::{Disk, Memory};
+use sqlite_disk::Disk;
 use std::alloc::Global;
-use std::io;
 
 /// A node whose records stand in two files.
 pub type StoredNode<D> = SchedNode<SqlRecords<FileStore<D>>>;
 
 /// A node with a member's number over files whose records are those of a fresh one, or of none.
-fn stored_node<D: Disk + Drop>(
+fn stored_node<F: OpensRecords>(
     alloc: Global,
     number: u8,
     members: Members,
-    files: Files<D>,
-) -> Result<StoredNode<D>, StoreFault>
+    files: F,
+) -> Result<SchedNode<SqlRecords<F::Base>>, StoreFault>
     requires { number < member_count members }
-    ensures { IfOk result (IsFreshAt ⟦<SchedNode<SqlRecords<FileStore<D>>> as Node>⟧.who ⟦<SchedNode<SqlRecords<FileStore<D>>> as Node>⟧.honest
-        ⟦<SchedNode<SqlRecords<FileStore<D>>> as Node>⟧.stands (member_count members) number) }
+    ensures { IfOk result (IsFreshAt ⟦<SchedNode<SqlRecords<F::Base>> as Node>⟧.who ⟦<SchedNode<SqlRecords<F::Base>> as Node>⟧.honest
+        ⟦<SchedNode<SqlRecords<F::Base>> as Node>⟧.stands (member_count members) number) }
 {
     let Some(id) = NodeId::new(number) else {
         unreachable!();
     };
-    let records = open_files(alloc, files)?;
-    Ok(begun_on(alloc, records, id, members)?)
-}
-
-/// Lets go of a node, which nothing more is asked.
-pub(crate) fn let_go<D: Disk + Drop>(_node: StoredNode<D>) {}
-
-/// What a file holds, in memory.
-fn copied<D: Disk>(alloc: Global, file: &mut D) -> io::Result<Memory>
-    requires { IsTrue (D.Disk.is_usable file.old) }
-    ensures { StaysFile D.Disk file.old file.new }
-{
-    let length = file.len()?;
-    let mut bytes = Vec::new(alloc);
-    bytes.resize(length, 0u8)?;
-    file.read_at(0, bytes.as_mut_slice())?;
-    let mut copy = Memory::new(alloc);
-    copy.write_at(0, bytes.as_slice())?;
-    Ok(copy)
-}
-
-/// What two files hold, in memory.
-pub(crate) fn copy_of<D: Disk>(alloc: Global, files: &mut Files<D>) -> io::Result<Files<Memory>>
-    requires log { IsTrue (D.Disk.is_usable files.old.log) }
-    requires db { IsTrue (D.Disk.is_usable files.old.db) }
-    ensures { StayFiles D.Disk files.old files.new }
-{
-    let log = copied(alloc, &mut files.log)?;
-    let db = copied(alloc, &mut files.db)?;
-    Ok(Files { log, db })
+    Ok(begun_over(alloc, files, id, members, Claim::Nobodys)?)
 }
 
 /// Refuses files that a fresh node can't start over. It opens a copy of them in memory, so nothing is written to them.
 pub(crate) fn examine<D: Disk>(alloc: Global, files: &mut Files<D>) -> Result<(), StoreFault>
     ensures { StayFiles D.Disk files.old files.new }
 {
-    if !files.may_be_used() {
-        return Err(StoreFault::Unusable);
-    }
-    let copy = copy_of(alloc, files)?;
-    examine_copy(alloc, copy)
+    let Some(id) = NodeId::new(0) else {
+        unreachable!();
+    };
+    Ok(begins_by_copy(alloc, files, id, Members::Three, Claim::Nobodys)?)
 }
 
-fn examine_copy<D: Disk + Drop>(alloc: Global, files: Files<D>) -> Result<(), StoreFault> {
-    let_go(stored_node(alloc, 0, Members::Three, files)?);
-    Ok(())
-}
-
-fn examine_all<D: Disk>(alloc: Global, files: &mut [Files<D>]) -> Result<(), StoreFault> {
+pub(crate) fn examine_all<D: Disk>(
+    alloc: Global,
+    files: &mut [Files<D>],
+) -> Result<(), StoreFault> {
     for pair in files {
         examine(alloc, pair)?;
     }
     Ok(())
+}
+
+/// The nodes of so many members, by number, each over its files.
+pub(crate) fn nodes_over<F: OpensRecords>(
+    alloc: Global,
+    members: Members,
+    files: Vec<F>,
+) -> Result<Vec<SchedNode<SqlRecords<F::Base>>>, StoreFault>
+    ensures fresh { IfOk result (λ nodes. AreFresh ⟦<SchedNode<SqlRecords<F::Base>> as Node>⟧.who ⟦<SchedNode<SqlRecords<F::Base>> as Node>⟧.honest
+        ⟦<SchedNode<SqlRecords<F::Base>> as Node>⟧.stands nodes.items) }
+    ensures count { IfOk result (λ nodes. length nodes.items ≡ member_count members) }
+{
+    let mut left = files.into_iter();
+    let mut nodes = Vec::new(alloc);
+    for number in 0..members.count() {
+        let Some(pair) = left.next() else {
+            return Err(StoreFault::Unusable);
+        };
+        let node = stored_node(alloc, number, members, pair)?;
+        let Ok(()) = nodes.push(node) else {
+            return Err(StoreFault::OutOfMemory);
+        };
+    }
+    Ok(nodes)
 }
 
 /// The fresh nodes of so many members, by number, each over its files. Files that hold anything else
@@ -100,16 +93,5 @@ pub fn stored_nodes<D: Disk + Drop>(
 {
     let mut files = files;
     examine_all(alloc, files.as_mut_slice())?;
-    let mut left = files.into_iter();
-    let mut nodes = Vec::new(alloc);
-    for number in 0..members.count() {
-        let Some(pair) = left.next() else {
-            return Err(StoreFault::Unusable);
-        };
-        let node = stored_node(alloc, number, members, pair)?;
-        let Ok(()) = nodes.push(node) else {
-            return Err(StoreFault::OutOfMemory);
-        };
-    }
-    Ok(nodes)
+    nodes_over(alloc, members, files)
 }

@@ -1,18 +1,20 @@
 //! Nodes over files, for whoever needn't know what they keep their records in.
 
-ghost use Rattle.std.specs.Prelude.{◌≡◌, ◌<◌, ℕ, Bool, ⊤, IfOk, length};
+ghost use Rattle.std.specs.Prelude.{◌≡◌, ◌<◌, ℕ, Bool, ⊤, true, is_some, IfOk, length};
 ghost use Rattle.ballots.specs.Members.{member_count};
 ghost use Rattle.seats.specs.Fresh.{AreFresh};
 ghost use Rattle.stored_nodes.specs.Starts.{HasStarted};
 
 use crate::fault::StoreFault;
-use crate::own_file::{new_node_of, node_of};
+use crate::opens::OpensRecords;
+use crate::own_file::{NewFiles, files_of};
+use crate::owned::{Claim, started_over};
 use crate::start::StartFault;
-use crate::stored::{StoredNode, stored_nodes};
+use crate::stored::{examine_all, nodes_over};
 use acceptor_store::SqlRecords;
 use ballots::{Members, NodeId};
 use node::{Node, SchedNode};
-use sqlite::{File, FileStore, Files};
+use sqlite::Files;
 use sqlite_disk::Disk;
 use std::alloc::Global;
 use store_anew::OpensAnew;
@@ -50,8 +52,7 @@ pub trait NodeUse: Drop {
         ensures { comes self member.0 (member_count member.1) is_new result };
 }
 
-/// The nodes are used, where there are any. Over any store a call for nodes is proved in a quarter of the time that it
-/// takes over files.
+/// The nodes are used, where there are any.
 fn use_nodes<S: OpensAnew, U: NodesUse>(
     nodes: Result<Vec<SchedNode<SqlRecords<S>>>, StoreFault>,
     members: Members,
@@ -85,6 +86,19 @@ fn use_node<S: OpensAnew, U: NodeUse>(
     }
 }
 
+/// Uses the nodes of `nodes_over`.
+fn use_nodes_of<F: OpensRecords, U: NodesUse>(
+    alloc: Global,
+    members: Members,
+    files: Vec<F>,
+    user: U,
+) -> Result<U::Answer, StoreFault>
+    ensures { IfOk result (U.comes user (member_count members)) }
+{
+    let nodes = nodes_over(alloc, members, files);
+    use_nodes(nodes, members, user)
+}
+
 /// Uses the nodes of `stored_nodes`. Where it gives a fault, that is given, and nothing is used.
 pub fn use_nodes_over<D: Disk + Drop, U: NodesUse>(
     alloc: Global,
@@ -94,27 +108,61 @@ pub fn use_nodes_over<D: Disk + Drop, U: NodesUse>(
 ) -> Result<U::Answer, StoreFault>
     ensures { IfOk result (U.comes user (member_count members)) }
 {
-    let nodes = stored_nodes(alloc, members, files);
-    use_nodes(nodes, members, user)
+    let mut files = files;
+    examine_all(alloc, files.as_mut_slice())?;
+    use_nodes_of(alloc, members, files, user)
 }
 
-/// The node of `new_node_of`, or of `node_of` where it isn't new.
-fn started_at(
+/// Uses the node of `started_over`.
+fn use_started<F: OpensRecords, U: NodeUse>(
+    alloc: Global,
+    files: F,
+    member: (NodeId, Members),
+    begins: Option<Claim>,
+    user: U,
+) -> Result<U::Answer, StartFault>
+    requires { member.0 < member_count member.1 }
+    ensures { IfOk result (U.comes user member.0 (member_count member.1) (is_some begins)) }
+{
+    let (id, members) = member;
+    let is_new = begins.is_some();
+    let node = started_over(alloc, files, (id, members), begins);
+    use_node(node, (id, members), is_new, user)
+}
+
+/// Uses the node that begins so over the files, or goes on over them where it doesn't begin.
+pub(crate) fn use_node_over<D: Disk + Drop, U: NodeUse>(
+    alloc: Global,
+    files: Files<D>,
+    member: (NodeId, Members),
+    begins: Option<Claim>,
+    user: U,
+) -> Result<U::Answer, StartFault>
+    requires { member.0 < member_count member.1 }
+    ensures { IfOk result (U.comes user member.0 (member_count member.1) (is_some begins)) }
+{
+    use_started(alloc, files, member, begins, user)
+}
+
+/// Uses the node of `new_node_of`. Where it is refused, what wasn't there before is taken away again.
+fn use_new_node<U: NodeUse>(
     rt: &HostRuntime,
     path: &str,
     member: (NodeId, Members),
-    is_new: bool,
-) -> Result<StoredNode<File>, StartFault>
+    user: U,
+) -> Result<U::Answer, StartFault>
     requires { member.0 < member_count member.1 }
-    ensures { IfOk result (HasStarted ⟦<SchedNode<SqlRecords<FileStore<File>>> as Node>⟧.who ⟦<SchedNode<SqlRecords<FileStore<File>>> as Node>⟧.honest
-        ⟦<SchedNode<SqlRecords<FileStore<File>>> as Node>⟧.stands (member_count member.1) member.0 is_new) }
+    ensures { IfOk result (U.comes user member.0 (member_count member.1) true) }
 {
-    let (id, members) = member;
-    if is_new {
-        new_node_of(rt, path, id, members)
-    } else {
-        node_of(rt, path, id, members)
+    let made = NewFiles::at(rt, path)?;
+    let answer = match made.opened(rt) {
+        Ok(files) => use_node_over(rt.alloc(), files, member, Some(Claim::OwnOrNew), user),
+        Err(fault) => Err(fault),
+    };
+    if answer.is_err() {
+        made.remove_made(rt);
     }
+    answer
 }
 
 /// Uses the node of `new_node_of`, or of `node_of` where it isn't new. Where that gives a fault, that is given, and
@@ -129,7 +177,10 @@ pub fn use_node_at<U: NodeUse>(
     requires { member.0 < member_count member.1 }
     ensures { IfOk result (U.comes user member.0 (member_count member.1) is_new) }
 {
-    let (id, members) = member;
-    let node = started_at(rt, path, (id, members), is_new);
-    use_node(node, (id, members), is_new, user)
+    if is_new {
+        use_new_node(rt, path, member, user)
+    } else {
+        let files = files_of(rt, path)?;
+        use_node_over(rt.alloc(), files, member, None, user)
+    }
 }

@@ -2,7 +2,7 @@ use Rattle.std.proofs.Common.{◌∙◌}
 use Rattle.ballots.specs.Members.{member_count}
 use Rattle.seats.proofs.Callers.{none_first, next_first, all_first}
 use Rattle.stored_nodes.proofs.Counts.{reached, none_below, more_below}
-use Rattle.stored_nodes.proofs.stored.stored_nodes.Goals as goal
+use Rattle.stored_nodes.proofs.stored.nodes_over.Goals as goal
 
 pub loop-number-init : goal.loop-number-init
 loop-number-init g c = (none_below (member_count c.args.members), none_first _ _ _ _ _ c.new-nodes.ensures.items)

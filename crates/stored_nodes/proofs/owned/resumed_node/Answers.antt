@@ -1,6 +1,0 @@
-use Rattle.std.proofs.lemmas.Result.{IfOk-weaker}
-use Rattle.stored_nodes.proofs.owned.resumed_node.Goals as goal
-
-pub returns-clause-resumed : goal.returns-clause-resumed
-returns-clause-resumed g c =
-    IfOk-weaker c.resumed_with.result _ _ (λ node goes_on honest. let now = goes_on honest in let held = c.in_ok-records.ensures.holds now.0 in (held.0, held.2, now.1 held.0 held.1)) c.resumed_with.ensures.resumed

@@ -1,0 +1,69 @@
+//! Whether a node begins over files, found out without a change of them.
+
+ghost use Rattle.std.specs.Prelude.{◌≡◌, ◌<◌, ◌&&◌, Err, IsTrue, false};
+ghost use Rattle.ballots.specs.Members.{member_count};
+ghost use Rattle.stored_nodes.specs.States.{StayFiles, StaysFile};
+
+use crate::owned::Claim;
+use crate::start::StartFault;
+use crate::uses::{NodeUse, use_node_over};
+use ballots::{Members, NodeId};
+use node::Node;
+use sqlite::Files;
+use sqlite_disk::{Disk, Memory};
+use std::alloc::Global;
+use std::io;
+
+/// What a file holds, in memory.
+fn copied<D: Disk>(alloc: Global, file: &mut D) -> io::Result<Memory>
+    requires { IsTrue (D.Disk.is_usable file.old) }
+    ensures { StaysFile D.Disk file.old file.new }
+{
+    let length = file.len()?;
+    let mut bytes = Vec::new(alloc);
+    bytes.resize(length, 0u8)?;
+    file.read_at(0, bytes.as_mut_slice())?;
+    let mut copy = Memory::new(alloc);
+    copy.write_at(0, bytes.as_slice())?;
+    Ok(copy)
+}
+
+/// What two files hold, in memory.
+fn copy_of<D: Disk>(alloc: Global, files: &mut Files<D>) -> io::Result<Files<Memory>>
+    requires log { IsTrue (D.Disk.is_usable files.old.log) }
+    requires db { IsTrue (D.Disk.is_usable files.old.db) }
+    ensures { StayFiles D.Disk files.old files.new }
+{
+    let log = copied(alloc, &mut files.log)?;
+    let db = copied(alloc, &mut files.db)?;
+    Ok(Files { log, db })
+}
+
+/// A node that nothing is asked.
+#[derive(Drop)]
+struct LetGo;
+
+impl NodeUse for LetGo {
+    type Answer = ();
+
+    fn use_node<N: Node + Drop>(self, _node: N, _member: (NodeId, Members), _is_new: bool) {}
+}
+
+/// Whether a node begins so over a copy of the files in memory, or why it doesn't. They stay as they are.
+pub(crate) fn begins_by_copy<D: Disk>(
+    alloc: Global,
+    files: &mut Files<D>,
+    id: NodeId,
+    members: Members,
+    claim: Claim,
+) -> Result<(), StartFault>
+    requires { id < member_count members }
+    ensures files { StayFiles D.Disk files.old files.new }
+    ensures unusable { (D.Disk.is_usable files.old.log && D.Disk.is_usable files.old.db) ≡ false → result ≡ Err StartFault.Unusable }
+{
+    if !files.may_be_used() {
+        return Err(StartFault::Unusable);
+    }
+    let copy = copy_of(alloc, files)?;
+    use_node_over(alloc, copy, (id, members), Some(claim), LetGo)
+}
