@@ -1,29 +1,9 @@
-use crate::uses::number;
+use crate::files::{Stopped, stopping};
+use crate::uses::{OwnedUse, ballot, number, owned_in, place, value};
 use acceptor::{Accepted, Prepared, Records, RecordsFault, accept, prepare};
-use acceptor_store::{OpenFault, SqlRecords, open_files};
-use ballots::{Ballot, Bytes, Place, Value, Votes};
-use sqlite::Files;
-use sqlite_disk::{Disk, Memory};
+use ballots::{Place, Votes};
 use std::alloc::{AllocError, Global};
-use std::process::Abort;
 use std::test::Fail;
-use store_anew::OpensAnew;
-
-fn no_files(alloc: Global) -> Files<Memory> {
-    Files {
-        log: Memory::new(alloc),
-        db: Memory::new(alloc),
-    }
-}
-
-fn value(rt: &impl Abort, alloc: Global, byte: u8) -> Result<Value, Fail> {
-    let bytes = Vec::from_slice(alloc, &[byte])?;
-    Ok(Value::new(Bytes::new(bytes)).expect(rt, "a value"))
-}
-
-fn ballot(rt: &impl Abort, number: u64) -> Ballot {
-    Ballot::new(number).expect(rt, "a ballot")
-}
 
 fn promised_text(alloc: Global, votes: &Votes) -> Result<String, AllocError> {
     match votes.rows() {
@@ -36,18 +16,17 @@ fn promised_text(alloc: Global, votes: &Votes) -> Result<String, AllocError> {
     }
 }
 
-/// What an acceptor over the records answers to a ballot.
-fn prepared<R: Records>(
-    rt: &impl Abort,
-    alloc: Global,
-    records: &mut R,
-    number: u64,
-) -> Result<String, Fail> {
-    let place = Place::new(1).expect(rt, "a place");
-    match prepare(records, ballot(rt, number), place)? {
-        Prepared::Higher(other) => Ok(format!(in alloc; "higher {}", other.number())?),
-        Prepared::Promised(votes) => Ok(promised_text(alloc, &votes)?),
+fn prepared_text(alloc: Global, answer: &Prepared) -> Result<String, AllocError> {
+    match answer {
+        Prepared::Higher(other) => format!(in alloc; "higher {}", other.number()),
+        Prepared::Promised(votes) => promised_text(alloc, votes),
     }
+}
+
+/// What an acceptor over the records answers to a ballot.
+fn prepared<R: Records>(alloc: Global, records: &mut R, number: u64) -> Result<String, Fail> {
+    let answer = prepare(records, ballot(number)?, place(1)?)?;
+    Ok(prepared_text(alloc, &answer)?)
 }
 
 fn accepted_text(alloc: Global, answer: &Accepted) -> Result<String, AllocError> {
@@ -59,32 +38,30 @@ fn accepted_text(alloc: Global, answer: &Accepted) -> Result<String, AllocError>
 
 /// What it answers to a value.
 fn accepted<R: Records>(
-    rt: &impl Abort,
     alloc: Global,
     records: &mut R,
     number: u64,
-    value: Value,
+    byte: u8,
 ) -> Result<String, Fail> {
-    let place = Place::new(1).expect(rt, "a place");
-    let answer = accept(records, ballot(rt, number), place, value)?;
+    let value = value(alloc, &[byte])?;
+    let answer = accept(records, ballot(number)?, place(1)?, value)?;
     Ok(accepted_text(alloc, &answer)?)
 }
 
 fn is_answered<R: Records>(
-    rt: &impl Abort,
     alloc: Global,
     records: &mut R,
     case: (u64, Option<u8>, &str),
 ) -> Result<bool, Fail> {
     let answer = match case.1 {
-        None => prepared(rt, alloc, records, case.0)?,
-        Some(byte) => accepted(rt, alloc, records, case.0, value(rt, alloc, byte)?)?,
+        None => prepared(alloc, records, case.0)?,
+        Some(byte) => accepted(alloc, records, case.0, byte)?,
     };
     Ok(answer.as_str() == case.2)
 }
 
 /// Ballot, the byte of a value, and the answer.
-const CASES: [(u64, Option<u8>, &str); 9] = [
+static CASES: [(u64, Option<u8>, &str); 9] = [
     (9, None, "promised"),
     (9, None, "higher 9"),
     (8, Some(b'A'), "higher 9"),
@@ -97,21 +74,26 @@ const CASES: [(u64, Option<u8>, &str); 9] = [
 ];
 
 /// Whether each case is answered as it says.
-fn are_answered<R: Records>(rt: &impl Abort, alloc: Global, records: &mut R) -> Result<bool, Fail> {
-    for case in CASES {
-        if !is_answered(rt, alloc, records, case)? {
+fn are_answered<R: Records>(alloc: Global, records: &mut R) -> Result<bool, Fail> {
+    for case in &CASES {
+        if !is_answered(alloc, records, *case)? {
             return Ok(false);
         }
     }
     Ok(true)
 }
 
-fn write<R: Records>(rt: &impl Abort, alloc: Global, records: &mut R) -> Result<(), Fail> {
-    let value = value(rt, alloc, b'D')?;
-    records.put_tried(ballot(rt, 16))?;
-    records.put_vote(Place::new(2).expect(rt, "a place"), ballot(rt, 9), &value)?;
-    records.put_vote(Place::new(1).expect(rt, "a place"), ballot(rt, 17), &value)?;
-    Ok(records.put_promised(ballot(rt, 8))?)
+/// Writes a vote of a place and a ballot, for a byte.
+fn put_vote<R: Records>(alloc: Global, records: &mut R, vote: (u64, u64, u8)) -> Result<(), Fail> {
+    let value = value(alloc, &[vote.2])?;
+    Ok(records.put_vote(place(vote.0)?, ballot(vote.1)?, &value)?)
+}
+
+fn write<R: Records>(alloc: Global, records: &mut R) -> Result<(), Fail> {
+    records.put_tried(ballot(16)?)?;
+    put_vote(alloc, records, (2, 9, b'D'))?;
+    put_vote(alloc, records, (1, 17, b'D'))?;
+    Ok(records.put_promised(ballot(8)?)?)
 }
 
 /// The tried and the promised ballot.
@@ -136,56 +118,47 @@ fn votes_from<R: Records>(records: &mut R, place: Place) -> Result<usize, Record
 
 /// Whether these are the tried and the promised ballot, the ballot of the vote at place 2, and how
 /// many votes there are.
-fn holds<R: Records>(
-    rt: &impl Abort,
-    records: &mut R,
-    want: (u64, u64, u64, usize),
-) -> Result<bool, Fail> {
+fn holds<R: Records>(records: &mut R, want: (u64, u64, u64, usize)) -> Result<bool, Fail> {
     let (tried, promised) = numbers(records)?;
-    let second = vote_at(records, Place::new(2).expect(rt, "a place"))?;
-    let count = votes_from(records, Place::new(1).expect(rt, "a place"))?;
+    let second = vote_at(records, place(2)?)?;
+    let count = votes_from(records, place(1)?)?;
     Ok((tried, promised, second, count) == want)
 }
 
 /// The same once they are reopened.
-fn keeps<R: Records>(
-    rt: &impl Abort,
-    records: &mut R,
-    want: (u64, u64, u64, usize),
-) -> Result<bool, Fail> {
+fn keeps<R: Records>(records: &mut R, want: (u64, u64, u64, usize)) -> Result<bool, Fail> {
     records.reopen()?;
-    holds(rt, records, want)
+    holds(records, want)
 }
 
 /// The same writes, and one of another vote at place 2.
-fn write_over<R: Records>(rt: &impl Abort, alloc: Global, records: &mut R) -> Result<(), Fail> {
-    write(rt, alloc, records)?;
-    let value = value(rt, alloc, b'E')?;
-    Ok(records.put_vote(Place::new(2).expect(rt, "a place"), ballot(rt, 24), &value)?)
+fn write_over<R: Records>(alloc: Global, records: &mut R) -> Result<(), Fail> {
+    write(alloc, records)?;
+    put_vote(alloc, records, (2, 24, b'E'))
 }
 
 /// Whether each case is answered as it says, with no failure.
-fn has_answers<R: Records>(rt: &impl Abort, alloc: Global, records: &mut R) -> Result<bool, Fail> {
-    let are = are_answered(rt, alloc, records)?;
+fn has_answers<R: Records>(alloc: Global, records: &mut R) -> Result<bool, Fail> {
+    let are = are_answered(alloc, records)?;
     Ok(are && records.failures() == 0)
 }
 
 /// Whether there is no row, and whether the rows that are written are found, also over a reopen.
-fn has_rows<R: Records>(rt: &impl Abort, alloc: Global, records: &mut R) -> Result<bool, Fail> {
-    if !holds(rt, records, (0, 0, 0, 0))? {
+fn has_rows<R: Records>(alloc: Global, records: &mut R) -> Result<bool, Fail> {
+    if !holds(records, (0, 0, 0, 0))? {
         return Ok(false);
     }
-    write(rt, alloc, records)?;
-    if !holds(rt, records, (16, 17, 9, 2))? {
+    write(alloc, records)?;
+    if !holds(records, (16, 17, 9, 2))? {
         return Ok(false);
     }
-    keeps(rt, records, (16, 17, 9, 2))
+    keeps(records, (16, 17, 9, 2))
 }
 
 /// Whether a vote over another is found, and the rest as before, with no failure.
-fn has_other<R: Records>(rt: &impl Abort, alloc: Global, records: &mut R) -> Result<bool, Fail> {
-    write_over(rt, alloc, records)?;
-    let is_kept = keeps(rt, records, (16, 24, 24, 2))?;
+fn has_other<R: Records>(alloc: Global, records: &mut R) -> Result<bool, Fail> {
+    write_over(alloc, records)?;
+    let is_kept = keeps(records, (16, 24, 24, 2))?;
     Ok(is_kept && records.failures() == 0)
 }
 
@@ -197,61 +170,30 @@ enum Trial {
     Other,
 }
 
-fn passes<R: Records + Drop>(
-    rt: &impl Abort,
-    alloc: Global,
-    mut records: R,
-    trial: Trial,
-) -> Result<bool, Fail> {
-    match trial {
-        Trial::Answers => has_answers(rt, alloc, &mut records),
-        Trial::Rows => has_rows(rt, alloc, &mut records),
-        Trial::Other => has_other(rt, alloc, &mut records),
+impl OwnedUse for Trial {
+    type Answer = bool;
+
+    fn use_owned<R: Records + Drop>(self, alloc: Global, mut records: R) -> Result<bool, Fail> {
+        match self {
+            Trial::Answers => has_answers(alloc, &mut records),
+            Trial::Rows => has_rows(alloc, &mut records),
+            Trial::Other => has_other(alloc, &mut records),
+        }
     }
 }
 
-/// Whether the records pass, where they are open. It knows no store: at a store over files the
-/// proof is dear.
-fn passes_open<S: OpensAnew>(
-    rt: &impl Abort,
-    alloc: Global,
-    records: Result<SqlRecords<S>, OpenFault>,
-    trial: Trial,
-) -> Result<bool, Fail> {
-    passes(rt, alloc, records?, trial)
-}
-
-/// Whether the records in these files pass.
-fn passes_over<D: Disk + Drop>(
-    rt: &impl Abort,
-    alloc: Global,
-    files: Files<D>,
-    trial: Trial,
-) -> Result<bool, Fail> {
-    passes_open(rt, alloc, open_files(alloc, files), trial)
-}
-
 /// Whether fresh records pass.
-fn passes_afresh(rt: &impl Abort, alloc: Global, trial: Trial) -> Result<bool, Fail> {
-    passes_over(rt, alloc, no_files(alloc), trial)
+fn passes_afresh(alloc: Global, trial: Trial) -> Result<bool, Fail> {
+    let files = stopping(alloc, (&[], &[]), Stopped::Log, u64::MAX)?;
+    owned_in(alloc, files, trial)
 }
 
+/// What an acceptor answers; each row is kept over a reopen; a vote takes the place of the one at its place, and of no
+/// other.
 #[test]
-fn promises_and_votes(rt: HostRuntime) -> Result<(), Fail> {
-    assert!(rt; passes_afresh(&rt, rt.alloc(), Trial::Answers)?);
-    Ok(())
-}
-
-/// Each row is kept over a reopen.
-#[test]
-fn records_keep_their_rows(rt: HostRuntime) -> Result<(), Fail> {
-    assert!(rt; passes_afresh(&rt, rt.alloc(), Trial::Rows)?);
-    Ok(())
-}
-
-/// A vote takes the place of the one at its place, and of no other.
-#[test]
-fn a_vote_over_another(rt: HostRuntime) -> Result<(), Fail> {
-    assert!(rt; passes_afresh(&rt, rt.alloc(), Trial::Other)?);
+fn promises_votes_and_rows(rt: HostRuntime) -> Result<(), Fail> {
+    for trial in [Trial::Answers, Trial::Rows, Trial::Other] {
+        assert!(rt; passes_afresh(rt.alloc(), trial)?);
+    }
     Ok(())
 }

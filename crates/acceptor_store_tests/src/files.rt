@@ -5,12 +5,12 @@ use sqlite_disk::{Crash, Disk, Fuse, Memory};
 use std::alloc::Global;
 use std::io;
 use std::test::Fail;
-use store_anew::{OpensAnew, open_again};
+use store_anew::open_again;
 
 pub type Fused = Fuse<Memory>;
 
 /// Which of the two files is stopped.
-#[derive(Clone, Copy, Debug, PartialEq, Eq)]
+#[derive(Clone, Copy)]
 pub enum Stopped {
     Database,
     Log,
@@ -26,14 +26,14 @@ fn calls_of(stopped: Stopped, calls: u64) -> (u64, u64) {
 
 /// What a stop leaves of a file: each byte that was written, as where the process alone died, or
 /// nothing but what was synced.
-#[derive(Debug, Drop)]
+#[derive(Drop)]
 pub struct Left {
     pub written: Vec<u8>,
     pub synced: Vec<u8>,
 }
 
 /// What is left of the log and of the database.
-#[derive(Debug, Drop)]
+#[derive(Drop)]
 pub struct Bodies {
     pub log: Left,
     pub db: Left,
@@ -121,40 +121,10 @@ pub fn connected<D: Disk + Drop>(
     }
 }
 
-/// A connection to the files.
-pub fn linked<D: Disk + Drop>(
-    alloc: Global,
-    files: Files<D>,
-) -> Result<Connection<FileStore<D>>, Fail> {
-    match connected(alloc, files) {
-        Ok(conn) => Ok(conn),
-        Err(_) => Err(Fail::new("no connection")),
-    }
-}
-
 /// Runs these texts.
 pub fn run<S: Alter + Drop>(conn: &mut Connection<S>, texts: &[&str]) -> Result<(), Error> {
     for text in texts {
         conn.execute_batch(text)?;
     }
     Ok(())
-}
-
-/// What is left of the store after this text. It knows no store: at a store over files the proof is dear.
-fn left_after<S: OpensAnew>(
-    conn: Result<Connection<S>, Fail>,
-    text: &str,
-) -> Result<S::Left, Fail> {
-    let mut conn = conn?;
-    run(&mut conn, &[text])?;
-    Ok(conn.into_store().given_up())
-}
-
-/// The files after this text.
-pub fn files_after<D: Disk + Drop>(
-    alloc: Global,
-    files: Files<D>,
-    text: &str,
-) -> Result<Files<D>, Fail> {
-    left_after(linked(alloc, files), text)
 }

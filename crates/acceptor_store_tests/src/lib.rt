@@ -6,7 +6,11 @@ mod acceptor_rows;
 #[cfg(test)]
 mod files;
 #[cfg(test)]
+mod kinds;
+#[cfg(test)]
 mod owners;
+#[cfg(test)]
+mod slip;
 #[cfg(test)]
 mod slips;
 #[cfg(test)]

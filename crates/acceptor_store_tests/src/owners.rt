@@ -1,15 +1,14 @@
 //! Records that have an owner, also where a file stops as they are made or adopted.
 
-use crate::files::{
-    Bodies, FOUND, Fused, Stopped, files_after, found, is_again, left_behind, stopping,
-};
+use crate::files::{Fused, Stopped};
+use crate::kinds::{TellsKinds, stops};
+use crate::tables::{Row, open_so};
 use crate::uses::{
-    Opens, ReadsContent, RecordsUse, Unopened, Way, answer_in, answered, content, fault_after,
-    used_in,
+    ReadsContent, RecordsUse, Unopened, Way, answer_in, ballot, bodies_after, content, failed,
+    found_after, used_in,
 };
 use acceptor::Records;
 use acceptor_store::{OpenFault, OwnerFault};
-use ballots::Ballot;
 use sqlite::Files;
 use std::alloc::Global;
 use std::test::Fail;
@@ -33,205 +32,176 @@ const FOREIGN: Option<OwnerFault> = Some(OwnerFault::Open(OpenFault::Foreign));
 
 const REFUSED: Option<OwnerFault> = Some(OwnerFault::Open(OpenFault::Refused));
 
-/// The texts that make a database, without tables, of version 2 or of version 3, and how it is
-/// opened in each way.
-const OPENED: [([&str; 2], Way, Option<OwnerFault>); 12] = [
-    (["", ""], Way::Plain, None),
-    (["", ""], Way::New, None),
-    (["", ""], Way::Old, Some(OwnerFault::Blank)),
-    (["", ""], Way::Adopt, Some(OwnerFault::Blank)),
-    ([SECOND, ""], Way::Plain, None),
-    ([SECOND, ""], Way::New, Some(OwnerFault::Unowned)),
-    ([SECOND, ""], Way::Old, Some(OwnerFault::Unowned)),
-    ([SECOND, ""], Way::Adopt, None),
-    ([SECOND, THIRD], Way::Plain, FOREIGN),
-    ([SECOND, THIRD], Way::New, None),
-    ([SECOND, THIRD], Way::Old, None),
-    ([SECOND, THIRD], Way::Adopt, None),
+/// A database without tables, one of version 2 and one of version 3, and how each is opened.
+static OPENED: [Row; 12] = [
+    (["", "", "", ""], Way::Plain, None),
+    (["", "", "", ""], Way::New, None),
+    (["", "", "", ""], Way::Old, Some(OwnerFault::Blank)),
+    (["", "", "", ""], Way::Adopt, Some(OwnerFault::Blank)),
+    ([SECOND, "", "", ""], Way::Plain, None),
+    ([SECOND, "", "", ""], Way::New, Some(OwnerFault::Unowned)),
+    ([SECOND, "", "", ""], Way::Old, Some(OwnerFault::Unowned)),
+    ([SECOND, "", "", ""], Way::Adopt, None),
+    ([SECOND, THIRD, "", ""], Way::Plain, FOREIGN),
+    ([SECOND, THIRD, "", ""], Way::New, None),
+    ([SECOND, THIRD, "", ""], Way::Old, None),
+    ([SECOND, THIRD, "", ""], Way::Adopt, None),
 ];
 
-/// How a database without tables, one of version 2 and one of version 3 are opened.
 #[test]
 fn each_version_in_each_way(rt: HostRuntime) -> Result<(), Fail> {
-    for (texts, way, fault) in OPENED {
-        assert_eq!(rt;
-            fault_after(rt.alloc(), &texts, way)?,
-            fault,
-            "{texts:?} {way:?}"
-        );
-    }
-    Ok(())
+    open_so(&rt, rt.alloc(), &OPENED)
 }
 
 /// Changes of a database of version 3, and how it is opened then.
-const CHANGED: [(&str, Option<OwnerFault>); 16] = [
+static CHANGED: [Row; 16] = [
     (
-        "UPDATE fact SET bytes = x'0003'",
+        [SECOND, THIRD, "UPDATE fact SET bytes = x'0003'", ""],
+        Way::Old,
         Some(OwnerFault::OtherNode),
     ),
     (
-        "UPDATE fact SET bytes = x'0005'",
+        [SECOND, THIRD, "UPDATE fact SET bytes = x'0005'", ""],
+        Way::Old,
         Some(OwnerFault::OtherNode),
     ),
     (
-        "UPDATE fact SET bytes = x'0105'",
+        [SECOND, THIRD, "UPDATE fact SET bytes = x'0105'", ""],
+        Way::Old,
         Some(OwnerFault::OtherMembers),
     ),
-    ("UPDATE fact SET bytes = x'0104'", FOREIGN),
-    ("UPDATE fact SET bytes = x'0503'", FOREIGN),
-    ("UPDATE fact SET bytes = x'01'", FOREIGN),
-    ("UPDATE fact SET bytes = x'010300'", FOREIGN),
-    ("UPDATE fact SET id = 1", FOREIGN),
-    ("INSERT INTO fact VALUES (1, x'0103')", FOREIGN),
-    ("DELETE FROM fact", FOREIGN),
-    ("UPDATE ballot SET number = 2 WHERE id = 2", FOREIGN),
-    ("INSERT INTO vote VALUES (0, 16, x'0907')", FOREIGN),
-    ("DROP TABLE vote", FOREIGN),
-    ("DROP TABLE fact", Some(OwnerFault::Unowned)),
-    ("CREATE INDEX by_bytes ON fact (bytes)", REFUSED),
-    ("BEGIN", REFUSED),
+    (
+        [SECOND, THIRD, "UPDATE fact SET bytes = x'0104'", ""],
+        Way::Old,
+        FOREIGN,
+    ),
+    (
+        [SECOND, THIRD, "UPDATE fact SET bytes = x'0503'", ""],
+        Way::Old,
+        FOREIGN,
+    ),
+    (
+        [SECOND, THIRD, "UPDATE fact SET bytes = x'01'", ""],
+        Way::Old,
+        FOREIGN,
+    ),
+    (
+        [SECOND, THIRD, "UPDATE fact SET bytes = x'010300'", ""],
+        Way::Old,
+        FOREIGN,
+    ),
+    (
+        [SECOND, THIRD, "UPDATE fact SET id = 1", ""],
+        Way::Old,
+        FOREIGN,
+    ),
+    (
+        [SECOND, THIRD, "INSERT INTO fact VALUES (1, x'0103')", ""],
+        Way::Old,
+        FOREIGN,
+    ),
+    ([SECOND, THIRD, "DELETE FROM fact", ""], Way::Old, FOREIGN),
+    (
+        [
+            SECOND,
+            THIRD,
+            "UPDATE ballot SET number = 2 WHERE id = 2",
+            "",
+        ],
+        Way::Old,
+        FOREIGN,
+    ),
+    (
+        [
+            SECOND,
+            THIRD,
+            "INSERT INTO vote VALUES (0, 16, x'0907')",
+            "",
+        ],
+        Way::Old,
+        FOREIGN,
+    ),
+    ([SECOND, THIRD, "DROP TABLE vote", ""], Way::Old, FOREIGN),
+    (
+        [SECOND, THIRD, "DROP TABLE fact", ""],
+        Way::Old,
+        Some(OwnerFault::Unowned),
+    ),
+    (
+        [SECOND, THIRD, "CREATE INDEX by_bytes ON fact (bytes)", ""],
+        Way::Old,
+        REFUSED,
+    ),
+    ([SECOND, THIRD, "BEGIN", ""], Way::Old, REFUSED),
 ];
 
-/// Each change of a database of version 3, and how it is opened then.
 #[test]
 fn what_an_owner_refuses(rt: HostRuntime) -> Result<(), Fail> {
-    for (text, fault) in CHANGED {
-        let found = fault_after(rt.alloc(), &[SECOND, THIRD, text], Way::Old)?;
-        assert_eq!(rt; found, fault, "{text}");
-    }
-    Ok(())
+    open_so(&rt, rt.alloc(), &CHANGED)
 }
 
-/// What is found of files.
-#[derive(Clone, Copy, Debug, PartialEq, Eq)]
-enum Kind {
-    Blank,
-    Unowned,
-    Owned,
+/// Tells tables that have an owner, and what they hold, from what was there before, by how that is refused.
+#[derive(Drop)]
+struct TellsOwned<'a> {
+    held: &'a str,
+    before: OwnerFault,
 }
 
-/// Records that have an owner hold this.
-fn owned(content: &str, held: &str) -> Result<Kind, Fail> {
+fn is_held(content: &str, held: &str) -> Result<bool, Fail> {
     if content == held {
-        Ok(Kind::Owned)
+        Ok(true)
     } else {
         Err(Fail::new("it holds something else"))
     }
 }
 
-/// Of which kind a database is. One that has an owner holds this.
-fn kind_of(alloc: Global, files: Files<Fused>, held: &str) -> Result<Kind, Fail> {
-    let (content, _) = used_in(alloc, files, Way::Old, ReadsContent)?;
-    match content {
-        Err(Unopened::Fault(OwnerFault::Unowned)) => Ok(Kind::Unowned),
-        Err(Unopened::Fault(OwnerFault::Blank)) => Ok(Kind::Blank),
-        content => owned(answered(content)?.as_str(), held),
-    }
-}
-
-/// The same of what is found of files.
-fn kind_found(
-    alloc: Global,
-    bodies: &Bodies,
-    which: (bool, bool),
-    held: &str,
-) -> Result<Kind, Fail> {
-    kind_of(alloc, found(alloc, bodies, which)?, held)
-}
-
-/// Whether one of this kind, and whether one that has an owner, is among what may be found.
-fn kinds_of(
-    alloc: Global,
-    bodies: &Bodies,
-    before: Kind,
-    held: &str,
-) -> Result<(bool, bool), Fail> {
-    let mut kinds = (false, false);
-    for which in FOUND {
-        if is_again(bodies, which) {
-            continue;
-        }
-        match kind_found(alloc, bodies, which, held)? {
-            Kind::Owned => kinds.1 = true,
-            kind if kind == before => kinds.0 = true,
-            kind => return Err(Fail::new(format_args!("{kind:?}"))),
+impl<'a> TellsKinds for TellsOwned<'a> {
+    fn is_newer(&self, alloc: Global, files: Files<Fused>) -> Result<bool, Fail> {
+        let (content, _) = used_in(alloc, files, Way::Old, ReadsContent)?;
+        match content {
+            Ok(content) => is_held(content.as_str(), self.held),
+            Err(Unopened::Fault(fault)) if fault == self.before => Ok(false),
+            Err(unopened) => Err(failed(unopened)),
         }
     }
-    Ok(kinds)
 }
 
-/// Opens the files: whether that went through, and the files again.
-fn tried(alloc: Global, files: Files<Fused>, way: Way) -> Result<(bool, Files<Fused>), Fail> {
-    let (answer, files) = used_in(alloc, files, way, Opens)?;
-    Ok((answer.is_ok(), files))
-}
+/// The text that makes a database, how it is refused before, in which way it is opened, which of its files stops, what
+/// it holds, and how many stops leave either.
+static STOPS: [(&str, OwnerFault, Way, Stopped, &str, u64); 3] = [
+    // tables that are made for an owner are there whole, or not at all
+    ("", OwnerFault::Blank, Way::New, Stopped::Log, EMPTY, 1),
+    // tables of version 2 are adopted whole, or not at all, and hold the same
+    (
+        SECOND,
+        OwnerFault::Unowned,
+        Way::Adopt,
+        Stopped::Log,
+        HELD,
+        1,
+    ),
+    // the same where the database stops
+    (
+        SECOND,
+        OwnerFault::Unowned,
+        Way::Adopt,
+        Stopped::Database,
+        HELD,
+        0,
+    ),
+];
 
-/// What an open in this way leaves that stops after so many calls, and whether it went through.
-fn stop_at(
-    alloc: Global,
-    bodies: &Bodies,
-    way: Way,
-    stopped: Stopped,
-    calls: u64,
-) -> Result<(bool, Bodies), Fail> {
-    let bytes = (bodies.log.written.as_slice(), bodies.db.written.as_slice());
-    let (is_open, files) = tried(alloc, stopping(alloc, bytes, stopped, calls)?, way)?;
-    Ok((is_open, left_behind(alloc, files)?))
-}
-
-/// Stops at each call in turn: how many stops left what was there alone, and how many left that or
-/// the owner's tables. An open that goes through leaves the owner's alone.
-fn stops(
-    alloc: Global,
-    bodies: &Bodies,
-    way: Way,
-    stopped: Stopped,
-    held: &str,
-) -> Result<(u64, u64), Fail> {
-    let before = kind_found(alloc, bodies, (true, true), held)?;
-    let mut counts = (0u64, 0u64);
-    for calls in 0..300u64 {
-        let (is_open, left) = stop_at(alloc, bodies, way, stopped, calls)?;
-        match (is_open, kinds_of(alloc, &left, before, held)?) {
-            (true, (false, true)) => return Ok(counts),
-            (false, (true, false)) => counts.0 = counts.0.saturating_add(1),
-            (false, (true, true)) => counts.1 = counts.1.saturating_add(1),
-            (_, kinds) => return Err(Fail::new(format_args!("{calls}: {is_open} {kinds:?}"))),
-        }
+#[test]
+fn files_stop_as_owned_tables_are_made(rt: HostRuntime) -> Result<(), Fail> {
+    for (text, before, way, stopped, held, want) in &STOPS {
+        let teller = TellsOwned {
+            held,
+            before: *before,
+        };
+        let bodies = bodies_after(rt.alloc(), text)?;
+        let (none, either) = stops(rt.alloc(), &bodies, *way, *stopped, &teller)?;
+        assert!(rt; none > 3 && either == *want, "{none} {either}");
     }
-    Err(Fail::new("the open never goes through"))
-}
-
-/// What files leave after this text.
-fn bodies_of(alloc: Global, text: &str) -> Result<Bodies, Fail> {
-    let files = stopping(alloc, (&[], &[]), Stopped::Log, u64::MAX)?;
-    left_behind(alloc, files_after(alloc, files, text)?)
-}
-
-/// Tables that are made for an owner are there whole, or not at all.
-#[test]
-fn the_log_stops_as_owned_tables_are_made(rt: HostRuntime) -> Result<(), Fail> {
-    let bodies = bodies_of(rt.alloc(), "")?;
-    let (none, either) = stops(rt.alloc(), &bodies, Way::New, Stopped::Log, EMPTY)?;
-    assert!(rt; none > 3 && either == 1, "{none} {either}");
-    Ok(())
-}
-
-/// Tables of version 2 are adopted whole, or not at all, and hold the same.
-#[test]
-fn the_log_stops_as_tables_are_adopted(rt: HostRuntime) -> Result<(), Fail> {
-    let bodies = bodies_of(rt.alloc(), SECOND)?;
-    let (none, either) = stops(rt.alloc(), &bodies, Way::Adopt, Stopped::Log, HELD)?;
-    assert!(rt; none > 3 && either == 1, "{none} {either}");
-    Ok(())
-}
-
-/// The same where the database stops.
-#[test]
-fn the_database_stops_as_tables_are_adopted(rt: HostRuntime) -> Result<(), Fail> {
-    let bodies = bodies_of(rt.alloc(), SECOND)?;
-    let (none, either) = stops(rt.alloc(), &bodies, Way::Adopt, Stopped::Database, HELD)?;
-    assert!(rt; none > 3 && either == 0, "{none} {either}");
     Ok(())
 }
 
@@ -243,20 +213,29 @@ impl RecordsUse for WrittenContent {
     type Answer = String;
 
     fn use_records<R: Records>(self, alloc: Global, records: &mut R) -> Result<String, Fail> {
-        records.put_tried(Ballot::new(25).ok_or("a ballot")?)?;
+        records.put_tried(ballot(25)?)?;
         records.reopen()?;
         content(alloc, records)
     }
 }
 
-/// Records that have an owner keep what they wrote, and it, over a reopen.
+/// What the tables of version 2 hold after it.
+const WRITTEN: &str = "25 18 1 17 [65]";
+
+/// Whether records that have an owner keep what they wrote, and it, over a reopen.
+fn keep_their_owner(alloc: Global) -> Result<bool, Fail> {
+    let files = found_after(alloc, SECOND)?;
+    let (text, files) = answer_in(alloc, files, Way::Adopt, WrittenContent)?;
+    is_held(text.as_str(), WRITTEN)?;
+    let teller = TellsOwned {
+        held: WRITTEN,
+        before: OwnerFault::Unowned,
+    };
+    teller.is_newer(alloc, files)
+}
+
 #[test]
 fn owned_records_are_reopened(rt: HostRuntime) -> Result<(), Fail> {
-    let bodies = bodies_of(rt.alloc(), SECOND)?;
-    let files = found(rt.alloc(), &bodies, (true, true))?;
-    let (text, files) = answer_in(rt.alloc(), files, Way::Adopt, WrittenContent)?;
-    assert_eq!(rt; text.as_str(), "25 18 1 17 [65]");
-    let kind = kind_of(rt.alloc(), files, "25 18 1 17 [65]")?;
-    assert_eq!(rt; kind, Kind::Owned);
+    assert!(rt; keep_their_owner(rt.alloc())?);
     Ok(())
 }

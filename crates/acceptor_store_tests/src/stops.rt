@@ -2,20 +2,20 @@
 //! files in turn.
 
 use crate::files::{Bodies, FOUND, Fused, Stopped, found, is_again, left_behind, stopping};
-use crate::uses::{ReadsContent, RecordsUse, Way, answer_in, used_in};
+use crate::uses::{ReadsContent, RecordsUse, Way, answer_in, ballot, used_in, value};
 use acceptor::{Records, RecordsFault};
-use ballots::{Ballot, Bytes, Place, Value};
+use ballots::{Ballot, Place, Value};
 use sqlite::Files;
 use std::alloc::Global;
 use std::test::Fail;
 
 /// Channel 1 of UCD Count 7 as a command, and a cut of one minislot.
-const CHANNEL: [u8; 17] = [1, 1, 7, 0, 16, 2, 5, 3, 8, 0, 0, 0, 0, 0, 0, 3, 232];
+static CHANNEL: [u8; 17] = [1, 1, 7, 0, 16, 2, 5, 3, 8, 0, 0, 0, 0, 0, 0, 3, 232];
 
-const CUT: [u8; 20] = [5, 1, 0, 1, 0, 0, 0, 0, 0, 0, 0, 0, 0, 0, 0, 0, 0, 0, 0, 0];
+static CUT: [u8; 20] = [5, 1, 0, 1, 0, 0, 0, 0, 0, 0, 0, 0, 0, 0, 0, 0, 0, 0, 0, 0];
 
 /// What the records hold after none of the writes, after the first, and so on.
-const CONTENTS: [&str; 5] = [
+static CONTENTS: [&str; 5] = [
     "0 0",
     "8 0",
     "8 8",
@@ -33,23 +33,18 @@ struct Writes {
 
 /// How far the writes came: whether the files opened, how many writes were made, and why the next
 /// wasn't.
-#[derive(Clone, Copy, Debug)]
+#[derive(Clone, Copy)]
 struct Reached {
     is_open: bool,
     made: usize,
     fault: Option<RecordsFault>,
 }
 
-fn value_of(alloc: Global, bytes: &[u8]) -> Result<Value, Fail> {
-    let bytes = Bytes::new(Vec::from_slice(alloc, bytes)?);
-    Ok(Value::new(bytes).ok_or("a value")?)
-}
-
 fn first_writes(alloc: Global) -> Result<Writes, Fail> {
     Ok(Writes {
-        ballot: Ballot::new(8).ok_or("a ballot")?,
-        channel: value_of(alloc, &CHANNEL)?,
-        cut: value_of(alloc, &CUT)?,
+        ballot: ballot(8)?,
+        channel: value(alloc, &CHANNEL)?,
+        cut: value(alloc, &CUT)?,
     })
 }
 
@@ -160,7 +155,7 @@ fn all_held(alloc: Global, reached: Reached, bodies: &Bodies) -> Result<(), Fail
         }
         let made = held(alloc, bodies, which)?;
         if !may_leave(reached, made) {
-            return Err(Fail::new(format_args!("{which:?}: {made} of {reached:?}")));
+            return Err(Fail::new(format_args!("{which:?}: {made} of {}", reached.made)));
         }
     }
     Ok(())
@@ -219,15 +214,10 @@ fn is_stopped_everywhere(counts: [u64; 5]) -> bool {
 }
 
 #[test]
-fn the_database_stops(rt: HostRuntime) -> Result<(), Fail> {
-    let counts = stops(rt.alloc(), Stopped::Database)?;
-    assert!(rt; is_stopped_everywhere(counts), "{counts:?}");
-    Ok(())
-}
-
-#[test]
-fn the_log_stops(rt: HostRuntime) -> Result<(), Fail> {
-    let counts = stops(rt.alloc(), Stopped::Log)?;
-    assert!(rt; is_stopped_everywhere(counts), "{counts:?}");
+fn each_file_stops(rt: HostRuntime) -> Result<(), Fail> {
+    for stopped in [Stopped::Database, Stopped::Log] {
+        let counts = stops(rt.alloc(), stopped)?;
+        assert!(rt; is_stopped_everywhere(counts), "{counts:?}");
+    }
     Ok(())
 }

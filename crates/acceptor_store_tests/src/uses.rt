@@ -1,10 +1,14 @@
 //! Records that are opened, used and closed. Few functions know what they stand in: the proof of
 //! one that does is dear.
 
-use crate::files::{Stopped, connected, run, stopping};
+ghost use Rattle.std.specs.Prelude.{IfOk, IsTrue};
+ghost use Rattle.acceptor.specs.Content.{Content};
+ghost use Rattle.acceptor.specs.Found.{Holds};
+
+use crate::files::{Bodies, Fused, Stopped, connected, found, left_behind, run, stopping};
 use acceptor::Records;
-use acceptor_store::{OwnerFault, SqlRecords};
-use ballots::{Ballot, Members, NodeId, Place, Votes};
+use acceptor_store::{OpenFault, OwnerFault, SqlRecords, open_files};
+use ballots::{Ballot, Bytes, Members, NodeId, Place, Value, Votes};
 use sqlite::{Connection, Files};
 use sqlite_disk::Disk;
 use std::alloc::Global;
@@ -21,7 +25,7 @@ pub trait RecordsUse: Drop {
 }
 
 /// How the records of node 1 of three are opened.
-#[derive(Clone, Copy, Debug, PartialEq, Eq)]
+#[derive(Clone, Copy, PartialEq, Eq)]
 pub enum Way {
     /// By `open`.
     Plain,
@@ -34,7 +38,7 @@ pub enum Way {
 }
 
 /// Why records aren't open.
-#[derive(Clone, Copy, Debug)]
+#[derive(Clone, Copy)]
 pub enum Unopened {
     /// There is no connection to their files.
     Unlinked,
@@ -90,16 +94,54 @@ pub fn used_over<S: OpensAnew, U: RecordsUse>(
     }
 }
 
-/// Runs these texts over the connection, opens records over it, uses them, and closes them.
-fn used_behind<S: OpensAnew, U: RecordsUse>(
+/// What is done with a connection, whatever its store is.
+pub trait StoreUse: Drop {
+    /// What comes of it.
+    type Answer: Drop;
+
+    /// Uses the connection, and gives its store back.
+    fn use_store<S: OpensAnew>(
+        self,
+        alloc: Global,
+        conn: Connection<S>,
+    ) -> Result<(Self::Answer, S), Fail>;
+}
+
+/// Uses a connection to the files, where there is one. The files come back. All that is done with a
+/// connection goes through here: the proof of this call is dear.
+pub fn used_files<D: Disk + Drop, U: StoreUse>(
     alloc: Global,
-    mut conn: Connection<S>,
-    texts: &[&str],
+    files: Files<D>,
+    user: U,
+) -> Result<(Option<U::Answer>, Files<D>), Fail> {
+    match connected(alloc, files) {
+        Ok(conn) => {
+            let (answer, store) = user.use_store(alloc, conn)?;
+            Ok((Some(answer), store.close()))
+        }
+        Err(files) => Ok((None, files)),
+    }
+}
+
+/// Runs these texts over a connection, opens records over it, uses them, and closes them.
+#[derive(Drop)]
+struct OpensAfter<'a, U: RecordsUse> {
+    texts: &'a [&'a str],
     way: Way,
     user: U,
-) -> Result<Used<U::Answer, S>, Fail> {
-    run(&mut conn, texts)?;
-    used_over(alloc, conn, way, user)
+}
+
+impl<'a, U: RecordsUse> StoreUse for OpensAfter<'a, U> {
+    type Answer = Result<U::Answer, Unopened>;
+
+    fn use_store<S: OpensAnew>(
+        self,
+        alloc: Global,
+        mut conn: Connection<S>,
+    ) -> Result<Used<U::Answer, S>, Fail> {
+        run(&mut conn, self.texts)?;
+        used_over(alloc, conn, self.way, self.user)
+    }
 }
 
 /// Runs these texts in the files, opens records in them, uses them, and closes them. The files come
@@ -111,12 +153,49 @@ fn used_after<D: Disk + Drop, U: RecordsUse>(
     way: Way,
     user: U,
 ) -> Result<Used<U::Answer, Files<D>>, Fail> {
-    let conn = match connected(alloc, files) {
-        Ok(conn) => conn,
-        Err(files) => return Ok((Err(Unopened::Unlinked), files)),
-    };
-    let (answer, store) = used_behind(alloc, conn, texts, way, user)?;
-    Ok((answer, store.close()))
+    let (answer, files) = used_files(alloc, files, OpensAfter { texts, way, user })?;
+    Ok((answer.unwrap_or(Err(Unopened::Unlinked)), files))
+}
+
+/// Runs a text over a connection.
+#[derive(Drop)]
+struct Runs<'a>(&'a str);
+
+impl<'a> StoreUse for Runs<'a> {
+    type Answer = ();
+
+    fn use_store<S: OpensAnew>(
+        self,
+        _alloc: Global,
+        mut conn: Connection<S>,
+    ) -> Result<((), S), Fail> {
+        run(&mut conn, &[self.0])?;
+        Ok(((), conn.into_store()))
+    }
+}
+
+/// The files after this text.
+fn files_after<D: Disk + Drop>(
+    alloc: Global,
+    files: Files<D>,
+    text: &str,
+) -> Result<Files<D>, Fail> {
+    match used_files(alloc, files, Runs(text))? {
+        (Some(()), files) => Ok(files),
+        (None, _) => Err(Fail::new("no connection")),
+    }
+}
+
+/// What files leave after this text.
+pub fn bodies_after(alloc: Global, text: &str) -> Result<Bodies, Fail> {
+    let files = stopping(alloc, (&[], &[]), Stopped::Log, u64::MAX)?;
+    left_behind(alloc, files_after(alloc, files, text)?)
+}
+
+/// The files after this text, as they were written.
+pub fn found_after(alloc: Global, text: &str) -> Result<Files<Fused>, Fail> {
+    let bodies = bodies_after(alloc, text)?;
+    Ok(found(alloc, &bodies, (true, true))?)
 }
 
 /// Opens records in the files, uses them, and closes them. The files come back.
@@ -179,6 +258,57 @@ pub fn fault_after(alloc: Global, texts: &[&str], way: Way) -> Result<Option<Own
     }
 }
 
+/// What is done with records of one's own, which hold something where they are honest.
+pub trait OwnedUse: Drop {
+    /// What comes of it.
+    type Answer: Drop;
+
+    /// Uses the records up.
+    fn use_owned<R: Records + Drop>(self, alloc: Global, records: R) -> Result<Self::Answer, Fail>
+        requires certain { IsTrue (R.is_honest records) → ∥ ((c : Content) × Holds (R.may_find records) c) ∥₁ };
+}
+
+/// Uses the records up, where they are open. It knows no store: at a store over files the proof is
+/// dear.
+fn owned<S: OpensAnew, U: OwnedUse>(
+    alloc: Global,
+    records: Result<SqlRecords<S>, OpenFault>,
+    user: U,
+) -> Result<U::Answer, Fail>
+    requires certain { IfOk records (λ r. IsTrue (⟦<SqlRecords<S> as Records>⟧.is_honest r)
+        → ∥ ((c : Content) × Holds (⟦<SqlRecords<S> as Records>⟧.may_find r) c) ∥₁) }
+{
+    match records {
+        Ok(records) => user.use_owned(alloc, records),
+        Err(fault) => Err(Fail::new(format_args!("it doesn't open: {fault}"))),
+    }
+}
+
+/// Uses the records up that `open_files` opens in these files.
+pub fn owned_in<D: Disk + Drop, U: OwnedUse>(
+    alloc: Global,
+    files: Files<D>,
+    user: U,
+) -> Result<U::Answer, Fail> {
+    owned(alloc, open_files(alloc, files), user)
+}
+
+/// The value of these bytes.
+pub fn value(alloc: Global, bytes: &[u8]) -> Result<Value, Fail> {
+    let bytes = Vec::from_slice(alloc, bytes)?;
+    Ok(Value::new(Bytes::new(bytes)).ok_or("a value")?)
+}
+
+/// The place of this number.
+pub fn place(number: u64) -> Result<Place, Fail> {
+    Ok(Place::new(number).ok_or("a place")?)
+}
+
+/// The ballot of this number.
+pub fn ballot(number: u64) -> Result<Ballot, Fail> {
+    Ok(Ballot::new(number).ok_or("a ballot")?)
+}
+
 pub fn number(ballot: Option<Ballot>) -> u64 {
     match ballot {
         Some(ballot) => ballot.number(),
@@ -203,8 +333,7 @@ fn with_votes(alloc: Global, mut text: String, votes: &Votes) -> Result<String, 
 pub fn content<R: Records>(alloc: Global, records: &mut R) -> Result<String, Fail> {
     let tried = number(records.tried()?);
     let promised = number(records.promised()?);
-    let first = Place::new(1).ok_or("a place")?;
-    let votes = records.votes_from(first)?;
+    let votes = records.votes_from(place(1)?)?;
     let text = format!(in alloc; "{tried} {promised}")?;
     with_votes(alloc, text, &votes)
 }

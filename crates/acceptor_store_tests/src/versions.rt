@@ -1,15 +1,16 @@
 //! Files of version 1 that are opened, also where a file stops, and learned values that are kept.
 
-use crate::files::{
-    Bodies, FOUND, Fused, Stopped, files_after, found, is_again, left_behind, linked, stopping,
+use crate::files::{Fused, Stopped};
+use crate::kinds::{TellsKinds, stops};
+use crate::uses::{
+    RecordsUse, StoreUse, Way, answer_in, answered, bodies_after, content, found_after, place,
+    used_files, used_over, value,
 };
-use crate::uses::{Opens, RecordsUse, Way, answer_in, answered, content, used_in, used_over};
 use acceptor::Records;
 use acceptor_store_parts::{Version, version_of};
-use ballots::{Bytes, Place, Value};
+use ballots::{Place, Value};
 use sqlite::{Alter, Connection, Files};
-use sqlite_disk::Disk;
-use std::alloc::Global;
+use std::alloc::{AllocError, Global};
 use std::test::Fail;
 use store_anew::OpensAnew;
 
@@ -20,18 +21,6 @@ const FIRST: &str =
 
 /// What they hold, of tables of either version.
 const HELD: &str = "16 18 1 17 [65]";
-
-/// What the files with these tables leave.
-fn first_files(alloc: Global) -> Result<Bodies, Fail> {
-    let files = stopping(alloc, (&[], &[]), Stopped::Log, u64::MAX)?;
-    left_behind(alloc, files_after(alloc, files, FIRST)?)
-}
-
-/// The files with these tables, as they were written.
-fn first_found(alloc: Global) -> Result<Files<Fused>, Fail> {
-    let bodies = first_files(alloc)?;
-    Ok(found(alloc, &bodies, (true, true))?)
-}
 
 /// Whether the numbers have the row that tells version 2.
 fn has_second<S: Alter>(conn: &mut Connection<S>) -> Result<bool, Fail> {
@@ -55,21 +44,32 @@ fn push_learned(alloc: Global, text: &mut String, place: Place, value: &Value) -
     Ok(text.push_str(row.as_str())?)
 }
 
-/// Place and bytes of each learned value from the place on.
-fn learned_from<R: Records>(alloc: Global, records: &mut R, place: u64) -> Result<String, Fail> {
+/// Place and bytes of each of these learned values.
+fn learned_text(alloc: Global, rows: Vec<(Place, Value)>) -> Result<String, Fail> {
     let mut text = String::new(alloc);
-    for (place, value) in records.learned_from(Place::new(place).ok_or("a place")?)? {
+    for (place, value) in rows {
         push_learned(alloc, &mut text, place, &value)?;
     }
     Ok(text)
 }
 
-/// The bytes of the learned value of the place.
-fn learned_row<R: Records>(alloc: Global, records: &mut R, place: u64) -> Result<String, Fail> {
-    match records.learned_row(Place::new(place).ok_or("a place")?)? {
-        Some(value) => Ok(format!(in alloc; "{:?}", value.as_slice())?),
-        None => Ok(format!(in alloc; "none")?),
+/// Place and bytes of each learned value from the place on.
+fn learned_from<R: Records>(alloc: Global, records: &mut R, number: u64) -> Result<String, Fail> {
+    learned_text(alloc, records.learned_from(place(number)?)?)
+}
+
+/// The bytes of a learned value.
+fn row_text(alloc: Global, value: Option<&Value>) -> Result<String, AllocError> {
+    match value {
+        Some(value) => format!(in alloc; "{:?}", value.as_slice()),
+        None => format!(in alloc; "none"),
     }
+}
+
+/// The bytes of the learned value of the place.
+fn learned_row<R: Records>(alloc: Global, records: &mut R, number: u64) -> Result<String, Fail> {
+    let value = records.learned_row(place(number)?)?;
+    Ok(row_text(alloc, value.as_ref())?)
 }
 
 /// Whether the records hold what the tables of version 1 held.
@@ -106,62 +106,20 @@ fn holds_the_first<R: Records>(alloc: Global, records: &mut R) -> Result<bool, F
     )
 }
 
-/// Whether records hold what the tables of version 1 held, and nothing learned.
-#[derive(Drop)]
-struct HoldsTheFirst;
-
-impl RecordsUse for HoldsTheFirst {
-    type Answer = bool;
-
-    fn use_records<R: Records>(self, alloc: Global, records: &mut R) -> Result<bool, Fail> {
-        holds_the_first(alloc, records)
-    }
-}
-
-/// Opens the records over the connection, and tells of which version its tables were; with the
-/// store again. Whatever that was, they hold the same.
-fn raised<S: OpensAnew>(alloc: Global, mut conn: Connection<S>) -> Result<(Version, S), Fail> {
-    let version = version(alloc, &mut conn)?;
-    let (is_same, store) = used_over(alloc, conn, Way::Plain, HoldsTheFirst)?;
-    if answered(is_same)? {
-        Ok((version, store))
-    } else {
-        Err(Fail::new("it holds something else"))
-    }
-}
-
-/// The same of records in files, with the files again.
-fn reopened<D: Disk + Drop>(alloc: Global, files: Files<D>) -> Result<(Version, Files<D>), Fail> {
-    let (version, store) = raised(alloc, linked(alloc, files)?)?;
-    Ok((version, store.close()))
-}
-
-/// A database of version 1 holds the same once it was opened, and nothing learned, in tables of
-/// version 2.
-#[test]
-fn version_one_is_raised(rt: HostRuntime) -> Result<(), Fail> {
-    let (first, files) = reopened(rt.alloc(), first_found(rt.alloc())?)?;
-    assert_eq!(rt; first, Version::First);
-    let (second, _) = reopened(rt.alloc(), files)?;
-    assert_eq!(rt; second, Version::Second);
-    Ok(())
-}
-
 fn put_learned<R: Records>(
     alloc: Global,
     records: &mut R,
-    place: u64,
+    place: Place,
     byte: u8,
 ) -> Result<(), Fail> {
-    let bytes = Bytes::new(Vec::from_slice(alloc, &[byte])?);
-    let value = Value::new(bytes).ok_or("a value")?;
-    Ok(records.put_learned(Place::new(place).ok_or("a place")?, &value)?)
+    let value = value(alloc, &[byte])?;
+    Ok(records.put_learned(place, &value)?)
 }
 
 /// Writes learned values at places 3 and 1, and reopens the records.
 fn learn_two<R: Records>(alloc: Global, records: &mut R) -> Result<(), Fail> {
-    put_learned(alloc, records, 3, 51)?;
-    put_learned(alloc, records, 1, 49)?;
+    put_learned(alloc, records, place(3)?, 51)?;
+    put_learned(alloc, records, place(1)?, 49)?;
     Ok(records.reopen()?)
 }
 
@@ -180,148 +138,128 @@ fn holds_learned<R: Records>(alloc: Global, records: &mut R) -> Result<bool, Fai
 }
 
 /// Whether records keep learned values as they are reopened.
-#[derive(Drop)]
-struct KeepsLearned;
+fn keeps_learned<R: Records>(alloc: Global, records: &mut R) -> Result<bool, Fail> {
+    learn_two(alloc, records)?;
+    holds_learned(alloc, records)
+}
 
-impl RecordsUse for KeepsLearned {
+/// What records have to hold.
+#[derive(Clone, Copy)]
+enum Holding {
+    /// What the tables of version 1 held, and nothing learned.
+    TheFirst,
+    /// Learned values that are written first, and are kept as they are reopened.
+    Kept,
+    /// The same learned values, unwritten.
+    Learned,
+}
+
+impl RecordsUse for Holding {
     type Answer = bool;
 
     fn use_records<R: Records>(self, alloc: Global, records: &mut R) -> Result<bool, Fail> {
-        learn_two(alloc, records)?;
-        holds_learned(alloc, records)
+        match self {
+            Holding::TheFirst => holds_the_first(alloc, records),
+            Holding::Kept => keeps_learned(alloc, records),
+            Holding::Learned => holds_learned(alloc, records),
+        }
     }
 }
 
-/// Whether records hold these learned values.
+/// Opens the records over the connection, and tells of which version its tables were; with the
+/// store again. Whatever that was, they hold the same.
+fn raised<S: OpensAnew>(alloc: Global, mut conn: Connection<S>) -> Result<(Version, S), Fail> {
+    let version = version(alloc, &mut conn)?;
+    let (is_same, store) = used_over(alloc, conn, Way::Plain, Holding::TheFirst)?;
+    if answered(is_same)? {
+        Ok((version, store))
+    } else {
+        Err(Fail::new("it holds something else"))
+    }
+}
+
+/// Records that are opened as `raised` opens them.
 #[derive(Drop)]
-struct HoldsLearned;
+struct Raises;
 
-impl RecordsUse for HoldsLearned {
-    type Answer = bool;
+impl StoreUse for Raises {
+    type Answer = Version;
 
-    fn use_records<R: Records>(self, alloc: Global, records: &mut R) -> Result<bool, Fail> {
-        holds_learned(alloc, records)
+    fn use_store<S: OpensAnew>(
+        self,
+        alloc: Global,
+        conn: Connection<S>,
+    ) -> Result<(Version, S), Fail> {
+        raised(alloc, conn)
     }
 }
 
-/// What comes of the use of the records in the files. The files come back.
-fn used<U: RecordsUse>(
+/// The same of records in files, with the files again.
+fn reopened(alloc: Global, files: Files<Fused>) -> Result<(Version, Files<Fused>), Fail> {
+    match used_files(alloc, files, Raises)? {
+        (Some(version), files) => Ok((version, files)),
+        (None, _) => Err(Fail::new("no connection")),
+    }
+}
+
+/// A database of version 1 holds the same once it was opened, and nothing learned, in tables of
+/// version 2.
+#[test]
+fn version_one_is_raised(rt: HostRuntime) -> Result<(), Fail> {
+    let (first, files) = reopened(rt.alloc(), found_after(rt.alloc(), FIRST)?)?;
+    assert_eq!(rt; first, Version::First);
+    let (second, _) = reopened(rt.alloc(), files)?;
+    assert_eq!(rt; second, Version::Second);
+    Ok(())
+}
+
+/// Whether the records in the files hold this. The files come back.
+fn holds_in(
     alloc: Global,
     files: Files<Fused>,
-    user: U,
-) -> Result<(U::Answer, Files<Fused>), Fail> {
-    answer_in(alloc, files, Way::Plain, user)
+    holding: Holding,
+) -> Result<(bool, Files<Fused>), Fail> {
+    answer_in(alloc, files, Way::Plain, holding)
 }
 
 /// Learned values are kept as the records are reopened, and as their files are opened anew.
 #[test]
 fn learned_values_are_kept(rt: HostRuntime) -> Result<(), Fail> {
-    let (is_kept, files) = used(rt.alloc(), first_found(rt.alloc())?, KeepsLearned)?;
+    let (is_kept, files) = holds_in(rt.alloc(), found_after(rt.alloc(), FIRST)?, Holding::Kept)?;
     assert!(rt; is_kept);
-    let (is_still_there, _) = used(rt.alloc(), files, HoldsLearned)?;
+    let (is_still_there, _) = holds_in(rt.alloc(), files, Holding::Learned)?;
     assert!(rt; is_still_there);
     Ok(())
 }
 
-/// Opens the files: whether that went through, and the files again.
-fn tried(alloc: Global, files: Files<Fused>) -> Result<(bool, Files<Fused>), Fail> {
-    let (answer, files) = used_in(alloc, files, Way::Plain, Opens)?;
-    Ok((answer.is_ok(), files))
-}
+/// Tells tables of version 2 from those of version 1. Whatever they are of, they hold the same.
+#[derive(Drop)]
+struct TellsVersions;
 
-/// Opens the files, one of which stops after so many calls: whether that went through, and what the
-/// files held then.
-fn opened_until(
-    alloc: Global,
-    bodies: &Bodies,
-    stopped: Stopped,
-    calls: u64,
-) -> Result<(bool, Bodies), Fail> {
-    let bytes = (bodies.log.written.as_slice(), bodies.db.written.as_slice());
-    let (is_open, files) = tried(alloc, stopping(alloc, bytes, stopped, calls)?)?;
-    Ok((is_open, left_behind(alloc, files)?))
-}
-
-/// Which version these files are of. Whatever that is, they hold the same.
-fn found_of(alloc: Global, bodies: &Bodies, which: (bool, bool)) -> Result<Version, Fail> {
-    let (version, _) = reopened(alloc, found(alloc, bodies, which)?)?;
-    Ok(version)
-}
-
-/// Whether version 1, and whether version 2, is among what may be found of the files.
-fn versions_of(alloc: Global, bodies: &Bodies) -> Result<(bool, bool), Fail> {
-    let mut found = (false, false);
-    for which in FOUND {
-        if is_again(bodies, which) {
-            continue;
-        }
-        match found_of(alloc, bodies, which)? {
-            Version::First => found.0 = true,
-            Version::Second => found.1 = true,
-            Version::Third => return Err(Fail::new("it has an owner")),
+impl TellsKinds for TellsVersions {
+    fn is_newer(&self, alloc: Global, files: Files<Fused>) -> Result<bool, Fail> {
+        match reopened(alloc, files)? {
+            (Version::First, _) => Ok(false),
+            (Version::Second, _) => Ok(true),
+            (Version::Third, _) => Err(Fail::new("it has an owner")),
         }
     }
-    Ok(found)
 }
 
-/// What an open leaves.
-#[derive(Clone, Copy, Debug)]
-enum Leaves {
-    /// It stopped, and version 1 alone is left.
-    First,
-    /// It stopped, and version 1 or version 2 is left.
-    Either,
-    /// It went through, and version 2 alone is left.
-    Second,
-}
+/// Which file stops, and how many stops leave either version.
+const STOPS: [(Stopped, u64); 2] = [
+    // the database alone holds version 1 until the log is copied into it, which is after the open
+    (Stopped::Database, 0),
+    // the stop at the sync of the log leaves both
+    (Stopped::Log, 1),
+];
 
-fn left_by(is_open: bool, versions: (bool, bool)) -> Option<Leaves> {
-    match (is_open, versions) {
-        (true, (false, true)) => Some(Leaves::Second),
-        (false, (true, false)) => Some(Leaves::First),
-        (false, (true, true)) => Some(Leaves::Either),
-        _ => None,
-    }
-}
-
-/// What an open leaves that stops after so many calls.
-fn stop_at(alloc: Global, bodies: &Bodies, stopped: Stopped, calls: u64) -> Result<Leaves, Fail> {
-    let (is_open, left) = opened_until(alloc, bodies, stopped, calls)?;
-    let versions = versions_of(alloc, &left)?;
-    match left_by(is_open, versions) {
-        Some(leaves) => Ok(leaves),
-        None => Err(Fail::new(format_args!("{calls}: {is_open} {versions:?}"))),
-    }
-}
-
-/// How many stops left version 1 alone, and how many left either. An open that goes through leaves
-/// version 2 alone.
-fn stops(alloc: Global, stopped: Stopped) -> Result<(u64, u64), Fail> {
-    let bodies = first_files(alloc)?;
-    let mut first = 0u64;
-    let mut either = 0u64;
-    for calls in 0..200u64 {
-        match stop_at(alloc, &bodies, stopped, calls)? {
-            Leaves::First => first = first.saturating_add(1),
-            Leaves::Either => either = either.saturating_add(1),
-            Leaves::Second => return Ok((first, either)),
-        }
-    }
-    Err(Fail::new("the open never goes through"))
-}
-
-/// The database alone holds version 1 until the log is copied into it, which is after the open.
 #[test]
-fn the_database_stops_as_it_is_raised(rt: HostRuntime) -> Result<(), Fail> {
-    let (first, either) = stops(rt.alloc(), Stopped::Database)?;
-    assert!(rt; first > 3 && either == 0, "{first} {either}");
-    Ok(())
-}
-
-/// The stop at the sync of the log leaves both.
-#[test]
-fn the_log_stops_as_it_is_raised(rt: HostRuntime) -> Result<(), Fail> {
-    let (first, either) = stops(rt.alloc(), Stopped::Log)?;
-    assert!(rt; first > 3 && either == 1, "{first} {either}");
+fn files_stop_as_they_are_raised(rt: HostRuntime) -> Result<(), Fail> {
+    let bodies = bodies_after(rt.alloc(), FIRST)?;
+    for (stopped, want) in STOPS {
+        let (first, either) = stops(rt.alloc(), &bodies, Way::Plain, stopped, &TellsVersions)?;
+        assert!(rt; first > 3 && either == want, "{first} {either}");
+    }
     Ok(())
 }

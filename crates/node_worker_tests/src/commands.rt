@@ -302,18 +302,20 @@ fn prints(alloc: Global, words: &[&str], part: &str) -> Result<bool, Fail> {
     Ok(std::str::from_utf8(output.as_slice())?.contains(part))
 }
 
+/// Words, and a part of what they print.
+static PARTS: [(&[&str], &str); 4] = [
+    (&["--version"], "upsched 0.1.0\n"),
+    (
+        &["run", "--help"],
+        "on standard error; what is printed stays the same",
+    ),
+    (&["--help"], "docs/formats.md"),
+    (&["--help"], "docs/node.md"),
+];
+
 #[test]
 fn help_and_version(rt: HostRuntime) -> Result<(), Fail> {
-    let verbose = ["run", "--help"];
-    for (words, part) in [
-        (["--version"].as_slice(), "upsched 0.1.0\n"),
-        (
-            verbose.as_slice(),
-            "on standard error; what is printed stays the same",
-        ),
-        (["--help"].as_slice(), "docs/formats.md"),
-        (["--help"].as_slice(), "docs/node.md"),
-    ] {
+    for (words, part) in &PARTS {
         assert!(rt; prints(rt.alloc(), words, part)?, "{part}");
     }
     Ok(())

@@ -94,6 +94,19 @@ fn is_own(record: &Record) -> bool {
     }
 }
 
+// A modem that wants to send, and why it may not.
+static REFUSED: [(usize, Answer); 2] = [
+    (0, Answer::WantRefused(WantFault::NotMine)),
+    (1, Answer::Refused(EventRefusal::NoModem)),
+];
+
+// The plant refuses so.
+fn are_refused<N: Node>(rt: &impl Abort, plant: &mut Plant<N>) {
+    for (modem, want) in &REFUSED {
+        assert_eq!(rt; plant.modem_step(&Event::Want(*modem, 1, 1, 5)), *want);
+    }
+}
+
 // What comes back of five nodes and a modem.
 fn five_come_back<N: Node + Send, R: Threads + Wait + Clock + Sync + Abort>(
     rt: &R,
@@ -109,12 +122,7 @@ fn five_come_back<N: Node + Send, R: Threads + Wait + Clock + Sync + Abort>(
     assert_eq!(rt; points.passed(), [5, 5, 5]);
     assert!(rt; plant.records().iter().all(is_own));
     assert_eq!(rt; audit(kepts.as_slice(), plant.records()), Ok(()));
-    for (modem, want) in [
-        (0, Answer::WantRefused(WantFault::NotMine)),
-        (1, Answer::Refused(EventRefusal::NoModem)),
-    ] {
-        assert_eq!(rt; plant.modem_step(&Event::Want(modem, 1, 1, 5)), want);
-    }
+    are_refused(rt, &mut plant);
     Ok(())
 }
 

@@ -149,7 +149,7 @@ fn released(records: &[Record]) -> usize {
 }
 
 /// How many turns each node has, how many of them learn the channel and the cut, and how many outputs are released.
-const ROWS: [(u64, usize, usize); 2] = [(1, 0, 0), (60, 3, 2)];
+static ROWS: [(u64, usize, usize); 2] = [(1, 0, 0), (60, 3, 2)];
 
 // How many of three nodes have learned the channel and the cut after so many turns each, and how
 // many outputs they released.
@@ -167,14 +167,20 @@ fn learned_and_released<N: Node, C: Carrier>(
     Ok((taught(kepts.as_slice()), released(plant.records())))
 }
 
+// The same of plain nodes.
+fn learned_by_plain_nodes(alloc: Global, turns: u64) -> Result<(usize, usize), Fail> {
+    let carriers = three_carriers(alloc, turns)?;
+    let nodes = plain_nodes(alloc, Members::Three)?;
+    learned_and_released(alloc, nodes, carriers, turns)
+}
+
 #[test]
 fn a_channel_and_a_cut_are_learned(rt: HostRuntime) -> Result<(), Fail> {
-    for (turns, nodes, outputs) in ROWS {
-        let carriers = three_carriers(rt.alloc(), turns)?;
-        let three = plain_nodes(rt.alloc(), Members::Three)?;
-        let (taught, released) = learned_and_released(rt.alloc(), three, carriers, turns)?;
-        assert_eq!(rt; taught, nodes);
-        assert_eq!(rt; released, outputs);
+    for (turns, nodes, outputs) in &ROWS {
+        assert_eq!(rt;
+            learned_by_plain_nodes(rt.alloc(), *turns)?,
+            (*nodes, *outputs)
+        );
     }
     Ok(())
 }
@@ -205,7 +211,7 @@ fn a_plan_is_proposed(rt: HostRuntime) -> Result<(), Fail> {
 }
 
 /// How many turns each node has on an empty plan, whether `live` is to log more, and how many lines it logs.
-const LOGGED: [(u32, bool, usize); 3] = [(0, false, 0), (0, true, 4), (1, true, 3)];
+static LOGGED: [(u32, bool, usize); 3] = [(0, false, 0), (0, true, 4), (1, true, 3)];
 
 // How `live` on an empty plan ends.
 fn status_of<R: Log, T: Threads + Wait + Clock + Sync + AllocGlobal>(
@@ -241,19 +247,18 @@ fn is_told(lines: &[String]) -> bool {
 }
 
 #[test]
-fn nothing_to_audit_is_told(rt: HostRuntime) -> Result<(), Fail> {
-    for (turns, verbose, count) in LOGGED {
+fn nothing_to_audit_is_told(rt: HostRuntime) {
+    for (turns, verbose, count) in &LOGGED {
         let logged = Logged::new(&rt, Level::Info, Memory::new(rt.alloc()));
         let words = LiveWords {
             plan: "plan.toml",
-            turns,
-            verbose,
+            turns: *turns,
+            verbose: *verbose,
         };
         prints_verdict(&logged, &rt, &words);
         let (_, sink) = logged.into_parts();
         let lines = sink.into_lines();
-        assert_eq!(rt; lines.len(), count);
-        assert_eq!(rt; is_told(lines.as_slice()), turns == 0 && verbose);
+        assert_eq!(rt; lines.len(), *count);
+        assert_eq!(rt; is_told(lines.as_slice()), *turns == 0 && *verbose);
     }
-    Ok(())
 }

@@ -170,7 +170,7 @@ fn plainly_right(
 }
 
 /// The further nodes, how much each node may do, and what is done.
-const ROWS: [(Members, usize, &[Act]); 8] = [
+static ROWS: [(Members, usize, &[Act]); 8] = [
     // a letter is recorded after it was sent
     (
         Members::Three,
@@ -248,8 +248,11 @@ const ROWS: [(Members, usize, &[Act]); 8] = [
 
 #[test]
 fn records_and_audits(rt: HostRuntime) -> Result<(), Fail> {
-    for (others, quota, acts) in ROWS {
-        assert_eq!(rt; plainly_right(rt.alloc(), others, quota, acts)?, acts.len());
+    for (others, quota, acts) in &ROWS {
+        assert_eq!(rt;
+            plainly_right(rt.alloc(), *others, *quota, acts)?,
+            acts.len()
+        );
     }
     Ok(())
 }

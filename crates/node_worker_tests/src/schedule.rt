@@ -76,7 +76,7 @@ pub const CHANNEL: &[u8] = &[1, 1, 7, 0, 16, 2, 5, 3, 8, 0, 0, 0, 0, 0, 0, 3, 23
 pub const CUT: &[u8] = &[5, 1, 0, 1, 0, 0, 0, 0, 0, 0, 0, 0, 0, 0, 0, 0, 0, 0, 0, 0];
 
 /// Nodes 0 and 1 agree on a channel and a cut, and release two outputs each.
-const ACTS: [Act; 21] = [
+static ACTS: [Act; 21] = [
     Act::Lead,
     Act::Deliver(0),
     Act::Deliver(1),
@@ -106,8 +106,8 @@ fn plant_after<N: Node>(alloc: Global, nodes: Vec<N>) -> Result<Option<Plant<N>>
 {
     let mut kepts = keep_all(alloc, nodes, 16)?;
     let mut plant = Plant::new(alloc, Members::Three, new_modems(alloc, &[50])?, 48)?;
-    for act in ACTS {
-        if is_done(alloc, &mut kepts, &mut plant, act) != Some(true) {
+    for act in &ACTS {
+        if is_done(alloc, &mut kepts, &mut plant, *act) != Some(true) {
             return Ok(None);
         }
     }
@@ -134,7 +134,7 @@ fn answer<N: Node>(plant: &mut Plant<N>, slot: Slot, asked: Asked) -> Answer {
 }
 
 /// It hears of the channel and the cut, and has nothing to send; and there are four outputs.
-const ANSWERS: [(Asked, Answer); 5] = [
+static ANSWERS: [(Asked, Answer); 5] = [
     (Asked::Hear(0), Answer::Heard(Heard::Taken)),
     (Asked::Hear(1), Answer::Heard(Heard::Taken)),
     (Asked::Tick, Answer::Ticked(None)),
@@ -148,8 +148,8 @@ fn hears<N: Node>(rt: &impl Abort, alloc: Global, nodes: Vec<N>) -> Result<(), F
 {
     let mut plant = plant_after(alloc, nodes)?.ok_or("a plant")?;
     let slot = Slot::new(1000).ok_or("slot")?;
-    for (asked, want) in ANSWERS {
-        assert_eq!(rt; answer(&mut plant, slot, asked), want);
+    for (asked, want) in &ANSWERS {
+        assert_eq!(rt; answer(&mut plant, slot, *asked), *want);
     }
     Ok(())
 }

@@ -109,25 +109,28 @@ fn answers_so<N: Node>(
     Ok(is_wanted && world.letters().len() == 23 && world.outputs().len() == 4)
 }
 
-/// Whether a world's run with these events between answers as wanted.
+/// The same of a world of its own.
 fn goes_on<N: Node>(
     mut world: World<N>,
-    alloc: Global,
-    early: Between,
-    late: Between,
+    events: &[Event],
+    answers: &[Answer],
 ) -> Result<bool, Fail> {
-    let events = events(alloc, early, late)?;
-    let answers = wanted(alloc, early, late)?;
-    answers_so(&mut world, events.as_slice(), answers.as_slice())
+    answers_so(&mut world, events, answers)
 }
 
 /// Whose records fail, and what is put between.
 type Run = (Faulty, Between, Between);
 
-/// The same of the opening world of a run.
+/// Whether the opening world of a run, with these events between, answers as wanted.
 fn run_goes_on(alloc: Global, run: Run) -> Result<bool, Fail> {
     let (faulty, early, late) = run;
-    goes_on(opening(alloc, faulty)?, alloc, early, late)
+    let events = events(alloc, early, late)?;
+    let answers = wanted(alloc, early, late)?;
+    goes_on(
+        opening(alloc, faulty)?,
+        events.as_slice(),
+        answers.as_slice(),
+    )
 }
 
 // Of the calls on node 1's records a Prepare makes three and an Accept three, of which the last one writes. The Voted
@@ -205,7 +208,7 @@ const BROKEN_ROW: Between = (
     ],
 );
 
-const RUNS: [Run; 8] = [
+static RUNS: [Run; 8] = [
     (
         (1, Failure::Refused, FIRST_VOTE, FIRST_VOTE),
         NOTHING,
@@ -242,8 +245,8 @@ const RUNS: [Run; 8] = [
 
 #[test]
 fn runs_go_on(rt: HostRuntime) -> Result<(), Fail> {
-    for run in RUNS {
-        assert!(rt; run_goes_on(rt.alloc(), run)?, "{:?}", run.0);
+    for run in &RUNS {
+        assert!(rt; run_goes_on(rt.alloc(), *run)?, "{:?}", run.0);
     }
     Ok(())
 }

@@ -10,7 +10,7 @@ use std::test::Fail;
 type Fields = (char, u8, u8, u64, u64, usize);
 
 /// A letter of each kind, by its digits.
-const SAMPLES: [(&str, Fields); 6] = [
+static SAMPLES: [(&str, Fields); 6] = [
     (
         "01010200000000000000090000000000000001",
         ('p', 1, 2, 9, 1, 0),
@@ -34,52 +34,54 @@ const SAMPLES: [(&str, Fields); 6] = [
     ),
 ];
 
-/// Lines that ask nothing, and why.
-const REFUSED: [(&str, LineFault); 22] = [
-    ("", LineFault::NoLine),
-    ("lead ", LineFault::NoLine),
-    ("offer 0", LineFault::NoHex),
-    ("letter 0g", LineFault::NoHex),
-    ("release 18446744073709551616", LineFault::NoNumber),
-    ("tell", LineFault::NoLine),
-    ("tell 5 1", LineFault::NoNumber),
-    ("tell 01 1", LineFault::NoNumber),
-    ("tell 1", LineFault::NoNumber),
-    ("tell 1 ", LineFault::NoNumber),
-    ("command", LineFault::NoLine),
-    ("command={kind=\"noop\"}", LineFault::NoLine),
-    ("command ", LineFault::NoCommand),
-    ("command = \"noop\"", LineFault::NoCommand),
-    ("command = {kind = \"noop\"", LineFault::NoCommand),
-    ("command = {kind = \"noon\"}", LineFault::NoCommand),
-    ("command = {kind = \"drop\", ch = 1}", LineFault::NoCommand),
-    ("letter 05", LineFault::NoLetter(LetterFault::Short)),
-    ("letter 0705", LineFault::NoLetter(LetterFault::NoNote)),
-    ("letter 0505", LineFault::NoLetter(LetterFault::NoNode)),
+/// What a line asks: a letter of what, and a value's length, a time, or ten times a place and a node's number. Else why
+/// it asks nothing.
+type Asked = Result<(char, u64), LineFault>;
+
+static LINES: [(&str, Asked); 31] = [
+    ("", Err(LineFault::NoLine)),
+    ("lead ", Err(LineFault::NoLine)),
+    ("offer 0", Err(LineFault::NoHex)),
+    ("letter 0g", Err(LineFault::NoHex)),
+    ("release 18446744073709551616", Err(LineFault::NoNumber)),
+    ("tell", Err(LineFault::NoLine)),
+    ("tell 5 1", Err(LineFault::NoNumber)),
+    ("tell 01 1", Err(LineFault::NoNumber)),
+    ("tell 1", Err(LineFault::NoNumber)),
+    ("tell 1 ", Err(LineFault::NoNumber)),
+    ("command", Err(LineFault::NoLine)),
+    ("command={kind=\"noop\"}", Err(LineFault::NoLine)),
+    ("command ", Err(LineFault::NoCommand)),
+    ("command = \"noop\"", Err(LineFault::NoCommand)),
+    ("command = {kind = \"noop\"", Err(LineFault::NoCommand)),
+    ("command = {kind = \"noon\"}", Err(LineFault::NoCommand)),
+    (
+        "command = {kind = \"drop\", ch = 1}",
+        Err(LineFault::NoCommand),
+    ),
+    ("letter 05", Err(LineFault::NoLetter(LetterFault::Short))),
+    ("letter 0705", Err(LineFault::NoLetter(LetterFault::NoNote))),
+    ("letter 0505", Err(LineFault::NoLetter(LetterFault::NoNode))),
     (
         "letter 0502000000000000000001",
-        LineFault::NoLetter(LetterFault::NoBallot),
+        Err(LineFault::NoLetter(LetterFault::NoBallot)),
     ),
     (
         "letter 050200000000000000000900",
-        LineFault::NoLetter(LetterFault::Trailing),
+        Err(LineFault::NoLetter(LetterFault::Trailing)),
     ),
-];
-
-/// Lines that ask something: a letter of what, and a value's length, a time, or ten times a place and a node's number.
-const ASKED: [(&str, (char, u64)); 9] = [
-    ("lead", ('l', 0)),
-    ("offer ", ('o', 0)),
-    ("offer 00fF", ('o', 2)),
-    ("command = {kind = \"noop\"}", ('o', 1)),
+    ("lead", Ok(('l', 0))),
+    ("offer ", Ok(('o', 0))),
+    ("offer 00fF", Ok(('o', 2))),
+    ("command = {kind = \"noop\"}", Ok(('o', 1))),
     (
         "command = {kind = \"drop\", ch = 1, sid = 2} # gone",
-        ('o', 4),
+        Ok(('o', 4)),
     ),
-    ("release +7", ('r', 7)),
-    ("tell 0 17", ('k', 170)),
-    ("tell 4 1", ('k', 14)),
-    ("release 18446744073709551615", ('r', u64::MAX)),
+    ("release +7", Ok(('r', 7))),
+    ("tell 0 17", Ok(('k', 170))),
+    ("tell 4 1", Ok(('k', 14))),
+    ("release 18446744073709551615", Ok(('r', u64::MAX))),
 ];
 
 fn fields(letter: &Letter) -> Fields {
@@ -194,18 +196,13 @@ fn asked(request: Request) -> (char, u64) {
     }
 }
 
-/// What a line asks.
-fn asked_on(alloc: Global, line: Bytes) -> Result<(char, u64), Fail> {
+fn asked_on(alloc: Global, line: Bytes) -> Asked {
     Ok(asked(read_line(alloc, line)?))
 }
 
-/// Why a line asks nothing.
-fn fault_of(alloc: Global, line: Bytes) -> Option<LineFault> {
-    read_line(alloc, line).err()
-}
-
-fn line(alloc: Global, text: &str) -> Result<Bytes, Fail> {
-    Ok(Bytes::new(Vec::from_slice(alloc, text.as_bytes())?))
+fn asked_in(alloc: Global, text: &str) -> Result<Asked, Fail> {
+    let line = Vec::from_slice(alloc, text.as_bytes())?;
+    Ok(asked_on(alloc, Bytes::new(line)))
 }
 
 /// How long each line of an input is, up to its end or a line that is refused.
@@ -228,29 +225,24 @@ fn read_and_sent(alloc: Global, line: &[u8]) -> Result<(Fields, bool), Fail> {
     Ok((fields, sent.as_slice() == line))
 }
 
+/// The same of a letter by its digits.
+fn sample_read_and_sent(alloc: Global, digits: &str) -> Result<(Fields, bool), Fail> {
+    let line = format!(in alloc; "letter {digits}\n")?;
+    read_and_sent(alloc, line.as_bytes())
+}
+
 #[test]
 fn a_letter_of_each_kind(rt: HostRuntime) -> Result<(), Fail> {
-    for (digits, want) in SAMPLES {
-        let line = format!(in rt.alloc(); "letter {digits}\n")?;
-        assert_eq!(rt; read_and_sent(rt.alloc(), line.as_bytes())?, (want, true));
+    for (digits, want) in &SAMPLES {
+        assert_eq!(rt; sample_read_and_sent(rt.alloc(), digits)?, (*want, true));
     }
     Ok(())
 }
 
 #[test]
-fn lines_that_ask_nothing(rt: HostRuntime) -> Result<(), Fail> {
-    for (text, want) in &REFUSED {
-        let line = line(rt.alloc(), text)?;
-        assert_eq!(rt; fault_of(rt.alloc(), line), Some(*want), "{text}");
-    }
-    Ok(())
-}
-
-#[test]
-fn lines_that_ask_something(rt: HostRuntime) -> Result<(), Fail> {
-    for (text, want) in ASKED {
-        let line = line(rt.alloc(), text)?;
-        assert_eq!(rt; asked_on(rt.alloc(), line)?, want, "{text}");
+fn what_lines_ask(rt: HostRuntime) -> Result<(), Fail> {
+    for (text, want) in &LINES {
+        assert_eq!(rt; asked_in(rt.alloc(), text)?, *want, "{text}");
     }
     Ok(())
 }
@@ -268,9 +260,9 @@ fn command_line(alloc: Global, len: usize) -> Result<Bytes, Fail> {
 fn commands_as_long_as_they_may_be(rt: HostRuntime) -> Result<(), Fail> {
     let alloc = rt.alloc();
     let longest = command_line(alloc, LONGEST_COMMAND)?;
-    assert_eq!(rt; asked_on(alloc, longest)?, ('o', 1));
+    assert_eq!(rt; asked_on(alloc, longest), Ok(('o', 1)));
     let longer = command_line(alloc, LONGEST_COMMAND + 1)?;
-    assert_eq!(rt; fault_of(alloc, longer), Some(LineFault::TooLong));
+    assert_eq!(rt; asked_on(alloc, longer), Err(LineFault::TooLong));
     Ok(())
 }
 
@@ -290,11 +282,15 @@ fn sent_and_read(alloc: Global, letter: &Letter) -> Result<(usize, bool), Fail> 
     Ok((line.len(), read.is_same(letter)))
 }
 
+/// The same of a letter with so many long votes.
+fn long_sent_and_read(alloc: Global, votes: u64) -> Result<(usize, bool), Fail> {
+    sent_and_read(alloc, &long_letter(alloc, votes)?)
+}
+
 #[test]
 fn long_letters(rt: HostRuntime) -> Result<(), Fail> {
     for (votes, len) in [(0, 190), (1_000, 176_062)] {
-        let letter = long_letter(rt.alloc(), votes)?;
-        assert_eq!(rt; sent_and_read(rt.alloc(), &letter)?, (len, true));
+        assert_eq!(rt; long_sent_and_read(rt.alloc(), votes)?, (len, true));
     }
     Ok(())
 }

@@ -1,6 +1,6 @@
 use acceptor::{Accepted, Acceptor, PlainRecords, Prepared, Records};
 use ballots::{Ballot, Bytes, Place, Value, Votes};
-use std::alloc::Global;
+use std::alloc::{AllocError, Global};
 use std::test::Fail;
 
 fn value(alloc: Global, byte: u8) -> Result<Value, Fail> {
@@ -16,14 +16,21 @@ fn place(number: u64) -> Result<Place, Fail> {
     Ok(Place::new(number).ok_or("a place")?)
 }
 
-fn told(alloc: Global, votes: &Votes) -> Result<String, Fail> {
+fn promised_text(alloc: Global, votes: &Votes) -> Result<String, AllocError> {
     match votes.rows() {
-        [] => Ok(format!(in alloc; "promised")?),
-        [(place, cast), ..] => Ok(format!(in alloc;
+        [] => format!(in alloc; "promised"),
+        [(place, cast), ..] => format!(in alloc;
             "promised {place} {} {:?}",
             cast.ballot.number(),
             cast.value.as_slice()
-        )?),
+        ),
+    }
+}
+
+fn prepared_text(alloc: Global, answer: &Prepared) -> Result<String, AllocError> {
+    match answer {
+        Prepared::Higher(other) => format!(in alloc; "higher {}", other.number()),
+        Prepared::Promised(votes) => promised_text(alloc, votes),
     }
 }
 
@@ -33,9 +40,14 @@ fn prepare<R: Records>(
     alloc: Global,
     number: u64,
 ) -> Result<String, Fail> {
-    match acceptor.prepare(ballot(number)?, place(1)?)? {
-        Prepared::Higher(other) => Ok(format!(in alloc; "higher {}", other.number())?),
-        Prepared::Promised(votes) => told(alloc, &votes),
+    let answer = acceptor.prepare(ballot(number)?, place(1)?)?;
+    Ok(prepared_text(alloc, &answer)?)
+}
+
+fn accepted_text(alloc: Global, answer: &Accepted) -> Result<String, AllocError> {
+    match answer {
+        Accepted::Higher(other) => format!(in alloc; "higher {}", other.number()),
+        Accepted::Voted(bytes) => format!(in alloc; "voted {:?}", bytes.as_slice()),
     }
 }
 
@@ -46,10 +58,9 @@ fn accept<R: Records>(
     number: u64,
     byte: u8,
 ) -> Result<String, Fail> {
-    match acceptor.accept(ballot(number)?, place(1)?, value(alloc, byte)?)? {
-        Accepted::Higher(other) => Ok(format!(in alloc; "higher {}", other.number())?),
-        Accepted::Voted(bytes) => Ok(format!(in alloc; "voted {:?}", bytes.as_slice())?),
-    }
+    let value = value(alloc, byte)?;
+    let answer = acceptor.accept(ballot(number)?, place(1)?, value)?;
+    Ok(accepted_text(alloc, &answer)?)
 }
 
 /// What it answers to a ballot, or to a value where there is one.
@@ -66,7 +77,7 @@ fn answer<R: Records>(
 }
 
 /// Ballot, the byte of a value, and the answer.
-const ASKED: [(u64, Option<u8>, &str); 10] = [
+static ASKED: [(u64, Option<u8>, &str); 10] = [
     (9, None, "promised"),
     (9, None, "higher 9"),
     (8, Some(b'A'), "higher 9"),
@@ -82,8 +93,8 @@ const ASKED: [(u64, Option<u8>, &str); 10] = [
 /// How many rows an acceptor answers so, up to the first that it doesn't.
 fn rows_answered<R: Records>(acceptor: &mut Acceptor<R>, alloc: Global) -> Result<usize, Fail> {
     let mut count: usize = 0;
-    for (number, byte, want) in ASKED {
-        if answer(acceptor, alloc, number, byte)?.as_str() != want {
+    for (number, byte, want) in &ASKED {
+        if answer(acceptor, alloc, *number, *byte)?.as_str() != *want {
             return Ok(count);
         }
         count = count.saturating_add(1);
@@ -151,9 +162,9 @@ fn kept_lengths<R: Records>(
 
 /// The same of so many bytes in fresh records.
 fn lengths(alloc: Global, number: u64, len: usize) -> Result<(usize, usize), Fail> {
+    let place = place(number)?;
     let bytes = Bytes::new(Vec::from_elem(alloc, 7, len)?);
     let value = Value::new(bytes).ok_or("a value")?;
-    let place = place(number)?;
     kept_lengths(&mut PlainRecords::new(alloc), place, &value)
 }
 

@@ -73,47 +73,21 @@ fn node_0(alloc: Global) -> Result<PlainNode, Fail> {
     Ok(SchedNode::new(alloc, id, Members::Three, PlainRecords::new(alloc)))
 }
 
+/// How many letters a node sends to this one.
+fn sent<N: Node>(node: &mut N, letter: &Letter) -> Result<usize, Fail> {
+    Ok(node.receive(letter)?.len())
+}
+
 /// Whether a node sends nothing to a letter that says this, and is fresh then.
 fn passes_over<N: Node>(
-    mut node: N,
+    node: &mut N,
     alloc: Global,
     from: u8,
     to: u8,
     told: Told,
 ) -> Result<bool, Fail> {
-    let sent = node.receive(&letter(alloc, from, to, told)?)?;
-    Ok(sent.is_empty() && node.is_fresh()?)
-}
-
-/// The same of node 0, which was fresh before.
-fn is_passed_over(alloc: Global, from: u8, to: u8, told: Told) -> Result<bool, Fail> {
-    passes_over(node_0(alloc)?, alloc, from, to, told)
-}
-
-/// From whom to whom, what, and whether it is passed over.
-const LETTERS: [(u8, u8, Told, bool); 10] = [
-    (4, 0, Told::Promise(8, &[]), true),
-    (2, 0, Told::Prepare(9), true),
-    (1, 1, Told::Prepare(9), true),
-    (1, 0, Told::Prepare(9), false),
-    (1, 0, Told::Accept(0, 1), true),
-    (1, 0, Told::Accept(1, 65), true),
-    (1, 0, Told::Accept(1, 64), false),
-    (1, 0, Told::Accept(1_000_000, 64), false),
-    (1, 0, Told::Accept(1_000_001, 64), true),
-    (1, 0, Told::Promise(8, &[]), true),
-];
-
-#[test]
-fn letters_to_a_fresh_node(rt: HostRuntime) -> Result<(), Fail> {
-    for (from, to, told, want) in LETTERS {
-        assert_eq!(rt;
-            is_passed_over(rt.alloc(), from, to, told)?,
-            want,
-            "{from} {to}"
-        );
-    }
-    Ok(())
+    let letter = letter(alloc, from, to, told)?;
+    Ok(sent(node, &letter)? == 0 && node.is_fresh()?)
 }
 
 /// Asks a node to lead so many times: after one node 0 prepares ballot 8, after two 16.
@@ -124,14 +98,14 @@ fn prepare<N: Node>(node: &mut N, leads: usize) -> Result<(), Fail> {
     Ok(())
 }
 
-/// How many letters a node sends to this from nodes 1 and 2, and whether it leads then.
-fn heard<N: Node>(node: &mut N, alloc: Global, told: Told) -> Result<(usize, bool), Fail> {
-    let mut sent: usize = 0;
+/// How many letters a node sends to this from nodes 1 and 2.
+fn heard<N: Node>(node: &mut N, alloc: Global, told: Told) -> Result<usize, Fail> {
+    let mut count: usize = 0;
     for from in [1, 2] {
-        let letters = node.receive(&letter(alloc, from, 0, told)?)?;
-        sent = sent.saturating_add(letters.len());
+        let letter = letter(alloc, from, 0, told)?;
+        count = count.saturating_add(sent(node, &letter)?);
     }
-    Ok((sent, node.offer(b"A").is_ok()))
+    Ok(count)
 }
 
 /// The number of a node's fault at an offer, 0 where it proposes the value to three nodes.
@@ -144,56 +118,91 @@ fn answered<N: Node>(node: &mut N, value: &[u8]) -> Result<u8, Fail> {
 }
 
 /// The same of so many bytes that are offered to a node which leads its first ballot.
-fn answered_by_leader<N: Node>(mut node: N, alloc: Global, len: usize) -> Result<u8, Fail> {
-    prepare(&mut node, 1)?;
-    heard(&mut node, alloc, Told::Promise(8, &[]))?;
+fn answered_by_leader<N: Node>(node: &mut N, alloc: Global, len: usize) -> Result<u8, Fail> {
+    prepare(node, 1)?;
+    heard(node, alloc, Told::Promise(8, &[]))?;
     let value = Vec::from_elem(alloc, 7, len)?;
-    answered(&mut node, value.as_slice())
+    answered(node, value.as_slice())
 }
 
-/// The same of node 0.
-fn offered(alloc: Global, len: usize) -> Result<u8, Fail> {
-    answered_by_leader(node_0(alloc)?, alloc, len)
+/// Whether a node leads: whether it may be offered a value.
+fn leads<N: Node>(node: &mut N) -> bool {
+    node.offer(b"A").is_ok()
 }
 
-#[test]
-fn offers_to_a_leader(rt: HostRuntime) -> Result<(), Fail> {
-    for (len, want) in [(0, 0), (64, 0), (65, 4)] {
-        assert_eq!(rt; offered(rt.alloc(), len)?, want, "{len} bytes");
-    }
-    Ok(())
-}
-
-/// What `heard` says of a node that was asked to lead so many times.
+/// How many letters a node that was asked to lead so many times sends to this from nodes 1 and 2, and whether it
+/// leads then.
 fn heard_after_leads<N: Node>(
-    mut node: N,
+    node: &mut N,
     alloc: Global,
-    leads: usize,
+    asked: usize,
     told: Told,
 ) -> Result<(usize, bool), Fail> {
-    prepare(&mut node, leads)?;
-    heard(&mut node, alloc, told)
+    prepare(node, asked)?;
+    let sent = heard(node, alloc, told)?;
+    Ok((sent, leads(node)))
 }
 
-/// The same of node 0.
-fn promised(alloc: Global, leads: usize, told: Told) -> Result<(usize, bool), Fail> {
-    heard_after_leads(node_0(alloc)?, alloc, leads, told)
+/// What comes to node 0, which was fresh before, and what comes of it.
+#[derive(Clone, Copy)]
+enum Trial {
+    /// A letter from a node to a node, and whether it is passed over.
+    Letter(u8, u8, Told, bool),
+    /// An offer of so many bytes to the leader of its first ballot, and the fault's number, 0 where they are proposed.
+    Offer(usize, u8),
+    /// How often it leads, what nodes 1 and 2 promise it, how many letters it sends, and whether it leads.
+    Promises(usize, Told, usize, bool),
 }
 
-/// How often node 0 led, what nodes 1 and 2 promise it, how many letters it sends, and whether it leads.
-const PROMISES: [(usize, Told, (usize, bool)); 6] = [
-    (1, Told::Promise(8, &[]), (0, true)),
-    (1, Told::Promise(8, &[(2, 8), (1, 8)]), (0, false)),
-    (1, Told::Promise(8, &[(1, 8)]), (0, false)),
-    (2, Told::Promise(8, &[]), (0, false)),
-    (2, Told::Promise(16, &[(1, 8), (2, 8)]), (6, true)),
-    (2, Told::Promise(16, &[(2, 8), (1, 8)]), (0, false)),
+static TRIALS: [Trial; 19] = [
+    Trial::Letter(4, 0, Told::Promise(8, &[]), true),
+    Trial::Letter(2, 0, Told::Prepare(9), true),
+    Trial::Letter(1, 1, Told::Prepare(9), true),
+    Trial::Letter(1, 0, Told::Prepare(9), false),
+    Trial::Letter(1, 0, Told::Accept(0, 1), true),
+    Trial::Letter(1, 0, Told::Accept(1, 65), true),
+    Trial::Letter(1, 0, Told::Accept(1, 64), false),
+    Trial::Letter(1, 0, Told::Accept(1_000_000, 64), false),
+    Trial::Letter(1, 0, Told::Accept(1_000_001, 64), true),
+    Trial::Letter(1, 0, Told::Promise(8, &[]), true),
+    Trial::Offer(0, 0),
+    Trial::Offer(64, 0),
+    Trial::Offer(65, 4),
+    Trial::Promises(1, Told::Promise(8, &[]), 0, true),
+    Trial::Promises(1, Told::Promise(8, &[(2, 8), (1, 8)]), 0, false),
+    Trial::Promises(1, Told::Promise(8, &[(1, 8)]), 0, false),
+    Trial::Promises(2, Told::Promise(8, &[]), 0, false),
+    Trial::Promises(2, Told::Promise(16, &[(1, 8), (2, 8)]), 6, true),
+    Trial::Promises(2, Told::Promise(16, &[(2, 8), (1, 8)]), 0, false),
 ];
 
+/// Whether a fresh node does as a trial says.
+fn is_right<N: Node>(node: &mut N, alloc: Global, trial: Trial) -> Result<bool, Fail> {
+    match trial {
+        Trial::Letter(from, to, told, want) => {
+            Ok(passes_over(node, alloc, from, to, told)? == want)
+        }
+        Trial::Offer(len, want) => Ok(answered_by_leader(node, alloc, len)? == want),
+        Trial::Promises(asked, told, sent, is_leader) => {
+            Ok(heard_after_leads(node, alloc, asked, told)? == (sent, is_leader))
+        }
+    }
+}
+
+/// The same of a node of one's own. It is let go of here, where its parts aren't known.
+fn is_right_alone<N: Node>(mut node: N, alloc: Global, trial: Trial) -> Result<bool, Fail> {
+    is_right(&mut node, alloc, trial)
+}
+
+/// Whether node 0 does so.
+fn is_right_anew(alloc: Global, trial: Trial) -> Result<bool, Fail> {
+    is_right_alone(node_0(alloc)?, alloc, trial)
+}
+
 #[test]
-fn promises_to_a_node_that_prepares(rt: HostRuntime) -> Result<(), Fail> {
-    for (leads, told, want) in PROMISES {
-        assert_eq!(rt; promised(rt.alloc(), leads, told)?, want, "{leads} leads");
+fn letters_and_offers_to_a_node(rt: HostRuntime) -> Result<(), Fail> {
+    for row in 0..TRIALS.len() {
+        assert!(rt; is_right_anew(rt.alloc(), TRIALS[row])?, "row {row}");
     }
     Ok(())
 }

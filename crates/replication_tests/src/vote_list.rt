@@ -111,7 +111,7 @@ fn alike_anew(
 }
 
 /// Members, votes, and what is learned at places 1 and 2 after them.
-const ROWS: [(Members, &[Vote], (Option<u8>, Option<u8>)); 3] = [
+static ROWS: [(Members, &[Vote], (Option<u8>, Option<u8>)); 3] = [
     // a value of a later ballot
     (
         Members::Five,
@@ -155,8 +155,8 @@ const ROWS: [(Members, &[Vote], (Option<u8>, Option<u8>)); 3] = [
 
 #[test]
 fn lists_and_sets_learn_alike(rt: HostRuntime) -> Result<(), Fail> {
-    for (members, votes, want) in ROWS {
-        assert_eq!(rt; alike_anew(rt.alloc(), members, votes)?, Some(want));
+    for (members, votes, want) in &ROWS {
+        assert_eq!(rt; alike_anew(rt.alloc(), *members, votes)?, Some(*want));
     }
     Ok(())
 }
