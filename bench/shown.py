@@ -74,11 +74,7 @@ def replace(path, text):
 
 
 def fit():
-    rt = kit.module("rtlib.py")
-    # it asks for the one of a crate below once for each path that leads to it
-    rt.Crate.stamp = functools.cache(rt.Crate.stamp)
-    here = os.getcwd()
-    crate = rt.Crate(here, rt.root_above(here) or here, {})
+    crate = kit.crate_here(kit.module("rtlib.py"))
     sums = {it.name.encode(): hashlib.sha256(read(f"{it.rlib}/format")).hexdigest().encode() for it in crate.below()}
     lines = read(f"{crate.rlib}/format").splitlines(keepends=True)
     for at, line in enumerate(lines):

@@ -18,8 +18,7 @@ NOT_HERE = 3
 def build(rt, jobs):
     """Builds the library, and notes as `rt` does what it is made of."""
     rt.guarded()
-    here = os.getcwd()
-    crate = rt.Crate(here, rt.root_above(here) or here, {})
+    crate = kit.crate_here(rt)
     if not all(it.is_built() for it in crate.below()):
         sys.exit("statements: a library below isn't built")
     made, stamp = os.path.dirname(crate.rlib), crate.stamp()
