@@ -18,7 +18,7 @@ use std::sync::Wait;
 use std::thread::Threads;
 use std::time::Clock;
 use std::{fs, io};
-use stores::{has_so_many, make_older_folder, make_strange_folder};
+use stores::{EMPTY, STRANGE, VOTED, make_folders, strange_stays};
 use upsched_commands::run_words;
 use upsched_map_parts::Status;
 
@@ -89,6 +89,35 @@ const FOLDERS: [Folder; 9] = [
         kind: Kind::Body,
         ending: ".hex",
     },
+];
+
+/// Folders in which no run can keep its records, and what a run tells of them.
+const REFUSED: [(&str, &str); 5] = [
+    ("scripts/one_leader.store", "upsched: store not fresh\n"),
+    ("no_folder", "upsched: store\n"),
+    ("scripts/one_leader.toml", "upsched: store\n"),
+    (STRANGE, "upsched: store\n"),
+    (VOTED, "upsched: store not fresh\n"),
+];
+
+/// Folders, how `check --store` ends with them, and what it prints.
+const SURVEYED: [(&str, Status, &str); 4] = [
+    (
+        STRANGE,
+        Status::Faulted,
+        "strange.store/node-1.db: foreign\n",
+    ),
+    (
+        VOTED,
+        Status::Faulted,
+        "voted.store/node-0.db: used, of nobody\n",
+    ),
+    (
+        "fresh.store",
+        Status::Done,
+        "fresh.store/node-0.db: fresh\n",
+    ),
+    (EMPTY, Status::Faulted, "empty.store: no file of a node\n"),
 ];
 
 /// The words of a command line, the program's own name first.
@@ -270,53 +299,37 @@ impl<T: Threads + Wait + Clock + Sync + AllocGlobal> Host<'_, T> {
         self.agrees(words.as_slice(), wanted, output)
     }
 
-    /// Whether the folder with a file that is no database was left as it was.
-    fn strange_stays<O: Write>(&self, output: &mut O) -> io::Result<bool> {
-        let stays = has_so_many(self.rt, "strange.store", 1)?;
-        if !stays {
-            writeln!(output, "files were left in strange.store")?;
-        }
-        Ok(stays)
-    }
-
-    /// Whether folders that can't be used are refused, and left as they were.
+    /// Whether folders that can't be used are refused.
     fn refusals_agree<O: Write>(&self, output: &mut O) -> io::Result<bool> {
-        let used = "scripts/one_leader.store";
-        let store = "upsched: store\n";
-        let mut agree = self.is_refused(used, "upsched: store not fresh\n", output)?;
-        agree &= self.is_refused("no_folder", store, output)?;
-        agree &= self.is_refused("scripts/one_leader.toml", store, output)?;
-        make_strange_folder(self.rt, "strange.store")?;
-        agree &= self.is_refused("strange.store", store, output)?;
-        agree &= self.strange_stays(output)?;
+        let mut agree = true;
+        for (folder, line) in REFUSED {
+            agree &= self.is_refused(folder, line, output)?;
+        }
         Ok(agree)
     }
 
-    /// Whether a database of version 1 is refused where its node promised and voted, and is used where it is a fresh
-    /// node's.
-    fn older_stores_agree<O: Write>(&self, output: &mut O) -> io::Result<bool> {
-        make_older_folder(self.rt, "voted.store", "older/voted.db")?;
-        let mut agree = self.is_refused("voted.store", "upsched: store not fresh\n", output)?;
-        make_older_folder(self.rt, "older.store", "older/fresh.db")?;
+    /// Whether a database of version 1 is used where it is a fresh node's.
+    fn older_store_agrees<O: Write>(&self, output: &mut O) -> io::Result<bool> {
         let words = ["run", "scripts/one_leader.toml", "--store", "older.store"];
         let beside = Beside::read(self.rt, "scripts/one_leader")?;
-        agree &= self.agrees(words.as_slice(), beside.wanted(), output)?;
+        self.agrees(words.as_slice(), beside.wanted(), output)
+    }
+
+    /// Whether `check --store` tells what the files of these folders are.
+    fn surveys_agree<O: Write>(&self, output: &mut O) -> io::Result<bool> {
+        let mut agree = true;
+        for (folder, status, lines) in SURVEYED {
+            agree &= self.is_surveyed(folder, status, lines, output)?;
+        }
         Ok(agree)
     }
 
-    /// Whether `check --store` tells what the files of these folders are, and leaves them as they were.
-    fn surveys_agree<O: Write>(&self, output: &mut O) -> io::Result<bool> {
-        let foreign = "strange.store/node-1.db: foreign\n";
-        let mut agree = self.is_surveyed("strange.store", Status::Faulted, foreign, output)?;
-        agree &= self.strange_stays(output)?;
-        let voted = "voted.store/node-0.db: used, of nobody\n";
-        agree &= self.is_surveyed("voted.store", Status::Faulted, voted, output)?;
-        make_older_folder(self.rt, "fresh.store", "older/fresh.db")?;
-        let fresh = "fresh.store/node-0.db: fresh\n";
-        agree &= self.is_surveyed("fresh.store", Status::Done, fresh, output)?;
-        fs::create_dir(self.rt, "empty.store")?;
-        let none = "empty.store: no file of a node\n";
-        agree &= self.is_surveyed("empty.store", Status::Faulted, none, output)?;
+    /// Whether folders of databases are used, refused and told of so.
+    fn stores_agree<O: Write>(&self, output: &mut O) -> io::Result<bool> {
+        make_folders(self.rt)?;
+        let mut agree = self.refusals_agree(output)?;
+        agree &= self.older_store_agrees(output)?;
+        agree &= self.surveys_agree(output)?;
         Ok(agree)
     }
 
@@ -325,9 +338,11 @@ impl<T: Threads + Wait + Clock + Sync + AllocGlobal> Host<'_, T> {
         for folder in FOLDERS {
             agree &= self.folder_agrees(folder, output)?;
         }
-        agree &= self.refusals_agree(output)?;
-        agree &= self.older_stores_agree(output)?;
-        agree &= self.surveys_agree(output)?;
+        agree &= self.stores_agree(output)?;
+        if !strange_stays(self.rt)? {
+            writeln!(output, "files were left in {STRANGE}")?;
+            agree = false;
+        }
         Ok(agree)
     }
 }

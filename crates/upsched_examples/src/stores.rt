@@ -2,27 +2,51 @@
 
 use std::{fs, io};
 
-/// Makes a folder with a file that is no database.
-pub fn make_strange_folder(rt: &HostRuntime, folder: &str) -> io::Result<()> {
-    fs::create_dir(rt, folder)?;
-    let path = format!(in rt.alloc(); "{folder}/node-1.db")?;
+/// A folder with a file that is no database.
+pub const STRANGE: &str = "strange.store";
+
+/// A folder in which node 0 has a database of version 1, in which it promised and voted.
+pub const VOTED: &str = "voted.store";
+
+/// A folder without a file.
+pub const EMPTY: &str = "empty.store";
+
+/// Folders in which node 0 has a database of version 1, and the database.
+const OLDER: [(&str, &str); 3] = [
+    (VOTED, "older/voted.db"),
+    ("older.store", "older/fresh.db"),
+    ("fresh.store", "older/fresh.db"),
+];
+
+fn make_strange_folder(rt: &HostRuntime) -> io::Result<()> {
+    fs::create_dir(rt, STRANGE)?;
+    let path = format!(in rt.alloc(); "{STRANGE}/node-1.db")?;
     fs::write(rt, path.as_str(), b"no database")
 }
 
 /// Makes a folder in which node 0 has a copy of this database.
-pub fn make_older_folder(rt: &HostRuntime, folder: &str, database: &str) -> io::Result<()> {
+fn make_older_folder(rt: &HostRuntime, folder: &str, database: &str) -> io::Result<()> {
     fs::create_dir(rt, folder)?;
     let path = format!(in rt.alloc(); "{folder}/node-0.db")?;
     fs::copy(rt, database, path.as_str())?;
     Ok(())
 }
 
-/// Whether a folder has so many names.
-pub fn has_so_many(rt: &HostRuntime, folder: &str, count: usize) -> io::Result<bool> {
+/// Makes all of these folders.
+pub fn make_folders(rt: &HostRuntime) -> io::Result<()> {
+    make_strange_folder(rt)?;
+    for (folder, database) in OLDER {
+        make_older_folder(rt, folder, database)?;
+    }
+    fs::create_dir(rt, EMPTY)
+}
+
+/// Whether the folder with a file that is no database is as it was made: with that one file.
+pub fn strange_stays(rt: &HostRuntime) -> io::Result<bool> {
     let mut found = 0usize;
-    for entry in fs::read_dir(rt, folder)? {
+    for entry in fs::read_dir(rt, STRANGE)? {
         let _entry = entry?;
         found = found.saturating_add(1);
     }
-    Ok(found == count)
+    Ok(found == 1)
 }
