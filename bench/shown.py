@@ -16,7 +16,7 @@ import sys
 sys.dont_write_bytecode = True
 import kit  # noqa: E402
 # Lines of a library's format that are sums, or tell whether it leaves its proofs or its statements alone.
-OF_BUILD = (b"sum ", b"checked ", b"over ", b"needs ", b"carries ", b"incremental")
+OF_BUILD = rb"(sum|checked|over|needs|carries) |incremental"
 # The modules of a function that tell what it is compiled to and how that is proved, as they are made and written.
 OF_BODY = re.compile(r"proofs/.+/(Code|Goals|Lts|Proof|Tie)(/.*)?")
 OF_PROOF = re.compile(r"proofs/.+/(Answers|Invariants|Proof)\.antt")
@@ -40,7 +40,10 @@ def shown(rlib):
     None where this kit's libraries are made otherwise.
     """
     try:
-        parts = [line for line in read(f"{rlib}/format").splitlines() if not line.startswith(OF_BUILD)]
+        name = re.escape(os.path.basename(rlib).removesuffix(".rlib").encode())
+        # statements tell what is free of the libraries below too
+        of_build = re.compile(OF_BUILD + rb"|free Rattle-(?!%s\b)" % name)
+        parts = [line for line in read(f"{rlib}/format").splitlines() if not of_build.match(line)]
         for line in read(f"{rlib}/toolchain/made.json").splitlines():
             name, _, _, digest, _ = json.loads(line)
             parts += [f"{name} {digest}".encode()] * (not OF_BODY.fullmatch(name))
