@@ -5,7 +5,8 @@ use Rattle.map_body.specs.declared.head.Head.{Head}
 use Rattle.modem.specs.declared.types.Heard.{Heard}
 use Rattle.modem.specs.declared.types.Heard.TheVariants.{Taken, NotMine, OtherUcd, Past, Unreadable}
 use Rattle.modem.specs.State.{State}
-use Rattle.modem.specs.Hears.{Reads, HearsMap}
+use Rattle.map_body.specs.Heard.{Reads}
+use Rattle.modem.specs.Hears.{HearsMap}
 use Rattle.modem.specs.LetsGo.{HasNoOld}
 use Rattle.modem.specs.Declined.{IsDeclined}
 

@@ -14,7 +14,8 @@ use Rattle.modem.specs.KeptIntervals.{kept_interval, interval_of, covered}
 use Rattle.modem.specs.Wants.{lasting}
 use Rattle.modem.proofs.Pieces.{HasAt-covered}
 use Rattle.modem.specs.Intervals.{decided}
-use Rattle.modem.specs.Hears.{Takes, IsAckTime}
+use Rattle.map_body.specs.Heard.{IsAckTime}
+use Rattle.modem.specs.Hears.{Takes}
 use Rattle.modem.specs.Held.{GivesCell}
 use Rattle.modem.proofs.Parts.{no_true}
 use Rattle.modem.proofs.Clocks.{clock_of-placed}

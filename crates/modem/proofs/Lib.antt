@@ -8,7 +8,6 @@ mod AtKept
 mod Order
 mod Pieces
 mod Windows
-mod Extents
 mod Clocks
 mod Old
 mod Recent

@@ -24,7 +24,8 @@ use Rattle.grant_machine.specs.declared.output.Output.TheVariants.{Nothing, Chan
 use Rattle.modem.specs.declared.types.Heard.{Heard}
 use Rattle.modem.specs.declared.types.Heard.TheVariants.{Taken, NotMine, OtherUcd, Past, Unreadable}
 use Rattle.modem.specs.Held.{HasHeard, Hearing, Gives, GivesCell, Leases, WasLeased, LeasesFrom, WasLeasedFrom, HeldBy}
-use Rattle.modem.specs.Hears.{Hears, Reads, Takes, KeepsHeld, leases_heard}
+use Rattle.map_body.specs.Heard.{Reads}
+use Rattle.modem.specs.Hears.{Hears, Takes, KeepsHeld, leases_heard}
 use Rattle.modem.specs.OldLeases.{CoverAlike}
 use Rattle.modem.proofs.Recent.{recent_alike, same_alike, gone_alike, any_with}
 

@@ -1,12 +1,10 @@
 -- What hearing an output does, by cases.
-use Rattle.std.specs.Prelude.{◌≡◌, ℕ, ◌+◌, ◌^◌, ◌<◌, ◌≤◌, max, true, false, ◌==◌, List, Option, Some, None, ◌⊎◌, ◌↔◌, MatchBool}
+use Rattle.std.specs.Prelude.{◌≡◌, ℕ, ◌<◌, ◌≤◌, max, true, false, ◌==◌, List, Option, Some, None, ◌⊎◌, ◌↔◌, MatchBool}
 use Rattle.std.specs.List.{filter_map}
-use Rattle.minislot_time.specs.Wire.{IsNear}
-use Rattle.map_body.specs.Intervals.{null_offset}
+use Rattle.map_body.specs.Heard.{Reads, IsAckTime}
 use Rattle.map_body.specs.Iucs as iucs
 use Rattle.map_body.specs.Sids.{everybody}
 use Rattle.map_body.specs.Body.{Body}
-use Rattle.map_body.specs.Layout.{IsBody}
 use Rattle.grant_machine.specs.declared.output.Output.{Output}
 use Rattle.grant_machine.specs.declared.output.Output.TheVariants.{Nothing, ChannelSet, Assigned, Map as MapOutput, Refused}
 use Rattle.modem.specs.declared.known.Channel.{Channel}
@@ -17,17 +15,6 @@ use Rattle.modem.specs.State.{State, HasAt, is_own_at, has_lease, with_lease, is
 use Rattle.modem.specs.Wants.{lasting}
 use Rattle.modem.specs.Intervals.{decided}
 use Rattle.modem.specs.Held.{GivesCell}
-
--- the map's 64-bit start near a time and its end, which is the Null's offset later; both are below 2^63
-pub record IsExtent (near : ℕ) (map : Body) (start «end» : ℕ) : Type 0 where
-  pub extension : IsNear map.head.start near start
-  pub null : (len : ℕ) × (null_offset map.elements ≡ Some len) × («end» ≡ start + len)
-  pub bound : «end» < 2 ^ 63
-
--- the bytes can be read near a time: a map, its start and its end
-pub record Reads (bytes : List ℕ) (near : ℕ) (map : Body) (start «end» : ℕ) : Type 0 where
-  pub body : IsBody bytes map
-  pub extent : IsExtent near map start «end»
 
 -- from the clock on, the new state holds what the old one held, and its request minislots are the same
 pub record KeepsHeld (old new : State) : Type 0 where
@@ -42,11 +29,6 @@ pub record Passes (old : State) (c : Channel) (near : ℕ) (new : State) : Type 
   pub leases : new.leases ≡ recent c.id (max c.clock near) old.leases
   pub held : KeepsHeld old new
   pub wants : new.wants ≡ lasting old.leases c.id (max c.clock near) old.wants
-
--- the time up to which the map acknowledges requests, extended near its start; None where there is no such time
-abbrev pub IsAckTime : ℕ → ℕ → Option ℕ → Type 0
-IsAckTime wire start None = (t : ℕ) → ¬ IsNear wire start t
-IsAckTime wire start (Some t) = IsNear wire start t
 
 -- the map is taken: what it gives the modem's SIDs where their leases cover it and what it opens to all is held from
 -- then on, its back-offs are the channel's, it decides wants, and those of ended leases go, as do old leases

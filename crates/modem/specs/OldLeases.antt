@@ -1,12 +1,12 @@
 -- What leases that ended long ago count for: nothing.
 use Rattle.std.specs.Prelude.{◌≡◌, ℕ, ◌+◌, ◌^◌, ◌<◌, ◌≤◌, List, Option}
 use Rattle.map_body.specs.Body.{Body}
+use Rattle.map_body.specs.Heard.{Reads}
 use Rattle.modem.specs.declared.known.OwnLease.{OwnLease}
 use Rattle.modem.specs.declared.known.Want.{Want}
 use Rattle.modem.specs.State.{is_own_at, is_own_from}
 use Rattle.modem.specs.Wants.{own_wants, lasting}
 use Rattle.modem.specs.Intervals.{decided}
-use Rattle.modem.specs.Hears.{Reads}
 
 -- from 2^14 minislots before a clock of the channel on, both cover the same minislots for each SID, and go on as long
 pub record CoverAlike (ch clock : ℕ) (some other : List OwnLease) : Type 0 where

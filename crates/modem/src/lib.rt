@@ -6,7 +6,6 @@ mod action;
 mod channels;
 mod edges;
 mod forgotten;
-mod intervals;
 mod kept;
 mod known;
 mod leases;

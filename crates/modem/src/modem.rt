@@ -17,16 +17,15 @@ ghost use Rattle.modem.specs.Declined.{IsKnownTo, IsDeclined};
 
 use crate::action::{Action, NextEvent};
 use crate::edges::sooner;
-use crate::intervals::HeardMap;
 use crate::kept::{self, KeptInterval, LIMIT, Windows};
 use crate::known::{Channel, OwnLease, Progress, Want};
 use crate::sight::{self, Sight};
 use crate::span::{self, Span};
 use crate::types::{Heard, Sending, TimeBack, WantFault};
 use crate::wants::{self, Turn};
-use crate::{channels, intervals, leases};
+use crate::{channels, leases};
 use grant_machine::Output;
-use map_body::{Head, Iuc, MapBody, decode};
+use map_body::{Head, HeardMap, Iuc, MapBody, ack_time, body_near, decode, heard_near};
 use minislot_time::Slot;
 use std::alloc::{AllocError, Global};
 use std::marker::Model;
@@ -303,7 +302,7 @@ impl Modem {
         ensures stands { IfOk result (λ answer. (hearings : List Hearing) (ch start len : ℕ) → HasHeard self.old hearings
             → HasHeard self.new (record { output = Output.Map ch start len bytes.now; near = near; answer = answer } ∷ hearings)) }
     {
-        let Some(heard) = intervals::heard_near(bytes, near) else {
+        let Some(heard) = heard_near(bytes, near) else {
             return Ok(Heard::Unreadable);
         };
         let HeardMap { head, start, stop } = heard;
@@ -328,7 +327,7 @@ impl Modem {
         ensures stands { IfOk result (λ answer. (hearings : List Hearing) (ch start len : ℕ) (bytes : List ℕ) → IsBody bytes map.now
             → HasHeard self.old hearings → HasHeard self.new (record { output = Output.Map ch start len bytes; near = near; answer = answer } ∷ hearings)) }
     {
-        let Some(heard) = intervals::body_near(map, near) else {
+        let Some(heard) = body_near(map, near) else {
             return Ok(Heard::Unreadable);
         };
         let HeardMap { head, start, stop } = heard;
@@ -391,12 +390,12 @@ impl Modem {
         let alloc = *self.wants.allocator();
         let head = *map.head();
         let leases = self.leases.as_slice();
-        let given = intervals::given(alloc, map)?;
+        let given = map.intervals(alloc)?;
         let heard = given.as_slice();
         let first = start.get();
         let own = kept::own(alloc, head.channel, first, heard, leases)?;
         let open = kept::shared(alloc, head.channel, first, heard)?;
-        let ack = intervals::ack_time(head.ack, start);
+        let ack = ack_time(head.ack, start);
         let wants = wants::decided(alloc, self.wants.as_slice(), map, first, heard, ack, leases)?;
         self.grants.reserve(own.len())?;
         self.open_to_all.reserve(open.len())?;

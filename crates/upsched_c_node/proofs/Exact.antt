@@ -1,14 +1,14 @@
 -- What a call of a node says where its records are in memory.
-use Rattle.std.proofs.Common.{◌≡◌, ◌⊎◌, ⊎_elim, ℕ, ◌<◌, Bool, true, false, IsTrue, is_ok, List, [], length, Some, Result, Ok, Err, Vec, refl, sym, ap, subst, ◌∙◌, arith}
+use Rattle.std.proofs.Common.{◌≡◌, ◌⊎◌, ⊎_elim, ℕ, ◌<◌, Bool, true, false, IsTrue, is_ok, List, [], length, Result, Ok, Err, Vec, refl, sym, ap, subst, ◌∙◌, arith}
 use Rattle.std.proofs.lemmas.Bool.{false≢true}
 use Rattle.std.specs.Prelude.{IfErr, IsOk, IsOkAnd}
 use Rattle.std.specs.declared.alloc.Global.{Global}
 use Rattle.ballots.specs.Ballots.{IsLeastAbove}
 use Rattle.ballots.specs.Members.{member_count}
 use Rattle.ballots.specs.declared.letters.Letter.{Letter}
-use Rattle.acceptor.specs.Content.{Content, Write, after_write}
+use Rattle.acceptor.specs.Content.{Content}
 use Rattle.acceptor.specs.Faults.{HasRisen}
-use Rattle.acceptor.specs.Found.{HasMade, Holds}
+use Rattle.acceptor.specs.Found.{Holds}
 use Rattle.acceptor.specs.Kept.{is_it, no_failures, no_break}
 use Rattle.node.specs.Calls.{Called, Cause, IsNothingNew, Kept as KeepsWho, StopsLast, Who as WhoIs, answer}
 use Rattle.node.specs.Calls.Cause.{Receive, Lead, Offer, Tell}
@@ -26,10 +26,6 @@ use Rattle.upsched_c_node.specs.States.{Answered, MayLack, NodeState, Released, 
 -- records in memory hold their content
 pub holds : (c : Content) → Holds (is_it c) c
 holds c = (∣ refl ∣₁, λ d is. is)
-
--- a write that was made leaves them so
-pub made_so : (old new : Content) (write : Write) → HasMade (is_it old) (is_it new) write → new ≡ after_write old (Some write)
-made_so old new write has = (has old (holds old)).1 new refl
 
 -- a node that is up stands for its view
 pub stands_so : (parts : Parts Content) → parts.is_down ≡ false → Stands is_it parts (Running (view_over parts parts.records))

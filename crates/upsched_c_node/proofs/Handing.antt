@@ -21,9 +21,10 @@ use Rattle.proposer.specs.declared.role.Role.{Role}
 use Rattle.proposer.specs.declared.role.Role.TheVariants.{Idle, Preparing, Leading}
 use Rattle.std.proofs.lemmas.Bool.{and_parts, ltb-true, leb-true, eqb-true, cases_lt}
 use Rattle.upsched_c_node.specs.States.{NodeState}
-use Rattle.upsched_c_node.specs.declared.write_bytes.WriteBytes.{WriteBytes}
+use Rattle.node_writes.specs.declared.write_bytes.WriteBytes.{WriteBytes}
 use Rattle.upsched_c_node.specs.Telling.{IsOfLog, IsOpen, Teaches, TellsWrite, WritesAfter}
-use Rattle.upsched_c_node.specs.Writes.{HandsOut, SpellsOf}
+use Rattle.node_writes.specs.Writes.{SpellsOf}
+use Rattle.upsched_c_node.specs.Writes.{HandsOut}
 
 -- the last of letters
 abbrev pub last : List Letter → Option Letter

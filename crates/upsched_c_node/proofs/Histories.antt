@@ -10,11 +10,12 @@ use Rattle.acceptor.specs.Content.Write.{Tries, Promises, Votes, Learns}
 use Rattle.acceptor.proofs.Callers.{rows_put}
 use Rattle.node.specs.Step.{Outcome}
 use Rattle.upsched_c_node.proofs.Contents.{content_after}
-use Rattle.upsched_c_node.specs.declared.write_bytes.WriteBytes.{WriteBytes}
+use Rattle.node_writes.specs.declared.write_bytes.WriteBytes.{WriteBytes}
 use Rattle.upsched_c_node.specs.Histories.{AllHappen, Event, NoneIsStrange, OpensAsLeft, handed_out}
 use Rattle.upsched_c_node.specs.Histories.Event.{Call, Release, Start}
 use Rattle.upsched_c_node.specs.States.{NodeState, started_as}
-use Rattle.upsched_c_node.specs.Writes.{HandsOut, LeadTo, Spells, SpellsOf, ballot_in, place_in, value_in}
+use Rattle.node_writes.specs.Writes.{LeadTo, Spells, SpellsOf, ballot_in, place_in, value_in}
+use Rattle.upsched_c_node.specs.Writes.{HandsOut}
 
 module _ {V : Type 0} where
   -- nothing stands before the first place

@@ -1,7 +1,6 @@
 pub mod Exact
 pub mod Handing
 pub mod Sending
-pub mod Leading
 pub mod Letters
 pub mod Contents
 pub mod Histories

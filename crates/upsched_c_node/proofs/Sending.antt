@@ -8,14 +8,15 @@ use Rattle.node.specs.Calls.Cause.{Receive, Lead}
 use Rattle.node.specs.Step.{Outcome, receive}
 use Rattle.proposer.specs.declared.fault.NodeFault.{NodeFault as Fault}
 use Rattle.upsched_c_node.proofs.Handing.{Hands, leads, received}
-use Rattle.upsched_c_node.specs.declared.write_bytes.WriteBytes.{WriteBytes}
+use Rattle.node_writes.specs.declared.write_bytes.WriteBytes.{WriteBytes}
 use Rattle.upsched_c_node.specs.Calls.{Sends, Sent, sent}
 use Rattle.upsched_c_node.specs.States.{Answered, NodeState, Takes}
 use Rattle.upsched_c_node.specs.declared.handle.Held.{Held}
 use Rattle.upsched_c_node.specs.declared.status.Status.{Status}
 use Rattle.upsched_c_node.specs.declared.status.Status.TheVariants as statuses
 use Rattle.upsched_c_node.specs.Telling.{IsOpen, TellsWrite, WritesAfter}
-use Rattle.upsched_c_node.specs.Writes.{HandsOut, SpellsOf}
+use Rattle.node_writes.specs.Writes.{SpellsOf}
+use Rattle.upsched_c_node.specs.Writes.{HandsOut}
 
 abbrev ok : Outcome → Result Outcome Fault
 ok o = Ok o

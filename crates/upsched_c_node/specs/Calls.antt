@@ -18,7 +18,7 @@ use Rattle.upsched_c_node.specs.declared.handle.Handle.{Handle}
 use Rattle.upsched_c_node.specs.declared.handle.Held.{Held}
 use Rattle.upsched_c_node.specs.declared.status.Status.{Status}
 use Rattle.upsched_c_node.specs.declared.status.Status.TheVariants as statuses
-use Rattle.upsched_c_node.specs.declared.write_bytes.WriteBytes.{WriteBytes}
+use Rattle.node_writes.specs.declared.write_bytes.WriteBytes.{WriteBytes}
 use Rattle.upsched_c_node.specs.Handles.{Asks}
 use Rattle.upsched_c_node.specs.Letters.{Reads, TellsBytes}
 use Rattle.upsched_c_node.specs.Rooms.{Told, told}

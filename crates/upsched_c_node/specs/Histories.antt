@@ -5,10 +5,11 @@ use Rattle.node.specs.Calls.{Cause}
 use Rattle.node.specs.Releases.{released_all}
 use Rattle.node.specs.Step.{Outcome}
 use Rattle.upsched_c_node.specs.declared.handle.Held.{Held}
-use Rattle.upsched_c_node.specs.declared.write_bytes.WriteBytes.{WriteBytes}
+use Rattle.node_writes.specs.declared.write_bytes.WriteBytes.{WriteBytes}
 use Rattle.upsched_c_node.specs.Opening.{IsStarted}
 use Rattle.upsched_c_node.specs.States.{NodeState, Takes, started_as}
-use Rattle.upsched_c_node.specs.Writes.{HandsOut, HasStrange}
+use Rattle.node_writes.specs.Writes.{HasStrange}
+use Rattle.upsched_c_node.specs.Writes.{HandsOut}
 
 -- what happens to a node: a call that is OK and handed out these bytes, a release of its outputs, or a start over what
 -- it holds

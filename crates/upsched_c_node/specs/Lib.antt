@@ -6,7 +6,6 @@ pub mod Rooms
 pub mod Letters
 pub mod Samples
 pub mod Telling
-pub mod Rows
 pub mod Opening
 pub mod Calls
 pub mod Histories

@@ -6,10 +6,10 @@ use Rattle.upsched_c_node.specs.declared.handle.Handle.{Handle}
 use Rattle.upsched_c_node.specs.declared.handle.Held.{Held}
 use Rattle.upsched_c_node.specs.declared.status.Status.{Status}
 use Rattle.upsched_c_node.specs.declared.status.Status.TheVariants as statuses
-use Rattle.upsched_c_node.specs.declared.write_bytes.WriteBytes.{WriteBytes}
+use Rattle.node_writes.specs.declared.write_bytes.WriteBytes.{WriteBytes}
 use Rattle.upsched_c_node.specs.Handles.{held}
 use Rattle.upsched_c_node.specs.States.{started_as}
-use Rattle.upsched_c_node.specs.Writes.{HasStrange, LeadTo}
+use Rattle.node_writes.specs.Writes.{HasStrange, LeadTo}
 
 -- three or five members, and one's number
 abbrev pub IsMember : ℕ → ℕ → Type 0

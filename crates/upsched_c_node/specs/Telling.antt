@@ -6,9 +6,9 @@ use Rattle.ballots.specs.declared.letters.Letter.{Letter}
 use Rattle.ballots.specs.declared.letters.Note.{Note}
 use Rattle.ballots.specs.declared.letters.Note.TheVariants.{Prepare, Promise, Accept, Voted, Higher, Known}
 use Rattle.acceptor.specs.Content.Write.{Tries, Promises, Votes, Learns}
-use Rattle.upsched_c_node.specs.declared.write_bytes.WriteBytes.{WriteBytes}
+use Rattle.node_writes.specs.declared.write_bytes.WriteBytes.{WriteBytes}
 use Rattle.upsched_c_node.specs.States.{NodeState}
-use Rattle.upsched_c_node.specs.Writes.{SpellsOf}
+use Rattle.node_writes.specs.Writes.{SpellsOf}
 
 -- a vote is at a place of the log, for a value of the log
 abbrev pub IsOfLog : ℕ → List ℕ → Type 0

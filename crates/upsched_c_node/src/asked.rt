@@ -13,10 +13,10 @@ use crate::letters_written::write_out;
 use crate::plain_node::PlainNode;
 use crate::status::Status;
 use crate::telling::write_told;
-use crate::write_bytes::{WriteBytes, learned, no_write};
 use ballots::{LONGEST_VALUE, Letter, NodeId, Note, Place};
 use grant_machine::Output;
 use node::NodeFault;
+use node_writes::{WriteBytes, learned, no_write};
 use std::alloc::Global;
 use upsched_c_parts::{OutputFields, output_fields, put_body, put_front};
 

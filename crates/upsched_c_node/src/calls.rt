@@ -14,8 +14,8 @@ use crate::letter_fields::{LetterFields, VoteFields};
 use crate::letters_read::{letter_in, read_fields};
 use crate::letters_written::write_fields;
 use crate::status::Status;
-use crate::write_bytes::WriteBytes;
 use ballots::{Letter, NodeId};
+use node_writes::WriteBytes;
 use std::alloc::Global;
 use upsched_c_parts::OutputFields;
 

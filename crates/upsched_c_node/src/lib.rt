@@ -11,8 +11,6 @@ pub mod letters_read;
 pub mod letters_written;
 pub mod opening;
 pub mod plain_node;
-pub mod reading;
 pub mod samples;
 pub mod status;
 pub mod telling;
-pub mod write_bytes;

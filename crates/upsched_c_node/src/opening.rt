@@ -8,10 +8,9 @@ ghost use Rattle.upsched_c_node.specs.Statuses.{Answers};
 
 use crate::handle::{Handle, Held};
 use crate::plain_node::PlainNode;
-use crate::reading::{are_whole, taken_back};
 use crate::status::Status;
-use crate::write_bytes::WriteBytes;
 use ballots::{Members, NodeId};
+use node_writes::{WriteBytes, are_whole, taken_back};
 use std::alloc::Global;
 
 /// The member of this number, of so many.

@@ -4,7 +4,7 @@ ghost use Rattle.std.specs.Prelude.{◌≡◌};
 ghost use Rattle.upsched_c_node.specs.Samples.{numbered};
 
 use crate::letter_fields::{LetterFields, VoteFields};
-use crate::write_bytes::WriteBytes;
+use node_writes::WriteBytes;
 
 /// A struct of each kind.
 #[repr(C)]

@@ -2,11 +2,11 @@
 
 ghost use Rattle.std.specs.Prelude.{◌-◌, length, slice_get, MatchOption, None};
 ghost use Rattle.upsched_c_node.specs.Telling.{TellsWrite};
-ghost use Rattle.upsched_c_node.specs.Writes.{SpellsOf};
+ghost use Rattle.node_writes.specs.Writes.{SpellsOf};
 ghost use Rattle.ballots.specs.declared.letters.Note.TheVariants.{Voted};
 
-use crate::write_bytes::{WriteBytes, no_write, promised, tried, vote};
 use ballots::{Ballot, Bytes, LONGEST_VALUE, Letter, NodeId, Note, Place};
+use node_writes::{WriteBytes, no_write, promised, tried, vote};
 
 fn vote_told(node: NodeId, ballot: Ballot, place: u64, value: &Bytes) -> WriteBytes
     ensures { TellsWrite node (Voted ballot place value.now) result }

@@ -2,7 +2,7 @@ use Rattle.std.proofs.Common.{Option, subst}
 use Rattle.modem.specs.declared.action.Action.{Action}
 use Rattle.modem.specs.Idle.{SendsAt}
 use Rattle.std.proofs.lemmas.Option.{IfSome_then}
-use Rattle.modem.proofs.Extents.{where_none}
+use Rattle.map_body.proofs.Callers.{where_none}
 use Rattle.modem.proofs.Quiet.{acts_sent, ended}
 use Rattle.modem.proofs.modem.Modem.action_at.Goals as goal
 

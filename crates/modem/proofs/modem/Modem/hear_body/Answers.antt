@@ -3,7 +3,7 @@ use Rattle.map_body.specs.Body.{Body}
 use Rattle.map_body.proofs.Callers.{one_body}
 use Rattle.grant_machine.specs.declared.output.Output.TheVariants.{Map as MapOutput}
 use Rattle.modem.specs.declared.types.Heard.TheVariants.{Taken}
-use Rattle.modem.specs.Hears.{IsExtent}
+use Rattle.map_body.specs.Heard.{IsExtent}
 use Rattle.modem.proofs.Declined.{declined, none_left}
 use Rattle.modem.proofs.Stands.{Hears-stands}
 use Rattle.modem.proofs.modem.Modem.hear_body.Goals as goal

@@ -1,8 +1,8 @@
 use Rattle.std.proofs.Common.{◌≡◌, ap, sym, ◌∙◌}
 use Rattle.map_body.specs.Body.{Body}
 use Rattle.map_body.proofs.Callers.{one_body, body_no_fault}
-use Rattle.modem.proofs.Extents.{no_extent, where_none}
-use Rattle.modem.proofs.intervals.heard_near.Goals as goal
+use Rattle.map_body.proofs.Extents.{no_extent, where_none}
+use Rattle.map_body.proofs.heard.heard_near.Goals as goal
 
 pub returns-in-Ok-clause-none : goal.returns-in-Ok-clause-none
 returns-in-Ok-clause-none c =

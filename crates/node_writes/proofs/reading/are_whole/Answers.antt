@@ -1,6 +1,6 @@
 use Rattle.std.proofs.Common.{◌+◌, arith}
-use Rattle.upsched_c_node.proofs.Leading.{element_at, none_next, none_at_all}
-use Rattle.upsched_c_node.proofs.reading.are_whole.Goals as goal
+use Rattle.node_writes.proofs.Leading.{element_at, none_next, none_at_all}
+use Rattle.node_writes.proofs.reading.are_whole.Goals as goal
 
 pub loop-bytes-preserved : goal.loop-bytes-preserved
 loop-bytes-preserved c =

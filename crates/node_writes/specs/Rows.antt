@@ -2,8 +2,8 @@
 use Rattle.std.specs.Prelude.{ℕ, List, Option, Some, None}
 use Rattle.acceptor.specs.Content.{Write}
 use Rattle.acceptor.specs.Content.Write.{Tries, Promises, Votes, Learns}
-use Rattle.upsched_c_node.specs.declared.reading.Row.{Row}
-use Rattle.upsched_c_node.specs.declared.reading.Row.TheVariants as rows
+use Rattle.node_writes.specs.declared.reading.Row.{Row}
+use Rattle.node_writes.specs.declared.reading.Row.TheVariants as rows
 
 -- the write of a row and a value
 abbrev pub row_write : Row → List ℕ → Option Write

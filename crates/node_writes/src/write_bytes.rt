@@ -3,7 +3,7 @@
 ghost use Rattle.std.specs.Prelude.{◌≡◌, ◌≤◌, length, None, Some};
 ghost use Rattle.acceptor.specs.Content.Write.{Tries, Promises, Votes, Learns};
 ghost use Rattle.ballots.specs.Limits.{longest_value};
-ghost use Rattle.upsched_c_node.specs.Writes.{HasBallot, HasPlace, HasValue, SpellsOf};
+ghost use Rattle.node_writes.specs.Writes.{HasBallot, HasPlace, HasValue, SpellsOf};
 
 use ballots::{Ballot, NodeId, Place};
 use upsched_c_parts::put_front;

@@ -4,8 +4,8 @@ ghost use Rattle.std.specs.Prelude.{◌≡◌, ◌≤◌, ℕ, true, false, IfOk
 ghost use Rattle.acceptor.specs.Content.{after_write, no_content};
 ghost use Rattle.acceptor.specs.Content.Write.{Tries, Promises, Votes, Learns};
 ghost use Rattle.ballots.specs.Limits.{longest_value};
-ghost use Rattle.upsched_c_node.specs.Rows.{row_write};
-ghost use Rattle.upsched_c_node.specs.Writes.{HasBallot, HasPlace, HasStrange, IsStrange, LeadTo, SpellsOf, value_in};
+ghost use Rattle.node_writes.specs.Rows.{row_write};
+ghost use Rattle.node_writes.specs.Writes.{HasBallot, HasPlace, HasStrange, IsStrange, LeadTo, SpellsOf, value_in};
 
 use crate::write_bytes::WriteBytes;
 use acceptor::{PlainRecords, Records};
@@ -14,7 +14,7 @@ use std::alloc::{AllocError, Global};
 
 /// What a write changes, but for its value.
 #[derive(Clone, Copy)]
-pub enum Row {
+pub(crate) enum Row {
     Nothing,
     Tried(Ballot),
     Promised(Ballot),
@@ -37,7 +37,7 @@ fn place_of(bytes: &WriteBytes) -> Option<Place>
 }
 
 /// What these bytes of a node change, and none where they spell no write of it.
-pub fn row_of(bytes: &WriteBytes, id: NodeId) -> Option<Row>
+pub(crate) fn row_of(bytes: &WriteBytes, id: NodeId) -> Option<Row>
     ensures some { IfSome result (λ row. SpellsOf id bytes.now (row_write row (value_in bytes.now))) }
     ensures none { IfNone result (IsStrange id bytes.now) }
 {

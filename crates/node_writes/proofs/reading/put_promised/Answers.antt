@@ -1,7 +1,7 @@
 use Rattle.std.proofs.Common.{refl}
 use Rattle.acceptor.specs.Content.Write.{Promises}
-use Rattle.upsched_c_node.proofs.Exact.{made_so}
-use Rattle.upsched_c_node.proofs.reading.put_promised.Goals as goal
+use Rattle.node_writes.proofs.Made.{made_so}
+use Rattle.node_writes.proofs.reading.put_promised.Goals as goal
 
 pub returns-in-Ok : goal.returns-in-Ok
 returns-in-Ok c = made_so c.args.records.now c.put_promised.new.self (Promises c.args.ballot) (c.in-Ok.ensures.writes refl).ok

@@ -1,5 +1,5 @@
-use Rattle.modem.proofs.Extents.{no_extent, where_none}
-use Rattle.modem.proofs.intervals.body_near.Goals as goal
+use Rattle.map_body.proofs.Extents.{no_extent, where_none}
+use Rattle.map_body.proofs.heard.body_near.Goals as goal
 
 pub returns-clause-none : goal.returns-clause-none
 returns-clause-none c =

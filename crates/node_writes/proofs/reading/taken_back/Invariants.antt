@@ -1,7 +1,7 @@
 use Rattle.std.proofs.Common.{take}
 use Rattle.acceptor.specs.Content.{no_content}
-use Rattle.upsched_c_node.specs.Writes.{LeadTo}
-use Rattle.upsched_c_node.proofs.reading.taken_back.Given as goal
+use Rattle.node_writes.specs.Writes.{LeadTo}
+use Rattle.node_writes.proofs.reading.taken_back.Given as goal
 
 abbrev pub invariant-loop-bytes : goal.invariant-loop-bytes
 invariant-loop-bytes l = LeadTo l.id (take l.bytes-index l.writes) no_content l.records

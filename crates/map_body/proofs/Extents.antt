@@ -5,7 +5,7 @@ use Rattle.std.specs.Option.{option_map_or}
 use Rattle.minislot_time.specs.Wire.{IsNear}
 use Rattle.map_body.specs.Body.{Body}
 use Rattle.map_body.specs.Intervals.{null_offset}
-use Rattle.modem.specs.Hears.{IsExtent}
+use Rattle.map_body.specs.Heard.{IsExtent}
 
 -- a map whose start doesn't extend near a time to one before which its end is a time has no extent
 pub no_extent : (near : ℕ) (map : Body) (len start stop : ℕ) → null_offset map.elements ≡ Some len → ((s : ℕ) → IsNear map.head.start near s → 2 ^ 63 ≤ s + len) → IsExtent near map start stop → ⊥

@@ -1,25 +1,18 @@
-//! The intervals of a map that is heard.
+//! A MAP as it is heard near a time: its times are extended to 64-bit minislots.
 
-ghost use Rattle.std.specs.Prelude.{◌≡◌, ℕ, ◌+◌, ◌<◌, ◌≤◌, ◌^◌, IfOk, IfSome, IfNone};
-ghost use Rattle.map_body.specs.Intervals.{intervals};
-ghost use Rattle.map_body.specs.Body.{Body};
+ghost use Rattle.std.specs.Prelude.{◌≡◌, ℕ, ◌+◌, ◌<◌, ◌≤◌, ◌^◌, IfSome, IfNone};
 ghost use Rattle.minislot_time.specs.Wire.{IsNear};
-ghost use Rattle.modem.specs.Hears.{IsExtent, Reads, IsAckTime};
+ghost use Rattle.map_body.specs.Body.{Body};
+ghost use Rattle.map_body.specs.Heard.{IsExtent, Reads, IsAckTime};
 
-use map_body::{Head, Interval, MapBody, Outline, judge};
+use crate::body::MapBody;
+use crate::head::Head;
+use crate::judging::{Outline, judge};
 use minislot_time::{Slot, extend};
-use std::alloc::{AllocError, Global};
-
-/// Those that a map gives: before its Null.
-pub(crate) fn given(alloc: Global, map: &MapBody) -> Result<Vec<Interval>, AllocError>
-    ensures { IfOk result (λ v. v.items ≡ intervals map.now.elements) }
-{
-    map.intervals(alloc)
-}
 
 /// A map as it is heard near a time: its head, and where it starts and stops in 64-bit minislots.
 #[derive(Clone, Copy)]
-pub(crate) struct HeardMap {
+pub struct HeardMap {
     pub head: Head,
     pub start: Slot,
     pub stop: u64,
@@ -41,7 +34,7 @@ fn extended(outline: Outline, near: Slot) -> Option<HeardMap>
 }
 
 /// The map that bytes are, heard near a time, where they can be read then. It takes no memory.
-pub(crate) fn heard_near(bytes: &[u8], near: Slot) -> Option<HeardMap>
+pub fn heard_near(bytes: &[u8], near: Slot) -> Option<HeardMap>
     ensures found { IfSome result (λ heard. (map : Body) × Reads bytes.now near map heard.start heard.stop × (map.head ≡ heard.head)) }
     ensures none { IfNone result ((map : Body) (start stop : ℕ) → ¬ Reads bytes.now near map start stop) }
 {
@@ -52,7 +45,7 @@ pub(crate) fn heard_near(bytes: &[u8], near: Slot) -> Option<HeardMap>
 }
 
 /// A map that is heard near a time, where it can be read then.
-pub(crate) fn body_near(map: &MapBody, near: Slot) -> Option<HeardMap>
+pub fn body_near(map: &MapBody, near: Slot) -> Option<HeardMap>
     ensures found { IfSome result (λ heard. IsExtent near map.now heard.start heard.stop × (heard.head ≡ map.now.head)) }
     ensures none { IfNone result ((start stop : ℕ) → ¬ IsExtent near map.now start stop) }
 {
@@ -62,7 +55,7 @@ pub(crate) fn body_near(map: &MapBody, near: Slot) -> Option<HeardMap>
 }
 
 /// The time up to which a map acknowledges requests.
-pub(crate) fn ack_time(wire: u32, start: Slot) -> Option<u64>
+pub fn ack_time(wire: u32, start: Slot) -> Option<u64>
     ensures { IsAckTime wire start result }
 {
     match extend(wire, start) {

@@ -3,8 +3,8 @@ use Rattle.std.proofs.Common.{◌≡◌, ℕ, zero, suc, ◌<◌, ◌≤◌, Lis
 use Rattle.std.specs.Option.{MatchOption}
 use Rattle.std.proofs.lemmas.Bool.{cases_lt}
 use Rattle.acceptor.specs.Content.{Content, Write, after_write}
-use Rattle.upsched_c_node.specs.declared.write_bytes.WriteBytes.{WriteBytes}
-use Rattle.upsched_c_node.specs.Writes.{HasStrange, IsStrange, LeadTo, SpellsOf}
+use Rattle.node_writes.specs.declared.write_bytes.WriteBytes.{WriteBytes}
+use Rattle.node_writes.specs.Writes.{HasStrange, IsStrange, LeadTo, SpellsOf}
 
 -- the element at a place, read at any default
 pub element_at : {X : Type 0} (xs : List X) (i : ℕ) (d : X) → i < length xs → slice_get xs i ≡ Some (get_or xs i d)

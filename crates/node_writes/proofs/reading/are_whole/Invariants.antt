@@ -1,5 +1,5 @@
-use Rattle.upsched_c_node.proofs.Leading.{NoneStrange}
-use Rattle.upsched_c_node.proofs.reading.are_whole.Given as goal
+use Rattle.node_writes.proofs.Leading.{NoneStrange}
+use Rattle.node_writes.proofs.reading.are_whole.Given as goal
 
 abbrev pub invariant-loop-bytes : goal.invariant-loop-bytes
 invariant-loop-bytes l = NoneStrange l.id l.writes l.bytes-index

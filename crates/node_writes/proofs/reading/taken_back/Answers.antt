@@ -1,7 +1,7 @@
 use Rattle.std.proofs.Common.{◌+◌, arith}
 use Rattle.acceptor.specs.Content.{no_content}
-use Rattle.upsched_c_node.proofs.Leading.{element_at, lead_next}
-use Rattle.upsched_c_node.proofs.reading.taken_back.Goals as goal
+use Rattle.node_writes.proofs.Leading.{element_at, lead_next}
+use Rattle.node_writes.proofs.reading.taken_back.Goals as goal
 
 pub loop-bytes-preserved : goal.loop-bytes-preserved
 loop-bytes-preserved c =
