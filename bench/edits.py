@@ -9,6 +9,8 @@ NAMES = re.compile(r"(\./)?proofs/.*(has no field|is not in scope|has no `|was n
 UNREAD = re.compile(r"is not in scope|has no field|is no name|operand is missing|expected the end|cannot continue")
 
 
+# what the prover says last of a function, by its path below the crate
+VERDICT = re.compile(r"fn \w+::(\S+): (.*)")
 # where a function begins, and the impl or the trait around it; where a function of a module, or such a block, ends
 FUNCTION = re.compile(r"^( *)(?:pub(?:\([^)]*\))? )?fn (\w+)", re.M)
 BLOCK = re.compile(r"^(?:pub )?(?:impl|trait)\b([^{]*)", re.M)
@@ -41,10 +43,10 @@ def changes_of(edit, crate):
     return found
 
 
-def edited(edit, crate):
-    """The texts of a crate's files that an edit changes, by path: pairs of 'old:' and 'new:' behind a 'file:'."""
+def edited(those, crate):
+    """The texts of a crate's files that edits change, by path: pairs of 'old:' and 'new:' behind a 'file:'."""
     texts = {}
-    for path, old, new in changes_of(edit, crate):
+    for path, old, new in [change for edit in those for change in changes_of(edit, crate)]:
         text = texts.get(path) or text_of(f"{crate}/{path}")
         if text.count(old) != 1:
             raise BadEdit(f"an 'old:' is in {path} {text.count(old)} times, and not once")
@@ -52,11 +54,49 @@ def edited(edit, crate):
     return texts
 
 
+def why_unfit(those, crate):
+    """Why edits can't be put in together, if they can't."""
+    try:
+        edited(those, crate)
+    except (BadEdit, OSError, ValueError) as error:
+        return str(error)
+    return ""
+
+
 def functions_of(edit, crate):
     """The functions whose bodies an edit changes, by their paths below the crate. None where it changes more."""
     changes = changes_of(edit, crate)
     found = [function_at(path, text_of(f"{crate}/{path}"), old) for path, old, _ in changes]
     return [] if None in found else sorted(set(found))
+
+
+class Round:
+    """Edits of a crate, each of other functions, that are tried by one check, and what that said."""
+
+    def __init__(self, edit, functions):
+        self.edits, self.functions, self.said = [edit], functions, ""
+
+    def takes(self, edit, functions, crate):
+        """Whether an edit of these functions can be tried beside those that are here: none of them knows another."""
+        are_other = self.functions and functions and not set(self.functions).intersection(functions)
+        return are_other and not why_unfit([*self.edits, edit], crate)
+
+    def is_first(self, edit):
+        return len(self.edits) > 1 and edit == self.edits[0]
+
+
+def rounds_of(due, crate):
+    """These edits in few rounds. One that changes more than bodies of functions is alone in its own."""
+    rounds = []
+    for edit in due:
+        functions = [] if why_unfit([edit], crate) else functions_of(edit, crate)
+        its = next((it for it in rounds if it.takes(edit, functions, crate)), None)
+        if its:
+            its.edits.append(edit)
+            its.functions += functions
+        else:
+            rounds.append(Round(edit, functions))
+    return rounds
 
 
 def function_at(path, text, old):
@@ -110,6 +150,26 @@ def why_not_refused(said):
     if stops and not shown:
         return f"refused only since a proof names what the edit took away: {stops[0][:200]}", ""
     return "", shown
+
+
+def why_not_refused_among(said, functions):
+    """The same of these functions alone, of what a check of several said."""
+    told, notes, is_refused = [], [], False
+    folders = tuple(f"./proofs/{it.replace('::', '/')}/" for it in functions)
+    for line in said.split("\n"):
+        verdict = VERDICT.match(line)
+        if verdict and verdict[1] in functions:
+            told += notes
+            is_refused |= verdict[2].startswith(("no proof", "not proved")) and "it calls" not in verdict[2]
+        if line.startswith(folders):
+            told.append(line)
+        if line.startswith("note: src/"):
+            notes.append(line)
+        elif verdict:
+            notes = []
+    if not (is_refused and told):
+        return "that doesn't tell of it alone", ""
+    return why_not_refused("\n".join([*told, "logic=not-proved"]))
 
 
 def is_unread(line):

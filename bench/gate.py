@@ -2,13 +2,13 @@
 """What the tasks of `rt ci` cost, and how long a run from nothing takes on other machines.
 
   bench/gate.py watch FILE    beside a running `rt ci`: notes each task that ends, until none is left
-  bench/gate.py tell FILE [--processors N] [--memory GB] [--longest N]
+  bench/gate.py tell FILE [--processors N] [--memory GB] [--planned] [--longest N]
 
 `watch` writes a line a task: its kind (proof, tests, edit), its crate, its processor seconds, its most memory in MB.
 `tell` prints what the kinds cost, the dearest tasks, the longest chain of proofs, and how long a run takes by a model
-of the gate's lanes: on so many processors (4), with so much memory free (20). A task starts where a processor is idle
-and 0.85 of that memory holds what the kit plans for it; a proof takes idle processors too, at 1.25 to 1.6 times its
-time.
+of the gate's lanes, on so many processors (4). As `.ci/run` has it where memory is ample, a task starts where a
+processor is idle. With `--planned` it also waits until 0.85 of the memory that is free (20) holds what the kit plans
+for it, and a proof takes idle processors too, at 1.25 to 1.6 times its time.
 """
 import argparse
 import os
@@ -145,7 +145,8 @@ class Lanes:
     """The gate's lanes, by the model."""
 
     def __init__(self, crates, tasks, processors, memory):
-        self.tasks, self.processors, self.memory = tasks, processors, 0.85e9 * memory
+        self.tasks, self.processors, self.is_planned = tasks, processors, memory is not None
+        self.memory = 0.85e9 * memory if self.is_planned else float("inf")
         behind = dict.fromkeys(tasks, 0)
         for key in reversed([*tasks]):
             behind[key] += crates.lines[key[0]] if key[1] in ("proof", "edit") else 0
@@ -178,8 +179,8 @@ class Lanes:
             idle = self.processors - sum(it for _, it, _ in self.running.values())
             if idle > 0 and (not self.running or memory <= room):
                 others = len(proofs) - proofs.index(key) if key in proofs else len(ready) - at
-                spare = min(4, idle // others, 1 + int((room / memory - 1) / 0.6))
-                jobs = max(1, spare if key in proofs or key[1] == SEED else 1)
+                spare = min(4, idle // others, 1 + int(min(4, (room / memory - 1) / 0.6)))
+                jobs = max(1, spare) if self.is_planned and (key in proofs or key[1] == SEED) else 1
                 self.running[key] = memory * (1 + 0.6 * (jobs - 1)), jobs, self.now + seconds * SHARED[jobs] / jobs
                 self.left.remove(key)
             else:
@@ -203,8 +204,10 @@ def tell(words):
         print(f"{kind}: {sum(seconds for seconds, _ in each) / 60:.0f} processor minutes; in seconds: {dear}")
     seconds, chain = longest_chain(crates, costs)
     print(f"longest chain: {seconds / 60:.0f} minutes: {', '.join(chain)}")
-    lanes = Lanes(crates, tasks_of(crates, costs), words.processors, words.memory)
-    print(f"by the model: {lanes.minutes():.0f} minutes on {words.processors} processors with {words.memory:g} GB free")
+    memory = words.memory if words.planned else None
+    lanes = Lanes(crates, tasks_of(crates, costs), words.processors, memory)
+    planned = f" with {memory:g} GB free" if words.planned else ""
+    print(f"by the model: {lanes.minutes():.0f} minutes on {words.processors} processors{planned}")
 
 
 def main():
@@ -214,6 +217,7 @@ def main():
     parser.add_argument("file")
     parser.add_argument("--processors", type=int, default=4)
     parser.add_argument("--memory", type=float, default=20)
+    parser.add_argument("--planned", action="store_true")
     parser.add_argument("--longest", type=int, default=8)
     words = parser.parse_args()
     if words.word == "watch":
