@@ -77,11 +77,12 @@ class Round:
         self.edits, self.functions, self.said = [edit], functions, ""
 
     def takes(self, edit, functions, crate):
-        """Whether an edit of these functions can be tried beside those that are here: none of them knows another."""
+        """Whether an edit of these functions can be tried beside those that are here, which change other ones."""
         are_other = self.functions and functions and not set(self.functions).intersection(functions)
         return are_other and not why_unfit([*self.edits, edit], crate)
 
-    def is_first(self, edit):
+    def has_behind(self, edit):
+        """Whether this is the first edit of several."""
         return len(self.edits) > 1 and edit == self.edits[0]
 
 
@@ -153,7 +154,7 @@ def why_not_refused(said):
 
 
 def why_not_refused_among(said, functions):
-    """The same of these functions alone, of what a check of several said."""
+    """The same of these functions alone, of what a check of several said. It may leave out one that calls another."""
     told, notes, is_refused = [], [], False
     folders = tuple(f"./proofs/{it.replace('::', '/')}/" for it in functions)
     for line in said.split("\n"):

@@ -178,9 +178,10 @@ class Lanes:
             room = self.memory - sum(it for it, _, _ in self.running.values())
             idle = self.processors - sum(it for _, it, _ in self.running.values())
             if idle > 0 and (not self.running or memory <= room):
-                others = len(proofs) - proofs.index(key) if key in proofs else len(ready) - at
-                spare = min(4, idle // others, 1 + int(min(4, (room / memory - 1) / 0.6)))
-                jobs = max(1, spare) if self.is_planned and (key in proofs or key[1] == SEED) else 1
+                jobs = 1
+                if self.is_planned and (key in proofs or key[1] == SEED):
+                    others = len(proofs) - proofs.index(key) if key in proofs else len(ready) - at
+                    jobs = max(1, min(4, idle // others, 1 + int((room / memory - 1) / 0.6)))
                 self.running[key] = memory * (1 + 0.6 * (jobs - 1)), jobs, self.now + seconds * SHARED[jobs] / jobs
                 self.left.remove(key)
             else:

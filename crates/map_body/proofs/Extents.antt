@@ -15,6 +15,7 @@ no_extent near map len start stop null none extent =
     let late = none start extent.extension in
     omega (arith, extent.bound, late, same, stop_is)
 
+-- what follows where there is no value
 pub where_none : {A P Q : Type 0} (r : Option A) → (P → Q) → IfNone r P → IfNone r Q
 where_none None f p = f p
 where_none (Some x) f p = tt

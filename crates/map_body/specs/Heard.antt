@@ -1,4 +1,4 @@
--- A MAP as it is heard near a time.
+-- A MAP as it is heard near a time (CM-SP-MULPIv3.1, MAP message, Alloc Start Time and Ack Time).
 use Rattle.std.specs.Prelude.{◌≡◌, ℕ, ◌+◌, ◌^◌, ◌<◌, List, Option, Some, None}
 use Rattle.minislot_time.specs.Wire.{IsNear}
 use Rattle.map_body.specs.Body.{Body}

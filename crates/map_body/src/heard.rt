@@ -1,4 +1,5 @@
-//! A MAP as it is heard near a time: its times are extended to 64-bit minislots.
+//! A MAP as it is heard near a time: its Alloc Start Time and Ack Time (CM-SP-MULPIv3.1, MAP message) are extended from
+//! 32 bits to 64-bit minislots.
 
 ghost use Rattle.std.specs.Prelude.{◌≡◌, ℕ, ◌+◌, ◌<◌, ◌≤◌, ◌^◌, IfSome, IfNone};
 ghost use Rattle.minislot_time.specs.Wire.{IsNear};
@@ -10,7 +11,8 @@ use crate::head::Head;
 use crate::judging::{Outline, judge};
 use minislot_time::{Slot, extend};
 
-/// A map as it is heard near a time: its head, and where it starts and stops in 64-bit minislots.
+/// A map as it is heard near a time: its head, the 64-bit minislot at which it starts, and the first one behind it, which
+/// is below 2^63.
 #[derive(Clone, Copy)]
 pub struct HeardMap {
     pub head: Head,
@@ -33,7 +35,8 @@ fn extended(outline: Outline, near: Slot) -> Option<HeardMap>
     }
 }
 
-/// The map that bytes are, heard near a time, where they can be read then. It takes no memory.
+/// The map that bytes are, heard near a time. None where they are no body, or no time near that one has its start's low
+/// 32 bits, or it would end at 2^63 or later. It takes no memory.
 pub fn heard_near(bytes: &[u8], near: Slot) -> Option<HeardMap>
     ensures found { IfSome result (λ heard. (map : Body) × Reads bytes.now near map heard.start heard.stop × (map.head ≡ heard.head)) }
     ensures none { IfNone result ((map : Body) (start stop : ℕ) → ¬ Reads bytes.now near map start stop) }
@@ -44,7 +47,7 @@ pub fn heard_near(bytes: &[u8], near: Slot) -> Option<HeardMap>
     }
 }
 
-/// A map that is heard near a time, where it can be read then.
+/// The same of a map that was read.
 pub fn body_near(map: &MapBody, near: Slot) -> Option<HeardMap>
     ensures found { IfSome result (λ heard. IsExtent near map.now heard.start heard.stop × (heard.head ≡ map.now.head)) }
     ensures none { IfNone result ((start stop : ℕ) → ¬ IsExtent near map.now start stop) }
@@ -54,7 +57,8 @@ pub fn body_near(map: &MapBody, near: Slot) -> Option<HeardMap>
     extended(Outline { head, len }, near)
 }
 
-/// The time up to which a map acknowledges requests.
+/// The time up to which a map that starts there acknowledges requests: that near its start whose low 32 bits are its Ack
+/// time's. None where there is no such time.
 pub fn ack_time(wire: u32, start: Slot) -> Option<u64>
     ensures { IsAckTime wire start result }
 {

@@ -1,16 +1,11 @@
 -- Writes one after another.
-use Rattle.std.proofs.Common.{◌≡◌, ℕ, zero, suc, ◌<◌, ◌≤◌, List, [], ◌∷◌, length, take, Option, Some, refl, sym, ap, subst, arith, slice_get, get_or, inl, inr}
+use Rattle.std.proofs.Common.{◌≡◌, ℕ, zero, suc, ◌<◌, ◌≤◌, List, [], ◌∷◌, length, take, Option, Some, refl, sym, ap, subst, arith, slice_get, inl, inr}
 use Rattle.std.specs.Option.{MatchOption}
 use Rattle.std.proofs.lemmas.Bool.{cases_lt}
+use Rattle.std.proofs.lemmas.Option.{slice_get_past}
 use Rattle.acceptor.specs.Content.{Content, Write, after_write}
 use Rattle.node_writes.specs.declared.write_bytes.WriteBytes.{WriteBytes}
 use Rattle.node_writes.specs.Writes.{HasStrange, IsStrange, LeadTo, SpellsOf}
-
--- the element at a place, read at any default
-pub element_at : {X : Type 0} (xs : List X) (i : ℕ) (d : X) → i < length xs → slice_get xs i ≡ Some (get_or xs i d)
-element_at [] i d within = absurd (omega arith)
-element_at (x ∷ xs) zero d within = refl
-element_at (x ∷ xs) (suc i) d within = element_at xs i d (omega arith)
 
 -- the next write leads on
 pub lead_more : (id : ℕ) (rs : List WriteBytes) (i : ℕ) (r : WriteBytes) (write : Option Write) (c last : Content)
@@ -43,14 +38,9 @@ none_more id rs i r write there spells none k lt strange = elim (cases_lt k i) [
 pub none_next : (id : ℕ) (rs : List WriteBytes) (i j : ℕ) (r : WriteBytes) (write : Option Write) → j ≡ suc i → slice_get rs i ≡ Some r → SpellsOf id r write → NoneStrange id rs i → NoneStrange id rs j
 none_next id rs i j r write at_next there spells none = subst (NoneStrange id rs) (sym at_next) (none_more id rs i r write there spells none)
 
-past : (id : ℕ) (rs : List WriteBytes) (k : ℕ) → length rs ≤ k → ¬ MatchOption (slice_get rs k) ⊥ (IsStrange id)
-past id [] k all strange = strange
-past id (x ∷ rs) zero all strange = omega (arith, all)
-past id (x ∷ rs) (suc k) all strange = past id rs k (omega (arith, all)) strange
-
 -- so none of them is
 pub none_at_all : (id : ℕ) (rs : List WriteBytes) (i : ℕ) → length rs ≤ i → NoneStrange id rs i → ¬ HasStrange id rs
 none_at_all id rs i all none has = elim (cases_lt has.0 i) [
   | inl before ↦ none has.0 before has.1
-  | inr from ↦ past id rs has.0 (omega (arith, all, from)) has.1
+  | inr from ↦ subst (λ (o : Option WriteBytes). MatchOption o ⊥ (IsStrange id)) (slice_get_past rs has.0 (omega (arith, all, from))) has.1
 ]
