@@ -1,9 +1,11 @@
 //! `upsched live PLAN`: a plan's commands, worked on by three nodes with a thread each.
 
-ghost use Rattle.std.specs.Prelude.{◌≡◌, ◌≢◌, Ok, IfOk, IsOk};
+ghost use Rattle.std.specs.Prelude.{◌≡◌, ◌≢◌, ◌⊎◌, Ok, IfErr, IfOk, IsOk};
 ghost use Rattle.std.specs.Io.KnownBytes.{Appends};
 ghost use Rattle.upsched_map_parts.specs.declared.status.Status.TheVariants.{Done, NotUnderstood};
-ghost use Rattle.upsched_map_parts.specs.Plan.{NoPlan};
+ghost use Rattle.upsched_map_parts.specs.declared.fault.Fault.TheVariants.{Output, Unreadable};
+ghost use Rattle.upsched_map_parts.specs.Faults.{StopsPrint};
+ghost use Rattle.upsched_map_parts.specs.Plan.{NoPlan, TellsPlanFault};
 ghost use Rattle.upsched_live_parts.specs.Audited.{IsAudited};
 ghost use Rattle.upsched_live_parts.specs.Verdict.{verdict_line};
 ghost use Rattle.upsched_live_parts.specs.declared.live_run.Audited.{Audited as Found};
@@ -67,6 +69,8 @@ pub fn live_audited<'a, R: Log, T: Threads + Wait + Clock + Sync + AllocGlobal, 
 ) -> Result<Audited, Fault<'a>>
     ensures audited { IfOk result (λ a. IsAudited words.now.turns a (O.contents output.old) (O.contents output.new)) }
     ensures no_plan { NoPlan (F.remaining plan.old) → output.new ≡ output.old }
+    ensures fault { IfErr result (λ fault. StopsPrint fault ⊎ (fault ≡ Unreadable words.now.plan) ⊎ TellsPlanFault (F.remaining plan.old) fault) }
+    ensures unprinted { NoPlan (F.remaining plan.old) → IfErr result (λ fault. fault ≢ Output) }
 {
     let commands = plan_of(threads.alloc(), plan, words.plan)?;
     let Ok((kepts, carriers, plant)) = live_cluster(threads, commands.as_slice(), words.turns)
