@@ -59,7 +59,8 @@ pub struct Audited {
 /// Has three nodes with a thread and so many turns each work on a plan's commands, audits what they did and what was
 /// recorded of it, and prints the line of that. A fault of the plan is found before anything happens. With `verbose` it
 /// also logs how much each node recorded and learned. How much that is isn't promised; with no turn, or where no
-/// carrier found anything to do, there is nothing to audit, and the line is the same.
+/// carrier found anything to do, there is nothing to audit, and the line is the same. Its fault is want of memory or of
+/// a thread, a write that failed, that the plan's file can't be read, or why the text is no plan.
 pub fn live_audited<'a, R: Log, T: Threads + Wait + Clock + Sync + AllocGlobal, F: Read, O: Write>(
     rt: &R,
     threads: &T,
@@ -70,7 +71,7 @@ pub fn live_audited<'a, R: Log, T: Threads + Wait + Clock + Sync + AllocGlobal, 
     ensures audited { IfOk result (λ a. IsAudited words.now.turns a (O.contents output.old) (O.contents output.new)) }
     ensures no_plan { NoPlan (F.remaining plan.old) → output.new ≡ output.old }
     ensures fault { IfErr result (λ fault. StopsPrint fault ⊎ (fault ≡ Unreadable words.now.plan) ⊎ TellsPlanFault (F.remaining plan.old) fault) }
-    ensures unprinted { NoPlan (F.remaining plan.old) → IfErr result (λ fault. fault ≢ Output) }
+    ensures no_plan_fault { NoPlan (F.remaining plan.old) → IfErr result (λ fault. fault ≢ Output) }
 {
     let commands = plan_of(threads.alloc(), plan, words.plan)?;
     let Ok((kepts, carriers, plant)) = live_cluster(threads, commands.as_slice(), words.turns)

@@ -9,6 +9,6 @@ pub returns-in_err-verdict-clause-no_plan : goal.returns-in_err-verdict-clause-n
 returns-in_err-verdict-clause-no_plan g c = λ none.
     absurd (no_plan_read (g.F.Read.remaining c.args.plan.now) c.in_ok-commands.commands.items none c.in_ok-commands.ensures.plan)
 
-pub returns-in_err-verdict-clause-unprinted : goal.returns-in_err-verdict-clause-unprinted
-returns-in_err-verdict-clause-unprinted g c = λ none.
+pub returns-in_err-verdict-clause-no_plan_fault : goal.returns-in_err-verdict-clause-no_plan_fault
+returns-in_err-verdict-clause-no_plan_fault g c = λ none.
     absurd (no_plan_read (g.F.Read.remaining c.args.plan.now) c.in_ok-commands.commands.items none c.in_ok-commands.ensures.plan)
