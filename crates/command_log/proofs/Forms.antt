@@ -1,8 +1,8 @@
 -- Bytes that have the form of a command spell it, and other bytes spell none.
-use Rattle.std.proofs.Common.{◌≡◌, ℕ, ◌<◌, ◌==◌, Bool, true, false, cond, List, ◌∷◌, ◌++◌, length, drop, Option, Some, None, refl, sym, ap, ◌∙◌, arith}
+use Rattle.std.proofs.Common.{◌≡◌, ℕ, ◌<◌, ◌==◌, Bool, true, false, cond, List, [], ◌∷◌, ◌++◌, length, drop, Option, Some, None, refl, sym, ap, ◌∙◌, arith}
 use Rattle.std.specs.Option.{IfSome, MatchOption, option_map}
 use Rattle.std.specs.Int.{w16, w32, w64, to_be_bytes}
-use Rattle.std.proofs.lemmas.Bool.{eqb-true, and_parts}
+use Rattle.std.proofs.lemmas.Bool.{eqb-true, ne_eqb, and_parts}
 use Rattle.flow_state.specs.declared.channel.Phy.{Phy}
 use Rattle.flow_state.specs.declared.channel.Phy.TheVariants.{Tdma, Advanced}
 use Rattle.std.proofs.lemmas.List.{length-drop}
@@ -11,8 +11,8 @@ use Rattle.flow_state.specs.declared.flow.FlowKind.TheVariants.{BestEffort, Ugs,
 use Rattle.flow_state.specs.Limits.{last_time}
 use Rattle.grant_machine.specs.declared.command.Command.TheVariants as commands
 use Rattle.grant_machine.specs.Fits.{FitsKind}
-use Rattle.command_log.specs.Spelling.{phy_byte, flow_spelling, kind_spelling, Spells, SpellsNone}
-use Rattle.command_log.specs.Reading.{AreBytes, byte, number, is_form, channel_in, kind_in, flow_in, flow_command_in, leased_flow_in, command_in}
+use Rattle.command_log.specs.Spelling.{phy_byte, changed_phy, flow_spelling, kind_spelling, Spells, SpellsNone, is_plain, cut_byte, cut_settings_spelling, cut_spelling}
+use Rattle.command_log.specs.Reading.{AreBytes, byte, number, is_form, channel_in, settings_in, change_in, kind_in, flow_in, flow_command_in, leased_flow_in, command_in, cut_in, set_cut_in}
 use Rattle.command_log.proofs.Spelled.{read_back}
 use Rattle.command_log.proofs.Fields.{are_drop, number_fits_2, number_fits_4, number_fits_8, field_1, field_2, field_4, field_8, at_end}
 
@@ -32,6 +32,23 @@ module _ (bytes : List ℕ) (are : AreBytes bytes) where
         (field_8 bytes are 9 17 _ refl (omega arith) (at_end bytes are 17 len))))))))),
   )
 
+  change_spelled : (phy : Phy) → byte bytes 0 ≡ 10 → byte bytes 3 ≡ changed_phy phy → length bytes ≡ 10 → Spells bytes (commands.Change (byte bytes 1) (settings_in phy bytes))
+  change_spelled phy tag kind len = (
+    (are 1, record { ucd = are 2; short_max = number_fits_2 bytes are 4; ranging_start = are 6; ranging_end = are 7; data_start = are 8; data_end = are 9 }),
+    first 10 _ tag (omega arith) (field_1 bytes are 1 _ (omega arith) (field_1 bytes are 2 _ (omega arith)
+        (field_1 bytes are 3 _ (omega arith) (field_2 bytes are 4 6 _ refl (omega arith) (field_1 bytes are 6 _ (omega arith) (field_1 bytes are 7 _ (omega arith) (field_1 bytes are 8 _ (omega arith)
+        (field_1 bytes are 9 _ (omega arith) (at_end bytes are 10 len)))))) ∙ ap (λ (b : ℕ). b ∷ to_be_bytes w16 (number w16 bytes 4) ++ byte bytes 6 ∷ byte bytes 7 ∷ byte bytes 8 ∷ byte bytes 9 ∷ []) kind))),
+  )
+
+  changes_spelled : byte bytes 0 ≡ 10 → length bytes ≡ 10 → IfSome (change_in bytes) (Spells bytes)
+  changes_spelled tag len = by (byte bytes 3 == 0) refl (byte bytes 3 == 1) refl
+    where
+      by : (a : Bool) → (byte bytes 3 == 0) ≡ a → (b : Bool) → (byte bytes 3 == 1) ≡ b
+          → IfSome (cond a (Some (commands.Change (byte bytes 1) (settings_in Tdma bytes))) (cond b (Some (commands.Change (byte bytes 1) (settings_in Advanced bytes))) None)) (Spells bytes)
+      by true tdma b _ = change_spelled Tdma tag (eqb-true (byte bytes 3) 0 tdma) len
+      by false _ true advanced = change_spelled Advanced tag (eqb-true (byte bytes 3) 1 advanced) len
+      by false _ false _ = tt
+
   drop_spelled : byte bytes 0 ≡ 3 → length bytes ≡ 4 → Spells bytes (commands.Drop (byte bytes 1) (number w16 bytes 2))
   drop_spelled tag len = (
     (are 1, number_fits_2 bytes are 2),
@@ -45,12 +62,37 @@ module _ (bytes : List ℕ) (are : AreBytes bytes) where
         (field_8 bytes are 6 14 _ refl (omega arith) (at_end bytes are 14 len))))),
   )
 
-  cut_spelled : byte bytes 0 ≡ 5 → length bytes ≡ 20 → Spells bytes (commands.Cut (byte bytes 1) (number w16 bytes 2) (number w64 bytes 4) (number w64 bytes 12))
+  cut_spelled : byte bytes 0 ≡ 5 → length bytes ≡ 20 → Spells bytes (cut_in bytes 0 (255, 255) (255, 255))
   cut_spelled tag len = (
-    (are 1, number_fits_2 bytes are 2, number_fits_8 bytes are 4, number_fits_8 bytes are 12),
+    (are 1, number_fits_2 bytes are 2, number_fits_8 bytes are 4, number_fits_8 bytes are 12, omega arith, omega arith, omega arith, omega arith, omega arith),
     first 5 _ tag (omega arith) (field_1 bytes are 1 _ (omega arith) (field_2 bytes are 2 4 _ refl (omega arith) (field_8 bytes are 4 12 _ refl (omega arith)
         (field_8 bytes are 12 20 _ refl (omega arith) (at_end bytes are 20 len))))),
   )
+
+  set_cut_spelled : byte bytes 0 ≡ 9 → length bytes ≡ 26 → IfSome (set_cut_in bytes) (Spells bytes)
+  set_cut_spelled tag len = by (is_plain keep ranging sending) refl
+    where
+      keep : ℕ
+      keep = number w16 bytes 20
+
+      ranging : ℕ × ℕ
+      ranging = (byte bytes 22, byte bytes 23)
+
+      sending : ℕ × ℕ
+      sending = (byte bytes 24, byte bytes 25)
+
+      cut_bytes : Bool → List ℕ
+      cut_bytes plain = cut_byte plain ∷ cut_spelling (byte bytes 1) (number w16 bytes 2) (number w64 bytes 4) (number w64 bytes 12) ++ cut_settings_spelling plain keep ranging sending
+
+      by : (plain : Bool) → is_plain keep ranging sending ≡ plain → IfSome (cond plain None (Some (cut_in bytes keep ranging sending))) (Spells bytes)
+      by true e = tt
+      by false e =
+          let whole : bytes ≡ cut_bytes false = first 9 _ tag (omega arith) (field_1 bytes are 1 _ (omega arith) (field_2 bytes are 2 4 _ refl (omega arith) (field_8 bytes are 4 12 _ refl (omega arith)
+          (field_8 bytes are 12 20 _ refl (omega arith) (field_2 bytes are 20 22 _ refl (omega arith) (field_1 bytes are 22 _ (omega arith) (field_1 bytes are 23 _ (omega arith)
+          (field_1 bytes are 24 _ (omega arith) (field_1 bytes are 25 _ (omega arith) (at_end bytes are 26 len)))))))))) in (
+            (are 1, number_fits_2 bytes are 2, number_fits_8 bytes are 4, number_fits_8 bytes are 12, number_fits_2 bytes are 20, are 22, are 23, are 24, are 25),
+            whole ∙ ap cut_bytes (sym e),
+          )
 
 -- bytes that have the form of a kind spell it
 abbrev AreKind : List ℕ → FlowKind → Type 0
@@ -140,11 +182,13 @@ reads_spelled bytes are =
     by_form (Spells bytes) (is_form bytes 0 1) _ _ (λ h. let f = form_is bytes 0 1 h in noop_spelled bytes are f.0 f.1)
     (by_form (Spells bytes) (is_form bytes 1 17) _ _ (λ h. let f = form_is bytes 1 17 h in channel_spelled bytes are Tdma f.0 f.1)
     (by_form (Spells bytes) (is_form bytes 6 17) _ _ (λ h. let f = form_is bytes 6 17 h in channel_spelled bytes are Advanced f.0 f.1)
+    (by_form (Spells bytes) (is_form bytes 10 10) _ _ (λ h. let f = form_is bytes 10 10 h in changes_spelled bytes are f.0 f.1)
     (by_form (Spells bytes) (is_form bytes 3 4) _ _ (λ h. let f = form_is bytes 3 4 h in drop_spelled bytes are f.0 f.1)
     (by_form (Spells bytes) (is_form bytes 4 14) _ _ (λ h. let f = form_is bytes 4 14 h in request_spelled bytes are f.0 f.1)
     (by_form (Spells bytes) (is_form bytes 5 20) _ _ (λ h. let f = form_is bytes 5 20 h in cut_spelled bytes are f.0 f.1)
+    (by_form (Spells bytes) (is_form bytes 9 26) _ _ (λ h. let f = form_is bytes 9 26 h in set_cut_spelled bytes are f.0 f.1)
     (by_form (Spells bytes) (byte bytes 0 == 2) _ _ (λ h. endless_spelled bytes are (eqb-true (byte bytes 0) 2 h))
-    (by_form (Spells bytes) (byte bytes 0 == 7) _ None (λ h. leased_spelled bytes are (eqb-true (byte bytes 0) 7 h)) tt)))))))
+    (by_form (Spells bytes) (byte bytes 0 == 7) _ None (λ h. leased_spelled bytes are (eqb-true (byte bytes 0) 7 h)) tt)))))))))
 
 -- bytes that are read as no command spell none
 pub spells_none : (bytes : List ℕ) → command_in bytes ≡ None → SpellsNone bytes
@@ -158,3 +202,25 @@ reads_any bytes are =
       | None ↦ λ none _. spells_none bytes none
       | Some c ↦ λ _ spells. spells
     ] refl (reads_spelled bytes are)
+
+-- bytes of another first byte haven't this form
+no_form : (bytes : List ℕ) (tag len : ℕ) → (byte bytes 0 ≡ tag → ⊥) → is_form bytes tag len ≡ false
+no_form bytes tag len other = rw (ne_eqb (byte bytes 0) tag other) refl
+
+-- bytes that begin as no command does are none
+pub no_command : (bytes : List ℕ) (b : ℕ) → byte bytes 0 ≡ b
+    → (b ≡ 0 → ⊥) → (b ≡ 1 → ⊥) → (b ≡ 6 → ⊥) → (b ≡ 10 → ⊥) → (b ≡ 2 → ⊥) → (b ≡ 7 → ⊥) → (b ≡ 3 → ⊥) → (b ≡ 4 → ⊥) → (b ≡ 5 → ⊥) → (b ≡ 9 → ⊥) → command_in bytes ≡ None
+no_command bytes b is noop tdma advanced change flow leased dropped request cut set_cut =
+    let none = no_form bytes in
+    rw (
+      none 0 1 (λ e. noop (sym is ∙ e)),
+      none 1 17 (λ e. tdma (sym is ∙ e)),
+      none 6 17 (λ e. advanced (sym is ∙ e)),
+      none 10 10 (λ e. change (sym is ∙ e)),
+      none 3 4 (λ e. dropped (sym is ∙ e)),
+      none 4 14 (λ e. request (sym is ∙ e)),
+      none 5 20 (λ e. cut (sym is ∙ e)),
+      none 9 26 (λ e. set_cut (sym is ∙ e)),
+      ne_eqb (byte bytes 0) 2 (λ e. flow (sym is ∙ e)),
+      ne_eqb (byte bytes 0) 7 (λ e. leased (sym is ∙ e)),
+    ) refl

@@ -1,7 +1,8 @@
 -- Worked examples of the definitions.
-use Rattle.std.proofs.Common.{◌≡◌, ℕ, List, [], ◌∷◌, ◌++◌, Some, None, map, refl}
+use Rattle.std.proofs.Common.{◌≡◌, ℕ, List, [], ◌∷◌, ◌++◌, replicate, Some, None, map, refl}
 use Rattle.flow_state.specs.declared.channel.Channel.{Channel}
 use Rattle.flow_state.specs.declared.channel.Phy.TheVariants.{Tdma, Advanced}
+use Rattle.flow_state.specs.declared.settings.ChannelSettings.{ChannelSettings}
 use Rattle.flow_state.specs.declared.flow.FlowKind.TheVariants.{BestEffort, Ugs, Poll}
 use Rattle.flow_state.specs.Limits.{last_time}
 use Rattle.grant_machine.specs.declared.command.Command.TheVariants as commands
@@ -52,8 +53,8 @@ other_first : command_in (0xFF ∷ 0x01 ∷ 0x07 ∷ 0x00 ∷ 0x10 ∷ 0x02 ∷ 
 other_first = refl
 
 -- each form is read back
-kinds_read : map (λ c. command_in (spelling c)) (commands.Noop ∷ commands.Flow 1 50 1 last_time (BestEffort 3) ∷ commands.Flow 1 50 70000 last_time (Ugs 4 40 8 1000) ∷ commands.Flow 2 51 2 last_time (Poll 50 0 1000) ∷ commands.Drop 1 258 ∷ commands.Request 1 1 20 990 ∷ commands.Cut 1 4096 5 6 ∷ [])
-    ≡ map Some (commands.Noop ∷ commands.Flow 1 50 1 last_time (BestEffort 3) ∷ commands.Flow 1 50 70000 last_time (Ugs 4 40 8 1000) ∷ commands.Flow 2 51 2 last_time (Poll 50 0 1000) ∷ commands.Drop 1 258 ∷ commands.Request 1 1 20 990 ∷ commands.Cut 1 4096 5 6 ∷ [])
+kinds_read : map (λ c. command_in (spelling c)) (commands.Noop ∷ commands.Flow 1 50 1 last_time (BestEffort 3) ∷ commands.Flow 1 50 70000 last_time (Ugs 4 40 8 1000) ∷ commands.Flow 2 51 2 last_time (Poll 50 0 1000) ∷ commands.Drop 1 258 ∷ commands.Request 1 1 20 990 ∷ commands.Cut 1 4096 5 6 0 (255, 255) (255, 255) ∷ commands.Cut 1 100 0 995 8 (255, 255) (0, 15) ∷ [])
+    ≡ map Some (commands.Noop ∷ commands.Flow 1 50 1 last_time (BestEffort 3) ∷ commands.Flow 1 50 70000 last_time (Ugs 4 40 8 1000) ∷ commands.Flow 2 51 2 last_time (Poll 50 0 1000) ∷ commands.Drop 1 258 ∷ commands.Request 1 1 20 990 ∷ commands.Cut 1 4096 5 6 0 (255, 255) (255, 255) ∷ commands.Cut 1 100 0 995 8 (255, 255) (0, 15) ∷ [])
 kinds_read = refl
 
 -- a lease that ends is written, and one that doesn't is not: with its last minislot written it's no command
@@ -69,7 +70,36 @@ endless_flow = refl
 endless_leased : command_in (0x07 ∷ 0x01 ∷ 0x00 ∷ 0x00 ∷ 0x00 ∷ 0x32 ∷ 0x00 ∷ 0x00 ∷ 0x00 ∷ 0x01 ∷ 0x40 ∷ 0x00 ∷ 0x00 ∷ 0x00 ∷ 0x00 ∷ 0x00 ∷ 0x00 ∷ 0x00 ∷ 0x00 ∷ 0x03 ∷ []) ≡ None
 endless_leased = refl
 
+-- a change of the channel to each PHY; another byte for the PHY, and a byte less
+abbrev settings_c : ChannelSettings
+settings_c = record { ucd = 8; phy = Tdma; short_max = 8; ranging_backoff = (2, 5); data_backoff = (3, 8) }
+
+change_spelled : spelling (commands.Change 1 settings_c) ≡ 0x0A ∷ 0x01 ∷ 0x08 ∷ 0x00 ∷ 0x00 ∷ 0x08 ∷ 0x02 ∷ 0x05 ∷ 0x03 ∷ 0x08 ∷ []
+change_spelled = refl
+
+advanced_change_spelled : spelling (commands.Change 1 (record settings_c { phy = Advanced })) ≡ 0x0A ∷ 0x01 ∷ 0x08 ∷ 0x01 ∷ 0x00 ∷ 0x08 ∷ 0x02 ∷ 0x05 ∷ 0x03 ∷ 0x08 ∷ []
+advanced_change_spelled = refl
+
+change_to_no_phy : command_in (0x0A ∷ 0x01 ∷ 0x08 ∷ 0x02 ∷ 0x00 ∷ 0x08 ∷ 0x02 ∷ 0x05 ∷ 0x03 ∷ 0x08 ∷ []) ≡ None
+change_to_no_phy = refl
+
+change_short : command_in (0x0A ∷ 0x01 ∷ 0x08 ∷ 0x00 ∷ 0x00 ∷ 0x08 ∷ 0x02 ∷ 0x05 ∷ 0x03 ∷ []) ≡ None
+change_short = refl
+
+-- a cut that keeps minislots, one that tells a back-off, and one with nothing set, which is spelled without
+kept_cut : spelling (commands.Cut 1 100 0 995 8 (255, 255) (255, 255)) ≡ 0x09 ∷ 0x01 ∷ 0x00 ∷ 0x64 ∷ 0x00 ∷ 0x00 ∷ 0x00 ∷ 0x00 ∷ 0x00 ∷ 0x00 ∷ 0x00 ∷ 0x00 ∷ 0x00 ∷ 0x00 ∷ 0x00 ∷ 0x00 ∷ 0x00 ∷ 0x00 ∷ 0x03 ∷ 0xE3 ∷ 0x00 ∷ 0x08 ∷ 0xFF ∷ 0xFF ∷ 0xFF ∷ 0xFF ∷ []
+kept_cut = refl
+
+told_cut : spelling (commands.Cut 1 1 0 0 0 (255, 255) (0, 0)) ≡ 0x09 ∷ 0x01 ∷ 0x00 ∷ 0x01 ∷ replicate 18 0x00 ++ 0xFF ∷ 0xFF ∷ 0x00 ∷ 0x00 ∷ []
+told_cut = refl
+
+nothing_set : command_in (0x09 ∷ 0x01 ∷ 0x00 ∷ 0x01 ∷ replicate 18 0x00 ++ 0xFF ∷ 0xFF ∷ 0xFF ∷ 0xFF ∷ []) ≡ None
+nothing_set = refl
+
+set_cut_short : command_in (0x09 ∷ 0x01 ∷ 0x00 ∷ 0x01 ∷ replicate 18 0x00 ++ 0xFF ∷ 0xFF ∷ 0x00 ∷ []) ≡ None
+set_cut_short = refl
+
 -- values that are no command do nothing
-outputs_in_order : outputs_of_values (channel_bytes ∷ (0xFF ∷ []) ∷ spelling (commands.Cut 1 1 0 0) ∷ []) ≡ outputs.ChannelSet 1 7 ∷ outputs.Nothing ∷ outputs.Map 1 1000 1
+outputs_in_order : outputs_of_values (channel_bytes ∷ (0xFF ∷ []) ∷ spelling (commands.Cut 1 1 0 0 0 (255, 255) (255, 255)) ∷ []) ≡ outputs.ChannelSet 1 7 ∷ outputs.Nothing ∷ outputs.Map 1 1000 1
     (0x01 ∷ 0x07 ∷ 0x02 ∷ 0x00 ∷ 0x00 ∷ 0x00 ∷ 0x03 ∷ 0xE8 ∷ 0x00 ∷ 0x00 ∷ 0x00 ∷ 0x00 ∷ 0x02 ∷ 0x05 ∷ 0x03 ∷ 0x08 ∷ 0xFF ∷ 0xFC ∷ 0x40 ∷ 0x00 ∷ 0x00 ∷ 0x01 ∷ 0xC0 ∷ 0x01 ∷ []) ∷ []
 outputs_in_order = refl

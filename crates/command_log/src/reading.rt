@@ -2,10 +2,11 @@ ghost use Rattle.std.specs.Prelude.{◌≡◌, ◌+◌, ◌≤◌, IsTrue, IsFal
 ghost use Rattle.std.specs.Int.{w16, w32, w64};
 ghost use Rattle.grant_machine.specs.declared.command.Command.TheVariants as commands;
 ghost use Rattle.command_log.specs.Spelling.{Spells, SpellsNone};
-ghost use Rattle.command_log.specs.Reading.{channel_in, command_in, command_of, flow_command_in, kind_in, leased_flow_in, number};
+ghost use Rattle.command_log.specs.Reading.{change_in, channel_in, command_in, command_of, flow_command_in, kind_in, leased_flow_in, number, settings_in, cut_in, set_cut_in};
 
+use crate::writing::is_plain;
 use byteorder::{BigEndian, ByteOrder};
-use flow_state::{Channel, FlowKind, LAST_TIME, Phy};
+use flow_state::{Channel, ChannelSettings, FlowKind, LAST_TIME, Phy};
 use grant_machine::Command;
 
 fn u16_at(bytes: &[u8], place: usize) -> u16
@@ -98,6 +99,65 @@ fn leased_flow_of(bytes: &[u8]) -> Option<Command>
     flow_of(bytes, last, 18)
 }
 
+fn settings_of(bytes: &[u8], phy: Phy) -> ChannelSettings
+    requires { length bytes.now ≡ 10 }
+    ensures { result ≡ settings_in phy bytes.now }
+{
+    ChannelSettings {
+        ucd: bytes[2],
+        phy,
+        short_max: u16_at(bytes, 4),
+        ranging_backoff: (bytes[6], bytes[7]),
+        data_backoff: (bytes[8], bytes[9]),
+    }
+}
+
+/// The change, whose fourth byte tells the PHY.
+fn change_of(bytes: &[u8]) -> Option<Command>
+    requires { length bytes.now ≡ 10 }
+    ensures { result ≡ change_in bytes.now }
+{
+    let phy = match bytes[3] {
+        0 => Phy::Tdma,
+        1 => Phy::Advanced,
+        _ => return None,
+    };
+    Some(Command::Change {
+        ch: bytes[1],
+        settings: settings_of(bytes, phy),
+    })
+}
+
+/// A cut with these settings of its own.
+fn cut_of(bytes: &[u8], keep: u16, ranging: (u8, u8), sending: (u8, u8)) -> Command
+    requires { 20 ≤ length bytes.now }
+    ensures { result ≡ cut_in bytes.now keep ranging sending }
+{
+    Command::Cut {
+        ch: bytes[1],
+        len: u16_at(bytes, 2),
+        not_before: u64_at(bytes, 4),
+        ack: u64_at(bytes, 12),
+        keep,
+        ranging,
+        data: sending,
+    }
+}
+
+/// The cut whose settings are written. Where it has none of its own, they aren't written.
+fn set_cut_of(bytes: &[u8]) -> Option<Command>
+    requires { length bytes.now ≡ 26 }
+    ensures { result ≡ set_cut_in bytes.now }
+{
+    let keep = u16_at(bytes, 20);
+    let ranging = (bytes[22], bytes[23]);
+    let sending = (bytes[24], bytes[25]);
+    if is_plain(keep, ranging, sending) {
+        return None;
+    }
+    Some(cut_of(bytes, keep, ranging, sending))
+}
+
 /// The command that bytes spell, by the first byte and the length.
 fn command_at(bytes: &[u8]) -> Option<Command>
     ensures { result ≡ command_in bytes.now }
@@ -107,6 +167,7 @@ fn command_at(bytes: &[u8]) -> Option<Command>
         (0, 1) => Some(Command::Noop),
         (1, 17) => Some(Command::Channel(channel_of(bytes, Phy::Tdma))),
         (6, 17) => Some(Command::Channel(channel_of(bytes, Phy::Advanced))),
+        (10, 10) => change_of(bytes),
         (2, _) => flow_of(bytes, LAST_TIME, 10),
         (7, _) => leased_flow_of(bytes),
         (3, 4) => Some(Command::Drop {
@@ -119,12 +180,8 @@ fn command_at(bytes: &[u8]) -> Option<Command>
             n: u16_at(bytes, 4),
             sent: u64_at(bytes, 6),
         }),
-        (5, 20) => Some(Command::Cut {
-            ch: bytes[1],
-            len: u16_at(bytes, 2),
-            not_before: u64_at(bytes, 4),
-            ack: u64_at(bytes, 12),
-        }),
+        (5, 20) => Some(cut_of(bytes, 0, (255, 255), (255, 255))),
+        (9, 26) => set_cut_of(bytes),
         _ => None,
     }
 }

@@ -1,11 +1,12 @@
 ghost use Rattle.std.specs.Prelude.{◌≡◌, ◌++◌, IfOk, OnOk};
 ghost use Rattle.std.specs.Int.{w32, w64, to_be_bytes};
 ghost use Rattle.grant_machine.specs.declared.command.Command.TheVariants as commands;
+ghost use Rattle.grant_machine.specs.Steps.{cut_command};
 ghost use Rattle.grant_machine.specs.Fits.{FitsCommand};
-ghost use Rattle.command_log.specs.Spelling.{phy_byte, channel_spelling, flow_spelling, kind_spelling, spelling};
+ghost use Rattle.command_log.specs.Spelling.{phy_byte, changed_phy, channel_spelling, flow_spelling, kind_spelling, spelling, cut_byte, is_plain};
 
-use flow_state::{Channel, FlowKind, LAST_TIME, Phy};
-use grant_machine::Command;
+use flow_state::{Channel, ChannelSettings, FlowKind, LAST_TIME, Phy};
+use grant_machine::{Command, CutSettings};
 use std::alloc::{AllocError, Global};
 
 /// The first byte of a channel.
@@ -87,6 +88,28 @@ fn put_setting(out: &mut Vec<u8>, channel: Channel) -> Result<(), AllocError>
     put_channel(out, channel)
 }
 
+/// The PHY of a change.
+fn changed_phy(phy: Phy) -> u8
+    ensures { result ≡ changed_phy phy }
+{
+    match phy {
+        Phy::Tdma => 0,
+        Phy::Advanced => 1,
+    }
+}
+
+fn put_change(out: &mut Vec<u8>, ch: u8, settings: ChannelSettings) -> Result<(), AllocError>
+    ensures spelled { OnOk result (out.new.items ≡ out.old.items ++ spelling (commands.Change ch settings)) }
+    ensures fits { FitsCommand (commands.Change ch settings) }
+{
+    out.extend_from_slice(&[10, ch, settings.ucd, changed_phy(settings.phy)])?;
+    out.extend_from_slice(&settings.short_max.to_be_bytes())?;
+    let (ranging_start, ranging_end) = settings.ranging_backoff;
+    let (data_start, data_end) = settings.data_backoff;
+    out.extend_from_slice(&[ranging_start, ranging_end, data_start, data_end])?;
+    Ok(())
+}
+
 /// A flow. The last minislot of its lease is written where it isn't the last time of all.
 fn put_flow(
     out: &mut Vec<u8>,
@@ -130,14 +153,37 @@ fn put_request(out: &mut Vec<u8>, ch: u8, sid: u16, n: u16, sent: u64) -> Result
     Ok(())
 }
 
-fn put_cut(out: &mut Vec<u8>, ch: u8, len: u16, not_before: u64, ack: u64) -> Result<(), AllocError>
-    ensures spelled { OnOk result (out.new.items ≡ out.old.items ++ spelling (commands.Cut ch len not_before ack)) }
-    ensures fits { FitsCommand (commands.Cut ch len not_before ack) }
+/// Has a cut no settings of its own: does it keep nothing, and tell the channel's back-offs?
+pub(crate) fn is_plain(keep: u16, ranging: (u8, u8), sending: (u8, u8)) -> bool
+    ensures { result ≡ is_plain keep ranging sending }
 {
-    out.extend_from_slice(&[5, ch])?;
-    out.extend_from_slice(&len.to_be_bytes())?;
-    out.extend_from_slice(&not_before.to_be_bytes())?;
-    out.extend_from_slice(&ack.to_be_bytes())?;
+    keep == 0 && ranging.0 == 255 && ranging.1 == 255 && sending.0 == 255 && sending.1 == 255
+}
+
+/// The first byte of a cut.
+fn cut_byte(is_plain: bool) -> u8
+    ensures { result ≡ cut_byte is_plain }
+{
+    if is_plain { 5 } else { 9 }
+}
+
+/// A cut. What it keeps and the back-offs that it tells are written where it has some of its own.
+fn put_cut(out: &mut Vec<u8>, ch: u8, asked: CutSettings) -> Result<(), AllocError>
+    ensures spelled { OnOk result (out.new.items ≡ out.old.items ++ spelling (cut_command ch asked)) }
+    ensures fits { FitsCommand (cut_command ch asked) }
+{
+    let ranging = asked.ranging_backoff;
+    let sending = asked.data_backoff;
+    let is_plain = is_plain(asked.keep, ranging, sending);
+    out.extend_from_slice(&[cut_byte(is_plain), ch])?;
+    out.extend_from_slice(&asked.len.to_be_bytes())?;
+    out.extend_from_slice(&asked.not_before.to_be_bytes())?;
+    out.extend_from_slice(&asked.ack.to_be_bytes())?;
+    if is_plain {
+        return Ok(());
+    }
+    out.extend_from_slice(&asked.keep.to_be_bytes())?;
+    out.extend_from_slice(&[ranging.0, ranging.1, sending.0, sending.1])?;
     Ok(())
 }
 
@@ -151,6 +197,7 @@ fn put(out: &mut Vec<u8>, command: &Command) -> Result<(), AllocError>
             Ok(())
         }
         Command::Channel(channel) => put_setting(out, channel),
+        Command::Change { ch, settings } => put_change(out, ch, settings),
         Command::Flow {
             ch,
             modem,
@@ -165,7 +212,21 @@ fn put(out: &mut Vec<u8>, command: &Command) -> Result<(), AllocError>
             len,
             not_before,
             ack,
-        } => put_cut(out, ch, len, not_before, ack),
+            keep,
+            ranging,
+            data,
+        } => put_cut(
+            out,
+            ch,
+            CutSettings {
+                len,
+                not_before,
+                ack,
+                keep,
+                ranging_backoff: ranging,
+                data_backoff: data,
+            },
+        ),
     }
 }
 

@@ -6,4 +6,4 @@ pub use Rattle.flow_state.proofs.Found.{KeepsId, at_same, changed, find_added, f
 pub use Rattle.flow_state.proofs.Keyed.{eqb_sym}
 pub use Rattle.flow_state.proofs.Members.{Has, all_has, any_has, at_contains, contains_at, filter_empty, filter_has, found_has, has_all, has_any, has_at, has_between, has_either, has_filter, has_flat_map, has_found, has_left, has_map, has_pushed, has_right, map_has, place_of, unfound}
 pub use Rattle.flow_state.proofs.Told.{due_set, told_after, untold}
-pub use Rattle.flow_state.proofs.Wells.{IsWell, IsWellFlow, IsWellLease, IsWellRequest, RisingFrom, asked, asked_same, drop_is_well, ended_with, filter_both, filter_fewer, flow_found, flow_is_well, flow_lease, free_apart, free_range, has_inserted, inserted_has, is_asked, new_is_well, one_flow, passes_on, request_is_well, rising_filter}
+pub use Rattle.flow_state.proofs.Wells.{IsWell, IsWellFlow, IsWellLease, IsWellRequest, RisingFrom, asked, asked_same, change_is_well, drop_is_well, ended_with, filter_both, filter_fewer, flow_found, flow_is_well, flow_lease, free_apart, free_range, has_inserted, inserted_has, is_asked, new_is_well, one_flow, passes_on, request_is_well, rising_filter}

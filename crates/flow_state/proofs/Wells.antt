@@ -9,11 +9,12 @@ use Rattle.flow_state.specs.declared.flow.FlowKind.TheVariants.{BestEffort, Ugs,
 use Rattle.flow_state.specs.declared.flow.Waiting.{Waiting}
 use Rattle.flow_state.specs.declared.refusal.Refusal.{Refusal}
 use Rattle.flow_state.specs.declared.refusal.Refusal.TheVariants.{BadValue, OldRequest, Busy}
-use Rattle.flow_state.specs.Limits.{last_time, longest_interval, last_sid, most_waiting, is_good_channel, is_good_kind, is_size, is_schedule, is_ugs, due_time}
+use Rattle.flow_state.specs.declared.settings.ChannelSettings.{ChannelSettings}
+use Rattle.flow_state.specs.Limits.{last_time, longest_interval, last_sid, most_waiting, is_backoff, is_good_channel, are_good_settings, is_good_kind, is_size, is_schedule, is_ugs, due_time}
 use Rattle.flow_state.specs.Rows.{Table, FlowRow, Lease, is_flow, is_of, flow_of, lease_of, is_of_sid, is_leased, unicast_sids, free_sid, insert_flow, waits, is_ended, has_ended, lease_in}
 use Rattle.flow_state.specs.Sound.{IsLeasedFlow}
-use Rattle.flow_state.specs.Refusals.{table_flow_refusal, table_request_refusal, request_refusal_on, is_old, is_repeated}
-use Rattle.flow_state.specs.Changes.{new_table, new_flow, new_lease, add_to_table, flow_among, drop_in_table, request_in_table}
+use Rattle.flow_state.specs.Refusals.{is_good_count, table_change_refusal, table_flow_refusal, table_request_refusal, request_refusal_on, is_old, is_repeated}
+use Rattle.flow_state.specs.Changes.{new_table, with_settings, change_in_table, new_flow, new_lease, add_to_table, flow_among, drop_in_table, request_in_table}
 use Rattle.flow_state.proofs.Members.{Has, has_between, has_left, has_right, has_pushed, has_map, map_has, has_filter, filter_has, none_has, found_has, has_found, range_has, filter_empty}
 use Rattle.flow_state.proofs.Filters.{filter_append, filter_swap}
 use Rattle.flow_state.proofs.Assignments.{eqb_same, unwrap_some, free_is_free, leased, first_early, has_put, put_found, put_others, is_added, IsAdded}
@@ -166,6 +167,30 @@ new_is_well c good = record {
   alone = λ sid. omega arith;
   few = omega arith;
 }
+
+-- ---- a channel that changes
+
+-- a channel that was within the limits is, with settings within them
+settings_good : (c : Channel) (s : ChannelSettings) → are_good_settings s ≡ true → is_good_channel c ≡ true → is_good_channel (with_settings c s) ≡ true
+settings_good c s good was =
+    let base = (and_parts (is_backoff c.ranging_backoff.0 c.ranging_backoff.1 && is_backoff c.data_backoff.0 c.data_backoff.1 && ltb 0 c.short_max) (leb c.base last_time) was).1 in
+    ap (λ b. b && leb c.base last_time) good ∙ base
+
+pub change_is_well : (t : Table) (s : ChannelSettings) → table_change_refusal t s ≡ None → IsWell t → IsWell (change_in_table t s)
+change_is_well t s ok w =
+    let passed = passes_on (not (are_good_settings s && is_good_count t.row.channel s)) BadValue None ok in
+    record {
+      channel = settings_good t.row.channel s (and_parts (are_good_settings s) (is_good_count t.row.channel s) (not-false _ passed.0)).0 w.channel;
+      next = w.next;
+      ack = w.ack;
+      flows = w.flows;
+      rising = w.rising;
+      given = λ f h. let g = w.given f h in record { lease = g.lease; goes_on = g.goes_on };
+      leases = w.leases;
+      requests = w.requests;
+      alone = w.alone;
+      few = w.few;
+    }
 
 -- ---- a flow as it is added
 

@@ -2,6 +2,7 @@
 use Rattle.std.specs.Prelude.{◌≡◌, ℕ, List, [], ◌∷◌, ◌++◌, map, filter, not, if◌then◌else◌, Bool, false, is_some, unwrap_or, Option, Some, None}
 use Rattle.std.specs.Option.{option_and_then, option_map_or}
 use Rattle.flow_state.specs.declared.channel.Channel.{Channel}
+use Rattle.flow_state.specs.declared.settings.ChannelSettings.{ChannelSettings}
 use Rattle.flow_state.specs.declared.flow.Flow.{Flow}
 use Rattle.flow_state.specs.declared.flow.FlowKind.{FlowKind}
 use Rattle.flow_state.specs.declared.flow.Waiting.{Waiting}
@@ -14,6 +15,17 @@ new_table c = record { row = record { channel = c; next_start = c.base; ack = 0 
 
 abbrev pub with_channel : Rows → Channel → Rows
 with_channel rows c = rows ++ new_table c ∷ []
+
+-- the channel with these settings, and all else as it is
+abbrev pub with_settings : Channel → ChannelSettings → Channel
+with_settings c s = record c { ucd = s.ucd; phy = s.phy; short_max = s.short_max; ranging_backoff = s.ranging_backoff; data_backoff = s.data_backoff }
+
+-- its next start, Ack Time, leases, flows and waiting requests stay
+abbrev pub change_in_table : Table → ChannelSettings → Table
+change_in_table t s = record t { row = record t.row { channel = with_settings t.row.channel s } }
+
+abbrev pub with_settings_on : Rows → ℕ → ChannelSettings → Rows
+with_settings_on rows ch s = change_table rows ch (λ t. change_in_table t s)
 
 -- a flow as it is added under its lease, its first due time next
 abbrev pub new_flow : Lease → FlowKind → FlowRow

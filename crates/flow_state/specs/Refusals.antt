@@ -1,11 +1,14 @@
 -- The first refusal of each call that applies, in order.
-use Rattle.std.specs.Prelude.{◌≡◌, ℕ, Bool, false, not, ◌&&◌, ◌||◌, nat_le, nat_lt, is_some, is_none, if◌then◌else◌, length, Option, Some, None}
+use Rattle.std.specs.Prelude.{◌≡◌, ℕ, ◌+◌, ◌%◌, ◌==◌, Bool, true, false, not, ◌&&◌, ◌||◌, nat_le, nat_lt, is_some, is_none, if◌then◌else◌, length, Option, Some, None}
 use Rattle.std.specs.Option.{option_map_or}
 use Rattle.flow_state.specs.declared.channel.Channel.{Channel}
+use Rattle.flow_state.specs.declared.channel.Phy.{Phy}
+use Rattle.flow_state.specs.declared.channel.Phy.TheVariants.{Tdma, Advanced}
+use Rattle.flow_state.specs.declared.settings.ChannelSettings.{ChannelSettings}
 use Rattle.flow_state.specs.declared.flow.FlowKind.{FlowKind}
 use Rattle.flow_state.specs.declared.refusal.Refusal.{Refusal}
 use Rattle.flow_state.specs.declared.refusal.Refusal.TheVariants.{NoChannel, ChannelThere, NoFlow, SidsSpent, Busy, OldRequest, BadValue, OutOfMemory}
-use Rattle.flow_state.specs.Limits.{is_good_channel, is_good_kind, is_size, is_ugs, last_time, most_waiting}
+use Rattle.flow_state.specs.Limits.{is_good_channel, are_good_settings, is_good_kind, is_size, is_ugs, last_time, most_waiting}
 use Rattle.flow_state.specs.Rows.{Rows, Table, FlowRow, table_of, flow_of, lease_of, free_sid, waits}
 
 abbrev pub set_channel_refusal : Rows → Channel → Option Refusal
@@ -13,6 +16,26 @@ set_channel_refusal rows c =
     if not (is_good_channel c) then Some BadValue
     else if is_some (table_of rows c.id) then Some ChannelThere
     else None
+
+-- two channels have bursts of one kind
+abbrev pub is_same_phy : (a b : Phy) → Bool
+is_same_phy Tdma Tdma = true
+is_same_phy Tdma Advanced = false
+is_same_phy Advanced Tdma = false
+is_same_phy Advanced Advanced = true
+
+-- the UCD Count that comes after this one (CM-SP-MULPIv3.1, Upstream Channel Descriptor: Configuration Change Count)
+abbrev pub next_count : ℕ → ℕ
+next_count u = (u + 1) % 256
+
+-- the count of a change is the channel's next one, or the channel's: then the PHY and the size of short grants are too
+abbrev pub is_good_count : Channel → ChannelSettings → Bool
+is_good_count c s =
+    if s.ucd == c.ucd then is_same_phy s.phy c.phy && (s.short_max == c.short_max) else s.ucd == next_count c.ucd
+
+-- the refusal of a change of a channel that is set
+abbrev pub table_change_refusal : Table → ChannelSettings → Option Refusal
+table_change_refusal t s = if not (are_good_settings s && is_good_count t.row.channel s) then Some BadValue else None
 
 -- a new lease ends no later than any command's time, and not before the channel's next MAP
 abbrev pub is_good_last : Table → ℕ → Bool
@@ -62,6 +85,9 @@ table_request_refusal t sid n sent = request_refusal_on (flow_of t sid) t n sent
 -- the refusal of a call on a channel: NoChannel first
 abbrev pub on_table : Rows → ℕ → (Table → Option Refusal) → Option Refusal
 on_table rows ch refusal = option_map_or refusal (table_of rows ch) (Some NoChannel)
+
+abbrev pub change_channel_refusal : Rows → ℕ → ChannelSettings → Option Refusal
+change_channel_refusal rows ch s = on_table rows ch (λ t. table_change_refusal t s)
 
 abbrev pub add_flow_refusal : Rows → (ch modem tag last : ℕ) → FlowKind → Option Refusal
 add_flow_refusal rows ch modem tag last kind = on_table rows ch (λ t. table_flow_refusal t modem tag last kind)

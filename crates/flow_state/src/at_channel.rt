@@ -9,12 +9,13 @@ ghost use Rattle.indexmap.specs.IndexMap.{get, IsUnique};
 ghost use Rattle.flow_state.specs.Entries.{change_entry, on_entry, entry_refusal};
 ghost use Rattle.flow_state.specs.Limits.{IsDueTime};
 ghost use Rattle.flow_state.specs.Rows.{Table, FlowRow, flow_of, lease_of, waits, without_request};
-ghost use Rattle.flow_state.specs.Refusals.{Refuses, table_flow_refusal, table_drop_refusal, table_request_refusal};
-ghost use Rattle.flow_state.specs.Changes.{new_table, lease_on, flow_in_table, drop_in_table, request_in_table, waiting_in_table, waiting_of, due_in_table, close_table, TellsDue, told_in_table, finish_table};
+ghost use Rattle.flow_state.specs.Refusals.{Refuses, table_change_refusal, table_flow_refusal, table_drop_refusal, table_request_refusal};
+ghost use Rattle.flow_state.specs.Changes.{new_table, change_in_table, lease_on, flow_in_table, drop_in_table, request_in_table, waiting_in_table, waiting_of, due_in_table, close_table, TellsDue, told_in_table, finish_table};
 
 use crate::channel::Channel;
 use crate::flow::{Flow, FlowKind, Lease, Waiting};
 use crate::refusal::Refusal;
+use crate::settings::ChannelSettings;
 use crate::table::ChannelTable;
 use indexmap::IndexMap;
 
@@ -37,6 +38,25 @@ pub(crate) fn set_channel(
     let table = ChannelTable::new(*tables.allocator(), channel);
     tables.insert(channel.id, table)?;
     Ok(())
+}
+
+/// Gives the channel these settings.
+#[tactic(auto, using(std::proofs::lemmas::Map::Steps::set_value_same))]
+pub(crate) fn change_channel(
+    tables: &mut IndexMap<u8, ChannelTable>,
+    ch: u8,
+    settings: ChannelSettings,
+) -> Result<(), Refusal>
+    ensures ok { OnOk result ((on_entry tables.old.entries ch (λ t. table_change_refusal t settings) ≡ None)
+        × (tables.new.entries ≡ change_entry tables.old.entries ch (λ t. change_in_table t settings))) }
+    ensures err { IfErr result (λ refusal. (on_entry tables.old.entries ch (λ t. table_change_refusal t settings) ≡ Some refusal)
+        × (tables.new.entries ≡ tables.old.entries)) }
+    ensures unique { IsUnique nat_eq tables.old → IsUnique nat_eq tables.new }
+{
+    match tables.get_mut(&ch) {
+        Some(table) => table.change(settings),
+        None => Err(Refusal::NoChannel),
+    }
 }
 
 /// Adds a flow to the channel.

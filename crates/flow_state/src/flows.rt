@@ -2,6 +2,7 @@ use crate::at_channel;
 use crate::channel::{Channel, ChannelRow};
 use crate::flow::{Flow, FlowKind, Lease, Waiting};
 use crate::refusal::Refusal;
+use crate::settings::ChannelSettings;
 use crate::table::ChannelTable;
 use indexmap::IndexMap;
 use std::alloc::Global;
@@ -36,8 +37,8 @@ impl Flows {
     ghost use Rattle.flow_state.specs.Limits.{IsDueTime, is_good_kind, last_sid, most_waiting};
     ghost use Rattle.flow_state.specs.Sound.{IsSound};
     ghost use Rattle.flow_state.specs.Rows.{FlowRow, Table, table_of, lent_flow, channel_at, flow_at, waiting_at};
-    ghost use Rattle.flow_state.specs.Refusals.{Refuses, set_channel_refusal, add_flow_refusal, drop_flow_refusal, request_refusal};
-    ghost use Rattle.flow_state.specs.Changes.{with_channel, is_known, lease_given, with_flow, without_flow, with_request, is_waiting, without_waiting, with_waiting, waiting_of, flow_row, with_due, with_cut_closed, TellsDue, with_cut_finished};
+    ghost use Rattle.flow_state.specs.Refusals.{Refuses, set_channel_refusal, change_channel_refusal, add_flow_refusal, drop_flow_refusal, request_refusal};
+    ghost use Rattle.flow_state.specs.Changes.{with_channel, with_settings_on, is_known, lease_given, with_flow, without_flow, with_request, is_waiting, without_waiting, with_waiting, waiting_of, flow_row, with_due, with_cut_closed, TellsDue, with_cut_finished};
 
     /// No channel is set.
     pub fn new(alloc: Global) -> Flows
@@ -48,13 +49,24 @@ impl Flows {
         }
     }
 
-    /// Sets a channel for good: its first MAP begins at its base, its Ack Time is 0. Refused are
+    /// Sets a channel, which stays: its first MAP begins at its base, its Ack Time is 0. Refused are
     /// values outside the limits and then a channel that is set.
     pub fn set_channel(&mut self, channel: Channel) -> Result<(), Refusal>
         ensures ok { OnOk result ((set_channel_refusal self.old channel ≡ None) × (self.new ≡ with_channel self.old channel)) }
         ensures err { IfErr result (λ refusal. Refuses (set_channel_refusal self.old channel) refusal × (self.new ≡ self.old)) }
     {
         at_channel::set_channel(&mut self.tables, channel)
+    }
+
+    /// Gives a channel that is set another UCD Count, PHY, size of short grants and back-offs. All else of it goes on:
+    /// where its next MAP begins, its Ack Time, leases, flows, due times and waiting requests. It takes no memory.
+    /// Refused are a channel that isn't set, and then values outside the limits, a count that is neither the channel's
+    /// nor the next one, and under the channel's count another PHY or size of short grants.
+    pub fn change_channel(&mut self, ch: u8, settings: ChannelSettings) -> Result<(), Refusal>
+        ensures ok { OnOk result ((change_channel_refusal self.old ch settings ≡ None) × (self.new ≡ with_settings_on self.old ch settings)) }
+        ensures err { IfErr result (λ refusal. (change_channel_refusal self.old ch settings ≡ Some refusal) × (self.new ≡ self.old)) }
+    {
+        at_channel::change_channel(&mut self.tables, ch, settings)
     }
 
     /// Adds a flow, and answers the lease of its SID, which ends with the last minislot that is asked

@@ -12,11 +12,16 @@ mod holders;
 mod leases;
 mod limits;
 mod refusal;
+mod settings;
 mod table;
 
 pub use channel::{Channel, ChannelRow, Phy};
 pub use flow::{Flow, FlowKind, Lease, Waiting};
 pub use flows::Flows;
-pub use limits::{LARGEST_SIZE, LAST_SID, LAST_TIME, LONGEST_INTERVAL, MOST_MINISLOTS};
+pub use limits::{
+    LARGEST_SIZE, LAST_BACKOFF, LAST_SID, LAST_TIME, LONGEST_INTERVAL, MOST_MINISLOTS,
+    limits_are_these,
+};
 pub use refusal::Refusal;
+pub use settings::ChannelSettings;
 pub use table::ChannelTable;

@@ -6,10 +6,10 @@ ghost use Rattle.std.specs.Option.{option_copied, option_map};
 ghost use Rattle.flow_state.specs.Limits.{IsDueTime, is_good_kind, last_sid, most_waiting};
 ghost use Rattle.flow_state.specs.Sound.{IsSound, Rise};
 ghost use Rattle.flow_state.specs.Rows.{FlowRow, lent_flow, due_flows, flow_of, waits, without_request, free_sid, lease_of};
-ghost use Rattle.flow_state.specs.Refusals.{Refuses, is_good_last, table_flow_refusal, table_drop_refusal, table_request_refusal, is_busy};
+ghost use Rattle.flow_state.specs.Refusals.{Refuses, is_good_last, table_change_refusal, table_flow_refusal, table_drop_refusal, table_request_refusal, is_busy};
 ghost use Rattle.flow_state.specs.StoredTable.{is_ended_in, EndFrom, AreNoted, is_due_stored};
 ghost use Rattle.flow_state.specs.StoredDues.{IsDueFrom};
-ghost use Rattle.flow_state.specs.Changes.{new_table, lease_for, flow_in_table, add_to_table, drop_in_table, request_in_table, waiting_in_table, due_in_table, close_table};
+ghost use Rattle.flow_state.specs.Changes.{new_table, change_in_table, lease_for, flow_in_table, add_to_table, drop_in_table, request_in_table, waiting_in_table, due_in_table, close_table};
 
 use crate::by_sid::FlowsBySid;
 use crate::channel::{Channel, ChannelRow};
@@ -18,6 +18,7 @@ use crate::flow::{Flow, FlowKind, Lease, Waiting};
 use crate::leases::Leases;
 use crate::limits::{LAST_TIME, MOST_WAITING};
 use crate::refusal::Refusal;
+use crate::settings::ChannelSettings;
 use std::alloc::{AllocError, Global};
 use std::marker::Model;
 
@@ -63,6 +64,18 @@ impl ChannelTable {
             dues: Dues::new(alloc),
             waiting: Vec::new(alloc),
         }
+    }
+
+    /// Gives the channel these settings.
+    pub(crate) fn change(&mut self, settings: ChannelSettings) -> Result<(), Refusal>
+        ensures ok { OnOk result ((table_change_refusal self.old settings ≡ None) × (self.new ≡ change_in_table self.old settings)) }
+        ensures err { IfErr result (λ refusal. (table_change_refusal self.old settings ≡ Some refusal) × (self.new ≡ self.old)) }
+    {
+        if !(settings.are_good() && settings.is_good_count(self.row.channel)) {
+            return Err(Refusal::BadValue);
+        }
+        self.row.channel = settings.given_to(self.row.channel);
+        Ok(())
     }
 
     /// The channel's row.

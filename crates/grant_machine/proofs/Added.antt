@@ -53,10 +53,11 @@ given_more n ls sid given = by (eqb n.sid sid) refl
 
 behind_kept : (sid start : ℕ) → Kept (λ t. Behind t sid start)
 behind_kept sid start = record {
+  change = λ t s ok b. record { given = b.given; past = b.past };
   flow = λ t modem tag last kind none ok b. record { given = given_more (new_lease t modem tag last (unwrap_or (free_sid t) 0)) t.leases sid b.given; past = b.past };
   drop = λ t at b. record { given = b.given; past = b.past };
   request = λ t at n sent ok b. record { given = b.given; past = b.past };
-  cut = λ t len not_before ack ok b. record { given = b.given; past = (let past = b.past in let later : t.row.next_start ≤ (span_of t.row len not_before).start = omega arith in omega arith) };
+  cut = λ t asks ok b. record { given = b.given; past = (let past = b.past in let later : t.row.next_start ≤ (span_of t.row asks.len asks.not_before).start = omega arith in omega arith) };
 }
 
 -- the grant is to a SID that was given, and begins before the channel's next MAP
@@ -69,9 +70,9 @@ behind_now rows c g w h =
     let cut = s.cut in
     let t : Table = cut.table in
     let p : Placement = s.placement in
-    let f : Filled = fill t cut.len cut.not_before cut.ack in
+    let f : Filled = fill t cut.settings in
     let well = w g.channel t cut.found in
-    let placed = (cut_placed t cut.len cut.not_before cut.ack well cut.ok).each p s.there in
+    let placed = (cut_placed t cut.settings well cut.ok).each p s.there in
     let flow : FlowRow = placed.leased.0 in
     let to : flow.sid ≡ p.sid = placed.leased.2 in
     let lease = flow_lease t flow (well.given flow placed.leased.1) in
@@ -120,13 +121,14 @@ told_as modem l lease sid first last = rw (sid, first, last) refl
 made_unheard : (rows : Rows) (c : Command) (t : Table) (lease : LeasedSid) → table_of rows lease.channel ≡ Some t → Changes c lease.channel t → TellsNot (accepted rows c).output lease → NotThere lease t → NotThere lease (made c t)
 made_unheard rows commands.Noop t lease found e none there = absurd e
 made_unheard rows (commands.Channel c) t lease found e none there = absurd e
+made_unheard rows (commands.Change at s) t lease found e none there = there
 made_unheard rows (commands.Flow at modem tag last kind) t lease found e none there =
     unheard_flow (lease_of t modem tag) t modem tag last kind lease (λ sid first until. none modem (
     ap (λ n. lease_output modem n (lease_given rows n modem tag last)) e.0 ∙ ap (λ o. lease_output modem lease.channel (lease_on o modem tag last)) found
     ∙ told_as modem (lease_for t modem tag last) lease sid first until)) there
 made_unheard rows (commands.Drop at other) t lease found e none there = there
 made_unheard rows (commands.Request at other m sent) t lease found e none there = there
-made_unheard rows (commands.Cut at len not_before ack) t lease found e none there = there
+made_unheard rows (commands.Cut at len not_before ack keep ranging sending) t lease found e none there = there
 
 unheard_step : (rows : Rows) (c : Command) (lease : LeasedSid) → TellsNot (step rows c).output lease → Unheard rows lease → Unheard (step rows c).rows lease
 unheard_step rows c lease none u t e = elim (before rows c lease.channel t e) [

@@ -3,17 +3,19 @@ use Rattle.std.proofs.Common.{◌≡◌, ◌≢◌, ◌⊎◌, ℕ, ◌<◌, ◌
 use Rattle.std.specs.List.{find, list_any}
 use Rattle.std.specs.Prelude.{unwrap_or}
 use Rattle.std.proofs.lemmas.Bool.{eqb-true, eqb-false, leb-false}
+use Rattle.flow_state.specs.declared.settings.ChannelSettings.{ChannelSettings}
 use Rattle.flow_state.specs.declared.flow.FlowKind.{FlowKind}
 use Rattle.flow_state.specs.declared.flow.Waiting.{Waiting}
 use Rattle.flow_state.specs.declared.flow.Lease.{Lease}
 use Rattle.flow_state.specs.Rows.{Table, FlowRow, is_of, is_of_sid, is_flow, lease_of, free_sid, first_of, put_lease, has_ended, lease_in}
-use Rattle.flow_state.specs.Refusals.{is_repeated, table_flow_refusal, table_request_refusal}
-use Rattle.flow_state.specs.Changes.{new_flow, new_lease, flow_among, drop_in_table, request_in_table}
+use Rattle.flow_state.specs.Refusals.{is_repeated, table_change_refusal, table_flow_refusal, table_request_refusal}
+use Rattle.flow_state.specs.Changes.{change_in_table, new_flow, new_lease, flow_among, drop_in_table, request_in_table}
 use Rattle.grant_machine_parts.specs.declared.placing.Placement.{Placement}
-use Rattle.grant_machine_parts.specs.Cutting.{is_grant_of, still_waiting, fill, fill_refusal, span_of, ack_of, end_of, table_after}
+use Rattle.grant_machine_parts.specs.declared.settings.CutSettings.{CutSettings}
+use Rattle.grant_machine_parts.specs.Cutting.{is_grant_of, still_waiting, fill, fill_refusal, span_of, end_of, table_after}
 use Rattle.flow_state.proofs.Callers.{Has, has_pushed, has_map, has_filter, found_has}
 use Rattle.flow_state.proofs.Callers.{eqb_same, put_found, put_others}
-use Rattle.flow_state.proofs.Callers.{IsWell, has_inserted, flow_is_well, drop_is_well, request_is_well, is_asked, asked, asked_same}
+use Rattle.flow_state.proofs.Callers.{IsWell, has_inserted, change_is_well, flow_is_well, drop_is_well, request_is_well, is_asked, asked, asked_same}
 use Rattle.grant_machine_parts.proofs.Callers.{is_cut, flow_from, cut_is_well}
 use Rattle.grant_machine.proofs.Reached.{Kept}
 use Rattle.grant_machine.proofs.Leases.{IsNew, is_new}
@@ -128,24 +130,28 @@ asked_request t at n next sid sent ok w =
           ]);
     }
 
-asked_cut : (t : Table) (len not_before ack sid sent : ℕ) → fill_refusal t.row len not_before ack ≡ None → WasAsked t sid sent → WasAsked (table_after t (fill t len not_before ack)) sid sent
-asked_cut t len not_before ack sid sent ok w = record {
-  well = cut_is_well t len not_before ack ok w.well;
+asked_cut : (t : Table) (asks : CutSettings) (sid sent : ℕ) → fill_refusal t.row asks ≡ None → WasAsked t sid sent → WasAsked (table_after t (fill t asks)) sid sent
+asked_cut t asks sid sent ok w = record {
+  well = cut_is_well t asks ok w.well;
   lease = w.lease;
   found = w.found;
   before = w.before;
   later = λ f h same.
-      let span = span_of t.row len not_before in
-      let m = flow_from t span (ack_of t.row ack span.start) f (is_cut t len not_before ack ok).end h in
+      let span = span_of t.row asks.len asks.not_before in
+      let m = flow_from t span asks f (is_cut t asks ok).end h in
       sent_same m.0 f sent m.2.first m.2.last_sent (w.later m.0 m.1 (sym m.2.sid ∙ same));
 }
 
+asked_change : (t : Table) (s : ChannelSettings) (sid sent : ℕ) → table_change_refusal t s ≡ None → WasAsked t sid sent → WasAsked (change_in_table t s) sid sent
+asked_change t s sid sent ok w = record { well = change_is_well t s ok w.well; lease = w.lease; found = w.found; before = w.before; later = w.later }
+
 pub asked_kept : (sid sent : ℕ) → Kept (λ t. WasAsked t sid sent)
 asked_kept sid sent = record {
+  change = λ t s ok w. asked_change t s sid sent ok w;
   flow = λ t modem tag last kind none ok w. asked_flow t modem tag last kind sid sent none ok w;
   drop = λ t at w. asked_drop t at sid sent w;
   request = λ t at n next ok w. asked_request t at n next sid sent ok w;
-  cut = λ t len not_before ack ok w. asked_cut t len not_before ack sid sent ok w;
+  cut = λ t asks ok w. asked_cut t asks sid sent ok w;
 }
 
 -- the request itself was accepted
@@ -165,10 +171,10 @@ asked_now t sid n sent ok w =
     }
 
 -- what waits after a MAP waited before it, and isn't granted by it
-pub waits_before : (t : Table) (len not_before ack : ℕ) (w : Waiting) → Has (fill t len not_before ack).waiting w → Has t.waiting w × (not (list_any (is_grant_of w) (fill t len not_before ack).placements) ≡ true)
-waits_before t len not_before ack w h =
-    let ps : List Placement = (fill t len not_before ack).placements in
-    has_filter (λ v. not (list_any (is_grant_of v) ps)) t.waiting w (has_filter (λ v. not (has_ended t (end_of (span_of t.row len not_before)) v)) (still_waiting ps t.waiting) w h).0
+pub waits_before : (t : Table) (asks : CutSettings) (w : Waiting) → Has (fill t asks).waiting w → Has t.waiting w × (not (list_any (is_grant_of w) (fill t asks).placements) ≡ true)
+waits_before t asks w h =
+    let ps : List Placement = (fill t asks).placements in
+    has_filter (λ v. not (list_any (is_grant_of v) ps)) t.waiting w (has_filter (λ v. not (has_ended t (end_of (span_of t.row asks.len asks.not_before)) v)) (still_waiting ps t.waiting) w h).0
 
 -- ---- a request that was accepted, and waits no longer
 
@@ -193,11 +199,12 @@ gone_request t at n next sid sent ok g =
 
 pub gone_kept : (sid sent : ℕ) → Kept (λ t. IsGone t sid sent)
 gone_kept sid sent = record {
+  change = λ t s ok g. record { past = asked_change t s sid sent ok g.past; none = g.none };
   flow = λ t modem tag last kind none ok g. record { past = asked_flow t modem tag last kind sid sent none ok g.past; none = g.none };
   drop = λ t at g. record { past = asked_drop t at sid sent g.past; none = λ w h. g.none w (has_filter (λ v. not (is_of at v)) t.waiting w h).0 };
   request = λ t at n next ok g. gone_request t at n next sid sent ok g;
-  cut = λ t len not_before ack ok g. record {
-    past = asked_cut t len not_before ack sid sent ok g.past;
-    none = λ w h. g.none w (waits_before t len not_before ack w h).0;
+  cut = λ t asks ok g. record {
+    past = asked_cut t asks sid sent ok g.past;
+    none = λ w h. g.none w (waits_before t asks w h).0;
   };
 }

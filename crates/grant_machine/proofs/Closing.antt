@@ -7,9 +7,8 @@ use Rattle.minislot_time.specs.Extent.{Extent}
 use Rattle.map_body.specs.declared.element.Element.{Element}
 use Rattle.map_body.specs.Layout.{layout}
 use Rattle.flow_state.specs.declared.refusal.Refusal.TheVariants.{NoChannel, BadValue}
-use Rattle.grant_machine.specs.declared.command.Command.TheVariants as commands
 use Rattle.grant_machine.specs.declared.output.Output.TheVariants as outputs
-use Rattle.grant_machine.specs.Steps.{Step, step, step_on, cut_on, cut_step}
+use Rattle.grant_machine.specs.Steps.{cut_command, Step, step, step_on, cut_on, cut_step}
 use Rattle.flow_state.specs.declared.channel.Channel.{Channel}
 use Rattle.flow_state.specs.declared.flow.Flow.{Flow}
 use Rattle.flow_state.specs.declared.flow.FlowKind.{FlowKind}
@@ -19,6 +18,7 @@ use Rattle.flow_state.specs.Rows.{Rows, Table, FlowRow, is_table, table_of, chan
 use Rattle.flow_state.specs.Changes.{waiting_of, close_table, told_due, TellsDue, finish_table, with_cut_finished}
 use Rattle.grant_machine.specs.declared.cut.Draft.{Draft}
 use Rattle.grant_machine_parts.specs.declared.placing.Placement.{Placement}
+use Rattle.grant_machine_parts.specs.declared.settings.CutSettings.{CutSettings}
 use Rattle.grant_machine_parts.specs.Cutting.{Filled, fill, fill_refusal, span_of, ack_of, end_of, in_order, still_waiting, is_grant_of, flows_left, requests_left, table_after, flows_served}
 use Rattle.grant_machine_parts.specs.Drawing.{begins_at, null_element, pending_element, elements_of, head_of}
 use Rattle.grant_machine.specs.Runs.{IsReached}
@@ -181,18 +181,18 @@ ended_same end sid (f ∷ fs) (g ∷ gs) z =
 abbrev after_of : Table → (end ack : ℕ) → (fs : List FlowRow) → (ws : List Waiting) → Table
 after_of t end ack fs ws = close_table (record t { flows = fs; waiting = ws }) end ack
 
-module _ (rows : Rows) (ch : ℕ) (t : Table) (len not_before ack : ℕ) (x : Draft) (reached : IsReached rows) (found : table_of rows ch ≡ Some t) (ok : fill_refusal t.row len not_before ack ≡ None) (by : IsFilledBy t (span_of t.row len not_before) x) where
+module _ (rows : Rows) (ch : ℕ) (t : Table) (asks : CutSettings) (x : Draft) (reached : IsReached rows) (found : table_of rows ch ≡ Some t) (ok : fill_refusal t.row asks ≡ None) (by : IsFilledBy t (span_of t.row asks.len asks.not_before) asks x) where
   abbrev filled : Filled
-  filled = fill t len not_before ack
+  filled = fill t asks
 
   abbrev span : Extent
-  span = span_of t.row len not_before
+  span = span_of t.row asks.len asks.not_before
 
   well : IsWell t
   well = reached_is_well rows reached ch t found
 
-  ended : end_of (span_of t.row len not_before) ≤ last_time
-  ended = (is_cut t len not_before ack ok).end
+  ended : end_of (span_of t.row asks.len asks.not_before) ≤ last_time
+  ended = (is_cut t asks ok).end
 
   rows_told : map (told_due x.flows.items) t.flows ≡ flows_served t span
   rows_told =
@@ -203,7 +203,7 @@ module _ (rows : Rows) (ch : ℕ) (t : Table) (len not_before ack : ℕ) (x : Dr
   waits_on = still_waiting filled.placements t.waiting
 
   requests_kept : still_waiting x.filling.placements (waiting_of (table_of rows ch)) ≡ waits_on
-  requests_kept = ap (λ (o : Option Table). still_waiting x.filling.placements (waiting_of o)) found ∙ ap (λ (ps : List Placement). still_waiting ps t.waiting) (by.placements filled.ack)
+  requests_kept = ap (λ (o : Option Table). still_waiting x.filling.placements (waiting_of o)) found ∙ ap (λ (ps : List Placement). still_waiting ps t.waiting) by.placements
 
   -- what closing takes out is what ends with the MAP
   closed_is : after_of t (end_of span) filled.ack (flows_served t span) waits_on ≡ table_after t filled
@@ -267,64 +267,68 @@ waiting_in_order t span ps rs le is lasts =
 abbrev drawn : Channel → List Placement → ℕ → List Waiting → List Element
 drawn c ps len rs = filter_map (begins_at ps) (range_with_len 0 len) ++ null_element len ∷ map (pending_element c len) rs
 
-pub elements_are : (t : Table) (len not_before ack : ℕ) (x : Draft) (c : Channel) → end_of (span_of t.row len not_before) ≤ last_time → t.row.channel ≡ c → IsFilledBy t (span_of t.row len not_before) x → elements_in c x ≡ elements_of t (fill t len not_before ack)
-elements_are t len not_before ack x c le same by =
-    let f : Filled = fill t len not_before ack in
+pub elements_are : (t : Table) (asks : CutSettings) (x : Draft) (c : Channel) → end_of (span_of t.row asks.len asks.not_before) ≤ last_time → t.row.channel ≡ c → IsFilledBy t (span_of t.row asks.len asks.not_before) asks x → elements_in c x ≡ elements_of t (fill t asks)
+elements_are t asks x c le same by =
+    let f : Filled = fill t asks in
     ap (λ (d : Channel). elements_in d x) (sym same)
     ∙ ap (λ (s : Extent). drawn t.row.channel x.filling.placements s.len (still_waiting x.filling.placements (requests_in (going_on (end_of s) x.ranked.items)))) by.span_is
-    ∙ ap (λ (ps : List Placement). drawn t.row.channel ps len (still_waiting ps (requests_in (going_on (end_of f.span) x.ranked.items)))) (by.placements f.ack)
-    ∙ ap (λ (ws : List Waiting). drawn t.row.channel f.placements len ws) (waiting_in_order t f.span f.placements x.ranked.items le by.requests by.lasts)
+    ∙ ap (λ (ps : List Placement). drawn t.row.channel ps asks.len (still_waiting ps (requests_in (going_on (end_of f.span) x.ranked.items)))) by.placements
+    ∙ ap (λ (ws : List Waiting). drawn t.row.channel f.placements asks.len ws) (waiting_in_order t f.span f.placements x.ranked.items le by.requests by.lasts)
 
 -- ---- a cut that isn't refused
 
 -- a MAP may begin where it does, with the Ack Time that it has
-pub good_again : (t : Table) (len not_before ack : ℕ) → IsReachedTable t → fill_refusal t.row len not_before ack ≡ None
-    → fill_refusal t.row len (max t.row.next_start not_before) (ack_of t.row ack (max t.row.next_start not_before)) ≡ None
-good_again t len not_before ack r ok =
-    let cut = is_cut t len not_before ack ok in
+abbrev pub settled : Table → CutSettings → CutSettings
+settled t asks = record asks { not_before = max t.row.next_start asks.not_before; ack = ack_of t.row asks.ack (max t.row.next_start asks.not_before) }
+
+pub good_again : (t : Table) (asks : CutSettings) → IsReachedTable t → fill_refusal t.row asks ≡ None
+    → fill_refusal t.row (settled t asks) ≡ None
+good_again t asks r ok =
+    let cut = is_cut t asks ok in
     let early = table_early t r in
     let some = cut.some in
     let most = cut.most in
     let end = cut.end in
-    within _ _ _ _ _ (le-leb 1 len some) (le-leb len most_minislots most) (le-leb (max t.row.next_start not_before) last_time (omega (arith, end)))
-    (le-leb (ack_of t.row ack (max t.row.next_start not_before)) last_time (omega (arith, early.0, early.1, end)))
-    (le-leb (max t.row.next_start (max t.row.next_start not_before) + len) last_time (omega (arith, end)))
+    within _ _ _ _ _ _ (le-leb 1 asks.len some) (le-leb asks.len most_minislots most) (le-leb (max t.row.next_start asks.not_before) last_time (omega (arith, end)))
+    (le-leb (ack_of t.row asks.ack (max t.row.next_start asks.not_before)) last_time (omega (arith, early.0, early.1, end)))
+    (le-leb (max t.row.next_start (max t.row.next_start asks.not_before) + asks.len) last_time (omega (arith, end)))
+    cut.limits
   where
-    within : (a b c d e : Bool) → a ≡ true → b ≡ true → c ≡ true → d ≡ true → e ≡ true → cond (a && b && c && d && e) None (Some BadValue) ≡ None
-    within a b c d e pa pb pc pd pe = rw (pa, pb, pc, pd, pe) refl
+    within : (a b c d e f : Bool) → a ≡ true → b ≡ true → c ≡ true → d ≡ true → e ≡ true → f ≡ true → cond (a && b && c && d && e && f) None (Some BadValue) ≡ None
+    within a b c d e f pa pb pc pd pe pf = rw (pa, pb, pc, pd, pe, pf) refl
 
 -- a MAP that begins no earlier than it may is filled from its own beginning
-pub filled_again : (t : Table) (len start : ℕ) (x : Draft) → t.row.next_start ≤ start → IsFilledBy t (record { start = start; len = len }) x → IsFilledBy t (span_of t.row len start) x
-filled_again t len start x begun by = subst (λ n. IsFilledBy t (record { start = n; len = len }) x) (let same : start ≡ max t.row.next_start start = omega (arith, begun) in same) by
+pub filled_again : (t : Table) (asks : CutSettings) (x : Draft) → t.row.next_start ≤ asks.not_before → IsFilledBy t (record { start = asks.not_before; len = asks.len }) asks x → IsFilledBy t (span_of t.row asks.len asks.not_before) asks x
+filled_again t asks x begun by = subst (λ n. IsFilledBy t (record { start = n; len = asks.len }) asks x) (let same : asks.not_before ≡ max t.row.next_start asks.not_before = omega (arith, begun) in same) by
 
-module _ (t : Table) (len not_before ack : ℕ) (x : Draft) (r : IsReachedTable t) (ok : fill_refusal t.row len not_before ack ≡ None) (by : IsFilledBy t (span_of t.row len not_before) x) where
+module _ (t : Table) (asks : CutSettings) (x : Draft) (r : IsReachedTable t) (ok : fill_refusal t.row asks ≡ None) (by : IsFilledBy t (span_of t.row asks.len asks.not_before) asks x) where
   abbrev made : Filled
-  made = fill t len not_before ack
+  made = fill t asks
 
   well_table : IsWell t
   well_table = reached_is_well r.rows r.reached r.channel t r.found
 
   drawn_are : elements_in t.row.channel x ≡ elements_of t made
-  drawn_are = elements_are t len not_before ack x t.row.channel (is_cut t len not_before ack ok).end refl by
+  drawn_are = elements_are t asks x t.row.channel (is_cut t asks ok).end refl by
 
   pub made_unicast : AllByRecursion IsUnicast x.ranked.items
   made_unicast = unicast t well_table x.ranked.items by.requests
 
   pub made_few : length (elements_in t.row.channel x) ≤ 255
-  made_few = let few = cut_few t len not_before ack well_table ok in let same : length (elements_in t.row.channel x) ≡ length (elements_of t made) = ap length drawn_are in omega arith
+  made_few = let few = cut_few t asks well_table ok in let same : length (elements_in t.row.channel x) ≡ length (elements_of t made) = ap length drawn_are in omega arith
 
   pub made_tell : AllByRecursion (TellsDue t) x.flows.items
-  made_tell = all_tell r.rows r.channel t len not_before ack x r.reached r.found ok by
+  made_tell = all_tell r.rows r.channel t asks x r.reached r.found ok by
 
-  step_is : step r.rows (commands.Cut r.channel len not_before ack) ≡ cut_step r.rows r.channel t made
+  step_is : step r.rows (cut_command r.channel asks) ≡ cut_step r.rows r.channel t made
   step_is =
-      ap (λ o. step_on (option_map_or (λ u. fill_refusal u.row len not_before ack) o (Some NoChannel)) r.rows (commands.Cut r.channel len not_before ack)) r.found
-      ∙ ap (λ o. step_on o r.rows (commands.Cut r.channel len not_before ack)) ok
-      ∙ ap (λ o. cut_on o r.rows r.channel len not_before ack) r.found
+      ap (λ o. step_on (option_map_or (λ u. fill_refusal u.row asks) o (Some NoChannel)) r.rows (cut_command r.channel asks)) r.found
+      ∙ ap (λ o. step_on o r.rows (cut_command r.channel asks)) ok
+      ∙ ap (λ o. cut_on o r.rows r.channel asks) r.found
 
-  pub made_rows : rows_closed r.rows r.channel x.flows.items x.filling.placements (end_of x.filling.span) made.ack ≡ (step r.rows (commands.Cut r.channel len not_before ack)).rows
-  made_rows = closed_rows r.rows r.channel t len not_before ack x r.reached r.found ok by ∙ ap (λ (s : Step). s.rows) (sym step_is)
+  pub made_rows : rows_closed r.rows r.channel x.flows.items x.filling.placements (end_of x.filling.span) made.ack ≡ (step r.rows (cut_command r.channel asks)).rows
+  made_rows = closed_rows r.rows r.channel t asks x r.reached r.found ok by ∙ ap (λ (s : Step). s.rows) (sym step_is)
 
-  pub made_output : outputs.Map r.channel made.span.start len (layout (head_of t.row.channel made.span.start made.ack) (elements_in t.row.channel x) 0) ≡ (step r.rows (commands.Cut r.channel len not_before ack)).output
+  pub made_output : outputs.Map r.channel made.span.start asks.len (layout (head_of made.told made.span.start made.ack) (elements_in t.row.channel x) 0) ≡ (step r.rows (cut_command r.channel asks)).output
   made_output =
-      ap (λ (es : List Element). outputs.Map r.channel made.span.start len (layout (head_of t.row.channel made.span.start made.ack) es 0)) drawn_are ∙ ap (λ (s : Step). s.output) (sym step_is)
+      ap (λ (es : List Element). outputs.Map r.channel made.span.start asks.len (layout (head_of made.told made.span.start made.ack) es 0)) drawn_are ∙ ap (λ (s : Step). s.output) (sym step_is)

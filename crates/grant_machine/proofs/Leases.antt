@@ -16,11 +16,12 @@ use Rattle.grant_machine.specs.declared.command.Command.{Command}
 use Rattle.grant_machine.specs.declared.command.Command.TheVariants as commands
 use Rattle.grant_machine.specs.declared.output.Output.{Output}
 use Rattle.grant_machine.specs.declared.output.Output.TheVariants as outputs
-use Rattle.grant_machine.specs.Steps.{step, step_on, refusal_of, accepted, cut_on}
+use Rattle.grant_machine.specs.Steps.{cut_settings, step, step_on, refusal_of, accepted, cut_on}
 use Rattle.grant_machine.specs.Runs.{outputs_from}
 use Rattle.grant_machine.specs.Laws.{InLease, LeasesAreApart}
 use Rattle.grant_machine.proofs.Turns.{found_changed}
 use Rattle.grant_machine.proofs.Reached.{Kept, At, at_step, Stands, stands_step}
+use Rattle.grant_machine_parts.specs.declared.settings.CutSettings.{CutSettings}
 
 -- ---- the lease of a flow that is added
 
@@ -92,10 +93,11 @@ kept_new t modem tag last sid new s m first until p same =
 
 told_kept : (s m first until : ℕ) → Kept (λ t. Told t s m first until)
 told_kept s m first until = record {
+  change = λ t s ok p. record { lease = p.lease; found = p.found; is = p.is };
   flow = λ t modem tag last kind e ok p. by t modem tag last kind (unwrap_or (free_sid t) 0) (is_new t modem tag last kind e ok) p (eqb (unwrap_or (free_sid t) 0) s) refl;
   drop = λ t sid p. record { lease = p.lease; found = p.found; is = p.is };
   request = λ t sid n sent ok p. record { lease = p.lease; found = p.found; is = p.is };
-  cut = λ t len not_before ack ok p. record {
+  cut = λ t asks ok p. record {
     lease = p.lease;
     found = p.found;
     is = elim p.is [ inl is ↦ inl is | inr is ↦ inr (is.0, (let past = is.1 in omega arith)) ];
@@ -114,10 +116,11 @@ told_kept s m first until = record {
 
 back_kept : Kept (λ t. LeadBack t.leases)
 back_kept = record {
+  change = λ t s ok back. back;
   flow = λ t modem tag last kind none ok back. put_back (new_lease t modem tag last (unwrap_or (free_sid t) 0)) t.leases back;
   drop = λ t sid back. back;
   request = λ t sid n sent ok back. back;
-  cut = λ t len not_before ack ok back. back;
+  cut = λ t asks ok back. back;
 }
 
 -- the lease of a flow that is added is its SID's latest
@@ -179,20 +182,21 @@ KnowsTold rows (outputs.Refused number) = Unit {0}
 step_knows : (rows : Rows) (c : Command) → AllLeadBack rows → KnowsTold (step rows c).rows (step rows c).output
 step_knows rows c good = by (refusal_of rows c) refl
   where
-    cut_knows : (o : Option Table) (at len not_before ack : ℕ) → KnowsTold (cut_on o rows at len not_before ack).rows (cut_on o rows at len not_before ack).output
-    cut_knows (Some t) at len not_before ack = tt
-    cut_knows None at len not_before ack = tt
+    cut_knows : (o : Option Table) (at : ℕ) (asks : CutSettings) → KnowsTold (cut_on o rows at asks).rows (cut_on o rows at asks).output
+    cut_knows (Some t) at asks = tt
+    cut_knows None at asks = tt
 
     on : (c : Command) → refusal_of rows c ≡ None → KnowsTold (accepted rows c).rows (accepted rows c).output
     on commands.Noop ok = tt
     on (commands.Channel n) ok = tt
+    on (commands.Change at s) ok = tt
     on (commands.Flow at modem tag last kind) ok =
         let f = flow_step_is rows at modem tag last kind ok in
         subst (λ (l : Lease). IsLatest (with_flow rows at modem tag last kind) at l.sid modem l.first l.last) (sym f.gives)
         (record { table = flow_in_table f.table modem tag last kind; found = f.after; holds = gives_latest (lease_of f.table modem tag) f.table modem tag last kind refl (good at f.table f.found) })
     on (commands.Drop at s) ok = tt
     on (commands.Request at s n sent) ok = tt
-    on (commands.Cut at len not_before ack) ok = cut_knows (table_of rows at) at len not_before ack
+    on (commands.Cut at len not_before ack keep ranging sending) ok = cut_knows (table_of rows at) at (cut_settings len not_before ack keep ranging sending)
 
     by : (o : Option Refusal) → refusal_of rows c ≡ o → KnowsTold (step_on o rows c).rows (step_on o rows c).output
     by (Some r) h = tt

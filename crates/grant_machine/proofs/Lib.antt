@@ -4,6 +4,7 @@ pub mod Cuts
 pub mod Asked
 pub mod Requests
 pub mod Tellings
+pub mod Counts
 pub mod Schedules
 pub mod Timely
 pub mod Maps
@@ -14,4 +15,5 @@ pub mod Standing
 pub mod Settling
 pub mod Closing
 pub mod Reaching
+pub mod Keeping
 pub mod Callers

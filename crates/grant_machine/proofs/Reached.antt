@@ -3,29 +3,32 @@ use Rattle.std.proofs.Common.{◌≡◌, ℕ, true, cond, not, List, [], ◌∷�
 use Rattle.std.specs.List.{AllByRecursion}
 use Rattle.std.proofs.lemmas.Bool.{not-false}
 use Rattle.flow_state.specs.declared.channel.Channel.{Channel}
+use Rattle.flow_state.specs.declared.settings.ChannelSettings.{ChannelSettings}
 use Rattle.flow_state.specs.declared.flow.FlowKind.{FlowKind}
 use Rattle.flow_state.specs.declared.refusal.Refusal.TheVariants.{BadValue, ChannelThere}
 use Rattle.flow_state.specs.Limits.{is_good_channel}
 use Rattle.flow_state.specs.declared.flow.Lease.{Lease}
 use Rattle.flow_state.specs.Rows.{Rows, Table, table_of, lease_of}
-use Rattle.flow_state.specs.Refusals.{table_flow_refusal, table_request_refusal}
-use Rattle.flow_state.specs.Changes.{new_table, flow_among, drop_in_table, request_in_table}
+use Rattle.flow_state.specs.Refusals.{table_change_refusal, table_flow_refusal, table_request_refusal}
+use Rattle.flow_state.specs.Changes.{new_table, change_in_table, flow_among, drop_in_table, request_in_table}
 use Rattle.grant_machine.specs.declared.command.Command.{Command}
 use Rattle.grant_machine.specs.declared.command.Command.TheVariants as commands
+use Rattle.grant_machine_parts.specs.declared.settings.CutSettings.{CutSettings}
 use Rattle.grant_machine_parts.specs.Cutting.{fill, fill_refusal, table_after}
-use Rattle.grant_machine.specs.Steps.{step, refusal_of}
+use Rattle.grant_machine.specs.Steps.{cut_settings, step, refusal_of}
 use Rattle.grant_machine.specs.Runs.{rows_from, IsReached}
 use Rattle.grant_machine.specs.Fits.{FitsChannel, FitsCommand}
-use Rattle.flow_state.proofs.Callers.{IsWell, new_is_well, flow_is_well, drop_is_well, request_is_well, passes_on}
+use Rattle.flow_state.proofs.Callers.{IsWell, new_is_well, change_is_well, flow_is_well, drop_is_well, request_is_well, passes_on}
 use Rattle.grant_machine_parts.proofs.Callers.{cut_is_well}
 use Rattle.grant_machine.proofs.Turns.{made, Changes, after, before}
 
 -- each accepted command keeps what holds of a table; a flow whose modem and tag have a lease changes nothing
 pub record Kept (P : Table → Type 0) : Type 0 where
+  pub change : (t : Table) (s : ChannelSettings) → table_change_refusal t s ≡ None → P t → P (change_in_table t s)
   pub flow : (t : Table) (modem tag last : ℕ) (kind : FlowKind) → lease_of t modem tag ≡ None → table_flow_refusal t modem tag last kind ≡ None → P t → P (flow_among None t modem tag last kind)
   pub drop : (t : Table) (sid : ℕ) → P t → P (drop_in_table t sid)
   pub request : (t : Table) (sid n sent : ℕ) → table_request_refusal t sid n sent ≡ None → P t → P (request_in_table t sid n sent)
-  pub cut : (t : Table) (len not_before ack : ℕ) → fill_refusal t.row len not_before ack ≡ None → P t → P (table_after t (fill t len not_before ack))
+  pub cut : (t : Table) (asks : CutSettings) → fill_refusal t.row asks ≡ None → P t → P (table_after t (fill t asks))
 
 -- it holds of the channel's table, if there is one; and there is one
 abbrev pub At : (Table → Type 0) → Rows → ℕ → Type 0
@@ -40,6 +43,7 @@ module _ (P : Table → Type 0) (kept : Kept P) where
   pub made_kept : (c : Command) (ch : ℕ) (t : Table) → Changes c ch t → P t → P (made c t)
   made_kept commands.Noop ch t e h = absurd e
   made_kept (commands.Channel n) ch t e h = absurd e
+  made_kept (commands.Change at s) ch t e h = kept.change t s e.1 h
   made_kept (commands.Flow at modem tag last kind) ch t e h = by (lease_of t modem tag) refl
     where
       by : (o : Option Lease) → lease_of t modem tag ≡ o → P (flow_among o t modem tag last kind)
@@ -47,7 +51,7 @@ module _ (P : Table → Type 0) (kept : Kept P) where
       by None f = kept.flow t modem tag last kind f e.1 h
   made_kept (commands.Drop at sid) ch t e h = kept.drop t sid h
   made_kept (commands.Request at sid n sent) ch t e h = kept.request t sid n sent e.1 h
-  made_kept (commands.Cut at len not_before ack) ch t e h = kept.cut t len not_before ack e.1 h
+  made_kept (commands.Cut at len not_before ack keep ranging sending) ch t e h = kept.cut t (cut_settings len not_before ack keep ranging sending) e.1 h
 
   pub at_step : (rows : Rows) (c : Command) (ch : ℕ) → ((n : Channel) → c ≡ commands.Channel n → refusal_of rows c ≡ None → P (new_table n)) → At P rows ch → At P (step rows c).rows ch
   at_step rows c ch new holds u e = elim (before rows c ch u e) [
@@ -66,6 +70,7 @@ module _ (P : Table → Type 0) (kept : Kept P) where
 
 pub wells_kept : Kept IsWell
 wells_kept = record {
+  change = change_is_well;
   flow = λ t modem tag last kind none ok w. flow_is_well None t modem tag last kind none ok w;
   drop = drop_is_well;
   request = request_is_well;
@@ -94,24 +99,10 @@ rows_keep P keeps rows (c ∷ cs) h = rows_keep P keeps (step rows c).rows cs (k
 pub reached_is_well : (rows : Rows) → IsReached rows → AllWell rows
 reached_is_well rows r = subst AllWell r.2 (rows_keep AllWell well_step [] r.0 none_well)
 
--- ---- what is known of the channel of a table
-
-module _ (P : Channel → Type 0) where
-  abbrev pub OfChannel : Table → Type 0
-  OfChannel t = P t.row.channel
-
-  pub channel_kept : Kept OfChannel
-  channel_kept = record {
-    flow = λ t modem tag last kind none ok h. h;
-    drop = λ t sid h. h;
-    request = λ t sid n sent ok h. h;
-    cut = λ t len not_before ack ok h. h;
-  }
-
 -- ---- channels as the program can hold them
 
 abbrev pub FitsTable : Table → Type 0
-FitsTable = OfChannel FitsChannel
+FitsTable t = FitsChannel t.row.channel
 
 abbrev pub AllFit : Rows → Type 0
 AllFit rows = (ch : ℕ) → At FitsTable rows ch
@@ -119,8 +110,36 @@ AllFit rows = (ch : ℕ) → At FitsTable rows ch
 pub none_fit : AllFit []
 none_fit ch t e = absurd cc
 
+made_fits : (c : Command) (ch : ℕ) (t : Table) → FitsCommand c → Changes c ch t → FitsTable t → FitsTable (made c t)
+made_fits commands.Noop ch t fits e h = absurd e
+made_fits (commands.Channel n) ch t fits e h = absurd e
+made_fits (commands.Change at s) ch t fits e h =
+    let given = fits.1 in
+    record {
+      id = h.id;
+      ucd = given.ucd;
+      short_max = given.short_max;
+      ranging_start = given.ranging_start;
+      ranging_end = given.ranging_end;
+      data_start = given.data_start;
+      data_end = given.data_end;
+      base = h.base;
+    }
+made_fits (commands.Flow at modem tag last kind) ch t fits e h = by (lease_of t modem tag)
+  where
+    by : (o : Option Lease) → FitsTable (flow_among o t modem tag last kind)
+    by (Some a) = h
+    by None = h
+made_fits (commands.Drop at sid) ch t fits e h = h
+made_fits (commands.Request at sid n sent) ch t fits e h = h
+made_fits (commands.Cut at len not_before ack keep ranging sending) ch t fits e h = h
+
 pub fit_step : (rows : Rows) (c : Command) → FitsCommand c → AllFit rows → AllFit (step rows c).rows
-fit_step rows c fits w ch = at_step FitsTable (channel_kept FitsChannel) rows c ch (λ n is good. subst FitsCommand is fits) (w ch)
+fit_step rows c fits w ch u e = elim (before rows c ch u e) [
+  | inl old ↦ w ch u old
+  | inr (inl set) ↦ subst FitsTable set.is (subst FitsCommand set.asked fits)
+  | inr (inr (t, found, makes)) ↦ subst FitsTable makes.is (made_fits c ch t fits makes.changes (w ch t found))
+]
 
 pub fit_rows : (rows : Rows) (cs : List Command) → AllByRecursion FitsCommand cs → AllFit rows → AllFit (rows_from rows cs)
 fit_rows rows [] fits w = w

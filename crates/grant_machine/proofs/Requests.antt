@@ -1,5 +1,5 @@
 -- A request is accepted once at most, and granted once at most, whole.
-use Rattle.std.proofs.Common.{◌≡◌, ◌⊎◌, ℕ, zero, suc, ◌+◌, ◌-◌, ◌<◌, ◌≤◌, Bool, true, false, cond, not, ◌&&◌, List, [], ◌∷◌, ◌++◌, map, filter, length, Option, Some, None, refl, sym, ap, subst, ◌∙◌, arith, inl, inr, eqb, slice_get, length-append}
+use Rattle.std.proofs.Common.{◌≡◌, ◌⊎◌, ℕ, zero, suc, ◌+◌, ◌<◌, ◌≤◌, Bool, true, false, cond, not, ◌&&◌, List, [], ◌∷◌, ◌++◌, map, filter, length, Option, Some, None, refl, sym, ap, subst, ◌∙◌, arith, inl, inr, eqb, slice_get, length-append}
 use Rattle.std.proofs.lemmas.Option.{same_Some}
 use Rattle.std.specs.List.{find}
 use Rattle.std.proofs.lemmas.Bool.{eqb-true, and_parts, and_right, false_from_ne_true}
@@ -18,10 +18,10 @@ use Rattle.grant_machine.specs.declared.output.Output.TheVariants as outputs
 use Rattle.grant_machine_parts.specs.declared.placing.Cause.{Cause}
 use Rattle.grant_machine_parts.specs.declared.placing.Placement.{Placement}
 use Rattle.grant_machine_parts.specs.declared.placing.Cause.TheVariants.{Window, Sent}
-use Rattle.grant_machine_parts.specs.Placing.{first_fit}
 use Rattle.grant_machine_parts.specs.declared.due_times.Periodic.{Periodic}
-use Rattle.grant_machine_parts.specs.Cutting.{span_of, Passed, pass, grants_of_flow, polls_of_flow, in_order, placement_at, placement_for, place_requests, is_cause_sent, is_grant_of, Filled, fill, fill_span, end_of, table_after}
-use Rattle.grant_machine.specs.Steps.{step, step_on, accepted}
+use Rattle.grant_machine_parts.specs.declared.settings.CutSettings.{CutSettings}
+use Rattle.grant_machine_parts.specs.Cutting.{span_of, Passed, pass, grants_of_flow, polls_of_flow, in_order, placement_at, placement_for, request_fit, place_requests, is_cause_sent, is_grant_of, Filled, fill, fill_span, table_after}
+use Rattle.grant_machine.specs.Steps.{cut_settings, step, step_on, accepted}
 use Rattle.grant_machine.specs.Runs.{outputs_from, grants_from, Grant, grant_of, step_grants}
 use Rattle.grant_machine.specs.Laws.{RequestsAreGrantedOnce, IsGrantedAt}
 use Rattle.flow_state.proofs.Callers.{Has, has_at, has_either, has_pushed, has_filter, filter_has, filter_empty, has_any}
@@ -98,11 +98,11 @@ passes_none span what fs sid sent ps none =
     filter_append (its sid sent) qs (placement_at p i x ∷ []) ∙ ap (λ (rs : List Placement). rs ++ filter (its sid sent) (placement_at p i x ∷ [])) empty
     ∙ ap (λ b. cond b (placement_at p i x ∷ []) []) (and_right (eqb p.sid sid) false refl)) ps none
 
-requests_count : (span : Extent) (c : Channel) (last : ℕ → ℕ) (sid sent : ℕ) (ws : List Waiting) (ps : List Placement) → length (filter (its sid sent) (place_requests span c last ws ps)) ≤ length (filter (its sid sent) ps) + length (filter (is_of sid) ws)
-requests_count span c last sid sent [] ps = omega arith
-requests_count span c last sid sent (w ∷ ws) ps =
-    let later = λ (qs : List Placement). requests_count span c last sid sent ws qs in
-    elim (first_fit span ps w.n span.start (end_of span - w.n) (last w.sid)) as (λ o. length (filter (its sid sent) (elim o [ Some x ↦ place_requests span c last ws (ps ++ placement_for c w x ∷ []) | None ↦ place_requests span c last ws ps ]))
+requests_count : (span : Extent) (c : Channel) (keep : ℕ) (last : ℕ → ℕ) (sid sent : ℕ) (ws : List Waiting) (ps : List Placement) → length (filter (its sid sent) (place_requests span c keep last ws ps)) ≤ length (filter (its sid sent) ps) + length (filter (is_of sid) ws)
+requests_count span c keep last sid sent [] ps = omega arith
+requests_count span c keep last sid sent (w ∷ ws) ps =
+    let later = λ (qs : List Placement). requests_count span c keep last sid sent ws qs in
+    elim (request_fit span keep last w ps) as (λ o. length (filter (its sid sent) (elim o [ Some x ↦ place_requests span c keep last ws (ps ++ placement_for c w x ∷ []) | None ↦ place_requests span c keep last ws ps ]))
     ≤ length (filter (its sid sent) ps) + length (cond (eqb w.sid sid) (w ∷ filter (is_of sid) ws) (filter (is_of sid) ws))) [
       | Some x ↦
           let more = later (ps ++ placement_for c w x ∷ []) in
@@ -121,15 +121,15 @@ requests_count span c last sid sent (w ∷ ws) ps =
     none true all old le = omega arith
     none false all old le = le
 
-fill_count : (t : Table) (span : Extent) (ack sid sent : ℕ) → length (filter (its sid sent) (fill_span t span ack).placements) ≤ length (filter (is_of sid) t.waiting)
-fill_count t span ack sid sent =
+fill_count : (t : Table) (span : Extent) (asks : CutSettings) (sid sent : ℕ) → length (filter (its sid sent) (fill_span t span asks).placements) ≤ length (filter (is_of sid) t.waiting)
+fill_count t span asks sid sent =
     let c : Channel = t.row.channel in
     let first : Passed = pass span (grants_of_flow c) t.flows [] in
     let second : Passed = pass span (polls_of_flow c) first.flows first.placements in
     let granted = passes_none span (grants_of_flow c) t.flows sid sent [] refl in
     let polled : filter (its sid sent) second.placements ≡ [] = passes_none span (polls_of_flow c) first.flows sid sent first.placements granted in
     let none : length (filter (its sid sent) second.placements) ≡ 0 = ap length polled in
-    let asked = requests_count span c (last_of t) sid sent (in_order t t.waiting) second.placements in
+    let asked = requests_count span c asks.keep (last_of t) sid sent (in_order t t.waiting) second.placements in
     let order = in_order_fewer (is_of sid) t t.waiting in
     omega arith
 
@@ -166,8 +166,8 @@ waited : (rows : Rows) (c : Command) (g : Grant) (sent : ℕ) → AllWell rows �
 waited rows c g sent w h cause =
     let s = cut_of_grant rows c g h in
     let cut = s.cut in
-    let span : Extent = span_of cut.table.row cut.len cut.not_before in
-    let serves = ((cut_placed cut.table cut.len cut.not_before cut.ack (w g.channel cut.table cut.found) cut.ok).each s.placement s.there).serves in
+    let span : Extent = span_of cut.table.row cut.settings.len cut.settings.not_before in
+    let serves = ((cut_placed cut.table cut.settings (w g.channel cut.table cut.found) cut.ok).each s.placement s.there).serves in
     let cause_is : s.placement.cause ≡ Sent sent = ap (λ (x : Grant). x.cause) s.is ∙ cause in
     let r : IsFor cut.table span s.placement (Sent sent) = subst (IsFor cut.table span s.placement) cause_is serves in
     record { step = s; cause_is = cause_is; request = r.0; waited = r.1; of = r.2 ∙ ap (λ (x : Grant). x.sid) s.is; whole = r.3 ∙ ap (λ (x : Grant). x.size) s.is; then = r.4 }
@@ -214,8 +214,8 @@ step_once rows c ch sid sent w = by (step_grants rows c) refl
     by [] e = omega arith
     by (g ∷ gs) e =
         let cut = (cut_of_grant rows c g (subst (λ (hs : List Grant). Has hs g) (sym e) (inl refl))).cut in
-        let f : Filled = fill cut.table cut.len cut.not_before cut.ack in
-        let few = fill_count cut.table f.span f.ack sid sent in
+        let f : Filled = fill cut.table cut.settings in
+        let few = fill_count cut.table f.span cut.settings sid sent in
         let one = (w g.channel cut.table cut.found).alone sid in
         let fewer = grants_count ch sid sent g.channel f.span.start f.placements in
         subst (λ (hs : List Grant). length (filter (its_grant ch sid sent) hs) ≤ 1) (sym cut.grants_are ∙ e) (omega arith)
@@ -227,7 +227,7 @@ gone_after rows c g ch sid sent w h is =
     let cut = r.step.cut in
     let p = r.step.placement in
     let t : Table = cut.table in
-    let f : Filled = fill t cut.len cut.not_before cut.ack in
+    let f : Filled = fill t cut.settings in
     let well = w g.channel t cut.found in
     let request = well.requests r.request r.waited in
     let of : r.request.sid ≡ sid = r.of ∙ is.sid_is in
@@ -236,19 +236,19 @@ gone_after rows c g ch sid sent w h is =
       found = subst (λ n. table_of (step rows c).rows n ≡ Some (table_after t f)) is.channel cut.after;
       holds = record {
         past = record {
-          well = cut_is_well t cut.len cut.not_before cut.ack cut.ok well;
+          well = cut_is_well t cut.settings cut.ok well;
           lease = lease_in request.flow;
           found = ap (λ n. find (is_of_sid n) t.leases) (sym (request.sid ∙ of)) ∙ (well.given request.flow request.there).lease;
           before = subst (λ n. n ≤ request.flow.last) r.then request.before;
           later = λ v k same.
-              let from = flow_from t f.span f.ack v (is_cut t cut.len cut.not_before cut.ack cut.ok).end k in
+              let from = flow_from t f.span cut.settings v (is_cut t cut.settings cut.ok).end k in
               let one : from.0 ≡ request.flow = one_flow 1 t.flows from.0 request.flow well.rising from.1 request.there (sym from.2.sid ∙ same ∙ sym of ∙ sym request.sid) in
               sent_after v sent sent (from.2.last_sent ∙ ap (λ (x : FlowRow). x.last_sent) one ∙ request.last ∙ ap (λ (n : ℕ). Some n) r.then) (omega arith);
         };
         none = λ v k same then.
             let its : is_grant_of v p ≡ true = granted v p (ap (λ (x : Grant). x.sid) r.step.is ∙ is.sid_is ∙ sym same) (r.cause_is ∙ ap Sent (sym then)) in
             let any = has_any (is_grant_of v) f.placements p r.step.there its in
-            let waits = (waits_before t cut.len cut.not_before cut.ack v k).1 in
+            let waits = (waits_before t cut.settings v k).1 in
             let still : not true ≡ true = subst (λ b. not b ≡ true) any waits in
             cc;
       };
@@ -306,6 +306,7 @@ Waits rows ch w = Stands (λ t. Has t.waiting w) rows ch
 made_waits : (c : Command) (ch : ℕ) (t : Table) (w : Waiting) → Changes c ch t → Has (made c t).waiting w → Has t.waiting w ⊎ (c ≡ commands.Request ch w.sid w.n w.sent)
 made_waits commands.Noop ch t w e h = absurd e
 made_waits (commands.Channel c) ch t w e h = absurd e
+made_waits (commands.Change at s) ch t w e h = inl h
 made_waits (commands.Flow at modem tag last kind) ch t w e h = inl (by (lease_of t modem tag) h)
   where
     by : (o : Option Lease) → Has (flow_among o t modem tag last kind).waiting w → Has t.waiting w
@@ -316,7 +317,7 @@ made_waits (commands.Request at sid n sent) ch t w e h = elim (has_pushed t.wait
   | inl old ↦ inl old
   | inr new ↦ inr (ap (λ m. commands.Request m sid n sent) e.0 ∙ ap (λ (v : Waiting). commands.Request ch v.sid v.n v.sent) new)
 ]
-made_waits (commands.Cut at len not_before ack) ch t w e h = inl (waits_before t len not_before ack w h).0
+made_waits (commands.Cut at len not_before ack keep ranging sending) ch t w e h = inl (waits_before t (cut_settings len not_before ack keep ranging sending) w h).0
 
 step_comes : (rows : Rows) (c : Command) (ch : ℕ) (w : Waiting) → Waits (step rows c).rows ch w → Waits rows ch w ⊎ ((c ≡ commands.Request ch w.sid w.n w.sent) × ((step rows c).output ≡ outputs.Nothing))
 step_comes rows c ch w s = elim (before rows c ch s.table s.found) [

@@ -15,6 +15,7 @@ use Rattle.grant_machine.specs.declared.command.Command.{Command}
 use Rattle.grant_machine.specs.declared.output.Output.{Output}
 use Rattle.grant_machine.specs.declared.output.Output.TheVariants as outputs
 use Rattle.grant_machine_parts.specs.declared.placing.Placement.{Placement}
+use Rattle.grant_machine_parts.specs.declared.settings.CutSettings.{CutSettings}
 use Rattle.grant_machine_parts.specs.Cutting.{Filled, fill, fill_refusal, span_of}
 use Rattle.grant_machine_parts.specs.Placing.{holder, holds}
 use Rattle.grant_machine_parts.specs.Drawing.{beginning, begins_at, body_of, bytes_of, free_element, null_element, placed_element}
@@ -70,24 +71,24 @@ step_at rows (c ∷ cs) (suc k) o e =
 -- the MAP is what was drawn of a table
 pub record IsDrawn (ch start len : ℕ) (bytes : List ℕ) (P : Table → Type 0) : Type 0 where
   pub table : Table
-  pub not_before : ℕ
-  pub ack : ℕ
+  pub settings : CutSettings
+  pub len_is : settings.len ≡ len
   pub well : IsWell table
   pub holds : P table
-  pub ok : fill_refusal table.row len not_before ack ≡ None
+  pub ok : fill_refusal table.row settings ≡ None
   pub channel_is : table.row.channel.id ≡ ch
-  pub start_is : (span_of table.row len not_before).start ≡ start
-  pub bytes_is : bytes_of table (fill table len not_before ack) ≡ bytes
+  pub start_is : (span_of table.row settings.len settings.not_before).start ≡ start
+  pub bytes_is : bytes_of table (fill table settings) ≡ bytes
 
 drawn_now : (P : Table → Type 0) (rows : Rows) (c : Command) (ch start len : ℕ) (bytes : List ℕ) → AllWell rows → ((at : ℕ) → At P rows at) → (step rows c).output ≡ outputs.Map ch start len bytes → IsDrawn ch start len bytes P
 drawn_now P rows c ch start len bytes w p out =
     let m = cut_of_map rows c ch start len bytes out in
     let cut = m.cut in
     let t : Table = cut.table in
-    let drawn : IsDrawn ch start cut.len bytes P = record {
+    let drawn : IsDrawn ch start cut.settings.len bytes P = record {
       table = t;
-      not_before = cut.not_before;
-      ack = cut.ack;
+      settings = cut.settings;
+      len_is = refl;
       well = w ch t cut.found;
       holds = p ch t cut.found;
       ok = cut.ok;
@@ -126,32 +127,33 @@ body_of_drawn ch start len bytes d =
     let t : Table = d.table in
     let w = d.well in
     let ok = d.ok in
-    let f : Filled = fill t len d.not_before d.ack in
-    let a = cut_placed t len d.not_before d.ack w ok in
-    let most = cut_most t len d.not_before d.ack w ok in
-    let rest = pending t len d.not_before d.ack w ok in
-    let plain = pending_plain t len d.not_before d.ack w ok in
-    let cut = is_cut t len d.not_before d.ack ok in
-    record {
+    let n : ℕ = d.settings.len in
+    let f : Filled = fill t d.settings in
+    let a = cut_placed t d.settings w ok in
+    let most = cut_most t d.settings w ok in
+    let rest = pending t d.settings w ok in
+    let plain = pending_plain t d.settings w ok in
+    let cut = is_cut t d.settings ok in
+    subst (λ (m : ℕ). IsMapOf ch start m bytes) d.len_is (record {
       map = body_of t f;
-      body = subst (λ (bs : List ℕ). IsWritten bs (body_of t f)) d.bytes_is (cut_written t len d.not_before d.ack w ok d.holds.id d.holds.ucd);
+      body = subst (λ (bs : List ℕ). IsWritten bs (body_of t f)) d.bytes_is (cut_written t d.settings w ok d.holds.id d.holds.ucd);
       channel = d.channel_is;
       start_is = ap wire d.start_is;
       begins = λ e first.
           let d = front f.placements in
-          ap (λ (c : Element). c.offset) (sym (first_is (begins_at f.placements) len _ d.0 e cut.some d.1 first)) ∙ d.2;
+          ap (λ (c : Element). c.offset) (sym (first_is (begins_at f.placements) n _ d.0 e cut.some d.1 first)) ∙ d.2;
       null = record {
-        place = count t f.span f.placements a len refl most rest plain;
-        null = null_element len;
-        here_is = null_at t f.span f.placements a len refl most rest plain;
+        place = count t f.span f.placements a n refl most rest plain;
+        null = null_element n;
+        here_is = null_at t f.span f.placements a n refl most rest plain;
         is_null = refl;
-        first = none_before t f.span f.placements a len refl most rest plain;
+        first = none_before t f.span f.placements a n refl most rest plain;
         offset_is = refl;
       };
       some = cut.some;
       most = cut.most;
-      last = subst (λ n. n + len ≤ last_time) d.start_is cut.end;
-    }
+      last = subst (λ m. m + n ≤ last_time) d.start_is cut.end;
+    })
 
 -- each MAP's bytes are its body
 pub maps_are_bodies : MapsAreBodies
@@ -190,13 +192,13 @@ sids_are_unicast cs m ch sid since until contains =
 -- ---- owners
 
 -- two cells of one minislot of a MAP that are no cells of all modems' have one SID
-same_sid : (t : Table) (len not_before ack x : ℕ) (map : Body) (d e : Element) (w : IsWell t) (ok : fill_refusal t.row len not_before ack ≡ None) → map ≡ body_of t (fill t len not_before ack)
+same_sid : (t : Table) (asks : CutSettings) (x : ℕ) (map : Body) (d e : Element) (w : IsWell t) (ok : fill_refusal t.row asks ≡ None) → map ≡ body_of t (fill t asks)
     → IsCell map x d → IsCell map x e → d.sid ≤ last_sid → e.sid ≤ last_sid → d.sid ≡ e.sid
-same_sid t len not_before ack x map d e w ok same c k small little =
-    elim (cut_cell t len not_before ack x map d w ok same c).1 [
-      | inl p ↦ elim (cut_cell t len not_before ack x map e w ok same k).1 [
+same_sid t asks x map d e w ok same c k small little =
+    elim (cut_cell t asks x map d w ok same c).1 [
+      | inl p ↦ elim (cut_cell t asks x map e w ok same k).1 [
         | inl q ↦
-            let one : p.0 ≡ q.0 = (cut_placed t len not_before ack w ok).apart x p.0 q.0 p.1 q.1 p.2 q.2 in
+            let one : p.0 ≡ q.0 = (cut_placed t asks w ok).apart x p.0 q.0 p.1 q.1 p.2 q.2 in
             ap (λ (y : Element). y.sid) (sym p.3) ∙ ap (λ (r : Placement). r.sid) one ∙ ap (λ (y : Element). y.sid) q.3
         | inr all ↦ absurd (omega arith)
       ]
@@ -207,8 +209,9 @@ same_sid t len not_before ack x map d e w ok same c k small little =
 given_within : (cs : List Command) (k ch start len m : ℕ) (bytes : List ℕ) (map : Body) (e : Element) → slice_get (outputs_of cs) k ≡ Some (outputs.Map ch start len bytes) → IsBody bytes map → start ≤ m → IsCell map (m - start) e → m < start + len
 given_within cs k ch start len m bytes map e out body from cell =
     let d = drawn_at cs k ch start len bytes out in
-    let drawn = drawn_body d.table len d.not_before d.ack bytes map d.well d.ok d.bytes_is body in
-    let within : m - start < len = (cut_cell d.table len d.not_before d.ack (m - start) map e d.well d.ok drawn cell).0 in
+    let drawn = drawn_body d.table d.settings bytes map d.well d.ok d.bytes_is body in
+    let within : m - start < d.settings.len = (cut_cell d.table d.settings (m - start) map e d.well d.ok drawn cell).0 in
+    let len_is : d.settings.len ≡ len = d.len_is in
     omega arith
 
 -- a minislot has one owner at most
@@ -224,8 +227,8 @@ owners_are_one cs ch m a b p q =
     let map_is : v.map ≡ u.map = one_body u.bytes v.map u.map (subst (λ (bs : List ℕ). IsBody bs v.map) (sym one.2) v.body) u.body in
     let cell : IsCell u.map (m - u.start) q.element = subst (λ (n : ℕ). IsCell u.map (m - n) q.element) (sym one.0) (subst (λ (x : Body). IsCell x (m - v.start) q.element) map_is v.cell) in
     let d = drawn_at cs j.0 ch u.start u.len u.bytes j.1 in
-    let drawn = drawn_body d.table u.len d.not_before d.ack u.bytes u.map d.well d.ok d.bytes_is u.body in
-    let sid : p.element.sid ≡ q.element.sid = same_sid d.table u.len d.not_before d.ack (m - u.start) u.map p.element q.element d.well d.ok drawn u.cell cell p.unicast.1 q.unicast.1 in
+    let drawn = drawn_body d.table d.settings u.bytes u.map d.well d.ok d.bytes_is u.body in
+    let sid : p.element.sid ≡ q.element.sid = same_sid d.table d.settings (m - u.start) u.map p.element q.element d.well d.ok drawn u.cell cell p.unicast.1 q.unicast.1 in
     let r = p.assigned in
     let s = q.assigned in
     let x = contains_at (outputs_of cs) (outputs.Assigned a ch p.element.sid r.first r.last) r.assigned in

@@ -14,6 +14,7 @@ use Rattle.flow_state.specs.Limits.{last_sid, last_time, is_good_kind, due_time,
 use Rattle.flow_state.specs.Rows.{Table, FlowRow, is_due, due_flows, lent_flow, last_in, last_of}
 use Rattle.grant_machine_parts.specs.declared.services.Service.TheVariants.{Grants, Polls}
 use Rattle.grant_machine_parts.specs.declared.placing.Placement.{Placement}
+use Rattle.grant_machine_parts.specs.declared.settings.CutSettings.{CutSettings}
 use Rattle.grant_machine_parts.specs.Cutting.{kind_priority, flow_priority, priority_of, Passed, Ran, pass, in_order, place_requests, fill_span, fill_polls, grants_of_flow, polls_of_flow, due_at, end_of, run_due_times, run_flow, with_first, flows_served}
 use Rattle.grant_machine_parts.specs.declared.due_times.Periodic.{Periodic}
 use Rattle.grant_machine_parts.specs.Filling.{PartMap}
@@ -195,12 +196,12 @@ stays_served t span w =
     (pass_not_due span (grants_of_flow c) (was t span) (λ f i. refl) (unserved c span (grants_of_flow c) (grants_of c)) t.flows [] (not_due t span w)))
 
 -- two services and then the requests fill a MAP
-pub served_filled : (t : Table) (span : Extent) (ack : ℕ) → IsWell t → (c : Channel) (f0 f1 f2 : List Flow) (rs : List Waiting) (p1 p2 p3 : List Placement) → t.row.channel ≡ c → map flow_view f0 ≡ due_ones t (end_of span) t.flows
+pub served_filled : (t : Table) (span : Extent) (asks : CutSettings) → IsWell t → (c : Channel) (f0 f1 f2 : List Flow) (rs : List Waiting) (p1 p2 p3 : List Placement) → t.row.channel ≡ c → map flow_view f0 ≡ due_ones t (end_of span) t.flows
     → p1 ≡ (pass span (given_to Grants c) (map flow_view f0) []).placements → map flow_view f1 ≡ (pass span (given_to Grants c) (map flow_view f0) []).flows
     → p2 ≡ (pass span (given_to Polls c) (map flow_view f1) p1).placements → map flow_view f2 ≡ (pass span (given_to Polls c) (map flow_view f1) p1).flows
-    → rs ≡ in_order t t.waiting → p3 ≡ place_requests span c (last_of t) rs p2
-    → (p3 ≡ (fill_span t span ack).placements) × (map flow_view f2 ≡ due_ones t (end_of span) (flows_served t span))
-served_filled t span ack w c f0 f1 f2 rs p1 p2 p3 row start placed1 flows1 placed2 flows2 order placed3 =
+    → rs ≡ in_order t t.waiting → p3 ≡ place_requests span c asks.keep (last_of t) rs p2
+    → (p3 ≡ (fill_span t span asks).placements) × (map flow_view f2 ≡ due_ones t (end_of span) (flows_served t span))
+served_filled t span asks w c f0 f1 f2 rs p1 p2 p3 row start placed1 flows1 placed2 flows2 order placed3 =
     let first : Passed = pass span (grants_of_flow t.row.channel) t.flows [] in
     let one : pass span (given_to Grants c) (map flow_view f0) [] ≡ of_due (was t span) first =
     ap (λ d. pass span (grants_of_flow d) (map flow_view f0) []) (sym row) ∙ ap (λ (fs : List FlowRow). pass span (grants_of_flow t.row.channel) fs []) start
@@ -213,24 +214,24 @@ served_filled t span ack w c f0 f1 f2 rs p1 p2 p3 row start placed1 flows1 place
     ∙ pass_due span (polls_of_flow t.row.channel) (was t span) (λ f i. refl) (unserved t.row.channel span (polls_of_flow t.row.channel) (polls_of t.row.channel)) first.flows first.placements
     (pass_not_due span (grants_of_flow t.row.channel) (was t span) (λ f i. refl) (unserved t.row.channel span (grants_of_flow t.row.channel) (grants_of t.row.channel)) t.flows [] (not_due t span w)) in
     let p2_is : p2 ≡ (fill_polls t span first).placements = placed2 ∙ ap (λ (p : Passed). p.placements) two in (
-      placed3 ∙ ap (λ d. place_requests span d (last_of t) rs p2) (sym row) ∙ ap (λ (ws : List Waiting). place_requests span t.row.channel (last_of t) ws p2) order
-          ∙ ap (λ (ps : List Placement). place_requests span t.row.channel (last_of t) (in_order t t.waiting) ps) p2_is,
+      placed3 ∙ ap (λ d. place_requests span d asks.keep (last_of t) rs p2) (sym row) ∙ ap (λ (ws : List Waiting). place_requests span t.row.channel asks.keep (last_of t) ws p2) order
+          ∙ ap (λ (ps : List Placement). place_requests span t.row.channel asks.keep (last_of t) (in_order t t.waiting) ps) p2_is,
       flows2 ∙ ap (λ (p : Passed). p.flows) two,
     )
 
 -- the same of a MAP that is filled step by step
-pub parts_filled : (t : Table) (ack : ℕ) (c : Channel) (a b d e : PartMap) (f0 f1 f2 : List Flow) (rs : List Ranked) → IsOfTable t (end_of a.span) c f0 rs → a.placements ≡ [] → b.span ≡ a.span → d.span ≡ b.span
+pub parts_filled : (t : Table) (asks : CutSettings) (c : Channel) (a b d e : PartMap) (f0 f1 f2 : List Flow) (rs : List Ranked) → IsOfTable t (end_of a.span) c f0 rs → a.placements ≡ [] → b.span ≡ a.span → d.span ≡ b.span
     → b.placements ≡ (pass a.span (given_to Grants c) (map flow_view f0) a.placements).placements → map flow_view f1 ≡ (pass a.span (given_to Grants c) (map flow_view f0) a.placements).flows
     → d.placements ≡ (pass b.span (given_to Polls c) (map flow_view f1) b.placements).placements → map flow_view f2 ≡ (pass b.span (given_to Polls c) (map flow_view f1) b.placements).flows
-    → ((last : ℕ → ℕ) → AllByRecursion (IsOfLast last) rs → e.placements ≡ place_requests d.span c last (requests_in rs) d.placements)
-    → (e.placements ≡ (fill_span t a.span ack).placements) × (map flow_view f2 ≡ due_ones t (end_of a.span) (flows_served t a.span))
-parts_filled t ack c a b d e f0 f1 f2 rs of empty same1 same2 placed1 flows1 placed2 flows2 placed3 =
+    → ((last : ℕ → ℕ) → AllByRecursion (IsOfLast last) rs → e.placements ≡ place_requests d.span c asks.keep last (requests_in rs) d.placements)
+    → (e.placements ≡ (fill_span t a.span asks).placements) × (map flow_view f2 ≡ due_ones t (end_of a.span) (flows_served t a.span))
+parts_filled t asks c a b d e f0 f1 f2 rs of empty same1 same2 placed1 flows1 placed2 flows2 placed3 =
     let grants : pass a.span (given_to Grants c) (map flow_view f0) a.placements ≡ pass a.span (given_to Grants c) (map flow_view f0) [] = ap (λ (ps : List Placement). pass a.span (given_to Grants c) (map flow_view f0) ps) empty in
     let polls : pass b.span (given_to Polls c) (map flow_view f1) b.placements ≡ pass a.span (given_to Polls c) (map flow_view f1) b.placements = ap (λ (s : Extent). pass s (given_to Polls c) (map flow_view f1) b.placements) same1 in
-    served_filled t a.span ack (well_of t of.reached) c f0 f1 f2 (requests_in rs) b.placements d.placements e.placements of.channel of.flows_are
+    served_filled t a.span asks (well_of t of.reached) c f0 f1 f2 (requests_in rs) b.placements d.placements e.placements of.channel of.flows_are
     (placed1 ∙ ap (λ (p : Passed). p.placements) grants) (flows1 ∙ ap (λ (p : Passed). p.flows) grants)
     (placed2 ∙ ap (λ (p : Passed). p.placements) polls) (flows2 ∙ ap (λ (p : Passed). p.flows) polls)
-    of.requests_are (placed3 (last_of t) of.lasts_are ∙ ap (λ (s : Extent). place_requests s c (last_of t) (requests_in rs) d.placements) (same2 ∙ same1))
+    of.requests_are (placed3 (last_of t) of.lasts_are ∙ ap (λ (s : Extent). place_requests s c asks.keep (last_of t) (requests_in rs) d.placements) (same2 ∙ same1))
 
 -- what a flow that is lent tells of a request of its SID
 pub rank_some : (o : Option FlowRow) (f : Flow) (w : Waiting) → Some f ≡ option_map lent_flow o → ◌≡◌ {A = Ranked} (record { priority = kind_priority f.kind; last = f.lease.last; request = w }) (record { priority = flow_priority o; last = last_in o; request = w })

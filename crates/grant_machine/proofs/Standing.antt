@@ -75,11 +75,12 @@ served_idle t span all =
 
 idle_kept : Kept AreIdle
 idle_kept = record {
+  change = λ t s ok all. all;
   flow = λ t modem tag last kind none ok all. idle_insert (new_flow (new_lease t modem tag last (unwrap_or (free_sid t) 0)) kind) t.flows (idle_start kind) all;
   drop = λ t sid all. idle_filter (λ f. not (is_flow sid f)) t.flows all;
   request = λ t sid n sent ok all. idle_request sid sent t.flows all;
-  cut = λ t len not_before ack ok all.
-      let span = span_of t.row len not_before in
+  cut = λ t asks ok all.
+      let span = span_of t.row asks.len asks.not_before in
       idle_filter (λ f. not (is_ended (end_of span) f)) (flows_served t span) (served_idle t span all);
 }
 

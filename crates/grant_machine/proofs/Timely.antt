@@ -20,8 +20,9 @@ use Rattle.grant_machine_parts.specs.declared.placing.Cause.{Cause}
 use Rattle.grant_machine_parts.specs.declared.placing.Placement.{Placement}
 use Rattle.grant_machine_parts.specs.declared.placing.Cause.TheVariants.{Window, Sent}
 use Rattle.grant_machine_parts.specs.declared.due_times.Periodic.{Periodic}
+use Rattle.grant_machine_parts.specs.declared.settings.CutSettings.{CutSettings}
 use Rattle.grant_machine_parts.specs.Cutting.{grant_iuc, unsolicited_iuc, Filled, fill, fill_refusal, span_of}
-use Rattle.grant_machine.specs.Steps.{step, step_on, accepted, lease_output}
+use Rattle.grant_machine.specs.Steps.{cut_settings, step, step_on, accepted, lease_output}
 use Rattle.grant_machine.specs.Runs.{outputs_from, outputs_of, grants_from, grants_of, Grant, grant_of, step_grants}
 use Rattle.grant_machine.specs.Laws.{LeasedSid, IsWithin, IsServedAt, IsDueUseOf, IsOfFlow, OtherGrantsAreDue, GrantsAreLeased}
 use Rattle.flow_state.proofs.Callers.{Has, at_contains, has_at, has_either, has_map, has_filter, found_has}
@@ -94,18 +95,18 @@ grant_by rows ch t span q found w begun (f, there, sid, ended) serves =
     }
 
 -- a placement of a cut
-pub grant_at : (rows : Rows) (ch len not_before ack : ℕ) (t : Table) (p : Placement) → table_of rows ch ≡ Some t → IsWell t → fill_refusal t.row len not_before ack ≡ None
-    → Has (fill t len not_before ack).placements p → IsGrantOf rows t.row.channel p.iuc (grant_of ch (fill t len not_before ack).span.start p)
-grant_at rows ch len not_before ack t p found well ok h =
-    let placed = (cut_placed t len not_before ack well ok).each p h in
-    grant_by rows ch t (span_of t.row len not_before) p found well (omega arith) placed.leased placed.serves
+pub grant_at : (rows : Rows) (ch : ℕ) (asks : CutSettings) (t : Table) (p : Placement) → table_of rows ch ≡ Some t → IsWell t → fill_refusal t.row asks ≡ None
+    → Has (fill t asks).placements p → IsGrantOf rows t.row.channel p.iuc (grant_of ch (fill t asks).span.start p)
+grant_at rows ch asks t p found well ok h =
+    let placed = (cut_placed t asks well ok).each p h in
+    grant_by rows ch t (span_of t.row asks.len asks.not_before) p found well (omega arith) placed.leased placed.serves
 
 -- a grant of a command that is a cut
 grant_now : (rows : Rows) (c : Command) (g : Grant) → AllWell rows → Has (step_grants rows c) g → (channel : Channel) × (iuc : ℕ) × IsGrantOf rows channel iuc g
 grant_now rows c g w h =
     let s = cut_of_grant rows c g h in
     let cut = s.cut in
-    let given = grant_at rows g.channel cut.len cut.not_before cut.ack cut.table s.placement cut.found (w g.channel cut.table cut.found) cut.ok s.there in
+    let given = grant_at rows g.channel cut.settings cut.table s.placement cut.found (w g.channel cut.table cut.found) cut.ok s.there in
     (cut.table.row.channel, s.placement.iuc, subst (IsGrantOf rows cut.table.row.channel s.placement.iuc) s.is given)
 
 -- ---- where a flow comes from
@@ -162,6 +163,7 @@ flow_added None rows t ch modem tag last kind f found e ok h =
 made_flow : (rows : Rows) (c : Command) (ch : ℕ) (t : Table) (f : FlowRow) → table_of rows ch ≡ Some t → Changes c ch t → Has (made c t).flows f → IsFlowOf rows (lease_at ch f) f.kind ⊎ Adds rows c (lease_at ch f) f.kind
 made_flow rows commands.Noop ch t f found e h = absurd e
 made_flow rows (commands.Channel c) ch t f found e h = absurd e
+made_flow rows (commands.Change at s) ch t f found e h = inl (same_flow rows ch t f found h)
 made_flow rows (commands.Flow at modem tag last kind) ch t f found e h =
     subst (λ n. IsFlowOf rows (lease_at ch f) f.kind ⊎ Adds rows (commands.Flow n modem tag last kind) (lease_at ch f) f.kind) (sym e.0)
     (flow_added (lease_of t modem tag) rows t ch modem tag last kind f found refl e.1 h)
@@ -169,9 +171,10 @@ made_flow rows (commands.Drop at sid) ch t f found e h = inl (same_flow rows ch 
 made_flow rows (commands.Request at sid n sent) ch t f found e h =
     let m = has_map (asked sid sent) t.flows f h in
     inl (subst (λ (g : FlowRow). IsFlowOf rows (lease_at ch g) g.kind) m.2 (asked_flow rows ch t sid sent m.0 (same_flow rows ch t m.0 found m.1)))
-made_flow rows (commands.Cut at len not_before ack) ch t f found e h =
-    let filled : Filled = fill t len not_before ack in
-    let m = flow_from t filled.span filled.ack f (is_cut t len not_before ack e.1).end h in
+made_flow rows (commands.Cut at len not_before ack keep ranging sending) ch t f found e h =
+    let asks : CutSettings = cut_settings len not_before ack keep ranging sending in
+    let filled : Filled = fill t asks in
+    let m = flow_from t filled.span asks f (is_cut t asks e.1).end h in
     inl (like_flow rows ch t m.0 f found m.1 m.2)
 
 -- ---- over a list of commands

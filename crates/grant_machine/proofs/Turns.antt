@@ -3,12 +3,13 @@ use Rattle.std.proofs.Common.{◌≡◌, ◌≢◌, ◌⊎◌, ℕ, true, false,
 use Rattle.flow_state.specs.declared.channel.Channel.{Channel}
 use Rattle.flow_state.specs.declared.refusal.Refusal.{Refusal}
 use Rattle.flow_state.specs.Rows.{Rows, Table, is_table, table_of, change_table, lease_of}
-use Rattle.flow_state.specs.Refusals.{table_flow_refusal, table_request_refusal}
-use Rattle.flow_state.specs.Changes.{new_table, flow_in_table, drop_in_table, request_in_table}
+use Rattle.flow_state.specs.Refusals.{table_change_refusal, table_flow_refusal, table_request_refusal}
+use Rattle.flow_state.specs.Changes.{new_table, change_in_table, flow_in_table, drop_in_table, request_in_table}
 use Rattle.grant_machine.specs.declared.command.Command.{Command}
 use Rattle.grant_machine.specs.declared.command.Command.TheVariants as commands
+use Rattle.grant_machine_parts.specs.declared.settings.CutSettings.{CutSettings}
 use Rattle.grant_machine_parts.specs.Cutting.{fill, fill_refusal, table_after}
-use Rattle.grant_machine.specs.Steps.{step, step_on, refusal_of, accepted, cut_on}
+use Rattle.grant_machine.specs.Steps.{cut_settings, cut_command, step, step_on, refusal_of, accepted, cut_on}
 use Rattle.grant_machine.specs.Runs.{Grant, grant_of, grants_on, accepted_grants, step_grants, step_grants_on}
 use Rattle.flow_state.proofs.Callers.{Has, has_map, find_changed, find_added, is_found, some_is, changed, KeepsId, at_same, refusal_there, flow_keeps_id, find_pushed, found_before}
 
@@ -16,19 +17,21 @@ use Rattle.flow_state.proofs.Callers.{Has, has_map, find_changed, find_added, is
 abbrev pub made : Command → Table → Table
 made commands.Noop t = t
 made (commands.Channel n) t = t
+made (commands.Change ch s) t = change_in_table t s
 made (commands.Flow ch modem tag last kind) t = flow_in_table t modem tag last kind
 made (commands.Drop ch sid) t = drop_in_table t sid
 made (commands.Request ch sid n sent) t = request_in_table t sid n sent
-made (commands.Cut ch len not_before ack) t = table_after t (fill t len not_before ack)
+made (commands.Cut ch len not_before ack keep ranging sending) t = table_after t (fill t (cut_settings len not_before ack keep ranging sending))
 
 -- the command changes this channel's table, and isn't refused there
 abbrev pub Changes : Command → ℕ → Table → Type 0
 Changes commands.Noop ch t = ⊥
 Changes (commands.Channel n) ch t = ⊥
+Changes (commands.Change at s) ch t = (at ≡ ch) × (table_change_refusal t s ≡ None)
 Changes (commands.Flow at modem tag last kind) ch t = (at ≡ ch) × (table_flow_refusal t modem tag last kind ≡ None)
 Changes (commands.Drop at sid) ch t = at ≡ ch
 Changes (commands.Request at sid n sent) ch t = (at ≡ ch) × (table_request_refusal t sid n sent ≡ None)
-Changes (commands.Cut at len not_before ack) ch t = (at ≡ ch) × (fill_refusal t.row len not_before ack ≡ None)
+Changes (commands.Cut at len not_before ack keep ranging sending) ch t = (at ≡ ch) × (fill_refusal t.row (cut_settings len not_before ack keep ranging sending) ≡ None)
 
 -- the command makes table u of the channel's table t
 pub record Makes (rows : Rows) (c : Command) (ch : ℕ) (t u : Table) : Type 0 where
@@ -66,6 +69,14 @@ Shape rows c after grants = IsSame rows after grants ⊎ (IsPushed rows c after 
 accepted_shape : (rows : Rows) (c : Command) → refusal_of rows c ≡ None → Shape rows c (accepted rows c).rows (accepted_grants rows c)
 accepted_shape rows commands.Noop ok = inl (record { is = refl; none = refl })
 accepted_shape rows (commands.Channel n) ok = inr (inl (record { channel = n; asked = refl; ok = ok; is = refl; none = refl }))
+accepted_shape rows (commands.Change at s) ok = inr (inr (record {
+  at = at;
+  change = λ t. change_in_table t s;
+  ids = λ t. refl;
+  is = refl;
+  makes = λ t found. record { ok = ok; changes = (refl, refusal_there rows at t (λ u. table_change_refusal u s) found ok); is = refl };
+  its = λ g h. absurd h;
+}))
 accepted_shape rows (commands.Flow at modem tag last kind) ok = inr (inr (record {
   at = at;
   change = λ t. flow_in_table t modem tag last kind;
@@ -84,21 +95,24 @@ accepted_shape rows (commands.Request at sid n sent) ok = inr (inr (record {
   makes = λ t found. record { ok = ok; changes = (refl, refusal_there rows at t (λ u. table_request_refusal u sid n sent) found ok); is = refl };
   its = λ g h. absurd h;
 }))
-accepted_shape rows (commands.Cut at len not_before ack) ok = by (table_of rows at) refl
+accepted_shape rows (commands.Cut at len not_before ack keep ranging sending) ok = by (table_of rows at) refl
   where
-    by : (o : Option Table) → table_of rows at ≡ o → Shape rows (commands.Cut at len not_before ack) (cut_on o rows at len not_before ack).rows (grants_on o at len not_before ack)
+    asks : CutSettings
+    asks = cut_settings len not_before ack keep ranging sending
+
+    by : (o : Option Table) → table_of rows at ≡ o → Shape rows (cut_command at asks) (cut_on o rows at asks).rows (grants_on o at asks)
     by None e = inl (record { is = refl; none = refl })
     by (Some t) e = inr (inr (record {
       at = at;
-      change = λ u. table_after u (fill t len not_before ack);
+      change = λ u. table_after u (fill t asks);
       ids = λ u. refl;
       is = refl;
       makes = λ u found. record {
         ok = ok;
-        changes = (refl, refusal_there rows at u (λ v. fill_refusal v.row len not_before ack) found ok);
-        is = ap (λ (v : Table). table_after u (fill v len not_before ack)) (some_is u t (sym found ∙ e));
+        changes = (refl, refusal_there rows at u (λ v. fill_refusal v.row asks) found ok);
+        is = ap (λ (v : Table). table_after u (fill v asks)) (some_is u t (sym found ∙ e));
       };
-      its = λ g h. ap (λ (x : Grant). x.channel) (has_map (grant_of at (fill t len not_before ack).span.start) (fill t len not_before ack).placements g h).2;
+      its = λ g h. ap (λ (x : Grant). x.channel) (has_map (grant_of at (fill t asks).span.start) (fill t asks).placements g h).2;
     }))
 
 pub shape : (rows : Rows) (c : Command) → Shape rows c (step rows c).rows (step_grants rows c)

@@ -1,8 +1,10 @@
 -- What holds of every list of commands.
-use Rattle.std.specs.Prelude.{◌≡◌, ◌≢◌, ℕ, ◌+◌, ◌-◌, ◌<◌, ◌≤◌, ◌==◌, ◌&&◌, nat_le, Bool, List, ◌++◌, length, Some, slice_get}
+use Rattle.std.specs.Prelude.{◌≡◌, ◌≢◌, ℕ, ◌+◌, ◌-◌, ◌<◌, ◌≤◌, ◌==◌, ◌&&◌, nat_le, Bool, List, ◌++◌, length, take, Some, slice_get}
 use Rattle.std.specs.List.{filter, AllZip, AllByRecursion, Contains}
 use Rattle.std.specs.List.Sorted.{IsStrictlyIncreasing}
 use Rattle.flow_state.specs.declared.channel.Channel.{Channel}
+use Rattle.flow_state.specs.declared.channel.ChannelRow.{ChannelRow}
+use Rattle.flow_state.specs.Rows.{channel_at}
 use Rattle.flow_state.specs.declared.flow.FlowKind.{FlowKind}
 use Rattle.flow_state.specs.declared.flow.FlowKind.TheVariants.{BestEffort, Ugs, Poll}
 use Rattle.flow_state.specs.Limits.{due_time, last_sid}
@@ -19,7 +21,7 @@ use Rattle.grant_machine_parts.specs.Cutting.{grant_iuc, unsolicited_iuc, poll_i
 use Rattle.grant_machine_parts.specs.declared.placing.Cause.{Cause}
 use Rattle.grant_machine_parts.specs.declared.placing.Cause.TheVariants.{Window, Sent}
 use Rattle.grant_machine.specs.Fits.{FitsCommand}
-use Rattle.grant_machine.specs.Runs.{outputs_of, Grant, grants_of}
+use Rattle.grant_machine.specs.Runs.{outputs_of, rows_after, Grant, grants_of}
 use Rattle.grant_machine.specs.Owner.{Owns, IsMapOf}
 
 -- output number k is this MAP
@@ -143,10 +145,9 @@ pub record IsOfFlow (cs : List Command) (g : Grant) (i : ℕ) : Type 0 where
 abbrev pub OtherGrantsAreDue : Type 0
 OtherGrantsAreDue = (cs : List Command) (k i : ℕ) (g : Grant) → slice_get (grants_of cs) k ≡ Some g → g.cause ≡ Window i → IsOfFlow cs g i
 
--- command number k sets this channel
-pub record IsSetAt (cs : List Command) (k : ℕ) (c : Channel) : Type 0 where
-  pub asked : slice_get cs k ≡ Some (commands.Channel c)
-  pub set : slice_get (outputs_of cs) k ≡ Some (outputs.ChannelSet c.id c.ucd)
+-- the channel's row as the commands before number k leave it
+abbrev pub IsRowAt : List Command → (k ch : ℕ) → ChannelRow → Type 0
+IsRowAt cs k ch row = channel_at (rows_after (take k cs)) ch ≡ Some row
 
 -- the use of a grant of this size at a due time of a flow of this kind: an unsolicited grant's by its size, or a poll's
 abbrev pub IsDueUseOf : Channel → FlowKind → (size iuc : ℕ) → Type 0
@@ -160,7 +161,7 @@ IsUseOf cs c g iuc (Sent time) = iuc ≡ grant_iuc c g.size
 IsUseOf cs c g iuc (Window i) = (served : IsOfFlow cs g i) × IsDueUseOf c served.kind g.size iuc
 
 -- the grant is told: a MAP's body gives each of its minislots to its SID by one element, of the one use of what it
--- serves on its channel as it was set
+-- serves by its channel's row as it stood at that cut
 pub record IsTold (cs : List Command) (g : Grant) : Type 0 where
   pub place : ℕ
   pub start : ℕ
@@ -171,12 +172,10 @@ pub record IsTold (cs : List Command) (g : Grant) : Type 0 where
   pub body : IsWritten bytes map
   pub begun : start ≤ g.start
   pub ended : g.start + g.size ≤ start + len
-  pub channel : Channel
-  pub set_by : ℕ
-  pub set : IsSetAt cs set_by channel
-  pub id : channel.id ≡ g.channel
+  pub row : ChannelRow
+  pub stood : IsRowAt cs place g.channel row
   pub iuc : ℕ
-  pub use_is : IsUseOf cs channel g iuc g.cause
+  pub use_is : IsUseOf cs row.channel g iuc g.cause
   pub cell : (m : ℕ) → g.start ≤ m → m < g.start + g.size
       → IsCell map (m - start) (record { sid = g.sid; iuc = iuc; offset = g.start - start })
 

@@ -5,3 +5,5 @@ pub mod Owner
 pub mod CutRows
 pub mod Plans
 pub mod Laws
+pub mod Counts
+pub mod CutLaws

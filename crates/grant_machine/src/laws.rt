@@ -1,6 +1,7 @@
 //! What holds of every list of commands.
 
 ghost use Rattle.grant_machine.specs.Laws.{MapsAreDisjoint, LeasesAreApart, GrantsAreLeased, UnsolicitedGrantsAreDue, RequestsAreGrantedOnce, OtherGrantsAreDue, GrantsAreTold, CellsAreGranted};
+ghost use Rattle.grant_machine.specs.Counts.{CountsAreTold, CountsStep};
 ghost use Rattle.grant_machine.specs.Laws.{OutputsGoOn, MapsAreBodies, SharedMapsAreOne, SidsAreUnicast, OwnersAreOne};
 
 /// A minislot of a channel lies in one MAP at most.
@@ -34,6 +35,16 @@ pub fn requests_are_granted_once()
 /// polled one.
 pub fn other_grants_are_due()
     ensures { OtherGrantsAreDue }
+{}
+
+/// A MAP has the UCD Count that its channel was last given before it.
+pub fn counts_are_told()
+    ensures { CountsAreTold }
+{}
+
+/// A channel is given the UCD Count that it has, or the next one.
+pub fn counts_step()
+    ensures { CountsStep }
 {}
 
 /// Each grant is told by the MAP that placed it.

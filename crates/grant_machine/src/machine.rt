@@ -1,8 +1,9 @@
 use crate::command::Command;
 use crate::cut::{self, Desk};
 use crate::output::Output;
-use crate::refusals::{add_flow, drop_flow, request, set_channel};
+use crate::refusals::{add_flow, change_channel, drop_flow, request, set_channel};
 use flow_state::Flows;
+use grant_machine_parts::CutSettings;
 use std::alloc::{AllocError, Global};
 use std::marker::Model;
 
@@ -58,6 +59,7 @@ impl Machine {
         match *command {
             Command::Noop => Ok(Output::Nothing),
             Command::Channel(channel) => set_channel(flows, channel),
+            Command::Change { ch, settings } => change_channel(flows, ch, settings),
             Command::Flow {
                 ch,
                 modem,
@@ -72,7 +74,20 @@ impl Machine {
                 len,
                 not_before,
                 ack,
-            } => cut::cut(flows, &mut self.desk, self.alloc, ch, len, not_before, ack),
+                keep,
+                ranging,
+                data,
+            } => {
+                let settings = CutSettings {
+                    len,
+                    not_before,
+                    ack,
+                    keep,
+                    ranging_backoff: ranging,
+                    data_backoff: data,
+                };
+                cut::cut(flows, &mut self.desk, self.alloc, ch, settings)
+            }
         }
     }
 }

@@ -10,7 +10,7 @@ ghost use Rattle.grant_machine.specs.Steps.{step, refusal_of};
 ghost use Rattle.grant_machine.specs.Fits.{FitsCommand};
 
 use crate::output::Output;
-use flow_state::{Channel, FlowKind, Flows, Refusal};
+use flow_state::{Channel, ChannelSettings, FlowKind, Flows, Refusal};
 use std::alloc::AllocError;
 
 /// A refusal as an output. Want of memory has none.
@@ -94,5 +94,25 @@ pub fn request(flows: &mut Flows, ch: u8, sid: u16, n: u16, sent: u64) -> Result
     match flows.request(ch, sid, n, sent) {
         Ok(()) => Ok(Output::Nothing),
         Err(refusal) => refused(refusal),
+    }
+}
+
+/// Gives a channel other settings, and tells its UCD Count. It takes no memory.
+pub fn change_channel(
+    flows: &mut Flows,
+    ch: u8,
+    settings: ChannelSettings,
+) -> Result<Output, AllocError>
+    ensures output { IfOk result (λ output. output ≡ (step flows.old (commands.Change ch settings)).output) }
+    ensures fits { FitsCommand (commands.Change ch settings) }
+    ensures rows { OnOk result (flows.new ≡ (step flows.old (commands.Change ch settings)).rows) }
+    ensures ok { IsOk result }
+{
+    match flows.change_channel(ch, settings) {
+        Ok(()) => Ok(Output::ChannelSet {
+            ch,
+            ucd: settings.ucd,
+        }),
+        Err(refusal) => Ok(Output::Refused(refusal.number())),
     }
 }

@@ -1,8 +1,8 @@
 -- The body of a filled MAP: its elements are those of a body, and each minislot is its holder's.
-use Rattle.std.proofs.Common.{◌≡◌, ◌≢◌, ◌⊎◌, ℕ, suc, ◌+◌, ◌-◌, ◌<◌, ◌≤◌, ◌^◌, Bool, true, false, cond, ◌&&◌, ◌||◌, List, [], ◌∷◌, ◌++◌, map, length, Option, Some, None, refl, sym, ap, subst, ◌∙◌, arith, inl, inr, eqb, leb, ltb, is_some, slice_get, length-append}
+use Rattle.std.proofs.Common.{◌≡◌, ◌≢◌, ◌⊎◌, ℕ, zero, suc, ◌+◌, ◌-◌, ◌<◌, ◌≤◌, ◌^◌, Bool, true, false, cond, ◌&&◌, ◌||◌, List, [], ◌∷◌, ◌++◌, map, length, Option, Some, None, refl, sym, ap, subst, ◌∙◌, arith, inl, inr, eqb, leb, ltb, is_some, slice_get, length-append}
 use Rattle.std.proofs.Math.Bool.{or-true}
 use Rattle.std.specs.List.{list_any, AllByRecursion}
-use Rattle.std.proofs.lemmas.Bool.{eqb-true, eqb-false, leb-true, ltb-true, le-leb, lt-ltb, cases_lt, and_parts}
+use Rattle.std.proofs.lemmas.Bool.{eqb-true, eqb-false, leb-true, ltb-true, le-leb, lt-ltb, cases_lt, and_parts, false_from_ne_true}
 use Rattle.std.proofs.lemmas.Option.{same_Some}
 use Rattle.map_body.specs.Sids.{everybody}
 use Rattle.minislot_time.specs.Extent.{Extent}
@@ -13,7 +13,7 @@ use Rattle.map_body.specs.Cell.{IsCell}
 use Rattle.flow_state.specs.Limits.{last_time, last_sid, most_minislots}
 use Rattle.flow_state.specs.Rows.{Table}
 use Rattle.grant_machine_parts.specs.Placing.{Placement, holds, holder, most_placements}
-use Rattle.grant_machine_parts.specs.Cutting.{end_of, fill_span}
+use Rattle.grant_machine_parts.specs.Cutting.{end_of, CutSettings, fill_span}
 use Rattle.grant_machine_parts.specs.Drawing.{placed_element, free_element, null_element, beginning, begins_at}
 use Rattle.grant_machine_parts.specs.Filling.{IsUseFor}
 use Rattle.map_body.proofs.Callers.{get_behind}
@@ -79,9 +79,9 @@ placed_more t span ps q a m = record {
     by x p r (inr same) (inl k) d e = absurd (not_both x r p k same e d)
     by x p r (inr s) (inr u) d e = sym s ∙ u
 
-pub fill_placed : (t : Table) (span : Extent) (ack : ℕ) → IsWell t → end_of span ≤ last_time → ArePlaced t span (fill_span t span ack).placements
-fill_placed t span ack w le =
-    fill_keeps (ArePlaced t span) t span ack w le (record { each = λ p h. absurd h; apart = λ x p q h k d e. absurd h; few = omega arith }) (λ ps q a m. placed_more t span ps q a m)
+pub fill_placed : (t : Table) (span : Extent) (s : CutSettings) → IsWell t → end_of span ≤ last_time → ArePlaced t span (fill_span t span s).placements
+fill_placed t span s w le =
+    fill_keeps (ArePlaced t span) t span s w le (record { each = λ p h. absurd h; apart = λ x p q h k d e. absurd h; few = omega arith }) (λ ps q a m. placed_more t span ps q a m)
 
 -- ---- which element begins at an offset
 
@@ -331,3 +331,57 @@ module _ (t : Table) (span : Extent) (ps : List Placement) (a : ArePlaced t span
         | inl lt ↦ it_holds x p (omega arith) lt
         | inr le ↦ let some = (a.each p h).some in absurd (behind_begins t span ps a p h (gap (p.offset + p.size) (omega arith) (omega arith)))
       ]
+
+  -- the run of free minislots that a minislot is of, up to it
+  record FreeRun (x : ℕ) : Type 0 where
+    pub from : ℕ
+    pub begun_by : from ≤ x
+    pub begins : begins_at ps from ≡ Some (free_element from)
+    pub none : (z : ℕ) → from < z → z ≤ x → begins_at ps z ≡ None
+
+  begins_free : (x : ℕ) (o : Option Placement) → holder ps (x - 1) ≡ o → holder ps x ≡ None → begins_at ps x ≡ cond (eqb x 0 || is_some o) (Some (free_element x)) None
+  begins_free x o before here = ap (λ (h : Option Placement). beginning x h (holder ps x)) before ∙ ap (beginning x o) here
+
+  free_run : (x : ℕ) → holder ps x ≡ None → FreeRun x
+  free_run zero free = record {
+    from = 0;
+    begun_by = omega arith;
+    begins = begins_free 0 (holder ps (0 - 1)) refl free;
+    none = λ z gt le. absurd (omega arith);
+  }
+  free_run (suc x) free = by (holder ps x) refl (free_run x)
+    where
+      back : holder ps (suc x - 1) ≡ holder ps x
+      back = ap (holder ps) (let e : suc x - 1 ≡ x = omega arith in e)
+
+      by : (o : Option Placement) → holder ps x ≡ o → (holder ps x ≡ None → FreeRun x) → FreeRun (suc x)
+      by (Some p) e run = record {
+        from = suc x;
+        begun_by = omega arith;
+        begins = begins_free (suc x) (Some p) (back ∙ e) free ∙ ap (λ b. cond b (Some (free_element (suc x))) None) (or-true (eqb (suc x) 0));
+        none = λ z gt le. absurd (omega arith);
+      }
+      by None e run =
+          let r = run e in
+          let off : begins_at ps (suc x) ≡ None = begins_free (suc x) None (back ∙ e) free ∙ ap (λ b. cond (b || false) (Some (free_element (suc x))) None) (false_from_ne_true (eqb (suc x) 0) (λ z. let same = eqb-true (suc x) 0 z in omega arith)) in
+          record {
+            from = r.from;
+            begun_by = let le = r.begun_by in omega arith;
+            begins = r.begins;
+            none = λ z gt le. elim (cases_lt x z) [
+              | inl last ↦ subst (λ (y : ℕ). begins_at ps y ≡ None) (let same : suc x ≡ z = omega arith in same) off
+              | inr before ↦ r.none z gt before
+            ];
+          }
+
+  -- a minislot that is free is all modems', for requests
+  pub cell_of_free : (map : Body) (x : ℕ) → map.elements ≡ es → x < len → holder ps x ≡ None → (e : Element) × IsCell map x e × (e.sid ≡ everybody) × (e.iuc ≡ 1)
+  cell_of_free map x same lt free =
+      let r = free_run x free in
+      let le = r.begun_by in (
+        free_element r.from,
+        cell_from map x (free_element r.from) same le
+            (in_row (begins_at ps) (stand_at t span ps a) 0 len (null_element len) rest r.from x (free_element r.from) (omega arith) (omega arith) le (omega arith) r.begins r.none),
+        refl,
+        refl,
+      )

@@ -1,6 +1,8 @@
 -- What the crates above cite of this crate's proofs.
-pub use Rattle.grant_machine_parts.proofs.Bodies.{cell_of_placement, cell_tells, count, fill_placed, holds_below, holds_from, it_holds, none_before, null_at}
+pub use Rattle.grant_machine_parts.proofs.Bodies.{cell_of_free, cell_of_placement, cell_tells, count, fill_placed, holds_below, holds_from, it_holds, none_before, null_at}
 pub use Rattle.grant_machine_parts.proofs.Carved.{all_push}
+pub use Rattle.grant_machine_parts.proofs.Counted.{due_minislots, free_is_none, kept_free}
+pub use Rattle.grant_machine_parts.proofs.InTurn.{in_turn}
 pub use Rattle.grant_machine_parts.proofs.Fillings.{Asks, Becomes, IsDueOf, IsFor, IsLeased, IsOfFlow, Moves, cut_is_well, due_is, fill_moves, flow_from, grants_of, in_order_has, is_cut, pass_keeps, pass_zip, polls_of, served_from, timed, zip_twice}
 pub use Rattle.grant_machine_parts.proofs.Orders.{in_order_fewer, passing_in_order}
 pub use Rattle.grant_machine_parts.proofs.Served.{Serving, fills_for, filter_one, is_to}

@@ -1,12 +1,9 @@
 -- The gaps between placements: which are left once minislots are held, and the first that is wide enough.
-use Rattle.std.proofs.Common.{◌≡◌, ◌⊎◌, ℕ, zero, suc, ◌+◌, ◌-◌, ◌<◌, ◌≤◌, Bool, true, false, cond, not, ◌&&◌, ◌||◌, min, max, List, [], ◌∷◌, ◌++◌, length, Option, Some, None, is_none, IfSome, ⊎_elim, inl, inr, refl, sym, ap, subst, ◌∙◌, arith, leb, ltb, append_assoc}
+use Rattle.std.proofs.Common.{◌≡◌, ◌⊎◌, ℕ, zero, suc, ◌+◌, ◌-◌, ◌<◌, ◌≤◌, Bool, true, false, cond, not, ◌&&◌, ◌||◌, min, max, List, [], ◌∷◌, ◌++◌, Option, Some, None, is_none, IfSome, ⊎_elim, inl, inr, refl, sym, ap, subst, ◌∙◌, arith, leb, ltb, append_assoc}
 use Rattle.std.specs.List.{find, list_all, list_any, range_with_len, AllByRecursion}
 use Rattle.std.proofs.lemmas.Bool.{cases_lt, ltb-true, ltb-false, leb-true, leb-false, lt-ltb, lt-leb, le-leb, le-ltb, and_parts, and_right, false_from_ne_true}
 use Rattle.minislot_time.specs.Extent.{Extent}
-use Rattle.flow_state.specs.declared.channel.Channel.{Channel}
-use Rattle.flow_state.specs.declared.flow.Waiting.{Waiting}
-use Rattle.grant_machine_parts.specs.Cutting.{end_of, place_requests}
-use Rattle.grant_machine_parts.specs.Placing.{Placement, most_placements, holds, holder, is_free, fits_at, first_fit}
+use Rattle.grant_machine_parts.specs.Placing.{Placement, holds, holder, is_free, fits_at, first_fit}
 use Rattle.grant_machine_parts.specs.Filling.{PartMap, AreApart}
 use Rattle.grant_machine_parts.specs.Gaps.{Gap, IsGap, AreGaps, covers, left_of, right_of, carved, gap_in}
 use Rattle.flow_state.proofs.Callers.{Has, all_has, has_all, has_pushed, find_kept}
@@ -113,7 +110,7 @@ module _ (f f' : ℕ → Bool) (from to len : ℕ) (now : (x : ℕ) → from ≤
       by rest false c d p q r = (whole a g are.0 (inl (ltb-false g.from to p)), rest)
 
 -- a minislot is free after one more placement where it was, and that doesn't hold it
-free_added : (ps : List Placement) (p : Placement) (x : ℕ) → is_free (ps ++ p ∷ []) x ≡ (is_free ps x && not (holds x p))
+pub free_added : (ps : List Placement) (p : Placement) (x : ℕ) → is_free (ps ++ p ∷ []) x ≡ (is_free ps x && not (holds x p))
 free_added [] p x = elim (holds x p) as (λ b. is_none (cond b (Some p) None) ≡ (true && not b)) [ true ↦ refl | false ↦ refl ]
 free_added (q ∷ ps) p x = elim (holds x q) as (λ b. is_none (cond b (Some q) (holder (ps ++ p ∷ []) x)) ≡ (is_none (cond b (Some q) (holder ps x)) && not (holds x p))) [ true ↦ refl | false ↦ free_added ps p x ]
 
@@ -342,11 +339,3 @@ in_time start len ps n lo hi last first behind low most not_late late = record {
   not_late = not_late;
   late = late;
 }
-
--- a request that is longer than its MAP is not placed
-pub long_unplaced : (extent : Extent) (c : Channel) (last : ℕ → ℕ) (w : Waiting) (ps : List Placement) → extent.len < w.n → place_requests extent c last (w ∷ []) ps ≡ ps
-long_unplaced extent c last w ps over = rw (none (ltb (length ps) most_placements), place_requests) refl
-  where
-    none : (b : Bool) → cond b (find (fits_at extent ps w.n extent.start (end_of extent - w.n) (last w.sid)) (range_with_len 0 extent.len)) None ≡ None
-    none true = too_long extent.start extent.len ps w.n extent.start (end_of extent - w.n) (last w.sid) over
-    none false = refl

@@ -14,8 +14,8 @@ use Rattle.flow_state.specs.declared.flow.Waiting.{Waiting}
 use Rattle.flow_state.specs.declared.refusal.Refusal.TheVariants.{BadValue}
 use Rattle.flow_state.specs.Limits.{last_time, most_minislots, longest_interval, last_sid, is_good_kind, is_schedule, is_timed, is_ugs, due_time}
 use Rattle.flow_state.specs.Rows.{Table, FlowRow, is_of, is_of_sid, flow_of, last_in, last_of, is_ended, has_ended, lease_in}
-use Rattle.grant_machine_parts.specs.Placing.{Cause, Window, Sent, Placement, holder, is_free, fits_at, first_fit, most_placements}
-use Rattle.grant_machine_parts.specs.Cutting.{Periodic, due_at, end_of, Missed, Placed, Kept, verdict, verdict_on, placement_at, Ran, run_due_times, run_flow, due_before, Passed, pass, grants_of_flow, polls_of_flow, grants_of_kind, polls_of_kind, sized_iuc, grant_iuc, unsolicited_on, unsolicited_iuc, poll_iuc, priority_of, in_order, placement_for, place_requests, is_grant_of, Filled, fill, fill_span, fill_refusal, span_of, ack_of, table_after, flows_served}
+use Rattle.grant_machine_parts.specs.Placing.{Cause, Window, Sent, Placement, holder, is_free, free_minislots, fits_at, first_fit, most_placements}
+use Rattle.grant_machine_parts.specs.Cutting.{Periodic, due_at, end_of, Missed, Placed, Kept, verdict, verdict_on, placement_at, Ran, run_due_times, run_flow, due_before, Passed, pass, grants_of_flow, polls_of_flow, grants_of_kind, polls_of_kind, sized_iuc, grant_iuc, unsolicited_on, unsolicited_iuc, poll_iuc, priority_of, in_order, placement_for, request_fit, place_requests, is_grant_of, CutSettings, Filled, fill, fill_span, fill_refusal, span_of, are_within_limits, table_after, flows_served}
 use Rattle.grant_machine_parts.specs.Filling.{IsRequestedUse, IsDueUse, IsUseFor}
 use Rattle.flow_state.proofs.Callers.{Has, has_filter, filter_has, has_flat_map}
 use Rattle.grant_machine_parts.proofs.Offsets.{first_or_later}
@@ -31,7 +31,7 @@ pub record Fit (span : Extent) (ps : List Placement) (n last x : ℕ) : Type 0 w
   pub in_lease : span.start + x + n ≤ last + 1
   pub free : (y : ℕ) → x ≤ y → y < x + n → holder ps y ≡ None
 
-none_is : {X : Type 0} (o : Option X) → is_none o ≡ true → o ≡ None
+pub none_is : {X : Type 0} (o : Option X) → is_none o ≡ true → o ≡ None
 none_is None e = refl
 none_is (Some x) e = absurd cc
 
@@ -49,6 +49,18 @@ fit_tells span ps n lo hi last x e =
   where
     by : (b : Bool) → ltb (length ps) most_placements ≡ b → cond b (find (fits_at span ps n lo hi last) (range_with_len 0 span.len)) None ≡ Some x → length ps < most_placements
     by true h f = ltb-true _ _ h
+    by false h f = absurd cc
+
+-- so many minislots more than the n stay free
+pub record IsRequestFit (span : Extent) (ps : List Placement) (keep n last x : ℕ) : Type 0 where
+  pub fit : Fit span ps n last x
+  pub left : n + keep ≤ free_minislots span ps
+
+pub request_tells : (span : Extent) (keep : ℕ) (last : ℕ → ℕ) (w : Waiting) (ps : List Placement) (x : ℕ) → request_fit span keep last w ps ≡ Some x → IsRequestFit span ps keep w.n (last w.sid) x
+request_tells span keep last w ps x e = by (leb (w.n + keep) (free_minislots span ps)) refl e
+  where
+    by : (b : Bool) → leb (w.n + keep) (free_minislots span ps) ≡ b → cond b (first_fit span ps w.n span.start (end_of span - w.n) (last w.sid)) None ≡ Some x → IsRequestFit span ps keep w.n (last w.sid) x
+    by true h f = record { fit = fit_tells span ps w.n span.start (end_of span - w.n) (last w.sid) x f; left = leb-true _ _ h }
     by false h f = absurd cc
 
 pub placed_fit : (span : Extent) (ps : List Placement) (p : Periodic) (i x : ℕ) → verdict span ps p i ≡ Placed x → Fit span ps p.size p.last x
@@ -284,14 +296,14 @@ module _ (K : List Placement → Type 0) where
   pass_keeps span what (f ∷ fs) more ps h =
       pass_keeps span what fs (λ g k. more g (inr k)) (run_flow span (what f) f.index ps).placements (flow_keeps span (what f) f.index (more f (inl refl)) ps h)
 
-  pub requests_keep : (span : Extent) (c : Channel) (last : ℕ → ℕ) (ws : List Waiting)
-      → ((w : Waiting) → Has ws w → (ps : List Placement) (x : ℕ) → K ps → Fit span ps w.n (last w.sid) x → K (ps ++ placement_for c w x ∷ []))
-      → (ps : List Placement) → K ps → K (place_requests span c last ws ps)
-  requests_keep span c last [] more ps h = h
-  requests_keep span c last (w ∷ ws) more ps h =
-      elim (first_fit span ps w.n span.start (end_of span - w.n) (last w.sid)) as (λ o. first_fit span ps w.n span.start (end_of span - w.n) (last w.sid) ≡ o → K (elim o [ Some x ↦ place_requests span c last ws (ps ++ placement_for c w x ∷ []) | None ↦ place_requests span c last ws ps ])) [
-        | Some x ↦ λ e. requests_keep span c last ws (λ v k. more v (inr k)) (ps ++ placement_for c w x ∷ []) (more w (inl refl) ps x h (fit_tells span ps w.n span.start (end_of span - w.n) (last w.sid) x e))
-        | None ↦ λ e. requests_keep span c last ws (λ v k. more v (inr k)) ps h
+  pub requests_keep : (span : Extent) (c : Channel) (keep : ℕ) (last : ℕ → ℕ) (ws : List Waiting)
+      → ((w : Waiting) → Has ws w → (ps : List Placement) (x : ℕ) → K ps → IsRequestFit span ps keep w.n (last w.sid) x → K (ps ++ placement_for c w x ∷ []))
+      → (ps : List Placement) → K ps → K (place_requests span c keep last ws ps)
+  requests_keep span c keep last [] more ps h = h
+  requests_keep span c keep last (w ∷ ws) more ps h =
+      elim (request_fit span keep last w ps) as (λ o. request_fit span keep last w ps ≡ o → K (elim o [ Some x ↦ place_requests span c keep last ws (ps ++ placement_for c w x ∷ []) | None ↦ place_requests span c keep last ws ps ])) [
+        | Some x ↦ λ e. requests_keep span c keep last ws (λ v k. more v (inr k)) (ps ++ placement_for c w x ∷ []) (more w (inl refl) ps x h (request_tells span keep last w ps x e))
+        | None ↦ λ e. requests_keep span c keep last ws (λ v k. more v (inr k)) ps h
       ] refl
 
 -- the requests in order are those that wait
@@ -373,9 +385,9 @@ may_place_request t span ps w x well h fit =
     }
 
 -- what holds of no placements, and is kept by each that may be added, holds of a filled MAP
-pub fill_keeps : (K : List Placement → Type 0) (t : Table) (span : Extent) (ack : ℕ) → IsWell t → end_of span ≤ last_time → K []
-    → ((ps : List Placement) (q : Placement) → K ps → MayPlace t span ps q → K (ps ++ q ∷ [])) → K (fill_span t span ack).placements
-fill_keeps K t span ack w le none more =
+pub fill_keeps : (K : List Placement → Type 0) (t : Table) (span : Extent) (s : CutSettings) → IsWell t → end_of span ≤ last_time → K []
+    → ((ps : List Placement) (q : Placement) → K ps → MayPlace t span ps q → K (ps ++ q ∷ [])) → K (fill_span t span s).placements
+fill_keeps K t span s w le none more =
     let c : Channel = t.row.channel in
     let first : Passed = pass span (grants_of_flow c) t.flows [] in
     let second : Passed = pass span (polls_of_flow c) first.flows first.placements in
@@ -387,24 +399,26 @@ fill_keeps K t span ack w le none more =
     let m = moved_from t.flows first.flows g moves h in
     let of = subst (λ (f : FlowRow). IsOfFlow c f p) m.2.is (polls_of c g p e) in
     more ps (placement_at p i x) k (may_place_due t span ps p i x m.0 (w.flows m.0 m.1) m.1 (record { sid = of.sid; last = of.last; is = of.is }) v)) first.placements granted in
-    requests_keep K span c (last_of t) (in_order t t.waiting) (λ r h ps x k fit. more ps (placement_for c r x) k (may_place_request t span ps r x w (in_order_has t t.waiting r h) fit)) second.placements polled
+    requests_keep K span c s.keep (last_of t) (in_order t t.waiting) (λ r h ps x k fit. more ps (placement_for c r x) k (may_place_request t span ps r x w (in_order_has t t.waiting r h) fit.fit)) second.placements polled
 
 -- ---- the table after a MAP
 
 -- a cut that isn't refused
-pub record IsCut (t : Table) (len not_before ack : ℕ) : Type 0 where
-  pub some : 1 ≤ len
-  pub most : len ≤ most_minislots
-  pub end : end_of (span_of t.row len not_before) ≤ last_time
+pub record IsCut (t : Table) (s : CutSettings) : Type 0 where
+  pub some : 1 ≤ s.len
+  pub most : s.len ≤ most_minislots
+  pub end : end_of (span_of t.row s.len s.not_before) ≤ last_time
+  pub limits : are_within_limits s ≡ true
 
-pub is_cut : (t : Table) (len not_before ack : ℕ) → fill_refusal t.row len not_before ack ≡ None → IsCut t len not_before ack
-is_cut t len not_before ack e =
+pub is_cut : (t : Table) (s : CutSettings) → fill_refusal t.row s ≡ None → IsCut t s
+is_cut t s e =
     let good = test _ e in
-    let four = and_parts _ _ good in
+    let five = and_parts _ _ good in
+    let four = and_parts _ _ five.0 in
     let three = and_parts _ _ four.0 in
     let two = and_parts _ _ three.0 in
     let one = and_parts _ _ two.0 in
-    record { some = leb-true _ _ one.0; most = leb-true _ _ one.1; end = leb-true _ _ four.1 }
+    record { some = leb-true _ _ one.0; most = leb-true _ _ one.1; end = leb-true _ _ four.1; limits = five.1 }
   where
     test : (b : Bool) → cond b None (Some BadValue) ≡ None → b ≡ true
     test true f = refl
@@ -446,15 +460,15 @@ stays : (end : ℕ) (f : FlowRow) → not (is_ended end f) ≡ true → end ≤ 
 stays end f e = ltb-false f.last end (not-true (is_ended end f) e)
 
 -- the flow that a flow after the MAP was before it; its lease goes on to the MAP's end
-pub flow_from : (t : Table) (span : Extent) (ack : ℕ) (h : FlowRow) → end_of span ≤ last_time → Has (fill_span t span ack).flows h → (f : FlowRow) × Has t.flows f × Becomes f h × (end_of span ≤ h.last)
-flow_from t span ack h le at =
+pub flow_from : (t : Table) (span : Extent) (s : CutSettings) (h : FlowRow) → end_of span ≤ last_time → Has (fill_span t span s).flows h → (f : FlowRow) × Has t.flows f × Becomes f h × (end_of span ≤ h.last)
+flow_from t span s h le at =
     let left = has_filter (λ g. not (is_ended (end_of span) g)) (flows_served t span) h at in
     let from = served_from t (flows_served t span) h (fill_moves t span le) left.0 in
     (from.0, from.1, from.2, stays (end_of span) h left.1)
 
-fill_is_well : (t : Table) (span : Extent) (ack : ℕ) → IsWell t → t.row.next_start ≤ span.start → end_of span ≤ last_time → IsWell (table_after t (fill_span t span (ack_of t.row ack span.start)))
-fill_is_well t span ack w later le =
-    let f : Filled = fill_span t span (ack_of t.row ack span.start) in
+fill_is_well : (t : Table) (span : Extent) (s : CutSettings) → IsWell t → t.row.next_start ≤ span.start → end_of span ≤ last_time → IsWell (table_after t (fill_span t span s))
+fill_is_well t span s w later le =
+    let f : Filled = fill_span t span s in
     let goes_on : FlowRow → Bool = λ g. not (is_ended (end_of span) g) in
     let waits_on : Waiting → Bool = λ v. not (has_ended t (end_of span) v) in
     let waits : Waiting → Bool = λ v. not (list_any (is_grant_of v) f.placements) in
@@ -468,7 +482,7 @@ fill_is_well t span ack w later le =
       flows = λ g h. let from = moved_from t.flows served g m (has_filter goes_on served g h).0 in from.2.well (w.flows from.0 from.1);
       rising = rising_filter goes_on 1 served (rising_moved 1 t.flows served m w.rising);
       given = λ g h.
-          let from = flow_from t span (ack_of t.row ack span.start) g le h in
+          let from = flow_from t span s g le h in
           record {
             lease = ap (λ n. find (is_of_sid n) t.leases) from.2.sid ∙ (w.given from.0 from.1).lease ∙ ap (λ (l : Lease). Some l) (sym from.2.lease);
             goes_on = from.3;
@@ -504,7 +518,7 @@ fill_is_well t span ack w later le =
           omega arith;
     }
 
-pub cut_is_well : (t : Table) (len not_before ack : ℕ) → fill_refusal t.row len not_before ack ≡ None → IsWell t → IsWell (table_after t (fill t len not_before ack))
-cut_is_well t len not_before ack ok w =
-    let cut = is_cut t len not_before ack ok in
-    fill_is_well t (span_of t.row len not_before) ack w (omega arith) cut.end
+pub cut_is_well : (t : Table) (s : CutSettings) → fill_refusal t.row s ≡ None → IsWell t → IsWell (table_after t (fill t s))
+cut_is_well t s ok w =
+    let cut = is_cut t s ok in
+    fill_is_well t (span_of t.row s.len s.not_before) s w (omega arith) cut.end

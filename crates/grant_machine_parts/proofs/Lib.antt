@@ -11,5 +11,7 @@ pub mod Fillings
 pub mod Offsets
 pub mod Bodies
 pub mod Orders
+pub mod Counted
+pub mod InTurn
 pub mod Written
 pub mod Callers

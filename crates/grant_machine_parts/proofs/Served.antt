@@ -1,5 +1,5 @@
 -- The grants of an unsolicited grant flow over a list of commands.
-use Rattle.std.proofs.Common.{◌≡◌, ◌⊎◌, ℕ, ◌-◌, ◌≤◌, Bool, true, false, cond, not, List, [], ◌∷◌, ◌++◌, filter, Option, Some, None, refl, sym, ap, subst, ◌∙◌, arith, eqb, inl, inr}
+use Rattle.std.proofs.Common.{◌≡◌, ◌⊎◌, ℕ, ◌≤◌, Bool, true, false, cond, not, List, [], ◌∷◌, ◌++◌, filter, Option, Some, None, refl, sym, ap, subst, ◌∙◌, arith, eqb, inl, inr}
 use Rattle.std.specs.List.{AllZip, list_any}
 use Rattle.std.proofs.lemmas.Bool.{eqb-true}
 use Rattle.std.proofs.lemmas.List.{append-nil}
@@ -8,8 +8,8 @@ use Rattle.flow_state.specs.declared.channel.Channel.{Channel}
 use Rattle.flow_state.specs.declared.flow.FlowKind.TheVariants.{Ugs}
 use Rattle.flow_state.specs.declared.flow.Waiting.{Waiting}
 use Rattle.flow_state.specs.Rows.{Table, FlowRow, is_flow, is_of, last_of, is_ended, has_ended}
-use Rattle.grant_machine_parts.specs.Placing.{Placement, first_fit}
-use Rattle.grant_machine_parts.specs.Cutting.{Periodic, end_of, Ran, run_due_times, run_flow, due_before, Passed, pass, grants_of_flow, polls_of_flow, grants_of_kind, polls_of_kind, place_requests, placement_for, in_order, Filled, fill_span, still_waiting, requests_left, is_grant_of, table_after, unsolicited_iuc}
+use Rattle.grant_machine_parts.specs.Placing.{Placement}
+use Rattle.grant_machine_parts.specs.Cutting.{Periodic, end_of, Ran, run_due_times, run_flow, due_before, Passed, pass, grants_of_flow, polls_of_flow, grants_of_kind, polls_of_kind, request_fit, place_requests, placement_for, in_order, CutSettings, Filled, fill_span, still_waiting, requests_left, is_grant_of, table_after, unsolicited_iuc}
 use Rattle.flow_state.proofs.Callers.{Has, has_filter, filter_append, filter_sub, filter_swap, eqb_same}
 use Rattle.grant_machine_parts.proofs.Fillings.{grants_of, polls_of}
 use Rattle.grant_machine_parts.proofs.Orders.{passing_in_order}
@@ -147,20 +147,20 @@ pass_idle span what sid f fs ps keeps is e =
 
 -- ---- requests of other SIDs
 
-pub requests_none : (span : Extent) (c : Channel) (last : ℕ → ℕ) (sid : ℕ) (ws : List Waiting) (ps : List Placement) → filter (is_of sid) ws ≡ [] → filter (is_to sid) (place_requests span c last ws ps) ≡ filter (is_to sid) ps
-requests_none span c last sid [] ps none = refl
-requests_none span c last sid (w ∷ ws) ps none =
-    by (eqb w.sid sid) refl none (λ qs e. requests_none span c last sid ws qs e)
+pub requests_none : (span : Extent) (c : Channel) (keep : ℕ) (last : ℕ → ℕ) (sid : ℕ) (ws : List Waiting) (ps : List Placement) → filter (is_of sid) ws ≡ [] → filter (is_to sid) (place_requests span c keep last ws ps) ≡ filter (is_to sid) ps
+requests_none span c keep last sid [] ps none = refl
+requests_none span c keep last sid (w ∷ ws) ps none =
+    by (eqb w.sid sid) refl none (λ qs e. requests_none span c keep last sid ws qs e)
   where
     placed : (b : Bool) → eqb w.sid sid ≡ b → b ≡ false → (x : ℕ) → filter (is_to sid) (ps ++ placement_for c w x ∷ []) ≡ filter (is_to sid) ps
     placed b h off x = filter_append (is_to sid) ps (placement_for c w x ∷ []) ∙ ap (λ t. filter (is_to sid) ps ++ cond t (placement_for c w x ∷ []) []) (h ∙ off) ∙ append-nil (filter (is_to sid) ps)
 
     by : (b : Bool) → eqb w.sid sid ≡ b → cond b (w ∷ filter (is_of sid) ws) (filter (is_of sid) ws) ≡ []
-        → ((qs : List Placement) → filter (is_of sid) ws ≡ [] → filter (is_to sid) (place_requests span c last ws qs) ≡ filter (is_to sid) qs)
-        → filter (is_to sid) (place_requests span c last (w ∷ ws) ps) ≡ filter (is_to sid) ps
+        → ((qs : List Placement) → filter (is_of sid) ws ≡ [] → filter (is_to sid) (place_requests span c keep last ws qs) ≡ filter (is_to sid) qs)
+        → filter (is_to sid) (place_requests span c keep last (w ∷ ws) ps) ≡ filter (is_to sid) ps
     by true h e later = absurd cc
     by false h e later =
-        elim (first_fit span ps w.n span.start (end_of span - w.n) (last w.sid)) as (λ o. filter (is_to sid) (elim o [ Some x ↦ place_requests span c last ws (ps ++ placement_for c w x ∷ []) | None ↦ place_requests span c last ws ps ]) ≡ filter (is_to sid) ps) [
+        elim (request_fit span keep last w ps) as (λ o. filter (is_to sid) (elim o [ Some x ↦ place_requests span c keep last ws (ps ++ placement_for c w x ∷ []) | None ↦ place_requests span c keep last ws ps ]) ≡ filter (is_to sid) ps) [
           | Some x ↦ later (ps ++ placement_for c w x ∷ []) e ∙ placed false h refl x
           | None ↦ later ps e
         ]
@@ -191,19 +191,19 @@ pub record FilledFor (t : Table) (f : Filled) (sid size interval jitter base n :
 pub filter_one : {X : Type 0} (p q : X → Bool) (xs : List X) (x : X) → filter p xs ≡ x ∷ [] → (filter p (filter q xs) ≡ []) ⊎ (filter p (filter q xs) ≡ x ∷ [])
 filter_one {X} p q xs x e = rw (filter_swap p q xs, e) (elim (q x) as (λ b. (cond b (x ∷ []) [] ≡ []) ⊎ (cond b (x ∷ []) [] ≡ x ∷ [])) [ true ↦ inr refl | false ↦ inl refl ])
 
-pub fills_for : (t : Table) (span : Extent) (ack sid size interval jitter base n : ℕ) → Serving t sid size interval jitter base n → FilledFor t (fill_span t span ack) sid size interval jitter base n
-fills_for t span ack sid size interval jitter base n s =
+pub fills_for : (t : Table) (span : Extent) (s : CutSettings) (sid size interval jitter base n : ℕ) → Serving t sid size interval jitter base n → FilledFor t (fill_span t span s) sid size interval jitter base n
+fills_for t span s sid size interval jitter base n serving =
     let c : Channel = t.row.channel in
     let first : Passed = pass span (grants_of_flow c) t.flows [] in
     let second : Passed = pass span (polls_of_flow c) first.flows first.placements in
     let grants : KeepsSid (grants_of_flow c) = λ f p e. (grants_of c f p e).sid in
     let polls : KeepsSid (polls_of_flow c) = λ f p e. (polls_of c f p e).sid in
     let goes_on : FlowRow → Bool = λ f. not (is_ended (end_of span) f) in
-    let ps : List Placement = place_requests span c (last_of t) (in_order t t.waiting) second.placements in
-    let asked : filter (is_to sid) ps ≡ filter (is_to sid) second.placements = requests_none span c (last_of t) sid (in_order t t.waiting) second.placements (in_order_none t sid t.waiting s.waiting) in
+    let ps : List Placement = place_requests span c s.keep (last_of t) (in_order t t.waiting) second.placements in
+    let asked : filter (is_to sid) ps ≡ filter (is_to sid) second.placements = requests_none span c s.keep (last_of t) sid (in_order t t.waiting) second.placements (in_order_none t sid t.waiting serving.waiting) in
     let waits : filter (is_of sid) (requests_left t span (still_waiting ps t.waiting)) ≡ [] = filter_sub (is_of sid) (λ w. not (has_ended t (end_of span) w)) (still_waiting ps t.waiting)
-    (filter_sub (is_of sid) (λ w. not (list_any (is_grant_of w) ps)) t.waiting s.waiting) in
-    elim s.flows [
+    (filter_sub (is_of sid) (λ w. not (list_any (is_grant_of w) ps)) t.waiting serving.waiting) in
+    elim serving.flows [
       | inl none ↦
           let granted = pass_none span (grants_of_flow c) sid t.flows [] grants none in
           let polled = pass_none span (polls_of_flow c) sid first.flows first.placements polls granted.0 in

@@ -1,6 +1,6 @@
 -- How a MAP is filled: unsolicited grants, polls, then requests (CM-SP-MULPIv3.1, upstream scheduling services; this
 -- profile's order).
-use Rattle.std.specs.Prelude.{ℕ, zero, suc, ◌+◌, ◌-◌, ◌*◌, ◌/◌, ◌==◌, Bool, false, not, ◌&&◌, nat_lt, nat_le, if◌then◌else◌, min, max, List, [], ◌∷◌, ◌++◌, Option, Some, None}
+use Rattle.std.specs.Prelude.{ℕ, zero, suc, ◌+◌, ◌-◌, ◌*◌, ◌/◌, ◌==◌, Bool, false, not, ◌&&◌, ◌||◌, nat_lt, nat_le, if◌then◌else◌, min, max, List, [], ◌∷◌, ◌++◌, Option, Some, None}
 use Rattle.std.specs.List.{filter, list_any, flat_map}
 use Rattle.minislot_time.specs.Extent.{Extent}
 use Rattle.map_body.specs.Iucs as iucs
@@ -13,9 +13,12 @@ use Rattle.flow_state.specs.declared.flow.FlowKind.TheVariants.{BestEffort, Ugs,
 use Rattle.flow_state.specs.declared.flow.Waiting.{Waiting}
 use Rattle.flow_state.specs.declared.refusal.Refusal.{Refusal}
 use Rattle.flow_state.specs.declared.refusal.Refusal.TheVariants.{BadValue}
-use Rattle.flow_state.specs.Limits.{last_time, most_minislots}
+use Rattle.flow_state.specs.Limits.{last_time, most_minislots, is_backoff}
 use Rattle.flow_state.specs.Rows.{Table, FlowRow, flow_of, last_of, is_ended, has_ended}
-use Rattle.grant_machine_parts.specs.Placing.{Cause, Window, Sent, Placement, first_fit}
+use Rattle.grant_machine_parts.specs.Placing.{Cause, Window, Sent, Placement, free_minislots, first_fit}
+-- what a cut asks of its MAP: how many minislots, from when on, with which Ack Time, how many minislots requests leave
+-- free, and which back-offs it tells
+pub use Rattle.grant_machine_parts.specs.declared.settings.CutSettings.{CutSettings}
 -- what comes at each due time of a flow: minislots of this size and use, from the due time to jitter after it, up to
 -- the last one of its lease
 pub use Rattle.grant_machine_parts.specs.declared.due_times.Periodic.{Periodic}
@@ -144,13 +147,19 @@ in_order t ws = flat_map (λ priority. filter (λ w. priority_of t w == priority
 abbrev pub placement_for : Channel → Waiting → ℕ → Placement
 placement_for c w x = record { sid = w.sid; iuc = grant_iuc c w.n; offset = x; size = w.n; cause = Sent w.sent }
 
--- each request whole at its first fit, where there is one, by the last minislots of the leases of SIDs
-abbrev pub place_requests : Extent → Channel → (ℕ → ℕ) → List Waiting → List Placement → List Placement
-place_requests span c last [] ps = ps
-place_requests span c last (w ∷ ws) ps =
-    elim (first_fit span ps w.n span.start (end_of span - w.n) (last w.sid)) [
-      | Some x ↦ place_requests span c last ws (ps ++ placement_for c w x ∷ [])
-      | None ↦ place_requests span c last ws ps
+-- where a request goes whole: to its first fit, if so many minislots more than it asks for are free
+abbrev pub request_fit : Extent → (keep : ℕ) → (ℕ → ℕ) → Waiting → List Placement → Option ℕ
+request_fit span keep last w ps =
+    if nat_le (w.n + keep) (free_minislots span ps)
+    then first_fit span ps w.n span.start (end_of span - w.n) (last w.sid) else None
+
+-- each request where it goes, if anywhere, by the last minislots of the leases of SIDs
+abbrev pub place_requests : Extent → Channel → (keep : ℕ) → (ℕ → ℕ) → List Waiting → List Placement → List Placement
+place_requests span c keep last [] ps = ps
+place_requests span c keep last (w ∷ ws) ps =
+    elim (request_fit span keep last w ps) [
+      | Some x ↦ place_requests span c keep last ws (ps ++ placement_for c w x ∷ [])
+      | None ↦ place_requests span c keep last ws ps
     ]
 
 abbrev pub is_cause_sent : Cause → ℕ → Bool
@@ -165,10 +174,23 @@ is_grant_of w p = (p.sid == w.sid) && is_cause_sent p.cause w.sent
 abbrev pub still_waiting : List Placement → List Waiting → List Waiting
 still_waiting ps ws = filter (λ w. not (list_any (is_grant_of w) ps)) ws
 
--- a filled MAP: its minislots, the Ack Time, the placements, and the flows and requests after it
+-- the back-off (255, 255) of a cut stands for the channel's own
+abbrev pub is_own : ℕ × ℕ → Bool
+is_own pair = (pair.0 == 255) && (pair.1 == 255)
+
+abbrev pub told_backoff : (own asked : ℕ × ℕ) → ℕ × ℕ
+told_backoff own asked = if is_own asked then own else asked
+
+-- the channel as a MAP tells it: with the back-offs of its cut
+abbrev pub told_channel : Channel → CutSettings → Channel
+told_channel c s = record c { ranging_backoff = told_backoff c.ranging_backoff s.ranging_backoff; data_backoff = told_backoff c.data_backoff s.data_backoff }
+
+-- a filled MAP: its minislots, the Ack Time, the channel as it tells it, the placements, and the flows and requests
+-- after it
 pub record Filled : Type 0 where
   pub span : Extent
   pub ack : ℕ
+  pub told : Channel
   pub placements : List Placement
   pub flows : List FlowRow
   pub waiting : List Waiting
@@ -177,10 +199,19 @@ pub record Filled : Type 0 where
 abbrev pub span_of : ChannelRow → (len not_before : ℕ) → Extent
 span_of row len not_before = record { start = max row.next_start not_before; len = len }
 
--- a MAP has a minislot, and not too many, and its times are at most the last one
-abbrev pub fill_refusal : ChannelRow → (len not_before ack : ℕ) → Option Refusal
-fill_refusal row len not_before ack =
-    if nat_le 1 len && nat_le len most_minislots && nat_le not_before last_time && nat_le ack last_time && nat_le (end_of (span_of row len not_before)) last_time
+-- a cut's back-off is the channel's own, or one
+abbrev pub is_cut_backoff : ℕ × ℕ → Bool
+is_cut_backoff pair = is_own pair || is_backoff pair.0 pair.1
+
+-- a cut keeps no more minislots than a MAP may have, and its back-offs are good
+abbrev pub are_within_limits : CutSettings → Bool
+are_within_limits s = nat_le s.keep most_minislots && is_cut_backoff s.ranging_backoff && is_cut_backoff s.data_backoff
+
+-- a MAP has a minislot, and not too many, and its times are at most the last one; what its cut keeps and tells is good
+abbrev pub fill_refusal : ChannelRow → CutSettings → Option Refusal
+fill_refusal row s =
+    if nat_le 1 s.len && nat_le s.len most_minislots && nat_le s.not_before last_time && nat_le s.ack last_time
+    && nat_le (end_of (span_of row s.len s.not_before)) last_time && are_within_limits s
     then None else Some BadValue
 
 -- the Ack Time never falls, and never passes the MAP's start
@@ -194,10 +225,17 @@ flows_left span fs = filter (λ f. not (is_ended (end_of span) f)) fs
 abbrev pub requests_left : Table → Extent → List Waiting → List Waiting
 requests_left t span ws = filter (λ w. not (has_ended t (end_of span) w)) ws
 
-abbrev pub fill_requests : Table → Extent → ℕ → Passed → Filled
-fill_requests t span ack passed =
-    let ps = place_requests span t.row.channel (last_of t) (in_order t t.waiting) passed.placements in
-    record { span = span; ack = ack; placements = ps; flows = flows_left span passed.flows; waiting = requests_left t span (still_waiting ps t.waiting) }
+abbrev pub fill_requests : Table → Extent → CutSettings → Passed → Filled
+fill_requests t span s passed =
+    let ps = place_requests span t.row.channel s.keep (last_of t) (in_order t t.waiting) passed.placements in
+    record {
+      span = span;
+      ack = ack_of t.row s.ack span.start;
+      told = told_channel t.row.channel s;
+      placements = ps;
+      flows = flows_left span passed.flows;
+      waiting = requests_left t span (still_waiting ps t.waiting);
+    }
 
 abbrev pub fill_polls : Table → Extent → Passed → Passed
 fill_polls t span granted = pass span (polls_of_flow t.row.channel) granted.flows granted.placements
@@ -206,13 +244,11 @@ fill_polls t span granted = pass span (polls_of_flow t.row.channel) granted.flow
 abbrev pub flows_served : Table → Extent → List FlowRow
 flows_served t span = (fill_polls t span (pass span (grants_of_flow t.row.channel) t.flows [])).flows
 
-abbrev pub fill_span : Table → Extent → ℕ → Filled
-fill_span t span ack = fill_requests t span ack (fill_polls t span (pass span (grants_of_flow t.row.channel) t.flows []))
+abbrev pub fill_span : Table → Extent → CutSettings → Filled
+fill_span t span s = fill_requests t span s (fill_polls t span (pass span (grants_of_flow t.row.channel) t.flows []))
 
-abbrev pub fill : Table → (len not_before ack : ℕ) → Filled
-fill t len not_before ack =
-    let span = span_of t.row len not_before in
-    fill_span t span (ack_of t.row ack span.start)
+abbrev pub fill : Table → CutSettings → Filled
+fill t s = fill_span t (span_of t.row s.len s.not_before) s
 
 -- the channel's table after the MAP: the next one begins at its end
 abbrev pub table_after : Table → Filled → Table

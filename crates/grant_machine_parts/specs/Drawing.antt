@@ -46,7 +46,7 @@ abbrev pub head_of : Channel → (start ack : ℕ) → Head
 head_of c start ack = record { channel = c.id; ucd = c.ucd; start = wire start; ack = wire ack; ranging_backoff = c.ranging_backoff; data_backoff = c.data_backoff }
 
 abbrev pub body_of : Table → Filled → Body
-body_of t f = record { head = head_of t.row.channel f.span.start f.ack; elements = elements_of t f }
+body_of t f = record { head = head_of f.told f.span.start f.ack; elements = elements_of t f }
 
 -- its bytes, the reserved byte 0
 abbrev pub bytes_of : Table → Filled → List ℕ

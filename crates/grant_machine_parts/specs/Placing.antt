@@ -1,6 +1,6 @@
 -- Minislots of one MAP that are free or held, and the first fit among them.
-use Rattle.std.specs.Prelude.{ℕ, ◌+◌, Bool, ◌&&◌, if◌then◌else◌, nat_lt, nat_le, List, length, map, Option, None, is_none}
-use Rattle.std.specs.List.{find, list_all, range_with_len}
+use Rattle.std.specs.Prelude.{ℕ, ◌+◌, Bool, true, false, ◌&&◌, if◌then◌else◌, nat_lt, nat_le, List, length, map, Option, None, is_none}
+use Rattle.std.specs.List.{find, filter, list_all, range_with_len}
 use Rattle.minislot_time.specs.Extent.{Extent}
 use Rattle.grant_machine_parts.specs.declared.placing.TheConstants.{MOST_PLACEMENTS}
 -- what a placement serves (the due time of this number, or the request that was sent at this time), and a placement:
@@ -8,6 +8,11 @@ use Rattle.grant_machine_parts.specs.declared.placing.TheConstants.{MOST_PLACEME
 pub use Rattle.grant_machine_parts.specs.declared.placing.Cause.{Cause}
 pub use Rattle.grant_machine_parts.specs.declared.placing.Cause.TheVariants.{Window, Sent}
 pub use Rattle.grant_machine_parts.specs.declared.placing.Placement.{Placement}
+
+-- what is served is a due time
+abbrev pub is_window : Cause → Bool
+is_window (Window index) = true
+is_window (Sent sent) = false
 
 -- the placement holds the minislot at this offset
 abbrev pub holds : ℕ → Placement → Bool
@@ -19,6 +24,10 @@ holder ps x = find (holds x) ps
 
 abbrev pub is_free : List Placement → ℕ → Bool
 is_free ps x = is_none (holder ps x)
+
+-- how many minislots of a MAP are free
+abbrev pub free_minislots : Extent → List Placement → ℕ
+free_minislots span ps = length (filter (is_free ps) (range_with_len 0 span.len))
 
 -- the minislots of a MAP in order, each free or held by a placement
 abbrev pub cells : Extent → List Placement → List (Option Placement)

@@ -1,7 +1,7 @@
 //! The free minislots of a MAP: the gaps between its placements.
 
 ghost use Rattle.std.specs.Prelude.{◌≡◌, ◌⊎◌, ℕ, suc, ◌+◌, ◌^◌, ◌<◌, ◌≤◌, ◌++◌, Bool, List, length, take, drop, slice_get, Some, IsTrue, OnOk, OnErr, IfOk};
-ghost use Rattle.std.specs.List.{find, list_any, range_with_len};
+ghost use Rattle.std.specs.List.{find, filter, list_any, range_with_len};
 ghost use Rattle.grant_machine_parts.specs.Placing.{Placement, is_free, fits_at};
 ghost use Rattle.grant_machine_parts.specs.Gaps.{Gap, AreGaps, covers, carved_gap, carved, gap_in, HasPassed, IsInGap};
 
@@ -143,6 +143,17 @@ pub fn hold(
     carve(beside, gaps, from, to)?;
     mem::swap(gaps, beside);
     Ok(false)
+}
+
+/// How many minislots the gaps have.
+pub fn minislots(gaps: &[Gap]) -> u16
+    ensures { (free : ℕ → Bool) (len : ℕ) → AreGaps free 0 len gaps.now → len < 2 ^ 16 → result ≡ length (filter free (range_with_len 0 len)) }
+{
+    let mut count: u16 = 0;
+    for gap in gaps {
+        count = count.saturating_add(gap.to.saturating_sub(gap.from));
+    }
+    count
 }
 
 /// The least offset from first on and before behind where n minislots of a gap begin.

@@ -5,11 +5,15 @@ mod chains;
 pub mod drawing;
 mod due_times;
 mod gaps;
+mod numbers;
 mod placing;
 mod services;
+mod settings;
 mod waiting;
 
 pub use chains::by_priority;
+pub use numbers::limits;
 pub use placing::{Cause, Filling, Placement};
 pub use services::{Service, serve};
+pub use settings::CutSettings;
 pub use waiting::{Grants, Ranked, kind_priority, place_requests};

@@ -3,7 +3,7 @@
 ghost use Rattle.std.specs.Prelude.{◌≡◌, ◌+◌, ◌<◌, ◌≤◌, not, nat_lt, [], ◌∷◌, ◌++◌, length, IsTrue, IfOk, OnOk, IfSome};
 ghost use Rattle.std.specs.List.{AllByRecursion};
 ghost use Rattle.flow_state.specs.Limits.{last_time, most_minislots};
-ghost use Rattle.grant_machine_parts.specs.Placing.{most_placements, is_free, first_fit};
+ghost use Rattle.grant_machine_parts.specs.Placing.{most_placements, is_free, free_minislots, first_fit};
 ghost use Rattle.grant_machine_parts.specs.Gaps.{AreGaps};
 ghost use Rattle.grant_machine_parts.specs.Cutting.{end_of};
 ghost use Rattle.grant_machine_parts.specs.Filling.{has_use, AreApart};
@@ -142,6 +142,13 @@ impl Filling {
         ensures { AreGaps (is_free self.now.placements) 0 self.now.span.len result.now }
     {
         &self.gaps
+    }
+
+    /// How many minislots are free.
+    pub fn free(&self) -> u16
+        ensures { result ≡ free_minislots self.now.span self.now.placements }
+    {
+        gaps::minislots(&self.gaps)
     }
 
     /// Is it known that no minislot is in two placements?

@@ -1,12 +1,13 @@
 //! Requests that wait, by priority.
 
-ghost use Rattle.std.specs.Prelude.{◌≡◌, ℕ, OnOk, IsFalse, false};
+ghost use Rattle.std.specs.Prelude.{◌≡◌, ℕ, OnOk, IfOk, IsFalse, false};
 ghost use Rattle.std.specs.List.{list_any, AllByRecursion};
 ghost use Rattle.grant_machine_parts.specs.Cutting.{kind_priority, is_cause_sent, is_grant_of, place_requests};
 ghost use Rattle.flow_state.specs.declared.flow.Waiting.{Waiting};
 ghost use Rattle.grant_machine_parts.specs.Lent.{IsUnicast};
 ghost use Rattle.grant_machine_parts.specs.Ranks.{requests_in, IsOfLast};
 ghost use Rattle.grant_machine_parts.specs.Granted.{AreNumbered};
+ghost use Rattle.grant_machine_parts.specs.Placing.{free_minislots};
 
 use crate::placing::{Cause, Filling, Placement};
 use crate::services::grant_iuc;
@@ -33,21 +34,21 @@ pub fn kind_priority(kind: FlowKind) -> u8
     }
 }
 
-/// Places each request whole at its first fit within its lease, where there is one.
+/// Places each request whole at its first fit within its lease, where there is one and so many minislots stay free.
 pub fn place_requests(
     filling: &mut Filling,
     channel: &Channel,
+    keep: u16,
     ranked: &[Ranked],
 ) -> Result<(), AllocError>
     requires { AllByRecursion IsUnicast ranked.now }
     ensures span { filling.new.span ≡ filling.old.span }
     ensures placed { OnOk result ((last : ℕ → ℕ) → AllByRecursion (IsOfLast last) ranked.now
-        → filling.new.placements ≡ place_requests filling.old.span channel.now last (requests_in ranked.now) filling.old.placements) }
+        → filling.new.placements ≡ place_requests filling.old.span channel.now keep last (requests_in ranked.now) filling.old.placements) }
 {
-    let start = filling.start();
-    let end = filling.end();
+    let mut free = filling.free();
     for one in ranked {
-        place_request(filling, channel, one, start, end)?;
+        free = place_request(filling, channel, keep, one, free)?;
     }
     Ok(())
 }
@@ -55,37 +56,39 @@ pub fn place_requests(
 ghost use Rattle.std.specs.Prelude.{◌-◌, ◌∷◌, []};
 ghost use Rattle.grant_machine_parts.specs.Cutting.{end_of};
 
-/// Places a request whole at its first fit within its lease, where there is one.
+/// Places a request whole at its first fit within its lease, where there is one and so many of the free minislots stay
+/// free. How many are free then.
 fn place_request(
     filling: &mut Filling,
     channel: &Channel,
+    keep: u16,
     ranked: &Ranked,
-    start: u64,
-    end: u64,
-) -> Result<(), AllocError>
+    free: u16,
+) -> Result<u16, AllocError>
     requires unicast { IsUnicast ranked.now }
-    requires begun { start ≡ filling.old.span.start }
-    requires ended { end ≡ end_of filling.old.span }
+    requires counted { free ≡ free_minislots filling.old.span filling.old.placements }
     ensures span { filling.new.span ≡ filling.old.span }
     ensures placed { OnOk result ((last : ℕ → ℕ) → IsOfLast last ranked.now
-        → filling.new.placements ≡ place_requests filling.old.span channel.now last (ranked.now.request ∷ []) filling.old.placements) }
+        → filling.new.placements ≡ place_requests filling.old.span channel.now keep last (ranked.now.request ∷ []) filling.old.placements) }
+    ensures left { IfOk result (λ left. left ≡ free_minislots filling.new.span filling.new.placements) }
 {
     let request = ranked.request;
     let n = request.n;
-    if n > filling.len() {
-        return Ok(());
+    if free < keep || free - keep < n {
+        return Ok(free);
     }
-    let hi = end.saturating_sub(u64::from(n));
-    if let Some(x) = filling.first_fit(n, start, hi, ranked.last) {
-        filling.place(Placement {
-            sid: Sid::new(request.sid).unwrap(),
-            iuc: grant_iuc(channel, n),
-            offset: Offset::new(x as u16).unwrap(),
-            size: n,
-            cause: Cause::Sent(request.sent),
-        })?;
-    }
-    Ok(())
+    let hi = filling.end().saturating_sub(u64::from(n));
+    let Some(x) = filling.first_fit(n, filling.start(), hi, ranked.last) else {
+        return Ok(free);
+    };
+    filling.place(Placement {
+        sid: Sid::new(request.sid).unwrap(),
+        iuc: grant_iuc(channel, n),
+        offset: Offset::new(x as u16).unwrap(),
+        size: n,
+        cause: Cause::Sent(request.sent),
+    })?;
+    Ok(free - n)
 }
 
 /// Was the request sent at this time the cause?

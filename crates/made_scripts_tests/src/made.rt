@@ -37,6 +37,9 @@ const CUT: Command = Command::Cut {
     len: 100,
     not_before: 0,
     ack: 0,
+    keep: 0,
+    ranging: (255, 255),
+    data: (255, 255),
 };
 
 static PLAN: [Command; 6] = [CHANNEL, FLOW, CUT, Command::Noop, CUT, CUT];

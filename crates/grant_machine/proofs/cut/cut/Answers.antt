@@ -1,4 +1,4 @@
-use Rattle.std.proofs.Common.{◌≡◌, ℕ, ◌≤◌, true, List, max, is_none, Option, Some, None, refl, sym, ap, subst, ◌∙◌}
+use Rattle.std.proofs.Common.{◌≡◌, ℕ, ◌≤◌, true, List, max, is_none, Option, Some, None, refl, sym, ap, subst, ◌∙◌, arith}
 use Rattle.std.specs.List.{AllByRecursion}
 use Rattle.map_body.specs.Layout.{layout}
 use Rattle.flow_state.specs.declared.channel.ChannelRow.{ChannelRow}
@@ -7,18 +7,18 @@ use Rattle.flow_state.specs.declared.refusal.Refusal.{Refusal}
 use Rattle.flow_state.specs.Limits.{last_time}
 use Rattle.flow_state.specs.Rows.{Rows, Table, table_of}
 use Rattle.flow_state.specs.Changes.{TellsDue}
-use Rattle.grant_machine.specs.declared.command.Command.TheVariants as commands
 use Rattle.grant_machine.specs.declared.cut.Draft.{Draft}
 use Rattle.grant_machine.specs.declared.output.Output.{Output}
 use Rattle.grant_machine.specs.declared.output.Output.TheVariants as outputs
 use Rattle.grant_machine_parts.specs.declared.placing.Placement.{Placement}
-use Rattle.grant_machine_parts.specs.Cutting.{fill_refusal, span_of, ack_of, end_of}
+use Rattle.grant_machine_parts.specs.declared.settings.CutSettings.{CutSettings}
+use Rattle.grant_machine_parts.specs.Cutting.{fill_refusal, told_channel, span_of, ack_of, end_of}
 use Rattle.grant_machine_parts.specs.Drawing.{head_of}
-use Rattle.grant_machine.specs.Steps.{step}
+use Rattle.grant_machine.specs.Steps.{cut_command, step}
 use Rattle.grant_machine.specs.Runs.{IsReached}
 use Rattle.grant_machine.specs.CutRows.{IsReachedTable, rows_closed}
 use Rattle.grant_machine.specs.Plans.{IsFilledBy, elements_in}
-use Rattle.grant_machine.proofs.Closing.{table_early, good_again, made_tell, made_rows, made_output}
+use Rattle.grant_machine.proofs.Closing.{table_early, settled, good_again, made_tell, made_rows, made_output}
 use Rattle.grant_machine.proofs.cut.cut.Goals as goal
 
 none_of : (o : Option Refusal) → true ≡ is_none o → o ≡ None
@@ -36,47 +36,52 @@ module _ (rows : Rows) (reached : IsReached rows) (ch : ℕ) (t : Table) (found 
   early : row.next_start ≤ last_time
   early = subst (λ (r : ChannelRow). r.next_start ≤ last_time) (sym row_is) (table_early t there).0
 
-  -- and a MAP is within its limits
-  module _ (len not_before ack start a : ℕ) (ok : true ≡ is_none (fill_refusal row len not_before ack)) (begun : start ≡ max row.next_start not_before) (acked : a ≡ ack_of row ack start) where
-    good : fill_refusal t.row len not_before ack ≡ None
-    good = ap (λ (r : ChannelRow). fill_refusal r len not_before ack) (sym row_is) ∙ none_of _ ok
+  -- and a MAP is within its limits, which begins where it does, with the Ack Time that it has
+  module _ (asks now : CutSettings) (start a : ℕ) (ok : true ≡ is_none (fill_refusal row asks)) (begun : start ≡ max row.next_start asks.not_before) (acked : a ≡ ack_of row asks.ack start) (now_is : now ≡ record asks { not_before = start; ack = a }) where
+    good : fill_refusal t.row asks ≡ None
+    good = ap (λ (r : ChannelRow). fill_refusal r asks) (sym row_is) ∙ none_of _ ok
 
-    start_is : start ≡ max t.row.next_start not_before
-    start_is = begun ∙ ap (λ (r : ChannelRow). max r.next_start not_before) row_is
+    start_is : start ≡ max t.row.next_start asks.not_before
+    start_is = begun ∙ ap (λ (r : ChannelRow). max r.next_start asks.not_before) row_is
 
-    ack_is : a ≡ ack_of t.row ack (max t.row.next_start not_before)
-    ack_is = acked ∙ ap (λ (r : ChannelRow). ack_of r ack start) row_is ∙ ap (λ n. ack_of t.row ack n) start_is
+    ack_is : a ≡ ack_of t.row asks.ack (max t.row.next_start asks.not_before)
+    ack_is = acked ∙ ap (λ (r : ChannelRow). ack_of r asks.ack start) row_is ∙ ap (λ n. ack_of t.row asks.ack n) start_is
 
-    within : fill_refusal t.row len start a ≡ None
-    within =
-        ap (λ n. fill_refusal t.row len n a) start_is
-        ∙ ap (λ n. fill_refusal t.row len (max t.row.next_start not_before) n) ack_is
-        ∙ good_again t len not_before ack there good
+    settled_is : now ≡ settled t asks
+    settled_is = now_is ∙ ap (λ n. record asks { not_before = n; ack = a }) start_is ∙ ap (λ n. record asks { not_before = max t.row.next_start asks.not_before; ack = n }) ack_is
+
+    within : fill_refusal t.row now ≡ None
+    within = ap (fill_refusal t.row) settled_is ∙ good_again t asks there good
+
+    later : t.row.next_start ≤ now.not_before
+    later = subst (λ (s : CutSettings). t.row.next_start ≤ s.not_before) (sym settled_is) (omega arith)
 
     -- its MAP is filled
-    module _ (x : Draft) (by : IsFilledBy t (record { start = start; len = len }) x) where
-      filled : IsFilledBy t (span_of t.row len not_before) x
-      filled = subst (λ n. IsFilledBy t (record { start = n; len = len }) x) start_is by
+    module _ (x : Draft) (by : IsFilledBy t (record { start = now.not_before; len = now.len }) now x) where
+      filled : IsFilledBy t (span_of t.row asks.len asks.not_before) asks x
+      filled = again (subst (λ (s : CutSettings). IsFilledBy t (record { start = s.not_before; len = s.len }) s x) settled_is by)
+        where
+          again : IsFilledBy t (span_of t.row asks.len asks.not_before) (settled t asks) x → IsFilledBy t (span_of t.row asks.len asks.not_before) asks x
+          again f = record { span_is = f.span_is; placements = f.placements; flows = f.flows; lent = f.lent; requests = f.requests; lasts = f.lasts }
 
       tell : (fs : List Flow) → fs ≡ x.flows.items → (u : Table) → table_of rows ch ≡ Some u → AllByRecursion (TellsDue u) fs
       tell fs same u e =
           subst (λ (v : Table). AllByRecursion (TellsDue v) fs) (table_same _ t u found e)
-          (subst (λ (gs : List Flow). AllByRecursion (TellsDue t) gs) (sym same) (made_tell t len not_before ack x there good filled))
+          (subst (λ (gs : List Flow). AllByRecursion (TellsDue t) gs) (sym same) (made_tell t asks x there good filled))
 
-      told : (output : Output) → output ≡ outputs.Map ch start len (layout (head_of t.row.channel start a) (elements_in t.row.channel x) 0) → output ≡ (step rows (commands.Cut ch len not_before ack)).output
+      told : (output : Output) → output ≡ outputs.Map ch now.not_before now.len (layout (head_of (told_channel t.row.channel now) now.not_before now.ack) (elements_in t.row.channel x) 0) → output ≡ (step rows (cut_command ch asks)).output
       told output is =
           is
-          ∙ ap (λ n. outputs.Map ch n len (layout (head_of t.row.channel n a) (elements_in t.row.channel x) 0)) start_is
-          ∙ ap (λ n. outputs.Map ch (max t.row.next_start not_before) len (layout (head_of t.row.channel (max t.row.next_start not_before) n) (elements_in t.row.channel x) 0)) ack_is
-          ∙ made_output t len not_before ack x there good filled
+          ∙ ap (λ (s : CutSettings). outputs.Map ch s.not_before s.len (layout (head_of (told_channel t.row.channel s) s.not_before s.ack) (elements_in t.row.channel x) 0)) settled_is
+          ∙ made_output t asks x there good filled
 
-      closed : (fs : List Flow) (ps : List Placement) (end : ℕ) → fs ≡ x.flows.items → ps ≡ x.filling.placements → end ≡ end_of x.filling.span → rows_closed rows ch fs ps end a ≡ (step rows (commands.Cut ch len not_before ack)).rows
+      closed : (fs : List Flow) (ps : List Placement) (end : ℕ) → fs ≡ x.flows.items → ps ≡ x.filling.placements → end ≡ end_of x.filling.span → rows_closed rows ch fs ps end a ≡ (step rows (cut_command ch asks)).rows
       closed fs ps end flows placements ended =
           ap (λ (gs : List Flow). rows_closed rows ch gs ps end a) flows
           ∙ ap (λ (qs : List Placement). rows_closed rows ch x.flows.items qs end a) placements
           ∙ ap (λ n. rows_closed rows ch x.flows.items x.filling.placements n a) ended
           ∙ ap (λ n. rows_closed rows ch x.flows.items x.filling.placements (end_of x.filling.span) n) ack_is
-          ∙ made_rows t len not_before ack x there good filled
+          ∙ made_rows t asks x there good filled
 
 pub is_within_limits-requires : goal.is_within_limits-requires
 is_within_limits-requires c = early c.args.flows.now c.requires c.args.ch c.in-Some.table.now c.in-Some.ensures c.row-row.result.now c.row-row.ensures.row
@@ -84,23 +89,23 @@ is_within_limits-requires c = early c.args.flows.now c.requires c.args.ch c.in-S
 pub make_map-requires-clause-good : goal.make_map-requires-clause-good
 make_map-requires-clause-good c =
     within c.args.flows.now c.requires c.args.ch c.in-Some.table.now c.in-Some.ensures c.row-row.result.now c.row-row.ensures.row
-    c.args.len c.args.not_before c.args.ack c.start_of-start.result c.ack_of-ack.result c.if-not-is_within_limits.ensures c.start_of-start.ensures c.ack_of-ack.ensures
+    c.args.settings _ c.start_of-not_before.result c.ack_of-ack.result c.if-not-is_within_limits.ensures c.start_of-not_before.ensures c.ack_of-ack.ensures refl
 
 pub close-requires : goal.close-requires
 close-requires c =
     tell c.args.flows.now c.requires c.args.ch c.in-Some.table.now c.in-Some.ensures c.row-row.result.now c.row-row.ensures.row
-    c.args.len c.args.not_before c.args.ack c.start_of-start.result c.ack_of-ack.result c.if-not-is_within_limits.ensures c.start_of-start.ensures c.ack_of-ack.ensures
+    c.args.settings _ c.start_of-not_before.result c.ack_of-ack.result c.if-not-is_within_limits.ensures c.start_of-not_before.ensures c.ack_of-ack.ensures refl
     c.make_map.new.desk.filled c.in_ok-output.ensures.filled c.deref.result.now c.deref.ensures.value
 
 pub returns-clause-output : goal.returns-clause-output
 returns-clause-output c =
     told c.args.flows.now c.requires c.args.ch c.in-Some.table.now c.in-Some.ensures c.row-row.result.now c.row-row.ensures.row
-    c.args.len c.args.not_before c.args.ack c.start_of-start.result c.ack_of-ack.result c.if-not-is_within_limits.ensures c.start_of-start.ensures c.ack_of-ack.ensures
+    c.args.settings _ c.start_of-not_before.result c.ack_of-ack.result c.if-not-is_within_limits.ensures c.start_of-not_before.ensures c.ack_of-ack.ensures refl
     c.make_map.new.desk.filled c.in_ok-output.ensures.filled c.in_ok-output.output c.in_ok-output.ensures.output
 
 pub returns-clause-rows : goal.returns-clause-rows
 returns-clause-rows c =
     c.close.ensures
     ∙ closed c.args.flows.now c.requires c.args.ch c.in-Some.table.now c.in-Some.ensures c.row-row.result.now c.row-row.ensures.row
-    c.args.len c.args.not_before c.args.ack c.start_of-start.result c.ack_of-ack.result c.if-not-is_within_limits.ensures c.start_of-start.ensures c.ack_of-ack.ensures
+    c.args.settings _ c.start_of-not_before.result c.ack_of-ack.result c.if-not-is_within_limits.ensures c.start_of-not_before.ensures c.ack_of-ack.ensures refl
     c.make_map.new.desk.filled c.in_ok-output.ensures.filled c.deref.result.now c.placements.result.now c.end.result c.deref.ensures.value c.placements.ensures.same c.end.ensures.same

@@ -8,6 +8,12 @@ invariant_of-self-in-Channel c = reached_call c.set_channel.result _ _ (commands
 pub returns-in-Channel-clause-reached : goal.returns-in-Channel-clause-reached
 returns-in-Channel-clause-reached c = reached_call c.set_channel.result _ _ (commands.Channel c.in-Channel.channel) c.self.invariant c.set_channel.ensures.fits c.set_channel.ensures.rows c.set_channel.ensures.err
 
+pub invariant_of-self-in-Change : goal.invariant_of-self-in-Change
+invariant_of-self-in-Change c = reached_ok c.change_channel.result _ _ (commands.Change c.in-Change.ch c.in-Change.settings) c.self.invariant c.change_channel.ensures.fits c.change_channel.ensures.rows c.change_channel.ensures.ok
+
+pub returns-in-Change-clause-reached : goal.returns-in-Change-clause-reached
+returns-in-Change-clause-reached c = reached_ok c.change_channel.result _ _ (commands.Change c.in-Change.ch c.in-Change.settings) c.self.invariant c.change_channel.ensures.fits c.change_channel.ensures.rows c.change_channel.ensures.ok
+
 pub invariant_of-self-in-Flow : goal.invariant_of-self-in-Flow
 invariant_of-self-in-Flow c = reached_call c.add_flow.result _ _ (commands.Flow c.in-Flow.ch c.in-Flow.modem c.in-Flow.tag c.in-Flow.last c.in-Flow.kind) c.self.invariant c.add_flow.ensures.fits c.add_flow.ensures.rows c.add_flow.ensures.err
 
@@ -27,7 +33,7 @@ pub returns-in-Request-clause-reached : goal.returns-in-Request-clause-reached
 returns-in-Request-clause-reached c = reached_call c.request.result _ _ (commands.Request c.in-Request.ch c.in-Request.sid c.in-Request.n c.in-Request.sent) c.self.invariant c.request.ensures.fits c.request.ensures.rows c.request.ensures.err
 
 pub invariant_of-self-in-Cut : goal.invariant_of-self-in-Cut
-invariant_of-self-in-Cut c = reached_call c.cut.result _ _ (commands.Cut c.in-Cut.ch c.in-Cut.len c.in-Cut.not_before c.in-Cut.ack) c.self.invariant c.cut.ensures.fits c.cut.ensures.rows c.cut.ensures.err
+invariant_of-self-in-Cut c = reached_call c.cut.result _ _ (commands.Cut c.in-Cut.ch c.in-Cut.len c.in-Cut.not_before c.in-Cut.ack c.in-Cut.keep c.in-Cut.ranging c.in-Cut.data) c.self.invariant c.cut.ensures.fits c.cut.ensures.rows c.cut.ensures.err
 
 pub returns-in-Cut-clause-reached : goal.returns-in-Cut-clause-reached
-returns-in-Cut-clause-reached c = reached_call c.cut.result _ _ (commands.Cut c.in-Cut.ch c.in-Cut.len c.in-Cut.not_before c.in-Cut.ack) c.self.invariant c.cut.ensures.fits c.cut.ensures.rows c.cut.ensures.err
+returns-in-Cut-clause-reached c = reached_call c.cut.result _ _ (commands.Cut c.in-Cut.ch c.in-Cut.len c.in-Cut.not_before c.in-Cut.ack c.in-Cut.keep c.in-Cut.ranging c.in-Cut.data) c.self.invariant c.cut.ensures.fits c.cut.ensures.rows c.cut.ensures.err
