@@ -8,4 +8,4 @@
 set -euo pipefail
 . "$(dirname -- "${BASH_SOURCE[0]}")/common.sh"
 arguments=("$@")
-run_over live upsched_live_parts node_worker seats ballots command_log flow_state grant_machine anyhow
+run_over live upsched_live node_worker seats ballots command_log flow_state grant_machine anyhow

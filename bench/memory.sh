@@ -23,7 +23,7 @@ fi
 [ $# -gt 0 ] ||
     set -- plans/{first_grant,fullest_map,wider_jitter}.toml scripts/{one_leader,wrapped_time,missed_map}.toml
 
-workspace_over memory network_script script_text seats world_events node ballots grant_machine upsched_map_parts
+workspace_over memory network_script script_text seats world_events node ballots grant_machine
 if [ -z "$proves" ]; then
     mkdir "$made/cases"
     for text in "$@"; do

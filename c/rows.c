@@ -278,6 +278,24 @@ static void modems(void)
     upsched_close(&modem);
 }
 
+/* A MAP of 10 minislots from 1000 on, in the first two of which SID 1 ranges. */
+static void ranging(void)
+{
+    const uint8_t body[] = {1, 7, 3, 0, 0, 0, 3, 0xe8, 0, 0, 3, 0xe8, 2, 5, 3, 8,
+                            0, 5, 0, 0, 0xff, 0xfc, 0x40, 2, 0, 1, 0xc0, 0x0a};
+    upsched_handle modem = {0}, map = {0};
+    printf("-- a modem that ranges\n");
+    open_modem(&modem);
+    GOOD(upsched_map_open(&map, body, sizeof body));
+    hear_open(&modem, &map, 1000);
+    next(&modem, 1000);
+    tick(&modem, 1000, 0);
+    tick(&modem, 1001, 0);
+    next(&modem, 1002);
+    upsched_close(&modem);
+    upsched_close(&map);
+}
+
 /* What the handle of a MAP refuses, and a modem beside it. */
 static void open_maps(upsched_handle *modem)
 {
@@ -332,6 +350,7 @@ int main(void)
     codec();
     plans();
     modems();
+    ranging();
     handles();
     printf("faults %d\n", faults);
     return faults != 0;

@@ -71,6 +71,8 @@ enum {
 /* Interval usage codes (IUC). */
 enum {
     UPSCHED_IUC_REQUEST = 1,
+    UPSCHED_IUC_INITIAL_MAINTENANCE = 3,
+    UPSCHED_IUC_STATION_MAINTENANCE = 4,
     UPSCHED_IUC_SHORT_GRANT = 5,
     UPSCHED_IUC_LONG_GRANT = 6,
     UPSCHED_IUC_NULL = 7,
@@ -254,7 +256,14 @@ static inline int32_t upsched_machine_apply_bytes(upsched_handle *machine, const
 /* How an output was heard. */
 enum { UPSCHED_TAKEN = 0, UPSCHED_NOT_MINE = 1, UPSCHED_OTHER_UCD = 2, UPSCHED_PAST = 3, UPSCHED_UNREADABLE = 4 };
 
-enum { UPSCHED_SENDS_NOTHING = 0, UPSCHED_SENDS_DATA = 1, UPSCHED_SENDS_POLLED = 2, UPSCHED_SENDS_REQUEST = 3 };
+/* RANGING: it ranges in an interval of Station Maintenance of its SID. */
+enum {
+    UPSCHED_SENDS_NOTHING = 0,
+    UPSCHED_SENDS_DATA = 1,
+    UPSCHED_SENDS_POLLED = 2,
+    UPSCHED_SENDS_REQUEST = 3,
+    UPSCHED_SENDS_RANGING = 4
+};
 
 typedef struct upsched_sending {
     uint32_t kind;
@@ -263,12 +272,19 @@ typedef struct upsched_sending {
 } upsched_sending;
 
 /* GRANT: it sends data from now to the grant's last minislot. POLLED: it sends a request at a poll. CONTENTION: its
- * request takes part where all may send one: it is sent, or its number falls by 1. LEASE_END: its want goes. */
-enum { UPSCHED_EVENT_GRANT = 1, UPSCHED_EVENT_POLLED = 2, UPSCHED_EVENT_CONTENTION = 3, UPSCHED_EVENT_LEASE_END = 4 };
+ * request takes part where all may send one: it is sent, or its number falls by 1. LEASE_END: its want goes. RANGING:
+ * it ranges from now to the last minislot of its ranging opportunity. */
+enum {
+    UPSCHED_EVENT_GRANT = 1,
+    UPSCHED_EVENT_POLLED = 2,
+    UPSCHED_EVENT_CONTENTION = 3,
+    UPSCHED_EVENT_LEASE_END = 4,
+    UPSCHED_EVENT_RANGING = 5
+};
 
 typedef struct upsched_event {
     uint64_t slot;        /* when */
-    uint64_t first, last; /* GRANT: its first and its last minislot */
+    uint64_t first, last; /* GRANT, RANGING: its first and its last minislot */
     uint32_t kind;
     uint16_t sid;
     uint16_t minislots; /* POLLED, CONTENTION */

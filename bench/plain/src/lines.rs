@@ -92,5 +92,8 @@ pub fn put_sending(out: &mut String, sending: Option<Sending>) {
         Some(Sending::Request(sid, n)) => {
             put!(out, "request {sid} {n}");
         }
+        Some(Sending::Ranging(sid)) => {
+            put!(out, "ranging {sid}");
+        }
     }
 }

@@ -3,6 +3,7 @@
 use crate::body::{
     judge, Element, Head, Outline, ADVANCED_LONG_DATA_GRANT, ADVANCED_SHORT_DATA_GRANT,
     ADVANCED_UNSOLICITED_GRANT, EVERYBODY, LONG_DATA_GRANT, REQUEST, SHORT_DATA_GRANT,
+    STATION_MAINTENANCE,
 };
 use crate::machine::Output;
 use std::collections::VecDeque;
@@ -33,6 +34,7 @@ pub enum Sending {
     Unicast(u16),
     Polled(u16, u16),
     Request(u16, u16),
+    Ranging(u16),
 }
 
 #[derive(Clone, Copy, Debug, PartialEq, Eq)]
@@ -253,6 +255,7 @@ impl Site {
         let own = covering(&self.grants, at).map(|k| (k.sid, k.iuc)).min();
         match own {
             Some((sid, iuc)) if lets_transmit(iuc) => Some(Sending::Unicast(sid)),
+            Some((sid, STATION_MAINTENANCE)) => Some(Sending::Ranging(sid)),
             Some((sid, REQUEST)) => self.poll(sid, at),
             _ if covering(&self.open, at).next().is_some() => self.share(at, random),
             _ => None,

@@ -277,6 +277,33 @@ fn a_modem_draws_a_number_for_its_want() {
 }
 
 #[test]
+fn a_modem_ranges() {
+    let mut outputs = applied(&[channel(1000), best_effort(1), cut(8, 0, 0)]);
+    let Some(Output::Map { bytes, .. }) = outputs.last_mut() else {
+        panic!("no MAP");
+    };
+    bytes[2] = 4;
+    bytes.truncate(16);
+    for word in [0x0005_0000_u32, 0xFFFC_C002, 0xFFFC_4006, 0x0001_C008] {
+        bytes.extend(word.to_be_bytes());
+    }
+    let mut modem = Modem::new(50);
+    for output in &outputs {
+        assert_eq!(modem.hear(output, 1000), Heard::Taken);
+    }
+    assert_eq!(modem.want(1, 1, 20), Ok(()));
+    let rows = [
+        (1001, Some(Sending::Ranging(1))),
+        (1002, None),
+        (1005, None),
+        (1006, Some(Sending::Request(1, 20))),
+    ];
+    for (slot, sending) in rows {
+        assert_eq!(modem.tick(1, slot, 0), Ok(sending));
+    }
+}
+
+#[test]
 fn the_least_ballot_of_a_node() {
     let last = 8_796_093_022_200;
     let rows = [

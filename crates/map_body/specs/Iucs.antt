@@ -5,6 +5,14 @@ use Rattle.std.specs.Prelude.{ℕ, Bool, ◌==◌, ◌||◌}
 abbrev pub request : ℕ
 request = 1
 
+-- Initial Maintenance
+abbrev pub initial_maintenance : ℕ
+initial_maintenance = 3
+
+-- Station Maintenance
+abbrev pub station_maintenance : ℕ
+station_maintenance = 4
+
 -- Short Data Grant
 abbrev pub short_data_grant : ℕ
 short_data_grant = 5
@@ -42,6 +50,10 @@ abbrev pub lets_transmit : ℕ → Bool
 lets_transmit iuc =
     (iuc == short_data_grant) || (iuc == long_data_grant)
     || (iuc == advanced_short_data_grant) || (iuc == advanced_long_data_grant) || (iuc == advanced_unsolicited_grant)
+
+-- a modem ranges in an interval of its SID
+abbrev pub lets_range : ℕ → Bool
+lets_range iuc = iuc == station_maintenance
 
 -- an element of the SID answers a request that waits: granted before the Null, pending after it; no unsolicited grant
 -- does

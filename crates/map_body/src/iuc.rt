@@ -87,6 +87,13 @@ impl Iuc {
         )
     }
 
+    /// Does a modem range in an interval of its SID?
+    pub fn lets_range(self) -> bool
+        ensures { result ≡ iucs.lets_range self }
+    {
+        self == Iuc::STATION_MAINTENANCE
+    }
+
     /// Does an element of the SID answer a request that waits, before the Null as granted, after it as pending?
     /// An unsolicited grant doesn't: no request asked for it.
     pub fn answers_request(self) -> bool

@@ -57,8 +57,8 @@ module _ (c : Channel) (clock : ℕ) where
   sends_same leases wants slot random b s new None = shares_same leases wants slot random b s new
   sends_same leases wants slot random b s new (Some p) =
       let same = shares_same leases wants slot random b s new in (
-        where_false _ _ _ (iucs.lets_transmit p.1) (where_false _ _ _ (iucs.lets_request p.1) same.0),
-        where_false _ _ _ (iucs.lets_transmit p.1) (where_false _ _ _ (iucs.lets_request p.1) same.1),
+        where_false _ _ _ (iucs.lets_transmit p.1) (where_false _ _ _ (iucs.lets_range p.1) (where_false _ _ _ (iucs.lets_request p.1) same.0)),
+        where_false _ _ _ (iucs.lets_transmit p.1) (where_false _ _ _ (iucs.lets_range p.1) (where_false _ _ _ (iucs.lets_request p.1) same.1)),
       )
 
 -- a tick that was quiet, and one later

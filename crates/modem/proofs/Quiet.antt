@@ -12,14 +12,14 @@ use Rattle.modem.specs.declared.known.Channel.{Channel}
 use Rattle.modem.specs.declared.known.OwnLease.{OwnLease}
 use Rattle.modem.specs.declared.known.Want.{Want}
 use Rattle.modem.specs.declared.types.Sending.{Sending}
-use Rattle.modem.specs.declared.types.Sending.TheVariants.{Unicast, Polled}
+use Rattle.modem.specs.declared.types.Sending.TheVariants.{Unicast, Polled, Ranging}
 use Rattle.modem.specs.State.{State, Kept, HasAt, is_own_at, is_own_from}
 use Rattle.modem.specs.Wants.{is_want, is_unsent, is_unsent_on, unsent_of, IsLeastUnsent, own_wants, is_lasting, lasting}
 use Rattle.modem.specs.Ticks.{Ticks, Counts, IsNotAfter, Silent, Polls, Contends, Shares, SendsBy}
 use Rattle.modem.specs.NextEvent.{IsQuiet, EachTick, IsPartOf, Acts}
 use Rattle.modem.specs.Idle.{NoneShares, IsShared, NothingBy, SendsAt, IsIdle, HasSame, CoverSame, HasNoUnsent}
 use Rattle.modem.specs.declared.action.Action.{Action}
-use Rattle.modem.specs.declared.action.Action.TheVariants.{Grant, Poll, Contention, LeaseEnd}
+use Rattle.modem.specs.declared.action.Action.TheVariants.{Grant, Poll, Contention, LeaseEnd, Ranging as RangingAct}
 
 pair : (p q : ℕ × ℕ) → p.0 ≡ q.0 → p.1 ≡ q.1 → p ≡ q
 pair (a, b) (x, y) e f = ap (λ n. (n, b)) e ∙ ap (λ n. (x, n)) f
@@ -62,12 +62,13 @@ module _ (v : State) (c : Channel) (m random : ℕ) (sending : Option Sending) (
 
   silent_by : (counted : Option (ℕ × ℕ)) (is_open : Bool) (wants : List Want) → ((is_open ≡ true) ↔ HasAt v.open_to_all c.id m everybody 1) → NothingBy v c.id m counted → SendsBy v.leases v.wants c m random is_open sending wants counted → Silent v.wants sending wants
   silent_by None is_open wants opens none h = silent is_open wants opens none h
-  silent_by (Some p) is_open wants opens none h = go (iucs.lets_transmit p.1) (iucs.lets_request p.1) none h
+  silent_by (Some p) is_open wants opens none h = go (iucs.lets_transmit p.1) (iucs.lets_range p.1) (iucs.lets_request p.1) none h
     where
-      go : (t r : Bool) → MatchBool t ⊥ (MatchBool r (unsent_of v.wants c.id p.0 ≡ None) (NoneShares v c.id m)) → MatchBool t ((sending ≡ Some (Unicast p.0)) × (wants ≡ v.wants)) (MatchBool r (Polls v.wants p.0 m sending wants (unsent_of v.wants c.id p.0)) (Shares v.leases v.wants c m random is_open sending wants)) → Silent v.wants sending wants
-      go true r none h = absurd none
-      go false true none h = subst (λ o. Polls v.wants p.0 m sending wants o) none h
-      go false false none h = silent is_open wants opens none h
+      go : (t k r : Bool) → MatchBool t ⊥ (MatchBool k ⊥ (MatchBool r (unsent_of v.wants c.id p.0 ≡ None) (NoneShares v c.id m))) → MatchBool t ((sending ≡ Some (Unicast p.0)) × (wants ≡ v.wants)) (MatchBool k ((sending ≡ Some (Ranging p.0)) × (wants ≡ v.wants)) (MatchBool r (Polls v.wants p.0 m sending wants (unsent_of v.wants c.id p.0)) (Shares v.leases v.wants c m random is_open sending wants))) → Silent v.wants sending wants
+      go true k r none h = absurd none
+      go false true r none h = absurd none
+      go false false true none h = subst (λ o. Polls v.wants p.0 m sending wants o) none h
+      go false false false none h = silent is_open wants opens none h
 
 -- where nothing comes, and all wants stay
 pub idle_quiet : (v : State) (c : Channel) (m : ℕ) → IsIdle v c.id m → IsQuiet v c m
@@ -80,16 +81,20 @@ pub granted : (v : State) (c : Channel) (m sid iuc : ℕ) → Counts v.grants c.
 granted v c m sid iuc counts lets random sending new ticks =
     (MatchBool-at_true _ _ lets (by v c m random sending new ticks (Some (sid, iuc)) counts)).0
 
+-- a ranging opportunity that counts is used
+pub ranged : (v : State) (c : Channel) (m sid : ℕ) → Counts v.grants c.id m (Some (sid, iucs.station_maintenance)) → EachTick v c m (λ random sending wants. sending ≡ Some (Ranging sid))
+ranged v c m sid counts random sending new ticks = (by v c m random sending new ticks (Some (sid, iucs.station_maintenance)) counts).0
+
 -- a poll that counts
-pub polled : (v : State) (c : Channel) (m sid iuc : ℕ) (w : Want) → Counts v.grants c.id m (Some (sid, iuc)) → iucs.lets_transmit iuc ≡ false → iucs.lets_request iuc ≡ true → unsent_of v.wants c.id sid ≡ Some w → EachTick v c m (λ random sending wants. sending ≡ Some (Polled sid w.n))
-polled v c m sid iuc w counts no_grant lets found random sending new ticks =
-    let polls = MatchBool-at_true _ _ lets (MatchBool-at_false _ _ no_grant (by v c m random sending new ticks (Some (sid, iuc)) counts)) in
+pub polled : (v : State) (c : Channel) (m sid iuc : ℕ) (w : Want) → Counts v.grants c.id m (Some (sid, iuc)) → iucs.lets_transmit iuc ≡ false → iucs.lets_range iuc ≡ false → iucs.lets_request iuc ≡ true → unsent_of v.wants c.id sid ≡ Some w → EachTick v c m (λ random sending wants. sending ≡ Some (Polled sid w.n))
+polled v c m sid iuc w counts no_grant no_range lets found random sending new ticks =
+    let polls = MatchBool-at_true _ _ lets (MatchBool-at_false _ _ no_range (MatchBool-at_false _ _ no_grant (by v c m random sending new ticks (Some (sid, iuc)) counts))) in
     (subst (λ o. Polls v.wants sid m sending ticks.sends.4 o) found polls).0
 
--- where no grant or poll counts
+-- where no grant, ranging opportunity or poll counts
 to_shares : (leases : List OwnLease) (wants : List Want) (c : Channel) (m random : ℕ) (is_open : Bool) (sending : Option Sending) (new : List Want) (counted : Option (ℕ × ℕ)) → IsShared counted → SendsBy leases wants c m random is_open sending new counted → Shares leases wants c m random is_open sending new
 to_shares leases wants c m random is_open sending new None shared h = h
-to_shares leases wants c m random is_open sending new (Some p) shared h = MatchBool-at_false _ _ shared.1 (MatchBool-at_false _ _ shared.0 h)
+to_shares leases wants c m random is_open sending new (Some p) shared h = MatchBool-at_false _ _ shared.2 (MatchBool-at_false _ _ shared.1 (MatchBool-at_false _ _ shared.0 h))
 
 -- the least unsent want takes part
 pub contended : (v : State) (c : Channel) (m : ℕ) (counted : Option (ℕ × ℕ)) (w : Want) → Counts v.grants c.id m counted → IsShared counted → HasAt v.open_to_all c.id m everybody 1 → IsLeastUnsent (own_wants v.leases c.id m v.wants) c.id (Some w) → EachTick v c m (IsPartOf v c m w)
@@ -127,7 +132,7 @@ idle_by v ch m x grants leases shares idle = record {
 
     at_counted : (counted : Option (ℕ × ℕ)) → NothingBy v ch m counted → NothingBy v ch x counted
     at_counted None none = shares none
-    at_counted (Some p) none = where_false _ _ _ (iucs.lets_transmit p.1) (where_false _ _ _ (iucs.lets_request p.1) shares) none
+    at_counted (Some p) none = where_false _ _ _ (iucs.lets_transmit p.1) (where_false _ _ _ (iucs.lets_range p.1) (where_false _ _ _ (iucs.lets_request p.1) shares)) none
 
 -- the same intervals are open to all, and the same SIDs covered
 pub shares_same : (v : State) (ch m x : ℕ) → HasSame v.open_to_all ch m x → CoverSame v.leases ch m x → NoneShares v ch m → NoneShares v ch x
@@ -171,8 +176,10 @@ no_unsent (w ∷ ws) ch none sid = by_test ((w.channel == ch) && is_unsent w.pro
 pub acts_sent : (v : State) (c : Channel) (m : ℕ) (counted : Option (ℕ × ℕ)) (a : Action) → Counts v.grants c.id m counted → SendsAt v c.id m counted (Some a) → Acts v c m a
 acts_sent v c m counted (Grant sid iuc first last) counts (is, lets, from, to, kept) =
     (lets, from, to, kept, granted v c m sid iuc (subst (λ o. Counts v.grants c.id m o) is counts) lets)
-acts_sent v c m counted (Poll sid n) counts (iuc, is, no_grant, lets, w, found, of_n) =
-    subst (λ k. EachTick v c m (λ random sending wants. sending ≡ Some (Polled sid k))) of_n (polled v c m sid iuc w (subst (λ o. Counts v.grants c.id m o) is counts) no_grant lets found)
+acts_sent v c m counted (Poll sid n) counts (iuc, is, no_grant, no_range, lets, w, found, of_n) =
+    subst (λ k. EachTick v c m (λ random sending wants. sending ≡ Some (Polled sid k))) of_n (polled v c m sid iuc w (subst (λ o. Counts v.grants c.id m o) is counts) no_grant no_range lets found)
 acts_sent v c m counted (Contention sid n) counts (shared, (shares, w, least, of_sid, of_n)) =
     (w, of_sid, of_n, contended v c m counted w counts shared shares least)
 acts_sent v c m counted (LeaseEnd sid) counts none = absurd none
+acts_sent v c m counted (RangingAct sid first last) counts (is, from, to, kept) =
+    (from, to, kept, ranged v c m sid (subst (λ o. Counts v.grants c.id m o) is counts))

@@ -103,4 +103,4 @@ module _ (leases : List OwnLease) (wants : List Want) (c : Channel) (slot random
   pub AreSpans-sent : (is_open : Bool) (counted : Option (ℕ × ℕ)) → SendsBy leases wants c slot random is_open sending new counted → AreSpans leases new ss
   AreSpans-sent is_open None h = by_share is_open h
   AreSpans-sent is_open (Some p) h =
-      by_test _ _ _ (iucs.lets_transmit p.1) (λ s. same s.1) (by_test _ _ _ (iucs.lets_request p.1) (by_poll p.0 (unsent_of wants c.id p.0)) (by_share is_open)) h
+      by_test _ _ _ (iucs.lets_transmit p.1) (λ s. same s.1) (by_test _ _ _ (iucs.lets_range p.1) (λ s. same s.1) (by_test _ _ _ (iucs.lets_request p.1) (by_poll p.0 (unsent_of wants c.id p.0)) (by_share is_open))) h

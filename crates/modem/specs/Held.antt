@@ -10,7 +10,7 @@ use Rattle.grant_machine.specs.declared.output.Output.TheVariants.{Nothing, Chan
 use Rattle.modem.specs.declared.types.Heard.{Heard}
 use Rattle.modem.specs.declared.types.Heard.TheVariants.{Taken}
 use Rattle.modem.specs.declared.types.Sending.{Sending}
-use Rattle.modem.specs.declared.types.Sending.TheVariants.{Unicast, Polled, Request}
+use Rattle.modem.specs.declared.types.Sending.TheVariants.{Unicast, Polled, Request, Ranging}
 use Rattle.modem.specs.State.{State, HasAt, is_own_at, is_own_from, clock_of}
 
 -- an output that was heard near a time, and what the modem answered to it
@@ -94,3 +94,4 @@ unicast_sid None = None
 unicast_sid (Some (Unicast sid)) = Some sid
 unicast_sid (Some (Polled sid n)) = Some sid
 unicast_sid (Some (Request sid n)) = None
+unicast_sid (Some (Ranging sid)) = Some sid

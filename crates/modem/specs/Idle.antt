@@ -3,7 +3,7 @@ use Rattle.std.specs.Prelude.{◌≡◌, ℕ, ◌+◌, ◌<◌, ◌≤◌, true,
 use Rattle.map_body.specs.Iucs as iucs
 use Rattle.map_body.specs.Sids.{everybody}
 use Rattle.modem.specs.declared.action.Action.{Action}
-use Rattle.modem.specs.declared.action.Action.TheVariants.{Grant, Poll, Contention, LeaseEnd}
+use Rattle.modem.specs.declared.action.Action.TheVariants.{Grant, Poll, Contention, LeaseEnd, Ranging}
 use Rattle.modem.specs.declared.known.OwnLease.{OwnLease}
 use Rattle.modem.specs.declared.known.Want.{Want}
 use Rattle.modem.specs.State.{State, Kept, HasAt, is_own_at, is_own_from}
@@ -15,10 +15,10 @@ use Rattle.modem.specs.NextEvent.{grant}
 abbrev pub NoneShares : State → ℕ → ℕ → Type 0
 NoneShares v ch m = (¬ HasAt v.open_to_all ch m everybody iucs.request) ⊎ IsLeastUnsent (own_wants v.leases ch m v.wants) ch None
 
--- what counts in a minislot, if anything, lets the modem neither transmit nor request
+-- what counts in a minislot, if anything, lets the modem neither transmit nor range nor request
 abbrev pub IsShared : Option (ℕ × ℕ) → Type 0
 IsShared None = Unit {0}
-IsShared (Some p) = (iucs.lets_transmit p.1 ≡ false) × (iucs.lets_request p.1 ≡ false)
+IsShared (Some p) = (iucs.lets_transmit p.1 ≡ false) × (iucs.lets_range p.1 ≡ false) × (iucs.lets_request p.1 ≡ false)
 
 -- by what counts nothing is sent and no number falls
 abbrev pub NothingBy : State → ℕ → ℕ → Option (ℕ × ℕ) → Type 0
@@ -26,9 +26,11 @@ NothingBy v ch m None = NoneShares v ch m
 NothingBy v ch m (Some p) =
     MatchBool (iucs.lets_transmit p.1)
     ⊥
+    (MatchBool (iucs.lets_range p.1)
+    ⊥
     (MatchBool (iucs.lets_request p.1)
     (unsent_of v.wants ch p.0 ≡ None)
-    (NoneShares v ch m))
+    (NoneShares v ch m)))
 
 -- the unsent want of least SID takes part in a minislot that is open to all, or nobody does
 abbrev pub SharesAt : State → ℕ → ℕ → Option Action → Type 0
@@ -42,6 +44,7 @@ SharesAt v ch m (Some (Contention sid n)) =
 SharesAt v ch m (Some (Grant sid iuc first last)) = ⊥
 SharesAt v ch m (Some (Poll sid n)) = ⊥
 SharesAt v ch m (Some (LeaseEnd sid)) = ⊥
+SharesAt v ch m (Some (Ranging sid first last)) = ⊥
 
 -- what is sent, or may be, by what counts in a minislot
 abbrev pub SendsAt : State → ℕ → ℕ → Option (ℕ × ℕ) → Option Action → Type 0
@@ -56,12 +59,18 @@ SendsAt v ch m counted (Some (Poll sid n)) =
     (iuc : ℕ)
     × (counted ≡ Some (sid, iuc))
     × (iucs.lets_transmit iuc ≡ false)
+    × (iucs.lets_range iuc ≡ false)
     × (iucs.lets_request iuc ≡ true)
     × (w : Want)
     × (unsent_of v.wants ch sid ≡ Some w)
     × (w.n ≡ n)
 SendsAt v ch m counted (Some (Contention sid n)) = IsShared counted × SharesAt v ch m (Some (Contention sid n))
 SendsAt v ch m counted (Some (LeaseEnd sid)) = ⊥
+SendsAt v ch m counted (Some (Ranging sid first last)) =
+    (counted ≡ Some (sid, iucs.station_maintenance))
+    × (first ≤ m)
+    × (m ≤ last)
+    × Contains v.grants (grant ch sid iucs.station_maintenance first last)
 
 -- nothing comes in a minislot, and after it all wants stay
 pub record IsIdle (v : State) (ch m : ℕ) : Type 0 where

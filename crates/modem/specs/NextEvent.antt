@@ -3,9 +3,9 @@ use Rattle.std.specs.Prelude.{◌≡◌, ℕ, ◌+◌, ◌^◌, ◌<◌, ◌≤�
 use Rattle.std.specs.List.{list_any}
 use Rattle.map_body.specs.Iucs as iucs
 use Rattle.modem.specs.declared.types.Sending.{Sending}
-use Rattle.modem.specs.declared.types.Sending.TheVariants.{Unicast, Polled}
+use Rattle.modem.specs.declared.types.Sending.TheVariants.{Unicast, Polled, Ranging}
 use Rattle.modem.specs.declared.action.Action.{Action}
-use Rattle.modem.specs.declared.action.Action.TheVariants.{Grant, Poll, Contention, LeaseEnd}
+use Rattle.modem.specs.declared.action.Action.TheVariants.{Grant, Poll, Contention, LeaseEnd, Ranging as RangingAct}
 use Rattle.modem.specs.declared.known.Want.{Want}
 use Rattle.modem.specs.State.{State, KnownChannel, Kept, channel_clock, channel_of}
 use Rattle.modem.specs.Wants.{is_want, lasting}
@@ -32,7 +32,7 @@ IsPartOf v c slot w random sending wants =
     × (wants ≡ lasting v.leases c.id (slot + 1) after)
 
 -- what a tick at a minislot does: it uses a grant that is kept, sends a request at a poll, has a want take part where
--- all may request, or lets a want go
+-- all may request, lets a want go, or uses a ranging opportunity that is kept
 abbrev pub Acts : State → KnownChannel → ℕ → Action → Type 0
 Acts v c slot (Grant sid iuc first last) =
     (iucs.lets_transmit iuc ≡ true)
@@ -49,6 +49,11 @@ Acts v c slot (Contention sid n) =
 Acts v c slot (LeaseEnd sid) =
     (list_any (is_want c.id sid) v.wants ≡ true)
     × EachTick v c slot (λ random sending wants. (sending ≡ None) × (list_any (is_want c.id sid) wants ≡ false))
+Acts v c slot (RangingAct sid first last) =
+    (first ≤ slot)
+    × (slot ≤ last)
+    × Contains v.grants (grant c.id sid iucs.station_maintenance first last)
+    × EachTick v c slot (λ random sending wants. sending ≡ Some (Ranging sid))
 
 -- the minislots from the channel's clock and a given one on, and before another, are quiet
 abbrev pub AreQuiet : State → KnownChannel → ℕ → ℕ → Type 0

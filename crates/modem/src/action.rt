@@ -26,6 +26,12 @@ pub enum Action {
     LeaseEnd {
         sid: u16,
     },
+    /// It uses a ranging opportunity of a SID, which it keeps from a first minislot to a last one.
+    Ranging {
+        sid: u16,
+        first: u64,
+        last: u64,
+    },
 }
 
 /// The next minislot of a channel at which a modem does something.

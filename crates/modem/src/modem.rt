@@ -1,6 +1,6 @@
 //! The modem core, which keeps one interval for each element that it was given, and lets go of those that have ended.
 
-ghost use Rattle.std.specs.Prelude.{◌≡◌, ℕ, ◌+◌, ◌^◌, ◌<◌, ◌≤◌, ◌↔◌, map, max, None, Some, Ok, Err, OnOk, OnErr, IfOk, IfErr, IfSome, IfNone, IsOkAnd, IsErr, List, Option, true, false, ◌∷◌, ◌++◌, [], ◌⊎◌, ◌==◌, MatchBool};
+ghost use Rattle.std.specs.Prelude.{◌≡◌, ℕ, ◌+◌, ◌^◌, ◌<◌, ◌≤◌, ◌↔◌, map, max, None, Some, Ok, Err, OnOk, OnErr, IfOk, IfErr, IfSome, IfNone, IsOkAnd, IsErr, List, Contains, Option, true, false, ◌∷◌, ◌++◌, [], ◌⊎◌, ◌==◌, MatchBool};
 ghost use Rattle.std.specs.Option.{option_map};
 ghost use Rattle.std.specs.List.{list_any};
 ghost use Rattle.map_body.specs.Layout.{IsBody};
@@ -10,7 +10,7 @@ ghost use Rattle.modem.specs.Hears.{Hears, HearsMap, IsDue, MayGrow, Passes, Tak
 ghost use Rattle.modem.specs.Wants.{is_own_now, is_want, lasting, want_refusal, new_want};
 ghost use Rattle.modem.specs.Ticks.{Ticks, Counts};
 ghost use Rattle.modem.specs.KeptIntervals.{kept_interval, ArePastOf, AreWindows, IsOfChannel};
-ghost use Rattle.modem.specs.NextEvent.{Acts, AreQuiet, IsNext};
+ghost use Rattle.modem.specs.NextEvent.{Acts, AreQuiet, IsNext, grant};
 ghost use Rattle.modem.specs.Idle.{SendsAt, SharesAt, IsIdle, HasSame, HasNoUnsent, IsBefore};
 ghost use Rattle.modem.specs.LetsGo.{HasNoOld, HasFewOld, LetsGo, LetsGoAfter};
 ghost use Rattle.modem.specs.Declined.{IsKnownTo, IsDeclined};
@@ -169,9 +169,10 @@ impl Modem {
         leases::is_own_from(self.leases.as_slice(), ch, sid, clock)
     }
 
-    /// What the modem sends at a minislot of a channel: by a grant of its own, else at a poll, else a request
-    /// where all may send one (truncated binary exponential back-off; CM-SP-MULPIv3.1, upstream bandwidth
-    /// allocation). It takes no memory. It costs the modem's channels and, where all may send a request, its wants.
+    /// What the modem sends at a minislot of a channel: by the interval of its own that counts there, which is a grant,
+    /// a ranging opportunity or a poll, else a request where all may send one (truncated binary exponential back-off;
+    /// CM-SP-MULPIv3.1, upstream bandwidth allocation). It takes no memory. It costs the modem's channels and, where
+    /// all may send a request, its wants.
     /// Where an interval or a lease begins or is over, and after a MAP, a lease or a want, it also costs the modem's
     /// leases, the logarithm of the intervals that it keeps, and what of them begins less than 2^14 minislots before;
     /// and, once for each interval that has ended, a constant for each channel.
@@ -497,22 +498,33 @@ impl Modem {
         ensures { SendsAt self.now ch at (Some (sid, iuc)) result }
     {
         if iuc.lets_transmit() {
-            let grants = self.grants.as_slice();
-            let grant = kept::covering(grants, ch, at, near.own, sid, iuc)?;
-            let first = grant.start;
-            let last = grant.stop - 1;
+            let (first, last) = self.kept_at(ch, at, near, (sid, iuc))?;
             Some(Action::Grant {
                 sid,
                 iuc,
                 first,
                 last,
             })
+        } else if iuc.lets_range() {
+            let (first, last) = self.kept_at(ch, at, near, (sid, iuc))?;
+            Some(Action::Ranging { sid, first, last })
         } else if iuc.lets_request() {
             let want = wants::unsent(self.wants.as_slice(), ch, sid)?;
             Some(Action::Poll { sid, n: want.n })
         } else {
             self.contention_at(ch, at, near)
         }
+    }
+
+    // The first minislot and the last of an interval of a SID and IUC that covers this one.
+    fn kept_at(&self, ch: u8, at: u64, near: Windows, by: (u16, Iuc)) -> Option<(u64, u64)>
+        requires { AreWindows ch at self.now near }
+        ensures some { IfSome result (λ ends. (ends.0 ≤ at) × (at ≤ ends.1) × Contains self.now.grants (grant ch by.0 by.1 ends.0 ends.1)) }
+        ensures none { IfNone result (¬ HasAt self.now.grants ch at by.0 by.1) }
+    {
+        let grants = self.grants.as_slice();
+        let interval = kept::covering(grants, ch, at, near.own, by.0, by.1)?;
+        Some((interval.start, interval.stop - 1))
     }
 
     // The unsent want that takes part in a minislot that is open to all.

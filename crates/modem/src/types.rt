@@ -55,6 +55,8 @@ pub enum Sending {
     Polled(u16, u16),
     /// A request in a minislot that is open to all.
     Request(u16, u16),
+    /// A ranging opportunity, an interval of Station Maintenance, is used.
+    Ranging(u16),
 }
 
 /// A tick before the channel's clock.

@@ -191,6 +191,8 @@ fn send_by(wants: &mut [Want], leases: &[OwnLease], turn: Turn, by: (u16, Iuc)) 
     let (sid, iuc) = by;
     if iuc.lets_transmit() {
         Some(Sending::Unicast(sid))
+    } else if iuc.lets_range() {
+        Some(Sending::Ranging(sid))
     } else if iuc.lets_request() {
         poll(wants, turn.channel, sid, turn.at)
     } else {

@@ -11,6 +11,9 @@ const MOST_PLACEMENTS: usize = 60;
 /// More due times than a flow of these rows has in a MAP.
 const MOST_DUE: usize = 100;
 
+/// The back-off of a cut that stands for the channel's own.
+const OWN: (u8, u8) = (255, 255);
+
 /// The largest short grant.
 const SHORT_MAX: u16 = 16;
 
@@ -34,6 +37,8 @@ enum Step {
     Request(u16, u16),
     /// A MAP of so many minislots, at this time or later.
     Cut(u16, u64),
+    /// A MAP of so many minislots that keeps so many, with these back-offs for ranging and data.
+    Set(u16, u16, (u8, u8), (u8, u8)),
 }
 
 /// A MAP that is being filled: for each minislot the number of the placement that holds it, 0 where it
@@ -69,6 +74,11 @@ impl Cells {
             }
         }
         None
+    }
+
+    /// How many cells are free.
+    fn free(&self) -> usize {
+        self.cells.iter().filter(|held| **held == 0).count()
     }
 
     /// So many cells from this one on are held.
@@ -159,6 +169,7 @@ fn serve(cells: &mut Cells, sid: u16, mut due: Due) -> Result<Due, AllocError> {
 struct Plain {
     alloc: Global,
     next_start: u64,
+    backoffs: ((u8, u8), (u8, u8)),
     flows: Vec<PlainFlow>,
     requests: Vec<PlainRequest>,
 }
@@ -196,10 +207,11 @@ impl Plain {
         Ok(())
     }
 
-    fn place_requests(&mut self, cells: &mut Cells) -> Result<(), AllocError> {
+    fn place_requests(&mut self, cells: &mut Cells, keep: u16) -> Result<(), AllocError> {
         for priority in [7, 6, 5, 4, 3, 2, 1, 0] {
             for request in &mut self.requests {
-                if request.waits && request.priority == priority {
+                let kept = usize::from(request.n).saturating_add(usize::from(keep));
+                if request.waits && request.priority == priority && kept <= cells.free() {
                     if let Some(at) = cells.first_fit(request.n, 0, u64::MAX) {
                         cells.place(at, request.n, request.sid, grant_iuc(request.n))?;
                         request.waits = false;
@@ -223,7 +235,7 @@ impl Plain {
     }
 
     /// The elements of the next MAP.
-    fn cut(&mut self, len: u16, not_before: u64) -> Result<Vec<u8>, AllocError> {
+    fn cut(&mut self, len: u16, not_before: u64, keep: u16) -> Result<Vec<u8>, AllocError> {
         let mut cells = Cells {
             start: self.next_start.max(not_before),
             cells: vec![in self.alloc; 0; usize::from(len)]?,
@@ -231,11 +243,19 @@ impl Plain {
         };
         self.serve_all(&mut cells, false)?;
         self.serve_all(&mut cells, true)?;
-        self.place_requests(&mut cells)?;
+        self.place_requests(&mut cells, keep)?;
         self.next_start = cells.end();
         let mut told = cells.elements(self.alloc)?;
         self.tell_waiting(&mut told, len)?;
         Ok(told)
+    }
+
+    /// The back-offs that its last MAP tells.
+    fn told(&self) -> [u8; 4] {
+        let (ranging, data) = self.backoffs;
+        let (a, b) = if ranging == OWN { (2, 5) } else { ranging };
+        let (c, d) = if data == OWN { (3, 8) } else { data };
+        [a, b, c, d]
     }
 
     /// The elements that a step tells, if it is a cut.
@@ -244,7 +264,14 @@ impl Plain {
             Step::Asking(priority) => self.add_flow(priority, None)?,
             Step::Served(due) => self.add_flow(7, Some(due))?,
             Step::Request(sid, n) => self.add_request(sid, n)?,
-            Step::Cut(len, not_before) => return self.cut(len, not_before),
+            Step::Cut(len, not_before) => {
+                self.backoffs = (OWN, OWN);
+                return self.cut(len, not_before, 0);
+            }
+            Step::Set(len, keep, ranging, data) => {
+                self.backoffs = (ranging, data);
+                return self.cut(len, 0, keep);
+            }
         }
         Ok(Vec::new(self.alloc))
     }
@@ -292,6 +319,18 @@ fn command(step: Step, tag: u32) -> Command {
             len,
             not_before,
             ack: 995,
+            keep: 0,
+            ranging: OWN,
+            data: OWN,
+        },
+        Step::Set(len, keep, ranging, data) => Command::Cut {
+            ch: 1,
+            len,
+            not_before: 0,
+            ack: 995,
+            keep,
+            ranging,
+            data,
         },
     }
 }
@@ -308,9 +347,9 @@ fn channel(base: u64) -> Command {
     })
 }
 
-/// Whether a step gives these elements by the machine, in a MAP that ends at this time where there are any. A step
-/// that the machine refuses isn't compared.
-fn is_alike(output: &Output, end: u64, told: &[u8]) -> bool {
+/// Whether a step gives these elements by the machine, in a MAP that ends where the plain one does and tells its
+/// back-offs where there are any. A step that the machine refuses isn't compared.
+fn is_alike(output: &Output, plain: &Plain, told: &[u8]) -> bool {
     match output {
         Output::Map {
             start,
@@ -318,7 +357,8 @@ fn is_alike(output: &Output, end: u64, told: &[u8]) -> bool {
             bytes,
             ..
         } => {
-            start.get().saturating_add(u64::from(*len)) == end
+            start.get().saturating_add(u64::from(*len)) == plain.next_start
+                && bytes.as_slice().get(12..16) == Some(&plain.told())
                 && bytes.as_slice().get(16..) == Some(told)
         }
         _ => told.is_empty(),
@@ -338,7 +378,7 @@ fn compared(
         return Ok(None);
     }
     let told = plain.take(step)?;
-    Ok(Some(is_alike(&output, plain.next_start, told.as_slice())))
+    Ok(Some(is_alike(&output, plain, told.as_slice())))
 }
 
 /// How many steps of a channel are alike by the machine and by the first body, up to the first that
@@ -367,6 +407,7 @@ fn alike(alloc: Global, base: u64, steps: &[Step]) -> Result<(usize, usize), All
     let mut plain = Plain {
         alloc,
         next_start: base,
+        backoffs: (OWN, OWN),
         flows: Vec::new(alloc),
         requests: Vec::new(alloc),
     };
@@ -409,7 +450,7 @@ const TWO: Due = Due {
 };
 
 /// Where the first MAP begins, what is done, and how many steps the machine refuses.
-const ROWS: [(u64, &[Step], usize); 9] = [
+const ROWS: [(u64, &[Step], usize); 11] = [
     (
         1000,
         &[
@@ -482,6 +523,34 @@ const ROWS: [(u64, &[Step], usize); 9] = [
             Step::Request(1, 17),
             Step::Cut(30, 0),
             Step::Cut(30, 0),
+        ],
+        0,
+    ),
+    (
+        1000,
+        &[
+            Step::Asking(0),
+            Step::Asking(7),
+            Step::Request(1, 93),
+            Step::Request(2, 10),
+            Step::Set(100, 8, OWN, (0, 0)),
+            Step::Set(100, 4097, OWN, OWN),
+            Step::Set(100, 7, (0, 15), OWN),
+        ],
+        1,
+    ),
+    (
+        1000,
+        &[
+            Step::Served(FOUR),
+            Step::Served(POLLED),
+            Step::Asking(0),
+            Step::Asking(0),
+            Step::Request(3, 20),
+            Step::Request(4, 3),
+            Step::Set(40, 12, OWN, OWN),
+            Step::Set(30, 30, OWN, OWN),
+            Step::Cut(40, 0),
         ],
         0,
     ),

@@ -1,7 +1,7 @@
 //! Commands as bytes.
 
 use command_log::{command_bytes, read_command};
-use flow_state::{Channel, FlowKind, LAST_TIME, Phy};
+use flow_state::{Channel, ChannelSettings, FlowKind, LAST_TIME, Phy};
 use grant_machine::Command;
 use std::alloc::{AllocError, Global};
 use std::test::Fail;
@@ -47,7 +47,50 @@ const LEASED: Command = Command::Flow {
     kind: FlowKind::BestEffort(3),
 };
 
-const SPELLED: [(Command, &[u8]); 4] = [
+/// A cut that keeps minislots.
+const KEPT: Command = Command::Cut {
+    ch: 1,
+    len: 100,
+    not_before: 0,
+    ack: 995,
+    keep: 8,
+    ranging: (255, 255),
+    data: (255, 255),
+};
+
+/// A cut that tells a back-off of its own.
+const TOLD: Command = Command::Cut {
+    ch: 1,
+    len: 1,
+    not_before: 0,
+    ack: 0,
+    keep: 0,
+    ranging: (255, 255),
+    data: (0, 0),
+};
+
+const SETTINGS: ChannelSettings = ChannelSettings {
+    ucd: 8,
+    phy: Phy::Tdma,
+    short_max: 8,
+    ranging_backoff: (2, 5),
+    data_backoff: (3, 8),
+};
+
+const CHANGE: Command = Command::Change {
+    ch: 1,
+    settings: SETTINGS,
+};
+
+const CHANGE_TO_ADVANCED: Command = Command::Change {
+    ch: 1,
+    settings: ChannelSettings {
+        phy: Phy::Advanced,
+        ..SETTINGS
+    },
+};
+
+const SPELLED: [(Command, &[u8]); 8] = [
     (
         ADVANCED,
         &[
@@ -76,6 +119,28 @@ const SPELLED: [(Command, &[u8]); 4] = [
             0x00, 0x00, 0x04, 0x19, 0x00, 0x03,
         ],
     ),
+    (
+        KEPT,
+        &[
+            0x09, 0x01, 0x00, 0x64, 0x00, 0x00, 0x00, 0x00, 0x00, 0x00, 0x00, 0x00, 0x00, 0x00,
+            0x00, 0x00, 0x00, 0x00, 0x03, 0xE3, 0x00, 0x08, 0xFF, 0xFF, 0xFF, 0xFF,
+        ],
+    ),
+    (
+        TOLD,
+        &[
+            0x09, 0x01, 0x00, 0x01, 0x00, 0x00, 0x00, 0x00, 0x00, 0x00, 0x00, 0x00, 0x00, 0x00,
+            0x00, 0x00, 0x00, 0x00, 0x00, 0x00, 0x00, 0x00, 0xFF, 0xFF, 0x00, 0x00,
+        ],
+    ),
+    (
+        CHANGE,
+        &[0x0A, 0x01, 0x08, 0x00, 0x00, 0x08, 0x02, 0x05, 0x03, 0x08],
+    ),
+    (
+        CHANGE_TO_ADVANCED,
+        &[0x0A, 0x01, 0x08, 0x01, 0x00, 0x08, 0x02, 0x05, 0x03, 0x08],
+    ),
 ];
 
 /// Whether the command is written as these bytes, and they are read as it.
@@ -92,9 +157,10 @@ fn commands_to_bytes_and_back(rt: HostRuntime) -> Result<(), Fail> {
     Ok(())
 }
 
-/// No bytes, a noop and one more, a channel without its last byte, with one more, and with another first one; and a
-/// flow whose lease ends at the last time of all, which isn't written.
-const NO_COMMANDS: [&[u8]; 6] = [
+/// No bytes, a noop and one more, a channel without its last byte, with one more, and with another first one; a flow
+/// whose lease ends at the last time of all, which isn't written; a cut whose settings are none, and one without its
+/// last byte; a change to no PHY, and one without its last byte.
+const NO_COMMANDS: [&[u8]; 10] = [
     &[],
     &[0, 0],
     &[
@@ -113,6 +179,16 @@ const NO_COMMANDS: [&[u8]; 6] = [
         0x07, 0x01, 0x00, 0x00, 0x00, 0x32, 0x00, 0x00, 0x00, 0x01, 0x40, 0x00, 0x00, 0x00, 0x00,
         0x00, 0x00, 0x00, 0x00, 0x03,
     ],
+    &[
+        0x09, 0x01, 0x00, 0x01, 0x00, 0x00, 0x00, 0x00, 0x00, 0x00, 0x00, 0x00, 0x00, 0x00, 0x00,
+        0x00, 0x00, 0x00, 0x00, 0x00, 0x00, 0x00, 0xFF, 0xFF, 0xFF, 0xFF,
+    ],
+    &[
+        0x09, 0x01, 0x00, 0x01, 0x00, 0x00, 0x00, 0x00, 0x00, 0x00, 0x00, 0x00, 0x00, 0x00, 0x00,
+        0x00, 0x00, 0x00, 0x00, 0x00, 0x00, 0x08, 0xFF, 0xFF, 0xFF,
+    ],
+    &[0x0A, 0x01, 0x08, 0x02, 0x00, 0x08, 0x02, 0x05, 0x03, 0x08],
+    &[0x0A, 0x01, 0x08, 0x00, 0x00, 0x08, 0x02, 0x05, 0x03],
 ];
 
 #[test]

@@ -115,6 +115,9 @@ impl Plain {
         if self.has(at, own, &[5, 6]) {
             return Some(Sending::Unicast(OWN));
         }
+        if self.has(at, own, &[4]) {
+            return Some(Sending::Ranging(OWN));
+        }
         if self.has(at, own, &[1]) {
             let n = self.want.take()?;
             return Some(Sending::Polled(OWN, n));
@@ -170,6 +173,7 @@ fn alike(alloc: Global, steps: &[Step]) -> Result<usize, Fail> {
 
 const WRAPPING: Map = Map {
     start: 4294967286,
+    ack: 0,
     words: &[0x0005_8000, 0x0001_C014],
 };
 
@@ -177,25 +181,35 @@ const BY_TURNS: &[u32] = &[0x0005_4000, 0x0009_4004, 0xFFFC_4008, 0x0001_C00A];
 
 const FIRST: Map = Map {
     start: 1000,
+    ack: 0,
     words: BY_TURNS,
 };
 
 const THIRD: Map = Map {
     start: 1020,
+    ack: 0,
     words: BY_TURNS,
 };
 
 const OPEN_TO_ALL: Map = Map {
     start: 1000,
+    ack: 0,
     words: &[0xFFFC_4000, 0x0001_C064],
 };
 
 const POLL: Map = Map {
     start: 1100,
+    ack: 0,
     words: &[0x0004_4000, 0xFFFC_4002, 0x0001_C004],
 };
 
-const ROWS: [&[Step]; 6] = [
+const MAINTENANCE: Map = Map {
+    start: 1000,
+    ack: 0,
+    words: &[0x0005_0000, 0xFFFC_C002, 0xFFFC_4006, 0x0001_C008],
+};
+
+const ROWS: [&[Step]; 7] = [
     // a wire time that wraps, in time and too late
     &[Step::Hear(WRAPPING, 4294967284), Step::Tick(4294967296, 0)],
     &[Step::Hear(WRAPPING, 6442450933)],
@@ -228,6 +242,12 @@ const ROWS: [&[Step]; 6] = [
         Step::Tick(1100, 0),
         Step::Want(20),
         Step::Ticks(1101, 1104),
+    ],
+    // ranging, and an opening, in which nobody asks
+    &[
+        Step::Hear(MAINTENANCE, 1000),
+        Step::Want(20),
+        Step::Ticks(1000, 1008),
     ],
 ];
 

@@ -7,10 +7,12 @@ use modem::{Heard, Modem, Sending, TimeBack, WantFault};
 use std::alloc::{AllocError, Global};
 use std::test::Fail;
 
-/// A MAP of channel 1 and UCD Count 7, which starts at a minislot, with the words of its elements.
+/// A MAP of channel 1 and UCD Count 7, which starts at a minislot and acknowledges what was sent before one, with the
+/// words of its elements.
 #[derive(Clone, Copy)]
 pub struct Map {
     pub start: u64,
+    pub ack: u32,
     pub words: &'static [u32],
 }
 
@@ -19,7 +21,8 @@ fn body(alloc: Global, map: Map) -> Result<Vec<u8>, AllocError> {
     let mut bytes = Vec::new(alloc);
     bytes.extend_from_slice(&[1, 7, (map.words.len() % 256) as u8, 0])?;
     bytes.extend_from_slice(&((map.start % 0x1_0000_0000) as u32).to_be_bytes())?;
-    bytes.extend_from_slice(&[0, 0, 0, 0, 2, 5, 3, 8])?;
+    bytes.extend_from_slice(&map.ack.to_be_bytes())?;
+    bytes.extend_from_slice(&[2, 5, 3, 8])?;
     for word in map.words {
         bytes.extend_from_slice(&word.to_be_bytes())?;
     }
@@ -27,7 +30,7 @@ fn body(alloc: Global, map: Map) -> Result<Vec<u8>, AllocError> {
 }
 
 /// What a modem makes of an output near a minislot.
-fn heard(modem: &mut Modem, output: &Output, near: u64) -> Result<Heard, Fail> {
+pub fn heard(modem: &mut Modem, output: &Output, near: u64) -> Result<Heard, Fail> {
     Ok(modem.hear(output, Slot::new(near).ok_or("slot")?)?)
 }
 
@@ -130,17 +133,20 @@ fn right(alloc: Global, lease: (u32, u64, u64), acts: &[Act]) -> Result<usize, F
 /// The MAP of minislots 1000 to 1039 that gives SID 1 the first 20.
 const FIRST: Map = Map {
     start: 1000,
+    ack: 0,
     words: &[0x0005_8000, 0xFFFC_4014, 0x0001_C028],
 };
 
 /// The MAP of minislots 1080 to 1119 that gives SID 1 the first 16.
 const THIRD: Map = Map {
     start: 1080,
+    ack: 0,
     words: &[0x0005_4000, 0xFFFC_4010, 0x0001_C028],
 };
 
 const NO_NULL: Map = Map {
     start: 1000,
+    ack: 0,
     words: &[0xFFFC_4000],
 };
 

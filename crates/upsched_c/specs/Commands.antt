@@ -41,5 +41,5 @@ command_value c =
     else if c.kind == 2 then option_map (λ kind. commands.Flow c.ch c.modem c.tag c.last kind) (kind_value c)
     else if c.kind == 3 then Some (commands.Drop c.ch c.sid)
     else if c.kind == 4 then Some (commands.Request c.ch c.sid c.minislots c.sent)
-    else if c.kind == 5 then Some (commands.Cut c.ch c.minislots c.not_before c.ack)
+    else if c.kind == 5 then Some (commands.Cut c.ch c.minislots c.not_before c.ack 0 (255, 255) (255, 255))
     else None

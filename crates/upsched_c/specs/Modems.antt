@@ -4,11 +4,11 @@ use Rattle.std.specs.Option.{option_map}
 use Rattle.map_body.specs.Layout.{IsBody}
 use Rattle.grant_machine.specs.declared.output.Output.{Output}
 use Rattle.modem.specs.declared.action.Action.{Action}
-use Rattle.modem.specs.declared.action.Action.TheVariants.{Grant, Poll, Contention, LeaseEnd}
+use Rattle.modem.specs.declared.action.Action.TheVariants.{Grant, Poll, Contention, LeaseEnd, Ranging as RangingAct}
 use Rattle.modem.specs.declared.types.Heard.{Heard}
 use Rattle.modem.specs.declared.types.Heard.TheVariants.{Taken, NotMine, OtherUcd, Past, Unreadable}
 use Rattle.modem.specs.declared.types.Sending.{Sending}
-use Rattle.modem.specs.declared.types.Sending.TheVariants.{Unicast, Polled, Request}
+use Rattle.modem.specs.declared.types.Sending.TheVariants.{Unicast, Polled, Request, Ranging}
 use Rattle.modem.specs.Hears.{Hears, HearsMap, IsDue, MayGrow}
 use Rattle.modem.specs.LetsGo.{HasFewOld, LetsGoAfter}
 use Rattle.modem.specs.NextEvent.{AreQuiet, IsNext}
@@ -78,6 +78,7 @@ sending_fields None = record { kind = 0; sid = 0; minislots = 0 }
 sending_fields (Some (Unicast sid)) = record { kind = 1; sid = sid; minislots = 0 }
 sending_fields (Some (Polled sid n)) = record { kind = 2; sid = sid; minislots = n }
 sending_fields (Some (Request sid n)) = record { kind = 3; sid = sid; minislots = n }
+sending_fields (Some (Ranging sid)) = record { kind = 4; sid = sid; minislots = 0 }
 
 -- a modem answers a tick of a channel: nothing where it doesn't know the channel
 abbrev pub AnswersTick : (ch slot random : ℕ) → State → Option Sending → State → Type 0
@@ -101,6 +102,7 @@ event_fields slot (Grant sid iuc first last) = record { slot = slot; first = fir
 event_fields slot (Poll sid n) = record { slot = slot; first = 0; last = 0; kind = 2; sid = sid; minislots = n; iuc = 0 }
 event_fields slot (Contention sid n) = record { slot = slot; first = 0; last = 0; kind = 3; sid = sid; minislots = n; iuc = 0 }
 event_fields slot (LeaseEnd sid) = record { slot = slot; first = 0; last = 0; kind = 4; sid = sid; minislots = 0; iuc = 0 }
+event_fields slot (RangingAct sid first last) = record { slot = slot; first = first; last = last; kind = 5; sid = sid; minislots = 0; iuc = 0 }
 
 -- the first minislot of a channel, from one on, whose tick is not quiet, and what it does, are told, if there is one
 abbrev pub TellsNext : (ch from : ℕ) → State → EventFields → State → EventFields → Status → Type 0

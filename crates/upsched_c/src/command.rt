@@ -121,6 +121,9 @@ pub fn command_of(c: &CommandFields) -> Option<Command>
             len: c.minislots,
             not_before: c.not_before,
             ack: c.ack,
+            keep: 0,
+            ranging: (255, 255),
+            data: (255, 255),
         }),
         _ => None,
     }

@@ -1,8 +1,8 @@
 //! A scheduler, of which each MAP fits the room that C has for it.
 
-ghost use Rattle.grant_machine.specs.Fits.{FitsChannel, FitsCommand, FitsKind};
+ghost use Rattle.grant_machine.specs.Fits.{FitsChannel, FitsCommand, FitsKind, FitsSettings};
 
-use flow_state::{Channel, FlowKind};
+use flow_state::{Channel, ChannelSettings, FlowKind};
 use grant_machine::{Command, Machine, Output, maps_are_bodies};
 use std::alloc::{AllocError, Global};
 use std::marker::Model;
@@ -25,11 +25,17 @@ impl Model for Scheduler {
     ghost invariant = { λ s. IsReached s.machine };
 }
 
-// A channel fits the types of its fields; so do a kind and a command.
+// A channel fits the types of its fields; so do settings, a kind and a command.
 fn channel_fits(channel: Channel)
     ensures { FitsChannel channel }
 {
     let _ = channel;
+}
+
+fn settings_fit(settings: ChannelSettings)
+    ensures { FitsSettings settings }
+{
+    let _ = settings;
 }
 
 fn kind_fits(kind: FlowKind)
@@ -52,6 +58,7 @@ fn fits(command: Command)
         Command::Drop { .. } => {}
         Command::Request { .. } => {}
         Command::Cut { .. } => {}
+        Command::Change { settings, .. } => settings_fit(settings),
     }
 }
 

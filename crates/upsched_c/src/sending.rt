@@ -6,7 +6,7 @@ ghost use Rattle.upsched_c.specs.Modems.{event_fields as event_fields_lem, heard
 use modem::{Action, Heard, NextEvent, Sending};
 
 /// What a modem sends at a minislot: 0 nothing, 1 data by a grant, 2 a request at a poll, 3 a request where all may
-/// send one. A request is for so many minislots.
+/// send one, 4 ranging. A request is for so many minislots.
 #[repr(C)]
 #[derive(Clone, Copy)]
 pub struct SendingFields {
@@ -16,7 +16,8 @@ pub struct SendingFields {
 }
 
 /// What a modem does at a minislot: 1 it uses a grant, from a first minislot to a last one; 2 it sends a request at a
-/// poll; 3 its request takes part where all may send one; 4 a want goes, as its lease ends.
+/// poll; 3 its request takes part where all may send one; 4 a want goes, as its lease ends; 5 it uses a ranging
+/// opportunity, from a first minislot to a last one.
 #[repr(C)]
 #[derive(Clone, Copy)]
 pub struct EventFields {
@@ -51,6 +52,7 @@ pub fn sending_fields(sending: Option<Sending>) -> SendingFields
         Some(Sending::Unicast(sid)) => (1, sid, 0),
         Some(Sending::Polled(sid, n)) => (2, sid, n),
         Some(Sending::Request(sid, n)) => (3, sid, n),
+        Some(Sending::Ranging(sid)) => (4, sid, 0),
     };
     SendingFields {
         kind,
@@ -101,6 +103,13 @@ pub fn event_fields(event: &NextEvent) -> EventFields
         Action::LeaseEnd { sid } => EventFields {
             kind: 4,
             sid: *sid,
+            ..fields
+        },
+        Action::Ranging { sid, first, last } => EventFields {
+            kind: 5,
+            sid: *sid,
+            first: *first,
+            last: *last,
             ..fields
         },
     }

@@ -1,5 +1,0 @@
-use Rattle.std.proofs.Common.{refl}
-use Rattle.modem.proofs.modem.Modem.sending_by.Goals as goal
-
-pub covering-requires : goal.covering-requires
-covering-requires c = rw c.as_slice-grants.ensures.value ((rw (← c.self.view_is) at c.requires.windows).own c.self.inside.grants.items refl)
