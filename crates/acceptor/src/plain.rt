@@ -325,7 +325,7 @@ impl Records for PlainRecords {
             → OnOk result ((a b : Content) → HoldsEither (is_it self.old) a b → Holds (is_it self.new) a ⊎ Holds (is_it self.new) b) }
         ensures reopened { OnOk result (self.new ≡ self.old) }
         ensures kept { IsTrue (never_lie self.new) → AddsNothing (is_it self.old) (is_it self.new) }
-        ensures trust { OnOk result (KeepsTrust never_lie never_lie self.old self.new) }
+        ensures trust { KeepsTrust never_lie never_lie self.old self.new }
         ensures count { CountsFaults result (no_failures self.old) (no_failures self.new) }
         ensures broken { BreaksByReopen result (no_break self.old) (no_break self.new) }
     {

@@ -50,7 +50,7 @@ impl<T: Drop> From<AllocFailed<T>> for RecordsFault {
 /// Refused and Broken come only in a call in which the count of failures rose. After a Broken one each call is Broken
 /// until a `reopen` is Ok, which tells what is there. A write adds nothing but what may be found with it to what may be
 /// found, also while that is more than one content. What is said of content stands where the records are honest after
-/// the call. Honesty once lost isn't regained, and isn't lost while the store is clean, but by a `reopen` that failed.
+/// the call. Honesty once lost isn't regained, and isn't lost while the store is clean.
 pub trait Records {
     // What a reopen now may find.
     ghost may_find: { Self → Content → Type 0 };
@@ -169,7 +169,7 @@ pub trait Records {
         ensures harmless { IsTrue (is_honest self.new) → IfErr result (λ e. IsHarmless e → FindsSame (may_find self.old) (may_find self.new)) }
         ensures kept { IsTrue (is_honest self.new) → AddsNothing (may_find self.old) (may_find self.new) }
         ensures honest { IsTrue (is_honest self.new) → IsTrue (is_honest self.old) }
-        ensures trust { OnOk result (KeepsTrust is_honest is_clean self.old self.new) }
+        ensures trust { KeepsTrust is_honest is_clean self.old self.new }
         ensures count { CountsFaults result (count_of self.old) (count_of self.new) }
         ensures broken { BreaksByReopen result (is_broken self.old) (is_broken self.new) };
 }

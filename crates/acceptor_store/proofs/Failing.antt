@@ -9,21 +9,21 @@ open_still Memory is_up up = tt
 open_still Refused is_up up = tt
 open_still Down is_up up = absurd (let e : false ≡ true = up in cc)
 
-module _ {S L : Type 0} (g : Ghosts S) (left : Option L) {owner : Option Owner} {held : Option (Held S)} {old : Held S} (new : Held S) {is_up is_up′ is_sure : Bool} {hi : Numbers} (stop : Stop) (some : held ≡ Some old)
-    (linked : IsLinked g owner held left is_up is_sure hi) (up : is_up ≡ true) (now : is_up′ ≡ (if leaves_open stop then is_up else false)) where
+module _ {S : Type 0} (g : Ghosts S) (was : Option (Held S)) {owner : Option Owner} {held : Option (Held S)} {old : Held S} (new : Held S) {is_up is_up′ : Bool} {hi : Numbers} (stop : Stop) (some : held ≡ Some old)
+    (linked : IsLinked g owner held was is_up hi) (up : is_up ≡ true) (now : is_up′ ≡ (if leaves_open stop then is_up else false)) where
   pub linked_failed : (Commits : Trees → Type 0) → ((db : Trees) → Commits db → (c : Content) → ServesFor owner (state g old) c → ∥ ((d : Content) × AreTablesFor owner db d) ∥₁)
-      → Survives (state g old) (state g new) Commits → (HasCleanDisk (state g new) → LeavesOpen stop → StillServes (state g old) (state g new)) → IsServing g owner new is_up′ is_sure hi
-  linked_failed Commits holds survives still sure clean =
+      → Survives (state g old) (state g new) Commits → (HasCleanDisk (state g new) → LeavesOpen stop → StillServes (state g old) (state g new)) → IsServing g owner new is_up′ hi
+  linked_failed Commits holds survives still clean =
       let before : HasCleanDisk (state g old) = omega (arith, survives.clean, clean) in
-      let it = subst (λ h. IsLinked g owner h left is_up is_sure hi) some linked sure before in
-      let was = it.1 up in (
-        λ db may. elim (survives.crash clean db may) [ inl stood ↦ it.0 db stood | inr commits ↦ holds db commits was.0 was.1 ],
-        λ up′. (was.0, still clean (open_still stop is_up (sym now ∙ up′)) owner was.0 was.1, was.2),
+      let it = subst (λ h. IsLinked g owner h was is_up hi) some linked before in
+      let knew = it.1 up in (
+        λ db may. elim (survives.crash clean db may) [ inl stood ↦ it.0 db stood | inr commits ↦ holds db commits knew.0 knew.1 ],
+        λ up′. (knew.0, still clean (open_still stop is_up (sym now ∙ up′)) owner knew.0 knew.1, knew.2),
       )
 
-  pub linked_unread : Survives (state g old) (state g new) (λ _. DoesNotServe (state g old)) → (HasCleanDisk (state g new) → LeavesOpen stop → StillServes (state g old) (state g new)) → IsServing g owner new is_up′ is_sure hi
+  pub linked_unread : Survives (state g old) (state g new) (λ _. DoesNotServe (state g old)) → (HasCleanDisk (state g new) → LeavesOpen stop → StillServes (state g old) (state g new)) → IsServing g owner new is_up′ hi
   linked_unread = linked_failed (λ _. DoesNotServe (state g old)) (λ db none c was. absurd (none c (owner, was)))
 
   pub linked_unwritten : (w : Write) → Survives (state g old) (state g new) (MayHaveWritten (state g old) w) → (HasCleanDisk (state g new) → LeavesOpen stop → StillServes (state g old) (state g new))
-      → IsServing g owner new is_up′ is_sure hi
+      → IsServing g owner new is_up′ hi
   linked_unwritten w = linked_failed (MayHaveWritten (state g old) w) (λ db wrote c was. ∣ (after_write c (Some w), wrote owner c was) ∣₁)

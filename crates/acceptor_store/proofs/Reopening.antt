@@ -1,10 +1,11 @@
 -- What is known of a connection that was opened anew.
-use Rattle.std.proofs.Common.{◌≡◌, ◌⊎◌, inl, inr, ℕ, Bool, true, ◌&&◌, ◌==◌, if◌then◌else◌, List, [], ◌∷◌, length, map, Some, None, Option, Ok, Err, Result, IfOk, IfSome, OnOk, IsTrue, refl, sym, ap, subst, subst₂, ◌∙◌, arith}
-use Rattle.acceptor_store.proofs.Words.{and_from, and_parts, ∥∥₁_map, ∥∥₁_elim, ∥∥₁_prop, Cast, number_of, Content, AreRowsFrom, AreValues, greatest, Holds, HoldsEither, AddsNothing, Files, FileStore, over_files, file_state, image_of, IsOpened, Finds, survives_then, opens_again, Ghosts, Trees, Database, IsDatabase, State, HasCleanDisk, Survives, Opens, IsUnchanged, Version, First, Second, Third, AreByRowid, AreShaped, Rereads, Held, state, AllByRecursion, HasFacts, IsForeignSchema, Numbers, IsReread, Owner, schema_of, blank_schema, AreTablesOf, HasLearned, KeepsLearned, IsNumber, IsCast, IsLearned, vote_row, learned_row, AreTablesFor, schema_for, ServesFor, ServesAs, StillServes, DoesNotServe, one_content, AreNumbersOf, Linked, MayFind, MayFindIn, IsHonest, is_clean_in, IsLinked, IsServing, Stands, IsTested, CannotBeRead, Tells, Leaves, Reopens, Examines, Had, IsIn, IsFoundIn, SeesForeign, HasNumbers, StaysAs, no_doubt, clean_of}
+use Rattle.std.proofs.Common.{◌≡◌, ◌⊎◌, inl, inr, ℕ, Bool, true, false, ◌==◌, if◌then◌else◌, List, [], ◌∷◌, length, map, Some, None, Option, Ok, Err, Result, IfOk, IfSome, OnOk, IsTrue, refl, sym, ap, subst, subst₂, ◌∙◌, arith}
+use Rattle.acceptor_store.proofs.Words.{∥∥₁_map, ∥∥₁_elim, ∥∥₁_prop, Cast, number_of, Content, AreRowsFrom, AreValues, greatest, Holds, HoldsEither, AddsNothing, Files, FileStore, over_files, file_state, image_of, IsOpened, Finds, survives_then, opens_again, Ghosts, Trees, Database, IsDatabase, State, HasCleanDisk, Survives, Opens, IsUnchanged, Version, First, Second, Third, AreByRowid, AreShaped, Rereads, Held, state, AllByRecursion, HasFacts, IsForeignSchema, Numbers, IsReread, Owner, schema_of, blank_schema, AreTablesOf, HasLearned, KeepsLearned, IsNumber, IsCast, IsLearned, vote_row, learned_row, AreTablesFor, schema_for, ServesFor, ServesAs, StillServes, DoesNotServe, one_content, AreNumbersOf, Linked, MayFind, MayFindIn, IsHonest, is_clean_in, held_of, IsLinked, IsServing, Stands, IsTested, CannotBeRead, Tells, Leaves, Reopens, Examines, Had, IsIn, IsFoundIn, SeesForeign, HasNumbers, StaysAs, no_doubt, clean_of}
 use Rattle.sqlite_schema.specs.declared.schema.Schema.{Schema}
 use Rattle.sqlite_disk.specs.declared.Disk as disk
 use Rattle.sqlite_schema.specs.Names.{same_name}
 use Rattle.acceptor_store.specs.Linked.{FindsContent as Found}
+use Rattle.acceptor_store.proofs.Calls.{held_there}
 use Rattle.acceptor_store.proofs.Found.{found_is, found_it}
 
 module _ {S : Type 0} (g : Ghosts S) (settled : (s : S) (db : Trees) → IsTrue (g.view s).is_open → g.recovers s db → db ≡ (g.view s).committed)
@@ -74,73 +75,36 @@ one_of g owner old new numbers left it before a b either =
       | inr is ↦ inr (subst (Holds (MayFindIn g owner new)) is here)
     ]
 
--- sure records have a connection
-connected : {S L : Type 0} (g : Ghosts S) (left : Option L) (owner : Option Owner) (held : Option (Held S)) (is_up is_sure : Bool) (numbers : Numbers) → IsLinked g owner held left is_up is_sure numbers → IsTrue is_sure
-    → (old : Held S) × (held ≡ Some old) × IsServing g owner old is_up is_sure numbers
-connected g left owner None is_up is_sure numbers linked sure = absurd (let no = linked.2 in cc)
-connected g left owner (Some h) is_up is_sure numbers linked sure = (h, refl, linked)
+-- records that had this connection, and what was known of it
+pub over_conn : {S : Type 0} {view self : Linked S} {old : Held S} → view ≡ self → (conn was : Option (Held S)) → view.held ≡ held_of conn was → conn ≡ Some old → (self.held ≡ Some old) × (self.owner ≡ view.owner)
+over_conn {S} same conn was held some = (sym (ap (λ (r : Linked S). r.held) same) ∙ held ∙ held_there conn was _ some, sym (ap (λ (r : Linked S). r.owner) same))
 
-clean_before : {S : Type 0} (g : Ghosts S) (owner : Option Owner) (held : Option (Held S)) (new : Held S) → IfSome held (λ old. Leaves g owner old new) → IsTrue (is_clean_in g held)
-clean_before g owner None new left = refl
-clean_before g owner (Some old) new left = clean_of _ left.was_clean
+pub serving_before : {S : Type 0} (g : Ghosts S) (owner : Option Owner) (conn was : Option (Held S)) (is_up : Bool) (numbers : Numbers) {old : Held S} → conn ≡ Some old → IsLinked g owner conn was is_up numbers → IsServing g owner old is_up numbers
+serving_before g owner conn was is_up numbers some linked = subst (λ h. IsLinked g owner h was is_up numbers) some linked
 
--- the records after a reopen that found a connection
-module _ {S L : Type 0} (g : Ghosts S) (rest : Option L) {self inside : Linked S} (new : Held S) (view : inside ≡ self)
-    (linked : IsLinked g inside.owner inside.held rest inside.is_up inside.is_sure inside.numbers) {taken : Option (Held S)} (is : taken ≡ inside.held)
-    (given : HasCleanDisk (state g new) → IfSome taken (λ old. Leaves g inside.owner old new)) where
-  left : HasCleanDisk (state g new) → IfSome inside.held (λ old. Leaves g inside.owner old new)
-  left clean = subst (λ held. IfSome held (λ old. Leaves g inside.owner old new)) is (given clean)
+-- the records after a reopen, where they were over this connection
+module _ {S : Type 0} (g : Ghosts S) (self : Linked S) (old new : Held S) (owner : Option Owner) (at : self.held ≡ Some old) (own : self.owner ≡ owner) (left : HasCleanDisk (state g new) → Leaves g owner old new) where
+  pub reopen_honest : IsTrue (state g new).is_clean → IsHonest g self
+  reopen_honest h = subst (λ held. IsTrue (is_clean_in g held)) (sym at) (clean_of _ (left (no_doubt _ h)).was_clean)
 
-  own_is : self.owner ≡ inside.owner
-  own_is = sym (ap (λ (r : Linked S). r.owner) view)
+  module _ (is_up : Bool) (numbered : Numbers) (linked : IsServing g owner old is_up numbered) where
+    before : HasCleanDisk (state g new) → Stands g owner old
+    before clean = (linked (left clean).was_clean).0
 
-  module _ (sure : IsTrue inside.is_sure) (clean : HasCleanDisk (state g new)) where
-    was : (old : Held S) × (inside.held ≡ Some old) × IsServing g inside.owner old inside.is_up inside.is_sure inside.numbers
-    was = connected g rest inside.owner inside.held inside.is_up inside.is_sure inside.numbers linked sure
+    pub reopen_kept : IsTrue (state g new).is_clean → AddsNothing (MayFind g self.owner self.held) (MayFindIn g owner new)
+    reopen_kept h =
+        let clean : HasCleanDisk (state g new) = no_doubt _ h in
+        subst₂ (λ o held. AddsNothing (MayFind g o held) (MayFindIn g owner new)) (sym own) (sym at) ((left clean).adds_nothing (before clean))
 
-    leaves_new : Leaves g inside.owner was.0 new
-    leaves_new = subst (λ held. IfSome held (λ old. Leaves g inside.owner old new)) was.1 (left clean)
+    module _ (found : Option Numbers) (numbers : Numbers) (read : found ≡ Some numbers) (it : HasCleanDisk (state g new) → IfSome found (Reopens g owner old new)) where
+      reopens_new : HasCleanDisk (state g new) → Reopens g owner old new numbers
+      reopens_new clean = subst (λ o. IfSome o (Reopens g owner old new)) read (it clean)
 
-    before : Stands g inside.owner was.0
-    before = (was.2 sure leaves_new.was_clean).0
-
-    at : self.held ≡ Some was.0
-    at = sym (ap (λ (r : Linked S). r.held) view) ∙ was.1
-
-  pub reopen_kept : IsTrue (inside.is_sure && (state g new).is_clean) → AddsNothing (MayFind g self.owner self.held) (MayFindIn g inside.owner new)
-  reopen_kept h =
-      let clean : HasCleanDisk (state g new) = no_doubt _ (and_parts inside.is_sure _ h).1 in
-      let sure = (and_parts inside.is_sure _ h).0 in
-      subst₂ (λ o held. AddsNothing (MayFind g o held) (MayFindIn g inside.owner new)) (sym own_is) (sym (at sure clean)) ((leaves_new sure clean).adds_nothing (before sure clean))
-
-  pub reopen_honest : IsTrue (inside.is_sure && (state g new).is_clean) → IsHonest g self
-  reopen_honest h =
-      let clean : HasCleanDisk (state g new) = no_doubt _ (and_parts inside.is_sure _ h).1 in
-      let sure : IsTrue self.is_sure = subst IsTrue (ap (λ (r : Linked S). r.is_sure) view) (and_parts inside.is_sure _ h).0 in
-      let held : IsTrue (is_clean_in g self.held) = subst (λ held. IsTrue (is_clean_in g held)) (ap (λ (r : Linked S). r.held) view) (clean_before g inside.owner inside.held new (left clean)) in
-      and_from _ _ sure held
-
-  pub reopen_clean : IsTrue (state g new).is_clean → IsTrue (is_clean_in g self.held)
-  reopen_clean now = subst (λ held. IsTrue (is_clean_in g held)) (ap (λ (r : Linked S). r.held) view) (clean_before g inside.owner inside.held new (left (no_doubt _ now)))
-
-  pub reopen_sure : IsTrue (state g new).is_clean → IsHonest g self → IsTrue (inside.is_sure && (state g new).is_clean)
-  reopen_sure clean h = and_from _ _ (subst IsTrue (sym (ap (λ (r : Linked S). r.is_sure) view)) (and_parts self.is_sure _ h).0) clean
-
-  module _ (found : Option Numbers) (numbers : Numbers) (read : found ≡ Some numbers) (it : HasCleanDisk (state g new) → IfSome taken (λ old. IfSome found (Reopens g inside.owner old new))) where
-    reopens_new : (sure : IsTrue inside.is_sure) (clean : HasCleanDisk (state g new)) → Reopens g inside.owner (was sure clean).0 new numbers
-    reopens_new sure clean =
-        let both = subst (λ held. IfSome held (λ old. IfSome found (Reopens g inside.owner old new))) (is ∙ (was sure clean).1) (it clean) in
-        subst (λ o. IfSome o (Reopens g inside.owner (was sure clean).0 new)) read both
-
-    pub reopen_linked : IsServing g inside.owner new true inside.is_sure numbers
-    reopen_linked sure clean = ((leaves_new sure clean).stands (before sure clean), λ up. (reopens_new sure clean).knows (before sure clean))
-
-    pub reopen_ok : IsTrue (inside.is_sure && (state g new).is_clean) → (a b : Content) → HoldsEither (MayFind g self.owner self.held) a b
-        → Holds (MayFindIn g inside.owner new) a ⊎ Holds (MayFindIn g inside.owner new) b
-    reopen_ok h a b either =
-        let clean : HasCleanDisk (state g new) = no_doubt _ (and_parts inside.is_sure _ h).1 in
-        let sure = (and_parts inside.is_sure _ h).0 in
-        one_of g inside.owner (was sure clean).0 new numbers (leaves_new sure clean) (reopens_new sure clean) (before sure clean) a b (subst₂ (λ o held. HoldsEither (MayFind g o held) a b) own_is (at sure clean) either)
+      pub reopen_ok : IsTrue (state g new).is_clean → (a b : Content) → HoldsEither (MayFind g self.owner self.held) a b
+          → Holds (MayFindIn g owner new) a ⊎ Holds (MayFindIn g owner new) b
+      reopen_ok h a b either =
+          let clean : HasCleanDisk (state g new) = no_doubt _ h in
+          one_of g owner old new numbers (left clean) (reopens_new clean) (before clean) a b (subst₂ (λ o held. HoldsEither (MayFind g o held) a b) own at either)
 
 -- a read that changed nothing
 pub stays_as : (version : Version) (old new : State) → IsUnchanged old new → StaysAs version old new
@@ -270,17 +234,24 @@ own g conn c ours (inr there) (inr rows) = rows.2 c (subst (λ v. AreTablesOf v 
 module _ {S : Type 0} (g : Ghosts S) (settled : (s : S) (db : Trees) → IsTrue (g.view s).is_open → g.recovers s db → db ≡ (g.view s).committed)
     (stays : (s : S) → IsTrue (g.view s).is_open → g.recovers s (g.view s).committed) (owner : Option Owner) (Was : Content → Type 0) (new : Held S) (numbers : Numbers)
     (it : HasCleanDisk (state g new) → (c : Content) × Was c × ServesFor owner (state g new) c × AreNumbersOf numbers c) where
-  pub opened_linked : IsServing g owner new true true numbers
-  opened_linked sure clean =
+  pub opened_linked : IsServing g owner new true numbers
+  opened_linked clean =
       let now = it clean in (
         λ db may. ∣ (now.0, subst (λ t. AreTablesFor owner t now.0) (ap (λ (d : Database). d.trees) now.2.settled ∙ sym (settled new.store db now.2.is_open may)) now.2.tables) ∣₁,
         λ up. (now.0, now.2, now.3),
       )
 
-  pub opened_holds : IsTrue (true && (state g new).is_clean) → (c : Content) × Was c × Holds (MayFindIn g owner new) c
-  opened_holds h =
-      let now = it (no_doubt _ (and_parts true _ h).1) in
-      (now.0, now.1, (∣ found_it g settled stays owner new now.0 now.2 ∣₁, found_is g settled stays owner new now.0 now.2))
+  -- the records over it are clean where it is
+  pub over_clean : (r : Linked S) → r.held ≡ Some new → IsHonest g r → HasCleanDisk (state g new)
+  over_clean r held h = no_doubt _ (subst (λ x. IsTrue (is_clean_in g x)) held h)
+
+  pub opened_holds : (r : Linked S) → r.held ≡ Some new → r.owner ≡ owner → IsHonest g r → (c : Content) × Was c × Holds (MayFind g r.owner r.held) c
+  opened_holds r held own h =
+      let now = it (over_clean r held h) in (
+        now.0,
+        now.1,
+        subst₂ (λ o x. Holds (MayFind g o x) now.0) (sym own) (sym held) (∣ found_it g settled stays owner new now.0 now.2 ∣₁, found_is g settled stays owner new now.0 now.2),
+      )
 
 -- what an open of files had is in them
 pub is_in : {D : Type 0} {g : disk.Ghosts D} (files : Files D) (conn : Held (FileStore D g)) (c : Content) → IsOpened conn → Finds files conn → Had over_files conn c → IsIn g files c

@@ -6,7 +6,7 @@ pub use Rattle.acceptor.specs.Content.Write.{Promises, Votes}
 pub use Rattle.acceptor.specs.Faults.{IsHarmless}
 pub use Rattle.acceptor.specs.Found.{AddsNothing, AddsOnly, Findable, FindsSame, HasMade, Holds, HoldsEither, Keeps, MayHaveMade}
 pub use Rattle.acceptor.specs.declared.records.RecordsFault.{RecordsFault}
-pub use Rattle.acceptor_store.specs.Linked.{AreNumbersOf, CannotBeRead, Examines, FailsAnew, FindsContent, Had, HadIn, HasFurther, HasNumbers, HasStopped, IsFoundIn, IsHonest, IsIn, IsLeftWhole, IsLinked, IsRefused, IsServing, IsTested, IsToMake, Knows, Leaves, Linked, MakesReady, MayFind, MayFindIn, Reopens, SeesForeign, ServesNone, Stands, StaysAs, Tells, greatest_beside, is_clean_in, is_honest}
+pub use Rattle.acceptor_store.specs.Linked.{AreNumbersOf, CannotBeRead, Examines, FailsAnew, FindsContent, Had, HadIn, HasFurther, HasNumbers, HasStopped, IsFoundIn, IsHonest, IsIn, IsLeftWhole, IsLinked, IsRefused, IsServing, IsTested, IsToMake, Knows, Leaves, Linked, MakesReady, MayFind, MayFindIn, Reopens, SeesForeign, ServesNone, Stands, StaysAs, Tells, greatest_beside, held_of, is_clean_in, is_honest}
 pub use Rattle.acceptor_store.specs.Owning.{AdoptsFor, ExaminesFor, FindsFor, HadAs, HadBefore, HasFurtherAs, IsDue, IsDueBefore, IsLeftAs, IsLeftBefore, IsRefusedFor, Names, PreparesFor}
 pub use Rattle.acceptor_store.specs.Stopped.{fault_of}
 pub use Rattle.acceptor_store.specs.declared.OpenFault.{OpenFault}

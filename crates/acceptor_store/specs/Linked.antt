@@ -34,12 +34,12 @@ use Rattle.acceptor_store_parts.specs.Tests.{IsShutBy}
 
 -- records as their contracts see them
 pub record Linked (S : Type 0) : Type 0 where
-  -- none where a reopen couldn't open the store
+  -- the connection, or what it was before a reopen that couldn't open its store
   pub held : Option (Held S)
   -- no statement has failed since the tables were tested
   pub is_up : Bool
-  -- no reopen has failed so far to open the store
-  pub is_sure : Bool
+  -- there is a connection: no reopen has failed so far to open the store
+  pub is_linked : Bool
   -- the ballot tried and the promised one, as the tables have them while it is up
   pub numbers : Numbers
   pub failures : ℕ
@@ -73,27 +73,27 @@ abbrev pub linked_code : {S : Type 0} → Coded S → Coded (Linked S)
 linked_code {S} store =
     code_by (Option (Held S) × (Bool × (Bool × (Numbers × (ℕ × Option Owner)))))
     (coded× (coded_option (held_code store)) (coded× coded_bool (coded× coded_bool (coded× numbers_code (coded× coded_ℕ (coded_option owner_code))))))
-    (λ r. (r.held, (r.is_up, (r.is_sure, (r.numbers, (r.failures, r.owner))))))
-    (λ p. record { held = p.0; is_up = p.1.0; is_sure = p.1.1.0; numbers = p.1.1.1.0; failures = p.1.1.1.1.0; owner = p.1.1.1.1.1 })
+    (λ r. (r.held, (r.is_up, (r.is_linked, (r.numbers, (r.failures, r.owner))))))
+    (λ p. record { held = p.0; is_up = p.1.0; is_linked = p.1.1.0; numbers = p.1.1.1.0; failures = p.1.1.1.1.0; owner = p.1.1.1.1.1 })
     (λ _. refl)
 
 -- what an open after a crash at this moment may find, in tables of this owner
 abbrev pub MayFindIn : {S : Type 0} → Ghosts S → Option Owner → Held S → Content → Type 0
 MayFindIn g owner h c = ∥ ((db : Trees) × (state g h).may_leave db × AreTablesFor owner db c) ∥₁
 
--- and with no connection anything
+-- the same where there may be none
 abbrev pub MayFind : {S : Type 0} → Ghosts S → Option Owner → Option (Held S) → Content → Type 0
 MayFind g owner None c = Unit {0}
 MayFind g owner (Some h) c = MayFindIn g owner h c
 
--- the library has the disk clean, where there is a connection
+-- the library has the disk clean, or had it so before a reopen that couldn't open the store
 abbrev pub is_clean_in : {S : Type 0} → Ghosts S → Option (Held S) → Bool
 is_clean_in g None = true
 is_clean_in g (Some h) = (state g h).is_clean
 
--- no reopen has failed, and the disk is clean
+-- so of the records
 abbrev pub is_honest : {S : Type 0} → Ghosts S → Linked S → Bool
-is_honest g r = r.is_sure && is_clean_in g r.held
+is_honest g r = is_clean_in g r.held
 
 -- the records are honest
 abbrev pub IsHonest : {S : Type 0} → Ghosts S → Linked S → Type 0
@@ -118,13 +118,18 @@ abbrev pub Stands : {S : Type 0} → Ghosts S → Option Owner → Held S → Ty
 Stands g owner h = (db : Trees) → (state g h).may_leave db → ∥ ((c : Content) × AreTablesFor owner db c) ∥₁
 
 -- an honest connection stands, and while it is up it serves some content
-abbrev pub IsServing : {S : Type 0} → Ghosts S → Option Owner → Held S → Bool → Bool → Numbers → Type 0
-IsServing g owner h is_up is_sure numbers = IsTrue is_sure → HasCleanDisk (state g h) → Stands g owner h × (is_up ≡ true → Knows g owner h numbers)
+abbrev pub IsServing : {S : Type 0} → Ghosts S → Option Owner → Held S → Bool → Numbers → Type 0
+IsServing g owner h is_up numbers = HasCleanDisk (state g h) → Stands g owner h × (is_up ≡ true → Knows g owner h numbers)
 
--- with no connection something is left of its store, and the records are neither up nor sure
-abbrev pub IsLinked : {S L : Type 0} → Ghosts S → Option Owner → Option (Held S) → Option L → Bool → Bool → Numbers → Type 0
-IsLinked g owner None left is_up is_sure numbers = IsSome left × (is_up ≡ false) × (is_sure ≡ false)
-IsLinked g owner (Some h) left is_up is_sure numbers = IsServing g owner h is_up is_sure numbers
+-- with no connection it is known what it was, and the records aren't up
+abbrev pub IsLinked : {S : Type 0} → Ghosts S → Option Owner → Option (Held S) → Option (Held S) → Bool → Numbers → Type 0
+IsLinked g owner None was is_up numbers = IsSome was × (is_up ≡ false)
+IsLinked g owner (Some h) was is_up numbers = IsServing g owner h is_up numbers
+
+-- the connection, or what it was
+abbrev pub held_of : {S : Type 0} → Option (Held S) → Option (Held S) → Option (Held S)
+held_of None was = was
+held_of (Some h) was = Some h
 
 -- a connection that was tested serves this content, and a crash leaves that
 abbrev pub IsTested : {S : Type 0} → Ghosts S → Option Owner → Held S → Held S → Numbers → Content → Type 0

@@ -1,10 +1,12 @@
 -- Records that are opened for an owner.
-use Rattle.std.specs.Prelude.{◌≡◌, ◌≢◌, ◌⊎◌, Bool, true, false, Some, None, IsTrue}
+use Rattle.std.specs.Prelude.{◌≡◌, ◌≢◌, ◌⊎◌, Bool, true, false, Some, None, Result, Ok, Err, IsTrue}
 use Rattle.acceptor.specs.Content.{Content, no_content}
 use Rattle.sqlite.specs.Store.{Ghosts}
 use Rattle.sqlite.specs.Tree.{Trees}
 use Rattle.sqlite.specs.Schema.{Schema}
 use Rattle.sqlite.specs.Held.{Held, state}
+use Rattle.sqlite.specs.State.{HasCleanDisk}
+use Rattle.sqlite_trees.specs.View.{IsClean}
 use Rattle.acceptor_store_parts.specs.declared.Version.{Version}
 use Rattle.acceptor_store_parts.specs.declared.Version.TheVariants.{Third}
 use Rattle.acceptor_store_parts.specs.declared.owner.Owner.{Owner}
@@ -15,10 +17,11 @@ use Rattle.acceptor_store_parts.specs.Rowids.{IsReread}
 use Rattle.acceptor_store_parts.specs.Foreign.{HasFacts, IsBroken, IsForeignOwned, IsUnowned}
 use Rattle.acceptor_store_parts.specs.Serves.{ServesFor}
 use Rattle.acceptor_store.specs.declared.known.Numbers.{Numbers}
+use Rattle.acceptor_store.specs.declared.OpenFault.{OpenFault}
 use Rattle.acceptor_store.specs.declared.OpenFault.TheVariants.{Refused, Broken, OutOfMemory, Foreign}
 use Rattle.acceptor_store.specs.declared.owned.OwnerFault.{OwnerFault}
 use Rattle.acceptor_store.specs.declared.owned.OwnerFault.TheVariants.{Open, Blank, Unowned, OtherNode, OtherMembers}
-use Rattle.acceptor_store.specs.Linked.{AreNumbersOf, FailsAnew, Had, HadIn, SeesForeign}
+use Rattle.acceptor_store.specs.Linked.{AreNumbersOf, FailsAnew, Had, HadIn, IsRefused, SeesForeign}
 
 -- the last commit holds this content, which a node wrote, in tables of this owner
 abbrev pub HadFor : {S : Type 0} → Ghosts S → Owner → Held S → Content → Type 0
@@ -92,3 +95,28 @@ IsDueBefore g owner conn (Open OutOfMemory) = Unit {0}
 -- it serves for this owner what the older one had, without an owner or for this one, which has these numbers
 abbrev pub AdoptsFor : {S : Type 0} → Ghosts S → Owner → Held S → Held S → Numbers → Type 0
 AdoptsFor g owner old new numbers = (c : Content) × HadBefore g owner old c × ServesFor (Some owner) (state g new) c × AreNumbersOf numbers c
+
+-- another owner than the one that is wanted is told by what it differs in
+abbrev pub IsToldOther : Owner → Owner → OwnerFault → Type 0
+IsToldOther wanted found OtherNode = found.node ≢ wanted.node
+IsToldOther wanted found OtherMembers = (found.node ≡ wanted.node) × (found.members ≢ wanted.members)
+IsToldOther wanted found Blank = ⊥
+IsToldOther wanted found Unowned = ⊥
+IsToldOther wanted found (Open fault) = ⊥
+
+-- the store that a connection had, of which a crash leaves nothing else
+abbrev pub GivesBack : {S : Type 0} → Ghosts S → Held S → S → Type 0
+GivesBack g conn store = IsClean (g.view store) → HasCleanDisk (state g conn) × ((db : Trees) → g.recovers store db → (state g conn).may_leave db)
+
+-- what is answered to a read of tables that have an owner: a fault of the read as that, the tables where they are those
+-- of the owner that is wanted, and else whose they are
+abbrev pub Claims : {S : Type 0} → Ghosts S → Owner → Result (Held S × Owner × Numbers) (OpenFault × S) → Result (Held S × Numbers) (OwnerFault × S) → Type 0
+Claims g wanted (Ok read) (Ok it) = (read.1 ≡ wanted) × (it.0 ≡ read.0) × (it.1 ≡ read.2)
+Claims g wanted (Ok read) (Err told) = IsToldOther wanted read.1 told.0 × GivesBack g read.0 told.1
+Claims g wanted (Err unread) (Ok it) = ⊥
+Claims g wanted (Err unread) (Err told) = (told.0 ≡ Open unread.0) × (told.1 ≡ unread.1)
+
+-- why a database isn't adopted that is Refused, and gives this store back: what an open of it would be Refused for,
+-- without an owner or for this one, or tables without an owner that were to be made into this owner's
+abbrev pub IsRefusedBefore : {S : Type 0} → Ghosts S → Held S → S → Type 0
+IsRefusedBefore g conn store = IsRefused g conn store ⊎ (IsRefusedFor g conn store ⊎ ((HasFacts (state g conn).now.schema → ⊥) × ((c : Content) × Had g conn c)))

@@ -1,6 +1,6 @@
 //! The store of records opened anew, and its tables tested.
 
-ghost use Rattle.std.specs.Prelude.{◌≡◌, ◌↔◌, false, not, Err, IfOk, IfSome, IsSome, None};
+ghost use Rattle.std.specs.Prelude.{◌≡◌, ◌↔◌, false, not, Err, IfOk, IfSome};
 ghost use Rattle.acceptor.specs.Faults.{BreaksByReopen, CountsFaults};
 ghost use Rattle.acceptor.specs.declared.records.RecordsFault.TheVariants.{OutOfMemory};
 ghost use Rattle.sqlite.specs.State.{HasCleanDisk, Opens};
@@ -15,41 +15,28 @@ use sqlite::{Connection, Error, ErrorCode};
 use std::alloc::Global;
 use store_anew::OpensAnew;
 
-/// Opens the store of the connection anew, or what was left of it where there is no connection.
-fn opened_again<S: OpensAnew>(
-    alloc: Global,
-    conn: Option<Connection<S>>,
-    left: Option<S::Left>,
-) -> Result<Connection<S>, (Error, S::Left)>
-    requires { conn ≡ None → IsSome left }
+/// Opens the store of the connection anew.
+fn opened_again<S: OpensAnew>(alloc: Global, conn: Connection<S>) -> Result<Connection<S>, Error>
     ensures opened { IfOk result (λ c. HasCleanDisk (state S.Store c) → Opens (state S.Store c)) }
     ensures found { IfOk result (λ c. HasCleanDisk (state S.Store c)
-        → IfSome conn (λ old. HasCleanDisk (state S.Store old) × ∥ (state S.Store old).may_leave (state S.Store c).committed.trees ∥₁)) }
+        → HasCleanDisk (state S.Store conn) × ∥ (state S.Store conn).may_leave (state S.Store c).committed.trees ∥₁) }
 {
-    match conn {
-        Some(conn) => S::opened_anew(alloc, conn.into_store().given_up()),
-        None => match left {
-            Some(left) => S::opened_anew(alloc, left),
-            None => unreachable!(),
-        },
+    match S::opened_anew(alloc, conn.into_store().given_up()) {
+        Ok(fresh) => Ok(fresh),
+        Err((error, _left)) => Err(error),
     }
 }
 
 /// The same with the tables tested again, which may fail.
 pub fn opened_anew<S: OpensAnew>(
     alloc: Global,
-    conn: Option<Connection<S>>,
-    left: Option<S::Left>,
+    conn: Connection<S>,
     owner: Option<Owner>,
-) -> Result<(Connection<S>, Option<Numbers>), (Error, S::Left)>
-    requires { conn ≡ None → IsSome left }
-    ensures leaves { IfOk result (λ r. HasCleanDisk (state S.Store r.0) → IfSome conn (λ old. Leaves S.Store owner old r.0)) }
-    ensures reopens { IfOk result (λ r. HasCleanDisk (state S.Store r.0) → IfSome conn (λ old. IfSome r.1 (Reopens S.Store owner old r.0))) }
+) -> Result<(Connection<S>, Option<Numbers>), Error>
+    ensures leaves { IfOk result (λ r. HasCleanDisk (state S.Store r.0) → Leaves S.Store owner conn r.0) }
+    ensures reopens { IfOk result (λ r. HasCleanDisk (state S.Store r.0) → IfSome r.1 (Reopens S.Store owner conn r.0)) }
 {
-    let mut fresh = match opened_again(alloc, conn, left) {
-        Ok(fresh) => fresh,
-        Err(failed) => return Err(failed),
-    };
+    let mut fresh = opened_again(alloc, conn)?;
     let numbers = tested(alloc, &mut fresh, &owner);
     Ok((fresh, numbers))
 }

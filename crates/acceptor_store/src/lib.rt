@@ -6,7 +6,7 @@ mod known;
 mod opening;
 mod owned;
 
-ghost use Rattle.std.specs.Prelude.{◌≡◌, ◌≤◌, ◌↔◌, ◌⊎◌, ◌&&◌, false, not, if◌then◌else◌, Err, None, Some};
+ghost use Rattle.std.specs.Prelude.{◌≡◌, ◌≤◌, ◌↔◌, ◌⊎◌, ◌&&◌, true, false, not, if◌then◌else◌, Err, None, Some};
 ghost use Rattle.std.specs.Prelude.{IfOk, IfErr, IfSome, IsErrAnd, IsSome, IsSomeAnd, IsTrue, OnOk};
 ghost use Rattle.acceptor.specs.Calls.{Accounts, KeepsTrust, Writes};
 ghost use Rattle.acceptor.specs.Faults.{BreaksByReopen, CountsFaults, HasRisen, IsHarmless, IsStoreFault};
@@ -24,7 +24,7 @@ ghost use Rattle.acceptor_store_parts.specs.Owned.{schema_for};
 ghost use Rattle.acceptor_store_parts.specs.Serves.{StillServes};
 ghost use Rattle.acceptor_store_parts.specs.Stops.{LeavesOpen, leaves_open};
 ghost use Rattle.acceptor_store.specs.Stopped.{answer_of};
-ghost use Rattle.acceptor_store.specs.Linked.{MayFind, IsHonest, is_clean_in, is_honest, CannotBeRead, Tells};
+ghost use Rattle.acceptor_store.specs.Linked.{MayFind, IsHonest, is_clean_in, is_honest, CannotBeRead, IsServing, Tells};
 ghost use Rattle.acceptor_store.specs.Linked.{Had, HasFurther, IsFoundIn, IsLeftWhole, IsRefused, SeesForeign};
 
 use crate::anew::{end_unopened, opened_anew};
@@ -37,6 +37,7 @@ use sqlite::{Alter, Connection, Error as SqlError, ErrorCode, FileStore, Files};
 use sqlite_disk::Disk;
 use std::alloc::Global;
 use std::marker::Model;
+use std::snapshot::Snapshot;
 use store_anew::OpensAnew;
 use thiserror::Error;
 
@@ -44,11 +45,11 @@ use thiserror::Error;
 #[derive(Drop)]
 pub struct SqlRecords<S: OpensAnew> {
     alloc: Global,
+    /// None where a reopen couldn't open the store.
     conn: Option<Connection<S>>,
-    /// What is left of the store where a reopen couldn't open it, and there is no connection.
-    left: Option<S::Left>,
+    /// What the connection was before the last reopen. It has no bytes: contracts alone read it.
+    was: Snapshot<Option<Connection<S>>>,
     is_up: bool,
-    is_sure: bool,
     /// While it is up, those of the tables.
     numbers: Numbers,
     failures: u64,
@@ -56,15 +57,23 @@ pub struct SqlRecords<S: OpensAnew> {
 }
 
 impl<S: OpensAnew> Model for SqlRecords<S> {
-    ghost use Rattle.acceptor_store.specs.Linked.{Linked, linked_code, IsLinked};
+    ghost use Rattle.std.specs.Prelude.{is_some};
+    ghost use Rattle.acceptor_store.specs.Linked.{Linked, linked_code, held_of, IsLinked};
 
     ghost Value = { Linked S };
 
     ghost coded = { linked_code S.code };
 
-    ghost view = { λ r. record { held = r.conn; is_up = r.is_up; is_sure = r.is_sure; numbers = r.numbers; failures = r.failures; owner = r.owner } };
+    ghost view = { λ r. record {
+      held = held_of r.conn r.was.value;
+      is_up = r.is_up;
+      is_linked = is_some r.conn;
+      numbers = r.numbers;
+      failures = r.failures;
+      owner = r.owner;
+    } };
 
-    ghost invariant = { λ r. IsLinked S.Store r.owner r.conn r.left r.is_up r.is_sure r.numbers };
+    ghost invariant = { λ r. IsLinked S.Store r.owner r.conn r.was.value r.is_up r.numbers };
 }
 
 /// The count after one more failure. At the top it stays.
@@ -187,16 +196,7 @@ impl<S: OpensAnew> SqlRecords<S> {
             Ok(found) => found,
             Err(refused) => return Err(refused),
         };
-        Ok(SqlRecords {
-            alloc,
-            conn: Some(found.0),
-            left: None,
-            is_up: true,
-            is_sure: true,
-            numbers: found.1,
-            failures: 0,
-            owner: None,
-        })
+        Ok(SqlRecords::over(alloc, found, None))
     }
 }
 
@@ -204,7 +204,7 @@ impl<S: OpensAnew> SqlRecords<S> {
     /// The store of the records, and none after a reopen that failed. What isn't committed is
     /// rolled back, and a crash leaves nothing that it couldn't leave before.
     pub fn into_store(self) -> Option<S>
-        ensures some { IsSome result ↔ IsSome self.held }
+        ensures some { IsSome result ↔ IsTrue self.is_linked }
         ensures numbered { IfSome result (λ s. IsClean (S.Store.view s) → IsTrue (S.Store.view s).is_numbered) }
         ensures sound { IfSome result (λ s. IsClean (S.Store.view s) → AreDatabases (S.Store.recovers s)) }
         ensures left { IfSome result (λ s. (db : Trees) → S.Store.recovers s db → IsSomeAnd self.held (λ h. (state S.Store h).may_leave db)) }
@@ -212,9 +212,8 @@ impl<S: OpensAnew> SqlRecords<S> {
         let SqlRecords {
             alloc: _,
             conn,
-            left: _,
+            was: _,
             is_up: _,
-            is_sure: _,
             numbers: _,
             failures: _,
             owner: _,
@@ -222,6 +221,24 @@ impl<S: OpensAnew> SqlRecords<S> {
         match conn {
             Some(conn) => Some(conn.into_store()),
             None => None,
+        }
+    }
+
+    /// Records that are up, over a connection whose tables have these numbers.
+    fn over(alloc: Global, found: (Connection<S>, Numbers), owner: Option<Owner>) -> SqlRecords<S>
+        requires { IsServing S.Store owner found.0 true found.1 }
+        ensures held { result.held ≡ Some found.0 }
+        ensures owner { result.owner ≡ owner }
+    {
+        let conn = Some(found.0);
+        SqlRecords {
+            alloc,
+            was: Snapshot::of(&conn),
+            conn,
+            is_up: true,
+            numbers: found.1,
+            failures: 0,
+            owner,
         }
     }
 
@@ -378,8 +395,9 @@ impl<S: OpensAnew> Records for SqlRecords<S> {
         self.put(&Put::Learned(place, value))
     }
 
-    /// Where it couldn't open the store, what is left is kept for the next reopen. Where it opened it
-    /// and couldn't read the tables, the connection is kept, and honesty too (`sure`).
+    /// Where it couldn't open the store, there is no connection any more, and each later reopen is Broken: open the files
+    /// anew by `open_files`, or by `open_as` for their owner. Where it opened the store and couldn't read the
+    /// tables, the connection is kept for the next reopen.
     fn reopen(&mut self) -> Result<(), RecordsFault>
         ensures ok { IsHonest S.Store self.new → OnOk result ((a b : Content) → HoldsEither (MayFind S.Store self.old.owner self.old.held) a b
             → Holds (MayFind S.Store self.new.owner self.new.held) a ⊎ Holds (MayFind S.Store self.new.owner self.new.held) b) }
@@ -389,26 +407,24 @@ impl<S: OpensAnew> Records for SqlRecords<S> {
             → IfErr result (λ e. IsHarmless e → FindsSame (MayFind S.Store self.old.owner self.old.held) (MayFind S.Store self.new.owner self.new.held)) }
         ensures kept { IsHonest S.Store self.new → AddsNothing (MayFind S.Store self.old.owner self.old.held) (MayFind S.Store self.new.owner self.new.held) }
         ensures honest { IsHonest S.Store self.new → IsHonest S.Store self.old }
-        ensures trust { OnOk result (KeepsTrust (is_honest S.Store) (λ r. is_clean_in S.Store r.held) self.old self.new) }
-        ensures sure { IsSome self.new.held → IsTrue (is_clean_in S.Store self.new.held) → IsHonest S.Store self.old → IsHonest S.Store self.new }
+        ensures trust { KeepsTrust (is_honest S.Store) (λ r. is_clean_in S.Store r.held) self.old self.new }
+        ensures linked { OnOk result ((self.old.is_linked ≡ true) × (self.new.is_linked ≡ true)) }
         ensures count { CountsFaults result self.old.failures self.new.failures }
         ensures broken { BreaksByReopen result (not self.old.is_up) (not self.new.is_up) }
     {
         let conn = self.conn.take();
-        let left = self.left.take();
-        let (fresh, numbers) = match opened_anew(self.alloc, conn, left, self.owner) {
+        let was = Snapshot::of(&conn);
+        let Some(conn) = conn else {
+            return Err(end(&mut self.is_up, &mut self.failures, Stop::Down));
+        };
+        self.was = was;
+        let (fresh, numbers) = match opened_anew(self.alloc, conn, self.owner) {
             Ok(opened) => opened,
-            Err((error, left)) => {
-                self.left = Some(left);
-                self.is_sure = false;
-                return Err(end_unopened(&mut self.is_up, &mut self.failures, error));
-            }
+            Err(error) => return Err(end_unopened(&mut self.is_up, &mut self.failures, error)),
         };
         self.conn = Some(fresh);
         let Some(numbers) = numbers else {
-            self.is_up = false;
-            self.failures = risen(self.failures);
-            return Err(RecordsFault::Broken);
+            return Err(end(&mut self.is_up, &mut self.failures, Stop::Down));
         };
         self.is_up = true;
         self.numbers = numbers;

@@ -12,8 +12,8 @@ ghost use Rattle.acceptor_store_parts.specs.Owned.{IsOwner, OwnedBy};
 ghost use Rattle.acceptor_store_parts.specs.Rowids.{AreByRowid, IsReread};
 ghost use Rattle.acceptor_store_parts.specs.Tables.{blank_schema, schema_of};
 ghost use Rattle.acceptor_store.specs.Linked.{FailsAnew, HasStopped, IsHonest, MayFind, StaysAs, is_clean_in};
-ghost use Rattle.acceptor_store.specs.Owning.{AdoptsFor, ExaminesFor, FindsFor, HadAs, HadBefore, HasFurtherAs};
-ghost use Rattle.acceptor_store.specs.Owning.{IsDue, IsDueBefore, IsLeftAs, IsLeftBefore, IsRefusedFor, PreparesFor};
+ghost use Rattle.acceptor_store.specs.Owning.{AdoptsFor, Claims, ExaminesFor, FindsFor, HadAs, HadBefore, HasFurtherAs};
+ghost use Rattle.acceptor_store.specs.Owning.{IsDue, IsDueBefore, IsLeftAs, IsLeftBefore, IsRefusedBefore, IsRefusedFor, IsToldOther, PreparesFor};
 
 use crate::known::Numbers;
 use crate::opening::{examined, is_of, prepared, stopped};
@@ -59,8 +59,7 @@ impl From<OpenFault> for OwnerFault {
 /// What is wrong with the owner that was found, where it isn't the one that is wanted.
 fn differs(found: Owner, wanted: Owner) -> Option<OwnerFault>
     ensures same { IfNone result (found ≡ wanted) }
-    ensures other { IfSome result (λ e. ((e ≡ OwnerFault.OtherNode) × (found.node ≢ wanted.node))
-        ⊎ ((e ≡ OwnerFault.OtherMembers) × (found.node ≡ wanted.node) × (found.members ≢ wanted.members))) }
+    ensures other { IfSome result (IsToldOther wanted found) }
 {
     if found.node != wanted.node {
         return Some(OwnerFault::OtherNode);
@@ -172,22 +171,14 @@ fn reread_owned<S: Alter + Drop>(
     }
 }
 
-/// The connection over the tables of version 3, which it had, where they are this owner's, and their
-/// numbers.
+/// The connection over the tables of version 3 that were read, and their numbers, where they are this owner's.
 fn claimed<S: Alter + Drop>(
-    alloc: Global,
-    conn: Connection<S>,
+    read: Result<(Connection<S>, Owner, Numbers), (OpenFault, S)>,
     owner: Owner,
 ) -> Result<(Connection<S>, Numbers), (OwnerFault, S)>
-    ensures tables { IfOk result (λ r. HasCleanDisk (state S.Store r.0) → (state S.Store conn).now.schema ≡ schema_of Version.Third
-        → FindsFor S.Store owner conn r.0 r.1) }
-    ensures clean { IfOk result (λ r. doubt (state S.Store conn).is_clean ≤ doubt (state S.Store r.0).is_clean) }
-    ensures left { IfErr result (λ e. IsClean (S.Store.view e.1) → (db : Trees) → S.Store.recovers e.1 db → (state S.Store conn).may_leave db) }
-    ensures due { IfErr result (λ e. IsClean (S.Store.view e.1) → (state S.Store conn).now.schema ≡ schema_of Version.Third → (is_new : _)
-        → IsDue S.Store owner is_new conn e.0) }
-    ensures refused { IfErr result (λ e. e.0 ≡ OwnerFault.Open OpenFault.Refused → IsClean (S.Store.view e.1) → FailsAnew S.Store Version.Third conn e.1) }
+    ensures { Claims S.Store owner read result }
 {
-    let (again, found, numbers) = match reread_owned(alloc, conn) {
+    let (again, found, numbers) = match read {
         Ok(found) => found,
         Err((fault, store)) => return Err((OwnerFault::Open(fault), store)),
     };
@@ -232,7 +223,7 @@ fn prepared_for<S: Alter + Drop>(
         };
     }
     match judged(alloc, conn.schema()) {
-        Ok(()) => claimed(alloc, conn, *owner),
+        Ok(()) => claimed(reread_owned(alloc, conn), *owner),
         Err(fault) => Err((fault, conn.into_store())),
     }
 }
@@ -248,6 +239,7 @@ fn adopted<S: Alter + Drop>(
     ensures clean { IfOk result (λ r. doubt (state S.Store conn).is_clean ≤ doubt (state S.Store r.0).is_clean) }
     ensures whole { IfErr result (λ e. IsClean (S.Store.view e.1) → (db : Trees) → S.Store.recovers e.1 db → IsLeftBefore S.Store owner.now conn db) }
     ensures due { IfErr result (λ e. IsClean (S.Store.view e.1) → IsDueBefore S.Store owner.now conn e.0) }
+    ensures refused { IfErr result (λ e. e.0 ≡ OwnerFault.Open OpenFault.Refused → IsClean (S.Store.view e.1) → IsRefusedBefore S.Store conn e.1) }
     ensures used { IsTrue (state S.Store conn).in_transaction → IsErrAnd result (λ e. e.0 ≡ OwnerFault.Open OpenFault.Refused) }
     ensures blank { (state S.Store conn).in_transaction ≡ false → (state S.Store conn).now.schema ≡ blank_schema
         → IsErrAnd result (λ e. e.0 ≡ OwnerFault.Blank) }
@@ -315,16 +307,7 @@ impl<S: OpensAnew> SqlRecords<S> {
             Ok(found) => found,
             Err(refused) => return Err(refused),
         };
-        Ok(SqlRecords {
-            alloc,
-            conn: Some(found.0),
-            left: None,
-            is_up: true,
-            is_sure: true,
-            numbers: found.1,
-            failures: 0,
-            owner: Some(owner),
-        })
+        Ok(SqlRecords::over(alloc, found, Some(owner)))
     }
 
     /// The same over a database of an older version, which nobody owns: its tables are made into
@@ -349,6 +332,7 @@ impl<S: OpensAnew> SqlRecords<S> {
         ensures whole { IfErr result (λ e. IsClean (S.Store.view e.1) → (db : Trees) → S.Store.recovers e.1 db
             → IsLeftBefore S.Store (record { node = node; members = members }) conn db) }
         ensures due { IfErr result (λ e. IsClean (S.Store.view e.1) → IsDueBefore S.Store (record { node = node; members = members }) conn e.0) }
+        ensures refused { IfErr result (λ e. e.0 ≡ OwnerFault.Open OpenFault.Refused → IsClean (S.Store.view e.1) → IsRefusedBefore S.Store conn e.1) }
         ensures used { IsTrue (state S.Store conn).in_transaction → IsErrAnd result (λ e. e.0 ≡ OwnerFault.Open OpenFault.Refused) }
         ensures blank { (state S.Store conn).in_transaction ≡ false → (state S.Store conn).now.schema ≡ blank_schema
             → IsErrAnd result (λ e. e.0 ≡ OwnerFault.Blank) }
@@ -358,15 +342,6 @@ impl<S: OpensAnew> SqlRecords<S> {
             Ok(found) => found,
             Err(refused) => return Err(refused),
         };
-        Ok(SqlRecords {
-            alloc,
-            conn: Some(found.0),
-            left: None,
-            is_up: true,
-            is_sure: true,
-            numbers: found.1,
-            failures: 0,
-            owner: Some(owner),
-        })
+        Ok(SqlRecords::over(alloc, found, Some(owner)))
     }
 }

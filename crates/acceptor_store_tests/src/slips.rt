@@ -1,4 +1,4 @@
-//! Records over a file that slips, which are reopened until they come back, and a node over such.
+//! Records over a file that slips at a reopen, which are broken for good, and a node over such.
 
 use crate::files::Stopped;
 use crate::slip::Slip;
@@ -29,24 +29,17 @@ fn slipping(alloc: Global, which: Stopped, calls: u64) -> Files<Slip<Memory>> {
     }
 }
 
-/// Whether the records are broken, and come back by a reopen with the one write that was made.
-fn comes_back<R: Records>(alloc: Global, records: &mut R) -> Result<bool, Fail> {
+/// Whether the records, whose reopen failed, are broken and stay so. Else their tables couldn't be read, and the next
+/// reopen brings back the one write that was made.
+fn stays_broken<R: Records>(alloc: Global, records: &mut R) -> Result<bool, Fail> {
     if !matches!(records.tried(), Err(RecordsFault::Broken)) {
-        return Ok(false);
+        return Err(Fail::new("the records answer"));
     }
-    records.reopen()?;
-    Ok(content(alloc, records)?.as_str() == "8 0")
-}
-
-/// Whether a reopen of these records fails, and the next one brings them back.
-fn fails_once<R: Records>(alloc: Global, records: &mut R) -> Result<bool, Fail> {
-    if records.reopen().is_ok() {
-        return Ok(false);
-    }
-    if comes_back(alloc, records)? {
-        Ok(true)
-    } else {
-        Err(Fail::new("the records don't come back"))
+    match records.reopen() {
+        Err(RecordsFault::Broken) => Ok(matches!(records.tried(), Err(RecordsFault::Broken))),
+        Err(_) => Ok(false),
+        Ok(()) if content(alloc, records)?.as_str() == "8 0" => Ok(false),
+        Ok(()) => Err(Fail::new("other records come back")),
     }
 }
 
@@ -66,44 +59,39 @@ impl RecordsUse for Writes {
     }
 }
 
-/// Whether a reopen of records fails once, in which one write is made.
+/// Whether a reopen of records in which one write is made fails, and they stay broken.
 #[derive(Drop)]
-struct FailsOnce;
+struct StaysBroken;
 
-impl RecordsUse for FailsOnce {
+impl OwnedUse for StaysBroken {
     type Answer = bool;
 
-    fn use_records<R: Records>(self, alloc: Global, records: &mut R) -> Result<bool, Fail> {
-        write(records)?;
-        fails_once(alloc, records)
+    fn use_owned<R: Records + Drop>(self, alloc: Global, mut records: R) -> Result<bool, Fail> {
+        write(&mut records)?;
+        if records.reopen().is_ok() {
+            return Ok(false);
+        }
+        stays_broken(alloc, &mut records)
     }
 }
 
-/// Whether a node can't restart at first, and does so the next time. It is let go of here, where its
-/// parts aren't known.
-fn restarts_again<N: Node>(mut node: N) -> Result<bool, Fail> {
-    if node.restart().is_ok() {
-        return Ok(false);
-    }
-    if node.restart().is_ok() {
-        Ok(true)
-    } else {
-        Err(Fail::new("the node doesn't come back"))
-    }
+/// Whether a node can't restart, and can't do so the next time. It is let go of here, where its parts aren't known.
+fn stays_down<N: Node>(mut node: N) -> bool {
+    node.restart().is_err() && node.restart().is_err()
 }
 
-/// Whether node 0 over the records can't restart at first, and does so the next time.
+/// Whether node 0 over the records can't restart, and can't do so the next time.
 #[derive(Drop)]
-struct RestartsAgain;
+struct StaysDown;
 
-impl OwnedUse for RestartsAgain {
+impl OwnedUse for StaysDown {
     type Answer = bool;
 
     fn use_owned<R: Records + Drop>(self, alloc: Global, records: R) -> Result<bool, Fail> {
         let Some(id) = NodeId::new(0) else {
             return Err(Fail::new("a node"));
         };
-        restarts_again(SchedNode::new(alloc, id, Members::Three, records))
+        Ok(stays_down(SchedNode::new(alloc, id, Members::Three, records)))
     }
 }
 
@@ -129,18 +117,11 @@ fn files_before<D: Disk + Drop>(
     Ok(files)
 }
 
-/// Whether it fails over these files, and the next time does not.
-fn fails_once_in<D: Disk + Drop>(
-    alloc: Global,
-    files: Files<D>,
-    again: Again,
-) -> Result<bool, Fail> {
+/// Whether it fails over these files for good.
+fn fails_in<D: Disk + Drop>(alloc: Global, files: Files<D>, again: Again) -> Result<bool, Fail> {
     match again {
-        Again::Reopen => {
-            let (fails, _) = answer_in(alloc, files, Way::Plain, FailsOnce)?;
-            Ok(fails)
-        }
-        Again::Restart => owned_in(alloc, files, RestartsAgain),
+        Again::Reopen => owned_in(alloc, files, StaysBroken),
+        Again::Restart => owned_in(alloc, files, StaysDown),
     }
 }
 
@@ -154,13 +135,13 @@ fn calls_before(alloc: Global, which: Stopped, again: Again) -> Result<u64, Fail
     Ok(u64::MAX - left)
 }
 
-/// How many of the first calls on this file after those have it fail where they slip.
+/// How many of the first calls on this file after those have it fail for good where they slip.
 fn slips(alloc: Global, which: Stopped, again: Again) -> Result<u64, Fail> {
     let before = calls_before(alloc, which, again)?;
     let mut count = 0u64;
     for further in 0..4u64 {
         let files = slipping(alloc, which, before.saturating_add(further));
-        if fails_once_in(alloc, files, again)? {
+        if fails_in(alloc, files, again)? {
             count = count.saturating_add(1);
         }
     }
@@ -169,16 +150,16 @@ fn slips(alloc: Global, which: Stopped, again: Again) -> Result<u64, Fail> {
 
 /// Which file slips, and at what.
 const SLIPS: [(Stopped, Again); 3] = [
-    // a reopen that failed once, as the database slipped, is made good by the next
+    // after a reopen that failed, as the database slipped, records stay broken
     (Stopped::Database, Again::Reopen),
     // the same where the log slips
     (Stopped::Log, Again::Reopen),
-    // a node whose restart failed, as the database slipped, is up after the next
+    // a node whose restart failed, as the database slipped, stays down
     (Stopped::Database, Again::Restart),
 ];
 
 #[test]
-fn each_slip_is_made_good(rt: HostRuntime) -> Result<(), Fail> {
+fn each_slip_is_for_good(rt: HostRuntime) -> Result<(), Fail> {
     for (which, again) in SLIPS {
         let count = slips(rt.alloc(), which, again)?;
         assert!(rt; count > 0, "{count}");

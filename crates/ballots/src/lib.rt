@@ -1,7 +1,9 @@
 //! Nodes, ballots and letters, and what a voting history chooses.
 #![tactic(auto)]
 
-ghost use Rattle.ballots.specs.Ballots.{BallotsDiffer};
+ghost use Rattle.std.specs.Prelude.{◌≡◌, ◌↔◌, ◌/◌, ◌%◌, ◌^◌, ◌<◌, ◌≤◌, ℕ};
+ghost use Rattle.ballots.specs.Ballots.{BallotsDiffer, IsBallot};
+ghost use Rattle.ballots.specs.Limits.{longest_value, most_places};
 ghost use Rattle.ballots.specs.Voting.{Agreement, QuorumsMeet};
 
 mod ballot;
@@ -29,4 +31,11 @@ pub fn quorums_meet()
 /// In a legal voting history at most one value is chosen at a place (Lamport, Paxos Made Simple, section 2.2).
 pub fn agreement()
     ensures { Agreement }
+{}
+
+/// The limits in digits: the places of the log, the bytes of a value, and a ballot's rounds and nodes.
+pub fn limits()
+    ensures places { most_places ≡ 1000000 }
+    ensures value { longest_value ≡ 64 }
+    ensures ballots { (b : ℕ) → IsBallot b ↔ ((1 ≤ b / 8) × (b / 8 < 2 ^ 40) × (b % 8 ≤ 4)) }
 {}

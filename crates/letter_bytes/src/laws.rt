@@ -25,3 +25,8 @@ pub fn no_letter_is_longer()
     ensures most { (l : Letter) → IsWithinLimits l → length (spelling l) ≤ longest_letter }
     ensures met { (l : Letter) → ReportsAll l → length (spelling l) ≡ longest_letter }
 {}
+
+/// The longest letter in digits.
+pub fn limits()
+    ensures { longest_letter ≡ 88000027 }
+{}

@@ -8,6 +8,6 @@ mod reading;
 mod writing;
 
 pub use fault::LetterFault;
-pub use laws::{LONGEST_LETTER, no_letter_is_longer, one_spelling};
+pub use laws::{LONGEST_LETTER, limits, no_letter_is_longer, one_spelling};
 pub use reading::read_letter;
 pub use writing::{reported_votes, write_front, write_letter, write_vote};

@@ -20,11 +20,10 @@ use Rattle.seats.specs.Receiver.{Receiver}
 use Rattle.seats.specs.Receiving.{Hold, sent_by}
 use Rattle.seats.specs.StoreFaults.{is_store_fault}
 use Rattle.seats.specs.declared.answer.Answer.{Answer}
-use Rattle.seats.specs.declared.answer.Answer.TheVariants.{Fault, Refused}
+use Rattle.seats.specs.declared.answer.Answer.TheVariants.{Refused}
 use Rattle.seats.specs.declared.answer.ReleasedOutput.{ReleasedOutput}
 use Rattle.seats.specs.declared.receivers.Receivers.{Receivers}
 use Rattle.seats.specs.declared.seat.Seat.{Seat}
-use Rattle.proposer.specs.declared.fault.NodeFault.{NodeFault}
 use Rattle.world_events.specs.declared.event.Event.{Event}
 use Rattle.world_events.specs.declared.event.Event.TheVariants as event
 use Rattle.world_events.specs.declared.refusal.EventRefusal.TheVariants.{NoLetter, NoNode}
@@ -34,7 +33,6 @@ use Rattle.network_script.specs.Counts.{CountNext, Counts, called_by, counts}
 use Rattle.network_script.specs.Next.{Comes, Next, OfNode, OnModems, after, taking}
 use Rattle.network_script.specs.Outward.{OfModems, Outward, SeenNext, SeenOfNode, SeenToCome, outward}
 use Rattle.network_script.specs.Seats.{AllHonest, AllKeepTrust, AreStandings}
-use Rattle.network_script.specs.Trust.{NoFailedRestart}
 use Rattle.network_script.specs.World.{Written, released_by}
 use Rattle.network_script.specs.Worlds.{AreHonest, Happens, letters_of, outputs_of, receivers_of, seats_of, transmissions_of, written}
 use Rattle.network_script.proofs.Counted.{count_one, count_still, quiet_answer}
@@ -72,7 +70,6 @@ module _ {N : Type 0} {g : Ghosts N} (old : World N g) where
     pub next : (members : ℕ) (w w' : Written) (answer : Answer) → w.letters ≡ letters_of old → OfNode members w k (slice_get w.nodes k) ask answer w' → Next members w event answer w'
     pub seen : (o o' : Outward) (answer : Answer) → o.letters ≡ letters_of old → SeenOfNode o k (slice_get o.nodes k) ask answer o' → SeenNext o event answer o'
     pub called : called_by (map (λ (letter : Letter). letter.to) (letters_of old)) event ≡ Some k
-    pub well : (answer : Answer) → NoFailedRestart event answer → (fault : NodeFault) → ask ≡ Restart → answer ≡ Fault fault → ⊥
 
   -- an event of no node, by what it is in a written world and from without
   apart : (new : World N g) (event : Event) (answer : Answer) → seats_of new ≡ seats_of old → letters_of new ≡ letters_of old → is_store_fault answer ≡ false
@@ -82,7 +79,7 @@ module _ {N : Type 0} {g : Ghosts N} (old : World N g) where
       → HappensTo old event answer new
   apart new event answer seats letters quiet goes = record {
     honesty = λ honest. subst (λ (ss : List (Seat N g)). AllHonest ss) seats honest;
-    trust = λ well. subst (λ (ss : List (Seat N g)). AllKeepTrust (seats_of old) ss) (sym seats) (trust_same (seats_of old));
+    trust = subst (λ (ss : List (Seat N g)). AllKeepTrust (seats_of old) ss) (sym seats) (trust_same (seats_of old));
     members = ap (λ (ss : List (Seat N g)). length ss) seats;
     next = λ honest nodes modems history each hold.
         let R : Seat N g → Standing → Type 0 = Stands in
@@ -186,7 +183,7 @@ module _ {N : Type 0} {g : Ghosts N} (old : World N g) where
     goes : HappensTo old event answer new
     goes = record {
       honesty = λ honest. honest_before seats k went.before went.after went.within went.at acts.honesty (set_honest honest);
-      trust = λ well. subst (λ (ss : List (Seat N g)). AllKeepTrust seats ss) (sym went.seats) (trust_at seats k went.before went.after went.within went.at (acts.trust (calls.well answer well)));
+      trust = subst (λ (ss : List (Seat N g)). AllKeepTrust seats ss) (sym went.seats) (trust_at seats k went.before went.after went.within went.at acts.trust);
       members = ap (λ (ss : List (Seat N g)). length ss) went.seats ∙ length-set seats k went.after;
       next = goes_next;
       counted = is_counted;
@@ -199,15 +196,15 @@ module _ {N : Type 0} {g : Ghosts N} (old : World N g) where
       subst (λ (a : Answer). HappensTo old event a new) (sym told) (missing new event k ask calls same past)
   asked new event k ask answer calls (inr went) = goes new event k ask answer calls went
 
-  -- one that asks by number, and for no restart
+  -- one that asks by number
   pub by_number : (event : Event) (k : ℕ) (ask : Ask) → ((members : ℕ) (w w' : Written) (answer : Answer) → OfNode members w k (slice_get w.nodes k) ask answer w' → Next members w event answer w')
       → ((o o' : Outward) (answer : Answer) → SeenOfNode o k (slice_get o.nodes k) ask answer o' → SeenNext o event answer o')
-      → called_by (map (λ (letter : Letter). letter.to) (letters_of old)) event ≡ Some k → (ask ≡ Restart → ⊥) → Calls event k ask
-  by_number event k ask next seen called other =
-      record { next = λ members w w' answer letters of. next members w w' answer of; seen = λ o o' answer letters of. seen o o' answer of; called = called; well = λ answer well fault is told. absurd (other is) }
+      → called_by (map (λ (letter : Letter). letter.to) (letters_of old)) event ≡ Some k → Calls event k ask
+  by_number event k ask next seen called =
+      record { next = λ members w w' answer letters of. next members w w' answer of; seen = λ o o' answer letters of. seen o o' answer of; called = called }
 
   pub to_restart : (k : ℕ) → Calls (event.Restart k) k Restart
-  to_restart k = record { next = λ members w w' answer letters of. of; seen = λ o o' answer letters of. of; called = refl; well = λ answer well fault is told. well k fault refl told }
+  to_restart k = record { next = λ members w w' answer letters of. of; seen = λ o o' answer letters of. of; called = refl }
 
   -- one by which a letter comes
   module _ (i : ℕ) (l : Letter) (within : i < length (letters_of old)) (at : l ≡ get_or (letters_of old) i l) where
@@ -216,19 +213,18 @@ module _ {N : Type 0} {g : Ghosts N} (old : World N g) where
 
     takes : (event : Event) (ask : Letter → Ask) → ((members : ℕ) (w w' : Written) (answer : Answer) → Comes members w (slice_get w.letters i) ask answer w' → Next members w event answer w')
         → ((o o' : Outward) (answer : Answer) → SeenToCome o (slice_get o.letters i) ask answer o' → SeenNext o event answer o')
-        → called_by (map (λ (letter : Letter). letter.to) (letters_of old)) event ≡ slice_get (map (λ (letter : Letter). letter.to) (letters_of old)) i → (ask l ≡ Restart → ⊥) → Calls event l.to (ask l)
-    takes event ask next seen called other = record {
+        → called_by (map (λ (letter : Letter). letter.to) (letters_of old)) event ≡ slice_get (map (λ (letter : Letter). letter.to) (letters_of old)) i → Calls event l.to (ask l)
+    takes event ask next seen called = record {
       next = λ members w w' answer letters of. next members w w' answer (subst (λ (found : Option Letter). Comes members w found ask answer w') (sym (there w.letters letters)) of);
       seen = λ o o' answer letters of. seen o o' answer (subst (λ (found : Option Letter). SeenToCome o found ask answer o') (sym (there o.letters letters)) of);
       called = called ∙ seen_at (λ (letter : Letter). letter.to) (letters_of old) i l within at;
-      well = λ answer well fault is told. absurd (other is);
     }
 
     pub to_take : Calls (event.Deliver i) l.to (Call (Received l))
-    to_take = takes (event.Deliver i) (λ x. Call (Received x)) (λ members w w' answer of. of) (λ o o' answer of. of) refl (λ is. cc)
+    to_take = takes (event.Deliver i) (λ x. Call (Received x)) (λ members w w' answer of. of) (λ o o' answer of. of) refl
 
     pub to_take_last : Calls (event.DeliverThenCrash i) l.to (TakeThenCrash l)
-    to_take_last = takes (event.DeliverThenCrash i) TakeThenCrash (λ members w w' answer of. of) (λ o o' answer of. of) refl (λ is. cc)
+    to_take_last = takes (event.DeliverThenCrash i) TakeThenCrash (λ members w w' answer of. of) (λ o o' answer of. of) refl
 
   -- there is no letter i
   no_letter : (new : World N g) (event : Event) (ask : Letter → Ask) (i : ℕ) → IsUnchanged old new

@@ -17,10 +17,12 @@ use Rattle.flow_state.specs.Rows.{Rows, Table, is_table, table_of}
 use Rattle.grant_machine.specs.declared.command.Command.{Command}
 use Rattle.grant_machine.specs.declared.command.Command.TheVariants as commands
 use Rattle.grant_machine.specs.declared.output.Output.TheVariants as outputs
-use Rattle.grant_machine_parts.specs.Cutting.{end_of, span_of, fill, fill_refusal}
+use Rattle.grant_machine_parts.specs.declared.settings.CutSettings.{CutSettings}
+use Rattle.grant_machine_parts.specs.Cutting.{span_of, fill, fill_refusal}
 use Rattle.grant_machine_parts.specs.Drawing.{head_of, elements_of, bytes_of}
-use Rattle.grant_machine.specs.Steps.{step, step_on, refusal_of, accepted, cut_on, map_output}
+use Rattle.grant_machine.specs.Steps.{cut_settings, step, step_on, refusal_of, accepted, cut_on, map_output}
 use Rattle.grant_machine.specs.Runs.{outputs_from, outputs_of}
+use Rattle.grant_machine_parts.proofs.Callers.{is_cut}
 
 -- the body is of this channel and begins at this time, as on the wire
 pub record IsDrawn (ch start : ℕ) (map : Body) : Type 0 where
@@ -45,26 +47,18 @@ found_id ch (u ∷ rows) t is = go (is_table ch u) refl is (found_id ch rows t)
     go true here found rest = let same : u ≡ t = cc (found) in subst (λ (x : Table). x.row.channel.id ≡ ch) same (eqb-true u.row.channel.id ch here)
     go false here found rest = rest found
 
--- a MAP that isn't refused ends by the last time
-fill_end : (t : Table) (len not_before ack : ℕ) → fill_refusal t.row len not_before ack ≡ None → end_of (span_of t.row len not_before) ≤ last_time
-fill_end t len not_before ack ok = go _ refl ok
-  where
-    go : (b : Bool) → (nat_le 1 len && nat_le len most_minislots && nat_le not_before last_time && nat_le ack last_time && nat_le (end_of (span_of t.row len not_before)) last_time) ≡ b → cond b None (Some BadValue) ≡ None → end_of (span_of t.row len not_before) ≤ last_time
-    go true all is = leb-true (end_of (span_of t.row len not_before)) last_time (and_parts (nat_le 1 len && nat_le len most_minislots && nat_le not_before last_time && nat_le ack last_time) (nat_le (end_of (span_of t.row len not_before)) last_time) all).1
-    go false all is = absurd (cc (is))
-
 -- a cut of a table that isn't refused draws its MAP
-cut_drawn : (rows : Rows) (at len not_before ack ch start n : ℕ) (bytes : List ℕ) (map : Body) (t : Table) → table_of rows at ≡ Some t → fill_refusal t.row len not_before ack ≡ None → map_output at t (fill t len not_before ack) ≡ outputs.Map ch start n bytes → IsBody bytes map → IsDrawn ch start map
-cut_drawn rows at len not_before ack ch start n bytes map t found ok is (reserved, spells, elements) =
-    let from : ℕ = (span_of t.row len not_before).start in
-    let f = fill t len not_before ack in
+cut_drawn : (rows : Rows) (at : ℕ) (asks : CutSettings) (ch start n : ℕ) (bytes : List ℕ) (map : Body) (t : Table) → table_of rows at ≡ Some t → fill_refusal t.row asks ≡ None → map_output at t (fill t asks) ≡ outputs.Map ch start n bytes → IsBody bytes map → IsDrawn ch start map
+cut_drawn rows at asks ch start n bytes map t found ok is (reserved, spells, elements) =
+    let from : ℕ = (span_of t.row asks.len asks.not_before).start in
+    let f = fill t asks in
     let channel : at ≡ ch = cc (is) in
     let starts : from ≡ start = cc (is) in
     let same : bytes_of t f ≡ bytes = cc (is) in
-    let spelled : layout (head_of t.row.channel from f.ack) (elements_of t f) 0 ≡ layout map.head map.elements reserved = same ∙ spells.spelled in
-    let one : t.row.channel.id ≡ map.head.channel = same_channel (head_of t.row.channel from f.ack) map.head _ _ 0 reserved _ _ spelled in
-    let begins : wire from ≡ map.head.start = same_start (head_of t.row.channel from f.ack) map.head _ _ 0 reserved _ _ (mod-lt from (omega arith)) spells.head_fits.start spelled in
-    let by : from + len ≤ last_time = fill_end t len not_before ack ok in
+    let spelled : layout (head_of f.told from f.ack) (elements_of t f) 0 ≡ layout map.head map.elements reserved = same ∙ spells.spelled in
+    let one : t.row.channel.id ≡ map.head.channel = same_channel (head_of f.told from f.ack) map.head _ _ 0 reserved _ _ spelled in
+    let begins : wire from ≡ map.head.start = same_start (head_of f.told from f.ack) map.head _ _ 0 reserved _ _ (mod-lt from (omega arith)) spells.head_fits.start spelled in
+    let by : from + asks.len ≤ last_time = (is_cut t asks ok).end in
     record {
       channel = sym one ∙ found_id at rows t found ∙ channel;
       start_is = ap wire (sym starts) ∙ begins;
@@ -74,12 +68,12 @@ cut_drawn rows at len not_before ack ch start n bytes map t found ok is (reserve
 step_drawn : (rows : Rows) (c : Command) (ch start n : ℕ) (bytes : List ℕ) (map : Body) → (step rows c).output ≡ outputs.Map ch start n bytes → IsBody bytes map → IsDrawn ch start map
 step_drawn rows c ch start n bytes map is body = by (refusal_of rows c) refl is
   where
-    cut : (at len not_before ack : ℕ) (o : Option Table) → table_of rows at ≡ o → on_table rows at (λ t. fill_refusal t.row len not_before ack) ≡ None → (cut_on o rows at len not_before ack).output ≡ outputs.Map ch start n bytes → IsDrawn ch start map
-    cut at len not_before ack None found ok made = absurd (cc (made))
-    cut at len not_before ack (Some t) found ok made = cut_drawn rows at len not_before ack ch start n bytes map t found (rw found at ok) made body
+    cut : (at : ℕ) (asks : CutSettings) (o : Option Table) → table_of rows at ≡ o → on_table rows at (λ t. fill_refusal t.row asks) ≡ None → (cut_on o rows at asks).output ≡ outputs.Map ch start n bytes → IsDrawn ch start map
+    cut at asks None found ok made = absurd (cc (made))
+    cut at asks (Some t) found ok made = cut_drawn rows at asks ch start n bytes map t found (rw found at ok) made body
 
     on : (d : Command) → refusal_of rows d ≡ None → (accepted rows d).output ≡ outputs.Map ch start n bytes → IsDrawn ch start map
-    on (commands.Cut at len not_before ack) ok made = cut at len not_before ack (table_of rows at) refl ok made
+    on (commands.Cut at len not_before ack keep ranging sending) ok made = cut at (cut_settings len not_before ack keep ranging sending) (table_of rows at) refl ok made
     on other ok made = absurd (cc (made))
 
     by : (o : Option Refusal) → refusal_of rows c ≡ o → (step_on o rows c).output ≡ outputs.Map ch start n bytes → IsDrawn ch start map

@@ -14,12 +14,7 @@ use Rattle.seats.specs.declared.seat.Seat.{Seat}
 use Rattle.seats.specs.Seat.{SameMember, Shown}
 use Rattle.acceptor.specs.Calls.{KeepsTrust}
 use Rattle.seats.specs.Occupant.{Stands, member, node_of, IsClean, IsHonest, is_up}
-use Rattle.world_events.specs.declared.event.Event.{Event}
-use Rattle.seats.specs.declared.answer.Answer.{Answer}
 use Rattle.network_script.specs.Seats.{Each, AreStandings, IsNumbered, AllHonest, AllKeepTrust}
-use Rattle.network_script.specs.Trust.{NoFailedRestart, NoRestartFailed}
-use Rattle.map_body.proofs.Callers.{get_behind}
-use Rattle.network_script.proofs.Lists.{get_left}
 
 -- what is there stays there, if it is written again
 pub set_same : {A : Type 0} (xs : List A) (k : ℕ) (x : A) → x ≡ get_or xs k x → set xs k x ≡ xs
@@ -89,14 +84,6 @@ trust_then old mid new first second = record {
   clean = λ all. first.clean (second.clean all);
   sure = λ clean all. second.sure clean (first.sure (second.clean clean) all);
 }
-
--- no restart failed in the events before
-pub none_before : (events : List Event) (answers more : List Answer) → NoRestartFailed events (answers ++ more) → NoRestartFailed events answers
-none_before events answers more none i event answer here there = none i event answer here (get_left answers more i answer there)
-
--- and the last event was none
-pub not_the_last : (events : List Event) (answers : List Answer) (i : ℕ) (event : Event) (answer : Answer) → length answers ≡ i → slice_get events i ≡ Some event → NoRestartFailed events (answers ++ answer ∷ []) → NoFailedRestart event answer
-not_the_last events answers i event answer is here none = none i event answer here (get_behind answers (answer ∷ []) 0 i (omega (arith, is)))
 
 -- one more is seen, and one less is left
 pub grown : {A B : Type 0} (f : A → B) (xs new : List A) (x : A) (b : B) (rest left all : List B) → new ≡ xs ++ x ∷ [] → f x ≡ b → rest ≡ b ∷ left → map f xs ++ rest ≡ all → map f new ++ left ≡ all

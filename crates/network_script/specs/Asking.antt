@@ -14,7 +14,6 @@ use Rattle.network_script.specs.declared.world.World.{World}
 use Rattle.network_script.specs.Counts.{CountNext, counts}
 use Rattle.network_script.specs.Outward.{Seen}
 use Rattle.network_script.specs.Seats.{AllKeepTrust}
-use Rattle.network_script.specs.Trust.{NoFailedRestart}
 use Rattle.network_script.specs.World.{released_by}
 use Rattle.network_script.specs.Worlds.{AreHonest, Happens, letters_of, node_count, outputs_of, receivers_of, seats_of}
 
@@ -50,7 +49,7 @@ Delivers old i ask answer new =
 -- what an event owes
 pub record HappensTo {N : Type 0} {g : Ghosts N} (old : World N g) (event : Event) (answer : Answer) (new : World N g) : Type 0 where
   pub honesty : AreHonest new → AreHonest old
-  pub trust : NoFailedRestart event answer → AllKeepTrust (seats_of old) (seats_of new)
+  pub trust : AllKeepTrust (seats_of old) (seats_of new)
   pub members : node_count new ≡ node_count old
   pub next : AreHonest new → Happens old event answer new
   pub counted : CountNext (counts old) event answer (counts new)

@@ -121,7 +121,7 @@ OwnersAreOne members ids w c = (ch m id other : ℕ) → Owner c ch m id → Own
 abbrev pub HoldersAreOne : ℕ → List ℕ → Written → Type 0
 HoldersAreOne members ids w = (i j id other ch m sid sid' : ℕ) → HoldsAt ids w i id ch m sid → HoldsAt ids w j other ch m sid' → id ≡ other
 
--- each unicast transmission, of a grant or at a poll, is at a minislot that its modem holds
+-- each unicast transmission, by a grant, at a poll or to range, is at a minislot that its modem holds
 abbrev pub SentIsHeld : ℕ → List ℕ → Written → Type 0
 SentIsHeld members ids w = (x : Transmission) (sid : ℕ) → IsIn w.transmissions x → unicast_sid (Some x.sending) ≡ Some sid → (id : ℕ) × HoldsAt ids w x.modem id x.channel x.slot sid
 

@@ -2,7 +2,6 @@ pub mod World
 pub mod Along
 pub mod Next
 pub mod Seats
-pub mod Trust
 pub mod Worlds
 pub mod Outward
 pub mod Counts

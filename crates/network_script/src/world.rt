@@ -136,7 +136,6 @@ impl<N: Node> World<N> {
     ghost use Rattle.network_script.specs.Next.{Goes};
     ghost use Rattle.network_script.specs.Outward.{SeenAll};
     ghost use Rattle.network_script.specs.Seats.{AllKeepTrust, AreStandings};
-    ghost use Rattle.network_script.specs.Trust.{NoRestartFailed};
     ghost use Rattle.network_script.specs.World.{Written};
     ghost use Rattle.network_script.specs.Worlds.{AreHonest, StandsFor, letters_of, node_count, outputs_of, seats_of, transmissions_of};
 
@@ -197,7 +196,7 @@ impl<N: Node> World<N> {
     /// The events one after another. Room for their answers is taken first; later nothing stops a run.
     pub fn run(&mut self, events: &[Event]) -> Result<Report, OutOfMemory>
         ensures honesty { AreHonest self.new → AreHonest self.old }
-        ensures trust { IfOk result (λ report. NoRestartFailed events.now report → AllKeepTrust (seats_of self.old) (seats_of self.new)) }
+        ensures trust { AllKeepTrust (seats_of self.old) (seats_of self.new) }
         ensures run { IfOk result (λ report. AreHonest self.new → (w : Written) → StandsFor self.old w →
             (w' : Written) × Goes (length w.nodes) w events.now report w' × StandsFor self.new w') }
         ensures members { node_count self.new ≡ node_count self.old }

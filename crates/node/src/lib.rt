@@ -9,7 +9,7 @@ mod node;
 mod parts;
 mod sched;
 
-pub use laws::catches_up;
+pub use laws::{catches_up, limits};
 pub use node::Node;
 pub use proposer::NodeFault;
 pub use sched::SchedNode;

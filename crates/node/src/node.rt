@@ -144,7 +144,7 @@ pub trait Node: Drop {
     /// Starts over its records.
     fn restart(&mut self) -> Result<(), NodeFault>
         ensures honesty { IsTrue (honest self.new) → IsTrue (honest self.old) }
-        ensures trust { OnOk result (KeepsTrust honest clean self.old self.new) }
+        ensures trust { KeepsTrust honest clean self.old self.new }
         ensures err { OnErr result (rest self.new ≡ rest self.old) }
         ensures kept { KeptByRestart (who self.old) result (who self.new) }
         ensures tells { IfErr result IsStop }

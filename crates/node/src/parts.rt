@@ -447,7 +447,7 @@ impl<R: Records> Parts<R> {
     /// Starts over its records, and reads what it had learned.
     pub(crate) fn start_over(&mut self) -> Result<(), NodeFault>
         ensures honesty { IsTrue (R.is_honest self.new.records) → IsTrue (R.is_honest self.old.records) }
-        ensures trust { OnOk result (KeepsTrust R.is_honest R.is_clean self.old.records self.new.records) }
+        ensures trust { KeepsTrust R.is_honest R.is_clean self.old.records self.new.records }
         ensures err { OnErr result (rest_of self.new ≡ rest_of self.old) }
         ensures kept { KeptByRestart (who_of R.count_of R.is_broken self.old) result (who_of R.count_of R.is_broken self.new) }
         ensures tells { IfErr result IsStop }

@@ -1,5 +1,5 @@
 -- A byte that was ahead is given.
-use Rattle.std.proofs.Common.{◌≡◌, ℕ, ◌<◌, List, [], ◌∷◌, Option, Some, None, length, take, slice_set, sym, subst, arith}
+use Rattle.std.proofs.Common.{◌≡◌, ℕ, ◌<◌, List, [], ◌∷◌, Option, Some, None, length, take, slice_set, refl, sym, subst, arith}
 use Rattle.std.specs.Io.KnownBytes.{Consumes, IsAtEnd, Keeps, prepend_known}
 use Rattle.node_tape.specs.Heard.{IsAhead, bytes_left}
 
@@ -23,3 +23,8 @@ read_gives old next byte ahead rest rest' buf is comes same room = (
   subst (λ (r : Option (List ℕ)). Consumes old (bytes_left None r) (take 1 (slice_set buf 0 byte))) (sym same) (gives_ahead old rest byte buf room (ahead_is old next byte ahead rest is comes)),
   λ wrong. absurd (omega (arith, wrong)),
 )
+
+-- the one byte that a buffer with room begins with then
+pub one_given : (byte : ℕ) (buf : List ℕ) → 0 < length buf → byte ∷ [] ≡ take 1 (slice_set buf 0 byte)
+one_given byte [] room = absurd (omega (arith, room))
+one_given byte (x ∷ buf) room = refl

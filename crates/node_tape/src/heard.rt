@@ -1,8 +1,9 @@
 //! An input whose lines are written into a journal.
 
-ghost use Rattle.std.specs.Prelude.{◌≡◌, None, IfOk, OnErr};
-ghost use Rattle.std.specs.Io.KnownBytes.{Keeps};
-ghost use Rattle.node_tape.specs.Heard.{IsAhead, bytes_left};
+ghost use Rattle.std.specs.Prelude.{◌≡◌, ◌∷◌, [], None, IfOk, OnErr, OnOk, slice_index, take};
+ghost use Rattle.std.specs.Io.{ReadsAtMost};
+ghost use Rattle.std.specs.Io.KnownBytes.{Appends, Keeps, ReadConsumes};
+ghost use Rattle.node_tape.specs.Heard.{IsAhead, bytes_left, bytes_noted};
 
 use std::alloc::Global;
 use std::io;
@@ -29,6 +30,8 @@ impl<R: Read, J: Write> Heard<R, J> {
     pub fn new(alloc: Global, input: R, journal: J) -> Heard<R, J>
         ensures input { result.input ≡ input }
         ensures nothing { result.ahead ≡ None }
+        ensures journal { result.journal ≡ journal }
+        ensures no_line { result.line.items ≡ [] }
     {
         Heard {
             input,
@@ -43,6 +46,8 @@ impl<R: Read, J: Write> Heard<R, J> {
     fn write_line(&mut self) -> io::Result<()>
         ensures input { self.new.input ≡ self.old.input }
         ensures ahead { self.new.ahead ≡ self.old.ahead }
+        ensures written { OnOk result (Appends (J.contents self.old.journal) (J.contents self.new.journal) self.old.line.items) }
+        ensures no_line { OnOk result (self.new.line.items ≡ []) }
     {
         self.journal.write_all(&self.line)?;
         self.line.clear();
@@ -53,6 +58,8 @@ impl<R: Read, J: Write> Heard<R, J> {
     fn next_ahead(&mut self) -> io::Result<Option<u8>>
         ensures ok { IfOk result (λ next. IsAhead (bytes_left self.old.ahead (R.remaining self.old.input)) next self.new.ahead (R.remaining self.new.input)) }
         ensures err { OnErr result (Keeps (bytes_left self.old.ahead (R.remaining self.old.input)) (bytes_left self.new.ahead (R.remaining self.new.input))) }
+        ensures journal { self.new.journal ≡ self.old.journal }
+        ensures line { self.new.line ≡ self.old.line }
     {
         if self.ahead.is_some() {
             return Ok(self.ahead);
@@ -69,6 +76,9 @@ impl<R: Read, J: Write> Heard<R, J> {
     fn note(&mut self, byte: u8) -> io::Result<()>
         ensures input { self.new.input ≡ self.old.input }
         ensures ahead { self.new.ahead ≡ self.old.ahead }
+        ensures noted { OnOk result (Appends (bytes_noted (J.contents self.old.journal) self.old.line.items)
+            (bytes_noted (J.contents self.new.journal) self.new.line.items) (byte ∷ [])) }
+        ensures ended { OnOk result (byte ≡ 10 → self.new.line.items ≡ []) }
     {
         self.line.push(byte)?;
         if byte == b'\n' || self.line.len() >= MOST_WAITING {
@@ -83,6 +93,9 @@ impl<R: Read, J: Write> Heard<R, J> {
     fn note_once(&mut self, byte: u8) -> io::Result<()>
         ensures input { self.new.input ≡ self.old.input }
         ensures ahead { self.new.ahead ≡ self.old.ahead }
+        ensures noted { OnOk result (Appends (bytes_noted (J.contents self.old.journal) self.old.line.items)
+            (bytes_noted (J.contents self.new.journal) self.new.line.items) (byte ∷ [])) }
+        ensures ended { OnOk result (byte ≡ 10 → self.new.line.items ≡ []) }
     {
         if self.has_failed {
             return Err(io::Error::from(ErrorKind::Other));
@@ -100,7 +113,15 @@ impl<R: Read, J: Write> Read for Heard<R, J> {
 
     ghost remaining = { λ heard. bytes_left heard.ahead (R.remaining heard.input) };
 
-    fn read(&mut self, buf: &mut [u8]) -> io::Result<usize> {
+    /// What is noted grows by what is given, and no byte waits behind a line's end.
+    fn read(&mut self, buf: &mut [u8]) -> io::Result<usize>
+        ensures bound { ReadsAtMost result buf.new }
+        ensures bytes { ReadConsumes (bytes_left self.old.ahead (R.remaining self.old.input)) (bytes_left self.new.ahead (R.remaining self.new.input))
+            result buf.new }
+        ensures noted { IfOk result (λ n. Appends (bytes_noted (J.contents self.old.journal) self.old.line.items)
+            (bytes_noted (J.contents self.new.journal) self.new.line.items) (take n buf.new)) }
+        ensures ended { IfOk result (λ n. n ≡ 1 → slice_index buf.new 0 ≡ 10 → self.new.line.items ≡ []) }
+    {
         if buf.is_empty() {
             return Ok(0);
         }

@@ -228,7 +228,7 @@ module _ {N : Type 0} {g : Ghosts N} (old : Seat N g) where
     tells = tells;
     rose = λ loud. absurd (false≢true (sym quiet_answer ∙ loud));
     honesty = λ honest. honest;
-    trust = λ well. record { honest = λ honest. honest; clean = λ clean. clean; sure = λ clean honest. honest };
+    trust = record { honest = λ honest. honest; clean = λ clean. clean; sure = λ clean honest. honest };
     answers = record { may = subst (λ (b : Bool). MayAnswer b ask reply b) (sym is) may; goes_out = none; owes = λ on. owes (sym is ∙ on); rest = same_rest reply (g.rest old.node) };
     moves = λ honest s shown. (quiet s, moves s (subst (λ (b : Bool). Shown b (g.stands old.node) s) is shown), refl, refl, shown);
   }
@@ -260,7 +260,7 @@ module _ {N : Type 0} {g : Ghosts N} (old : Seat N g) where
     tells = (refl, refl);
     rose = λ loud. absurd (false≢true loud);
     honesty = λ honest. honest;
-    trust = λ well. record { honest = λ honest. honest; clean = λ clean. clean; sure = λ clean honest. honest };
+    trust = record { honest = λ honest. honest; clean = λ clean. clean; sure = λ clean honest. honest };
     answers = record { may = subst (λ (b : Bool). MayAnswer b Crash Finished false) (sym up) refl; goes_out = (refl, refl); owes = λ on. tt; rest = tt };
     moves = λ honest s shown.
         let at = runs_at s up shown in
@@ -281,7 +281,7 @@ module _ {N : Type 0} {g : Ghosts N} (old : Seat N g) where
     tells = tells;
     rose = rose;
     honesty = trust.honest;
-    trust = λ well. trust;
+    trust = trust;
     answers = record { may = subst (λ (was : Bool). MayAnswer was ask answer new.up) (sym up) may; goes_out = out; owes = λ on. owes; rest = rest };
     moves = λ honest s shown.
         let at = runs_at s up shown in
@@ -338,7 +338,7 @@ module _ {N : Type 0} {g : Ghosts N} (old : Seat N g) where
       (starts (g.who old.node).members (g.who old.node).id was.0 (g.stands new.node) given one.0 one.1 one.2))
 
   pub restarts : (new : Seat N g) (given : Result (Unit {0}) NodeFault) → old.up ≡ false → new.up ≡ is_ok given
-      → (IsTrue (g.honest new.node) → IsTrue (g.honest old.node)) → OnOk given (KeepsTrust g.honest g.clean old.node new.node) → OnErr given (g.rest new.node ≡ g.rest old.node) → KeptByRestart (g.who old.node) given (g.who new.node) → IfErr given IsStop
+      → (IsTrue (g.honest new.node) → IsTrue (g.honest old.node)) → KeepsTrust g.honest g.clean old.node new.node → OnErr given (g.rest new.node ≡ g.rest old.node) → KeptByRestart (g.who old.node) given (g.who new.node) → IfErr given IsStop
       → (IsTrue (g.honest new.node) → (s : Standing) → g.stands old.node s → (t : Standing) × Restarts s given t × g.stands new.node t)
       → Acts old Restart (told (come_of (λ done. acted.Finished) given)) (letters_of (come_of (λ done. acted.Finished) given)) (outputs_of (come_of (λ done. acted.Finished) given)) new
   restarts new (Ok finished) down turned honesty trust rest kept stop done = record {
@@ -347,7 +347,7 @@ module _ {N : Type 0} {g : Ghosts N} (old : Seat N g) where
     tells = kept.3;
     rose = λ loud. absurd (false≢true loud);
     honesty = honesty;
-    trust = λ well. trust;
+    trust = trust;
     answers = record { may = subst (λ (b : Bool). MayAnswer b Restart Finished new.up) (sym down) turned; goes_out = (refl, refl); owes = λ on. tt; rest = tt };
     moves = rises new (Ok finished) down turned done;
   }
@@ -357,7 +357,7 @@ module _ {N : Type 0} {g : Ghosts N} (old : Seat N g) where
     tells = kept.3;
     rose = restart_rose (g.who old.node) (g.who new.node) failed kept;
     honesty = honesty;
-    trust = λ well. absurd (well failed refl refl);
+    trust = trust;
     answers = record { may = subst (λ (b : Bool). MayAnswer b Restart (Fault failed) new.up) (sym down) (stop, turned); goes_out = (refl, refl); owes = λ on. tt; rest = rest };
     moves = rises new (Err failed) down turned done;
   }

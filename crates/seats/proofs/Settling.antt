@@ -103,7 +103,7 @@ module _ {N : Type 0} {g : Ghosts N} (mid : Seat N g) where
     tells = served answer ask more acts.tells;
     rose = λ loud. absurd (false≢true loud);
     honesty = acts.honesty;
-    trust = λ well. acts.trust (λ fault restart is. absurd (false≢true (sym (ap gives is) ∙ more)));
+    trust = acts.trust;
     answers = record {
       may = may_crash old.up ask answer mid.up more acts.answers.may;
       goes_out = (refl, refl);

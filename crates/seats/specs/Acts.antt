@@ -85,10 +85,6 @@ pub record AnswersAsOwed (members me : ℕ) (was : Outside) (ask : Ask) (answer 
   -- where it failed nothing has changed but its records, and that it is down
   pub rest : KeepsRest answer was.rest is.rest
 
--- it isn't a restart that failed
-abbrev pub IsNoFailedRestart : Ask → Answer → Type 0
-IsNoFailedRestart ask answer = (fault : NodeFault) → ask ≡ Restart → answer ≡ Fault fault → ⊥
-
 -- from s, node me of so many members may answer so, with these letters and outputs, and stand there
 abbrev pub GoesTo : ℕ → ℕ → Standing → Ask → Answer → List Letter → List Numbered → (Standing → Type 0) → Type 0
 GoesTo members me s ask answer letters outputs After =
@@ -106,9 +102,9 @@ pub record Acts {N : Type 0} {g : Ghosts N} (old : Seat N g) (ask : Ask) (answer
   pub grows : (who_of old).failures ≤ (who_of new).failures
   pub tells : TellsStoreOf answer ask (who_of old) (who_of new)
   pub rose : is_store_fault answer ≡ true → HasRisen (who_of old).failures (who_of new).failures
-  -- honesty isn't regained, and is kept over clean stores but by a restart that failed
+  -- honesty isn't regained, and is kept over clean stores
   pub honesty : IsHonest new → IsHonest old
-  pub trust : IsNoFailedRestart ask answer → KeepsTrust g.honest g.clean (node_of old) (node_of new)
+  pub trust : KeepsTrust g.honest g.clean (node_of old) (node_of new)
   -- the answer is one to what was asked, whatever its records did
   pub answers : AnswersAsOwed (who_of old).members (who_of old).id (outside old) ask answer letters outputs (outside new)
   -- and it moved so

@@ -1,14 +1,22 @@
--- How a node over files of its own starts.
-use Rattle.std.specs.Prelude.{◌≡◌, ℕ, Bool, IsTrue, false}
+-- How a node over files of its own starts, and what comes of it.
+use Rattle.std.specs.Prelude.{◌≡◌, ◌⊎◌, ℕ, Bool, IsTrue, Option, Some, None, false}
 use Rattle.acceptor.specs.Content.{Content, no_content}
 use Rattle.node.specs.View.{Standing, started}
 use Rattle.node.specs.View.Standing.{Running}
 use Rattle.node.specs.Calls.{Who}
 
--- a node of this number and so many members is up; if its records are honest, it is as one that starts over some
--- content, which is none if the node is new
-pub record HasStarted {N : Type 0} (who : N → Who) (honest : N → Bool) (stands : N → Standing → Type 0) (count number : ℕ) (is_new : Bool) (node : N) : Type 0 where
+-- a node begins over this content: over none if it is new, and else over one that is found
+abbrev pub BeginsOver : (Content → Type 0) → Bool → Content → Type 0
+BeginsOver found is_new c = (IsTrue is_new → c ≡ no_content) × (is_new ≡ false → found c)
+
+-- a node of this number and so many members is up; if its records are honest, it is as one that starts over such a
+-- content
+pub record HasStarted {N : Type 0} (who : N → Who) (honest : N → Bool) (stands : N → Standing → Type 0) (found : Content → Type 0) (count number : ℕ) (is_new : Bool) (node : N) : Type 0 where
   pub id : (who node).id ≡ number
   pub members : (who node).members ≡ count
   pub up : (who node).down ≡ false
-  pub over : IsTrue (honest node) → (c : Content) × (IsTrue is_new → c ≡ no_content) × stands node (Running (started c))
+  pub over : IsTrue (honest node) → (c : Content) × BeginsOver found is_new c × stands node (Running (started c))
+
+-- the answer is one that may come of a node that isn't honest, or that began over such a content
+abbrev pub ComesOfStart : {A : Type 0} → (Option Content → A → Type 0) → (Content → Type 0) → Bool → A → Type 0
+ComesOfStart comes found is_new answer = comes None answer ⊎ ((c : Content) × BeginsOver found is_new c × comes (Some c) answer)

@@ -69,7 +69,7 @@ pub(crate) fn begun_over<F: OpensRecords>(
     begun_with(alloc, id, members, records)
 }
 
-/// A node that begins so, or goes on where it doesn't begin.
+/// A node that begins so, or goes on where it doesn't begin: then over a content that is in the files.
 pub(crate) fn started_over<F: OpensRecords>(
     alloc: Global,
     files: F,
@@ -78,7 +78,8 @@ pub(crate) fn started_over<F: OpensRecords>(
 ) -> Result<SchedNode<SqlRecords<F::Base>>, StartFault>
     requires { member.0 < member_count member.1 }
     ensures { IfOk result (HasStarted ⟦<SchedNode<SqlRecords<F::Base>> as Node>⟧.who ⟦<SchedNode<SqlRecords<F::Base>> as Node>⟧.honest
-        ⟦<SchedNode<SqlRecords<F::Base>> as Node>⟧.stands (member_count member.1) member.0 (is_some begins)) }
+        ⟦<SchedNode<SqlRecords<F::Base>> as Node>⟧.stands (F.found_for files (record { node = member.0; members = member.1 }) false)
+        (member_count member.1) member.0 (is_some begins)) }
 {
     let (id, members) = member;
     match begins {

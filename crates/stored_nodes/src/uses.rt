@@ -1,9 +1,13 @@
 //! Nodes over files, for whoever needn't know what they keep their records in.
 
-ghost use Rattle.std.specs.Prelude.{◌≡◌, ◌<◌, ℕ, Bool, ⊤, true, is_some, IfOk, length};
+ghost use Rattle.std.specs.Prelude.{◌≡◌, ◌<◌, ℕ, Bool, ⊤, true, false, is_some, IfOk, IsTrue, None, Option, Some, length};
+ghost use Rattle.acceptor.specs.Content.{Content};
 ghost use Rattle.ballots.specs.Members.{member_count};
 ghost use Rattle.seats.specs.Fresh.{AreFresh};
-ghost use Rattle.stored_nodes.specs.Starts.{HasStarted};
+ghost use Rattle.node.specs.View.{started};
+ghost use Rattle.node.specs.View.Standing.{Running};
+ghost use Rattle.stored_nodes.specs.Kept.{IsFoundFor};
+ghost use Rattle.stored_nodes.specs.Starts.{ComesOfStart, HasStarted};
 
 use crate::fault::StoreFault;
 use crate::opens::OpensRecords;
@@ -14,7 +18,7 @@ use crate::stored::{examine_all, nodes_over};
 use acceptor_store::SqlRecords;
 use ballots::{Members, NodeId};
 use node::{Node, SchedNode};
-use sqlite::Files;
+use sqlite::{File, Files};
 use sqlite_disk::Disk;
 use std::alloc::Global;
 use store_anew::OpensAnew;
@@ -38,8 +42,9 @@ pub trait NodeUse: Drop {
     /// What comes of it.
     type Answer;
 
-    // What may come of a node of this number among so many members, which is new or goes on.
-    ghost comes: { Self → ℕ → ℕ → Bool → Self.Answer → Type 0 } = { λ _ _ _ _ _. ⊤ };
+    // What may come of a node of this number among so many members, which is new or goes on, and began over this
+    // content. None is of a node that isn't honest.
+    ghost comes: { Self → ℕ → ℕ → Bool → Option Content → Self.Answer → Type 0 } = { λ _ _ _ _ _ _. ⊤ };
 
     /// Uses a node, which is this member and is new or goes on.
     fn use_node<N: Node + Drop>(
@@ -48,8 +53,10 @@ pub trait NodeUse: Drop {
         member: (NodeId, Members),
         is_new: bool,
     ) -> Self::Answer
-        requires { HasStarted N.who N.honest N.stands (member_count member.1) member.0 is_new node }
-        ensures { comes self member.0 (member_count member.1) is_new result };
+        requires { HasStarted N.who N.honest N.stands (λ _. ⊤) (member_count member.1) member.0 is_new node }
+        ensures lies { (IsTrue (N.honest node) → ⊥) → comes self member.0 (member_count member.1) is_new None result }
+        ensures tells { IsTrue (N.honest node) → (c : Content) → N.stands node (Running (started c))
+            → comes self member.0 (member_count member.1) is_new (Some c) result };
 }
 
 /// The nodes are used, where there are any.
@@ -65,23 +72,6 @@ fn use_nodes<S: OpensAnew, U: NodesUse>(
 {
     match nodes {
         Ok(nodes) => Ok(user.use_nodes(nodes)),
-        Err(fault) => Err(fault),
-    }
-}
-
-/// Likewise a node.
-fn use_node<S: OpensAnew, U: NodeUse>(
-    node: Result<SchedNode<SqlRecords<S>>, StartFault>,
-    member: (NodeId, Members),
-    is_new: bool,
-    user: U,
-) -> Result<U::Answer, StartFault>
-    requires { IfOk node (HasStarted ⟦<SchedNode<SqlRecords<S>> as Node>⟧.who ⟦<SchedNode<SqlRecords<S>> as Node>⟧.honest
-        ⟦<SchedNode<SqlRecords<S>> as Node>⟧.stands (member_count member.1) member.0 is_new) }
-    ensures { IfOk result (U.comes user member.0 (member_count member.1) is_new) }
-{
-    match node {
-        Ok(node) => Ok(user.use_node(node, member, is_new)),
         Err(fault) => Err(fault),
     }
 }
@@ -122,15 +112,19 @@ fn use_started<F: OpensRecords, U: NodeUse>(
     user: U,
 ) -> Result<U::Answer, StartFault>
     requires { member.0 < member_count member.1 }
-    ensures { IfOk result (U.comes user member.0 (member_count member.1) (is_some begins)) }
+    ensures { IfOk result (ComesOfStart (U.comes user member.0 (member_count member.1) (is_some begins))
+        (F.found_for files (record { node = member.0; members = member.1 }) false) (is_some begins)) }
 {
     let (id, members) = member;
     let is_new = begins.is_some();
-    let node = started_over(alloc, files, (id, members), begins);
-    use_node(node, (id, members), is_new, user)
+    match started_over(alloc, files, (id, members), begins) {
+        Ok(node) => Ok(user.use_node(node, (id, members), is_new)),
+        Err(fault) => Err(fault),
+    }
 }
 
-/// Uses the node that begins so over the files, or goes on over them where it doesn't begin.
+/// Uses the node that begins so over the files, or goes on over them where it doesn't begin: over a content that is in
+/// them, one of those that the node might have left there.
 pub(crate) fn use_node_over<D: Disk + Drop, U: NodeUse>(
     alloc: Global,
     files: Files<D>,
@@ -139,7 +133,8 @@ pub(crate) fn use_node_over<D: Disk + Drop, U: NodeUse>(
     user: U,
 ) -> Result<U::Answer, StartFault>
     requires { member.0 < member_count member.1 }
-    ensures { IfOk result (U.comes user member.0 (member_count member.1) (is_some begins)) }
+    ensures { IfOk result (ComesOfStart (U.comes user member.0 (member_count member.1) (is_some begins))
+        (IsFoundFor D.Disk files (record { node = member.0; members = member.1 }) false) (is_some begins)) }
 {
     use_started(alloc, files, member, begins, user)
 }
@@ -152,7 +147,7 @@ fn use_new_node<U: NodeUse>(
     user: U,
 ) -> Result<U::Answer, StartFault>
     requires { member.0 < member_count member.1 }
-    ensures { IfOk result (U.comes user member.0 (member_count member.1) true) }
+    ensures { IfOk result (ComesOfStart (U.comes user member.0 (member_count member.1) true) (λ _. ⊥) true) }
 {
     let made = NewFiles::at(rt, path)?;
     let answer = match made.opened(rt) {
@@ -166,7 +161,8 @@ fn use_new_node<U: NodeUse>(
 }
 
 /// Uses the node of `new_node_of`, or of `node_of` where it isn't new. Where that gives a fault, that is given, and
-/// nothing is used.
+/// nothing is used. A node that goes on does so over a content that is in some files, which are this node's as one of
+/// these members.
 pub fn use_node_at<U: NodeUse>(
     rt: &HostRuntime,
     path: &str,
@@ -175,7 +171,8 @@ pub fn use_node_at<U: NodeUse>(
     user: U,
 ) -> Result<U::Answer, StartFault>
     requires { member.0 < member_count member.1 }
-    ensures { IfOk result (U.comes user member.0 (member_count member.1) is_new) }
+    ensures { IfOk result (ComesOfStart (U.comes user member.0 (member_count member.1) is_new)
+        (λ c. (files : _) × IsFoundFor ⟦<File as Disk>⟧ files (record { node = member.0; members = member.1 }) false c) is_new) }
 {
     if is_new {
         use_new_node(rt, path, member, user)

@@ -1,5 +1,6 @@
-use Rattle.std.proofs.Common.{refl, sym, subst, ◌∙◌, arith}
-use Rattle.acceptor_store.proofs.Words.{IfErr-weaker, IfOk-weaker, HasCleanDisk, state, HasFacts}
+use Rattle.std.proofs.Common.{◌≡◌, inl, inr, refl, sym, subst, ◌∙◌, arith}
+use Rattle.acceptor_store.proofs.Words.{IfErr-weaker, IfOk-weaker, HasCleanDisk, state, HasFacts, Open}
+use Rattle.acceptor_store.specs.declared.OpenFault.TheVariants.{Refused}
 use Rattle.acceptor_store.proofs.Owning.{adopts_owned, adopts_plain, left_adopting, left_owned, left_plain, owned_due, plain_due, store_due_before}
 use Rattle.acceptor_store.proofs.owned.adopted.Goals as goal
 
@@ -34,3 +35,17 @@ pub returns-in-Err-make-clause-whole : goal.returns-in-Err-make-clause-whole
 returns-in-Err-make-clause-whole g c sure db may =
     let mid : HasCleanDisk (state g.S.Store c.in-Ok.found.0) = omega (arith, c.in-Err-make.ensures.trusted, sure) in
     left_adopting g.S.Store c.args.owner.now c.args.conn g.met.S.Store.settled c.in-Ok.found.0 c.in-Ok.found.1 (c.in-Ok.ensures.tables mid) db (c.in-Err-make.ensures.left sure db may)
+
+pub returns-then-has_facts-clause-refused : goal.returns-then-has_facts-clause-refused
+returns-then-has_facts-clause-refused g c = IfErr-weaker c.prepared_for.result _ _ (λ e h refused clean. inr (inl (h refused clean))) c.prepared_for.ensures.refused
+
+pub returns-in-Err-clause-refused : goal.returns-in-Err-clause-refused
+returns-in-Err-clause-refused g c refused clean =
+    let is : c.in-Err.fault ≡ Refused = (let e : Open c.in-Err.fault ≡ Open Refused = refused in cc) in
+    inl (c.in-Err.ensures.refused is clean)
+
+pub returns-in-Err-make-clause-refused : goal.returns-in-Err-make-clause-refused
+returns-in-Err-make-clause-refused g c refused sure =
+    let mid : HasCleanDisk (state g.S.Store c.in-Ok.found.0) = omega (arith, c.in-Err-make.ensures.trusted, sure) in
+    let it = c.in-Ok.ensures.tables mid in
+    inr (inr (λ facts. absurd (let e = c.if-has_facts.ensures.all (subst HasFacts (sym c.schema-2.ensures.value) facts) in cc), (it.0, it.1)))

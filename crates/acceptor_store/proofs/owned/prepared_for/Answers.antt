@@ -1,17 +1,22 @@
 use Rattle.std.proofs.Common.{refl, sym, subst, ◌∙◌, inl, inr, Err, ap}
 use Rattle.acceptor_store.proofs.Words.{IfErr-weaker, IfOk-weaker, no_content, IsBroken, IsUnowned, HasFurtherAs}
+use Rattle.acceptor_store.proofs.Claiming.{claimed_clean, claimed_due, claimed_left, claimed_refused, claimed_tables}
 use Rattle.acceptor_store.proofs.Owning.{prepares_for, schema_due}
 use Rattle.acceptor_store.proofs.owned.prepared_for.Goals as goal
 
 pub returns-in-Ok-judged-clause-tables : goal.returns-in-Ok-judged-clause-tables
 returns-in-Ok-judged-clause-tables g c =
-    IfOk-weaker c.claimed.result _ _ (λ x h clean. prepares_for g.S.Store c.args.owner.now c.args.is_new c.args.conn x.0 x.1 (h clean (sym c.schema-2.ensures.value ∙ c.in-Ok-judged.ensures.own))) c.claimed.ensures.tables
+    IfOk-weaker c.claimed.result _ _ (λ x h clean. prepares_for g.S.Store c.args.owner.now c.args.is_new c.args.conn x.0 x.1 (h clean (sym c.schema-2.ensures.value ∙ c.in-Ok-judged.ensures.own))) (claimed_tables g.S.Store c.args.owner.now c.args.conn c.reread_owned.result c.claimed.result c.claimed.ensures c.reread_owned.ensures.tables)
 
 pub returns-in-Ok-judged-clause-due : goal.returns-in-Ok-judged-clause-due
-returns-in-Ok-judged-clause-due g c = IfErr-weaker c.claimed.result _ _ (λ e h clean. h clean (sym c.schema-2.ensures.value ∙ c.in-Ok-judged.ensures.own) c.args.is_new) c.claimed.ensures.due
+returns-in-Ok-judged-clause-due g c =
+    claimed_due g.S.Store c.args.owner.now c.args.conn c.args.is_new c.reread_owned.result c.claimed.result c.claimed.ensures (sym c.schema-2.ensures.value ∙ c.in-Ok-judged.ensures.own) c.reread_owned.ensures.tables c.reread_owned.ensures.foreign
+
+pub returns-in-Ok-judged-clause-clean : goal.returns-in-Ok-judged-clause-clean
+returns-in-Ok-judged-clause-clean g c = claimed_clean g.S.Store c.args.owner.now c.args.conn c.reread_owned.result c.claimed.result c.claimed.ensures c.reread_owned.ensures.clean
 
 pub returns-in-Ok-judged-clause-whole : goal.returns-in-Ok-judged-clause-whole
-returns-in-Ok-judged-clause-whole g c = IfErr-weaker c.claimed.result _ _ (λ e h clean db may. inl (h clean db may)) c.claimed.ensures.left
+returns-in-Ok-judged-clause-whole g c = IfErr-weaker c.claimed.result _ _ (λ e h clean db may. inl (h clean db may)) (claimed_left g.S.Store c.args.owner.now c.args.conn c.reread_owned.result c.claimed.result c.claimed.ensures c.reread_owned.ensures.leaves c.reread_owned.ensures.left)
 
 pub returns-in-Ok-judged-clause-broken : goal.returns-in-Ok-judged-clause-broken
 returns-in-Ok-judged-clause-broken g c free broken = absurd (let e = c.in-Ok-judged.ensures.broken (subst IsBroken (sym c.schema-2.ensures.value) broken) in cc)
@@ -37,7 +42,7 @@ returns-in-Err-judged-clause-further g c free further =
     c.in-Err-judged.ensures.further it.0 it.1 it.2
 
 pub returns-in-Ok-judged-clause-refused : goal.returns-in-Ok-judged-clause-refused
-returns-in-Ok-judged-clause-refused g c = IfErr-weaker c.claimed.result _ _ (λ e h refused clean. inr (inr (inr (h refused clean)))) c.claimed.ensures.refused
+returns-in-Ok-judged-clause-refused g c = IfErr-weaker c.claimed.result _ _ (λ e h refused clean. inr (inr (inr (h refused clean)))) (claimed_refused g.S.Store c.args.owner.now c.args.conn c.reread_owned.result c.claimed.result c.claimed.ensures c.reread_owned.ensures.refused)
 
 pub returns-in-Err-judged-clause-refused : goal.returns-in-Err-judged-clause-refused
 returns-in-Err-judged-clause-refused g c refused clean =

@@ -5,10 +5,9 @@ use Rattle.stored_nodes.proofs.Started.{new_started, old_started}
 use Rattle.stored_nodes.proofs.owned.started_over.Goals as goal
 
 pub returns-in-Some : goal.returns-in-Some
-returns-in-Some g c = new_started _ _ _ _ _ _ c.begun_over.result c.begun_over.ensures
+returns-in-Some g c = new_started _ _ _ _ _ _ _ c.begun_over.result (ap is_some c.in-Some.is) c.begun_over.ensures
 
 pub returns-in-None : goal.returns-in-None
 returns-in-None g c =
     let had = c.resumed_over.ensures in
-    old_started _ _ _ _ _ _ c.resumed_over.result (ap is_some c.in-None.is) had.id had.members had.up
-    (IfOk-weaker c.resumed_over.result _ _ (λ node goes_on honest. let now = goes_on honest in (now.0, now.2)) had.resumed)
+    old_started _ _ _ _ _ _ _ c.resumed_over.result (ap is_some c.in-None.is) had.id had.members had.up had.resumed

@@ -8,15 +8,15 @@ use Rattle.network_script.proofs.world.World.happen.Goals as goal
 
 pub returns-in-Lead : goal.returns-in-Lead
 returns-in-Lead g c = rw c.in-Lead.is (asked c.args.self.now c.ask.new.self (event.Lead c.in-Lead.k) c.in-Lead.k _ c.ask.result
-    (by_number c.args.self.now (event.Lead c.in-Lead.k) _ _ (λ members w w' answer of. of) (λ o o' answer of. of) refl (λ is. cc)) c.ask.ensures)
+    (by_number c.args.self.now (event.Lead c.in-Lead.k) _ _ (λ members w w' answer of. of) (λ o o' answer of. of) refl) c.ask.ensures)
 
 pub returns-in-Offer : goal.returns-in-Offer
 returns-in-Offer g c = rw (c.in-Offer.is, ← c.as_slice.ensures) (asked c.args.self.now c.ask-in-Offer.new.self (event.Offer c.in-Offer.k c.as_slice.result.now) c.in-Offer.k _ c.ask-in-Offer.result
-    (by_number c.args.self.now (event.Offer c.in-Offer.k c.as_slice.result.now) _ _ (λ members w w' answer of. of) (λ o o' answer of. of) refl (λ is. cc)) c.ask-in-Offer.ensures)
+    (by_number c.args.self.now (event.Offer c.in-Offer.k c.as_slice.result.now) _ _ (λ members w w' answer of. of) (λ o o' answer of. of) refl) c.ask-in-Offer.ensures)
 
 pub returns-in-Tell : goal.returns-in-Tell
 returns-in-Tell g c = rw c.in-Tell.is (asked c.args.self.now c.ask-in-Tell.new.self (event.Tell c.in-Tell.k c.in-Tell.to c.in-Tell.place) c.in-Tell.k _ c.ask-in-Tell.result
-    (by_number c.args.self.now (event.Tell c.in-Tell.k c.in-Tell.to c.in-Tell.place) _ _ (λ members w w' answer of. of) (λ o o' answer of. of) refl (λ is. cc)) c.ask-in-Tell.ensures)
+    (by_number c.args.self.now (event.Tell c.in-Tell.k c.in-Tell.to c.in-Tell.place) _ _ (λ members w w' answer of. of) (λ o o' answer of. of) refl) c.ask-in-Tell.ensures)
 
 pub returns-in-Deliver : goal.returns-in-Deliver
 returns-in-Deliver g c = rw c.in-Deliver.is (delivered c.args.self.now c.deliver.new.self c.in-Deliver.i c.deliver.result c.deliver.ensures)
@@ -26,14 +26,14 @@ returns-in-DeliverThenCrash g c = rw c.in-DeliverThenCrash.is (delivered_last c.
 
 pub returns-in-Crash : goal.returns-in-Crash
 returns-in-Crash g c = rw c.in-Crash.is (asked c.args.self.now c.ask-in-Crash.new.self (event.Crash c.in-Crash.k) c.in-Crash.k _ c.ask-in-Crash.result
-    (by_number c.args.self.now (event.Crash c.in-Crash.k) _ _ (λ members w w' answer of. of) (λ o o' answer of. of) refl (λ is. cc)) c.ask-in-Crash.ensures)
+    (by_number c.args.self.now (event.Crash c.in-Crash.k) _ _ (λ members w w' answer of. of) (λ o o' answer of. of) refl) c.ask-in-Crash.ensures)
 
 pub returns-in-Restart : goal.returns-in-Restart
 returns-in-Restart g c = rw c.in-Restart.is (asked c.args.self.now c.ask-in-Restart.new.self (event.Restart c.in-Restart.k) c.in-Restart.k _ c.ask-in-Restart.result (to_restart c.args.self.now c.in-Restart.k) c.ask-in-Restart.ensures)
 
 pub returns-in-Release : goal.returns-in-Release
 returns-in-Release g c = rw c.in-Release.is (asked c.args.self.now c.ask-in-Release.new.self (event.Release c.in-Release.k c.in-Release.now) c.in-Release.k _ c.ask-in-Release.result
-    (by_number c.args.self.now (event.Release c.in-Release.k c.in-Release.now) _ _ (λ members w w' answer of. of) (λ o o' answer of. of) refl (λ is. cc)) c.ask-in-Release.ensures)
+    (by_number c.args.self.now (event.Release c.in-Release.k c.in-Release.now) _ _ (λ members w w' answer of. of) (λ o o' answer of. of) refl) c.ask-in-Release.ensures)
 
 pub returns-in-Hear : goal.returns-in-Hear
 returns-in-Hear g c = rw c.in-Hear.is (listened c.args.self.now _ (event.Hear c.in-Hear.m c.in-Hear.i c.in-Hear.near) c.hear.result (λ members w w' of. of) (λ o o' of. of) refl refl refl c.hear.ensures.quiet c.hear.ensures.sent

@@ -2,12 +2,11 @@ use Rattle.std.proofs.Common.{◌≡◌, ◌∷◌, [], Some, slice_get, subst, 
 use Rattle.std.proofs.lemmas.List.{take_all}
 use Rattle.network_script.proofs.Joining.{along_on}
 use Rattle.std.proofs.lemmas.Option.{slice_get_read}
-use Rattle.network_script.proofs.Places.{none_before, not_the_last, standings_length, trust_same, trust_then}
+use Rattle.network_script.proofs.Places.{standings_length, trust_same, trust_then}
 use Rattle.network_script.proofs.world.World.run.Goals as goal
 use Rattle.network_script.specs.Counts.{CountNext}
 use Rattle.network_script.specs.Next.{Next, Goes}
 use Rattle.network_script.specs.Outward.{SeenNext}
-use Rattle.network_script.specs.Trust.{NoRestartFailed}
 use Rattle.network_script.specs.World.{Written}
 use Rattle.network_script.specs.Worlds.{written}
 
@@ -16,7 +15,7 @@ loop-event-init g c = record {
   room = search rules;
   count = search rules;
   honesty = λ all. all;
-  trust = λ none. trust_same _;
+  trust = trust_same _;
   members = refl;
   run = λ all nodes modems history each hold. (nodes, modems, history, each, hold, rw c.in_ok-answers.ensures.items refl);
   seen = λ modems hold. (modems, rw c.in_ok-answers.ensures.items refl, hold);
@@ -30,13 +29,7 @@ loop-event-preserved g c =
       room = search rules;
       count = rw ok at c.push.ensures.len ∙ ap (λ n. n + 1) c.loop-event.invariant.count;
       honesty = λ all. c.loop-event.invariant.honesty (c.happen-answer.ensures.honesty all);
-      trust = λ none.
-          let items = rw ok at c.push.ensures.items in
-          let whole = subst (NoRestartFailed c.args.events.now) items none in
-          let here : slice_get c.args.events.now c.loop-event.event-index ≡ Some c.event-item.result = slice_get_read _ _ _ _ refl c.loop-event-test.true c.event-item.is in
-          let size : length c.loop-event.answers.items ≡ c.loop-event.event-index = omega (arith, c.loop-event.answers.ok.0, c.loop-event.invariant.count) in
-          let well = not_the_last c.args.events.now c.loop-event.answers.items c.loop-event.event-index c.event-item.result c.happen-answer.result size here whole in
-          trust_then _ _ _ (c.loop-event.invariant.trust (none_before c.args.events.now c.loop-event.answers.items (c.happen-answer.result ∷ []) whole)) (c.happen-answer.ensures.trust well);
+      trust = trust_then _ _ _ c.loop-event.invariant.trust c.happen-answer.ensures.trust;
       members = c.happen-answer.ensures.members ∙ c.loop-event.invariant.members;
       run = λ all nodes modems history each hold.
           let before = c.loop-event.invariant.run (c.happen-answer.ensures.honesty all) nodes modems history each hold in
@@ -73,4 +66,4 @@ returns-clause-seen g c =
     rw (c.new.ensures, ← whole) c.loop-event.invariant.seen
 
 pub returns-clause-trust : goal.returns-clause-trust
-returns-clause-trust g c = rw c.new.ensures c.loop-event.invariant.trust
+returns-clause-trust g c = c.loop-event.invariant.trust

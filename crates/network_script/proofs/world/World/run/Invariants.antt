@@ -5,7 +5,6 @@ use Rattle.node.specs.View.{Standing}
 use Rattle.seats.specs.Receiver.{Receiver}
 use Rattle.seats.specs.Receiving.{Hold}
 use Rattle.network_script.specs.Seats.{AllHonest, AllKeepTrust, AreStandings}
-use Rattle.network_script.specs.Trust.{NoRestartFailed}
 use Rattle.network_script.specs.Next.{Goes}
 use Rattle.network_script.specs.Worlds.{written}
 use Rattle.network_script.specs.Outward.{SeenAll}
@@ -17,7 +16,7 @@ invariant-loop-event g l = record {
   room : length l.events ≤ vec_capacity l.answers;
   count : vec_len l.answers ≡ l.event-index;
   honesty : AllHonest l.self.seats.items → AllHonest l.fn.self.seats.items;
-  trust : NoRestartFailed l.events l.answers.items → AllKeepTrust l.fn.self.seats.items l.self.seats.items;
+  trust : AllKeepTrust l.fn.self.seats.items l.self.seats.items;
   members : length l.self.seats.items ≡ length l.fn.self.seats.items;
   run : AllHonest l.self.seats.items → (nodes : List Standing) (modems : List Receiver) (history : List Entry) → AreStandings l.fn.self.seats.items nodes → Hold l.fn.self.receivers modems
       → (nodes' : List Standing) × (modems' : List Receiver) × (history' : List Entry) × AreStandings l.self.seats.items nodes' × Hold l.self.receivers modems'
