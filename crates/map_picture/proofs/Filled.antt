@@ -3,7 +3,7 @@ use Rattle.std.proofs.Common.{◌≡◌, ℕ, ◌+◌, ◌*◌, ◌/◌, ◌<◌
 use Rattle.std.proofs.lemmas.Nat.{le-div}
 use Rattle.std.proofs.Math.Nat.{div-mul-le_self, mul-div_cancel_left, zero-div, max-eq_left}
 use Rattle.map_body.specs.declared.interval.Interval.{Interval}
-use Rattle.map_text.specs.Cover.{follow}
+use Rattle.plan_account.specs.Cover.{follow}
 use Rattle.map_picture.specs.Cells.{cell_x, widths, CellsFill}
 
 -- of numbers that don't fall

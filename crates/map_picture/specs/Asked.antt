@@ -1,11 +1,12 @@
 -- The row of a request: when it was sent, when it was told to wait, what became of it.
-use Rattle.std.specs.Prelude.{ℕ, ◌+◌, ◌-◌, ◌^◌, min, List, [], ◌++◌, codes, decimal, Option, Some, None}
-use Rattle.map_text.specs.declared.fates.Ended.{Ended}
-use Rattle.map_text.specs.declared.fates.Fate.{Fate}
-use Rattle.map_text.specs.declared.fates.Fate.TheVariants as fates
-use Rattle.map_text.specs.declared.fates.Request.{Request}
-use Rattle.map_text.specs.declared.fates.Told.{Told}
-use Rattle.map_text.specs.Texts.{why_text}
+use Rattle.std.specs.Prelude.{ℕ, ◌+◌, ◌-◌, ◌%◌, ◌^◌, min, List, [], ◌++◌, codes, decimal, Option, Some, None}
+use Rattle.plan_account.specs.declared.past.Fate.{Fate}
+use Rattle.plan_account.specs.declared.past.Fate.TheVariants.{Waits, Gone, Granted}
+use Rattle.plan_account.specs.declared.past.RequestRow.{RequestRow}
+use Rattle.plan_account.specs.declared.past.Told.{Told}
+use Rattle.plan_account.specs.declared.why.Why.{Why}
+use Rattle.plan_account.specs.Accounts.{why_last}
+use Rattle.plan_account.specs.WhyTexts.{why_words}
 use Rattle.xml_text.specs.Xml.{Xml, join, said, shape, titled}
 use Rattle.xml_text.specs.Xml.Tag.{Circle, Line, Rectangle, Words}
 use Rattle.xml_text.specs.Xml.Xml.{Nothing}
@@ -18,63 +19,64 @@ abbrev pub last_told : ℕ → Option Told → ℕ
 last_told sent (Some told) = told.start
 last_told sent None = sent
 
-abbrev pub stop : Axis → ℕ → Ended → ℕ
-stop axis sent ended =
-    elim ended.fate [
-      | fates.Waits ↦ axis.to
-      | fates.Dropped ↦ last_told sent ended.told
-      | fates.Granted map start ↦ start
-    ]
+abbrev pub stop_at : Axis → ℕ → Option Told → Fate → ℕ
+stop_at axis sent told (Waits why) = axis.to
+stop_at axis sent told Gone = last_told sent told
+stop_at axis sent told (Granted map start) = start
 
-abbrev pub asked_name : (y : ℕ) → Request → Xml
-asked_name y r = said (Words 98 (y + 11) (codes "s e")) (codes "sid " ++ (decimal r.sid ++ (codes " asks " ++ decimal r.n)))
+abbrev pub stop : Axis → RequestRow → ℕ
+stop axis r = stop_at axis r.sent r.told r.fate
 
-abbrev pub asked_line : Axis → (y sent stop : ℕ) → Xml
-asked_line axis y sent stop = shape (Line (at axis sent) (y + 7) (at axis stop) (y + 7) (codes "ask"))
+abbrev pub asked_name : (y : ℕ) → RequestRow → Xml
+asked_name y r = said (Words 98 (y + 11) (codes "s e")) (codes "sid " ++ (decimal (r.key % 2 ^ 16) ++ (codes " asks " ++ decimal r.n)))
+
+abbrev pub asked_line : Axis → (y : ℕ) → RequestRow → Xml
+asked_line axis y r = shape (Line (at axis r.sent) (y + 7) (at axis (stop axis r)) (y + 7) (codes "ask"))
 
 -- a dot where it was sent, by the command of this number
-abbrev pub sent_title : (command sent : ℕ) → List ℕ
-sent_title command sent = codes "command " ++ (decimal command ++ (codes ": sent at " ++ decimal sent))
+abbrev pub sent_title : RequestRow → List ℕ
+sent_title r = codes "command " ++ (decimal r.command ++ (codes ": sent at " ++ decimal r.sent))
 
-abbrev pub sent_mark : Axis → (y command sent : ℕ) → Xml
-sent_mark axis y command sent = titled (sent_title command sent) (shape (Circle (at axis sent) (y + 7) 4 (codes "sent")))
+abbrev pub sent_mark : Axis → (y : ℕ) → RequestRow → Xml
+sent_mark axis y r = titled (sent_title r) (shape (Circle (at axis r.sent) (y + 7) 4 (codes "sent")))
 
--- a ring where it was told to wait last, and why
-abbrev pub told_title : Told → List ℕ
-told_title told = codes "told to wait at " ++ (decimal told.start ++ (codes ", " ++ why_text told.why))
+-- a ring where it was told to wait last, and why it waited
+abbrev pub told_title : ℕ → Option Why → List ℕ
+told_title start (Some why) = codes "told to wait at " ++ (decimal start ++ (codes ", " ++ why_words why))
+told_title start None = codes "told to wait at " ++ decimal start
 
-abbrev pub told_mark : Axis → ℕ → Option Told → Xml
-told_mark axis y (Some told) =
-    titled (told_title told) (shape (Circle (at axis told.start) (y + 7) 4 (codes "ring")))
-told_mark axis y None = Nothing
+abbrev pub told_mark : Axis → ℕ → Option Told → Option Why → Xml
+told_mark axis y (Some told) why = titled (told_title told.start why) (shape (Circle (at axis told.start) (y + 7) 4 (codes "ring")))
+told_mark axis y None why = Nothing
 
 -- a block where it is granted, in its SID's colour; else a red bar
-abbrev pub end_mark : Axis → ℕ → Request → Ended → Xml
-end_mark axis y r ended =
-    elim ended.fate [
-      | fates.Waits ↦ shape (Rectangle (at axis (stop axis r.sent ended)) y 3 14 0 (codes "bad"))
-      | fates.Dropped ↦ shape (Rectangle (at axis (stop axis r.sent ended)) y 3 14 0 (codes "bad"))
-      | fates.Granted map start ↦ shape (Rectangle (at axis start) y (wide axis start (min (start + r.n) (2 ^ 64 - 1))) 14 0 (class_of r.sid))
-    ]
+abbrev pub bar : Axis → ℕ → RequestRow → Xml
+bar axis y r = shape (Rectangle (at axis (stop axis r)) y 3 14 0 (codes "bad"))
 
--- what became of it, and why it waited last
+abbrev pub end_mark : Axis → ℕ → RequestRow → Fate → Xml
+end_mark axis y r (Waits why) = bar axis y r
+end_mark axis y r Gone = bar axis y r
+end_mark axis y r (Granted map start) =
+    shape (Rectangle (at axis start) y (wide axis start (min (start + r.n) (2 ^ 64 - 1))) 14 0 (class_of (r.key % 2 ^ 16)))
+
+-- what became of it, and why it waits, or waited last
 abbrev pub end_words : ℕ → Fate → List ℕ
-end_words sent fates.Waits = codes "still waits"
-end_words sent fates.Dropped = codes "dropped"
-end_words sent (fates.Granted map start) = codes "after " ++ decimal (start - sent)
+end_words sent (Waits why) = codes "still waits"
+end_words sent Gone = codes "dropped"
+end_words sent (Granted map start) = codes "after " ++ decimal (start - sent)
 
-abbrev pub wait_words : Option Told → List ℕ
-wait_words (Some told) = codes ": " ++ why_text told.why
+abbrev pub wait_words : Option Why → List ℕ
+wait_words (Some why) = codes ": " ++ why_words why
 wait_words None = []
 
-abbrev pub ended_words : ℕ → Ended → List ℕ
-ended_words sent ended = end_words sent ended.fate ++ wait_words ended.told
+abbrev pub ended_words : RequestRow → List ℕ
+ended_words r = end_words r.sent r.fate ++ wait_words (why_last r.told r.fate)
 
-abbrev pub ended_at : ℕ → ℕ → Ended → Xml
-ended_at y sent ended = said (Words 880 (y + 11) (codes "s mute")) (ended_words sent ended)
+abbrev pub ended_at : ℕ → RequestRow → Xml
+ended_at y r = said (Words 880 (y + 11) (codes "s mute")) (ended_words r)
 
 -- the row
-abbrev pub asked : Axis → (y command : ℕ) → Request → Ended → Xml
-asked axis y command r ended =
-    join (join (join (join (join (asked_name y r) (asked_line axis y r.sent (stop axis r.sent ended))) (sent_mark axis y command r.sent))
-    (told_mark axis y ended.told)) (end_mark axis y r ended)) (ended_at y r.sent ended)
+abbrev pub asked : Axis → (y : ℕ) → RequestRow → Xml
+asked axis y r =
+    join (join (join (join (join (asked_name y r) (asked_line axis y r)) (sent_mark axis y r))
+    (told_mark axis y r.told (why_last r.told r.fate))) (end_mark axis y r r.fate)) (ended_at y r)

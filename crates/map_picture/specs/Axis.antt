@@ -1,7 +1,7 @@
 -- The axis of time of a channel.
 use Rattle.std.specs.Prelude.{ℕ, ◌+◌, ◌-◌, ◌*◌, ◌/◌, ◌^◌, ◌==◌, nat_lt, if◌then◌else◌, min, max, List, [], ◌∷◌}
-use Rattle.map_text.specs.declared.deed.Deed.{Deed}
-use Rattle.map_text.specs.declared.deed.Deed.TheVariants as deeds
+use Rattle.plan_account.specs.declared.deed.Deed.{Deed}
+use Rattle.plan_account.specs.declared.deed.Deed.TheVariants as deeds
 use Rattle.map_picture.specs.declared.axis.Axis.{Axis}
 
 -- a part of a span of time: where the span is long, in units of 2 ^ 20 minislots

@@ -3,7 +3,7 @@ use Rattle.std.specs.Prelude.{◌≡◌, ℕ, ◌+◌, ◌-◌, ◌*◌, ◌/◌
 use Rattle.map_body.specs.declared.interval.Interval.{Interval}
 use Rattle.map_body.specs.Iucs.{request}
 use Rattle.map_body.specs.Sids.{everybody}
-use Rattle.map_text.specs.Cover.{follow}
+use Rattle.plan_account.specs.Cover.{follow}
 use Rattle.xml_text.specs.Xml.{Xml, join, said, shape, titled}
 use Rattle.xml_text.specs.Xml.Tag.{Rectangle, Words}
 use Rattle.xml_text.specs.Xml.Xml.{Nothing}

@@ -1,22 +1,22 @@
--- The picture of the MAPs of commands, and of what modems transmitted in them.
-use Rattle.std.specs.Prelude.{◌≡◌, ℕ, ◌+◌, ◌*◌, List, [], ◌∷◌, ◌++◌, codes, decimal, drop, length, slice_get, Option, Some, None}
+-- The picture of the account of a plan, and of what modems transmitted in its MAPs.
+use Rattle.std.specs.Prelude.{◌≡◌, ℕ, ◌+◌, ◌*◌, ◌^◌, ◌<◌, List, [], ◌∷◌, ◌++◌, codes, decimal, length, slice_get, Option, Some, None}
 use Rattle.std.specs.List.Sorted.{IsPermutation}
-use Rattle.map_body.specs.Body.{Body}
-use Rattle.map_body.specs.Intervals.{intervals}
-use Rattle.map_text.specs.declared.deed.Deed.{Deed}
-use Rattle.map_text.specs.declared.deed.Deed.TheVariants as deeds
-use Rattle.map_text.specs.Fates.{fate_of}
-use Rattle.map_text.specs.Texts.{channels_of}
+use Rattle.plan_account.specs.declared.deed.Deed.{Deed}
+use Rattle.plan_account.specs.declared.deed.Deed.TheVariants as deeds
+use Rattle.plan_account.specs.declared.past.LeaseRow.{LeaseRow}
+use Rattle.plan_account.specs.declared.past.RequestRow.{RequestRow}
+use Rattle.plan_account.specs.Accounts.{Rows}
+use Rattle.plan_account.specs.Deeds.{channels_of}
+use Rattle.plan_account.specs.Shown.{Shown}
 use Rattle.xml_text.specs.Xml.{Drawn, Xml, drawing, join, render, said, shape, titled}
 use Rattle.xml_text.specs.Xml.Tag.{Rectangle, Words}
 use Rattle.xml_text.specs.Xml.Xml.{Nothing}
 use Rattle.xml_text.specs.Each.{each}
+use Rattle.map_picture.specs.declared.axis.Axis.{Axis}
 use Rattle.map_picture.specs.declared.axis.Page.{Page}
-use Rattle.map_picture.specs.declared.picked.Section.{Section}
-use Rattle.map_picture.specs.declared.picked.Section.TheVariants.{Owners, Requests, Maps}
 use Rattle.map_picture.specs.declared.sent.Sent.{Sent}
 use Rattle.map_picture.specs.Axis.{at, axis_of, wide}
-use Rattle.map_picture.specs.Picked.{picked}
+use Rattle.map_picture.specs.Picked.{leases_on, maps_on, requests_on}
 use Rattle.map_picture.specs.Cells.{cells}
 use Rattle.map_picture.specs.Owners.{owner}
 use Rattle.map_picture.specs.Asked.{asked}
@@ -36,35 +36,53 @@ strip_text i start len = codes "command " ++ (decimal (i + 1) ++ (codes ": " ++ 
 abbrev pub strip_words : (y i start len : ℕ) → Xml
 strip_words y i start len = said (Words 880 (y + 11) (codes "s mute")) (strip_text i start len)
 
-abbrev pub strip : List Sent → (y k i ch start len : ℕ) → Body → Xml
+abbrev pub strip : List Sent → (y k i ch start len : ℕ) → Shown → Xml
 strip ts y k i ch start len map =
-    join (join (join (strip_name y k) (cells len y (intervals map.elements))) (wedges ts ch start len y)) (strip_words y i start len)
+    join (join (join (strip_name y k) (cells len y map.intervals)) (wedges ts ch start len y)) (strip_words y i start len)
 
--- the row of deed i, the k-th of its section
-abbrev pub row : Page → List Deed → List Sent → (y k i : ℕ) → Deed → Xml
-row p ds ts y k i (deeds.Flow c sid modem first last kind) = owner p ds y sid modem kind
-row p ds ts y k i (deeds.Request c sid n sent) =
-    asked p.axis y (i + 1) (record { ch = c; sid = sid; n = n; sent = sent })
-    (fate_of (record { ch = c; sid = sid; n = n; sent = sent }) 0 (drop (i + 1) ds))
-row p ds ts y k i (deeds.Map c start len map) = strip ts y k i c start len map
-row p ds ts y k i (deeds.Channel c) = Nothing
-row p ds ts y k i (deeds.Drop c sid) = Nothing
-row p ds ts y k i deeds.Other = Nothing
+-- the strip of deed i, which is MAP k
+abbrev pub strip_of : List Sent → (y k i : ℕ) → Deed → Xml
+strip_of ts y k i (deeds.Map c start len map) = strip ts y k i c start len map
+strip_of ts y k i (deeds.Channel c) = Nothing
+strip_of ts y k i (deeds.Flow c sid modem first last kind) = Nothing
+strip_of ts y k i (deeds.Drop c sid) = Nothing
+strip_of ts y k i (deeds.Request c sid n sent) = Nothing
+strip_of ts y k i deeds.Other = Nothing
 
-abbrev pub row_for : Page → List Deed → List Sent → (y k i : ℕ) → Option Deed → Xml
-row_for p ds ts y k i (Some d) = row p ds ts y k i d
-row_for p ds ts y k i None = Nothing
+abbrev pub strip_with : List Sent → (y k i : ℕ) → Option Deed → Xml
+strip_with ts y k i (Some d) = strip_of ts y k i d
+strip_with ts y k i None = Nothing
 
-abbrev pub row_of : Page → List Deed → List Sent → (y k : ℕ) → Option ℕ → Xml
-row_of p ds ts y k (Some i) = row_for p ds ts y k i (slice_get ds i)
-row_of p ds ts y k None = Nothing
+abbrev pub strip_for : List Deed → List Sent → (y k : ℕ) → Option ℕ → Xml
+strip_for ds ts y k (Some i) = strip_with ts y k i (slice_get ds i)
+strip_for ds ts y k None = Nothing
 
-abbrev pub row_at : Page → List Deed → List Sent → ℕ → List ℕ → ℕ → Xml
-row_at p ds ts top rows k = row_of p ds ts (top + 22 * k) k (slice_get rows k)
+-- sections: a row a lease, a row a request, and a row a MAP, each 22 high
+abbrev pub owner_for : Page → List Deed → (y : ℕ) → Option LeaseRow → Xml
+owner_for p ds y (Some l) = owner p ds y l
+owner_for p ds y None = Nothing
 
--- a section: a row each, 22 high
-abbrev pub section : Page → List Deed → List Sent → ℕ → List ℕ → Xml
-section p ds ts top rows = each (length rows) (row_at p ds ts top rows)
+abbrev pub owner_at : Page → List Deed → ℕ → List LeaseRow → ℕ → Xml
+owner_at p ds top rows k = owner_for p ds (top + 22 * k) (slice_get rows k)
+
+abbrev pub owners : Page → List Deed → ℕ → List LeaseRow → Xml
+owners p ds top rows = each (length rows) (owner_at p ds top rows)
+
+abbrev pub request_for : Axis → (y : ℕ) → Option RequestRow → Xml
+request_for axis y (Some r) = asked axis y r
+request_for axis y None = Nothing
+
+abbrev pub request_at : Axis → ℕ → List RequestRow → ℕ → Xml
+request_at axis top rows k = request_for axis (top + 22 * k) (slice_get rows k)
+
+abbrev pub requests : Axis → ℕ → List RequestRow → Xml
+requests axis top rows = each (length rows) (request_at axis top rows)
+
+abbrev pub strip_at : List Deed → List Sent → ℕ → List ℕ → ℕ → Xml
+strip_at ds ts top rows k = strip_for ds ts (top + 22 * k) k (slice_get rows k)
+
+abbrev pub strips : List Deed → List Sent → ℕ → List ℕ → Xml
+strips ds ts top rows = each (length rows) (strip_at ds ts top rows)
 
 -- the frame of MAP k on the axis of time, down to the last request
 abbrev pub frame_title : ℕ → List ℕ
@@ -93,53 +111,56 @@ frame_at p ds y height rows k = frame_of p ds y height k (slice_get rows k)
 abbrev pub frames : Page → List Deed → (y height : ℕ) → List ℕ → Xml
 frames p ds y height rows = each (length rows) (frame_at p ds y height rows)
 
--- how high the rows of a section are
-abbrev pub rows_height : Section → ℕ → List Deed → ℕ
-rows_height s ch ds = 22 * length (picked s ch ds)
-
 abbrev pub heading : (ch y : ℕ) → Xml
 heading ch y = said (Words 16 (y + 16) (codes "h")) (codes "channel " ++ decimal ch)
 
--- a channel from y down: frames of its MAPs round a row an owner and a row a request, and then a row a MAP
-abbrev pub channel_rows : Page → List Deed → List Sent → (y : ℕ) → (owners requests maps : List ℕ) → Xml
-channel_rows p ds ts y owners requests maps =
-    join (join (join (join (heading p.ch y) (frames p ds (y + 26) (22 * length owners + 22 * length requests + 2) maps))
-    (section p ds ts (y + 30) owners)) (section p ds ts (y + 30 + 22 * length owners) requests))
-    (section p ds ts (y + 44 + 22 * length owners + 22 * length requests) maps)
+-- a channel from y down: frames of its MAPs round a row a lease and a row a request, and then a row a MAP
+abbrev pub channel_rows : Page → List Deed → List Sent → (y : ℕ) → List LeaseRow → List RequestRow → (maps : List ℕ) → Xml
+channel_rows p ds ts y ls rs maps =
+    join (join (join (join (heading p.ch y) (frames p ds (y + 26) (22 * length ls + 22 * length rs + 2) maps))
+    (owners p ds (y + 30) ls)) (requests p.axis (y + 30 + 22 * length ls) rs))
+    (strips ds ts (y + 44 + 22 * length ls + 22 * length rs) maps)
 
-abbrev pub channel : List Deed → List Sent → (ch y : ℕ) → Xml
-channel ds ts ch y = channel_rows (record { ch = ch; axis = axis_of ds ch }) ds ts y (picked Owners ch ds) (picked Requests ch ds) (picked Maps ch ds)
+abbrev pub channel : Rows → List Sent → (ch y : ℕ) → Xml
+channel a ts ch y =
+    channel_rows (record { ch = ch; axis = axis_of a.deeds ch }) a.deeds ts y (leases_on ch a.leases) (requests_on ch a.requests) (maps_on ch a.deeds)
 
 -- how high it is
-abbrev pub channel_height : List Deed → ℕ → ℕ
-channel_height ds ch = 64 + rows_height Owners ch ds + rows_height Requests ch ds + rows_height Maps ch ds
+abbrev pub channel_height : Rows → ℕ → ℕ
+channel_height a ch = 64 + 22 * length (leases_on ch a.leases) + 22 * length (requests_on ch a.requests) + 22 * length (maps_on ch a.deeds)
 
 -- where channels begin, the first at y, and where the last one ends
-abbrev pub tops_from : List Deed → ℕ → List ℕ → List ℕ
-tops_from ds y [] = y ∷ []
-tops_from ds y (ch ∷ channels) = y ∷ tops_from ds (y + channel_height ds ch) channels
+abbrev pub tops_from : Rows → ℕ → List ℕ → List ℕ
+tops_from a y [] = y ∷ []
+tops_from a y (ch ∷ channels) = y ∷ tops_from a (y + channel_height a ch) channels
 
-abbrev pub channel_for : List Deed → List Sent → Option ℕ → Option ℕ → Xml
-channel_for ds ts (Some ch) (Some y) = channel ds ts ch y
-channel_for ds ts ch y = Nothing
+abbrev pub channel_for : Rows → List Sent → Option ℕ → Option ℕ → Xml
+channel_for a ts (Some ch) (Some y) = channel a ts ch y
+channel_for a ts ch y = Nothing
 
-abbrev pub channel_at : List Deed → List Sent → (channels tops : List ℕ) → ℕ → Xml
-channel_at ds ts channels tops k = channel_for ds ts (slice_get channels k) (slice_get tops k)
+abbrev pub channel_at : Rows → List Sent → (channels tops : List ℕ) → ℕ → Xml
+channel_at a ts channels tops k = channel_for a ts (slice_get channels k) (slice_get tops k)
 
 -- the channels that deeds set, one below the other
 abbrev pub first_top : ℕ
 first_top = 56
 
-abbrev pub channels_drawn : List Deed → List Sent → Xml
-channels_drawn ds ts = each (length (channels_of ds)) (channel_at ds ts (channels_of ds) (tops_from ds first_top (channels_of ds)))
+abbrev pub channels_drawn : Rows → List Sent → Xml
+channels_drawn a ts = each (length (channels_of a.deeds)) (channel_at a ts (channels_of a.deeds) (tops_from a first_top (channels_of a.deeds)))
 
 -- the layers: channels below a legend
-abbrev pub layers : List Deed → List Sent → (legend : Xml) → Drawn
-layers ds ts legend = record { rules = Nothing; bands = channels_drawn ds ts; arrows = Nothing; marks = Nothing; labels = legend }
+abbrev pub layers : Rows → List Sent → (legend : Xml) → Drawn
+layers a ts legend = record { rules = Nothing; bands = channels_drawn a ts; arrows = Nothing; marks = Nothing; labels = legend }
 
--- a text is a picture of deeds and of what modems transmitted, in whatever order: in some size, with some title, style,
--- definitions and legend
-pub record IsPictureOf (ds : List Deed) (ts : List Sent) (text : List ℕ) : Type 0 where
+-- there are so few rows that a picture fits into memory
+pub record IsDrawable (a : Rows) : Type 0 where
+  pub deeds : length a.deeds < 2 ^ 26
+  pub requests : length a.requests < 2 ^ 26
+  pub leases : length a.leases < 2 ^ 26
+
+-- a text is a picture of an account and of what modems transmitted, in whatever order: in some size, with some title,
+-- style, definitions and legend
+pub record IsPictureOf (a : Rows) (ts : List Sent) (text : List ℕ) : Type 0 where
   pub drawn : List Sent
   pub same : IsPermutation ts drawn
   pub width : ℕ
@@ -148,4 +169,4 @@ pub record IsPictureOf (ds : List Deed) (ts : List Sent) (text : List ℕ) : Typ
   pub style : List ℕ
   pub definitions : Xml
   pub legend : Xml
-  pub rendered : text ≡ render (drawing width height title style definitions (layers ds drawn legend))
+  pub rendered : text ≡ render (drawing width height title style definitions (layers a drawn legend))

@@ -3,7 +3,7 @@ use Rattle.std.specs.Prelude.{ℕ, ◌+◌, ◌-◌, ◌*◌, ◌/◌, ◌<◌, 
 use Rattle.std.specs.List.{AllWithin, list_any}
 use Rattle.std.specs.List.Sorted.{IsNonDecreasingBy}
 use Rattle.modem.specs.declared.types.Sending.{Sending}
-use Rattle.modem.specs.declared.types.Sending.TheVariants.{Unicast, Polled, Request}
+use Rattle.modem.specs.declared.types.Sending.TheVariants.{Unicast, Polled, Request, Ranging}
 use Rattle.xml_text.specs.Xml.{Xml, shape, titled}
 use Rattle.xml_text.specs.Xml.Tag.{Path}
 use Rattle.xml_text.specs.Xml.Xml.{Nothing}
@@ -43,6 +43,7 @@ abbrev pub sending_words : Sending → List ℕ
 sending_words (Unicast sid) = codes "sid " ++ (decimal sid ++ codes " sends")
 sending_words (Polled sid n) = codes "sid " ++ (decimal sid ++ (codes " is polled, asks for " ++ decimal n))
 sending_words (Request sid n) = codes "sid " ++ (decimal sid ++ (codes " asks for " ++ decimal n))
+sending_words (Ranging sid) = codes "sid " ++ (decimal sid ++ codes " sends")
 
 abbrev pub clash_words : Bool → List ℕ
 clash_words clash = if clash then codes ", a collision" else []

@@ -2,12 +2,12 @@
 
 ghost use Rattle.std.specs.Prelude.{◌≡◌, ◌++◌, ◌<◌, ◌^◌, IfOk, OnOk, string_bytes};
 ghost use Rattle.xml_text.specs.Xml.{render};
-ghost use Rattle.map_picture.specs.Asked.{asked, asked_line, asked_name, end_mark, end_words, ended_at, ended_words, last_told, sent_mark, sent_title, stop, told_mark, told_title, wait_words};
+ghost use Rattle.map_picture.specs.Asked.{asked, asked_line, asked_name, bar, end_mark, end_words, ended_at, ended_words, last_told, sent_mark, sent_title, stop, told_mark, told_title, wait_words};
 
 use crate::axis::{Axis, at, wide};
 use crate::shapes::class_of;
-use crate::words::why_text;
-use map_text::{Ended, Fate, Request, Told};
+use crate::words::sid_of;
+use plan_account::{Fate, RequestRow, Told, Why, why_last, why_words};
 use std::alloc::{AllocError, Global};
 use xml_text::{add_line, add_rectangle, add_titled_circle, add_words};
 
@@ -21,12 +21,12 @@ fn last_told(sent: u64, told: Option<Told>) -> u64
 }
 
 /// Up to when a request is drawn.
-fn stop(axis: Axis, sent: u64, ended: Ended) -> u64
-    ensures { result ≡ stop axis sent ended }
+fn stop(axis: Axis, row: &RequestRow) -> u64
+    ensures { result ≡ stop axis row.now }
 {
-    match ended.fate {
-        Fate::Waits => axis.to,
-        Fate::Dropped => last_told(sent, ended.told),
+    match row.fate {
+        Fate::Waits(_) => axis.to,
+        Fate::Gone => last_told(row.sent, row.told),
         Fate::Granted { start, .. } => start,
     }
 }
@@ -35,12 +35,13 @@ fn add_asked_name(
     alloc: Global,
     out: &mut String,
     y: u64,
-    request: &Request,
+    row: &RequestRow,
 ) -> Result<(), AllocError>
     requires { y < 2 ^ 62 }
-    ensures { OnOk result (string_bytes out.new ≡ string_bytes out.old ++ render (asked_name y request.now)) }
+    ensures { OnOk result (string_bytes out.new ≡ string_bytes out.old ++ render (asked_name y row.now)) }
 {
-    let Request { sid, n, .. } = *request;
+    let RequestRow { key, n, .. } = *row;
+    let sid = key % (1 << 16);
     let words = format!(in alloc; "sid {sid} asks {n}")?;
     add_words(alloc, out, (98, y + 11), "s e", words.as_str())
 }
@@ -50,19 +51,22 @@ fn add_asked_line(
     out: &mut String,
     axis: Axis,
     y: u64,
-    sent: u64,
-    stop: u64,
+    row: &RequestRow,
 ) -> Result<(), AllocError>
     requires { y < 2 ^ 62 }
-    ensures { OnOk result (string_bytes out.new ≡ string_bytes out.old ++ render (asked_line axis y sent stop)) }
+    ensures { OnOk result (string_bytes out.new ≡ string_bytes out.old ++ render (asked_line axis y row.now)) }
 {
-    let (from, to) = ((at(axis, sent), y + 7), (at(axis, stop), y + 7));
+    let (from, to) = (
+        (at(axis, row.sent), y + 7),
+        (at(axis, stop(axis, row)), y + 7),
+    );
     add_line(alloc, out, from, to, "ask")
 }
 
-fn sent_title(alloc: Global, command: usize, sent: u64) -> Result<String, AllocError>
-    ensures { IfOk result (λ text. string_bytes text ≡ sent_title command sent) }
+fn sent_title(alloc: Global, row: &RequestRow) -> Result<String, AllocError>
+    ensures { IfOk result (λ text. string_bytes text ≡ sent_title row.now) }
 {
+    let RequestRow { command, sent, .. } = *row;
     format!(in alloc; "command {command}: sent at {sent}")
 }
 
@@ -72,42 +76,59 @@ fn add_sent_mark(
     out: &mut String,
     axis: Axis,
     y: u64,
-    command: usize,
-    sent: u64,
+    row: &RequestRow,
 ) -> Result<(), AllocError>
     requires { y < 2 ^ 62 }
-    ensures { OnOk result (string_bytes out.new ≡ string_bytes out.old ++ render (sent_mark axis y command sent)) }
+    ensures { OnOk result (string_bytes out.new ≡ string_bytes out.old ++ render (sent_mark axis y row.now)) }
 {
-    let title = sent_title(alloc, command, sent)?;
-    let middle = (at(axis, sent), y + 7);
+    let title = sent_title(alloc, row)?;
+    let middle = (at(axis, row.sent), y + 7);
     add_titled_circle(alloc, out, title.as_str(), middle, 4, "sent")
 }
 
-fn told_title(alloc: Global, told: Told) -> Result<String, AllocError>
-    ensures { IfOk result (λ text. string_bytes text ≡ told_title told) }
+fn told_title(alloc: Global, start: u64, why: Option<Why>) -> Result<String, AllocError>
+    ensures { IfOk result (λ text. string_bytes text ≡ told_title start why) }
 {
-    let why = why_text(alloc, told.why)?;
-    let start = told.start;
-    format!(in alloc; "told to wait at {start}, {why}")
+    match why {
+        Some(why) => {
+            let why = why_words(alloc, why)?;
+            format!(in alloc; "told to wait at {start}, {why}")
+        }
+        None => format!(in alloc; "told to wait at {start}"),
+    }
 }
 
-/// A ring where it was told to wait last, and why.
+/// A ring where it was told to wait last, and why it waited.
 fn add_told_mark(
     alloc: Global,
     out: &mut String,
     axis: Axis,
     y: u64,
     told: Option<Told>,
+    why: Option<Why>,
 ) -> Result<(), AllocError>
     requires { y < 2 ^ 62 }
-    ensures { OnOk result (string_bytes out.new ≡ string_bytes out.old ++ render (told_mark axis y told)) }
+    ensures { OnOk result (string_bytes out.new ≡ string_bytes out.old ++ render (told_mark axis y told why)) }
 {
     let Some(told) = told else {
         return Ok(());
     };
-    let title = told_title(alloc, told)?;
+    let title = told_title(alloc, told.start, why)?;
     let middle = (at(axis, told.start), y + 7);
     add_titled_circle(alloc, out, title.as_str(), middle, 4, "ring")
+}
+
+fn add_bar(
+    alloc: Global,
+    out: &mut String,
+    axis: Axis,
+    y: u64,
+    row: &RequestRow,
+) -> Result<(), AllocError>
+    ensures { OnOk result (string_bytes out.new ≡ string_bytes out.old ++ render (bar axis y row.now)) }
+{
+    let x = at(axis, stop(axis, row));
+    add_rectangle(alloc, out, (x, y), (3, 14), 0, "bad")
 }
 
 /// A block where it is granted, or else a red bar.
@@ -116,19 +137,18 @@ fn add_end_mark(
     out: &mut String,
     axis: Axis,
     y: u64,
-    request: &Request,
-    ended: Ended,
+    row: &RequestRow,
 ) -> Result<(), AllocError>
-    ensures { OnOk result (string_bytes out.new ≡ string_bytes out.old ++ render (end_mark axis y request.now ended)) }
+    ensures { OnOk result (string_bytes out.new ≡ string_bytes out.old ++ render (end_mark axis y row.now row.now.fate)) }
 {
-    let x = at(axis, stop(axis, request.sent, ended));
-    match ended.fate {
-        Fate::Waits => add_rectangle(alloc, out, (x, y), (3, 14), 0, "bad"),
-        Fate::Dropped => add_rectangle(alloc, out, (x, y), (3, 14), 0, "bad"),
+    match row.fate {
+        Fate::Waits(_) => add_bar(alloc, out, axis, y, row),
+        Fate::Gone => add_bar(alloc, out, axis, y, row),
         Fate::Granted { start, .. } => {
-            let to = start.saturating_add(u64::from(request.n));
+            let to = start.saturating_add(u64::from(row.n));
             let size = (wide(axis, start, to), 14);
-            add_rectangle(alloc, out, (x, y), size, 0, class_of(request.sid))
+            let class = class_of(sid_of(row.key));
+            add_rectangle(alloc, out, (at(axis, start), y), size, 0, class)
         }
     }
 }
@@ -137,8 +157,8 @@ fn end_words(alloc: Global, sent: u64, fate: Fate) -> Result<String, AllocError>
     ensures { IfOk result (λ text. string_bytes text ≡ end_words sent fate) }
 {
     match fate {
-        Fate::Waits => String::from_str(alloc, "still waits"),
-        Fate::Dropped => String::from_str(alloc, "dropped"),
+        Fate::Waits(_) => String::from_str(alloc, "still waits"),
+        Fate::Gone => String::from_str(alloc, "dropped"),
         Fate::Granted { start, .. } => {
             let after = start.saturating_sub(sent);
             format!(in alloc; "after {after}")
@@ -146,59 +166,50 @@ fn end_words(alloc: Global, sent: u64, fate: Fate) -> Result<String, AllocError>
     }
 }
 
-fn wait_words(alloc: Global, told: Option<Told>) -> Result<String, AllocError>
-    ensures { IfOk result (λ text. string_bytes text ≡ wait_words told) }
+fn wait_words(alloc: Global, why: Option<Why>) -> Result<String, AllocError>
+    ensures { IfOk result (λ text. string_bytes text ≡ wait_words why) }
 {
-    match told {
-        Some(told) => {
-            let why = why_text(alloc, told.why)?;
+    match why {
+        Some(why) => {
+            let why = why_words(alloc, why)?;
             format!(in alloc; ": {why}")
         }
         None => String::from_str(alloc, ""),
     }
 }
 
-fn ended_words(alloc: Global, sent: u64, ended: Ended) -> Result<String, AllocError>
-    ensures { IfOk result (λ text. string_bytes text ≡ ended_words sent ended) }
+fn ended_words(alloc: Global, row: &RequestRow) -> Result<String, AllocError>
+    ensures { IfOk result (λ text. string_bytes text ≡ ended_words row.now) }
 {
-    let end = end_words(alloc, sent, ended.fate)?;
-    let wait = wait_words(alloc, ended.told)?;
+    let end = end_words(alloc, row.sent, row.fate)?;
+    let wait = wait_words(alloc, why_last(row))?;
     format!(in alloc; "{end}{wait}")
 }
 
-fn add_ended(
-    alloc: Global,
-    out: &mut String,
-    y: u64,
-    sent: u64,
-    ended: Ended,
-) -> Result<(), AllocError>
+fn add_ended(alloc: Global, out: &mut String, y: u64, row: &RequestRow) -> Result<(), AllocError>
     requires { y < 2 ^ 62 }
-    ensures { OnOk result (string_bytes out.new ≡ string_bytes out.old ++ render (ended_at y sent ended)) }
+    ensures { OnOk result (string_bytes out.new ≡ string_bytes out.old ++ render (ended_at y row.now)) }
 {
-    let words = ended_words(alloc, sent, ended)?;
+    let words = ended_words(alloc, row)?;
     add_words(alloc, out, (880, y + 11), "s mute", words.as_str())
 }
 
-/// The row of a request of the command of this number.
+/// The row of a request.
 pub(crate) fn add_asked(
     alloc: Global,
     out: &mut String,
     axis: Axis,
     y: u64,
-    command: usize,
-    request: &Request,
-    ended: Ended,
+    row: &RequestRow,
 ) -> Result<(), AllocError>
     requires { y < 2 ^ 62 }
-    ensures { OnOk result (string_bytes out.new ≡ string_bytes out.old ++ render (asked axis y command request.now ended)) }
+    ensures { OnOk result (string_bytes out.new ≡ string_bytes out.old ++ render (asked axis y row.now)) }
 {
-    let stop = stop(axis, request.sent, ended);
-    add_asked_name(alloc, out, y, request)?;
-    add_asked_line(alloc, out, axis, y, request.sent, stop)?;
-    add_sent_mark(alloc, out, axis, y, command, request.sent)?;
-    add_told_mark(alloc, out, axis, y, ended.told)?;
-    add_end_mark(alloc, out, axis, y, request, ended)?;
-    add_ended(alloc, out, y, request.sent, ended)?;
+    add_asked_name(alloc, out, y, row)?;
+    add_asked_line(alloc, out, axis, y, row)?;
+    add_sent_mark(alloc, out, axis, y, row)?;
+    add_told_mark(alloc, out, axis, y, row.told, why_last(row))?;
+    add_end_mark(alloc, out, axis, y, row)?;
+    add_ended(alloc, out, y, row)?;
     Ok(())
 }

@@ -3,7 +3,7 @@
 ghost use Rattle.std.specs.Prelude.{◌≡◌, ◌<◌, ◌≤◌, ◌^◌};
 ghost use Rattle.map_picture.specs.Axis.{at, axis_of, coarse, wide, with_map};
 
-use map_text::Deed;
+use plan_account::Deed;
 
 /// The span that is drawn: from its first minislot up to where it ends.
 #[derive(Clone, Copy)]

@@ -5,46 +5,44 @@ ghost use Rattle.std.specs.List.Sorted.{IsPermutation};
 ghost use Rattle.xml_text.specs.Xml.{Xml, render};
 ghost use Rattle.xml_text.specs.Drawings.{AreDrawn};
 ghost use Rattle.xml_text.specs.Each.{each};
-ghost use Rattle.map_text.specs.Texts.{channels_of};
-ghost use Rattle.map_picture.specs.declared.picked.Section.TheVariants.{Owners, Requests, Maps};
-ghost use Rattle.map_picture.specs.Picked.{picked};
-ghost use Rattle.map_picture.specs.Pictures.{channel, channel_at, channel_height, channel_rows, channels_drawn, first_top, heading, layers, tops_from, IsPictureOf};
+ghost use Rattle.plan_account.specs.Deeds.{channels_of};
+ghost use Rattle.map_picture.specs.Pictures.{channel, channel_at, channel_height, channel_rows, channels_drawn, first_top, heading, layers, tops_from, IsDrawable, IsPictureOf};
 ghost use Rattle.map_picture.specs.Wedges.{IsInOrder};
 
 use crate::axis::{Page, axis_of};
-use crate::picked::{Section, picked};
-use crate::rows::{add_frames, add_section};
+use crate::picked::{leases_on, maps_on, requests_on};
+use crate::rows::{add_frames, add_owners, add_requests, add_strips};
 use crate::sent::{Sent, in_order};
 use crate::style::{STYLE, legend_for, patterns};
-use map_text::{Deed, channels_of};
+use plan_account::{Account, Deed, LeaseRow, RequestRow, channels_of};
 use std::alloc::{AllocError, Global};
 use xml_text::{Layers, add_words, drawing};
 
 /// A time that is written in more than twelve digits.
 const LATE: u64 = 1_000_000_000_000;
 
-fn channel_height(alloc: Global, deeds: &[Deed], ch: u8) -> Result<u64, AllocError>
-    requires { length deeds.now < 2 ^ 27 }
-    ensures value { IfOk result (λ height. height ≡ channel_height deeds.now ch) }
+fn channel_height(alloc: Global, account: &Account, ch: u8) -> Result<u64, AllocError>
+    requires { IsDrawable account.now }
+    ensures value { IfOk result (λ height. height ≡ channel_height account.now ch) }
     ensures small { IfOk result (λ height. height < 2 ^ 34) }
 {
-    let owners = picked(alloc, Section::Owners, ch, deeds)?.len() as u64;
-    let requests = picked(alloc, Section::Requests, ch, deeds)?.len() as u64;
-    let maps = picked(alloc, Section::Maps, ch, deeds)?.len() as u64;
+    let owners = leases_on(alloc, ch, account.leases())?.len() as u64;
+    let requests = requests_on(alloc, ch, account.requests())?.len() as u64;
+    let maps = maps_on(alloc, ch, account.deeds())?.len() as u64;
     Ok(64 + 22 * owners + 22 * requests + 22 * maps)
 }
 
 /// Where channels begin, and where the last one ends.
-fn tops_of(alloc: Global, deeds: &[Deed], channels: &[u8]) -> Result<Vec<u64>, AllocError>
-    requires deeds { length deeds.now < 2 ^ 27 }
+fn tops_of(alloc: Global, account: &Account, channels: &[u8]) -> Result<Vec<u64>, AllocError>
+    requires rows { IsDrawable account.now }
     requires channels { length channels.now < 2 ^ 26 }
-    ensures { IfOk result (λ tops. tops.items ≡ tops_from deeds.now first_top channels.now) }
+    ensures { IfOk result (λ tops. tops.items ≡ tops_from account.now first_top channels.now) }
 {
     let mut tops = Vec::new(alloc);
     let mut y: u64 = 56;
     for ch in channels {
         tops.push(y)?;
-        y += channel_height(alloc, deeds, *ch)?;
+        y += channel_height(alloc, account, *ch)?;
     }
     tops.push(y)?;
     Ok(tops)
@@ -66,8 +64,8 @@ fn add_rows(
     deeds: &[Deed],
     sent: &[Sent],
     y: u64,
-    owners: &[usize],
-    requests: &[usize],
+    owners: &[LeaseRow],
+    requests: &[RequestRow],
     maps: &[usize],
 ) -> Result<(), AllocError>
     requires y { y < 2 ^ 60 }
@@ -82,28 +80,29 @@ fn add_rows(
     let second = 22 * (requests.len() as u64);
     add_heading(alloc, out, page.ch, y)?;
     add_frames(alloc, out, page, deeds, y + 26, first + second + 2, maps)?;
-    add_section(alloc, out, page, deeds, sent, y + 30, owners)?;
-    add_section(alloc, out, page, deeds, sent, y + 30 + first, requests)?;
-    add_section(alloc, out, page, deeds, sent, y + 44 + first + second, maps)?;
+    add_owners(alloc, out, page, deeds, y + 30, owners)?;
+    add_requests(alloc, out, page.axis, y + 30 + first, requests)?;
+    add_strips(alloc, out, deeds, sent, y + 44 + first + second, maps)?;
     Ok(())
 }
 
 fn add_channel(
     alloc: Global,
     out: &mut String,
-    deeds: &[Deed],
+    account: &Account,
     sent: &[Sent],
     ch: u8,
     y: u64,
 ) -> Result<(), AllocError>
     requires y { y < 2 ^ 60 }
-    requires deeds { length deeds.now < 2 ^ 27 }
+    requires rows { IsDrawable account.now }
     requires order { IsInOrder sent.now }
-    ensures { OnOk result (string_bytes out.new ≡ string_bytes out.old ++ render (channel deeds.now sent.now ch y)) }
+    ensures { OnOk result (string_bytes out.new ≡ string_bytes out.old ++ render (channel account.now sent.now ch y)) }
 {
-    let owners = picked(alloc, Section::Owners, ch, deeds)?;
-    let requests = picked(alloc, Section::Requests, ch, deeds)?;
-    let maps = picked(alloc, Section::Maps, ch, deeds)?;
+    let deeds = account.deeds();
+    let owners = leases_on(alloc, ch, account.leases())?;
+    let requests = requests_on(alloc, ch, account.requests())?;
+    let maps = maps_on(alloc, ch, deeds)?;
     let axis = axis_of(deeds, ch);
     let page = Page { ch, axis };
     add_rows(alloc, out, page, deeds, sent, y, &owners, &requests, &maps)?;
@@ -113,15 +112,15 @@ fn add_channel(
 fn add_channel_at(
     alloc: Global,
     out: &mut String,
-    deeds: &[Deed],
+    account: &Account,
     sent: &[Sent],
     channels: &[u8],
     tops: &[u64],
     k: usize,
 ) -> Result<(), AllocError>
-    requires deeds { length deeds.now < 2 ^ 27 }
+    requires rows { IsDrawable account.now }
     requires order { IsInOrder sent.now }
-    ensures { OnOk result (string_bytes out.new ≡ string_bytes out.old ++ render (channel_at deeds.now sent.now channels.now tops.now k)) }
+    ensures { OnOk result (string_bytes out.new ≡ string_bytes out.old ++ render (channel_at account.now sent.now channels.now tops.now k)) }
 {
     if k >= channels.len() {
         return Ok(());
@@ -132,63 +131,63 @@ fn add_channel_at(
     if tops[k] >= 1 << 60 {
         return Err(AllocError);
     }
-    add_channel(alloc, out, deeds, sent, channels[k], tops[k])
+    add_channel(alloc, out, account, sent, channels[k], tops[k])
 }
 
 fn add_channels(
     alloc: Global,
     out: &mut String,
-    deeds: &[Deed],
+    account: &Account,
     sent: &[Sent],
     channels: &[u8],
     tops: &[u64],
 ) -> Result<(), AllocError>
-    requires deeds { length deeds.now < 2 ^ 27 }
+    requires rows { IsDrawable account.now }
     requires order { IsInOrder sent.now }
     ensures { OnOk result (string_bytes out.new ≡ string_bytes out.old
-        ++ render (each (length channels.now) (channel_at deeds.now sent.now channels.now tops.now))) }
+        ++ render (each (length channels.now) (channel_at account.now sent.now channels.now tops.now))) }
 {
     for k in 0..channels.len() {
-        add_channel_at(alloc, out, deeds, sent, channels, tops, k)?;
+        add_channel_at(alloc, out, account, sent, channels, tops, k)?;
     }
     Ok(())
 }
 
-/// The channels of deeds.
+/// The channels of an account.
 fn channels_drawn(
     alloc: Global,
-    deeds: &[Deed],
+    account: &Account,
     sent: &[Sent],
     channels: &[u8],
     tops: &[u64],
 ) -> Result<String, AllocError>
-    requires deeds { length deeds.now < 2 ^ 27 }
-    requires channels { channels.now ≡ channels_of deeds.now }
-    requires tops { tops.now ≡ tops_from deeds.now first_top channels.now }
+    requires rows { IsDrawable account.now }
+    requires channels { channels.now ≡ channels_of account.now.deeds }
+    requires tops { tops.now ≡ tops_from account.now first_top channels.now }
     requires order { IsInOrder sent.now }
-    ensures { IfOk result (λ text. string_bytes text ≡ render (channels_drawn deeds.now sent.now)) }
+    ensures { IfOk result (λ text. string_bytes text ≡ render (channels_drawn account.now sent.now)) }
 {
     let mut out = String::new(alloc);
-    add_channels(alloc, &mut out, deeds, sent, channels, tops)?;
+    add_channels(alloc, &mut out, account, sent, channels, tops)?;
     Ok(out)
 }
 
 /// The layers of a picture: channels below a legend.
 fn layers_of(
     alloc: Global,
-    deeds: &[Deed],
+    account: &Account,
     sent: &[Sent],
     channels: &[u8],
     tops: &[u64],
 ) -> Result<Layers, AllocError>
-    requires deeds { length deeds.now < 2 ^ 27 }
-    requires channels { channels.now ≡ channels_of deeds.now }
-    requires tops { tops.now ≡ tops_from deeds.now first_top channels.now }
+    requires rows { IsDrawable account.now }
+    requires channels { channels.now ≡ channels_of account.now.deeds }
+    requires tops { tops.now ≡ tops_from account.now first_top channels.now }
     requires order { IsInOrder sent.now }
-    ensures { IfOk result (λ all. (known : Xml) × AreDrawn all (layers deeds.now sent.now known)) }
+    ensures { IfOk result (λ all. (known : Xml) × AreDrawn all (layers account.now sent.now known)) }
 {
-    let title = format!(in alloc; "The MAPs of {} commands", deeds.len())?;
-    let bands = channels_drawn(alloc, deeds, sent, channels, tops)?;
+    let title = format!(in alloc; "The MAPs of {} commands", account.deeds().len())?;
+    let bands = channels_drawn(alloc, account, sent, channels, tops)?;
     let labels = legend_for(alloc, title.as_str(), !sent.is_empty())?;
     Ok(Layers {
         rules: String::new(alloc),
@@ -202,7 +201,7 @@ fn layers_of(
 /// The picture of layers in this size, with a title and a style. The layers have what was sent in order.
 fn drawn_so(
     alloc: Global,
-    deeds: &[Deed],
+    account: &Account,
     sent: &[Sent],
     ordered: &[Sent],
     size: (u64, u64),
@@ -211,8 +210,8 @@ fn drawn_so(
     all: &Layers,
 ) -> Result<String, AllocError>
     requires same { IsPermutation sent.now ordered.now }
-    requires drawn { (known : Xml) × AreDrawn all.now (layers deeds.now ordered.now known) }
-    ensures { IfOk result (λ text. IsPictureOf deeds.now sent.now (string_bytes text)) }
+    requires drawn { (known : Xml) × AreDrawn all.now (layers account.now ordered.now known) }
+    ensures { IfOk result (λ text. IsPictureOf account.now sent.now (string_bytes text)) }
 {
     let known = patterns(alloc)?;
     let text = drawing(alloc, size, title, style, known.as_str(), all)?;
@@ -234,29 +233,29 @@ fn width_of(deeds: &[Deed]) -> u64 {
 /// The picture of what was sent and is now in order.
 fn drawn_in_order(
     alloc: Global,
-    deeds: &[Deed],
+    account: &Account,
     sent: &[Sent],
     ordered: &[Sent],
 ) -> Result<String, AllocError>
-    requires deeds { length deeds.now < 2 ^ 26 }
+    requires rows { IsDrawable account.now }
     requires same { IsPermutation sent.now ordered.now }
     requires order { IsInOrder ordered.now }
-    ensures { IfOk result (λ text. IsPictureOf deeds.now sent.now (string_bytes text)) }
+    ensures { IfOk result (λ text. IsPictureOf account.now sent.now (string_bytes text)) }
 {
-    let channels = channels_of(alloc, deeds)?;
+    let channels = channels_of(alloc, account.deeds())?;
     if channels.len() >= 1 << 26 {
         return Err(AllocError);
     }
-    let tops = tops_of(alloc, deeds, &channels)?;
-    let all = layers_of(alloc, deeds, ordered, &channels, &tops)?;
+    let tops = tops_of(alloc, account, &channels)?;
+    let all = layers_of(alloc, account, ordered, &channels, &tops)?;
     let height = match tops.last() {
         Some(top) => *top,
         None => 0,
     };
-    let size = (width_of(deeds), height);
+    let size = (width_of(account.deeds()), height);
     drawn_so(
         alloc,
-        deeds,
+        account,
         sent,
         ordered,
         size,
@@ -268,10 +267,10 @@ fn drawn_in_order(
 
 /// The picture of what commands did, and of what modems sent in the minislots of their MAPs, as an SVG document. What
 /// was sent is sorted once; then each transmission is looked at for each channel whose MAPs have its minislot.
-pub fn picture(alloc: Global, deeds: &[Deed], sent: &[Sent]) -> Result<String, AllocError>
-    requires { length deeds.now < 2 ^ 26 }
-    ensures { IfOk result (λ text. IsPictureOf deeds.now sent.now (string_bytes text)) }
+pub fn picture(alloc: Global, account: &Account, sent: &[Sent]) -> Result<String, AllocError>
+    requires { IsDrawable account.now }
+    ensures { IfOk result (λ text. IsPictureOf account.now sent.now (string_bytes text)) }
 {
     let ordered = in_order(alloc, sent)?;
-    drawn_in_order(alloc, deeds, sent, ordered.as_slice())
+    drawn_in_order(alloc, account, sent, ordered.as_slice())
 }

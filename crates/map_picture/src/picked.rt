@@ -1,72 +1,76 @@
-//! Which deeds have rows.
+//! Which rows a channel has.
 
 ghost use Rattle.std.specs.Prelude.{◌≡◌, ◌≤◌, length, IfOk};
-ghost use Rattle.map_picture.specs.Picked.{gives, given_in, has_row, picked};
+ghost use Rattle.map_picture.specs.Picked.{is_map, is_on, leases_on, maps_on, requests_on};
 
-use map_text::Deed;
+use plan_account::{Deed, LeaseRow, RequestRow};
 use std::alloc::{AllocError, Global};
 
-/// A section of a channel's picture: a row an owner, a row a request, or a row a MAP.
-#[derive(Clone, Copy)]
-pub(crate) enum Section {
-    Owners,
-    Requests,
-    Maps,
+/// Whether a key is of a SID of the channel.
+fn is_on(ch: u8, key: u32) -> bool
+    ensures { result ≡ is_on ch key }
+{
+    key / (1 << 16) == u32::from(ch)
 }
 
-/// Whether a deed gives a SID of the channel.
-fn gives(ch: u8, sid: u16, deed: &Deed) -> bool
-    ensures { result ≡ gives ch sid deed.now }
+/// The leases of a channel's SIDs.
+pub(crate) fn leases_on(
+    alloc: Global,
+    ch: u8,
+    leases: &[LeaseRow],
+) -> Result<Vec<LeaseRow>, AllocError>
+    ensures rows { IfOk result (λ rows. rows.items ≡ leases_on ch leases.now) }
+    ensures few { IfOk result (λ rows. length rows.items ≤ length leases.now) }
+{
+    let mut rows = Vec::new(alloc);
+    for row in leases {
+        if is_on(ch, row.key) {
+            rows.push(*row)?;
+        }
+    }
+    Ok(rows)
+}
+
+/// The requests of a channel.
+pub(crate) fn requests_on(
+    alloc: Global,
+    ch: u8,
+    requests: &[RequestRow],
+) -> Result<Vec<RequestRow>, AllocError>
+    ensures rows { IfOk result (λ rows. rows.items ≡ requests_on ch requests.now) }
+    ensures few { IfOk result (λ rows. length rows.items ≤ length requests.now) }
+{
+    let mut rows = Vec::new(alloc);
+    for row in requests {
+        if is_on(ch, row.key) {
+            rows.push(*row)?;
+        }
+    }
+    Ok(rows)
+}
+
+/// Whether a deed is a MAP of the channel.
+fn is_map(ch: u8, deed: &Deed) -> bool
+    ensures { result ≡ is_map ch deed.now }
 {
     match deed {
-        Deed::Flow { ch: c, sid: s, .. } => *c == ch && *s == sid,
+        Deed::Map { ch: c, .. } => *c == ch,
         Deed::Channel(_) => false,
+        Deed::Flow { .. } => false,
         Deed::Drop { .. } => false,
         Deed::Request { .. } => false,
-        Deed::Map { .. } => false,
         Deed::Other => false,
     }
 }
 
-/// Whether one of them does.
-fn given_in(ch: u8, sid: u16, deeds: &[Deed]) -> bool
-    ensures { result ≡ given_in ch sid deeds.now }
-{
-    for deed in deeds {
-        if gives(ch, sid, deed) {
-            return true;
-        }
-    }
-    false
-}
-
-/// Whether a deed, which these follow, has a row in a section.
-fn has_row(section: Section, ch: u8, deed: &Deed, after: &[Deed]) -> bool
-    ensures { result ≡ has_row section ch deed.now after.now }
-{
-    match (section, deed) {
-        (Section::Owners, Deed::Flow { ch: c, sid, .. }) => {
-            *c == ch && !given_in(ch, *sid, after)
-        }
-        (Section::Requests, Deed::Request { ch: c, .. }) => *c == ch,
-        (Section::Maps, Deed::Map { ch: c, .. }) => *c == ch,
-        _ => false,
-    }
-}
-
-/// The numbers of deeds that have rows in a section.
-pub(crate) fn picked(
-    alloc: Global,
-    section: Section,
-    ch: u8,
-    deeds: &[Deed],
-) -> Result<Vec<usize>, AllocError>
-    ensures rows { IfOk result (λ rows. rows.items ≡ picked section ch deeds.now) }
+/// The numbers of deeds that are MAPs of a channel.
+pub(crate) fn maps_on(alloc: Global, ch: u8, deeds: &[Deed]) -> Result<Vec<usize>, AllocError>
+    ensures rows { IfOk result (λ rows. rows.items ≡ maps_on ch deeds.now) }
     ensures few { IfOk result (λ rows. length rows.items ≤ length deeds.now) }
 {
     let mut rows = Vec::new(alloc);
     for (i, deed) in deeds.iter().enumerate() {
-        if has_row(section, ch, deed, &deeds[i + 1..]) {
+        if is_map(ch, deed) {
             rows.push(i)?;
         }
     }

@@ -1,21 +1,18 @@
-//! Rows of owners, of requests and of MAPs, and frames round them.
+//! Rows of leases, of requests and of MAPs, and frames round them.
 
-ghost use Rattle.std.specs.Prelude.{◌≡◌, ◌++◌, ◌+◌, ◌<◌, ◌^◌, IfOk, OnOk, drop, length, string_bytes};
-ghost use Rattle.map_text.specs.Fates.{fate_of};
+ghost use Rattle.std.specs.Prelude.{◌≡◌, ◌++◌, ◌<◌, ◌^◌, IfOk, OnOk, length, slice_get, string_bytes};
 ghost use Rattle.xml_text.specs.Xml.{render};
-ghost use Rattle.map_picture.specs.Asked.{asked};
-ghost use Rattle.map_picture.specs.Pictures.{frame, frame_at, frame_title, frames, row, row_at, section, strip, strip_name, strip_text, strip_words};
+ghost use Rattle.map_picture.specs.Pictures.{frame, frame_at, frame_title, frames, owner_at, owners, request_for, requests, strip, strip_at, strip_name, strip_of, strip_text, strip_words, strips};
 ghost use Rattle.map_picture.specs.Wedges.{IsInOrder};
 
 use crate::asked::add_asked;
-use crate::axis::{Page, at, wide};
+use crate::axis::{Axis, Page, at, wide};
 use crate::cells::add_cells;
 use crate::owners::add_owner;
 use crate::sent::Sent;
 use crate::shapes::add_block;
 use crate::wedges::add_wedges;
-use map_body::MapBody;
-use map_text::{Deed, Ended, Request, fate_of};
+use plan_account::{Deed, LeaseRow, RequestRow, ShownMap};
 use std::alloc::{AllocError, Global};
 use xml_text::add_words;
 
@@ -64,7 +61,7 @@ fn add_strip(
     ch: u8,
     start: u64,
     len: u16,
-    map: &MapBody,
+    map: &ShownMap,
 ) -> Result<(), AllocError>
     requires y { y < 2 ^ 62 }
     requires k { k < 2 ^ 62 }
@@ -73,50 +70,17 @@ fn add_strip(
     requires start { start < 2 ^ 63 }
     ensures { OnOk result (string_bytes out.new ≡ string_bytes out.old ++ render (strip sent.now y k i ch start len map.now)) }
 {
-    let intervals = map.intervals(alloc)?;
     add_strip_name(alloc, out, y, k)?;
-    add_cells(alloc, out, len, y, &intervals)?;
+    add_cells(alloc, out, len, y, map.intervals())?;
     add_wedges(alloc, out, sent, ch, start, len, y)?;
     add_strip_words(alloc, out, y, i, start, len)?;
     Ok(())
 }
 
-/// What became of a request, by the deeds after deed `i`.
-fn ended_of(alloc: Global, deeds: &[Deed], i: usize, request: &Request) -> Result<Ended, AllocError>
-    requires i { i < length deeds.now }
-    requires deeds { length deeds.now < 2 ^ 27 }
-    ensures { IfOk result (λ ended. ended ≡ fate_of request.now 0 (drop (i + 1) deeds.now)) }
-{
-    fate_of(alloc, request, 0, &deeds[i + 1..])
-}
-
-/// The row of the request of deed `i`.
-fn add_request(
+/// The strip of deed `i`, which is MAP `k`.
+fn add_strip_of(
     alloc: Global,
     out: &mut String,
-    page: Page,
-    deeds: &[Deed],
-    y: u64,
-    i: usize,
-    request: &Request,
-) -> Result<(), AllocError>
-    requires y { y < 2 ^ 62 }
-    requires i { i < length deeds.now }
-    requires deeds { length deeds.now < 2 ^ 27 }
-    ensures { OnOk result (string_bytes out.new ≡ string_bytes out.old
-        ++ render (asked page.axis y (i + 1) request.now (fate_of request.now 0 (drop (i + 1) deeds.now)))) }
-{
-    let ended = ended_of(alloc, deeds, i, request)?;
-    add_asked(alloc, out, page.axis, y, i + 1, request, ended)?;
-    Ok(())
-}
-
-/// The row of deed `i`, the `k`-th of its section.
-fn add_row(
-    alloc: Global,
-    out: &mut String,
-    page: Page,
-    deeds: &[Deed],
     sent: &[Sent],
     y: u64,
     k: usize,
@@ -125,43 +89,28 @@ fn add_row(
 ) -> Result<(), AllocError>
     requires y { y < 2 ^ 62 }
     requires k { k < 2 ^ 62 }
-    requires i { i < length deeds.now }
-    requires deeds { length deeds.now < 2 ^ 27 }
+    requires i { i < 2 ^ 62 }
     requires order { IsInOrder sent.now }
-    ensures { OnOk result (string_bytes out.new ≡ string_bytes out.old ++ render (row page deeds.now sent.now y k i deed.now)) }
+    ensures { OnOk result (string_bytes out.new ≡ string_bytes out.old ++ render (strip_of sent.now y k i deed.now)) }
 {
     match deed {
-        Deed::Flow {
-            sid,
-            modem,
-            kind,
-            ..
-        } => add_owner(alloc, out, page, deeds, y, *sid, *modem, *kind),
-        Deed::Request { ch, sid, n, sent } => {
-            let request = Request {
-                ch: *ch,
-                sid: *sid,
-                n: *n,
-                sent: *sent,
-            };
-            add_request(alloc, out, page, deeds, y, i, &request)
-        }
         Deed::Map {
             ch,
             start,
             len,
-            body,
-        } => add_strip(alloc, out, sent, y, k, i, *ch, start.get(), *len, body),
+            map,
+        } => add_strip(alloc, out, sent, y, k, i, *ch, start.get(), *len, map),
         Deed::Channel(_) => Ok(()),
+        Deed::Flow { .. } => Ok(()),
         Deed::Drop { .. } => Ok(()),
+        Deed::Request { .. } => Ok(()),
         Deed::Other => Ok(()),
     }
 }
 
-fn add_row_at(
+fn add_strip_at(
     alloc: Global,
     out: &mut String,
-    page: Page,
     deeds: &[Deed],
     sent: &[Sent],
     top: u64,
@@ -172,7 +121,7 @@ fn add_row_at(
     requires deeds { length deeds.now < 2 ^ 27 }
     requires rows { length rows.now < 2 ^ 27 }
     requires order { IsInOrder sent.now }
-    ensures { OnOk result (string_bytes out.new ≡ string_bytes out.old ++ render (row_at page deeds.now sent.now top rows.now k)) }
+    ensures { OnOk result (string_bytes out.new ≡ string_bytes out.old ++ render (strip_at deeds.now sent.now top rows.now k)) }
 {
     if k >= rows.len() {
         return Ok(());
@@ -181,15 +130,13 @@ fn add_row_at(
         return Ok(());
     }
     let y = top + 22 * (k as u64);
-    let deed = &deeds[rows[k]];
-    add_row(alloc, out, page, deeds, sent, y, k, rows[k], deed)
+    add_strip_of(alloc, out, sent, y, k, rows[k], &deeds[rows[k]])
 }
 
-/// A section's rows.
-pub(crate) fn add_section(
+/// A row a MAP.
+pub(crate) fn add_strips(
     alloc: Global,
     out: &mut String,
-    page: Page,
     deeds: &[Deed],
     sent: &[Sent],
     top: u64,
@@ -199,10 +146,85 @@ pub(crate) fn add_section(
     requires deeds { length deeds.now < 2 ^ 27 }
     requires rows { length rows.now < 2 ^ 27 }
     requires order { IsInOrder sent.now }
-    ensures { OnOk result (string_bytes out.new ≡ string_bytes out.old ++ render (section page deeds.now sent.now top rows.now)) }
+    ensures { OnOk result (string_bytes out.new ≡ string_bytes out.old ++ render (strips deeds.now sent.now top rows.now)) }
 {
     for k in 0..rows.len() {
-        add_row_at(alloc, out, page, deeds, sent, top, rows, k)?;
+        add_strip_at(alloc, out, deeds, sent, top, rows, k)?;
+    }
+    Ok(())
+}
+
+fn add_owner_at(
+    alloc: Global,
+    out: &mut String,
+    page: Page,
+    deeds: &[Deed],
+    top: u64,
+    rows: &[LeaseRow],
+    k: usize,
+) -> Result<(), AllocError>
+    requires top { top < 2 ^ 61 }
+    requires rows { length rows.now < 2 ^ 27 }
+    ensures { OnOk result (string_bytes out.new ≡ string_bytes out.old ++ render (owner_at page deeds.now top rows.now k)) }
+{
+    if k >= rows.len() {
+        return Ok(());
+    }
+    let y = top + 22 * (k as u64);
+    add_owner(alloc, out, page, deeds, y, &rows[k])
+}
+
+/// A row a lease.
+pub(crate) fn add_owners(
+    alloc: Global,
+    out: &mut String,
+    page: Page,
+    deeds: &[Deed],
+    top: u64,
+    rows: &[LeaseRow],
+) -> Result<(), AllocError>
+    requires top { top < 2 ^ 61 }
+    requires rows { length rows.now < 2 ^ 27 }
+    ensures { OnOk result (string_bytes out.new ≡ string_bytes out.old ++ render (owners page deeds.now top rows.now)) }
+{
+    for k in 0..rows.len() {
+        add_owner_at(alloc, out, page, deeds, top, rows, k)?;
+    }
+    Ok(())
+}
+
+fn add_request_at(
+    alloc: Global,
+    out: &mut String,
+    axis: Axis,
+    y: u64,
+    rows: &[RequestRow],
+    k: usize,
+) -> Result<(), AllocError>
+    requires { y < 2 ^ 62 }
+    ensures { OnOk result (string_bytes out.new ≡ string_bytes out.old ++ render (request_for axis y (slice_get rows.now k))) }
+{
+    match rows.get(k) {
+        Some(row) => add_asked(alloc, out, axis, y, row),
+        None => Ok(()),
+    }
+}
+
+/// A row a request.
+pub(crate) fn add_requests(
+    alloc: Global,
+    out: &mut String,
+    axis: Axis,
+    top: u64,
+    rows: &[RequestRow],
+) -> Result<(), AllocError>
+    requires top { top < 2 ^ 61 }
+    requires rows { length rows.now < 2 ^ 27 }
+    ensures { OnOk result (string_bytes out.new ≡ string_bytes out.old ++ render (requests axis top rows.now)) }
+{
+    for k in 0..rows.len() {
+        let y = top + 22 * (k as u64);
+        add_request_at(alloc, out, axis, y, rows, k)?;
     }
     Ok(())
 }

@@ -81,7 +81,7 @@ fn sending_words(alloc: Global, sending: Sending) -> Result<String, AllocError>
     ensures { IfOk result (λ text. string_bytes text ≡ sending_words sending) }
 {
     match sending {
-        Sending::Unicast(sid) => format!(in alloc; "sid {sid} sends"),
+        Sending::Unicast(sid) | Sending::Ranging(sid) => format!(in alloc; "sid {sid} sends"),
         Sending::Polled(sid, n) => format!(in alloc; "sid {sid} is polled, asks for {n}"),
         Sending::Request(sid, n) => format!(in alloc; "sid {sid} asks for {n}"),
     }

@@ -1,3 +1,3 @@
 mod Holding
-mod Growing
 mod Rowing
+mod Summing

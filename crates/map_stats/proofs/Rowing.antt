@@ -3,50 +3,31 @@ use Rattle.std.proofs.Common.{◌≡◌, ℕ, List, [], ◌∷◌, ◌++◌, Res
 use Rattle.std.proofs.lemmas.Slice.Zip.{all_zipped_more}
 use Rattle.std.specs.List.{AllZip}
 use Rattle.std.specs.Ordering.{nat_cmp}
-use Rattle.std.specs.BTreeMap.{IsOrdered}
-use Rattle.grant_machine.specs.declared.command.Command.{Command}
-use Rattle.grant_machine.specs.declared.output.Output.{Output}
-use Rattle.map_stats.specs.declared.happening.Happening.{Happening}
-use Rattle.map_stats.specs.declared.flows.Flows.{Flows}
+use Rattle.std.specs.Map.{lookup, keys_of}
+use Rattle.std.specs.List.Sorted.{IsStrictlySortedBy}
+use Rattle.std.specs.BTreeMap.{is_at}
+use Rattle.plan_account.specs.declared.past.LeaseRow.{LeaseRow}
+use Rattle.plan_account.specs.declared.past.RequestRow.{RequestRow}
 use Rattle.map_stats.specs.declared.rows.FlowRow.{FlowRow}
-use Rattle.map_stats.specs.FlowsHeld.{at_in, HoldsFlows}
-use Rattle.map_stats.specs.FlowRows.{IsRowIn, IsRowBy, AreFlows}
-use Rattle.map_stats.specs.Pasts.{Past, At, at_key}
+use Rattle.map_stats.specs.FlowRows.{AreFlows, IsFlowRow}
+use Rattle.map_stats.specs.Sums.{Sums, sums_at}
 
 -- rows of the first entries
-abbrev pub HasRows : Flows → List (ℕ × Past) → List FlowRow → Type 0
-HasRows s rest rows = (front : List (ℕ × Past)) × AllZip (IsRowIn s) front rows × (front ++ rest ≡ s.pasts.entries)
+abbrev pub HasRows : List (ℕ × Sums) → List (ℕ × Sums) → List FlowRow → Type 0
+HasRows whole rest rows = (front : List (ℕ × Sums)) × AllZip IsFlowRow front rows × (front ++ rest ≡ whole)
 
 -- the row of one entry more, of which these are left
-pub row_more : (s : Flows) (rows : List FlowRow) (row : FlowRow) (entry : ℕ × Past) (before after : List (ℕ × Past)) → before ≡ entry ∷ after
-    → HasRows s before rows → IsRowIn s entry row → HasRows s after (rows ++ row ∷ [])
-row_more s rows row entry before after is (front, are, whole) one = (
+pub row_more : (whole : List (ℕ × Sums)) (rows : List FlowRow) (row : FlowRow) (entry : ℕ × Sums) (before after : List (ℕ × Sums)) → before ≡ entry ∷ after
+    → HasRows whole before rows → IsFlowRow entry row → HasRows whole after (rows ++ row ∷ [])
+row_more whole rows row entry before after is (front, are, all) one = (
   front ++ entry ∷ [],
-  all_zipped_more (IsRowIn s) front rows entry row are one,
-  append_assoc front (entry ∷ []) after ∙ ap (λ (es : List (ℕ × Past)). front ++ es) (sym is) ∙ whole,
+  all_zipped_more IsFlowRow front rows entry row are one,
+  append_assoc front (entry ∷ []) after ∙ ap (λ (es : List (ℕ × Sums)). front ++ es) (sym is) ∙ all,
 )
 
-rows_by : (s : Flows) (told : List (ℕ × Happening)) → ((q : ℕ) → at_in s q ≡ at_key told q) → (es : List (ℕ × Past)) (rows : List FlowRow) → AllZip (IsRowIn s) es rows → AllZip (IsRowBy told) es rows
-rows_by s told at [] [] are = tt
-rows_by s told at [] (row ∷ rows) are = absurd are
-rows_by s told at (e ∷ es) [] are = absurd are
-rows_by s told at ((key, p) ∷ es) (row ∷ rows) are =
-    let same : (at_in s key).reach ≡ (at_key told key).reach = ap (λ (a : At). a.reach) (at key) in
-    ((are.0.0, rw same at are.0.1), rows_by s told at es rows are.1)
-
-pub are_flows : (s : Flows) (rows : List FlowRow) → IsOrdered nat_cmp s.pasts → AllZip (IsRowIn s) s.pasts.entries rows
-    → (cs : List Command) (os : List Output) → HoldsFlows cs os s → AreFlows cs os rows
-are_flows s rows ordered are cs os held = record {
-  told = held.told;
-  tells = held.tells;
-  pasts = s.pasts.entries;
-  in_order = ordered;
-  at = λ q. ap (λ (a : At). a.past) (held.at q);
-  rows_are = rows_by s held.told held.at s.pasts.entries rows are;
-}
-
--- the same of a call that may have failed
-pub are_flows_if_ok : {E : Type 0} {V : Type 0} (r : Result V E) (items : V → List FlowRow) (s : Flows) → IsOrdered nat_cmp s.pasts
-    → IfOk r (λ rows. AllZip (IsRowIn s) s.pasts.entries (items rows)) → IfOk r (λ rows. (cs : List Command) (os : List Output) → HoldsFlows cs os s → AreFlows cs os (items rows))
-are_flows_if_ok (Err e) items s ordered are = tt
-are_flows_if_ok (Ok rows) items s ordered are = are_flows s (items rows) ordered are
+-- those of all, of a call that may have failed
+pub are_flows_if_ok : {E : Type 0} {V : Type 0} (r : Result V E) (items : V → List FlowRow) (requests : List RequestRow) (leases : List LeaseRow) (sums : List (ℕ × Sums))
+    → IsStrictlySortedBy nat_cmp (keys_of sums) → ((q : ℕ) → lookup (is_at (nat_cmp q)) sums ≡ sums_at requests leases q)
+    → IfOk r (λ rows. AllZip IsFlowRow sums (items rows)) → IfOk r (λ rows. AreFlows requests leases (items rows))
+are_flows_if_ok (Err e) items requests leases sums ordered at are = tt
+are_flows_if_ok (Ok rows) items requests leases sums ordered at are = record { sums = sums; in_order = ordered; at = at; rows_are = are }

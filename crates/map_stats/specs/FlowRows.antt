@@ -1,33 +1,23 @@
--- What is told of each flow of commands and their outputs.
+-- What is told of each flow of a plan: sums over the rows of its requests and its leases.
 use Rattle.std.specs.Prelude.{◌≡◌, ℕ, List}
 use Rattle.std.specs.List.{AllZip}
 use Rattle.std.specs.List.Sorted.{IsStrictlySortedBy}
 use Rattle.std.specs.Map.{lookup, keys_of}
 use Rattle.std.specs.Ordering.{nat_cmp}
 use Rattle.std.specs.BTreeMap.{is_at}
-use Rattle.grant_machine.specs.declared.command.Command.{Command}
-use Rattle.grant_machine.specs.declared.output.Output.{Output}
-use Rattle.map_stats.specs.declared.happening.Happening.{Happening}
-use Rattle.map_stats.specs.declared.flows.Flows.{Flows}
+use Rattle.plan_account.specs.declared.past.LeaseRow.{LeaseRow}
+use Rattle.plan_account.specs.declared.past.RequestRow.{RequestRow}
 use Rattle.map_stats.specs.declared.rows.FlowRow.{FlowRow}
-use Rattle.map_stats.specs.FlowsHeld.{at_in}
-use Rattle.map_stats.specs.Happenings.{Tells}
-use Rattle.map_stats.specs.Pasts.{Past, at_key}
+use Rattle.map_stats.specs.Sums.{Sums, sums_at}
 use Rattle.map_stats.specs.Summaries.{IsSummary}
 
--- the row of a key tells of its flow, with the MAPs that its channel has in the tables
-abbrev pub IsRowIn : Flows → ℕ × Past → FlowRow → Type 0
-IsRowIn s (key, p) row = (row.key ≡ key) × IsSummary (at_in s key).reach p row.summary
+-- the row of a key tells of its sums
+abbrev pub IsFlowRow : ℕ × Sums → FlowRow → Type 0
+IsFlowRow (key, p) row = (row.key ≡ key) × IsSummary p row.summary
 
--- the same, with the MAPs that its channel has by what is told
-abbrev pub IsRowBy : List (ℕ × Happening) → ℕ × Past → FlowRow → Type 0
-IsRowBy told (key, p) row = (row.key ≡ key) × IsSummary (at_key told key).reach p row.summary
-
--- a row for each key at which something happened to a flow, in the order of the keys
-pub record AreFlows (cs : List Command) (os : List Output) (rows : List FlowRow) : Type 0 where
-  pub told : List (ℕ × Happening)
-  pub tells : Tells cs os told
-  pub pasts : List (ℕ × Past)
-  pub in_order : IsStrictlySortedBy nat_cmp (keys_of pasts)
-  pub at : (q : ℕ) → lookup (is_at (nat_cmp q)) pasts ≡ (at_key told q).past
-  pub rows_are : AllZip (IsRowBy told) pasts rows
+-- a row for each key of a request or of a lease, in the order of the keys
+pub record AreFlows (requests : List RequestRow) (leases : List LeaseRow) (rows : List FlowRow) : Type 0 where
+  pub sums : List (ℕ × Sums)
+  pub in_order : IsStrictlySortedBy nat_cmp (keys_of sums)
+  pub at : (q : ℕ) → lookup (is_at (nat_cmp q)) sums ≡ sums_at requests leases q
+  pub rows_are : AllZip IsFlowRow sums rows

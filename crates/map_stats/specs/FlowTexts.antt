@@ -4,8 +4,7 @@ use Rattle.map_stats.specs.declared.rows.FlowRow.{FlowRow}
 use Rattle.map_stats.specs.declared.summary.Delays.{Delays}
 use Rattle.map_stats.specs.declared.summary.Summary.{Summary}
 use Rattle.map_stats.specs.declared.summary.Waits.{Waits}
-use Rattle.map_stats.specs.declared.summary.Why.{Why}
-use Rattle.map_stats.specs.declared.summary.Why.TheVariants.{LeaseEnds, NoMap, NoGap, Placements}
+use Rattle.plan_account.specs.WhyTexts.{why_name}
 
 abbrev pub flow_head : ℕ → List ℕ
 flow_head key = codes "channel " ++ (decimal (key / 2 ^ 16) ++ (codes " sid " ++ decimal (key % 2 ^ 16)))
@@ -31,16 +30,10 @@ delays_line key d =
     if d.count == 0 then []
     else flow_head key ++ (codes " delay mean " ++ (fraction d.sum d.count ++ (codes " p99 " ++ (decimal d.most ++ (codes " longest " ++ (decimal d.longest ++ 10 ∷ []))))))
 
-abbrev pub why_text : Why → List ℕ
-why_text LeaseEnds = codes "lease-ends"
-why_text NoMap = codes "no-map"
-why_text NoGap = codes "no-gap"
-why_text Placements = codes "placements"
-
 -- the request that waits, and why
 abbrev pub waits_line : ℕ → Option Waits → List ℕ
 waits_line key None = []
-waits_line key (Some w) = flow_head key ++ (codes " waits " ++ (decimal w.n ++ (codes " sent " ++ (decimal w.sent ++ (codes " " ++ (why_text w.why ++ 10 ∷ []))))))
+waits_line key (Some w) = flow_head key ++ (codes " waits " ++ (decimal w.n ++ (codes " sent " ++ (decimal w.sent ++ (codes " " ++ (why_name w.why ++ 10 ∷ []))))))
 
 -- the windows that have passed, and those in which no grant began
 abbrev pub windows_line : ℕ → Summary → List ℕ

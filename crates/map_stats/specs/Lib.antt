@@ -2,10 +2,8 @@ pub mod Tallies
 pub mod Given
 pub mod Held
 pub mod Texts
-pub mod Happenings
-pub mod Windows
-pub mod Pasts
-pub mod FlowsHeld
+pub mod Sums
+pub mod Laws
 pub mod Summaries
 pub mod FlowRows
 pub mod FlowTexts

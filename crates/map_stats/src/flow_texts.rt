@@ -1,10 +1,11 @@
 //! What is told of a flow as lines, each with its line's end.
 
 ghost use Rattle.std.specs.Prelude.{◌≡◌, ◌≢◌, IfOk, string_bytes};
-ghost use Rattle.map_stats.specs.FlowTexts.{flow_head, how_many, requests_line, fraction, delays_line, why_text, waits_line, windows_line, flow_lines};
+ghost use Rattle.map_stats.specs.FlowTexts.{flow_head, how_many, requests_line, fraction, delays_line, waits_line, windows_line, flow_lines};
 
 use crate::rows::FlowRow;
-use crate::summary::{Delays, Summary, Waits, Why};
+use crate::summary::{Delays, Summary, Waits};
+use plan_account::why_name;
 use std::alloc::{AllocError, Global};
 
 fn head(alloc: Global, key: u32) -> Result<String, AllocError>
@@ -67,17 +68,6 @@ fn delays_line(alloc: Global, key: u32, delays: &Delays) -> Result<String, Alloc
     format!(in alloc; "{head} delay mean {mean} p99 {most} longest {longest}\n")
 }
 
-fn why_text(why: Why) -> &'static str
-    ensures { result.now ≡ why_text why }
-{
-    match why {
-        Why::LeaseEnds => "lease-ends",
-        Why::NoMap => "no-map",
-        Why::NoGap => "no-gap",
-        Why::Placements => "placements",
-    }
-}
-
 fn waits_line(alloc: Global, key: u32, waits: Option<Waits>) -> Result<String, AllocError>
     ensures { IfOk result (λ text. string_bytes text ≡ waits_line key waits) }
 {
@@ -85,7 +75,7 @@ fn waits_line(alloc: Global, key: u32, waits: Option<Waits>) -> Result<String, A
         return Ok(String::new(alloc));
     };
     let head = head(alloc, key)?;
-    let why = why_text(why);
+    let why = why_name(why);
     format!(in alloc; "{head} waits {n} sent {sent} {why}\n")
 }
 

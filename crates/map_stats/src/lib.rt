@@ -2,19 +2,16 @@
 #![tactic(auto)]
 
 mod flow_texts;
-mod flows;
-mod happening;
-mod past;
-mod reach;
+mod laws;
 mod rows;
 mod stats;
 mod summary;
+mod sums;
 mod tally;
 mod texts;
-mod windows;
 
 pub use flow_texts::flow_text;
-pub use flows::Flows;
+pub use laws::sums_are_of_rows;
 pub use rows::{FlowRow, flow_rows};
 pub use stats::Stats;
 pub use tally::{Tallies, Tally};

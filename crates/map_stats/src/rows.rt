@@ -1,41 +1,43 @@
 //! What is told of each flow, by key.
 
-ghost use Rattle.std.specs.Prelude.{◌≡◌, ℕ, List, IfOk};
+ghost use Rattle.std.specs.Prelude.{IfOk};
 ghost use Rattle.std.specs.List.{AllZip};
-ghost use Rattle.grant_machine.specs.declared.command.Command.{Command};
-ghost use Rattle.grant_machine.specs.declared.output.Output.{Output};
-ghost use Rattle.map_stats.specs.FlowRows.{IsRowIn, AreFlows};
-ghost use Rattle.map_stats.specs.FlowsHeld.{HoldsFlows};
+ghost use Rattle.map_stats.specs.FlowRows.{AreFlows, IsFlowRow};
 
-use crate::flows::{Flows, reach_in};
 use crate::summary::Summary;
+use crate::sums::{SumsByKey, sums_of};
+use plan_account::{LeaseRow, RequestRow};
 use std::alloc::{AllocError, Global};
 
 /// What is told of the flow of a key.
-#[derive(Clone, Copy, Debug, PartialEq, Eq)]
+#[derive(Clone, Copy)]
 pub struct FlowRow {
     pub key: u32,
     pub summary: Summary,
 }
 
 /// What is told of each flow, by channel and SID.
-fn rows_of(alloc: Global, flows: &Flows) -> Result<Vec<FlowRow>, AllocError>
-    ensures { IfOk result (λ rows. AllZip (IsRowIn flows.now) flows.now.pasts.entries rows.items) }
+fn rows_of(alloc: Global, sums: &SumsByKey) -> Result<Vec<FlowRow>, AllocError>
+    ensures { IfOk result (λ rows. AllZip IsFlowRow sums.now.entries rows.items) }
 {
     let mut rows = Vec::new(alloc);
-    for (key, past) in &flows.pasts {
-        let reach = reach_in(&flows.reaches, *key / (1 << 16));
-        let summary = past.summary(alloc, reach)?;
+    for (key, had) in sums {
+        let summary = had.summary(alloc)?;
         rows.push(FlowRow { key: *key, summary })?;
     }
     Ok(rows)
 }
 
-/// What is told of each flow, by channel and SID. Where there is no memory, or a number would pass 2^64 - 1, it is
-/// AllocError.
-pub fn flow_rows(alloc: Global, flows: &Flows) -> Result<Vec<FlowRow>, AllocError>
-    ensures { IfOk result (λ rows. (cs : List Command) (os : List Output) → HoldsFlows cs os flows.now → AreFlows cs os rows.items) }
+/// What is told of each flow, by channel and SID: the sums over the rows of its requests and its leases. Where there is
+/// no memory, or a number would pass 2^64 - 1, it is AllocError.
+pub fn flow_rows(
+    alloc: Global,
+    requests: &[RequestRow],
+    leases: &[LeaseRow],
+) -> Result<Vec<FlowRow>, AllocError>
+    ensures { IfOk result (λ rows. AreFlows requests.now leases.now rows.items) }
 {
-    let _count = flows.pasts.len();
-    rows_of(alloc, flows)
+    let sums = sums_of(alloc, requests, leases)?;
+    let _count = sums.len();
+    rows_of(alloc, &sums)
 }

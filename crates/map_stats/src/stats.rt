@@ -1,12 +1,12 @@
-//! The tallies of the MAPs among outputs.
+//! The tallies of the MAPs among deeds.
 
 use crate::tally::{Tallies, add};
-use grant_machine::Output;
-use map_body::{Interval, MapFault, Sid, decode};
+use map_body::{Interval, Sid};
+use plan_account::{Deed, ShownMap};
 use std::alloc::{AllocError, Global};
 use std::collections::BTreeMap;
 
-/// What the MAPs of outputs give, by key: of MAPs the channel, of intervals the channel and the use, and of those of
+/// What the MAPs of deeds give, by key: of MAPs the channel, of intervals the channel and the use, and of those of
 /// one SID the channel, the SID and the use.
 #[derive(Drop)]
 pub struct Stats {
@@ -16,18 +16,15 @@ pub struct Stats {
 }
 
 impl Stats {
-    ghost use Rattle.std.specs.Prelude.{◌≡◌, ℕ, List, [], ◌∷◌, ◌++◌, map, flat_map, fold, IfOk, IfErr, OnOk};
+    ghost use Rattle.std.specs.Prelude.{◌≡◌, ℕ, List, [], ◌∷◌, ◌++◌, map, flat_map, fold, OnOk};
     ghost use Rattle.std.specs.Ordering.{nat_cmp};
     ghost use Rattle.std.specs.BTreeMap.{get};
-    ghost use Rattle.map_body.specs.Body.{Body};
-    ghost use Rattle.map_body.specs.Intervals.{intervals};
-    ghost use Rattle.map_body.specs.Layout.{IsBody, ReadingFault};
-    ghost use Rattle.grant_machine.specs.declared.output.Output.{Output};
+    ghost use Rattle.plan_account.specs.declared.deed.Deed.{Deed};
     ghost use Rattle.map_stats.specs.Tallies.{tally_step};
-    ghost use Rattle.map_stats.specs.Given.{use_given, sid_given, AddingFault};
-    ghost use Rattle.map_stats.specs.Held.{Holds, AddsIntervals};
+    ghost use Rattle.map_stats.specs.Given.{use_given, sid_given};
+    ghost use Rattle.map_stats.specs.Held.{Holds, AddsDeed, AddsIntervals};
 
-    /// Of no output.
+    /// Of no deed.
     pub fn new(alloc: Global) -> Stats
         ensures { Holds [] result }
     {
@@ -68,30 +65,32 @@ impl Stats {
         Ok(())
     }
 
-    fn add_map(&mut self, alloc: Global, ch: u8, len: u16, bytes: &[u8]) -> Result<(), MapFault>
+    fn add_map(&mut self, ch: u8, len: u16, map: &ShownMap) -> Result<(), AllocError>
         ensures maps { OnOk result ((q : ℕ) → get nat_cmp self.new.maps q ≡ tally_step q (get nat_cmp self.old.maps q) (ch, len)) }
-        ensures given { OnOk result ((body : Body) × IsBody bytes.now body × AddsIntervals ch (intervals body.elements) self.old self.new) }
-        ensures fault { IfErr result (ReadingFault bytes.now) }
+        ensures given { OnOk result (AddsIntervals ch map.now.intervals self.old self.new) }
     {
-        let map = decode(alloc, bytes)?;
         add(&mut self.maps, u32::from(ch), len)?;
-        let found = map.intervals(alloc)?;
-        self.add_intervals(ch, &found)?;
+        self.add_intervals(ch, map.intervals())?;
         Ok(())
     }
 
-    /// Adds the MAP of an output, if it is one. Bytes that are no body have their first fault. Where there is no
-    /// memory, or a number would pass 2^64 - 1, it is OutOfMemory.
-    pub fn add(&mut self, alloc: Global, output: &Output) -> Result<(), MapFault>
-        ensures held { OnOk result ((os : List Output) → Holds os self.old → Holds (os ++ output.now ∷ []) self.new) }
-        ensures fault { IfErr result (AddingFault output.now) }
+    fn add_deed(&mut self, deed: &Deed) -> Result<(), AllocError>
+        ensures { OnOk result (AddsDeed deed.now self.old self.new) }
     {
-        match output {
-            Output::Map { ch, len, bytes, .. } => self.add_map(alloc, *ch, *len, bytes.as_slice()),
-            Output::Nothing => Ok(()),
-            Output::ChannelSet { .. } => Ok(()),
-            Output::Assigned { .. } => Ok(()),
-            Output::Refused(_) => Ok(()),
+        match deed {
+            Deed::Map { ch, len, map, .. } => self.add_map(*ch, *len, map),
+            Deed::Channel(_) => Ok(()),
+            Deed::Flow { .. } => Ok(()),
+            Deed::Drop { .. } => Ok(()),
+            Deed::Request { .. } => Ok(()),
+            Deed::Other => Ok(()),
         }
+    }
+
+    /// Adds the MAP of a deed, if it is one. Where there is no memory, or a number would pass 2^64 - 1, it is AllocError.
+    pub fn add(&mut self, deed: &Deed) -> Result<(), AllocError>
+        ensures { OnOk result ((ds : List Deed) → Holds ds self.old → Holds (ds ++ deed.now ∷ []) self.new) }
+    {
+        self.add_deed(deed)
     }
 }

@@ -1,26 +1,13 @@
 //! What is told of a flow: its requests, how long they waited, and its windows.
 
 ghost use Rattle.std.specs.Prelude.{◌≡◌, ◌≤◌, IfOk, IfSome, sum, length};
-ghost use Rattle.map_stats.specs.Summaries.{at_rank, rank_99, waiting_on, why_in, AreDelays};
+ghost use Rattle.map_stats.specs.Summaries.{at_rank, rank_99, AreDelays};
 
-use crate::reach::{Ask, Reach, Term};
+use plan_account::Why;
 use std::alloc::{AllocError, Global};
 
-/// Why a request waits.
-#[derive(Clone, Copy, Debug, PartialEq, Eq)]
-pub enum Why {
-    /// No later MAP has room for it in the lease.
-    LeaseEnds,
-    /// No MAP was cut since it was accepted.
-    NoMap,
-    /// The last MAP left no gap so long.
-    NoGap,
-    /// The last MAP left a gap so long, but had 60 placements already.
-    Placements,
-}
-
 /// A request that waits.
-#[derive(Clone, Copy, Debug, PartialEq, Eq)]
+#[derive(Clone, Copy)]
 pub struct Waits {
     pub n: u16,
     pub sent: u64,
@@ -28,7 +15,7 @@ pub struct Waits {
 }
 
 /// How long requests waited: how many, the sum of their delays, the 99th percentile by nearest rank, and the longest.
-#[derive(Clone, Copy, Debug, PartialEq, Eq)]
+#[derive(Clone, Copy)]
 pub struct Delays {
     pub count: u64,
     pub sum: u64,
@@ -37,44 +24,13 @@ pub struct Delays {
 }
 
 /// What is told of a flow.
-#[derive(Clone, Copy, Debug, PartialEq, Eq)]
+#[derive(Clone, Copy)]
 pub struct Summary {
     pub asked: u64,
     pub delays: Delays,
     pub waits: Option<Waits>,
     pub windows: u64,
     pub missed: u64,
-}
-
-fn why_of(reach: Reach, term: Term, ask: Ask) -> Why
-    ensures { result ≡ why_in reach term ask }
-{
-    let free = u128::from(term.last) + 1;
-    if free < u128::from(reach.end) + u128::from(ask.n) {
-        Why::LeaseEnds
-    } else if ask.maps == reach.maps {
-        Why::NoMap
-    } else if reach.gap < ask.n {
-        Why::NoGap
-    } else {
-        Why::Placements
-    }
-}
-
-/// The request that waits, if one does.
-pub(crate) fn waiting_of(term: Option<Term>, ask: Option<Ask>, reach: Reach) -> Option<Waits>
-    ensures { result ≡ waiting_on term ask reach }
-{
-    let term = term?;
-    let ask = ask?;
-    if term.last < reach.end {
-        return None;
-    }
-    Some(Waits {
-        n: ask.n,
-        sent: ask.sent,
-        why: why_of(reach, term, ask),
-    })
 }
 
 /// The value at a rank, counted from 1; 0 where there is none.

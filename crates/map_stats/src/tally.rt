@@ -9,7 +9,7 @@ use std::alloc::AllocError;
 use std::collections::BTreeMap;
 
 /// How many, and how many minislots they have together.
-#[derive(Clone, Copy, Debug, PartialEq, Eq)]
+#[derive(Clone, Copy)]
 pub struct Tally {
     pub count: u64,
     pub minislots: u64,

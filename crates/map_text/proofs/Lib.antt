@@ -1,4 +1,1 @@
-mod Covering
-mod Faulting
 mod Fitting
-mod Scheduled

@@ -1,8 +1,9 @@
 -- Bars of 60 columns: what of a MAP's minislots is whose.
-use Rattle.std.specs.Prelude.{ℕ, zero, suc, ◌+◌, ◌*◌, ◌/◌, ◌%◌, ◌==◌, Bool, ◌&&◌, nat_lt, nat_le, if◌then◌else◌, List, [], ◌∷◌, ◌++◌}
+use Rattle.std.specs.Prelude.{ℕ, zero, suc, ◌+◌, ◌*◌, ◌/◌, ◌%◌, ◌==◌, Bool, ◌&&◌, nat_lt, if◌then◌else◌, List, [], ◌∷◌, ◌++◌}
 use Rattle.map_body.specs.declared.interval.Interval.{Interval}
 use Rattle.map_body.specs.Iucs.{request}
 use Rattle.map_body.specs.Sids.{everybody}
+use Rattle.plan_account.specs.Cover.{holds}
 
 -- columns 0 to n - 1, each by its number
 abbrev pub columns : (ℕ → ℕ) → ℕ → List ℕ
@@ -26,10 +27,6 @@ bar from to len mark = columns (bar_mark from to len mark) bar_columns
 -- whose an interval is: everybody's, a poll, or the last digit of the SID that it is granted to
 abbrev pub owner_mark : Interval → ℕ
 owner_mark i = if i.sid == everybody then 45 else if i.iuc == request then 63 else 48 + i.sid % 10
-
--- minislot x lies in the interval
-abbrev pub holds : Interval → ℕ → Bool
-holds i x = nat_le i.from x && nat_lt x i.to
 
 -- whose minislot x is; a dot where it is nobody's
 abbrev pub owner_at : List Interval → ℕ → ℕ

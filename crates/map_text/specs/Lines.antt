@@ -2,10 +2,9 @@
 use Rattle.std.specs.Prelude.{ℕ, ◌-◌, ◌==◌, if◌then◌else◌, List, ◌++◌, length, replicate, flat_map, codes, decimal}
 use Rattle.map_body.specs.declared.element.Element.{Element}
 use Rattle.map_body.specs.declared.interval.Interval.{Interval}
-use Rattle.map_body.specs.Body.{Body}
-use Rattle.map_body.specs.Intervals.{intervals, after_null}
 use Rattle.map_body.specs.Iucs.{request}
 use Rattle.map_body.specs.Sids.{everybody}
+use Rattle.plan_account.specs.Shown.{Shown}
 use Rattle.map_text.specs.Bars.{bar, owners}
 
 -- a text at the right of so many columns, and at their left
@@ -62,9 +61,9 @@ unfoldable pub owners_line : ℕ → List Interval → List ℕ
 owners_line len is = codes "offset   len  owner     iuc     |" ++ (owners is len ++ codes "|\n")
 
 -- all of its lines
-abbrev pub map_lines : (ch number command start len : ℕ) → Body → List ℕ
+abbrev pub map_lines : (ch number command start len : ℕ) → Shown → List ℕ
 map_lines ch number command start len map =
-    head_line ch number command start len map.head.ack
-    ++ (owners_line len (intervals map.elements)
-    ++ (flat_map (interval_line len) (intervals map.elements)
-    ++ flat_map waiting_line (after_null map.elements)))
+    head_line ch number command start len map.ack
+    ++ (owners_line len map.intervals
+    ++ (flat_map (interval_line len) map.intervals
+    ++ flat_map waiting_line map.waiting))

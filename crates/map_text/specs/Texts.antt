@@ -1,28 +1,16 @@
 -- The MAPs of a plan as text: for each channel its MAPs in order, and then what became of each of its requests.
-use Rattle.std.specs.Prelude.{ℕ, ◌+◌, ◌-◌, ◌==◌, if◌then◌else◌, List, [], ◌∷◌, ◌++◌, Option, Some, None, flat_map, codes, decimal}
-use Rattle.map_text.specs.declared.deed.Deed.{Deed}
-use Rattle.map_text.specs.declared.deed.Deed.TheVariants as deeds
-use Rattle.map_text.specs.declared.fates.Ended.{Ended}
-use Rattle.map_text.specs.declared.fates.Fate.{Fate}
-use Rattle.map_text.specs.declared.fates.Fate.TheVariants as fates
-use Rattle.map_text.specs.declared.fates.Request.{Request}
-use Rattle.map_text.specs.declared.fates.Told.{Told}
-use Rattle.map_text.specs.declared.seen.Why.{Why}
-use Rattle.map_text.specs.declared.seen.Why.TheVariants as whys
-use Rattle.map_text.specs.Fates.{fate_of}
+use Rattle.std.specs.Prelude.{ℕ, ◌+◌, ◌-◌, ◌/◌, ◌%◌, ◌^◌, ◌==◌, if◌then◌else◌, List, [], ◌∷◌, ◌++◌, Option, Some, None, flat_map, codes, decimal}
+use Rattle.plan_account.specs.declared.deed.Deed.{Deed}
+use Rattle.plan_account.specs.declared.deed.Deed.TheVariants as deeds
+use Rattle.plan_account.specs.declared.past.Fate.{Fate}
+use Rattle.plan_account.specs.declared.past.Fate.TheVariants.{Waits, Gone, Granted}
+use Rattle.plan_account.specs.declared.past.RequestRow.{RequestRow}
+use Rattle.plan_account.specs.declared.past.Told.{Told}
+use Rattle.plan_account.specs.declared.why.Why.{Why}
+use Rattle.plan_account.specs.Accounts.{Rows, why_last}
+use Rattle.plan_account.specs.Deeds.{channels_of}
+use Rattle.plan_account.specs.WhyTexts.{why_words}
 use Rattle.map_text.specs.Lines.{map_lines}
-
--- the channels that deeds set, in order
-abbrev pub channel_in : Deed → List ℕ
-channel_in (deeds.Channel ch) = ch ∷ []
-channel_in (deeds.Flow ch sid modem first last kind) = []
-channel_in (deeds.Drop ch sid) = []
-channel_in (deeds.Request ch sid n sent) = []
-channel_in (deeds.Map ch start len map) = []
-channel_in deeds.Other = []
-
-abbrev pub channels_of : List Deed → List ℕ
-channels_of ds = flat_map channel_in ds
 
 -- how many MAPs of a channel a deed is
 abbrev pub maps_in : ℕ → Deed → ℕ
@@ -47,49 +35,34 @@ abbrev pub maps_from : (ch maps command : ℕ) → List Deed → List ℕ
 maps_from ch maps command [] = []
 maps_from ch maps command (d ∷ ds) = deed_lines ch maps command d ++ maps_from ch (maps + maps_in ch d) (command + 1) ds
 
--- why a request waits
-abbrev pub why_text : Why → List ℕ
-why_text whys.Full = codes "60 are placed already"
-why_text whys.LeaseEnds = codes "its lease ends first"
-why_text whys.NoGap = codes "no gap left"
-why_text (whys.NoGapAbove n) = codes "no gap above " ++ decimal n
-
-abbrev pub told_line : Option Told → List ℕ
-told_line None = []
-told_line (Some t) = codes "        told to wait at " ++ (decimal t.start ++ (codes ", " ++ (why_text t.why ++ codes "\n")))
-
 -- what became of a request that was sent then
 abbrev pub fate_text : ℕ → Fate → List ℕ
-fate_text sent fates.Waits = codes "still waits"
-fate_text sent fates.Dropped = codes "dropped"
-fate_text sent (fates.Granted map start) = codes "map " ++ (decimal map ++ (codes " after " ++ decimal (start - sent)))
+fate_text sent (Waits why) = codes "still waits"
+fate_text sent Gone = codes "dropped"
+fate_text sent (Granted map start) = codes "map " ++ (decimal map ++ (codes " after " ++ decimal (start - sent)))
 
-abbrev pub request_line : ℕ → Request → Fate → List ℕ
-request_line command r fate =
-    codes "request " ++ (decimal command ++ (codes " sid " ++ (decimal r.sid ++ (codes " n " ++ (decimal r.n
-    ++ (codes " sent " ++ (decimal r.sent ++ (codes " " ++ (fate_text r.sent fate ++ codes "\n")))))))))
+abbrev pub request_line : RequestRow → List ℕ
+request_line r =
+    codes "request " ++ (decimal r.command ++ (codes " sid " ++ (decimal (r.key % 2 ^ 16) ++ (codes " n " ++ (decimal r.n
+    ++ (codes " sent " ++ (decimal r.sent ++ (codes " " ++ (fate_text r.sent r.fate ++ codes "\n")))))))))
 
-abbrev pub ended_lines : ℕ → Request → Ended → List ℕ
-ended_lines command r ended = request_line command r ended.fate ++ told_line ended.told
+-- the MAP that had it wait last
+abbrev pub told_text : Option Told → List ℕ
+told_text None = []
+told_text (Some t) = codes "told to wait at " ++ (decimal t.start ++ codes ", ")
 
--- the lines of a deed that is a request of the channel, before these deeds
-abbrev pub fate_lines : (ch maps command : ℕ) → Deed → List Deed → List ℕ
-fate_lines ch maps command (deeds.Request c sid n sent) after =
-    let r : Request = record { ch = c; sid = sid; n = n; sent = sent } in
-    if c == ch then ended_lines command r (fate_of r maps after) else []
-fate_lines ch maps command (deeds.Map c start len map) after = []
-fate_lines ch maps command (deeds.Channel c) after = []
-fate_lines ch maps command (deeds.Flow c sid modem first last kind) after = []
-fate_lines ch maps command (deeds.Drop c sid) after = []
-fate_lines ch maps command deeds.Other after = []
+-- why it waits, or waited last
+abbrev pub why_line : Option Told → Option Why → List ℕ
+why_line told None = []
+why_line told (Some why) = codes "        " ++ (told_text told ++ (why_words why ++ codes "\n"))
 
-abbrev pub fates_from : (ch maps command : ℕ) → List Deed → List ℕ
-fates_from ch maps command [] = []
-fates_from ch maps command (d ∷ ds) = fate_lines ch maps command d ds ++ fates_from ch (maps + maps_in ch d) (command + 1) ds
+-- the lines of a request, if it is one of the channel
+abbrev pub request_lines : ℕ → RequestRow → List ℕ
+request_lines ch r = if r.key / 2 ^ 16 == ch then request_line r ++ why_line r.told (why_last r.told r.fate) else []
 
 -- a channel: its MAPs, then its requests. Commands are numbered from 1
-abbrev pub channel_text : List Deed → ℕ → List ℕ
-channel_text ds ch = maps_from ch 0 1 ds ++ fates_from ch 0 1 ds
+abbrev pub channel_text : Rows → ℕ → List ℕ
+channel_text a ch = maps_from ch 0 1 a.deeds ++ flat_map (request_lines ch) a.requests
 
-abbrev pub plan_text : List Deed → List ℕ
-plan_text ds = flat_map (channel_text ds) (channels_of ds)
+abbrev pub plan_text : Rows → List ℕ
+plan_text a = flat_map (channel_text a) (channels_of a.deeds)

@@ -1,7 +1,8 @@
 //! Bars of 60 columns.
 
 ghost use Rattle.std.specs.Prelude.{◌≡◌, ◌++◌, ◌<◌, ◌≤◌, OnOk, replicate};
-ghost use Rattle.map_text.specs.Bars.{bar_columns, shares, bar_mark, bar, owner_mark, holds, owner_at, column_owner, owners};
+ghost use Rattle.plan_account.specs.Cover.{holds};
+ghost use Rattle.map_text.specs.Bars.{bar_columns, shares, bar_mark, bar, owner_mark, owner_at, column_owner, owners};
 
 use map_body::{Interval, Iuc, Sid};
 use std::alloc::AllocError;

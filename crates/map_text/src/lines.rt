@@ -1,11 +1,11 @@
 //! A MAP as lines.
 
 ghost use Rattle.std.specs.Prelude.{◌≡◌, ◌++◌, ◌-◌, length, replicate, decimal, flat_map, codes, IfOk, OnOk, string_bytes};
-ghost use Rattle.map_body.specs.Intervals.{intervals, after_null};
 ghost use Rattle.map_text.specs.Lines.{right, left, indent, waits, span_text, sid_name, owner_name, bar_sign, interval_front, interval_line, waiting_line, head_line, owners_line, map_lines};
 
 use crate::bars::{put_bar, put_owners};
-use map_body::{Element, Interval, Iuc, MapBody, Sid};
+use map_body::{Element, Interval, Iuc, Sid};
+use plan_account::ShownMap;
 use std::alloc::{AllocError, Global};
 
 fn put_spaces(out: &mut Vec<u8>, count: usize) -> Result<(), AllocError>
@@ -207,14 +207,14 @@ pub(crate) fn put_map(
     alloc: Global,
     out: &mut Vec<u8>,
     place: MapPlace,
-    map: &MapBody,
+    map: &ShownMap,
 ) -> Result<(), AllocError>
     ensures { OnOk result (out.new.items ≡ out.old.items ++ map_lines place.ch place.number place.command place.start place.len map.now) }
 {
-    let intervals = map.intervals(alloc)?;
-    let head = head_line(alloc, &place, map.head().ack)?;
+    let intervals = map.intervals();
+    let head = head_line(alloc, &place, map.ack())?;
     out.extend_from_slice(head.as_bytes())?;
-    put_owners_line(out, place.len, &intervals)?;
-    put_intervals(alloc, out, place.len, &intervals)?;
-    put_all_waiting(alloc, out, map.after_null())
+    put_owners_line(out, place.len, intervals)?;
+    put_intervals(alloc, out, place.len, intervals)?;
+    put_all_waiting(alloc, out, map.waiting())
 }

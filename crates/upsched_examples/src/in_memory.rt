@@ -6,8 +6,8 @@ use sqlite_disk::Memory;
 use std::alloc::{AllocError, Global};
 use std::io::{Read, Write};
 use std::{fs, io};
-use upsched_map_parts::{Fault, Status};
-use upsched_store_parts::{Telling, print_over, script_of};
+use upsched_ends::{Fault, Status};
+use upsched_store::{Telling, print_over, script_of};
 
 /// An empty database and its log in memory, so many times.
 fn pairs_in_memory(alloc: Global, count: u8) -> Result<Vec<Pair<Memory>>, AllocError> {

@@ -20,7 +20,7 @@ use std::time::Clock;
 use std::{fs, io};
 use stores::{EMPTY, STRANGE, VOTED, make_folders, strange_stays};
 use upsched_commands::run_words;
-use upsched_map_parts::Status;
+use upsched_ends::Status;
 
 /// What the examples of a folder are.
 #[derive(Clone, Copy)]

@@ -3,7 +3,7 @@
 use std::io::Write;
 use std::rt::Files;
 use std::{fs, io};
-use upsched_map_parts::Status;
+use upsched_ends::Status;
 
 /// How a command ended, and what it wrote.
 #[derive(Debug, Drop)]

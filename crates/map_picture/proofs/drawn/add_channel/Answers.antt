@@ -10,4 +10,7 @@ returns c =
       c.in_ok-requests.ensures.rows,
       c.in_ok-maps.ensures.rows,
       c.axis_of-axis.ensures,
+      c.leases.ensures,
+      c.requests.ensures,
+      c.deeds-deeds.ensures,
     ) at c.in_ok-add_rows.ensures

@@ -6,5 +6,5 @@ use Rattle.map_picture.proofs.drawn.channels_drawn.Goals as goal
 
 pub returns : goal.returns
 returns c =
-    let drawn = begun _ _ (each (length c.args.channels.now) (channel_at c.args.deeds.now c.args.sent.now c.args.channels.now c.args.tops.now)) c.new-out.ensures.bytes c.in_ok-add_channels.ensures in
+    let drawn = begun _ _ (each (length c.args.channels.now) (channel_at c.args.account.now c.args.sent.now c.args.channels.now c.args.tops.now)) c.new-out.ensures.bytes c.in_ok-add_channels.ensures in
     rw (c.requires.tops, c.requires.channels) at drawn

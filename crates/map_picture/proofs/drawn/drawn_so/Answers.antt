@@ -13,6 +13,6 @@ returns c = record {
   definitions = c.in_ok-known.ensures.0;
   legend = c.requires.drawn.0;
   rendered =
-      c.in_ok-text.ensures c.in_ok-known.ensures.0 (layers c.args.deeds.now c.args.ordered.now c.requires.drawn.0) (c.as_str.ensures.value ∙ c.in_ok-known.ensures.1)
+      c.in_ok-text.ensures c.in_ok-known.ensures.0 (layers c.args.account.now c.args.ordered.now c.requires.drawn.0) (c.as_str.ensures.value ∙ c.in_ok-known.ensures.1)
       c.requires.drawn.1;
 }

@@ -5,10 +5,10 @@ use Rattle.map_picture.proofs.owners.add_owner.Goals as goal
 
 pub returns : goal.returns
 returns c =
-    let name : Xml = owner_name_at c.args.sid c.args.modem c.args.y in
-    let due : Xml = windows c.args.page.axis c.args.y c.args.kind in
-    let given : Xml = grants c.args.page c.args.deeds.now c.args.sid c.args.y in
-    behind _ _ _ (join (join name due) given) (kind_at c.args.kind c.args.y)
+    let name : Xml = owner_name_at c.args.row.now c.args.y in
+    let due : Xml = windows c.args.page.axis c.args.y c.args.row.now.until c.args.row.now.lease.kind in
+    let given : Xml = grants c.args.page c.args.deeds.now c.args.row.now c.args.y in
+    behind _ _ _ (join (join name due) given) (kind_at c.args.row.now.lease.kind c.args.y)
     (behind _ _ _ (join name due) given
     (behind _ _ _ name due c.in_ok-add_owner_name.ensures c.in_ok-add_windows.ensures)
     c.in_ok-add_grants.ensures) c.in_ok-add_kind.ensures

@@ -6,4 +6,4 @@ use Rattle.map_picture.proofs.owners.add_windows_from.Given as goal
 
 -- each so far
 abbrev pub invariant-loop-k : goal.invariant-loop-k
-invariant-loop-k l = string_bytes l.out ≡ string_bytes l.initial.out ++ render (each l.k (window_at l.axis l.y l.interval l.jitter l.first))
+invariant-loop-k l = string_bytes l.out ≡ string_bytes l.initial.out ++ render (each l.k (window_at l.axis l.y l.interval l.jitter l.until l.first))

@@ -1,5 +1,4 @@
 use Rattle.xml_text.specs.Xml.{Xml, join}
-use Rattle.map_body.specs.Intervals.{intervals}
 use Rattle.map_picture.specs.Cells.{cells}
 use Rattle.map_picture.specs.Pictures.{strip_name, strip_words}
 use Rattle.map_picture.specs.Wedges.{wedges}
@@ -9,9 +8,9 @@ use Rattle.map_picture.proofs.rows.add_strip.Goals as goal
 pub returns : goal.returns
 returns c =
     let name : Xml = strip_name c.args.y c.args.k in
-    let all : Xml = cells c.args.len c.args.y (intervals c.args.map.now.elements) in
+    let all : Xml = cells c.args.len c.args.y c.args.map.now.intervals in
     let sent : Xml = wedges c.args.sent.now c.args.ch c.args.start c.args.len c.args.y in
     behind _ _ _ (join (join name all) sent) (strip_words c.args.y c.args.i c.args.start c.args.len)
     (behind _ _ _ (join name all) sent
-    (behind _ _ _ name all c.in_ok-add_strip_name.ensures (rw (c.deref.ensures.value, c.in_ok-intervals.ensures) at c.in_ok-add_cells.ensures))
+    (behind _ _ _ name all c.in_ok-add_strip_name.ensures (rw c.intervals.ensures at c.in_ok-add_cells.ensures))
     c.in_ok-add_wedges.ensures) c.in_ok-add_strip_words.ensures

@@ -1,6 +1,0 @@
-use Rattle.std.proofs.Common.{◌≡◌, ◌≤◌, take}
-use Rattle.map_stats.specs.Windows.{grants_past}
-use Rattle.map_stats.proofs.windows.Windows.grants_past.Given as goal
-
-abbrev pub invariant-loop-at : goal.invariant-loop-at
-invariant-loop-at l = (l.count ≡ grants_past l.self l.end (take l.at-index l.starts)) × (l.count ≤ l.at-index)

@@ -1,5 +1,0 @@
-use Rattle.map_text.proofs.Scheduled.{outputs_have_deeds}
-use Rattle.map_text.proofs.laws.outputs_have_deeds.Goals as goal
-
-pub returns : goal.returns
-returns c = outputs_have_deeds c.maps_are_bodies.ensures

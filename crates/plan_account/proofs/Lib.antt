@@ -1,0 +1,5 @@
+mod Covering
+mod Faulting
+mod Scheduled
+mod Growing
+mod Rowing

@@ -1,0 +1,7 @@
+use Rattle.std.proofs.Common.{◌≡◌, ◌++◌}
+use Rattle.std.specs.List.{flat_map}
+use Rattle.plan_account.specs.Accounts.{leases_in}
+use Rattle.plan_account.proofs.rows.leases_of.Given as goal
+
+abbrev pub invariant-loop-key : goal.invariant-loop-key
+invariant-loop-key l = l.rows.items ++ flat_map (leases_in l.flows) l.key-iterator ≡ flat_map (leases_in l.flows) l.flows.pasts.entries

@@ -1,0 +1,10 @@
+pub mod Cover
+pub mod Shown
+pub mod Deeds
+pub mod Windows
+pub mod Whys
+pub mod WhyTexts
+pub mod Happenings
+pub mod Pasts
+pub mod FlowsHeld
+pub mod Accounts

@@ -1,0 +1,277 @@
+//! `upsched check FILE`: what is wrong with a text, line by line.
+
+ghost use Rattle.std.specs.Prelude.{◌≡◌, ◌≢◌, ◌≤◌, ◌↔◌, IfOk, OnOk, ℕ, List, flat_map, map, length, string_bytes, true, IfErr};
+ghost use Rattle.std.specs.Io.KnownBytes.{Appends};
+ghost use Rattle.toml.specs.Data.{table};
+ghost use Rattle.toml.specs.View.{view, table_view};
+ghost use Rattle.toml.specs.Parse.{parse_document};
+ghost use Rattle.toml.specs.Errors.{IsWithin};
+ghost use Rattle.text_faults.specs.Faults.{TellsWhether};
+ghost use Rattle.text_faults.specs.Unread.{key_there};
+ghost use Rattle.upsched_ends.specs.declared.status.Status.TheVariants.{Done, NotUnderstood};
+ghost use Rattle.upsched_check.specs.Reports.{IsForm, IsGood, fault_line, fault_lines, good_text, good_line, toml_line, unread_line, unread_of, form_of, is_empty, is_good, table_lines, TellsOf, Reports, ReportsKnown};
+ghost use Rattle.upsched_ends.specs.Faults.{StopsPrint};
+
+use crate::form::{CheckWords, Form, faults_of, form_of, unread_of};
+use crate::place::place_behind;
+use std::alloc::{AllocError, Global};
+use std::io::{Read, Write};
+use text_faults::{Fault as TextFault, Unread, fault_text, unread_text};
+use toml::de::Error;
+use toml::{Table, Value};
+use upsched_ends::{Fault, Status, text_of};
+
+fn print_fault<'a, O: Write>(
+    alloc: Global,
+    path: &str,
+    fault: &TextFault,
+    output: &mut O,
+) -> Result<(), Fault<'a>>
+    ensures printed { OnOk result (Appends (O.contents output.old) (O.contents output.new) (fault_line path.now fault.now)) }
+    ensures fault { IfErr result StopsPrint }
+{
+    let Ok(text) = fault_text(alloc, fault) else {
+        return Err(Fault::Memory);
+    };
+    match writeln!(output, "{path}: {text}") {
+        Ok(()) => Ok(()),
+        Err(_) => Err(Fault::Output),
+    }
+}
+
+fn print_each<'a, O: Write>(
+    alloc: Global,
+    path: &str,
+    faults: &[TextFault],
+    output: &mut O,
+) -> Result<(), Fault<'a>>
+    ensures printed { OnOk result (Appends (O.contents output.old) (O.contents output.new) (flat_map (fault_line path.now) faults.now)) }
+    ensures fault { IfErr result StopsPrint }
+{
+    for fault in faults {
+        print_fault(alloc, path, fault, output)?;
+    }
+    Ok(())
+}
+
+fn good_text(alloc: Global, form: Form, bare: bool) -> Result<String, AllocError>
+    ensures { IfOk result (λ text. string_bytes text ≡ good_text form bare) }
+{
+    let name = form.name();
+    if bare {
+        let key = form.key();
+        return format!(in alloc; "no fault in this {name}, and no key {key}");
+    }
+    format!(in alloc; "no fault in this {name}")
+}
+
+fn print_good<'a, O: Write>(
+    alloc: Global,
+    path: &str,
+    form: Form,
+    bare: bool,
+    output: &mut O,
+) -> Result<(), Fault<'a>>
+    ensures printed { OnOk result (Appends (O.contents output.old) (O.contents output.new) (good_line path.now form bare)) }
+    ensures fault { IfErr result StopsPrint }
+{
+    let Ok(text) = good_text(alloc, form, bare) else {
+        return Err(Fault::Memory);
+    };
+    match writeln!(output, "{path}: {text}") {
+        Ok(()) => Ok(()),
+        Err(_) => Err(Fault::Output),
+    }
+}
+
+fn print_faults<'a, O: Write>(
+    alloc: Global,
+    path: &str,
+    form: Form,
+    bare: bool,
+    faults: &[TextFault],
+    output: &mut O,
+) -> Result<(), Fault<'a>>
+    ensures printed { OnOk result (Appends (O.contents output.old) (O.contents output.new) (fault_lines path.now form bare faults.now)) }
+    ensures fault { IfErr result StopsPrint }
+{
+    if faults.is_empty() {
+        print_good(alloc, path, form, bare, output)
+    } else {
+        print_each(alloc, path, faults, output)
+    }
+}
+
+fn print_key<'a, O: Write>(
+    alloc: Global,
+    path: &str,
+    key: &Unread,
+    output: &mut O,
+) -> Result<(), Fault<'a>>
+    ensures printed { OnOk result (Appends (O.contents output.old) (O.contents output.new) (unread_line path.now (key_there key.now))) }
+    ensures fault { IfErr result StopsPrint }
+{
+    let Ok(text) = unread_text(alloc, key) else {
+        return Err(Fault::Memory);
+    };
+    match writeln!(output, "{path}: {text}") {
+        Ok(()) => Ok(()),
+        Err(_) => Err(Fault::Output),
+    }
+}
+
+fn print_keys<'a, O: Write>(
+    alloc: Global,
+    path: &str,
+    keys: &[Unread],
+    output: &mut O,
+) -> Result<(), Fault<'a>>
+    ensures printed { OnOk result (Appends (O.contents output.old) (O.contents output.new)
+        (flat_map (unread_line path.now) (map key_there keys.now))) }
+    ensures fault { IfErr result StopsPrint }
+{
+    for key in keys {
+        print_key(alloc, path, key, output)?;
+    }
+    Ok(())
+}
+
+/// Prints the keys of a table that nothing reads.
+fn print_unread<'a, O: Write>(
+    alloc: Global,
+    path: &str,
+    form: Form,
+    whole: &Value,
+    output: &mut O,
+) -> Result<(), Fault<'a>>
+    ensures printed { OnOk result (Appends (O.contents output.old) (O.contents output.new)
+        (flat_map (unread_line path.now) (unread_of form (view whole.now)))) }
+    ensures fault { IfErr result StopsPrint }
+{
+    let Ok(unread) = unread_of(alloc, form, whole) else {
+        return Err(Fault::Memory);
+    };
+    print_keys(alloc, path, unread.as_slice(), output)
+}
+
+/// Prints what is wrong with a table and which keys nothing reads, and gives whether it is good.
+fn print_table<'a, O: Write>(
+    alloc: Global,
+    found: Table,
+    path: &str,
+    said: Option<Form>,
+    output: &mut O,
+) -> Result<bool, Fault<'a>>
+    ensures printed { OnOk result (Appends (O.contents output.old) (O.contents output.new)
+        (table_lines path.now said (table (table_view found)))) }
+    ensures good { IfOk result (λ good. good ≡ is_good said (table (table_view found))) }
+    ensures whether { IfOk result (λ good. (good ≡ true) ↔ IsForm (form_of said (table (table_view found))) (table_view found)) }
+    ensures fault { IfErr result StopsPrint }
+{
+    let whole = Value::Table(found);
+    let form = form_of(said, &whole);
+    let Ok(faults) = faults_of(alloc, form, &whole) else {
+        return Err(Fault::Memory);
+    };
+    let bare = whole.get(form.key()).is_none();
+    print_faults(alloc, path, form, bare, faults.as_slice(), output)?;
+    print_unread(alloc, path, form, &whole, output)?;
+    Ok(faults.is_empty())
+}
+
+/// Prints where a text ends to be TOML, and why.
+fn print_no_toml<'a, O: Write>(
+    path: &str,
+    text: &str,
+    error: &Error,
+    output: &mut O,
+) -> Result<(), Fault<'a>>
+    requires { IsWithin text.now error.now }
+    ensures printed { OnOk result ((start : ℕ) × (why : List ℕ) × (start ≤ length text.now)
+        × Appends (O.contents output.old) (O.contents output.new) (toml_line path.now text.now start why)) }
+    ensures fault { IfErr result StopsPrint }
+{
+    let start = match error.span() {
+        Some(range) => range.start,
+        None => 0,
+    };
+    let (line, column) = place_behind(text.as_bytes(), start);
+    let why = error.message();
+    match writeln!(output, "{path}:{line}:{column}: {why}") {
+        Ok(()) => Ok(()),
+        Err(_) => Err(Fault::Output),
+    }
+}
+
+fn print_text<'a, O: Write>(
+    alloc: Global,
+    text: &str,
+    path: &str,
+    said: Option<Form>,
+    output: &mut O,
+) -> Result<bool, Fault<'a>>
+    ensures told { IfOk result (λ good. Reports path.now said text.now good (O.contents output.old) (O.contents output.new)) }
+    ensures good { IfOk result (λ good. (good ≡ true) ↔ IsGood said text.now) }
+    ensures fault { IfErr result StopsPrint }
+{
+    match toml::table_from_str(alloc, text) {
+        Ok(found) => print_table(alloc, found, path, said, output),
+        Err(error) if error.is_memory() => Err(Fault::Memory),
+        Err(error) => {
+            print_no_toml(path, text, &error, output)?;
+            Ok(false)
+        }
+    }
+}
+
+/// Prints what is wrong with a text, a line each, or a line that tells of no fault. Gives whether the text is good.
+pub fn report<'a, O: Write>(
+    alloc: Global,
+    text: &str,
+    words: &CheckWords<'_>,
+    output: &mut O,
+) -> Result<bool, Fault<'a>>
+    ensures told { IfOk result (λ good. Reports words.now.path.now words.now.form text.now good (O.contents output.old) (O.contents output.new)) }
+    ensures good { IfOk result (λ good. (good ≡ true) ↔ IsGood words.now.form text.now) }
+    ensures fault { IfErr result StopsPrint }
+{
+    let good = print_text(alloc, text, words.path, words.form, output)?;
+    match output.flush() {
+        Ok(()) => Ok(good),
+        Err(_) => Err(Fault::Output),
+    }
+}
+
+fn report_file<'a, R: Read, O: Write>(
+    alloc: Global,
+    file: &mut R,
+    words: &CheckWords<'a>,
+    output: &mut O,
+) -> Result<bool, Fault<'a>>
+    ensures { IfOk result (λ good. ReportsKnown words.now.path.now words.now.form (R.remaining file.old) good
+        (O.contents output.old) (O.contents output.new)) }
+{
+    let text = text_of(alloc, file, words.path)?;
+    report(alloc, text.as_str(), words, output)
+}
+
+/// Tells whether the text of a file is a good plan or script, and if not, what is wrong where. A text that isn't good,
+/// and a file that can't be read, end as faulted.
+pub fn check<R: Read, O: Write, E: Write>(
+    alloc: Global,
+    file: &mut R,
+    words: &CheckWords<'_>,
+    output: &mut O,
+    errors: &mut E,
+) -> Status
+    ensures good { result ≡ Done → ReportsKnown words.now.path.now words.now.form (R.remaining file.old) true
+        (O.contents output.old) (O.contents output.new) }
+    ensures quiet { result ≡ Done → errors.new ≡ errors.old }
+    ensures understood { result ≢ NotUnderstood }
+{
+    match report_file(alloc, file, words, output) {
+        Ok(true) => Status::Done,
+        Ok(false) => Status::Faulted,
+        Err(fault) => fault.told(errors),
+    }
+}

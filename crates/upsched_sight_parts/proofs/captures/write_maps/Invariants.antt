@@ -1,7 +1,0 @@
-use Rattle.grant_machine.specs.Runs.{IsReached}
-use Rattle.upsched_sight_parts.proofs.Captured.{Written}
-use Rattle.upsched_sight_parts.proofs.captures.write_maps.Given as goal
-
-abbrev pub invariant-loop-command : goal.invariant-loop-command
-invariant-loop-command g l =
-    IsReached l.machine × Written l.commands l.command-index l.machine l.count (g.O.Write.contents l.initial.output) (g.O.Write.contents l.output)

@@ -1,6 +1,0 @@
-use Rattle.upsched_sight_parts.proofs.Known.{told_known}
-use Rattle.upsched_sight_parts.proofs.sight.report_file.Goals as goal
-
-pub returns : goal.returns
-returns g c =
-    told_known c.report.result c.args.words.now.path.now c.args.words.now.form (g.R.Read.remaining c.args.file.now) _ _ _ _ c.in_ok-text.ensures.text c.as_str.ensures.value c.report.ensures.told c.report.ensures.good
