@@ -1,2 +1,3 @@
+mod PlainLetters
 mod Plain
 mod Told

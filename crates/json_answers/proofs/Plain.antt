@@ -3,7 +3,7 @@ use Rattle.std.proofs.Common.{◌≡◌, ℕ, ◌≤◌, false, List, [], ◌∷
 use Rattle.std.proofs.Math.Nat.{max-le}
 use Rattle.std.specs.List.{AllZip}
 use Rattle.modem.specs.declared.types.Sending.{Sending}
-use Rattle.modem.specs.declared.types.Sending.TheVariants.{Unicast, Polled, Request}
+use Rattle.modem.specs.declared.types.Sending.TheVariants.{Unicast, Polled, Request, Ranging}
 use Rattle.modem.specs.Wants.{number_of_fault}
 use Rattle.proposer.specs.Faults.{node_fault_number}
 use Rattle.world_events.specs.Refusals.{event_refusal_number}
@@ -17,13 +17,14 @@ use Rattle.serde_json.specs.Written.{items_have_float}
 use Rattle.json_outputs.specs.Fields.{with_number}
 use Rattle.json_outputs.specs.Texts.{IsPlain}
 use Rattle.json_outputs.proofs.Callers.{Small, AreSmall, both, none_small, field_small, with_number_small, with_text_small, with_time_small, object_small, output_small}
+use Rattle.watched_runs.specs.Rows.{Row}
 use Rattle.watched_runs.specs.declared.post.Post.{Post}
 use Rattle.watched_runs.specs.declared.post.Post.TheVariants.{Idle, Prepares, Leads}
 use Rattle.watched_runs.specs.declared.sight.Sight.{Sight}
-use Rattle.json_letters.proofs.Callers.{letters_small}
+use Rattle.json_answers.proofs.PlainLetters.{letters_small}
 use Rattle.json_answers.specs.Names.{want_fault_name}
 use Rattle.json_answers.specs.Answers.{with_name, with_sid, with_sending, with_fault, with_answer}
-use Rattle.json_answers.specs.Events.{place_members, TellsRelease, TellsEvent, Trace, event_members, counts_data, with_changed, with_learned, with_sight, with_trace}
+use Rattle.json_answers.specs.Events.{place_members, TellsRelease, TellsEvent, event_members, counts_data, with_changed, with_learned, with_sight, with_trace}
 
 -- the fields of an answer
 name_small : (k : ℕ) (name : List ℕ) (ms : Members) → AreSmall k ms → AreSmall k (with_name name ms)
@@ -37,6 +38,7 @@ sending_small k None ms xs = name_small k (codes "idle") ms xs
 sending_small k (Some (Unicast sid)) ms xs = with_number_small k (codes "sid") sid _ (name_small k (codes "unicast") ms xs)
 sending_small k (Some (Polled sid n)) ms xs = sid_small k (codes "polled") sid n ms xs
 sending_small k (Some (Request sid n)) ms xs = sid_small k (codes "request") sid n ms xs
+sending_small k (Some (Ranging sid)) ms xs = with_number_small k (codes "sid") sid _ (name_small k (codes "ranging") ms xs)
 
 fault_small : (k : ℕ) (answer : List ℕ) (n : ℕ) (name : List ℕ) (ms : Members) → AreSmall k ms → AreSmall k (with_fault answer n name ms)
 fault_small k answer n name ms xs = with_text_small k (codes "name") name _ (with_number_small k (codes "number") n _ (name_small k answer ms xs))
@@ -73,11 +75,10 @@ releases_shallow (x ∷ xs) (d ∷ ds) told = max-le (release_small x d told.0).
 releases_small : (xs : List ReleasedOutput) (ds : List Data) → AllZip TellsRelease xs ds → Small 4 (array (items_of ds))
 releases_small xs ds told = record { whole = releases_whole xs ds told; shallow = let below = releases_shallow xs ds told in omega arith }
 
-fields_small : (n : ℕ) (a : Answer) (xs : List ReleasedOutput) (ds : List Data) → AllZip TellsRelease xs ds
-    → AreSmall 4 (put (codes "outputs") (array (items_of ds)) (event_members n a))
-fields_small n a xs ds told =
-    let fields = answer_small 4 a (with_number (codes "event") n no_members) (with_number_small 4 (codes "event") n no_members (none_small 4)) in
-    field_small 4 (codes "outputs") (array (items_of ds)) (event_members n a) (releases_small xs ds told) fields
+fields_small : (row : Row) (ds : List Data) → AllZip TellsRelease row.released ds → AreSmall 4 (put (codes "outputs") (array (items_of ds)) (event_members row))
+fields_small row ds told =
+    let fields = answer_small 4 row.answer (with_number (codes "event") row.number no_members) (with_number_small 4 (codes "event") row.number no_members (none_small 4)) in
+    field_small 4 (codes "outputs") (array (items_of ds)) (event_members row) (releases_small row.released ds told) fields
 
 object_plain : (ms : Members) → AreSmall 4 ms → IsPlain (object ms)
 object_plain ms xs =
@@ -89,9 +90,8 @@ same_members : (a b : Members) → object a ≡ object b → a ≡ b
 same_members a b e = cc
 
 -- what is said of an event, with its trace too, and the counts
-pub event_plain : (n : ℕ) (a : Answer) (xs : List ReleasedOutput) (ds : List Data) → AllZip TellsRelease xs ds
-    → IsPlain (object (put (codes "outputs") (array (items_of ds)) (event_members n a)))
-event_plain n a xs ds told = object_plain _ (fields_small n a xs ds told)
+pub event_plain : (row : Row) (ds : List Data) → AllZip TellsRelease row.released ds → IsPlain (object (put (codes "outputs") (array (items_of ds)) (event_members row)))
+event_plain row ds told = object_plain _ (fields_small row ds told)
 
 post_small : (k : ℕ) (post : Option Post) (ms : Members) → AreSmall k ms → AreSmall k (with_changed post ms)
 post_small k None ms xs = xs
@@ -108,12 +108,11 @@ sight_small k None ms xs = xs
 sight_small k (Some sight) ms xs =
     learned_small k sight.learned _ (post_small k sight.post _ (with_number_small k (codes "node") sight.node ms xs))
 
-pub trace_plain : (n : ℕ) (a : Answer) (xs : List ReleasedOutput) (trace : Trace) (ms : Members) → TellsEvent n a xs (object ms)
-    → IsPlain (object (with_trace trace ms))
-trace_plain n a xs trace ms (ds, told, is) =
-    let fields : AreSmall 4 ms = subst (AreSmall 4) (sym (same_members ms _ is)) (fields_small n a xs ds told) in
-    object_plain _ (sight_small 4 trace.sight _ (letters_small (codes "sent") trace.sent.0 trace.sent.1 _
-    (letters_small (codes "came") trace.came.0 trace.came.1 ms fields)))
+pub trace_plain : (row : Row) (ms : Members) → TellsEvent row (object ms) → IsPlain (object (with_trace row ms))
+trace_plain row ms (ds, told, is) =
+    let fields : AreSmall 4 ms = subst (AreSmall 4) (sym (same_members ms _ is)) (fields_small row ds told) in
+    object_plain _ (sight_small 4 row.sight _ (letters_small (codes "sent") row.sent.0 row.sent.1 _
+    (letters_small (codes "came") row.came.0 row.came.1 ms fields)))
 
 pub counts_plain : (letters outputs transmissions : ℕ) → IsPlain (counts_data letters outputs transmissions)
 counts_plain letters outputs transmissions =

@@ -1,7 +1,7 @@
 -- Answers as fields of JSON.
 use Rattle.std.specs.Prelude.{ℕ, List, Option, Some, None, codes}
 use Rattle.modem.specs.declared.types.Sending.{Sending}
-use Rattle.modem.specs.declared.types.Sending.TheVariants.{Unicast, Polled, Request}
+use Rattle.modem.specs.declared.types.Sending.TheVariants.{Unicast, Polled, Request, Ranging}
 use Rattle.modem.specs.Wants.{number_of_fault}
 use Rattle.proposer.specs.Faults.{node_fault_number}
 use Rattle.world_events.specs.Refusals.{event_refusal_number}
@@ -26,6 +26,7 @@ with_sending None ms = with_name (codes "idle") ms
 with_sending (Some (Unicast sid)) ms = with_number (codes "sid") sid (with_name (codes "unicast") ms)
 with_sending (Some (Polled sid n)) ms = with_sid (codes "polled") sid n ms
 with_sending (Some (Request sid n)) ms = with_sid (codes "request") sid n ms
+with_sending (Some (Ranging sid)) ms = with_number (codes "sid") sid (with_name (codes "ranging") ms)
 
 -- with the number and the name of a refusal or of a fault
 abbrev pub with_fault : List ℕ → ℕ → List ℕ → Members → Members

@@ -1,17 +1,16 @@
 -- Events as JSON.
-use Rattle.std.specs.Prelude.{◌≡◌, ℕ, List, Option, Some, None, codes}
+use Rattle.std.specs.Prelude.{◌≡◌, ℕ, Bool, true, false, List, Option, Some, None, codes}
 use Rattle.std.specs.List.{AllZip}
-use Rattle.ballots.specs.declared.letters.Letter.{Letter}
-use Rattle.seats.specs.declared.answer.Answer.{Answer}
 use Rattle.seats.specs.declared.answer.ReleasedOutput.{ReleasedOutput}
 use Rattle.serde_json.specs.Data.{Data, array, object, Members, no_members, put}
 use Rattle.serde_json.specs.View.{items_of}
 use Rattle.json_outputs.specs.Fields.{with_number, with_text}
 use Rattle.json_outputs.specs.Outputs.{TellsOutput}
+use Rattle.watched_runs.specs.Rows.{Row}
 use Rattle.watched_runs.specs.declared.post.Post.{Post}
 use Rattle.watched_runs.specs.declared.post.Post.TheVariants.{Idle, Prepares, Leads}
 use Rattle.watched_runs.specs.declared.sight.Sight.{Sight}
-use Rattle.json_letters.specs.Letters.{with_ballot, with_letters}
+use Rattle.json_answers.specs.Letters.{with_ballot, with_letters}
 use Rattle.json_answers.specs.Answers.{with_answer}
 
 -- where an output was released: its node, and its place in the log
@@ -23,13 +22,13 @@ abbrev pub TellsRelease : ReleasedOutput → Data → Type 0
 TellsRelease x d = (ms : Members) × TellsOutput x.numbered.output (place_members x) ms × (d ≡ object ms)
 
 -- an event: its number and its answer
-abbrev pub event_members : ℕ → Answer → Members
-event_members number answer = with_answer answer (with_number (codes "event") number no_members)
+abbrev pub event_members : Row → Members
+event_members row = with_answer row.answer (with_number (codes "event") row.number no_members)
 
 -- and the outputs that it released, in order
-abbrev pub TellsEvent : ℕ → Answer → List ReleasedOutput → Data → Type 0
-TellsEvent number answer released d =
-    (shown : List Data) × AllZip TellsRelease released shown × (d ≡ object (put (codes "outputs") (array (items_of shown)) (event_members number answer)))
+abbrev pub TellsEvent : Row → Data → Type 0
+TellsEvent row d =
+    (outputs : List Data) × AllZip TellsRelease row.released outputs × (d ≡ object (put (codes "outputs") (array (items_of outputs)) (event_members row)))
 
 -- with what a node does with a ballot
 abbrev pub with_post_of : List ℕ → ℕ → Members → Members
@@ -56,23 +55,19 @@ abbrev pub with_sight : Option Sight → Members → Members
 with_sight None ms = ms
 with_sight (Some sight) ms = with_learned sight.learned (with_changed sight.post (with_number (codes "node") sight.node ms))
 
--- the letters that came and those that were sent, each numbered from a number on, and what is seen of a node
-pub record Trace : Type 0 where
-  pub came : ℕ × List Letter
-  pub sent : ℕ × List Letter
-  pub sight : Option Sight
-
-abbrev pub trace_of : (came_first : ℕ) → List Letter → (sent_first : ℕ) → List Letter → Option Sight → Trace
-trace_of came_first came sent_first sent sight = record { came = (came_first, came); sent = (sent_first, sent); sight = sight }
-
-abbrev pub with_trace : Trace → Members → Members
-with_trace t ms =
-    with_sight t.sight (with_letters (codes "sent") t.sent.0 t.sent.1 (with_letters (codes "came") t.came.0 t.came.1 ms))
+-- with the letters that came and those that were sent, and what is seen of a node
+abbrev pub with_trace : Row → Members → Members
+with_trace row ms =
+    with_sight row.sight (with_letters (codes "sent") row.sent.0 row.sent.1 (with_letters (codes "came") row.came.0 row.came.1 ms))
 
 -- an event with its trace
-abbrev pub TellsTraced : ℕ → Answer → List ReleasedOutput → Trace → Data → Type 0
-TellsTraced number answer released trace d =
-    (ms : Members) × TellsEvent number answer released (object ms) × (d ≡ object (with_trace trace ms))
+abbrev pub TellsTraced : Row → Data → Type 0
+TellsTraced row d = (ms : Members) × TellsEvent row (object ms) × (d ≡ object (with_trace row ms))
+
+-- an event, traced or not
+abbrev pub TellsRow : Bool → Row → Data → Type 0
+TellsRow true row d = TellsTraced row d
+TellsRow false row d = TellsEvent row d
 
 -- how many letters, outputs and transmissions there were
 abbrev pub counts_data : (letters outputs transmissions : ℕ) → Data

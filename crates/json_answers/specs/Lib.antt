@@ -1,3 +1,4 @@
 pub mod Names
 pub mod Answers
+pub mod Letters
 pub mod Events

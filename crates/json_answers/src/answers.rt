@@ -50,6 +50,10 @@ fn put_sending(
         }
         Some(Sending::Polled(sid, minislots)) => put_sid(map, alloc, "polled", sid, minislots),
         Some(Sending::Request(sid, minislots)) => put_sid(map, alloc, "request", sid, minislots),
+        Some(Sending::Ranging(sid)) => {
+            put_name(map, alloc, "ranging")?;
+            put_number(map, alloc, "sid", u64::from(sid))
+        }
     }
 }
 

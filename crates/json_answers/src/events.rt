@@ -6,12 +6,14 @@ ghost use Rattle.serde_json.specs.Data.{object};
 ghost use Rattle.serde_json.specs.View.{members_view, view};
 ghost use Rattle.json_outputs.specs.Texts.{IsTextOf, IsTextWhere};
 ghost use Rattle.json_answers.specs.Events.{TellsRelease, TellsEvent, counts_data};
+ghost use Rattle.watched_runs.specs.Shown.{shown};
 
 use crate::answers::put_answer;
 use json_outputs::{put_number, put_output, text_of};
-use seats::{Answer, ReleasedOutput};
+use seats::ReleasedOutput;
 use serde_json::{Map, Value, put};
 use std::alloc::{AllocError, Global};
+use watched_runs::Row;
 
 /// An output that a node released.
 fn release_value(alloc: Global, released: &ReleasedOutput) -> Result<Value, AllocError>
@@ -36,32 +38,22 @@ fn release_values(alloc: Global, released: &[ReleasedOutput]) -> Result<Vec<Valu
 }
 
 /// The fields of an event: its number, its answer, and the outputs that it released.
-pub(crate) fn event_fields(
-    alloc: Global,
-    number: usize,
-    answer: Answer,
-    released: &[ReleasedOutput],
-) -> Result<Map<String, Value>, AllocError>
-    ensures { IfOk result (λ map. TellsEvent number answer released.now (object (members_view map.entries))) }
+pub(crate) fn event_fields(alloc: Global, row: &Row<'_>) -> Result<Map<String, Value>, AllocError>
+    ensures { IfOk result (λ map. TellsEvent (shown row.now) (object (members_view map.entries))) }
 {
-    let values = release_values(alloc, released)?;
+    let values = release_values(alloc, row.released)?;
     let mut map = Map::new(alloc);
-    put_number(&mut map, alloc, "event", number as u64)?;
-    put_answer(&mut map, alloc, answer)?;
+    put_number(&mut map, alloc, "event", row.number as u64)?;
+    put_answer(&mut map, alloc, row.answer)?;
     put(&mut map, alloc, "outputs", Value::Array(values))?;
     Ok(map)
 }
 
-/// The event of this number: its answer, and the outputs that it released. Without a line's end.
-pub fn event_text(
-    alloc: Global,
-    number: usize,
-    answer: Answer,
-    released: &[ReleasedOutput],
-) -> Result<String, AllocError>
-    ensures { IfOk result (λ text. IsTextWhere (TellsEvent number answer released.now) (string_bytes text)) }
+/// An event: its number, its answer, and the outputs that it released. Without a line's end.
+pub fn event_text(alloc: Global, row: &Row<'_>) -> Result<String, AllocError>
+    ensures { IfOk result (λ text. IsTextWhere (TellsEvent (shown row.now)) (string_bytes text)) }
 {
-    let value = Value::Object(event_fields(alloc, number, answer, released)?);
+    let value = Value::Object(event_fields(alloc, row)?);
     text_of(alloc, &value)
 }
 

@@ -1,29 +1,19 @@
 //! An event with its trace.
 
-ghost use Rattle.std.specs.Prelude.{◌≡◌, ◌+◌, ◌<◌, ◌^◌, IfOk, OnOk, length, string_bytes};
+ghost use Rattle.std.specs.Prelude.{◌≡◌, IfOk, OnOk, string_bytes};
 ghost use Rattle.serde_json.specs.View.{members_view};
 ghost use Rattle.json_outputs.specs.Texts.{IsTextWhere};
-ghost use Rattle.json_answers.specs.Events.{TellsTraced, trace_of, with_changed, with_learned, with_post, with_post_of, with_sight, with_trace};
+ghost use Rattle.json_answers.specs.Events.{TellsTraced, with_changed, with_learned, with_post, with_post_of};
+ghost use Rattle.json_answers.specs.Events.{with_sight, with_trace};
+ghost use Rattle.watched_runs.specs.Shown.{shown};
 
 use crate::events::event_fields;
-use ballots::{Ballot, Letter};
-use json_letters::put_letters;
+use crate::letters::put_letters;
+use ballots::Ballot;
 use json_outputs::{put_number, put_text, put_time, text_of};
-use seats::{Answer, ReleasedOutput};
 use serde_json::{Map, Value};
 use std::alloc::{AllocError, Global};
-use watched_runs::{Post, Sight};
-
-/// What is told of an event beside its answer and its outputs: the letters that came and those that were sent, each
-/// numbered from a first number on, and what is seen of the node that it asks.
-#[derive(Clone, Copy)]
-pub struct EventTrace<'a> {
-    pub came_first: usize,
-    pub came: &'a [Letter],
-    pub sent_first: usize,
-    pub sent: &'a [Letter],
-    pub sight: Option<Sight>,
-}
+use watched_runs::{Post, Row, Sight};
 
 /// Puts what a node does with a ballot.
 fn put_with_ballot(
@@ -93,38 +83,21 @@ fn put_sight(
     put_learned(map, alloc, sight.learned)
 }
 
-/// Puts a trace.
-fn put_trace(
-    map: &mut Map<String, Value>,
-    alloc: Global,
-    trace: &EventTrace<'_>,
-) -> Result<(), AllocError>
-    requires came { trace.now.came_first + length trace.now.came.now < 2 ^ 64 }
-    requires sent { trace.now.sent_first + length trace.now.sent.now < 2 ^ 64 }
-    ensures { OnOk result (members_view map.new.entries
-        ≡ with_trace (trace_of trace.now.came_first trace.now.came.now trace.now.sent_first trace.now.sent.now trace.now.sight)
-        (members_view map.old.entries)) }
+/// Puts a trace: the letters that came and those that were sent, and what is seen of a node.
+fn put_trace(map: &mut Map<String, Value>, alloc: Global, row: &Row<'_>) -> Result<(), AllocError>
+    ensures { OnOk result (members_view map.new.entries ≡ with_trace (shown row.now) (members_view map.old.entries)) }
 {
-    put_letters(map, alloc, "came", trace.came_first, trace.came)?;
-    put_letters(map, alloc, "sent", trace.sent_first, trace.sent)?;
-    put_sight(map, alloc, trace.sight)
+    put_letters(map, alloc, "came", &row.came)?;
+    put_letters(map, alloc, "sent", &row.sent)?;
+    put_sight(map, alloc, row.sight)
 }
 
-/// The event of this number: its answer, the outputs that it released, and its trace. Without a line's end.
-pub fn traced_text(
-    alloc: Global,
-    number: usize,
-    answer: Answer,
-    released: &[ReleasedOutput],
-    trace: &EventTrace<'_>,
-) -> Result<String, AllocError>
-    requires came { trace.now.came_first + length trace.now.came.now < 2 ^ 64 }
-    requires sent { trace.now.sent_first + length trace.now.sent.now < 2 ^ 64 }
-    ensures { IfOk result (λ text. IsTextWhere (TellsTraced number answer released.now
-        (trace_of trace.now.came_first trace.now.came.now trace.now.sent_first trace.now.sent.now trace.now.sight)) (string_bytes text)) }
+/// An event: its number, its answer, the outputs that it released, and its trace. Without a line's end.
+pub fn traced_text(alloc: Global, row: &Row<'_>) -> Result<String, AllocError>
+    ensures { IfOk result (λ text. IsTextWhere (TellsTraced (shown row.now)) (string_bytes text)) }
 {
-    let mut map = event_fields(alloc, number, answer, released)?;
-    put_trace(&mut map, alloc, trace)?;
+    let mut map = event_fields(alloc, row)?;
+    put_trace(&mut map, alloc, row)?;
     let value = Value::Object(map);
     text_of(alloc, &value)
 }

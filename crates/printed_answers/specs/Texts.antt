@@ -3,7 +3,7 @@ use Rattle.std.specs.Prelude.{ℕ, List, ◌++◌, Option, Some, None, codes, de
 use Rattle.modem.specs.declared.types.Heard.{Heard}
 use Rattle.modem.specs.declared.types.Heard.TheVariants as heard
 use Rattle.modem.specs.declared.types.Sending.{Sending}
-use Rattle.modem.specs.declared.types.Sending.TheVariants.{Unicast, Polled, Request}
+use Rattle.modem.specs.declared.types.Sending.TheVariants.{Unicast, Polled, Request, Ranging}
 use Rattle.modem.specs.Wants.{number_of_fault}
 use Rattle.proposer.specs.Faults.{node_fault_number}
 use Rattle.proposer.specs.declared.fault.NodeFault.{NodeFault}
@@ -28,6 +28,7 @@ sending_text None = codes "idle"
 sending_text (Some (Unicast sid)) = codes "unicast " ++ decimal sid
 sending_text (Some (Polled sid n)) = codes "polled " ++ (decimal sid ++ (codes " " ++ decimal n))
 sending_text (Some (Request sid n)) = codes "request " ++ (decimal sid ++ (codes " " ++ decimal n))
+sending_text (Some (Ranging sid)) = codes "ranging " ++ decimal sid
 
 -- the name of why an event changed nothing
 abbrev pub refusal_name : EventRefusal → List ℕ

@@ -30,6 +30,7 @@ fn sending_text(alloc: Global, sending: Option<Sending>) -> Result<String, Alloc
         Some(Sending::Unicast(sid)) => format!(in alloc; "unicast {sid}"),
         Some(Sending::Polled(sid, n)) => format!(in alloc; "polled {sid} {n}"),
         Some(Sending::Request(sid, n)) => format!(in alloc; "request {sid} {n}"),
+        Some(Sending::Ranging(sid)) => format!(in alloc; "ranging {sid}"),
     }
 }
 

@@ -1,4 +1,6 @@
+mod Placed
 mod Bands
 mod Firsts
+mod Heard
 mod Rendered
 mod Sizes

@@ -5,7 +5,8 @@ use Rattle.world_events.specs.declared.event.Event.{Event}
 use Rattle.world_events.specs.declared.event.Event.TheVariants.{Deliver, DeliverThenCrash, Hear}
 use Rattle.seats.specs.declared.answer.Answer.{Answer}
 use Rattle.seats.specs.declared.answer.ReleasedOutput.{ReleasedOutput}
-use Rattle.printed_letters.specs.Texts.{letter_text}
+use Rattle.printed_answers.specs.Letters.{letter_text}
+use Rattle.watched_runs.specs.Rows.{Row}
 use Rattle.xml_text.specs.Xml.{Xml, shape, titled}
 use Rattle.xml_text.specs.Xml.Tag.{Path}
 use Rattle.run_picture.specs.Lanes.{lane_x}
@@ -36,22 +37,16 @@ abbrev pub is_this : ℕ → Option ℕ → Bool
 is_this l None = false
 is_this l (Some k) = k == l
 
--- which letter an event delivers, where there is one with an answer
-abbrev pub delivered_by : Option Event → Option Answer → Option ℕ
-delivered_by (Some event) (Some answer) = delivered event answer
-delivered_by event answer = None
-
 -- the number of the first of these events that delivers letter l, where they are numbered from i on, or that of the end
 -- where none does
-abbrev pub first_from : (l i : ℕ) → List Event → List Answer → ℕ
-first_from l i [] answers = i
-first_from l i (e ∷ events) [] = first_from l (i + 1) events []
-first_from l i (e ∷ events) (a ∷ answers) = if is_this l (delivered e a) then i else first_from l (i + 1) events answers
+abbrev pub first_from : (l i : ℕ) → List Row → ℕ
+first_from l i [] = i
+first_from l i (row ∷ rows) = if is_this l (delivered row.event row.answer) then i else first_from l (i + 1) rows
 
 -- these are the numbers of the first events that deliver so many letters
-pub record AreFirsts (firsts : List ℕ) (count : ℕ) (events : List Event) (answers : List Answer) : Type 0 where
+pub record AreFirsts (firsts : List ℕ) (count : ℕ) (rows : List Row) : Type 0 where
   pub size : length firsts ≡ count
-  pub first : (l : ℕ) → l < count → get_or firsts l 0 ≡ first_from l 0 events answers
+  pub first : (l : ℕ) → l < count → get_or firsts l 0 ≡ first_from l 0 rows
 
 -- from a point to another below it: straight, or a bow on the right where it is to itself
 abbrev pub bow : (x y1 y2 : ℕ) → List ℕ

@@ -5,6 +5,7 @@ use Rattle.world_events.specs.declared.event.Event.{Event}
 use Rattle.seats.specs.declared.answer.Answer.{Answer}
 use Rattle.seats.specs.declared.answer.ReleasedOutput.{ReleasedOutput}
 use Rattle.printed_answers.specs.Texts.{answer_text}
+use Rattle.watched_runs.specs.Rows.{Row}
 use Rattle.xml_text.specs.Xml.{Xml, said, shape, titled}
 use Rattle.xml_text.specs.Xml.Tag.{Line, Words as WordsAt}
 use Rattle.xml_text.specs.Xml.Xml.{Nothing}
@@ -14,15 +15,18 @@ use Rattle.run_picture.specs.declared.scene.Part.TheVariants.{Rule, Number, Happ
 use Rattle.run_picture.specs.Lanes.{lane_of, lane_x, lanes_end, mark_x}
 use Rattle.run_picture.specs.Marks.{has_failed, kind_name, mark_shape, mark_title}
 use Rattle.run_picture.specs.Arrows.{delivered, heard, letter_arrow, letter_stub, output_arrow}
-use Rattle.run_picture.specs.Roles.{comes_right, seen_told}
+use Rattle.run_picture.specs.Roles.{comes_right, sight_told}
 use Rattle.run_picture.specs.Words.{event_words, note_words}
 
 abbrev pub lanes : Scene → ℕ
 lanes s = s.members + s.modems
 
--- where an event is marked
+-- the lane of an event, and where it is marked
+abbrev pub event_lane : Scene → Event → Option ℕ
+event_lane s event = lane_of s.members s.modems s.letters.now event
+
 abbrev pub event_x : Scene → Event → ℕ
-event_x s event = mark_x (lanes s) (lane_of s.members s.modems s.letters.now event)
+event_x s event = mark_x (lanes s) (event_lane s event)
 
 -- the row's thin line, the event's number, what happens, its answer
 abbrev pub rule : Scene → ℕ → Xml
@@ -41,9 +45,10 @@ answer_class false = codes "m mute"
 abbrev pub answered : Scene → Answer → ℕ → Xml
 answered s answer y = said (WordsAt (lanes_end (lanes s) + 8) (y + 4) (answer_class (has_failed answer))) (answer_text answer)
 
--- the mark of event i
-abbrev pub mark : Scene → ℕ → Event → Answer → ℕ → Xml
-mark s i event answer y = titled (mark_title i answer) (shape (mark_shape (has_failed answer) s.letters.now (event_x s event) y event answer))
+-- the mark of an event
+abbrev pub mark : Scene → Row → ℕ → Xml
+mark s row y =
+    titled (mark_title row.number row.answer) (shape (mark_shape (has_failed row.answer) s.letters.now (event_x s row.event) y row.event row.answer))
 
 -- the arrow of the letter that event i delivers
 abbrev pub arrow_from : Scene → (i l : ℕ) → Option Letter → (sent first : Option ℕ) → ℕ → Xml
@@ -76,25 +81,25 @@ abbrev pub label : Scene → Option ℕ → ℕ → Xml
 label s (Some l) y = label_from s (slice_get s.letters.now l) y
 label s None y = Nothing
 
--- a part of event i, whose row is at y
-abbrev pub part_of : Scene → Part → ℕ → Event → Answer → ℕ → Xml
-part_of s Rule i event answer y = rule s y
-part_of s Number i event answer y = number_words i y
-part_of s Happening i event answer y = happening event y
-part_of s Answered i event answer y = answered s answer y
-part_of s Mark i event answer y = mark s i event answer y
-part_of s Arrow i event answer y = arrow s i (delivered event answer) y
-part_of s Hearing i event answer y = hearing s (lane_of s.members s.modems s.letters.now event) (heard event answer) y
-part_of s Label i event answer y = label s (delivered event answer) y
-part_of s Told i event answer y = seen_told (lanes s) s.members (comes_right s.letters.now (delivered event answer)) y (slice_get s.sights.now i)
+-- a part of an event, whose row is at y
+abbrev pub part_of : Scene → Part → Row → ℕ → Xml
+part_of s Rule row y = rule s y
+part_of s Number row y = number_words row.number y
+part_of s Happening row y = happening row.event y
+part_of s Answered row y = answered s row.answer y
+part_of s Mark row y = mark s row y
+part_of s Arrow row y = arrow s row.number (delivered row.event row.answer) y
+part_of s Hearing row y = hearing s (event_lane s row.event) (heard row.event row.answer) y
+part_of s Label row y = label s (delivered row.event row.answer) y
+part_of s Told row y = sight_told (lanes s) s.members (comes_right s.letters.now (delivered row.event row.answer)) y row.sight
 
-abbrev pub part_for : Scene → Part → ℕ → Option Event → Option Answer → Option ℕ → Xml
-part_for s part i (Some event) (Some answer) (Some y) = part_of s part i event answer y
-part_for s part i event answer y = Nothing
+abbrev pub part_for : Scene → Part → Option Row → Option ℕ → Xml
+part_for s part (Some row) (Some y) = part_of s part row y
+part_for s part row y = Nothing
 
 -- a part of event i, of all
 abbrev pub part_at : Scene → Part → ℕ → Xml
-part_at s part i = part_for s part i (slice_get s.events.now i) (slice_get s.answers.now i) (slice_get s.rows.now i)
+part_at s part i = part_for s part (slice_get s.run.now.rows i) (slice_get s.rows.now i)
 
 -- the stub of letter l, unless it is delivered
 abbrev pub stub_from : Scene → ℕ → Option Letter → Option ℕ → Xml
@@ -107,7 +112,7 @@ stub_unless false s l = stub_from s l (slice_get s.letters.now l) (slice_get s.s
 
 abbrev pub stub_past : Scene → ℕ → Option ℕ → Xml
 stub_past s l None = Nothing
-stub_past s l (Some first) = stub_unless (nat_lt first (length s.events.now)) s l
+stub_past s l (Some first) = stub_unless (nat_lt first (length s.run.now.rows)) s l
 
 abbrev pub stub_at : Scene → ℕ → Xml
 stub_at s l = stub_past s l (slice_get s.firsts.now l)

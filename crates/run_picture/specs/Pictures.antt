@@ -1,9 +1,5 @@
 -- The picture of a run.
 use Rattle.std.specs.Prelude.{◌≡◌, ℕ, nat_lt, ◌-◌, Bool, true, false, List, ◌++◌, Option, codes, decimal, length, slice_get}
-use Rattle.ballots.specs.declared.letters.Letter.{Letter}
-use Rattle.world_events.specs.declared.event.Event.{Event}
-use Rattle.seats.specs.declared.answer.Answer.{Answer}
-use Rattle.seats.specs.declared.answer.ReleasedOutput.{ReleasedOutput}
 use Rattle.xml_text.specs.Xml.{Drawn, Xml, drawing, join, render, said, shape}
 use Rattle.xml_text.specs.Xml.Tag.{Line, Words}
 use Rattle.xml_text.specs.Each.{each}
@@ -15,13 +11,13 @@ use Rattle.run_picture.specs.Lanes.{lane_x}
 use Rattle.run_picture.specs.Rows.{first_row, givers_from, released_count, rows_from, sent_count}
 use Rattle.run_picture.specs.Parts.{lanes, part_at, stub_at}
 use Rattle.run_picture.specs.Roles.{bands_from, chosen_from}
-use Rattle.shown_choices.specs.Choices.{choices}
+use Rattle.watched_runs.specs.Choices.{choices}
+use Rattle.watched_runs.specs.Rows.{Seen}
 use Rattle.watched_runs.specs.declared.post.Post.TheVariants.{Idle}
-use Rattle.watched_runs.specs.declared.sight.Sight.{Sight}
 
 -- a part of each event, in order
 abbrev pub of_events : Scene → Part → Xml
-of_events s part = each (length s.events.now) (part_at s part)
+of_events s part = each (length s.run.now.rows) (part_at s part)
 
 -- the line of lane k, down to the bottom, and its name
 abbrev pub lane_line : Scene → (bottom k : ℕ) → Xml
@@ -36,7 +32,7 @@ lane_name s k = said (Words (lane_x (lanes s) k) 124 (codes "c b")) (name_if (na
 
 -- the bands of node k
 abbrev pub node_bands : Scene → (bottom k : ℕ) → Xml
-node_bands s bottom k = bands_from (lanes s) bottom k s.sights.now Idle first_row 0 s.rows.now
+node_bands s bottom k = bands_from (lanes s) bottom k s.run.now.rows Idle first_row 0 s.rows.now
 
 -- the line where letter l shows that a place is chosen
 abbrev pub chosen_at : Scene → ℕ → Xml
@@ -60,21 +56,19 @@ labels_of s legend =
 abbrev pub layers : Scene → (bottom : ℕ) → (legend : Xml) → Drawn
 layers s bottom legend = record { rules = rules_of s; bands = bands_of s bottom; arrows = arrows_of s; marks = of_events s Mark; labels = labels_of s legend }
 
--- a scene of so many nodes, with modems of these ids, and of what happened, with the row of each event and of what gave
--- each letter and each output, and the first event that delivers each letter
-pub record IsSceneOf (s : Scene) (members : ℕ) (ids : List ℕ) (events : List Event) (answers : List Answer) (sights : List (Option Sight)) (letters : List Letter) (outputs : List ReleasedOutput) : Type 0 where
+-- a scene of so many nodes, with modems of these ids, and of a run, with the row of each event and of what gave each
+-- letter and each output, and the first event that delivers each letter
+pub record IsSceneOf (s : Scene) (members : ℕ) (ids : List ℕ) (run : Seen) : Type 0 where
   pub members_told : s.members ≡ members
   pub modems_told : s.modems ≡ length ids
-  pub events_told : s.events.now ≡ events
-  pub answers_told : s.answers.now ≡ answers
-  pub letters_told : s.letters.now ≡ letters
-  pub outputs_told : s.outputs.now ≡ outputs
-  pub rows_told : s.rows.now ≡ rows_from first_row answers
-  pub senders_told : s.senders.now ≡ givers_from sent_count first_row answers
-  pub releasers_told : s.releasers.now ≡ givers_from released_count first_row answers
-  pub firsts_told : AreFirsts s.firsts.now (length letters) events answers
-  pub sights_told : s.sights.now ≡ sights
-  pub choices_told : s.choices.now ≡ choices members letters
+  pub run_told : s.run.now ≡ run
+  pub letters_told : s.letters.now ≡ run.letters
+  pub outputs_told : s.outputs.now ≡ run.outputs
+  pub rows_told : s.rows.now ≡ rows_from first_row run.rows
+  pub senders_told : s.senders.now ≡ givers_from sent_count first_row run.rows
+  pub releasers_told : s.releasers.now ≡ givers_from released_count first_row run.rows
+  pub firsts_told : AreFirsts s.firsts.now (length run.letters) run.rows
+  pub choices_told : s.choices.now ≡ choices members run.letters
 
 -- a text draws a scene: in some size, with some title, style, definitions and legend
 pub record Draws (s : Scene) (text : List ℕ) : Type 0 where
@@ -87,6 +81,6 @@ pub record Draws (s : Scene) (text : List ℕ) : Type 0 where
   pub legend : Xml
   pub rendered : text ≡ render (drawing width height title style definitions (layers s bottom legend))
 
--- a text is a picture of what happened
-abbrev pub IsPictureOf : (members : ℕ) → (ids : List ℕ) → List Event → List Answer → List (Option Sight) → List Letter → List ReleasedOutput → List ℕ → Type 0
-IsPictureOf members ids events answers sights letters outputs text = (s : Scene) × IsSceneOf s members ids events answers sights letters outputs × Draws s text
+-- a text is a picture of a run
+abbrev pub IsPictureOf : (members : ℕ) → (ids : List ℕ) → Seen → List ℕ → Type 0
+IsPictureOf members ids run text = (s : Scene) × IsSceneOf s members ids run × Draws s text

@@ -1,6 +1,7 @@
 -- Who prepares and leads, as bands on lanes; what is told of it beside marks; and lines where places are chosen.
 use Rattle.std.specs.Prelude.{ℕ, ◌+◌, ◌-◌, ◌==◌, nat_lt, Bool, true, false, not, if◌then◌else◌, List, [], ◌∷◌, ◌++◌, Option, Some, None, codes, decimal, slice_get}
 use Rattle.ballots.specs.declared.letters.Letter.{Letter}
+use Rattle.watched_runs.specs.Rows.{Row}
 use Rattle.watched_runs.specs.declared.post.Post.{Post}
 use Rattle.watched_runs.specs.declared.post.Post.TheVariants.{Idle, Prepares, Leads}
 use Rattle.watched_runs.specs.declared.sight.Sight.{Sight}
@@ -19,9 +20,9 @@ abbrev pub post_seen : ℕ → Option Sight → Option Post
 post_seen k None = None
 post_seen k (Some sight) = post_if (sight.node == k) sight.post
 
-abbrev pub new_post : ℕ → Option (Option Sight) → Option Post
+abbrev pub new_post : ℕ → Option Row → Option Post
 new_post k None = None
-new_post k (Some sight) = post_seen k sight
+new_post k (Some row) = post_seen k row.sight
 
 -- a band round x from one row to another
 abbrev pub band_steps : (x y1 y2 : ℕ) → List ℕ
@@ -56,12 +57,12 @@ abbrev pub row_after : ℕ → ℕ → Option Post → ℕ
 row_after start y None = start
 row_after start y (Some next) = y
 
--- the bands of node k from event i on, whose rows are these: it has had a post since the row start
-abbrev pub bands_from : (lanes bottom k : ℕ) → List (Option Sight) → Post → (start i : ℕ) → List ℕ → Xml
-bands_from lanes bottom k sights post start i [] = band lanes k post start bottom
-bands_from lanes bottom k sights post start i (y ∷ rows) =
-    join (band_if lanes k post start y (new_post k (slice_get sights i)))
-    (bands_from lanes bottom k sights (post_after post (new_post k (slice_get sights i))) (row_after start y (new_post k (slice_get sights i))) (i + 1) rows)
+-- the bands of node k from event i of a run on, whose rows are at these places: it has had a post since the row start
+abbrev pub bands_from : (lanes bottom k : ℕ) → List Row → Post → (start i : ℕ) → List ℕ → Xml
+bands_from lanes bottom k run post start i [] = band lanes k post start bottom
+bands_from lanes bottom k run post start i (y ∷ places) =
+    join (band_if lanes k post start y (new_post k (slice_get run i)))
+    (bands_from lanes bottom k run (post_after post (new_post k (slice_get run i))) (row_after start y (new_post k (slice_get run i))) (i + 1) places)
 
 -- what is told of a node beside a mark, on the side from which no letter came
 abbrev pub told_at : Bool → (x y : ℕ) → List ℕ → Xml
@@ -82,10 +83,6 @@ node_told x left y sight = join (post_told left x y sight.post) (learned_told le
 abbrev pub sight_told : (lanes members : ℕ) → Bool → ℕ → Option Sight → Xml
 sight_told lanes members left y None = Nothing
 sight_told lanes members left y (Some sight) = if nat_lt sight.node members then node_told (lane_x lanes sight.node) left y sight else Nothing
-
-abbrev pub seen_told : (lanes members : ℕ) → Bool → ℕ → Option (Option Sight) → Xml
-seen_told lanes members left y None = Nothing
-seen_told lanes members left y (Some sight) = sight_told lanes members left y sight
 
 -- whether a letter comes from the right, or from the node itself: then what it says stands on the right
 abbrev pub from_right : Option Letter → Bool

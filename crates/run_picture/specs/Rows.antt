@@ -1,37 +1,31 @@
--- Where events stand: a row each, from the top down.
-use Rattle.std.specs.Prelude.{ℕ, ◌+◌, List, [], ◌∷◌, ◌++◌, None, replicate}
+-- Where events are: a row each, from the top down.
+use Rattle.std.specs.Prelude.{ℕ, ◌+◌, List, [], ◌∷◌, ◌++◌, None, length, replicate}
 use Rattle.seats.specs.declared.answer.Answer.{Answer}
-use Rattle.seats.specs.declared.answer.Answer.TheVariants.{Sent, Released, Ticked}
+use Rattle.seats.specs.declared.answer.Answer.TheVariants.{Ticked}
+use Rattle.watched_runs.specs.Rows.{Row}
 
 -- how high the row of an event with this answer is: less where a modem had nothing to send
 abbrev pub row_height : Answer → ℕ
 row_height (Ticked None) = 14
 row_height other = 24
 
--- where the first row stands
+-- where the first row is
 abbrev pub first_row : ℕ
 first_row = 146
 
--- where the rows of answers stand, the first at y
-abbrev pub rows_from : ℕ → List Answer → List ℕ
+-- where the rows of events are, the first at y
+abbrev pub rows_from : ℕ → List Row → List ℕ
 rows_from y [] = []
-rows_from y (a ∷ answers) = y ∷ rows_from (y + row_height a) answers
+rows_from y (row ∷ rows) = y ∷ rows_from (y + row_height row.answer) rows
 
--- how many letters an answer tells, and how many outputs
-abbrev pub sent_count : Answer → ℕ
-sent_count (Sent n) = n
-sent_count other = 0
+-- how many letters an event sent, and how many outputs it released
+abbrev pub sent_count : Row → ℕ
+sent_count row = length row.sent.1
 
-abbrev pub released_count : Answer → ℕ
-released_count (Released n) = n
-released_count other = 0
+abbrev pub released_count : Row → ℕ
+released_count row = length row.released
 
 -- for each letter, or output, the row of the event that gave it
-abbrev pub givers_from : (Answer → ℕ) → ℕ → List Answer → List ℕ
+abbrev pub givers_from : (Row → ℕ) → ℕ → List Row → List ℕ
 givers_from count y [] = []
-givers_from count y (a ∷ answers) = replicate (count a) y ++ givers_from count (y + row_height a) answers
-
--- how many letters, or outputs, these answers tell in all
-abbrev pub given_by : (Answer → ℕ) → List Answer → ℕ
-given_by count [] = 0
-given_by count (a ∷ answers) = count a + given_by count answers
+givers_from count y (row ∷ rows) = replicate (count row) y ++ givers_from count (y + row_height row.answer) rows

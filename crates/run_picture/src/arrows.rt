@@ -1,15 +1,18 @@
 //! Arrows of what is delivered and heard, and stubs of letters that are never delivered.
 
-ghost use Rattle.std.specs.Prelude.{◌≡◌, ◌++◌, ◌<◌, ◌^◌, ℕ, if◌then◌else◌, length, get_or, OnOk, IfOk, string_bytes, slice_get};
+ghost use Rattle.std.specs.Prelude.{◌≡◌, ◌++◌, ◌<◌, ◌^◌, ℕ, if◌then◌else◌, length, get_or, OnOk, IfOk, string_bytes};
 ghost use Rattle.xml_text.specs.Xml.{render};
-ghost use Rattle.run_picture.specs.Arrows.{letter_brought, output_brought, delivered, heard, is_this, delivered_by, AreFirsts, bow, straight, arrow_steps, letter_title, arrow_class, letter_arrow, output_title, output_arrow, stub_steps, stub_title, letter_stub};
+ghost use Rattle.run_picture.specs.Arrows.{letter_brought, output_brought, delivered, heard, is_this, AreFirsts, bow};
+ghost use Rattle.run_picture.specs.Arrows.{straight, arrow_steps, letter_title, arrow_class, letter_arrow};
+ghost use Rattle.run_picture.specs.Arrows.{output_title, output_arrow, stub_steps, stub_title, letter_stub};
 
 use crate::lanes::lane_x;
 use crate::marks::{has_failed, kind_name};
 use ballots::Letter;
-use printed_letters::letter_text;
+use printed_answers::letter_text;
 use seats::{Answer, ReleasedOutput};
 use std::alloc::{AllocError, Global};
+use watched_runs::Watched;
 use world_events::Event;
 use xml_text::add_titled_path;
 
@@ -64,19 +67,6 @@ fn is_this(l: usize, brought: Option<usize>) -> bool
     }
 }
 
-/// Which letter event `i` delivers, if there is such an event with an answer.
-fn delivered_at(events: &[Event], answers: &[Answer], i: usize) -> Option<usize>
-    ensures { result ≡ delivered_by (slice_get events.now i) (slice_get answers.now i) }
-{
-    if i >= events.len() {
-        return None;
-    }
-    if i >= answers.len() {
-        return None;
-    }
-    delivered(&events[i], answers[i])
-}
-
 /// Event `i` is the first so far that delivers the letter, if it does and there is such a letter.
 fn note_first(firsts: &mut Vec<usize>, i: usize, brought: Option<usize>)
     ensures size { length firsts.new.items ≡ length firsts.old.items }
@@ -94,16 +84,16 @@ fn note_first(firsts: &mut Vec<usize>, i: usize, brought: Option<usize>)
 pub(crate) fn firsts_of(
     alloc: Global,
     count: usize,
-    events: &[Event],
-    answers: &[Answer],
+    run: &Watched<'_>,
 ) -> Result<Vec<usize>, AllocError>
-    ensures { IfOk result (λ firsts. AreFirsts firsts.items count events.now answers.now) }
+    ensures { IfOk result (λ firsts. AreFirsts firsts.items count run.now.rows) }
 {
-    let total = events.len();
+    let total = run.len();
     let mut firsts = vec![in alloc; total; count]?;
     for passed in 0..total {
         let i = total - 1 - passed;
-        note_first(&mut firsts, i, delivered_at(events, answers, i));
+        let row = run.row(i);
+        note_first(&mut firsts, i, delivered(row.event, row.answer));
     }
     Ok(firsts)
 }
@@ -155,24 +145,33 @@ fn arrow_class(alloc: Global, again: bool, kind: &str) -> Result<String, AllocEr
     format!(in alloc; "a s-{kind} h-{kind}")
 }
 
-/// The arrow of letter `l`, sent in a row at `sent` and delivered in one at `y`, dashed where it was delivered before.
+/// The arrow of a letter, which is delivered.
+#[derive(Clone, Copy)]
+pub(crate) struct LetterArrow<'a> {
+    /// Whether it was delivered before.
+    pub again: bool,
+    pub number: usize,
+    pub letter: &'a Letter,
+    /// The row in which it was sent, and that of the delivery.
+    pub rows: (u64, u64),
+}
+
+/// The arrow of a letter, dashed where it was delivered before.
 pub(crate) fn add_letter_arrow(
     alloc: Global,
     out: &mut String,
     lanes: u64,
-    again: bool,
-    l: usize,
-    letter: &Letter,
-    sent: u64,
-    y: u64,
+    arrow: &LetterArrow<'_>,
 ) -> Result<(), AllocError>
-    ensures { OnOk result (string_bytes out.new ≡ string_bytes out.old ++ render (letter_arrow lanes again l letter.now sent y)) }
+    ensures { OnOk result (string_bytes out.new
+        ≡ string_bytes out.old ++ render (letter_arrow lanes arrow.now.again arrow.now.number arrow.now.letter.now arrow.now.rows.0 arrow.now.rows.1)) }
 {
-    let title = letter_title(alloc, l, letter)?;
-    let class = arrow_class(alloc, again, kind_name(&letter.note))?;
+    let letter = arrow.letter;
+    let title = letter_title(alloc, arrow.number, letter)?;
+    let class = arrow_class(alloc, arrow.again, kind_name(&letter.note))?;
     let from = lane_x(lanes, u64::from(letter.from.number()));
     let to = lane_x(lanes, u64::from(letter.to.number()));
-    let steps = arrow_steps(alloc, (from, sent), (to, y))?;
+    let steps = arrow_steps(alloc, (from, arrow.rows.0), (to, arrow.rows.1))?;
     add_titled_path(alloc, out, title.as_str(), steps.as_str(), class.as_str())
 }
 
@@ -184,25 +183,33 @@ fn output_title(alloc: Global, i: usize, output: &ReleasedOutput) -> Result<Stri
     format!(in alloc; "output {i} of node {node} place {place}")
 }
 
-/// The arrow of output `i`, released in a row at `released` and heard on lane `k` in one at `y`.
+/// The arrow of an output, which a modem hears.
+#[derive(Clone, Copy)]
+pub(crate) struct OutputArrow<'a> {
+    /// The modem's lane.
+    pub lane: u64,
+    pub number: usize,
+    pub output: &'a ReleasedOutput,
+    /// The row in which it was released, and that in which it is heard.
+    pub rows: (u64, u64),
+}
+
+/// The arrow of an output.
 pub(crate) fn add_output_arrow(
     alloc: Global,
     out: &mut String,
     lanes: u64,
-    k: u64,
-    i: usize,
-    output: &ReleasedOutput,
-    released: u64,
-    y: u64,
+    arrow: &OutputArrow<'_>,
 ) -> Result<(), AllocError>
-    requires node { output.now.node < 2 ^ 40 }
-    requires lane { k < 2 ^ 40 }
-    ensures { OnOk result (string_bytes out.new ≡ string_bytes out.old ++ render (output_arrow lanes k i output.now released y)) }
+    requires node { arrow.now.output.now.node < 2 ^ 40 }
+    requires lane { arrow.now.lane < 2 ^ 40 }
+    ensures { OnOk result (string_bytes out.new
+        ≡ string_bytes out.old ++ render (output_arrow lanes arrow.now.lane arrow.now.number arrow.now.output.now arrow.now.rows.0 arrow.now.rows.1)) }
 {
-    let title = output_title(alloc, i, output)?;
-    let from = lane_x(lanes, output.node as u64);
-    let to = lane_x(lanes, k);
-    let steps = arrow_steps(alloc, (from, released), (to, y))?;
+    let title = output_title(alloc, arrow.number, arrow.output)?;
+    let from = lane_x(lanes, arrow.output.node as u64);
+    let to = lane_x(lanes, arrow.lane);
+    let steps = arrow_steps(alloc, (from, arrow.rows.0), (to, arrow.rows.1))?;
     let class = "a s-output h-output weak";
     add_titled_path(alloc, out, title.as_str(), steps.as_str(), class)
 }
@@ -225,18 +232,18 @@ fn stub_title(alloc: Global, l: usize, letter: &Letter) -> Result<String, AllocE
     format!(in alloc; "never delivered: {text}")
 }
 
-/// The stub of letter `l`, sent in a row at `y` and never delivered.
+/// The stub of a letter of this number, sent in a row at `y` and never delivered.
 pub(crate) fn add_letter_stub(
     alloc: Global,
     out: &mut String,
     lanes: u64,
-    l: usize,
-    letter: &Letter,
+    numbered: (usize, &Letter),
     y: u64,
 ) -> Result<(), AllocError>
     requires { y < 2 ^ 50 }
-    ensures { OnOk result (string_bytes out.new ≡ string_bytes out.old ++ render (letter_stub lanes l letter.now y)) }
+    ensures { OnOk result (string_bytes out.new ≡ string_bytes out.old ++ render (letter_stub lanes numbered.entry.0 numbered.entry.1.now y)) }
 {
+    let (l, letter) = numbered;
     let title = stub_title(alloc, l, letter)?;
     let class = format!(in alloc; "x s-{}", kind_name(&letter.note))?;
     let x = lane_x(lanes, u64::from(letter.from.number()));

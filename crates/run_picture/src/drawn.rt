@@ -6,21 +6,20 @@ ghost use Rattle.xml_text.specs.Each.{each};
 ghost use Rattle.xml_text.specs.Drawings.{AreDrawn};
 ghost use Rattle.ballots.specs.Members.{member_count};
 ghost use Rattle.run_picture.specs.Parts.{lanes};
-ghost use Rattle.run_picture.specs.Pictures.{arrows_of, bands_of, chosen_at, labels_of, node_bands, rules_of, lane_line, lane_name, layers, name_if, of_events, Draws, IsPictureOf};
+ghost use Rattle.run_picture.specs.Pictures.{arrows_of, bands_of, chosen_at, labels_of, node_bands, rules_of};
+ghost use Rattle.run_picture.specs.Pictures.{lane_line, lane_name};
+ghost use Rattle.run_picture.specs.Pictures.{layers, name_if, of_events, Draws, IsPictureOf};
 
 use crate::arrows::firsts_of;
 use crate::heads::{NOTES, STYLE, heads, legend};
 use crate::lanes::{lane_x, lanes_end};
-use crate::parts::{add_part, add_stubs, lanes};
+use crate::parts::{add_part, add_stubs};
 use crate::roles::{add_bands, add_chosen};
 use crate::rows::{releasers_of, rows_of, senders_of};
-use crate::scene::{Part, Scene};
-use ballots::{Letter, Members};
-use seats::{Answer, ReleasedOutput};
-use shown_choices::choices;
+use crate::scene::{Part, Scene, lanes};
+use ballots::Members;
 use std::alloc::{AllocError, Global};
-use watched_runs::Sight;
-use world_events::Event;
+use watched_runs::{Watched, choices};
 use xml_text::{Layers, add_line, add_words, drawing};
 
 /// The line of a lane, down to the bottom.
@@ -120,8 +119,7 @@ fn add_all_bands(
     ensures { OnOk result (string_bytes out.new ≡ string_bytes out.old ++ render (each scene.now.members (node_bands scene.now bottom))) }
 {
     for k in 0..scene.members {
-        let lanes = lanes(scene);
-        add_bands(alloc, out, lanes, bottom, k, scene.sights, scene.rows)?;
+        add_bands(alloc, out, scene, bottom, k)?;
     }
     Ok(())
 }
@@ -133,8 +131,7 @@ fn add_choices(alloc: Global, out: &mut String, scene: &Scene<'_>) -> Result<(),
     ensures { OnOk result (string_bytes out.new ≡ string_bytes out.old ++ render (each (length scene.now.letters.now) (chosen_at scene.now))) }
 {
     for l in 0..scene.letters.len() {
-        let lanes = lanes(scene);
-        add_chosen(alloc, out, lanes, scene.choices, scene.senders, l)?;
+        add_chosen(alloc, out, scene, l)?;
     }
     Ok(())
 }
@@ -204,10 +201,11 @@ fn layers_of(alloc: Global, scene: &Scene<'_>, bottom: u64) -> Result<Layers, Al
     let counts = (
         scene.members,
         scene.modems,
-        scene.events.len(),
+        scene.run.len(),
         scene.letters.len(),
     );
-    let mut labels = legend(alloc, counts, NOTES[0], NOTES[1], NOTES[2], NOTES[3])?;
+    let notes = (NOTES[0], NOTES[1], NOTES[2], NOTES[3]);
+    let mut labels = legend(alloc, counts, notes)?;
     add_labels(alloc, &mut labels, scene)?;
     Ok(Layers {
         rules,
@@ -228,14 +226,13 @@ fn bottom_of(rows: &[u32]) -> u64
     }
 }
 
-/// The picture of a scene in this size, with a title and a style, whose lanes end at the bottom.
+/// The picture of a scene in this size, with words for a title and a style, whose lanes end at the bottom.
 fn drawn_so(
     alloc: Global,
     scene: &Scene<'_>,
     size: (u64, u64),
     bottom: u64,
-    title: &str,
-    style: &str,
+    words: (&str, &str),
 ) -> Result<String, AllocError>
     requires members { scene.now.members < 2 ^ 32 }
     requires modems { scene.now.modems < 2 ^ 32 }
@@ -243,7 +240,7 @@ fn drawn_so(
 {
     let all = layers_of(alloc, scene, bottom)?;
     let heads = heads(alloc)?;
-    let text = drawing(alloc, size, title, style, heads.as_str(), &all)?;
+    let text = drawing(alloc, size, words.0, words.1, heads.as_str(), &all)?;
     Ok(text)
 }
 
@@ -255,9 +252,9 @@ fn drawn_scene(alloc: Global, scene: &Scene<'_>) -> Result<String, AllocError>
 {
     let bottom = bottom_of(scene.rows);
     let width = (lanes_end(lanes(scene)) + 190).max(860);
-    let title = format!(in alloc; "upsched run, {} events", scene.events.len())?;
+    let title = format!(in alloc; "upsched run, {} events", scene.run.len())?;
     let size = (width, bottom + 12);
-    drawn_so(alloc, scene, size, bottom, title.as_str(), STYLE)
+    drawn_so(alloc, scene, size, bottom, (title.as_str(), STYLE))
 }
 
 /// The picture of a run of so many nodes and of modems with these ids, as an SVG document: what happened, how it was
@@ -266,33 +263,28 @@ pub fn picture(
     alloc: Global,
     members: Members,
     ids: &[u32],
-    events: &[Event],
-    answers: &[Answer],
-    sights: &[Option<Sight>],
-    letters: &[Letter],
-    outputs: &[ReleasedOutput],
+    run: &Watched<'_>,
 ) -> Result<String, AllocError>
     requires modems { length ids.now < 2 ^ 32 }
-    requires answers { length answers.now < 2 ^ 27 }
-    ensures { IfOk result (λ text. IsPictureOf (member_count members) ids.now events.now answers.now sights.now letters.now outputs.now (string_bytes text)) }
+    requires events { length run.now.rows < 2 ^ 27 }
+    ensures { IfOk result (λ text. IsPictureOf (member_count members) ids.now run.now (string_bytes text)) }
 {
-    let rows = rows_of(alloc, answers)?;
-    let senders = senders_of(alloc, answers)?;
-    let releasers = releasers_of(alloc, answers)?;
-    let firsts = firsts_of(alloc, letters.len(), events, answers)?;
+    let rows = rows_of(alloc, run)?;
+    let senders = senders_of(alloc, run)?;
+    let releasers = releasers_of(alloc, run)?;
+    let letters = run.letters();
+    let firsts = firsts_of(alloc, letters.len(), run)?;
     let choices = choices(alloc, members, letters)?;
     let scene = Scene {
         members: u64::from(members.count()),
         modems: ids.len() as u64,
-        events,
-        answers,
+        run,
         letters,
-        outputs,
+        outputs: run.outputs(),
         rows: rows.as_slice(),
         senders: senders.as_slice(),
         releasers: releasers.as_slice(),
         firsts: firsts.as_slice(),
-        sights,
         choices: choices.as_slice(),
     };
     drawn_scene(alloc, &scene)

@@ -83,13 +83,11 @@ fn kinds(alloc: Global) -> Result<String, AllocError>
 fn add_counts(
     alloc: Global,
     out: &mut String,
-    members: u64,
-    modems: u64,
-    events: usize,
-    letters: usize,
+    counts: (u64, u64, usize, usize),
 ) -> Result<(), AllocError>
-    ensures { OnOk result (string_bytes out.new ≡ string_bytes out.old ++ render (counts_words members modems events letters)) }
+    ensures { OnOk result (string_bytes out.new ≡ string_bytes out.old ++ render (counts_words counts.0 counts.1 counts.2 counts.3)) }
 {
+    let (members, modems, events, letters) = counts;
     let words = format!(in alloc;
         "A run of {members} nodes and {modems} modems: {events} events from the top down, {letters} letters"
     )?;
@@ -101,18 +99,15 @@ fn add_counts(
 pub(crate) fn legend(
     alloc: Global,
     counts: (u64, u64, usize, usize),
-    first: &str,
-    second: &str,
-    third: &str,
-    fourth: &str,
+    notes: (&str, &str, &str, &str),
 ) -> Result<String, AllocError>
     ensures { IfOk result (λ text. IsRendered (string_bytes text)) }
 {
     let mut out = kinds(alloc)?;
-    add_counts(alloc, &mut out, counts.0, counts.1, counts.2, counts.3)?;
-    add_words(alloc, &mut out, (16, 43), "s mute", first)?;
-    add_words(alloc, &mut out, (16, 57), "s mute", second)?;
-    add_words(alloc, &mut out, (16, 71), "s mute", third)?;
-    add_words(alloc, &mut out, (450, 92), "s mute", fourth)?;
+    add_counts(alloc, &mut out, counts)?;
+    add_words(alloc, &mut out, (16, 43), "s mute", notes.0)?;
+    add_words(alloc, &mut out, (16, 57), "s mute", notes.1)?;
+    add_words(alloc, &mut out, (16, 71), "s mute", notes.2)?;
+    add_words(alloc, &mut out, (450, 92), "s mute", notes.3)?;
     Ok(out)
 }

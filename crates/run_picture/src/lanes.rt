@@ -1,7 +1,8 @@
 //! Lanes of nodes and modems, from the left.
 
 ghost use Rattle.std.specs.Prelude.{◌≡◌, ◌≤◌, ◌<◌, ◌^◌, ◌+◌, slice_get, IfSome};
-ghost use Rattle.run_picture.specs.Lanes.{lane_width, lane_x, lanes_end, node_lane, modem_lane, addressee_lane, lane_of, mark_x};
+ghost use Rattle.run_picture.specs.Lanes.{lane_width, lane_x, lanes_end, node_lane, modem_lane, addressee_lane};
+ghost use Rattle.run_picture.specs.Lanes.{lane_of, mark_x};
 
 use ballots::Letter;
 use world_events::Event;

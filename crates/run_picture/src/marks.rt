@@ -2,7 +2,8 @@
 
 ghost use Rattle.std.specs.Prelude.{◌≡◌, ◌++◌, ◌<◌, ◌^◌, OnOk, IfOk, string_bytes, slice_get};
 ghost use Rattle.xml_text.specs.Xml.{render, shape, titled};
-ghost use Rattle.run_picture.specs.Marks.{has_failed, kind_name, letter_dot, path_at, cross_at, is_idle, tick_shape, done_shape, mark_shape, mark_title};
+ghost use Rattle.run_picture.specs.Marks.{has_failed, kind_name, letter_dot, path_at, cross_at, is_idle, tick_shape};
+ghost use Rattle.run_picture.specs.Marks.{done_shape, mark_shape, mark_title};
 
 use ballots::{Letter, Note};
 use printed_answers::answer_text;
@@ -38,96 +39,109 @@ pub(crate) fn kind_name(note: &Note) -> &'static str
     }
 }
 
-/// A dot in the colour of the letter.
+/// A mark: what it tells when it is pointed at, all letters of the run, where it is, and its event with the answer.
+#[derive(Clone, Copy)]
+pub(crate) struct Mark<'a> {
+    pub title: &'a str,
+    pub letters: &'a [Letter],
+    pub at: (u64, u64),
+    pub event: &'a Event,
+    pub answer: Answer,
+}
+
+/// A dot in the colour of letter `i`.
 fn add_letter_dot(
     alloc: Global,
     out: &mut String,
-    title: &str,
-    middle: (u64, u64),
-    letters: &[Letter],
+    mark: &Mark<'_>,
     i: usize,
 ) -> Result<(), AllocError>
     ensures { OnOk result (string_bytes out.new
-        ≡ string_bytes out.old ++ render (titled title.now (shape (letter_dot middle.0 middle.1 (slice_get letters.now i))))) }
+        ≡ string_bytes out.old ++ render (titled mark.now.title.now (shape (letter_dot mark.now.at.0 mark.now.at.1 (slice_get mark.now.letters.now i))))) }
 {
+    let letters = mark.letters;
     if i >= letters.len() {
-        return add_titled_circle(alloc, out, title, middle, 5, "ring");
+        return add_titled_circle(alloc, out, mark.title, mark.at, 5, "ring");
     }
     let class = format!(in alloc; "f-{}", kind_name(&letters[i].note))?;
-    add_titled_circle(alloc, out, title, middle, 4, class.as_str())
+    add_titled_circle(alloc, out, mark.title, mark.at, 4, class.as_str())
 }
 
-/// A path that begins at a point.
+/// A path that begins at a point, with these steps and this class.
 fn add_path_at(
     alloc: Global,
     out: &mut String,
     title: &str,
-    x: u64,
-    y: u64,
-    steps: &str,
-    class: &str,
+    at: (u64, u64),
+    path: (&str, &str),
 ) -> Result<(), AllocError>
-    ensures { OnOk result (string_bytes out.new ≡ string_bytes out.old ++ render (titled title.now (shape (path_at x y steps.now class.now)))) }
+    ensures { OnOk result (string_bytes out.new
+        ≡ string_bytes out.old ++ render (titled title.now (shape (path_at at.0 at.1 path.entry.0.now path.entry.1.now)))) }
 {
+    let ((x, y), (steps, class)) = (at, path);
     let path = format!(in alloc; "M{x} {y}{steps}")?;
     add_titled_path(alloc, out, title, path.as_str(), class)
 }
 
-fn add_cross(alloc: Global, out: &mut String, title: &str, x: u64, y: u64) -> Result<(), AllocError>
-    ensures { OnOk result (string_bytes out.new ≡ string_bytes out.old ++ render (titled title.now (shape (cross_at x y)))) }
+fn add_cross(alloc: Global, out: &mut String, title: &str, at: (u64, u64)) -> Result<(), AllocError>
+    ensures { OnOk result (string_bytes out.new ≡ string_bytes out.old ++ render (titled title.now (shape (cross_at at.0 at.1)))) }
 {
-    let (x, y) = (x.saturating_sub(5), y.saturating_sub(5));
-    add_path_at(alloc, out, title, x, y, "l10 10m0 -10l-10 10", "x sbad")
+    let left = at.0.saturating_sub(5);
+    let up = at.1.saturating_sub(5);
+    add_path_at(
+        alloc,
+        out,
+        title,
+        (left, up),
+        ("l10 10m0 -10l-10 10", "x sbad"),
+    )
 }
 
 /// The mark of an event that went well.
-fn add_done_shape(
-    alloc: Global,
-    out: &mut String,
-    title: &str,
-    letters: &[Letter],
-    x: u64,
-    y: u64,
-    event: &Event,
-    answer: Answer,
-) -> Result<(), AllocError>
-    ensures { OnOk result (string_bytes out.new ≡ string_bytes out.old ++ render (titled title.now (shape (done_shape letters.now x y event.now answer)))) }
+fn add_done_shape(alloc: Global, out: &mut String, mark: &Mark<'_>) -> Result<(), AllocError>
+    ensures { OnOk result (string_bytes out.new ≡ string_bytes out.old ++ render
+        (titled mark.now.title.now (shape (done_shape mark.now.letters.now mark.now.at.0 mark.now.at.1 mark.now.event.now mark.now.answer)))) }
 {
+    let (title, (x, y)) = (mark.title, mark.at);
     let left = x.saturating_sub(5);
     let lefter = x.saturating_sub(6);
     let up = y.saturating_sub(5);
     let higher = y.saturating_sub(6);
     let highest = y.saturating_sub(7);
-    match event {
-        Event::Lead(_) => add_path_at(alloc, out, title, x, highest, "l7 12h-14z", "f-prepare"),
-        Event::Offer(_, _) => add_path_at(alloc, out, title, left, up, "h11v11h-11z", "f-accept"),
-        Event::Tell(_, _, _) => add_path_at(
-            alloc,
-            out,
-            title,
-            left,
-            higher,
-            "l12 6l-12 6z",
-            "f-known",
-        ),
-        Event::Deliver(i) => add_letter_dot(alloc, out, title, (x, y), letters, *i),
-        Event::DeliverThenCrash(_) => add_cross(alloc, out, title, x, y),
-        Event::Crash(_) => add_cross(alloc, out, title, x, y),
-        Event::Restart(_) => add_titled_circle(alloc, out, title, (x, y), 5, "start"),
-        Event::Release(_, _) => add_path_at(
-            alloc,
-            out,
-            title,
-            x,
-            highest,
-            "l7 7l-7 7l-7 -7z",
-            "f-output",
-        ),
-        Event::Hear(_, _, _) => add_titled_circle(alloc, out, title, (x, y), 4, "f-output"),
-        Event::Want(_, _, _, _) => {
-            add_path_at(alloc, out, title, lefter, up, "h12l-6 10z", "f-ask")
+    match mark.event {
+        Event::Lead(_) => {
+            add_path_at(alloc, out, title, (x, highest), ("l7 12h-14z", "f-prepare"))
         }
-        Event::Tick(_, _, _, _) => add_tick(alloc, out, title, x, y, is_idle(answer)),
+        Event::Offer(_, _) => {
+            add_path_at(alloc, out, title, (left, up), ("h11v11h-11z", "f-accept"))
+        }
+        Event::Tell(_, _, _) => {
+            add_path_at(
+                alloc,
+                out,
+                title,
+                (left, higher),
+                ("l12 6l-12 6z", "f-known"),
+            )
+        }
+        Event::Deliver(i) => add_letter_dot(alloc, out, mark, *i),
+        Event::DeliverThenCrash(_) => add_cross(alloc, out, title, mark.at),
+        Event::Crash(_) => add_cross(alloc, out, title, mark.at),
+        Event::Restart(_) => add_titled_circle(alloc, out, title, mark.at, 5, "start"),
+        Event::Release(_, _) => {
+            add_path_at(
+                alloc,
+                out,
+                title,
+                (x, highest),
+                ("l7 7l-7 7l-7 -7z", "f-output"),
+            )
+        }
+        Event::Hear(_, _, _) => add_titled_circle(alloc, out, title, mark.at, 4, "f-output"),
+        Event::Want(_, _, _, _) => {
+            add_path_at(alloc, out, title, (lefter, up), ("h12l-6 10z", "f-ask"))
+        }
+        Event::Tick(_, _, _, _) => add_tick(alloc, out, title, mark.at, is_idle(mark.answer)),
     }
 }
 
@@ -146,39 +160,32 @@ fn add_tick(
     alloc: Global,
     out: &mut String,
     title: &str,
-    x: u64,
-    y: u64,
+    at: (u64, u64),
     idle: bool,
 ) -> Result<(), AllocError>
-    ensures { OnOk result (string_bytes out.new ≡ string_bytes out.old ++ render (titled title.now (shape (tick_shape idle x y)))) }
+    ensures { OnOk result (string_bytes out.new ≡ string_bytes out.old ++ render (titled title.now (shape (tick_shape idle at.0 at.1)))) }
 {
     if idle {
-        return add_titled_circle(alloc, out, title, (x, y), 2, "mute");
+        return add_titled_circle(alloc, out, title, at, 2, "mute");
     }
-    let left = x.saturating_sub(5);
-    let up = y.saturating_sub(6);
-    add_path_at(alloc, out, title, left, up, "l12 6l-12 6z", "f-ask")
+    let left = at.0.saturating_sub(5);
+    let up = at.1.saturating_sub(6);
+    add_path_at(alloc, out, title, (left, up), ("l12 6l-12 6z", "f-ask"))
 }
 
 /// The mark of an event: a red ring where it failed.
 pub(crate) fn add_mark_shape(
     alloc: Global,
     out: &mut String,
-    title: &str,
-    failed: bool,
-    letters: &[Letter],
-    x: u64,
-    y: u64,
-    event: &Event,
-    answer: Answer,
+    mark: &Mark<'_>,
 ) -> Result<(), AllocError>
-    ensures { OnOk result (string_bytes out.new
-        ≡ string_bytes out.old ++ render (titled title.now (shape (mark_shape failed letters.now x y event.now answer)))) }
+    ensures { OnOk result (string_bytes out.new ≡ string_bytes out.old ++ render (titled mark.now.title.now
+        (shape (mark_shape (has_failed mark.now.answer) mark.now.letters.now mark.now.at.0 mark.now.at.1 mark.now.event.now mark.now.answer)))) }
 {
-    if failed {
-        return add_titled_circle(alloc, out, title, (x, y), 5, "ring");
+    if has_failed(mark.answer) {
+        return add_titled_circle(alloc, out, mark.title, mark.at, 5, "ring");
     }
-    add_done_shape(alloc, out, title, letters, x, y, event, answer)
+    add_done_shape(alloc, out, mark)
 }
 
 /// What a mark tells when it is pointed at.

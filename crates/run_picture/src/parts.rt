@@ -3,14 +3,21 @@
 ghost use Rattle.std.specs.Prelude.{◌≡◌, false, true, ◌++◌, ◌<◌, ◌^◌, OnOk, IfSome, string_bytes, length, slice_get};
 ghost use Rattle.xml_text.specs.Xml.{render};
 ghost use Rattle.xml_text.specs.Each.{each};
-ghost use Rattle.run_picture.specs.Roles.{comes_right, seen_told};
-ghost use Rattle.run_picture.specs.Parts.{lanes, event_x, rule, number_words, happening, answer_class, answered, mark, arrow, hearing_from, hearing, label_on, label, part_of, part_at, stub_from, stub_past, stub_unless, stub_at};
+ghost use Rattle.run_picture.specs.Arrows.{delivered, heard};
+ghost use Rattle.run_picture.specs.Roles.{comes_right, sight_told};
+ghost use Rattle.run_picture.specs.Parts.{lanes, event_lane, event_x, rule, number_words, happening, answer_class};
+ghost use Rattle.run_picture.specs.Parts.{answered};
+ghost use Rattle.run_picture.specs.Parts.{mark, arrow, hearing_from, hearing, label_on, label, part_of, part_at};
+ghost use Rattle.run_picture.specs.Parts.{stub_from, stub_past, stub_unless, stub_at};
+ghost use Rattle.watched_runs.specs.Shown.{shown};
 
-use crate::arrows::{add_letter_arrow, add_letter_stub, add_output_arrow, delivered, heard};
+use crate::arrows::{
+    LetterArrow, OutputArrow, add_letter_arrow, add_letter_stub, add_output_arrow, delivered, heard,
+};
 use crate::lanes::{lane_of, lane_x, lanes_end, mark_x};
-use crate::marks::{add_mark_shape, has_failed, kind_name, mark_title};
-use crate::roles::{add_seen_told, comes_right};
-use crate::scene::{Part, Scene};
+use crate::marks::{Mark, add_mark_shape, has_failed, kind_name, mark_title};
+use crate::roles::{add_node_told, comes_right};
+use crate::scene::{Part, Scene, Spot, lanes};
 use crate::words::{event_words, note_words};
 use ballots::Letter;
 use printed_answers::answer_text;
@@ -18,15 +25,6 @@ use seats::Answer;
 use std::alloc::{AllocError, Global};
 use world_events::Event;
 use xml_text::{add_line, add_words};
-
-/// How many lanes there are.
-pub(crate) fn lanes(scene: &Scene<'_>) -> u64
-    requires members { scene.now.members < 2 ^ 32 }
-    requires modems { scene.now.modems < 2 ^ 32 }
-    ensures { result ≡ lanes scene.now }
-{
-    scene.members + scene.modems
-}
 
 /// The thin line of a row.
 fn add_rule(alloc: Global, out: &mut String, scene: &Scene<'_>, y: u64) -> Result<(), AllocError>
@@ -81,60 +79,61 @@ fn add_answered(
     add_words(alloc, out, (x, y + 4), class, words.as_str())
 }
 
+/// The lane of an event, if it has one.
+fn event_lane(scene: &Scene<'_>, event: &Event) -> Option<u64>
+    requires members { scene.now.members < 2 ^ 32 }
+    requires modems { scene.now.modems < 2 ^ 32 }
+    ensures value { result ≡ event_lane scene.now event.now }
+    ensures small { IfSome result (λ k. k < 2 ^ 40) }
+{
+    lane_of(scene.members, scene.modems, scene.letters, event)
+}
+
 /// Where an event is marked.
 fn event_x(scene: &Scene<'_>, event: &Event) -> u64
     requires members { scene.now.members < 2 ^ 32 }
     requires modems { scene.now.modems < 2 ^ 32 }
     ensures { result ≡ event_x scene.now event.now }
 {
-    let lane = lane_of(scene.members, scene.modems, scene.letters, event);
-    mark_x(lanes(scene), lane)
+    mark_x(lanes(scene), event_lane(scene, event))
 }
 
-/// The mark of event `i`.
+/// The mark of an event.
 fn add_mark(
     alloc: Global,
     out: &mut String,
     scene: &Scene<'_>,
-    i: usize,
-    event: &Event,
-    answer: Answer,
-    y: u64,
+    spot: &Spot<'_>,
 ) -> Result<(), AllocError>
     requires members { scene.now.members < 2 ^ 32 }
     requires modems { scene.now.modems < 2 ^ 32 }
-    ensures { OnOk result (string_bytes out.new ≡ string_bytes out.old ++ render (mark scene.now i event.now answer y)) }
+    ensures { OnOk result (string_bytes out.new ≡ string_bytes out.old ++ render (mark scene.now (shown spot.now.row) spot.now.y)) }
 {
-    let title = mark_title(alloc, i, answer)?;
-    let x = event_x(scene, event);
-    add_mark_shape(
-        alloc,
-        out,
-        title.as_str(),
-        has_failed(answer),
-        scene.letters,
-        x,
-        y,
-        event,
-        answer,
-    )
+    let row = &spot.row;
+    let title = mark_title(alloc, row.number, row.answer)?;
+    let mark = Mark {
+        title: title.as_str(),
+        letters: scene.letters,
+        at: (event_x(scene, row.event), spot.y),
+        event: row.event,
+        answer: row.answer,
+    };
+    add_mark_shape(alloc, out, &mark)
 }
 
-/// The arrow of letter `l`, which event `i` delivers.
+/// The arrow of the letter that an event delivers, if it does.
 fn add_arrow(
     alloc: Global,
     out: &mut String,
     scene: &Scene<'_>,
-    i: usize,
-    brought: Option<usize>,
-    y: u64,
+    spot: &Spot<'_>,
 ) -> Result<(), AllocError>
     requires members { scene.now.members < 2 ^ 32 }
     requires modems { scene.now.modems < 2 ^ 32 }
-    requires event { i < length scene.now.events.now }
-    ensures { OnOk result (string_bytes out.new ≡ string_bytes out.old ++ render (arrow scene.now i brought y)) }
+    ensures { OnOk result (string_bytes out.new
+        ≡ string_bytes out.old ++ render (arrow scene.now spot.now.row.number (delivered spot.now.row.event.now spot.now.row.answer) spot.now.y)) }
 {
-    let Some(l) = brought else {
+    let Some(l) = delivered(spot.row.event, spot.row.answer) else {
         return Ok(());
     };
     if l >= scene.letters.len() {
@@ -146,27 +145,31 @@ fn add_arrow(
     if l >= scene.firsts.len() {
         return Ok(());
     }
-    let again = scene.firsts[l] < i;
-    let sent = u64::from(scene.senders[l]);
-    let letter = &scene.letters[l];
-    add_letter_arrow(alloc, out, lanes(scene), again, l, letter, sent, y)
+    let arrow = LetterArrow {
+        again: scene.firsts[l] < spot.row.number,
+        number: l,
+        letter: &scene.letters[l],
+        rows: (u64::from(scene.senders[l]), spot.y),
+    };
+    add_letter_arrow(alloc, out, lanes(scene), &arrow)
 }
 
-/// The arrow of output `o`, which the modem on lane `k` hears.
+/// The arrow of an output of this number, which the modem on this lane hears in the row at `y`.
 fn add_hearing_from(
     alloc: Global,
     out: &mut String,
     scene: &Scene<'_>,
-    k: u64,
-    o: usize,
+    hears: (u64, usize),
     y: u64,
 ) -> Result<(), AllocError>
     requires members { scene.now.members < 2 ^ 32 }
     requires modems { scene.now.modems < 2 ^ 32 }
-    requires lane { k < 2 ^ 40 }
+    requires lane { hears.0 < 2 ^ 40 }
     ensures { OnOk result (string_bytes out.new
-        ≡ string_bytes out.old ++ render (hearing_from scene.now k o (slice_get scene.now.outputs.now o) (slice_get scene.now.releasers.now o) y)) }
+        ≡ string_bytes out.old ++ render
+        (hearing_from scene.now hears.0 hears.1 (slice_get scene.now.outputs.now hears.1) (slice_get scene.now.releasers.now hears.1) y)) }
 {
+    let (lane, o) = hears;
     if o >= scene.outputs.len() {
         return Ok(());
     }
@@ -178,7 +181,13 @@ fn add_hearing_from(
         return Ok(());
     }
     let released = u64::from(scene.releasers[o]);
-    add_output_arrow(alloc, out, lanes(scene), k, o, output, released, y)
+    let arrow = OutputArrow {
+        lane,
+        number: o,
+        output,
+        rows: (released, y),
+    };
+    add_output_arrow(alloc, out, lanes(scene), &arrow)
 }
 
 /// The arrow of the output that a modem hears, if it does.
@@ -186,17 +195,19 @@ fn add_hearing(
     alloc: Global,
     out: &mut String,
     scene: &Scene<'_>,
-    lane: Option<u64>,
-    brought: Option<usize>,
-    y: u64,
+    spot: &Spot<'_>,
 ) -> Result<(), AllocError>
     requires members { scene.now.members < 2 ^ 32 }
     requires modems { scene.now.modems < 2 ^ 32 }
-    requires lane { IfSome lane (λ k. k < 2 ^ 40) }
-    ensures { OnOk result (string_bytes out.new ≡ string_bytes out.old ++ render (hearing scene.now lane brought y)) }
+    ensures { OnOk result (string_bytes out.new
+        ≡ string_bytes out.old ++ render
+        (hearing scene.now (event_lane scene.now spot.now.row.event.now) (heard spot.now.row.event.now spot.now.row.answer) spot.now.y)) }
 {
-    match (lane, brought) {
-        (Some(k), Some(o)) => add_hearing_from(alloc, out, scene, k, o, y),
+    match (
+        event_lane(scene, spot.row.event),
+        heard(spot.row.event, spot.row.answer),
+    ) {
+        (Some(k), Some(o)) => add_hearing_from(alloc, out, scene, (k, o), spot.y),
         _ => Ok(()),
     }
 }
@@ -242,18 +253,17 @@ fn add_label_on(
     alloc: Global,
     out: &mut String,
     from_left: bool,
-    x: u64,
-    y: u64,
+    at: (u64, u64),
     letter: &Letter,
 ) -> Result<(), AllocError>
-    requires x { x < 2 ^ 50 }
-    requires y { y < 2 ^ 32 }
-    ensures { OnOk result (string_bytes out.new ≡ string_bytes out.old ++ render (label_on from_left x y letter.now)) }
+    requires x { at.0 < 2 ^ 50 }
+    requires y { at.1 < 2 ^ 32 }
+    ensures { OnOk result (string_bytes out.new ≡ string_bytes out.old ++ render (label_on from_left at.0 at.1 letter.now)) }
 {
     if from_left {
-        return add_label_left(alloc, out, x, y, letter);
+        return add_label_left(alloc, out, at.0, at.1, letter);
     }
-    add_label_right(alloc, out, x, y, letter)
+    add_label_right(alloc, out, at.0, at.1, letter)
 }
 
 /// What the letter says that an event delivers, if it does.
@@ -261,15 +271,15 @@ fn add_label(
     alloc: Global,
     out: &mut String,
     scene: &Scene<'_>,
-    brought: Option<usize>,
-    y: u64,
+    spot: &Spot<'_>,
 ) -> Result<(), AllocError>
     requires members { scene.now.members < 2 ^ 32 }
     requires modems { scene.now.modems < 2 ^ 32 }
-    requires row { y < 2 ^ 32 }
-    ensures { OnOk result (string_bytes out.new ≡ string_bytes out.old ++ render (label scene.now brought y)) }
+    requires row { spot.now.y < 2 ^ 32 }
+    ensures { OnOk result (string_bytes out.new
+        ≡ string_bytes out.old ++ render (label scene.now (delivered spot.now.row.event.now spot.now.row.answer) spot.now.y)) }
 {
-    let Some(l) = brought else {
+    let Some(l) = delivered(spot.row.event, spot.row.answer) else {
         return Ok(());
     };
     if l >= scene.letters.len() {
@@ -278,60 +288,56 @@ fn add_label(
     let letter = &scene.letters[l];
     let (from, to) = (letter.from.number(), letter.to.number());
     let x = lane_x(lanes(scene), u64::from(to));
-    add_label_on(alloc, out, from < to, x, y, letter)
+    add_label_on(alloc, out, from < to, (x, spot.y), letter)
 }
 
-/// What is told of the node at event `i`, on the side from which no letter came.
+/// What is told of the node at an event, on the side from which no letter came.
 fn add_told(
     alloc: Global,
     out: &mut String,
     scene: &Scene<'_>,
-    i: usize,
-    brought: Option<usize>,
-    y: u64,
+    spot: &Spot<'_>,
 ) -> Result<(), AllocError>
     requires members { scene.now.members < 2 ^ 32 }
     requires modems { scene.now.modems < 2 ^ 32 }
-    requires row { y < 2 ^ 32 }
-    ensures { OnOk result (string_bytes out.new
-        ≡ string_bytes out.old ++ render
-        (seen_told (lanes scene.now) scene.now.members (comes_right scene.now.letters.now brought) y (slice_get scene.now.sights.now i))) }
+    requires row { spot.now.y < 2 ^ 32 }
+    ensures { OnOk result (string_bytes out.new ≡ string_bytes out.old ++ render (sight_told (lanes scene.now) scene.now.members
+        (comes_right scene.now.letters.now (delivered spot.now.row.event.now spot.now.row.answer)) spot.now.y spot.now.row.sight)) }
 {
-    let left = comes_right(scene.letters, brought);
-    let members = scene.members;
-    add_seen_told(alloc, out, lanes(scene), members, left, y, scene.sights, i)
+    let left = comes_right(scene.letters, delivered(spot.row.event, spot.row.answer));
+    let Some(sight) = spot.row.sight else {
+        return Ok(());
+    };
+    if sight.node as u64 >= scene.members {
+        return Ok(());
+    }
+    let x = lane_x(lanes(scene), sight.node as u64);
+    add_node_told(alloc, out, left, (x, spot.y), sight)
 }
 
-/// A part of event `i`, whose row is at `y`.
+/// A part of an event.
 fn add_part_of(
     alloc: Global,
     out: &mut String,
     scene: &Scene<'_>,
     part: Part,
-    i: usize,
-    event: &Event,
-    answer: Answer,
-    y: u64,
+    spot: &Spot<'_>,
 ) -> Result<(), AllocError>
     requires members { scene.now.members < 2 ^ 32 }
     requires modems { scene.now.modems < 2 ^ 32 }
-    requires event { i < length scene.now.events.now }
-    requires row { y < 2 ^ 32 }
-    ensures { OnOk result (string_bytes out.new ≡ string_bytes out.old ++ render (part_of scene.now part i event.now answer y)) }
+    requires row { spot.now.y < 2 ^ 32 }
+    ensures { OnOk result (string_bytes out.new ≡ string_bytes out.old ++ render (part_of scene.now part (shown spot.now.row) spot.now.y)) }
 {
     match part {
-        Part::Rule => add_rule(alloc, out, scene, y),
-        Part::Number => add_number(alloc, out, i, y),
-        Part::Happening => add_happening(alloc, out, event, y),
-        Part::Answered => add_answered(alloc, out, scene, answer, y),
-        Part::Mark => add_mark(alloc, out, scene, i, event, answer, y),
-        Part::Arrow => add_arrow(alloc, out, scene, i, delivered(event, answer), y),
-        Part::Hearing => {
-            let lane = lane_of(scene.members, scene.modems, scene.letters, event);
-            add_hearing(alloc, out, scene, lane, heard(event, answer), y)
-        }
-        Part::Label => add_label(alloc, out, scene, delivered(event, answer), y),
-        Part::Told => add_told(alloc, out, scene, i, delivered(event, answer), y),
+        Part::Rule => add_rule(alloc, out, scene, spot.y),
+        Part::Number => add_number(alloc, out, spot.row.number, spot.y),
+        Part::Happening => add_happening(alloc, out, spot.row.event, spot.y),
+        Part::Answered => add_answered(alloc, out, scene, spot.row.answer, spot.y),
+        Part::Mark => add_mark(alloc, out, scene, spot),
+        Part::Arrow => add_arrow(alloc, out, scene, spot),
+        Part::Hearing => add_hearing(alloc, out, scene, spot),
+        Part::Label => add_label(alloc, out, scene, spot),
+        Part::Told => add_told(alloc, out, scene, spot),
     }
 }
 
@@ -347,18 +353,17 @@ fn add_part_at(
     requires modems { scene.now.modems < 2 ^ 32 }
     ensures { OnOk result (string_bytes out.new ≡ string_bytes out.old ++ render (part_at scene.now part i)) }
 {
-    let (events, answers, rows) = (scene.events, scene.answers, scene.rows);
-    if i >= events.len() {
+    if i >= scene.run.len() {
         return Ok(());
     }
-    if i >= answers.len() {
+    if i >= scene.rows.len() {
         return Ok(());
     }
-    if i >= rows.len() {
-        return Ok(());
-    }
-    let y = u64::from(rows[i]);
-    add_part_of(alloc, out, scene, part, i, &events[i], answers[i], y)
+    let spot = Spot {
+        row: scene.run.row(i),
+        y: u64::from(scene.rows[i]),
+    };
+    add_part_of(alloc, out, scene, part, &spot)
 }
 
 /// A part of each event.
@@ -370,9 +375,9 @@ pub(crate) fn add_part(
 ) -> Result<(), AllocError>
     requires members { scene.now.members < 2 ^ 32 }
     requires modems { scene.now.modems < 2 ^ 32 }
-    ensures { OnOk result (string_bytes out.new ≡ string_bytes out.old ++ render (each (length scene.now.events.now) (part_at scene.now part))) }
+    ensures { OnOk result (string_bytes out.new ≡ string_bytes out.old ++ render (each (length scene.now.run.now.rows) (part_at scene.now part))) }
 {
-    for i in 0..scene.events.len() {
+    for i in 0..scene.run.len() {
         add_part_at(alloc, out, scene, part, i)?;
     }
     Ok(())
@@ -392,7 +397,7 @@ fn add_stub(alloc: Global, out: &mut String, scene: &Scene<'_>, l: usize) -> Res
         return Ok(());
     }
     let sent = u64::from(scene.senders[l]);
-    add_letter_stub(alloc, out, lanes(scene), l, &scene.letters[l], sent)
+    add_letter_stub(alloc, out, lanes(scene), (l, &scene.letters[l]), sent)
 }
 
 /// The stub of letter `l`, unless it is delivered.
@@ -409,7 +414,7 @@ fn add_stub_at(
     if l >= scene.firsts.len() {
         return Ok(());
     }
-    if scene.firsts[l] < scene.events.len() {
+    if scene.firsts[l] < scene.run.len() {
         return Ok(());
     }
     add_stub(alloc, out, scene, l)

@@ -3,15 +3,21 @@
 ghost use Rattle.std.specs.Prelude.{◌≡◌, ◌++◌, ◌<◌, ◌^◌, OnOk, IfOk, Some, string_bytes, slice_get};
 ghost use Rattle.xml_text.specs.Xml.{render};
 ghost use Rattle.run_picture.specs.Rows.{first_row};
-ghost use Rattle.run_picture.specs.Roles.{band, band_if, band_of_class, band_steps, band_title, bands_from, chosen_from, chosen_if, chosen_line, comes_right, from_right, learned_told, new_post, node_told, post_after, post_if, post_seen, post_told, row_after, seen_told, sight_told, told_at};
+ghost use Rattle.run_picture.specs.Parts.{lanes};
+ghost use Rattle.run_picture.specs.Roles.{band, band_if, band_of_class, band_steps, band_title, bands_from};
+ghost use Rattle.run_picture.specs.Roles.{chosen_from, chosen_if};
+ghost use Rattle.run_picture.specs.Roles.{chosen_line, comes_right, from_right, learned_told, new_post, node_told};
+ghost use Rattle.run_picture.specs.Roles.{post_after};
+ghost use Rattle.run_picture.specs.Roles.{post_if, post_seen, post_told, row_after, told_at};
 ghost use Rattle.watched_runs.specs.Texts.{post_text};
 ghost use Rattle.watched_runs.specs.declared.post.Post.TheVariants.{Idle};
 
 use crate::lanes::{lane_x, lanes_end};
 use crate::rows::FIRST_ROW;
+use crate::scene::{Scene, lanes};
 use ballots::Letter;
 use std::alloc::{AllocError, Global};
-use watched_runs::{Post, Sight, post_text};
+use watched_runs::{Post, Sight, Watched, post_text};
 use xml_text::{add_line, add_titled_path, add_words};
 
 /// The new post of node `k`, where this is seen of it.
@@ -29,13 +35,14 @@ fn post_seen(k: u64, sight: Option<Sight>) -> Option<Post>
 }
 
 /// The new post of node `k` at event `i`, if it has one.
-fn new_post(k: u64, sights: &[Option<Sight>], i: usize) -> Option<Post>
-    ensures { result ≡ new_post k (slice_get sights.now i) }
+fn new_post(k: u64, run: &Watched<'_>, i: usize) -> Option<Post>
+    ensures { result ≡ new_post k (slice_get run.now.rows i) }
 {
-    if i >= sights.len() {
+    if i >= run.len() {
         return None;
     }
-    post_seen(k, sights[i])
+    let row = run.row(i);
+    post_seen(k, row.sight)
 }
 
 /// What a node does as a proposer, in words.
@@ -64,58 +71,59 @@ fn band_steps(alloc: Global, x: u64, y1: u64, y2: u64) -> Result<String, AllocEr
     format!(in alloc; "M{left} {y1}h18V{y2}h-18z")
 }
 
+/// A strip of the lane of node `k`, of so many lanes, from one row to another.
+#[derive(Clone, Copy)]
+struct Strip {
+    lanes: u64,
+    k: u64,
+    rows: (u64, u64),
+}
+
 /// A band of a class.
 fn add_band_of(
     alloc: Global,
     out: &mut String,
-    lanes: u64,
-    k: u64,
+    strip: &Strip,
     post: &Post,
-    rows: (u64, u64),
     class: &str,
 ) -> Result<(), AllocError>
-    requires { k < 2 ^ 40 }
-    ensures { OnOk result (string_bytes out.new ≡ string_bytes out.old ++ render (band_of_class lanes k post.now rows.0 rows.1 (Some class.now))) }
+    requires { strip.now.k < 2 ^ 40 }
+    ensures { OnOk result (string_bytes out.new ≡ string_bytes out.old ++ render
+        (band_of_class strip.now.lanes strip.now.k post.now strip.now.rows.0 strip.now.rows.1 (Some class.now))) }
 {
-    let title = band_title(alloc, k, post)?;
-    let steps = band_steps(alloc, lane_x(lanes, k), rows.0, rows.1)?;
+    let title = band_title(alloc, strip.k, post)?;
+    let x = lane_x(strip.lanes, strip.k);
+    let steps = band_steps(alloc, x, strip.rows.0, strip.rows.1)?;
     add_titled_path(alloc, out, title.as_str(), steps.as_str(), class)
 }
 
-/// The band of node `k` from one row to another, while it has a post.
-fn add_band(
-    alloc: Global,
-    out: &mut String,
-    lanes: u64,
-    k: u64,
-    post: &Post,
-    rows: (u64, u64),
-) -> Result<(), AllocError>
-    requires { k < 2 ^ 40 }
-    ensures { OnOk result (string_bytes out.new ≡ string_bytes out.old ++ render (band lanes k post.now rows.0 rows.1)) }
+/// The band of a node, where it has a post.
+fn add_band(alloc: Global, out: &mut String, strip: &Strip, post: &Post) -> Result<(), AllocError>
+    requires { strip.now.k < 2 ^ 40 }
+    ensures { OnOk result (string_bytes out.new
+        ≡ string_bytes out.old ++ render (band strip.now.lanes strip.now.k post.now strip.now.rows.0 strip.now.rows.1)) }
 {
     match post {
         Post::Idle => Ok(()),
-        Post::Prepares(_) => add_band_of(alloc, out, lanes, k, post, rows, "prep"),
-        Post::Leads(_) => add_band_of(alloc, out, lanes, k, post, rows, "lead"),
+        Post::Prepares(_) => add_band_of(alloc, out, strip, post, "prep"),
+        Post::Leads(_) => add_band_of(alloc, out, strip, post, "lead"),
     }
 }
 
-/// The band of node `k` up to a row, where it has another post from there on.
+/// The band of a node up to a row, where it has another post from there on.
 fn add_band_if(
     alloc: Global,
     out: &mut String,
-    lanes: u64,
-    k: u64,
+    strip: &Strip,
     post: &Post,
-    rows: (u64, u64),
     next: &Option<Post>,
 ) -> Result<(), AllocError>
-    requires { k < 2 ^ 40 }
-    ensures { OnOk result (string_bytes out.new ≡ string_bytes out.old ++ render (band_if lanes k post.now rows.0 rows.1 next.now)) }
+    requires { strip.now.k < 2 ^ 40 }
+    ensures { OnOk result (string_bytes out.new
+        ≡ string_bytes out.old ++ render (band_if strip.now.lanes strip.now.k post.now strip.now.rows.0 strip.now.rows.1 next.now)) }
 {
     match next {
-        Some(_) => add_band(alloc, out, lanes, k, post, rows),
+        Some(_) => add_band(alloc, out, strip, post),
         None => Ok(()),
     }
 }
@@ -142,25 +150,31 @@ fn post_after(post: Post, next: Option<Post>) -> Post
 pub(crate) fn add_bands(
     alloc: Global,
     out: &mut String,
-    lanes: u64,
+    scene: &Scene<'_>,
     bottom: u64,
     k: u64,
-    sights: &[Option<Sight>],
-    rows: &[u32],
 ) -> Result<(), AllocError>
-    requires { k < 2 ^ 40 }
-    ensures { OnOk result (string_bytes out.new ≡ string_bytes out.old ++ render (bands_from lanes bottom k sights.now Idle first_row 0 rows.now)) }
+    requires members { scene.now.members < 2 ^ 32 }
+    requires modems { scene.now.modems < 2 ^ 32 }
+    requires lane { k < 2 ^ 40 }
+    ensures { OnOk result (string_bytes out.new
+        ≡ string_bytes out.old ++ render (bands_from (lanes scene.now) bottom k scene.now.run.now.rows Idle first_row 0 scene.now.rows.now)) }
 {
+    let lanes = lanes(scene);
     let mut post = Post::Idle;
     let mut start = u64::from(FIRST_ROW);
-    for (i, row) in rows.iter().enumerate() {
+    for (i, row) in scene.rows.iter().enumerate() {
         let y = u64::from(*row);
-        let next = new_post(k, sights, i);
-        add_band_if(alloc, out, lanes, k, &post, (start, y), &next)?;
+        let next = new_post(k, scene.run, i);
+        let rows = (start, y);
+        let strip = Strip { lanes, k, rows };
+        add_band_if(alloc, out, &strip, &post, &next)?;
         start = row_after(start, y, &next);
         post = post_after(post, next);
     }
-    add_band(alloc, out, lanes, k, &post, (start, bottom))
+    let rows = (start, bottom);
+    let strip = Strip { lanes, k, rows };
+    add_band(alloc, out, &strip, &post)
 }
 
 /// What is told beside a mark, left or right of it.
@@ -168,14 +182,14 @@ fn add_told_at(
     alloc: Global,
     out: &mut String,
     left: bool,
-    x: u64,
-    y: u64,
+    at: (u64, u64),
     text: &str,
 ) -> Result<(), AllocError>
-    requires x { x < 2 ^ 50 }
-    requires y { y < 2 ^ 32 }
-    ensures { OnOk result (string_bytes out.new ≡ string_bytes out.old ++ render (told_at left x y text.now)) }
+    requires x { at.0 < 2 ^ 50 }
+    requires y { at.1 < 2 ^ 32 }
+    ensures { OnOk result (string_bytes out.new ≡ string_bytes out.old ++ render (told_at left at.0 at.1 text.now)) }
 {
+    let (x, y) = at;
     if left {
         let before = x.saturating_sub(11);
         return add_words(alloc, out, (before, y + 4), "s halo e b", text);
@@ -188,19 +202,18 @@ fn add_post_told(
     alloc: Global,
     out: &mut String,
     left: bool,
-    x: u64,
-    y: u64,
+    at: (u64, u64),
     post: Option<Post>,
 ) -> Result<(), AllocError>
-    requires x { x < 2 ^ 50 }
-    requires y { y < 2 ^ 32 }
-    ensures { OnOk result (string_bytes out.new ≡ string_bytes out.old ++ render (post_told left x y post)) }
+    requires x { at.0 < 2 ^ 50 }
+    requires y { at.1 < 2 ^ 32 }
+    ensures { OnOk result (string_bytes out.new ≡ string_bytes out.old ++ render (post_told left at.0 at.1 post)) }
 {
     let Some(post) = post else {
         return Ok(());
     };
     let text = post_text(alloc, post)?;
-    add_told_at(alloc, out, left, x, y, text.as_str())
+    add_told_at(alloc, out, left, at, text.as_str())
 }
 
 /// The place that a node learned, beside a mark.
@@ -208,81 +221,34 @@ fn add_learned_told(
     alloc: Global,
     out: &mut String,
     left: bool,
-    x: u64,
-    y: u64,
+    at: (u64, u64),
     learned: Option<u64>,
 ) -> Result<(), AllocError>
-    requires x { x < 2 ^ 50 }
-    requires y { y < 2 ^ 32 }
-    ensures { OnOk result (string_bytes out.new ≡ string_bytes out.old ++ render (learned_told left x y learned)) }
+    requires x { at.0 < 2 ^ 50 }
+    requires y { at.1 < 2 ^ 32 }
+    ensures { OnOk result (string_bytes out.new ≡ string_bytes out.old ++ render (learned_told left at.0 at.1 learned)) }
 {
     let Some(place) = learned else {
         return Ok(());
     };
     let text = format!(in alloc; "learned p{place}")?;
-    add_told_at(alloc, out, left, x, y, text.as_str())
+    add_told_at(alloc, out, left, at, text.as_str())
 }
 
 /// What is seen of a node, beside a mark.
-fn add_node_told(
+pub(crate) fn add_node_told(
     alloc: Global,
     out: &mut String,
-    x: u64,
     left: bool,
-    y: u64,
+    at: (u64, u64),
     sight: Sight,
 ) -> Result<(), AllocError>
-    requires x { x < 2 ^ 50 }
-    requires y { y < 2 ^ 32 }
-    ensures { OnOk result (string_bytes out.new ≡ string_bytes out.old ++ render (node_told x left y sight)) }
+    requires x { at.0 < 2 ^ 50 }
+    requires y { at.1 < 2 ^ 32 }
+    ensures { OnOk result (string_bytes out.new ≡ string_bytes out.old ++ render (node_told at.0 left at.1 sight)) }
 {
-    add_post_told(alloc, out, left, x, y, sight.post)?;
-    add_learned_told(alloc, out, left, x, y, sight.learned)
-}
-
-/// What is seen of a node, beside the mark on its lane.
-fn add_sight_told(
-    alloc: Global,
-    out: &mut String,
-    lanes: u64,
-    members: u64,
-    left: bool,
-    y: u64,
-    sight: Option<Sight>,
-) -> Result<(), AllocError>
-    requires members { members < 2 ^ 32 }
-    requires y { y < 2 ^ 32 }
-    ensures { OnOk result (string_bytes out.new ≡ string_bytes out.old ++ render (sight_told lanes members left y sight)) }
-{
-    let Some(sight) = sight else {
-        return Ok(());
-    };
-    if sight.node as u64 >= members {
-        return Ok(());
-    }
-    let x = lane_x(lanes, sight.node as u64);
-    add_node_told(alloc, out, x, left, y, sight)
-}
-
-/// What is seen at event `i`, beside its mark.
-pub(crate) fn add_seen_told(
-    alloc: Global,
-    out: &mut String,
-    lanes: u64,
-    members: u64,
-    left: bool,
-    y: u64,
-    sights: &[Option<Sight>],
-    i: usize,
-) -> Result<(), AllocError>
-    requires members { members < 2 ^ 32 }
-    requires y { y < 2 ^ 32 }
-    ensures { OnOk result (string_bytes out.new ≡ string_bytes out.old ++ render (seen_told lanes members left y (slice_get sights.now i))) }
-{
-    if i >= sights.len() {
-        return Ok(());
-    }
-    add_sight_told(alloc, out, lanes, members, left, y, sights[i])
+    add_post_told(alloc, out, left, at, sight.post)?;
+    add_learned_told(alloc, out, left, at, sight.learned)
 }
 
 /// Whether a letter that comes, comes from the right or from the node itself.
@@ -338,19 +304,20 @@ fn add_chosen_if(
 pub(crate) fn add_chosen(
     alloc: Global,
     out: &mut String,
-    lanes: u64,
-    choices: &[Option<u64>],
-    senders: &[u32],
+    scene: &Scene<'_>,
     l: usize,
 ) -> Result<(), AllocError>
-    requires lanes { lanes < 2 ^ 40 }
-    ensures { OnOk result (string_bytes out.new ≡ string_bytes out.old ++ render (chosen_from lanes (slice_get choices.now l) (slice_get senders.now l))) }
+    requires members { scene.now.members < 2 ^ 32 }
+    requires modems { scene.now.modems < 2 ^ 32 }
+    ensures { OnOk result (string_bytes out.new
+        ≡ string_bytes out.old ++ render (chosen_from (lanes scene.now) (slice_get scene.now.choices.now l) (slice_get scene.now.senders.now l))) }
 {
+    let (choices, senders) = (scene.choices, scene.senders);
     if l >= choices.len() {
         return Ok(());
     }
     if l >= senders.len() {
         return Ok(());
     }
-    add_chosen_if(alloc, out, lanes, choices[l], u64::from(senders[l]))
+    add_chosen_if(alloc, out, lanes(scene), choices[l], u64::from(senders[l]))
 }

@@ -5,8 +5,9 @@ ghost use Rattle.run_picture.specs.Rows.{row_height, first_row, rows_from, giver
 
 use seats::Answer;
 use std::alloc::{AllocError, Global};
+use watched_runs::Watched;
 
-/// Where the first row stands.
+/// Where the first row is.
 pub(crate) const FIRST_ROW: u32 = 146;
 
 /// How high an event's row is.
@@ -21,15 +22,16 @@ pub(crate) fn row_height(answer: Answer) -> u32
 }
 
 /// The row of each event.
-pub(crate) fn rows_of(alloc: Global, answers: &[Answer]) -> Result<Vec<u32>, AllocError>
-    requires { length answers.now < 2 ^ 27 }
-    ensures { IfOk result (λ rows. rows.items ≡ rows_from first_row answers.now) }
+pub(crate) fn rows_of(alloc: Global, run: &Watched<'_>) -> Result<Vec<u32>, AllocError>
+    requires { length run.now.rows < 2 ^ 27 }
+    ensures { IfOk result (λ rows. rows.items ≡ rows_from first_row run.now.rows) }
 {
-    let mut rows = Vec::with_capacity(alloc, answers.len())?;
+    let mut rows = Vec::with_capacity(alloc, run.len())?;
     let mut y = FIRST_ROW;
-    for answer in answers {
+    for i in 0..run.len() {
+        let row = run.row(i);
         rows.push(y)?;
-        y += row_height(*answer);
+        y += row_height(row.answer);
     }
     Ok(rows)
 }
@@ -44,50 +46,32 @@ fn add_times(rows: &mut Vec<u32>, y: u32, count: usize) -> Result<(), AllocError
     Ok(())
 }
 
-/// How many letters an answer tells.
-fn sent_count(answer: Answer) -> usize
-    ensures { result ≡ sent_count answer }
-{
-    match answer {
-        Answer::Sent(count) => count,
-        _ => 0,
-    }
-}
-
-/// How many outputs an answer tells.
-fn released_count(answer: Answer) -> usize
-    ensures { result ≡ released_count answer }
-{
-    match answer {
-        Answer::Released(count) => count,
-        _ => 0,
-    }
-}
-
 /// For each letter the row of the event that sent it.
-pub(crate) fn senders_of(alloc: Global, answers: &[Answer]) -> Result<Vec<u32>, AllocError>
-    requires { length answers.now < 2 ^ 27 }
-    ensures { IfOk result (λ rows. rows.items ≡ givers_from sent_count first_row answers.now) }
+pub(crate) fn senders_of(alloc: Global, run: &Watched<'_>) -> Result<Vec<u32>, AllocError>
+    requires { length run.now.rows < 2 ^ 27 }
+    ensures { IfOk result (λ rows. rows.items ≡ givers_from sent_count first_row run.now.rows) }
 {
     let mut rows = Vec::new(alloc);
     let mut y = FIRST_ROW;
-    for answer in answers {
-        add_times(&mut rows, y, sent_count(*answer))?;
-        y += row_height(*answer);
+    for i in 0..run.len() {
+        let row = run.row(i);
+        add_times(&mut rows, y, row.sent.letters.len())?;
+        y += row_height(row.answer);
     }
     Ok(rows)
 }
 
 /// For each output the row of the event that released it.
-pub(crate) fn releasers_of(alloc: Global, answers: &[Answer]) -> Result<Vec<u32>, AllocError>
-    requires { length answers.now < 2 ^ 27 }
-    ensures { IfOk result (λ rows. rows.items ≡ givers_from released_count first_row answers.now) }
+pub(crate) fn releasers_of(alloc: Global, run: &Watched<'_>) -> Result<Vec<u32>, AllocError>
+    requires { length run.now.rows < 2 ^ 27 }
+    ensures { IfOk result (λ rows. rows.items ≡ givers_from released_count first_row run.now.rows) }
 {
     let mut rows = Vec::new(alloc);
     let mut y = FIRST_ROW;
-    for answer in answers {
-        add_times(&mut rows, y, released_count(*answer))?;
-        y += row_height(*answer);
+    for i in 0..run.len() {
+        let row = run.row(i);
+        add_times(&mut rows, y, row.released.len())?;
+        y += row_height(row.answer);
     }
     Ok(rows)
 }

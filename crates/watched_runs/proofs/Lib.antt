@@ -1,2 +1,3 @@
-mod Steps
-pub mod Callers
+mod Seeing
+mod Growth
+mod Cut

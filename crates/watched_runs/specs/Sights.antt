@@ -1,5 +1,5 @@
--- What is seen of a node at an event, and runs with what is seen of each event.
-use Rattle.std.specs.Prelude.{◌≡◌, ℕ, Bool, true, false, List, [], ◌∷◌, ◌++◌, Option, Some, None, is_some, slice_get}
+-- What is seen of a node at an event.
+use Rattle.std.specs.Prelude.{ℕ, Bool, true, false, List, Option, Some, None, is_some, slice_get}
 use Rattle.ballots.specs.declared.letters.Letter.{Letter}
 use Rattle.ballots.specs.declared.letters.Note.{Note}
 use Rattle.ballots.specs.declared.letters.Note.TheVariants.{Voted, Known}
@@ -8,9 +8,6 @@ use Rattle.node.specs.View.{Standing}
 use Rattle.node.specs.View.Standing.{Running}
 use Rattle.world_events.specs.declared.event.Event.{Event}
 use Rattle.world_events.specs.declared.event.Event.TheVariants.{Lead, Offer, Tell, Deliver, DeliverThenCrash, Crash, Restart, Release, Hear, Want, Tick}
-use Rattle.seats.specs.declared.answer.Answer.{Answer}
-use Rattle.network_script.specs.Along.{Along}
-use Rattle.network_script.specs.Next.{Next}
 use Rattle.network_script.specs.World.{Written}
 use Rattle.watched_runs.specs.Posts.{changed, post_at}
 use Rattle.watched_runs.specs.declared.sight.Sight.{Sight}
@@ -78,11 +75,3 @@ sight_if (Some k) place w w' = Some (sight_of k place w w')
 -- what is seen of an event: of the node that it asks, and of the place of which its letter tells
 abbrev pub sight : Event → (w w' : Written) → Option Sight
 sight event w w' = sight_if (asked_node w.letters event) (place_of w.letters event) w w'
-
--- in a world of so many members an event may be answered so, and one sight more is seen
-abbrev pub NextWatched : ℕ → Written × List (Option Sight) → Event → Answer → Written × List (Option Sight) → Type 0
-NextWatched members s event answer s' = Next members s.0 event answer s'.0 × (s'.1 ≡ s.1 ++ sight event s.0 s'.0 ∷ [])
-
--- these events may be answered so, one after another, and this is seen of each
-abbrev pub GoesWatched : ℕ → Written → List Event → List Answer → List (Option Sight) → Written → Type 0
-GoesWatched members w events answers sights w' = Along (NextWatched members) (w, []) events answers (w', sights)

@@ -1,12 +1,22 @@
-//! Runs that are watched: after each event, who prepares and leads which ballot, and what is learned.
+//! Runs that are watched, in rows: of each event what it did, the letters and the outputs that it brought, who prepares
+//! and leads which ballot from then on, and what is learned; and which letter shows first that a value is chosen at a
+//! place.
 #![tactic(auto)]
 
+mod counting;
+mod mark;
 mod post;
+mod row;
 mod sight;
 mod texts;
+mod watched;
 mod watching;
 
+pub use counting::choices;
+pub use mark::Marks;
 pub use post::Post;
+pub use row::{Letters, Row};
 pub use sight::Sight;
 pub use texts::post_text;
-pub use watching::{Watched, watch};
+pub use watched::Watched;
+pub use watching::watch;

@@ -6,7 +6,8 @@ ghost use Rattle.network_script.specs.Worlds.{StandsFor};
 ghost use Rattle.seats.specs.Occupant.{Stands};
 ghost use Rattle.node.specs.View.{Standing};
 ghost use Rattle.watched_runs.specs.Posts.{post_at};
-ghost use Rattle.watched_runs.specs.Sights.{addressee, asked_node, has_learned, knows, newly, place_of, place_told, told_by};
+ghost use Rattle.watched_runs.specs.Sights.{addressee, asked_node, has_learned, knows, newly, place_of, place_told};
+ghost use Rattle.watched_runs.specs.Sights.{told_by};
 
 use crate::post::{Post, post_of};
 use ballots::{Letter, Note};

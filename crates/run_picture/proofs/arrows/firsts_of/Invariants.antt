@@ -6,6 +6,5 @@ use Rattle.run_picture.proofs.arrows.firsts_of.Given as goal
 abbrev pub invariant-loop-passed : goal.invariant-loop-passed
 invariant-loop-passed l = record {
   size : length l.firsts.items ≡ l.count;
-  first : (k : ℕ) → k < l.count
-      → get_or l.firsts.items k 0 ≡ first_from k (l.total - l.passed) (drop (l.total - l.passed) l.events) (drop (l.total - l.passed) l.answers);
+  first : (k : ℕ) → k < l.count → get_or l.firsts.items k 0 ≡ first_from k (l.total - l.passed) (drop (l.total - l.passed) l.run.rows);
 }

@@ -6,8 +6,8 @@ pub returns : goal.returns
 returns c = record {
   width = c.args.size.0;
   height = c.args.size.1;
-  title = c.args.title.now;
-  style = c.args.style.now;
+  title = c.args.words.0.now;
+  style = c.args.words.1.now;
   definitions = c.in_ok-heads.ensures.0;
   bottom = c.args.bottom;
   legend = c.in_ok-all.ensures.0;

@@ -1,6 +1,6 @@
 use Rattle.std.proofs.Common.{refl, false}
 use Rattle.watched_runs.specs.Sights.{has_learned}
-use Rattle.watched_runs.proofs.Steps.{none_at, said_at}
+use Rattle.watched_runs.proofs.Seeing.{none_at, said_at}
 use Rattle.watched_runs.proofs.sight.has_learned.Goals as goal
 
 pub returns-then-k-seats : goal.returns-then-k-seats

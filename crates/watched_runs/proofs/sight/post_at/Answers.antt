@@ -1,7 +1,7 @@
 use Rattle.std.proofs.Common.{refl}
 use Rattle.watched_runs.specs.Posts.{post_at}
 use Rattle.watched_runs.specs.declared.post.Post.TheVariants.{Idle}
-use Rattle.watched_runs.proofs.Steps.{none_at, said_at}
+use Rattle.watched_runs.proofs.Seeing.{none_at, said_at}
 use Rattle.watched_runs.proofs.sight.post_at.Goals as goal
 
 pub returns-then-k-seats : goal.returns-then-k-seats

@@ -2,7 +2,7 @@ use Rattle.std.proofs.Common.{rules, ◌≡◌, true, false, refl, subst, sym, �
 use Rattle.node.specs.View.Standing.{Running}
 use Rattle.seats.specs.Occupant.{is_up, node_of}
 use Rattle.watched_runs.specs.declared.post.Post.TheVariants.{Idle}
-use Rattle.watched_runs.proofs.Steps.{idle_seen, post_seen}
+use Rattle.watched_runs.proofs.Seeing.{idle_seen, post_seen}
 use Rattle.watched_runs.proofs.sight.post_of_seat.Goals as goal
 
 pub returns-then-not-is_up : goal.returns-then-not-is_up

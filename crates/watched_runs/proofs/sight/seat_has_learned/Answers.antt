@@ -1,7 +1,7 @@
 use Rattle.std.proofs.Common.{rules, ◌≡◌, ℕ, List, Option, true, false, refl, subst, sym, ap, is_some}
 use Rattle.node.specs.View.Standing.{Running}
 use Rattle.seats.specs.Occupant.{is_up, node_of}
-use Rattle.watched_runs.proofs.Steps.{learned_seen, nothing_seen}
+use Rattle.watched_runs.proofs.Seeing.{learned_seen, nothing_seen}
 use Rattle.watched_runs.proofs.sight.seat_has_learned.Goals as goal
 
 pub returns-then-not-is_up : goal.returns-then-not-is_up

@@ -1,7 +1,0 @@
-use Rattle.std.proofs.Common.{◌≡◌, ◌++◌, ◌+◌, map, drop}
-use Rattle.serde_json.specs.View.{view}
-use Rattle.json_letters.specs.Letters.{letters_from}
-use Rattle.json_letters.proofs.letters.letter_values.Given as goal
-
-abbrev pub invariant-loop-index : goal.invariant-loop-index
-invariant-loop-index l = map view l.values.items ++ letters_from (l.first + l.index) (drop l.index l.letters) ≡ letters_from l.first l.letters

@@ -1,6 +1,0 @@
-use Rattle.std.proofs.Common.{◌≡◌, string_bytes, take}
-use Rattle.printed_letters.specs.Texts.{votes_text}
-use Rattle.printed_letters.proofs.texts.votes_text.Given as goal
-
-abbrev pub invariant-loop-row : goal.invariant-loop-row
-invariant-loop-row l = string_bytes l.text ≡ votes_text (take l.row-index l.row-items)

@@ -1,6 +1,0 @@
-//! The letters of nodes as text.
-#![tactic(auto)]
-
-mod texts;
-
-pub use texts::letter_text;

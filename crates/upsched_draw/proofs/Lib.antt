@@ -1,0 +1,4 @@
+mod Chosen
+mod Drawn
+mod Seen
+mod Told

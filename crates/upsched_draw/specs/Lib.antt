@@ -1,0 +1,3 @@
+pub mod Learned
+pub mod Transmitted
+pub mod Draws

@@ -1,7 +1,0 @@
-//! `run --json`: what a run answers as JSON, an object a line. It opens no file.
-#![tactic(auto)]
-
-mod report;
-mod script_run;
-
-pub use script_run::{print_script_as_json, run_as_json};

@@ -1,2 +1,0 @@
-pub mod Transmitted
-pub mod Draws

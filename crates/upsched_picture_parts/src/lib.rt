@@ -1,9 +1,0 @@
-//! `draw`: a run as a picture, and the MAPs of what it has nodes learn. It opens no file.
-#![tactic(auto)]
-
-mod draw;
-mod maps;
-mod transmitted;
-
-pub use draw::draw_script;
-pub use maps::{draw_maps, tell_maps};

@@ -1,0 +1,9 @@
+use Rattle.std.proofs.Common.{take}
+use Rattle.std.specs.Io.KnownBytes.{Appends}
+use Rattle.std.specs.List.{flat_map}
+use Rattle.upsched_run.specs.RunLines.{row_lines}
+use Rattle.upsched_run.proofs.rows.print_rows.Given as goal
+
+abbrev pub invariant-loop-i : goal.invariant-loop-i
+invariant-loop-i g l =
+    Appends (g.O.Write.contents l.initial.output) (g.O.Write.contents l.output) (flat_map (row_lines l.is_traced) (take l.i l.run.rows))

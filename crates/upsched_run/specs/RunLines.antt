@@ -1,0 +1,66 @@
+-- The lines that a run of a script prints.
+use Rattle.std.specs.Prelude.{ℕ, ◌+◌, Bool, true, false, List, [], ◌∷◌, ◌++◌, Option, Some, None, codes, decimal, length}
+use Rattle.std.specs.List.{flat_map}
+use Rattle.ballots.specs.declared.letters.Letter.{Letter}
+use Rattle.seats.specs.declared.answer.Answer.{Answer}
+use Rattle.seats.specs.declared.answer.ReleasedOutput.{ReleasedOutput}
+use Rattle.printed_outputs.specs.Texts.{output_text}
+use Rattle.printed_answers.specs.Texts.{answer_text}
+use Rattle.printed_answers.specs.Letters.{letter_text}
+use Rattle.watched_runs.specs.declared.post.Post.{Post}
+use Rattle.watched_runs.specs.declared.sight.Sight.{Sight}
+use Rattle.watched_runs.specs.Rows.{Row, Seen}
+use Rattle.watched_runs.specs.Texts.{post_text}
+
+-- the line of an answer with its event's number
+abbrev pub answer_line : ℕ → Answer → List ℕ
+answer_line n a = decimal n ++ (codes " " ++ (answer_text a ++ 10 ∷ []))
+
+-- the line of an output that was released, and the lines of several
+abbrev pub place_line : ReleasedOutput → List ℕ
+place_line x = codes "place " ++ (decimal x.numbered.place ++ (codes " " ++ (output_text x.numbered.output ++ 10 ∷ [])))
+
+abbrev pub place_lines : List ReleasedOutput → List ℕ
+place_lines xs = flat_map place_line xs
+
+-- the line of the letter of this number, behind a word for what became of it, and the lines of letters, numbered from n
+-- on
+abbrev pub letter_line : List ℕ → ℕ → Letter → List ℕ
+letter_line word n l = word ++ (codes " " ++ (decimal n ++ (codes " " ++ (letter_text l ++ 10 ∷ []))))
+
+abbrev pub letter_lines : List ℕ → ℕ → List Letter → List ℕ
+letter_lines word n [] = []
+letter_lines word n (l ∷ ls) = letter_line word n l ++ letter_lines word (n + 1) ls
+
+abbrev pub numbered_lines : List ℕ → ℕ × List Letter → List ℕ
+numbered_lines word numbered = letter_lines word numbered.0 numbered.1
+
+-- the lines of what is seen of a node: its post, where that changed, and the place that it learned
+abbrev pub post_line : ℕ → Option Post → List ℕ
+post_line k None = []
+post_line k (Some post) = codes "node " ++ (decimal k ++ (codes " " ++ (post_text post ++ 10 ∷ [])))
+
+abbrev pub learned_line : ℕ → Option ℕ → List ℕ
+learned_line k None = []
+learned_line k (Some place) = codes "node " ++ (decimal k ++ (codes " learned " ++ (decimal place ++ 10 ∷ [])))
+
+abbrev pub sight_lines : Option Sight → List ℕ
+sight_lines None = []
+sight_lines (Some sight) = post_line sight.node sight.post ++ learned_line sight.node sight.learned
+
+-- the lines of an event: its answer, the letter that came, what is seen of the node, the outputs, and the letters that
+-- it sent; the answer and the outputs alone without a trace
+abbrev pub row_lines : Bool → Row → List ℕ
+row_lines false row = answer_line row.number row.answer ++ place_lines row.released
+row_lines true row =
+    answer_line row.number row.answer ++ (numbered_lines (codes "came") row.came ++ sight_lines row.sight) ++ place_lines row.released
+    ++ numbered_lines (codes "letter") row.sent
+
+-- the last line
+abbrev pub counts_line : ℕ → ℕ → ℕ → List ℕ
+counts_line letters outputs transmissions =
+    codes "letters " ++ (decimal letters ++ (codes " outputs " ++ (decimal outputs ++ (codes " transmissions " ++ (decimal transmissions ++ 10 ∷ [])))))
+
+-- all lines of a run, traced or not
+abbrev pub run_lines : Bool → Seen → List ℕ
+run_lines trace run = flat_map (row_lines trace) run.rows ++ counts_line (length run.letters) (length run.outputs) (length run.transmissions)

@@ -1,0 +1,161 @@
+//! `upsched run SCRIPT`: what happens to nodes and modems.
+
+ghost use Rattle.std.specs.Prelude.{◌≡◌, ◌≢◌, false, true, IfErr, IfOk, OnOk, length};
+ghost use Rattle.ballots.specs.Members.{member_count};
+ghost use Rattle.seats.specs.Fresh.{AreFresh};
+ghost use Rattle.network_script.specs.Worlds.{AreHonest};
+ghost use Rattle.upsched_ends.specs.declared.status.Status.TheVariants.{Done, NotUnderstood};
+ghost use Rattle.upsched_ends.specs.Faults.{StopsPrint};
+ghost use Rattle.script_text.specs.Script.{NoScript};
+ghost use Rattle.upsched_run.specs.Run.{PrintsEvents, PrintsScript};
+
+use crate::rows::print_run;
+use log::{Log, warn};
+use network_script::World;
+use node::Node;
+use printed_answers::fault_name;
+use script_text::Script;
+use seats::{Answer, new_modems, plain_nodes};
+use std::io::{Read, Write};
+use upsched_ends::{Fault, RunWords, Status, script_of};
+use watched_runs::{Watched, watch};
+
+/// What is told of a run beside its answers and outputs.
+#[derive(Clone, Copy, Debug)]
+pub struct Telling {
+    /// Whether each fault of a node and each crash is logged.
+    pub verbose: bool,
+    /// Whether the letters that an event delivers and sends, and what is seen of its node, are printed behind its
+    /// answer.
+    pub trace: bool,
+}
+
+/// Logs an event whose answer is a node's fault or a crash.
+fn warn_of<R: Log>(rt: &R, number: usize, answer: Answer) {
+    match answer {
+        Answer::Fault(fault) => {
+            warn!(rt;
+                "event {number}: the node answers with fault {} {}",
+                fault.number(),
+                fault_name(fault)
+            );
+        }
+        Answer::Crashed =>
+            warn!(rt; "event {number}: no room for what the node sent, so it crashed"),
+        _ => {}
+    }
+}
+
+/// Logs each event whose answer is a node's fault or a crash.
+fn warn_of_run<R: Log>(rt: &R, run: &Watched<'_>) {
+    for i in 0..run.len() {
+        let row = run.row(i);
+        warn_of(rt, row.number, row.answer);
+    }
+}
+
+/// What a script does to these fresh nodes is printed, as the lines of a run. The world is given back as the events
+/// left it: the promise of the printed lines holds where its nodes are honest.
+pub fn print_script<'a, R: Log + AllocGlobal, N: Node, O: Write>(
+    rt: &R,
+    nodes: Vec<N>,
+    script: &Script,
+    telling: Telling,
+    output: &mut O,
+) -> Result<World<N>, Fault<'a>>
+    requires { AreFresh N.who N.honest N.stands nodes.items }
+    ensures printed { IfOk result (λ world. AreHonest world
+        → PrintsEvents telling.trace (length nodes.items) script.now.modems.items script.now.events.items
+        (O.contents output.old) (O.contents output.new)) }
+    ensures fault { IfErr result StopsPrint }
+{
+    let events = script.events.as_slice();
+    let Ok(modems) = new_modems(rt.alloc(), script.modems.as_slice()) else {
+        return Err(Fault::Memory);
+    };
+    let Ok((marks, world)) = watch(rt.alloc(), nodes, modems, events) else {
+        return Err(Fault::Memory);
+    };
+    let run = marks.over(events, &world);
+    if telling.verbose {
+        warn_of_run(rt, &run);
+    }
+    print_run(rt.alloc(), telling.trace, &run, output)?;
+    Ok(world)
+}
+
+/// What a script does to nodes with records in memory is printed.
+fn print_plain<'a, R: Log + AllocGlobal, O: Write>(
+    rt: &R,
+    script: &Script,
+    telling: Telling,
+    output: &mut O,
+) -> Result<(), Fault<'a>>
+    ensures printed { OnOk result (PrintsEvents telling.trace (member_count script.now.members) script.now.modems.items script.now.events.items
+        (O.contents output.old) (O.contents output.new)) }
+    ensures fault { IfErr result StopsPrint }
+{
+    let Ok(nodes) = plain_nodes(rt.alloc(), script.members) else {
+        return Err(Fault::Memory);
+    };
+    print_script(rt, nodes, script, telling, output)?;
+    Ok(())
+}
+
+fn print_text<'a, R: Log + AllocGlobal, F: Read, O: Write>(
+    rt: &R,
+    script: &mut F,
+    words: &RunWords<'a>,
+    trace: bool,
+    output: &mut O,
+) -> Result<(), Fault<'a>>
+    ensures printed { OnOk result (PrintsScript trace (F.remaining script.old) (O.contents output.old) (O.contents output.new)) }
+    ensures no_script { NoScript (F.remaining script.old) → output.new ≡ output.old }
+{
+    let script = script_of(rt.alloc(), script, words.script)?;
+    let verbose = words.verbose;
+    print_plain(rt, &script, Telling { verbose, trace }, output)
+}
+
+/// Runs a script over nodes with records in memory, and prints for each event its number and its
+/// answer, behind a release the outputs that it released, and last how many letters, outputs and
+/// transmissions there were. A fault of the script is found before anything happens, and is told
+/// in one line. With `verbose` each fault of a node and each crash is logged too.
+pub fn run_script<R: Log + AllocGlobal, F: Read, O: Write, E: Write>(
+    rt: &R,
+    script: &mut F,
+    words: &RunWords<'_>,
+    output: &mut O,
+    errors: &mut E,
+) -> Status
+    ensures printed { result ≡ Done → PrintsScript false (F.remaining script.old) (O.contents output.old) (O.contents output.new) }
+    ensures quiet { result ≡ Done → errors.new ≡ errors.old }
+    ensures no_script { NoScript (F.remaining script.old) → output.new ≡ output.old }
+    ensures understood { result ≢ NotUnderstood }
+{
+    match print_text(rt, script, words, false, output) {
+        Ok(()) => Status::Done,
+        Err(fault) => fault.told(errors),
+    }
+}
+
+/// As `run_script`, but behind each answer come the letter that the event delivers, and whether the node that it asks
+/// prepares or leads from then on and what it learned. Behind the outputs come the letters that it sent. Each letter
+/// has the number by which `deliver` names it, its sender, its addressee and what it says.
+pub fn trace_script<R: Log + AllocGlobal, F: Read, O: Write, E: Write>(
+    rt: &R,
+    script: &mut F,
+    words: &RunWords<'_>,
+    output: &mut O,
+    errors: &mut E,
+) -> Status
+    ensures printed { result ≡ Done → PrintsScript true (F.remaining script.old) (O.contents output.old) (O.contents output.new) }
+    ensures quiet { result ≡ Done → errors.new ≡ errors.old }
+    ensures no_script { NoScript (F.remaining script.old) → output.new ≡ output.old }
+    ensures understood { result ≢ NotUnderstood }
+{
+    match print_text(rt, script, words, true, output) {
+        Ok(()) => Status::Done,
+        Err(fault) => fault.told(errors),
+    }
+}
