@@ -83,18 +83,20 @@ one_channel d c e a b =
 
 -- a table spells one command at most
 one_command : (d : Data) (a b : Command) → SpellsCommand d a → SpellsCommand d b → a ≡ b
+one_command d (commands.Change ch s) c a b = absurd a
+one_command d c (commands.Change ch s) a b = absurd b
 one_command d commands.Noop commands.Noop a b = refl
 one_command d commands.Noop (commands.Channel c') a b = grind (arith, a, b.0)
 one_command d commands.Noop (commands.Flow ch' modem' tag' last' kind') a b = grind (arith, a, b.0)
 one_command d commands.Noop (commands.Drop ch' sid') a b = grind (arith, a, b.0)
 one_command d commands.Noop (commands.Request ch' sid' n' sent') a b = grind (arith, a, b.0)
-one_command d commands.Noop (commands.Cut ch' len' not_before' ack') a b = grind (arith, a, b.0)
+one_command d commands.Noop (commands.Cut ch' len' not_before' ack' keep' ranging' sending') a b = grind (arith, a, b.0)
 one_command d (commands.Channel c) commands.Noop a b = grind (arith, a.0, b)
 one_command d (commands.Channel c) (commands.Channel c') a b = ap (λ (x : Channel). commands.Channel x) (one_channel d c c' a.1 b.1)
 one_command d (commands.Channel c) (commands.Flow ch' modem' tag' last' kind') a b = grind (arith, a.0, b.0)
 one_command d (commands.Channel c) (commands.Drop ch' sid') a b = grind (arith, a.0, b.0)
 one_command d (commands.Channel c) (commands.Request ch' sid' n' sent') a b = grind (arith, a.0, b.0)
-one_command d (commands.Channel c) (commands.Cut ch' len' not_before' ack') a b = grind (arith, a.0, b.0)
+one_command d (commands.Channel c) (commands.Cut ch' len' not_before' ack' keep' ranging' sending') a b = grind (arith, a.0, b.0)
 one_command d (commands.Flow ch modem tag last kind) commands.Noop a b = grind (arith, a.0, b)
 one_command d (commands.Flow ch modem tag last kind) (commands.Channel c') a b = grind (arith, a.0, b.0)
 one_command d (commands.Flow ch modem tag last kind) (commands.Flow ch' modem' tag' last' kind') a b =
@@ -106,7 +108,7 @@ one_command d (commands.Flow ch modem tag last kind) (commands.Flow ch' modem' t
     cc (ch_is, modem_is, tag_is, last_is, kind_is)
 one_command d (commands.Flow ch modem tag last kind) (commands.Drop ch' sid') a b = grind (arith, a.0, b.0)
 one_command d (commands.Flow ch modem tag last kind) (commands.Request ch' sid' n' sent') a b = grind (arith, a.0, b.0)
-one_command d (commands.Flow ch modem tag last kind) (commands.Cut ch' len' not_before' ack') a b = grind (arith, a.0, b.0)
+one_command d (commands.Flow ch modem tag last kind) (commands.Cut ch' len' not_before' ack' keep' ranging' sending') a b = grind (arith, a.0, b.0)
 one_command d (commands.Drop ch sid) commands.Noop a b = grind (arith, a.0, b)
 one_command d (commands.Drop ch sid) (commands.Channel c') a b = grind (arith, a.0, b.0)
 one_command d (commands.Drop ch sid) (commands.Flow ch' modem' tag' last' kind') a b = grind (arith, a.0, b.0)
@@ -115,7 +117,7 @@ one_command d (commands.Drop ch sid) (commands.Drop ch' sid') a b =
     let sid_is = one_number d (codes "sid") 16 sid sid' a.2 b.2 in
     cc (ch_is, sid_is)
 one_command d (commands.Drop ch sid) (commands.Request ch' sid' n' sent') a b = grind (arith, a.0, b.0)
-one_command d (commands.Drop ch sid) (commands.Cut ch' len' not_before' ack') a b = grind (arith, a.0, b.0)
+one_command d (commands.Drop ch sid) (commands.Cut ch' len' not_before' ack' keep' ranging' sending') a b = grind (arith, a.0, b.0)
 one_command d (commands.Request ch sid n sent) commands.Noop a b = grind (arith, a.0, b)
 one_command d (commands.Request ch sid n sent) (commands.Channel c') a b = grind (arith, a.0, b.0)
 one_command d (commands.Request ch sid n sent) (commands.Flow ch' modem' tag' last' kind') a b = grind (arith, a.0, b.0)
@@ -126,18 +128,21 @@ one_command d (commands.Request ch sid n sent) (commands.Request ch' sid' n' sen
     let n_is = one_number d (codes "n") 16 n n' a.3 b.3 in
     let sent_is = one_number d (codes "sent") 64 sent sent' a.4 b.4 in
     cc (ch_is, sid_is, n_is, sent_is)
-one_command d (commands.Request ch sid n sent) (commands.Cut ch' len' not_before' ack') a b = grind (arith, a.0, b.0)
-one_command d (commands.Cut ch len not_before ack) commands.Noop a b = grind (arith, a.0, b)
-one_command d (commands.Cut ch len not_before ack) (commands.Channel c') a b = grind (arith, a.0, b.0)
-one_command d (commands.Cut ch len not_before ack) (commands.Flow ch' modem' tag' last' kind') a b = grind (arith, a.0, b.0)
-one_command d (commands.Cut ch len not_before ack) (commands.Drop ch' sid') a b = grind (arith, a.0, b.0)
-one_command d (commands.Cut ch len not_before ack) (commands.Request ch' sid' n' sent') a b = grind (arith, a.0, b.0)
-one_command d (commands.Cut ch len not_before ack) (commands.Cut ch' len' not_before' ack') a b =
+one_command d (commands.Request ch sid n sent) (commands.Cut ch' len' not_before' ack' keep' ranging' sending') a b = grind (arith, a.0, b.0)
+one_command d (commands.Cut ch len not_before ack keep ranging sending) commands.Noop a b = grind (arith, a.0, b)
+one_command d (commands.Cut ch len not_before ack keep ranging sending) (commands.Channel c') a b = grind (arith, a.0, b.0)
+one_command d (commands.Cut ch len not_before ack keep ranging sending) (commands.Flow ch' modem' tag' last' kind') a b = grind (arith, a.0, b.0)
+one_command d (commands.Cut ch len not_before ack keep ranging sending) (commands.Drop ch' sid') a b = grind (arith, a.0, b.0)
+one_command d (commands.Cut ch len not_before ack keep ranging sending) (commands.Request ch' sid' n' sent') a b = grind (arith, a.0, b.0)
+one_command d (commands.Cut ch len not_before ack keep ranging sending) (commands.Cut ch' len' not_before' ack' keep' ranging' sending') a b =
     let ch_is = one_number d (codes "ch") 8 ch ch' a.1 b.1 in
     let len_is = one_number d (codes "len") 16 len len' a.2 b.2 in
     let not_before_is = one_number d (codes "not_before") 64 not_before not_before' a.3 b.3 in
     let ack_is = one_number d (codes "ack") 64 ack ack' a.4 b.4 in
-    cc (ch_is, len_is, not_before_is, ack_is)
+    let keep_is : keep ≡ keep' = a.5 ∙ sym b.5 in
+    let ranging_is : ranging ≡ ranging' = a.6 ∙ sym b.6 in
+    let sending_is : sending ≡ sending' = a.7 ∙ sym b.7 in
+    cc (ch_is, len_is, not_before_is, ack_is, keep_is, ranging_is, sending_is)
 
 one_value : (d : Data) (v w : List ℕ) → IsCommandBytes d v → IsCommandBytes d w → v ≡ w
 one_value d v w a b = a.2 ∙ ap spelling (one_command d a.0 b.0 a.1 b.1) ∙ sym b.2

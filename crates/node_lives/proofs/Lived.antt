@@ -24,7 +24,7 @@ use Rattle.seats.specs.Moves.{Ask, Moves, quiet}
 use Rattle.seats.specs.Moves.Ask.{Call as IsCalled}
 use Rattle.seats.specs.declared.answer.Answer.{Answer}
 use Rattle.seats.specs.declared.answer.Answer.TheVariants.{Fault}
-use Rattle.upsched_node_parts.specs.Serving.{RepliesAs, RunsAs}
+use Rattle.upsched_node.specs.Serving.{RepliesAs, RunsAs}
 
 -- a line asks one thing at most
 abbrev pub OneMeaning : Type 0

@@ -22,7 +22,7 @@ use Rattle.node_worker.specs.declared.entry.Ended.TheVariants.{FailedEither, Who
 use Rattle.seats.specs.Acted.{letters_of, outputs_of, told}
 use Rattle.seats.specs.declared.acted.Acted.{Acted as Given}
 use Rattle.seats.specs.Moves.Ask.{Call as IsCalled}
-use Rattle.upsched_node_parts.specs.Serving.{RunsAs}
+use Rattle.upsched_node.specs.Serving.{RunsAs}
 
 -- what a request is as a cause
 abbrev pub cause_of : Request → Cause

@@ -7,8 +7,9 @@ use std::io;
 use std::io::Write;
 use std::process::Abort;
 use std::test::Fail;
-use upsched_map_parts::{MapsWords, RunWords, Status, maps};
-use upsched_parts::run_script;
+use upsched_ends::{MapsWords, RunWords, Status};
+use upsched_maps::maps;
+use upsched_run::run_script;
 use upsched_words::{read_words, refused};
 
 /// A writer that is full.

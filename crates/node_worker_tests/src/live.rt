@@ -8,6 +8,7 @@ use log::sink::Memory;
 use log::{Level, Log, Logged};
 use node::Node;
 use node_worker::{Ask, Carrier, Cause, Kept, Plant, Record, keep_all, step};
+use script_text::read_plan;
 use seats::{OutOfMemory, plain_nodes};
 use std::alloc::{AllocError, Global};
 use std::process::Abort;
@@ -15,8 +16,8 @@ use std::sync::Wait;
 use std::test::*;
 use std::thread::Threads;
 use std::time::Clock;
-use upsched_live_parts::{Agenda, LiveCarrier, live, live_cluster};
-use upsched_map_parts::{LiveWords, Status, read_plan};
+use upsched_ends::{LiveWords, Status};
+use upsched_live::{Agenda, LiveCarrier, live, live_cluster};
 
 // Whether the node was asked to lead.
 fn is_lead(record: &Record) -> bool {

@@ -5,3 +5,4 @@ mod Pairs
 mod ScriptFaults
 mod Keys
 mod Reading
+mod Taken

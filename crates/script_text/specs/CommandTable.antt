@@ -52,10 +52,11 @@ HasService d (Poll interval jitter base) =
 abbrev pub HasLast : Data → ℕ → Type 0
 HasLast d last = HasNumber d (codes "last") 64 last ⊎ ((get (codes "last") d ≡ None) × (last ≡ last_time))
 
--- the table spells the command
+-- the table spells the command; none spells a change of a channel
 abbrev pub SpellsCommand : Data → Command → Type 0
 SpellsCommand d commands.Noop = HasText d (codes "kind") (codes "noop")
 SpellsCommand d (commands.Channel c) = HasText d (codes "kind") (codes "channel") × HasChannel d c
+SpellsCommand d (commands.Change ch s) = ⊥
 SpellsCommand d (commands.Flow ch modem tag last kind) =
     HasText d (codes "kind") (codes "flow") × HasNumber d (codes "ch") 8 ch × HasNumber d (codes "modem") 32 modem
     × HasNumber d (codes "tag") 32 tag × HasLast d last × HasService d kind
@@ -64,6 +65,7 @@ SpellsCommand d (commands.Drop ch sid) =
 SpellsCommand d (commands.Request ch sid n sent) =
     HasText d (codes "kind") (codes "request") × HasNumber d (codes "ch") 8 ch × HasNumber d (codes "sid") 16 sid
     × HasNumber d (codes "n") 16 n × HasNumber d (codes "sent") 64 sent
-SpellsCommand d (commands.Cut ch len not_before ack) =
+SpellsCommand d (commands.Cut ch len not_before ack keep ranging sending) =
     HasText d (codes "kind") (codes "cut") × HasNumber d (codes "ch") 8 ch × HasNumber d (codes "len") 16 len
     × HasNumber d (codes "not_before") 64 not_before × HasNumber d (codes "ack") 64 ack
+    × (keep ≡ 0) × (ranging ≡ (255, 255)) × (sending ≡ (255, 255))

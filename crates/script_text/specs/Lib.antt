@@ -3,3 +3,4 @@ pub mod Items
 pub mod CommandTable
 pub mod EventTable
 pub mod Script
+pub mod Plan

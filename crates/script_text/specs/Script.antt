@@ -1,5 +1,5 @@
 -- A script: members, ids of modems, and events, under keys of a TOML text. Events count from 0.
-use Rattle.std.specs.Prelude.{◌≡◌, ℕ, ◌^◌, ◌<◌, List, Some, None, pos, codes}
+use Rattle.std.specs.Prelude.{◌≡◌, ℕ, ◌^◌, ◌<◌, List, Option, Some, None, pos, codes}
 use Rattle.toml.specs.Data.{Data, integer, Members, get_member}
 use Rattle.toml.specs.Parse.{parse_document}
 use Rattle.ballots.specs.declared.members.Members.{Members as NodeCount}
@@ -77,3 +77,8 @@ IsScriptFault text NotToml = parse_document text ≡ None
 IsScriptFault text (BadEvent position) = (ms : Members) × (parse_document text ≡ Some ms) × IsTableFault ms (BadEvent position)
 IsScriptFault text BadMembers = (ms : Members) × (parse_document text ≡ Some ms) × IsTableFault ms BadMembers
 IsScriptFault text OutOfMemory = Unit {0}
+
+-- the text is known to be no script
+abbrev pub NoScript : Option (List ℕ) → Type 0
+NoScript None = ⊥
+NoScript (Some text) = (count : NodeCount) (ids : List ℕ) (events : List Event) → ¬ IsScript text count ids events

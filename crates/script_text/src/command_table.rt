@@ -161,6 +161,9 @@ fn cut_of(table: &Value) -> Option<Command>
         len: u16_at(table, "len")?,
         not_before: u64_at(table, "not_before")?,
         ack: u64_at(table, "ack")?,
+        keep: 0,
+        ranging: (255, 255),
+        data: (255, 255),
     })
 }
 

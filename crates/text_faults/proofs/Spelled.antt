@@ -114,7 +114,7 @@ cut place d text none =
     let (len, b) = number place kinds.Cut keys.Len d 65535 16 refl h.1.0 in
     let (not_before, e) = number place kinds.Cut keys.NotBefore d 18446744073709551615 64 refl h.1.1.0 in
     let (ack, f) = number place kinds.Cut keys.Ack d 18446744073709551615 64 refl h.1.1.1.0 in
-    (commands.Cut ch len not_before ack, (text, a, b, e, f))
+    (commands.Cut ch len not_before ack 0 (255, 255) (255, 255), (text, a, b, e, f, refl, refl, refl))
 
 spells_kind : (place : Place) (d : Data) (k : Kind) → IsOneOf k (kinds_of Commands) → Spells place d k
 spells_kind place d k (inl is) = subst (Spells place d) (sym is) (noop place d)
@@ -163,6 +163,7 @@ no_more xs h = rw h refl
 -- the faults of a table that spells a command: none
 pub no_command_fault : (place : Place) (d : Data) (c : Command) → SpellsCommand d c → table_faults place kinds.Command d ≡ []
 no_command_fault place d commands.Noop text = no_kind_fault place d kinds.Noop refl text refl
+no_command_fault place d (commands.Change ch s) none = absurd none
 no_command_fault place d (commands.Channel ch) (text, has) =
     let h0 = no_number_fault place kinds.Channel keys.Ch d 255 8 _ refl has.id in
     let h1 = no_number_fault place kinds.Channel keys.Ucd d 255 8 _ refl has.ucd in
@@ -193,7 +194,7 @@ no_command_fault place d (commands.Request ch sid n sent) (text, a, b, e, f) =
     let h3 = no_number_fault place kinds.Request keys.Sent d 18446744073709551615 64 sent refl f in
     let none = of_none (fault_at place kinds.Request d) (rows_of kinds.Request) (h0, (h1, (h2, (h3, tt)))) in
     no_kind_fault place d kinds.Request refl text (no_more _ none)
-no_command_fault place d (commands.Cut ch len not_before ack) (text, a, b, e, f) =
+no_command_fault place d (commands.Cut ch len not_before ack keep ranging sending) (text, a, b, e, f, none_kept, own_ranging, own_sending) =
     let h0 = no_number_fault place kinds.Cut keys.Ch d 255 8 ch refl a in
     let h1 = no_number_fault place kinds.Cut keys.Len d 65535 16 len refl b in
     let h2 = no_number_fault place kinds.Cut keys.NotBefore d 18446744073709551615 64 not_before refl e in

@@ -4,7 +4,7 @@
 use std::io::BufWriter;
 use std::process::ExitCode;
 use upsched_commands::run;
-use upsched_map_parts::Fault;
+use upsched_ends::Fault;
 
 fn main(rt: HostRuntime) -> ExitCode {
     let mut errors = rt.stderr();

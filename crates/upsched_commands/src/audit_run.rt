@@ -3,8 +3,8 @@
 use crate::opening::opened;
 use ballots::Bytes;
 use std::io::Write;
-use upsched_audit_parts::{NO_JOURNALS, audit, audited_members, journal_of};
-use upsched_map_parts::{Fault, Status};
+use upsched_audit::{NO_JOURNALS, audit, audited_members, journal_of};
+use upsched_ends::{Fault, Status};
 use upsched_words::AuditWords;
 
 /// The journal at this path.

@@ -3,8 +3,8 @@
 use crate::journal_file::JournalFile;
 use node_tape::{Heard, Spoken};
 use std::io::{BufReader, BufWriter, Read, Write};
-use upsched_map_parts::{Fault, NodeWords, Status};
-use upsched_store_parts::{member_of, node, stored_node};
+use upsched_ends::{Fault, NodeWords, Status};
+use upsched_store::{member_of, node, stored_node};
 use upsched_words::JournalWords;
 
 /// Ends as `node` does, or as `stored_node` where the words name a file of records.

@@ -2,7 +2,7 @@
 
 use std::fs;
 use std::fs::File;
-use upsched_map_parts::Fault;
+use upsched_ends::Fault;
 
 /// The file of a path, which is read.
 pub(crate) fn opened<'a>(rt: &HostRuntime, path: &'a str) -> Result<File, Fault<'a>> {

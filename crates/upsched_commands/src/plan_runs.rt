@@ -3,14 +3,15 @@
 use crate::opening::opened;
 use std::alloc::Global;
 use std::io::{Read, Write};
-use upsched_json_parts::maps_as_json;
-use upsched_map_parts::{Fault, MapsWords, ScriptWords, Status, maps, text_of};
-use upsched_picture_parts::{draw_maps, draw_script, tell_maps};
-use upsched_script_parts::script;
-use upsched_sight_parts::{
+use upsched_check::{
     CaptureWords, CheckWords, StatsWords, capture, check, draw_plan, draw_text, is_plan_text,
     stats, tell_plan,
 };
+use upsched_draw::{draw_maps, draw_script, tell_maps};
+use upsched_ends::{Fault, MapsWords, ScriptWords, Status, text_of};
+use upsched_json::maps_as_json;
+use upsched_maps::maps;
+use upsched_script::script;
 use upsched_words::{DrawWords, Subject};
 
 /// Opens the plan and ends as `maps` does.

@@ -12,10 +12,11 @@ use std::rt::Env;
 use std::sync::Wait;
 use std::thread::Threads;
 use std::time::Clock;
-use upsched_json_parts::show_as_json;
-use upsched_map_parts::{Fault, Status, show};
-use upsched_sight_parts::show_names;
-use upsched_store_parts::check_store;
+use upsched_check::show_names;
+use upsched_ends::{Fault, Status};
+use upsched_json::show_as_json;
+use upsched_maps::show;
+use upsched_store::check_store;
 use upsched_words::{Words, read_words, refused};
 
 /// The words of the command line, or how the program ends without them.

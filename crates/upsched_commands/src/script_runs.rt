@@ -5,10 +5,10 @@ use std::io::Write;
 use std::sync::Wait;
 use std::thread::Threads;
 use std::time::Clock;
-use upsched_live_parts::live;
-use upsched_map_parts::{Fault, LiveWords, RunWords, Status};
-use upsched_store_parts::{
-    run_as_json, run_script, run_stored_as_json, run_stored_script, trace_script,
+use upsched_ends::{Fault, LiveWords, RunWords, Status};
+use upsched_live::live;
+use upsched_store::{
+    run_as_json, run_script, run_stored_as_json, run_stored_script, trace_as_json, trace_script,
 };
 
 /// Opens the script and ends as `run_script` or `trace_script` does, or as `run_stored_script` where the words name a
@@ -28,7 +28,8 @@ pub(crate) fn run_run<'a, O: Write, E: Write>(
     })
 }
 
-/// Opens the script and ends as `run_as_json` does, or as `run_stored_as_json` where the words name a folder.
+/// Opens the script and ends as `run_as_json` or `trace_as_json` does, or as `run_stored_as_json` where the words name a
+/// folder.
 pub(crate) fn run_run_as_json<'a, O: Write, E: Write>(
     rt: &HostRuntime,
     words: &RunWords<'a>,
@@ -38,7 +39,8 @@ pub(crate) fn run_run_as_json<'a, O: Write, E: Write>(
 ) -> Result<Status, Fault<'a>> {
     let mut script = opened(rt, words.script)?;
     Ok(match words.store {
-        None => run_as_json(rt.alloc(), &mut script, words, is_traced, output, errors),
+        None if is_traced => trace_as_json(rt.alloc(), &mut script, words, output, errors),
+        None => run_as_json(rt.alloc(), &mut script, words, output, errors),
         Some(folder) => {
             run_stored_as_json(rt, &mut script, words, folder, is_traced, output, errors)
         }

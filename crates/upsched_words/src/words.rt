@@ -2,17 +2,17 @@
 
 ghost use Rattle.std.specs.Prelude.{◌≡◌, ◌≢◌};
 ghost use Rattle.clap.specs.Words.{kind_of};
-ghost use Rattle.upsched_map_parts.specs.declared.status.Status.TheVariants.{Faulted, NotUnderstood};
+ghost use Rattle.upsched_ends.specs.declared.status.Status.TheVariants.{Faulted, NotUnderstood};
 
 use crate::commands::program;
 use clap::error::ErrorKind;
 use clap::{ArgMatches, Command, Error};
 use std::alloc::{AllocError, Global};
 use std::io::Write;
-use upsched_map_parts::{
+use upsched_check::{CaptureWords, CheckWords, Form, StatsWords};
+use upsched_ends::{
     Fault, LiveWords, MapsWords, NodeWords, RunWords, ScriptWords, ShowWords, Status,
 };
-use upsched_sight_parts::{CaptureWords, CheckWords, Form, StatsWords};
 
 /// What `node` is told of its journal.
 #[derive(Clone, Copy, Debug)]

@@ -1,0 +1,12 @@
+//! The two ends of each command of the program: what it is told, and how it ends. It opens no file.
+#![tactic(auto)]
+
+mod fault;
+mod status;
+mod text;
+mod words;
+
+pub use fault::Fault;
+pub use status::Status;
+pub use text::{plan_of, script_of, text_of};
+pub use words::{LiveWords, MapsWords, NodeWords, RunWords, ScriptWords, ShowWords};

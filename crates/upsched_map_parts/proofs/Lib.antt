@@ -1,3 +1,0 @@
-pub mod Callers
-mod Printed
-mod Taken

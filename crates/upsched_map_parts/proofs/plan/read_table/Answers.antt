@@ -1,5 +1,0 @@
-use Rattle.std.proofs.Common.{refl}
-use Rattle.upsched_map_parts.proofs.plan.read_table.Goals as goal
-
-pub returns-in-None-clause-fault : goal.returns-in-None-clause-fault
-returns-in-None-clause-fault c = (0, refl, rw (← c.in-None.ensures) refl)

@@ -1,0 +1,123 @@
+//! `upsched node K --members M --store FILE`: the node keeps its records in a file of its own.
+
+ghost use Rattle.std.specs.Prelude.{◌≡◌, ◌<◌, ℕ};
+ghost use Rattle.ballots.specs.Members.{member_count};
+ghost use Rattle.ballots.specs.declared.members.Members.{Members};
+ghost use Rattle.upsched_ends.specs.declared.status.Status.TheVariants.{NotUnderstood};
+ghost use Rattle.upsched_node.specs.Member.{NamesMember};
+
+use acceptor_store::{OpenFault, OwnerFault};
+use ballots::{Members, NodeId};
+use node::{Node, NodeFault};
+use node_service::{Input, Output, Reply};
+use seats::Seat;
+use std::alloc::Global;
+use std::io::Write;
+use stored_nodes::{NodeUse, StartFault, use_node_at};
+use upsched_ends::{Fault, NodeWords, Status};
+use upsched_node::{NO_MEMBER, ended, member_of, serve_member, unwritten};
+
+/// What is told of files that aren't opened as the node's.
+fn unopened<'a>(fault: OwnerFault) -> Fault<'a> {
+    match fault {
+        OwnerFault::Blank => Fault::NoStore,
+        OwnerFault::Unowned => Fault::StoreOf("nobody"),
+        OwnerFault::OtherNode => Fault::StoreOf("another node"),
+        OwnerFault::OtherMembers => Fault::StoreOf("other members"),
+        OwnerFault::Open(OpenFault::OutOfMemory) => Fault::Memory,
+        OwnerFault::Open(_) => Fault::Store,
+    }
+}
+
+/// What is told of a node that doesn't start over its files.
+fn not_started<'a>(fault: StartFault) -> Fault<'a> {
+    match fault {
+        StartFault::NoFile => Fault::NoStore,
+        StartFault::InUse => Fault::StoreInUse,
+        StartFault::NotFresh => Fault::StoreNotFresh,
+        StartFault::Unopened(fault) => unopened(fault),
+        StartFault::Unread(NodeFault::OutOfMemory) | StartFault::OutOfMemory => Fault::Memory,
+        StartFault::Unread(_) | StartFault::Unusable => Fault::Store,
+    }
+}
+
+/// A node that has started tells so first, and then replies to each line that comes.
+#[derive(Drop)]
+struct Serving<'a, I, O> {
+    alloc: Global,
+    input: &'a mut I,
+    output: &'a mut O,
+}
+
+impl<I: Input, O: Output> NodeUse for Serving<'_, I, O> {
+    type Answer = Result<(), Fault<'static>>;
+
+    fn use_node<N: Node + Drop>(
+        self,
+        node: N,
+        member: (NodeId, Members),
+        is_new: bool,
+    ) -> Result<(), Fault<'static>> {
+        let Serving {
+            alloc,
+            input,
+            output,
+        } = self;
+        let (id, members) = member;
+        let first = if is_new {
+            Reply::Fresh(id, members)
+        } else {
+            Reply::Restarted(id, members)
+        };
+        if let Err(why) = output.write_reply(alloc, &first) {
+            return Err(unwritten(why));
+        }
+        let mut seat = Seat::new(node);
+        ended(serve_member(alloc, &mut seat, input, output))
+    }
+}
+
+/// Serves over the database of a path: as a new node, or as one that goes on over what it left there.
+fn serve_over<'a, I: Input, O: Output>(
+    rt: &HostRuntime,
+    words: &NodeWords<'_>,
+    path: &str,
+    member: (NodeId, Members),
+    input: &mut I,
+    output: &mut O,
+) -> Result<(), Fault<'a>>
+    requires { member.0 < member_count member.1 }
+{
+    let alloc = rt.alloc();
+    let serving = Serving {
+        alloc,
+        input,
+        output,
+    };
+    match use_node_at(rt, path, member, words.is_new, serving) {
+        Ok(served) => served,
+        Err(fault) => Err(not_started(fault)),
+    }
+}
+
+/// Serves as the member that the words name, with its records in the database of a path. A fault is told in one line.
+pub fn stored_node<I: Input, O: Output, E: Write>(
+    rt: &HostRuntime,
+    words: &NodeWords<'_>,
+    path: &str,
+    input: &mut I,
+    output: &mut O,
+    errors: &mut E,
+) -> Status
+    ensures unnamed { ((id : ℕ) (count : Members) → ¬ NamesMember words.now.number.now words.now.members.now id count)
+        → (result ≡ NotUnderstood) × (input.new ≡ input.old) × (output.new ≡ output.old) }
+{
+    let Some((id, members)) = member_of(words.number, words.members) else {
+        let _ = writeln!(errors, "{NO_MEMBER}");
+        return Status::NotUnderstood;
+    };
+    match serve_over(rt, words, path, (id, members), input, output) {
+        Ok(()) => Status::Done,
+        Err(fault) => fault.told(errors),
+    }
+}

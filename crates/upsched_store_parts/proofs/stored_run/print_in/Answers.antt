@@ -1,6 +1,0 @@
-use Rattle.upsched_parts.proofs.Callers.{no_script_read}
-use Rattle.upsched_store_parts.proofs.stored_run.print_in.Goals as goal
-
-pub returns : goal.returns
-returns g c = λ none.
-    absurd (no_script_read (g.F.Read.remaining c.args.script.now) c.in_ok-script.script.members c.in_ok-script.script.modems.items c.in_ok-script.script.events.items none c.in_ok-script.ensures.script)
