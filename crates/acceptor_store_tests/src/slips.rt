@@ -1,4 +1,4 @@
-//! Records over a file that slips at a reopen, which are broken for good, and a node over such.
+//! Records over a log that slips at a reopen, which are broken for good, and a node over such.
 
 use crate::files::Stopped;
 use crate::slip::Slip;
@@ -149,13 +149,11 @@ fn slips(alloc: Global, which: Stopped, again: Again) -> Result<u64, Fail> {
 }
 
 /// Which file slips, and at what.
-const SLIPS: [(Stopped, Again); 3] = [
-    // after a reopen that failed, as the database slipped, records stay broken
-    (Stopped::Database, Again::Reopen),
-    // the same where the log slips
+const SLIPS: [(Stopped, Again); 2] = [
+    // after a reopen that couldn't open the files, as the log slipped, records stay broken
     (Stopped::Log, Again::Reopen),
-    // a node whose restart failed, as the database slipped, stays down
-    (Stopped::Database, Again::Restart),
+    // a node whose restart failed so stays down
+    (Stopped::Log, Again::Restart),
 ];
 
 #[test]

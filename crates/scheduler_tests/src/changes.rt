@@ -321,6 +321,9 @@ fn command(step: Step) -> Command {
             len,
             not_before: 0,
             ack,
+            keep: 0,
+            ranging: (255, 255),
+            data: (255, 255),
         },
     }
 }
