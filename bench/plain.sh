@@ -2,8 +2,9 @@
 # Compares the codec, the scheduler, the modem and the node with the same in plain Rust, written for speed
 # (bench/plain).
 #
-# First what both answer, byte for byte, to 100,000 made commands, and to as many bodies (valid and damaged
-# ones), events of four modems and events of three or five nodes. Then what a call costs, in nanoseconds of
+# First what both answer, byte for byte, to 100,000 made commands without cuts' settings, changes of channels and flows
+# for ranging, to as many of all kinds, and to as many bodies (valid and damaged ones), events of four modems and events
+# of three or five nodes. Then what a call costs, in nanoseconds of
 # processor time (by turns, medians of nine runs) and, where valgrind is there, in instructions: for each kind
 # of work plain Rust's, upsched's and the ratio. Then how many bytes of the heap a flow takes, a request that waits, a
 # vote, a place and an interval of a modem. Last a run of three nodes by the proved program, where it is there, without
@@ -18,7 +19,7 @@
 set -euo pipefail
 . "$(dirname -- "${BASH_SOURCE[0]}")/common.sh"
 mode=${1-}
-kinds="commands bodies modems nodes"
+kinds="commands all_commands bodies modems nodes"
 seeds="0 1 2 3"
 count=25000 runs=9 rounds=1000
 [ "$mode" != quick ] || count=2500 runs=3 rounds=1

@@ -1,6 +1,7 @@
 //! The body of a version 1 MAP message.
 
 pub const REQUEST: u8 = 1;
+pub const INITIAL_MAINTENANCE: u8 = 3;
 pub const STATION_MAINTENANCE: u8 = 4;
 pub const SHORT_DATA_GRANT: u8 = 5;
 pub const LONG_DATA_GRANT: u8 = 6;

@@ -34,12 +34,57 @@ pub enum FlowKind {
         jitter: u32,
         base: u64,
     },
+    Station {
+        size: u16,
+        interval: u32,
+        jitter: u32,
+        base: u64,
+    },
+    Initial {
+        size: u16,
+        interval: u32,
+        jitter: u32,
+        base: u64,
+    },
+}
+
+/// What a channel that changes has from then on.
+#[derive(Clone, Copy, Debug, PartialEq, Eq)]
+pub struct ChannelSettings {
+    pub ucd: u8,
+    pub phy: Phy,
+    pub short_max: u16,
+    pub ranging_backoff: (u8, u8),
+    pub data_backoff: (u8, u8),
+}
+
+/// The back-off of a cut that stands for the channel's own.
+pub const OWN: (u8, u8) = (255, 255);
+
+/// What a cut sets: so many minislots stay free of requests' grants, and the back-offs that its MAP has.
+#[derive(Clone, Copy, Debug, PartialEq, Eq)]
+pub struct CutSettings {
+    pub keep: u16,
+    pub ranging: (u8, u8),
+    pub data: (u8, u8),
+}
+
+impl CutSettings {
+    pub const NONE: CutSettings = CutSettings {
+        keep: 0,
+        ranging: OWN,
+        data: OWN,
+    };
 }
 
 #[derive(Clone, Copy, Debug, PartialEq, Eq)]
 pub enum Command {
     Noop,
     Channel(Channel),
+    Change {
+        ch: u8,
+        settings: ChannelSettings,
+    },
     Flow {
         ch: u8,
         modem: u32,
@@ -62,6 +107,7 @@ pub enum Command {
         len: u16,
         not_before: u64,
         ack: u64,
+        set: CutSettings,
     },
 }
 
@@ -77,6 +123,49 @@ fn channel_of(fields: &mut Fields, phy: Phy) -> Option<Command> {
     }))
 }
 
+fn change_of(fields: &mut Fields) -> Option<Command> {
+    let ch = fields.u8()?;
+    let ucd = fields.u8()?;
+    let phy = match fields.u8()? {
+        0 => Phy::Tdma,
+        1 => Phy::Advanced,
+        _ => return None,
+    };
+    let settings = ChannelSettings {
+        ucd,
+        phy,
+        short_max: fields.u16()?,
+        ranging_backoff: (fields.u8()?, fields.u8()?),
+        data_backoff: (fields.u8()?, fields.u8()?),
+    };
+    Some(Command::Change { ch, settings })
+}
+
+fn cut_of(fields: &mut Fields, is_set: bool) -> Option<Command> {
+    let ch = fields.u8()?;
+    let len = fields.u16()?;
+    let not_before = fields.u64()?;
+    let ack = fields.u64()?;
+    let set = match is_set {
+        true => CutSettings {
+            keep: fields.u16()?,
+            ranging: (fields.u8()?, fields.u8()?),
+            data: (fields.u8()?, fields.u8()?),
+        },
+        false => CutSettings::NONE,
+    };
+    if is_set && set == CutSettings::NONE {
+        return None;
+    }
+    Some(Command::Cut {
+        ch,
+        len,
+        not_before,
+        ack,
+        set,
+    })
+}
+
 fn kind_of(fields: &mut Fields) -> Option<FlowKind> {
     match fields.u8()? {
         0 => Some(FlowKind::BestEffort(fields.u8()?)),
@@ -87,6 +176,18 @@ fn kind_of(fields: &mut Fields) -> Option<FlowKind> {
             base: fields.u64()?,
         }),
         2 => Some(FlowKind::Poll {
+            interval: fields.u32()?,
+            jitter: fields.u32()?,
+            base: fields.u64()?,
+        }),
+        3 => Some(FlowKind::Station {
+            size: fields.u16()?,
+            interval: fields.u32()?,
+            jitter: fields.u32()?,
+            base: fields.u64()?,
+        }),
+        4 => Some(FlowKind::Initial {
+            size: fields.u16()?,
             interval: fields.u32()?,
             jitter: fields.u32()?,
             base: fields.u64()?,
@@ -130,12 +231,9 @@ fn command_of(fields: &mut Fields) -> Option<Command> {
             n: fields.u16()?,
             sent: fields.u64()?,
         }),
-        5 => Some(Command::Cut {
-            ch: fields.u8()?,
-            len: fields.u16()?,
-            not_before: fields.u64()?,
-            ack: fields.u64()?,
-        }),
+        5 => cut_of(fields, false),
+        9 => cut_of(fields, true),
+        10 => change_of(fields),
         _ => None,
     }
 }
@@ -164,22 +262,67 @@ fn put_channel(out: &mut Vec<u8>, channel: &Channel) {
     out.extend(channel.base.to_be_bytes());
 }
 
+fn put_change(out: &mut Vec<u8>, ch: u8, settings: &ChannelSettings) {
+    let phy = match settings.phy {
+        Phy::Tdma => 0,
+        Phy::Advanced => 1,
+    };
+    out.extend([10, ch, settings.ucd, phy]);
+    out.extend(settings.short_max.to_be_bytes());
+    out.extend([settings.ranging_backoff.0, settings.ranging_backoff.1]);
+    out.extend([settings.data_backoff.0, settings.data_backoff.1]);
+}
+
+fn put_cut(out: &mut Vec<u8>, ch: u8, len: u16, not_before: u64, ack: u64, set: CutSettings) {
+    let is_set = set != CutSettings::NONE;
+    out.extend([if is_set { 9 } else { 5 }, ch]);
+    out.extend(len.to_be_bytes());
+    out.extend(not_before.to_be_bytes());
+    out.extend(ack.to_be_bytes());
+    if is_set {
+        out.extend(set.keep.to_be_bytes());
+        out.extend([set.ranging.0, set.ranging.1, set.data.0, set.data.1]);
+    }
+}
+
 fn put_timing(out: &mut Vec<u8>, interval: u32, jitter: u32, base: u64) {
     out.extend(interval.to_be_bytes());
     out.extend(jitter.to_be_bytes());
     out.extend(base.to_be_bytes());
 }
 
-fn put_kind(out: &mut Vec<u8>, kind: FlowKind) {
+fn kind_byte(kind: FlowKind) -> u8 {
     match kind {
-        FlowKind::BestEffort(priority) => out.extend([0, priority]),
+        FlowKind::BestEffort(_) => 0,
+        FlowKind::Ugs { .. } => 1,
+        FlowKind::Poll { .. } => 2,
+        FlowKind::Station { .. } => 3,
+        FlowKind::Initial { .. } => 4,
+    }
+}
+
+fn put_kind(out: &mut Vec<u8>, kind: FlowKind) {
+    out.push(kind_byte(kind));
+    match kind {
+        FlowKind::BestEffort(priority) => out.push(priority),
         FlowKind::Ugs {
             size,
             interval,
             jitter,
             base,
+        }
+        | FlowKind::Station {
+            size,
+            interval,
+            jitter,
+            base,
+        }
+        | FlowKind::Initial {
+            size,
+            interval,
+            jitter,
+            base,
         } => {
-            out.push(1);
             out.extend(size.to_be_bytes());
             put_timing(out, interval, jitter, base);
         }
@@ -187,10 +330,7 @@ fn put_kind(out: &mut Vec<u8>, kind: FlowKind) {
             interval,
             jitter,
             base,
-        } => {
-            out.push(2);
-            put_timing(out, interval, jitter, base);
-        }
+        } => put_timing(out, interval, jitter, base),
     }
 }
 
@@ -209,6 +349,7 @@ pub fn command_bytes(command: &Command) -> Vec<u8> {
     match *command {
         Command::Noop => out.push(0),
         Command::Channel(channel) => put_channel(&mut out, &channel),
+        Command::Change { ch, settings } => put_change(&mut out, ch, &settings),
         Command::Flow {
             ch,
             modem,
@@ -231,12 +372,8 @@ pub fn command_bytes(command: &Command) -> Vec<u8> {
             len,
             not_before,
             ack,
-        } => {
-            out.extend([5, ch]);
-            out.extend(len.to_be_bytes());
-            out.extend(not_before.to_be_bytes());
-            out.extend(ack.to_be_bytes());
-        }
+            set,
+        } => put_cut(&mut out, ch, len, not_before, ack, set),
     }
     out
 }

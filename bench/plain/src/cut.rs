@@ -34,6 +34,8 @@ pub struct Filling {
     gap_count: usize,
     placed: [Placed; MOST_PLACEMENTS],
     placed_count: usize,
+    // So many minislots hold no placement.
+    free: u32,
 }
 
 impl Filling {
@@ -45,6 +47,7 @@ impl Filling {
             gap_count: 0,
             placed: [Placed::default(); MOST_PLACEMENTS],
             placed_count: 0,
+            free: 0,
         }
     }
 
@@ -58,6 +61,7 @@ impl Filling {
         };
         self.gap_count = 1;
         self.placed_count = 0;
+        self.free = self.len;
     }
 
     pub fn start(&self) -> u64 {
@@ -70,6 +74,11 @@ impl Filling {
 
     pub fn is_full(&self) -> bool {
         self.placed_count == MOST_PLACEMENTS
+    }
+
+    /// How many minislots hold no placement.
+    pub fn free(&self) -> u32 {
+        self.free
     }
 
     /// The least start from lo to hi at which n minislots are free and end by a last one.
@@ -119,6 +128,7 @@ impl Filling {
         }
         self.placed[at] = placed;
         self.placed_count += 1;
+        self.free -= u32::from(n);
     }
 
     fn carve(&mut self, number: usize, from: u32, to: u32) {

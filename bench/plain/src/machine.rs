@@ -1,8 +1,8 @@
 //! The scheduler: commands in, outputs out.
 
-use crate::command::{Channel, Command};
+use crate::command::{Channel, ChannelSettings, Command};
 use crate::cut::Filling;
-use crate::table::{is_good_channel, Refusal, Table};
+use crate::table::{is_good_channel, CutAsked, Refusal, Table};
 
 #[derive(Clone, Debug, PartialEq, Eq)]
 pub enum Output {
@@ -73,10 +73,19 @@ impl Machine {
         })
     }
 
+    fn change_channel(&mut self, ch: u8, settings: &ChannelSettings) -> Result<Output, Refusal> {
+        self.table(ch)?.change(settings)?;
+        Ok(Output::ChannelSet {
+            ch,
+            ucd: settings.ucd,
+        })
+    }
+
     fn applied(&mut self, command: &Command) -> Result<Output, Refusal> {
         match *command {
             Command::Noop => Ok(Output::Nothing),
             Command::Channel(channel) => self.set_channel(channel),
+            Command::Change { ch, settings } => self.change_channel(ch, &settings),
             Command::Flow {
                 ch,
                 modem,
@@ -106,19 +115,28 @@ impl Machine {
                 len,
                 not_before,
                 ack,
-            } => self.cut(ch, len, not_before, ack),
+                set,
+            } => self.cut(
+                ch,
+                &CutAsked {
+                    len,
+                    not_before,
+                    ack,
+                    set,
+                },
+            ),
         }
     }
 
-    fn cut(&mut self, ch: u8, len: u16, not_before: u64, ack: u64) -> Result<Output, Refusal> {
+    fn cut(&mut self, ch: u8, asked: &CutAsked) -> Result<Output, Refusal> {
         let Some(Some(table)) = self.tables.get_mut(usize::from(ch)) else {
             return Err(Refusal::NoChannel);
         };
-        let (start, bytes) = table.cut(&mut self.filling, len, not_before, ack)?;
+        let (start, bytes) = table.cut(&mut self.filling, asked)?;
         Ok(Output::Map {
             ch,
             start,
-            len,
+            len: asked.len,
             bytes,
         })
     }

@@ -8,7 +8,8 @@ pub mod nodes;
 /// A file of so many inputs of a kind.
 pub fn made(kind: &str, seed: u64, count: usize) -> Option<Vec<u8>> {
     match kind {
-        "commands" => Some(commands::made(seed, count)),
+        "commands" => Some(commands::made(seed, count, false)),
+        "all_commands" => Some(commands::made(seed, count, true)),
         "bodies" => Some(bodies::made(seed, count)),
         "modems" => Some(modems::made(seed, count)),
         "nodes" => Some(nodes::made(seed, count)),

@@ -11,7 +11,7 @@ use std::io::{Read, Write};
 use std::process::ExitCode;
 use std::{fs, io};
 
-const WORDS: &str = "plain made KIND SEED COUNT >FILE      inputs: commands, bodies, modems or nodes
+const WORDS: &str = "plain made KIND SEED COUNT >FILE      inputs: commands, all_commands, bodies, modems or nodes
 plain plan <FILE >PLAN               a file of commands as a plan
 plain replay KIND <FILE >ANSWERS
 plain shapes FOLDER                  a file for each kind of work that is timed; their names by lines

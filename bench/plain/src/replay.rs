@@ -31,7 +31,7 @@ pub enum NodeEvent {
 /// The lines of the answers to a file of a kind of inputs.
 pub fn replay(kind: &str, file: &[u8]) -> Option<String> {
     match kind {
-        "commands" => Some(replay_commands(file)),
+        "commands" | "all_commands" => Some(replay_commands(file)),
         "bodies" => replay_bodies(file),
         "modems" => replay_modems(file),
         "nodes" => replay_nodes(file),

@@ -1,7 +1,7 @@
 //! The kinds of work that are timed: what is there before, and the calls that are counted.
 
 use crate::body::{encode, Head, MapBody};
-use crate::command::{command_bytes, Channel, Command, FlowKind, Phy};
+use crate::command::{command_bytes, Channel, Command, CutSettings, FlowKind, Phy};
 use crate::letters::{Bytes, Letter, Note, Votes};
 use crate::machine::{Machine, Output};
 use crate::made::bodies::made_elements;
@@ -126,6 +126,7 @@ fn cut(ch: u8, len: u16) -> Command {
         len,
         not_before: 0,
         ack: 2000,
+        set: CutSettings::NONE,
     }
 }
 
@@ -634,7 +635,9 @@ fn held_commands(count: usize, many: &[Command], one: &[Command]) -> Pair {
 /// 8,000 flows on each of four channels, or one on each that is asked for again.
 pub fn held_flows() -> Pair {
     let flows = |tag_of: fn(u32) -> u32| -> Vec<Command> {
-        let on = |ch| std::iter::once(channel(ch)).chain((0..8000).map(move |k| best_effort(ch, tag_of(k))));
+        let on = |ch| {
+            std::iter::once(channel(ch)).chain((0..8000).map(move |k| best_effort(ch, tag_of(k))))
+        };
         (0..4).flat_map(on).collect()
     };
     held_commands(4 * 7999, &flows(|k| k), &flows(|_| 0))
@@ -659,7 +662,9 @@ fn held_letters(note_of: fn(u64, Bytes) -> Note) -> Pair {
         let first = note_of(1, Bytes::new(&command_bytes(&channel(1))));
         let cut = Bytes::new(&command_bytes(&cut(1, 100)));
         let cuts = (2..=100_001).map(|place| note_of(place_of(place), cut.clone()));
-        let before = std::iter::once(first).chain(cuts).map(|note| letter(0, note));
+        let before = std::iter::once(first)
+            .chain(cuts)
+            .map(|note| letter(0, note));
         holding(NODE, before.collect(), lead_record(1))
     };
     (99_999, shape(|place| place), shape(|_| 2))

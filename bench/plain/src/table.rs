@@ -2,9 +2,10 @@
 
 use crate::body::{
     word, Head, ADVANCED_LONG_DATA_GRANT, ADVANCED_SHORT_DATA_GRANT, ADVANCED_UNSOLICITED_GRANT,
-    LONG_DATA_GRANT, REQUEST, SHORT_DATA_GRANT,
+    EVERYBODY, INITIAL_MAINTENANCE, LONG_DATA_GRANT, REQUEST, SHORT_DATA_GRANT,
+    STATION_MAINTENANCE,
 };
-use crate::command::{Channel, FlowKind, Phy};
+use crate::command::{Channel, ChannelSettings, CutSettings, FlowKind, Phy, OWN};
 use crate::cut::Filling;
 use crate::dues::Dues;
 use crate::names::ByNumber;
@@ -40,6 +41,13 @@ enum Service {
         jitter: u32,
     },
     Poll {
+        interval: u32,
+        jitter: u32,
+    },
+    /// Intervals for the ranging of its SID, or openings for everybody's first one.
+    Ranging {
+        is_opening: bool,
+        size: u8,
         interval: u32,
         jitter: u32,
     },
@@ -80,6 +88,26 @@ pub struct Lease {
     pub last: u64,
 }
 
+/// What a cut asks of a channel.
+pub struct CutAsked {
+    pub len: u16,
+    pub not_before: u64,
+    pub ack: u64,
+    pub set: CutSettings,
+}
+
+impl CutAsked {
+    fn is_good(&self, start: u64) -> bool {
+        (1..=MOST_MINISLOTS).contains(&self.len)
+            && self.not_before <= LAST_TIME
+            && self.ack <= LAST_TIME
+            && start + u64::from(self.len) <= LAST_TIME
+            && self.set.keep <= MOST_MINISLOTS
+            && (self.set.ranging == OWN || is_backoff(self.set.ranging))
+            && (self.set.data == OWN || is_backoff(self.set.data))
+    }
+}
+
 /// What comes by itself for a flow.
 #[derive(Clone, Copy)]
 struct Periodic {
@@ -105,21 +133,36 @@ pub struct Table {
     // The places of the polls that are due in a cut.
     polls: Vec<u16>,
     poll_flows: usize,
+    // The places of what is for ranging and due in a cut.
+    ranging: Vec<u16>,
+    ranging_flows: usize,
     // By priority, the greater first, and then by arrival.
     waiting: Vec<Waiting>,
     // No lease of one that waits ends before this minislot.
     waiting_until: u64,
 }
 
+fn is_backoff((start, end): (u8, u8)) -> bool {
+    start <= end && end <= 15
+}
+
 pub fn is_good_channel(channel: &Channel) -> bool {
-    let (ranging_start, ranging_end) = channel.ranging_backoff;
-    let (data_start, data_end) = channel.data_backoff;
-    ranging_start <= ranging_end
-        && ranging_end <= 15
-        && data_start <= data_end
-        && data_end <= 15
+    is_backoff(channel.ranging_backoff)
+        && is_backoff(channel.data_backoff)
         && channel.short_max > 0
         && channel.base <= LAST_TIME
+}
+
+/// The count of a change is the channel's, under which its bursts stay as they are, or the next one.
+fn is_good_change(channel: &Channel, settings: &ChannelSettings) -> bool {
+    let is_same = settings.phy == channel.phy && settings.short_max == channel.short_max;
+    is_backoff(settings.ranging_backoff)
+        && is_backoff(settings.data_backoff)
+        && settings.short_max > 0
+        && match settings.ucd.wrapping_sub(channel.ucd) {
+            0 => is_same,
+            further => further == 1,
+        }
 }
 
 fn is_schedule(interval: u32, jitter: u32, base: u64) -> bool {
@@ -130,6 +173,18 @@ fn is_good_kind(kind: FlowKind) -> bool {
     match kind {
         FlowKind::BestEffort(priority) => priority <= 7,
         FlowKind::Ugs {
+            size,
+            interval,
+            jitter,
+            base,
+        }
+        | FlowKind::Station {
+            size,
+            interval,
+            jitter,
+            base,
+        }
+        | FlowKind::Initial {
             size,
             interval,
             jitter,
@@ -226,6 +281,28 @@ impl Row {
             last: self.last,
         })
     }
+
+    fn ranging(&self, sid: u16) -> Option<Periodic> {
+        let Service::Ranging {
+            is_opening,
+            size,
+            interval,
+            jitter,
+        } = self.service
+        else {
+            return None;
+        };
+        Some(Periodic {
+            element: match is_opening {
+                true => word(EVERYBODY, INITIAL_MAINTENANCE, 0),
+                false => word(sid, STATION_MAINTENANCE, 0),
+            },
+            size: u16::from(size),
+            interval,
+            jitter,
+            last: self.last,
+        })
+    }
 }
 
 impl Table {
@@ -241,6 +318,8 @@ impl Table {
             dues: Dues::default(),
             polls: Vec::new(),
             poll_flows: 0,
+            ranging: Vec::new(),
+            ranging_flows: 0,
             waiting: Vec::new(),
             waiting_until: LAST_TIME,
         }
@@ -344,6 +423,28 @@ impl Table {
                 self.polls.reserve(self.poll_flows);
                 Service::Poll { interval, jitter }
             }
+            FlowKind::Station {
+                size,
+                interval,
+                jitter,
+                base,
+            }
+            | FlowKind::Initial {
+                size,
+                interval,
+                jitter,
+                base,
+            } => {
+                self.dues.set(place, base);
+                self.ranging_flows += 1;
+                self.ranging.reserve(self.ranging_flows);
+                Service::Ranging {
+                    is_opening: matches!(kind, FlowKind::Initial { .. }),
+                    size: size as u8,
+                    interval,
+                    jitter,
+                }
+            }
         }
     }
 
@@ -364,6 +465,10 @@ impl Table {
             Service::Poll { .. } => {
                 self.dues.forget(place);
                 self.poll_flows -= 1;
+            }
+            Service::Ranging { .. } => {
+                self.dues.forget(place);
+                self.ranging_flows -= 1;
             }
         }
         row.service = Service::None;
@@ -390,7 +495,9 @@ impl Table {
         let priority = match row.service {
             Service::BestEffort { priority } => priority,
             Service::Poll { .. } => 7,
-            Service::Ugs { .. } | Service::None => return Err(Refusal::BadValue),
+            Service::Ugs { .. } | Service::Ranging { .. } | Service::None => {
+                return Err(Refusal::BadValue)
+            }
         };
         if !(1..=255).contains(&n) || sent > LAST_TIME || row.last < sent {
             return Err(Refusal::BadValue);
@@ -418,34 +525,49 @@ impl Table {
         Ok(())
     }
 
-    /// The start of the next MAP, its length and its Ack Time, and its bytes.
+    /// Gives the channel other settings. Requests that wait are told by its new PHY and sizes.
+    pub fn change(&mut self, settings: &ChannelSettings) -> Result<(), Refusal> {
+        if !is_good_change(&self.channel, settings) {
+            return Err(Refusal::BadValue);
+        }
+        self.channel = Channel {
+            ucd: settings.ucd,
+            phy: settings.phy,
+            short_max: settings.short_max,
+            ranging_backoff: settings.ranging_backoff,
+            data_backoff: settings.data_backoff,
+            ..self.channel
+        };
+        for waiting in &mut self.waiting {
+            let iuc = self.channel.grant_iuc(waiting.n);
+            waiting.element = word(waiting.sid(), iuc, 0);
+        }
+        Ok(())
+    }
+
+    /// The start of the next MAP, and its bytes.
     pub fn cut(
         &mut self,
         filling: &mut Filling,
-        len: u16,
-        not_before: u64,
-        ack: u64,
+        asked: &CutAsked,
     ) -> Result<(u64, Vec<u8>), Refusal> {
-        let start = self.next_start.max(not_before);
-        let is_good = (1..=MOST_MINISLOTS).contains(&len)
-            && not_before <= LAST_TIME
-            && ack <= LAST_TIME
-            && start + u64::from(len) <= LAST_TIME;
-        if !is_good {
+        let start = self.next_start.max(asked.not_before);
+        if !asked.is_good(start) {
             return Err(Refusal::BadValue);
         }
-        filling.open(start, len);
-        self.ack = self.ack.max(ack.min(start));
+        filling.open(start, asked.len);
+        self.ack = self.ack.max(asked.ack.min(start));
         self.serve_periodic(filling);
-        self.serve_waiting(filling);
+        self.serve_waiting(filling, u32::from(asked.set.keep));
         let channel = self.channel;
+        let told = |pair: (u8, u8), own: (u8, u8)| if pair == OWN { own } else { pair };
         let head = Head {
             channel: channel.id,
             ucd: channel.ucd,
             start: start as u32,
             ack: self.ack as u32,
-            ranging_backoff: channel.ranging_backoff,
-            data_backoff: channel.data_backoff,
+            ranging_backoff: told(asked.set.ranging, channel.ranging_backoff),
+            data_backoff: told(asked.set.data, channel.data_backoff),
         };
         let bytes = filling.draw(&head, self.waiting.iter().map(|w| w.element));
         self.close(filling.end());
@@ -456,16 +578,28 @@ impl Table {
         let channel = self.channel;
         let rows = &self.rows;
         let polls = &mut self.polls;
+        let ranging = &mut self.ranging;
         polls.clear();
+        ranging.clear();
         self.dues.for_each_before(filling.end(), |place, due| {
-            match rows[place].grants(&channel, place as u16 + 1) {
+            let row = &rows[place];
+            match row.grants(&channel, place as u16 + 1) {
                 Some(periodic) => *due = periodic.run(filling, *due),
+                None if matches!(row.service, Service::Ranging { .. }) => {
+                    ranging.push(place as u16);
+                }
                 None => polls.push(place as u16),
             }
         });
-        for place in polls {
-            let at = usize::from(*place);
-            if let Some(periodic) = rows[at].polls(*place + 1) {
+        let polls = polls
+            .iter()
+            .map(|it| (*it, rows[usize::from(*it)].polls(*it + 1)));
+        let ranging = ranging
+            .iter()
+            .map(|it| (*it, rows[usize::from(*it)].ranging(*it + 1)));
+        for (place, periodic) in polls.chain(ranging) {
+            let at = usize::from(place);
+            if let Some(periodic) = periodic {
                 let due = self.dues.time(at);
                 *due = periodic.run(filling, *due);
                 self.dues.note(at);
@@ -473,8 +607,9 @@ impl Table {
         }
     }
 
-    /// Grants requests by rank. Left are those that still wait and whose leases go on to the MAP's end.
-    fn serve_waiting(&mut self, filling: &mut Filling) {
+    /// Grants requests by rank, where so many minislots stay free. Left are those that still wait and whose leases go
+    /// on to the MAP's end.
+    fn serve_waiting(&mut self, filling: &mut Filling, keep: u32) {
         // No run of so many minislots is free any more.
         let mut spent = u16::MAX;
         let mut seen = 0;
@@ -482,7 +617,8 @@ impl Table {
         while seen < self.waiting.len() && !filling.is_full() {
             let waiting = self.waiting[seen];
             seen += 1;
-            if waiting.n < spent && self.is_granted(filling, waiting, &mut spent) {
+            let is_left = u32::from(waiting.n) + keep <= filling.free();
+            if is_left && waiting.n < spent && self.is_granted(filling, waiting, &mut spent) {
                 continue;
             }
             if kept + 1 < seen {

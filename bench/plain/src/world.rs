@@ -1,6 +1,6 @@
 //! A run of three nodes under one leader: its events, the script of them, and the lines that `upsched run` prints.
 
-use crate::command::{command_bytes, Channel, Command, FlowKind, Phy};
+use crate::command::{command_bytes, Channel, Command, CutSettings, FlowKind, Phy};
 use crate::letters::Letter;
 use crate::lines::{put, put_hex, put_output};
 use crate::node::{Node, NodeFault};
@@ -39,6 +39,7 @@ fn command(i: u64) -> Command {
             len: 4096,
             not_before: 0,
             ack: i,
+            set: CutSettings::NONE,
         },
         _ => Command::Request {
             ch: 1,

@@ -7,12 +7,12 @@ use Rattle.flow_state.specs.declared.channel.Phy.{Phy}
 use Rattle.flow_state.specs.declared.channel.Phy.TheVariants.{Tdma, Advanced}
 use Rattle.std.proofs.lemmas.List.{length-drop}
 use Rattle.flow_state.specs.declared.flow.FlowKind.{FlowKind}
-use Rattle.flow_state.specs.declared.flow.FlowKind.TheVariants.{BestEffort, Ugs, Poll}
+use Rattle.flow_state.specs.declared.flow.FlowKind.TheVariants.{BestEffort, Ugs, Poll, Station, Initial}
 use Rattle.flow_state.specs.Limits.{last_time}
 use Rattle.grant_machine.specs.declared.command.Command.TheVariants as commands
 use Rattle.grant_machine.specs.Fits.{FitsKind}
-use Rattle.command_log.specs.Spelling.{phy_byte, changed_phy, flow_spelling, kind_spelling, Spells, SpellsNone, is_plain, cut_byte, cut_settings_spelling, cut_spelling}
-use Rattle.command_log.specs.Reading.{AreBytes, byte, number, is_form, channel_in, settings_in, change_in, kind_in, flow_in, flow_command_in, leased_flow_in, command_in, cut_in, set_cut_in}
+use Rattle.command_log.specs.Spelling.{phy_byte, changed_phy, flow_spelling, sized_spelling, kind_spelling, Spells, SpellsNone, is_plain, cut_byte, cut_settings_spelling, cut_spelling}
+use Rattle.command_log.specs.Reading.{AreBytes, byte, number, is_form, channel_in, settings_in, change_in, sized_in, kind_in, flow_in, flow_command_in, leased_flow_in, command_in, cut_in, set_cut_in}
 use Rattle.command_log.proofs.Spelled.{read_back}
 use Rattle.command_log.proofs.Fields.{are_drop, number_fits_2, number_fits_4, number_fits_8, field_1, field_2, field_4, field_8, at_end}
 
@@ -102,12 +102,23 @@ module _ (bytes : List ℕ) (are : AreBytes bytes) where
   best_effort_spelled : byte bytes 0 ≡ 0 → length bytes ≡ 2 → AreKind bytes (BestEffort (byte bytes 1))
   best_effort_spelled tag len = (are 1, first bytes are 0 _ tag (omega arith) (field_1 bytes are 1 _ (omega arith) (at_end bytes are 2 len)))
 
-  ugs_spelled : byte bytes 0 ≡ 1 → length bytes ≡ 19 → AreKind bytes (Ugs (number w16 bytes 1) (number w32 bytes 3) (number w32 bytes 7) (number w64 bytes 11))
-  ugs_spelled tag len = (
-    (number_fits_2 bytes are 1, number_fits_4 bytes are 3, number_fits_4 bytes are 7, number_fits_8 bytes are 11),
-    first bytes are 1 _ tag (omega arith) (field_2 bytes are 1 3 _ refl (omega arith) (field_4 bytes are 3 7 _ refl (omega arith) (field_4 bytes are 7 11 _ refl (omega arith)
-        (field_8 bytes are 11 19 _ refl (omega arith) (at_end bytes are 19 len))))),
-  )
+  -- the fields of a kind with a size fit, and with the kind's byte they are all
+  sized_fits : FitsKind (sized_in bytes Ugs)
+  sized_fits = (number_fits_2 bytes are 1, number_fits_4 bytes are 3, number_fits_4 bytes are 7, number_fits_8 bytes are 11)
+
+  sized_is : (tag : ℕ) → byte bytes 0 ≡ tag → length bytes ≡ 19 → bytes ≡ tag ∷ sized_spelling (number w16 bytes 1) (number w32 bytes 3) (number w32 bytes 7) (number w64 bytes 11)
+  sized_is tag is len =
+      first bytes are tag _ is (omega arith) (field_2 bytes are 1 3 _ refl (omega arith) (field_4 bytes are 3 7 _ refl (omega arith) (field_4 bytes are 7 11 _ refl (omega arith)
+      (field_8 bytes are 11 19 _ refl (omega arith) (at_end bytes are 19 len)))))
+
+  ugs_spelled : byte bytes 0 ≡ 1 → length bytes ≡ 19 → AreKind bytes (sized_in bytes Ugs)
+  ugs_spelled tag len = (sized_fits, sized_is 1 tag len)
+
+  station_spelled : byte bytes 0 ≡ 3 → length bytes ≡ 19 → AreKind bytes (sized_in bytes Station)
+  station_spelled tag len = (sized_fits, sized_is 3 tag len)
+
+  initial_spelled : byte bytes 0 ≡ 4 → length bytes ≡ 19 → AreKind bytes (sized_in bytes Initial)
+  initial_spelled tag len = (sized_fits, sized_is 4 tag len)
 
   poll_spelled : byte bytes 0 ≡ 2 → length bytes ≡ 17 → AreKind bytes (Poll (number w32 bytes 1) (number w32 bytes 5) (number w64 bytes 9))
   poll_spelled tag len = (
@@ -130,16 +141,13 @@ kind_spelled : (bytes : List ℕ) → AreBytes bytes → IfSome (kind_in bytes) 
 kind_spelled bytes are =
     by_form (AreKind bytes) (is_form bytes 0 2) _ _ (λ h. let f = form_is bytes 0 2 h in best_effort_spelled bytes are f.0 f.1)
     (by_form (AreKind bytes) (is_form bytes 1 19) _ _ (λ h. let f = form_is bytes 1 19 h in ugs_spelled bytes are f.0 f.1)
-    (by_form (AreKind bytes) (is_form bytes 2 17) _ None (λ h. let f = form_is bytes 2 17 h in poll_spelled bytes are f.0 f.1) tt))
-
-kind_is_some : (kind : FlowKind) → 0 < length (kind_spelling kind)
-kind_is_some (BestEffort priority) = omega arith
-kind_is_some (Ugs size interval jitter base) = omega arith
-kind_is_some (Poll interval jitter base) = omega arith
+    (by_form (AreKind bytes) (is_form bytes 2 17) _ _ (λ h. let f = form_is bytes 2 17 h in poll_spelled bytes are f.0 f.1)
+    (by_form (AreKind bytes) (is_form bytes 3 19) _ _ (λ h. let f = form_is bytes 3 19 h in station_spelled bytes are f.0 f.1)
+    (by_form (AreKind bytes) (is_form bytes 4 19) _ None (λ h. let f = form_is bytes 4 19 h in initial_spelled bytes are f.0 f.1) tt))))
 
 -- a kind that is read stands before the end
 kind_within : (bytes : List ℕ) (place : ℕ) (kind : FlowKind) → drop place bytes ≡ kind_spelling kind → place < length bytes
-kind_within bytes place kind is = omega (arith, ap length is, length-drop place bytes, kind_is_some kind)
+kind_within bytes place kind is = omega (arith, ap length is, length-drop place bytes)
 
 -- what a kind that is read from a place on makes
 with_kind : (bytes : List ℕ) (last place : ℕ) → AreBytes bytes → ((kind : FlowKind) → AreKind (drop place bytes) kind → Spells bytes (flow_in bytes last kind)) → IfSome (flow_command_in bytes last place) (Spells bytes)

@@ -9,13 +9,13 @@ use Rattle.flow_state.specs.declared.channel.Phy.{Phy}
 use Rattle.flow_state.specs.declared.channel.Phy.TheVariants.{Tdma, Advanced}
 use Rattle.flow_state.specs.declared.settings.ChannelSettings.{ChannelSettings}
 use Rattle.flow_state.specs.declared.flow.FlowKind.{FlowKind}
-use Rattle.flow_state.specs.declared.flow.FlowKind.TheVariants.{BestEffort, Ugs, Poll}
+use Rattle.flow_state.specs.declared.flow.FlowKind.TheVariants.{BestEffort, Ugs, Poll, Station, Initial}
 use Rattle.flow_state.specs.Limits.{last_time}
 use Rattle.grant_machine.specs.declared.command.Command.{Command}
 use Rattle.grant_machine.specs.declared.command.Command.TheVariants as commands
 use Rattle.grant_machine.specs.Fits.{FitsChannel, FitsSettings, FitsKind, FitsCommand}
-use Rattle.command_log.specs.Spelling.{phy_byte, changed_phy, channel_spelling, settings_spelling, flow_spelling, kind_spelling, spelling, is_plain, cut_byte, cut_settings_spelling, cut_spelling}
-use Rattle.command_log.specs.Reading.{channel_in, settings_in, kind_in, flow_in, flow_command_in, command_in}
+use Rattle.command_log.specs.Spelling.{phy_byte, changed_phy, channel_spelling, settings_spelling, flow_spelling, sized_spelling, kind_spelling, spelling, is_plain, cut_byte, cut_settings_spelling, cut_spelling}
+use Rattle.command_log.specs.Reading.{channel_in, settings_in, sized_in, kind_in, flow_in, flow_command_in, command_in}
 
 -- a channel's fields are read as they were spelled, whatever byte stands before them
 fields_read : (phy : Phy) (first : ℕ) (c : Channel) → c.phy ≡ phy → FitsChannel c → channel_in phy (first ∷ channel_spelling c) ≡ c
@@ -52,12 +52,19 @@ change_read : (phy : Phy) (ch : ℕ) (s : ChannelSettings) → s.phy ≡ phy →
 change_read Tdma ch s is fits = ap (λ (phy : Phy). command_in (spelled_to phy ch s)) is ∙ ap (λ (d : ChannelSettings). Some (commands.Change ch d)) (settings_read Tdma 10 ch s is fits)
 change_read Advanced ch s is fits = ap (λ (phy : Phy). command_in (spelled_to phy ch s)) is ∙ ap (λ (d : ChannelSettings). Some (commands.Change ch d)) (settings_read Advanced 10 ch s is fits)
 
+-- a kind with a size is read as it was spelled, whatever its byte
+sized_read : (first size interval jitter base : ℕ) (kind : (size interval jitter base : ℕ) → FlowKind) → size < 2 ^ 16 → interval < 2 ^ 32 → jitter < 2 ^ 32 → base < 2 ^ 64
+    → sized_in (first ∷ sized_spelling size interval jitter base) kind ≡ kind size interval jitter base
+sized_read first size interval jitter base kind size_fits interval_fits jitter_fits base_fits i =
+    kind (from_be_bytes-to_be_bytes_2 size size_fits i) (from_be_bytes-to_be_bytes_4 interval interval_fits i) (from_be_bytes-to_be_bytes_4 jitter jitter_fits i) (from_be_bytes-to_be_bytes_8 base base_fits i)
+
 kind_read : (kind : FlowKind) → FitsKind kind → kind_in (kind_spelling kind) ≡ Some kind
 kind_read (BestEffort priority) fits = refl
-kind_read (Ugs size interval jitter base) fits =
-    λ i. Some (Ugs (from_be_bytes-to_be_bytes_2 size fits.0 i) (from_be_bytes-to_be_bytes_4 interval fits.1 i) (from_be_bytes-to_be_bytes_4 jitter fits.2 i) (from_be_bytes-to_be_bytes_8 base fits.3 i))
+kind_read (Ugs size interval jitter base) fits = ap (λ (k : FlowKind). Some k) (sized_read 1 size interval jitter base Ugs fits.0 fits.1 fits.2 fits.3)
 kind_read (Poll interval jitter base) fits =
     λ i. Some (Poll (from_be_bytes-to_be_bytes_4 interval fits.0 i) (from_be_bytes-to_be_bytes_4 jitter fits.1 i) (from_be_bytes-to_be_bytes_8 base fits.2 i))
+kind_read (Station size interval jitter base) fits = ap (λ (k : FlowKind). Some k) (sized_read 3 size interval jitter base Station fits.0 fits.1 fits.2 fits.3)
+kind_read (Initial size interval jitter base) fits = ap (λ (k : FlowKind). Some k) (sized_read 4 size interval jitter base Initial fits.0 fits.1 fits.2 fits.3)
 
 module _ (ch modem tag : ℕ) (kind : FlowKind) (modem_fits : modem < 2 ^ 32) (tag_fits : tag < 2 ^ 32) (kind_fits : FitsKind kind) where
   abbrev endless : List ℕ

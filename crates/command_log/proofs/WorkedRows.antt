@@ -3,7 +3,7 @@ use Rattle.std.proofs.Common.{◌≡◌, ℕ, List, [], ◌∷◌, ◌++◌, rep
 use Rattle.flow_state.specs.declared.channel.Channel.{Channel}
 use Rattle.flow_state.specs.declared.channel.Phy.TheVariants.{Tdma, Advanced}
 use Rattle.flow_state.specs.declared.settings.ChannelSettings.{ChannelSettings}
-use Rattle.flow_state.specs.declared.flow.FlowKind.TheVariants.{BestEffort, Ugs, Poll}
+use Rattle.flow_state.specs.declared.flow.FlowKind.TheVariants.{BestEffort, Ugs, Poll, Station, Initial}
 use Rattle.flow_state.specs.Limits.{last_time}
 use Rattle.grant_machine.specs.declared.command.Command.TheVariants as commands
 use Rattle.grant_machine.specs.declared.output.Output.TheVariants as outputs
@@ -53,8 +53,8 @@ other_first : command_in (0xFF ∷ 0x01 ∷ 0x07 ∷ 0x00 ∷ 0x10 ∷ 0x02 ∷ 
 other_first = refl
 
 -- each form is read back
-kinds_read : map (λ c. command_in (spelling c)) (commands.Noop ∷ commands.Flow 1 50 1 last_time (BestEffort 3) ∷ commands.Flow 1 50 70000 last_time (Ugs 4 40 8 1000) ∷ commands.Flow 2 51 2 last_time (Poll 50 0 1000) ∷ commands.Drop 1 258 ∷ commands.Request 1 1 20 990 ∷ commands.Cut 1 4096 5 6 0 (255, 255) (255, 255) ∷ commands.Cut 1 100 0 995 8 (255, 255) (0, 15) ∷ [])
-    ≡ map Some (commands.Noop ∷ commands.Flow 1 50 1 last_time (BestEffort 3) ∷ commands.Flow 1 50 70000 last_time (Ugs 4 40 8 1000) ∷ commands.Flow 2 51 2 last_time (Poll 50 0 1000) ∷ commands.Drop 1 258 ∷ commands.Request 1 1 20 990 ∷ commands.Cut 1 4096 5 6 0 (255, 255) (255, 255) ∷ commands.Cut 1 100 0 995 8 (255, 255) (0, 15) ∷ [])
+kinds_read : map (λ c. command_in (spelling c)) (commands.Noop ∷ commands.Flow 1 50 1 last_time (BestEffort 3) ∷ commands.Flow 1 50 70000 last_time (Ugs 4 40 8 1000) ∷ commands.Flow 2 51 2 last_time (Poll 50 0 1000) ∷ commands.Flow 1 50 1 last_time (Station 2 40 8 1000) ∷ commands.Flow 1 0 1 5000 (Initial 30 1000 50 1010) ∷ commands.Drop 1 258 ∷ commands.Request 1 1 20 990 ∷ commands.Cut 1 4096 5 6 0 (255, 255) (255, 255) ∷ commands.Cut 1 100 0 995 8 (255, 255) (0, 15) ∷ [])
+    ≡ map Some (commands.Noop ∷ commands.Flow 1 50 1 last_time (BestEffort 3) ∷ commands.Flow 1 50 70000 last_time (Ugs 4 40 8 1000) ∷ commands.Flow 2 51 2 last_time (Poll 50 0 1000) ∷ commands.Flow 1 50 1 last_time (Station 2 40 8 1000) ∷ commands.Flow 1 0 1 5000 (Initial 30 1000 50 1010) ∷ commands.Drop 1 258 ∷ commands.Request 1 1 20 990 ∷ commands.Cut 1 4096 5 6 0 (255, 255) (255, 255) ∷ commands.Cut 1 100 0 995 8 (255, 255) (0, 15) ∷ [])
 kinds_read = refl
 
 -- a lease that ends is written, and one that doesn't is not: with its last minislot written it's no command
@@ -69,6 +69,19 @@ endless_flow = refl
 
 endless_leased : command_in (0x07 ∷ 0x01 ∷ 0x00 ∷ 0x00 ∷ 0x00 ∷ 0x32 ∷ 0x00 ∷ 0x00 ∷ 0x00 ∷ 0x01 ∷ 0x40 ∷ 0x00 ∷ 0x00 ∷ 0x00 ∷ 0x00 ∷ 0x00 ∷ 0x00 ∷ 0x00 ∷ 0x00 ∷ 0x03 ∷ []) ≡ None
 endless_leased = refl
+
+-- flows for ranging, the second with a lease that ends; and a flow of no kind
+station_flow : spelling (commands.Flow 1 50 1 last_time (Station 2 40 8 1000)) ≡ 0x02 ∷ 0x01 ∷ 0x00 ∷ 0x00 ∷ 0x00 ∷ 0x32 ∷ 0x00 ∷ 0x00 ∷ 0x00 ∷ 0x01 ∷ 0x03 ∷ 0x00 ∷ 0x02 ∷ 0x00 ∷ 0x00 ∷ 0x00 ∷ 0x28 ∷ 0x00 ∷ 0x00 ∷ 0x00 ∷ 0x08 ∷ 0x00 ∷ 0x00 ∷ 0x00 ∷ 0x00 ∷ 0x00 ∷ 0x00 ∷ 0x03 ∷ 0xE8 ∷ []
+station_flow = refl
+
+initial_flow : spelling (commands.Flow 1 0 1 last_time (Initial 30 1000 50 1010)) ≡ 0x02 ∷ 0x01 ∷ 0x00 ∷ 0x00 ∷ 0x00 ∷ 0x00 ∷ 0x00 ∷ 0x00 ∷ 0x00 ∷ 0x01 ∷ 0x04 ∷ 0x00 ∷ 0x1E ∷ 0x00 ∷ 0x00 ∷ 0x03 ∷ 0xE8 ∷ 0x00 ∷ 0x00 ∷ 0x00 ∷ 0x32 ∷ 0x00 ∷ 0x00 ∷ 0x00 ∷ 0x00 ∷ 0x00 ∷ 0x00 ∷ 0x03 ∷ 0xF2 ∷ []
+initial_flow = refl
+
+leased_initial_flow : spelling (commands.Flow 1 0 1 5000 (Initial 30 1000 50 1010)) ≡ 0x07 ∷ 0x01 ∷ 0x00 ∷ 0x00 ∷ 0x00 ∷ 0x00 ∷ 0x00 ∷ 0x00 ∷ 0x00 ∷ 0x01 ∷ 0x00 ∷ 0x00 ∷ 0x00 ∷ 0x00 ∷ 0x00 ∷ 0x00 ∷ 0x13 ∷ 0x88 ∷ 0x04 ∷ 0x00 ∷ 0x1E ∷ 0x00 ∷ 0x00 ∷ 0x03 ∷ 0xE8 ∷ 0x00 ∷ 0x00 ∷ 0x00 ∷ 0x32 ∷ 0x00 ∷ 0x00 ∷ 0x00 ∷ 0x00 ∷ 0x00 ∷ 0x00 ∷ 0x03 ∷ 0xF2 ∷ []
+leased_initial_flow = refl
+
+flow_of_no_kind : command_in (0x02 ∷ 0x01 ∷ 0x00 ∷ 0x00 ∷ 0x00 ∷ 0x32 ∷ 0x00 ∷ 0x00 ∷ 0x00 ∷ 0x01 ∷ 0x05 ∷ 0x00 ∷ 0x02 ∷ 0x00 ∷ 0x00 ∷ 0x00 ∷ 0x28 ∷ 0x00 ∷ 0x00 ∷ 0x00 ∷ 0x08 ∷ 0x00 ∷ 0x00 ∷ 0x00 ∷ 0x00 ∷ 0x00 ∷ 0x00 ∷ 0x03 ∷ 0xE8 ∷ []) ≡ None
+flow_of_no_kind = refl
 
 -- a change of the channel to each PHY; another byte for the PHY, and a byte less
 abbrev settings_c : ChannelSettings

@@ -8,7 +8,7 @@ use Rattle.flow_state.specs.declared.channel.Phy.{Phy}
 use Rattle.flow_state.specs.declared.channel.Phy.TheVariants.{Tdma, Advanced}
 use Rattle.flow_state.specs.declared.settings.ChannelSettings.{ChannelSettings}
 use Rattle.flow_state.specs.declared.flow.FlowKind.{FlowKind}
-use Rattle.flow_state.specs.declared.flow.FlowKind.TheVariants.{BestEffort, Ugs, Poll}
+use Rattle.flow_state.specs.declared.flow.FlowKind.TheVariants.{BestEffort, Ugs, Poll, Station, Initial}
 use Rattle.flow_state.specs.Limits.{last_time}
 use Rattle.grant_machine.specs.declared.command.Command.{Command}
 use Rattle.grant_machine.specs.declared.command.Command.TheVariants as commands
@@ -58,12 +58,18 @@ change_in bytes =
     else if byte bytes 3 == 1 then Some (commands.Change (byte bytes 1) (settings_in Advanced bytes))
     else None
 
+-- a kind with a size, of which something comes by itself
+abbrev pub sized_in : List ℕ → ((size interval jitter base : ℕ) → FlowKind) → FlowKind
+sized_in bytes kind = kind (number w16 bytes 1) (number w32 bytes 3) (number w32 bytes 7) (number w64 bytes 11)
+
 -- a flow's kind, which its first byte and the length tell
 abbrev pub kind_in : List ℕ → Option FlowKind
 kind_in bytes =
     if is_form bytes 0 2 then Some (BestEffort (byte bytes 1))
-    else if is_form bytes 1 19 then Some (Ugs (number w16 bytes 1) (number w32 bytes 3) (number w32 bytes 7) (number w64 bytes 11))
+    else if is_form bytes 1 19 then Some (sized_in bytes Ugs)
     else if is_form bytes 2 17 then Some (Poll (number w32 bytes 1) (number w32 bytes 5) (number w64 bytes 9))
+    else if is_form bytes 3 19 then Some (sized_in bytes Station)
+    else if is_form bytes 4 19 then Some (sized_in bytes Initial)
     else None
 
 abbrev pub flow_in : List ℕ → (last : ℕ) → FlowKind → Command

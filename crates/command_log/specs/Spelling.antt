@@ -6,7 +6,7 @@ use Rattle.flow_state.specs.declared.channel.Phy.{Phy}
 use Rattle.flow_state.specs.declared.channel.Phy.TheVariants.{Tdma, Advanced}
 use Rattle.flow_state.specs.declared.settings.ChannelSettings.{ChannelSettings}
 use Rattle.flow_state.specs.declared.flow.FlowKind.{FlowKind}
-use Rattle.flow_state.specs.declared.flow.FlowKind.TheVariants.{BestEffort, Ugs, Poll}
+use Rattle.flow_state.specs.declared.flow.FlowKind.TheVariants.{BestEffort, Ugs, Poll, Station, Initial}
 use Rattle.flow_state.specs.Limits.{last_time}
 use Rattle.grant_machine.specs.declared.command.Command.{Command}
 use Rattle.grant_machine.specs.declared.command.Command.TheVariants as commands
@@ -23,10 +23,28 @@ channel_spelling c =
     c.id ∷ c.ucd ∷ to_be_bytes w16 c.short_max
     ++ c.ranging_backoff.0 ∷ c.ranging_backoff.1 ∷ c.data_backoff.0 ∷ c.data_backoff.1 ∷ to_be_bytes w64 c.base
 
+-- the byte of a flow's kind
+abbrev pub kind_byte : FlowKind → ℕ
+kind_byte (BestEffort priority) = 0
+kind_byte (Ugs size interval jitter base) = 1
+kind_byte (Poll interval jitter base) = 2
+kind_byte (Station size interval jitter base) = 3
+kind_byte (Initial size interval jitter base) = 4
+
+-- what has a size and comes by itself
+abbrev pub sized_spelling : (size interval jitter base : ℕ) → List ℕ
+sized_spelling size interval jitter base = to_be_bytes w16 size ++ to_be_bytes w32 interval ++ to_be_bytes w32 jitter ++ to_be_bytes w64 base
+
+-- what follows the kind's byte
+abbrev pub kind_fields : FlowKind → List ℕ
+kind_fields (BestEffort priority) = priority ∷ []
+kind_fields (Ugs size interval jitter base) = sized_spelling size interval jitter base
+kind_fields (Poll interval jitter base) = to_be_bytes w32 interval ++ to_be_bytes w32 jitter ++ to_be_bytes w64 base
+kind_fields (Station size interval jitter base) = sized_spelling size interval jitter base
+kind_fields (Initial size interval jitter base) = sized_spelling size interval jitter base
+
 abbrev pub kind_spelling : FlowKind → List ℕ
-kind_spelling (BestEffort priority) = 0 ∷ priority ∷ []
-kind_spelling (Ugs size interval jitter base) = 1 ∷ to_be_bytes w16 size ++ to_be_bytes w32 interval ++ to_be_bytes w32 jitter ++ to_be_bytes w64 base
-kind_spelling (Poll interval jitter base) = 2 ∷ to_be_bytes w32 interval ++ to_be_bytes w32 jitter ++ to_be_bytes w64 base
+kind_spelling kind = kind_byte kind ∷ kind_fields kind
 
 -- what follows the first byte of a flow, up to its kind
 abbrev pub flow_spelling : (ch modem tag : ℕ) → List ℕ

@@ -63,6 +63,18 @@ fn kind_of(bytes: &[u8]) -> Option<FlowKind>
             jitter: u32_at(bytes, 5),
             base: u64_at(bytes, 9),
         }),
+        (3, 19) => Some(FlowKind::Station {
+            size: u16_at(bytes, 1),
+            interval: u32_at(bytes, 3),
+            jitter: u32_at(bytes, 7),
+            base: u64_at(bytes, 11),
+        }),
+        (4, 19) => Some(FlowKind::Initial {
+            size: u16_at(bytes, 1),
+            interval: u32_at(bytes, 3),
+            jitter: u32_at(bytes, 7),
+            base: u64_at(bytes, 11),
+        }),
         _ => None,
     }
 }

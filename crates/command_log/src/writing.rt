@@ -3,7 +3,7 @@ ghost use Rattle.std.specs.Int.{w32, w64, to_be_bytes};
 ghost use Rattle.grant_machine.specs.declared.command.Command.TheVariants as commands;
 ghost use Rattle.grant_machine.specs.Steps.{cut_command};
 ghost use Rattle.grant_machine.specs.Fits.{FitsCommand};
-ghost use Rattle.command_log.specs.Spelling.{phy_byte, changed_phy, channel_spelling, flow_spelling, kind_spelling, spelling, cut_byte, is_plain};
+ghost use Rattle.command_log.specs.Spelling.{phy_byte, changed_phy, channel_spelling, flow_spelling, kind_byte, kind_fields, kind_spelling, sized_spelling, spelling, cut_byte, is_plain};
 
 use flow_state::{Channel, ChannelSettings, FlowKind, LAST_TIME, Phy};
 use grant_machine::{Command, CutSettings};
@@ -31,7 +31,7 @@ fn put_channel(out: &mut Vec<u8>, channel: Channel) -> Result<(), AllocError>
     Ok(())
 }
 
-/// When a flow's grants or polls come.
+/// When what comes by itself is due.
 fn put_timing(out: &mut Vec<u8>, interval: u32, jitter: u32, base: u64) -> Result<(), AllocError>
     ensures { OnOk result (out.new.items ≡ out.old.items ++ to_be_bytes w32 interval ++ to_be_bytes w32 jitter ++ to_be_bytes w64 base) }
 {
@@ -41,12 +41,40 @@ fn put_timing(out: &mut Vec<u8>, interval: u32, jitter: u32, base: u64) -> Resul
     Ok(())
 }
 
-fn put_kind(out: &mut Vec<u8>, kind: FlowKind) -> Result<(), AllocError>
-    ensures { OnOk result (out.new.items ≡ out.old.items ++ kind_spelling kind) }
+/// The byte of a flow's kind.
+fn kind_byte(kind: FlowKind) -> u8
+    ensures { result ≡ kind_byte kind }
+{
+    match kind {
+        FlowKind::BestEffort(_) => 0,
+        FlowKind::Ugs { .. } => 1,
+        FlowKind::Poll { .. } => 2,
+        FlowKind::Station { .. } => 3,
+        FlowKind::Initial { .. } => 4,
+    }
+}
+
+/// What has a size and comes by itself.
+fn put_sized(
+    out: &mut Vec<u8>,
+    size: u16,
+    interval: u32,
+    jitter: u32,
+    base: u64,
+) -> Result<(), AllocError>
+    ensures { OnOk result (out.new.items ≡ out.old.items ++ sized_spelling size interval jitter base) }
+{
+    out.extend_from_slice(&size.to_be_bytes())?;
+    put_timing(out, interval, jitter, base)
+}
+
+/// What follows the kind's byte.
+fn put_fields(out: &mut Vec<u8>, kind: FlowKind) -> Result<(), AllocError>
+    ensures { OnOk result (out.new.items ≡ out.old.items ++ kind_fields kind) }
 {
     match kind {
         FlowKind::BestEffort(priority) => {
-            out.extend_from_slice(&[0, priority])?;
+            out.extend_from_slice(&[priority])?;
             Ok(())
         }
         FlowKind::Ugs {
@@ -54,20 +82,32 @@ fn put_kind(out: &mut Vec<u8>, kind: FlowKind) -> Result<(), AllocError>
             interval,
             jitter,
             base,
-        } => {
-            out.extend_from_slice(&[1])?;
-            out.extend_from_slice(&size.to_be_bytes())?;
-            put_timing(out, interval, jitter, base)
-        }
+        } => put_sized(out, size, interval, jitter, base),
         FlowKind::Poll {
             interval,
             jitter,
             base,
-        } => {
-            out.extend_from_slice(&[2])?;
-            put_timing(out, interval, jitter, base)
-        }
+        } => put_timing(out, interval, jitter, base),
+        FlowKind::Station {
+            size,
+            interval,
+            jitter,
+            base,
+        } => put_sized(out, size, interval, jitter, base),
+        FlowKind::Initial {
+            size,
+            interval,
+            jitter,
+            base,
+        } => put_sized(out, size, interval, jitter, base),
     }
+}
+
+fn put_kind(out: &mut Vec<u8>, kind: FlowKind) -> Result<(), AllocError>
+    ensures { OnOk result (out.new.items ≡ out.old.items ++ kind_spelling kind) }
+{
+    out.extend_from_slice(&[kind_byte(kind)])?;
+    put_fields(out, kind)
 }
 
 fn put_flow_head(out: &mut Vec<u8>, ch: u8, modem: u32, tag: u32) -> Result<(), AllocError>

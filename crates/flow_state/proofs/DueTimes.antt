@@ -3,7 +3,7 @@ use Rattle.std.proofs.Common.{◌≡◌, ℕ, ◌+◌, ◌*◌, ◌-◌, ◌/◌
 use Rattle.std.proofs.Math.Nat.{mul-div_cancel, add-sub_cancel_left}
 use Rattle.std.proofs.lemmas.Bool.{leb-true, and_parts}
 use Rattle.flow_state.specs.declared.flow.FlowKind.{FlowKind}
-use Rattle.flow_state.specs.declared.flow.FlowKind.TheVariants.{BestEffort, Ugs, Poll}
+use Rattle.flow_state.specs.declared.flow.FlowKind.TheVariants.{BestEffort, Ugs, Poll, Station, Initial}
 use Rattle.flow_state.specs.Limits.{is_good_kind, is_size, is_schedule, due_time, due_index, IsDueTime}
 
 pub some_interval : (interval jitter base : ℕ) → is_schedule interval jitter base ≡ true → 0 < interval
@@ -17,6 +17,8 @@ again : (kind : FlowKind) (i : ℕ) → is_good_kind kind ≡ true → due_time 
 again (BestEffort priority) i good = refl
 again (Ugs size interval jitter base) i good = ap (λ n. base + n * interval) (number_is base interval i (some_interval interval jitter base (and_parts (is_size size) _ good).1))
 again (Poll interval jitter base) i good = ap (λ n. base + n * interval) (number_is base interval i (some_interval interval jitter base good))
+again (Station size interval jitter base) i good = ap (λ n. base + n * interval) (number_is base interval i (some_interval interval jitter base (and_parts (is_size size) _ good).1))
+again (Initial size interval jitter base) i good = ap (λ n. base + n * interval) (number_is base interval i (some_interval interval jitter base (and_parts (is_size size) _ good).1))
 
 -- a due time is the one that its number names
 pub due_named : (kind : FlowKind) (due : ℕ) → is_good_kind kind ≡ true → IsDueTime kind due → due ≡ due_time kind (due_index kind due)
@@ -27,3 +29,5 @@ pub first_index : (kind : FlowKind) → is_good_kind kind ≡ true → due_index
 first_index (BestEffort priority) good = refl
 first_index (Ugs size interval jitter base) good = number_is base interval 0 (some_interval interval jitter base (and_parts (is_size size) _ good).1)
 first_index (Poll interval jitter base) good = number_is base interval 0 (some_interval interval jitter base good)
+first_index (Station size interval jitter base) good = number_is base interval 0 (some_interval interval jitter base (and_parts (is_size size) _ good).1)
+first_index (Initial size interval jitter base) good = number_is base interval 0 (some_interval interval jitter base (and_parts (is_size size) _ good).1)

@@ -5,12 +5,12 @@ use Rattle.std.specs.Prelude.{unwrap_or}
 use Rattle.std.proofs.lemmas.Bool.{eqb-true, leb-true, and_parts, or_parts, not-false, leb-false, ltb-false, false_from_ne_true}
 use Rattle.flow_state.specs.declared.channel.Channel.{Channel}
 use Rattle.flow_state.specs.declared.flow.FlowKind.{FlowKind}
-use Rattle.flow_state.specs.declared.flow.FlowKind.TheVariants.{BestEffort, Ugs, Poll}
+use Rattle.flow_state.specs.declared.flow.FlowKind.TheVariants.{BestEffort, Ugs, Poll, Station, Initial}
 use Rattle.flow_state.specs.declared.flow.Waiting.{Waiting}
 use Rattle.flow_state.specs.declared.refusal.Refusal.{Refusal}
 use Rattle.flow_state.specs.declared.refusal.Refusal.TheVariants.{BadValue, OldRequest, Busy}
 use Rattle.flow_state.specs.declared.settings.ChannelSettings.{ChannelSettings}
-use Rattle.flow_state.specs.Limits.{last_time, longest_interval, last_sid, most_waiting, is_backoff, is_good_channel, are_good_settings, is_good_kind, is_size, is_schedule, is_ugs, due_time}
+use Rattle.flow_state.specs.Limits.{last_time, longest_interval, last_sid, most_waiting, is_backoff, is_good_channel, are_good_settings, is_good_kind, is_size, is_schedule, takes_no_requests, due_time}
 use Rattle.flow_state.specs.Rows.{Table, FlowRow, Lease, is_flow, is_of, flow_of, lease_of, is_of_sid, is_leased, unicast_sids, free_sid, insert_flow, waits, is_ended, has_ended, lease_in}
 use Rattle.flow_state.specs.Sound.{IsLeasedFlow}
 use Rattle.flow_state.specs.Refusals.{is_good_count, table_change_refusal, table_flow_refusal, table_request_refusal, request_refusal_on, is_old, is_repeated}
@@ -45,7 +45,7 @@ pub record IsWellRequest (fs : List FlowRow) (w : Waiting) : Type 0 where
   pub last : flow.last_sent ≡ Some w.sent
   pub after : flow.first ≤ w.sent
   pub before : w.sent ≤ flow.last
-  pub asks : is_ugs flow.kind ≡ false
+  pub asks : takes_no_requests flow.kind ≡ false
 
 -- flows in strict order of their SIDs, from this one on
 abbrev pub RisingFrom : ℕ → List FlowRow → Type 0
@@ -202,6 +202,10 @@ first_due (BestEffort priority) e = omega arith
 first_due (Ugs size interval jitter base) e = let schedule = and_parts (is_size size) (is_schedule interval jitter base) e in
     scheduled interval jitter base schedule.1
 first_due (Poll interval jitter base) e = scheduled interval jitter base e
+first_due (Station size interval jitter base) e = let schedule = and_parts (is_size size) (is_schedule interval jitter base) e in
+    scheduled interval jitter base schedule.1
+first_due (Initial size interval jitter base) e = let schedule = and_parts (is_size size) (is_schedule interval jitter base) e in
+    scheduled interval jitter base schedule.1
 
 -- the request's flow is among these too
 request_at : {fs : List FlowRow} {w : Waiting} (gs : List FlowRow) (r : IsWellRequest fs w) → Has gs r.flow → IsWellRequest gs w
@@ -306,7 +310,7 @@ pub record IsAsked (t : Table) (sid n sent : ℕ) : Type 0 where
   pub time : sent ≤ last_time
   pub after : flow.first ≤ sent
   pub before : sent ≤ flow.last
-  pub asks : is_ugs flow.kind ≡ false
+  pub asks : takes_no_requests flow.kind ≡ false
   pub new : is_repeated flow.last_sent sent ≡ false
   pub idle : waits t sid ≡ false
   pub room : length t.waiting < most_waiting
@@ -319,11 +323,11 @@ is_asked t sid n sent e = by (flow_of t sid) refl e
     by (Some flow) f g =
         let found = found_has (is_flow sid) t.flows flow f in
         let same : flow.sid ≡ sid = eqb-true _ _ found.1 in
-        let first = passes_on (not (is_size n) || not (leb sent last_time) || ltb flow.last sent || is_ugs flow.kind) BadValue _ g in
+        let first = passes_on (not (is_size n) || not (leb sent last_time) || ltb flow.last sent || takes_no_requests flow.kind) BadValue _ g in
         let second = passes_on (is_old flow sent) OldRequest _ first.1 in
         let old = or_parts (ltb sent flow.first) (is_repeated flow.last_sent sent) second.0 in
         let third = passes_on (waits t flow.sid || leb most_waiting (length t.waiting)) Busy None second.1 in
-        let values = or_parts (not (is_size n) || not (leb sent last_time) || ltb flow.last sent) (is_ugs flow.kind) first.0 in
+        let values = or_parts (not (is_size n) || not (leb sent last_time) || ltb flow.last sent) (takes_no_requests flow.kind) first.0 in
         let times = or_parts (not (is_size n) || not (leb sent last_time)) (ltb flow.last sent) values.0 in
         let parts = or_parts (not (is_size n)) (not (leb sent last_time)) times.0 in
         let size = and_parts _ _ (not-false (is_size n) parts.0) in

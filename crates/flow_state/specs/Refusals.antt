@@ -8,7 +8,7 @@ use Rattle.flow_state.specs.declared.settings.ChannelSettings.{ChannelSettings}
 use Rattle.flow_state.specs.declared.flow.FlowKind.{FlowKind}
 use Rattle.flow_state.specs.declared.refusal.Refusal.{Refusal}
 use Rattle.flow_state.specs.declared.refusal.Refusal.TheVariants.{NoChannel, ChannelThere, NoFlow, SidsSpent, Busy, OldRequest, BadValue, OutOfMemory}
-use Rattle.flow_state.specs.Limits.{is_good_channel, are_good_settings, is_good_kind, is_size, is_ugs, last_time, most_waiting}
+use Rattle.flow_state.specs.Limits.{is_good_channel, are_good_settings, is_good_kind, is_size, takes_no_requests, last_time, most_waiting}
 use Rattle.flow_state.specs.Rows.{Rows, Table, FlowRow, table_of, flow_of, lease_of, free_sid, waits}
 
 abbrev pub set_channel_refusal : Rows → Channel → Option Refusal
@@ -63,7 +63,7 @@ is_old f sent = nat_lt sent f.first || is_repeated f.last_sent sent
 -- the refusal of a request of a flow, where it is busy or isn't
 abbrev pub first_refusal : FlowRow → ℕ → ℕ → Bool → Option Refusal
 first_refusal f n sent busy =
-    if not (is_size n) || not (nat_le sent last_time) || nat_lt f.last sent || is_ugs f.kind then Some BadValue
+    if not (is_size n) || not (nat_le sent last_time) || nat_lt f.last sent || takes_no_requests f.kind then Some BadValue
     else if is_old f sent then Some OldRequest
     else if busy then Some Busy
     else None

@@ -1,5 +1,5 @@
 ghost use Rattle.std.specs.Prelude.{◌≡◌, None, IsTrue};
-ghost use Rattle.flow_state.specs.Limits.{is_size as size_fits, is_schedule as schedule_fits, is_good_kind, is_ugs, is_timed, due_time};
+ghost use Rattle.flow_state.specs.Limits.{is_size as size_fits, is_schedule as schedule_fits, is_good_kind, takes_no_requests, is_timed, due_time};
 ghost use Rattle.flow_state.specs.Refusals.{is_repeated, is_old, first_refusal};
 ghost use Rattle.flow_state.specs.View.{flow_view};
 
@@ -26,16 +26,30 @@ pub enum FlowKind {
         jitter: u32,
         base: u64,
     },
+    /// Intervals for the ranging of its SID, of a size, due as unsolicited grants (Station Maintenance).
+    Station {
+        size: u16,
+        interval: u32,
+        jitter: u32,
+        base: u64,
+    },
+    /// Openings for the first ranging of everybody, of a size, due as unsolicited grants (Initial Maintenance).
+    Initial {
+        size: u16,
+        interval: u32,
+        jitter: u32,
+        base: u64,
+    },
 }
 
-/// Can a request or an unsolicited grant have so many minislots? 1 to 255.
+/// Can a request, or what comes by itself, have so many minislots? 1 to 255.
 pub(crate) fn is_size(n: u16) -> bool
     ensures { result ≡ size_fits n }
 {
     1 <= n && n <= LARGEST_SIZE
 }
 
-/// Can grants or polls be due so? An interval is 1 to 1,000,000, a jitter below it, a base at most 2^62.
+/// Can something be due so? An interval is 1 to 1,000,000, a jitter below it, a base at most 2^62.
 fn is_schedule(interval: u32, jitter: u32, base: u64) -> bool
     ensures { result ≡ schedule_fits interval jitter base }
 {
@@ -54,6 +68,18 @@ impl FlowKind {
                 interval,
                 jitter,
                 base,
+            }
+            | FlowKind::Station {
+                size,
+                interval,
+                jitter,
+                base,
+            }
+            | FlowKind::Initial {
+                size,
+                interval,
+                jitter,
+                base,
             } => is_size(size) && is_schedule(interval, jitter, base),
             FlowKind::Poll {
                 interval,
@@ -63,20 +89,26 @@ impl FlowKind {
         }
     }
 
-    /// Are its grants unsolicited?
-    pub(crate) fn is_ugs(self) -> bool
-        ensures { result ≡ is_ugs self }
+    /// Is no request of such a flow ever accepted, since it has minislots unasked alone?
+    pub(crate) fn takes_no_requests(self) -> bool
+        ensures { result ≡ takes_no_requests self }
     {
-        matches!(self, FlowKind::Ugs { .. })
+        match self {
+            FlowKind::BestEffort(_) | FlowKind::Poll { .. } => false,
+            FlowKind::Ugs { .. } | FlowKind::Station { .. } | FlowKind::Initial { .. } => true,
+        }
     }
 
-    /// Does something come by itself: unsolicited grants or polls?
+    /// Does something come by itself: unsolicited grants, polls, or intervals for ranging?
     pub(crate) fn is_timed(self) -> bool
         ensures { result ≡ is_timed self }
     {
         match self {
             FlowKind::BestEffort(_) => false,
-            FlowKind::Ugs { .. } | FlowKind::Poll { .. } => true,
+            FlowKind::Ugs { .. }
+            | FlowKind::Poll { .. }
+            | FlowKind::Station { .. }
+            | FlowKind::Initial { .. } => true,
         }
     }
 
@@ -86,7 +118,10 @@ impl FlowKind {
     {
         match self {
             FlowKind::BestEffort(_) => 0,
-            FlowKind::Ugs { base, .. } | FlowKind::Poll { base, .. } => base,
+            FlowKind::Ugs { base, .. }
+            | FlowKind::Poll { base, .. }
+            | FlowKind::Station { base, .. }
+            | FlowKind::Initial { base, .. } => base,
         }
     }
 }
@@ -141,7 +176,11 @@ impl Flow {
     pub(crate) fn request_refusal(&self, n: u16, sent: u64, busy: bool) -> Option<Refusal>
         ensures { result ≡ first_refusal (flow_view self.now) n sent busy }
     {
-        if !is_size(n) || sent > LAST_TIME || self.lease.last < sent || self.kind.is_ugs() {
+        if !is_size(n)
+            || sent > LAST_TIME
+            || self.lease.last < sent
+            || self.kind.takes_no_requests()
+        {
             Some(Refusal::BadValue)
         } else if self.is_old(sent) {
             Some(Refusal::OldRequest)

@@ -11,10 +11,10 @@ pub const MOST_MINISLOTS: u16 = 4096;
 /// The last unicast SID (CM-SP-MULPIv3.1, Service Identifier).
 pub const LAST_SID: u16 = 8191;
 
-/// The longest interval of unsolicited grants or polls, in minislots.
+/// The longest interval of unsolicited grants, polls or intervals for ranging, in minislots.
 pub const LONGEST_INTERVAL: u32 = 1_000_000;
 
-/// The largest size of a request or an unsolicited grant, in minislots.
+/// The largest size of a request, an unsolicited grant or an interval for ranging, in minislots.
 pub const LARGEST_SIZE: u16 = 255;
 
 /// The last end of a back-off, an exponent of two (CM-SP-MULPIv3.1, MAP: back-off start and end).

@@ -6,7 +6,7 @@ use Rattle.std.specs.List.Sorted.{IsStrictlyIncreasing}
 use Rattle.std.specs.Prelude.{unwrap_or, slice_index, nat_le}
 use Rattle.std.proofs.lemmas.Bool.{eqb-true, false_from_ne_true}
 use Rattle.flow_state.specs.declared.flow.FlowKind.{FlowKind}
-use Rattle.flow_state.specs.declared.flow.FlowKind.TheVariants.{Ugs}
+use Rattle.flow_state.specs.declared.flow.FlowKind.TheVariants.{Ugs, Station, Initial}
 use Rattle.flow_state.specs.declared.refusal.Refusal.{Refusal}
 use Rattle.flow_state.specs.declared.flow.Lease.{Lease}
 use Rattle.flow_state.specs.Rows.{Rows, Table, FlowRow, is_flow, is_of, is_of_sid, is_given, table_of, change_table, lease_of, free_sid, first_of, put_lease, insert_flow, lease_in}
@@ -20,8 +20,9 @@ use Rattle.grant_machine_parts.specs.declared.placing.Placement.{Placement}
 use Rattle.grant_machine_parts.specs.Cutting.{Filled, fill, span_of, table_after}
 use Rattle.grant_machine.specs.Steps.{step, step_on, refusal_of, accepted, lease_output}
 use Rattle.grant_machine.specs.Runs.{outputs_from, grants_from, Grant, step_grants, step_grants_on}
-use Rattle.grant_machine.specs.Laws.{LeasedSid, UnsolicitedGrantsAreDue, is_grant_to}
-use Rattle.grant_machine_parts.proofs.Callers.{Rising, cut_placed}
+use Rattle.grant_machine.specs.Laws.{LeasedSid, IsAddedAt, UnsolicitedGrantsAreDue, is_grant_to}
+use Rattle.grant_machine.specs.Maintenance.{AreDueUnder, MaintenanceIsDue}
+use Rattle.grant_machine_parts.proofs.Callers.{IsSized, Rising, cut_placed}
 use Rattle.flow_state.proofs.Callers.{some_is, eqb_same, flow_keeps_id, filter_append, filter_empty, filter_sub}
 use Rattle.flow_state.proofs.Callers.{Has, has_any, any_has, found_has, has_found, has_either, put_found, put_others, IsWell, flow_lease}
 use Rattle.grant_machine.proofs.Leases.{IsNew, is_new, flow_step_is, put_has}
@@ -149,10 +150,7 @@ insert_own sid f fs here none =
     ∙ ap (λ b. cond b (f ∷ filter (is_flow sid) (filter (λ g. not (nat_le g.sid f.sid)) fs)) (filter (is_flow sid) (filter (λ g. not (nat_le g.sid f.sid)) fs))) here
     ∙ ap (λ (xs : List FlowRow). f ∷ xs) (filter_sub (is_flow sid) (λ g. not (nat_le g.sid f.sid)) fs none)
 
-module _ (lease : LeasedSid) (size interval jitter base : ℕ) where
-  abbrev ugs_kind : FlowKind
-  ugs_kind = Ugs size interval jitter base
-
+module _ (lease : LeasedSid) (own_kind : FlowKind) (size interval jitter base : ℕ) (sized : IsSized own_kind size interval jitter base) where
   -- what a step that adds the flow finds: a table in which the lease is a new one
   pub record IsFirst (rows : Rows) (modem tag : ℕ) : Type 0 where
     pub table : Table
@@ -200,14 +198,14 @@ module _ (lease : LeasedSid) (size interval jitter base : ℕ) where
       table_first rows t modem tag kind (lease_of t modem tag) f.found (w lease.channel t f.found) (u t f.found) refl f.ok fields.0 fields.1 fields.2
 
   -- the flow after it
-  first_serves : (rows : Rows) (modem tag : ℕ) → IsFirst rows modem tag → ServesDues lease size interval jitter base (change_table rows lease.channel (λ t. flow_in_table t modem tag lease.last ugs_kind)) 0
+  first_serves : (rows : Rows) (modem tag : ℕ) → IsFirst rows modem tag → ServesDues lease own_kind size interval jitter base sized (change_table rows lease.channel (λ t. flow_in_table t modem tag lease.last own_kind)) 0
   first_serves rows modem tag f = record {
-    table = flow_in_table f.table modem tag lease.last ugs_kind;
-    found = found_changed rows lease.channel (λ v. flow_in_table v modem tag lease.last ugs_kind) f.table (λ v. flow_keeps_id (lease_of v modem tag) v modem tag lease.last ugs_kind) f.found;
-    holds = inr (subst (λ (o : Option Lease). Holds lease size interval jitter base (flow_among o f.table modem tag lease.last ugs_kind) 0) (sym f.none) (holds f));
+    table = flow_in_table f.table modem tag lease.last own_kind;
+    found = found_changed rows lease.channel (λ v. flow_in_table v modem tag lease.last own_kind) f.table (λ v. flow_keeps_id (lease_of v modem tag) v modem tag lease.last own_kind) f.found;
+    holds = inr (subst (λ (o : Option Lease). Holds lease own_kind size interval jitter base sized (flow_among o f.table modem tag lease.last own_kind) 0) (sym f.none) (holds f));
   }
     where
-      holds : (f : IsFirst rows modem tag) → Holds lease size interval jitter base (flow_among None f.table modem tag lease.last ugs_kind) 0
+      holds : (f : IsFirst rows modem tag) → Holds lease own_kind size interval jitter base sized (flow_among None f.table modem tag lease.last own_kind) 0
       holds f =
           let t : Table = f.table in
           let given : Lease = new_lease t modem tag lease.last (unwrap_or (free_sid t) 0) in
@@ -218,7 +216,7 @@ module _ (lease : LeasedSid) (size interval jitter base : ℕ) where
           let test : eqb (unwrap_or (free_sid t) 0) lease.sid ≡ true = ap (λ n. eqb n lease.sid) f.sid_is ∙ eqb_same lease.sid in
           record {
             serving = record {
-              flows = inr (new_flow given ugs_kind, insert_own lease.sid (new_flow given ugs_kind) t.flows test no_flows, refl, omega arith);
+              flows = inr (new_flow given own_kind, insert_own lease.sid (new_flow given own_kind) t.flows test no_flows, refl, omega arith);
               waiting = no_requests;
             };
             own = given;
@@ -238,37 +236,37 @@ module _ (lease : LeasedSid) (size interval jitter base : ℕ) where
       omega arith)
 
   -- a step that adds the flow, and what was granted before it
-  step_adds : (rows : Rows) (modem tag m : ℕ) → AllWell rows → Unheard rows lease → (step rows (commands.Flow lease.channel modem tag lease.last ugs_kind)).output ≡ outputs.Assigned m lease.channel lease.sid lease.first lease.last
-      → IsFirst rows modem tag × ServesDues lease size interval jitter base (step rows (commands.Flow lease.channel modem tag lease.last ugs_kind)).rows 0 × (step_grants rows (commands.Flow lease.channel modem tag lease.last ugs_kind) ≡ [])
-  step_adds rows modem tag m w u e = by (refusal_of rows (commands.Flow lease.channel modem tag lease.last ugs_kind)) refl e
+  step_adds : (rows : Rows) (modem tag m : ℕ) → AllWell rows → Unheard rows lease → (step rows (commands.Flow lease.channel modem tag lease.last own_kind)).output ≡ outputs.Assigned m lease.channel lease.sid lease.first lease.last
+      → IsFirst rows modem tag × ServesDues lease own_kind size interval jitter base sized (step rows (commands.Flow lease.channel modem tag lease.last own_kind)).rows 0 × (step_grants rows (commands.Flow lease.channel modem tag lease.last own_kind) ≡ [])
+  step_adds rows modem tag m w u e = by (refusal_of rows (commands.Flow lease.channel modem tag lease.last own_kind)) refl e
     where
-      by : (o : Option Refusal) → refusal_of rows (commands.Flow lease.channel modem tag lease.last ugs_kind) ≡ o → (step_on o rows (commands.Flow lease.channel modem tag lease.last ugs_kind)).output ≡ outputs.Assigned m lease.channel lease.sid lease.first lease.last
-          → IsFirst rows modem tag × ServesDues lease size interval jitter base (step_on o rows (commands.Flow lease.channel modem tag lease.last ugs_kind)).rows 0 × (step_grants_on o rows (commands.Flow lease.channel modem tag lease.last ugs_kind) ≡ [])
+      by : (o : Option Refusal) → refusal_of rows (commands.Flow lease.channel modem tag lease.last own_kind) ≡ o → (step_on o rows (commands.Flow lease.channel modem tag lease.last own_kind)).output ≡ outputs.Assigned m lease.channel lease.sid lease.first lease.last
+          → IsFirst rows modem tag × ServesDues lease own_kind size interval jitter base sized (step_on o rows (commands.Flow lease.channel modem tag lease.last own_kind)).rows 0 × (step_grants_on o rows (commands.Flow lease.channel modem tag lease.last own_kind) ≡ [])
       by (Some r) h f = absurd cc
-      by None h f = let first = step_first rows modem tag m ugs_kind w u h f in (first, first_serves rows modem tag first, refl)
+      by None h f = let first = step_first rows modem tag m own_kind w u h f in (first, first_serves rows modem tag first, refl)
 
   -- ---- over a list of commands
 
   from_rows : (rows : Rows) (cs : List Command) (k modem tag : ℕ) (gs : List Grant) → AllWell rows → Unheard rows lease → AllBehind rows gs
-      → slice_get cs k ≡ Some (commands.Flow lease.channel modem tag lease.last ugs_kind) → slice_get (outputs_from rows cs) k ≡ Some (outputs.Assigned modem lease.channel lease.sid lease.first lease.last)
+      → slice_get cs k ≡ Some (commands.Flow lease.channel modem tag lease.last own_kind) → slice_get (outputs_from rows cs) k ≡ Some (outputs.Assigned modem lease.channel lease.sid lease.first lease.last)
       → ((j other : ℕ) → j < k → ¬ (slice_get (outputs_from rows cs) j ≡ Some (outputs.Assigned other lease.channel lease.sid lease.first lease.last)))
-      → AreDue lease size interval jitter base (filter (is_grant_to lease) (gs ++ grants_from rows cs)) 0
+      → AreDue lease own_kind size interval jitter base sized (filter (is_grant_to lease) (gs ++ grants_from rows cs)) 0
   from_rows rows [] k modem tag gs w u all c_is o_is new = absurd cc
   from_rows rows (c ∷ cs) zero modem tag gs w u all c_is o_is new =
-      let flow : Command = commands.Flow lease.channel modem tag lease.last ugs_kind in
+      let flow : Command = commands.Flow lease.channel modem tag lease.last own_kind in
       let same : c ≡ flow = same_Some c flow c_is in
       let adds = step_adds rows modem tag modem w u (ap (λ (d : Command). (step rows d).output) (sym same) ∙ same_Some _ _ o_is) in
-      let rest = due_from lease size interval jitter base (step rows flow).rows cs 0 adds.1 in
+      let rest = due_from lease own_kind size interval jitter base sized (step rows flow).rows cs 0 adds.1 in
       let front = before_none rows modem tag gs adds.0 all in
       let parts : filter (is_grant_to lease) (gs ++ grants_from rows (c ∷ cs)) ≡ filter (is_grant_to lease) (grants_from (step rows flow).rows cs) =
       filter_append (is_grant_to lease) gs (grants_from rows (c ∷ cs)) ∙ ap (λ (hs : List Grant). hs ++ filter (is_grant_to lease) (grants_from rows (c ∷ cs))) front
       ∙ ap (λ (d : Command). filter (is_grant_to lease) (step_grants rows d ++ grants_from (step rows d).rows cs)) same
       ∙ ap (λ (hs : List Grant). filter (is_grant_to lease) (hs ++ grants_from (step rows flow).rows cs)) adds.2 in
-      subst (λ (hs : List Grant). AreDue lease size interval jitter base hs 0) (sym parts) rest
+      subst (λ (hs : List Grant). AreDue lease own_kind size interval jitter base sized hs 0) (sym parts) rest
   from_rows rows (c ∷ cs) (suc k) modem tag gs w u all c_is o_is new =
       let later = unheard_step rows c lease (λ m e. new 0 m (omega arith) (ap (λ (o : Output). Some o) e)) u in
       let rest = from_rows (step rows c).rows cs k modem tag (gs ++ step_grants rows c) (well_step rows c w) later (behind_step rows c gs w all) c_is o_is (λ j other lt e. new (suc j) other (omega arith) e) in
-      subst (λ (hs : List Grant). AreDue lease size interval jitter base (filter (is_grant_to lease) hs) 0) (append_assoc gs (step_grants rows c) (grants_from (step rows c).rows cs)) rest
+      subst (λ (hs : List Grant). AreDue lease own_kind size interval jitter base sized (filter (is_grant_to lease) hs) 0) (append_assoc gs (step_grants rows c) (grants_from (step rows c).rows cs)) rest
 
 rises : (first : ℕ) (is : List ℕ) (end : ℕ) → Rising first is end → (k : ℕ) → suc k < length is → slice_index is k < slice_index is (suc k)
 rises first [] end r k lt = absurd (omega arith)
@@ -279,8 +277,20 @@ rises first (i ∷ j ∷ is) end r (suc k) lt = rises (i + 1) (j ∷ is) end r.1
 increasing : (first : ℕ) (is : List ℕ) (end : ℕ) → Rising first is end → IsStrictlyIncreasing is
 increasing first is end r k lt = let next : k + 1 ≡ suc k = omega arith in rw next (rises first is end r k (omega arith))
 
--- the grants of an unsolicited grant flow under its lease, in order, begin within the jitter of due times whose numbers rise
-pub unsolicited_grants_are_due : UnsolicitedGrantsAreDue
-unsolicited_grants_are_due cs k lease size interval jitter base a =
-    let due = from_rows lease size interval jitter base [] cs k a.modem a.tag [] none_well (λ t e. absurd cc) (λ g h. absurd h) a.asked a.added (λ j other lt e. a.new j other lt e) in
+-- the grants under the lease of a flow that is given so many minislots at due times, in order, begin within the jitter of
+-- due times whose numbers rise
+sized_grants_are_due : (cs : List Command) (k : ℕ) (lease : LeasedSid) (kind : FlowKind) (size interval jitter base : ℕ) → IsSized kind size interval jitter base → IsAddedAt cs k lease kind → AreDueUnder cs lease kind size jitter
+sized_grants_are_due cs k lease kind size interval jitter base sized a =
+    let due = from_rows lease kind size interval jitter base sized [] cs k a.modem a.tag [] none_well (λ t e. absurd cc) (λ g h. absurd h) a.asked a.added (λ j other lt e. a.new j other lt e) in
     (due.numbers, increasing 0 due.numbers due.next due.rising, due.due)
+
+-- so do those of an unsolicited grant flow
+pub unsolicited_grants_are_due : UnsolicitedGrantsAreDue
+unsolicited_grants_are_due cs k lease size interval jitter base a = sized_grants_are_due cs k lease (Ugs size interval jitter base) size interval jitter base (inl refl) a
+
+-- and those of flows of station and of initial maintenance
+pub maintenance_is_due : MaintenanceIsDue
+maintenance_is_due = record {
+  station = λ cs k lease size interval jitter base a. sized_grants_are_due cs k lease (Station size interval jitter base) size interval jitter base (inr (inl refl)) a;
+  initial = λ cs k lease size interval jitter base a. sized_grants_are_due cs k lease (Initial size interval jitter base) size interval jitter base (inr (inr refl)) a;
+}

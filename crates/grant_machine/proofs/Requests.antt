@@ -20,7 +20,7 @@ use Rattle.grant_machine_parts.specs.declared.placing.Placement.{Placement}
 use Rattle.grant_machine_parts.specs.declared.placing.Cause.TheVariants.{Window, Sent}
 use Rattle.grant_machine_parts.specs.declared.due_times.Periodic.{Periodic}
 use Rattle.grant_machine_parts.specs.declared.settings.CutSettings.{CutSettings}
-use Rattle.grant_machine_parts.specs.Cutting.{span_of, Passed, pass, grants_of_flow, polls_of_flow, in_order, placement_at, placement_for, request_fit, place_requests, is_cause_sent, is_grant_of, Filled, fill, fill_span, table_after}
+use Rattle.grant_machine_parts.specs.Cutting.{span_of, fill_windows, in_order, placement_at, placement_for, request_fit, place_requests, is_cause_sent, is_grant_of, Filled, fill, fill_span, table_after}
 use Rattle.grant_machine.specs.Steps.{cut_settings, step, step_on, accepted}
 use Rattle.grant_machine.specs.Runs.{outputs_from, grants_from, Grant, grant_of, step_grants}
 use Rattle.grant_machine.specs.Laws.{RequestsAreGrantedOnce, IsGrantedAt}
@@ -29,7 +29,7 @@ use Rattle.flow_state.proofs.Callers.{filter_append}
 use Rattle.flow_state.proofs.Callers.{some_is, eqb_same, refusal_there, there}
 use Rattle.grant_machine_parts.proofs.Callers.{in_order_fewer}
 use Rattle.flow_state.proofs.Callers.{one_flow, is_asked}
-use Rattle.grant_machine_parts.proofs.Callers.{pass_keeps, IsFor, is_cut, cut_placed, flow_from, cut_is_well}
+use Rattle.grant_machine_parts.proofs.Callers.{windows_keep, IsFor, is_cut, cut_placed, flow_from, cut_is_well}
 use Rattle.grant_machine.proofs.Turns.{made, Changes, before, found_changed}
 use Rattle.grant_machine.proofs.Reached.{Stands, stands_step, AllWell, none_well, well_step}
 use Rattle.grant_machine.proofs.Cuts.{IsGrantStep, cut_of_grant}
@@ -92,11 +92,11 @@ once_accepted rows (x ∷ cs) (suc j) (suc k) ch sid n m sent w a b c d = ap suc
 abbrev its : ℕ → ℕ → Placement → Bool
 its sid sent p = eqb p.sid sid && is_cause_sent p.cause sent
 
-passes_none : (span : Extent) (what : FlowRow → Option Periodic) (fs : List FlowRow) (sid sent : ℕ) (ps : List Placement) → filter (its sid sent) ps ≡ [] → filter (its sid sent) (pass span what fs ps).placements ≡ []
-passes_none span what fs sid sent ps none =
-    pass_keeps (λ qs. filter (its sid sent) qs ≡ []) span what fs (λ f h p e qs i x empty fit.
+windows_none : (t : Table) (span : Extent) (sid sent : ℕ) → filter (its sid sent) (fill_windows t span).placements ≡ []
+windows_none t span sid sent =
+    windows_keep (λ qs. filter (its sid sent) qs ≡ []) t span (λ p qs i x empty fit.
     filter_append (its sid sent) qs (placement_at p i x ∷ []) ∙ ap (λ (rs : List Placement). rs ++ filter (its sid sent) (placement_at p i x ∷ [])) empty
-    ∙ ap (λ b. cond b (placement_at p i x ∷ []) []) (and_right (eqb p.sid sid) false refl)) ps none
+    ∙ ap (λ b. cond b (placement_at p i x ∷ []) []) (and_right (eqb p.sid sid) false refl)) refl
 
 requests_count : (span : Extent) (c : Channel) (keep : ℕ) (last : ℕ → ℕ) (sid sent : ℕ) (ws : List Waiting) (ps : List Placement) → length (filter (its sid sent) (place_requests span c keep last ws ps)) ≤ length (filter (its sid sent) ps) + length (filter (is_of sid) ws)
 requests_count span c keep last sid sent [] ps = omega arith
@@ -124,12 +124,9 @@ requests_count span c keep last sid sent (w ∷ ws) ps =
 fill_count : (t : Table) (span : Extent) (asks : CutSettings) (sid sent : ℕ) → length (filter (its sid sent) (fill_span t span asks).placements) ≤ length (filter (is_of sid) t.waiting)
 fill_count t span asks sid sent =
     let c : Channel = t.row.channel in
-    let first : Passed = pass span (grants_of_flow c) t.flows [] in
-    let second : Passed = pass span (polls_of_flow c) first.flows first.placements in
-    let granted = passes_none span (grants_of_flow c) t.flows sid sent [] refl in
-    let polled : filter (its sid sent) second.placements ≡ [] = passes_none span (polls_of_flow c) first.flows sid sent first.placements granted in
-    let none : length (filter (its sid sent) second.placements) ≡ 0 = ap length polled in
-    let asked = requests_count span c asks.keep (last_of t) sid sent (in_order t t.waiting) second.placements in
+    let windows : List Placement = (fill_windows t span).placements in
+    let none : length (filter (its sid sent) windows) ≡ 0 = ap length (windows_none t span sid sent) in
+    let asked = requests_count span c asks.keep (last_of t) sid sent (in_order t t.waiting) windows in
     let order = in_order_fewer (is_of sid) t t.waiting in
     omega arith
 

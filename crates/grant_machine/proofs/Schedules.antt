@@ -1,5 +1,5 @@
 -- What modems can rely on in the outputs of any list of commands.
-use Rattle.std.proofs.Common.{◌≡◌, ℕ, zero, suc, ◌+◌, ◌-◌, ◌<◌, ◌≤◌, ◌==◌, cond, List, [], ◌∷◌, ◌++◌, map, length, Option, Some, None, refl, sym, ap, subst, ◌∙◌, arith, inl, inr, slice_get}
+use Rattle.std.proofs.Common.{◌≡◌, ℕ, zero, suc, ◌+◌, ◌-◌, ◌<◌, ◌≤◌, ◌==◌, true, false, cond, List, [], ◌∷◌, ◌++◌, map, length, Option, Some, None, refl, sym, ap, subst, ◌∙◌, arith, inl, inr, slice_get}
 use Rattle.std.proofs.lemmas.Option.{same_Some}
 use Rattle.std.specs.List.{AllByRecursion, cons_option, filter_map, range_with_len}
 use Rattle.std.proofs.lemmas.Bool.{eqb-true}
@@ -22,9 +22,10 @@ use Rattle.grant_machine_parts.specs.Drawing.{beginning, begins_at, body_of, byt
 use Rattle.grant_machine.specs.Steps.{step}
 use Rattle.grant_machine.specs.Runs.{outputs_from, outputs_of, rows_from}
 use Rattle.grant_machine.specs.Fits.{FitsCommand}
-use Rattle.grant_machine.specs.Owner.{IsMapOf}
+use Rattle.grant_machine.specs.Owner.{IsMapOf, IsGiven}
+use Rattle.grant_machine.specs.Maintenance.{OpeningsHaveNoOwner}
 use Rattle.grant_machine.specs.Laws.{IsLeasedAt, OutputsGoOn, MapsAreBodies, SharedMapsAreOne, SidsAreUnicast, OwnersAreOne}
-use Rattle.flow_state.proofs.Callers.{contains_at, found_has}
+use Rattle.flow_state.proofs.Callers.{Has, contains_at, found_has, unfound}
 use Rattle.grant_machine.proofs.Maps.{maps_are_disjoint}
 use Rattle.flow_state.proofs.Callers.{is_found}
 use Rattle.grant_machine.proofs.Leases.{AllLeadBack, back_step, step_gives, leases_are_apart}
@@ -191,44 +192,60 @@ sids_are_unicast cs m ch sid since until contains =
 
 -- ---- owners
 
--- two cells of one minislot of a MAP that are no cells of all modems' have one SID
+-- two cells of one minislot of a MAP have one SID
 same_sid : (t : Table) (asks : CutSettings) (x : ℕ) (map : Body) (d e : Element) (w : IsWell t) (ok : fill_refusal t.row asks ≡ None) → map ≡ body_of t (fill t asks)
-    → IsCell map x d → IsCell map x e → d.sid ≤ last_sid → e.sid ≤ last_sid → d.sid ≡ e.sid
-same_sid t asks x map d e w ok same c k small little =
-    elim (cut_cell t asks x map d w ok same c).1 [
-      | inl p ↦ elim (cut_cell t asks x map e w ok same k).1 [
+    → IsCell map x d → IsCell map x e → d.sid ≡ e.sid
+same_sid t asks x map d e w ok same c k =
+    elim (cut_cell t asks x map d w ok same c).whose [
+      | inl p ↦ elim (cut_cell t asks x map e w ok same k).whose [
         | inl q ↦
             let one : p.0 ≡ q.0 = (cut_placed t asks w ok).apart x p.0 q.0 p.1 q.1 p.2 q.2 in
-            ap (λ (y : Element). y.sid) (sym p.3) ∙ ap (λ (r : Placement). r.sid) one ∙ ap (λ (y : Element). y.sid) q.3
-        | inr all ↦ absurd (omega arith)
+            ap (λ (y : Element). y.sid) (sym p.3) ∙ ap (λ (r : Placement). (placed_element r).sid) one ∙ ap (λ (y : Element). y.sid) q.3
+        | inr free ↦ absurd (held p.0 p.1 p.2 free.free)
       ]
-      | inr all ↦ absurd (omega arith)
+      | inr free ↦ elim (cut_cell t asks x map e w ok same k).whose [
+        | inl q ↦ absurd (held q.0 q.1 q.2 free.free)
+        | inr other ↦ free.all ∙ sym other.all
+      ]
     ]
+  where
+    held : (p : Placement) → Has (fill t asks).placements p → holds x p ≡ true → holder (fill t asks).placements x ≡ None → ⊥
+    held p h on free = let off : holds x p ≡ false = unfound (holds x) (fill t asks).placements p free h in cc
 
 -- a minislot that is given lies in its MAP
 given_within : (cs : List Command) (k ch start len m : ℕ) (bytes : List ℕ) (map : Body) (e : Element) → slice_get (outputs_of cs) k ≡ Some (outputs.Map ch start len bytes) → IsBody bytes map → start ≤ m → IsCell map (m - start) e → m < start + len
 given_within cs k ch start len m bytes map e out body from cell =
     let d = drawn_at cs k ch start len bytes out in
     let drawn = drawn_body d.table d.settings bytes map d.well d.ok d.bytes_is body in
-    let within : m - start < d.settings.len = (cut_cell d.table d.settings (m - start) map e d.well d.ok drawn cell).0 in
+    let within : m - start < d.settings.len = (cut_cell d.table d.settings (m - start) map e d.well d.ok drawn cell).within in
     let len_is : d.settings.len ≡ len = d.len_is in
+    omega arith
+
+-- what MAPs give a minislot to has one SID
+one_sid : (cs : List Command) (ch m : ℕ) (d e : Element) → IsGiven (outputs_of cs) ch m d → IsGiven (outputs_of cs) ch m e → d.sid ≡ e.sid
+one_sid cs ch m d e u v =
+    let j = contains_at (outputs_of cs) (outputs.Map ch u.start u.len u.bytes) u.told in
+    let k = contains_at (outputs_of cs) (outputs.Map ch v.start v.len v.bytes) v.told in
+    let first = given_within cs j.0 ch u.start u.len m u.bytes u.map d j.1 u.body u.begun u.cell in
+    let second = given_within cs k.0 ch v.start v.len m v.bytes v.map e k.1 v.body v.begun v.cell in
+    let one = shared_maps_are_one cs ch m u.start u.len v.start v.len u.bytes v.bytes u.told v.told (u.begun, first) (v.begun, second) in
+    let map_is : v.map ≡ u.map = one_body u.bytes v.map u.map (subst (λ (bs : List ℕ). IsBody bs v.map) (sym one.2) v.body) u.body in
+    let cell : IsCell u.map (m - u.start) e = subst (λ (n : ℕ). IsCell u.map (m - n) e) (sym one.0) (subst (λ (x : Body). IsCell x (m - v.start) e) map_is v.cell) in
+    let w = drawn_at cs j.0 ch u.start u.len u.bytes j.1 in
+    let drawn = drawn_body w.table w.settings u.bytes u.map w.well w.ok w.bytes_is u.body in
+    same_sid w.table w.settings (m - u.start) u.map d e w.well w.ok drawn u.cell cell
+
+-- what MAPs give to everybody has no owner
+pub openings_have_no_owner : OpeningsHaveNoOwner
+openings_have_no_owner cs ch m modem e given all owns =
+    let sid : e.sid ≡ owns.element.sid = one_sid cs ch m e owns.element given owns.given in
+    let small : owns.element.sid ≤ last_sid = owns.unicast.1 in
     omega arith
 
 -- a minislot has one owner at most
 pub owners_are_one : OwnersAreOne
 owners_are_one cs ch m a b p q =
-    let u = p.given in
-    let v = q.given in
-    let j = contains_at (outputs_of cs) (outputs.Map ch u.start u.len u.bytes) u.told in
-    let k = contains_at (outputs_of cs) (outputs.Map ch v.start v.len v.bytes) v.told in
-    let first = given_within cs j.0 ch u.start u.len m u.bytes u.map p.element j.1 u.body u.begun u.cell in
-    let second = given_within cs k.0 ch v.start v.len m v.bytes v.map q.element k.1 v.body v.begun v.cell in
-    let one = shared_maps_are_one cs ch m u.start u.len v.start v.len u.bytes v.bytes u.told v.told (u.begun, first) (v.begun, second) in
-    let map_is : v.map ≡ u.map = one_body u.bytes v.map u.map (subst (λ (bs : List ℕ). IsBody bs v.map) (sym one.2) v.body) u.body in
-    let cell : IsCell u.map (m - u.start) q.element = subst (λ (n : ℕ). IsCell u.map (m - n) q.element) (sym one.0) (subst (λ (x : Body). IsCell x (m - v.start) q.element) map_is v.cell) in
-    let d = drawn_at cs j.0 ch u.start u.len u.bytes j.1 in
-    let drawn = drawn_body d.table d.settings u.bytes u.map d.well d.ok d.bytes_is u.body in
-    let sid : p.element.sid ≡ q.element.sid = same_sid d.table d.settings (m - u.start) u.map p.element q.element d.well d.ok drawn u.cell cell p.unicast.1 q.unicast.1 in
+    let sid : p.element.sid ≡ q.element.sid = one_sid cs ch m p.element q.element p.given q.given in
     let r = p.assigned in
     let s = q.assigned in
     let x = contains_at (outputs_of cs) (outputs.Assigned a ch p.element.sid r.first r.last) r.assigned in

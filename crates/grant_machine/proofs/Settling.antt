@@ -8,14 +8,15 @@ use Rattle.minislot_time.specs.Extent.{Extent}
 use Rattle.flow_state.specs.declared.channel.Channel.{Channel}
 use Rattle.flow_state.specs.declared.flow.Flow.{Flow}
 use Rattle.flow_state.specs.declared.flow.FlowKind.{FlowKind}
-use Rattle.flow_state.specs.declared.flow.FlowKind.TheVariants.{BestEffort, Ugs, Poll}
+use Rattle.flow_state.specs.declared.flow.FlowKind.TheVariants.{BestEffort, Ugs, Poll, Station, Initial}
 use Rattle.flow_state.specs.declared.flow.Waiting.{Waiting}
 use Rattle.flow_state.specs.Limits.{last_sid, last_time, is_good_kind, due_time, due_index}
 use Rattle.flow_state.specs.Rows.{Table, FlowRow, is_due, due_flows, lent_flow, last_in, last_of}
-use Rattle.grant_machine_parts.specs.declared.services.Service.TheVariants.{Grants, Polls}
+use Rattle.grant_machine_parts.specs.declared.services.Service.{Service}
+use Rattle.grant_machine_parts.specs.declared.services.Service.TheVariants.{Grants, Polls, Maintenance}
 use Rattle.grant_machine_parts.specs.declared.placing.Placement.{Placement}
 use Rattle.grant_machine_parts.specs.declared.settings.CutSettings.{CutSettings}
-use Rattle.grant_machine_parts.specs.Cutting.{kind_priority, flow_priority, priority_of, Passed, Ran, pass, in_order, place_requests, fill_span, fill_polls, grants_of_flow, polls_of_flow, due_at, end_of, run_due_times, run_flow, with_first, flows_served}
+use Rattle.grant_machine_parts.specs.Cutting.{kind_priority, flow_priority, priority_of, Passed, Ran, pass, in_order, place_requests, fill_span, fill_grants, fill_polls, fill_windows, grants_of_flow, polls_of_flow, maintenance_of_flow, due_at, end_of, run_due_times, run_flow, with_first, flows_served}
 use Rattle.grant_machine_parts.specs.declared.due_times.Periodic.{Periodic}
 use Rattle.grant_machine_parts.specs.Filling.{PartMap}
 use Rattle.grant_machine_parts.specs.Lent.{IsLent, IsUnicast, given_to}
@@ -26,7 +27,7 @@ use Rattle.flow_state.proofs.Callers.{Has, all_has, has_all, map_has, has_map, h
 use Rattle.flow_state.proofs.Callers.{IsWell, IsWellFlow}
 use Rattle.flow_state.specs.View.{flow_view}
 use Rattle.grant_machine.proofs.Reached.{reached_is_well}
-use Rattle.grant_machine_parts.proofs.Callers.{Asks, due_is, grants_of, in_order_has, polls_of, timed, zip_twice}
+use Rattle.grant_machine_parts.proofs.Callers.{Asks, due_is, grants_of, in_order_has, maintenance_of, polls_of, timed, zip_twice}
 use Rattle.grant_machine.proofs.Standing.{IsIdle, idle, reached_idle}
 
 -- the number of a due time is its own
@@ -34,6 +35,8 @@ round_kind : (sid : ℕ) (kind : FlowKind) (i : ℕ) → is_good_kind kind ≡ t
 round_kind sid (BestEffort priority) i good h = sym h
 round_kind sid (Ugs size interval jitter base) i good h = number_is base interval i (some_interval interval jitter base (and_parts _ _ good).1)
 round_kind sid (Poll interval jitter base) i good h = number_is base interval i (some_interval interval jitter base good)
+round_kind sid (Station size interval jitter base) i good h = number_is base interval i (some_interval interval jitter base (and_parts _ _ good).1)
+round_kind sid (Initial size interval jitter base) i good h = number_is base interval i (some_interval interval jitter base (and_parts _ _ good).1)
 
 -- a flow's row is what it was lent from
 pub row_back : (f : FlowRow) → IsWellFlow f → IsIdle f → flow_view (lent_flow f) ≡ f
@@ -185,53 +188,101 @@ was t span f = was_due t (end_of span) f
 not_due : (t : Table) (span : Extent) → IsWell t → AllByRecursion (NotDue (was t span) (end_of span)) t.flows
 not_due t span w = all_has (NotDue (was t span) (end_of span)) t.flows (λ f h e. sym (was_here t (end_of span) w f h) ∙ e)
 
--- those that weren't due are served nothing
+-- what a service asks of flows is theirs
+asks_given : (service : Service) (c : Channel) → Asks c (given_to service c)
+asks_given Grants c = grants_of c
+asks_given Polls c = polls_of c
+asks_given Maintenance c = maintenance_of c
+
+-- the flows of a table before and after each service
+module _ (t : Table) (span : Extent) (w : IsWell t) where
+  abbrev AreNotDue : List FlowRow → Type 0
+  AreNotDue fs = AllByRecursion (NotDue (was t span) (end_of span)) fs
+
+  abbrev serve_all : Service → Passed → Passed
+  serve_all service before = pass span (given_to service t.row.channel) before.flows before.placements
+
+  service_stays : (service : Service) (before : Passed) → AreNotDue before.flows → AllZip (Stays (was t span)) before.flows (serve_all service before).flows
+  service_stays service before none =
+      pass_stays span (given_to service t.row.channel) (was t span) (λ f i. refl) (unserved t.row.channel span (given_to service t.row.channel) (asks_given service t.row.channel)) before.flows before.placements none
+
+  service_not_due : (service : Service) (before : Passed) → AreNotDue before.flows → AreNotDue (serve_all service before).flows
+  service_not_due service before none =
+      pass_not_due span (given_to service t.row.channel) (was t span) (λ f i. refl) (unserved t.row.channel span (given_to service t.row.channel) (asks_given service t.row.channel)) before.flows before.placements none
+
+  -- a service gives the flows that were due what it gives them among all
+  service_due : (service : Service) (before : Passed) → AreNotDue before.flows → (c : Channel) (fs : List Flow) (ps : List Placement) → t.row.channel ≡ c → map flow_view fs ≡ due_ones t (end_of span) before.flows → ps ≡ before.placements
+      → pass span (given_to service c) (map flow_view fs) ps ≡ of_due (was t span) (serve_all service before)
+  service_due service before none c fs ps row flows placed =
+      ap (λ d. pass span (given_to service d) (map flow_view fs) ps) (sym row)
+      ∙ ap (λ (gs : List FlowRow). pass span (given_to service t.row.channel) gs ps) flows
+      ∙ ap (λ (qs : List Placement). pass span (given_to service t.row.channel) (due_ones t (end_of span) before.flows) qs) placed
+      ∙ pass_due span (given_to service t.row.channel) (was t span) (λ f i. refl) (unserved t.row.channel span (given_to service t.row.channel) (asks_given service t.row.channel)) before.flows before.placements none
+
+  abbrev none_served : Passed
+  none_served = record { flows = t.flows; placements = [] }
+
+  grants_not_due : AreNotDue (fill_grants t span).flows
+  grants_not_due = service_not_due Grants none_served (not_due t span w)
+
+  polls_not_due : AreNotDue (fill_polls t span (fill_grants t span)).flows
+  polls_not_due = service_not_due Polls (fill_grants t span) grants_not_due
+
+  twice_stays : (f g h : FlowRow) → Stays (was t span) f g → Stays (was t span) g h → Stays (was t span) f h
+  twice_stays f g h a b e = let first = a e in b (ap (was t span) first ∙ e) ∙ first
+
+  -- those that weren't due are served nothing
+  all_stay : AllZip (Stays (was t span)) t.flows (flows_served t span)
+  all_stay =
+      let first : Passed = fill_grants t span in
+      let second : Passed = fill_polls t span first in
+      let S : FlowRow → FlowRow → Type 0 = Stays (was t span) in
+      zip_twice S S S twice_stays t.flows second.flows (flows_served t span)
+      (zip_twice S S S twice_stays t.flows first.flows second.flows (service_stays Grants none_served (not_due t span w)) (service_stays Polls first grants_not_due))
+      (service_stays Maintenance second polls_not_due)
+
 pub stays_served : (t : Table) (span : Extent) → IsWell t → AllZip (Stays (was_due t (end_of span))) t.flows (flows_served t span)
-stays_served t span w =
-    let c = t.row.channel in
-    let first : Passed = pass span (grants_of_flow c) t.flows [] in
-    zip_twice (Stays (was t span)) (Stays (was t span)) (Stays (was t span)) (λ f g h a b e. let first = a e in b (ap (was t span) first ∙ e) ∙ first) t.flows first.flows (flows_served t span)
-    (pass_stays span (grants_of_flow c) (was t span) (λ f i. refl) (unserved c span (grants_of_flow c) (grants_of c)) t.flows [] (not_due t span w))
-    (pass_stays span (polls_of_flow c) (was t span) (λ f i. refl) (unserved c span (polls_of_flow c) (polls_of c)) first.flows first.placements
-    (pass_not_due span (grants_of_flow c) (was t span) (λ f i. refl) (unserved c span (grants_of_flow c) (grants_of c)) t.flows [] (not_due t span w)))
+stays_served t span w = all_stay t span w
 
--- two services and then the requests fill a MAP
-pub served_filled : (t : Table) (span : Extent) (asks : CutSettings) → IsWell t → (c : Channel) (f0 f1 f2 : List Flow) (rs : List Waiting) (p1 p2 p3 : List Placement) → t.row.channel ≡ c → map flow_view f0 ≡ due_ones t (end_of span) t.flows
-    → p1 ≡ (pass span (given_to Grants c) (map flow_view f0) []).placements → map flow_view f1 ≡ (pass span (given_to Grants c) (map flow_view f0) []).flows
-    → p2 ≡ (pass span (given_to Polls c) (map flow_view f1) p1).placements → map flow_view f2 ≡ (pass span (given_to Polls c) (map flow_view f1) p1).flows
-    → rs ≡ in_order t t.waiting → p3 ≡ place_requests span c asks.keep (last_of t) rs p2
-    → (p3 ≡ (fill_span t span asks).placements) × (map flow_view f2 ≡ due_ones t (end_of span) (flows_served t span))
-served_filled t span asks w c f0 f1 f2 rs p1 p2 p3 row start placed1 flows1 placed2 flows2 order placed3 =
-    let first : Passed = pass span (grants_of_flow t.row.channel) t.flows [] in
-    let one : pass span (given_to Grants c) (map flow_view f0) [] ≡ of_due (was t span) first =
-    ap (λ d. pass span (grants_of_flow d) (map flow_view f0) []) (sym row) ∙ ap (λ (fs : List FlowRow). pass span (grants_of_flow t.row.channel) fs []) start
-    ∙ pass_due span (grants_of_flow t.row.channel) (was t span) (λ f i. refl) (unserved t.row.channel span (grants_of_flow t.row.channel) (grants_of t.row.channel)) t.flows [] (not_due t span w) in
-    let p1_is : p1 ≡ first.placements = placed1 ∙ ap (λ (p : Passed). p.placements) one in
-    let f1_is : map flow_view f1 ≡ due_ones t (end_of span) first.flows = flows1 ∙ ap (λ (p : Passed). p.flows) one in
-    let two : pass span (given_to Polls c) (map flow_view f1) p1 ≡ of_due (was t span) (fill_polls t span first) =
-    ap (λ d. pass span (polls_of_flow d) (map flow_view f1) p1) (sym row) ∙ ap (λ (fs : List FlowRow). pass span (polls_of_flow t.row.channel) fs p1) f1_is
-    ∙ ap (λ (ps : List Placement). pass span (polls_of_flow t.row.channel) (due_ones t (end_of span) first.flows) ps) p1_is
-    ∙ pass_due span (polls_of_flow t.row.channel) (was t span) (λ f i. refl) (unserved t.row.channel span (polls_of_flow t.row.channel) (polls_of t.row.channel)) first.flows first.placements
-    (pass_not_due span (grants_of_flow t.row.channel) (was t span) (λ f i. refl) (unserved t.row.channel span (grants_of_flow t.row.channel) (grants_of t.row.channel)) t.flows [] (not_due t span w)) in
-    let p2_is : p2 ≡ (fill_polls t span first).placements = placed2 ∙ ap (λ (p : Passed). p.placements) two in (
-      placed3 ∙ ap (λ d. place_requests span d asks.keep (last_of t) rs p2) (sym row) ∙ ap (λ (ws : List Waiting). place_requests span t.row.channel asks.keep (last_of t) ws p2) order
-          ∙ ap (λ (ps : List Placement). place_requests span t.row.channel asks.keep (last_of t) (in_order t t.waiting) ps) p2_is,
-      flows2 ∙ ap (λ (p : Passed). p.flows) two,
+-- a service gives so much to flows, from a MAP in part to another one
+pub record Serves (service : Service) (c : Channel) (a b : PartMap) (before after : List Flow) : Type 0 where
+  pub span : b.span ≡ a.span
+  pub placed : b.placements ≡ (pass a.span (given_to service c) (map flow_view before) a.placements).placements
+  pub flows : map flow_view after ≡ (pass a.span (given_to service c) (map flow_view before) a.placements).flows
+
+-- what it gives among all flows of the table, where those that were due are given it
+record GivesAll (t : Table) (a : PartMap) (b : PartMap) (fs : List Flow) (all : Passed) : Type 0 where
+  span : b.span ≡ a.span
+  placed : b.placements ≡ all.placements
+  flows : map flow_view fs ≡ due_ones t (end_of a.span) all.flows
+
+gives_all : (t : Table) (service : Service) (c : Channel) (a b d : PartMap) (fs gs : List Flow) (before : Passed) (w : IsWell t) → AllByRecursion (NotDue (was t a.span) (end_of a.span)) before.flows → t.row.channel ≡ c
+    → GivesAll t a b fs before → Serves service c b d fs gs → GivesAll t a d gs (serve_all t a.span w service before)
+gives_all t service c a b d fs gs before w none row given serves =
+    let same : pass b.span (given_to service c) (map flow_view fs) b.placements ≡ of_due (was t a.span) (serve_all t a.span w service before) =
+    ap (λ (s : Extent). pass s (given_to service c) (map flow_view fs) b.placements) given.span ∙ service_due t a.span w service before none c fs b.placements row given.flows given.placed in
+    record { span = serves.span ∙ given.span; placed = serves.placed ∙ ap (λ (p : Passed). p.placements) same; flows = serves.flows ∙ ap (λ (p : Passed). p.flows) same }
+
+-- three services and then the requests fill a MAP
+pub parts_filled : (t : Table) (asks : CutSettings) (c : Channel) (a b d e f : PartMap) (f0 f1 f2 f3 : List Flow) (rs : List Ranked) → IsOfTable t (end_of a.span) c f0 rs → a.placements ≡ []
+    → Serves Grants c a b f0 f1 → Serves Polls c b d f1 f2 → Serves Maintenance c d e f2 f3
+    → ((last : ℕ → ℕ) → AllByRecursion (IsOfLast last) rs → f.placements ≡ place_requests e.span c asks.keep last (requests_in rs) e.placements)
+    → (f.placements ≡ (fill_span t a.span asks).placements) × (map flow_view f3 ≡ due_ones t (end_of a.span) (flows_served t a.span))
+parts_filled t asks c a b d e f f0 f1 f2 f3 rs of empty grants polls maintenance placed =
+    let w : IsWell t = well_of t of.reached in
+    let start : GivesAll t a a f0 (none_served t a.span w) = record { span = refl; placed = empty; flows = of.flows_are } in
+    let first = gives_all t Grants c a a b f0 f1 (none_served t a.span w) w (not_due t a.span w) of.channel start grants in
+    let second = gives_all t Polls c a b d f1 f2 (fill_grants t a.span) w (grants_not_due t a.span w) of.channel first polls in
+    let third = gives_all t Maintenance c a d e f2 f3 (fill_polls t a.span (fill_grants t a.span)) w (polls_not_due t a.span w) of.channel second maintenance in
+    let windows : List Placement = (fill_windows t a.span).placements in
+    let keep : ℕ = asks.keep in (
+      placed (last_of t) of.lasts_are
+          ∙ ap (λ (s : Extent). place_requests s c keep (last_of t) (requests_in rs) e.placements) third.span
+          ∙ ap (λ k. place_requests a.span k keep (last_of t) (requests_in rs) e.placements) (sym of.channel)
+          ∙ ap (λ (ws : List Waiting). place_requests a.span t.row.channel keep (last_of t) ws e.placements) of.requests_are
+          ∙ ap (λ (ps : List Placement). place_requests a.span t.row.channel keep (last_of t) (in_order t t.waiting) ps) third.placed,
+      third.flows,
     )
-
--- the same of a MAP that is filled step by step
-pub parts_filled : (t : Table) (asks : CutSettings) (c : Channel) (a b d e : PartMap) (f0 f1 f2 : List Flow) (rs : List Ranked) → IsOfTable t (end_of a.span) c f0 rs → a.placements ≡ [] → b.span ≡ a.span → d.span ≡ b.span
-    → b.placements ≡ (pass a.span (given_to Grants c) (map flow_view f0) a.placements).placements → map flow_view f1 ≡ (pass a.span (given_to Grants c) (map flow_view f0) a.placements).flows
-    → d.placements ≡ (pass b.span (given_to Polls c) (map flow_view f1) b.placements).placements → map flow_view f2 ≡ (pass b.span (given_to Polls c) (map flow_view f1) b.placements).flows
-    → ((last : ℕ → ℕ) → AllByRecursion (IsOfLast last) rs → e.placements ≡ place_requests d.span c asks.keep last (requests_in rs) d.placements)
-    → (e.placements ≡ (fill_span t a.span asks).placements) × (map flow_view f2 ≡ due_ones t (end_of a.span) (flows_served t a.span))
-parts_filled t asks c a b d e f0 f1 f2 rs of empty same1 same2 placed1 flows1 placed2 flows2 placed3 =
-    let grants : pass a.span (given_to Grants c) (map flow_view f0) a.placements ≡ pass a.span (given_to Grants c) (map flow_view f0) [] = ap (λ (ps : List Placement). pass a.span (given_to Grants c) (map flow_view f0) ps) empty in
-    let polls : pass b.span (given_to Polls c) (map flow_view f1) b.placements ≡ pass a.span (given_to Polls c) (map flow_view f1) b.placements = ap (λ (s : Extent). pass s (given_to Polls c) (map flow_view f1) b.placements) same1 in
-    served_filled t a.span asks (well_of t of.reached) c f0 f1 f2 (requests_in rs) b.placements d.placements e.placements of.channel of.flows_are
-    (placed1 ∙ ap (λ (p : Passed). p.placements) grants) (flows1 ∙ ap (λ (p : Passed). p.flows) grants)
-    (placed2 ∙ ap (λ (p : Passed). p.placements) polls) (flows2 ∙ ap (λ (p : Passed). p.flows) polls)
-    of.requests_are (placed3 (last_of t) of.lasts_are ∙ ap (λ (s : Extent). place_requests s c asks.keep (last_of t) (requests_in rs) d.placements) (same2 ∙ same1))
 
 -- what a flow that is lent tells of a request of its SID
 pub rank_some : (o : Option FlowRow) (f : Flow) (w : Waiting) → Some f ≡ option_map lent_flow o → ◌≡◌ {A = Ranked} (record { priority = kind_priority f.kind; last = f.lease.last; request = w }) (record { priority = flow_priority o; last = last_in o; request = w })

@@ -5,7 +5,7 @@ use Rattle.std.specs.Prelude.{unwrap_or}
 use Rattle.minislot_time.specs.Extent.{Extent}
 use Rattle.flow_state.specs.declared.channel.Channel.{Channel}
 use Rattle.flow_state.specs.declared.flow.FlowKind.{FlowKind}
-use Rattle.flow_state.specs.declared.flow.FlowKind.TheVariants.{BestEffort, Ugs, Poll}
+use Rattle.flow_state.specs.declared.flow.FlowKind.TheVariants.{BestEffort, Ugs, Poll, Station, Initial}
 use Rattle.flow_state.specs.declared.refusal.Refusal.TheVariants.{BadValue, ChannelThere}
 use Rattle.flow_state.specs.Limits.{is_good_channel, is_timed}
 use Rattle.flow_state.specs.Rows.{Rows, Table, FlowRow, is_table, table_of, change_table, is_flow, is_ended, free_sid, insert_flow}
@@ -14,13 +14,13 @@ use Rattle.grant_machine.specs.declared.command.Command.{Command}
 use Rattle.grant_machine.specs.declared.command.Command.TheVariants as commands
 use Rattle.grant_machine_parts.specs.declared.placing.Placement.{Placement}
 use Rattle.grant_machine_parts.specs.declared.due_times.Periodic.{Periodic}
-use Rattle.grant_machine_parts.specs.Cutting.{grants_of_flow, polls_of_flow, run_flow, pass, span_of, end_of, flows_served}
+use Rattle.grant_machine_parts.specs.Cutting.{grants_of_flow, polls_of_flow, maintenance_of_flow, fill_grants, fill_polls, run_flow, pass, span_of, end_of, flows_served}
 use Rattle.grant_machine.specs.Steps.{step, refusal_of}
 use Rattle.grant_machine.specs.Runs.{step_grants, IsReached}
 use Rattle.flow_state.proofs.Callers.{found_before, same_id, KeepsId, eqb_sym}
 use Rattle.flow_state.proofs.Callers.{has_filter, has_inserted, has_all, all_has}
 use Rattle.flow_state.proofs.Callers.{passes_on}
-use Rattle.grant_machine_parts.proofs.Callers.{Asks, grants_of, polls_of, timed}
+use Rattle.grant_machine_parts.proofs.Callers.{Asks, grants_of, maintenance_of, polls_of, timed}
 use Rattle.grant_machine.proofs.Turns.{IsPushed, shape}
 use Rattle.grant_machine.proofs.Reached.{Kept, At, at_step, rows_keep}
 
@@ -30,6 +30,8 @@ abbrev pub idle : FlowKind → ℕ → Type 0
 idle (BestEffort priority) i = i ≡ 0
 idle (Ugs size interval jitter base) i = Unit {0}
 idle (Poll interval jitter base) i = Unit {0}
+idle (Station size interval jitter base) i = Unit {0}
+idle (Initial size interval jitter base) i = Unit {0}
 
 abbrev pub IsIdle : FlowRow → Type 0
 IsIdle f = idle f.kind f.index
@@ -41,6 +43,8 @@ idle_start : (kind : FlowKind) → idle kind 0
 idle_start (BestEffort priority) = refl
 idle_start (Ugs size interval jitter base) = tt
 idle_start (Poll interval jitter base) = tt
+idle_start (Station size interval jitter base) = tt
+idle_start (Initial size interval jitter base) = tt
 
 idle_insert : (f : FlowRow) (fs : List FlowRow) → IsIdle f → AllByRecursion IsIdle fs → AllByRecursion IsIdle (insert_flow f fs)
 idle_insert f fs new all = all_has IsIdle (insert_flow f fs) (λ g h. elim (has_inserted f fs g h) [ inl old ↦ has_all IsIdle fs g all old | inr is ↦ subst IsIdle is new ])
@@ -61,6 +65,8 @@ pass_idle c span what (f ∷ fs) ps asks all = (by (what f) refl, pass_idle c sp
     other (BestEffort priority) i e = absurd cc
     other (Ugs size interval jitter base) i e = tt
     other (Poll interval jitter base) i e = tt
+    other (Station size interval jitter base) i e = tt
+    other (Initial size interval jitter base) i e = tt
 
     by : (o : Option Periodic) → what f ≡ o → idle f.kind (run_flow span o f.index ps).index
     by None h = all.0
@@ -70,8 +76,11 @@ pass_idle c span what (f ∷ fs) ps asks all = (by (what f) refl, pass_idle c sp
 pub served_idle : (t : Table) (span : Extent) → AreIdle t → AllByRecursion IsIdle (flows_served t span)
 served_idle t span all =
     let c : Channel = t.row.channel in
-    let first = pass span (grants_of_flow c) t.flows [] in
-    pass_idle c span (polls_of_flow c) first.flows first.placements (polls_of c) (pass_idle c span (grants_of_flow c) t.flows [] (grants_of c) all)
+    let first = fill_grants t span in
+    let second = fill_polls t span first in
+    let granted = pass_idle c span (grants_of_flow c) t.flows [] (grants_of c) all in
+    let polled = pass_idle c span (polls_of_flow c) first.flows first.placements (polls_of c) granted in
+    pass_idle c span (maintenance_of_flow c) second.flows second.placements (maintenance_of c) polled
 
 idle_kept : Kept AreIdle
 idle_kept = record {

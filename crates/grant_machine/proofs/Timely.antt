@@ -78,7 +78,9 @@ serves_flow t span ch f q (Window i) w h same due =
     let IsServing : FlowKind → Type 0 = λ kind. IsDueUseOf c kind q.size q.iuc × IsServedAt kind (grant_of ch span.start q) i in
     subst (λ (x : FlowRow). IsServing x.kind) (one_flow 1 t.flows due.flow f w.rising due.there h (due.sid ∙ sym same)) (elim due.of.is [
       | inl (kind, iuc) ↦ subst IsServing (sym kind) (due.iuc ∙ iuc ∙ ap (unsolicited_iuc c) (sym due.size), record { whole = due.size; not_early = due.not_early; not_late = due.not_late })
-      | inr (kind, one, iuc) ↦ subst IsServing (sym kind) (due.iuc ∙ iuc, record { whole = due.size ∙ one; not_early = due.not_early; not_late = due.not_late })
+      | inr (inl (kind, one, iuc)) ↦ subst IsServing (sym kind) (due.iuc ∙ iuc, record { whole = due.size ∙ one; not_early = due.not_early; not_late = due.not_late })
+      | inr (inr (inl (kind, iuc))) ↦ subst IsServing (sym kind) (due.iuc ∙ iuc, record { whole = due.size; not_early = due.not_early; not_late = due.not_late })
+      | inr (inr (inr (kind, iuc))) ↦ subst IsServing (sym kind) (due.iuc ∙ iuc, record { whole = due.size; not_early = due.not_early; not_late = due.not_late })
     ])
 
 grant_by : (rows : Rows) (ch : ℕ) (t : Table) (span : Extent) (q : Placement) → table_of rows ch ≡ Some t → IsWell t → t.row.next_start ≤ span.start → IsLeased t span q → IsFor t span q q.cause → IsGrantOf rows t.row.channel q.iuc (grant_of ch span.start q)

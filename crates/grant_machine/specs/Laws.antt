@@ -6,9 +6,10 @@ use Rattle.flow_state.specs.declared.channel.Channel.{Channel}
 use Rattle.flow_state.specs.declared.channel.ChannelRow.{ChannelRow}
 use Rattle.flow_state.specs.Rows.{channel_at}
 use Rattle.flow_state.specs.declared.flow.FlowKind.{FlowKind}
-use Rattle.flow_state.specs.declared.flow.FlowKind.TheVariants.{BestEffort, Ugs, Poll}
+use Rattle.flow_state.specs.declared.flow.FlowKind.TheVariants.{BestEffort, Ugs, Poll, Station, Initial}
 use Rattle.flow_state.specs.Limits.{due_time, last_sid}
 use Rattle.map_body.specs.declared.element.Element.{Element}
+use Rattle.map_body.specs.Iucs as iucs
 use Rattle.map_body.specs.Sids.{everybody}
 use Rattle.map_body.specs.Body.{Body}
 use Rattle.map_body.specs.Layout.{IsBody, IsWritten}
@@ -18,6 +19,7 @@ use Rattle.grant_machine.specs.declared.command.Command.TheVariants as commands
 use Rattle.grant_machine.specs.declared.output.Output.{Output}
 use Rattle.grant_machine.specs.declared.output.Output.TheVariants as outputs
 use Rattle.grant_machine_parts.specs.Cutting.{grant_iuc, unsolicited_iuc, poll_iuc}
+use Rattle.grant_machine_parts.specs.Drawing.{told_sid}
 use Rattle.grant_machine_parts.specs.declared.placing.Cause.{Cause}
 use Rattle.grant_machine_parts.specs.declared.placing.Cause.TheVariants.{Window, Sent}
 use Rattle.grant_machine.specs.Fits.{FitsCommand}
@@ -126,11 +128,14 @@ UnsolicitedGrantsAreDue =
     → (numbers : List ℕ) × IsStrictlyIncreasing numbers
     × AllZip (IsDueGrant (Ugs size interval jitter base) size jitter) (grants_to cs lease) numbers
 
--- the grant is at due time number i of a flow of this kind: an unsolicited grant, or a poll of one minislot
+-- the grant is at due time number i of a flow of this kind: an unsolicited grant, a poll of one minislot, or an interval
+-- of station or of initial maintenance
 abbrev pub IsServedAt : FlowKind → Grant → ℕ → Type 0
 IsServedAt (BestEffort priority) g i = ⊥
 IsServedAt (Ugs size interval jitter base) g i = IsDueGrant (Ugs size interval jitter base) size jitter g i
 IsServedAt (Poll interval jitter base) g i = IsDueGrant (Poll interval jitter base) 1 jitter g i
+IsServedAt (Station size interval jitter base) g i = IsDueGrant (Station size interval jitter base) size jitter g i
+IsServedAt (Initial size interval jitter base) g i = IsDueGrant (Initial size interval jitter base) size jitter g i
 
 -- the grant is at due time number i of a flow that was added under a lease in which it lies
 pub record IsOfFlow (cs : List Command) (g : Grant) (i : ℕ) : Type 0 where
@@ -141,7 +146,7 @@ pub record IsOfFlow (cs : List Command) (g : Grant) (i : ℕ) : Type 0 where
   pub within : IsWithin lease g
   pub served : IsServedAt kind g i
 
--- what isn't granted to a request is granted at a due time of an unsolicited grant flow or of a polled one
+-- what isn't granted to a request is granted at a due time of a flow
 abbrev pub OtherGrantsAreDue : Type 0
 OtherGrantsAreDue = (cs : List Command) (k i : ℕ) (g : Grant) → slice_get (grants_of cs) k ≡ Some g → g.cause ≡ Window i → IsOfFlow cs g i
 
@@ -149,19 +154,22 @@ OtherGrantsAreDue = (cs : List Command) (k i : ℕ) (g : Grant) → slice_get (g
 abbrev pub IsRowAt : List Command → (k ch : ℕ) → ChannelRow → Type 0
 IsRowAt cs k ch row = channel_at (rows_after (take k cs)) ch ≡ Some row
 
--- the use of a grant of this size at a due time of a flow of this kind: an unsolicited grant's by its size, or a poll's
+-- the use of a grant of this size at a due time of a flow of this kind: an unsolicited grant's by its size, a poll's, or
+-- that of station or of initial maintenance
 abbrev pub IsDueUseOf : Channel → FlowKind → (size iuc : ℕ) → Type 0
 IsDueUseOf c (BestEffort priority) size iuc = ⊥
 IsDueUseOf c (Ugs flow_size interval jitter base) size iuc = iuc ≡ unsolicited_iuc c size
 IsDueUseOf c (Poll interval jitter base) size iuc = iuc ≡ poll_iuc
+IsDueUseOf c (Station flow_size interval jitter base) size iuc = iuc ≡ iucs.station_maintenance
+IsDueUseOf c (Initial flow_size interval jitter base) size iuc = iuc ≡ iucs.initial_maintenance
 
 -- the use of a grant on its channel: to a request by its size, at a due time by the kind of the flow that it serves
 abbrev pub IsUseOf : List Command → Channel → Grant → (iuc : ℕ) → Cause → Type 0
 IsUseOf cs c g iuc (Sent time) = iuc ≡ grant_iuc c g.size
 IsUseOf cs c g iuc (Window i) = (served : IsOfFlow cs g i) × IsDueUseOf c served.kind g.size iuc
 
--- the grant is told: a MAP's body gives each of its minislots to its SID by one element, of the one use of what it
--- serves by its channel's row as it stood at that cut
+-- the grant is told: a MAP's body gives each of its minislots to its SID, or to everybody for initial maintenance, by one
+-- element, of the one use of what it serves by its channel's row as it stood at that cut
 pub record IsTold (cs : List Command) (g : Grant) : Type 0 where
   pub place : ℕ
   pub start : ℕ
@@ -177,7 +185,7 @@ pub record IsTold (cs : List Command) (g : Grant) : Type 0 where
   pub iuc : ℕ
   pub use_is : IsUseOf cs row.channel g iuc g.cause
   pub cell : (m : ℕ) → g.start ≤ m → m < g.start + g.size
-      → IsCell map (m - start) (record { sid = g.sid; iuc = iuc; offset = g.start - start })
+      → IsCell map (m - start) (record { sid = told_sid g.sid iuc; iuc = iuc; offset = g.start - start })
 
 -- each grant is told by the MAP that placed it
 abbrev pub GrantsAreTold : Type 0

@@ -5,5 +5,6 @@ pub mod Owner
 pub mod CutRows
 pub mod Plans
 pub mod Laws
+pub mod Maintenance
 pub mod Counts
 pub mod CutLaws

@@ -82,7 +82,8 @@ fn is_within_limits(row: &ChannelRow, settings: &CutSettings) -> bool
         && settings.are_within_limits()
 }
 
-/// Places unsolicited grants, then polls, then requests in their order, each within its flow's lease.
+/// Places unsolicited grants, then polls, then intervals of station and initial maintenance, then requests in their
+/// order, each within its flow's lease.
 fn place_all(
     channel: &Channel,
     settings: &CutSettings,
@@ -102,6 +103,7 @@ fn place_all(
 {
     serve(Service::Grants, channel, filling, flows)?;
     serve(Service::Polls, channel, filling, flows)?;
+    serve(Service::Maintenance, channel, filling, flows)?;
     place_requests(filling, channel, settings.keep, ranked)?;
     Ok(())
 }

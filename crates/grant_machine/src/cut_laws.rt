@@ -2,8 +2,8 @@
 
 ghost use Rattle.grant_machine.specs.CutLaws.{MinislotsAreKept, NothingIsHeldBack, BackoffsAreTold};
 
-/// As many minislots as a cut keeps are all modems' for requests, or as many as unsolicited grants
-/// and polls leave, if these are fewer.
+/// As many minislots as a cut keeps are all modems' for requests, or as many as what comes at due times leaves, if
+/// these are fewer.
 pub fn minislots_are_kept()
     ensures { MinislotsAreKept }
 {}

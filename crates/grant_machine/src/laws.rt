@@ -1,6 +1,7 @@
 //! What holds of every list of commands.
 
 ghost use Rattle.grant_machine.specs.Laws.{MapsAreDisjoint, LeasesAreApart, GrantsAreLeased, UnsolicitedGrantsAreDue, RequestsAreGrantedOnce, OtherGrantsAreDue, GrantsAreTold, CellsAreGranted};
+ghost use Rattle.grant_machine.specs.Maintenance.{MaintenanceIsDue, MaintenanceIsTold, OpeningsHaveNoOwner};
 ghost use Rattle.grant_machine.specs.Counts.{CountsAreTold, CountsStep};
 ghost use Rattle.grant_machine.specs.Laws.{OutputsGoOn, MapsAreBodies, SharedMapsAreOne, SidsAreUnicast, OwnersAreOne};
 
@@ -25,14 +26,20 @@ pub fn unsolicited_grants_are_due()
     ensures { UnsolicitedGrantsAreDue }
 {}
 
+/// So do the intervals of a flow of station maintenance, and those of a flow of initial maintenance, each of the flow's
+/// size.
+pub fn maintenance_is_due()
+    ensures { MaintenanceIsDue }
+{}
+
 /// A request is accepted once at most, and granted once at most; what is granted was accepted, and
 /// is granted whole.
 pub fn requests_are_granted_once()
     ensures { RequestsAreGrantedOnce }
 {}
 
-/// What isn't granted to a request is granted at a due time of an unsolicited grant flow or of a
-/// polled one.
+/// What isn't granted to a request is granted at a due time of a flow: of unsolicited grants, of polls, of station or
+/// of initial maintenance.
 pub fn other_grants_are_due()
     ensures { OtherGrantsAreDue }
 {}
@@ -47,7 +54,7 @@ pub fn counts_step()
     ensures { CountsStep }
 {}
 
-/// Each grant is told by the MAP that placed it.
+/// Each grant is told by the MAP that placed it, as its SID's, or as everybody's for initial maintenance.
 pub fn grants_are_told()
     ensures { GrantsAreTold }
 {}
@@ -55,6 +62,17 @@ pub fn grants_are_told()
 /// What a MAP gives to one SID is part of a grant to it.
 pub fn cells_are_granted()
     ensures { CellsAreGranted }
+{}
+
+/// What a MAP tells as station maintenance is in an interval of such a flow to its SID. What it tells as initial
+/// maintenance is everybody's, in an interval of such a flow. What is everybody's for requests is in no grant.
+pub fn maintenance_is_told()
+    ensures { MaintenanceIsTold }
+{}
+
+/// A minislot that a MAP gives to everybody has no owner: nobody is promised it alone.
+pub fn openings_have_no_owner()
+    ensures { OpeningsHaveNoOwner }
 {}
 
 /// A minislot has one owner at most.

@@ -14,7 +14,7 @@ use Rattle.flow_state.specs.Limits.{last_time, last_sid, most_minislots}
 use Rattle.flow_state.specs.Rows.{Table}
 use Rattle.grant_machine_parts.specs.Placing.{Placement, holds, holder, most_placements}
 use Rattle.grant_machine_parts.specs.Cutting.{end_of, CutSettings, fill_span}
-use Rattle.grant_machine_parts.specs.Drawing.{placed_element, free_element, null_element, beginning, begins_at}
+use Rattle.grant_machine_parts.specs.Drawing.{told_sid, placed_element, free_element, null_element, beginning, begins_at}
 use Rattle.grant_machine_parts.specs.Filling.{IsUseFor}
 use Rattle.map_body.proofs.Callers.{get_behind}
 use Rattle.flow_state.proofs.Callers.{Has, has_at, has_either, has_pushed, has_any, has_found, found_has, unfound, all_has}
@@ -81,7 +81,15 @@ placed_more t span ps q a m = record {
 
 pub fill_placed : (t : Table) (span : Extent) (s : CutSettings) → IsWell t → end_of span ≤ last_time → ArePlaced t span (fill_span t span s).placements
 fill_placed t span s w le =
-    fill_keeps (ArePlaced t span) t span s w le (record { each = λ p h. absurd h; apart = λ x p q h k d e. absurd h; few = omega arith }) (λ ps q a m. placed_more t span ps q a m)
+    fill_keeps (ArePlaced t span) t span s w le (λ ps q a m. placed_more t span ps q a m) (record { each = λ p h. absurd h; apart = λ x p q h k d e. absurd h; few = omega arith })
+
+-- a SID that a MAP tells fits its field
+told_fits : (sid iuc : ℕ) → sid ≤ last_sid → told_sid sid iuc < 2 ^ 14
+told_fits sid iuc last = by (eqb iuc 3)
+  where
+    by : (b : Bool) → cond b everybody sid < 2 ^ 14
+    by true = omega arith
+    by false = omega arith
 
 -- ---- which element begins at an offset
 
@@ -205,10 +213,10 @@ module _ (t : Table) (span : Extent) (ps : List Placement) (a : ArePlaced t span
       elim (what_begins t span ps a b.0 e b.3) [
         | inl p ↦
             let placed = a.each p.0 p.1 in
-            let sid_is : p.0.sid ≡ e.sid = ap (λ (d : Element). d.sid) p.3 in
+            let sid_is : told_sid p.0.sid p.0.iuc ≡ e.sid = ap (λ (d : Element). d.sid) p.3 in
             let iuc_is : p.0.iuc ≡ e.iuc = ap (λ (d : Element). d.iuc) p.3 in
             let use_is : IsUse e.iuc = subst IsUse iuc_is placed.iuc in
-            let last = placed.last in
+            let told = told_fits p.0.sid p.0.iuc placed.last in
             let small = use_is.1 in
             (use_is, record { sid = omega arith; iuc = omega arith; offset = offset })
         | inr f ↦
@@ -300,10 +308,15 @@ module _ (t : Table) (span : Extent) (ps : List Placement) (a : ArePlaced t span
       (in_row (begins_at ps) (stand_at t span ps a) 0 len (null_element len) rest p.offset x (placed_element p) (omega arith) (omega arith) from (omega arith)
       (placed_begins t span ps a p h) (λ z gt le. inside_none t span ps a p z h gt (omega arith)))
 
-  -- whose a minislot is: a placement's that holds it, or all modems'
+  -- whose a minislot is: a placement's that holds it, or all modems' for requests, and then no placement holds it
+  pub record TellsFree (x : ℕ) (e : Element) : Type 0 where
+    pub all : e.sid ≡ everybody
+    pub use_is : e.iuc ≡ 1
+    pub free : holder ps x ≡ None
+
   pub record TellsCell (x : ℕ) (e : Element) : Type 0 where
     pub within : x < len
-    pub whose : ((p : Placement) × Has ps p × (holds x p ≡ true) × (placed_element p ≡ e)) ⊎ (e.sid ≡ everybody)
+    pub whose : ((p : Placement) × Has ps p × (holds x p ≡ true) × (placed_element p ≡ e)) ⊎ TellsFree x e
 
   pub cell_tells : (map : Body) (x : ℕ) (e : Element) → map.elements ≡ es → IsCell map x e → TellsCell x e
   cell_tells map x e same c =
@@ -322,10 +335,32 @@ module _ (t : Table) (span : Extent) (ps : List Placement) (a : ArePlaced t span
         within = omega arith;
         whose = elim (what_begins t span ps a b.0 e b.3) [
           | inl p ↦ inl (p.0, p.1, held p.0 p.1 p.2 stands c.begun (λ z gt lt. n.gap z gt lt) c.not_ended, p.3)
-          | inr f ↦ inr (ap (λ (d : Element). d.sid) (sym f.is))
+          | inr f ↦ inr (record {
+            all = ap (λ (d : Element). d.sid) (sym f.is);
+            use_is = ap (λ (d : Element). d.iuc) (sym f.is);
+            free = unheld b.0 stands c.begun f.free (λ z gt lt. n.gap z gt lt) c.not_ended (holder ps x) refl;
+          })
         ];
       }
     where
+      unheld : (y : ℕ) → e.offset ≡ y → e.offset ≤ x → holder ps y ≡ None → ((z : ℕ) → e.offset < z → z < c.next.offset → begins_at ps z ≡ None) → x < c.next.offset
+          → (o : Option Placement) → holder ps x ≡ o → o ≡ None
+      unheld y stands from free gap ended None f = refl
+      unheld y stands from free gap ended (Some p) f =
+          let found = found_has (holds x) ps p f in
+          let low : p.offset ≤ x = holds_from x p found.1 in
+          let high : x < p.offset + p.size = holds_below x p found.1 in
+          absurd (elim (cases_lt e.offset p.offset) [
+            | inl later ↦
+                let none : begins_at ps p.offset ≡ None = gap p.offset later (omega arith) in
+                let some : begins_at ps p.offset ≡ Some (placed_element p) = placed_begins t span ps a p found.0 in
+                cc
+            | inr before ↦
+                let on : holds y p ≡ true = it_holds y p (omega arith) (omega arith) in
+                let off : holds y p ≡ false = unfound (holds y) ps p free found.0 in
+                cc
+          ])
+
       held : (p : Placement) → Has ps p → {y : ℕ} → p.offset ≡ y → e.offset ≡ y → e.offset ≤ x → ((z : ℕ) → e.offset < z → z < c.next.offset → begins_at ps z ≡ None) → x < c.next.offset → holds x p ≡ true
       held p h {y} at stands from gap ended = elim (cases_lt x (p.offset + p.size)) [
         | inl lt ↦ it_holds x p (omega arith) lt

@@ -3,8 +3,8 @@ pub use Rattle.grant_machine_parts.proofs.Bodies.{cell_of_free, cell_of_placemen
 pub use Rattle.grant_machine_parts.proofs.Carved.{all_push}
 pub use Rattle.grant_machine_parts.proofs.Counted.{due_minislots, free_is_none, kept_free}
 pub use Rattle.grant_machine_parts.proofs.InTurn.{in_turn}
-pub use Rattle.grant_machine_parts.proofs.Fillings.{Asks, Becomes, IsDueOf, IsFor, IsLeased, IsOfFlow, Moves, cut_is_well, due_is, fill_moves, flow_from, grants_of, in_order_has, is_cut, pass_keeps, pass_zip, polls_of, served_from, timed, zip_twice}
+pub use Rattle.grant_machine_parts.proofs.Fillings.{Asks, Becomes, IsDueOf, IsFor, IsLeased, IsOfFlow, Moves, cut_is_well, due_is, fill_moves, flow_from, grants_of, in_order_has, is_cut, maintenance_of, polls_of, requested_high, served_from, timed, unsolicited_high, windows_keep, zip_twice}
 pub use Rattle.grant_machine_parts.proofs.Orders.{in_order_fewer, passing_in_order}
-pub use Rattle.grant_machine_parts.proofs.Served.{Serving, fills_for, filter_one, is_to}
+pub use Rattle.grant_machine_parts.proofs.Served.{IsSized, Serving, fills_for, filter_one, is_to}
 pub use Rattle.grant_machine_parts.proofs.Windows.{InWindow, Rising, placed_tells, rising_later}
 pub use Rattle.grant_machine_parts.proofs.Written.{cut_elements, cut_few, cut_most, cut_placed, cut_written, pending, pending_plain}

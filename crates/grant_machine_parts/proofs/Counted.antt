@@ -11,11 +11,11 @@ use Rattle.grant_machine_parts.specs.Placing.{Placement, is_window, holds, holde
 use Rattle.flow_state.specs.declared.channel.Channel.{Channel}
 use Rattle.flow_state.specs.declared.flow.Waiting.{Waiting}
 use Rattle.flow_state.specs.Rows.{Table, last_of}
-use Rattle.grant_machine_parts.specs.Cutting.{CutSettings, Periodic, Placed, Passed, verdict, placement_at, placement_for, pass, grants_of_flow, polls_of_flow, in_order, fill_span}
+use Rattle.grant_machine_parts.specs.Cutting.{CutSettings, Periodic, Placed, verdict, placement_at, placement_for, fill_windows, in_order, fill_span}
 use Rattle.grant_machine_parts.specs.Gaps.{Gap, IsGap, AreGaps}
 use Rattle.flow_state.proofs.Callers.{filter_append}
 use Rattle.grant_machine_parts.proofs.Carved.{free_added}
-use Rattle.grant_machine_parts.proofs.Fillings.{Fit, none_is, IsRequestFit, fit_tells, pass_keeps, placed_fit, requests_keep}
+use Rattle.grant_machine_parts.proofs.Fillings.{Fit, none_is, IsRequestFit, fit_tells, placed_fit, requests_keep, windows_keep}
 use Rattle.grant_machine_parts.proofs.Bodies.{holds_from, holds_below, it_holds}
 
 -- ---- numbers of a row that pass a test
@@ -213,8 +213,5 @@ module _ (t : Table) (span : Extent) (s : CutSettings) where
   pub kept_free : Keeps (fill_span t span s).placements
   kept_free =
       let c : Channel = t.row.channel in
-      let first : Passed = pass span (grants_of_flow c) t.flows [] in
-      let second : Passed = pass span (polls_of_flow c) first.flows first.placements in
-      let granted : Leaves first.placements = pass_keeps Leaves span (grants_of_flow c) t.flows (λ f h p e ps j x k v. leaves_due p j x ps k v) [] leaves_none in
-      let polled : Leaves second.placements = pass_keeps Leaves span (polls_of_flow c) first.flows (λ f h p e ps j x k v. leaves_due p j x ps k v) first.placements granted in
-      requests_keep Keeps span c s.keep (last_of t) (in_order t t.waiting) (λ w h ps x k fit. keeps_request c w ps x (last_of t w.sid) k fit) second.placements (omega arith)
+      let windows : Leaves (fill_windows t span).placements = windows_keep Leaves t span (λ p ps j x k v. leaves_due p j x ps k v) leaves_none in
+      requests_keep Keeps span c s.keep (last_of t) (in_order t t.waiting) (λ w h ps x k fit. keeps_request c w ps x (last_of t w.sid) k fit) (fill_windows t span).placements (omega arith)

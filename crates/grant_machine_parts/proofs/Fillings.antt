@@ -1,22 +1,23 @@
 -- How a MAP is filled: each placement fits where it is put, and the table after it is well.
-use Rattle.std.proofs.Common.{◌≡◌, ◌≢◌, ◌⊎◌, ℕ, zero, suc, ◌+◌, ◌*◌, ◌-◌, ◌/◌, ◌<◌, ◌≤◌, Bool, true, false, cond, not, max, List, [], ◌∷◌, ◌++◌, filter, length, Option, Some, None, refl, sym, ap, subst, ◌∙◌, arith, inl, inr, eqb, leb, ltb, is_none, add-mul, one-mul, div-mul-le_self, mul-le-mul_right}
+use Rattle.std.proofs.Common.{◌≡◌, ◌≢◌, ◌⊎◌, ℕ, zero, suc, ◌+◌, ◌*◌, ◌-◌, ◌/◌, ◌<◌, ◌≤◌, Bool, true, false, cond, not, ◌&&◌, max, List, [], ◌∷◌, ◌++◌, filter, length, Option, Some, None, refl, sym, ap, subst, ◌∙◌, arith, inl, inr, eqb, leb, ltb, is_none, add-mul, one-mul, div-mul-le_self, mul-le-mul_right}
 use Rattle.std.specs.List.{list_any, list_all, find, range_with_len, AllZip}
 use Rattle.std.proofs.lemmas.Bool.{leb-true, ltb-true, and_parts, not-true, ltb-false}
 use Rattle.std.proofs.lemmas.Option.{same_Some}
 use Rattle.minislot_time.specs.Extent.{Extent}
+use Rattle.map_body.specs.Iucs as iucs
 use Rattle.flow_state.specs.declared.channel.Channel.{Channel}
 use Rattle.flow_state.specs.declared.channel.Phy.{Phy}
 use Rattle.flow_state.specs.declared.channel.Phy.TheVariants.{Tdma, Advanced}
 use Rattle.flow_state.specs.declared.flow.FlowKind.{FlowKind}
-use Rattle.flow_state.specs.declared.flow.FlowKind.TheVariants.{BestEffort, Ugs, Poll}
+use Rattle.flow_state.specs.declared.flow.FlowKind.TheVariants.{BestEffort, Ugs, Poll, Station, Initial}
 use Rattle.flow_state.specs.declared.flow.Lease.{Lease}
 use Rattle.flow_state.specs.declared.flow.Waiting.{Waiting}
 use Rattle.flow_state.specs.declared.refusal.Refusal.TheVariants.{BadValue}
-use Rattle.flow_state.specs.Limits.{last_time, most_minislots, longest_interval, last_sid, is_good_kind, is_schedule, is_timed, is_ugs, due_time}
+use Rattle.flow_state.specs.Limits.{last_time, most_minislots, longest_interval, last_sid, is_good_kind, is_size, is_schedule, is_timed, takes_no_requests, due_time}
 use Rattle.flow_state.specs.Rows.{Table, FlowRow, is_of, is_of_sid, flow_of, last_in, last_of, is_ended, has_ended, lease_in}
 use Rattle.grant_machine_parts.specs.Placing.{Cause, Window, Sent, Placement, holder, is_free, free_minislots, fits_at, first_fit, most_placements}
-use Rattle.grant_machine_parts.specs.Cutting.{Periodic, due_at, end_of, Missed, Placed, Kept, verdict, verdict_on, placement_at, Ran, run_due_times, run_flow, due_before, Passed, pass, grants_of_flow, polls_of_flow, grants_of_kind, polls_of_kind, sized_iuc, grant_iuc, unsolicited_on, unsolicited_iuc, poll_iuc, priority_of, in_order, placement_for, request_fit, place_requests, is_grant_of, CutSettings, Filled, fill, fill_span, fill_refusal, span_of, are_within_limits, table_after, flows_served}
-use Rattle.grant_machine_parts.specs.Filling.{IsRequestedUse, IsDueUse, IsUseFor}
+use Rattle.grant_machine_parts.specs.Cutting.{Periodic, due_at, end_of, Missed, Placed, Kept, verdict, verdict_on, placement_at, Ran, run_due_times, run_flow, due_before, Passed, pass, grants_of_flow, polls_of_flow, maintenance_of_flow, grants_of_kind, polls_of_kind, maintenance_of_kind, fill_grants, fill_polls, fill_windows, sized_iuc, grant_iuc, unsolicited_on, unsolicited_iuc, poll_iuc, priority_of, in_order, placement_for, request_fit, place_requests, is_grant_of, CutSettings, Filled, fill, fill_span, fill_refusal, span_of, are_within_limits, table_after, flows_served}
+use Rattle.grant_machine_parts.specs.Filling.{IsRequestedUse, IsMaintenanceUse, IsDueUse, IsUseFor}
 use Rattle.flow_state.proofs.Callers.{Has, has_filter, filter_has, has_flat_map}
 use Rattle.grant_machine_parts.proofs.Offsets.{first_or_later}
 use Rattle.grant_machine_parts.proofs.Windows.{first_fit_tells, placed_is, placed_tells}
@@ -85,10 +86,15 @@ plain_requested Tdma iuc (inr e) = (λ n. absurd (omega arith), omega arith)
 plain_requested Advanced iuc (inl e) = (λ n. absurd (omega arith), omega arith)
 plain_requested Advanced iuc (inr e) = (λ n. absurd (omega arith), omega arith)
 
+plain_maintenance : (iuc : ℕ) → IsMaintenanceUse iuc → IsUse iuc
+plain_maintenance iuc (inl e) = (λ n. absurd (omega arith), omega arith)
+plain_maintenance iuc (inr e) = (λ n. absurd (omega arith), omega arith)
+
 plain_due : (phy : Phy) (iuc : ℕ) → IsDueUse phy iuc → IsUse iuc
 plain_due phy iuc (inl e) = plain_request iuc e
-plain_due Tdma iuc (inr e) = plain_requested Tdma iuc e
-plain_due Advanced iuc (inr e) = (λ n. absurd (omega arith), omega arith)
+plain_due phy iuc (inr (inl e)) = plain_maintenance iuc e
+plain_due Tdma iuc (inr (inr e)) = plain_requested Tdma iuc e
+plain_due Advanced iuc (inr (inr e)) = (λ n. absurd (omega arith), omega arith)
 
 -- what comes at due times within the limits, on a channel of this kind
 pub record IsWellPeriodic (phy : Phy) (p : Periodic) : Type 0 where
@@ -112,14 +118,34 @@ unsolicited_use : (c : Channel) (n : ℕ) → IsDueUse c.phy (unsolicited_iuc c 
 unsolicited_use c n = by c.phy refl
   where
     by : (phy : Phy) → c.phy ≡ phy → IsDueUse phy (unsolicited_on phy c n)
-    by Tdma e = inr (subst (λ (p : Phy). IsRequestedUse p (sized_iuc c.phy (leb n c.short_max))) e (grant_use c n))
-    by Advanced e = inr refl
+    by Tdma e = inr (inr (subst (λ (p : Phy). IsRequestedUse p (sized_iuc c.phy (leb n c.short_max))) e (grant_use c n)))
+    by Advanced e = inr (inr refl)
 
--- what comes by itself for a flow: unsolicited grants, or polls
+-- the uses of grants of data are above those of maintenance
+pub requested_high : (c : Channel) (n : ℕ) → 5 ≤ grant_iuc c n
+requested_high c n = by c.phy (leb n c.short_max)
+  where
+    by : (phy : Phy) (b : Bool) → 5 ≤ sized_iuc phy b
+    by Tdma true = omega arith
+    by Tdma false = omega arith
+    by Advanced true = omega arith
+    by Advanced false = omega arith
+
+pub unsolicited_high : (c : Channel) (n : ℕ) → 5 ≤ unsolicited_iuc c n
+unsolicited_high c n = by c.phy
+  where
+    by : (phy : Phy) → 5 ≤ unsolicited_on phy c n
+    by Tdma = requested_high c n
+    by Advanced = omega arith
+
+-- what comes by itself for a flow: unsolicited grants, polls, or intervals of station or of initial maintenance
 pub record IsOfFlow (c : Channel) (f : FlowRow) (p : Periodic) : Type 0 where
   pub sid : p.sid ≡ f.sid
   pub last : p.last ≡ f.last
-  pub is : ((f.kind ≡ Ugs p.size p.interval p.jitter p.base) × (p.iuc ≡ unsolicited_iuc c p.size)) ⊎ ((f.kind ≡ Poll p.interval p.jitter p.base) × (p.size ≡ 1) × (p.iuc ≡ poll_iuc))
+  pub is : ((f.kind ≡ Ugs p.size p.interval p.jitter p.base) × (p.iuc ≡ unsolicited_iuc c p.size))
+      ⊎ ((f.kind ≡ Poll p.interval p.jitter p.base) × (p.size ≡ 1) × (p.iuc ≡ poll_iuc))
+      ⊎ ((f.kind ≡ Station p.size p.interval p.jitter p.base) × (p.iuc ≡ iucs.station_maintenance))
+      ⊎ ((f.kind ≡ Initial p.size p.interval p.jitter p.base) × (p.iuc ≡ iucs.initial_maintenance))
 
 -- what a pass asks of flows is theirs
 abbrev pub Asks : Channel → (FlowRow → Option Periodic) → Type 0
@@ -132,6 +158,8 @@ grants_of c f p e = by f.kind refl e
     by (BestEffort priority) h g = absurd cc
     by (Poll interval jitter base) h g = absurd cc
     by (Ugs size interval jitter base) h g = subst (IsOfFlow c f) (same_Some _ p g) (record { sid = refl; last = refl; is = inl (h, refl) })
+    by (Station size interval jitter base) h g = absurd cc
+    by (Initial size interval jitter base) h g = absurd cc
 
 pub polls_of : (c : Channel) → Asks c (polls_of_flow c)
 polls_of c f p e = by f.kind refl e
@@ -139,38 +167,65 @@ polls_of c f p e = by f.kind refl e
     by : (k : FlowKind) → f.kind ≡ k → polls_of_kind c f.sid f.last k ≡ Some p → IsOfFlow c f p
     by (BestEffort priority) h g = absurd cc
     by (Ugs size interval jitter base) h g = absurd cc
-    by (Poll interval jitter base) h g = subst (IsOfFlow c f) (same_Some _ p g) (record { sid = refl; last = refl; is = inr (h, refl, refl) })
+    by (Poll interval jitter base) h g = subst (IsOfFlow c f) (same_Some _ p g) (record { sid = refl; last = refl; is = inr (inl (h, refl, refl)) })
+    by (Station size interval jitter base) h g = absurd cc
+    by (Initial size interval jitter base) h g = absurd cc
+
+pub maintenance_of : (c : Channel) → Asks c (maintenance_of_flow c)
+maintenance_of c f p e = by f.kind refl e
+  where
+    by : (k : FlowKind) → f.kind ≡ k → maintenance_of_kind c f.sid f.last k ≡ Some p → IsOfFlow c f p
+    by (BestEffort priority) h g = absurd cc
+    by (Ugs size interval jitter base) h g = absurd cc
+    by (Poll interval jitter base) h g = absurd cc
+    by (Station size interval jitter base) h g = subst (IsOfFlow c f) (same_Some _ p g) (record { sid = refl; last = refl; is = inr (inr (inl (h, refl))) })
+    by (Initial size interval jitter base) h g = subst (IsOfFlow c f) (same_Some _ p g) (record { sid = refl; last = refl; is = inr (inr (inr (h, refl))) })
 
 -- they are at the flow's due times, and within the limits where the flow is
 pub due_is : {c : Channel} {f : FlowRow} {p : Periodic} → IsOfFlow c f p → (i : ℕ) → due_time f.kind i ≡ due_at p i
-due_is of i = elim of.is [ inl grants ↦ ap (λ k. due_time k i) grants.0 | inr polls ↦ ap (λ k. due_time k i) polls.0 ]
+due_is of i = elim of.is [
+  | inl grants ↦ ap (λ k. due_time k i) grants.0
+  | inr (inl polls) ↦ ap (λ k. due_time k i) polls.0
+  | inr (inr (inl station)) ↦ ap (λ k. due_time k i) station.0
+  | inr (inr (inr initial)) ↦ ap (λ k. due_time k i) initial.0
+]
 
 pub timed : {c : Channel} {f : FlowRow} {p : Periodic} → IsOfFlow c f p → is_timed f.kind ≡ true
-timed of = elim of.is [ inl grants ↦ ap is_timed grants.0 | inr polls ↦ ap is_timed polls.0 ]
+timed of = elim of.is [
+  | inl grants ↦ ap is_timed grants.0
+  | inr (inl polls) ↦ ap is_timed polls.0
+  | inr (inr (inl station)) ↦ ap is_timed station.0
+  | inr (inr (inr initial)) ↦ ap is_timed initial.0
+]
 
 short_interval : (interval jitter base : ℕ) → is_schedule interval jitter base ≡ true → interval ≤ longest_interval
 short_interval interval jitter base e = leb-true _ _ (and_parts _ _ (and_parts _ _ (and_parts _ _ e).0).0).1
+
+-- what comes by itself with a size within the limits
+sized_periodic : (c : Channel) (p : Periodic) → 1 ≤ p.sid → p.sid ≤ last_sid → (is_size p.size && is_schedule p.interval p.jitter p.base) ≡ true → IsDueUse c.phy p.iuc → IsWellPeriodic c.phy p
+sized_periodic c p unicast last good use_is =
+    let parts = and_parts (is_size p.size) _ good in
+    let size = and_parts _ _ parts.0 in
+    record {
+      some = leb-true _ _ size.0;
+      most = leb-true _ _ size.1;
+      unicast = unicast;
+      last = last;
+      iuc = use_is;
+      short = short_interval p.interval p.jitter p.base parts.1;
+    }
 
 well_periodic : (c : Channel) (f : FlowRow) (p : Periodic) → IsWellFlow f → IsOfFlow c f p → IsWellPeriodic c.phy p
 well_periodic c f p w of =
     let unicast : 1 ≤ p.sid = subst (λ n. 1 ≤ n) (sym of.sid) w.unicast in
     let last : p.sid ≤ last_sid = subst (λ n. n ≤ last_sid) (sym of.sid) w.last in
     elim of.is [
-      | inl (kind, iuc) ↦
-          let good : is_good_kind (Ugs p.size p.interval p.jitter p.base) ≡ true = ap is_good_kind (sym kind) ∙ w.kind in
-          let parts = and_parts _ _ good in
-          let size = and_parts _ _ parts.0 in
-          record {
-            some = leb-true _ _ size.0;
-            most = leb-true _ _ size.1;
-            unicast = unicast;
-            last = last;
-            iuc = subst (IsDueUse c.phy) (sym iuc) (unsolicited_use c p.size);
-            short = short_interval p.interval p.jitter p.base parts.1;
-          }
-      | inr (kind, one, iuc) ↦
+      | inl (kind, iuc) ↦ sized_periodic c p unicast last (ap is_good_kind (sym kind) ∙ w.kind) (subst (IsDueUse c.phy) (sym iuc) (unsolicited_use c p.size))
+      | inr (inl (kind, one, iuc)) ↦
           let good : is_good_kind (Poll p.interval p.jitter p.base) ≡ true = ap is_good_kind (sym kind) ∙ w.kind in
           record { some = omega arith; most = omega arith; unicast = unicast; last = last; iuc = inl iuc; short = short_interval p.interval p.jitter p.base good }
+      | inr (inr (inl (kind, iuc))) ↦ sized_periodic c p unicast last (ap is_good_kind (sym kind) ∙ w.kind) (inr (inl (inl iuc)))
+      | inr (inr (inr (kind, iuc))) ↦ sized_periodic c p unicast last (ap is_good_kind (sym kind) ∙ w.kind) (inr (inl (inr iuc)))
     ]
 
 abbrev IndexUpTo : ℕ → Ran → Type 0
@@ -384,22 +439,57 @@ may_place_request t span ps w x well h fit =
       use_is = grant_use t.row.channel w.n;
     }
 
--- what holds of no placements, and is kept by each that may be added, holds of a filled MAP
-pub fill_keeps : (K : List Placement → Type 0) (t : Table) (span : Extent) (s : CutSettings) → IsWell t → end_of span ≤ last_time → K []
-    → ((ps : List Placement) (q : Placement) → K ps → MayPlace t span ps q → K (ps ++ q ∷ [])) → K (fill_span t span s).placements
-fill_keeps K t span s w le none more =
+-- what each placement at a due time keeps, and no placements have, holds of all that comes by itself
+pub windows_keep : (K : List Placement → Type 0) (t : Table) (span : Extent) → ((p : Periodic) (ps : List Placement) (j x : ℕ) → K ps → verdict span ps p j ≡ Placed x → K (ps ++ placement_at p j x ∷ []))
+    → K [] → K (fill_windows t span).placements
+windows_keep K t span more none =
     let c : Channel = t.row.channel in
-    let first : Passed = pass span (grants_of_flow c) t.flows [] in
-    let second : Passed = pass span (polls_of_flow c) first.flows first.placements in
-    let moves = pass_moves c span (grants_of_flow c) t.flows [] le (grants_of c) in
-    let granted : K first.placements = pass_keeps K span (grants_of_flow c) t.flows
-    (λ f h p e ps i x k v. more ps (placement_at p i x) k (may_place_due t span ps p i x f (w.flows f h) h (grants_of c f p e) v)) [] none in
-    let polled : K second.placements = pass_keeps K span (polls_of_flow c) first.flows
-    (λ g h p e ps i x k v.
-    let m = moved_from t.flows first.flows g moves h in
-    let of = subst (λ (f : FlowRow). IsOfFlow c f p) m.2.is (polls_of c g p e) in
-    more ps (placement_at p i x) k (may_place_due t span ps p i x m.0 (w.flows m.0 m.1) m.1 (record { sid = of.sid; last = of.last; is = of.is }) v)) first.placements granted in
-    requests_keep K span c s.keep (last_of t) (in_order t t.waiting) (λ r h ps x k fit. more ps (placement_for c r x) k (may_place_request t span ps r x w (in_order_has t t.waiting r h) fit.fit)) second.placements polled
+    let first : Passed = fill_grants t span in
+    let second : Passed = fill_polls t span first in
+    let granted : K first.placements = pass_keeps K span (grants_of_flow c) t.flows (λ f h p e ps j x k v. more p ps j x k v) [] none in
+    let polled : K second.placements = pass_keeps K span (polls_of_flow c) first.flows (λ f h p e ps j x k v. more p ps j x k v) first.placements granted in
+    pass_keeps K span (maintenance_of_flow c) second.flows (λ f h p e ps j x k v. more p ps j x k v) second.placements polled
+
+-- flows before and after two passes
+moves_on : (f g h : FlowRow) → Moves f g → Moves g h → Moves f h
+moves_on f g h m n = record { index = n.index; is = n.is ∙ ap (λ (x : FlowRow). record x { index = n.index }) m.is; well = λ w. n.well (m.well w) }
+
+grants_move : (t : Table) (span : Extent) → end_of span ≤ last_time → AllZip Moves t.flows (fill_grants t span).flows
+grants_move t span le = pass_moves t.row.channel span (grants_of_flow t.row.channel) t.flows [] le (grants_of t.row.channel)
+
+polls_move : (t : Table) (span : Extent) → end_of span ≤ last_time → AllZip Moves t.flows (fill_polls t span (fill_grants t span)).flows
+polls_move t span le =
+    let first : Passed = fill_grants t span in
+    zip_twice Moves Moves Moves moves_on t.flows first.flows (fill_polls t span first).flows (grants_move t span le)
+    (pass_moves t.row.channel span (polls_of_flow t.row.channel) first.flows first.placements le (polls_of t.row.channel))
+
+pub fill_moves : (t : Table) (span : Extent) → end_of span ≤ last_time → AllZip Moves t.flows (flows_served t span)
+fill_moves t span le =
+    let second : Passed = fill_polls t span (fill_grants t span) in
+    zip_twice Moves Moves Moves moves_on t.flows second.flows (flows_served t span) (polls_move t span le)
+    (pass_moves t.row.channel span (maintenance_of_flow t.row.channel) second.flows second.placements le (maintenance_of t.row.channel))
+
+-- what holds of no placements, and is kept by each that may be added, holds of a filled MAP
+module _ (K : List Placement → Type 0) (t : Table) (span : Extent) (s : CutSettings) (w : IsWell t) (le : end_of span ≤ last_time)
+    (more : (ps : List Placement) (q : Placement) → K ps → MayPlace t span ps q → K (ps ++ q ∷ [])) where
+  -- a pass over the table's flows with other due times
+  moved_keeps : (what : FlowRow → Option Periodic) → Asks t.row.channel what → (fs : List FlowRow) → AllZip Moves t.flows fs → (ps : List Placement) → K ps → K (pass span what fs ps).placements
+  moved_keeps what asks fs moves ps k =
+      pass_keeps K span what fs (λ g h p e qs i x l v.
+      let m = moved_from t.flows fs g moves h in
+      let of = subst (λ (f : FlowRow). IsOfFlow t.row.channel f p) m.2.is (asks g p e) in
+      more qs (placement_at p i x) l (may_place_due t span qs p i x m.0 (w.flows m.0 m.1) m.1 (record { sid = of.sid; last = of.last; is = of.is }) v)) ps k
+
+  pub fill_keeps : K [] → K (fill_span t span s).placements
+  fill_keeps none =
+      let c : Channel = t.row.channel in
+      let first : Passed = fill_grants t span in
+      let second : Passed = fill_polls t span first in
+      let granted : K first.placements = pass_keeps K span (grants_of_flow c) t.flows
+      (λ f h p e ps i x k v. more ps (placement_at p i x) k (may_place_due t span ps p i x f (w.flows f h) h (grants_of c f p e) v)) [] none in
+      let polled : K second.placements = moved_keeps (polls_of_flow c) (polls_of c) first.flows (grants_move t span le) first.placements granted in
+      let maintained : K (fill_windows t span).placements = moved_keeps (maintenance_of_flow c) (maintenance_of c) second.flows (polls_move t span le) second.placements polled in
+      requests_keep K span c s.keep (last_of t) (in_order t t.waiting) (λ r h ps x k fit. more ps (placement_for c r x) k (may_place_request t span ps r x w (in_order_has t t.waiting r h) fit.fit)) (fill_windows t span).placements maintained
 
 -- ---- the table after a MAP
 
@@ -423,16 +513,6 @@ is_cut t s e =
     test : (b : Bool) → cond b None (Some BadValue) ≡ None → b ≡ true
     test true f = refl
     test false f = absurd cc
-
-pub fill_moves : (t : Table) (span : Extent) → end_of span ≤ last_time → AllZip Moves t.flows (flows_served t span)
-fill_moves t span le =
-    let c : Channel = t.row.channel in
-    let first : Passed = pass span (grants_of_flow c) t.flows [] in
-    zip_twice Moves Moves Moves twice t.flows first.flows (flows_served t span)
-    (pass_moves c span (grants_of_flow c) t.flows [] le (grants_of c)) (pass_moves c span (polls_of_flow c) first.flows first.placements le (polls_of c))
-  where
-    twice : (f g h : FlowRow) → Moves f g → Moves g h → Moves f h
-    twice f g h m n = record { index = n.index; is = n.is ∙ ap (λ (x : FlowRow). record x { index = n.index }) m.is; well = λ w. n.well (m.well w) }
 
 -- what a flow before becomes, but for its due time
 pub record Becomes (f g : FlowRow) : Type 0 where
@@ -504,7 +584,7 @@ fill_is_well t span s w later le =
             last = to.last_sent ∙ old.last;
             after = subst (λ n. n ≤ r.sent) (sym to.first) old.after;
             before = subst (λ n. r.sent ≤ n) (sym to.last) old.before;
-            asks = ap is_ugs to.kind ∙ old.asks;
+            asks = ap takes_no_requests to.kind ∙ old.asks;
           };
       alone = λ sid.
           let left = filter_both (is_of sid) waits_on (filter waits t.waiting) in

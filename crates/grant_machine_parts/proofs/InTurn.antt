@@ -8,10 +8,10 @@ use Rattle.flow_state.specs.declared.channel.Channel.{Channel}
 use Rattle.flow_state.specs.declared.flow.Waiting.{Waiting}
 use Rattle.flow_state.specs.Rows.{Table, is_of, last_of}
 use Rattle.grant_machine_parts.specs.Placing.{Placement, is_window, free_minislots, first_fit}
-use Rattle.grant_machine_parts.specs.Cutting.{CutSettings, Periodic, Passed, placement_at, placement_for, pass, grants_of_flow, polls_of_flow, end_of, in_order, is_grant_of, request_fit, place_requests, fill_span}
+use Rattle.grant_machine_parts.specs.Cutting.{CutSettings, Periodic, placement_at, placement_for, fill_windows, end_of, in_order, is_grant_of, request_fit, place_requests, fill_span}
 use Rattle.flow_state.proofs.Callers.{Has, IsWell, any_has, eqb_same, filter_append, filter_empty, filter_has, has_any, has_either, has_left, has_pushed, has_right}
 use Rattle.grant_machine_parts.proofs.Counted.{fit_room}
-use Rattle.grant_machine_parts.proofs.Fillings.{fit_tells, pass_keeps}
+use Rattle.grant_machine_parts.proofs.Fillings.{fit_tells, windows_keep}
 use Rattle.grant_machine_parts.proofs.Orders.{in_order_fewer}
 
 -- ---- requests in two parts
@@ -65,16 +65,10 @@ module _ (t : Table) (span : Extent) (s : CutSettings) (before behind : List Wai
   ]
 
   abbrev windows : List Placement
-  windows =
-      let first : Passed = pass span (grants_of_flow t.row.channel) t.flows [] in
-      (pass span (polls_of_flow t.row.channel) first.flows first.placements).placements
+  windows = (fill_windows t span).placements
 
   windows_due : AreDue windows
-  windows_due =
-      let c : Channel = t.row.channel in
-      let first : Passed = pass span (grants_of_flow c) t.flows [] in
-      let granted : AreDue first.placements = pass_keeps AreDue span (grants_of_flow c) t.flows (λ f h p e ps j x k v. due_more p j x ps k) [] (λ p h. absurd h) in
-      pass_keeps AreDue span (polls_of_flow c) first.flows (λ f h p e ps j x k v. due_more p j x ps k) first.placements granted
+  windows_due = windows_keep AreDue t span (λ p ps j x k v. due_more p j x ps k) (λ p h. absurd h)
 
   -- a grant to one of the requests before is ahead, and one to another isn't
   grant_is : (c : Channel) (v : Waiting) (x : ℕ) → is_grant_of v (placement_for c v x) ≡ true

@@ -1,17 +1,19 @@
--- The grants of an unsolicited grant flow over a list of commands.
+-- The grants of a flow that is given minislots at due times, over a MAP.
 use Rattle.std.proofs.Common.{◌≡◌, ◌⊎◌, ℕ, ◌≤◌, Bool, true, false, cond, not, List, [], ◌∷◌, ◌++◌, filter, Option, Some, None, refl, sym, ap, subst, ◌∙◌, arith, eqb, inl, inr}
 use Rattle.std.specs.List.{AllZip, list_any}
 use Rattle.std.proofs.lemmas.Bool.{eqb-true}
 use Rattle.std.proofs.lemmas.List.{append-nil}
 use Rattle.minislot_time.specs.Extent.{Extent}
+use Rattle.map_body.specs.Iucs as iucs
 use Rattle.flow_state.specs.declared.channel.Channel.{Channel}
-use Rattle.flow_state.specs.declared.flow.FlowKind.TheVariants.{Ugs}
+use Rattle.flow_state.specs.declared.flow.FlowKind.{FlowKind}
+use Rattle.flow_state.specs.declared.flow.FlowKind.TheVariants.{Ugs, Station, Initial}
 use Rattle.flow_state.specs.declared.flow.Waiting.{Waiting}
 use Rattle.flow_state.specs.Rows.{Table, FlowRow, is_flow, is_of, last_of, is_ended, has_ended}
 use Rattle.grant_machine_parts.specs.Placing.{Placement}
-use Rattle.grant_machine_parts.specs.Cutting.{Periodic, end_of, Ran, run_due_times, run_flow, due_before, Passed, pass, grants_of_flow, polls_of_flow, grants_of_kind, polls_of_kind, request_fit, place_requests, placement_for, in_order, CutSettings, Filled, fill_span, still_waiting, requests_left, is_grant_of, table_after, unsolicited_iuc}
+use Rattle.grant_machine_parts.specs.Cutting.{Periodic, end_of, Ran, run_due_times, run_flow, due_before, Passed, pass, grants_of_flow, polls_of_flow, maintenance_of_flow, grants_of_kind, polls_of_kind, maintenance_of_kind, fill_grants, fill_polls, fill_windows, request_fit, place_requests, placement_for, in_order, CutSettings, Filled, fill_span, still_waiting, requests_left, is_grant_of, table_after, unsolicited_iuc}
 use Rattle.flow_state.proofs.Callers.{Has, has_filter, filter_append, filter_sub, filter_swap, eqb_same}
-use Rattle.grant_machine_parts.proofs.Fillings.{grants_of, polls_of}
+use Rattle.grant_machine_parts.proofs.Fillings.{grants_of, polls_of, maintenance_of}
 use Rattle.grant_machine_parts.proofs.Orders.{passing_in_order}
 use Rattle.grant_machine_parts.proofs.Windows.{InWindow, Rising, rising_later, run_adds}
 
@@ -170,13 +172,18 @@ in_order_none t sid ws none = passing_in_order t (is_of sid) ws ∙ ap (in_order
 
 -- ---- one MAP
 
+-- a kind of flow that is given so many minislots at each due time: unsolicited grants, or intervals of maintenance
+abbrev pub IsSized : FlowKind → (size interval jitter base : ℕ) → Type 0
+IsSized kind size interval jitter base =
+    (kind ≡ Ugs size interval jitter base) ⊎ (kind ≡ Station size interval jitter base) ⊎ (kind ≡ Initial size interval jitter base)
+
 -- the table serves the flow from due time number n on, or has dropped it
-pub record Serving (t : Table) (sid size interval jitter base n : ℕ) : Type 0 where
-  pub flows : (filter (is_flow sid) t.flows ≡ []) ⊎ ((f : FlowRow) × (filter (is_flow sid) t.flows ≡ f ∷ []) × (f.kind ≡ Ugs size interval jitter base) × (n ≤ f.index))
+pub record Serving (t : Table) (sid : ℕ) (kind : FlowKind) (n : ℕ) : Type 0 where
+  pub flows : (filter (is_flow sid) t.flows ≡ []) ⊎ ((f : FlowRow) × (filter (is_flow sid) t.flows ≡ f ∷ []) × (f.kind ≡ kind) × (n ≤ f.index))
   pub waiting : filter (is_of sid) t.waiting ≡ []
 
 -- what a filled MAP has for the SID, and what it leaves
-pub record FilledFor (t : Table) (f : Filled) (sid size interval jitter base n : ℕ) : Type 0 where
+pub record FilledFor (t : Table) (f : Filled) (sid : ℕ) (kind : FlowKind) (size interval jitter base n : ℕ) : Type 0 where
   pub next : ℕ
   pub more : List Placement
   pub numbers : List ℕ
@@ -185,61 +192,131 @@ pub record FilledFor (t : Table) (f : Filled) (sid size interval jitter base n :
   pub own : filter (is_to sid) f.placements ≡ more
   pub each : AllZip (InWindow f.span (record { sid = sid; iuc = iuc; size = size; interval = interval; jitter = jitter; base = base; last = last })) more numbers
   pub rising : Rising n numbers next
-  pub after : Serving (table_after t f) sid size interval jitter base next
+  pub after : Serving (table_after t f) sid kind next
 
 -- of one that passes a test, one or none passes another test too
 pub filter_one : {X : Type 0} (p q : X → Bool) (xs : List X) (x : X) → filter p xs ≡ x ∷ [] → (filter p (filter q xs) ≡ []) ⊎ (filter p (filter q xs) ≡ x ∷ [])
 filter_one {X} p q xs x e = rw (filter_swap p q xs, e) (elim (q x) as (λ b. (cond b (x ∷ []) [] ≡ []) ⊎ (cond b (x ∷ []) [] ≡ x ∷ [])) [ true ↦ inr refl | false ↦ inl refl ])
 
-pub fills_for : (t : Table) (span : Extent) (s : CutSettings) (sid size interval jitter base n : ℕ) → Serving t sid size interval jitter base n → FilledFor t (fill_span t span s) sid size interval jitter base n
-fills_for t span s sid size interval jitter base n serving =
+module _ (t : Table) (span : Extent) (sid : ℕ) where
+  abbrev first : Passed
+  first = fill_grants t span
+
+  abbrev second : Passed
+  second = fill_polls t span first
+
+  abbrev third : Passed
+  third = fill_windows t span
+
+  grants_keep : KeepsSid (grants_of_flow t.row.channel)
+  grants_keep f p e = (grants_of t.row.channel f p e).sid
+
+  polls_keep : KeepsSid (polls_of_flow t.row.channel)
+  polls_keep f p e = (polls_of t.row.channel f p e).sid
+
+  maintenance_keep : KeepsSid (maintenance_of_flow t.row.channel)
+  maintenance_keep f p e = (maintenance_of t.row.channel f p e).sid
+
+  -- no flow of the SID
+  windows_none : filter (is_flow sid) t.flows ≡ [] → (filter (is_flow sid) third.flows ≡ []) × (filter (is_to sid) third.placements ≡ [])
+  windows_none none =
+      let c : Channel = t.row.channel in
+      let granted = pass_none span (grants_of_flow c) sid t.flows [] grants_keep none in
+      let polled = pass_none span (polls_of_flow c) sid first.flows first.placements polls_keep granted.0 in
+      let kept = pass_none span (maintenance_of_flow c) sid second.flows second.placements maintenance_keep polled.0 in
+      (kept.0, kept.1 ∙ polled.1 ∙ granted.1)
+
+  -- behind a pass that serves the flow, one that asks nothing of it
+  idle_after : (what : FlowRow → Option Periodic) (p : Periodic) (f : FlowRow) (after : Passed) → KeepsSid what → (s : Served span sid p f [] after) → what (record f { index = s.index }) ≡ None
+      → Served span sid p f [] (pass span what after.flows after.placements)
+  idle_after what p f after keeps s none =
+      let idle = pass_idle span what sid (record f { index = s.index }) after.flows after.placements keeps none s.flow in
+      record { index = s.index; more = s.more; numbers = s.numbers; flow = idle.0; added = idle.1 ∙ s.added; each = s.each; rising = s.rising }
+
+  -- the one flow of the SID, which is unsolicited grants'
+  grants_own : (f : FlowRow) (size interval jitter base : ℕ) → f.sid ≡ sid → f.kind ≡ Ugs size interval jitter base → filter (is_flow sid) t.flows ≡ f ∷ []
+      → Served span sid (record { sid = sid; iuc = unsolicited_iuc t.row.channel size; size = size; interval = interval; jitter = jitter; base = base; last = f.last }) f [] third
+  grants_own f size interval jitter base here kind one =
+      let c : Channel = t.row.channel in
+      let asks = ap (grants_of_kind c f.sid f.last) kind ∙ ap (λ (m : ℕ). grants_of_kind c m f.last (Ugs size interval jitter base)) here in
+      let served = pass_own span (grants_of_flow c) sid _ f t.flows [] grants_keep asks refl one in
+      idle_after (maintenance_of_flow c) _ f second maintenance_keep (idle_after (polls_of_flow c) _ f first polls_keep served (ap (polls_of_kind c f.sid f.last) kind)) (ap (maintenance_of_kind c f.sid f.last) kind)
+
+  -- or maintenance's
+  maintenance_own : (f : FlowRow) (p : Periodic) → f.sid ≡ sid → grants_of_flow t.row.channel f ≡ None → polls_of_flow t.row.channel f ≡ None → maintenance_of_flow t.row.channel f ≡ Some p → p.sid ≡ sid
+      → filter (is_flow sid) t.flows ≡ f ∷ [] → Served span sid p f [] third
+  maintenance_own f p here no_grants no_polls asks to one =
+      let c : Channel = t.row.channel in
+      let granted = pass_idle span (grants_of_flow c) sid f t.flows [] grants_keep no_grants one in
+      let polled = pass_idle span (polls_of_flow c) sid f first.flows first.placements polls_keep no_polls granted.0 in
+      let served = pass_own span (maintenance_of_flow c) sid p f second.flows second.placements maintenance_keep asks to polled.0 in
+      record {
+        index = served.index;
+        more = served.more;
+        numbers = served.numbers;
+        flow = served.flow;
+        added = served.added ∙ ap (λ (qs : List Placement). qs ++ served.more) (polled.1 ∙ granted.1);
+        each = served.each;
+        rising = served.rising;
+      }
+
+  -- over all that comes by itself
+  windows_own : (f : FlowRow) (kind : FlowKind) (size interval jitter base : ℕ) → IsSized kind size interval jitter base → f.sid ≡ sid → f.kind ≡ kind → filter (is_flow sid) t.flows ≡ f ∷ []
+      → (iuc : ℕ) × Served span sid (record { sid = sid; iuc = iuc; size = size; interval = interval; jitter = jitter; base = base; last = f.last }) f [] third
+  windows_own f kind size interval jitter base sized here is one =
+      let c : Channel = t.row.channel in
+      elim sized [
+        | inl ugs ↦ (unsolicited_iuc c size, grants_own f size interval jitter base here (is ∙ ugs) one)
+        | inr (inl station) ↦
+            let asks = ap (maintenance_of_kind c f.sid f.last) (is ∙ station) ∙ ap (λ (m : ℕ). maintenance_of_kind c m f.last (Station size interval jitter base)) here in
+            (iucs.station_maintenance, maintenance_own f _ here (ap (grants_of_kind c f.sid f.last) (is ∙ station)) (ap (polls_of_kind c f.sid f.last) (is ∙ station)) asks refl one)
+        | inr (inr initial) ↦
+            let asks = ap (maintenance_of_kind c f.sid f.last) (is ∙ initial) ∙ ap (λ (m : ℕ). maintenance_of_kind c m f.last (Initial size interval jitter base)) here in
+            (iucs.initial_maintenance, maintenance_own f _ here (ap (grants_of_kind c f.sid f.last) (is ∙ initial)) (ap (polls_of_kind c f.sid f.last) (is ∙ initial)) asks refl one)
+      ]
+
+pub fills_for : (t : Table) (span : Extent) (s : CutSettings) (sid : ℕ) (kind : FlowKind) (size interval jitter base n : ℕ) → IsSized kind size interval jitter base → Serving t sid kind n
+    → FilledFor t (fill_span t span s) sid kind size interval jitter base n
+fills_for t span s sid kind size interval jitter base n sized serving =
     let c : Channel = t.row.channel in
-    let first : Passed = pass span (grants_of_flow c) t.flows [] in
-    let second : Passed = pass span (polls_of_flow c) first.flows first.placements in
-    let grants : KeepsSid (grants_of_flow c) = λ f p e. (grants_of c f p e).sid in
-    let polls : KeepsSid (polls_of_flow c) = λ f p e. (polls_of c f p e).sid in
+    let after : Passed = fill_windows t span in
     let goes_on : FlowRow → Bool = λ f. not (is_ended (end_of span) f) in
-    let ps : List Placement = place_requests span c s.keep (last_of t) (in_order t t.waiting) second.placements in
-    let asked : filter (is_to sid) ps ≡ filter (is_to sid) second.placements = requests_none span c s.keep (last_of t) sid (in_order t t.waiting) second.placements (in_order_none t sid t.waiting serving.waiting) in
+    let ps : List Placement = place_requests span c s.keep (last_of t) (in_order t t.waiting) after.placements in
+    let asked : filter (is_to sid) ps ≡ filter (is_to sid) after.placements = requests_none span c s.keep (last_of t) sid (in_order t t.waiting) after.placements (in_order_none t sid t.waiting serving.waiting) in
     let waits : filter (is_of sid) (requests_left t span (still_waiting ps t.waiting)) ≡ [] = filter_sub (is_of sid) (λ w. not (has_ended t (end_of span) w)) (still_waiting ps t.waiting)
     (filter_sub (is_of sid) (λ w. not (list_any (is_grant_of w) ps)) t.waiting serving.waiting) in
     elim serving.flows [
       | inl none ↦
-          let granted = pass_none span (grants_of_flow c) sid t.flows [] grants none in
-          let polled = pass_none span (polls_of_flow c) sid first.flows first.placements polls granted.0 in
+          let gone = windows_none t span sid none in
           record {
             next = n;
             more = [];
             numbers = [];
             iuc = 0;
             last = 0;
-            own = asked ∙ polled.1 ∙ granted.1;
+            own = asked ∙ gone.1;
             each = tt;
             rising = omega arith;
-            after = record { flows = inl (filter_sub (is_flow sid) goes_on second.flows polled.0); waiting = waits };
+            after = record { flows = inl (filter_sub (is_flow sid) goes_on after.flows gone.0); waiting = waits };
           }
       | inr one ↦
           let f : FlowRow = one.0 in
           let here : f.sid ≡ sid = eqb-true _ _ (has_filter (is_flow sid) t.flows f (subst (λ (fs : List FlowRow). Has fs f) (sym one.1) (inl refl))).1 in
-          let iuc : ℕ = unsolicited_iuc c size in
-          let asks : grants_of_flow c f ≡ Some (record { sid = sid; iuc = iuc; size = size; interval = interval; jitter = jitter; base = base; last = f.last }) =
-          ap (grants_of_kind c f.sid f.last) one.2 ∙ ap (λ (m : ℕ). grants_of_kind c m f.last (Ugs size interval jitter base)) here in
-          let served = pass_own span (grants_of_flow c) sid _ f t.flows [] grants asks refl one.1 in
+          let own = windows_own t span sid f kind size interval jitter base sized here one.2 one.1 in
+          let served = own.1 in
           let g : FlowRow = record f { index = served.index } in
-          let idle : polls_of_flow c g ≡ None = ap (polls_of_kind c f.sid f.last) one.2 in
-          let polled = pass_idle span (polls_of_flow c) sid g first.flows first.placements polls idle served.flow in
           record {
             next = served.index;
             more = served.more;
             numbers = served.numbers;
-            iuc = iuc;
+            iuc = own.0;
             last = f.last;
-            own = asked ∙ polled.1 ∙ served.added;
+            own = asked ∙ served.added;
             each = served.each;
             rising = rising_later n f.index served.numbers served.index one.3 served.rising;
             after = record {
-              flows = elim (filter_one (is_flow sid) goes_on second.flows g polled.0) [
-                | inl gone ↦ inl gone
+              flows = elim (filter_one (is_flow sid) goes_on after.flows g served.flow) [
+                | inl left ↦ inl left
                 | inr stays ↦ inr (g, stays, one.2, omega arith)
               ];
               waiting = waits;

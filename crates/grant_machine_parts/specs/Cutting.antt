@@ -1,5 +1,5 @@
--- How a MAP is filled: unsolicited grants, polls, then requests (CM-SP-MULPIv3.1, upstream scheduling services; this
--- profile's order).
+-- How a MAP is filled: unsolicited grants, polls, intervals of maintenance, then requests (CM-SP-MULPIv3.1, upstream
+-- scheduling services, and Ranging; this profile's order).
 use Rattle.std.specs.Prelude.{ℕ, zero, suc, ◌+◌, ◌-◌, ◌*◌, ◌/◌, ◌==◌, Bool, false, not, ◌&&◌, ◌||◌, nat_lt, nat_le, if◌then◌else◌, min, max, List, [], ◌∷◌, ◌++◌, Option, Some, None}
 use Rattle.std.specs.List.{filter, list_any, flat_map}
 use Rattle.minislot_time.specs.Extent.{Extent}
@@ -9,7 +9,7 @@ use Rattle.flow_state.specs.declared.channel.ChannelRow.{ChannelRow}
 use Rattle.flow_state.specs.declared.channel.Phy.{Phy}
 use Rattle.flow_state.specs.declared.channel.Phy.TheVariants.{Tdma, Advanced}
 use Rattle.flow_state.specs.declared.flow.FlowKind.{FlowKind}
-use Rattle.flow_state.specs.declared.flow.FlowKind.TheVariants.{BestEffort, Ugs, Poll}
+use Rattle.flow_state.specs.declared.flow.FlowKind.TheVariants.{BestEffort, Ugs, Poll, Station, Initial}
 use Rattle.flow_state.specs.declared.flow.Waiting.{Waiting}
 use Rattle.flow_state.specs.declared.refusal.Refusal.{Refusal}
 use Rattle.flow_state.specs.declared.refusal.Refusal.TheVariants.{BadValue}
@@ -48,18 +48,35 @@ abbrev pub grants_of_kind : Channel → (sid last : ℕ) → FlowKind → Option
 grants_of_kind c sid last (BestEffort priority) = None
 grants_of_kind c sid last (Ugs size interval jitter base) = Some (record { sid = sid; iuc = unsolicited_iuc c size; size = size; interval = interval; jitter = jitter; base = base; last = last })
 grants_of_kind c sid last (Poll interval jitter base) = None
+grants_of_kind c sid last (Station size interval jitter base) = None
+grants_of_kind c sid last (Initial size interval jitter base) = None
 
 -- the polls of a flow, if it has any: one minislot each
 abbrev pub polls_of_kind : Channel → (sid last : ℕ) → FlowKind → Option Periodic
 polls_of_kind c sid last (BestEffort priority) = None
 polls_of_kind c sid last (Ugs size interval jitter base) = None
 polls_of_kind c sid last (Poll interval jitter base) = Some (record { sid = sid; iuc = poll_iuc; size = 1; interval = interval; jitter = jitter; base = base; last = last })
+polls_of_kind c sid last (Station size interval jitter base) = None
+polls_of_kind c sid last (Initial size interval jitter base) = None
+
+-- the intervals of station maintenance of a flow, or of initial maintenance, if it has any
+abbrev pub maintenance_of_kind : Channel → (sid last : ℕ) → FlowKind → Option Periodic
+maintenance_of_kind c sid last (BestEffort priority) = None
+maintenance_of_kind c sid last (Ugs size interval jitter base) = None
+maintenance_of_kind c sid last (Poll interval jitter base) = None
+maintenance_of_kind c sid last (Station size interval jitter base) =
+    Some (record { sid = sid; iuc = iucs.station_maintenance; size = size; interval = interval; jitter = jitter; base = base; last = last })
+maintenance_of_kind c sid last (Initial size interval jitter base) =
+    Some (record { sid = sid; iuc = iucs.initial_maintenance; size = size; interval = interval; jitter = jitter; base = base; last = last })
 
 abbrev pub grants_of_flow : Channel → FlowRow → Option Periodic
 grants_of_flow c f = grants_of_kind c f.sid f.last f.kind
 
 abbrev pub polls_of_flow : Channel → FlowRow → Option Periodic
 polls_of_flow c f = polls_of_kind c f.sid f.last f.kind
+
+abbrev pub maintenance_of_flow : Channel → FlowRow → Option Periodic
+maintenance_of_flow c f = maintenance_of_kind c f.sid f.last f.kind
 
 abbrev pub due_at : Periodic → ℕ → ℕ
 due_at p i = p.base + i * p.interval
@@ -132,6 +149,8 @@ abbrev pub kind_priority : FlowKind → ℕ
 kind_priority (BestEffort priority) = priority
 kind_priority (Ugs size interval jitter base) = 0
 kind_priority (Poll interval jitter base) = 7
+kind_priority (Station size interval jitter base) = 0
+kind_priority (Initial size interval jitter base) = 0
 
 abbrev pub flow_priority : Option FlowRow → ℕ
 flow_priority (Some f) = kind_priority f.kind
@@ -237,15 +256,25 @@ fill_requests t span s passed =
       waiting = requests_left t span (still_waiting ps t.waiting);
     }
 
+abbrev pub fill_grants : Table → Extent → Passed
+fill_grants t span = pass span (grants_of_flow t.row.channel) t.flows []
+
 abbrev pub fill_polls : Table → Extent → Passed → Passed
 fill_polls t span granted = pass span (polls_of_flow t.row.channel) granted.flows granted.placements
 
+abbrev pub fill_maintenance : Table → Extent → Passed → Passed
+fill_maintenance t span polled = pass span (maintenance_of_flow t.row.channel) polled.flows polled.placements
+
+-- what comes by itself: unsolicited grants, then polls, then intervals of station and initial maintenance together
+abbrev pub fill_windows : Table → Extent → Passed
+fill_windows t span = fill_maintenance t span (fill_polls t span (fill_grants t span))
+
 -- the flows of a table with their next due times, those whose leases end with the MAP too
 abbrev pub flows_served : Table → Extent → List FlowRow
-flows_served t span = (fill_polls t span (pass span (grants_of_flow t.row.channel) t.flows [])).flows
+flows_served t span = (fill_windows t span).flows
 
 abbrev pub fill_span : Table → Extent → CutSettings → Filled
-fill_span t span s = fill_requests t span s (fill_polls t span (pass span (grants_of_flow t.row.channel) t.flows []))
+fill_span t span s = fill_requests t span s (fill_windows t span)
 
 abbrev pub fill : Table → CutSettings → Filled
 fill t s = fill_span t (span_of t.row s.len s.not_before) s

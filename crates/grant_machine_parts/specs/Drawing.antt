@@ -14,10 +14,15 @@ use Rattle.flow_state.specs.Rows.{Table}
 use Rattle.grant_machine_parts.specs.Placing.{Placement, holder}
 use Rattle.grant_machine_parts.specs.Cutting.{Filled, grant_iuc, in_order}
 
+-- the SID that a MAP tells of minislots of this use that are given to a SID: initial maintenance is everybody's
+-- (CM-SP-MULPIv3.1, MAP message: Initial Maintenance)
+abbrev pub told_sid : (sid iuc : ℕ) → ℕ
+told_sid sid iuc = if iuc == iucs.initial_maintenance then everybody else sid
+
 -- the element of a placement; of free minislots, which all modems may use for requests; of the end; of a request that
 -- waits
 abbrev pub placed_element : Placement → Element
-placed_element p = record { sid = p.sid; iuc = p.iuc; offset = p.offset }
+placed_element p = record { sid = told_sid p.sid p.iuc; iuc = p.iuc; offset = p.offset }
 
 abbrev pub free_element : ℕ → Element
 free_element x = record { sid = everybody; iuc = iucs.request; offset = x }

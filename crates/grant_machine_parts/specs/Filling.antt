@@ -54,9 +54,13 @@ abbrev pub IsUnsolicitedUse : Phy → ℕ → Type 0
 IsUnsolicitedUse Tdma iuc = IsRequestedUse Tdma iuc
 IsUnsolicitedUse Advanced iuc = iuc ≡ iucs.advanced_unsolicited_grant
 
--- the use of what comes at a due time: a poll's, or an unsolicited grant's
+-- the use of an interval of maintenance, on each kind of channel: station's, or initial
+abbrev pub IsMaintenanceUse : ℕ → Type 0
+IsMaintenanceUse iuc = (iuc ≡ iucs.station_maintenance) ⊎ (iuc ≡ iucs.initial_maintenance)
+
+-- the use of what comes at a due time: a poll's, an interval of maintenance's, or an unsolicited grant's
 abbrev pub IsDueUse : Phy → ℕ → Type 0
-IsDueUse phy iuc = (iuc ≡ iucs.request) ⊎ IsUnsolicitedUse phy iuc
+IsDueUse phy iuc = (iuc ≡ iucs.request) ⊎ IsMaintenanceUse iuc ⊎ IsUnsolicitedUse phy iuc
 
 -- the use of what serves this, on a channel of this kind
 abbrev pub IsUseFor : Phy → Cause → ℕ → Type 0

@@ -8,7 +8,7 @@ ghost use Rattle.grant_machine_parts.specs.Placing.{holds, holder, is_free};
 ghost use Rattle.grant_machine_parts.specs.Gaps.{AreGaps};
 ghost use Rattle.grant_machine_parts.specs.Filling.{AreApart};
 ghost use Rattle.grant_machine_parts.specs.Cutting.{still_waiting};
-ghost use Rattle.grant_machine_parts.specs.Drawing.{placed_element, free_element, null_element, pending_element, begins_at, head_of};
+ghost use Rattle.grant_machine_parts.specs.Drawing.{told_sid, placed_element, free_element, null_element, pending_element, begins_at, head_of};
 ghost use Rattle.grant_machine_parts.specs.Lent.{IsUnicast};
 ghost use Rattle.grant_machine_parts.specs.Ranks.{requests_in, going_on};
 ghost use Rattle.grant_machine_parts.specs.Cutting.{end_of};
@@ -58,6 +58,17 @@ fn holder_near(placements: &[Placement], is_apart: bool, number: usize, x: u16) 
     holder(placements, x)
 }
 
+/// The SID that a MAP tells of minislots of this use that are given to a SID: initial maintenance is everybody's.
+fn told_sid(sid: Sid, iuc: Iuc) -> Sid
+    ensures { result ≡ told_sid sid iuc }
+{
+    if iuc == Iuc::INITIAL_MAINTENANCE {
+        Sid::EVERYBODY
+    } else {
+        sid
+    }
+}
+
 /// Adds the element of a placement, where it begins at this offset.
 fn put_placement(
     elements: &mut Vec<Element>,
@@ -68,7 +79,7 @@ fn put_placement(
 {
     if placement.offset.get() == x {
         elements.push(Element {
-            sid: placement.sid,
+            sid: told_sid(placement.sid, placement.iuc),
             iuc: placement.iuc,
             offset: placement.offset,
         })?;

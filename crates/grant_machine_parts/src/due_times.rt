@@ -1,4 +1,4 @@
-//! Grants and polls that come by themselves, each in its window.
+//! Grants, polls and ranging intervals that come by themselves, each in its window.
 
 ghost use Rattle.std.specs.Prelude.{◌≡◌, ℕ, ◌+◌, ◌^◌, ◌<◌, ◌≤◌, length, IfOk, OnOk, Some};
 ghost use Rattle.grant_machine_parts.specs.Placing.{most_placements};

@@ -7,7 +7,7 @@ ghost use Rattle.flow_state.specs.Limits.{due_time, due_index};
 ghost use Rattle.flow_state.specs.View.{flow_view};
 ghost use Rattle.grant_machine_parts.specs.Cutting.{grant_iuc, unsolicited_iuc, run_flow, pass};
 ghost use Rattle.grant_machine_parts.specs.Filling.{last_due};
-ghost use Rattle.grant_machine_parts.specs.Lent.{IsLent, given, given_to};
+ghost use Rattle.grant_machine_parts.specs.Lent.{IsLent, given, given_to, use_given, schedule_of};
 
 use crate::due_times::Periodic;
 use crate::placing::Filling;
@@ -21,6 +21,8 @@ pub enum Service {
     /// Unsolicited grants.
     Grants,
     Polls,
+    /// Intervals of station maintenance and of initial maintenance.
+    Maintenance,
 }
 
 /// The use of a grant of n minislots to a request, and of a request for n that waits.
@@ -48,49 +50,74 @@ fn unsolicited_iuc(channel: &Channel, n: u16) -> Iuc
     }
 }
 
+/// The use of what a service gives flows of a kind, if anything.
+fn use_given(service: Service, channel: &Channel, kind: FlowKind) -> Option<Iuc>
+    ensures same { result ≡ use_given service channel.now kind }
+    ensures used { IfSome result (λ iuc. iuc < iucs.expansion) }
+{
+    match (service, kind) {
+        (Service::Grants, FlowKind::Ugs { size, .. }) => Some(unsolicited_iuc(channel, size)),
+        (Service::Polls, FlowKind::Poll { .. }) => Some(Iuc::REQUEST),
+        (Service::Maintenance, FlowKind::Station { .. }) => Some(Iuc::STATION_MAINTENANCE),
+        (Service::Maintenance, FlowKind::Initial { .. }) => Some(Iuc::INITIAL_MAINTENANCE),
+        _ => None,
+    }
+}
+
+/// How many minislots are due at a time for flows of a kind, the interval of due times, the jitter and the base, where
+/// something comes by itself.
+fn schedule_of(kind: FlowKind) -> Option<(u16, u32, u32, u64)>
+    ensures { result ≡ schedule_of kind }
+{
+    match kind {
+        FlowKind::BestEffort(_) => None,
+        FlowKind::Poll {
+            interval,
+            jitter,
+            base,
+        } => Some((1, interval, jitter, base)),
+        FlowKind::Ugs {
+            size,
+            interval,
+            jitter,
+            base,
+        }
+        | FlowKind::Station {
+            size,
+            interval,
+            jitter,
+            base,
+        }
+        | FlowKind::Initial {
+            size,
+            interval,
+            jitter,
+            base,
+        } => Some((size, interval, jitter, base)),
+    }
+}
+
 /// What a service gives a flow, if anything.
 fn periodic_of(service: Service, channel: &Channel, flow: &Flow) -> Option<Periodic>
     requires { IsLent flow.now }
     ensures same { result ≡ given service channel.now flow.now.lease.sid flow.now.lease.last flow.now.kind }
     ensures used { IfSome result (λ p. p.iuc < iucs.expansion) }
 {
-    let sid = Sid::new(flow.lease.sid).unwrap();
-    match (service, flow.kind) {
-        (
-            Service::Grants,
-            FlowKind::Ugs {
-                size,
-                interval,
-                jitter,
-                base,
-            },
-        ) => Some(Periodic {
-            sid,
-            iuc: unsolicited_iuc(channel, size),
-            size,
-            interval,
-            jitter,
-            base,
-            last: flow.lease.last,
-        }),
-        (
-            Service::Polls,
-            FlowKind::Poll {
-                interval,
-                jitter,
-                base,
-            },
-        ) => Some(Periodic {
-            sid,
-            iuc: Iuc::REQUEST,
-            size: 1,
-            interval,
-            jitter,
-            base,
-            last: flow.lease.last,
-        }),
-        _ => None,
-    }
+    let Some(iuc) = use_given(service, channel, flow.kind) else {
+        return None;
+    };
+    let Some((size, interval, jitter, base)) = schedule_of(flow.kind) else {
+        return None;
+    };
+    Some(Periodic {
+        sid: Sid::new(flow.lease.sid).unwrap(),
+        iuc,
+        size,
+        interval,
+        jitter,
+        base,
+        last: flow.lease.last,
+    })
 }
 
 /// Places what a service gives a flow before the MAP's end. The flow's next due time.

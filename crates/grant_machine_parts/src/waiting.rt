@@ -29,7 +29,7 @@ pub fn kind_priority(kind: FlowKind) -> u8
 {
     match kind {
         FlowKind::BestEffort(priority) => priority,
-        FlowKind::Ugs { .. } => 0,
+        FlowKind::Ugs { .. } | FlowKind::Station { .. } | FlowKind::Initial { .. } => 0,
         FlowKind::Poll { .. } => 7,
     }
 }

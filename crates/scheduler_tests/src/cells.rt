@@ -17,10 +17,40 @@ const OWN: (u8, u8) = (255, 255);
 /// The largest short grant.
 const SHORT_MAX: u16 = 16;
 
-/// What comes at each due time of a flow: so many minislots, or a poll.
+/// What comes at a due time of a flow, of so many minislots.
+#[derive(Clone, Copy)]
+enum Gives {
+    Grant(u16),
+    Poll,
+    Station(u16),
+    Initial(u16),
+}
+
+impl Gives {
+    /// How many flows' kinds are served before it in a cut.
+    fn turn(self) -> u8 {
+        match self {
+            Gives::Grant(_) => 0,
+            Gives::Poll => 1,
+            Gives::Station(_) | Gives::Initial(_) => 2,
+        }
+    }
+
+    /// Its size, and the SID and the IUC that a MAP tells of it.
+    fn told(self, sid: u16) -> (u16, (u16, u8)) {
+        match self {
+            Gives::Grant(size) => (size, (sid, grant_iuc(size))),
+            Gives::Poll => (1, (sid, 1)),
+            Gives::Station(size) => (size, (sid, 4)),
+            Gives::Initial(size) => (size, (0x3FFF, 3)),
+        }
+    }
+}
+
+/// What comes at each due time of a flow.
 #[derive(Clone, Copy)]
 struct Due {
-    size: Option<u16>,
+    gives: Gives,
     interval: u32,
     jitter: u32,
     base: u64,
@@ -81,9 +111,9 @@ impl Cells {
         self.cells.iter().filter(|held| **held == 0).count()
     }
 
-    /// So many cells from this one on are held.
-    fn place(&mut self, at: usize, size: u16, sid: u16, iuc: u8) -> Result<(), AllocError> {
-        self.placements.push((sid, iuc))?;
+    /// So many cells from this one on are held by what has this SID and IUC.
+    fn place(&mut self, at: usize, size: u16, told: (u16, u8)) -> Result<(), AllocError> {
+        self.placements.push(told)?;
         let number = self.placements.len();
         for cell in self.cells.iter_mut().skip(at).take(usize::from(size)) {
             *cell = number;
@@ -145,17 +175,14 @@ struct PlainRequest {
 
 /// Serves the due times of a SID before the MAP's end, one after another; what comes at the next one.
 fn serve(cells: &mut Cells, sid: u16, mut due: Due) -> Result<Due, AllocError> {
-    let (size, iuc) = match due.size {
-        Some(size) => (size, grant_iuc(size)),
-        None => (1, 1),
-    };
+    let (size, told) = due.gives.told(sid);
     for _ in 0..MOST_DUE {
         let last = due.base.saturating_add(u64::from(due.jitter));
         if due.base >= cells.end() {
             return Ok(due);
         }
         match cells.first_fit(size, due.base, last) {
-            Some(at) => cells.place(at, size, sid, iuc)?,
+            Some(at) => cells.place(at, size, told)?,
             None if last >= cells.end() => return Ok(due),
             None => {}
         }
@@ -195,11 +222,11 @@ impl Plain {
         Ok(())
     }
 
-    /// Serves the flows that are polled, or the others.
-    fn serve_all(&mut self, cells: &mut Cells, is_polled: bool) -> Result<(), AllocError> {
+    /// Serves the flows whose turn it is.
+    fn serve_all(&mut self, cells: &mut Cells, turn: u8) -> Result<(), AllocError> {
         for flow in &mut self.flows {
             if let Some(due) = flow.due {
-                if due.size.is_none() == is_polled {
+                if due.gives.turn() == turn {
                     flow.due = Some(serve(cells, flow.sid, due)?);
                 }
             }
@@ -213,7 +240,7 @@ impl Plain {
                 let kept = usize::from(request.n).saturating_add(usize::from(keep));
                 if request.waits && request.priority == priority && kept <= cells.free() {
                     if let Some(at) = cells.first_fit(request.n, 0, u64::MAX) {
-                        cells.place(at, request.n, request.sid, grant_iuc(request.n))?;
+                        cells.place(at, request.n, (request.sid, grant_iuc(request.n)))?;
                         request.waits = false;
                     }
                 }
@@ -241,8 +268,9 @@ impl Plain {
             cells: vec![in self.alloc; 0; usize::from(len)]?,
             placements: Vec::new(self.alloc),
         };
-        self.serve_all(&mut cells, false)?;
-        self.serve_all(&mut cells, true)?;
+        self.serve_all(&mut cells, 0)?;
+        self.serve_all(&mut cells, 1)?;
+        self.serve_all(&mut cells, 2)?;
         self.place_requests(&mut cells, keep)?;
         self.next_start = cells.end();
         let mut told = cells.elements(self.alloc)?;
@@ -278,17 +306,35 @@ impl Plain {
 }
 
 fn kind(due: Due) -> FlowKind {
-    match due.size {
-        Some(size) => FlowKind::Ugs {
+    let Due {
+        interval,
+        jitter,
+        base,
+        ..
+    } = due;
+    match due.gives {
+        Gives::Grant(size) => FlowKind::Ugs {
             size,
-            interval: due.interval,
-            jitter: due.jitter,
-            base: due.base,
+            interval,
+            jitter,
+            base,
         },
-        None => FlowKind::Poll {
-            interval: due.interval,
-            jitter: due.jitter,
-            base: due.base,
+        Gives::Poll => FlowKind::Poll {
+            interval,
+            jitter,
+            base,
+        },
+        Gives::Station(size) => FlowKind::Station {
+            size,
+            interval,
+            jitter,
+            base,
+        },
+        Gives::Initial(size) => FlowKind::Initial {
+            size,
+            interval,
+            jitter,
+            base,
         },
     }
 }
@@ -415,7 +461,7 @@ fn alike(alloc: Global, base: u64, steps: &[Step]) -> Result<(usize, usize), All
 }
 
 const FOUR: Due = Due {
-    size: Some(4),
+    gives: Gives::Grant(4),
     interval: 40,
     jitter: 8,
     base: 1000,
@@ -424,33 +470,49 @@ const FOUR: Due = Due {
 const WIDER: Due = Due { jitter: 12, ..FOUR };
 
 const EIGHT: Due = Due {
-    size: Some(8),
+    gives: Gives::Grant(8),
     interval: 40,
     jitter: 20,
     base: 1005,
 };
 
 const BY_TURNS: Due = Due {
-    size: Some(4),
+    gives: Gives::Grant(4),
     interval: 10,
     jitter: 4,
     base: 1000,
 };
 
 const POLLED: Due = Due {
-    size: None,
+    gives: Gives::Poll,
     interval: 12,
     jitter: 3,
     base: 1000,
 };
 
 const TWO: Due = Due {
-    size: Some(2),
+    gives: Gives::Grant(2),
     ..POLLED
 };
 
+/// A ranging opportunity, behind one that comes more often.
+const RANGING: Due = Due {
+    gives: Gives::Station(3),
+    interval: 15,
+    jitter: 6,
+    base: 1002,
+};
+
+/// An opening for everybody, which at times finds no room.
+const OPENING: Due = Due {
+    gives: Gives::Initial(9),
+    interval: 25,
+    jitter: 10,
+    base: 995,
+};
+
 /// Where the first MAP begins, what is done, and how many steps the machine refuses.
-const ROWS: [(u64, &[Step], usize); 11] = [
+const ROWS: [(u64, &[Step], usize); 14] = [
     (
         1000,
         &[
@@ -554,6 +616,55 @@ const ROWS: [(u64, &[Step], usize); 11] = [
         ],
         0,
     ),
+    (
+        1000,
+        &[
+            Step::Served(OPENING),
+            Step::Served(RANGING),
+            Step::Served(POLLED),
+            Step::Served(FOUR),
+            Step::Asking(0),
+            Step::Request(5, 30),
+            Step::Cut(80, 0),
+            Step::Cut(80, 0),
+            Step::Request(1, 1),
+            Step::Request(2, 1),
+        ],
+        2,
+    ),
+    (
+        1000,
+        &[
+            Step::Served(RANGING),
+            Step::Served(OPENING),
+            Step::Served(BY_TURNS),
+            Step::Cut(10, 0),
+            Step::Cut(10, 0),
+            Step::Cut(10, 0),
+            Step::Cut(10, 0),
+            Step::Cut(40, 1100),
+        ],
+        0,
+    ),
+    (
+        1000,
+        &[
+            Step::Served(RANGING),
+            Step::Asking(0),
+            Step::Request(2, 10),
+            Step::Set(20, 10, OWN, OWN),
+            Step::Set(20, 4, OWN, OWN),
+            Step::Served(Due {
+                gives: Gives::Station(0),
+                ..RANGING
+            }),
+            Step::Served(Due {
+                gives: Gives::Initial(256),
+                ..OPENING
+            }),
+        ],
+        2,
+    ),
 ];
 
 #[test]
@@ -573,7 +684,7 @@ fn maps_are_alike(rt: HostRuntime) -> Result<(), Fail> {
 fn crowd(alloc: Global) -> Result<Vec<Step>, AllocError> {
     let mut steps = Vec::new(alloc);
     steps.push(Step::Served(Due {
-        size: Some(1),
+        gives: Gives::Grant(1),
         interval: 64,
         jitter: 0,
         base: 1002,

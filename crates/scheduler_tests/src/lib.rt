@@ -1,6 +1,7 @@
-//! Tests of times, MAP bodies and commands as bytes, of a cut beside its first body, of cuts with settings, of modems,
-//! and of calls at their limits, by the public calls of `minislot_time`, `map_body`, `grant_machine`, `command_log` and
-//! `modem`. What plans print, and what modems of a script do, stands as data in examples/.
+//! Tests of times, MAP bodies and commands as bytes, of a cut beside its first body, of cuts with settings, of intervals
+//! for ranging, of modems, of calls at their limits, and of a scheduler over epochs, by the public calls of
+//! `minislot_time`, `map_body`, `grant_machine`, `command_log`, `epochs` and `modem`. What plans print, and what modems
+//! of a script do, stands as data in examples/.
 #![tactic(auto)]
 
 #[cfg(test)]
@@ -12,11 +13,15 @@ mod changes;
 #[cfg(test)]
 mod commands;
 #[cfg(test)]
+mod handed_out;
+#[cfg(test)]
 mod heard_cells;
 #[cfg(test)]
 mod kept;
 #[cfg(test)]
 mod limits;
+#[cfg(test)]
+mod maintenance;
 #[cfg(test)]
 mod modems;
 #[cfg(test)]

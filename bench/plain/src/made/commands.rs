@@ -1,6 +1,8 @@
 //! Commands, mostly good ones, which follow what a machine answered to those before.
 
-use crate::command::{command_bytes, read_command, Channel, Command, FlowKind, Phy};
+use crate::command::{
+    command_bytes, read_command, Channel, ChannelSettings, Command, CutSettings, FlowKind, Phy, OWN,
+};
 use crate::machine::{Machine, Output};
 use crate::random::Random;
 use crate::records::put_record;
@@ -29,6 +31,8 @@ struct Weights {
 
 pub struct CommandMaker {
     pub random: Random,
+    // Cuts have settings too, channels change, and flows are for ranging.
+    is_whole: bool,
     machine: Machine,
     weights: Weights,
     left: usize,
@@ -38,6 +42,33 @@ pub struct CommandMaker {
     now: [u64; 256],
     sids: [u16; 256],
     told: Vec<VecDeque<u16>>,
+    // By channel, what it was set to last.
+    settings: Vec<ChannelSettings>,
+}
+
+/// A back-off, mostly a good one.
+fn backoff(random: &mut Random) -> (u8, u8) {
+    let start = random.below(16) as u8;
+    (start, start.max(random.below(17) as u8))
+}
+
+/// The back-off of a cut: the channel's, one of its own, or none at all.
+fn told_backoff(random: &mut Random) -> (u8, u8) {
+    match random.below(20) {
+        0..=9 => OWN,
+        10 => (random.below(16) as u8, 255),
+        _ => backoff(random),
+    }
+}
+
+fn settings_of(channel: &Channel) -> ChannelSettings {
+    ChannelSettings {
+        ucd: channel.ucd,
+        phy: channel.phy,
+        short_max: channel.short_max,
+        ranging_backoff: channel.ranging_backoff,
+        data_backoff: channel.data_backoff,
+    }
 }
 
 fn base_of(random: &mut Random) -> u64 {
@@ -49,11 +80,22 @@ fn base_of(random: &mut Random) -> u64 {
 }
 
 impl CommandMaker {
-    pub fn new(seed: u64) -> CommandMaker {
+    /// Of commands of all kinds where it is whole, else of channels, flows on request, with unsolicited grants or
+    /// polled, drops, requests, and cuts without settings.
+    pub fn new(seed: u64, is_whole: bool) -> CommandMaker {
         let mut random = Random::new(seed);
         let weights = weights(&mut random);
+        let unset = ChannelSettings {
+            ucd: 0,
+            phy: Phy::Tdma,
+            short_max: 1,
+            ranging_backoff: (0, 0),
+            data_backoff: (0, 0),
+        };
         CommandMaker {
             random,
+            is_whole,
+            settings: vec![unset; 256],
             machine: Machine::new(),
             weights,
             left: STRETCH,
@@ -101,10 +143,6 @@ impl CommandMaker {
 
     fn made_channel(&mut self) -> Command {
         let random = &mut self.random;
-        let backoff = |random: &mut Random| {
-            let start = random.below(16) as u8;
-            (start, start.max(random.below(17) as u8))
-        };
         Command::Channel(Channel {
             id: if random.percent(70) {
                 random.below(4) as u8
@@ -120,6 +158,37 @@ impl CommandMaker {
         })
     }
 
+    /// Mostly a count that may come next, and the PHY and the size that go with it.
+    fn made_change(&mut self) -> Command {
+        let ch = self.channel_id();
+        let random = &mut self.random;
+        let before = self.settings[usize::from(ch)];
+        let other = ChannelSettings {
+            ucd: before.ucd.wrapping_add(1),
+            phy: random.one_of(&[Phy::Tdma, Phy::Advanced]),
+            short_max: random.below(40) as u16,
+            ranging_backoff: backoff(random),
+            data_backoff: backoff(random),
+        };
+        let settings = match random.below(10) {
+            0..=5 => other,
+            6 | 7 => ChannelSettings {
+                ranging_backoff: other.ranging_backoff,
+                data_backoff: other.data_backoff,
+                ..before
+            },
+            8 => ChannelSettings {
+                ucd: before.ucd,
+                ..other
+            },
+            _ => ChannelSettings {
+                ucd: random.below(256) as u8,
+                ..other
+            },
+        };
+        Command::Change { ch, settings }
+    }
+
     fn made_kind(&mut self, now: u64) -> FlowKind {
         let is_timed = self.random.percent(self.weights.timed_percent);
         let base = self.time_near(now, 3000);
@@ -133,6 +202,24 @@ impl CommandMaker {
             _ => random.between(5, 2000) as u32,
         };
         let jitter = random.below(u64::from(interval) + 1) as u32;
+        if self.is_whole && random.percent(40) {
+            let size = random.below(257) as u16;
+            let made = FlowKind::Station {
+                size,
+                interval,
+                jitter,
+                base,
+            };
+            return match random.percent(50) {
+                true => made,
+                false => FlowKind::Initial {
+                    size,
+                    interval,
+                    jitter,
+                    base,
+                },
+            };
+        }
         if random.percent(40) {
             return FlowKind::Poll {
                 interval,
@@ -197,6 +284,16 @@ impl CommandMaker {
         }
     }
 
+    fn made_settings(&mut self) -> CutSettings {
+        let random = &mut self.random;
+        let most = random.one_of(&[1, 30, self.weights.most_minislots, 4099]);
+        CutSettings {
+            keep: random.below(most) as u16,
+            ranging: told_backoff(random),
+            data: told_backoff(random),
+        }
+    }
+
     fn made_cut(&mut self) -> Command {
         let ch = self.channel_id();
         let now = self.now[usize::from(ch)];
@@ -205,8 +302,13 @@ impl CommandMaker {
             0 => self.time_near(now, 100),
             _ => 0,
         };
+        let set = match self.is_whole && self.random.percent(40) {
+            true => self.made_settings(),
+            false => CutSettings::NONE,
+        };
         Command::Cut {
             ch,
+            set,
             len: match self.random.below(100) {
                 0 => self.random.number() as u16,
                 1 => 4096,
@@ -226,6 +328,9 @@ impl CommandMaker {
         let chosen = self.random.below(total);
         if self.random.percent(1) {
             return self.made_channel();
+        }
+        if self.is_whole && self.random.percent(3) {
+            return self.made_change();
         }
         if chosen < weights.flow {
             return self.made_flow();
@@ -249,7 +354,7 @@ impl CommandMaker {
         match random.below(4) {
             0 => bytes.truncate(random.below(len) as usize),
             1 => bytes.push(random.number() as u8),
-            2 => bytes[0] = random.below(10) as u8,
+            2 => bytes[0] = random.below(if self.is_whole { 12 } else { 10 }) as u8,
             _ => bytes[random.below(len) as usize] = random.number() as u8,
         }
     }
@@ -265,8 +370,17 @@ impl CommandMaker {
         if self.random.percent(2) {
             self.damage(&mut bytes);
         }
-        let output = self.machine.apply(&read_command(&bytes).0);
+        let command = read_command(&bytes).0;
+        let output = self.machine.apply(&command);
         match &output {
+            Output::ChannelSet { ch, .. } => {
+                let now = &mut self.settings[usize::from(*ch)];
+                *now = match command {
+                    Command::Channel(channel) => settings_of(&channel),
+                    Command::Change { settings, .. } => settings,
+                    _ => *now,
+                };
+            }
             Output::Map { ch, start, len, .. } => {
                 self.now[usize::from(*ch)] = start + u64::from(*len);
             }
@@ -303,8 +417,8 @@ fn weights(random: &mut Random) -> Weights {
     }
 }
 
-pub fn made(seed: u64, count: usize) -> Vec<u8> {
-    let mut maker = CommandMaker::new(seed);
+pub fn made(seed: u64, count: usize, is_whole: bool) -> Vec<u8> {
+    let mut maker = CommandMaker::new(seed, is_whole);
     let mut file = Vec::new();
     for _ in 0..count {
         put_record(&mut file, &maker.next_one().0);
@@ -329,6 +443,10 @@ fn put_table(out: &mut String, command: &Command) {
     match *command {
         Command::Noop => out.push_str("kind = \"noop\"\n"),
         Command::Channel(channel) => put_channel(out, &channel),
+        Command::Change { ch, settings } => {
+            put!(out, "kind = \"change\"\nch = {ch}\n");
+            put_settings(out, &settings);
+        }
         Command::Flow {
             ch,
             modem,
@@ -356,37 +474,52 @@ fn put_table(out: &mut String, command: &Command) {
             len,
             not_before,
             ack,
+            set,
         } => {
             put!(out, "kind = \"cut\"\nch = {ch}\nlen = {len}\n");
             put!(out, "not_before = {not_before}\nack = {ack}\n");
+            if set != CutSettings::NONE {
+                put!(out, "keep = {}\n", set.keep);
+                put_backoffs(out, set.ranging, set.data);
+            }
         }
     }
 }
 
 fn put_channel(out: &mut String, channel: &Channel) {
     use crate::lines::put;
-    let Channel {
-        id,
-        ucd,
-        short_max,
-        base,
-        ..
-    } = *channel;
-    let (ranging_start, ranging_end) = channel.ranging_backoff;
-    let (data_start, data_end) = channel.data_backoff;
-    let phy = match channel.phy {
+    let Channel { id, base, .. } = *channel;
+    put!(out, "kind = \"channel\"\nch = {id}\nbase = {base}\n");
+    put_settings(out, &settings_of(channel));
+}
+
+fn put_settings(out: &mut String, settings: &ChannelSettings) {
+    use crate::lines::put;
+    let ChannelSettings { ucd, short_max, .. } = *settings;
+    let phy = match settings.phy {
         Phy::Tdma => "tdma",
         Phy::Advanced => "advanced",
     };
     put!(
         out,
-        "kind = \"channel\"\nch = {id}\nucd = {ucd}\nphy = \"{phy}\"\nbase = {base}\n"
+        "ucd = {ucd}\nphy = \"{phy}\"\nshort_max = {short_max}\n"
     );
+    put_backoffs(out, settings.ranging_backoff, settings.data_backoff);
+}
+
+fn put_backoffs(out: &mut String, ranging: (u8, u8), sending: (u8, u8)) {
+    use crate::lines::put;
+    put!(out, "ranging = [{}, {}]\n", ranging.0, ranging.1);
+    put!(out, "data = [{}, {}]\n", sending.0, sending.1);
+}
+
+fn put_sized(out: &mut String, service: &str, size: u16, interval: u32, jitter: u32, base: u64) {
+    use crate::lines::put;
     put!(
         out,
-        "short_max = {short_max}\nranging = [{ranging_start}, {ranging_end}]\n"
+        "service = \"{service}\"\nsize = {size}\ninterval = {interval}\n"
     );
-    put!(out, "data = [{data_start}, {data_end}]\n");
+    put!(out, "jitter = {jitter}\nbase = {base}\n");
 }
 
 fn put_service(out: &mut String, kind: FlowKind) {
@@ -400,13 +533,7 @@ fn put_service(out: &mut String, kind: FlowKind) {
             interval,
             jitter,
             base,
-        } => {
-            put!(
-                out,
-                "service = \"ugs\"\nsize = {size}\ninterval = {interval}\n"
-            );
-            put!(out, "jitter = {jitter}\nbase = {base}\n");
-        }
+        } => put_sized(out, "ugs", size, interval, jitter, base),
         FlowKind::Poll {
             interval,
             jitter,
@@ -415,5 +542,17 @@ fn put_service(out: &mut String, kind: FlowKind) {
             put!(out, "service = \"poll\"\ninterval = {interval}\n");
             put!(out, "jitter = {jitter}\nbase = {base}\n");
         }
+        FlowKind::Station {
+            size,
+            interval,
+            jitter,
+            base,
+        } => put_sized(out, "station", size, interval, jitter, base),
+        FlowKind::Initial {
+            size,
+            interval,
+            jitter,
+            base,
+        } => put_sized(out, "initial", size, interval, jitter, base),
     }
 }

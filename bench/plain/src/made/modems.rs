@@ -231,7 +231,7 @@ impl Maker {
 
 pub fn made(seed: u64, count: usize) -> Vec<u8> {
     let mut maker = Maker {
-        commands: CommandMaker::new(seed),
+        commands: CommandMaker::new(seed, true),
         random: Random::new(seed ^ 0x5555),
         told: VecDeque::new(),
         maps: VecDeque::new(),

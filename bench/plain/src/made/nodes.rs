@@ -1,6 +1,6 @@
 //! What comes to three or five nodes: letters of their own, late, lost, twice and forged, and what they are asked.
 
-use crate::command::{command_bytes, Channel, Command, FlowKind, Phy};
+use crate::command::{command_bytes, Channel, Command, CutSettings, FlowKind, Phy};
 use crate::letters::{letter_bytes, read_letter, Bytes, Letter, Note, Vote, Votes};
 use crate::made::commands::CommandMaker;
 use crate::node::Node;
@@ -79,6 +79,7 @@ impl Maker {
                 len: random.between(1, 120) as u16,
                 not_before: 0,
                 ack: 900 + self.sent,
+                set: CutSettings::NONE,
             },
         }
     }
@@ -232,7 +233,7 @@ pub fn made(seed: u64, count: usize) -> Vec<u8> {
     let members = if seed % 2 == 0 { 3 } else { 5 };
     let forged_percent = if seed % 4 < 2 { 0 } else { 5 };
     let mut maker = Maker {
-        commands: CommandMaker::new(seed),
+        commands: CommandMaker::new(seed, true),
         random: Random::new(seed ^ 0xAAAA),
         nodes: (0..members).map(|id| Node::new(id, members)).collect(),
         letters: VecDeque::new(),
