@@ -4,6 +4,8 @@ SERVICES = {
     0: (1, lambda b: f'service = "best_effort", priority = {b[0]}'),
     1: (18, lambda b: f'service = "ugs", size = {of(b, 0, 2)}, {due(b, 2)}'),
     2: (16, lambda b: f'service = "poll", {due(b, 0)}'),
+    3: (18, lambda b: f'service = "station", size = {of(b, 0, 2)}, {due(b, 2)}'),
+    4: (18, lambda b: f'service = "initial", size = {of(b, 0, 2)}, {due(b, 2)}'),
 }
 
 
@@ -35,9 +37,28 @@ def flow(b):
 
 def channel(b):
     phy = ', phy = "advanced"' if b[0] == 6 else ""
-    backoffs = f"ranging = [{b[5]}, {b[6]}], data = [{b[7]}, {b[8]}]"
     head = f'kind = "channel", ch = {b[1]}, ucd = {b[2]}, short_max = {of(b, 3, 2)}'
-    return f"{head}, {backoffs}, base = {held(b, 9)}{phy}"
+    return f"{head}, {backoffs(b, 5)}, base = {held(b, 9)}{phy}"
+
+
+def backoffs(b, at):
+    return f"ranging = [{b[at]}, {b[at + 1]}], data = [{b[at + 2]}, {b[at + 3]}]"
+
+
+def cut(b):
+    """A cut's bytes: its table, or None. A cut that sets nothing has the shorter bytes alone."""
+    head = f'kind = "cut", ch = {b[1]}, len = {of(b, 2, 2)}, not_before = {held(b, 4)}, ack = {held(b, 12)}'
+    if b[0] == 5:
+        return head
+    return None if b[20:] == b"\0\0\xff\xff\xff\xff" else f"{head}, keep = {of(b, 20, 2)}, {backoffs(b, 22)}"
+
+
+def change(b):
+    """A change's bytes: its table, or None."""
+    if b[3] > 1:
+        return None
+    head = f'kind = "change", ch = {b[1]}, ucd = {b[2]}, phy = "{("tdma", "advanced")[b[3]]}"'
+    return f"{head}, short_max = {of(b, 4, 2)}, {backoffs(b, 6)}"
 
 
 def table_of(b):
@@ -55,9 +76,10 @@ def table_of(b):
         inside = f'kind = "drop", ch = {b[1]}, sid = {of(b, 2, 2)}'
     elif kind == b"\4" and size == 14:
         inside = f'kind = "request", ch = {b[1]}, sid = {of(b, 2, 2)}, n = {of(b, 4, 2)}, sent = {held(b, 6)}'
-    elif kind == b"\5" and size == 20:
-        times = f"not_before = {held(b, 4)}, ack = {held(b, 12)}"
-        inside = f'kind = "cut", ch = {b[1]}, len = {of(b, 2, 2)}, {times}'
+    elif (kind, size) in ((b"\5", 20), (b"\x09", 26)):
+        inside = cut(b)
+    elif kind == b"\x0a" and size == 10:
+        inside = change(b)
     return "{ %s }" % (inside or 'kind = "noop"')
 
 
@@ -75,7 +97,8 @@ class Workload:
         self.time += random.randrange(3)
         if self.first and random.random() < 0.5:
             return self.bytes_of(self.first[random.randrange(2)])
-        kind = random.choices(["request", "cut", "flow", "drop", "noop", "bytes"], [40, 30, 12, 3, 1, 2])[0]
+        kinds = ["request", "cut", "flow", "drop", "noop", "change", "bytes"]
+        kind = random.choices(kinds, [40, 30, 12, 3, 1, 2, 2])[0]
         if kind == "bytes":
             return random.randbytes(random.randrange(65))
         return self.bytes_of(getattr(self, kind)(dict(kind=kind, ch=random.choice([1, 1, 2]))))
@@ -88,7 +111,12 @@ class Workload:
 
     def cut(self, command):
         skipped = self.random.choice([0, 0, 0, self.time + 500])
-        return command | dict(len=self.random.randrange(20, 400), not_before=skipped, ack=self.time)
+        settings = self.random.choice([{}, {}, dict(keep=8), dict(ranging=[0, 15]), dict(keep=4097, data=[0, 0])])
+        return command | dict(len=self.random.randrange(20, 400), not_before=skipped, ack=self.time) | settings
+
+    def change(self, command):
+        phy = self.random.choice(["tdma", "advanced"])
+        return command | dict(ucd=self.random.randrange(7, 10), phy=phy, short_max=8, ranging=[2, 5], data=[3, 8])
 
     def drop(self, command):
         return command | dict(sid=self.random.randrange(1, 9))
@@ -99,7 +127,7 @@ class Workload:
         if random.random() < 0.3:
             command["last"] = self.time + random.randrange(20000)
         times = dict(interval=random.choice([40, 100]), jitter=random.randrange(40), base=1000 + random.randrange(100))
-        service = random.choice(["best_effort", "best_effort", "ugs", "poll"])
-        size = dict(size=random.randrange(1, 9)) if service == "ugs" else {}
+        service = random.choice(["best_effort", "best_effort", "ugs", "poll", "station", "initial"])
+        size = {} if service == "poll" else dict(size=random.randrange(1, 9))
         more = dict(priority=random.randrange(8)) if service == "best_effort" else size | times
         return command | dict(service=service) | more

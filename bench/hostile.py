@@ -200,19 +200,22 @@ def number(rng, most):
 
 def command(rng):
     ch = rng.choice([1, 1, 1, 0, 255])
-    kind = rng.choice(["noop", "channel", "flow", "flow", "drop", "request", "request", "request", "cut", "cut"])
+    kinds = ["noop", "channel", "change", "flow", "flow", "drop", "request", "request", "request", "cut", "cut"]
+    kind = rng.choice(kinds)
     keys = {"kind": "'%s'" % kind}
     if kind != "noop":
         keys["ch"] = ch
-    if kind == "channel":
-        pair = lambda: "[%d, %d]" % (rng.randint(0, 17), rng.randint(0, 17))
-        keys.update(ucd=rng.randint(0, 255), short_max=number(rng, 65535), ranging=pair(), data=pair())
-        keys.update(base=number(rng, 2**63 - 1))
+    pair = lambda: "[%d, %d]" % (rng.randint(0, 17), rng.choice([0, 5, 15, 16, 17, 255]))
+    if kind in ("channel", "change"):
+        keys.update(ucd=rng.choice([7, 8, 9, rng.randint(0, 255)]), short_max=number(rng, 65535))
+        keys.update(ranging=pair(), data=pair())
+        if kind == "channel":
+            keys.update(base=number(rng, 2**63 - 1))
         if rng.random() < 0.5:
             keys.update(phy=rng.choice(["'tdma'", "'advanced'", "'advanced'", "'Advanced'", "''", "1"]))
     elif kind == "flow":
         keys.update(modem=rng.randint(0, 5), tag=rng.randint(0, 5))
-        keys.update(service="'%s'" % rng.choice(["best_effort", "ugs", "poll"]))
+        keys.update(service="'%s'" % rng.choice(["best_effort", "ugs", "poll", "station", "initial"]))
         keys.update(priority=rng.randint(0, 9), size=number(rng, 65535), interval=number(rng, 2**32 - 1))
         keys.update(jitter=number(rng, 2**32 - 1), base=number(rng, 2**63 - 1))
         if rng.random() < 0.5:
@@ -223,6 +226,8 @@ def command(rng):
         keys.update(sid=rng.randint(0, 6), n=number(rng, 65535), sent=number(rng, 2**63 - 1))
     elif kind == "cut":
         keys.update(len=number(rng, 65535), not_before=number(rng, 2**63 - 1), ack=number(rng, 2**63 - 1))
+        if rng.random() < 0.3:
+            keys.update(keep=number(rng, 65535), ranging=pair(), data=pair())
     return keys
 
 
@@ -239,6 +244,7 @@ SPELLED = [
     "00", "01010700100205030800000000000003e8", "06010700100205030800000000000003e8", "020100000032000000010003",
     "0701000000320000000100000000000004190003", "0701000000320000000140000000000000000003", "03010001",
     "0401000100140000000000000" + "3de", "050100640000000000000000000000000000000a",
+    "090100640000000000000000000000000000000a0008ffffffff", "0a010800000802050308",
 ]
 
 

@@ -36,9 +36,17 @@ def flow_bytes(command):
     if command["service"] == "best_effort":
         return head + b"\0" + number(command["priority"], 1)
     due = number(command["interval"], 4) + number(command["jitter"], 4) + number(command["base"], 8)
-    if command["service"] == "ugs":
-        return head + b"\1" + number(command["size"], 2) + due
-    return head + b"\2" + due
+    sized = {"ugs": b"\1", "station": b"\3", "initial": b"\4"}.get(command["service"])
+    return head + (sized + number(command["size"], 2) + due if sized else b"\2" + due)
+
+
+def cut_bytes(command):
+    ch, times = number(command["ch"], 1), number(command["not_before"], 8) + number(command["ack"], 8)
+    kept, own = number(command.get("keep", 0), 2), [255, 255]
+    settings = kept + bytes(command.get("ranging", own) + command.get("data", own))
+    if settings == b"\0\0\xff\xff\xff\xff":
+        return b"\5" + ch + number(command["len"], 2) + times
+    return b"\x09" + ch + number(command["len"], 2) + times + settings
 
 
 def bytes_of(command):
@@ -56,7 +64,11 @@ def bytes_of(command):
     if kind == "request":
         return b"\4" + ch + number(command["sid"], 2) + number(command["n"], 2) + number(command["sent"], 8)
     if kind == "cut":
-        return b"\5" + ch + number(command["len"], 2) + number(command["not_before"], 8) + number(command["ack"], 8)
+        return cut_bytes(command)
+    if kind == "change":
+        phy = number(1 if command["phy"] == "advanced" else 0, 1)
+        backoffs = bytes(command["ranging"] + command["data"])
+        return b"\x0a" + ch + number(command["ucd"], 1) + phy + number(command["short_max"], 2) + backoffs
     return b"\0"
 
 

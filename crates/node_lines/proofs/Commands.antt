@@ -1,148 +1,136 @@
 -- A table spells one command at most.
-use Rattle.std.proofs.Common.{◌≡◌, ℕ, List, Some, Result, Ok, Err, inl, inr, refl, sym, ap, subst, ◌∙◌, codes, arith}
+use Rattle.std.proofs.Common.{◌≡◌, ℕ, if◌then◌else◌, List, [], Option, None, Some, Result, Ok, Err, inl, inr, pos, bytes_eq, refl, sym, ap, subst, ◌∙◌, codes}
 use Rattle.std.specs.Prelude.{IfErr}
-use Rattle.toml.specs.Data.{Data, Members}
+use Rattle.toml.specs.Data.{Data, string, integer, array, item, no_items, get, Members}
 use Rattle.toml.specs.Parse.{parse_document}
 use Rattle.flow_state.specs.declared.channel.Channel.{Channel}
 use Rattle.flow_state.specs.declared.channel.Phy.{Phy}
 use Rattle.flow_state.specs.declared.channel.Phy.TheVariants.{Tdma, Advanced}
+use Rattle.flow_state.specs.declared.settings.ChannelSettings.{ChannelSettings}
 use Rattle.flow_state.specs.declared.flow.FlowKind.{FlowKind}
-use Rattle.flow_state.specs.declared.flow.FlowKind.TheVariants.{BestEffort, Ugs, Poll}
+use Rattle.flow_state.specs.declared.flow.FlowKind.TheVariants.{BestEffort, Ugs, Poll, Station, Initial}
+use Rattle.flow_state.specs.Limits.{last_time}
 use Rattle.grant_machine.specs.declared.command.Command.{Command}
 use Rattle.grant_machine.specs.declared.command.Command.TheVariants as commands
 use Rattle.command_log.specs.Spelling.{spelling}
-use Rattle.script_text.specs.Fields.{HasNumber}
-use Rattle.script_text.specs.CommandTable.{HasChannel, HasLast, HasPair, HasPhy, HasService, SpellsCommand}
+use Rattle.script_text.specs.CommandTable.{HasBackoff, HasKeep, HasLast, HasPair, HasPhy, HasService, NamesPhy, SpellsCommand}
 use Rattle.script_text.specs.EventTable.{IsCommandBytes}
 use Rattle.node_lines.specs.Commands.{HoldsCommand, IsCommandText, IsNoCommand}
 use Rattle.node_lines.specs.declared.fault.LineFault.{LineFault}
 use Rattle.node_lines.specs.declared.fault.LineFault.TheVariants as fault
 
-one_number : (d : Data) (key : List ℕ) (bits n k : ℕ) → HasNumber d key bits n → HasNumber d key bits k → n ≡ k
-one_number d key bits n k a b = cc (a.held, b.held)
+-- ---- the one command that a table may spell
 
-one_phy : (d : Data) (p q : Phy) → HasPhy d p → HasPhy d q → p ≡ q
-one_phy d Tdma Tdma a b = refl
-one_phy d Advanced Advanced a b = refl
-one_phy d Tdma Advanced (inl a) b = grind (arith, a, b)
-one_phy d Tdma Advanced (inr a) b = absurd (cc (a, b))
-one_phy d Advanced Tdma a (inl b) = grind (arith, a, b)
-one_phy d Advanced Tdma a (inr b) = absurd (cc (a, b))
+-- what is under a key, and what its absence stands for
+abbrev number_of : Option Data → ℕ
+number_of (Some (integer (pos n))) = n
+number_of _ = 0
 
-one_last : (d : Data) (l m : ℕ) → HasLast d l → HasLast d m → l ≡ m
-one_last d l m (inl a) (inl b) = one_number d (codes "last") 64 l m a b
-one_last d l m (inl a) (inr b) = absurd (cc (a.held, b.0))
-one_last d l m (inr a) (inl b) = absurd (cc (a.0, b.held))
-one_last d l m (inr a) (inr b) = a.1 ∙ sym b.1
+abbrev pair_of : Option Data → ℕ × ℕ
+pair_of (Some (array (item (integer (pos start)) (item (integer (pos end)) no_items)))) = (start, end)
+pair_of _ = (255, 255)
 
-one_pair : (d : Data) (key : List ℕ) (p q : ℕ × ℕ) → HasPair d key p → HasPair d key q → p ≡ q
-one_pair d key p q a b =
-    let same : a.pair ≡ b.pair = cc (a.held, b.held) in
-    let first : p.0 ≡ q.0 = cc (same, a.is_pair.items, b.is_pair.items) in
-    let second : p.1 ≡ q.1 = cc (same, a.is_pair.items, b.is_pair.items) in
-    let both : (p.0, p.1) ≡ (q.0, q.1) = cc (first, second) in
-    both
+abbrev text_of : Option Data → List ℕ
+text_of (Some (string s)) = s
+text_of _ = []
 
-one_service : (d : Data) (k m : FlowKind) → HasService d k → HasService d m → k ≡ m
-one_service d (BestEffort n) (BestEffort k) a b = let same = one_number d (codes "priority") 8 n k a.1 b.1 in cc same
-one_service d (BestEffort n) (Ugs size interval jitter base) a b = grind (arith, a.0, b.0)
-one_service d (BestEffort n) (Poll interval jitter base) a b = grind (arith, a.0, b.0)
-one_service d (Ugs size interval jitter base) (BestEffort k) a b = grind (arith, a.0, b.0)
-one_service d (Ugs s i j o) (Ugs s' i' j' o') a b =
-    let size = one_number d (codes "size") 16 s s' a.1 b.1 in
-    let interval = one_number d (codes "interval") 32 i i' a.2 b.2 in
-    let jitter = one_number d (codes "jitter") 32 j j' a.3 b.3 in
-    let base = one_number d (codes "base") 64 o o' a.4 b.4 in
-    cc (size, interval, jitter, base)
-one_service d (Ugs s i j o) (Poll interval jitter base) a b = grind (arith, a.0, b.0)
-one_service d (Poll i j o) (BestEffort k) a b = grind (arith, a.0, b.0)
-one_service d (Poll i j o) (Ugs size interval jitter base) a b = grind (arith, a.0, b.0)
-one_service d (Poll i j o) (Poll i' j' o') a b =
-    let interval = one_number d (codes "interval") 32 i i' a.1 b.1 in
-    let jitter = one_number d (codes "jitter") 32 j j' a.2 b.2 in
-    let base = one_number d (codes "base") 64 o o' a.3 b.3 in
-    cc (interval, jitter, base)
+abbrev last_of : Option Data → ℕ
+last_of None = last_time
+last_of (Some d) = number_of (Some d)
 
-abbrev made : ℕ → ℕ → Phy → ℕ → ℕ × ℕ → ℕ × ℕ → ℕ → Channel
-made id ucd phy short ranging backoff base =
-    record { id = id; ucd = ucd; phy = phy; short_max = short; ranging_backoff = ranging; data_backoff = backoff; base = base }
+abbrev phy_of : Option Data → Phy
+phy_of found = if bytes_eq (text_of found) (codes "advanced") then Advanced else Tdma
 
-one_channel : (d : Data) (c e : Channel) → HasChannel d c → HasChannel d e → c ≡ e
-one_channel d c e a b =
-    let id = one_number d (codes "ch") 8 c.id e.id a.id b.id in
-    let ucd = one_number d (codes "ucd") 8 c.ucd e.ucd a.ucd b.ucd in
-    let phy = one_phy d c.phy e.phy a.phy b.phy in
-    let short = one_number d (codes "short_max") 16 c.short_max e.short_max a.short_max b.short_max in
-    let ranging = one_pair d (codes "ranging") c.ranging_backoff e.ranging_backoff a.ranging b.ranging in
-    let back = one_pair d (codes "data") c.data_backoff e.data_backoff a.data_backoff b.data_backoff in
-    let base = one_number d (codes "base") 64 c.base e.base a.base b.base in
-    let whole : made c.id c.ucd c.phy c.short_max c.ranging_backoff c.data_backoff c.base
-    ≡ made e.id e.ucd e.phy e.short_max e.ranging_backoff e.data_backoff e.base =
-    cc (id, ucd, phy, short, ranging, back, base) in
-    whole
+abbrev number_at : Data → List ℕ → ℕ
+number_at d key = number_of (get key d)
+
+abbrev channel_of : Data → Channel
+channel_of d = record {
+  id = number_at d (codes "ch");
+  ucd = number_at d (codes "ucd");
+  phy = phy_of (get (codes "phy") d);
+  short_max = number_at d (codes "short_max");
+  ranging_backoff = pair_of (get (codes "ranging") d);
+  data_backoff = pair_of (get (codes "data") d);
+  base = number_at d (codes "base");
+}
+
+abbrev settings_of : Data → ChannelSettings
+settings_of d = record {
+  ucd = number_at d (codes "ucd");
+  phy = phy_of (get (codes "phy") d);
+  short_max = number_at d (codes "short_max");
+  ranging_backoff = pair_of (get (codes "ranging") d);
+  data_backoff = pair_of (get (codes "data") d);
+}
+
+-- by the name of a service, and by that of a kind
+abbrev service_of : List ℕ → Data → FlowKind
+service_of name d =
+    if bytes_eq name (codes "best_effort") then BestEffort (number_at d (codes "priority"))
+    else if bytes_eq name (codes "ugs") then Ugs (number_at d (codes "size")) (number_at d (codes "interval")) (number_at d (codes "jitter")) (number_at d (codes "base"))
+    else if bytes_eq name (codes "station") then Station (number_at d (codes "size")) (number_at d (codes "interval")) (number_at d (codes "jitter")) (number_at d (codes "base"))
+    else if bytes_eq name (codes "initial") then Initial (number_at d (codes "size")) (number_at d (codes "interval")) (number_at d (codes "jitter")) (number_at d (codes "base"))
+    else Poll (number_at d (codes "interval")) (number_at d (codes "jitter")) (number_at d (codes "base"))
+
+abbrev command_of : List ℕ → Data → Command
+command_of name d =
+    if bytes_eq name (codes "channel") then commands.Channel (channel_of d)
+    else if bytes_eq name (codes "change") then commands.Change (number_at d (codes "ch")) (settings_of d)
+    else if bytes_eq name (codes "flow") then commands.Flow (number_at d (codes "ch")) (number_at d (codes "modem")) (number_at d (codes "tag"))
+    (last_of (get (codes "last") d)) (service_of (text_of (get (codes "service") d)) d)
+    else if bytes_eq name (codes "drop") then commands.Drop (number_at d (codes "ch")) (number_at d (codes "sid"))
+    else if bytes_eq name (codes "request") then commands.Request (number_at d (codes "ch")) (number_at d (codes "sid")) (number_at d (codes "n")) (number_at d (codes "sent"))
+    else if bytes_eq name (codes "cut") then commands.Cut (number_at d (codes "ch")) (number_at d (codes "len")) (number_at d (codes "not_before")) (number_at d (codes "ack"))
+    (number_at d (codes "keep")) (pair_of (get (codes "ranging") d)) (pair_of (get (codes "data") d))
+    else commands.Noop
+
+is_last : (d : Data) (l : ℕ) → HasLast d l → last_of (get (codes "last") d) ≡ l
+is_last d l (inl has) = rw (has.held) refl
+is_last d l (inr none) = rw (none.0) (sym none.1)
+
+is_keep : (d : Data) (k : ℕ) → HasKeep d k → number_at d (codes "keep") ≡ k
+is_keep d k (inl has) = rw (has.held) refl
+is_keep d k (inr none) = rw (none.0) (sym none.1)
+
+is_pair : (d : Data) (key : List ℕ) (p : ℕ × ℕ) → HasPair d key p → pair_of (get key d) ≡ p
+is_pair d key p has = rw (has.held, has.is_pair.items) refl
+
+is_backoff : (d : Data) (key : List ℕ) (p : ℕ × ℕ) → HasBackoff d key p → pair_of (get key d) ≡ p
+is_backoff d key p (inl has) = is_pair d key p has
+is_backoff d key p (inr none) = rw (none.0) (sym none.1)
+
+is_named : (d : Data) (p : Phy) → NamesPhy d p → phy_of (get (codes "phy") d) ≡ p
+is_named d Tdma text = rw text refl
+is_named d Advanced text = rw text refl
+
+is_phy : (d : Data) (p : Phy) → HasPhy d p → phy_of (get (codes "phy") d) ≡ p
+is_phy d p (inl text) = is_named d p text
+is_phy d p (inr none) = rw (none.0) (sym none.1)
+
+is_service : (d : Data) (k : FlowKind) → HasService d k → service_of (text_of (get (codes "service") d)) d ≡ k
+is_service d (BestEffort priority) (text, a) = rw (text, a.held) refl
+is_service d (Ugs size interval jitter base) (text, (a, b, e, f)) = rw (text, a.held, b.held, e.held, f.held) refl
+is_service d (Station size interval jitter base) (text, (a, b, e, f)) = rw (text, a.held, b.held, e.held, f.held) refl
+is_service d (Initial size interval jitter base) (text, (a, b, e, f)) = rw (text, a.held, b.held, e.held, f.held) refl
+is_service d (Poll interval jitter base) (text, b, e, f) = rw (text, b.held, e.held, f.held) refl
+
+is_command : (d : Data) (c : Command) → SpellsCommand d c → command_of (text_of (get (codes "kind") d)) d ≡ c
+is_command d commands.Noop text = rw text refl
+is_command d (commands.Channel c) (text, h) =
+    rw (text, h.id.held, h.ucd.held, is_phy d c.phy h.phy, h.short_max.held, is_pair d (codes "ranging") c.ranging_backoff h.ranging, is_pair d (codes "data") c.data_backoff h.data_backoff, h.base.held) refl
+is_command d (commands.Change ch s) (text, a, h) =
+    rw (text, a.held, h.ucd.held, is_named d s.phy h.phy, h.short_max.held, is_pair d (codes "ranging") s.ranging_backoff h.ranging, is_pair d (codes "data") s.data_backoff h.data_backoff) refl
+is_command d (commands.Flow ch modem tag last kind) (text, a, b, e, f, g) =
+    rw (text, a.held, b.held, e.held, is_last d last f, is_service d kind g) refl
+is_command d (commands.Drop ch sid) (text, a, b) = rw (text, a.held, b.held) refl
+is_command d (commands.Request ch sid n sent) (text, a, b, e, f) = rw (text, a.held, b.held, e.held, f.held) refl
+is_command d (commands.Cut ch len not_before ack keep ranging sending) (text, a, b, e, f, g, i, j) =
+    rw (text, a.held, b.held, e.held, f.held, is_keep d keep g, is_backoff d (codes "ranging") ranging i, is_backoff d (codes "data") sending j) refl
 
 -- a table spells one command at most
 one_command : (d : Data) (a b : Command) → SpellsCommand d a → SpellsCommand d b → a ≡ b
-one_command d (commands.Change ch s) c a b = absurd a
-one_command d c (commands.Change ch s) a b = absurd b
-one_command d commands.Noop commands.Noop a b = refl
-one_command d commands.Noop (commands.Channel c') a b = grind (arith, a, b.0)
-one_command d commands.Noop (commands.Flow ch' modem' tag' last' kind') a b = grind (arith, a, b.0)
-one_command d commands.Noop (commands.Drop ch' sid') a b = grind (arith, a, b.0)
-one_command d commands.Noop (commands.Request ch' sid' n' sent') a b = grind (arith, a, b.0)
-one_command d commands.Noop (commands.Cut ch' len' not_before' ack' keep' ranging' sending') a b = grind (arith, a, b.0)
-one_command d (commands.Channel c) commands.Noop a b = grind (arith, a.0, b)
-one_command d (commands.Channel c) (commands.Channel c') a b = ap (λ (x : Channel). commands.Channel x) (one_channel d c c' a.1 b.1)
-one_command d (commands.Channel c) (commands.Flow ch' modem' tag' last' kind') a b = grind (arith, a.0, b.0)
-one_command d (commands.Channel c) (commands.Drop ch' sid') a b = grind (arith, a.0, b.0)
-one_command d (commands.Channel c) (commands.Request ch' sid' n' sent') a b = grind (arith, a.0, b.0)
-one_command d (commands.Channel c) (commands.Cut ch' len' not_before' ack' keep' ranging' sending') a b = grind (arith, a.0, b.0)
-one_command d (commands.Flow ch modem tag last kind) commands.Noop a b = grind (arith, a.0, b)
-one_command d (commands.Flow ch modem tag last kind) (commands.Channel c') a b = grind (arith, a.0, b.0)
-one_command d (commands.Flow ch modem tag last kind) (commands.Flow ch' modem' tag' last' kind') a b =
-    let ch_is = one_number d (codes "ch") 8 ch ch' a.1 b.1 in
-    let modem_is = one_number d (codes "modem") 32 modem modem' a.2 b.2 in
-    let tag_is = one_number d (codes "tag") 32 tag tag' a.3 b.3 in
-    let last_is = one_last d last last' a.4 b.4 in
-    let kind_is = one_service d kind kind' a.5 b.5 in
-    cc (ch_is, modem_is, tag_is, last_is, kind_is)
-one_command d (commands.Flow ch modem tag last kind) (commands.Drop ch' sid') a b = grind (arith, a.0, b.0)
-one_command d (commands.Flow ch modem tag last kind) (commands.Request ch' sid' n' sent') a b = grind (arith, a.0, b.0)
-one_command d (commands.Flow ch modem tag last kind) (commands.Cut ch' len' not_before' ack' keep' ranging' sending') a b = grind (arith, a.0, b.0)
-one_command d (commands.Drop ch sid) commands.Noop a b = grind (arith, a.0, b)
-one_command d (commands.Drop ch sid) (commands.Channel c') a b = grind (arith, a.0, b.0)
-one_command d (commands.Drop ch sid) (commands.Flow ch' modem' tag' last' kind') a b = grind (arith, a.0, b.0)
-one_command d (commands.Drop ch sid) (commands.Drop ch' sid') a b =
-    let ch_is = one_number d (codes "ch") 8 ch ch' a.1 b.1 in
-    let sid_is = one_number d (codes "sid") 16 sid sid' a.2 b.2 in
-    cc (ch_is, sid_is)
-one_command d (commands.Drop ch sid) (commands.Request ch' sid' n' sent') a b = grind (arith, a.0, b.0)
-one_command d (commands.Drop ch sid) (commands.Cut ch' len' not_before' ack' keep' ranging' sending') a b = grind (arith, a.0, b.0)
-one_command d (commands.Request ch sid n sent) commands.Noop a b = grind (arith, a.0, b)
-one_command d (commands.Request ch sid n sent) (commands.Channel c') a b = grind (arith, a.0, b.0)
-one_command d (commands.Request ch sid n sent) (commands.Flow ch' modem' tag' last' kind') a b = grind (arith, a.0, b.0)
-one_command d (commands.Request ch sid n sent) (commands.Drop ch' sid') a b = grind (arith, a.0, b.0)
-one_command d (commands.Request ch sid n sent) (commands.Request ch' sid' n' sent') a b =
-    let ch_is = one_number d (codes "ch") 8 ch ch' a.1 b.1 in
-    let sid_is = one_number d (codes "sid") 16 sid sid' a.2 b.2 in
-    let n_is = one_number d (codes "n") 16 n n' a.3 b.3 in
-    let sent_is = one_number d (codes "sent") 64 sent sent' a.4 b.4 in
-    cc (ch_is, sid_is, n_is, sent_is)
-one_command d (commands.Request ch sid n sent) (commands.Cut ch' len' not_before' ack' keep' ranging' sending') a b = grind (arith, a.0, b.0)
-one_command d (commands.Cut ch len not_before ack keep ranging sending) commands.Noop a b = grind (arith, a.0, b)
-one_command d (commands.Cut ch len not_before ack keep ranging sending) (commands.Channel c') a b = grind (arith, a.0, b.0)
-one_command d (commands.Cut ch len not_before ack keep ranging sending) (commands.Flow ch' modem' tag' last' kind') a b = grind (arith, a.0, b.0)
-one_command d (commands.Cut ch len not_before ack keep ranging sending) (commands.Drop ch' sid') a b = grind (arith, a.0, b.0)
-one_command d (commands.Cut ch len not_before ack keep ranging sending) (commands.Request ch' sid' n' sent') a b = grind (arith, a.0, b.0)
-one_command d (commands.Cut ch len not_before ack keep ranging sending) (commands.Cut ch' len' not_before' ack' keep' ranging' sending') a b =
-    let ch_is = one_number d (codes "ch") 8 ch ch' a.1 b.1 in
-    let len_is = one_number d (codes "len") 16 len len' a.2 b.2 in
-    let not_before_is = one_number d (codes "not_before") 64 not_before not_before' a.3 b.3 in
-    let ack_is = one_number d (codes "ack") 64 ack ack' a.4 b.4 in
-    let keep_is : keep ≡ keep' = a.5 ∙ sym b.5 in
-    let ranging_is : ranging ≡ ranging' = a.6 ∙ sym b.6 in
-    let sending_is : sending ≡ sending' = a.7 ∙ sym b.7 in
-    cc (ch_is, len_is, not_before_is, ack_is, keep_is, ranging_is, sending_is)
+one_command d a b first second = sym (is_command d a first) ∙ is_command d b second
 
 one_value : (d : Data) (v w : List ℕ) → IsCommandBytes d v → IsCommandBytes d w → v ≡ w
 one_value d v w a b = a.2 ∙ ap spelling (one_command d a.0 b.0 a.1 b.1) ∙ sym b.2

@@ -11,7 +11,7 @@ use Rattle.script_text.specs.CommandTable.{HasChannel, SpellsCommand}
 pub spells_nothing : (d : Data) (r : Option Command) → HasText d (codes "kind") (codes "channel") → ((c : Channel) → ¬ HasChannel d c) → (command : Command) → SpellsCommand d command → r ≡ Some command
 spells_nothing d r kind lacking commands.Noop h = grind (arith, h, kind)
 spells_nothing d r kind lacking (commands.Channel c) h = absurd (lacking c h.1)
-spells_nothing d r kind lacking (commands.Change ch s) h = absurd h
+spells_nothing d r kind lacking (commands.Change ch s) h = grind (arith, h.0, kind)
 spells_nothing d r kind lacking (commands.Flow ch modem tag last service) h = grind (arith, h.0, kind)
 spells_nothing d r kind lacking (commands.Drop ch sid) h = grind (arith, h.0, kind)
 spells_nothing d r kind lacking (commands.Request ch sid n sent) h = grind (arith, h.0, kind)

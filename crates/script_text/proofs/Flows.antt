@@ -10,7 +10,7 @@ use Rattle.script_text.specs.CommandTable.{HasLast, SpellsCommand}
 pub spells_nothing : (d : Data) (r : Option Command) → HasText d (codes "kind") (codes "flow") → ((last : ℕ) → ¬ HasLast d last) → (command : Command) → SpellsCommand d command → r ≡ Some command
 spells_nothing d r kind lacking commands.Noop h = grind (arith, h, kind)
 spells_nothing d r kind lacking (commands.Channel c) h = grind (arith, h.0, kind)
-spells_nothing d r kind lacking (commands.Change ch s) h = absurd h
+spells_nothing d r kind lacking (commands.Change ch s) h = grind (arith, h.0, kind)
 spells_nothing d r kind lacking (commands.Flow ch modem tag last service) h = absurd (lacking last h.4)
 spells_nothing d r kind lacking (commands.Drop ch sid) h = grind (arith, h.0, kind)
 spells_nothing d r kind lacking (commands.Request ch sid n sent) h = grind (arith, h.0, kind)

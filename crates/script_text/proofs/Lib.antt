@@ -1,5 +1,8 @@
 pub mod Callers
 mod Channels
+mod Changes
+mod Cuts
+mod Defaults
 mod Flows
 mod Pairs
 mod ScriptFaults

@@ -5,13 +5,14 @@ ghost use Rattle.toml.specs.Data.{integer, at};
 ghost use Rattle.toml.specs.View.{view};
 ghost use Rattle.flow_state.specs.declared.channel.Channel.{Channel};
 ghost use Rattle.flow_state.specs.declared.channel.Phy.{Phy};
+ghost use Rattle.flow_state.specs.declared.settings.ChannelSettings.{ChannelSettings};
 ghost use Rattle.flow_state.specs.declared.flow.FlowKind.{FlowKind};
 ghost use Rattle.grant_machine.specs.declared.command.Command.{Command};
 ghost use Rattle.script_text.specs.Fields.{HasText};
-ghost use Rattle.script_text.specs.CommandTable.{IsPair, HasPair, HasPhy, HasChannel, HasService, HasLast, SpellsCommand};
+ghost use Rattle.script_text.specs.CommandTable.{IsPair, HasPair, NamesPhy, HasPhy, HasChannel, HasSettings, HasService, HasLast, HasKeep, HasBackoff, SpellsCommand};
 
 use crate::fields::{u8_at, u16_at, u32_at, u64_at};
-use flow_state::{Channel, FlowKind, LAST_TIME, Phy};
+use flow_state::{Channel, ChannelSettings, FlowKind, LAST_TIME, Phy};
 use grant_machine::Command;
 use toml::Value;
 
@@ -43,18 +44,26 @@ fn backoff_at(table: &Value, key: &str) -> Option<(u8, u8)>
     backoff_of(table.get(key)?)
 }
 
-/// The PHY that the table names, TDMA where it names none.
-fn phy_of(table: &Value) -> Option<Phy>
-    ensures found { IfSome result (HasPhy (view table.now)) }
-    ensures only { (phy : Phy) → HasPhy (view table.now) phy → result ≡ Some phy }
+/// The PHY that the table names.
+fn phy_at(table: &Value) -> Option<Phy>
+    ensures found { IfSome result (NamesPhy (view table.now)) }
+    ensures only { (phy : Phy) → NamesPhy (view table.now) phy → result ≡ Some phy }
 {
-    let Some(name) = table.get("phy") else {
-        return Some(Phy::Tdma);
-    };
-    match name.as_str()? {
+    match table.get("phy")?.as_str()? {
         "tdma" => Some(Phy::Tdma),
         "advanced" => Some(Phy::Advanced),
         _ => None,
+    }
+}
+
+/// The same of a channel, TDMA where the table names none.
+fn phy_or_tdma(table: &Value) -> Option<Phy>
+    ensures found { IfSome result (HasPhy (view table.now)) }
+    ensures only { (phy : Phy) → HasPhy (view table.now) phy → result ≡ Some phy }
+{
+    match table.get("phy") {
+        Some(_) => phy_at(table),
+        None => Some(Phy::Tdma),
     }
 }
 
@@ -65,7 +74,7 @@ fn channel_fields(table: &Value) -> Option<Channel>
     Some(Channel {
         id: u8_at(table, "ch")?,
         ucd: u8_at(table, "ucd")?,
-        phy: phy_of(table)?,
+        phy: phy_or_tdma(table)?,
         short_max: u16_at(table, "short_max")?,
         ranging_backoff: backoff_at(table, "ranging")?,
         data_backoff: backoff_at(table, "data")?,
@@ -81,6 +90,30 @@ fn channel_of(table: &Value) -> Option<Command>
     Some(Command::Channel(channel_fields(table)?))
 }
 
+fn settings_of(table: &Value) -> Option<ChannelSettings>
+    ensures found { IfSome result (HasSettings (view table.now)) }
+    ensures only { (s : ChannelSettings) → HasSettings (view table.now) s → result ≡ Some s }
+{
+    Some(ChannelSettings {
+        ucd: u8_at(table, "ucd")?,
+        phy: phy_at(table)?,
+        short_max: u16_at(table, "short_max")?,
+        ranging_backoff: backoff_at(table, "ranging")?,
+        data_backoff: backoff_at(table, "data")?,
+    })
+}
+
+fn change_of(table: &Value) -> Option<Command>
+    requires { HasText (view table.now) (codes "kind") (codes "change") }
+    ensures found { IfSome result (SpellsCommand (view table.now)) }
+    ensures only { (command : Command) → SpellsCommand (view table.now) command → result ≡ Some command }
+{
+    Some(Command::Change {
+        ch: u8_at(table, "ch")?,
+        settings: settings_of(table)?,
+    })
+}
+
 fn service_of(table: &Value) -> Option<FlowKind>
     ensures found { IfSome result (HasService (view table.now)) }
     ensures only { (kind : FlowKind) → HasService (view table.now) kind → result ≡ Some kind }
@@ -88,6 +121,18 @@ fn service_of(table: &Value) -> Option<FlowKind>
     match table.get("service")?.as_str()? {
         "best_effort" => Some(FlowKind::BestEffort(u8_at(table, "priority")?)),
         "ugs" => Some(FlowKind::Ugs {
+            size: u16_at(table, "size")?,
+            interval: u32_at(table, "interval")?,
+            jitter: u32_at(table, "jitter")?,
+            base: u64_at(table, "base")?,
+        }),
+        "station" => Some(FlowKind::Station {
+            size: u16_at(table, "size")?,
+            interval: u32_at(table, "interval")?,
+            jitter: u32_at(table, "jitter")?,
+            base: u64_at(table, "base")?,
+        }),
+        "initial" => Some(FlowKind::Initial {
             size: u16_at(table, "size")?,
             interval: u32_at(table, "interval")?,
             jitter: u32_at(table, "jitter")?,
@@ -151,6 +196,28 @@ fn request_of(table: &Value) -> Option<Command>
     })
 }
 
+/// How many minislots a cut keeps, none where the table names no number.
+fn keep_of(table: &Value) -> Option<u16>
+    ensures found { IfSome result (HasKeep (view table.now)) }
+    ensures only { (keep : ℕ) → HasKeep (view table.now) keep → result ≡ Some keep }
+{
+    match table.get("keep") {
+        Some(_) => u16_at(table, "keep"),
+        None => Some(0),
+    }
+}
+
+/// A back-off of a cut, the channel's own where the table names none.
+fn backoff_or_own(table: &Value, key: &str) -> Option<(u8, u8)>
+    ensures found { IfSome result (HasBackoff (view table.now) key.now) }
+    ensures only { (p : ℕ × ℕ) → HasBackoff (view table.now) key.now p → result ≡ Some p }
+{
+    match table.get(key) {
+        Some(_) => backoff_at(table, key),
+        None => Some((255, 255)),
+    }
+}
+
 fn cut_of(table: &Value) -> Option<Command>
     requires { HasText (view table.now) (codes "kind") (codes "cut") }
     ensures found { IfSome result (SpellsCommand (view table.now)) }
@@ -161,9 +228,9 @@ fn cut_of(table: &Value) -> Option<Command>
         len: u16_at(table, "len")?,
         not_before: u64_at(table, "not_before")?,
         ack: u64_at(table, "ack")?,
-        keep: 0,
-        ranging: (255, 255),
-        data: (255, 255),
+        keep: keep_of(table)?,
+        ranging: backoff_or_own(table, "ranging")?,
+        data: backoff_or_own(table, "data")?,
     })
 }
 
@@ -176,6 +243,7 @@ pub fn command_of(table: &Value) -> Option<Command>
     match table.get("kind")?.as_str()? {
         "noop" => Some(Command::Noop),
         "channel" => channel_of(table),
+        "change" => change_of(table),
         "flow" => flow_of(table),
         "drop" => drop_of(table),
         "request" => request_of(table),

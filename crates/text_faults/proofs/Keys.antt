@@ -6,9 +6,8 @@ use Rattle.std.proofs.lemmas.Slice.Eq.{bytes_eq-Decides}
 use Rattle.toml.specs.Data.{Data, string, integer, float, boolean, datetime, array, table, get, at, as_str}
 use Rattle.flow_state.specs.declared.channel.Phy.{Phy}
 use Rattle.flow_state.specs.declared.channel.Phy.TheVariants.{Tdma, Advanced}
-use Rattle.flow_state.specs.Limits.{last_time}
 use Rattle.script_text.specs.Fields.{HasNode, HasNumber}
-use Rattle.script_text.specs.CommandTable.{IsPair, HasPair, HasPhy, HasLast}
+use Rattle.script_text.specs.CommandTable.{IsPair, HasPair, IsDefault, NamesPhy, HasPhy}
 use Rattle.script_text.proofs.Callers.{two_items}
 use Rattle.text_faults.specs.declared.kind.Kind.{Kind}
 use Rattle.text_faults.specs.declared.kind.Group.{Group}
@@ -18,7 +17,7 @@ use Rattle.text_faults.specs.declared.row.Key.TheVariants as keys
 use Rattle.text_faults.specs.declared.row.Wants.TheVariants as wants
 use Rattle.text_faults.specs.declared.fault.Place.{Place}
 use Rattle.text_faults.specs.Kinds.{kind_name, kinds_of, named}
-use Rattle.text_faults.specs.Rows.{key_name, last}
+use Rattle.text_faults.specs.Rows.{key_name}
 use Rattle.text_faults.specs.Fits.{is_number, is_item, is_pair, is_one_of, is_name}
 use Rattle.text_faults.specs.Faults.{fault_of, fault_at, named_in, named_by}
 
@@ -134,22 +133,27 @@ named_text g (Some (table ms)) k h = absurd (cc)
 
 -- ---- keys that may be absent, pairs
 
--- the last minislot of a lease
-pub last_minislot : (place : Place) (kind : Kind) (d : Data) → fault_at place kind d (keys.Last, last) ≡ None → (n : ℕ) × HasLast d n
-last_minislot place kind d h = held_last (get (codes "last") d) refl h
+-- a number of so many bits, or what stands for it
+pub number_or : (place : Place) (kind : Kind) (key : Key) (d : Data) (most bits default : ℕ) → suc most ≡ 2 ^ bits → fault_at place kind d (key, wants.NumberOrNothing most) ≡ None
+    → (n : ℕ) × (HasNumber d (key_name key) bits n ⊎ IsDefault d (key_name key) default n)
+number_or place kind key d most bits default width h = held_number (get (key_name key) d) refl h
   where
-    held_last : (o : Option Data) → get (codes "last") d ≡ o → fault_of place kind keys.Last last o ≡ None → (n : ℕ) × HasLast d n
-    held_last None is h = (last_time, inr (is, refl))
-    held_last (Some x) is h =
-        let (n, whole, fits) = whole_number 18446744073709551615 x (if_none (is_number 18446744073709551615 x) _ h) in
-        let below : n < suc 18446744073709551615 = omega arith in
-        (n, inl (record { held = is ∙ ap Some whole; fits = below }))
+    held_number : (o : Option Data) → get (key_name key) d ≡ o → fault_of place kind key (wants.NumberOrNothing most) o ≡ None → (n : ℕ) × (HasNumber d (key_name key) bits n ⊎ IsDefault d (key_name key) default n)
+    held_number None is h = (default, inr (is, refl))
+    held_number (Some x) is h =
+        let (n, whole, fits) = whole_number most x (if_none (is_number most x) _ h) in
+        let below : n < suc most = omega arith in
+        (n, inl (record { held = is ∙ ap Some whole; fits = rw width at below }))
 
-pub no_last_fault : (place : Place) (kind : Kind) (d : Data) (n : ℕ) → HasLast d n → fault_at place kind d (keys.Last, last) ≡ None
-no_last_fault place kind d n (inl has) = let least : n ≤ 18446744073709551615 = omega (arith, has.fits) in rw (has.held, le-leb n 18446744073709551615 least) refl
-no_last_fault place kind d n (inr none) = rw (none.0) refl
+pub no_number_or_fault : (place : Place) (kind : Kind) (key : Key) (d : Data) (most bits default n : ℕ) → suc most ≡ 2 ^ bits → HasNumber d (key_name key) bits n ⊎ IsDefault d (key_name key) default n
+    → fault_at place kind d (key, wants.NumberOrNothing most) ≡ None
+no_number_or_fault place kind key d most bits default n width (inl has) =
+    let below : n < suc most = rw width (has.fits) in
+    let least : n ≤ most = omega arith in
+    rw (has.held, le-leb n most least) refl
+no_number_or_fault place kind key d most bits default n width (inr none) = rw (none.0) refl
 
--- a channel's PHY
+-- a PHY by name
 phy_of : (d : Data) → is_name Phys d ≡ true → (d ≡ string (codes "tdma")) ⊎ (d ≡ string (codes "advanced"))
 phy_of d h =
     let (k, is) = is_one Phys (as_str d) h in
@@ -161,21 +165,33 @@ phy_of d h =
     phy_text k (inr (inl is)) text = let t : Some d ≡ Some (string (codes "advanced")) = text ∙ ap (λ x. Some (string (kind_name x))) is in inr (cc)
     phy_text k (inr (inr none)) text = absurd none
 
-pub phy : (place : Place) (kind : Kind) (d : Data) → fault_at place kind d (keys.Phy, wants.NameOrNothing Phys) ≡ None → (p : Phy) × HasPhy d p
+named_phy : (d x : Data) → get (codes "phy") d ≡ Some x → (x ≡ string (codes "tdma")) ⊎ (x ≡ string (codes "advanced")) → (p : Phy) × NamesPhy d p
+named_phy d x is (inl tdma) = (Tdma, is ∙ ap Some tdma)
+named_phy d x is (inr advanced) = (Advanced, is ∙ ap Some advanced)
+
+pub phy : (place : Place) (kind : Kind) (d : Data) → fault_at place kind d (keys.Phy, wants.Name Phys) ≡ None → (p : Phy) × NamesPhy d p
 phy place kind d h = held_phy (get (codes "phy") d) refl h
   where
-    of_name : (x : Data) → get (codes "phy") d ≡ Some x → (x ≡ string (codes "tdma")) ⊎ (x ≡ string (codes "advanced")) → (p : Phy) × HasPhy d p
-    of_name x is (inl tdma) = (Tdma, inl (is ∙ ap Some tdma))
-    of_name x is (inr advanced) = (Advanced, is ∙ ap Some advanced)
+    held_phy : (o : Option Data) → get (codes "phy") d ≡ o → fault_of place kind keys.Phy (wants.Name Phys) o ≡ None → (p : Phy) × NamesPhy d p
+    held_phy None is h = absurd (cc)
+    held_phy (Some x) is h = named_phy d x is (phy_of x (if_none (is_name Phys x) _ h))
 
-    held_phy : (o : Option Data) → get (codes "phy") d ≡ o → fault_of place kind keys.Phy (wants.NameOrNothing Phys) o ≡ None → (p : Phy) × HasPhy d p
-    held_phy None is h = (Tdma, inr is)
-    held_phy (Some x) is h = of_name x is (phy_of x (if_none (is_name Phys x) _ h))
-
-pub no_phy_fault : (place : Place) (kind : Kind) (d : Data) (p : Phy) → HasPhy d p → fault_at place kind d (keys.Phy, wants.NameOrNothing Phys) ≡ None
-no_phy_fault place kind d Tdma (inl text) = rw text refl
-no_phy_fault place kind d Tdma (inr none) = rw none refl
+pub no_phy_fault : (place : Place) (kind : Kind) (d : Data) (p : Phy) → NamesPhy d p → fault_at place kind d (keys.Phy, wants.Name Phys) ≡ None
+no_phy_fault place kind d Tdma text = rw text refl
 no_phy_fault place kind d Advanced text = rw text refl
+
+-- the same, TDMA where nothing names one
+pub phy_or_tdma : (place : Place) (kind : Kind) (d : Data) → fault_at place kind d (keys.Phy, wants.NameOrNothing Phys) ≡ None → (p : Phy) × HasPhy d p
+phy_or_tdma place kind d h = held_phy (get (codes "phy") d) refl h
+  where
+    held_phy : (o : Option Data) → get (codes "phy") d ≡ o → fault_of place kind keys.Phy (wants.NameOrNothing Phys) o ≡ None → (p : Phy) × HasPhy d p
+    held_phy None is h = (Tdma, inr (is, refl))
+    held_phy (Some x) is h = let (p, names) = named_phy d x is (phy_of x (if_none (is_name Phys x) _ h)) in (p, inl names)
+
+pub no_phy_or_tdma_fault : (place : Place) (kind : Kind) (d : Data) (p : Phy) → HasPhy d p → fault_at place kind d (keys.Phy, wants.NameOrNothing Phys) ≡ None
+no_phy_or_tdma_fault place kind d Tdma (inl text) = rw text refl
+no_phy_or_tdma_fault place kind d Advanced (inl text) = rw text refl
+no_phy_or_tdma_fault place kind d p (inr none) = rw (none.0) refl
 
 -- two numbers of a byte each
 both_true : (a b : Bool) → (a && b) ≡ true → (a ≡ true) × (b ≡ true)
@@ -210,3 +226,20 @@ no_pair_fault place kind key d p h =
     let first : p.0 ≤ 255 = omega (arith, h.is_pair.first_fits) in
     let second : p.1 ≤ 255 = omega (arith, h.is_pair.second_fits) in
     rw (h.held, h.is_pair.items, le-leb (p.0) 255 first, le-leb (p.1) 255 second) refl
+
+-- the same, or what stands for them
+pub pair_or : (place : Place) (kind : Kind) (key : Key) (d : Data) (default : ℕ × ℕ) → fault_at place kind d (key, wants.BytesOrNothing) ≡ None
+    → (p : ℕ × ℕ) × (HasPair d (key_name key) p ⊎ IsDefault d (key_name key) default p)
+pair_or place kind key d default h = held_pair (get (key_name key) d) refl h
+  where
+    held_pair : (o : Option Data) → get (key_name key) d ≡ o → fault_of place kind key wants.BytesOrNothing o ≡ None → (p : ℕ × ℕ) × (HasPair d (key_name key) p ⊎ IsDefault d (key_name key) default p)
+    held_pair None is h = (default, inr (is, refl))
+    held_pair (Some x) is h = let (p, two) = pair_of x (if_none (is_pair x) _ h) in (p, inl (record { pair = x; held = is; is_pair = two }))
+
+pub no_pair_or_fault : (place : Place) (kind : Kind) (key : Key) (d : Data) (default p : ℕ × ℕ) → HasPair d (key_name key) p ⊎ IsDefault d (key_name key) default p
+    → fault_at place kind d (key, wants.BytesOrNothing) ≡ None
+no_pair_or_fault place kind key d default p (inl has) =
+    let first : p.0 ≤ 255 = omega (arith, has.is_pair.first_fits) in
+    let second : p.1 ≤ 255 = omega (arith, has.is_pair.second_fits) in
+    rw (has.held, has.is_pair.items, le-leb (p.0) 255 first, le-leb (p.1) 255 second) refl
+no_pair_or_fault place kind key d default p (inr none) = rw (none.0) refl

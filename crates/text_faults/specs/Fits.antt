@@ -3,7 +3,7 @@ use Rattle.std.specs.Prelude.{ℕ, ℤ, pos, negsuc, Bool, true, false, ◌==◌
 use Rattle.toml.specs.Data.{Data, at, as_integer, as_str, as_array}
 use Rattle.text_faults.specs.declared.kind.Group.{Group}
 use Rattle.text_faults.specs.declared.row.Wants.{Wants}
-use Rattle.text_faults.specs.declared.row.Wants.TheVariants.{Number, NumberOrNothing, Bytes, Name, NameOrNothing, Members, Tables, Ids, Hex, Nothing}
+use Rattle.text_faults.specs.declared.row.Wants.TheVariants.{Number, NumberOrNothing, Bytes, BytesOrNothing, Name, NameOrNothing, Members, Tables, Ids, Hex, Nothing}
 use Rattle.text_faults.specs.Kinds.{named}
 
 -- a number from 0 to this one
@@ -45,6 +45,7 @@ abbrev pub holds : Wants → Data → Bool
 holds (Number most) d = is_number most d
 holds (NumberOrNothing most) d = is_number most d
 holds Bytes d = is_pair d
+holds BytesOrNothing d = is_pair d
 holds (Name group) d = is_name group d
 holds (NameOrNothing group) d = is_name group d
 holds Members d = is_count d
@@ -56,6 +57,7 @@ holds Nothing d = false
 -- nothing may be there
 abbrev pub may_lack : Wants → Bool
 may_lack (NumberOrNothing most) = true
+may_lack BytesOrNothing = true
 may_lack (NameOrNothing group) = true
 may_lack Tables = true
 may_lack Ids = true

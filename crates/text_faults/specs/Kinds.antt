@@ -1,7 +1,7 @@
 -- The kinds of the tables in a plan and in a script.
 use Rattle.std.specs.Prelude.{ℕ, List, [], ◌∷◌, Option, codes, bytes_eq, find}
 use Rattle.text_faults.specs.declared.kind.Kind.{Kind}
-use Rattle.text_faults.specs.declared.kind.Kind.TheVariants.{Plan, Script, Modem, Command, Event, Noop, Channel, Flow, Drop, Request, Cut, BestEffort, Ugs, Poll, Tdma, Advanced, Lead, Offer, Tell, Deliver, DeliverThenCrash, Crash, Restart, Release, Hear, Want, Tick}
+use Rattle.text_faults.specs.declared.kind.Kind.TheVariants.{Plan, Script, Modem, Command, Event, Noop, Channel, Change, Flow, Drop, Request, Cut, BestEffort, Ugs, Poll, Station, Initial, Tdma, Advanced, Lead, Offer, Tell, Deliver, DeliverThenCrash, Crash, Restart, Release, Hear, Want, Tick}
 use Rattle.text_faults.specs.declared.kind.Group.{Group}
 use Rattle.text_faults.specs.declared.kind.Group.TheVariants.{Commands, Services, Phys, Events}
 
@@ -14,6 +14,7 @@ kind_name Command = codes "command"
 kind_name Event = codes "event"
 kind_name Noop = codes "noop"
 kind_name Channel = codes "channel"
+kind_name Change = codes "change"
 kind_name Flow = codes "flow"
 kind_name Drop = codes "drop"
 kind_name Request = codes "request"
@@ -21,6 +22,8 @@ kind_name Cut = codes "cut"
 kind_name BestEffort = codes "best_effort"
 kind_name Ugs = codes "ugs"
 kind_name Poll = codes "poll"
+kind_name Station = codes "station"
+kind_name Initial = codes "initial"
 kind_name Tdma = codes "tdma"
 kind_name Advanced = codes "advanced"
 kind_name Lead = codes "lead"
@@ -37,8 +40,8 @@ kind_name Tick = codes "tick"
 
 -- the kinds of a group
 abbrev pub kinds_of : Group → List Kind
-kinds_of Commands = Noop ∷ Channel ∷ Flow ∷ Drop ∷ Request ∷ Cut ∷ []
-kinds_of Services = BestEffort ∷ Ugs ∷ Poll ∷ []
+kinds_of Commands = Noop ∷ Channel ∷ Change ∷ Flow ∷ Drop ∷ Request ∷ Cut ∷ []
+kinds_of Services = BestEffort ∷ Ugs ∷ Poll ∷ Station ∷ Initial ∷ []
 kinds_of Phys = Tdma ∷ Advanced ∷ []
 kinds_of Events = Lead ∷ Offer ∷ Tell ∷ Deliver ∷ DeliverThenCrash ∷ Crash ∷ Restart ∷ Release ∷ Hear ∷ Want ∷ Tick ∷ []
 

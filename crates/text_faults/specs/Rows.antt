@@ -38,6 +38,7 @@ key_name keys.Sent = codes "sent"
 key_name keys.Len = codes "len"
 key_name keys.NotBefore = codes "not_before"
 key_name keys.Ack = codes "ack"
+key_name keys.Keep = codes "keep"
 key_name keys.Node = codes "node"
 key_name keys.To = codes "to"
 key_name keys.Place = codes "place"
@@ -72,6 +73,13 @@ member = wants.Number 4
 abbrev pub last : Wants
 last = wants.NumberOrNothing 18446744073709551615
 
+abbrev pub keep : Wants
+keep = wants.NumberOrNothing 65535
+
+-- the keys of a size, and of when something of that size is due
+abbrev pub sized : List (Key × Wants)
+sized = (keys.Size, short) ∷ (keys.Interval, word) ∷ (keys.Jitter, word) ∷ (keys.Base, long) ∷ []
+
 -- the keys that a table of this kind has
 abbrev pub rows_of : Kind → List (Key × Wants)
 rows_of kinds.Plan = (keys.Command, wants.Tables) ∷ []
@@ -81,14 +89,21 @@ rows_of kinds.Event = (keys.Kind, wants.Name Events) ∷ []
 rows_of kinds.Channel =
     (keys.Ch, byte) ∷ (keys.Ucd, byte) ∷ (keys.Phy, wants.NameOrNothing Phys) ∷ (keys.ShortMax, short)
     ∷ (keys.Ranging, wants.Bytes) ∷ (keys.Data, wants.Bytes) ∷ (keys.Base, long) ∷ []
+rows_of kinds.Change =
+    (keys.Ch, byte) ∷ (keys.Ucd, byte) ∷ (keys.Phy, wants.Name Phys) ∷ (keys.ShortMax, short)
+    ∷ (keys.Ranging, wants.Bytes) ∷ (keys.Data, wants.Bytes) ∷ []
 rows_of kinds.Flow =
     (keys.Ch, byte) ∷ (keys.Modem, word) ∷ (keys.Tag, word) ∷ (keys.Last, last) ∷ (keys.Service, wants.Name Services) ∷ []
 rows_of kinds.BestEffort = (keys.Priority, byte) ∷ []
-rows_of kinds.Ugs = (keys.Size, short) ∷ (keys.Interval, word) ∷ (keys.Jitter, word) ∷ (keys.Base, long) ∷ []
+rows_of kinds.Ugs = sized
+rows_of kinds.Station = sized
+rows_of kinds.Initial = sized
 rows_of kinds.Poll = (keys.Interval, word) ∷ (keys.Jitter, word) ∷ (keys.Base, long) ∷ []
 rows_of kinds.Drop = (keys.Ch, byte) ∷ (keys.Sid, short) ∷ []
 rows_of kinds.Request = (keys.Ch, byte) ∷ (keys.Sid, short) ∷ (keys.N, short) ∷ (keys.Sent, long) ∷ []
-rows_of kinds.Cut = (keys.Ch, byte) ∷ (keys.Len, short) ∷ (keys.NotBefore, long) ∷ (keys.Ack, long) ∷ []
+rows_of kinds.Cut =
+    (keys.Ch, byte) ∷ (keys.Len, short) ∷ (keys.NotBefore, long) ∷ (keys.Ack, long) ∷ (keys.Keep, keep)
+    ∷ (keys.Ranging, wants.BytesOrNothing) ∷ (keys.Data, wants.BytesOrNothing) ∷ []
 rows_of kinds.Lead = (keys.Node, long) ∷ []
 rows_of kinds.Offer = (keys.Node, long) ∷ []
 rows_of kinds.Tell = (keys.Node, long) ∷ (keys.To, member) ∷ (keys.Place, long) ∷ []

@@ -46,6 +46,7 @@ abbrev pub wanted_text : Wants → List ℕ
 wanted_text (wants.Number most) = number_text most
 wanted_text (wants.NumberOrNothing most) = number_text most
 wanted_text wants.Bytes = codes "two whole numbers from 0 to 255"
+wanted_text wants.BytesOrNothing = codes "two whole numbers from 0 to 255"
 wanted_text (wants.Name group) = names_text group
 wanted_text (wants.NameOrNothing group) = names_text group
 wanted_text wants.Members = codes "3 or 5"
@@ -63,6 +64,7 @@ is_text _ = false
 
 abbrev pub is_array : Wants → Bool
 is_array wants.Bytes = true
+is_array wants.BytesOrNothing = true
 is_array _ = false
 
 -- what the key holds in place of that

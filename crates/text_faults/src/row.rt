@@ -33,6 +33,7 @@ pub enum Key {
     Len,
     NotBefore,
     Ack,
+    Keep,
     Node,
     To,
     Place,
@@ -54,6 +55,8 @@ pub enum Wants {
     NumberOrNothing(u64),
     /// Two numbers of a byte each.
     Bytes,
+    /// The same, or nothing.
+    BytesOrNothing,
     /// The name of a kind of this group.
     Name(Group),
     /// The same, or nothing.
@@ -84,6 +87,8 @@ pub(crate) const MEMBER: Wants = Wants::Number(4);
 pub(crate) const LONG: Wants = Wants::Number(18_446_744_073_709_551_615);
 
 pub(crate) const LAST: Wants = Wants::NumberOrNothing(18_446_744_073_709_551_615);
+
+pub(crate) const KEEP: Wants = Wants::NumberOrNothing(65_535);
 
 impl Key {
     ghost use Rattle.std.specs.Prelude.{◌≡◌};
@@ -121,6 +126,7 @@ impl Key {
             Key::Len => "len",
             Key::NotBefore => "not_before",
             Key::Ack => "ack",
+            Key::Keep => "keep",
             Key::Node => "node",
             Key::To => "to",
             Key::Place => "place",
@@ -164,6 +170,14 @@ impl Kind {
                 (Key::Data, Wants::Bytes),
                 (Key::Base, LONG),
             ],
+            Kind::Change => &[
+                (Key::Ch, BYTE),
+                (Key::Ucd, BYTE),
+                (Key::Phy, Wants::Name(Group::Phys)),
+                (Key::ShortMax, SHORT),
+                (Key::Ranging, Wants::Bytes),
+                (Key::Data, Wants::Bytes),
+            ],
             Kind::Flow => &[
                 (Key::Ch, BYTE),
                 (Key::Modem, WORD),
@@ -172,7 +186,7 @@ impl Kind {
                 (Key::Service, Wants::Name(Group::Services)),
             ],
             Kind::BestEffort => &[(Key::Priority, BYTE)],
-            Kind::Ugs => &[
+            Kind::Ugs | Kind::Station | Kind::Initial => &[
                 (Key::Size, SHORT),
                 (Key::Interval, WORD),
                 (Key::Jitter, WORD),
@@ -195,6 +209,9 @@ impl Kind {
                 (Key::Len, SHORT),
                 (Key::NotBefore, LONG),
                 (Key::Ack, LONG),
+                (Key::Keep, KEEP),
+                (Key::Ranging, Wants::BytesOrNothing),
+                (Key::Data, Wants::BytesOrNothing),
             ],
             Kind::Lead | Kind::Offer | Kind::Crash | Kind::Restart => &[(Key::Node, LONG)],
             Kind::Tell => &[(Key::Node, LONG), (Key::To, MEMBER), (Key::Place, LONG)],

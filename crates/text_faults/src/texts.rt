@@ -64,7 +64,9 @@ fn wanted_text(alloc: Global, wants: Wants) -> Result<String, AllocError>
 {
     match wants {
         Wants::Number(most) | Wants::NumberOrNothing(most) => number_text(alloc, most),
-        Wants::Bytes => String::from_str(alloc, "two whole numbers from 0 to 255"),
+        Wants::Bytes | Wants::BytesOrNothing => {
+            String::from_str(alloc, "two whole numbers from 0 to 255")
+        }
         Wants::Name(group) | Wants::NameOrNothing(group) => names_text(alloc, group),
         Wants::Members => String::from_str(alloc, "3 or 5"),
         Wants::Tables => String::from_str(alloc, "an array of tables"),

@@ -65,7 +65,7 @@ impl Wants {
     {
         match self {
             Wants::Number(most) | Wants::NumberOrNothing(most) => is_number(value, most),
-            Wants::Bytes => is_pair(value),
+            Wants::Bytes | Wants::BytesOrNothing => is_pair(value),
             Wants::Name(group) | Wants::NameOrNothing(group) => is_name(value, group),
             Wants::Members => is_count(value),
             Wants::Tables | Wants::Ids => value.as_array().is_some(),
@@ -79,6 +79,7 @@ impl Wants {
     {
         match self {
             Wants::NumberOrNothing(_)
+            | Wants::BytesOrNothing
             | Wants::NameOrNothing(_)
             | Wants::Tables
             | Wants::Ids
@@ -98,6 +99,6 @@ impl Wants {
     pub(crate) fn is_array(self) -> bool
         ensures { result ≡ is_array self }
     {
-        matches!(self, Wants::Bytes)
+        matches!(self, Wants::Bytes | Wants::BytesOrNothing)
     }
 }

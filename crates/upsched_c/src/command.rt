@@ -1,9 +1,9 @@
 //! Commands as structs that C shares.
 
 ghost use Rattle.std.specs.Prelude.{◌≡◌, option_map};
-ghost use Rattle.upsched_c.specs.Commands.{channel_value, command_value, kind_value, phy_value};
+ghost use Rattle.upsched_c.specs.Commands.{channel_value, command_value, cut_value, kind_value, phy_value, ranging_value, sending_value, settings_value};
 
-use flow_state::{Channel, FlowKind, Phy};
+use flow_state::{Channel, ChannelSettings, FlowKind, Phy};
 use grant_machine::Command;
 
 /// A command: its number, and the fields that it has. The others are not read.
@@ -23,6 +23,7 @@ pub struct CommandFields {
     pub sid: u16,
     pub minislots: u16,
     pub short_max: u16,
+    pub keep: u16,
     pub ch: u8,
     pub ucd: u8,
     pub phy: u8,
@@ -44,6 +45,18 @@ fn phy_of(number: u8) -> Option<Phy>
     }
 }
 
+fn ranging_of(c: &CommandFields) -> (u8, u8)
+    ensures { result ≡ ranging_value c.now }
+{
+    (c.ranging_start, c.ranging_end)
+}
+
+fn sending_of(c: &CommandFields) -> (u8, u8)
+    ensures { result ≡ sending_value c.now }
+{
+    (c.data_start, c.data_end)
+}
+
 fn channel_of(c: &CommandFields, phy: Phy) -> Channel
     ensures { result ≡ channel_value c.now phy }
 {
@@ -52,9 +65,21 @@ fn channel_of(c: &CommandFields, phy: Phy) -> Channel
         ucd: c.ucd,
         phy,
         short_max: c.short_max,
-        ranging_backoff: (c.ranging_start, c.ranging_end),
-        data_backoff: (c.data_start, c.data_end),
+        ranging_backoff: ranging_of(c),
+        data_backoff: sending_of(c),
         base: c.base,
+    }
+}
+
+fn settings_of(c: &CommandFields, phy: Phy) -> ChannelSettings
+    ensures { result ≡ settings_value c.now phy }
+{
+    ChannelSettings {
+        ucd: c.ucd,
+        phy,
+        short_max: c.short_max,
+        ranging_backoff: ranging_of(c),
+        data_backoff: sending_of(c),
     }
 }
 
@@ -74,6 +99,18 @@ fn kind_of(c: &CommandFields) -> Option<FlowKind>
             jitter: c.jitter,
             base: c.base,
         }),
+        3 => Some(FlowKind::Station {
+            size: c.minislots,
+            interval: c.interval,
+            jitter: c.jitter,
+            base: c.base,
+        }),
+        4 => Some(FlowKind::Initial {
+            size: c.minislots,
+            interval: c.interval,
+            jitter: c.jitter,
+            base: c.base,
+        }),
         _ => None,
     }
 }
@@ -83,6 +120,16 @@ fn channel_command(c: &CommandFields) -> Option<Command>
 {
     let phy = phy_of(c.phy)?;
     Some(Command::Channel(channel_of(c, phy)))
+}
+
+fn change_command(c: &CommandFields) -> Option<Command>
+    ensures { result ≡ option_map (λ phy. Command.Change c.now.ch (settings_value c.now phy)) (phy_value c.now.phy) }
+{
+    let phy = phy_of(c.phy)?;
+    Some(Command::Change {
+        ch: c.ch,
+        settings: settings_of(c, phy),
+    })
 }
 
 fn flow_command(c: &CommandFields) -> Option<Command>
@@ -96,6 +143,21 @@ fn flow_command(c: &CommandFields) -> Option<Command>
         last: c.last,
         kind,
     })
+}
+
+/// A cut that keeps so many minislots, with these back-offs.
+fn cut_command(c: &CommandFields, keep: u16, ranging: (u8, u8), sending: (u8, u8)) -> Command
+    ensures { result ≡ cut_value c.now keep ranging sending }
+{
+    Command::Cut {
+        ch: c.ch,
+        len: c.minislots,
+        not_before: c.not_before,
+        ack: c.ack,
+        keep,
+        ranging,
+        data: sending,
+    }
 }
 
 /// The command of these fields. None where the number of the command, of its service or of its PHY is none.
@@ -116,15 +178,9 @@ pub fn command_of(c: &CommandFields) -> Option<Command>
             n: c.minislots,
             sent: c.sent,
         }),
-        5 => Some(Command::Cut {
-            ch: c.ch,
-            len: c.minislots,
-            not_before: c.not_before,
-            ack: c.ack,
-            keep: 0,
-            ranging: (255, 255),
-            data: (255, 255),
-        }),
+        5 => Some(cut_command(c, 0, (255, 255), (255, 255))),
+        6 => Some(cut_command(c, c.keep, ranging_of(c), sending_of(c))),
+        7 => change_command(c),
         _ => None,
     }
 }

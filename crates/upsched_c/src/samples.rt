@@ -52,15 +52,16 @@ const COMMAND: CommandFields = CommandFields {
     sid: 11,
     minislots: 12,
     short_max: 13,
-    ch: 14,
-    ucd: 15,
-    phy: 16,
-    service: 17,
-    priority: 18,
-    ranging_start: 19,
-    ranging_end: 20,
-    data_start: 21,
-    data_end: 22,
+    keep: 14,
+    ch: 15,
+    ucd: 16,
+    phy: 17,
+    service: 18,
+    priority: 19,
+    ranging_start: 20,
+    ranging_end: 21,
+    data_start: 22,
+    data_end: 23,
 };
 
 const OUTPUT: OutputFields = OutputFields {
@@ -90,7 +91,7 @@ const EVENT: EventFields = EventFields {
 /// Numbers the fields of each struct from 1 in their order. The answer is the version of the library.
 #[unsafe(no_mangle)]
 pub extern "C" fn upsched_c_samples(samples: &mut Samples) -> u32
-    ensures version { result ≡ 256 }
+    ensures version { result ≡ 512 }
     ensures samples { samples.new ≡ numbered }
 {
     *samples = Samples {
@@ -106,5 +107,5 @@ pub extern "C" fn upsched_c_samples(samples: &mut Samples) -> u32
         },
         event: EVENT,
     };
-    0x0100
+    0x0200
 }

@@ -45,6 +45,8 @@ fn kind_fits(kind: FlowKind)
         FlowKind::BestEffort(_) => {}
         FlowKind::Ugs { .. } => {}
         FlowKind::Poll { .. } => {}
+        FlowKind::Station { .. } => {}
+        FlowKind::Initial { .. } => {}
     }
 }
 
