@@ -18,7 +18,7 @@ wide axis from to = max (at axis to - at axis from) 2
 
 -- a span with a MAP of the channel more
 abbrev pub with_map : ℕ → Axis → Deed → Axis
-with_map ch axis (deeds.Map c start len map) = if c == ch then record { from = min axis.from start; to = max axis.to (start + len) } else axis
+with_map ch axis (deeds.Map c start len keep map) = if c == ch then record { from = min axis.from start; to = max axis.to (start + len) } else axis
 with_map ch axis (deeds.Channel c) = axis
 with_map ch axis (deeds.Flow c sid modem first last kind) = axis
 with_map ch axis (deeds.Drop c sid) = axis

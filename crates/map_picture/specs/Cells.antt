@@ -1,7 +1,7 @@
 -- A MAP as a strip of cells, a cell an interval, on an axis of its own.
-use Rattle.std.specs.Prelude.{◌≡◌, ℕ, ◌+◌, ◌-◌, ◌*◌, ◌/◌, ◌%◌, ◌==◌, ◌<◌, nat_lt, if◌then◌else◌, max, IsTrue, List, [], ◌∷◌, ◌++◌, length, codes, decimal, slice_get, Option, Some, None}
+use Rattle.std.specs.Prelude.{◌≡◌, ℕ, ◌+◌, ◌-◌, ◌*◌, ◌/◌, ◌%◌, ◌==◌, ◌&&◌, ◌<◌, nat_lt, if◌then◌else◌, max, IsTrue, List, [], ◌∷◌, ◌++◌, length, codes, decimal, slice_get, Option, Some, None}
 use Rattle.map_body.specs.declared.interval.Interval.{Interval}
-use Rattle.map_body.specs.Iucs.{request}
+use Rattle.map_body.specs.Iucs.{initial_maintenance, request}
 use Rattle.map_body.specs.Sids.{everybody}
 use Rattle.plan_account.specs.Cover.{follow}
 use Rattle.xml_text.specs.Xml.{Xml, join, said, shape, titled}
@@ -17,6 +17,10 @@ colour r =
 
 abbrev pub class_of : ℕ → List ℕ
 class_of sid = if sid == everybody then codes "open" else colour (sid % 7)
+
+-- what an interval looks like: an opening for first ranging has a pattern of its own
+abbrev pub cell_class : Interval → List ℕ
+cell_class i = if (i.sid == everybody) && (i.iuc == initial_maintenance) then codes "opening" else class_of i.sid
 
 -- how high an interval is, of 14: a poll is less
 abbrev pub high : Interval → ℕ
@@ -43,7 +47,7 @@ cell_title i =
     owner_name i.sid ++ (codes ", iuc " ++ (decimal i.iuc ++ (codes ": offset " ++ (decimal i.from ++ (codes ", " ++ (decimal (i.to - i.from) ++ codes " long"))))))
 
 abbrev pub cell_shape : (len y : ℕ) → Interval → Xml
-cell_shape len y i = titled (cell_title i) (shape (Rectangle (cell_x len i.from) y (cell_width len i) (high i) 0 (class_of i.sid)))
+cell_shape len y i = titled (cell_title i) (shape (Rectangle (cell_x len i.from) y (cell_width len i) (high i) 0 (cell_class i)))
 
 -- whose it is, where there is room for it
 abbrev pub cell_words : (len y : ℕ) → Interval → Xml

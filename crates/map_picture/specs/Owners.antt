@@ -1,7 +1,7 @@
 -- The row of a lease: when its flow is due, and what its SID is granted in it.
 use Rattle.std.specs.Prelude.{ℕ, ◌+◌, ◌-◌, ◌*◌, ◌/◌, ◌%◌, ◌^◌, ◌==◌, ◌&&◌, nat_le, nat_lt, Bool, if◌then◌else◌, max, min, List, ◌++◌, length, codes, decimal, slice_get, Option, Some, None}
 use Rattle.flow_state.specs.declared.flow.FlowKind.{FlowKind}
-use Rattle.flow_state.specs.declared.flow.FlowKind.TheVariants.{BestEffort, Ugs, Poll}
+use Rattle.flow_state.specs.declared.flow.FlowKind.TheVariants.{BestEffort, Ugs, Poll, Station, Initial}
 use Rattle.map_body.specs.declared.interval.Interval.{Interval}
 use Rattle.plan_account.specs.declared.deed.Deed.{Deed}
 use Rattle.plan_account.specs.declared.deed.Deed.TheVariants as deeds
@@ -37,6 +37,8 @@ windows_from axis y interval jitter until first = each (window_count interval un
 abbrev pub windows : Axis → (y until : ℕ) → FlowKind → Xml
 windows axis y until (Ugs size interval jitter base) = windows_from axis y interval jitter until (first_due axis interval base)
 windows axis y until (Poll interval jitter base) = windows_from axis y interval jitter until (first_due axis interval base)
+windows axis y until (Station size interval jitter base) = windows_from axis y interval jitter until (first_due axis interval base)
+windows axis y until (Initial size interval jitter base) = Nothing
 windows axis y until (BestEffort priority) = Nothing
 
 -- what a flow is
@@ -44,6 +46,8 @@ abbrev pub kind_words : FlowKind → List ℕ
 kind_words (BestEffort priority) = codes "best effort " ++ decimal priority
 kind_words (Ugs size interval jitter base) = codes "UGS " ++ (decimal size ++ (codes " every " ++ (decimal interval ++ (codes " within " ++ decimal jitter))))
 kind_words (Poll interval jitter base) = codes "poll every " ++ (decimal interval ++ (codes " within " ++ decimal jitter))
+kind_words (Station size interval jitter base) = codes "station " ++ (decimal size ++ (codes " every " ++ (decimal interval ++ (codes " within " ++ decimal jitter))))
+kind_words (Initial size interval jitter base) = codes "initial " ++ (decimal size ++ (codes " every " ++ (decimal interval ++ (codes " within " ++ decimal jitter))))
 
 -- an interval is the SID's of the lease, and begins in it, in a MAP that begins then
 abbrev pub is_granted : LeaseRow → (start : ℕ) → Interval → Bool
@@ -71,7 +75,7 @@ grants_in axis l start y is = each (length is) (grant_at axis l start y is)
 
 -- those in a deed that is a MAP of the channel, and in all
 abbrev pub grants_of : Page → LeaseRow → (y : ℕ) → Deed → Xml
-grants_of p l y (deeds.Map c start len map) = if c == p.ch then grants_in p.axis l start y map.intervals else Nothing
+grants_of p l y (deeds.Map c start len keep map) = if c == p.ch then grants_in p.axis l start y map.intervals else Nothing
 grants_of p l y (deeds.Channel c) = Nothing
 grants_of p l y (deeds.Flow c s modem first last kind) = Nothing
 grants_of p l y (deeds.Drop c s) = Nothing

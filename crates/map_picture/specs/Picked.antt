@@ -1,6 +1,8 @@
 -- Which rows a channel has: a row a lease, a row a request, a row a MAP.
-use Rattle.std.specs.Prelude.{ℕ, ◌+◌, ◌/◌, ◌^◌, ◌==◌, Bool, false, if◌then◌else◌, List, [], ◌∷◌, ◌++◌}
+use Rattle.std.specs.Prelude.{ℕ, ◌+◌, ◌/◌, ◌^◌, ◌==◌, ◌&&◌, Bool, true, false, if◌then◌else◌, List, [], ◌∷◌, ◌++◌}
 use Rattle.std.specs.List.{filter}
+use Rattle.flow_state.specs.declared.flow.FlowKind.{FlowKind}
+use Rattle.flow_state.specs.declared.flow.FlowKind.TheVariants.{BestEffort, Ugs, Poll, Station, Initial}
 use Rattle.plan_account.specs.declared.deed.Deed.{Deed}
 use Rattle.plan_account.specs.declared.deed.Deed.TheVariants as deeds
 use Rattle.plan_account.specs.declared.past.LeaseRow.{LeaseRow}
@@ -10,15 +12,23 @@ use Rattle.plan_account.specs.declared.past.RequestRow.{RequestRow}
 abbrev pub is_on : (ch key : ℕ) → Bool
 is_on ch key = key / 2 ^ 16 == ch
 
+-- a flow has a row, unless what it opens is everybody's
+abbrev pub has_row : FlowKind → Bool
+has_row (BestEffort priority) = true
+has_row (Ugs size interval jitter base) = true
+has_row (Poll interval jitter base) = true
+has_row (Station size interval jitter base) = true
+has_row (Initial size interval jitter base) = false
+
 abbrev pub leases_on : ℕ → List LeaseRow → List LeaseRow
-leases_on ch ls = filter (λ l. is_on ch l.key) ls
+leases_on ch ls = filter (λ l. is_on ch l.key && has_row l.lease.kind) ls
 
 abbrev pub requests_on : ℕ → List RequestRow → List RequestRow
 requests_on ch rs = filter (λ r. is_on ch r.key) rs
 
 -- a deed is a MAP of the channel
 abbrev pub is_map : ℕ → Deed → Bool
-is_map ch (deeds.Map c start len map) = c == ch
+is_map ch (deeds.Map c start len keep map) = c == ch
 is_map ch (deeds.Channel c) = false
 is_map ch (deeds.Flow c s modem first last kind) = false
 is_map ch (deeds.Drop c s) = false

@@ -42,7 +42,7 @@ strip ts y k i ch start len map =
 
 -- the strip of deed i, which is MAP k
 abbrev pub strip_of : List Sent → (y k i : ℕ) → Deed → Xml
-strip_of ts y k i (deeds.Map c start len map) = strip ts y k i c start len map
+strip_of ts y k i (deeds.Map c start len keep map) = strip ts y k i c start len map
 strip_of ts y k i (deeds.Channel c) = Nothing
 strip_of ts y k i (deeds.Flow c sid modem first last kind) = Nothing
 strip_of ts y k i (deeds.Drop c sid) = Nothing
@@ -89,7 +89,7 @@ abbrev pub frame_title : ℕ → List ℕ
 frame_title k = codes "MAP " ++ decimal (k + 1)
 
 abbrev pub frame : Page → (y height k : ℕ) → Deed → Xml
-frame p y height k (deeds.Map c start len map) =
+frame p y height k (deeds.Map c start len keep map) =
     titled (frame_title k) (shape (Rectangle (at p.axis start) y (wide p.axis start (start + len)) height 0 (codes "frame")))
 frame p y height k (deeds.Channel c) = Nothing
 frame p y height k (deeds.Flow c sid modem first last kind) = Nothing

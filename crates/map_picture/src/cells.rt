@@ -4,7 +4,7 @@ ghost use Rattle.std.specs.Prelude.{◌≡◌, ◌++◌, ◌<◌, ◌^◌, IfOk,
 ghost use Rattle.xml_text.specs.Xml.{render};
 ghost use Rattle.map_picture.specs.Cells.{cell, cell_at, cell_shape, cell_title, cell_width, cell_words, cell_x, cells, CellsFill};
 
-use crate::shapes::{add_block, class_of, high, words_class};
+use crate::shapes::{add_block, cell_class, high, words_class};
 use crate::words::owner_name;
 use map_body::Interval;
 use std::alloc::{AllocError, Global};
@@ -48,7 +48,7 @@ fn add_cell_shape(
     let title = cell_title(alloc, interval)?;
     let corner = (cell_x(len, interval.from.get()), y);
     let size = (cell_width(len, interval), high(interval));
-    let class = class_of(interval.sid.get());
+    let class = cell_class(interval);
     add_block(alloc, out, title.as_str(), corner, size, class)
 }
 

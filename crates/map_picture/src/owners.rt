@@ -111,8 +111,14 @@ fn add_windows(
     ensures { OnOk result (string_bytes out.new ≡ string_bytes out.old ++ render (windows axis y until kind)) }
 {
     match kind {
-        FlowKind::BestEffort(_) => Ok(()),
+        FlowKind::BestEffort(_) | FlowKind::Initial { .. } => Ok(()),
         FlowKind::Ugs {
+            interval,
+            jitter,
+            base,
+            ..
+        }
+        | FlowKind::Station {
             interval,
             jitter,
             base,
@@ -149,6 +155,18 @@ fn kind_words(alloc: Global, kind: FlowKind) -> Result<String, AllocError>
             jitter,
             ..
         } => format!(in alloc; "poll every {interval} within {jitter}"),
+        FlowKind::Station {
+            size,
+            interval,
+            jitter,
+            ..
+        } => format!(in alloc; "station {size} every {interval} within {jitter}"),
+        FlowKind::Initial {
+            size,
+            interval,
+            jitter,
+            ..
+        } => format!(in alloc; "initial {size} every {interval} within {jitter}"),
     }
 }
 

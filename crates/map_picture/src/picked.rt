@@ -1,8 +1,9 @@
 //! Which rows a channel has.
 
 ghost use Rattle.std.specs.Prelude.{◌≡◌, ◌≤◌, length, IfOk};
-ghost use Rattle.map_picture.specs.Picked.{is_map, is_on, leases_on, maps_on, requests_on};
+ghost use Rattle.map_picture.specs.Picked.{has_row, is_map, is_on, leases_on, maps_on, requests_on};
 
+use flow_state::FlowKind;
 use plan_account::{Deed, LeaseRow, RequestRow};
 use std::alloc::{AllocError, Global};
 
@@ -13,7 +14,20 @@ fn is_on(ch: u8, key: u32) -> bool
     key / (1 << 16) == u32::from(ch)
 }
 
-/// The leases of a channel's SIDs.
+/// Whether a flow has a row: what is opened to everybody is no SID's.
+fn has_row(kind: FlowKind) -> bool
+    ensures { result ≡ has_row kind }
+{
+    match kind {
+        FlowKind::Initial { .. } => false,
+        FlowKind::BestEffort(_) => true,
+        FlowKind::Ugs { .. } => true,
+        FlowKind::Poll { .. } => true,
+        FlowKind::Station { .. } => true,
+    }
+}
+
+/// The leases of a channel's SIDs that have a row.
 pub(crate) fn leases_on(
     alloc: Global,
     ch: u8,
@@ -24,7 +38,7 @@ pub(crate) fn leases_on(
 {
     let mut rows = Vec::new(alloc);
     for row in leases {
-        if is_on(ch, row.key) {
+        if is_on(ch, row.key) && has_row(row.lease.kind) {
             rows.push(*row)?;
         }
     }

@@ -99,6 +99,7 @@ fn add_strip_of(
             start,
             len,
             map,
+            ..
         } => add_strip(alloc, out, sent, y, k, i, *ch, start.get(), *len, map),
         Deed::Channel(_) => Ok(()),
         Deed::Flow { .. } => Ok(()),

@@ -3,7 +3,7 @@
 ghost use Rattle.std.specs.Prelude.{◌≡◌, ◌++◌, OnOk, string_bytes};
 ghost use Rattle.xml_text.specs.Xml.{render, shape, titled};
 ghost use Rattle.xml_text.specs.Xml.Tag.{Rectangle};
-ghost use Rattle.map_picture.specs.Cells.{class_of, colour, high, words_class};
+ghost use Rattle.map_picture.specs.Cells.{cell_class, class_of, colour, high, words_class};
 
 use map_body::{Interval, Iuc, Sid};
 use std::alloc::{AllocError, Global};
@@ -55,6 +55,17 @@ pub(crate) fn class_of(sid: u16) -> &'static str
         "open"
     } else {
         colour(sid % 7)
+    }
+}
+
+/// What an interval looks like: an opening for first ranging has a pattern of its own.
+pub(crate) fn cell_class(interval: &Interval) -> &'static str
+    ensures { result.now ≡ cell_class interval.now }
+{
+    if interval.sid == Sid::EVERYBODY && interval.iuc == Iuc::INITIAL_MAINTENANCE {
+        "opening"
+    } else {
+        class_of(interval.sid.get())
     }
 }
 

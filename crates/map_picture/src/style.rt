@@ -8,7 +8,7 @@ use xml_text::{add_pattern, add_words};
 
 /// What rows and marks mean.
 const NOTE: &str =
-    "block: a grant, coloured by SID; low block: a poll; line below: when it is due; dot: sent; ring: told to wait; red: waits or was dropped";
+    "block: a grant, coloured by SID; low block: a poll; hatched: free; crossed: open to range first; line below: when it is due; dot: sent; ring: told to wait; red: waits or was dropped";
 
 /// What wedges mean.
 const WEDGES: &str =
@@ -17,7 +17,7 @@ const WEDGES: &str =
 /// The rules of both light and dark.
 pub(crate) const STYLE: &str = "text{font:11px ui-sans-serif,system-ui,'DejaVu Sans',sans-serif}\
 .h{font-size:15px;font-weight:600}.e{text-anchor:end}.s{font-size:10px}.b{font-weight:600}\
-.open{fill:url(#open)}.frame{fill:none;stroke-width:1}.ask{stroke-width:1}.ring{stroke-width:2}\
+.open{fill:url(#open)}.opening{fill:url(#opening)}.frame{fill:none;stroke-width:1}.ask{stroke-width:1}.ring{stroke-width:2}\
 .g0{fill:#0072b2}.g1{fill:#e69f00}.g2{fill:#56b4e9}.g3{fill:#009e73}.g4{fill:#f0e442}.g5{fill:#d55e00}.g6{fill:#cc79a7}\
 .k{fill:#000000}.bg{fill:#ffffff}text{fill:#1f2328}.mute{fill:#656d76}.frame{stroke:#8c959f}.hatch{stroke:#c8ced5}\
 .due{fill:#656d76}.ask{stroke:#656d76}.sent{fill:#1f2328}.ring{fill:#ffffff;stroke:#c1121f}.bad{fill:#c1121f}\
@@ -26,12 +26,20 @@ pub(crate) const STYLE: &str = "text{font:11px ui-sans-serif,system-ui,'DejaVu S
 .due{fill:#8d96a0}.ask{stroke:#8d96a0}.sent{fill:#e6edf3}.ring{fill:#0d1117;stroke:#ff6b6b}.bad{fill:#ff6b6b}\
 .k{fill:#000000}}";
 
-/// What minislots that are open to all are filled with.
+/// What minislots that are open to all are filled with: free ones, and openings for first ranging.
 pub(crate) fn patterns(alloc: Global) -> Result<String, AllocError>
     ensures { IfOk result (λ text. IsRendered (string_bytes text)) }
 {
     let mut out = String::new(alloc);
     add_pattern(alloc, &mut out, "open", 6, "M-1 7L7 -1", "hatch")?;
+    add_pattern(
+        alloc,
+        &mut out,
+        "opening",
+        6,
+        "M-1 7L7 -1M-1 -1L7 7",
+        "hatch",
+    )?;
     Ok(out)
 }
 

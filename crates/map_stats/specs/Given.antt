@@ -7,7 +7,7 @@ use Rattle.plan_account.specs.declared.deed.Deed.TheVariants as deeds
 
 -- a MAP: its channel, and how long it is
 abbrev pub maps_in : Deed → List (ℕ × ℕ)
-maps_in (deeds.Map ch start len m) = (ch, len) ∷ []
+maps_in (deeds.Map ch start len keep m) = (ch, len) ∷ []
 maps_in (deeds.Channel ch) = []
 maps_in (deeds.Flow ch sid modem first last kind) = []
 maps_in (deeds.Drop ch sid) = []
@@ -24,7 +24,7 @@ sid_given ch i = if i.sid == everybody then [] else ((ch * 2 ^ 14 + i.sid) * 16 
 
 -- those of the intervals of a MAP
 abbrev pub uses_in : Deed → List (ℕ × ℕ)
-uses_in (deeds.Map ch start len m) = map (use_given ch) m.intervals
+uses_in (deeds.Map ch start len keep m) = map (use_given ch) m.intervals
 uses_in (deeds.Channel ch) = []
 uses_in (deeds.Flow ch sid modem first last kind) = []
 uses_in (deeds.Drop ch sid) = []
@@ -32,7 +32,7 @@ uses_in (deeds.Request ch sid n sent) = []
 uses_in deeds.Other = []
 
 abbrev pub sids_in : Deed → List (ℕ × ℕ)
-sids_in (deeds.Map ch start len m) = flat_map (sid_given ch) m.intervals
+sids_in (deeds.Map ch start len keep m) = flat_map (sid_given ch) m.intervals
 sids_in (deeds.Channel ch) = []
 sids_in (deeds.Flow ch sid modem first last kind) = []
 sids_in (deeds.Drop ch sid) = []

@@ -1,7 +1,7 @@
 -- Bars of 60 columns: what of a MAP's minislots is whose.
 use Rattle.std.specs.Prelude.{ℕ, zero, suc, ◌+◌, ◌*◌, ◌/◌, ◌%◌, ◌==◌, Bool, ◌&&◌, nat_lt, if◌then◌else◌, List, [], ◌∷◌, ◌++◌}
 use Rattle.map_body.specs.declared.interval.Interval.{Interval}
-use Rattle.map_body.specs.Iucs.{request}
+use Rattle.map_body.specs.Iucs.{initial_maintenance, request, station_maintenance}
 use Rattle.map_body.specs.Sids.{everybody}
 use Rattle.plan_account.specs.Cover.{holds}
 
@@ -24,9 +24,14 @@ bar_mark from to len mark column = if shares from to len column then mark else 4
 unfoldable pub bar : (from to len mark : ℕ) → List ℕ
 bar from to len mark = columns (bar_mark from to len mark) bar_columns
 
--- whose an interval is: everybody's, a poll, or the last digit of the SID that it is granted to
+-- what is everybody's: an opening for first ranging, or else free
+abbrev pub open_mark : ℕ → ℕ
+open_mark iuc = if iuc == initial_maintenance then 61 else 45
+
+-- whose an interval is: everybody's, a poll, to range in, or the last digit of the SID that it is granted to
 abbrev pub owner_mark : Interval → ℕ
-owner_mark i = if i.sid == everybody then 45 else if i.iuc == request then 63 else 48 + i.sid % 10
+owner_mark i =
+    if i.sid == everybody then open_mark i.iuc else if i.iuc == request then 63 else if i.iuc == station_maintenance then 33 else 48 + i.sid % 10
 
 -- whose minislot x is; a dot where it is nobody's
 abbrev pub owner_at : List Interval → ℕ → ℕ

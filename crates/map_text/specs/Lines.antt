@@ -2,10 +2,10 @@
 use Rattle.std.specs.Prelude.{ℕ, ◌-◌, ◌==◌, if◌then◌else◌, List, ◌++◌, length, replicate, flat_map, codes, decimal}
 use Rattle.map_body.specs.declared.element.Element.{Element}
 use Rattle.map_body.specs.declared.interval.Interval.{Interval}
-use Rattle.map_body.specs.Iucs.{request}
+use Rattle.map_body.specs.Iucs.{request, station_maintenance}
 use Rattle.map_body.specs.Sids.{everybody}
 use Rattle.plan_account.specs.Shown.{Shown}
-use Rattle.map_text.specs.Bars.{bar, owners}
+use Rattle.map_text.specs.Bars.{bar, open_mark, owners}
 
 -- a text at the right of so many columns, and at their left
 unfoldable pub right : ℕ → List ℕ → List ℕ
@@ -21,9 +21,9 @@ sid_name sid = codes "sid " ++ decimal sid
 unfoldable pub owner_name : ℕ → List ℕ
 owner_name sid = if sid == everybody then codes "all" else sid_name sid
 
--- how an interval's minislots stand in its bar: everybody's, a poll, a grant
+-- how an interval's minislots stand in its bar: everybody's, a poll, to range in, a grant
 abbrev pub bar_sign : Interval → ℕ
-bar_sign i = if i.sid == everybody then 45 else if i.iuc == request then 63 else 35
+bar_sign i = if i.sid == everybody then open_mark i.iuc else if i.iuc == request then 63 else if i.iuc == station_maintenance then 33 else 35
 
 -- what stands before a bar: offset, length, owner and use
 unfoldable pub interval_front : Interval → List ℕ

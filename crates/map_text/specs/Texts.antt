@@ -14,7 +14,7 @@ use Rattle.map_text.specs.Lines.{map_lines}
 
 -- how many MAPs of a channel a deed is
 abbrev pub maps_in : ℕ → Deed → ℕ
-maps_in ch (deeds.Map c start len map) = if c == ch then 1 else 0
+maps_in ch (deeds.Map c start len keep map) = if c == ch then 1 else 0
 maps_in ch (deeds.Channel c) = 0
 maps_in ch (deeds.Flow c sid modem first last kind) = 0
 maps_in ch (deeds.Drop c sid) = 0
@@ -23,7 +23,7 @@ maps_in ch deeds.Other = 0
 
 -- the lines of a deed that is a MAP of the channel, the next after so many, of a command of this number
 abbrev pub deed_lines : (ch maps command : ℕ) → Deed → List ℕ
-deed_lines ch maps command (deeds.Map c start len map) = if c == ch then map_lines ch (maps + 1) command start len map else []
+deed_lines ch maps command (deeds.Map c start len keep map) = if c == ch then map_lines ch (maps + 1) command start len map else []
 deed_lines ch maps command (deeds.Channel c) = []
 deed_lines ch maps command (deeds.Flow c sid modem first last kind) = []
 deed_lines ch maps command (deeds.Drop c sid) = []

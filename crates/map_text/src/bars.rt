@@ -2,7 +2,7 @@
 
 ghost use Rattle.std.specs.Prelude.{◌≡◌, ◌++◌, ◌<◌, ◌≤◌, OnOk, replicate};
 ghost use Rattle.plan_account.specs.Cover.{holds};
-ghost use Rattle.map_text.specs.Bars.{bar_columns, shares, bar_mark, bar, owner_mark, owner_at, column_owner, owners};
+ghost use Rattle.map_text.specs.Bars.{bar_columns, shares, bar_mark, bar, open_mark, owner_mark, owner_at, column_owner, owners};
 
 use map_body::{Interval, Iuc, Sid};
 use std::alloc::AllocError;
@@ -47,15 +47,28 @@ pub(crate) fn put_bar(
     Ok(())
 }
 
+/// What is everybody's, as a mark: an opening for first ranging, or else free.
+pub(crate) fn open_mark(iuc: Iuc) -> u8
+    ensures { result ≡ open_mark iuc }
+{
+    if iuc == Iuc::INITIAL_MAINTENANCE {
+        b'='
+    } else {
+        b'-'
+    }
+}
+
 /// Whose an interval is, as a mark.
 fn owner_mark(interval: &Interval) -> u8
     ensures { result ≡ owner_mark interval.now }
 {
     let Interval { sid, iuc, .. } = *interval;
     if sid == Sid::EVERYBODY {
-        b'-'
+        open_mark(iuc)
     } else if iuc == Iuc::REQUEST {
         b'?'
+    } else if iuc == Iuc::STATION_MAINTENANCE {
+        b'!'
     } else {
         b'0' + (sid.get() % 10) as u8
     }

@@ -3,7 +3,7 @@
 ghost use Rattle.std.specs.Prelude.{◌≡◌, ◌++◌, ◌-◌, length, replicate, decimal, flat_map, codes, IfOk, OnOk, string_bytes};
 ghost use Rattle.map_text.specs.Lines.{right, left, indent, waits, span_text, sid_name, owner_name, bar_sign, interval_front, interval_line, waiting_line, head_line, owners_line, map_lines};
 
-use crate::bars::{put_bar, put_owners};
+use crate::bars::{open_mark, put_bar, put_owners};
 use map_body::{Element, Interval, Iuc, Sid};
 use plan_account::ShownMap;
 use std::alloc::{AllocError, Global};
@@ -59,9 +59,11 @@ fn bar_sign(interval: &Interval) -> u8
     ensures { result ≡ bar_sign interval.now }
 {
     if interval.sid == Sid::EVERYBODY {
-        b'-'
+        open_mark(interval.iuc)
     } else if interval.iuc == Iuc::REQUEST {
         b'?'
+    } else if interval.iuc == Iuc::STATION_MAINTENANCE {
+        b'!'
     } else {
         b'#'
     }

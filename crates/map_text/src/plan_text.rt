@@ -39,6 +39,7 @@ fn put_deed(
             start,
             len,
             map,
+            ..
         } => {
             if *c != ch {
                 return Ok(());

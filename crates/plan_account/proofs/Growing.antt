@@ -43,6 +43,6 @@ holds_more ds d s t u command held is grows counted same = record {
     whole q = tells_more 1 ds d ∙ ap (λ n. told_by ds ++ tells n d) (sym number)
 
 -- what a MAP tells, of a call that may have failed
-pub told_map : {T E : Type 0} (r : Result T E) (command : ℕ) (d : Deed) (s t : Flows) (ch start len : ℕ) (m : Shown) → d ≡ deeds.Map ch start len m
-    → OnOk r (Grows (mapped ch start len m) s t) → OnOk r (Grows (tells command d) s t)
-told_map r command d s t ch start len m is grown = rw is grown
+pub told_map : {T E : Type 0} (r : Result T E) (command : ℕ) (d : Deed) (s t : Flows) (ch start len keep : ℕ) (m : Shown) → d ≡ deeds.Map ch start len keep m
+    → OnOk r (Grows (mapped ch start len keep m) s t) → OnOk r (Grows (tells command d) s t)
+told_map r command d s t ch start len keep m is grown = rw is grown

@@ -18,7 +18,7 @@ use Rattle.plan_account.specs.Cover.{follow}
 use Rattle.plan_account.specs.Shown.{shown_by}
 use Rattle.plan_account.specs.declared.deed.Deed.{Deed}
 use Rattle.plan_account.specs.declared.deed.Deed.TheVariants as deeds
-use Rattle.plan_account.specs.Deeds.{IsDeedOf, OutputsHaveDeeds, channel_deed, flow_deed, quiet_deed}
+use Rattle.plan_account.specs.Deeds.{IsDeedOf, OutputsHaveDeeds, channel_deed, flow_deed, keep_of, quiet_deed}
 
 -- behind an element that is no Null offsets fall where they fall behind the next one
 later_falls : (d : Element) (es : List Element) (i : ℕ) → d.iuc ≢ iucs.null → Falls es i → Falls (d ∷ es) (suc i)
@@ -98,7 +98,7 @@ deed_of_map c ch start len bytes m =
     let all = follows es null.place null.null first.0 null.here_is null.is_null null.first m.body.1.in_order first.1 in
     let from : IsTrue (follow 0 (intervals es) null.null.offset) = subst (λ n. IsTrue (follow n (intervals es) null.null.offset)) (m.begins first.0 first.1) all in
     let whole : IsTrue (follow 0 (intervals es) len) = subst (λ n. IsTrue (follow 0 (intervals es) n)) null.offset_is from in
-    (deeds.Map ch start len (shown_by m.map), (shown_by m.map, (m.map, (0, m.body.0, m.body.1), whole, refl), refl))
+    (deeds.Map ch start len (keep_of c) (shown_by m.map), (shown_by m.map, (m.map, (0, m.body.0, m.body.1), whole, refl), refl))
 
 deed_of_output : (c : Command) (o : Output) → ((ch start len : ℕ) (bytes : List ℕ) → o ≡ outputs.Map ch start len bytes → IsMapOf ch start len bytes) → (d : Deed) × IsDeedOf c o d
 deed_of_output c outputs.Nothing maps = (quiet_deed c, refl)

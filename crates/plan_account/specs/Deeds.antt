@@ -42,6 +42,11 @@ flow_deed commands.Noop modem ch sid first last = deeds.Other
 flow_deed (commands.Channel c) modem ch sid first last = deeds.Other
 flow_deed (commands.Cut c len not_before ack keep ranging sending) modem ch sid first last = deeds.Other
 
+-- how many minislots a command keeps free of its MAP
+abbrev pub keep_of : Command → ℕ
+keep_of (commands.Cut ch len not_before ack keep ranging sending) = keep
+keep_of other = 0
+
 -- what a MAP of so many minislots shows, by the body that its bytes are: that has each of its minislots
 abbrev pub IsWhole : ℕ → List ℕ → Shown → Type 0
 IsWhole len bytes m = (body : Body) × IsBody bytes body × IsTrue (follow 0 (intervals body.elements) len) × (m ≡ shown_by body)
@@ -51,7 +56,7 @@ abbrev pub IsDeedOf : Command → Output → Deed → Type 0
 IsDeedOf c outputs.Nothing d = d ≡ quiet_deed c
 IsDeedOf c (outputs.ChannelSet ch ucd) d = d ≡ channel_deed c ch
 IsDeedOf c (outputs.Assigned modem ch sid first last) d = d ≡ flow_deed c modem ch sid first last
-IsDeedOf c (outputs.Map ch start len bytes) d = (m : Shown) × IsWhole len bytes m × (d ≡ deeds.Map ch start len m)
+IsDeedOf c (outputs.Map ch start len bytes) d = (m : Shown) × IsWhole len bytes m × (d ≡ deeds.Map ch start len (keep_of c) m)
 IsDeedOf c (outputs.Refused number) d = d ≡ deeds.Other
 
 -- why there is no body of so many minislots: the first fault of bytes that are none; a body that leaves a minislot out
@@ -93,7 +98,7 @@ channel_in (deeds.Channel ch) = ch ∷ []
 channel_in (deeds.Flow ch sid modem first last kind) = []
 channel_in (deeds.Drop ch sid) = []
 channel_in (deeds.Request ch sid n sent) = []
-channel_in (deeds.Map ch start len map) = []
+channel_in (deeds.Map ch start len keep map) = []
 channel_in deeds.Other = []
 
 abbrev pub channels_of : List Deed → List ℕ

@@ -34,4 +34,4 @@ IsOfFlow (Asked command n sent) = Unit {0}
 IsOfFlow Dropped = Unit {0}
 IsOfFlow (Given at answers) = Unit {0}
 IsOfFlow Waits = Unit {0}
-IsOfFlow (Mapped start end gap) = ⊥
+IsOfFlow (Mapped start end left) = ⊥

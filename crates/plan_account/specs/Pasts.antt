@@ -9,6 +9,7 @@ use Rattle.plan_account.specs.declared.past.RequestRow.{RequestRow}
 use Rattle.plan_account.specs.declared.past.Told.{Told}
 use Rattle.plan_account.specs.declared.reach.Ask.{Ask}
 use Rattle.plan_account.specs.declared.reach.Lease.{Lease}
+use Rattle.plan_account.specs.declared.reach.Left.{Left}
 use Rattle.plan_account.specs.declared.reach.Reach.{Reach}
 use Rattle.plan_account.specs.declared.reach.Term.{Term}
 use Rattle.plan_account.specs.Whys.{why_in}
@@ -104,7 +105,7 @@ past_step r p (happens.Asked command n sent) = with_ask p (record { command = co
 past_step r p happens.Dropped = settled p r.end
 past_step r p (happens.Given at answers) = with_given p (r.maps + 1) at answers
 past_step r p happens.Waits = waits_on p.term p.ask p r
-past_step r p (happens.Mapped start end gap) = p
+past_step r p (happens.Mapped start end left) = p
 
 -- ---- where a plan ends
 
@@ -129,7 +130,7 @@ pub record At : Type 0 where
   pub past : Option Past
 
 abbrev pub no_reach : Reach
-no_reach = record { maps = 0; start = 0; end = 0; gap = 0 }
+no_reach = record { maps = 0; start = 0; end = 0; left = record { gap = 0; placed = 0; keep = 0 } }
 
 abbrev pub nothing : At
 nothing = record { reach = no_reach; past = None }
@@ -138,8 +139,8 @@ nothing = record { reach = no_reach; past = None }
 abbrev pub flow_at_step : ℕ → At → ℕ → Happening → At
 flow_at_step q s key h = if key == q then record s { past = Some (past_step s.reach (unwrap_or s.past (no_past key)) h) } else s
 
-abbrev pub reach_step : ℕ → Reach → ℕ → (start end gap : ℕ) → Reach
-reach_step ch r key start end gap = if key / 2 ^ 16 == ch then record { maps = r.maps + 1; start = start; end = end; gap = gap } else r
+abbrev pub reach_step : ℕ → Reach → ℕ → (start end : ℕ) → Left → Reach
+reach_step ch r key start end left = if key / 2 ^ 16 == ch then record { maps = r.maps + 1; start = start; end = end; left = left } else r
 
 abbrev pub at_step : ℕ → At → ℕ × Happening → At
 at_step q s (key, happens.Leased command modem first last kind) = flow_at_step q s key (happens.Leased command modem first last kind)
@@ -147,7 +148,7 @@ at_step q s (key, happens.Asked command n sent) = flow_at_step q s key (happens.
 at_step q s (key, happens.Dropped) = flow_at_step q s key happens.Dropped
 at_step q s (key, happens.Given at answers) = flow_at_step q s key (happens.Given at answers)
 at_step q s (key, happens.Waits) = flow_at_step q s key happens.Waits
-at_step q s (key, happens.Mapped start end gap) = record s { reach = reach_step (q / 2 ^ 16) s.reach key start end gap }
+at_step q s (key, happens.Mapped start end left) = record s { reach = reach_step (q / 2 ^ 16) s.reach key start end left }
 
 -- what has happened at a key
 abbrev pub at_key : List (ℕ × Happening) → ℕ → At

@@ -2,14 +2,16 @@
 use Rattle.std.specs.Prelude.{ℕ, ◌+◌, ◌-◌, ◌/◌, ◌%◌, ◌==◌, ◌||◌, ◌&&◌, not, nat_lt, Bool, if◌then◌else◌, List, length, Option, Some, None}
 use Rattle.std.specs.List.{filter}
 use Rattle.flow_state.specs.declared.flow.FlowKind.{FlowKind}
-use Rattle.flow_state.specs.declared.flow.FlowKind.TheVariants.{BestEffort, Ugs, Poll}
+use Rattle.flow_state.specs.declared.flow.FlowKind.TheVariants.{BestEffort, Ugs, Poll, Station, Initial}
 use Rattle.plan_account.specs.declared.windows.Windows.{Windows}
 
--- those of a flow, if something comes by itself for it
+-- those of a flow, if something comes by itself to its SID: openings for first ranging are everybody's
 abbrev pub windows_of : FlowKind → Option Windows
 windows_of (BestEffort priority) = None
 windows_of (Ugs size interval jitter base) = Some (record { interval = interval; jitter = jitter; base = base })
 windows_of (Poll interval jitter base) = Some (record { interval = interval; jitter = jitter; base = base })
+windows_of (Station size interval jitter base) = Some (record { interval = interval; jitter = jitter; base = base })
+windows_of (Initial size interval jitter base) = None
 
 -- how many windows end before a time: of each number i for which base + i * interval + jitter lies before it
 abbrev pub windows_past : Windows → (end : ℕ) → ℕ

@@ -5,7 +5,7 @@ ghost use Rattle.map_body.specs.declared.fault.MapFault.TheVariants.{OutOfMemory
 ghost use Rattle.grant_machine.specs.declared.command.Command.{Command};
 ghost use Rattle.plan_account.specs.Cover.{follow};
 ghost use Rattle.plan_account.specs.declared.deed.Deed.{Deed};
-ghost use Rattle.plan_account.specs.Deeds.{quiet_deed, channel_deed, flow_deed, BodyFault, IsWhole, IsDeedOf, IsDeedFault, channels_of};
+ghost use Rattle.plan_account.specs.Deeds.{quiet_deed, channel_deed, flow_deed, BodyFault, IsWhole, IsDeedOf, IsDeedFault, channels_of, keep_of};
 
 use crate::shown::ShownMap;
 use flow_state::FlowKind;
@@ -40,11 +40,12 @@ pub enum Deed {
         n: u16,
         sent: u64,
     },
-    /// A MAP of so many minislots from a time on.
+    /// A MAP of so many minislots from a time on, of which its cut keeps some free.
     Map {
         ch: u8,
         start: Slot,
         len: u16,
+        keep: u16,
         map: ShownMap,
     },
     /// A refusal, or nothing.
@@ -100,6 +101,21 @@ fn flow_deed(command: &Command, modem: u32, ch: u8, sid: u16, first: u64, last: 
         Command::Channel(_) => Deed::Other,
         Command::Cut { .. } => Deed::Other,
         Command::Change { .. } => Deed::Other,
+    }
+}
+
+/// How many minislots a command keeps free of its MAP.
+fn keep_of(command: &Command) -> u16
+    ensures { result ≡ keep_of command.now }
+{
+    match *command {
+        Command::Cut { keep, .. } => keep,
+        Command::Noop => 0,
+        Command::Channel(_) => 0,
+        Command::Change { .. } => 0,
+        Command::Flow { .. } => 0,
+        Command::Drop { .. } => 0,
+        Command::Request { .. } => 0,
     }
 }
 
@@ -163,6 +179,7 @@ fn deed_told(alloc: Global, command: &Command, output: &Output) -> Result<Deed, 
                 ch: *ch,
                 start: *start,
                 len: *len,
+                keep: keep_of(command),
                 map,
             })
         }

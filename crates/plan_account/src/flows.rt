@@ -7,9 +7,9 @@ ghost use Rattle.plan_account.specs.FlowsHeld.{past_at_step};
 ghost use Rattle.plan_account.specs.Pasts.{no_reach};
 
 use crate::deed::Deed;
-use crate::happening::{Happening, gap_of, key_of};
+use crate::happening::{Happening, key_of, left_by};
 use crate::past::{FlowPast, next};
-use crate::reach::Reach;
+use crate::reach::{Left, Reach};
 use crate::shown::ShownMap;
 use map_body::{Element, Interval, Sid};
 use std::alloc::{AllocError, Global};
@@ -33,7 +33,11 @@ pub(crate) fn reach_in(reaches: &BTreeMap<u32, Reach>, channel: u32) -> Reach
             maps: 0,
             start: 0,
             end: 0,
-            gap: 0,
+            left: Left {
+                gap: 0,
+                placed: 0,
+                keep: 0,
+            },
         },
     }
 }
@@ -61,7 +65,7 @@ impl Flows {
     ghost use Rattle.std.specs.Prelude.{◌≡◌, ℕ, ◌+◌, ◌<◌, ◌^◌, List, [], ◌∷◌, ◌++◌, flat_map, OnOk};
     ghost use Rattle.plan_account.specs.declared.deed.Deed.{Deed};
     ghost use Rattle.plan_account.specs.declared.happening.Happening.TheVariants.{Mapped};
-    ghost use Rattle.plan_account.specs.Happenings.{key_of, gap_of, given_by, waits_by, mapped, tells};
+    ghost use Rattle.plan_account.specs.Happenings.{key_of, given_by, left_by, waits_by, mapped, tells};
     ghost use Rattle.plan_account.specs.FlowsHeld.{HoldsFlows, Grows, IsOfFlow};
 
     /// Of no deed.
@@ -119,8 +123,8 @@ impl Flows {
         Ok(())
     }
 
-    fn add_end(&mut self, ch: u8, start: u64, end: u64, gap: u16) -> Result<(), AllocError>
-        ensures { OnOk result (Grows ((key_of ch 0, Mapped start end gap) ∷ []) self.old self.new) }
+    fn add_end(&mut self, ch: u8, start: u64, end: u64, left: Left) -> Result<(), AllocError>
+        ensures { OnOk result (Grows ((key_of ch 0, Mapped start end left) ∷ []) self.old self.new) }
     {
         let channel = u32::from(ch);
         let Reach { maps, .. } = reach_in(&self.reaches, channel);
@@ -129,7 +133,7 @@ impl Flows {
             maps,
             start,
             end,
-            gap,
+            left,
         };
         self.reaches.insert(channel, reach)?;
         Ok(())
@@ -160,14 +164,15 @@ impl Flows {
         ch: u8,
         start: u64,
         len: u16,
+        keep: u16,
         map: &ShownMap,
     ) -> Result<(), AllocError>
         requires { start < 2 ^ 63 }
-        ensures { OnOk result (Grows (mapped ch start len map.now) self.old self.new) }
+        ensures { OnOk result (Grows (mapped ch start len keep map.now) self.old self.new) }
     {
         let found = map.intervals();
         self.add_intervals(alloc, ch, start, found)?;
-        self.add_end(ch, start, start + u64::from(len), gap_of(found))?;
+        self.add_end(ch, start, start + u64::from(len), left_by(keep, found))?;
         self.add_waiting(alloc, ch, map.waiting())?;
         Ok(())
     }
@@ -206,8 +211,9 @@ impl Flows {
                 ch,
                 start,
                 len,
+                keep,
                 map,
-            } => self.add_map(alloc, *ch, start.get(), *len, map),
+            } => self.add_map(alloc, *ch, start.get(), *len, *keep, map),
             Deed::Channel(_) => Ok(()),
             Deed::Other => Ok(()),
         }

@@ -2,14 +2,22 @@
 
 use flow_state::FlowKind;
 
-/// A channel's MAPs: how many, where the last one begins and ends, and its longest run of minislots that everybody may
-/// use.
+/// What a MAP left to requests: its longest run of free minislots, its placements, which are grants, polls and openings,
+/// and how many minislots its cut kept free.
+#[derive(Clone, Copy)]
+pub struct Left {
+    pub gap: u16,
+    pub placed: u64,
+    pub keep: u16,
+}
+
+/// A channel's MAPs: how many, where the last one begins and ends, and what it left.
 #[derive(Clone, Copy)]
 pub struct Reach {
     pub maps: u64,
     pub start: u64,
     pub end: u64,
-    pub gap: u16,
+    pub left: Left,
 }
 
 /// A lease, from its first minislot to its last one.

@@ -2,7 +2,7 @@
 
 ghost use Rattle.std.specs.Prelude.{◌≡◌, IfOk, string_bytes};
 ghost use Rattle.plan_account.specs.Whys.{why_in};
-ghost use Rattle.plan_account.specs.WhyTexts.{gap_words, placement_words, why_name, why_words};
+ghost use Rattle.plan_account.specs.WhyTexts.{gap_words, kept_words, placement_words, why_name, why_words};
 
 use crate::reach::Reach;
 use std::alloc::{AllocError, Global};
@@ -18,7 +18,12 @@ pub enum Why {
     NoGap(u16),
     /// The last MAP left a gap so long, but had as many placements as a MAP may have.
     Placements,
+    /// The last MAP left a gap so long and could have placed it, but its cut kept so many minislots free.
+    Kept(u16),
 }
+
+/// How many placements a MAP may have.
+const MOST_PLACEMENTS: u64 = 60;
 
 /// Why a request for n minislots waits, of a lease with this last minislot, that was accepted behind so many MAPs.
 pub(crate) fn why_in(reach: Reach, last: u64, n: u16, maps: u64) -> Why
@@ -29,10 +34,12 @@ pub(crate) fn why_in(reach: Reach, last: u64, n: u16, maps: u64) -> Why
         Why::LeaseEnds
     } else if maps == reach.maps {
         Why::NoMap
-    } else if reach.gap < n {
-        Why::NoGap(reach.gap)
-    } else {
+    } else if reach.left.gap < n {
+        Why::NoGap(reach.left.gap)
+    } else if reach.left.placed >= MOST_PLACEMENTS {
         Why::Placements
+    } else {
+        Why::Kept(reach.left.keep)
     }
 }
 
@@ -45,6 +52,7 @@ pub fn why_name(why: Why) -> &'static str
         Why::NoMap => "no-map",
         Why::NoGap(_) => "no-gap",
         Why::Placements => "placements",
+        Why::Kept(_) => "kept",
     }
 }
 
@@ -61,8 +69,14 @@ fn gap_words(alloc: Global, longest: u16) -> Result<String, AllocError>
 fn placement_words(alloc: Global) -> Result<String, AllocError>
     ensures { IfOk result (λ text. string_bytes text ≡ placement_words) }
 {
-    let most: u16 = 60;
+    let most = MOST_PLACEMENTS;
     format!(in alloc; "{most} are placed already")
+}
+
+fn kept_words(alloc: Global, keep: u16) -> Result<String, AllocError>
+    ensures { IfOk result (λ text. string_bytes text ≡ kept_words keep) }
+{
+    format!(in alloc; "{keep} are kept free")
 }
 
 /// A reason in words.
@@ -74,5 +88,6 @@ pub fn why_words(alloc: Global, why: Why) -> Result<String, AllocError>
         Why::NoMap => String::from_str(alloc, "no MAP since"),
         Why::NoGap(longest) => gap_words(alloc, longest),
         Why::Placements => placement_words(alloc),
+        Why::Kept(keep) => kept_words(alloc, keep),
     }
 }

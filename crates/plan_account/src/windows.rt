@@ -13,13 +13,19 @@ pub struct Windows {
     pub base: u64,
 }
 
-/// Those of a flow, if it has any.
+/// Those of a flow, if it has any. No MAP shows the SID of a flow that opens intervals to everybody, so it has none.
 pub(crate) fn windows_of(kind: FlowKind) -> Option<Windows>
     ensures { result ≡ windows_of kind }
 {
     match kind {
-        FlowKind::BestEffort(_) => None,
+        FlowKind::BestEffort(_) | FlowKind::Initial { .. } => None,
         FlowKind::Ugs {
+            interval,
+            jitter,
+            base,
+            ..
+        }
+        | FlowKind::Station {
             interval,
             jitter,
             base,
