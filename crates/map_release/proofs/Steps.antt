@@ -9,17 +9,17 @@ use Rattle.command_log.proofs.Callers.{output_among, values_length}
 use Rattle.map_release.specs.declared.numbered.Numbered.{Numbered}
 use Rattle.map_release.specs.Released.{applied_outputs, numbered, has_ended, released}
 
-numbered_length : (p : ℕ) (os : List Output) → length (numbered p os) ≡ length os
+pub numbered_length : (p : ℕ) (os : List Output) → length (numbered p os) ≡ length os
 numbered_length p [] = refl
 numbered_length p (o ∷ os) = ap (λ n. suc n) (numbered_length (p + 1) os)
 
-numbered_push : (p : ℕ) (os : List Output) (o : Output) → numbered p (os ++ o ∷ []) ≡ numbered p os ++ record { place = p + length os; output = o } ∷ []
+pub numbered_push : (p : ℕ) (os : List Output) (o : Output) → numbered p (os ++ o ∷ []) ≡ numbered p os ++ record { place = p + length os; output = o } ∷ []
 numbered_push p [] o = let place : p ≡ p + 0 = omega arith in ap (λ n. record { place = n; output = o } ∷ []) place
 numbered_push p (x ∷ os) o =
     let place : p + 1 + length os ≡ p + suc (length os) = omega arith in
     ap (λ (xs : List Numbered). record { place = p; output = x } ∷ xs) (numbered_push (p + 1) os o ∙ ap (λ n. numbered (p + 1) os ++ record { place = n; output = o } ∷ []) place)
 
-drop_front : {X : Type 0} (n : ℕ) (xs ys : List X) → n ≤ length xs → drop n (xs ++ ys) ≡ drop n xs ++ ys
+pub drop_front : {X : Type 0} (n : ℕ) (xs ys : List X) → n ≤ length xs → drop n (xs ++ ys) ≡ drop n xs ++ ys
 drop_front zero xs ys le = refl
 drop_front (suc n) [] ys le = absurd (omega arith)
 drop_front (suc n) (x ∷ xs) ys le = drop_front n xs ys (omega arith)

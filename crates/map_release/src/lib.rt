@@ -5,4 +5,4 @@ mod numbered;
 mod release;
 
 pub use numbered::Numbered;
-pub use release::Release;
+pub use release::{Release, has_ended};

@@ -7,8 +7,9 @@ use grant_machine::{Output, again};
 use std::alloc::{AllocError, Global};
 use std::marker::Model;
 
-/// Whether an output is a MAP that has ended by a time in minislots.
-fn has_ended(output: &Output, now: u64) -> bool
+/// Whether an output is a MAP that has ended by a time in minislots: its last minislot lies before it. It takes
+/// constant time.
+pub fn has_ended(output: &Output, now: u64) -> bool
     ensures { result ≡ has_ended now output.now }
 {
     match output {

@@ -12,7 +12,7 @@ use Rattle.modem.specs.Held.{Hearing, Held, HeldBy, Gives, WasLeased}
 use Rattle.modem.specs.Owner.{AreSoundOutputs, IsMapOf, IsTimely, HeardFrom}
 
 -- what was heard to be leased was leased
-leased_of : (outputs : List Output) (id : ℕ) (hearings : List Hearing) (ch sid m : ℕ) → HeardFrom outputs hearings → WasLeased id hearings ch sid m → IsLeased outputs id ch sid m
+pub leased_of : (outputs : List Output) (id : ℕ) (hearings : List Hearing) (ch sid m : ℕ) → HeardFrom outputs hearings → WasLeased id hearings ch sid m → IsLeased outputs id ch sid m
 leased_of outputs id [] ch sid m heard was = absurd was
 leased_of outputs id (h ∷ earlier) ch sid m heard was =
     elim was [ inl l ↦ record { first = l.first; last = l.last; assigned = subst (λ (o : Output). Contains outputs o) l.assigned heard.0; begun = l.begun; not_ended = l.not_ended } | inr before ↦ leased_of outputs id earlier ch sid m heard.2 before ]

@@ -12,9 +12,9 @@ use Rattle.grant_machine.specs.Runs.{outputs_of}
 use Rattle.grant_machine.proofs.Callers as schedules
 use Rattle.command_log.specs.Reading.{command_of}
 use Rattle.command_log.specs.Values.{outputs_of_values}
-use Rattle.modem.specs.Held.{Hearing, Gives, WasLeased, HeldBy, HasHeard}
-use Rattle.modem.specs.Owner.{IsTimely}
-use Rattle.modem.proofs.Callers.{near_once}
+use Rattle.modem.specs.Held.{Hearing, Gives, HeldBy, HasHeard}
+use Rattle.modem.specs.Owner.{IsTimely, HeardFrom}
+use Rattle.modem.proofs.Callers.{leased_of, near_once}
 use Rattle.world_events.specs.declared.event.Event.{Event}
 use Rattle.seats.specs.declared.answer.Answer.{Answer}
 use Rattle.seats.specs.declared.answer.ReleasedOutput.{ReleasedOutput}
@@ -47,13 +47,10 @@ contains_at [] k x is = absurd (cc (is))
 contains_at (y ∷ xs) zero x is = (zero, omega arith, (let e : Some y ≡ Some x = is in cc (e)))
 contains_at (y ∷ xs) (suc k) x is = let r = contains_at xs k x is in (suc r.0, omega (arith, r.1), r.2)
 
--- what was heard to be leased was leased
-leased_of : (outs : List Output) (released : List ReleasedOutput) → ((x : ReleasedOutput) → IsIn released x → Contains outs x.numbered.output) → (id : ℕ) (hearings : List Hearing) (ch sid m : ℕ) → AreReleased released hearings → WasLeased id hearings ch sid m
-    → IsLeased outs id ch sid m
-leased_of outs released stand id [] ch sid m all was = absurd was
-leased_of outs released stand id (h ∷ earlier) ch sid m all (inl is) =
-    record { first = is.first; last = is.last; assigned = subst (λ (o : Output). Contains outs o) (all.0.2 ∙ is.assigned) (stand all.0.0 all.0.1); begun = is.begun; not_ended = is.not_ended }
-leased_of outs released stand id (h ∷ earlier) ch sid m all (inr before) = leased_of outs released stand id earlier ch sid m all.2 before
+-- all that was heard stands there
+heard_from : (outs : List Output) (released : List ReleasedOutput) → ((x : ReleasedOutput) → IsIn released x → Contains outs x.numbered.output) → (hearings : List Hearing) → AreReleased released hearings → HeardFrom outs hearings
+heard_from outs released stand [] all = tt
+heard_from outs released stand (h ∷ earlier) all = (subst (λ (o : Output). Contains outs o) all.0.2 (stand all.0.0 all.0.1), all.1, heard_from outs released stand earlier all.2)
 
 -- a MAP that was heard near its start gives what it holds
 gives_owned : (cs : List Command) (o : Output) (near ch m sid iuc id : ℕ) → AreScheduled (outputs_of cs) → Contains (outputs_of cs) o → IsTimely o near → Gives o near ch m sid iuc → IsLeased (outputs_of cs) id ch sid m → Owns (outputs_of cs) ch m id
@@ -80,12 +77,12 @@ gives_owned cs (outputs.Map c start len bytes) near ch m sid iuc id all there ti
     }
 gives_owned cs other near ch m sid iuc id all there timely gives assigned = absurd gives
 
-held_owned : (cs : List Command) (released : List ReleasedOutput) → ((x : ReleasedOutput) → IsIn released x → Contains (outputs_of cs) x.numbered.output) → AreScheduled (outputs_of cs) → (id : ℕ) (hearings : List Hearing) (ch m sid iuc : ℕ) → AreReleased released hearings
-    → HeldBy id hearings ch m sid iuc → Owns (outputs_of cs) ch m id
-held_owned cs released stand all id [] ch m sid iuc heard held = absurd held
-held_owned cs released stand all id (h ∷ earlier) ch m sid iuc heard (inl now) =
-    gives_owned cs h.output h.near ch m sid iuc id all (subst (λ (o : Output). Contains (outputs_of cs) o) heard.0.2 (stand heard.0.0 heard.0.1)) heard.1 now.1 (leased_of (outputs_of cs) released stand id earlier ch sid m heard.2 now.2)
-held_owned cs released stand all id (h ∷ earlier) ch m sid iuc heard (inr before) = held_owned cs released stand all id earlier ch m sid iuc heard.2 before
+-- what a modem that heard outputs of commands holds, it owns
+pub held_owned : (cs : List Command) (id : ℕ) (hearings : List Hearing) (ch m sid iuc : ℕ) → HeardFrom (outputs_of cs) hearings → HeldBy id hearings ch m sid iuc → Owns (outputs_of cs) ch m id
+held_owned cs id [] ch m sid iuc heard held = absurd held
+held_owned cs id (h ∷ earlier) ch m sid iuc heard (inl now) =
+    gives_owned cs h.output h.near ch m sid iuc id (scheduled cs) heard.0 heard.1 now.1 (leased_of (outputs_of cs) id earlier ch sid m heard.2 now.2)
+held_owned cs id (h ∷ earlier) ch m sid iuc heard (inr before) = held_owned cs id earlier ch m sid iuc heard.2 before
 
 -- ---- modems over runs
 
@@ -138,7 +135,7 @@ pub held_is_owned : OfEveryRun (WithSchedule HeldIsOwned)
 held_is_owned members ids script report w run c schedule j id ch m sid at =
     let ok = run_modems members ids script report w run in
     let stand = λ (x : ReleasedOutput) (there : IsIn w.outputs x). (let r = released_is_output members ids script report w run c schedule x there in contains_at (outputs_of_values c) r.0 x.numbered.output r.2) in
-    held_owned (map command_of c) w.outputs stand (scheduled (map command_of c)) id at.receiver.heard ch m sid at.held.0 (ok.heard j at.receiver at.there) at.held.1
+    held_owned (map command_of c) id at.receiver.heard ch m sid at.held.0 (heard_from (outputs_of_values c) w.outputs stand at.receiver.heard (ok.heard j at.receiver at.there)) at.held.1
 
 pub owners_are_one : OfEveryRun (WithSchedule OwnersAreOne)
 owners_are_one members ids script report w run c schedule ch m id other a b = (scheduled (map command_of c)).one_owner ch m id other a b

@@ -1,0 +1,3 @@
+mod Joined
+mod Scheduled
+pub mod Callers
