@@ -17,6 +17,7 @@ pub mod Once
 pub mod Numbers
 pub mod Shapes
 pub mod Makes
+pub mod Batches
 pub mod Raw
 pub mod Casts
 pub mod Owners

@@ -3,6 +3,7 @@ pub use Rattle.acceptor.proofs.Callers.{rows_put, values_put}
 pub use Rattle.acceptor.specs.Content.{AreRowsFrom, AreValues, Content, IsSound, Write, after_write, no_content}
 pub use Rattle.acceptor.specs.Content.Write.{Learns, Promises, Votes}
 pub use Rattle.acceptor_store_parts.specs.Asked.{shown_of}
+pub use Rattle.acceptor_store_parts.specs.Batch.{HasWrittenAll, MayHaveWrittenAll, PutsAllInside, PutsInside}
 pub use Rattle.acceptor_store_parts.specs.Making.{HoldsFirst, HoldsFor, IsBlank, IsMade, Makes, MayBeMade, Was, owner_then}
 pub use Rattle.acceptor_store_parts.specs.Owned.{AreTablesFor, IsOwnedBy, OwnedBy, number_for, owner_bytes, schema_for, version_for}
 pub use Rattle.acceptor_store_parts.specs.Rowids.{AreByRowid, AreShaped, ShowsFacts, ShowsLearned, ShowsNumbers, ShowsVotes}

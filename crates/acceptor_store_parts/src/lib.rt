@@ -1,6 +1,7 @@
 //! The tables of a node's records, by one statement a call.
 #![tactic(auto)]
 
+mod batch;
 mod declared;
 mod facts;
 mod foreign;
@@ -24,6 +25,7 @@ ghost use Rattle.acceptor_store_parts.specs.Tests.{IsShutBy, IsTold, tells_open,
 ghost use Rattle.acceptor_store_parts.specs.Stored.{IsNumber};
 
 use ballots::{Ballot, Place, Value};
+pub use batch::put_rows;
 pub use declared::is_column;
 pub use facts::{query_facts, read_owner};
 pub use foreign::{has_facts, is_broken, is_foreign, is_unowned};

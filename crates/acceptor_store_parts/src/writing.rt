@@ -12,13 +12,13 @@ use ballots::{Ballot, Place, Value};
 use sqlite::types::ValueRef;
 use sqlite::{Alter, Connection};
 
-const PUT_TRIED: &str = "INSERT OR REPLACE INTO ballot (id, number) VALUES (0, ?1)";
+pub const PUT_TRIED: &str = "INSERT OR REPLACE INTO ballot (id, number) VALUES (0, ?1)";
 
-const PUT_PROMISED: &str = "INSERT OR REPLACE INTO ballot (id, number) VALUES (1, ?1)";
+pub const PUT_PROMISED: &str = "INSERT OR REPLACE INTO ballot (id, number) VALUES (1, ?1)";
 
-const PUT_VOTE: &str = "INSERT OR REPLACE INTO vote (place, ballot, value) VALUES (?1, ?2, ?3)";
+pub const PUT_VOTE: &str = "INSERT OR REPLACE INTO vote (place, ballot, value) VALUES (?1, ?2, ?3)";
 
-const PUT_LEARNED: &str = "INSERT OR REPLACE INTO learned (place, value) VALUES (?1, ?2)";
+pub const PUT_LEARNED: &str = "INSERT OR REPLACE INTO learned (place, value) VALUES (?1, ?2)";
 
 /// A row that a call writes.
 #[derive(Clone, Copy)]

@@ -1,2 +1,4 @@
+pub mod Callers
 mod Made
 mod Leading
+mod Once

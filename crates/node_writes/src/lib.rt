@@ -4,5 +4,5 @@
 mod reading;
 mod write_bytes;
 
-pub use reading::{are_whole, taken_back};
+pub use reading::{Row, are_whole, row_of, taken_back};
 pub use write_bytes::{WriteBytes, learned, no_write, promised, tried, vote};

@@ -14,11 +14,16 @@ use std::alloc::{AllocError, Global};
 
 /// What a write changes, but for its value.
 #[derive(Clone, Copy)]
-pub(crate) enum Row {
+pub enum Row {
+    /// Nothing: there is no write.
     Nothing,
+    /// The last ballot tried.
     Tried(Ballot),
+    /// The promised ballot.
     Promised(Ballot),
+    /// The vote at its place, for the value.
     Vote(Place, Ballot),
+    /// The value learned at its place.
     Learned(Place),
 }
 
@@ -37,7 +42,7 @@ fn place_of(bytes: &WriteBytes) -> Option<Place>
 }
 
 /// What these bytes of a node change, and none where they spell no write of it.
-pub(crate) fn row_of(bytes: &WriteBytes, id: NodeId) -> Option<Row>
+pub fn row_of(bytes: &WriteBytes, id: NodeId) -> Option<Row>
     ensures some { IfSome result (λ row. SpellsOf id bytes.now (row_write row (value_in bytes.now))) }
     ensures none { IfNone result (IsStrange id bytes.now) }
 {

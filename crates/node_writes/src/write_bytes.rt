@@ -6,7 +6,6 @@ ghost use Rattle.ballots.specs.Limits.{longest_value};
 ghost use Rattle.node_writes.specs.Writes.{HasBallot, HasPlace, HasValue, SpellsOf};
 
 use ballots::{Ballot, NodeId, Place};
-use upsched_c_parts::put_front;
 
 /// A write as bytes, numbers most significant byte first: 0 no write, 1 a ballot that is tried, 2 one that is promised,
 /// 3 a vote, 4 a learned value; the node; and the fields that it has, of which the others are 0.
@@ -73,7 +72,7 @@ fn with_row(bytes: WriteBytes, kind: u8, place: Place, value: &[u8]) -> WriteByt
     ensures value { HasValue result value.now }
 {
     let mut room = [0; 64];
-    put_front(value, &mut room);
+    room[..value.len()].copy_from_slice(value);
     WriteBytes {
         kind,
         value_len: value.len() as u8,
