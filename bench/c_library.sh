@@ -32,9 +32,11 @@ gcc -std=gnu99 "${clean[@]}" "${warn[@]}" node_threads.c "$node" -pthread -o "$w
 g++ -std=c++17 "${clean[@]}" "${warn[@]}" failover.cpp "$node" -o "$work/failover"
 g++ -std=c++17 "${clean[@]}" "${warn[@]}" both.cpp "$lib" "$node" -o "$work/both"
 g++ -std=c++17 "${clean[@]}" "${warn[@]}" sim.cpp "$lib" -o "$work/sim"
+g++ -std=c++17 "${clean[@]}" "${warn[@]}" commands.cpp "$lib" -o "$work/commands"
 "$work/agrees"
 "$work/node_agrees"
 "$work/rows" | diff - rows.stdout
+"$work/commands" | diff - commands.stdout
 "$work/node" | diff - node.stdout
 "$work/failover" | diff - failover.stdout
 "$work/both"

@@ -25,8 +25,8 @@ static void command(const upsched_command *c)
 {
     IS(c->kind, 1), IS(c->modem, 2), IS(c->tag, 3), IS(c->interval, 4), IS(c->jitter, 5), IS(c->base, 6);
     IS(c->last, 7), IS(c->sent, 8), IS(c->not_before, 9), IS(c->ack, 10), IS(c->sid, 11), IS(c->minislots, 12);
-    IS(c->short_max, 13), IS(c->ch, 14), IS(c->ucd, 15), IS(c->phy, 16), IS(c->service, 17), IS(c->priority, 18);
-    IS(c->ranging_start, 19), IS(c->ranging_end, 20), IS(c->data_start, 21), IS(c->data_end, 22);
+    IS(c->short_max, 13), IS(c->keep, 14), IS(c->ch, 15), IS(c->ucd, 16), IS(c->phy, 17), IS(c->service, 18);
+    IS(c->priority, 19), IS(c->ranging_start, 20), IS(c->ranging_end, 21), IS(c->data_start, 22), IS(c->data_end, 23);
 }
 
 static void output(const upsched_output *o)

@@ -1,4 +1,4 @@
-/* The first MAP of a channel, as docs/embedding.md has it. */
+/* The first MAP of a channel, as docs/simulators.md has it. */
 #include <stdio.h>
 #include <upsched.h>
 

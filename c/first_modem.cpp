@@ -1,4 +1,4 @@
-// A scheduler and a modem with a voice flow, as docs/embedding.md has them.
+// A scheduler and a modem with a voice flow, as docs/simulators.md has them.
 #include <cstdio>
 #include <upsched.hpp>
 

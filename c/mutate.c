@@ -89,7 +89,7 @@ static size_t some_command(uint8_t *bytes, unsigned i)
 {
     size_t len = 0;
     const uint32_t sid = 1 + random_number() % 6;
-    switch (i == 0 ? 0 : 1 + random_number() % 6) {
+    switch (i == 0 ? 0 : 1 + random_number() % 8) {
     case 0:
         put(bytes, &len, UINT64_C(0x010107), 3);
         put(bytes, &len, 16, 2);
@@ -107,7 +107,7 @@ static size_t some_command(uint8_t *bytes, unsigned i)
         put(bytes, &len, 60 + random_number() % 4, 4);
         put(bytes, &len, 1, 4);
         put(bytes, &len, 1000 + random_number() % 2000, 8);
-        put(bytes, &len, 1, 1);
+        put(bytes, &len, UINT64_C(0x010304) >> 8 * (random_number() % 3) & 0xff, 1);
         put(bytes, &len, 4, 2);
         put(bytes, &len, 40, 4);
         put(bytes, &len, 20, 4);
@@ -123,6 +123,21 @@ static size_t some_command(uint8_t *bytes, unsigned i)
         put(bytes, &len, sid, 2);
         put(bytes, &len, 1 + random_number() % 40, 2);
         put(bytes, &len, 990 + 20 * i + random_number() % 40, 8);
+        break;
+    case 6:
+        put(bytes, &len, 0x0901, 2);
+        put(bytes, &len, 1 + random_number() % 200, 2);
+        put(bytes, &len, random_number() % 4000, 8);
+        put(bytes, &len, 980 + 20 * i, 8);
+        put(bytes, &len, random_number() % 100, 2);
+        put(bytes, &len, random_number() % 2 ? 0xffffffff : 0x0205ffff, 4);
+        break;
+    case 7:
+        put(bytes, &len, 0x0a01, 2);
+        put(bytes, &len, 7 + random_number() % 4, 1);
+        put(bytes, &len, random_number() % 2, 1);
+        put(bytes, &len, 1 + random_number() % 16, 2);
+        put(bytes, &len, 0x02050308, 4);
         break;
     default:
         put(bytes, &len, 0x0501, 2);

@@ -20,73 +20,53 @@ static int faults;
 static uint8_t bodies[MOST][UPSCHED_BODY_BYTES];
 static upsched_output outputs[MOST];
 
+/* The commands of the header, on channel 1. */
 static upsched_command channel(uint64_t base)
 {
-    upsched_command c = {0};
-    c.kind = UPSCHED_CHANNEL;
-    c.ch = 1;
-    c.ucd = 7;
-    c.short_max = 16;
-    c.ranging_start = 2;
-    c.ranging_end = 5;
-    c.data_start = 3;
-    c.data_end = 8;
-    c.base = base;
-    return c;
+    return upsched_channel(1, 7, base);
 }
 
 static upsched_command best_effort(uint32_t modem)
 {
-    upsched_command c = {0};
-    c.kind = UPSCHED_FLOW;
-    c.ch = 1;
-    c.modem = modem;
-    c.tag = 1;
-    c.last = UPSCHED_LAST_TIME;
-    c.service = UPSCHED_BEST_EFFORT;
-    return c;
+    return upsched_best_effort(1, modem, 1, 0);
 }
 
 static upsched_command ugs(uint32_t modem, uint16_t size, uint32_t interval, uint32_t jitter, uint64_t base)
 {
-    upsched_command c = best_effort(modem);
-    c.service = UPSCHED_UGS;
-    c.minislots = size;
-    c.interval = interval;
-    c.jitter = jitter;
-    c.base = base;
+    return upsched_ugs(1, modem, 1, size, interval, jitter, base);
+}
+
+/* Intervals or openings of 10 minislots, every 100 within 20. */
+static upsched_command maintenance(uint8_t service, uint32_t modem, uint64_t base)
+{
+    upsched_command c = ugs(modem, 10, 100, 20, base);
+    c.service = service;
     return c;
 }
 
 static upsched_command request(uint16_t sid, uint16_t n, uint64_t sent)
 {
-    upsched_command c = {0};
-    c.kind = UPSCHED_REQUEST;
-    c.ch = 1;
-    c.sid = sid;
-    c.minislots = n;
-    c.sent = sent;
-    return c;
+    return upsched_request(1, sid, n, sent);
 }
 
 static upsched_command cut(uint8_t ch, uint16_t len, uint64_t not_before, uint64_t ack)
 {
-    upsched_command c = {0};
-    c.kind = UPSCHED_CUT;
-    c.ch = ch;
-    c.minislots = len;
-    c.not_before = not_before;
-    c.ack = ack;
-    return c;
+    return upsched_cut(ch, len, not_before, ack);
+}
+
+static upsched_command cut_set(uint16_t len, uint64_t ack, uint16_t keep)
+{
+    return upsched_cut_set(1, len, 0, ack, keep);
+}
+
+static upsched_command change(uint8_t ucd, uint16_t short_max, uint8_t phy)
+{
+    return upsched_change(1, ucd, phy, short_max);
 }
 
 static upsched_command drop(uint16_t sid)
 {
-    upsched_command c = {0};
-    c.kind = UPSCHED_DROP;
-    c.ch = 1;
-    c.sid = sid;
-    return c;
+    return upsched_drop(1, sid);
 }
 
 /* Applies commands to a new scheduler, and keeps the outputs. */
@@ -125,6 +105,20 @@ static void plans(void)
     const upsched_command retired[] = {channel(1000), best_effort(50), best_effort(50),
                                        drop(1),       best_effort(51), request(1, 20, 990)};
     RUN("a SID is given once", retired);
+    upsched_command back_offs = cut_set(1, 0, 0);
+    back_offs.data_start = back_offs.data_end = 0;
+    upsched_command own = cut(1, 1, 0, 0);
+    own.keep = 4097;
+    const upsched_command kept[] = {channel(1000), best_effort(50), request(1, 93, 990), cut_set(100, 995, 8),
+                                    back_offs,     own,             cut_set(10, 0, 4097)};
+    RUN("a cut that keeps minislots", kept);
+    const upsched_command changed[] = {channel(1000),      best_effort(50),     request(1, 16, 990), cut(1, 10, 0, 0),
+                                       change(8, 8, UPSCHED_TDMA), cut(1, 10, 0, 0), change(9, 8, UPSCHED_ADVANCED),
+                                       change(11, 8, UPSCHED_TDMA)};
+    RUN("a channel that changes", changed);
+    const upsched_command ranges[] = {channel(1000), maintenance(UPSCHED_STATION, 50, 1000),
+                                      maintenance(UPSCHED_INITIAL, 0, 1005), request(1, 5, 990), cut(1, 40, 0, 0)};
+    RUN("intervals for ranging", ranges);
 }
 
 #define STATUS(what, call)                                                     \
@@ -323,10 +317,10 @@ static void handles(void)
     upsched_handle modem = {0}, closed = {0};
     upsched_output output = {0, 0, 0, 0, 0, 0, 0, 0, 0, 0, 0};
     upsched_sending sending = {0, 0, 0};
-    const upsched_command noop = {0, 0, 0, 0, 0, 0, 0, 0, 0, 0, 0, 0, 0, 0, 0, 0, 0, 0, 0, 0, 0, 0};
+    const upsched_command noop = upsched_noop();
     upsched_command bad = noop;
     const uint8_t bytes[] = {4, 1, 0, 1, 0, 20, 0, 0, 0, 0, 0, 0, 3, 0xde};
-    bad.kind = 6;
+    bad.kind = 8;
     printf("-- handles\n");
     GOOD(upsched_modem_open(&modem, 1));
     printf("open again: %d\n", (int)upsched_machine_open(&modem));

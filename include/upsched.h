@@ -27,9 +27,10 @@
 
 #include <stddef.h>
 #include <stdint.h>
+#include <string.h>
 
-#define UPSCHED_VERSION "0.1.0"
-#define UPSCHED_VERSION_NUMBER 0x000100
+#define UPSCHED_VERSION "0.2.0"
+#define UPSCHED_VERSION_NUMBER 0x000200
 
 #ifdef __cplusplus
 extern "C" {
@@ -171,28 +172,34 @@ enum {
     UPSCHED_FLOW = 2,
     UPSCHED_DROP = 3,
     UPSCHED_REQUEST = 4,
-    UPSCHED_CUT = 5
+    UPSCHED_CUT = 5,
+    UPSCHED_CUT_SET = 6, /* a cut with settings of its own */
+    UPSCHED_CHANGE = 7   /* other settings of a channel, from its next MAP on */
 };
-enum { UPSCHED_BEST_EFFORT = 0, UPSCHED_UGS = 1, UPSCHED_POLL = 2 };
+/* Services of flows. STATION: intervals in which its modem ranges; INITIAL: openings for first ranging, of everybody. */
+enum { UPSCHED_BEST_EFFORT = 0, UPSCHED_UGS = 1, UPSCHED_POLL = 2, UPSCHED_STATION = 3, UPSCHED_INITIAL = 4 };
 enum { UPSCHED_TDMA = 0, UPSCHED_ADVANCED = 1 };
 #define UPSCHED_LAST_TIME (UINT64_C(1) << 62) /* the last minislot of a lease without an end */
 
-/* A command: its kind, and the fields that the kind has. The others aren't read. */
+/* A command: its kind, and the fields that the kind has. The others aren't read. Calls that make some are below. */
 typedef struct upsched_command {
     uint32_t kind;
     uint32_t modem, tag;                /* FLOW */
-    uint32_t interval, jitter;          /* FLOW of UGS or POLL: 1 to 1,000,000 minislots; below the interval */
+    uint32_t interval, jitter;          /* FLOW but BEST_EFFORT: 1 to 1,000,000 minislots; below the interval */
     uint64_t base;                      /* CHANNEL: start of its first MAP; FLOW: the first due time */
-    uint64_t last;                      /* FLOW: last minislot of the SID's lease */
+    uint64_t last;                      /* FLOW: last minislot of the SID's lease. UPSCHED_LAST_TIME: it has no end. 0
+                                         * is a time too, and refused where the next MAP begins behind it */
     uint64_t sent;                      /* REQUEST: when the modem sent it */
-    uint64_t not_before, ack;           /* CUT: the MAP starts no earlier; up to when requests were heard */
+    uint64_t not_before, ack;           /* CUT, CUT_SET: the MAP starts no earlier; up to when requests were heard */
     uint16_t sid;                       /* DROP, REQUEST */
-    uint16_t minislots;                 /* FLOW of UGS: a grant; REQUEST: 1 to 255; CUT: the MAP's length, 1 to 4096 */
-    uint16_t short_max;                 /* CHANNEL: up to so many minislots a grant is a short one */
-    uint8_t ch, ucd, phy;               /* all but NOOP; CHANNEL; CHANNEL */
+    uint16_t minislots;                 /* FLOW of UGS, STATION, INITIAL: of each; REQUEST; 1 to 255. CUT, CUT_SET: the
+                                           MAP's, 1 to 4096 */
+    uint16_t short_max;                 /* CHANNEL, CHANGE: up to so many minislots a grant is a short one */
+    uint16_t keep;                      /* CUT_SET: requests leave at least so many minislots free, 0 to 4096 */
+    uint8_t ch, ucd, phy;               /* all but NOOP; CHANNEL and CHANGE; likewise */
     uint8_t service, priority;          /* FLOW; FLOW of BEST_EFFORT: 0 to 7 */
-    uint8_t ranging_start, ranging_end; /* CHANNEL: back-offs, 0 to 15 */
-    uint8_t data_start, data_end;       /* CHANNEL: likewise */
+    uint8_t ranging_start, ranging_end; /* CHANNEL, CHANGE, CUT_SET: back-offs, 0 to 15; CUT_SET: 255 255 for the */
+    uint8_t data_start, data_end;       /* channel's own */
 } upsched_command;
 
 enum { UPSCHED_NOTHING = 0, UPSCHED_CHANNEL_SET = 1, UPSCHED_ASSIGNED = 2, UPSCHED_MAP = 3, UPSCHED_REFUSED = 4 };
@@ -390,6 +397,178 @@ uint32_t upsched_c_samples(upsched_samples_t *samples);
 static inline uint32_t upsched_samples(upsched_samples_t *samples)
 {
     return samples ? upsched_c_samples(samples) : 0;
+}
+
+/* ---- Commands made ---- */
+
+/* Each makes a command of its kind. A flow's lease has no end: set `last` to give it one. A channel is TDMA with short
+ * grants up to 16 minislots, the back-offs 2 to 5 for ranging and 3 to 8 for data; set the fields to have others. So
+ * it is with a change, but for what it is given. A cut with settings keeps the channel's back-offs. */
+static inline upsched_command upsched_noop(void)
+{
+    upsched_command c;
+    memset(&c, 0, sizeof c);
+    return c;
+}
+
+static inline upsched_command upsched_channel(uint8_t ch, uint8_t ucd, uint64_t base)
+{
+    upsched_command c = upsched_noop();
+    c.kind = UPSCHED_CHANNEL;
+    c.ch = ch;
+    c.ucd = ucd;
+    c.base = base;
+    c.short_max = 16;
+    c.ranging_start = 2;
+    c.ranging_end = 5;
+    c.data_start = 3;
+    c.data_end = 8;
+    return c;
+}
+
+static inline upsched_command upsched_change(uint8_t ch, uint8_t ucd, uint8_t phy, uint16_t short_max)
+{
+    upsched_command c = upsched_channel(ch, ucd, 0);
+    c.kind = UPSCHED_CHANGE;
+    c.phy = phy;
+    c.short_max = short_max;
+    return c;
+}
+
+static inline upsched_command upsched_best_effort(uint8_t ch, uint32_t modem, uint32_t tag, uint8_t priority)
+{
+    upsched_command c = upsched_noop();
+    c.kind = UPSCHED_FLOW;
+    c.ch = ch;
+    c.modem = modem;
+    c.tag = tag;
+    c.last = UPSCHED_LAST_TIME;
+    c.service = UPSCHED_BEST_EFFORT;
+    c.priority = priority;
+    return c;
+}
+
+static inline upsched_command upsched_poll(uint8_t ch, uint32_t modem, uint32_t tag, uint32_t interval,
+                                           uint32_t jitter, uint64_t base)
+{
+    upsched_command c = upsched_best_effort(ch, modem, tag, 0);
+    c.service = UPSCHED_POLL;
+    c.interval = interval;
+    c.jitter = jitter;
+    c.base = base;
+    return c;
+}
+
+static inline upsched_command upsched_ugs(uint8_t ch, uint32_t modem, uint32_t tag, uint16_t minislots,
+                                          uint32_t interval, uint32_t jitter, uint64_t base)
+{
+    upsched_command c = upsched_poll(ch, modem, tag, interval, jitter, base);
+    c.service = UPSCHED_UGS;
+    c.minislots = minislots;
+    return c;
+}
+
+static inline upsched_command upsched_station(uint8_t ch, uint32_t modem, uint32_t tag, uint16_t minislots,
+                                              uint32_t interval, uint32_t jitter, uint64_t base)
+{
+    upsched_command c = upsched_ugs(ch, modem, tag, minislots, interval, jitter, base);
+    c.service = UPSCHED_STATION;
+    return c;
+}
+
+static inline upsched_command upsched_initial(uint8_t ch, uint32_t modem, uint32_t tag, uint16_t minislots,
+                                              uint32_t interval, uint32_t jitter, uint64_t base)
+{
+    upsched_command c = upsched_ugs(ch, modem, tag, minislots, interval, jitter, base);
+    c.service = UPSCHED_INITIAL;
+    return c;
+}
+
+static inline upsched_command upsched_drop(uint8_t ch, uint16_t sid)
+{
+    upsched_command c = upsched_noop();
+    c.kind = UPSCHED_DROP;
+    c.ch = ch;
+    c.sid = sid;
+    return c;
+}
+
+static inline upsched_command upsched_request(uint8_t ch, uint16_t sid, uint16_t minislots, uint64_t sent)
+{
+    upsched_command c = upsched_drop(ch, sid);
+    c.kind = UPSCHED_REQUEST;
+    c.minislots = minislots;
+    c.sent = sent;
+    return c;
+}
+
+static inline upsched_command upsched_cut(uint8_t ch, uint16_t minislots, uint64_t not_before, uint64_t ack)
+{
+    upsched_command c = upsched_noop();
+    c.kind = UPSCHED_CUT;
+    c.ch = ch;
+    c.minislots = minislots;
+    c.not_before = not_before;
+    c.ack = ack;
+    return c;
+}
+
+static inline upsched_command upsched_cut_set(uint8_t ch, uint16_t minislots, uint64_t not_before, uint64_t ack,
+                                              uint16_t keep)
+{
+    upsched_command c = upsched_cut(ch, minislots, not_before, ack);
+    c.kind = UPSCHED_CUT_SET;
+    c.keep = keep;
+    c.ranging_start = c.ranging_end = c.data_start = c.data_end = 255;
+    return c;
+}
+
+/* ---- Statuses and refusals in words ---- */
+
+/* What a status says; also one of upsched_node.h. The text is there for good. */
+static inline const char *upsched_status_text(int32_t status)
+{
+    switch (status) {
+    case UPSCHED_OK: return "it is done";
+    case UPSCHED_CLOSED: return "the handle is closed";
+    case UPSCHED_OTHER_KIND: return "the handle is open as another kind";
+    case UPSCHED_OPEN: return "the handle is open already";
+    case UPSCHED_NO_ROOM: return "the room given is too small";
+    case UPSCHED_BAD_FIELD: return "a field can't hold that value, or bytes spell nothing";
+    case UPSCHED_OUT_OF_MEMORY: return "there is no memory";
+    case UPSCHED_NONE: return "there is no such item";
+    case UPSCHED_NULL: return "a pointer is NULL";
+    case UPSCHED_MAP_SHORT: return "a MAP body has fewer bytes than its count asks for, or fewer than 16";
+    case UPSCHED_MAP_TRAILING: return "a MAP body has more bytes than its count asks for";
+    case UPSCHED_MAP_EXPANSION: return "an element of a MAP has IUC 15";
+    case UPSCHED_MAP_OUT_OF_ORDER: return "an element of a MAP up to the Null begins before the one before it";
+    case UPSCHED_MAP_NO_NULL: return "no element of a MAP has IUC 7";
+    case UPSCHED_MAP_TOO_MANY: return "a MAP has more than 255 elements";
+    case UPSCHED_WANT_NOT_MINE: return "no lease of the SID ends at the channel's clock or later";
+    case UPSCHED_WANT_WAITING: return "a want of the SID is there";
+    case UPSCHED_WANT_BAD_SIZE: return "a want isn't for 1 to 255 minislots";
+    case UPSCHED_TIME_BACK: return "a tick is before the channel's clock";
+    case 501: return "the node doesn't lead";
+    case 502: return "the log is full";
+    case 503: return "the node has no ballot above those that it knows of";
+    case 504: return "the value has more than 64 bytes";
+    default: return "no status of this header";
+    }
+}
+
+/* Why a command is refused. The text is there for good. */
+static inline const char *upsched_refusal_text(uint8_t refusal)
+{
+    switch (refusal) {
+    case UPSCHED_NO_CHANNEL: return "the channel wasn't set";
+    case UPSCHED_CHANNEL_THERE: return "the channel was set before";
+    case UPSCHED_NO_FLOW: return "no flow has that SID";
+    case UPSCHED_SIDS_SPENT: return "all SIDs of the channel are leased";
+    case UPSCHED_BUSY: return "the SID has a request that waits, or 118 wait on the channel";
+    case UPSCHED_OLD_REQUEST: return "it was sent no later than the last request, or before the lease";
+    case UPSCHED_BAD_VALUE: return "a value is outside its limits";
+    default: return "no refusal of this header";
+    }
 }
 
 #ifdef __cplusplus

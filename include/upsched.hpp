@@ -19,7 +19,8 @@ namespace upsched {
 class Error : public std::runtime_error {
   public:
     explicit Error(std::int32_t status)
-        : std::runtime_error("upsched status " + std::to_string(status)), status_(status) {}
+        : std::runtime_error("upsched status " + std::to_string(status) + ": " + upsched_status_text(status)),
+          status_(status) {}
     std::int32_t status() const noexcept { return status_; }
 
   private:
@@ -89,60 +90,95 @@ inline std::optional<upsched_map_cell> cell_at(const std::uint8_t *bytes, std::s
     return cell;
 }
 
-inline upsched_command channel(std::uint8_t ch, std::uint8_t ucd, std::uint64_t base, std::uint16_t short_max = 16) {
-    upsched_command c{};
-    c.kind = UPSCHED_CHANNEL;
-    c.ch = ch;
-    c.ucd = ucd;
-    c.base = base;
+/// A back-off: its start and its end, as exponents of two.
+struct Backoff {
+    std::uint8_t start, end;
+};
+
+/// The channel's own back-off, in a cut.
+constexpr Backoff own_backoff{255, 255};
+
+inline upsched_command noop() { return upsched_noop(); }
+
+inline upsched_command channel(std::uint8_t ch, std::uint8_t ucd, std::uint64_t base, std::uint16_t short_max = 16,
+                               std::uint8_t phy = UPSCHED_TDMA, Backoff ranging = {2, 5}, Backoff data = {3, 8}) {
+    upsched_command c = upsched_channel(ch, ucd, base);
     c.short_max = short_max;
-    c.ranging_start = 2;
-    c.ranging_end = 5;
-    c.data_start = 3;
-    c.data_end = 8;
+    c.phy = phy;
+    c.ranging_start = ranging.start;
+    c.ranging_end = ranging.end;
+    c.data_start = data.start;
+    c.data_end = data.end;
     return c;
 }
 
-inline upsched_command best_effort(std::uint8_t ch, std::uint32_t modem, std::uint32_t tag, std::uint8_t priority = 0) {
-    upsched_command c{};
-    c.kind = UPSCHED_FLOW;
-    c.ch = ch;
-    c.modem = modem;
-    c.tag = tag;
-    c.last = UPSCHED_LAST_TIME;
-    c.service = UPSCHED_BEST_EFFORT;
-    c.priority = priority;
+/// Other settings of a channel, from its next MAP on.
+inline upsched_command change(std::uint8_t ch, std::uint8_t ucd, std::uint8_t phy, std::uint16_t short_max,
+                              Backoff ranging = {2, 5}, Backoff data = {3, 8}) {
+    upsched_command c = channel(ch, ucd, 0, short_max, phy, ranging, data);
+    c.kind = UPSCHED_CHANGE;
+    return c;
+}
+
+/// Flows. The lease of the SID goes on up to its last minislot: without end, where none is given.
+inline upsched_command best_effort(std::uint8_t ch, std::uint32_t modem, std::uint32_t tag, std::uint8_t priority = 0,
+                                   std::uint64_t last = UPSCHED_LAST_TIME) {
+    upsched_command c = upsched_best_effort(ch, modem, tag, priority);
+    c.last = last;
     return c;
 }
 
 inline upsched_command ugs(std::uint8_t ch, std::uint32_t modem, std::uint32_t tag, std::uint16_t size,
-                           std::uint32_t interval, std::uint32_t jitter, std::uint64_t base) {
-    upsched_command c = best_effort(ch, modem, tag);
-    c.service = UPSCHED_UGS;
-    c.minislots = size;
-    c.interval = interval;
-    c.jitter = jitter;
-    c.base = base;
+                           std::uint32_t interval, std::uint32_t jitter, std::uint64_t base,
+                           std::uint64_t last = UPSCHED_LAST_TIME) {
+    upsched_command c = upsched_ugs(ch, modem, tag, size, interval, jitter, base);
+    c.last = last;
     return c;
 }
 
-inline upsched_command request(std::uint8_t ch, std::uint16_t sid, std::uint16_t n, std::uint64_t sent) {
-    upsched_command c{};
-    c.kind = UPSCHED_REQUEST;
-    c.ch = ch;
-    c.sid = sid;
-    c.minislots = n;
-    c.sent = sent;
+inline upsched_command poll(std::uint8_t ch, std::uint32_t modem, std::uint32_t tag, std::uint32_t interval,
+                            std::uint32_t jitter, std::uint64_t base, std::uint64_t last = UPSCHED_LAST_TIME) {
+    upsched_command c = upsched_poll(ch, modem, tag, interval, jitter, base);
+    c.last = last;
     return c;
+}
+
+/// Intervals in which a modem ranges, due as unsolicited grants.
+inline upsched_command station(std::uint8_t ch, std::uint32_t modem, std::uint32_t tag, std::uint16_t size,
+                               std::uint32_t interval, std::uint32_t jitter, std::uint64_t base,
+                               std::uint64_t last = UPSCHED_LAST_TIME) {
+    upsched_command c = upsched_station(ch, modem, tag, size, interval, jitter, base);
+    c.last = last;
+    return c;
+}
+
+/// Openings for the first ranging of everybody, likewise.
+inline upsched_command initial(std::uint8_t ch, std::uint32_t modem, std::uint32_t tag, std::uint16_t size,
+                               std::uint32_t interval, std::uint32_t jitter, std::uint64_t base,
+                               std::uint64_t last = UPSCHED_LAST_TIME) {
+    upsched_command c = upsched_initial(ch, modem, tag, size, interval, jitter, base);
+    c.last = last;
+    return c;
+}
+
+inline upsched_command drop(std::uint8_t ch, std::uint16_t sid) { return upsched_drop(ch, sid); }
+
+inline upsched_command request(std::uint8_t ch, std::uint16_t sid, std::uint16_t n, std::uint64_t sent) {
+    return upsched_request(ch, sid, n, sent);
 }
 
 inline upsched_command cut(std::uint8_t ch, std::uint16_t len, std::uint64_t not_before, std::uint64_t ack) {
-    upsched_command c{};
-    c.kind = UPSCHED_CUT;
-    c.ch = ch;
-    c.minislots = len;
-    c.not_before = not_before;
-    c.ack = ack;
+    return upsched_cut(ch, len, not_before, ack);
+}
+
+/// A cut whose requests leave at least `keep` minislots free, with back-offs of its own.
+inline upsched_command cut_set(std::uint8_t ch, std::uint16_t len, std::uint64_t not_before, std::uint64_t ack,
+                               std::uint16_t keep, Backoff ranging = own_backoff, Backoff data = own_backoff) {
+    upsched_command c = upsched_cut_set(ch, len, not_before, ack, keep);
+    c.ranging_start = ranging.start;
+    c.ranging_end = ranging.end;
+    c.data_start = data.start;
+    c.data_end = data.end;
     return c;
 }
 
