@@ -4,63 +4,44 @@
 # full or a pipe that nobody reads, and over a folder that can't be written. Tells each call that ends otherwise than
 # wanted, and how many do as wanted.
 #
-# With `unproved` it runs the launcher's other half, which calls `rt try`: a stand-in runs the program, and says what
-# `rt try` says beside the program's own lines. The program is the proved one, or PROGRAM.
+# The launcher's other two parts are tried with a stand-in for the kit (launcher_kit.sh), which builds nothing: with
+# `unproved` the one that calls `rt try`, as where nothing can be kept; with `kept` the one that keeps what was built,
+# also through all that may go wrong with what is kept (launcher_kept.sh; CHECK is a function of it, and then nothing
+# else is tried). With `edits` it puts each edit of bench/launcher/ into the launcher, and tells which of them `kept`
+# doesn't refuse.
 #
-# Usage: bench/launcher.sh [proved|unproved [PROGRAM]]
+# PROGRAM, or the word `-`, is the program that the launcher comes to call: else the proved one, or where that isn't
+# there the one that is built without proof and kept, whole.
+#
+# Usage: bench/launcher.sh [proved|unproved|kept|edits [PROGRAM [CHECK..]]]
 set -uo pipefail
 . "$(dirname -- "${BASH_SOURCE[0]}")/common.sh"
-[ $# -lt 2 ] || program=$(readlink -f -- "$2")
+. "$root/bench/launcher_kit.sh"
+. "$root/bench/launcher_kept.sh"
+trap 'kill $(jobs -p) 2>/dev/null; rm -rf "$made"' EXIT
+mode=${1-proved}
+if [ $# -gt 1 ] && [ "$2" != - ]; then
+    program=$(readlink -f -- "$2")
+elif [ ! -x "$program" ]; then
+    program=$("$root/quick/keep.sh" whole) || exit 1
+fi
 needs_program
+if [ "$mode" = edits ]; then
+    tries_edits "${@:3}"
+    exit
+fi
 
-repository=$made/repository
-mkdir -- "$repository" "$made/bin" "$made/above" "$made/above/here"
-cp -r -- "$root/upsched" "$root/crates.txt" "$root/quick" "$repository"
-closure upsched | while read -r name; do
-    mkdir -p -- "$repository/crates/$name/src"
-done
-mkdir -- "$repository/crates/upsched/out"
+repository=$made/'the repository'
+mkdir -- "$repository" "$made/above" "$made/above/here"
+copies_launcher "$repository"
 : >"$made/builds"
-chmod 666 -- "$made/builds"
-if [ "${1-}" = unproved ]; then
-    mkdir -m 1777 -- "$made/rooms"
-    # `rt try` as the launcher calls it: the files of --data lie in the folder that the program runs in
-    cat >"$made/bin/rt" <<STUB
-#!/usr/bin/env bash
-[ "\$1" = try ] || exit 99
-shift
-room=\$(mktemp -d '$made/rooms/room.XXXXXX')
-basename -- "\$PWD" >>'$made/builds'
-while [ "\$1" != -- ]; do
-    case \$1 in
-        --data)
-            mkdir -p -- "\$(dirname -- "\$room/\${2%%=*}")"
-            cp -- "\${2#*=}" "\$room/\${2%%=*}"
-            ;;
-        --seconds) ;;
-        *) exit 98 ;;
-    esac
-    shift 2
-done
-shift
-cd "\$room" && '$program' "\$@" >output
-status=\$?
-if [ "\$(stat -c %s output)" -gt 1048576 ]; then
-    echo 'checked: no-answer: the program wrote more than 1048576 bytes to standard output or to standard error' >&2
-    echo 'run=no-answer proved=no' >&2
-    exit 6
-fi
-cat output
-echo "checked: ended status=\$status" >&2
-echo 'races: not looked for, since a kit has no ThreadSanitizer' >&2
-echo "run=ended status=\$status runners=1 races=unchecked proved=no" >&2
-exit "\$status"
-STUB
-    chmod +x "$made/bin/rt"
-else
-    cp -- "$program" "$repository/crates/upsched/out/upsched"
-fi
-PATH=$made/bin:$PATH
+export XDG_CACHE_HOME=$made/'a cache'
+makes_kit "$made/kit"
+case $mode in
+    proved) mkdir -- "$repository/crates/upsched/out" && cp -- "$program" "$repository/crates/upsched/out/upsched" ;;
+    unproved) rm -- "$made/kit/KIT-ID" ;;
+esac
+PATH=$made/kit/bin:$PATH
 upsched=$repository/upsched
 
 cd "$made/above/here" || exit 1
@@ -82,19 +63,28 @@ chmod 755 -- "$made"
 chmod 555 -- closed_to_all
 
 right=0 wrong=0
-# wants NAME STATUS OUTPUT ERRORS: how the last call ended, with the first line of each. Of a build without proof one
-# line more tells, and none of the tool's.
+# What the launcher says beside the program's own lines.
+beside='^upsched: (no proved program here|not kept: no file KIT-ID|building without proof, once$|built without proof, kept)'
+
+# wants NAME STATUS OUTPUT ERRORS: how the last call ended, with the first line of each. Of a build without proof lines
+# more tell, and none of the tool's.
 wants() {
-    local first_output first_errors
+    local first_output='' first_errors
     read -r first_output <"$made/output" || :
-    first_errors=$(grep -v '^upsched: no proved program here' "$made/errors" | head -n 1)
+    first_errors=$(grep -vE "$beside" "$made/errors" | head -n 1)
     if [ "$ended" = "$2" ] && [[ $first_output == $3 ]] && [[ $first_errors == $4 ]] &&
         ! grep -qE '^(checked|run|races)' "$made/errors"; then
         right=$((right + 1))
     else
-        echo "$1: status $ended, '$first_output', '$first_errors'"
-        wrong=$((wrong + 1))
+        is_wrong "$1: status $ended, '$first_output', '$first_errors'"
     fi
+}
+
+# tells_how_many: and ends.
+tells_how_many() {
+    echo "$right as wanted, $wrong not"
+    [ "$wrong" -eq 0 ]
+    exit
 }
 
 # calls NAME STATUS OUTPUT ERRORS WORD..
@@ -106,16 +96,17 @@ calls() {
     wants "$name" "$status" "$output" "$errors"
 }
 
-# builds_nothing COMMAND..: runs it, and tells where that called `rt try`.
+# builds_nothing COMMAND..: runs it, and tells where that built something.
 builds_nothing() {
     : >"$made/builds"
     "$@"
     [ ! -s "$made/builds" ] || { echo "$2: built something first"; wrong=$((wrong + 1)); }
 }
 
-# builds WORD COMMAND..: runs it, and tells where the build without proof that it took isn't that.
+# builds NAME COMMAND..: runs it, and tells where the build without proof that it took isn't that.
 builds() {
-    local build=$1
+    local build=quick_$1
+    [ "$mode$1" != unprovedwhole ] || build=upsched
     shift
     : >"$made/builds"
     "$@"
@@ -125,12 +116,18 @@ builds() {
     }
 }
 
+if [ "$mode" = kept ]; then
+    tries_kept "${@:3}"
+    [ $# -lt 3 ] || tells_how_many
+fi
 grant='1 channel 1 ucd 7'
+misread='error: *'
+[ "$mode" = proved ] || misread="upsched: these words aren't understood"
 calls 'a space' 0 "$grant" '' maps 'with space.toml'
 calls 'quotes' 0 "$grant" '' maps "quo'te\".toml"
 calls 'a leading dash' 0 "$grant" '' maps ./-dash.toml
 calls 'a leading dash behind --' 0 "$grant" '' maps -- -dash.toml
-calls 'a leading dash and no --' 2 '' 'error: *' maps -dash.toml
+calls 'a leading dash and no --' 2 '' "$misread" maps -dash.toml
 calls 'an equals sign' 0 "$grant" '' maps 'is=equal.toml'
 calls 'a pattern' 0 "$grant" '' maps 'a*b?[c].toml'
 calls 'above' 0 "$grant" '' maps ../above.toml
@@ -142,23 +139,27 @@ builds_nothing calls 'a folder' 1 '' 'upsched: cannot read .' maps .
 builds_nothing calls 'a folder for live' 1 '' 'upsched: cannot read st ore' live 'st ore'
 builds_nothing calls 'no text' 1 '' 'upsched: cannot read no_text.toml' run no_text.toml
 builds_nothing calls 'an empty word' 1 '' 'upsched: cannot read ' maps ''
-builds quick_words calls 'no word' 2 '' '*'
-builds quick_words calls 'help' 0 'A DOCSIS upstream scheduler*' '' --help
-builds quick_words calls 'the version' 0 'upsched 0.1.0' '' --version
-builds quick_words calls 'two files, one of them missing' 2 '' 'error: *' maps nowhere.toml script.toml
-builds quick_words calls 'too many turns' 2 '' 'error: *' live --turns 1000001 nowhere.toml
-builds quick_words calls 'live without a plan' 2 '' 'error: *' live
-builds quick_words calls 'no such option' 2 '' 'error: *' maps --store x nowhere.toml
-builds quick_words calls 'a store that is none' 2 '' 'error: *' run nowhere.toml --store
-builds quick_words calls 'a word that is no text' 2 '' "error: a word isn't UTF-8" maps $'\377.toml'
-builds quick_maps calls 'no array' 1 '' 'upsched: plan 2 BadCommand 1' maps no_array.toml
-builds quick_run calls 'a script' 0 '0 sent 3' '' run --verbose script.toml
-builds upsched calls 'threads' 0 'audit yes' '' live ../above.toml --turns=200
-builds upsched calls 'a store with a space' 0 '0 sent 3' '' run script.toml --store 'st ore'
-builds upsched calls 'the store again' 1 '' 'upsched: store not fresh' run script.toml --store='st ore'
-builds upsched calls 'no such store' 1 '' 'upsched: store' run script.toml --store nowhere
-if [ "${1-}" = unproved ]; then
-    builds_nothing calls 'a node' 6 '' 'upsched: node: a build without proof *' node 0 --members 3
+builds_nothing calls 'no word' 2 '' "$misread"
+builds_nothing calls 'no command' 2 '' "$misread" frobnicate
+builds_nothing calls 'help' 0 'A DOCSIS upstream scheduler*' '' --help
+builds_nothing calls 'help on a command' 0 'Applies a plan*' '' maps --help
+builds_nothing calls 'help on a command, by its name' 0 'Applies a plan*' '' help maps
+builds_nothing calls 'the version' 0 'upsched 0.1.0' '' --version
+builds_nothing calls 'two files, one of them missing' 2 '' "$misread" maps nowhere.toml script.toml
+builds_nothing calls 'too many turns' 2 '' "$misread" live --turns 1000001 nowhere.toml
+builds_nothing calls 'live without a plan' 2 '' "$misread" live
+builds_nothing calls 'no such option' 2 '' "$misread" maps --store x nowhere.toml
+builds_nothing calls 'a store that is none' 2 '' "$misread" run nowhere.toml --store
+builds_nothing calls 'a word that is no text' 2 '' "$misread" maps $'\377.toml'
+builds maps calls 'no array' 1 '' 'upsched: plan 2 BadCommand 1' maps no_array.toml
+builds run calls 'a script' 0 '0 sent 3' '' run --verbose script.toml
+builds whole calls 'threads' 0 'audit yes' '' live ../above.toml --turns=200
+builds whole calls 'a store with a space' 0 '0 sent 3' '' run script.toml --store 'st ore'
+builds whole calls 'the store again' 1 '' 'upsched: store not fresh' run script.toml --store='st ore'
+builds whole calls 'no such store' 1 '' 'upsched: store' run script.toml --store nowhere
+if [ "$mode" = unproved ]; then
+    builds_nothing calls 'a node' 6 '' "upsched: node: a build that isn't kept *" node 0 --members 3
+    builds_nothing calls 'JSON' 6 '' "upsched: maps: a build that isn't kept *" maps --json ../above.toml
 else
     calls 'a node' 0 'node 0 of 3 fresh' '' node 0 --members 3 </dev/null
     calls 'no member' 2 '' 'error: *' node 3 --members 3 </dev/null
@@ -211,7 +212,7 @@ ended=$?
 : >"$made/output"
 wants 'standard output full' 1 '' 'upsched: output'
 python3 "$root/bench/plans.py" mixed 20000 >long.toml
-if [ "${1-}" = unproved ]; then
+if [ "$mode" = unproved ]; then
     calls 'a long text' 6 '' 'upsched: no answer: *' maps long.toml
     python3 "$root/bench/plans.py" mixed 4000 >long.toml
 fi
@@ -229,5 +230,4 @@ else
 fi
 wants 'a store without write permission' 1 '' 'upsched: store'
 [ -z "$(ls -A closed_to_all)" ] || { echo 'a store without write permission has files'; wrong=$((wrong + 1)); }
-echo "$right as wanted, $wrong not"
-[ "$wrong" -eq 0 ]
+tells_how_many

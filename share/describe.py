@@ -1,10 +1,14 @@
 #!/usr/bin/env python3
-"""Makes the completions and the manual page from what the program says of its own words.
+"""Makes the completions, the manual page and the texts of help from what the program says of its own words.
 
-  share/describe.py          writes completions/upsched.bash, completions/_upsched and man/upsched.1
+  share/describe.py          writes completions/upsched.bash, completions/_upsched, man/upsched.1 and help/
   share/describe.py check    compares them with what it would write: status 1 and their names where they differ
 
-It wants the proved program (./upsched --build), or another one behind --program.
+help/ has what `--help` prints of the program (upsched.txt) and of each command, and what `--version` prints. The
+launcher prints them where no proved program is there, and reads from them which words there are.
+
+The program is the one behind --program, or the proved one (./upsched --build). Where that isn't there, it is the one
+that is built without proof and kept, whole (quick/keep.sh).
 """
 import argparse
 import dataclasses
@@ -40,6 +44,7 @@ class Word:
     options: list
     words: list
     behind: list
+    said: str
 
 
 def item_of(text):
@@ -60,8 +65,14 @@ def items_of(lines):
     return [item_of(it) for it in items]
 
 
+def said_by(program, *words):
+    """What the program prints, which is called by its name."""
+    how = {"executable": program, "capture_output": True, "text": True, "check": True}
+    return subprocess.run(["upsched", *words], **how).stdout
+
+
 def word_of(program, name):
-    said = subprocess.run([program, *name.split(), "--help"], capture_output=True, text=True, check=True).stdout
+    said = said_by(program, *name.split(), "--help")
     parts, at = {"about": [], "behind": []}, "about"
     for line in said.splitlines():
         head = re.match(r"(Usage|Commands|Arguments|Options):(.*)", line)
@@ -74,7 +85,7 @@ def word_of(program, name):
             parts[at].append(line)
     usage = re.sub(r"^\S+", "upsched", " ".join(parts["Usage"]))
     lists = [items_of(parts.get(it, [])) for it in ("Arguments", "Options", "Commands")]
-    return Word(name, " ".join(parts["about"]), usage, *lists, parts["behind"])
+    return Word(name, " ".join(parts["about"]), usage, *lists, parts["behind"], said)
 
 
 def described(program):
@@ -201,26 +212,50 @@ def man(whole, words):
     return "\n".join(lines) + "\n"
 
 
+def texts_of(program):
+    """The text of each file, by its path below this folder."""
+    whole, words = described(program)
+    texts = {"completions/upsched.bash": bash, "completions/_upsched": zsh, "man/upsched.1": man}
+    texts = {path: make(whole, words) for path, make in texts.items()}
+    texts["help/upsched.txt"] = whole.said
+    texts["help/version.txt"] = said_by(program, "--version")
+    texts.update({f"help/{word.name}.txt": word.said for word in words})
+    return texts
+
+
+def kept_program():
+    """The path of the whole program that is built without proof and kept."""
+    found = subprocess.run([os.path.join(HERE, "../quick/keep.sh"), "whole"], stdout=subprocess.PIPE, text=True)
+    return found.stdout.rstrip("\n")
+
+
+def text_at(path):
+    if not os.path.exists(path):
+        return None
+    with open(path) as file:
+        return file.read()
+
+
 def main():
     given = argparse.ArgumentParser(description=__doc__, formatter_class=argparse.RawDescriptionHelpFormatter)
     given.add_argument("what", nargs="?", choices=["check"])
-    given.add_argument("--program", default=PROGRAM)
+    given.add_argument("--program")
     given = given.parse_args()
-    if not os.access(given.program, os.X_OK):
+    program = given.program or (PROGRAM if os.access(PROGRAM, os.X_OK) else kept_program())
+    if not os.access(program, os.X_OK):
         sys.exit("share/describe.py: no proved program: ./upsched --build makes it")
-    whole, words = described(given.program)
-    texts = {"completions/upsched.bash": bash, "completions/_upsched": zsh, "man/upsched.1": man}
-    differ = []
-    for name, make in texts.items():
-        path, text = os.path.join(HERE, name), make(whole, words)
-        if given.what != "check":
-            with open(path, "w") as file:
-                file.write(text)
-        elif not os.path.exists(path) or open(path).read() != text:
-            differ.append(name)
-    for name in differ:
-        print(f"{name} isn't what share/describe.py makes of the program's help")
-    sys.exit(1 if differ else 0)
+    texts = texts_of(program)
+    others = {f"help/{name}" for name in os.listdir(os.path.join(HERE, "help"))} - set(texts)
+    if given.what == "check":
+        differ = [path for path, text in texts.items() if text_at(os.path.join(HERE, path)) != text]
+        for path in sorted([*differ, *others]):
+            print(f"{path} isn't what share/describe.py makes of the program's help")
+        sys.exit(1 if differ or others else 0)
+    for path, text in texts.items():
+        with open(os.path.join(HERE, path), "w") as file:
+            file.write(text)
+    for path in others:
+        os.remove(os.path.join(HERE, path))
 
 
 if __name__ == "__main__":
