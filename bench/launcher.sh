@@ -64,7 +64,7 @@ chmod 555 -- closed_to_all
 
 right=0 wrong=0
 # What the launcher says beside the program's own lines.
-beside='^upsched: (no proved program here|not kept: no file KIT-ID|building without proof, once$|built without proof, kept)'
+beside='^upsched: (no proved program here|not kept: (no file KIT-ID|.* is another user.s)|building without proof, once$|built without proof, kept)'
 
 # wants NAME STATUS OUTPUT ERRORS: how the last call ended, with the first line of each. Of a build without proof lines
 # more tell, and none of the tool's.
