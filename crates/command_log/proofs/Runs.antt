@@ -6,18 +6,10 @@ use Rattle.grant_machine.specs.declared.command.Command.{Command}
 use Rattle.grant_machine.specs.declared.output.Output.{Output}
 use Rattle.grant_machine.specs.Steps.{step}
 use Rattle.grant_machine.specs.Runs.{outputs_from, outputs_of, rows_from, rows_after}
-use Rattle.grant_machine.proofs.Callers.{one_each}
+use Rattle.grant_machine.proofs.Callers.{one_each, rows_append}
+pub use Rattle.grant_machine.proofs.Callers.{outputs_append}
 use Rattle.command_log.specs.Reading.{command_of}
 use Rattle.command_log.specs.Values.{outputs_of_values}
-
--- the outputs of two lists, one after the other
-pub outputs_append : (rows : Rows) (cs ds : List Command) → outputs_from rows (cs ++ ds) ≡ outputs_from rows cs ++ outputs_from (rows_from rows cs) ds
-outputs_append rows [] ds = refl
-outputs_append rows (c ∷ cs) ds = ap (λ (os : List Output). (step rows c).output ∷ os) (outputs_append (step rows c).rows cs ds)
-
-pub rows_append : (rows : Rows) (cs ds : List Command) → rows_from rows (cs ++ ds) ≡ rows_from (rows_from rows cs) ds
-rows_append rows [] ds = refl
-rows_append rows (c ∷ cs) ds = rows_append (step rows c).rows cs ds
 
 -- a value has one output
 pub values_length : (values : List (List ℕ)) → length (outputs_of_values values) ≡ length values

@@ -9,4 +9,4 @@ mod writing;
 pub use laws::{one_spelling, outputs_go_on};
 pub use log::{Log, LogFault};
 pub use reading::read_command;
-pub use writing::command_bytes;
+pub use writing::{command_bytes, put_kind, put_setting};

@@ -103,7 +103,8 @@ fn put_fields(out: &mut Vec<u8>, kind: FlowKind) -> Result<(), AllocError>
     }
 }
 
-fn put_kind(out: &mut Vec<u8>, kind: FlowKind) -> Result<(), AllocError>
+/// Writes a flow's kind behind what is there. Where memory runs out, some of its bytes may be.
+pub fn put_kind(out: &mut Vec<u8>, kind: FlowKind) -> Result<(), AllocError>
     ensures { OnOk result (out.new.items ≡ out.old.items ++ kind_spelling kind) }
 {
     out.extend_from_slice(&[kind_byte(kind)])?;
@@ -119,8 +120,9 @@ fn put_flow_head(out: &mut Vec<u8>, ch: u8, modem: u32, tag: u32) -> Result<(), 
     Ok(())
 }
 
-/// A channel's first byte and what follows it.
-fn put_setting(out: &mut Vec<u8>, channel: Channel) -> Result<(), AllocError>
+/// Writes the bytes of the command that sets a channel behind what is there. Where memory runs out, some of them may
+/// be.
+pub fn put_setting(out: &mut Vec<u8>, channel: Channel) -> Result<(), AllocError>
     ensures spelled { OnOk result (out.new.items ≡ out.old.items ++ spelling (commands.Channel channel)) }
     ensures fits { FitsCommand (commands.Channel channel) }
 {

@@ -18,3 +18,7 @@ pub mod Puts
 pub mod Bounds
 pub mod Named
 pub mod Told
+pub mod Firmness
+pub mod Filling
+pub mod Adopted
+pub mod Whys

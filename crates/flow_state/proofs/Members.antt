@@ -2,11 +2,7 @@
 use Rattle.std.proofs.Common.{◌≡◌, ◌⊎◌, ℕ, zero, suc, ◌+◌, ◌<◌, ◌≤◌, Bool, true, false, cond, ◌||◌, List, [], ◌∷◌, ◌++◌, map, filter, length, Some, None, refl, sym, ap, subst, ◌∙◌, arith, inl, inr, slice_get, slice_index_or, Contains}
 use Rattle.std.proofs.lemmas.Bool.{false_from_ne_true}
 use Rattle.std.specs.List.{list_any, find, flat_map, range_with_len, AllByRecursion}
-
--- x is an element of the list
-abbrev pub Has : {X : Type 0} → List X → X → Type 0
-Has [] x = ⊥
-Has (y ∷ ys) x = (y ≡ x) ⊎ Has ys x
+pub use Rattle.flow_state.specs.Firm.{Has}
 
 module _ {X : Type 0} where
   pub has_at : (xs : List X) (k : ℕ) (x : X) → slice_get xs k ≡ Some x → Has xs x

@@ -1,4 +1,4 @@
--- What is true of each table that commands reach: times, sizes and SIDs within their limits, flows by SID, and a flow for each waiting request.
+-- Each change keeps a table well: times, sizes and SIDs within their limits, flows by SID, and a flow for each waiting request.
 use Rattle.std.proofs.Common.{◌≡◌, ◌⊎◌, ℕ, suc, ◌+◌, ◌*◌, ◌<◌, ◌≤◌, Bool, true, false, cond, not, ◌||◌, ◌&&◌, List, [], ◌∷◌, ◌++◌, map, filter, length, Option, Some, None, refl, sym, ap, subst, ◌∙◌, arith, inl, inr, eqb, leb, ltb, length-append}
 use Rattle.std.specs.Option.{option_map_or}
 use Rattle.std.specs.Prelude.{unwrap_or}
@@ -12,58 +12,14 @@ use Rattle.flow_state.specs.declared.refusal.Refusal.TheVariants.{BadValue, OldR
 use Rattle.flow_state.specs.declared.settings.ChannelSettings.{ChannelSettings}
 use Rattle.flow_state.specs.Limits.{last_time, longest_interval, last_sid, most_waiting, is_backoff, is_good_channel, are_good_settings, is_good_kind, is_size, is_schedule, takes_no_requests, due_time}
 use Rattle.flow_state.specs.Rows.{Table, FlowRow, Lease, is_flow, is_of, flow_of, lease_of, is_of_sid, is_leased, unicast_sids, free_sid, insert_flow, waits, is_ended, has_ended, lease_in}
+pub use Rattle.flow_state.specs.Firm.{IsWellFlow, IsWellLease, IsWellRequest, RisingFrom, IsWell}
 use Rattle.flow_state.specs.Sound.{IsLeasedFlow}
 use Rattle.flow_state.specs.Refusals.{is_good_count, table_change_refusal, table_flow_refusal, table_request_refusal, request_refusal_on, is_old, is_repeated}
 use Rattle.flow_state.specs.Changes.{new_table, with_settings, change_in_table, new_flow, new_lease, add_to_table, flow_among, drop_in_table, request_in_table}
 use Rattle.flow_state.proofs.Members.{Has, has_between, has_left, has_right, has_pushed, has_map, map_has, has_filter, filter_has, none_has, found_has, has_found, range_has, filter_empty}
 use Rattle.flow_state.proofs.Filters.{filter_append, filter_swap}
+use Rattle.flow_state.proofs.Freed.{free_most, given_put, few_put}
 use Rattle.flow_state.proofs.Assignments.{eqb_same, unwrap_some, free_is_free, leased, first_early, has_put, put_found, put_others, is_added, IsAdded}
-
--- a flow within the limits; its next due time is at most an interval behind the last time
-pub record IsWellFlow (f : FlowRow) : Type 0 where
-  pub unicast : 1 ≤ f.sid
-  pub last : f.sid ≤ last_sid
-  pub kind : is_good_kind f.kind ≡ true
-  pub due : due_time f.kind f.index ≤ last_time + longest_interval
-
--- a lease of a unicast SID that has begun when the channel's next MAP begins
-pub record IsWellLease (start : ℕ) (l : Lease) : Type 0 where
-  pub unicast : 1 ≤ l.sid
-  pub last : l.sid ≤ last_sid
-  pub begun : l.first ≤ start
-  pub whole : l.first ≤ l.last
-  pub ended : l.last ≤ last_time
-
--- a waiting request within the limits and its lease, and the flow that it is of
-pub record IsWellRequest (fs : List FlowRow) (w : Waiting) : Type 0 where
-  pub some : 1 ≤ w.n
-  pub most : w.n ≤ 255
-  pub time : w.sent ≤ last_time
-  pub flow : FlowRow
-  pub there : Has fs flow
-  pub sid : flow.sid ≡ w.sid
-  pub last : flow.last_sent ≡ Some w.sent
-  pub after : flow.first ≤ w.sent
-  pub before : w.sent ≤ flow.last
-  pub asks : takes_no_requests flow.kind ≡ false
-
--- flows in strict order of their SIDs, from this one on
-abbrev pub RisingFrom : ℕ → List FlowRow → Type 0
-RisingFrom low [] = Unit {0}
-RisingFrom low (f ∷ fs) = (low ≤ f.sid) × RisingFrom (f.sid + 1) fs
-
--- a table that commands reach
-pub record IsWell (t : Table) : Type 0 where
-  pub channel : is_good_channel t.row.channel ≡ true
-  pub next : t.row.next_start ≤ last_time
-  pub ack : t.row.ack ≤ t.row.next_start
-  pub flows : (f : FlowRow) → Has t.flows f → IsWellFlow f
-  pub rising : RisingFrom 1 t.flows
-  pub given : (f : FlowRow) → Has t.flows f → IsLeasedFlow t f
-  pub leases : (l : Lease) → Has t.leases l → IsWellLease t.row.next_start l
-  pub requests : (w : Waiting) → Has t.waiting w → IsWellRequest t.flows w
-  pub alone : (sid : ℕ) → length (filter (is_of sid) t.waiting) ≤ 1
-  pub few : length t.waiting ≤ most_waiting
 
 -- ---- tests
 
@@ -159,6 +115,8 @@ new_is_well c good = record {
   channel = good;
   next = leb-true _ _ (and_parts _ _ good).1;
   ack = omega arith;
+  order = refl;
+  sids = omega arith;
   flows = λ f h. absurd h;
   rising = tt;
   given = λ f h. absurd h;
@@ -183,6 +141,8 @@ change_is_well t s ok w =
       channel = settings_good t.row.channel s (and_parts (are_good_settings s) (is_good_count t.row.channel s) (not-false _ passed.0)).0 w.channel;
       next = w.next;
       ack = w.ack;
+      order = w.order;
+      sids = w.sids;
       flows = w.flows;
       rising = w.rising;
       given = λ f h. let g = w.given f h in record { lease = g.lease; goes_on = g.goes_on };
@@ -243,6 +203,7 @@ flow_is_well None t modem tag last kind e ok w =
         let new : FlowRow = new_flow lease kind in
         let due = first_due kind a.kind_good in
         let range = free_range t sid free in
+        let next : sid ≤ length t.leases + 1 = free_most t sid w.order w.sids free in
         let early = first_early t sid in
         let goes_on = a.goes_on in
         let well : IsWellFlow new = record { unicast = range.0; last = omega (arith, range.1); kind = a.kind_good; due = omega arith } in
@@ -250,6 +211,8 @@ flow_is_well None t modem tag last kind e ok w =
           channel = w.channel;
           next = w.next;
           ack = w.ack;
+          order = given_put lease t.leases w.order range.0 next;
+          sids = few_put lease t.leases w.order range.0 next w.sids (omega (arith, range.1));
           flows = λ f h. elim (has_inserted new t.flows f h) [ inl old ↦ w.flows f old | inr is ↦ subst IsWellFlow is well ];
           rising = rising_inserted new t.flows range.0 (λ g h is. absurd (let apart = free_apart t sid g free (w.given g h) in let same = ap (eqb sid) is ∙ eqb_same sid in cc)) w.rising;
           given = λ f h. elim (has_inserted new t.flows f h) [
@@ -288,6 +251,8 @@ drop_is_well t at w = record {
   channel = w.channel;
   next = w.next;
   ack = w.ack;
+  order = w.order;
+  sids = w.sids;
   flows = λ f h. w.flows f (has_filter (λ g. not (is_flow at g)) t.flows f h).0;
   rising = rising_filter (λ g. not (is_flow at g)) 1 t.flows w.rising;
   given = λ f h. let g = w.given f (has_filter (λ g. not (is_flow at g)) t.flows f h).0 in record { lease = g.lease; goes_on = g.goes_on };
@@ -369,6 +334,8 @@ request_is_well t sid n sent ok w =
       channel = w.channel;
       next = w.next;
       ack = w.ack;
+      order = w.order;
+      sids = w.sids;
       flows = λ f h. let m = has_map (asked sid sent) t.flows f h in subst IsWellFlow m.2 (asked_well sid sent m.0 (w.flows m.0 m.1));
       rising = rising_map (asked sid sent) (asked_same sid sent) 1 t.flows w.rising;
       given = λ f h. let m = has_map (asked sid sent) t.flows f h in

@@ -10,3 +10,6 @@ pub mod StoredLeases
 pub mod StoredDues
 pub mod Entries
 pub mod Kept
+pub mod Firm
+pub mod Tests
+pub mod Reasons

@@ -1,13 +1,17 @@
 //! Calls on the table of a channel, found by the channel's id.
 
-ghost use Rattle.std.specs.Prelude.{◌≡◌, [], ◌∷◌, ◌++◌, List, None, Some, nat_eq, is_some, false, IsOk, OnOk, IfOk, IfErr, IsTrue};
+ghost use Rattle.std.specs.Prelude.{◌≡◌, ◌≤◌, [], ◌∷◌, ◌++◌, List, map, length, None, Some, OnErr, nat_eq, is_some, false, IsOk, OnOk, IfOk, IfErr, IsTrue};
 ghost use Rattle.std.specs.Fn.{CalledAt};
-ghost use Rattle.std.specs.List.{AllByRecursion};
+ghost use Rattle.std.specs.List.{AllByRecursion, range_with_len};
 ghost use Rattle.std.specs.List.Retain.{IsFiltered};
 ghost use Rattle.std.specs.Option.{option_map_or};
 ghost use Rattle.indexmap.specs.IndexMap.{get, IsUnique};
-ghost use Rattle.flow_state.specs.Entries.{change_entry, on_entry, entry_refusal};
-ghost use Rattle.flow_state.specs.Limits.{IsDueTime};
+ghost use Rattle.flow_state.specs.Entries.{AreIds, rows_of, change_entry, on_entry, entry_refusal};
+ghost use Rattle.flow_state.specs.Limits.{IsDueTime, last_sid};
+ghost use Rattle.flow_state.specs.StoredTable.{MayBePut};
+ghost use Rattle.flow_state.specs.View.{flow_view};
+ghost use Rattle.flow_state.specs.Tests.{is_firm_whole};
+ghost use Rattle.flow_state.specs.Firm.{RisingFrom, FitsChannel, table_in, IsAdoptable, Declines};
 ghost use Rattle.flow_state.specs.Rows.{Table, FlowRow, flow_of, lease_of, waits, without_request};
 ghost use Rattle.flow_state.specs.Refusals.{Refuses, table_change_refusal, table_flow_refusal, table_drop_refusal, table_request_refusal};
 ghost use Rattle.flow_state.specs.Changes.{new_table, change_in_table, lease_on, flow_in_table, drop_in_table, request_in_table, waiting_in_table, waiting_of, due_in_table, close_table, TellsDue, told_in_table, finish_table};
@@ -17,7 +21,9 @@ use crate::flow::{Flow, FlowKind, Lease, Waiting};
 use crate::refusal::Refusal;
 use crate::settings::ChannelSettings;
 use crate::table::ChannelTable;
+use crate::whole::{NotAdopted, WholeTable};
 use indexmap::IndexMap;
+use std::alloc::{AllocError, Global};
 
 /// Sets a channel.
 pub(crate) fn set_channel(
@@ -37,6 +43,74 @@ pub(crate) fn set_channel(
     }
     let table = ChannelTable::new(*tables.allocator(), channel);
     tables.insert(channel.id, table)?;
+    Ok(())
+}
+
+/// Puts leases, which are those of SIDs 1, 2 and so on, into a table of which no SID was given.
+fn put_leases(table: &mut ChannelTable, leases: &[Lease]) -> Result<(), AllocError>
+    requires none { table.old.leases ≡ [] }
+    requires order { map (λ l. l.sid) leases.now ≡ range_with_len 1 (length leases.now) }
+    requires few { length leases.now ≤ last_sid }
+    ensures { OnOk result (table.new ≡ record table.old { leases = leases.now }) }
+{
+    for lease in leases {
+        table.put_lease(*lease)?;
+    }
+    Ok(())
+}
+
+/// Puts flows, by SID and under the leases of their SIDs, into a table that has none.
+fn put_flows(table: &mut ChannelTable, flows: &[Flow]) -> Result<(), AllocError>
+    requires none { table.old.flows ≡ [] }
+    requires rising { RisingFrom 1 (map flow_view flows.now) }
+    requires stored { AllByRecursion (MayBePut table.old) flows.now }
+    ensures { OnOk result (table.new ≡ record table.old { flows = map flow_view flows.now }) }
+{
+    for flow in flows {
+        table.put_flow(*flow)?;
+    }
+    Ok(())
+}
+
+/// The table that a whole table is.
+fn table_of_whole(alloc: Global, whole: &WholeTable) -> Result<ChannelTable, AllocError>
+    requires firm { IsTrue (is_firm_whole whole.now) }
+    requires fits { FitsChannel whole.now.row.channel }
+    ensures { IfOk result (λ table. table ≡ table_in whole.now) }
+{
+    let mut table = ChannelTable::of_row(alloc, whole.row);
+    put_leases(&mut table, &whole.leases)?;
+    put_flows(&mut table, &whole.flows)?;
+    table.put_requests(&whole.waiting)?;
+    Ok(table)
+}
+
+/// Puts a whole table behind the others.
+pub(crate) fn adopt(
+    tables: &mut IndexMap<u8, ChannelTable>,
+    whole: &WholeTable,
+) -> Result<(), NotAdopted>
+    requires ids { AreIds tables.old.entries }
+    requires unique { IsUnique nat_eq tables.old }
+    ensures ok { OnOk result (IsAdoptable (rows_of tables.old.entries) whole.now
+        × (tables.new.entries ≡ tables.old.entries ++ (whole.now.row.channel.id, table_in whole.now) ∷ [])) }
+    ensures err { OnErr result (tables.new.entries ≡ tables.old.entries) }
+    ensures refused { IfErr result (Declines (IsAdoptable (rows_of tables.old.entries) whole.now)) }
+    ensures unique { IsUnique nat_eq tables.new }
+{
+    let id = whole.row.channel.id;
+    if !whole.is_firm() {
+        return Err(NotAdopted::NotFirm);
+    }
+    if tables.contains_key(&id) {
+        return Err(NotAdopted::NotFirm);
+    }
+    let Ok(table) = table_of_whole(*tables.allocator(), whole) else {
+        return Err(NotAdopted::OutOfMemory);
+    };
+    let Ok(_) = tables.insert(id, table) else {
+        return Err(NotAdopted::OutOfMemory);
+    };
     Ok(())
 }
 

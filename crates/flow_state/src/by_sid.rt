@@ -56,6 +56,20 @@ impl FlowsBySid {
         self.places.reserve(1)
     }
 
+    /// Makes a place for a SID, the next one at most. It is empty where the SID is the next one.
+    pub(crate) fn make_place(&mut self, sid: u16) -> Result<(), AllocError>
+        requires unicast { (1 ≤ sid) × (sid ≤ last_sid) }
+        requires next { sid ≤ self.old.sids + 1 }
+        ensures made { OnOk result (sid ≤ self.new.sids) }
+        ensures more { self.old.sids ≤ self.new.sids }
+        ensures kept { self.new.entries ≡ self.old.entries }
+    {
+        if self.places.len() < usize::from(sid) {
+            self.places.insert(sid, None)?;
+        }
+        Ok(())
+    }
+
     /// The flow of a SID.
     pub(crate) fn get(&self, sid: u16) -> Option<&Flow>
         ensures { option_copied result ≡ lookup (nat_eq sid) self.now.entries }
@@ -77,6 +91,19 @@ impl FlowsBySid {
             }
         }
         None
+    }
+
+    /// Copies all flows, by SID, over what is there.
+    pub(crate) fn copy_all(&self, copied: &mut Vec<Flow>) -> Result<(), AllocError>
+        ensures { OnOk result (copied.new.items ≡ map (λ e. e.1) self.now.entries) }
+    {
+        copied.clear();
+        for place in 0..self.places.len() {
+            if let Some(flow) = flow_at(&self.places, place) {
+                copied.push(*flow)?;
+            }
+        }
+        Ok(())
     }
 
     /// Adds the flow of a SID that has none, the next one at most. There is room for one more SID.
@@ -173,7 +200,7 @@ impl FlowsBySid {
 }
 
 /// The place of a SID. 0 has none.
-fn place_of(sid: u16) -> usize
+pub(crate) fn place_of(sid: u16) -> usize
     ensures { result ≡ place_of sid }
 {
     usize::from(sid.wrapping_sub(1))

@@ -28,7 +28,7 @@ pub struct Channel {
 
 impl Channel {
     /// Are all values within the limits?
-    pub(crate) fn is_good(self) -> bool
+    pub fn is_good(self) -> bool
         ensures { result ≡ is_good_channel self }
     {
         let (ranging_start, ranging_end) = self.ranging_backoff;

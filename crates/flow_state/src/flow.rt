@@ -58,7 +58,7 @@ fn is_schedule(interval: u32, jitter: u32, base: u64) -> bool
 
 impl FlowKind {
     /// Are all values within the limits?
-    pub(crate) fn is_good(self) -> bool
+    pub fn is_good(self) -> bool
         ensures { result ≡ is_good_kind self }
     {
         match self {

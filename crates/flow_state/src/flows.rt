@@ -1,9 +1,11 @@
 use crate::at_channel;
 use crate::channel::{Channel, ChannelRow};
 use crate::flow::{Flow, FlowKind, Lease, Waiting};
+use crate::reason::{Reason, if_so, why_bad_channel};
 use crate::refusal::Refusal;
 use crate::settings::ChannelSettings;
 use crate::table::ChannelTable;
+use crate::whole::{NotAdopted, WholeTable};
 use indexmap::IndexMap;
 use std::alloc::Global;
 use std::marker::Model;
@@ -29,15 +31,17 @@ impl Model for Flows {
 }
 
 impl Flows {
-    ghost use Rattle.std.specs.Prelude.{◌≡◌, List, [], Some, is_some, IsTrue, IsOk, OnOk, IfOk, IfErr, IfSome, ◌<◌, ◌≤◌};
+    ghost use Rattle.std.specs.Prelude.{◌≡◌, List, [], ◌∷◌, ◌++◌, length, slice_get, Some, is_some, IsTrue, IsOk, OnOk, OnErr, IfOk, IfErr, IfSome, ◌<◌, ◌≤◌};
     ghost use Rattle.std.specs.Fn.{CalledAt};
     ghost use Rattle.std.specs.List.{AllByRecursion};
     ghost use Rattle.std.specs.List.Retain.{IsFiltered};
     ghost use Rattle.std.specs.Option.{option_copied, option_map};
     ghost use Rattle.flow_state.specs.Limits.{IsDueTime, is_good_kind, last_sid, most_waiting};
     ghost use Rattle.flow_state.specs.Sound.{IsSound};
+    ghost use Rattle.flow_state.specs.Firm.{AreFirm, table_in, IsAdoptable, Declines};
     ghost use Rattle.flow_state.specs.Rows.{FlowRow, Table, table_of, lent_flow, channel_at, flow_at, waiting_at};
     ghost use Rattle.flow_state.specs.Refusals.{Refuses, set_channel_refusal, change_channel_refusal, add_flow_refusal, drop_flow_refusal, request_refusal};
+    ghost use Rattle.flow_state.specs.Reasons.{reason_refusal, why_set_channel, why_on, why_change, why_flow, why_drop, why_request};
     ghost use Rattle.flow_state.specs.Changes.{with_channel, with_settings_on, is_known, lease_given, with_flow, without_flow, with_request, is_waiting, without_waiting, with_waiting, waiting_of, flow_row, with_due, with_cut_closed, TellsDue, with_cut_finished};
 
     /// No channel is set.
@@ -56,6 +60,20 @@ impl Flows {
         ensures err { IfErr result (λ refusal. Refuses (set_channel_refusal self.old channel) refusal × (self.new ≡ self.old)) }
     {
         at_channel::set_channel(&mut self.tables, channel)
+    }
+
+    /// Puts a whole table of a channel behind the others, as commands could have left it: its row with the settings as
+    /// they stand, its leases, flows and waiting requests. Refused is one that no commands could leave (a value outside
+    /// the limits, a lease that begins behind the next start or ends before it begins, a gap in the leases, a flow
+    /// without its lease, a next due time that is none of the flow's, a waiting request that isn't its flow's last one,
+    /// two of one SID, or more than 118), and one of a channel that is set.
+    pub fn adopt(&mut self, table: &WholeTable) -> Result<(), NotAdopted>
+        ensures ok { OnOk result (IsAdoptable self.old table.now × (self.new ≡ self.old ++ table_in table.now ∷ [])) }
+        ensures err { OnErr result (self.new ≡ self.old) }
+        ensures refused { IfErr result (Declines (IsAdoptable self.old table.now)) }
+        ensures firm { OnOk result (AreFirm self.old → AreFirm self.new) }
+    {
+        at_channel::adopt(&mut self.tables, table)
     }
 
     /// Gives a channel that is set another UCD Count, PHY, size of short grants and back-offs. All else of it goes on:
@@ -141,6 +159,24 @@ impl Flows {
         self.tables.get(&ch)
     }
 
+    /// How many channels are set, 256 at most.
+    pub fn channels(&self) -> usize
+        ensures { result ≡ length self.now }
+    {
+        self.tables.len()
+    }
+
+    /// Table number k, in the order in which channels were set, from 0, for reading. What holds of every table holds
+    /// of it.
+    pub fn table_at(&self, k: usize) -> Option<&ChannelTable>
+        ensures { option_copied result ≡ slice_get self.now k }
+    {
+        match self.tables.get_index(k) {
+            Some((_, table)) => Some(table),
+            None => None,
+        }
+    }
+
     /// The channel's flow that has the SID.
     pub fn flow_of(&self, ch: u8, sid: u16) -> Option<&Flow>
         ensures { option_copied result ≡ option_map lent_flow (flow_row self.now ch sid) }
@@ -159,6 +195,67 @@ impl Flows {
         match self.tables.get(&ch) {
             Some(table) => table.waiting(k),
             None => None,
+        }
+    }
+
+    /// Why a channel may not be set: the first limit that refuses. None exactly where `set_channel` refuses nothing. It
+    /// takes no memory, as the others.
+    pub fn why_set_channel(&self, channel: Channel) -> Option<Reason>
+        ensures why { result ≡ why_set_channel self.now channel }
+        ensures refusal { option_map reason_refusal result ≡ set_channel_refusal self.now channel }
+    {
+        let there = Reason::ChannelThere { ch: channel.id };
+        why_bad_channel(channel).or(if_so(self.tables.contains_key(&channel.id), there))
+    }
+
+    /// Why a channel may not be given these settings, as `change_channel` refuses.
+    pub fn why_change(&self, ch: u8, settings: ChannelSettings) -> Option<Reason>
+        ensures why { result ≡ why_on self.now ch (λ t. why_change t settings) }
+        ensures refusal { option_map reason_refusal result ≡ change_channel_refusal self.now ch settings }
+    {
+        match self.tables.get(&ch) {
+            Some(table) => table.why_change(settings),
+            None => Some(Reason::NoChannel { ch }),
+        }
+    }
+
+    /// Why a flow may not be added, as `add_flow` refuses.
+    pub fn why_flow(
+        &self,
+        ch: u8,
+        modem: u32,
+        tag: u32,
+        last: u64,
+        kind: FlowKind,
+    ) -> Option<Reason>
+        ensures why { result ≡ why_on self.now ch (λ t. why_flow t modem tag last kind) }
+        ensures refusal { option_map reason_refusal result ≡ add_flow_refusal self.now ch modem tag last kind }
+    {
+        match self.tables.get(&ch) {
+            Some(table) => table.why_flow(modem, tag, last, kind),
+            None => Some(Reason::NoChannel { ch }),
+        }
+    }
+
+    /// Why a flow may not be dropped, as `drop_flow` refuses.
+    pub fn why_drop(&self, ch: u8, sid: u16) -> Option<Reason>
+        ensures why { result ≡ why_on self.now ch (λ t. why_drop t sid) }
+        ensures refusal { option_map reason_refusal result ≡ drop_flow_refusal self.now ch sid }
+    {
+        match self.tables.get(&ch) {
+            Some(table) => table.why_drop(sid),
+            None => Some(Reason::NoChannel { ch }),
+        }
+    }
+
+    /// Why a request is refused, as `request` refuses it.
+    pub fn why_request(&self, ch: u8, sid: u16, n: u16, sent: u64) -> Option<Reason>
+        ensures why { result ≡ why_on self.now ch (λ t. why_request t sid n sent) }
+        ensures refusal { option_map reason_refusal result ≡ request_refusal self.now ch sid n sent }
+    {
+        match self.tables.get(&ch) {
+            Some(table) => table.why_request(sid, n, sent),
+            None => Some(Reason::NoChannel { ch }),
         }
     }
 

@@ -50,6 +50,13 @@ impl Leases {
         }
     }
 
+    /// All of them, by SID.
+    pub(crate) fn all(&self) -> &[Lease]
+        ensures { result.now ≡ self.now }
+    {
+        &self.latest
+    }
+
     /// The lease of modem and tag that isn't over, where the channel's next MAP begins at a start. All
     /// leases are looked through only where one that isn't named may not be over.
     pub(crate) fn lease_of(&self, modem: u32, tag: u32, start: u64) -> Option<Lease>

@@ -1,13 +1,16 @@
-ghost use Rattle.std.specs.Prelude.{◌≡◌, ℕ, List, map, length, option_to_list, ◌∷◌, ◌++◌, ◌==◌, not, filter, if◌then◌else◌, is_some, slice_get, Some, None, IsOk, IsTrue, IsSome, OnErr, IfOk, OnOk, IfErr, IfSome, IfNone, nat_eq, nat_le, ◌<◌, ◌≤◌};
+ghost use Rattle.std.specs.Prelude.{◌≡◌, ℕ, ◌+◌, List, [], map, length, option_to_list, ◌∷◌, ◌++◌, ◌==◌, not, filter, if◌then◌else◌, is_some, slice_get, Some, None, IsOk, IsTrue, IsSome, OnErr, IfOk, OnOk, IfErr, IfSome, IfNone, nat_eq, nat_le, ◌<◌, ◌≤◌};
 ghost use Rattle.std.specs.Fn.{CalledAt};
 ghost use Rattle.std.specs.List.Retain.{IsFiltered};
 ghost use Rattle.std.specs.Map.{lookup};
 ghost use Rattle.std.specs.Option.{option_copied, option_map};
+ghost use Rattle.std.specs.List.{AllByRecursion};
 ghost use Rattle.flow_state.specs.Limits.{IsDueTime, is_good_kind, last_sid, most_waiting};
 ghost use Rattle.flow_state.specs.Sound.{IsSound, Rise};
 ghost use Rattle.flow_state.specs.Rows.{FlowRow, lent_flow, due_flows, flow_of, waits, without_request, free_sid, lease_of};
 ghost use Rattle.flow_state.specs.Refusals.{Refuses, is_good_last, table_change_refusal, table_flow_refusal, table_drop_refusal, table_request_refusal, is_busy};
-ghost use Rattle.flow_state.specs.StoredTable.{is_ended_in, EndFrom, AreNoted, is_due_stored};
+ghost use Rattle.flow_state.specs.Reasons.{why_change, why_flow, why_drop, why_busy, why_request};
+ghost use Rattle.flow_state.specs.StoredTable.{is_ended_in, EndFrom, AreNoted, is_due_stored, MayBePut, with_lease, with_flow_row};
+ghost use Rattle.flow_state.specs.View.{flow_view};
 ghost use Rattle.flow_state.specs.StoredDues.{IsDueFrom};
 ghost use Rattle.flow_state.specs.Changes.{new_table, change_in_table, lease_for, flow_in_table, add_to_table, drop_in_table, request_in_table, waiting_in_table, due_in_table, close_table};
 
@@ -17,6 +20,7 @@ use crate::dues::Dues;
 use crate::flow::{Flow, FlowKind, Lease, Waiting};
 use crate::leases::Leases;
 use crate::limits::{LAST_TIME, MOST_WAITING};
+use crate::reason::{self, Reason, if_so};
 use crate::refusal::Refusal;
 use crate::settings::ChannelSettings;
 use std::alloc::{AllocError, Global};
@@ -52,12 +56,20 @@ impl ChannelTable {
     pub(crate) fn new(alloc: Global, channel: Channel) -> ChannelTable
         ensures { result ≡ new_table channel }
     {
+        let row = ChannelRow {
+            channel,
+            next_start: channel.base,
+            ack: 0,
+        };
+        ChannelTable::of_row(alloc, row)
+    }
+
+    /// A channel of which no SID was given.
+    pub(crate) fn of_row(alloc: Global, row: ChannelRow) -> ChannelTable
+        ensures { result ≡ record { row = row; leases = []; flows = []; waiting = [] } }
+    {
         ChannelTable {
-            row: ChannelRow {
-                channel,
-                next_start: channel.base,
-                ack: 0,
-            },
+            row,
             leases: Leases::new(alloc),
             flows: FlowsBySid::new(alloc),
             first_end: LAST_TIME,
@@ -84,6 +96,20 @@ impl ChannelTable {
         ensures sound { IsSound self.now }
     {
         &self.row
+    }
+
+    /// The latest lease of each SID that was given, by SID, from 1 on. It takes no memory.
+    pub fn leases(&self) -> &[Lease]
+        ensures { result.now ≡ self.now.leases }
+    {
+        self.leases.all()
+    }
+
+    /// Copies all flows, by SID, over what is there. It takes time for the SIDs that were given.
+    pub fn copy_flows(&self, copied: &mut Vec<Flow>) -> Result<(), AllocError>
+        ensures { OnOk result (copied.new.items ≡ map lent_flow self.now.flows) }
+    {
+        self.flows.copy_all(copied)
     }
 
     /// Flow number k, by SID.
@@ -142,6 +168,41 @@ impl ChannelTable {
         self.dues.set(lease.sid, flow.due_from());
         self.flows.add(lease.sid, flow);
         Ok(())
+    }
+
+    /// Puts the lease of the next SID behind the others.
+    pub(crate) fn put_lease(&mut self, lease: Lease) -> Result<(), AllocError>
+        requires next { lease.sid ≡ length self.old.leases + 1 }
+        requires unicast { lease.sid ≤ last_sid }
+        ensures { OnOk result (self.new ≡ with_lease self.old lease) }
+    {
+        self.flows.make_place(lease.sid)?;
+        self.leases.put(lease)?;
+        Ok(())
+    }
+
+    /// Puts a flow behind the others, under the lease of its SID. It is due next at one of its due times.
+    pub(crate) fn put_flow(&mut self, flow: Flow) -> Result<(), AllocError>
+        requires may { MayBePut self.old flow }
+        requires behind { AllByRecursion (λ f. f.sid < flow.lease.sid) self.old.flows }
+        ensures { OnOk result (self.new ≡ with_flow_row self.old (flow_view flow)) }
+    {
+        let sid = flow.lease.sid;
+        self.flows.reserve()?;
+        self.dues.make_room(sid)?;
+        self.first_end = self.first_end.min(flow.lease.last);
+        self.dues.set(sid, flow.due_from());
+        self.flows.add(sid, flow);
+        Ok(())
+    }
+
+    /// Gives a channel on which nothing waits its waiting requests.
+    pub(crate) fn put_requests(&mut self, requests: &[Waiting]) -> Result<(), AllocError>
+        requires none { self.old.waiting ≡ [] }
+        requires few { length requests.now ≤ most_waiting }
+        ensures { OnOk result (self.new ≡ waiting_in_table self.old requests.now) }
+    {
+        self.waiting.extend_from_slice(requests)
     }
 
     /// May a new lease end so?
@@ -216,6 +277,65 @@ impl ChannelTable {
         ensures { result ≡ is_busy self.now sid }
     {
         self.waits(sid) || self.waiting.len() >= MOST_WAITING
+    }
+
+    /// Why a change to these settings is refused.
+    pub(crate) fn why_change(&self, settings: ChannelSettings) -> Option<Reason>
+        ensures { result ≡ why_change self.now settings }
+    {
+        reason::why_settings(self.row.channel, settings)
+    }
+
+    /// Why a flow may not be added so.
+    pub(crate) fn why_flow(&self, modem: u32, tag: u32, last: u64, kind: FlowKind) -> Option<Reason>
+        ensures { result ≡ why_flow self.now modem tag last kind }
+    {
+        let start = self.row.next_start;
+        if self.leases.lease_of(modem, tag, start).is_some() {
+            return None;
+        }
+        let ch = self.row.channel.id;
+        let spent = if_so(
+            self.leases.free_sid(start).is_none(),
+            Reason::SidsSpent { ch },
+        );
+        reason::why_kind(kind)
+            .or(reason::why_last(start, last))
+            .or(spent)
+    }
+
+    /// Why the flow of a SID may not be dropped.
+    pub(crate) fn why_drop(&self, sid: u16) -> Option<Reason>
+        ensures { result ≡ why_drop self.now sid }
+    {
+        let ch = self.row.channel.id;
+        if_so(self.flow_of(sid).is_none(), Reason::NoFlow { ch, sid })
+    }
+
+    /// Why no request of a SID may be accepted now.
+    fn why_busy(&self, sid: u16) -> Option<Reason>
+        ensures { result ≡ why_busy self.now sid }
+    {
+        let full = Reason::Full {
+            ch: self.row.channel.id,
+        };
+        if_so(self.waits(sid), Reason::Waits { sid }).or(if_so(
+            self.waiting.len() >= MOST_WAITING,
+            full,
+        ))
+    }
+
+    /// Why a request is refused.
+    pub(crate) fn why_request(&self, sid: u16, n: u16, sent: u64) -> Option<Reason>
+        ensures { result ≡ why_request self.now sid n sent }
+    {
+        match self.flows.get(sid) {
+            Some(flow) => reason::why_not_asked(flow, n, sent).or(self.why_busy(flow.lease.sid)),
+            None => Some(Reason::NoFlow {
+                ch: self.row.channel.id,
+                sid,
+            }),
+        }
     }
 
     /// Accepts a request for n minislots that was sent at a time.

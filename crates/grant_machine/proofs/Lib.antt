@@ -16,4 +16,5 @@ pub mod Settling
 pub mod Closing
 pub mod Reaching
 pub mod Keeping
+pub mod Whys
 pub mod Callers

@@ -8,7 +8,8 @@ use Rattle.flow_state.specs.declared.flow.FlowKind.{FlowKind}
 use Rattle.flow_state.specs.declared.refusal.Refusal.TheVariants.{BadValue, ChannelThere}
 use Rattle.flow_state.specs.Limits.{is_good_channel}
 use Rattle.flow_state.specs.declared.flow.Lease.{Lease}
-use Rattle.flow_state.specs.Rows.{Rows, Table, table_of, lease_of}
+use Rattle.flow_state.specs.Rows.{Rows, Table, is_table, table_of, lease_of}
+use Rattle.flow_state.specs.Firm.{IsFirm, AreFirm}
 use Rattle.flow_state.specs.Refusals.{table_change_refusal, table_flow_refusal, table_request_refusal}
 use Rattle.flow_state.specs.Changes.{new_table, change_in_table, flow_among, drop_in_table, request_in_table}
 use Rattle.grant_machine.specs.declared.command.Command.{Command}
@@ -18,7 +19,7 @@ use Rattle.grant_machine_parts.specs.Cutting.{fill, fill_refusal, table_after}
 use Rattle.grant_machine.specs.Steps.{cut_settings, step, refusal_of}
 use Rattle.grant_machine.specs.Runs.{rows_from, IsReached}
 use Rattle.grant_machine.specs.Fits.{FitsChannel, FitsCommand}
-use Rattle.flow_state.proofs.Callers.{IsWell, new_is_well, change_is_well, flow_is_well, drop_is_well, request_is_well, passes_on}
+use Rattle.flow_state.proofs.Callers.{IsWell, new_is_well, change_is_well, flow_is_well, drop_is_well, request_is_well, passes_on, has_all, found_has}
 use Rattle.grant_machine_parts.proofs.Callers.{cut_is_well}
 use Rattle.grant_machine.proofs.Turns.{made, Changes, after, before}
 
@@ -96,8 +97,15 @@ pub rows_keep : (P : Rows → Type 0) → ((rows : Rows) (c : Command) → P row
 rows_keep P keeps rows [] h = h
 rows_keep P keeps rows (c ∷ cs) h = rows_keep P keeps (step rows c).rows cs (keeps rows c h)
 
+-- a table that is there is one of the rows
+pub at_has : (P : Table → Type 0) (rows : Rows) → AllByRecursion P rows → (ch : ℕ) → At P rows ch
+at_has P rows all ch t e = has_all P rows t all (found_has (is_table ch) rows t e).0
+
+firm_well : (rows : Rows) → AreFirm rows → AllWell rows
+firm_well rows firm ch t e = (at_has IsFirm rows firm.0 ch t e).well
+
 pub reached_is_well : (rows : Rows) → IsReached rows → AllWell rows
-reached_is_well rows r = subst AllWell r.2 (rows_keep AllWell well_step [] r.0 none_well)
+reached_is_well rows r = subst AllWell r.4 (rows_keep AllWell well_step r.0 r.2 (firm_well r.0 r.1))
 
 -- ---- channels as the program can hold them
 
@@ -144,3 +152,9 @@ fit_step rows c fits w ch u e = elim (before rows c ch u e) [
 pub fit_rows : (rows : Rows) (cs : List Command) → AllByRecursion FitsCommand cs → AllFit rows → AllFit (rows_from rows cs)
 fit_rows rows [] fits w = w
 fit_rows rows (c ∷ cs) fits w = fit_rows (step rows c).rows cs fits.1 (fit_step rows c fits.0 w)
+
+firm_fits : (rows : Rows) → AreFirm rows → AllFit rows
+firm_fits rows firm ch t e = (at_has IsFirm rows firm.0 ch t e).fits
+
+pub reached_fits : (rows : Rows) → IsReached rows → AllFit rows
+reached_fits rows r = subst AllFit r.4 (fit_rows r.0 r.2 r.3 (firm_fits r.0 r.1))

@@ -18,7 +18,6 @@ use Rattle.grant_machine.specs.declared.output.Output.TheVariants as outputs
 use Rattle.grant_machine_parts.specs.declared.placing.Cause.{Cause}
 use Rattle.grant_machine_parts.specs.declared.placing.Placement.{Placement}
 use Rattle.grant_machine_parts.specs.declared.placing.Cause.TheVariants.{Window, Sent}
-use Rattle.grant_machine_parts.specs.declared.due_times.Periodic.{Periodic}
 use Rattle.grant_machine_parts.specs.declared.settings.CutSettings.{CutSettings}
 use Rattle.grant_machine_parts.specs.Cutting.{span_of, fill_windows, in_order, placement_at, placement_for, request_fit, place_requests, is_cause_sent, is_grant_of, Filled, fill, fill_span, table_after}
 use Rattle.grant_machine.specs.Steps.{cut_settings, step, step_on, accepted}

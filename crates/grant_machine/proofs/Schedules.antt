@@ -20,11 +20,11 @@ use Rattle.grant_machine_parts.specs.Cutting.{Filled, fill, fill_refusal, span_o
 use Rattle.grant_machine_parts.specs.Placing.{holder, holds}
 use Rattle.grant_machine_parts.specs.Drawing.{beginning, begins_at, body_of, bytes_of, free_element, null_element, placed_element}
 use Rattle.grant_machine.specs.Steps.{step}
-use Rattle.grant_machine.specs.Runs.{outputs_from, outputs_of, rows_from}
+use Rattle.grant_machine.specs.Runs.{outputs_from, outputs_of, rows_from, IsReached}
 use Rattle.grant_machine.specs.Fits.{FitsCommand}
 use Rattle.grant_machine.specs.Owner.{IsMapOf, IsGiven}
 use Rattle.grant_machine.specs.Maintenance.{OpeningsHaveNoOwner}
-use Rattle.grant_machine.specs.Laws.{IsLeasedAt, OutputsGoOn, MapsAreBodies, SharedMapsAreOne, SidsAreUnicast, OwnersAreOne}
+use Rattle.grant_machine.specs.Laws.{IsLeasedAt, OutputsGoOn, MapsAreBodies, MapsAreBodiesFrom, SharedMapsAreOne, SidsAreUnicast, OwnersAreOne}
 use Rattle.flow_state.proofs.Callers.{Has, contains_at, found_has, unfound}
 use Rattle.grant_machine.proofs.Maps.{maps_are_disjoint}
 use Rattle.flow_state.proofs.Callers.{is_found}
@@ -33,7 +33,7 @@ use Rattle.flow_state.proofs.Callers.{IsWell}
 use Rattle.grant_machine_parts.proofs.Callers.{is_cut}
 use Rattle.grant_machine_parts.proofs.Callers.{count, holds_from, null_at, none_before}
 use Rattle.grant_machine_parts.proofs.Callers.{pending, cut_placed, cut_most, pending_plain, cut_written}
-use Rattle.grant_machine.proofs.Reached.{At, AllWell, none_well, well_step, rows_keep, FitsTable, none_fit, fit_rows}
+use Rattle.grant_machine.proofs.Reached.{At, AllWell, none_well, well_step, rows_keep, reached_is_well, FitsTable, none_fit, fit_rows, reached_fits}
 use Rattle.grant_machine.proofs.Cuts.{map_parts, cut_of_map}
 use Rattle.grant_machine.proofs.Tellings.{drawn_body, cut_cell}
 
@@ -163,6 +163,15 @@ maps_are_bodies cs ch start len bytes all contains =
     let s = step_at [] cs here.0 (outputs.Map ch start len bytes) here.1 in
     body_of_drawn ch start len bytes
     (drawn_now FitsTable (rows_from [] s.front) s.command ch start len bytes (rows_keep AllWell well_step [] s.front none_well) (fit_rows [] s.front (s.fits all) none_fit) s.gives)
+
+-- so are those from rows that commands could leave
+pub maps_are_bodies_from : MapsAreBodiesFrom
+maps_are_bodies_from opening cs ch start len bytes firm all contains =
+    let here = contains_at (outputs_from opening cs) (outputs.Map ch start len bytes) contains in
+    let s = step_at opening cs here.0 (outputs.Map ch start len bytes) here.1 in
+    let before : IsReached (rows_from opening s.front) = (opening, firm, s.front, s.fits all, refl) in
+    body_of_drawn ch start len bytes
+    (drawn_now FitsTable (rows_from opening s.front) s.command ch start len bytes (reached_is_well (rows_from opening s.front) before) (reached_fits (rows_from opening s.front) before) s.gives)
 
 -- two MAPs of a channel that share a minislot are the same
 pub shared_maps_are_one : SharedMapsAreOne

@@ -1,5 +1,6 @@
 -- What is true of the rows that commands reach, beside what is true of each table: each channel has one table, and a best-effort flow stays at due time number 0.
-use Rattle.std.proofs.Common.{◌≡◌, ℕ, Bool, true, false, cond, not, List, [], ◌∷◌, ◌++◌, map, filter, Option, Some, None, refl, sym, ap, subst, ◌∙◌, inl, inr, is_some}
+use Rattle.std.proofs.Common.{◌≡◌, ℕ, Bool, true, false, cond, not, List, [], ◌∷◌, map, filter, Option, Some, None, refl, sym, ap, subst, ◌∙◌, inl, inr, is_some, eqb}
+use Rattle.std.proofs.lemmas.Bool.{eqb-true}
 use Rattle.std.specs.List.{AllByRecursion}
 use Rattle.std.specs.Prelude.{unwrap_or}
 use Rattle.minislot_time.specs.Extent.{Extent}
@@ -8,7 +9,7 @@ use Rattle.flow_state.specs.declared.flow.FlowKind.{FlowKind}
 use Rattle.flow_state.specs.declared.flow.FlowKind.TheVariants.{BestEffort, Ugs, Poll, Station, Initial}
 use Rattle.flow_state.specs.declared.refusal.Refusal.TheVariants.{BadValue, ChannelThere}
 use Rattle.flow_state.specs.Limits.{is_good_channel, is_timed}
-use Rattle.flow_state.specs.Rows.{Rows, Table, FlowRow, is_table, table_of, change_table, is_flow, is_ended, free_sid, insert_flow}
+use Rattle.flow_state.specs.Rows.{Rows, Table, FlowRow, table_of, change_table, is_flow, is_ended, free_sid, insert_flow}
 use Rattle.flow_state.specs.Changes.{new_table, new_flow, new_lease}
 use Rattle.grant_machine.specs.declared.command.Command.{Command}
 use Rattle.grant_machine.specs.declared.command.Command.TheVariants as commands
@@ -17,24 +18,16 @@ use Rattle.grant_machine_parts.specs.declared.due_times.Periodic.{Periodic}
 use Rattle.grant_machine_parts.specs.Cutting.{grants_of_flow, polls_of_flow, maintenance_of_flow, fill_grants, fill_polls, run_flow, pass, span_of, end_of, flows_served}
 use Rattle.grant_machine.specs.Steps.{step, refusal_of}
 use Rattle.grant_machine.specs.Runs.{step_grants, IsReached}
-use Rattle.flow_state.proofs.Callers.{found_before, same_id, KeepsId, eqb_sym}
+pub use Rattle.flow_state.specs.Firm.{idle, IsIdle, Apart}
+use Rattle.flow_state.specs.Firm.{IsFirm, AreFirm}
+use Rattle.flow_state.proofs.Callers.{apart_added, found_before, same_id, KeepsId, eqb_same, Has}
 use Rattle.flow_state.proofs.Callers.{has_filter, has_inserted, has_all, all_has}
 use Rattle.flow_state.proofs.Callers.{passes_on}
 use Rattle.grant_machine_parts.proofs.Callers.{Asks, grants_of, maintenance_of, polls_of, timed}
 use Rattle.grant_machine.proofs.Turns.{IsPushed, shape}
-use Rattle.grant_machine.proofs.Reached.{Kept, At, at_step, rows_keep}
+use Rattle.grant_machine.proofs.Reached.{Kept, At, at_step, at_has, rows_keep, reached_is_well, reached_fits}
 
 -- ---- best-effort flows
-
-abbrev pub idle : FlowKind → ℕ → Type 0
-idle (BestEffort priority) i = i ≡ 0
-idle (Ugs size interval jitter base) i = Unit {0}
-idle (Poll interval jitter base) i = Unit {0}
-idle (Station size interval jitter base) i = Unit {0}
-idle (Initial size interval jitter base) i = Unit {0}
-
-abbrev pub IsIdle : FlowRow → Type 0
-IsIdle f = idle f.kind f.index
 
 abbrev pub AreIdle : Table → Type 0
 AreIdle t = AllByRecursion IsIdle t.flows
@@ -93,17 +86,15 @@ idle_kept = record {
       idle_filter (λ f. not (is_ended (end_of span) f)) (flows_served t span) (served_idle t span all);
 }
 
-abbrev AllIdle : Rows → Type 0
+abbrev pub AllIdle : Rows → Type 0
 AllIdle rows = (ch : ℕ) → At AreIdle rows ch
 
 pub reached_idle : (rows : Rows) → IsReached rows → AllIdle rows
-reached_idle rows r = subst AllIdle r.2 (rows_keep AllIdle (λ before c all ch. at_step AreIdle idle_kept before c ch (λ n is ok. tt) (all ch)) [] r.0 (λ ch t e. absurd cc))
+reached_idle rows r =
+    subst AllIdle r.4 (rows_keep AllIdle (λ before c all ch. at_step AreIdle idle_kept before c ch (λ n is ok. tt) (all ch)) r.0 r.2
+    (λ ch t e. (at_has IsFirm r.0 r.1.0 ch t e).idle_flows))
 
 -- ---- one table a channel
-
-abbrev pub Apart : Rows → Type 0
-Apart [] = Unit {0}
-Apart (t ∷ rows) = (table_of rows t.row.channel.id ≡ None) × Apart rows
 
 none_changed : (rows : Rows) (at : ℕ) (change : Table → Table) (ch : ℕ) → KeepsId change → table_of rows ch ≡ None → table_of (change_table rows at change) ch ≡ None
 none_changed rows at change ch ids e = by (table_of (change_table rows at change) ch) refl
@@ -116,20 +107,6 @@ apart_changed : (rows : Rows) (at : ℕ) (change : Table → Table) → KeepsId 
 apart_changed [] at change ids a = tt
 apart_changed (r ∷ rows) at change ids a =
     (subst (λ i. table_of (change_table rows at change) i ≡ None) (sym (same_id at change r ids)) (none_changed rows at change r.row.channel.id ids a.0), apart_changed rows at change ids a.1)
-
-none_added : (rows : Rows) (n : Table) (ch : ℕ) → table_of rows ch ≡ None → is_table ch n ≡ false → table_of (rows ++ n ∷ []) ch ≡ None
-none_added [] n ch e off = ap (λ b. cond b (Some n) None) off
-none_added (r ∷ rows) n ch e off = elim (is_table ch r) as (λ b. cond b (Some r) (table_of rows ch) ≡ None → cond b (Some r) (table_of (rows ++ n ∷ []) ch) ≡ None) [ true ↦ λ f. absurd cc | false ↦ λ f. none_added rows n ch f off ] e
-
-apart_added : (rows : Rows) (n : Table) → table_of rows n.row.channel.id ≡ None → Apart rows → Apart (rows ++ n ∷ [])
-apart_added [] n e a = (refl, tt)
-apart_added (r ∷ rows) n e a =
-    let both = later (is_table n.row.channel.id r) refl e in
-    (none_added rows n r.row.channel.id a.0 (eqb_sym n.row.channel.id r.row.channel.id ∙ both.0), apart_added rows n both.1 a.1)
-  where
-    later : (b : Bool) → is_table n.row.channel.id r ≡ b → cond b (Some r) (table_of rows n.row.channel.id) ≡ None → (is_table n.row.channel.id r ≡ false) × (table_of rows n.row.channel.id ≡ None)
-    later true h f = absurd cc
-    later false h f = (h, f)
 
 apart_step : (rows : Rows) (c : Command) → Apart rows → Apart (step rows c).rows
 apart_step rows c a = elim (shape rows c) [
@@ -149,4 +126,29 @@ apart_step rows c a = elim (shape rows c) [
     absent None e = refl
 
 pub reached_apart : (rows : Rows) → IsReached rows → Apart rows
-reached_apart rows r = subst Apart r.2 (rows_keep Apart apart_step [] r.0 tt)
+reached_apart rows r = subst Apart r.4 (rows_keep Apart apart_step r.0 r.2 r.1.1)
+
+-- ---- rows that commands lead to are rows that commands could leave
+
+-- each table is the one of its channel
+table_found : (rows : Rows) (t : Table) → Apart rows → Has rows t → table_of rows t.row.channel.id ≡ Some t
+table_found [] t a h = absurd h
+table_found (r ∷ rows) t a (inl is) =
+    ap (λ b. cond b (Some r) (table_of rows t.row.channel.id)) (ap (λ (x : Table). eqb x.row.channel.id t.row.channel.id) is ∙ eqb_same t.row.channel.id) ∙ ap (λ (x : Table). Some x) is
+table_found (r ∷ rows) t a (inr h) = by (eqb r.row.channel.id t.row.channel.id) refl (table_found rows t a.1 h)
+  where
+    by : (b : Bool) → eqb r.row.channel.id t.row.channel.id ≡ b → table_of rows t.row.channel.id ≡ Some t → table_of (r ∷ rows) t.row.channel.id ≡ Some t
+    by true e found = absurd (let none : table_of rows t.row.channel.id ≡ None = ap (table_of rows) (sym (eqb-true _ _ e)) ∙ a.0 in cc)
+    by false e found = ap (λ b. cond b (Some r) (table_of rows t.row.channel.id)) e ∙ found
+
+pub reached_firm : (rows : Rows) → IsReached rows → AreFirm rows
+reached_firm rows r =
+    let apart = reached_apart rows r in
+    let well = reached_is_well rows r in
+    let fits = reached_fits rows r in
+    let idle_ones = reached_idle rows r in (
+      all_has IsFirm rows (λ t h.
+          let found = table_found rows t apart h in
+          record { well = well t.row.channel.id t found; fits = fits t.row.channel.id t found; idle_flows = idle_ones t.row.channel.id t found }),
+      apart,
+    )

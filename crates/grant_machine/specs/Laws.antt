@@ -4,7 +4,8 @@ use Rattle.std.specs.List.{filter, AllZip, AllByRecursion, Contains}
 use Rattle.std.specs.List.Sorted.{IsStrictlyIncreasing}
 use Rattle.flow_state.specs.declared.channel.Channel.{Channel}
 use Rattle.flow_state.specs.declared.channel.ChannelRow.{ChannelRow}
-use Rattle.flow_state.specs.Rows.{channel_at}
+use Rattle.flow_state.specs.Rows.{Rows, channel_at}
+use Rattle.flow_state.specs.Firm.{AreFirm}
 use Rattle.flow_state.specs.declared.flow.FlowKind.{FlowKind}
 use Rattle.flow_state.specs.declared.flow.FlowKind.TheVariants.{BestEffort, Ugs, Poll, Station, Initial}
 use Rattle.flow_state.specs.Limits.{due_time, last_sid}
@@ -23,7 +24,7 @@ use Rattle.grant_machine_parts.specs.Drawing.{told_sid}
 use Rattle.grant_machine_parts.specs.declared.placing.Cause.{Cause}
 use Rattle.grant_machine_parts.specs.declared.placing.Cause.TheVariants.{Window, Sent}
 use Rattle.grant_machine.specs.Fits.{FitsCommand}
-use Rattle.grant_machine.specs.Runs.{outputs_of, rows_after, Grant, grants_of}
+use Rattle.grant_machine.specs.Runs.{outputs_from, rows_from, outputs_of, rows_after, Grant, grants_of}
 use Rattle.grant_machine.specs.Owner.{Owns, IsMapOf}
 
 -- output number k is this MAP
@@ -213,11 +214,26 @@ pub record OutputsGoOn : Type 0 where
   pub one_each : (cs : List Command) → length (outputs_of cs) ≡ length cs
   pub go_on : (cs more : List Command) (p : ℕ) (output : Output) → slice_get (outputs_of cs) p ≡ Some output → slice_get (outputs_of (cs ++ more)) p ≡ Some output
 
+-- two lists of commands, one behind the other, from some rows: the outputs are those of the first, and then those of the
+-- second from the rows that the first leaves, and so are the rows
+pub record GoOnFrom (opening : Rows) (cs ds : List Command) : Type 0 where
+  pub outputs : outputs_from opening (cs ++ ds) ≡ outputs_from opening cs ++ outputs_from (rows_from opening cs) ds
+  pub rows : rows_from opening (cs ++ ds) ≡ rows_from (rows_from opening cs) ds
+
+abbrev pub PartsAreWhole : Type 0
+PartsAreWhole = (opening : Rows) (cs ds : List Command) → GoOnFrom opening cs ds
+
 -- each MAP's bytes are its body
 abbrev pub MapsAreBodies : Type 0
 MapsAreBodies =
     (cs : List Command) (ch start len : ℕ) (bytes : List ℕ)
     → AllByRecursion FitsCommand cs → Contains (outputs_of cs) (outputs.Map ch start len bytes) → IsMapOf ch start len bytes
+
+-- so are those of a scheduler that began at rows which commands could leave
+abbrev pub MapsAreBodiesFrom : Type 0
+MapsAreBodiesFrom =
+    (opening : Rows) (cs : List Command) (ch start len : ℕ) (bytes : List ℕ)
+    → AreFirm opening → AllByRecursion FitsCommand cs → Contains (outputs_from opening cs) (outputs.Map ch start len bytes) → IsMapOf ch start len bytes
 
 -- two MAPs of a channel that share a minislot are the same
 abbrev pub SharedMapsAreOne : Type 0

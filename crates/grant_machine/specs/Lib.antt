@@ -8,3 +8,4 @@ pub mod Laws
 pub mod Maintenance
 pub mod Counts
 pub mod CutLaws
+pub mod Why

@@ -3,7 +3,7 @@
 ghost use Rattle.grant_machine.specs.Laws.{MapsAreDisjoint, LeasesAreApart, GrantsAreLeased, UnsolicitedGrantsAreDue, RequestsAreGrantedOnce, OtherGrantsAreDue, GrantsAreTold, CellsAreGranted};
 ghost use Rattle.grant_machine.specs.Maintenance.{MaintenanceIsDue, MaintenanceIsTold, OpeningsHaveNoOwner};
 ghost use Rattle.grant_machine.specs.Counts.{CountsAreTold, CountsStep};
-ghost use Rattle.grant_machine.specs.Laws.{OutputsGoOn, MapsAreBodies, SharedMapsAreOne, SidsAreUnicast, OwnersAreOne};
+ghost use Rattle.grant_machine.specs.Laws.{OutputsGoOn, PartsAreWhole, MapsAreBodies, MapsAreBodiesFrom, SharedMapsAreOne, SidsAreUnicast, OwnersAreOne};
 
 /// A minislot of a channel lies in one MAP at most.
 pub fn maps_are_disjoint()
@@ -85,9 +85,20 @@ pub fn outputs_go_on()
     ensures { OutputsGoOn }
 {}
 
+/// The outputs of two lists of commands, one behind the other, are those of the first, and then those of the second from
+/// the rows that the first leaves.
+pub fn parts_are_whole()
+    ensures { PartsAreWhole }
+{}
+
 /// Each MAP's bytes are its body.
 pub fn maps_are_bodies()
     ensures { MapsAreBodies }
+{}
+
+/// So are those of a scheduler that began at tables which commands could leave.
+pub fn maps_are_bodies_from()
+    ensures { MapsAreBodiesFrom }
 {}
 
 /// Two MAPs of a channel that share a minislot are the same.

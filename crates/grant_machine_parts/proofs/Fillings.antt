@@ -559,6 +559,8 @@ fill_is_well t span s w later le =
       channel = w.channel;
       next = le;
       ack = omega arith;
+      order = w.order;
+      sids = w.sids;
       flows = λ g h. let from = moved_from t.flows served g m (has_filter goes_on served g h).0 in from.2.well (w.flows from.0 from.1);
       rising = rising_filter goes_on 1 served (rising_moved 1 t.flows served m w.rising);
       given = λ g h.

@@ -11,9 +11,9 @@ use Rattle.map_body.specs.Rules.{Falls, NoNullBefore}
 use Rattle.grant_machine.specs.declared.command.Command.{Command}
 use Rattle.grant_machine.specs.declared.output.Output.{Output}
 use Rattle.grant_machine.specs.declared.output.Output.TheVariants as outputs
-use Rattle.grant_machine.specs.Laws.{MapsAreBodies}
+use Rattle.grant_machine.specs.Laws.{MapsAreBodiesFrom}
 use Rattle.grant_machine.specs.Owner.{IsMapOf}
-use Rattle.grant_machine.specs.Runs.{outputs_of}
+use Rattle.grant_machine.specs.Runs.{outputs_from}
 use Rattle.plan_account.specs.Cover.{follow}
 use Rattle.plan_account.specs.Shown.{shown_by}
 use Rattle.plan_account.specs.declared.deed.Deed.{Deed}
@@ -107,6 +107,6 @@ deed_of_output c (outputs.Assigned modem ch sid first last) maps = (flow_deed c 
 deed_of_output c (outputs.Map ch start len bytes) maps = deed_of_map c ch start len bytes (maps ch start len bytes refl)
 deed_of_output c (outputs.Refused number) maps = (deeds.Other, refl)
 
-pub outputs_have_deeds : MapsAreBodies → OutputsHaveDeeds
-outputs_have_deeds bodies cs c o fits has =
-    deed_of_output c o (λ ch start len bytes same. bodies cs ch start len bytes fits (subst (λ (x : Output). Contains (outputs_of cs) x) same has))
+pub outputs_have_deeds : MapsAreBodiesFrom → OutputsHaveDeeds
+outputs_have_deeds bodies opening cs c o firm fits has =
+    deed_of_output c o (λ ch start len bytes same. bodies opening cs ch start len bytes firm fits (subst (λ (x : Output). Contains (outputs_from opening cs) x) same has))

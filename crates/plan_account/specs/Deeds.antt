@@ -6,12 +6,14 @@ use Rattle.map_body.specs.Intervals.{intervals}
 use Rattle.map_body.specs.Layout.{IsBody, FirstFault}
 use Rattle.map_body.specs.declared.fault.MapFault.{MapFault}
 use Rattle.map_body.specs.declared.fault.MapFault.TheVariants.{Short, Trailing, Expansion, OutOfOrder, NoNull, OutOfMemory, TooMany}
+use Rattle.flow_state.specs.Rows.{Rows}
+use Rattle.flow_state.specs.Firm.{AreFirm}
 use Rattle.grant_machine.specs.declared.command.Command.{Command}
 use Rattle.grant_machine.specs.declared.command.Command.TheVariants as commands
 use Rattle.grant_machine.specs.declared.output.Output.{Output}
 use Rattle.grant_machine.specs.declared.output.Output.TheVariants as outputs
 use Rattle.grant_machine.specs.Fits.{FitsCommand}
-use Rattle.grant_machine.specs.Runs.{outputs_of}
+use Rattle.grant_machine.specs.Runs.{outputs_from}
 use Rattle.plan_account.specs.Cover.{follow}
 use Rattle.plan_account.specs.Shown.{Shown, shown_by}
 use Rattle.plan_account.specs.declared.deed.Deed.{Deed}
@@ -88,9 +90,12 @@ AreDeeds [] (o ∷ os) ds = ⊥
 AreDeeds (c ∷ cs) [] ds = ⊥
 AreDeeds (c ∷ cs) (o ∷ os) [] = ⊥
 
--- a scheduler's MAP has each of its minislots, so there is a deed of each of its outputs
+-- a scheduler's MAP has each of its minislots, so there is a deed of each of its outputs, from tables on that commands
+-- could leave
 abbrev pub OutputsHaveDeeds : Type 0
-OutputsHaveDeeds = (cs : List Command) (c : Command) (o : Output) → AllByRecursion FitsCommand cs → Contains (outputs_of cs) o → (d : Deed) × IsDeedOf c o d
+OutputsHaveDeeds =
+    (opening : Rows) (cs : List Command) (c : Command) (o : Output)
+    → AreFirm opening → AllByRecursion FitsCommand cs → Contains (outputs_from opening cs) o → (d : Deed) × IsDeedOf c o d
 
 -- the channels that deeds set, in order
 abbrev pub channel_in : Deed → List ℕ

@@ -3,7 +3,7 @@
 ghost use Rattle.plan_account.specs.Cover.{CellsCover};
 ghost use Rattle.plan_account.specs.Deeds.{OutputsHaveDeeds};
 
-use grant_machine::maps_are_bodies;
+use grant_machine::maps_are_bodies_from;
 
 /// Intervals that follow one another have each minislot once, and as many together as there are.
 pub fn cells_cover()
@@ -14,5 +14,5 @@ pub fn cells_cover()
 pub fn outputs_have_deeds()
     ensures { OutputsHaveDeeds }
 {
-    maps_are_bodies();
+    maps_are_bodies_from();
 }

@@ -11,8 +11,8 @@ use Rattle.grant_machine.specs.declared.command.Command.{Command}
 use Rattle.grant_machine.specs.declared.output.Output.{Output}
 use Rattle.grant_machine.specs.declared.output.Output.TheVariants.{Nothing, ChannelSet, Assigned, Map as MapOutput, Refused}
 use Rattle.grant_machine.specs.Fits.{FitsCommand}
-use Rattle.grant_machine.specs.Laws.{MapsAreBodies}
-use Rattle.grant_machine.specs.Runs.{outputs_from, outputs_of, rows_from, IsReached}
+use Rattle.grant_machine.specs.Laws.{MapsAreBodiesFrom}
+use Rattle.grant_machine.specs.Runs.{outputs_from, rows_from, IsReached}
 use Rattle.grant_machine.specs.Steps.{step}
 use Rattle.upsched_c_parts.specs.Outputs.{FitsRoom}
 
@@ -39,20 +39,21 @@ fits_as_map (Assigned modem ch sid first last) f = tt
 fits_as_map (MapOutput ch start len bytes) f = f ch start len bytes refl
 fits_as_map (Refused n) f = tt
 
-pub step_fits : MapsAreBodies → (rows : Rows) (c : Command) → IsReached rows → FitsCommand c → FitsRoom (step rows c).output
+pub step_fits : MapsAreBodiesFrom → (rows : Rows) (c : Command) → IsReached rows → FitsCommand c → FitsRoom (step rows c).output
 step_fits law rows c reached fits =
     fits_as_map (step rows c).output (λ ch start len bytes same.
-    let cs = reached.0 in
-    let last : Contains (outputs_of (cs ++ c ∷ [])) (step rows c).output = subst (λ (r : Rows). Contains (outputs_of (cs ++ c ∷ [])) (step r c).output) reached.2 (last_output [] cs c) in
-    let body = law (cs ++ c ∷ []) ch start len bytes (fits_push cs c reached.1 fits) (subst (λ (o : Output). Contains (outputs_of (cs ++ c ∷ [])) o) same last) in
+    let opening = reached.0 in
+    let cs = reached.2 in
+    let last : Contains (outputs_from opening (cs ++ c ∷ [])) (step rows c).output = subst (λ (r : Rows). Contains (outputs_from opening (cs ++ c ∷ [])) (step r c).output) reached.4 (last_output opening cs c) in
+    let body = law opening (cs ++ c ∷ []) ch start len bytes reached.1 (fits_push cs c reached.3 fits) (subst (λ (o : Output). Contains (outputs_from opening (cs ++ c ∷ [])) o) same last) in
     omega (arith, body_count bytes body.map (0, body.body.0, body.body.1), body.body.0.count))
 
 -- where a command has an output, it fits
-pub fits_if_ok : (result : Result Output AllocError) → MapsAreBodies → (rows : Rows) (c : Command) → IsReached rows → FitsCommand c
+pub fits_if_ok : (result : Result Output AllocError) → MapsAreBodiesFrom → (rows : Rows) (c : Command) → IsReached rows → FitsCommand c
     → IfOk result (λ output. output ≡ (step rows c).output) → IfOk result (λ output. FitsRoom output)
 fits_if_ok (Ok output) law rows c reached fits is = subst FitsRoom (sym is) (step_fits law rows c reached fits)
 fits_if_ok (Err e) law rows c reached fits is = tt
 
 -- no command reaches no rows
 pub reached_none : IsReached []
-reached_none = ([], tt, refl)
+reached_none = ([], (tt, tt), [], tt, refl)

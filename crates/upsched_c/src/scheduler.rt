@@ -3,7 +3,7 @@
 ghost use Rattle.grant_machine.specs.Fits.{FitsChannel, FitsCommand, FitsKind, FitsSettings};
 
 use flow_state::{Channel, ChannelSettings, FlowKind};
-use grant_machine::{Command, Machine, Output, maps_are_bodies};
+use grant_machine::{Command, Machine, Output, maps_are_bodies_from};
 use std::alloc::{AllocError, Global};
 use std::marker::Model;
 
@@ -88,7 +88,7 @@ impl Scheduler {
         ensures fits { IfOk result (λ output. FitsRoom output) }
     {
         fits(command);
-        maps_are_bodies();
+        maps_are_bodies_from();
         self.machine.apply(&command)
     }
 }
