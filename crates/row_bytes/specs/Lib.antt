@@ -1,0 +1,6 @@
+pub mod Settings
+pub mod Spelling
+pub mod Fits
+pub mod Faults
+pub mod Reading
+pub mod Tables
