@@ -4,13 +4,14 @@ use Rattle.node.specs.View.{Standing}
 use Rattle.node_worker.specs.Entries.{EntryView}
 use Rattle.node_worker.specs.Replays.{EntryStep, ReplaysTo}
 
--- the node's number, the number of members, the quota, the entries, whether the node is up, how often its store failed,
--- and whether its store returned what it committed
+-- the node's number, the number of members, the quota, the entries, in how many turns its worker asked what drives it,
+-- whether the node is up, how often its store failed, and whether its store returned what it committed
 pub record KeptView : Type 0 where
   pub node : ℕ
   pub members : ℕ
   pub quota : ℕ
   pub entries : List EntryView
+  pub turns : ℕ
   pub up : Bool
   pub failures : ℕ
   pub honest : Bool
@@ -37,4 +38,4 @@ IsStepOf k e = (s : Standing) × (t : Standing) × ReplaysTo k.members k.node k.
 
 -- the two differ in their entries and in what the entries change
 abbrev pub SameNode : KeptView → KeptView → Type 0
-SameNode old new = (new.node ≡ old.node) × (new.members ≡ old.members) × (new.quota ≡ old.quota)
+SameNode old new = (new.node ≡ old.node) × (new.members ≡ old.members) × (new.quota ≡ old.quota) × (new.turns ≡ old.turns)

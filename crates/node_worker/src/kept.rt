@@ -1,6 +1,6 @@
 //! A node with all that it did.
 
-ghost use Rattle.std.specs.Prelude.{◌≡◌, ◌↔◌, [], ◌∷◌, ◌++◌, length, IsTrue, IfOk, IfErr, OnErr, IsOk, true, ◌≤◌, ◌<◌, false, All, map};
+ghost use Rattle.std.specs.Prelude.{◌≡◌, ◌↔◌, ◌+◌, ◌^◌, [], ◌∷◌, ◌++◌, length, IsTrue, IfOk, IfErr, OnErr, IsOk, true, ◌≤◌, ◌<◌, false, All, map};
 ghost use Rattle.std.specs.List.{range_with_len};
 ghost use Rattle.seats.specs.Fresh.{AreFresh};
 ghost use Rattle.acceptor.specs.Faults.{HasRisen};
@@ -33,6 +33,8 @@ pub struct Kept<N: Node> {
     seat: Seat<N>,
     quota: usize,
     entries: Vec<Entry>,
+    // In how many turns its worker asked what drives it.
+    turns: u64,
 }
 
 impl<N: Node> Model for Kept<N> {
@@ -49,6 +51,7 @@ impl<N: Node> Model for Kept<N> {
       members = (who_of k.seat).members;
       quota = k.quota;
       entries = k.entries.items;
+      turns = k.turns;
       up = is_up k.seat;
       failures = (who_of k.seat).failures;
       honest = N.honest (node_of k.seat);
@@ -68,6 +71,7 @@ impl<N: Node> Kept<N> {
           members = (N.who node).members;
           quota = quota;
           entries = [];
+          turns = 0;
           up = true;
           failures = (N.who node).failures;
           honest = N.honest node;
@@ -79,6 +83,7 @@ impl<N: Node> Kept<N> {
             seat: Seat::new(node),
             quota,
             entries,
+            turns: 0,
         })
     }
 
@@ -116,6 +121,21 @@ impl<N: Node> Kept<N> {
         ensures trusted { AreTrusted N.honest → IsTrue self.now.honest }
     {
         self.entries.as_slice()
+    }
+
+    /// A worker takes it over, and counts the turns from here on.
+    pub(crate) fn begin_turns(&mut self)
+        ensures { self.new ≡ record self.old { turns = 0 } }
+    {
+        self.turns = 0;
+    }
+
+    /// Its worker asks what drives it once more.
+    pub(crate) fn count_turn(&mut self)
+        requires { self.old.turns + 1 < 2 ^ 64 }
+        ensures { self.new ≡ record self.old { turns = self.old.turns + 1 } }
+    {
+        self.turns += 1;
     }
 
     /// Has the node do one thing, and keeps what came of it. Nothing is done where there is no room, or no memory

@@ -102,6 +102,13 @@ impl<N: Node> Plant<N> {
         self.records.as_slice()
     }
 
+    /// Whether it is of these members, and has so many modems.
+    pub(crate) fn is_of(&self, members: Members, modems: usize) -> bool
+        ensures { IsTrue result ↔ (self.now.members ≡ member_count members) × (length self.now.modems ≡ modems) }
+    {
+        self.members.count() == members.count() && self.modems.len() == modems
+    }
+
     /// Puts what a node did last. It takes no memory, and gives back what may not be recorded.
     pub fn record(&mut self, kept: &Kept<N>, done: Done) -> Result<(), Done>
         ensures may { IsOk result ↔ MayRecord self.old kept.now done }

@@ -11,7 +11,9 @@ pub record IsAudited (turns : ℕ) (a : Audited) (old new : Option (List ℕ)) :
   -- the nodes, by number, each of which could do as much as it had turns
   pub cluster : (length a.kepts.items ≡ 3) × IsCluster a.kepts.items
   pub quotas : All (λ k. k.quota ≡ turns) a.kepts.items
-  -- each node's carrier was asked in each of its turns
+  -- the worker of each node asked what was handed in for it in as many turns, as the node has counted
+  pub asked : All (λ k. k.turns ≡ turns) a.kepts.items
+  -- what came back was given so many turns, and has none left
   pub carriers : (length a.carriers.items ≡ 3) × All (λ c. c.turns ≡ 0) a.carriers.items
   pub given : All (λ c. c.given ≡ turns) a.carriers.items
   -- the ledger is a run, and the audit finds no fault exactly where it is what these nodes did

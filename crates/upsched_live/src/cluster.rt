@@ -34,7 +34,8 @@ fn carrier_of(
     turns: u64,
     commands: &[Command],
 ) -> Result<LiveCarrier, OutOfMemory>
-    ensures { IfOk result (λ carrier. carrier.given ≡ turns) }
+    ensures turns { IfOk result (λ carrier. carrier.turns ≡ turns) }
+    ensures given { IfOk result (λ carrier. carrier.given ≡ turns) }
 {
     let Some(node) = NodeId::new(number) else {
         return Err(OutOfMemory);
@@ -53,6 +54,7 @@ fn carriers_of(
     commands: &[Command],
 ) -> Result<Vec<LiveCarrier>, OutOfMemory>
     ensures count { IfOk result (λ carriers. vec_len carriers ≡ 3) }
+    ensures turns { IfOk result (λ carriers. All (λ c. c.turns ≡ turns) carriers.items) }
     ensures given { IfOk result (λ carriers. All (λ c. c.given ≡ turns) carriers.items) }
 {
     let mut carriers = Vec::new(alloc);
@@ -74,6 +76,7 @@ pub fn live_cluster<R: Threads + Wait + Clock + Sync + AllocGlobal>(
     ensures quotas { IfOk result (λ back. All (λ k. k.quota ≡ turns) back.0.items) }
     ensures carriers { IfOk result (λ back. (length back.1.items ≡ 3) × All (λ c. c.turns ≡ 0) back.1.items) }
     ensures given { IfOk result (λ back. All (λ c. c.given ≡ turns) back.1.items) }
+    ensures asked { IfOk result (λ back. All (λ k. k.turns ≡ turns) back.0.items) }
     ensures legal { IfOk result (λ back. AreLegal back.2.members back.2.records back.2.modems) }
 {
     let alloc = rt.alloc();

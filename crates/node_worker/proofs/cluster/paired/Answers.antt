@@ -21,6 +21,8 @@ loop-kept-preserved-in-Continue-branch-2 g c =
             (All-head (λ k. IsTrue k.honest) c.in-Some.kept c.next.new.self.rest.items (subst Q taken (was.3 trusted).1))),
         All-tail (λ k. IsTrue k.honest) c.in-Some.kept c.next.new.self.rest.items (subst Q taken (was.3 trusted).1),
       ),
+      one_over (λ p. g.C.Carrier.left p.1) g.C.Carrier.left c.loop-kept.pairs.items _ c.loop-kept.rest.rest.items _ (c.in-Some.kept, c.in-Some-next.carrier) c.in-Some-next.carrier _
+          c.in_ok-push.ensures.items c.in-Some-next.ensures.items refl was.4,
     )
 
 pub returns-clause-given : goal.returns-clause-given
@@ -30,3 +32,8 @@ returns-clause-given g c =
 
 pub returns-clause-trusted : goal.returns-clause-trusted
 returns-clause-trusted g c = λ trusted. (c.loop-kept.invariant.3 trusted).0
+
+pub returns-clause-left : goal.returns-clause-left
+returns-clause-left g c =
+    all_over (λ p. g.C.Carrier.left p.1) g.C.Carrier.left c.loop-kept.pairs.items c.loop-kept.rest.rest.items _
+    (nil_from_length c.loop-kept.rest.rest.items (omega (arith, c.in-None.ensures.steps.0, c.loop-kept.kept-iterator.rest.ok.0, c.loop-kept.invariant.2))) c.loop-kept.invariant.4

@@ -9,3 +9,4 @@ invariant-loop-kept g l =
     × (map (λ p. g.C.Carrier.given p.1) l.pairs.items ++ map g.C.Carrier.given l.rest.rest.items ≡ map g.C.Carrier.given l.fn.carriers.items)
     × (length l.rest.rest.items ≡ length rest)
     × (AreTrusted g.N.Node.honest → All (λ p. IsTrue p.0.honest) l.pairs.items × All (λ k. IsTrue k.honest) rest)
+    × (map (λ p. g.C.Carrier.left p.1) l.pairs.items ++ map g.C.Carrier.left l.rest.rest.items ≡ map g.C.Carrier.left l.fn.carriers.items)

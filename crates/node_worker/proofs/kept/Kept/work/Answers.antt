@@ -33,6 +33,7 @@ was g c = record {
   members = (g.N.Node.who c.self.inside.seat.node).members;
   quota = c.self.inside.quota;
   entries = c.self.inside.entries.items;
+  turns = c.self.inside.turns;
   up = c.self.inside.seat.up;
   failures = (g.N.Node.who c.self.inside.seat.node).failures;
   honest = g.N.Node.honest c.self.inside.seat.node;

@@ -14,6 +14,7 @@ loop-kept-init g c =
       c.in_ok-kepts.ensures.items,
       c.in_ok-carriers.ensures.items,
       (λ trusted. subst R (sym c.into_iter-kept-iterator.ensures.into_iter_gives.0) (c.requires trusted)),
+      ap (λ hs. map (λ h. g.C.Carrier.left h.promise.carrier.value) hs ++ map (λ p. g.C.Carrier.left p.1) rest) c.in_ok-handles.ensures.items,
     )
 
 pub spawn_with-requires-clause-runs : goal.spawn_with-requires-clause-runs
@@ -33,6 +34,8 @@ loop-kept-preserved g c =
       was.2,
       was.3,
       (λ trusted. All-tail (λ p. IsTrue p.0.honest) (c.in-Some.kept, c.in-Some.carrier) c.next.new.self.rest.items (subst R taken (was.4 trusted))),
+      one_over (λ h. g.C.Carrier.left h.promise.carrier.value) (λ p. g.C.Carrier.left p.1) c.loop-kept.handles.items _ c.loop-kept.kept-iterator.rest.items _ c.in-Ok.handle (c.in-Some.kept, c.in-Some.carrier) _
+          c.in_ok-push.ensures.items taken (search rules) was.5,
     )
 
 pub loop-handle-preserved : goal.loop-handle-preserved
@@ -47,6 +50,8 @@ loop-handle-preserved g c =
           c.in_ok-push-3.ensures.items taken c.join-kept.ensures.3 was.1,
       subst P (sym c.in_ok-push-3.ensures.items) (All-push (λ x. g.C.Carrier.left x ≡ 0) c.loop-handle.carriers.items c.join-kept.result.1 was.2 c.join-kept.ensures.2),
       (λ trusted. subst Q (sym c.in_ok-push-2.ensures.items) (All-push (λ k. IsTrue k.honest) c.loop-handle.kepts.items c.join-kept.result.0 (was.3 trusted) (c.join-kept.ensures.1 trusted))),
+      one_over (λ k. k.turns) (λ h. g.C.Carrier.left h.promise.carrier.value) c.loop-handle.kepts.items _ c.loop-handle.handle-iterator.rest.items _ c.join-kept.result.0 c.in-Some-handle.handle _
+          c.in_ok-push-2.ensures.items taken c.join-kept.ensures.4 was.4,
     )
 
 pub returns : goal.returns
@@ -67,4 +72,10 @@ returns g c =
     let back : map g.C.Carrier.given c.loop-handle.carriers.items ≡ map (λ h. g.C.Carrier.given h.promise.carrier.value) c.loop-kept.handles.items =
     all_over g.C.Carrier.given (λ h. g.C.Carrier.given h.promise.carrier.value) c.loop-handle.carriers.items c.loop-handle.handle-iterator.rest.items _ over_there c.loop-handle.invariant.1
     ∙ ap (λ hs. map (λ h. g.C.Carrier.given h.promise.carrier.value) hs) begun_there in
-    record { same = joined ∙ spawned; trusted = c.loop-handle.invariant.3; left = c.loop-handle.invariant.2; given = back ∙ lent }
+    let handed : map (λ h. g.C.Carrier.left h.promise.carrier.value) c.loop-kept.handles.items ≡ map (λ p. g.C.Carrier.left p.1) c.captures.pairs.items =
+    all_over (λ h. g.C.Carrier.left h.promise.carrier.value) (λ p. g.C.Carrier.left p.1) c.loop-kept.handles.items c.loop-kept.kept-iterator.rest.items _ over c.loop-kept.invariant.5
+    ∙ ap (λ ps. map (λ p. g.C.Carrier.left p.1) ps) begun in
+    let counted : map (λ (k : KeptView). k.turns) c.loop-handle.kepts.items ≡ map (λ h. g.C.Carrier.left h.promise.carrier.value) c.loop-kept.handles.items =
+    all_over (λ (k : KeptView). k.turns) (λ h. g.C.Carrier.left h.promise.carrier.value) c.loop-handle.kepts.items c.loop-handle.handle-iterator.rest.items _ over_there c.loop-handle.invariant.4
+    ∙ ap (λ hs. map (λ h. g.C.Carrier.left h.promise.carrier.value) hs) begun_there in
+    record { same = joined ∙ spawned; trusted = c.loop-handle.invariant.3; left = c.loop-handle.invariant.2; given = back ∙ lent; turns = counted ∙ handed }

@@ -10,6 +10,7 @@ invariant-loop-kept g l =
     × (map (λ h. g.C.Carrier.given h.promise.carrier.value) l.handles.items ++ map (λ p. g.C.Carrier.given p.1) rest ≡ map (λ p. g.C.Carrier.given p.1) all)
     × (l.kepts.items ≡ []) × (l.carriers.items ≡ [])
     × (AreTrusted g.N.Node.honest → All (λ p. IsTrue p.0.honest) rest)
+    × (map (λ h. g.C.Carrier.left h.promise.carrier.value) l.handles.items ++ map (λ p. g.C.Carrier.left p.1) rest ≡ map (λ p. g.C.Carrier.left p.1) all)
 
 abbrev pub invariant-loop-handle : goal.invariant-loop-handle
 invariant-loop-handle g l =
@@ -19,3 +20,4 @@ invariant-loop-handle g l =
     × (map g.C.Carrier.given l.carriers.items ++ map (λ h. g.C.Carrier.given h.promise.carrier.value) rest ≡ map (λ h. g.C.Carrier.given h.promise.carrier.value) all)
     × All (λ c. g.C.Carrier.left c ≡ 0) l.carriers.items
     × (AreTrusted g.N.Node.honest → All (λ k. IsTrue k.honest) l.kepts.items)
+    × (map (λ k. k.turns) l.kepts.items ++ map (λ h. g.C.Carrier.left h.promise.carrier.value) rest ≡ map (λ h. g.C.Carrier.left h.promise.carrier.value) all)
