@@ -4,6 +4,7 @@ use Rattle.std.specs.Prelude.{IfErr, IsErr, codes}
 use Rattle.hex.specs.Hex.{decode_of}
 use Rattle.hex.specs.declared.error.FromHexError.{FromHexError}
 use Rattle.ballots.specs.declared.letters.Letter.{Letter}
+use Rattle.command_log.specs.Spelling.{spelling as command_spelling}
 use Rattle.letter_bytes.specs.Reading.{letter_of}
 use Rattle.letter_bytes.specs.Spelling.{spelling}
 use Rattle.std.specs.Str.Parse.{digits_value, without_leading_plus}
@@ -126,7 +127,7 @@ refused_asks_nothing line fault.NoHex (inl refused) other = is_offer line refuse
 refused_asks_nothing line fault.NoHex (inr refused) other = is_letter line refused.0 refused.1 (λ l. no_letter refused.0 fault.NoHex l refused.2 other)
 refused_asks_nothing line fault.NoNumber (inl refused) other = is_release line refused.0 refused.1 refused.2
 refused_asks_nothing line fault.NoNumber (inr refused) other = is_tell line refused.0 refused.1 refused.2
-refused_asks_nothing line fault.NoCommand refused other = is_command line refused.0.0 refused.0.1 (λ value offers. refused.2 value offers.2)
+refused_asks_nothing line fault.NoCommand refused other = is_command line refused.0.0 refused.0.1 (λ value offers. refused.2 offers.2 offers.3)
 refused_asks_nothing line (fault.NoLetter why) refused other = is_letter line refused.0 refused.1 (λ l. no_letter refused.0 (fault.NoLetter why) l refused.2 other)
 refused_asks_nothing line fault.OutOfMemory refused other = absurd (other refl)
 refused_asks_nothing line fault.TooLong refused other = is_command line refused.0.0 refused.0.1 (λ value offers. too_long line refused.1 offers.1)
@@ -167,7 +168,7 @@ one_thing line (request.Offer v) s (inl a) b =
     ap (λ (x : List ℕ). request.Offer x) (same_value a.0 more v w (same_offer a.0 more (sym a.1 ∙ at)) a.2 decoded) ∙ sym is
 one_thing line (request.Offer v) s (inr a) b =
     let (w, is, offers) = asked line (command_word ++ a.0.0) s a.0.1 b in
-    ap (λ (x : List ℕ). request.Offer x) (one_text line v w a.2 offers.2) ∙ sym is
+    ap (λ (x : List ℕ). request.Offer x) (a.4 ∙ ap command_spelling (one_text line a.2 offers.2 a.3 offers.3) ∙ sym offers.4) ∙ sym is
 one_thing line (request.Release k) s a b =
     let (n, is, (more, at, number)) = asked line (release_word ++ a.0) s a.1 b in
     ap (λ (x : ℕ). request.Release x) (same_number a.0 more k n (same_release a.0 more (sym a.1 ∙ at)) a.2 number) ∙ sym is

@@ -1,6 +1,5 @@
 -- A table spells one command at most.
-use Rattle.std.proofs.Common.{◌≡◌, ℕ, if◌then◌else◌, List, [], Option, None, Some, Result, Ok, Err, inl, inr, pos, bytes_eq, refl, sym, ap, subst, ◌∙◌, codes}
-use Rattle.std.specs.Prelude.{IfErr}
+use Rattle.std.proofs.Common.{◌≡◌, ℕ, if◌then◌else◌, List, [], Option, None, Some, inl, inr, pos, bytes_eq, refl, sym, ap, subst, ◌∙◌, codes}
 use Rattle.toml.specs.Data.{Data, string, integer, array, item, no_items, get, Members}
 use Rattle.toml.specs.Parse.{parse_document}
 use Rattle.flow_state.specs.declared.channel.Channel.{Channel}
@@ -12,12 +11,8 @@ use Rattle.flow_state.specs.declared.flow.FlowKind.TheVariants.{BestEffort, Ugs,
 use Rattle.flow_state.specs.Limits.{last_time}
 use Rattle.grant_machine.specs.declared.command.Command.{Command}
 use Rattle.grant_machine.specs.declared.command.Command.TheVariants as commands
-use Rattle.command_log.specs.Spelling.{spelling}
 use Rattle.script_text.specs.CommandTable.{HasBackoff, HasKeep, HasLast, HasPair, HasPhy, HasService, NamesPhy, SpellsCommand}
-use Rattle.script_text.specs.EventTable.{IsCommandBytes}
-use Rattle.node_lines.specs.Commands.{HoldsCommand, IsCommandText, IsNoCommand}
-use Rattle.node_lines.specs.declared.fault.LineFault.{LineFault}
-use Rattle.node_lines.specs.declared.fault.LineFault.TheVariants as fault
+use Rattle.node_lines.specs.Commands.{HoldsCommand, IsCommandText}
 
 -- ---- the one command that a table may spell
 
@@ -132,32 +127,19 @@ is_command d (commands.Cut ch len not_before ack keep ranging sending) (text, a,
 one_command : (d : Data) (a b : Command) → SpellsCommand d a → SpellsCommand d b → a ≡ b
 one_command d a b first second = sym (is_command d a first) ∙ is_command d b second
 
-one_value : (d : Data) (v w : List ℕ) → IsCommandBytes d v → IsCommandBytes d w → v ≡ w
-one_value d v w a b = a.2 ∙ ap spelling (one_command d a.0 b.0 a.1 b.1) ∙ sym b.2
+one_held : (ms : Members) (a b : Command) → HoldsCommand ms a → HoldsCommand ms b → a ≡ b
+one_held ms a b first second =
+    let same : first.0 ≡ second.0 = cc (first.1, second.1) in
+    one_command second.0 a b (subst (λ (d : Data). SpellsCommand d a) same first.2) second.2
 
-one_held : (ms : Members) (v w : List ℕ) → HoldsCommand ms v → HoldsCommand ms w → v ≡ w
-one_held ms v w a b =
-    let same : a.0 ≡ b.0 = cc (a.1, b.1) in
-    one_value b.0 v w (subst (λ (d : Data). IsCommandBytes d v) same a.2) b.2
-
--- a text holds one command's bytes at most
-pub one_text : (text v w : List ℕ) → IsCommandText text v → IsCommandText text w → v ≡ w
-one_text text v w a b =
-    let same : a.members ≡ b.members = cc (a.read, b.read) in
-    one_held b.members v w (subst (λ (ms : Members). HoldsCommand ms v) same a.holds) b.holds
-
-no_text_why : (text : List ℕ) (ms : Members) (why : LineFault) → parse_document text ≡ Some ms → IsNoCommand (HoldsCommand ms) why → IsNoCommand (IsCommandText text) why
-no_text_why text ms fault.NoLine read none = none
-no_text_why text ms fault.NoHex read none = none
-no_text_why text ms fault.NoNumber read none = none
-no_text_why text ms fault.NoCommand read none = λ value holds.
-    let same : holds.members ≡ ms = cc (holds.read, read) in
-    none value (subst (λ (m : Members). HoldsCommand m value) same holds.holds)
-no_text_why text ms (fault.NoLetter why) read none = none
-no_text_why text ms fault.OutOfMemory read none = none
-no_text_why text ms fault.TooLong read none = none
+-- a text holds one command at most
+pub one_text : (text : List ℕ) (a b : Command) → IsCommandText text a → IsCommandText text b → a ≡ b
+one_text text a b first second =
+    let same : first.members ≡ second.members = cc (first.read, second.read) in
+    one_held second.members a b (subst (λ (ms : Members). HoldsCommand ms a) same first.holds) second.holds
 
 -- a text whose table holds no command holds none
-pub no_text : {X : Type 0} (text : List ℕ) (ms : Members) (r : Result X LineFault) → parse_document text ≡ Some ms → IfErr r (IsNoCommand (HoldsCommand ms)) → IfErr r (IsNoCommand (IsCommandText text))
-no_text text ms (Ok x) read none = tt
-no_text text ms (Err why) read none = no_text_why text ms why read none
+pub no_text : (text : List ℕ) (ms : Members) → parse_document text ≡ Some ms → ((c : Command) → ¬ HoldsCommand ms c) → (c : Command) → ¬ IsCommandText text c
+no_text text ms read none c holds =
+    let same : holds.members ≡ ms = cc (holds.read, read) in
+    none c (subst (λ (m : Members). HoldsCommand m c) same holds.holds)

@@ -1,5 +1,5 @@
 mod Asked
-mod Commands
+pub mod Commands
 mod Consumed
 mod InPlace
 mod Words

@@ -35,18 +35,26 @@ RefusedComes old new why (next.Line line) = ⊥
 RefusedComes old new why (next.Refused told) = (told ≡ why) × RestComes old new true
 RefusedComes old new why next.End = RestComes old new false
 
--- a line may be refused so before it is looked at
-abbrev pub IsDropped : List ℕ → LineFault → Type 0
-IsDropped line fault.NoLine = ⊥
-IsDropped line fault.NoHex = ⊥
-IsDropped line fault.NoNumber = ⊥
-IsDropped line fault.NoCommand = ⊥
-IsDropped line (fault.NoLetter why) = ⊥
-IsDropped line fault.OutOfMemory = 0 < length line
-IsDropped line fault.TooLong = longest_line < length line
+-- a line may be refused so before it is looked at, where this many bytes of one are kept
+abbrev pub IsDroppedBeyond : ℕ → List ℕ → LineFault → Type 0
+IsDroppedBeyond most line fault.NoLine = ⊥
+IsDroppedBeyond most line fault.NoHex = ⊥
+IsDroppedBeyond most line fault.NoNumber = ⊥
+IsDroppedBeyond most line fault.NoCommand = ⊥
+IsDroppedBeyond most line (fault.NoLetter why) = ⊥
+IsDroppedBeyond most line fault.OutOfMemory = 0 < length line
+IsDroppedBeyond most line fault.TooLong = most < length line
 
--- what comes next
+-- the same of a node's line
+abbrev pub IsDropped : List ℕ → LineFault → Type 0
+IsDropped line why = IsDroppedBeyond longest_line line why
+
+-- what comes next, where this many bytes of a line are kept
+abbrev pub LineComesWithin : ℕ → Option (List ℕ) → Option (List ℕ) → Next → Type 0
+LineComesWithin most old new (next.Line line) = ReadsLine old new line × (length line ≤ most)
+LineComesWithin most old new (next.Refused why) = (line : List ℕ) × ReadsLine old new line × IsDroppedBeyond most line why
+LineComesWithin most old new next.End = (left : List ℕ) × ReadsLast old new left
+
+-- what comes next of a node's lines
 abbrev pub LineComes : Option (List ℕ) → Option (List ℕ) → Next → Type 0
-LineComes old new (next.Line line) = ReadsLine old new line × (length line ≤ longest_line)
-LineComes old new (next.Refused why) = (line : List ℕ) × ReadsLine old new line × IsDropped line why
-LineComes old new next.End = (left : List ℕ) × ReadsLast old new left
+LineComes old new what = LineComesWithin longest_line old new what

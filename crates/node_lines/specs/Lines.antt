@@ -6,6 +6,8 @@ use Rattle.std.specs.Str.Parse.{IsNumeral, digits_value, without_leading_plus}
 use Rattle.hex.specs.Hex.{decode_of, encode_lower}
 use Rattle.ballots.specs.declared.letters.Cast.{Cast}
 use Rattle.ballots.specs.declared.letters.Letter.{Letter}
+use Rattle.command_log.specs.Spelling.{spelling as command_spelling}
+use Rattle.grant_machine.specs.declared.command.Command.{Command}
 use Rattle.letter_bytes.specs.Longest.{longest_letter}
 use Rattle.letter_bytes.specs.Reading.{TakesMemory, letter_of}
 use Rattle.letter_bytes.specs.Spelling.{Spells, spelling, vote_spelling}
@@ -54,7 +56,7 @@ IsDigitsOffer line value = (digits : List ℕ) × (line ≡ offer_word ++ digits
 
 -- a line offers these bytes by the command that they are
 abbrev pub IsCommandOffer : List ℕ → List ℕ → Type 0
-IsCommandOffer line value = IsCommandLine line × (length line ≤ longest_command) × IsCommandText line value
+IsCommandOffer line value = IsCommandLine line × (length line ≤ longest_command) × (c : Command) × IsCommandText line c × (value ≡ command_spelling c)
 
 -- a line asks this
 abbrev pub Asks : List ℕ → Request → Type 0
@@ -100,7 +102,7 @@ IsRefused line fault.NoHex =
 IsRefused line fault.NoNumber =
     ((digits : List ℕ) × (line ≡ release_word ++ digits) × ((n : ℕ) → ¬ IsNumberText digits n))
     ⊎ ((words : List ℕ) × (line ≡ tell_word ++ words) × ((to place : ℕ) → ¬ IsTellText words to place))
-IsRefused line fault.NoCommand = IsCommandLine line × (length line ≤ longest_command) × ((value : List ℕ) → ¬ IsCommandText line value)
+IsRefused line fault.NoCommand = IsCommandLine line × (length line ≤ longest_command) × ((c : Command) → ¬ IsCommandText line c)
 IsRefused line (fault.NoLetter why) = (digits : List ℕ) × (line ≡ letter_word ++ digits) × IsNoLetter digits (fault.NoLetter why)
 IsRefused line fault.OutOfMemory =
     ((digits : List ℕ) × (line ≡ letter_word ++ digits) × IsNoLetter digits fault.OutOfMemory) ⊎ (IsCommandLine line × (length line ≤ longest_command))

@@ -1,6 +1,6 @@
 //! A command as a table of TOML, in a line.
 
-ghost use Rattle.std.specs.Prelude.{◌≡◌, IfErr, IfOk, codes, option_map};
+ghost use Rattle.std.specs.Prelude.{◌≡◌, IfErr, IfOk, MatchOption, codes, option_map};
 ghost use Rattle.toml.specs.Data.{get_member};
 ghost use Rattle.toml.specs.View.{table_view, view};
 ghost use Rattle.node_lines.specs.Commands.{HoldsCommand, IsCommandLine, IsCommandText, IsNoCommand};
@@ -10,6 +10,7 @@ use crate::fault::LineFault;
 use crate::request::Request;
 use ballots::Bytes;
 use command_log::command_bytes;
+use grant_machine::Command;
 use script_text::command_of;
 use std::alloc::Global;
 use std::str;
@@ -25,33 +26,27 @@ fn held_in(table: &Table) -> Option<&Value>
     table.get("command")
 }
 
-/// The bytes of the command that a text's table holds.
-fn value_in(alloc: Global, table: &Table) -> Result<Vec<u8>, LineFault>
-    ensures read { IfOk result (λ bytes. HoldsCommand (table_view table.now) bytes.items) }
-    ensures fault { IfErr result (IsNoCommand (HoldsCommand (table_view table.now))) }
+/// The command that a text's table holds.
+fn command_held(table: &Table) -> Option<Command>
+    ensures { MatchOption result ((c : Command) → ¬ HoldsCommand (table_view table.now) c) (HoldsCommand (table_view table.now)) }
 {
-    let Some(held) = held_in(table) else {
-        return Err(LineFault::NoCommand);
-    };
-    let Some(command) = command_of(held) else {
-        return Err(LineFault::NoCommand);
-    };
-    match command_bytes(alloc, &command) {
-        Ok(bytes) => Ok(bytes),
-        Err(_) => Err(LineFault::OutOfMemory),
-    }
+    let held = held_in(table)?;
+    command_of(held)
 }
 
-/// The bytes of the command that a text holds.
-fn command_in(alloc: Global, text: &[u8]) -> Result<Vec<u8>, LineFault>
-    ensures read { IfOk result (λ bytes. IsCommandText text.now bytes.items) }
+/// The command that a text of TOML holds under `command`, as a table.
+pub fn command_in(alloc: Global, text: &[u8]) -> Result<Command, LineFault>
+    ensures read { IfOk result (IsCommandText text.now) }
     ensures fault { IfErr result (IsNoCommand (IsCommandText text.now)) }
 {
     let Ok(text) = str::from_utf8(text) else {
         return Err(LineFault::NoCommand);
     };
     match toml::table_from_str(alloc, text) {
-        Ok(table) => value_in(alloc, &table),
+        Ok(table) => match command_held(&table) {
+            Some(command) => Ok(command),
+            None => Err(LineFault::NoCommand),
+        },
         Err(error) if error.is_memory() => Err(LineFault::OutOfMemory),
         Err(_) => Err(LineFault::NoCommand),
     }
@@ -66,7 +61,11 @@ fn offered_by(alloc: Global, line: &[u8]) -> Result<Vec<u8>, LineFault>
     if line.len() > LONGEST_COMMAND {
         return Err(LineFault::TooLong);
     }
-    command_in(alloc, line)
+    let command = command_in(alloc, line)?;
+    match command_bytes(alloc, &command) {
+        Ok(bytes) => Ok(bytes),
+        Err(_) => Err(LineFault::OutOfMemory),
+    }
 }
 
 /// What a line asks that begins with a command's word.

@@ -1,7 +1,7 @@
 //! Lines as they come.
 
 ghost use Rattle.std.specs.Prelude.{IfOk};
-ghost use Rattle.node_lines.specs.Input.{ByteComes, LineComes, RefusedComes, RestComes};
+ghost use Rattle.node_lines.specs.Input.{ByteComes, LineComes, LineComesWithin, RefusedComes, RestComes};
 
 use crate::fault::LineFault;
 use ballots::Bytes;
@@ -73,13 +73,13 @@ fn refuse<R: Read>(input: &mut R, why: LineFault) -> io::Result<Next>
     }
 }
 
-/// What comes next of the input, which is best a buffered one: it is read byte by byte. Of a line no more than
-/// `LONGEST_LINE` bytes are kept; a longer one is refused as TooLong.
-pub fn next_line<R: Read>(alloc: Global, input: &mut R) -> io::Result<Next>
-    ensures { IfOk result (LineComes (R.remaining input.old) (R.remaining input.new)) }
+/// What comes next of the input, which is best a buffered one: it is read byte by byte. Of a line no more than `most`
+/// bytes are kept; a longer one is refused as TooLong.
+pub fn next_line_within<R: Read>(alloc: Global, input: &mut R, most: usize) -> io::Result<Next>
+    ensures { IfOk result (LineComesWithin most (R.remaining input.old) (R.remaining input.new)) }
 {
     let mut line = Vec::new(alloc);
-    for _ in 0..LONGEST_LINE {
+    for _ in 0..most {
         match next_byte(input)? {
             Some(b'\n') => return Ok(Next::Line(Bytes::new(line))),
             Some(byte) => {
@@ -95,4 +95,11 @@ pub fn next_line<R: Read>(alloc: Global, input: &mut R) -> io::Result<Next>
         Some(_) => refuse(input, LineFault::TooLong),
         None => Ok(Next::End),
     }
+}
+
+/// What comes next of a node's lines, of which none needs more than `LONGEST_LINE` bytes.
+pub fn next_line<R: Read>(alloc: Global, input: &mut R) -> io::Result<Next>
+    ensures { IfOk result (LineComes (R.remaining input.old) (R.remaining input.new)) }
+{
+    next_line_within(alloc, input, LONGEST_LINE)
 }

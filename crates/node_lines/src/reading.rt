@@ -23,7 +23,7 @@ fn digits_behind<'a>(line: &'a [u8], word: &[u8]) -> Option<&'a [u8]>
 
 /// Where the digits of a line begin, behind this word.
 #[tactic(auto, using(crate::proofs::Words::place_behind))]
-fn behind(line: &[u8], word: &[u8]) -> Option<usize>
+pub fn behind(line: &[u8], word: &[u8]) -> Option<usize>
     ensures { MatchOption result ((digits : List ℕ) → line.now ≢ word.now ++ digits)
         (λ place. (place ≤ length line.now) × (line.now ≡ word.now ++ drop place line.now)) }
 {
@@ -34,7 +34,7 @@ fn behind(line: &[u8], word: &[u8]) -> Option<usize>
 }
 
 /// The bytes that the digits from a place of a line on spell, in the line's memory.
-fn bytes_from(line: Vec<u8>, place: usize) -> Result<Vec<u8>, LineFault>
+pub fn bytes_from(line: Vec<u8>, place: usize) -> Result<Vec<u8>, LineFault>
     requires { place ≤ vec_len line }
     ensures read { IfOk result (λ bytes. decode_of (drop place line.items) ≡ Ok bytes.items) }
     ensures fault { IfErr result (λ why. (why ≡ NoHex) × IsErr (decode_of (drop place line.items))) }

@@ -1,1 +1,3 @@
 pub mod Served
+mod Batching
+mod Looping

@@ -7,6 +7,7 @@ ghost use Rattle.node_service.specs.declared.outgoing.Reply.{Reply as Replied};
 ghost use Rattle.node_service.specs.Texts.{acted_text, fresh_text, given_text, head_text, place_line, place_lines, reply_text, restarted_text};
 ghost use Rattle.node_service.specs.Texts.{fault_text, letter_fault_name, line_fault_name, no_letter_text, refused_text};
 
+use crate::outbox::Told;
 use ballots::{Members, NodeId};
 use letter_bytes::LetterFault;
 use map_release::Numbered;
@@ -175,6 +176,14 @@ fn write_text<W: Write>(alloc: Global, reply: &Reply, output: &mut W) -> Result<
         Reply::Restarted(id, members) => write_restarted(*id, *members, output),
         Reply::Acted(acted) => write_acted(alloc, acted, output),
         Reply::Refused(why) => write_refused(*why, output),
+    }
+}
+
+impl Told for Reply {
+    ghost text = { reply_text };
+
+    fn write_to<W: Write>(&self, alloc: Global, output: &mut W) -> Result<(), Unwritten> {
+        write_text(alloc, self, output)
     }
 }
 

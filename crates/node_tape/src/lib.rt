@@ -1,6 +1,7 @@
 //! What a process reads and writes, written into a journal.
 #![tactic(auto)]
 
+mod ahead;
 mod heard;
 mod spoken;
 

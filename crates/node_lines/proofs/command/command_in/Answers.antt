@@ -8,4 +8,4 @@ pub returns-in-Ok-table_from_str-clause-fault : goal.returns-in-Ok-table_from_st
 returns-in-Ok-table_from_str-clause-fault c =
     let Reads : List ℕ → Type 0 = λ text. parse_document text ≡ Some (table_view c.in-Ok-table_from_str.table) in
     let read = subst Reads c.in-Ok.ensures.cases.0 c.in-Ok-table_from_str.ensures.ok in
-    no_text c.args.text.now (table_view c.in-Ok-table_from_str.table) c.value_in.result read c.value_in.ensures.fault
+    no_text c.args.text.now (table_view c.in-Ok-table_from_str.table) read c.in-None.ensures

@@ -1,7 +1,7 @@
 use Rattle.std.proofs.Common.{◌≡◌, length}
 use Rattle.std.specs.Io.KnownBytes.{Consumes}
 use Rattle.node_lines.specs.Input.{IsLine}
-use Rattle.node_lines.proofs.input.next_line.Given as goal
+use Rattle.node_lines.proofs.input.next_line_within.Given as goal
 
 abbrev pub invariant-loop : goal.invariant-loop
 invariant-loop g l = record {
