@@ -3,7 +3,7 @@ _upsched() {
     local now=${COMP_WORDS[COMP_CWORD]} before=${COMP_WORDS[COMP_CWORD - 1]} options=""
     COMPREPLY=()
     if ((COMP_CWORD == 1)); then
-        COMPREPLY=($(compgen -W "maps run check capture stats script draw show live node audit -h --help -V --version" -- "$now"))
+        COMPREPLY=($(compgen -W "maps run check capture stats script draw show live scheduler node audit -h --help -V --version" -- "$now"))
         return
     fi
     case $before in
@@ -19,6 +19,7 @@ _upsched() {
         draw) options="--plan --maps --text -h --help" ;;
         show) options="--names --json -h --help" ;;
         live) options="--turns --verbose -h --help" ;;
+        scheduler) options="--json -h --help" ;;
         node) options="--members --store --new --journal --journal-sync -h --help" ;;
         audit) options="--members -h --help" ;;
     esac

@@ -135,6 +135,9 @@ static NODE_WORDS: [(&[&str], &str); 11] = [
         &["live", "plan.toml", "--turns=1000000"],
         "Live(LiveWords { plan: \"plan.toml\", turns: 1000000, verbose: false })",
     ),
+    (&["scheduler"], "Scheduler(Plain)"),
+    (&["scheduler", "--json"], "Scheduler(Json)"),
+    (&["scheduler", "lines"], "NotUnderstood"),
     (
         &["node", "0", "--members", "3"],
         "Node(NodeWords { number: \"0\", members: \"3\", store: None, is_new: false }, None)",

@@ -7,6 +7,7 @@ mod node_run;
 mod opening;
 mod plan_runs;
 mod program;
+mod scheduler_run;
 mod script_runs;
 
 pub use program::{run, run_words};

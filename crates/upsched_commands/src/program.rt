@@ -5,6 +5,7 @@ use crate::node_run::run_node;
 use crate::plan_runs::{
     run_capture, run_check, run_draw, run_maps, run_maps_as_json, run_script_words, run_stats,
 };
+use crate::scheduler_run::run_scheduler;
 use crate::script_runs::{run_live, run_run, run_run_as_json};
 use std::env;
 use std::io::{ErrorKind, Read, Write};
@@ -63,6 +64,7 @@ fn run_command<'a, T: Threads + Wait + Clock + Sync + AllocGlobal, I: Read, O: W
         Words::ShowNames(words) => Ok(show_names(rt.alloc(), words, output, errors)),
         Words::ShowAsJson(words) => Ok(show_as_json(rt.alloc(), words, output, errors)),
         Words::Live(words) => run_live(rt, threads, words, output, errors),
+        Words::Scheduler(form) => Ok(run_scheduler(rt.alloc(), *form, input, output, errors)),
         Words::Node(words, journal) => Ok(run_node(rt, words, *journal, input, output, errors)),
         Words::Audit(words) => run_audit(rt, words, output, errors),
     }

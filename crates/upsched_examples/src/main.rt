@@ -30,6 +30,7 @@ enum Kind {
     ScriptWithFault,
     Body,
     Lines,
+    SchedulerLines,
     Live,
     LiveWithFault,
 }
@@ -43,7 +44,7 @@ struct Folder {
     ending: &'static str,
 }
 
-const FOLDERS: [Folder; 9] = [
+const FOLDERS: [Folder; 10] = [
     Folder {
         path: "plans",
         kind: Kind::Plan,
@@ -62,6 +63,11 @@ const FOLDERS: [Folder; 9] = [
     Folder {
         path: "nodes",
         kind: Kind::Lines,
+        ending: ".lines",
+    },
+    Folder {
+        path: "schedulers",
+        kind: Kind::SchedulerLines,
         ending: ".lines",
     },
     Folder {
@@ -90,6 +96,9 @@ const FOLDERS: [Folder; 9] = [
         ending: ".hex",
     },
 ];
+
+/// The node that replies to lines.
+const NODE: [&str; 4] = ["node", "0", "--members", "3"];
 
 /// Folders in which no run can keep its records, and what a run tells of them.
 const REFUSED: [(&str, &str); 5] = [
@@ -210,16 +219,16 @@ impl<T: Threads + Wait + Clock + Sync + AllocGlobal> Host<'_, T> {
         self.agrees(&["show", digits.trim_end()], wanted, output)
     }
 
-    /// Whether node 0 of three replies so to the lines of a file.
+    /// Whether the program that these words name replies so to the lines of a file.
     fn lines_agree<O: Write>(
         &self,
+        words: &[&str],
         path: &str,
         wanted: Wanted<'_>,
         output: &mut O,
     ) -> io::Result<bool> {
         let lines = fs::read(self.rt, path)?;
-        let words = ["node", "0", "--members", "3"];
-        self.agrees_on(words.as_slice(), lines.as_slice(), wanted, output)
+        self.agrees_on(words, lines.as_slice(), wanted, output)
     }
 
     /// Whether a plan prints so by `live`, also with fewer turns.
@@ -250,7 +259,8 @@ impl<T: Threads + Wait + Clock + Sync + AllocGlobal> Host<'_, T> {
             Kind::Script => self.script_agrees(path, stem, wanted, output),
             Kind::ScriptWithFault => self.agrees(&["run", path], wanted, output),
             Kind::Body => self.body_agrees(path, wanted, output),
-            Kind::Lines => self.lines_agree(path, wanted, output),
+            Kind::Lines => self.lines_agree(&NODE, path, wanted, output),
+            Kind::SchedulerLines => self.lines_agree(&["scheduler"], path, wanted, output),
             Kind::Live => self.live_agrees(path, wanted, output),
             Kind::LiveWithFault => self.agrees(&["live", path], wanted, output),
         }

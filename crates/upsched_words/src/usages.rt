@@ -320,6 +320,14 @@ const LIVE: Usage = Usage {
     group: None,
 };
 
+const SCHEDULER: Usage = Usage {
+    name: "scheduler",
+    about: "Is one scheduler that applies the commands on standard input and replies to each line",
+    example: Some("Example: echo apply 00 | upsched scheduler"),
+    arguments: &[JSON],
+    group: None,
+};
+
 const NODE: Usage = Usage {
     name: "node",
     about: "Is one node that reads lines on standard input and replies to each",
@@ -374,6 +382,6 @@ const AUDIT: Usage = Usage {
 };
 
 /// The commands, in the order in which the help tells of them.
-pub(crate) const USAGES: [Usage; 11] = [
-    MAPS, RUN, CHECK, CAPTURE, STATS, SCRIPT, DRAW, SHOW, LIVE, NODE, AUDIT,
+pub(crate) const USAGES: [Usage; 12] = [
+    MAPS, RUN, CHECK, CAPTURE, STATS, SCRIPT, DRAW, SHOW, LIVE, SCHEDULER, NODE, AUDIT,
 ];

@@ -13,6 +13,7 @@ use upsched_check::{CaptureWords, CheckWords, Form, StatsWords};
 use upsched_ends::{
     Fault, LiveWords, MapsWords, NodeWords, RunWords, ScriptWords, ShowWords, Status,
 };
+use upsched_scheduler::ReplyForm;
 
 /// What `node` is told of its journal.
 #[derive(Clone, Copy, Debug)]
@@ -97,6 +98,8 @@ pub enum Words<'a> {
     ShowAsJson(ShowWords<'a>),
     /// Works on a plan with a thread for each node, and prints whether the records agree.
     Live(LiveWords<'a>),
+    /// Is one scheduler over lines, which replies so.
+    Scheduler(ReplyForm),
     /// Is one node over lines, which may keep a journal of them.
     Node(NodeWords<'a>, Option<JournalWords<'a>>),
     /// Prints whether journals are those of nodes that kept the rules.
@@ -153,6 +156,15 @@ fn capture_words<'a>(words: &ArgMatches<'a>) -> Option<Words<'a>> {
 fn stats_words<'a>(words: &ArgMatches<'a>) -> Option<Words<'a>> {
     let plan = words.get_str("PLAN")?;
     Some(Words::Stats(StatsWords { plan }))
+}
+
+/// What `scheduler` is told: to reply by lines or by JSON.
+fn scheduler_words<'a>(words: &ArgMatches<'a>) -> Words<'a> {
+    Words::Scheduler(if words.get_flag("json") {
+        ReplyForm::Json
+    } else {
+        ReplyForm::Plain
+    })
 }
 
 /// What `draw` is told.
@@ -262,6 +274,7 @@ fn command_of<'a>(
         "draw" => draw_words(words),
         "show" => show_words(words),
         "live" => live_words(words),
+        "scheduler" => Some(scheduler_words(words)),
         "node" => node_words(words),
         "audit" => audit_words(alloc, words)?,
         _ => None,

@@ -1,0 +1,4 @@
+pub mod Asking
+pub mod Texts
+pub mod Replying
+pub mod Serving

@@ -1,0 +1,2 @@
+mod AsMaps
+mod Ended
