@@ -61,6 +61,8 @@ class Recorder:
             words = line.split()
             if words[0] == "all":
                 return
+            if words[0] not in ("lead", "node"):
+                continue
             self.note(f"lead {words[1]}" if words[0] == "lead" else f"place {words[1]} {words[3]}")
             if back is None and words[0] == "node" and int(words[3]) >= KILLED_BEHIND:
                 self.kill_node(0)

@@ -3,18 +3,37 @@
 #
 # Usage: cluster/pipes.sh PLAN [CUTS]
 #
+# `upsched check` looks at the plan first. CUTS cuts like the plan's last one follow it (none).
+#
 # A line goes into a pipe by one write of less than 4096 bytes, so lines of several writers don't mix. A longer letter
 # is lost: a node that takes over behind some 40 open votes needs another transport.
 set -euo pipefail
 here=$(cd -- "$(dirname -- "${BASH_SOURCE[0]}")" && pwd)
+. "$here/parts.sh"
+wants_usage "$@"
+look_at "$1"
 pipes=$(mktemp -d)
-trap 'trap "" TERM; rm -rf "$pipes"; kill 0' EXIT
+trap 'end_parts; rm -rf "$pipes"' EXIT
+trap 'exit 1' HUP INT TERM
 mkfifo "$pipes/0" "$pipes/1" "$pipes/2" "$pipes/replies"
-for k in 0 1 2; do
-    "$here/../upsched" node $k --members 3 <>"$pipes/$k" | while IFS= read -r line; do
+
+# node K
+node() {
+    "$here/../upsched" node "$1" --members 3 <>"$pipes/$1" | while IFS= read -r line; do
         [ ${#line} -lt 4000 ] || continue
         [[ $line != letter* ]] || { read -r _ to digits <<<"$line" && echo "letter $digits" >"$pipes/$to"; }
-        echo "$k $line" >"$pipes/replies"
-    done &
-done
-python3 "$here/supervisor.py" 3 "$@" <>"$pipes/replies" | while read -r k line; do echo "$line" >"$pipes/$k"; done
+        echo "$1 $line" >"$pipes/replies"
+    done
+}
+
+# supervise PLAN [CUTS]
+supervise() {
+    python3 "$here/supervisor.py" 3 "$@" <>"$pipes/replies" |
+        while read -r k line; do echo "$line" >"$pipes/$k"; done
+}
+
+export here pipes
+export -f node supervise
+for k in 0 1 2; do part bash -c 'node "$1"' bash "$k"; done
+part bash -o pipefail -c 'supervise "$@"' bash "$@"
+wait $!

@@ -5,9 +5,10 @@ Usage: supervisor.py MEMBERS PLAN [CUTS [SECONDS]]
 
 On standard output it writes `K LINE`: this line is for node K. On standard input it reads `K LINE`: a line of a reply
 of node K. The transport carries the letters among these by itself; here they only show what is proposed at each place.
-It offers the plan's commands in order, one after another, and then CUTS cuts like the plan's last one (none). It looks
-every SECONDS (0.1). What the nodes release goes to standard error, each place once a node, and whom it asks to lead;
-the last line there is `all PLACES`, when every node has released all that was offered.
+It offers the plan's commands in order, one after another, and then CUTS cuts like the plan's last one (none). A plan
+with an unknown kind, or without a key that its kind needs, is refused with status 1. It looks every SECONDS (0.1).
+What the nodes release goes to standard error, each place once a node, and whom it asks to lead; the last
+line there is `all PLACES`, when every node has released all that was offered.
 
 It asks each node to release, and again when it answered. It asks node 0 to lead, and the next one where no place is
 released for a second (SILENCE in the environment, which has to be longer than a slow disk or network takes for a
@@ -25,6 +26,10 @@ import tomllib
 SILENCE = float(os.environ.get("SILENCE", "1"))
 
 
+class PlanFault(Exception):
+    """Why a plan's commands have no bytes."""
+
+
 def number(value, size):
     return value.to_bytes(size, "big")
 
@@ -36,8 +41,12 @@ def flow_bytes(command):
     if command["service"] == "best_effort":
         return head + b"\0" + number(command["priority"], 1)
     due = number(command["interval"], 4) + number(command["jitter"], 4) + number(command["base"], 8)
-    sized = {"ugs": b"\1", "station": b"\3", "initial": b"\4"}.get(command["service"])
-    return head + (sized + number(command["size"], 2) + due if sized else b"\2" + due)
+    if command["service"] == "poll":
+        return head + b"\2" + due
+    sized = {"ugs": b"\1", "station": b"\3", "initial": b"\4"}
+    if command["service"] not in sized:
+        raise PlanFault(f'service is "{command["service"]}", none of: best_effort ugs poll station initial')
+    return head + sized[command["service"]] + number(command["size"], 2) + due
 
 
 def cut_bytes(command):
@@ -69,7 +78,28 @@ def bytes_of(command):
         phy = number(1 if command["phy"] == "advanced" else 0, 1)
         backoffs = bytes(command["ranging"] + command["data"])
         return b"\x0a" + ch + number(command["ucd"], 1) + phy + number(command["short_max"], 2) + backoffs
-    return b"\0"
+    if kind == "noop":
+        return b"\0"
+    raise PlanFault(f'kind is "{kind}", none of: noop channel flow drop request cut change')
+
+
+def values_of(plan, cuts):
+    """A plan's commands as bytes, and behind them so many cuts like its last one."""
+    with open(plan, "rb") as file:
+        commands = tomllib.load(file).get("command", [])
+    values, last = [], None
+    for i, command in enumerate(commands, 1):
+        try:
+            values.append(bytes_of(command))
+        except KeyError as lacks:
+            raise PlanFault(f"command {i} lacks {lacks}") from None
+        except (PlanFault, OverflowError, TypeError, ValueError, AttributeError) as fault:
+            raise PlanFault(f"command {i}: {fault}") from None
+        if command["kind"] == "cut":
+            last = values[-1]
+    if cuts and last is None:
+        raise PlanFault("no command is a cut, so none can follow")
+    return values + [last] * cuts
 
 
 class Supervisor:
@@ -168,12 +198,19 @@ def lines_until(end, kept=[b""]):
 
 
 def main():
+    if sys.argv[1:] in (["-h"], ["--help"]):
+        print(__doc__.strip())
+        sys.exit(0)
+    if len(sys.argv) < 3:
+        print(__doc__.strip(), file=sys.stderr)
+        sys.exit(2)
     members, plan = int(sys.argv[1]), sys.argv[2]
     cuts, seconds = int((sys.argv[3:] + ["0"])[0]), float((sys.argv[4:] + ["0.1"])[0])
-    with open(plan, "rb") as file:
-        commands = tomllib.load(file)["command"]
-    values = [bytes_of(command) for command in commands]
-    values += [bytes_of([c for c in commands if c["kind"] == "cut"][-1])] * cuts
+    try:
+        values = values_of(plan, cuts)
+    except (OSError, ValueError, PlanFault) as fault:
+        print(f"supervisor: {plan}: {fault}", file=sys.stderr)
+        sys.exit(1)
     it = Supervisor(members, values)
     it.lead(0)
     while not it.look():
