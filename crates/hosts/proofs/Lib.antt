@@ -1,0 +1,5 @@
+mod SlotLemmas
+mod ActedLemmas
+mod Steps
+mod Taken
+mod Going

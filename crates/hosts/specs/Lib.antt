@@ -1,0 +1,9 @@
+pub mod Opening
+pub mod New
+pub mod Views
+pub mod Slots
+pub mod Taking
+pub mod Beyond
+pub mod Hosts
+pub mod Acting
+pub mod Shifting

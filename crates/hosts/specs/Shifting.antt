@@ -1,0 +1,76 @@
+-- What a host does as it releases: it goes on, takes up, and gives.
+use Rattle.std.specs.Prelude.{◌≡◌, ◌⊎◌, ℕ, ◌+◌, ◌<◌, not, true, filter, [], Some}
+use Rattle.map_release.specs.Released.{has_ended}
+use Rattle.seats.specs.Occupant.{IsClean, IsHonest, node_of, is_up}
+use Rattle.epochs.specs.Scheduling.{most_applied}
+use Rattle.hosts.specs.Opening.{IsOpenedAt, KeepsBeginnings}
+use Rattle.hosts.specs.Taking.{TakesFrom}
+use Rattle.hosts.specs.declared.acted.Given.{Given}
+use Rattle.hosts.specs.declared.acted.Given.TheVariants.{Outputs, Failed}
+use Rattle.hosts.specs.declared.host.Host.{Host}
+use Rattle.hosts.specs.declared.opens.Opens.{Ghosts}
+use Rattle.node.specs.declared.node.Node.{Ghosts as Nodes}
+
+-- it took up and gave all of its own epoch, and the outputs of the next one can be numbered
+pub record CanGoOn {O N : Type 0} {g : Ghosts O N} {h : Nodes N} (host : Host O N g h) : Type 0 where
+  pub taken : host.taken ≡ host.places
+  pub given : host.cursor ≡ host.scheduler.applied
+  pub room : host.scheduler.applied + host.places < most_applied
+
+-- its nodes stay, and what opens them
+pub record KeepsNodes {O N : Type 0} {g : Ghosts O N} {h : Nodes N} (old new : Host O N g h) : Type 0 where
+  pub opens : new.opens ≡ old.opens
+  pub places : new.places ≡ old.places
+  pub number : new.number ≡ old.number
+  pub before : new.before ≡ old.before
+  pub own : new.own ≡ old.own
+  pub after : new.after ≡ old.after
+
+-- nothing changed but what opens nodes, which kept what they begin over
+pub record Stays {O N : Type 0} {g : Ghosts O N} {h : Nodes N} (old new : Host O N g h) : Type 0 where
+  pub keeps : KeepsBeginnings g.member g.begins old.opens new.opens
+  pub places : new.places ≡ old.places
+  pub number : new.number ≡ old.number
+  pub taken : new.taken ≡ old.taken
+  pub cursor : new.cursor ≡ old.cursor
+  pub scheduler : new.scheduler ≡ old.scheduler
+  pub before : new.before ≡ old.before
+  pub own : new.own ≡ old.own
+  pub after : new.after ≡ old.after
+
+-- its nodes are those of the next three epochs, of which the last was opened, and it took up nothing of its own one
+pub record Shifts {O N : Type 0} {g : Ghosts O N} {h : Nodes N} (old new : Host O N g h) : Type 0 where
+  pub keeps : KeepsBeginnings g.member g.begins old.opens new.opens
+  pub places : new.places ≡ old.places
+  pub number : new.number ≡ old.number + 1
+  pub taken : new.taken ≡ 0
+  pub cursor : new.cursor ≡ old.cursor
+  pub scheduler : new.scheduler ≡ old.scheduler
+  pub before : new.before ≡ Some old.own
+  pub own : new.own ≡ old.after
+  pub up : is_up new.after ≡ true
+  pub opened : IsOpenedAt h.who h.honest h.stands (g.member old.opens) (g.begins old.opens (old.number + 2)) (node_of new.after)
+  pub sure : IsClean new.after → IsHonest new.after
+
+-- it goes on where it can, and else stays as it is
+abbrev pub GoesOn : {O N : Type 0} {g : Ghosts O N} {h : Nodes N} → Host O N g h → Host O N g h → Type 0
+GoesOn old new = (CanGoOn old × Shifts old new) ⊎ ((¬ CanGoOn old) × (new ≡ old))
+
+-- it took up what its own epoch's node has learned
+pub record TakesOwn {O N : Type 0} {g : Ghosts O N} {h : Nodes N} (old new : Host O N g h) : Type 0 where
+  pub nodes : KeepsNodes old new
+  pub cursor : new.cursor ≡ old.cursor
+  pub takes : TakesFrom old.own old.places old.taken old.scheduler new.taken new.scheduler
+
+-- it gave what waited, and said what it lacks
+abbrev pub SaysNext : {O N : Type 0} {g : Ghosts O N} {h : Nodes N} → Host O N g h → ℕ → Given → Type 0
+SaysNext host now (Outputs outputs epoch place) =
+    (outputs.items ≡ filter (λ x. not (has_ended now x.output)) host.scheduler.waiting) × (epoch ≡ host.number) × (place ≡ host.taken + 1)
+SaysNext host now (Failed fault) = ⊥
+
+pub record GivesOut {O N : Type 0} {g : Ghosts O N} {h : Nodes N} (old : Host O N g h) (now : ℕ) (given : Given) (new : Host O N g h) : Type 0 where
+  pub nodes : KeepsNodes old new
+  pub taken : new.taken ≡ old.taken
+  pub cursor : new.cursor ≡ old.scheduler.applied
+  pub scheduler : new.scheduler ≡ record old.scheduler { waiting = [] }
+  pub says : SaysNext old now given

@@ -1,0 +1,114 @@
+-- Where a host stands, and what it does.
+use Rattle.std.specs.Prelude.{◌≡◌, ◌≢◌, ◌⊎◌, ℕ, ◌+◌, ◌<◌, ◌≤◌, ◌==◌, ◌&&◌, nat_lt, Bool, true, false, if◌then◌else◌, List, [], ◌∷◌, ◌++◌, length, Option, Some, None, slice_get}
+use Rattle.acceptor.specs.Content.{Content}
+use Rattle.ballots.specs.Rows.{at}
+use Rattle.map_release.specs.Released.{released}
+use Rattle.node.specs.View.{Standing, started}
+use Rattle.node.specs.View.Standing.{Running, Stopped}
+use Rattle.proposer.specs.declared.fault.NodeFault.TheVariants.{OutOfMemory}
+use Rattle.seats.specs.Acted.{letters_of, outputs_of, told}
+use Rattle.seats.specs.Acts.{GoesTo}
+use Rattle.seats.specs.Moves.{Ask}
+use Rattle.epochs.specs.Epochs.{outputs_over, values_of}
+use Rattle.epochs.specs.Scheduling.{most_applied}
+use Rattle.hosts.specs.Beyond.{is_beyond}
+use Rattle.hosts.specs.declared.acted.Given.{Given}
+use Rattle.hosts.specs.declared.acted.Given.TheVariants.{Outputs, Failed}
+use Rattle.hosts.specs.declared.acted.HostActed.{HostActed}
+use Rattle.hosts.specs.declared.acted.HostActed.TheVariants.{Of, Ended, Ahead, Gone, OtherPlaces}
+
+-- where a host stands: the values of the epochs that it passed, those of its own that it took up, its node of each epoch,
+-- and how many outputs it gave
+pub record HostView : Type 0 where
+  pub passed : List (List (List ℕ))
+  pub own : List (List ℕ)
+  pub nodes : ℕ → Standing
+  pub cursor : ℕ
+
+-- the number of its epoch, from 1
+abbrev pub number : HostView → ℕ
+number v = length v.passed + 1
+
+-- what it knows of each epoch
+abbrev pub known : HostView → List (List (List ℕ))
+known v = v.passed ++ v.own ∷ []
+
+-- and of all of them, one after another
+abbrev pub values : ℕ → HostView → List (List ℕ)
+values places v = values_of places (known v)
+
+-- a host that has done nothing, whose nodes begin over these contents
+abbrev pub opening : (ℕ → Content) → HostView
+opening begins = record { passed = []; own = []; nodes = λ e. Running (started (begins e)); cursor = 0 }
+
+-- an epoch of the window: its own, the one before or the one after
+pub record IsNear (v : HostView) (e : ℕ) : Type 0 where
+  pub some : 1 ≤ e
+  pub low : number v ≤ e + 1
+  pub high : e ≤ number v + 1
+
+-- the node of one epoch stands so
+abbrev pub with_node : HostView → ℕ → Standing → HostView
+with_node v e t = record v { nodes = λ x. if x == e then t else v.nodes x }
+
+-- the value that a node has learned at a place
+abbrev pub learned_at : Standing → ℕ → Option (List ℕ)
+learned_at (Running view) p = at view.tally.learned p
+learned_at (Stopped content doubt) p = None
+
+-- its own epoch is full, all outputs up to its end were given, and those of the next one can be numbered
+abbrev pub is_passed : ℕ → HostView → Bool
+is_passed places v = (length v.own == places) && ((v.cursor == length (values places v)) && nat_lt (length (values places v) + places) most_applied)
+
+-- it goes on in the next one
+abbrev pub shifted : HostView → HostView
+shifted v = record v { passed = v.passed ++ v.own ∷ []; own = [] }
+
+-- from where it goes on, if it does
+abbrev pub from_here : ℕ → HostView → HostView
+from_here places v = if is_passed places v then shifted v else v
+
+-- it takes up these values behind those that it has, each learned by its own epoch's node at its place
+pub record TakesUp (places : ℕ) (v : HostView) (more : List (List ℕ)) : Type 0 where
+  pub learned : (i : ℕ) (x : List ℕ) → slice_get more i ≡ Some x → learned_at (v.nodes (number v)) (length v.own + i + 1) ≡ Some x
+  pub fits : length v.own + length more ≤ places
+
+-- the same with these taken up
+abbrev pub with_more : HostView → List (List ℕ) → HostView
+with_more v more = record v { own = v.own ++ more }
+
+-- nothing is left to take up
+abbrev pub IsAll : ℕ → HostView → Type 0
+IsAll places v = (length v.own ≡ places) ⊎ (learned_at (v.nodes (number v)) (length v.own + 1) ≡ None)
+
+-- all outputs are given
+abbrev pub all_given : ℕ → HostView → HostView
+all_given places v = record v { cursor = length (values places v) }
+
+-- host me of so many members, which stood at v, was asked so of the node of epoch e, by who has so many places in an epoch,
+-- and stands at v'
+abbrev pub MovesIn : (members me places : ℕ) → HostView → (e said : ℕ) → Ask → HostActed → HostView → Type 0
+MovesIn members me places v e said ask (Of acted) v' =
+    (said ≡ places) × IsNear v e × (is_beyond places (v.nodes e) ask ≡ false)
+    × ((t : Standing) × GoesTo members me (v.nodes e) ask (told acted) (letters_of acted) (outputs_of acted) (λ u. u ≡ t) × (v' ≡ with_node v e t))
+MovesIn members me places v e said ask Ended v' = (said ≡ places) × IsNear v e × (is_beyond places (v.nodes e) ask ≡ true) × (v' ≡ v)
+MovesIn members me places v e said ask Ahead v' = (said ≡ places) × (number v + 1 < e) × (v' ≡ v)
+MovesIn members me places v e said ask Gone v' = (said ≡ places) × ((e ≡ 0) ⊎ (e + 1 < number v)) × (v' ≡ v)
+MovesIn members me places v e said ask OtherPlaces v' = (said ≢ places) × (v' ≡ v)
+
+-- these are the outputs behind the cursor, without the MAPs that have ended by now, and it says the number of its epoch, and
+-- the first place of it that it lacks
+abbrev pub Gives : (places : ℕ) → HostView → (now : ℕ) → Given → Type 0
+Gives places v now (Outputs outputs epoch place) =
+    (outputs.items ≡ released now v.cursor (outputs_over places (known v))) × (epoch ≡ number v) × (place ≡ length v.own + 1)
+Gives places v now (Failed fault) = ⊥
+
+-- a host takes up all that is there, from where it goes on, and gives all behind its cursor; or it can't go on; or memory
+-- ends before it took up all, and nothing is given
+abbrev pub Releases : (places : ℕ) → HostView → (now : ℕ) → Given → HostView → Type 0
+Releases places v now (Outputs outputs epoch place) v' =
+    (more : List (List ℕ)) × TakesUp places (from_here places v) more × IsAll places (with_more (from_here places v) more)
+    × Gives places (with_more (from_here places v) more) now (Outputs outputs epoch place) × (v' ≡ all_given places (with_more (from_here places v) more))
+Releases places v now (Failed fault) v' =
+    ((is_passed places v ≡ true) × (v' ≡ v))
+    ⊎ ((more : List (List ℕ)) × TakesUp places (from_here places v) more × (v' ≡ with_more (from_here places v) more) × (fault ≡ OutOfMemory))

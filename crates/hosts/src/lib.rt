@@ -1,0 +1,12 @@
+//! A host: a member of each of several logs that go on one in the other, with one scheduler over all of them.
+#![tactic(auto)]
+
+mod acted;
+mod beyond;
+mod host;
+mod opens;
+mod taking;
+
+pub use acted::{Given, HostActed};
+pub use host::{Host, MOST_EPOCH_PLACES};
+pub use opens::{NewNodes, NewRecords, Opens, PlainOpens};
