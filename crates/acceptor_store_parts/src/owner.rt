@@ -31,17 +31,6 @@ pub fn bytes_of(owner: Owner) -> [u8; 2]
     [owner.node.number(), owner.members.count()]
 }
 
-fn members_of(count: u8) -> Option<Members>
-    ensures some { IfSome result (λ members. count ≡ member_count members) }
-    ensures none { IfNone result ((members : Members) → count ≡ member_count members → ⊥) }
-{
-    match count {
-        3 => Some(Members::Three),
-        5 => Some(Members::Five),
-        _ => None,
-    }
-}
-
 /// The owner that these bytes stand for, if they are any's.
 pub fn owner_of(bytes: &[u8]) -> Option<Owner>
     ensures some { IfSome result (λ owner. bytes.now ≡ owner_bytes owner) }
@@ -52,6 +41,6 @@ pub fn owner_of(bytes: &[u8]) -> Option<Owner>
         return None;
     }
     let node = NodeId::new(bytes[0])?;
-    let members = members_of(bytes[1])?;
+    let members = Members::of(bytes[1])?;
     Some(Owner { node, members })
 }

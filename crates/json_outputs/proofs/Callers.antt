@@ -15,7 +15,8 @@ use Rattle.grant_machine.specs.declared.output.Output.TheVariants.{Nothing, Chan
 use Rattle.serde_json.specs.Data.{Data, null, number, unsigned, string, object, Members, no_members, member, put, depth, items_depth, members_depth}
 use Rattle.serde_json.specs.View.{items_of}
 use Rattle.serde_json.specs.Written.{has_float, items_have_float, members_have_float}
-use Rattle.json_outputs.specs.Names.{iuc_name, refusal_name}
+use Rattle.json_outputs.specs.Names.{refusal_name}
+use Rattle.map_body.specs.Iucs.{iuc_name}
 use Rattle.json_outputs.specs.Fields.{with_number, with_text, with_time}
 use Rattle.json_outputs.specs.Elements.{element_data, elements_from, elements_data, gap, head_members, body_data}
 use Rattle.json_outputs.specs.Outputs.{TellsElements, TellsOutput}

@@ -5,7 +5,7 @@ use Rattle.map_body.specs.Body.{Body}
 use Rattle.map_body.specs.Intervals.{is_null}
 use Rattle.serde_json.specs.Data.{Data, array, object, Members, no_members, put}
 use Rattle.serde_json.specs.View.{items_of}
-use Rattle.json_outputs.specs.Names.{iuc_name}
+use Rattle.map_body.specs.Iucs.{iuc_name}
 use Rattle.json_outputs.specs.Fields.{with_number, with_text, with_time}
 
 -- an element that has so many minislots

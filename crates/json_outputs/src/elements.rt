@@ -5,7 +5,6 @@ ghost use Rattle.serde_json.specs.View.{view};
 ghost use Rattle.json_outputs.specs.Elements.{element_data, elements_data, gap};
 
 use crate::fields::{put_number, put_text};
-use crate::names::iuc_name;
 use map_body::{Element, Iuc};
 use serde_json::{Map, Value};
 use std::alloc::{AllocError, Global};
@@ -30,7 +29,7 @@ fn element_value(alloc: Global, element: &Element, minislots: u16) -> Result<Val
     put_number(&mut map, alloc, "minislots", u64::from(minislots))?;
     put_number(&mut map, alloc, "sid", u64::from(element.sid.get()))?;
     put_number(&mut map, alloc, "iuc", u64::from(iuc))?;
-    put_text(&mut map, alloc, "name", iuc_name(iuc))?;
+    put_text(&mut map, alloc, "name", element.iuc.name())?;
     Ok(Value::Object(map))
 }
 

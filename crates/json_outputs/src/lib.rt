@@ -10,6 +10,5 @@ mod texts;
 
 pub use bodies::body_text;
 pub use fields::{put_number, put_text, put_time};
-pub use names::iuc_name;
 pub use outputs::{command_text, put_output};
 pub use texts::text_of;

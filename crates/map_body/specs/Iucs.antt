@@ -1,5 +1,5 @@
 -- Interval usage codes (CM-SP-MULPIv3.1, MAP message), and what modems make of them.
-use Rattle.std.specs.Prelude.{ℕ, Bool, ◌==◌, ◌||◌}
+use Rattle.std.specs.Prelude.{ℕ, Bool, ◌==◌, ◌||◌, if◌then◌else◌, List, codes}
 
 -- Request
 abbrev pub request : ℕ
@@ -61,3 +61,20 @@ abbrev pub answers_request : ℕ → Bool
 answers_request iuc =
     (iuc == short_data_grant) || (iuc == long_data_grant)
     || (iuc == advanced_short_data_grant) || (iuc == advanced_long_data_grant)
+
+-- the name of an IUC in the standard's table
+abbrev pub iuc_name : ℕ → List ℕ
+iuc_name iuc =
+    if iuc == 1 then codes "Request"
+    else if iuc == 2 then codes "REQ/Data"
+    else if iuc == 3 then codes "Initial Maintenance"
+    else if iuc == 4 then codes "Station Maintenance"
+    else if iuc == 5 then codes "Short Data Grant"
+    else if iuc == 6 then codes "Long Data Grant"
+    else if iuc == 7 then codes "Null"
+    else if iuc == 8 then codes "Data Acknowledge"
+    else if iuc == 9 then codes "Advanced PHY Short Data Grant"
+    else if iuc == 10 then codes "Advanced PHY Long Data Grant"
+    else if iuc == 11 then codes "Advanced PHY Unsolicited Grant"
+    else if iuc == 15 then codes "Expansion"
+    else codes "Reserved"

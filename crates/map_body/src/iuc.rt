@@ -66,6 +66,27 @@ impl Iuc {
         self.number
     }
 
+    /// Its name in the standard's table; `Reserved` where it has none.
+    pub fn name(self) -> &'static str
+        ensures { result.now ≡ iucs.iuc_name self }
+    {
+        match self.number {
+            1 => "Request",
+            2 => "REQ/Data",
+            3 => "Initial Maintenance",
+            4 => "Station Maintenance",
+            5 => "Short Data Grant",
+            6 => "Long Data Grant",
+            7 => "Null",
+            8 => "Data Acknowledge",
+            9 => "Advanced PHY Short Data Grant",
+            10 => "Advanced PHY Long Data Grant",
+            11 => "Advanced PHY Unsolicited Grant",
+            15 => "Expansion",
+            _ => "Reserved",
+        }
+    }
+
     /// May a modem send a request in an interval of its SID, as at a poll?
     pub fn lets_request(self) -> bool
         ensures { result ≡ iucs.lets_request self }

@@ -55,11 +55,8 @@ fn members_of(table: &Table) -> Option<Members>
     ensures found { IfSome result (HasMembers (table_view table.now)) }
     ensures only { (count : Members) → HasMembers (table_view table.now) count → result ≡ Some count }
 {
-    match member(table, "members")?.as_integer()? {
-        3 => Some(Members::Three),
-        5 => Some(Members::Five),
-        _ => None,
-    }
+    let count = member(table, "members")?.as_integer()?;
+    Members::of(u8::try_from(count).ok()?)
 }
 
 fn id_of(item: &Value) -> Option<u32>

@@ -6,7 +6,7 @@ use Rattle.node_journal.specs.declared.audits.Verdict.{Verdict}
 use Rattle.node_journal.specs.declared.audits.Verdict.TheVariants.{Yes, Torn}
 use Rattle.upsched_ends.specs.declared.status.Status.{Status}
 use Rattle.upsched_ends.specs.declared.status.Status.TheVariants.{Done, Faulted}
-use Rattle.upsched_node.specs.Member.{NamesMembers}
+use Rattle.upsched_ends.specs.Members.{NamesMembers}
 
 -- a word says how many members there are, and there is a journal for each
 abbrev pub NamesJournals : List ℕ → ℕ → Members → Type 0

@@ -8,8 +8,7 @@ ghost use Rattle.upsched_ends.specs.declared.fault.Fault.TheVariants.{Memory, Un
 use ballots::{Bytes, Members};
 use std::alloc::Global;
 use std::io::Read;
-use upsched_ends::Fault;
-use upsched_node::members_of;
+use upsched_ends::{Fault, members_of};
 
 /// What is told where there isn't a journal for each member.
 pub const NO_JOURNALS: &str =

@@ -7,8 +7,8 @@ use Rattle.grant_machine.specs.declared.command.Command.{Command}
 use Rattle.grant_machine.specs.declared.output.Output.{Output}
 use Rattle.grant_machine.specs.declared.output.Output.TheVariants.{Nothing, ChannelSet, Assigned, Map as MapOutput, Refused}
 use Rattle.grant_machine.specs.Fits.{FitsCommand}
-use Rattle.grant_machine.specs.Laws.{MapsAreBodies}
-use Rattle.grant_machine.specs.Runs.{outputs_from, outputs_of, rows_from, IsReached}
+use Rattle.grant_machine.specs.Laws.{MapsAreBodiesFrom}
+use Rattle.grant_machine.specs.Runs.{outputs_from, rows_from, IsReached}
 use Rattle.grant_machine.specs.Steps.{step}
 use Rattle.plan_account.specs.Deeds.{IsDeedOf, OutputsHaveDeeds}
 use Rattle.plan_account.specs.declared.deed.Deed.{Deed}
@@ -34,16 +34,16 @@ fits_as_map (MapOutput ch start len bytes) f = f ch start len bytes refl
 fits_as_map (Refused n) f = tt
 
 -- so is that of a step from where a scheduler can be
-step_is_last : (rows : Rows) (c : Command) (reached : IsReached rows) → Contains (outputs_of (reached.0 ++ c ∷ [])) (step rows c).output
-step_is_last rows c reached = subst (λ (r : Rows). Contains (outputs_of (reached.0 ++ c ∷ [])) (step r c).output) reached.2 (last_output [] reached.0 c)
+step_is_last : (rows : Rows) (c : Command) (reached : IsReached rows) → Contains (outputs_from reached.0 (reached.2 ++ c ∷ [])) (step rows c).output
+step_is_last rows c reached = subst (λ (r : Rows). Contains (outputs_from reached.0 (reached.2 ++ c ∷ [])) (step r c).output) reached.4 (last_output reached.0 reached.2 c)
 
-pub step_fits : MapsAreBodies → (rows : Rows) (c : Command) → IsReached rows → FitsCommand c → FitsFrame (step rows c).output
+pub step_fits : MapsAreBodiesFrom → (rows : Rows) (c : Command) → IsReached rows → FitsCommand c → FitsFrame (step rows c).output
 step_fits law rows c reached fits =
     fits_as_map (step rows c).output (λ ch start len bytes same.
-    let cs = reached.0 in
-    let body = law (cs ++ c ∷ []) ch start len bytes (fits_push cs c reached.1 fits) (subst (λ (o : Output). Contains (outputs_of (cs ++ c ∷ [])) o) same (step_is_last rows c reached)) in
+    let cs = reached.2 in
+    let body = law reached.0 (cs ++ c ∷ []) ch start len bytes reached.1 (fits_push cs c reached.3 fits) (subst (λ (o : Output). Contains (outputs_from reached.0 (cs ++ c ∷ [])) o) same (step_is_last rows c reached)) in
     omega (arith, (spelling_len bytes body.map.head body.map.elements 0 body.body.0).0, body.body.0.count))
 
 -- and has a deed
 pub step_deed : OutputsHaveDeeds → (rows : Rows) (c : Command) → IsReached rows → FitsCommand c → (deed : Deed) × IsDeedOf c (step rows c).output deed
-step_deed law rows c reached fits = law (reached.0 ++ c ∷ []) c (step rows c).output (fits_push reached.0 c reached.1 fits) (step_is_last rows c reached)
+step_deed law rows c reached fits = law reached.0 (reached.2 ++ c ∷ []) c (step rows c).output reached.1 (fits_push reached.2 c reached.3 fits) (step_is_last rows c reached)

@@ -2,7 +2,7 @@
 use Rattle.std.specs.Prelude.{List, [], ◌∷◌, ◌++◌, ℕ, codes, flat_map}
 use Rattle.map_body.specs.declared.element.Element.{Element}
 use Rattle.map_body.specs.Body.{Body}
-use Rattle.json_outputs.specs.Names.{iuc_name}
+use Rattle.map_body.specs.Iucs.{iuc_name}
 use Rattle.upsched_maps.specs.Lines.{element_text, head_text}
 
 -- the line of an element as `show` prints it, with the name of its IUC behind the number

@@ -14,7 +14,7 @@ ghost use Rattle.script_text.specs.Plan.{IsPlan, NoPlan};
 ghost use Rattle.upsched_check.specs.Plans.{IsScriptAlone, bodies_in, bodies_of, FitsFrame, CapturesPlan, IsKnownScript};
 
 use crate::plan_words::{CaptureWords, Refusal, commands_of};
-use grant_machine::{Command, Machine, Output, maps_are_bodies};
+use grant_machine::{Command, Machine, Output, maps_are_bodies_from};
 use map_frames::{file_head, record};
 use plan_account::outputs_have_deeds;
 use std::alloc::Global;
@@ -41,7 +41,7 @@ pub(crate) fn answer_of<'a>(machine: &mut Machine, command: &Command) -> Result<
     ensures deed { IfOk result (λ output. (deed : Deed) × IsDeedOf command.now output deed) }
     ensures fault { IfErr result (λ fault. fault ≡ Memory) }
 {
-    maps_are_bodies();
+    maps_are_bodies_from();
     outputs_have_deeds();
     match machine.apply(command) {
         Ok(output) => Ok(output),

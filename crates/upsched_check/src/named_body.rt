@@ -7,7 +7,6 @@ ghost use Rattle.upsched_ends.specs.declared.status.Status.TheVariants.{Done, No
 ghost use Rattle.upsched_maps.specs.Show.{IsHexBody};
 ghost use Rattle.upsched_check.specs.Named.{named_body_lines, named_line, named_lines};
 
-use json_outputs::iuc_name;
 use map_body::{Element, MapBody};
 use std::alloc::Global;
 use std::io::Write;
@@ -22,7 +21,7 @@ fn print_element<'a, O: Write>(
     ensures { OnOk result (Appends (O.contents output.old) (O.contents output.new) (named_line element.now)) }
 {
     let text = element_text(alloc, element)?;
-    let name = iuc_name(element.iuc.get());
+    let name = element.iuc.name();
     writeln!(output, "{text} {name}")?;
     Ok(())
 }

@@ -2,11 +2,13 @@
 #![tactic(auto)]
 
 mod fault;
+mod members;
 mod status;
 mod text;
 mod words;
 
 pub use fault::Fault;
+pub use members::{digit_of, members_of};
 pub use status::Status;
 pub use text::{plan_of, script_of, text_of};
 pub use words::{LiveWords, MapsWords, NodeWords, RunWords, ScriptWords, ShowWords};

@@ -1,15 +1,8 @@
 -- The words that name a member.
-use Rattle.std.specs.Prelude.{◌≡◌, ℕ, ◌+◌, ◌<◌, List, [], ◌∷◌}
+use Rattle.std.specs.Prelude.{◌≡◌, ℕ, ◌<◌, List}
 use Rattle.ballots.specs.Members.{member_count}
 use Rattle.ballots.specs.declared.members.Members.{Members}
-
--- the decimal digit of a number below 10
-abbrev pub digit : ℕ → List ℕ
-digit n = (48 + n) ∷ []
-
--- a word says how many members there are
-abbrev pub NamesMembers : List ℕ → Members → Type 0
-NamesMembers word members = word ≡ digit (member_count members)
+use Rattle.upsched_ends.specs.Members.{NamesMembers, digit}
 
 -- two words name a member by its number, and how many there are
 pub record NamesMember (number members : List ℕ) (id : ℕ) (count : Members) : Type 0 where

@@ -18,7 +18,8 @@ use Rattle.script_counts.specs.Counts.{crashes, takeovers, OffersAll}
 use Rattle.script_text.specs.Plan.{IsPlan, NoPlan}
 use Rattle.script_text.proofs.Callers.{no_plan_read}
 use Rattle.upsched_ends.specs.declared.words.ScriptWords.{ScriptWords}
-use Rattle.upsched_script.specs.Scripts.{RunsAsAsked, IsWrittenSo, IsAsAsked, IsAskedFor, NamesMembers, NamesIds}
+use Rattle.upsched_ends.specs.Members.{NamesMembers}
+use Rattle.upsched_script.specs.Scripts.{RunsAsAsked, IsWrittenSo, IsAsAsked, IsAskedFor, NamesIds}
 
 -- a run of fresh nodes and new modems is one of so many members and of these ids
 pub run_of : (members : ℕ) (ids : List ℕ) (count : ℕ) (modems : List ℕ) (events : List Event) (report : List Answer) (w : Written) → members ≡ count → ids ≡ modems

@@ -4,7 +4,6 @@ use Rattle.std.specs.Prelude.{IfSome, option_map, codes, decimal, flat_map}
 use Rattle.std.specs.Io.KnownBytes.{Appends}
 use Rattle.std.specs.List.{AllByRecursion}
 use Rattle.ballots.specs.declared.members.Members.{Members}
-use Rattle.ballots.specs.declared.members.Members.TheVariants.{Three, Five}
 use Rattle.ballots.specs.Members.{member_count}
 use Rattle.grant_machine.specs.declared.command.Command.{Command}
 use Rattle.world_events.specs.declared.event.Event.{Event}
@@ -17,17 +16,10 @@ use Rattle.script_counts.specs.Counts.{crashes, takeovers, OffersAll}
 use Rattle.script_text.specs.Plan.{IsPlan}
 use Rattle.upsched_script.specs.declared.refusal.Refusal.{Refusal}
 use Rattle.upsched_script.specs.declared.refusal.Refusal.TheVariants as refusal
+use Rattle.upsched_ends.specs.Members.{NamesMembers}
 use Rattle.upsched_ends.specs.declared.words.ScriptWords.{ScriptWords}
 
 -- ---- words
-
--- the number of members
-abbrev pub members_word : Members → List ℕ
-members_word Three = codes "3"
-members_word Five = codes "5"
-
-abbrev pub NamesMembers : List ℕ → Members → Type 0
-NamesMembers word count = word ≡ members_word count
 
 -- numbers between commas
 abbrev pub next_number : ℕ → List ℕ

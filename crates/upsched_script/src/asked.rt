@@ -2,26 +2,13 @@
 
 ghost use Rattle.std.specs.Prelude.{◌≡◌, ◌≢◌, ◌⊎◌, ◌++◌, ℕ, List, None, Err, option_map, flat_map, string_bytes};
 ghost use Rattle.std.specs.Prelude.{IfErr, IfOk, IsOk, IsSomeAnd, MatchOption, OnOk};
-ghost use Rattle.ballots.specs.declared.members.Members.{Members};
 ghost use Rattle.upsched_ends.specs.declared.fault.Fault.TheVariants.{Memory};
-ghost use Rattle.upsched_script.specs.Scripts.{AreIds, NamesIds, NamesMembers, next_number, numbers_text};
+ghost use Rattle.upsched_script.specs.Scripts.{AreIds, NamesIds, next_number, numbers_text};
 ghost use Rattle.upsched_script.specs.declared.refusal.Refusal.TheVariants as refused;
 
 use crate::refusal::Refusal;
-use ballots::Members;
 use std::alloc::{AllocError, Global};
 use upsched_ends::{Fault, ScriptWords};
-
-/// How many members a word names, 3 or 5.
-pub fn members_of(word: &str) -> Option<Members>
-    ensures { MatchOption result ((members : Members) → ¬ NamesMembers word.now members) (NamesMembers word.now) }
-{
-    match word {
-        "3" => Some(Members::Three),
-        "5" => Some(Members::Five),
-        _ => None,
-    }
-}
 
 /// Adds the numbers behind the first one.
 fn add_numbers(alloc: Global, text: &mut String, numbers: &[u32]) -> Result<(), AllocError>

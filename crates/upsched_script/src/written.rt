@@ -6,7 +6,7 @@ ghost use Rattle.upsched_ends.specs.declared.status.Status.TheVariants.{Done, No
 ghost use Rattle.script_text.specs.Plan.{NoPlan};
 ghost use Rattle.upsched_script.specs.Scripts.{IsAsAsked, IsAskedFor, IsOfWords, PrintsAsked};
 
-use crate::asked::{ids_of, members_of};
+use crate::asked::ids_of;
 use crate::refusal::Refusal;
 use crate::trial::is_as_asked;
 use grant_machine::Command;
@@ -14,7 +14,7 @@ use made_scripts::{Wishes, made_script};
 use printed_scripts::script_text;
 use std::alloc::Global;
 use std::io::{Read, Write};
-use upsched_ends::{Fault, ScriptWords, Status, plan_of};
+use upsched_ends::{Fault, ScriptWords, Status, members_of, plan_of};
 
 /// The text of a script of these wishes that offers these commands.
 fn made_text<'a>(

@@ -8,7 +8,7 @@ use Rattle.upsched_check.proofs.captures.answer_of.Goals as goal
 
 pub returns-in-Ok-clause-fits : goal.returns-in-Ok-clause-fits
 returns-in-Ok-clause-fits c =
-    subst FitsFrame (sym c.in-Ok.ensures.output) (step_fits c.maps_are_bodies.ensures c.args.machine.now c.args.command.now c.requires c.apply.ensures.fits)
+    subst FitsFrame (sym c.in-Ok.ensures.output) (step_fits c.maps_are_bodies_from.ensures c.args.machine.now c.args.command.now c.requires c.apply.ensures.fits)
 
 pub returns-in-Ok-clause-deed : goal.returns-in-Ok-clause-deed
 returns-in-Ok-clause-deed c =
