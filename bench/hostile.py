@@ -40,6 +40,7 @@ def examples(pattern):
 
 
 PLANS = examples("plans/*.toml") + examples("faults/plans/*.toml")
+LINES = examples("schedulers/*.lines")
 SCRIPTS = examples("scripts/*.toml") + examples("faults/scripts/*.toml")
 BODIES = [text.strip() for text in examples("bodies/*.hex") + examples("faults/bodies/*.hex")]
 
@@ -308,6 +309,33 @@ def made_script(rng):
     return (head + "".join("[[event]]\n" + event for event in events)).encode()
 
 
+ODD_LINES = [
+    b"", b"no", b"apply", b"apply ", b"apply 0", b"apply 0g", b"apply 00\r", b"apply 0000", b"APPLY 00", b"apply  00",
+    b"\0", b"apply 00\0", b"apply " + b"00" * 65, b"apply " + b"0" * 5000, b"command", b"command = {}", b"command = 1",
+    b'command = { kind = "noop", kind = "noop" }', b'command = { kind = "noop" }\r', b"command = { kind = \xff }",
+    b'command = { kind = "noop" } #' + b"." * 4067, b'command = { kind = "noop" } #' + b"." * 4069,
+    b"command = " + b"[" * 4000,
+]
+
+
+def a_line(rng):
+    draw = rng.random()
+    if draw < 0.3:
+        return b"apply " + value(rng).encode()
+    if draw < 0.6:
+        return b"command = " + inline(command(rng)).encode()
+    return rng.choice([rng.choice(ODD_LINES), b"apply 00", rng.randbytes(rng.randint(0, 200)).replace(b"\n", b"")])
+
+
+def made_lines(rng):
+    """Lines for a scheduler, whose last one may have no end."""
+    lines = [b"apply 01010700100205030800000000000003e8"]
+    lines += [a_line(rng) for _ in range(rng.choice([1, 10, 100, 1000]))]
+    if rng.random() < 0.03:
+        lines.insert(rng.randint(0, len(lines)), b"x" * LONG)
+    return b"\n".join(lines) + b"\n" * (rng.random() < 0.8)
+
+
 def made_body(rng):
     """A body of up to 255 elements, whose offsets mostly rise, and a Null somewhere."""
     count = rng.choice([1, 2, 10, 240, 255])
@@ -352,13 +380,15 @@ PLANNED |= {"draw --plan": ["draw", "--plan"], "draw --plan --text": ["draw", "-
 # And those that take a script.
 SCRIPTED = {"run": ["run"], "run --trace": ["run", "--trace"], "run --json": ["run", "--json"], "draw": ["draw"]}
 SCRIPTED |= {"run --json --trace": ["run", "--json", "--trace"]}
+# Those that read lines on standard input.
+SERVED = {"scheduler": ["scheduler"], "scheduler --json": ["scheduler", "--json"]}
 SHOWN = {"show": ["show", "--"], "show --names": ["show", "--names", "--"]}
-WORDS = ["maps", "maps", *PLANNED, *SHOWN, "run", "run", *SCRIPTED, "run --store", "run --store"]
+WORDS = ["maps", "maps", *PLANNED, *SERVED, *SHOWN, "run", "run", *SCRIPTED, "run --store", "run --store"]
 
 
 def words_of(how):
     """The words of a good text."""
-    return {**SHOWN, **PLANNED, **SCRIPTED}.get(how, ["run"])
+    return {**SHOWN, **PLANNED, **SERVED, **SCRIPTED}.get(how, ["run"])
 
 
 def case_of(seed, k):
@@ -368,6 +398,8 @@ def case_of(seed, k):
         return Case(how, words_of(how), hex_text(rng).replace(b"\0", b"0")[:LONGEST_WORD])
     if how in PLANNED:
         return Case(how, PLANNED[how], text_of(rng, PLANS, made_plan, b"command"))
+    if how in SERVED:
+        return Case(how, SERVED[how], text_of(rng, LINES, made_lines, b"command"))
     verbose = ["--verbose"] if how in ("run", "run --store") and rng.random() < 0.5 else []
     return Case(how, words_of(how) + verbose, text_of(rng, SCRIPTS, made_script, b"event"))
 
@@ -387,6 +419,8 @@ class Runner:
             return case.words + [case.text]
         with open(self.text, "wb") as file:
             file.write(case.text)
+        if case.how in SERVED:
+            return case.words
         if case.how != "run --store":
             return case.words + [self.text]
         shutil.rmtree(self.store, ignore_errors=True)
@@ -399,7 +433,7 @@ class Runner:
         child = os.fork()
         if child == 0:
             signal.alarm(PATIENCE)
-            os.dup2(os.open(os.devnull, os.O_RDONLY), 0)
+            os.dup2(os.open(self.text if case.how in SERVED else os.devnull, os.O_RDONLY), 0)
             os.dup2(os.open(os.devnull, os.O_WRONLY), 1)
             os.dup2(os.open(self.errors, os.O_WRONLY | os.O_CREAT | os.O_TRUNC), 2)
             os.execv(self.program, words)
@@ -413,6 +447,8 @@ def good_text(how, size):
     """A good text of about this length."""
     if how in SHOWN:
         return read(os.path.join(HERE, "examples/bodies/first_grant.hex")).strip()
+    if how in SERVED:
+        return b"apply 00\n" * (size // 9)
     tick = b"[[event]]\nkind = 'tick'\nmodem = 0\nch = 1\nslot = 0\nrandom = 0\n"
     table = b"[[command]]\nkind = 'noop'\n" if how in PLANNED else tick
     return b"members = 3\nmodems = [1]\n" + table * (size // len(table))
