@@ -118,7 +118,7 @@ static RUN_WORDS: [(&[&str], &str); 16] = [
     ),
 ];
 
-static NODE_WORDS: [(&[&str], &str); 11] = [
+static NODE_WORDS: [(&[&str], &str); 14] = [
     (
         &["live", "plan.toml"],
         "Live(LiveWords { plan: \"plan.toml\", turns: 2000, verbose: false })",
