@@ -68,7 +68,7 @@ fn greatest_without(ballot: Option<Ballot>, votes: &[(u64, Cast)], place: u64) -
 }
 
 /// The ballot tried, the promised row and the votes.
-fn ballots_in<S: Alter>(
+pub fn ballots_in<S: Alter>(
     alloc: Global,
     conn: &mut Connection<S>,
     owner: Option<Owner>,
@@ -103,7 +103,7 @@ pub fn numbers_of<S: Alter>(
     Ok(Numbers { tried, promised })
 }
 
-fn is_below(ballot: Ballot, other: Option<Ballot>) -> bool
+pub fn is_below(ballot: Ballot, other: Option<Ballot>) -> bool
     ensures { result ≡ false → number_of other ≤ ballot }
 {
     match other {

@@ -2,6 +2,7 @@
 #![tactic(auto)]
 
 mod anew;
+mod batches;
 mod known;
 mod opening;
 mod owned;

@@ -4,6 +4,8 @@
 #[cfg(test)]
 mod acceptor_rows;
 #[cfg(test)]
+mod batches;
+#[cfg(test)]
 mod files;
 #[cfg(test)]
 mod kinds;

@@ -16,7 +16,7 @@ fn slipping_file(alloc: Global, calls_left: u64) -> Slip<Memory> {
 }
 
 /// Empty files, of which this one slips after so many calls.
-fn slipping(alloc: Global, which: Stopped, calls: u64) -> Files<Slip<Memory>> {
+pub fn slipping(alloc: Global, which: Stopped, calls: u64) -> Files<Slip<Memory>> {
     match which {
         Stopped::Database => Files {
             log: slipping_file(alloc, u64::MAX),

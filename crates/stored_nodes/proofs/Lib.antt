@@ -2,3 +2,4 @@ mod Counts
 mod Opened
 mod Told
 mod Started
+mod Beside

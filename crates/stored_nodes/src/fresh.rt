@@ -1,7 +1,7 @@
 //! Nodes over records that may hold something, whatever these are.
 
 ghost use Rattle.std.specs.Prelude.{◌≡◌, ◌<◌, false, IfOk, IsTrue};
-ghost use Rattle.acceptor.specs.Content.{Content};
+ghost use Rattle.acceptor.specs.Content.{Content, no_content};
 ghost use Rattle.acceptor.specs.Found.{Holds};
 ghost use Rattle.ballots.specs.Members.{member_count};
 ghost use Rattle.node.specs.View.{started};
@@ -23,8 +23,9 @@ pub(crate) fn begun_with<R: Records + Drop>(
 ) -> Result<SchedNode<R>, StartFault>
     requires member { id < member_count members }
     requires certain { IsTrue (R.is_honest records) → ∥ ((c : Content) × Holds (R.may_find records) c) ∥₁ }
-    ensures { IfOk result (IsFreshAt ⟦<SchedNode<R> as Node>⟧.who ⟦<SchedNode<R> as Node>⟧.honest
+    ensures fresh { IfOk result (IsFreshAt ⟦<SchedNode<R> as Node>⟧.who ⟦<SchedNode<R> as Node>⟧.honest
         ⟦<SchedNode<R> as Node>⟧.stands (member_count members) id) }
+    ensures empty { IfOk result (λ node. IsTrue (⟦<SchedNode<R> as Node>⟧.honest node) → (c : Content) → Holds (R.may_find records) c → c ≡ no_content) }
 {
     let mut node = SchedNode::new(alloc, id, members, records);
     if node.is_fresh()? {

@@ -1,6 +1,7 @@
 //! Nodes that keep their records in files: fresh ones over the files of a folder, and one over files that are its own.
 #![tactic(auto)]
 
+mod batched;
 mod copies;
 mod fault;
 mod folder;
@@ -14,6 +15,7 @@ mod stored;
 mod survey;
 mod uses;
 
+pub use batched::{BatchedUse, use_batched_at};
 pub use fault::StoreFault;
 pub use folder::use_nodes_in;
 pub use opens::records_for;
