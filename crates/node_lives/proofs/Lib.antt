@@ -1,1 +1,2 @@
 mod Lived
+mod Begun

@@ -1,5 +1,6 @@
 -- What nodes did in the lives of their processes is a replay.
-use Rattle.std.proofs.Common.{◌≡◌, ◌∙◌, ◌⊎◌, inl, inr, ℕ, ◌<◌, List, [], ◌∷◌, ◌++◌, Option, None, Result, Ok, IsTrue, is_ok, refl, sym, ap, subst}
+use Rattle.std.proofs.Common.{◌≡◌, ◌∙◌, ◌⊎◌, inl, inr, ℕ, List, [], ◌∷◌, ◌++◌, Option, None, Result, Ok, IsTrue}
+use Rattle.std.proofs.Common.{is_ok, refl, sym, ap, subst}
 use Rattle.acceptor.specs.Content.{Content, Write, after_write, no_content}
 use Rattle.node.specs.Calls.{Course, MayGoOn}
 use Rattle.node.specs.Calls.Cause.{Lead as AskedToLead, Offer as Offered, Receive as Received, Tell as AskedToTell}
@@ -7,10 +8,11 @@ use Rattle.node.specs.Calls.{Cause as Call}
 use Rattle.node.specs.Step.{Outcome}
 use Rattle.node.specs.View.{Standing, View, started}
 use Rattle.node.specs.View.Standing.{Running, Stopped}
+use Rattle.node_journal.specs.Turns.{cause_of, crash_entry, restart_entry}
 use Rattle.node_lines.specs.Lines.{Asks}
 use Rattle.node_lines.specs.declared.request.Request.{Request}
 use Rattle.node_lines.specs.declared.request.Request.TheVariants as request
-use Rattle.node_lives.specs.Lives.{AreLives, AreTold, IsKilled, IsTold, LivesAreSound, cause_of, crash_entry, restart_entry}
+use Rattle.node_lives.specs.Lives.{AreLives, AreTold, IsKilled, IsTold, LivesAreSound}
 use Rattle.node_service.specs.Seated.{asked_of}
 use Rattle.node_service.specs.declared.outgoing.Reply.{Reply}
 use Rattle.node_service.specs.declared.outgoing.Reply.TheVariants.{Acted, Fresh, Refused, Restarted}

@@ -5,45 +5,20 @@ use Rattle.node.specs.Calls.{Cause as Call, Course}
 use Rattle.node.specs.Step.{Outcome}
 use Rattle.node.specs.View.{View, started}
 use Rattle.node.specs.View.Standing.{Running}
+use Rattle.node_journal.specs.Turns.{Tells, cause_of, crash_entry, restart_entry}
 use Rattle.node_lines.specs.Lines.{Asks}
 use Rattle.node_lines.specs.declared.request.Request.{Request}
-use Rattle.node_lines.specs.declared.request.Request.TheVariants as request
 use Rattle.node_service.specs.declared.outgoing.Reply.{Reply}
 use Rattle.node_service.specs.declared.outgoing.Reply.TheVariants.{Acted, Fresh, Refused, Restarted}
-use Rattle.node_worker.specs.Entries.{EntryView, entry}
+use Rattle.node_worker.specs.Entries.{EntryView}
 use Rattle.node_worker.specs.Legal.{AllCome, IsSound, entries_of}
-use Rattle.node_worker.specs.Replays.{IsSurvived, answer_of, ask_of}
+use Rattle.node_worker.specs.Replays.{IsSurvived, ask_of}
 use Rattle.node_worker.specs.Runs.{AreLegal}
-use Rattle.node_worker.specs.declared.entry.Ask.TheVariants.{Lead, Offer, Tell, Release, Crash, Restart}
-use Rattle.node_worker.specs.declared.entry.Cause.{Cause}
-use Rattle.node_worker.specs.declared.entry.Cause.TheVariants.{Ask as Asked, Letter as Came}
 use Rattle.node_worker.specs.declared.entry.Done.{Done}
-use Rattle.node_worker.specs.declared.entry.Ended.TheVariants.{FailedEither, Whole}
-use Rattle.seats.specs.Acted.{letters_of, outputs_of, told}
-use Rattle.seats.specs.declared.acted.Acted.{Acted as Given}
+use Rattle.node_worker.specs.declared.entry.Ended.TheVariants.{FailedEither}
+use Rattle.seats.specs.Acted.{told}
 use Rattle.seats.specs.Moves.Ask.{Call as IsCalled}
 use Rattle.upsched_node.specs.Serving.{RunsAs}
-
--- what a request is as a cause
-abbrev pub cause_of : Request → Cause
-cause_of request.Lead = Asked Lead
-cause_of (request.Offer value) = Asked (Offer value)
-cause_of (request.Release now) = Asked (Release now)
-cause_of (request.Letter letter) = Came letter
-cause_of (request.Tell to place) = Asked (Tell to place)
-
--- what came of a request is what the entry tells
-pub record Tells (acted : Given) (e : EntryView) : Type 0 where
-  pub answer : told acted ≡ answer_of e.cause e.ended e.letters e.outputs
-  pub letters : letters_of acted ≡ e.letters
-  pub outputs : outputs_of acted ≡ e.outputs
-
--- the crash of a node that was killed, and its next start
-abbrev pub crash_entry : EntryView
-crash_entry = entry (Asked Crash) Whole [] []
-
-abbrev pub restart_entry : EntryView
-restart_entry = entry (Asked Restart) Whole [] []
 
 -- a line and the reply to it, as what the node did: nothing where the line was refused, and else one thing, for what
 -- the line asks, which the reply tells

@@ -1,5 +1,6 @@
 //! What holds of the lives of processes.
 
+ghost use Rattle.node_lives.specs.Beginnings.{BeginningsAreLives};
 ghost use Rattle.node_lives.specs.Lives.{LivesAreLegal, LivesAreSound};
 
 use node_lines::one_meaning;
@@ -13,3 +14,9 @@ pub fn lives_are_sound()
 {
     one_meaning();
 }
+
+/// The first turns of a life are a life too, at the end of which the node may be killed, and leaves its content. So a
+/// process whose last calls no file kept has lived, up to these.
+pub fn beginnings_are_lives()
+    ensures { BeginningsAreLives }
+{}

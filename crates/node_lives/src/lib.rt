@@ -3,4 +3,4 @@
 
 mod laws;
 
-pub use laws::lives_are_sound;
+pub use laws::{beginnings_are_lives, lives_are_sound};

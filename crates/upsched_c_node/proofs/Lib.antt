@@ -1,6 +1,5 @@
 pub mod Exact
-pub mod Handing
 pub mod Sending
 pub mod Letters
-pub mod Contents
 pub mod Histories
+mod Lengths

@@ -5,31 +5,18 @@ use Rattle.std.specs.declared.alloc.Global.{Global}
 use Rattle.ballots.specs.declared.letters.Letter.{Letter}
 use Rattle.node.specs.Calls.{Cause}
 use Rattle.node.specs.Calls.Cause.{Receive, Lead}
-use Rattle.node.specs.Step.{Outcome, receive}
+use Rattle.node.specs.Step.{Outcome}
 use Rattle.proposer.specs.declared.fault.NodeFault.{NodeFault as Fault}
-use Rattle.upsched_c_node.proofs.Handing.{Hands, leads, received}
+use Rattle.told_writes.proofs.Callers.{written}
 use Rattle.node_writes.specs.declared.write_bytes.WriteBytes.{WriteBytes}
 use Rattle.upsched_c_node.specs.Calls.{Sends, Sent, sent}
 use Rattle.upsched_c_node.specs.States.{Answered, NodeState, Takes}
 use Rattle.upsched_c_node.specs.declared.handle.Held.{Held}
 use Rattle.upsched_c_node.specs.declared.status.Status.{Status}
 use Rattle.upsched_c_node.specs.declared.status.Status.TheVariants as statuses
-use Rattle.upsched_c_node.specs.Telling.{IsOpen, TellsWrite, WritesAfter}
+use Rattle.told_writes.specs.Telling.{IsOpen, TellsWrite, WritesAfter}
 use Rattle.node_writes.specs.Writes.{SpellsOf}
-use Rattle.upsched_c_node.specs.Writes.{HandsOut}
-
-abbrev ok : Outcome → Result Outcome Fault
-ok o = Ok o
-
-ok_same : (o p : Outcome) → ok o ≡ ok p → o ≡ p
-ok_same o p same = cc
-
-module _ (n : NodeState) (r : WriteBytes) (o : Outcome) (member : n.id < n.members) where
-  pub lead_hands : Takes n Lead (Ok o) → Hands n r o None
-  lead_hands takes = subst (λ (x : Outcome). Hands n r x None) (sym takes.1.2) (leads n r (omega (arith, member)) takes.1.0)
-
-  pub receive_hands : (l : Letter) (place : Option ℕ) → IsOpen n l.note place → Takes n (Receive l) (Ok o) → Hands n r o place
-  receive_hands l place opened takes = subst (λ (x : Outcome). Hands n r x place) (sym (ok_same o (receive n.members n.id n.view l) takes)) (received n r (omega (arith, member)) l place opened)
+use Rattle.told_writes.specs.Writes.{HandsOut}
 
 -- a call that was answered
 pub sends_ok : (cause : Cause) (k after : Held) (node : NodeState) (letters : Vec Letter Global) (made write : WriteBytes) (old : Sent) (count : ℕ) (status : Status)
@@ -56,16 +43,22 @@ pub lead_tells : (n node : NodeState) (id : ℕ) (seen letters : List Letter) (r
 lead_tells n node id seen letters r same member is told o takes sent_is after =
     let me : id ≡ n.id = same ∙ ap (λ (m : NodeState). m.id) after in
     let all : node.members ≡ n.members = ap (λ (m : NodeState). m.members) after in
-    lead_hands n r o (omega (arith, member, me, all)) takes
+    written n Lead o r (omega (arith, member, me, all)) takes
     (subst (λ (ls : List Letter). MatchOption (slice_get ls (length ls - 1)) (SpellsOf n.id r None) (λ l. TellsWrite n.id l.note r)) (is ∙ sent_is)
     (subst (λ (k : ℕ). MatchOption (slice_get seen (length seen - 1)) (SpellsOf k r None) (λ l. TellsWrite k l.note r)) me told))
 
 -- what the call of a letter hands out
-pub letter_tells : (n node : NodeState) (seen letters : List Letter) (r : WriteBytes) (l : Letter) (place : Option ℕ) → IsOpen n l.note place → node.id < node.members → seen ≡ letters
-    → WritesAfter node seen place r
+pub letter_tells : (n node : NodeState) (id : ℕ) (before learned : List (ℕ × List ℕ)) (seen letters : List Letter) (r : WriteBytes) (l : Letter) (place : Option ℕ)
+    → before ≡ n.view.tally.learned → IsOpen before l.note place → id ≡ node.id → learned ≡ node.view.tally.learned → node.id < node.members → seen ≡ letters
+    → WritesAfter id learned seen place r
     → (o : Outcome) → Takes n (Receive l) (Ok o) → letters ≡ o.letters → node ≡ record n { view = o.view } → HandsOut n.id n.view.content o.write r
-letter_tells n node seen letters r l place opened member is told o takes sent_is after =
-    let me : node.id ≡ n.id = ap (λ (m : NodeState). m.id) after in
+letter_tells n node id before learned seen letters r l place was opened same is_learned member is told o takes sent_is after =
+    let me : id ≡ n.id = same ∙ ap (λ (m : NodeState). m.id) after in
     let all : node.members ≡ n.members = ap (λ (m : NodeState). m.members) after in
-    receive_hands n r o (omega (arith, member, me, all)) l place opened takes
-    (subst (λ (m : NodeState). WritesAfter m o.letters place r) after (subst (λ (ls : List Letter). WritesAfter node ls place r) (is ∙ sent_is) told))
+    let now : learned ≡ o.view.tally.learned = is_learned ∙ ap (λ (m : NodeState). m.view.tally.learned) after in
+    written n (Receive l) o r (omega (arith, member, same, me, all)) takes (
+      place,
+      subst (λ (rows : List (ℕ × List ℕ)). IsOpen rows l.note place) was opened,
+      subst (λ (k : ℕ). WritesAfter k o.view.tally.learned o.letters place r) me
+          (subst (λ (rows : List (ℕ × List ℕ)). WritesAfter id rows o.letters place r) now (subst (λ (ls : List Letter). WritesAfter id learned ls place r) (is ∙ sent_is) told)),
+    )

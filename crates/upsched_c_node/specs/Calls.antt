@@ -23,7 +23,7 @@ use Rattle.upsched_c_node.specs.Handles.{Asks}
 use Rattle.upsched_c_node.specs.Letters.{Reads, TellsBytes}
 use Rattle.upsched_c_node.specs.Rooms.{Told, told}
 use Rattle.upsched_c_node.specs.States.{MayLack, Takes}
-use Rattle.upsched_c_node.specs.Writes.{HandsOut}
+use Rattle.told_writes.specs.Writes.{HandsOut}
 
 -- where a call tells its write, and how many letters it sent
 pub record Sent : Type 0 where

@@ -9,7 +9,7 @@ use Rattle.node_writes.specs.declared.write_bytes.WriteBytes.{WriteBytes}
 use Rattle.upsched_c_node.specs.Opening.{IsStarted}
 use Rattle.upsched_c_node.specs.States.{NodeState, Takes, started_as}
 use Rattle.node_writes.specs.Writes.{HasStrange}
-use Rattle.upsched_c_node.specs.Writes.{HandsOut}
+use Rattle.told_writes.specs.Writes.{HandsOut}
 
 -- what happens to a node: a call that is OK and handed out these bytes, a release of its outputs, or a start over what
 -- it holds

@@ -1,5 +1,5 @@
 -- Letters as structs.
-use Rattle.std.specs.Prelude.{◌≡◌, ◌⊎◌, ℕ, ◌<◌, ◌≤◌, nat_le, ◌&&◌, if◌then◌else◌, List, [], length, map, take, drop, All, Option, Some, None, IsSome, Result, Ok, Err}
+use Rattle.std.specs.Prelude.{◌≡◌, ◌⊎◌, ℕ, ◌<◌, ◌≤◌, ◌^◌, nat_le, ◌&&◌, if◌then◌else◌, List, [], length, map, take, drop, All, Option, Some, None, IsSome, Result, Ok, Err}
 use Rattle.ballots.specs.Ballots.{IsBallot}
 use Rattle.ballots.specs.Limits.{IsValue, longest_value}
 use Rattle.ballots.specs.declared.letters.Cast.{Cast}
@@ -136,12 +136,13 @@ pub record Fits (f : LetterFields) (votes : List VoteFields) : Type 0 where
   pub kind : FitsKind f (length votes)
   pub each : All (λ v. IsSome (vote_of v)) votes
 
--- a letter's bytes are told, whole, or how much room they want
+-- a letter's bytes are told, whole, or how much room they want; memory is wanted only where the room is enough, or no
+-- number says how much they want
 abbrev pub TellsBytes : Letter → Told → Told → Status → Type 0
 TellsBytes l old new statuses.Done =
     FitsLetter l × (length (spelling l) ≤ length old.room) × (new ≡ told (over_front (spelling l) old.room) (length (spelling l)))
 TellsBytes l old new statuses.NoRoom = FitsLetter l × (length old.room < length (spelling l)) × (new ≡ told old.room (length (spelling l)))
-TellsBytes l old new statuses.OutOfMemory = new ≡ old
+TellsBytes l old new statuses.OutOfMemory = ((length (spelling l) ≤ length old.room) ⊎ (2 ^ 64 ≤ length (spelling l))) × (new ≡ old)
 TellsBytes l old new _ = ⊥
 
 -- fields are written as the bytes of the letter whose they are

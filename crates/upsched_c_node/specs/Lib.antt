@@ -1,11 +1,9 @@
 pub mod Statuses
 pub mod States
 pub mod Handles
-pub mod Writes
 pub mod Rooms
 pub mod Letters
 pub mod Samples
-pub mod Telling
 pub mod Opening
 pub mod Calls
 pub mod Histories

@@ -4,24 +4,19 @@ use Rattle.std.specs.declared.alloc.Global.{Global}
 use Rattle.ballots.specs.Members.{member_count}
 use Rattle.ballots.specs.declared.letters.Letter.{Letter}
 use Rattle.acceptor.specs.Content.{Content}
-use Rattle.node.specs.Calls.{Cause, Course, IsNothingNew}
+use Rattle.node.specs.Calls.{Cause, IsNothingNew}
 use Rattle.node.specs.Calls.Cause.{Receive, Lead, Offer, Tell}
 use Rattle.node.specs.Sched.{view_over}
 use Rattle.node.specs.Step.{Outcome, is_heeded, letters_told}
 use Rattle.node.specs.Releases.{released_all}
-use Rattle.node.specs.View.{View, started, gapless}
+use Rattle.node.specs.View.{started, gapless}
 use Rattle.node.specs.declared.parts.Parts.{Parts}
 use Rattle.std.specs.declared.alloc.AllocError.{AllocError}
 use Rattle.command_log.specs.Values.{outputs_of_values}
 use Rattle.map_release.specs.Released.{released}
 use Rattle.map_release.specs.declared.numbered.Numbered.{Numbered}
 use Rattle.proposer.specs.declared.fault.NodeFault.{NodeFault as Fault}
-
--- a node by its number, the number of members, and its view, of which the content is what its records hold
-pub record NodeState : Type 0 where
-  pub id : ℕ
-  pub members : ℕ
-  pub view : View
+pub use Rattle.told_writes.specs.States.{NodeState, Takes}
 
 abbrev pub state_of : Parts Content → NodeState
 state_of parts = record { id = parts.proposer.id; members = member_count parts.proposer.members; view = view_over parts parts.records }
@@ -29,10 +24,6 @@ state_of parts = record { id = parts.proposer.id; members = member_count parts.p
 -- node id of so many members, started over this content
 abbrev pub started_as : ℕ → ℕ → Content → NodeState
 started_as id members c = record { id = id; members = members; view = started c }
-
--- the course of a call of the node
-abbrev pub Takes : NodeState → Cause → Result Outcome Fault → Type 0
-Takes n cause course = Course n.members n.id n.view cause course
 
 -- a letter is heeded and says something new, or there is something to tell; the other calls say something anyhow
 abbrev pub SaysNew : NodeState → Cause → Type 0

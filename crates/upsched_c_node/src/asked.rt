@@ -1,23 +1,21 @@
 //! What a node that a handle holds is asked, and what its last call left to be read.
 
-ghost use Rattle.std.specs.Prelude.{◌≡◌, ◌<◌, IsTrue, ◌↔◌, length};
+ghost use Rattle.std.specs.Prelude.{◌≡◌, IsTrue, ◌↔◌, length};
 ghost use Rattle.upsched_c_node.specs.declared.status.Status.TheVariants.{Done};
 ghost use Rattle.node.specs.Calls.Cause.{Receive, Lead, Offer, Tell};
 ghost use Rattle.upsched_c_node.specs.Calls.{Receives, Releases, Sends, Tells, TellsLetter, TellsOutput, TellsValue, sent, status_of, written};
 ghost use Rattle.upsched_c_node.specs.Rooms.{told};
-ghost use Rattle.upsched_c_node.specs.Telling.{IsOpen, WritesAfter};
 ghost use Rattle.upsched_c_parts.specs.Outputs.{FitsRoom};
 
 use crate::handle::Held;
 use crate::letters_written::write_out;
-use crate::plain_node::PlainNode;
 use crate::status::Status;
-use crate::telling::write_told;
-use ballots::{LONGEST_VALUE, Letter, NodeId, Note, Place};
+use ballots::{Letter, NodeId};
 use grant_machine::Output;
 use node::NodeFault;
-use node_writes::{WriteBytes, learned, no_write};
+use node_writes::{WriteBytes, no_write};
 use std::alloc::Global;
+use told_writes::{place_open, write_after, write_told};
 use upsched_c_parts::{OutputFields, output_fields, put_body, put_front};
 
 /// The status of a call that the node didn't do.
@@ -111,43 +109,13 @@ pub(crate) fn tell(
     }
 }
 
-/// The place of which a letter may teach a value, where none is learned yet.
-fn place_open(node: &PlainNode, note: &Note) -> Option<Place>
-    ensures { IsOpen node.now note.now result }
-{
-    let place = match note {
-        Note::Voted { place, .. } | Note::Known { place, .. } => Place::new(*place)?,
-        _ => return None,
-    };
-    if node.learned(place.number()).is_some() {
-        return None;
-    }
-    Some(place)
-}
-
-/// The write of a letter's call: the value that is learned now, where its place was open, or what the answer tells of.
-fn write_after(node: &PlainNode, place: Option<Place>, letters: &[Letter]) -> WriteBytes
-    ensures told { WritesAfter node.now letters.now place result }
-    ensures member { node.now.id < node.now.members }
-{
-    let Some(place) = place else {
-        return write_told(node.id(), letters);
-    };
-    match node.learned(place.number()) {
-        Some(value) if value.as_slice().len() <= LONGEST_VALUE => {
-            learned(node.id(), place, value.as_slice())
-        }
-        _ => no_write(node.id()),
-    }
-}
-
 fn take(held: &mut Held, letter: &Letter, write: &mut WriteBytes, count: &mut usize) -> Status
     ensures { Sends (Receive letter.now) held.old (sent write.old count.old) held.new (sent write.new count.new) result }
 {
-    let place = place_open(&held.node, &letter.note);
+    let place = place_open(held.node.node(), &letter.note);
     match held.node.receive(letter) {
         Ok(letters) => {
-            let made = write_after(&held.node, place, &letters);
+            let made = write_after(held.node.node(), place, &letters);
             keep(held, letters, made, write, count)
         }
         Err(fault) => of_fault(fault),

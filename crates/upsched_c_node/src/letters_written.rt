@@ -8,6 +8,7 @@ ghost use Rattle.upsched_c_node.specs.Letters.{AreOf, Encodes, Fits, FitsKind, I
 ghost use Rattle.upsched_c_node.specs.Rooms.{told};
 
 use crate::letter_fields::{LetterFields, VoteFields};
+use crate::letter_length::letter_length;
 use crate::status::Status;
 use ballots::{Ballot, Bytes, Cast, LONGEST_VALUE, Letter, NodeId, Note, Votes};
 use letter_bytes::write_letter;
@@ -142,18 +143,22 @@ fn letter_of(
     })
 }
 
-/// Writes a letter over the front of the room for it.
+/// Writes a letter over the front of the room for it. It takes no memory where the room is too small.
 pub fn write_out(alloc: Global, letter: &Letter, room: &mut [u8], count: &mut usize) -> Status
     ensures { TellsBytes letter.now (told room.old count.old) (told room.new count.new) result }
 {
+    let Some(length) = letter_length(letter) else {
+        return Status::OutOfMemory;
+    };
+    if room.len() < length {
+        *count = length;
+        return Status::NoRoom;
+    }
     let mut bytes = Vec::new(alloc);
     if write_letter(letter, &mut bytes).is_err() {
         return Status::OutOfMemory;
     }
     *count = bytes.len();
-    if room.len() < bytes.len() {
-        return Status::NoRoom;
-    }
     put_front(&bytes, room);
     Status::Done
 }

@@ -57,6 +57,15 @@ impl PlainNode {
         self.node.id()
     }
 
+    /// The node itself.
+    pub fn node(&self) -> &SchedNode<PlainRecords>
+        ensures id { (⟦<SchedNode<PlainRecords> as Node>⟧.who result.now).id ≡ self.now.id }
+        ensures values { ⟦<SchedNode<PlainRecords> as Node>⟧.values result.now ≡ self.now.view.tally.learned }
+        ensures member { self.now.id < self.now.members }
+    {
+        &self.node
+    }
+
     /// The value that is learned at a place.
     pub fn learned(&self, place: u64) -> Option<&Bytes>
         ensures { option_copied result ≡ at self.now.view.tally.learned place }

@@ -25,7 +25,7 @@ const VOTE: VoteFields = VoteFields {
 /// Numbers the fields of each struct from 1 in their order. The answer is the version of the library.
 #[unsafe(no_mangle)]
 pub extern "C" fn upsched_c_node_samples(samples: &mut NodeSamples) -> u32
-    ensures version { result ≡ 512 }
+    ensures version { result ≡ 768 }
     ensures samples { samples.new ≡ numbered }
 {
     *samples = NodeSamples {
@@ -48,5 +48,5 @@ pub extern "C" fn upsched_c_node_samples(samples: &mut NodeSamples) -> u32
         },
         votes: [VOTE, VOTE],
     };
-    0x0200
+    0x0300
 }

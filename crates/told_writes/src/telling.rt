@@ -1,7 +1,7 @@
 //! The one write of a call, as its answer tells of it.
 
 ghost use Rattle.std.specs.Prelude.{◌-◌, length, slice_get, MatchOption, None};
-ghost use Rattle.upsched_c_node.specs.Telling.{TellsWrite};
+ghost use Rattle.told_writes.specs.Telling.{TellsWrite};
 ghost use Rattle.node_writes.specs.Writes.{SpellsOf};
 ghost use Rattle.ballots.specs.declared.letters.Note.TheVariants.{Voted};
 

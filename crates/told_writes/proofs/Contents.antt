@@ -20,7 +20,7 @@ use Rattle.proposer.specs.declared.fault.NodeFault.{NodeFault as Fault}
 use Rattle.proposer.specs.declared.role.Role.{Role}
 use Rattle.proposer.specs.declared.role.Role.TheVariants.{Idle, Preparing, Leading}
 use Rattle.std.proofs.Common.{Result, Err}
-use Rattle.upsched_c_node.specs.States.{NodeState, Takes}
+use Rattle.told_writes.specs.States.{NodeState, Takes}
 
 module _ (members me : ℕ) (view : View) where
   abbrev Keeps : Outcome → Type 0

@@ -7,7 +7,6 @@ use Rattle.ballots.specs.declared.letters.Note.{Note}
 use Rattle.ballots.specs.declared.letters.Note.TheVariants.{Prepare, Promise, Accept, Voted, Higher, Known}
 use Rattle.acceptor.specs.Content.Write.{Tries, Promises, Votes, Learns}
 use Rattle.node_writes.specs.declared.write_bytes.WriteBytes.{WriteBytes}
-use Rattle.upsched_c_node.specs.States.{NodeState}
 use Rattle.node_writes.specs.Writes.{SpellsOf}
 
 -- a vote is at a place of the log, for a value of the log
@@ -33,13 +32,13 @@ Teaches (Promise b q votes) p = ⊥
 Teaches (Accept b q v) p = ⊥
 Teaches (Higher b) p = ⊥
 
--- the place of the log of which a note may teach a value, where the node has learned none
-abbrev pub IsOpen : NodeState → Note → Option ℕ → Type 0
-IsOpen n note (Some p) = Teaches note p × IsPlace p × (at n.view.tally.learned p ≡ None)
-IsOpen n note None = (p : ℕ) → Teaches note p → IsPlace p → at n.view.tally.learned p ≢ None
+-- the place of the log of which a note may teach a value, where the node has learned none among these
+abbrev pub IsOpen : List (ℕ × List ℕ) → Note → Option ℕ → Type 0
+IsOpen learned note (Some p) = Teaches note p × IsPlace p × (at learned p ≡ None)
+IsOpen learned note None = (p : ℕ) → Teaches note p → IsPlace p → at learned p ≢ None
 
--- these bytes are the write of a call that left the node and these letters: the value that is learned at the open place
--- now, or what the last letter tells of
-abbrev pub WritesAfter : NodeState → List Letter → Option ℕ → WriteBytes → Type 0
-WritesAfter n letters (Some p) r = MatchOption (at n.view.tally.learned p) (SpellsOf n.id r None) (λ v. IsValue v → SpellsOf n.id r (Some (Learns p v)))
-WritesAfter n letters None r = MatchOption (slice_get letters (length letters - 1)) (SpellsOf n.id r None) (λ l. TellsWrite n.id l.note r)
+-- these bytes are the write of a call that left node id with these learned values, and gave these letters: the value
+-- that is learned at the open place now, or what the last letter tells of
+abbrev pub WritesAfter : ℕ → List (ℕ × List ℕ) → List Letter → Option ℕ → WriteBytes → Type 0
+WritesAfter id learned letters (Some p) r = MatchOption (at learned p) (SpellsOf id r None) (λ v. IsValue v → SpellsOf id r (Some (Learns p v)))
+WritesAfter id learned letters None r = MatchOption (slice_get letters (length letters - 1)) (SpellsOf id r None) (λ l. TellsWrite id l.note r)

@@ -20,11 +20,11 @@ use Rattle.proposer.specs.Letters.{letter, to_all, proposals}
 use Rattle.proposer.specs.declared.role.Role.{Role}
 use Rattle.proposer.specs.declared.role.Role.TheVariants.{Idle, Preparing, Leading}
 use Rattle.std.proofs.lemmas.Bool.{and_parts, ltb-true, leb-true, eqb-true, cases_lt}
-use Rattle.upsched_c_node.specs.States.{NodeState}
+use Rattle.told_writes.specs.States.{NodeState}
 use Rattle.node_writes.specs.declared.write_bytes.WriteBytes.{WriteBytes}
-use Rattle.upsched_c_node.specs.Telling.{IsOfLog, IsOpen, Teaches, TellsWrite, WritesAfter}
+use Rattle.told_writes.specs.Telling.{IsOfLog, IsOpen, Teaches, TellsWrite, WritesAfter}
 use Rattle.node_writes.specs.Writes.{SpellsOf}
-use Rattle.upsched_c_node.specs.Writes.{HandsOut}
+use Rattle.told_writes.specs.Writes.{HandsOut}
 
 -- the last of letters
 abbrev pub last : List Letter → Option Letter
@@ -97,10 +97,10 @@ of_log p v = elim (cases_lt 0 p) [
 module _ (n : NodeState) (r : WriteBytes) where
   -- what a call hands out, where it goes so
   abbrev pub Hands : Outcome → Option ℕ → Type 0
-  Hands o place = WritesAfter record n { view = o.view } o.letters place r → HandsOut n.id n.view.content o.write r
+  Hands o place = WritesAfter n.id o.view.tally.learned o.letters place r → HandsOut n.id n.view.content o.write r
 
   -- nothing was learned or sent
-  quiet : (view : View) (note : Note) (place : Option ℕ) → IsOpen n note place → view.tally.learned ≡ n.view.tally.learned → Hands (nothing view) place
+  quiet : (view : View) (note : Note) (place : Option ℕ) → IsOpen n.view.tally.learned note place → view.tally.learned ≡ n.view.tally.learned → Hands (nothing view) place
   quiet view note None opened same told = inl told
   quiet view note (Some p) opened same told =
       inl (subst (λ (there : Option (List ℕ)). MatchOption there (SpellsOf n.id r None) (λ v. IsValue v → SpellsOf n.id r (Some (Learns p v)))) (ap (λ (rows : List (ℕ × List ℕ)). at rows p) same ∙ opened.2) told)
@@ -110,7 +110,7 @@ module _ (n : NodeState) (r : WriteBytes) where
   last_told letters l is told = subst (λ (m : Option Letter). MatchOption m (SpellsOf n.id r None) (λ x. TellsWrite n.id x.note r)) is told
 
   -- a value is learned at its place
-  learns_now : (note : Note) (p : ℕ) (v : List ℕ) (place : Option ℕ) → IsOpen n note place → ((q : ℕ) → Teaches note q → p ≡ q) → Teaches note p → IsPlace p → IsValue v
+  learns_now : (note : Note) (p : ℕ) (v : List ℕ) (place : Option ℕ) → IsOpen n.view.tally.learned note place → ((q : ℕ) → Teaches note q → p ≡ q) → Teaches note p → IsPlace p → IsValue v
       → at n.view.tally.learned p ≡ None → Hands (learns n.view p v) place
   learns_now note p v None opened only mine fits value none told = absurd (opened p mine fits none)
   learns_now note p v (Some q) opened only mine fits value none told =
@@ -119,7 +119,7 @@ module _ (n : NodeState) (r : WriteBytes) where
       (subst (λ (k : ℕ). MatchOption (at (put n.view.tally.learned p v) k) (SpellsOf n.id r None) (λ w. IsValue w → SpellsOf n.id r (Some (Learns k w)))) (sym same) told) value)
 
   -- a letter that teaches no value leaves no place opened
-  none_open : (note : Note) (place : Option ℕ) → IsOpen n note place → ((p : ℕ) → ¬ Teaches note p) → place ≡ None
+  none_open : (note : Note) (place : Option ℕ) → IsOpen n.view.tally.learned note place → ((p : ℕ) → ¬ Teaches note p) → place ≡ None
   none_open note None opened teaches = refl
   none_open note (Some p) opened teaches = absurd (teaches p opened.0)
 
@@ -182,7 +182,7 @@ module _ (n : NodeState) (r : WriteBytes) where
         by_below true = λ given. inl given
         by_below false = by_vote (at n.view.content.votes p) refl
 
-    voteds : (b p from : ℕ) (v : List ℕ) (place : Option ℕ) → IsOpen n (Voted b p v) place → IsPlace p → IsValue v
+    voteds : (b p from : ℕ) (v : List ℕ) (place : Option ℕ) → IsOpen n.view.tally.learned (Voted b p v) place → IsPlace p → IsValue v
         → (there : Option (List ℕ)) → there ≡ at n.view.tally.learned p → Hands (voted n.members n.view there b p v from) place
     voteds b p from v place opened fits value (Some w) is = quiet n.view (Voted b p v) place opened refl
     voteds b p from v place opened fits value None is = by_majority (teaches n.members n.view.tally None b p v from)
@@ -191,12 +191,12 @@ module _ (n : NodeState) (r : WriteBytes) where
         by_majority true = learns_now (Voted b p v) p v place opened (λ q same. same) refl fits value (sym is)
         by_majority false = quiet (record n.view { tally = counts n.view.tally None b p v from }) (Voted b p v) place opened refl
 
-    knowns : (p : ℕ) (v : List ℕ) (place : Option ℕ) → IsOpen n (Known p v) place → IsPlace p → IsValue v
+    knowns : (p : ℕ) (v : List ℕ) (place : Option ℕ) → IsOpen n.view.tally.learned (Known p v) place → IsPlace p → IsValue v
         → (there : Option (List ℕ)) → there ≡ at n.view.tally.learned p → Hands (known n.view there p v) place
     knowns p v place opened fits value (Some w) is = quiet n.view (Known p v) place opened refl
     knowns p v place opened fits value None is = learns_now (Known p v) p v place opened (λ q same. same) refl fits value (sym is)
 
-    heeds : (l : Letter) (note : Note) (place : Option ℕ) → IsOpen n note place → is_sound l note ≡ true → Hands (heed n.members n.id n.view l.from note) place
+    heeds : (l : Letter) (note : Note) (place : Option ℕ) → IsOpen n.view.tally.learned note place → is_sound l note ≡ true → Hands (heed n.members n.id n.view l.from note) place
     heeds l (Prepare b q) None opened sound = prepares b q l.from
     heeds l (Prepare b q) (Some p) opened sound = absurd opened.0
     heeds l (Promise b q votes) None opened sound = promises n.view.role b q l.from votes
@@ -211,7 +211,7 @@ module _ (n : NodeState) (r : WriteBytes) where
     heeds l (Known p v) place opened sound = let parts = and_parts (is_place p) (is_value v) sound in knowns p v place opened (place_is p parts.0) (value_is v parts.1) (at n.view.tally.learned p) refl
 
     -- a letter comes
-    pub received : (l : Letter) (place : Option ℕ) → IsOpen n l.note place → Hands (receive n.members n.id n.view l) place
+    pub received : (l : Letter) (place : Option ℕ) → IsOpen n.view.tally.learned l.note place → Hands (receive n.members n.id n.view l) place
     received l place opened = by_heeded (is_heeded n.members n.id l) refl
       where
         by_heeded : (heeded : Bool) → heeded ≡ is_heeded n.members n.id l → Hands (cond heeded (heed n.members n.id n.view l.from l.note) (nothing n.view)) place

@@ -1,0 +1,5 @@
+pub mod Callers
+mod Handing
+mod Contents
+mod Leading
+mod Told

@@ -1,0 +1,4 @@
+pub mod States
+pub mod Writes
+pub mod Telling
+pub mod Told
