@@ -1,21 +1,26 @@
 //! `upsched node K --members M --store FILE`: the node keeps its records in a file of its own.
 
-ghost use Rattle.std.specs.Prelude.{◌≡◌, ◌<◌, ℕ};
+ghost use Rattle.std.specs.Prelude.{◌≡◌, ◌⊎◌, ◌↔◌, ◌<◌, ℕ};
 ghost use Rattle.ballots.specs.Members.{member_count};
 ghost use Rattle.ballots.specs.declared.members.Members.{Members};
+ghost use Rattle.node_service.specs.declared.batches.BatchedEnd.TheVariants as batched;
+ghost use Rattle.node_service.specs.declared.service.End.TheVariants as ends;
 ghost use Rattle.upsched_ends.specs.declared.status.Status.TheVariants.{NotUnderstood};
 ghost use Rattle.upsched_node.specs.Member.{NamesMember};
 
-use acceptor_store::{OpenFault, OwnerFault};
+use acceptor::PlainRecords;
+use acceptor_store::{OpenFault, OwnerFault, SqlRecords};
 use ballots::{Members, NodeId};
-use node::{Node, NodeFault};
-use node_service::{Input, Output, Reply};
-use seats::Seat;
+use batched_node::{BatchedSeat, serve_batched_member};
+use node::{NodeFault, SchedNode};
+use node_lines::{Ahead, Unwritten};
+use node_service::{BatchedEnd, End, Lines, Outbox, Reply};
 use std::alloc::Global;
 use std::io::Write;
-use stored_nodes::{NodeUse, StartFault, use_node_at};
+use store_anew::OpensAnew;
+use stored_nodes::{BatchedUse, StartFault, use_batched_at};
 use upsched_ends::{Fault, NodeWords, Status};
-use upsched_node::{NO_MEMBER, ended, member_of, serve_member, unwritten};
+use upsched_node::{NO_MEMBER, ended, member_of, unwritten};
 
 /// What is told of files that aren't opened as the node's.
 fn unopened<'a>(fault: OwnerFault) -> Fault<'a> {
@@ -41,6 +46,27 @@ fn not_started<'a>(fault: StartFault) -> Fault<'a> {
     }
 }
 
+/// How it ended, in the words of a node that stores each write by itself: one whose writes weren't stored has crashed.
+fn end_of(end: BatchedEnd) -> End
+    ensures crashed { (result ≡ ends.Crashed) ↔ ((end ≡ batched.Crashed) ⊎ (end ≡ batched.Uncommitted)) }
+    ensures input { (result ≡ ends.Input) ↔ (end ≡ batched.Input) }
+    ensures unwritten { (why : Unwritten) → end ≡ batched.Unwritten why → result ≡ ends.Unwritten why }
+{
+    match end {
+        BatchedEnd::Input => End::Input,
+        BatchedEnd::Crashed | BatchedEnd::Uncommitted => End::Crashed,
+        BatchedEnd::Unreadable => End::Unreadable,
+        BatchedEnd::Unwritten(why) => End::Unwritten(why),
+        BatchedEnd::Spent => End::Spent,
+    }
+}
+
+/// Tells something, and sends it out.
+fn tell<O: Outbox>(alloc: Global, told: &Reply, output: &mut O) -> Result<(), Unwritten> {
+    output.put(alloc, told)?;
+    output.send_out()
+}
+
 /// A node that has started tells so first, and then replies to each line that comes.
 #[derive(Drop)]
 struct Serving<'a, I, O> {
@@ -49,12 +75,13 @@ struct Serving<'a, I, O> {
     output: &'a mut O,
 }
 
-impl<I: Input, O: Output> NodeUse for Serving<'_, I, O> {
+impl<I: Lines + Ahead, O: Outbox> BatchedUse for Serving<'_, I, O> {
     type Answer = Result<(), Fault<'static>>;
 
-    fn use_node<N: Node + Drop>(
+    fn use_batched<S: OpensAnew>(
         self,
-        node: N,
+        node: SchedNode<PlainRecords>,
+        store: SqlRecords<S>,
         member: (NodeId, Members),
         is_new: bool,
     ) -> Result<(), Fault<'static>> {
@@ -64,21 +91,23 @@ impl<I: Input, O: Output> NodeUse for Serving<'_, I, O> {
             output,
         } = self;
         let (id, members) = member;
+        let Ok(mut seat) = BatchedSeat::of(alloc, node, store) else {
+            return Err(Fault::Memory);
+        };
         let first = if is_new {
             Reply::Fresh(id, members)
         } else {
             Reply::Restarted(id, members)
         };
-        if let Err(why) = output.write_reply(alloc, &first) {
+        if let Err(why) = tell(alloc, &first, output) {
             return Err(unwritten(why));
         }
-        let mut seat = Seat::new(node);
-        ended(serve_member(alloc, &mut seat, input, output))
+        ended(end_of(serve_batched_member(alloc, &mut seat, input, output)))
     }
 }
 
 /// Serves over the database of a path: as a new node, or as one that goes on over what it left there.
-fn serve_over<'a, I: Input, O: Output>(
+fn serve_over<'a, I: Lines + Ahead, O: Outbox>(
     rt: &HostRuntime,
     words: &NodeWords<'_>,
     path: &str,
@@ -94,14 +123,15 @@ fn serve_over<'a, I: Input, O: Output>(
         input,
         output,
     };
-    match use_node_at(rt, path, member, words.is_new, serving) {
+    match use_batched_at(rt, path, member, words.is_new, serving) {
         Ok(served) => served,
         Err(fault) => Err(not_started(fault)),
     }
 }
 
-/// Serves as the member that the words name, with its records in the database of a path. A fault is told in one line.
-pub fn stored_node<I: Input, O: Output, E: Write>(
+/// Serves as the member that the words name, with its records in the database of a path. Lines that have come together
+/// share a sync there, and their replies go out behind it. A fault is told in one line.
+pub fn stored_node<I: Lines + Ahead, O: Outbox, E: Write>(
     rt: &HostRuntime,
     words: &NodeWords<'_>,
     path: &str,

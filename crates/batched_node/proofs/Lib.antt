@@ -1,0 +1,5 @@
+mod Once
+mod Memory
+mod Noting
+mod Running
+mod Ending

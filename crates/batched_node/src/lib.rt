@@ -1,0 +1,12 @@
+//! A node whose calls share commits: it is in memory, and its writes are stored together before any reply tells of them.
+#![tactic(auto)]
+
+mod keeping;
+mod seat;
+mod serving;
+mod sql;
+mod store;
+
+pub use seat::BatchedSeat;
+pub use serving::serve_batched_member;
+pub use store::WriteStore;

@@ -1,0 +1,6 @@
+//! A node whose calls share commits, over lines that come together, one by one and cut anywhere.
+#![tactic(auto)]
+
+#[cfg(test)]
+mod batches;
+mod stores;
