@@ -12,7 +12,7 @@ use Rattle.seats.specs.declared.acted.Acted.{Acted}
 use Rattle.seats.specs.declared.seat.Seat.{Seat}
 use Rattle.epochs.specs.Epochs.{AreFull}
 use Rattle.epochs.specs.Scheduling.{scheduled}
-use Rattle.hosts.specs.Acting.{ActsIn, NodeActs, SeatActs}
+use Rattle.hosts.specs.Acting.{ActsIn, IsRefusedSo, NodeActs, SeatActs}
 use Rattle.hosts.specs.Beyond.{is_beyond}
 use Rattle.hosts.specs.Hosts.{AreMembers, IsHonest, KeepsTrust, SameHost, StandsAs, member_of, places_of, seat_of}
 use Rattle.hosts.specs.Views.{HostView, IsNear, MovesIn, number, values, with_node}
@@ -213,3 +213,11 @@ acts_at {O} {N} {g} {h} old new n e said ask Ended is at acts = (is, subst (λ x
 acts_at old new n e said ask Ahead is at acts = absurd acts.acts
 acts_at old new n e said ask Gone is at acts = absurd acts.acts
 acts_at old new n e said ask OtherPlaces is at acts = absurd acts.acts
+
+-- what the number refuses is refused whatever is asked, and changes nothing
+pub acts_refused : {O N : Type 0} {g : Ghosts O N} {h : Nodes N} (host : Host O N g h) (e said : ℕ) (ask : Ask) (acted : HostActed) → IsRefusedSo host e said acted → ActsIn host e said ask acted host
+acts_refused host e said ask (Of acted) refused = absurd refused
+acts_refused host e said ask Ended refused = absurd refused
+acts_refused host e said ask Ahead refused = (refused.0, refused.1, refl)
+acts_refused host e said ask Gone refused = (refused.0, refused.1, refl)
+acts_refused host e said ask OtherPlaces refused = (refused, refl)

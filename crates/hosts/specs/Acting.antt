@@ -1,5 +1,5 @@
 -- What a host's node does, whatever its records do.
-use Rattle.std.specs.Prelude.{◌≡◌, ◌≢◌, ◌⊎◌, ℕ, ◌+◌, ◌<◌, Bool, true, false, ◌&&◌, Some}
+use Rattle.std.specs.Prelude.{◌≡◌, ◌≢◌, ◌⊎◌, ℕ, ◌+◌, ◌<◌, ◌≤◌, Bool, true, false, ◌&&◌, Some}
 use Rattle.node.specs.declared.node.Node.{Ghosts as Nodes}
 use Rattle.node.specs.View.{Standing}
 use Rattle.seats.specs.Acted.{letters_of, outputs_of, told}
@@ -46,6 +46,21 @@ pub record NodeActs {O N : Type 0} {g : Ghosts O N} {h : Nodes N} (old : Host O 
   pub acts : SeatActs (places_of old) before ask acted after
   pub others : (f : ℕ) → f ≢ e → seat_of new f ≡ seat_of old f
   pub rest : KeepsRest old new
+
+-- who asks has as many places in an epoch, and epoch e is its own one, the one before or the one after
+pub record IsAskedIn {O N : Type 0} {g : Ghosts O N} {h : Nodes N} (host : Host O N g h) (e said : ℕ) : Type 0 where
+  pub places : said ≡ places_of host
+  pub some : 1 ≤ e
+  pub low : number_of host ≤ e + 1
+  pub high : e ≤ number_of host + 1
+
+-- why who has so many places may ask nothing of the node of epoch e
+abbrev pub IsRefusedSo : {O N : Type 0} {g : Ghosts O N} {h : Nodes N} → Host O N g h → (e said : ℕ) → HostActed → Type 0
+IsRefusedSo host e said (Of acted) = ⊥
+IsRefusedSo host e said Ended = ⊥
+IsRefusedSo host e said Ahead = (said ≡ places_of host) × (number_of host + 1 < e)
+IsRefusedSo host e said Gone = (said ≡ places_of host) × ((e ≡ 0) ⊎ (e + 1 < number_of host))
+IsRefusedSo host e said OtherPlaces = said ≢ places_of host
 
 -- it was asked so of the node of epoch e, by who has so many places in an epoch: that node does it, or nothing changes
 abbrev pub ActsIn : {O N : Type 0} {g : Ghosts O N} {h : Nodes N} → Host O N g h → (e said : ℕ) → Ask → HostActed → Host O N g h → Type 0

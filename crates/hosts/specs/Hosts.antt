@@ -1,9 +1,9 @@
 -- What is seen of a host.
-use Rattle.std.specs.Prelude.{◌≡◌, ℕ, ◌+◌, ◌<◌, ◌≤◌, length, Option, Some}
+use Rattle.std.specs.Prelude.{◌≡◌, ℕ, ◌+◌, ◌<◌, ◌≤◌, Bool, true, ◌&&◌, length, Option, Some, None}
 use Rattle.acceptor.specs.Content.{Content}
 use Rattle.node.specs.View.{started}
 use Rattle.node.specs.View.Standing.{Running}
-use Rattle.seats.specs.Occupant.{IsClean as IsSeatClean, IsHonest as IsSeatHonest, Stands, member as member_of_seat}
+use Rattle.seats.specs.Occupant.{IsClean as IsSeatClean, IsHonest as IsSeatHonest, Stands, is_up, member as member_of_seat}
 use Rattle.seats.specs.declared.seat.Seat.{Seat}
 use Rattle.epochs.specs.Epochs.{AreFull}
 use Rattle.epochs.specs.Scheduling.{scheduled}
@@ -16,6 +16,15 @@ use Rattle.hosts.specs.Views.{HostView, number, values}
 -- its node of an epoch in its seat, of the three that it has
 abbrev pub seat_of : {O N : Type 0} {g : Ghosts O N} {h : Nodes N} → Host O N g h → ℕ → Option (Seat N h)
 seat_of host e = slot host.number host.before host.own host.after e
+
+-- a node in its seat is up, if there is one
+abbrev pub is_up_if_any : {N : Type 0} {h : Nodes N} → Option (Seat N h) → Bool
+is_up_if_any None = true
+is_up_if_any (Some seat) = is_up seat
+
+-- each of its nodes is up
+abbrev pub are_up : {O N : Type 0} {g : Ghosts O N} {h : Nodes N} → Host O N g h → Bool
+are_up host = is_up host.own && (is_up host.after && is_up_if_any host.before)
 
 -- the places of an epoch that count
 abbrev pub places_of : {O N : Type 0} {g : Ghosts O N} {h : Nodes N} → Host O N g h → ℕ

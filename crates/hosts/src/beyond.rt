@@ -5,6 +5,7 @@ ghost use Rattle.node.specs.View.{Standing};
 ghost use Rattle.seats.specs.Acted.{ask_of};
 ghost use Rattle.seats.specs.Occupant.{Stands};
 ghost use Rattle.hosts.specs.Acting.{SeatActs, seat_beyond};
+ghost use Rattle.hosts.specs.Hosts.{is_up_if_any as is_up_if_any_lem};
 ghost use Rattle.hosts.specs.Beyond.{is_beyond as is_beyond_lem, is_offer as is_offer_lem, leads_beyond as leads_beyond_lem};
 
 use crate::acted::HostActed;
@@ -34,6 +35,16 @@ fn is_beyond<N: Node>(places: u64, seat: &Seat<N>, asked: Asked) -> bool
     ensures stands { (s : Standing) → Stands seat.now s → result ≡ is_beyond_lem places s (ask_of asked.entry) }
 {
     is_offer(asked) && seat.is_up() && leads_beyond(places, seat.node().role())
+}
+
+/// Whether a node in its seat is up, if there is one.
+pub(crate) fn is_up_if_any<N: Node>(seat: &Option<Seat<N>>) -> bool
+    ensures { result ≡ is_up_if_any_lem seat.now }
+{
+    match seat {
+        Some(seat) => seat.is_up(),
+        None => true,
+    }
 }
 
 /// A node does what it is asked, but for an offer beyond the places that count.

@@ -4,7 +4,8 @@ ghost use Rattle.std.specs.Prelude.{◌≡◌, ◌+◌, ◌<◌, ◌≤◌, is_s
 ghost use Rattle.epochs.specs.Scheduling.{most_applied};
 
 use crate::acted::{Given, HostActed};
-use crate::beyond::act_within;
+use crate::beyond::{act_within, is_up_if_any};
+use crate::fault::HostFault;
 use crate::opens::Opens;
 use crate::taking::take_up;
 use epochs::{Scheduler, epochs_join, schedulers_follow_values};
@@ -39,18 +40,36 @@ pub struct Host<O: Opens> {
 }
 
 impl<O: Opens> Host<O> {
-    ghost use Rattle.std.specs.Prelude.{◌≡◌, ◌≤◌, ◌<◌, ◌↔◌, ◌+◌, ℕ, IfOk, IsTrue, OnErr, OnOk};
+    ghost use Rattle.std.specs.Prelude.{◌≡◌, ◌≤◌, ◌<◌, ◌↔◌, ◌+◌, ℕ, IfErr, IfOk, IsTrue, MatchOption, MatchResult, OnErr, OnOk};
     ghost use Rattle.seats.specs.Acted.{ask_of};
-    ghost use Rattle.hosts.specs.Acting.{ActsIn, NodeActs};
+    ghost use Rattle.hosts.specs.Acting.{ActsIn, IsAskedIn, IsRefusedSo, NodeActs};
+    ghost use Rattle.hosts.specs.New.{ArePlaces, IsNoHost};
     ghost use Rattle.hosts.specs.Shifting.{CanGoOn, GivesOut, GoesOn, Shifts, Stays, TakesOwn};
     ghost use Rattle.hosts.specs.Taking.{IsAllOf};
-    ghost use Rattle.hosts.specs.Hosts.{AreMembers, IsHonest, KeepsTrust, SameHost, StandsAs, member_of, places_of};
+    ghost use Rattle.hosts.specs.Hosts.{AreMembers, IsHonest, KeepsTrust, SameHost, StandsAs, are_up, member_of, places_of};
     ghost use Rattle.hosts.specs.Views.{HostView, MovesIn, Releases, opening};
 
-    /// A host that has done nothing, of so many places in an epoch.
-    pub fn new(alloc: Global, opens: O, places: u64) -> Result<Host<O>, NodeFault>
-        requires some { 1 ≤ places }
-        requires few { places ≤ MOST_EPOCH_PLACES }
+    /// A host that has done nothing, of so many places in an epoch, 1 to 999,000.
+    pub fn new(alloc: Global, opens: O, places: u64) -> Result<Host<O>, HostFault>
+        ensures counts { MatchResult result (λ host. ArePlaces places) (IsNoHost O.may_fail places) }
+        ensures places { IfOk result (λ host. places_of host ≡ places) }
+        ensures member { IfOk result (λ host. member_of host ≡ O.member opens) }
+        ensures members { IfOk result AreMembers }
+        ensures opens { IfOk result (λ host. IsHonest host → StandsAs host (opening (O.begins opens))) }
+    {
+        if places == 0 || MOST_EPOCH_PLACES < places {
+            return Err(HostFault::Places);
+        }
+        match Host::opened(alloc, opens, places) {
+            Ok(host) => Ok(host),
+            Err(fault) => Err(HostFault::Node(fault)),
+        }
+    }
+
+    /// The same of a number of places that an epoch may have.
+    fn opened(alloc: Global, opens: O, places: u64) -> Result<Host<O>, NodeFault>
+        requires { ArePlaces places }
+        ensures fails { IfErr result O.may_fail }
         ensures places { IfOk result (λ host. places_of host ≡ places) }
         ensures member { IfOk result (λ host. member_of host ≡ O.member opens) }
         ensures members { IfOk result AreMembers }
@@ -77,6 +96,29 @@ impl<O: Opens> Host<O> {
         ensures { result ≡ places_of self.now }
     {
         self.places
+    }
+
+    /// Whether each of its nodes is up.
+    pub fn is_up(&self) -> bool
+        ensures { result ≡ are_up self.now }
+    {
+        self.own.is_up() && self.after.is_up() && is_up_if_any(&self.before)
+    }
+
+    /// Why who has so many places in an epoch may ask nothing of the node of an epoch, whatever it is. None where it may.
+    pub fn refusal(&self, epoch: u64, places: u64) -> Option<HostActed>
+        ensures { MatchOption result (IsAskedIn self.now epoch places) (IsRefusedSo self.now epoch places) }
+    {
+        if places != self.places {
+            return Some(HostActed::OtherPlaces);
+        }
+        if epoch == 0 || epoch < self.number - 1 {
+            return Some(HostActed::Gone);
+        }
+        if self.number + 1 < epoch {
+            return Some(HostActed::Ahead);
+        }
+        None
     }
 
     /// What is asked of the node of an epoch, by who has so many places in an epoch. The node does it where the epoch is
@@ -117,25 +159,16 @@ impl<O: Opens> Host<O> {
     fn act_near(&mut self, epoch: u64, places: u64, asked: Asked) -> HostActed
         ensures acts { ActsIn self.old epoch places (ask_of asked.entry) result self.new }
     {
-        if places != self.places {
-            return HostActed::OtherPlaces;
-        }
-        if epoch == 0 {
-            return HostActed::Gone;
+        if let Some(refused) = self.refusal(epoch, places) {
+            return refused;
         }
         if epoch == self.number {
             return self.act_own(asked);
         }
-        if epoch == self.number + 1 {
+        if epoch > self.number {
             return self.act_after(asked);
         }
-        if epoch > self.number {
-            return HostActed::Ahead;
-        }
-        if epoch + 1 == self.number {
-            return self.act_before(asked);
-        }
-        HostActed::Gone
+        self.act_before(asked)
     }
 
     /// The node of its own epoch is asked.

@@ -3,10 +3,12 @@
 
 mod acted;
 mod beyond;
+mod fault;
 mod host;
 mod opens;
 mod taking;
 
 pub use acted::{Given, HostActed};
+pub use fault::HostFault;
 pub use host::{Host, MOST_EPOCH_PLACES};
 pub use opens::{NewNodes, NewRecords, Opens, PlainOpens};

@@ -1,9 +1,10 @@
 //! Where the nodes of epochs come from.
 
-ghost use Rattle.std.specs.Prelude.{◌≡◌, ◌<◌, ℕ, IfOk, IsTrue};
+ghost use Rattle.std.specs.Prelude.{◌≡◌, ◌<◌, ℕ, IfErr, IfOk, IsTrue};
 ghost use Rattle.acceptor.specs.Content.{Content, no_content};
 ghost use Rattle.acceptor.specs.Found.{Holds};
 ghost use Rattle.ballots.specs.Members.{member_count};
+ghost use Rattle.proposer.specs.declared.fault.NodeFault.{NodeFault as Why};
 ghost use Rattle.hosts.specs.Opening.{IsOpenedAt, KeepsBeginnings};
 
 use acceptor::{PlainRecords, Records};
@@ -23,10 +24,14 @@ pub trait Opens: Drop {
     // What the records of an epoch's node hold where it is opened.
     ghost begins: { Self → ℕ → Content };
 
+    // A node may fail to open so.
+    ghost may_fail: { Why → Type 0 };
+
     /// The node of an epoch, which is up.
     fn open(&mut self, epoch: u64) -> Result<Self::Node, NodeFault>
         ensures opened { IfOk result (IsOpenedAt Self.Node.who Self.Node.honest Self.Node.stands (member self.old) (begins self.old epoch)) }
         ensures sure { IfOk result (λ node. IsTrue (Self.Node.clean node) → IsTrue (Self.Node.honest node)) }
+        ensures fails { IfErr result may_fail }
         ensures keeps { KeepsBeginnings member begins self.old self.new };
 }
 
@@ -58,18 +63,23 @@ pub struct NewNodes<R> {
 pub type PlainOpens = NewNodes<PlainRecords>;
 
 impl<R: NewRecords> NewNodes<R> {
+    ghost use Rattle.std.specs.Prelude.{◌≡◌, ◌<◌, ◌≤◌, MatchOption};
     ghost use Rattle.hosts.specs.New.{new_member};
 
-    pub fn new(alloc: Global, id: NodeId, members: Members) -> NewNodes<R>
-        requires { id < member_count members }
-        ensures { new_member result ≡ (id, member_count members) }
+    /// The nodes of this number, which has to be below how many there are.
+    pub fn new(alloc: Global, id: NodeId, members: Members) -> Option<NewNodes<R>>
+        ensures { MatchOption result (member_count members ≤ id)
+            (λ opens. (id < member_count members) × (new_member opens ≡ (id, member_count members))) }
     {
-        NewNodes {
+        if members.count() <= id.number() {
+            return None;
+        }
+        Some(NewNodes {
             alloc,
             id,
             members,
             of: PhantomData,
-        }
+        })
     }
 }
 
@@ -81,6 +91,8 @@ impl<R: NewRecords + Drop> Opens for NewNodes<R> {
     ghost member = { λ opens. new_member opens };
 
     ghost begins = { λ _ _. no_content };
+
+    ghost may_fail = { λ _. ⊥ };
 
     fn open(&mut self, epoch: u64) -> Result<SchedNode<R>, NodeFault> {
         let records = R::new_records(self.alloc);

@@ -1,0 +1,5 @@
+mod Digits
+mod Behind
+mod Longest
+mod Runs
+mod Ends

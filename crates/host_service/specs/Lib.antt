@@ -1,0 +1,5 @@
+pub mod Numbers
+pub mod Texts
+pub mod Replying
+pub mod Serving
+pub mod Longest

@@ -1,0 +1,125 @@
+-- What a host does with the lines that it reads.
+use Rattle.std.specs.Prelude.{◌≡◌, ◌⊎◌, ℕ, ◌-◌, ◌^◌, List, [], ◌∷◌, ◌++◌, length, All, IsTrue}
+use Rattle.std.specs.Io.KnownBytes.{Appends, Consumes}
+use Rattle.hosts.specs.Hosts.{member_of, places_of}
+use Rattle.hosts.specs.Views.{HostView, IsNear, MovesIn, Releases}
+use Rattle.hosts.specs.declared.acted.Given.{Given}
+use Rattle.hosts.specs.declared.acted.HostActed.{HostActed}
+use Rattle.hosts.specs.declared.acted.HostActed.TheVariants.{Of, Ended, Ahead, Gone, OtherPlaces}
+use Rattle.hosts.specs.declared.host.Host.{Host}
+use Rattle.hosts.specs.declared.opens.Opens.{Ghosts}
+use Rattle.node.specs.declared.node.Node.{Ghosts as Nodes}
+use Rattle.node_lines.specs.Input.{IsDropped, IsLine, ReadsLast}
+use Rattle.node_lines.specs.Lines.{Asks}
+use Rattle.node_lines.specs.declared.fault.LineFault.{LineFault}
+use Rattle.node_lines.specs.declared.input.Next.TheVariants as next
+use Rattle.node_lines.specs.declared.request.Request.{Request}
+use Rattle.node_lines.specs.declared.request.Request.TheVariants as request
+use Rattle.node_service.specs.Batched.{ReadsNoMore, lines_in, text_in}
+use Rattle.node_service.specs.Seated.{asked_of}
+use Rattle.node_service.specs.declared.batches.BatchedEnd.{BatchedEnd}
+use Rattle.node_service.specs.declared.batches.BatchedEnd.TheVariants as ends
+use Rattle.node_service.specs.declared.lines.Lines.{Ghosts as Inputs}
+use Rattle.node_service.specs.declared.outbox.Outbox.{Ghosts as Outputs}
+use Rattle.node_service.specs.declared.outgoing.Reply.TheVariants as reply
+use Rattle.seats.specs.Moves.{Ask}
+use Rattle.host_service.specs.Numbers.{HasNoNumber, IsNumbered}
+use Rattle.host_service.specs.Replying.{IsAskedOfNode, IsNoRelease, IsNotAskedOfNode, reply_of}
+use Rattle.host_service.specs.Texts.{host_text}
+use Rattle.host_service.specs.declared.number.EpochNumber.{EpochNumber}
+use Rattle.host_service.specs.declared.reply.HostReply.{HostReply}
+use Rattle.host_service.specs.declared.reply.HostReply.TheVariants.{InEpoch, AsNode}
+
+-- nodes whose records always return what they committed, as those in memory
+abbrev pub NeverLie : {N : Type 0} → Nodes N → Type 0
+NeverLie {N} h = (node : N) → IsTrue (h.honest node)
+
+-- the same of those of a host
+abbrev pub NeverLies : {O N : Type 0} {g : Ghosts O N} {h : Nodes N} → Host O N g h → Type 0
+NeverLies {O} {N} {g} {h} host = NeverLie h
+
+-- behind a number this is asked of a node; it isn't read where the number is refused
+abbrev pub IsBehind : List ℕ → HostActed → Ask → Type 0
+IsBehind rest (Of acted) ask = (asked : Request) × IsAskedOfNode rest asked × (ask ≡ asked_of asked)
+IsBehind rest Ended ask = (asked : Request) × IsAskedOfNode rest asked × (ask ≡ asked_of asked)
+IsBehind rest Ahead ask = Unit {0}
+IsBehind rest Gone ask = Unit {0}
+IsBehind rest OtherPlaces ask = Unit {0}
+
+-- a line had a number, and the host did so in that epoch
+pub record ActsAs (members me places : ℕ) (v : HostView) (line : List ℕ) (replied : HostReply) (v' : HostView) : Type 0 where
+  pub number : EpochNumber
+  pub rest : List ℕ
+  pub ask : Ask
+  pub acted : HostActed
+  pub numbered : IsNumbered line number rest
+  pub behind : IsBehind rest acted ask
+  pub moves : MovesIn members me places v number.epoch number.places ask acted v'
+  pub told : replied ≡ InEpoch number acted
+
+-- a line asked to release
+pub record ReleasesAs (places : ℕ) (v : HostView) (line : List ℕ) (replied : HostReply) (v' : HostView) : Type 0 where
+  pub now : ℕ
+  pub given : Given
+  pub asks : Asks line (request.Release now)
+  pub moves : Releases places v now given v'
+  pub told : replied ≡ reply_of places given
+
+-- a line asks nothing, for this fault: it was let go; or what is behind its number asks nothing; or it has no number, and
+-- is no release
+abbrev pub IsUnasked : (places : ℕ) → HostView → List ℕ → LineFault → Type 0
+IsUnasked places v line why =
+    IsDropped line why
+    ⊎ (((n : EpochNumber) × (rest : List ℕ) × IsNumbered line n rest × (n.places ≡ places) × IsNear v n.epoch × IsNotAskedOfNode rest why)
+    ⊎ (HasNoNumber line × IsNoRelease line why))
+
+-- and the host says so, and stays as it is
+pub record TurnsAway (places : ℕ) (v : HostView) (line : List ℕ) (replied : HostReply) (v' : HostView) : Type 0 where
+  pub why : LineFault
+  pub unasked : IsUnasked places v line why
+  pub told : replied ≡ AsNode (reply.Refused why)
+  pub same : v' ≡ v
+
+-- host me of so many members, with so many places in an epoch, which stood at v, replied so to a line, and stands at v'
+abbrev pub RepliesAs : (members me places : ℕ) → HostView → List ℕ → HostReply → HostView → Type 0
+RepliesAs members me places v line replied v' = ActsAs members me places v line replied v' ⊎ (ReleasesAs places v line replied v' ⊎ TurnsAway places v line replied v')
+
+-- the same of lines, one after another
+abbrev pub RunsAs : (members me places : ℕ) → HostView → List (List ℕ × HostReply) → HostView → Type 0
+RunsAs members me places v [] v' = v' ≡ v
+RunsAs members me places v (turn ∷ turns) v' =
+    (between : HostView) × RepliesAs members me places v turn.0 turn.1 between × RunsAs members me places between turns v'
+
+-- these lines were done and replied to, and then: no whole line was left; or a node was down; or the input failed; or the
+-- replies from one on couldn't be written or sent out; or they are all that a run may have
+abbrev pub EndsAs : {I O : Type 0} → Inputs I → Outputs O → BatchedEnd → List (List ℕ × HostReply) → I → O → I → O → Type 0
+EndsAs {I} {O} input output ends.Input turns i o i' o' =
+    Appends (output.bytes_held o) (output.bytes_held o') (text_in host_text turns)
+    × ((rest : I) × (left : List ℕ) × Consumes (input.bytes_left i) (input.bytes_left rest) (lines_in turns) × input.gives rest next.End i'
+    × ReadsLast (input.bytes_left rest) (input.bytes_left i') left)
+EndsAs {I} {O} input output ends.Crashed turns i o i' o' =
+    Appends (output.bytes_held o) (output.bytes_held o') (text_in host_text turns) × Consumes (input.bytes_left i) (input.bytes_left i') (lines_in turns)
+EndsAs {I} {O} input output ends.Unreadable turns i o i' o' =
+    Appends (output.bytes_held o) (output.bytes_held o') (text_in host_text turns)
+    × ((rest : I) × Consumes (input.bytes_left i) (input.bytes_left rest) (lines_in turns) × input.fails rest i')
+EndsAs {I} {O} input output ends.Uncommitted turns i o i' o' = ⊥
+EndsAs {I} {O} input output (ends.Unwritten why) turns i o i' o' =
+    ((rest : I) × Consumes (input.bytes_left i) (input.bytes_left rest) (lines_in turns) × ReadsNoMore input rest i')
+    × ((seen unseen : List (List ℕ × HostReply)) × (sent : O) × (turns ≡ seen ++ unseen) × Appends (output.bytes_held o) (output.bytes_held sent) (text_in host_text seen)
+    × (output.fails_to_send sent why o'
+    ⊎ ((turn : List ℕ × HostReply) × (later : List (List ℕ × HostReply)) × (unseen ≡ turn ∷ later) × output.fails sent (host_text turn.1) why o')))
+EndsAs {I} {O} input output ends.Spent turns i o i' o' =
+    Appends (output.bytes_held o) (output.bytes_held o') (text_in host_text turns) × Consumes (input.bytes_left i) (input.bytes_left i') (lines_in turns)
+    × (length turns ≡ 2 ^ 64 - 1)
+
+-- a host that stood at v served an input and an output so, and ended so
+pub record ServesAs {I O : Type 0} (input : Inputs I) (output : Outputs O) (members me places : ℕ) (v : HostView) (end : BatchedEnd) (i : I) (o : O) (i' : I) (o' : O) : Type 0 where
+  pub turns : List (List ℕ × HostReply)
+  pub last : HostView
+  pub whole : All (λ turn. IsLine turn.0) turns
+  pub runs : RunsAs members me places v turns last
+  pub ends : EndsAs input output end turns i o i' o'
+
+-- a host that stood at v did so, as the member that it is, with the places that it has
+abbrev pub ServesFrom : {O N I P : Type 0} {g : Ghosts O N} {h : Nodes N} → Inputs I → Outputs P → Host O N g h → HostView → BatchedEnd → I → P → I → P → Type 0
+ServesFrom input output host v end i o i' o' = ServesAs input output (member_of host).1 (member_of host).0 (places_of host) v end i o i' o'

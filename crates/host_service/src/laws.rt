@@ -1,0 +1,23 @@
+//! What holds of every line.
+
+ghost use Rattle.std.specs.Prelude.{◌≡◌, ◌<◌, ◌≤◌, ◌++◌, ◌^◌, ℕ, List, length};
+ghost use Rattle.hex.specs.Hex.{encode_lower};
+ghost use Rattle.ballots.specs.declared.letters.Letter.{Letter};
+ghost use Rattle.letter_bytes.specs.Spelling.{spelling};
+ghost use Rattle.node_lines.specs.Lines.{letter_word, longest_line};
+ghost use Rattle.host_service.specs.Longest.{IsPromiseWithin};
+ghost use Rattle.host_service.specs.Numbers.{IsNumbered, number_text};
+ghost use Rattle.host_service.specs.declared.number.EpochNumber.{EpochNumber as Number};
+
+use hosts::MOST_EPOCH_PLACES;
+
+/// A line has one number before it at most, and one rest behind that.
+pub fn one_number()
+    ensures { (line : List ℕ) (n m : Number) (rest more : List ℕ) → IsNumbered line n rest → IsNumbered line m more → (n ≡ m) × (rest ≡ more) }
+{}
+
+/// No promise within an epoch needs a longer line behind its number than `node_lines::LONGEST_LINE`.
+pub fn no_promise_is_longer()
+    ensures { (n : Number) (l : Letter) → n.epoch < 2 ^ 64 → n.places ≤ MOST_EPOCH_PLACES → IsPromiseWithin n.places l
+        → length (number_text n ++ (letter_word ++ encode_lower (spelling l))) ≤ longest_line }
+{}

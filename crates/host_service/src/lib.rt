@@ -1,0 +1,14 @@
+//! A host over lines: the number before a line, what is behind it, and what is replied. It opens no file.
+#![tactic(auto)]
+
+mod asked;
+mod laws;
+mod number;
+mod reply;
+mod service;
+mod texts;
+
+pub use laws::{no_promise_is_longer, one_number};
+pub use number::EpochNumber;
+pub use reply::HostReply;
+pub use service::{HostServer, serve_host};

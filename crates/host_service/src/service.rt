@@ -1,0 +1,151 @@
+//! A host over lines.
+
+ghost use Rattle.std.specs.Prelude.{◌≡◌, Ok, vec_len};
+ghost use Rattle.hosts.specs.Hosts.{AreMembers, StandsAs, are_up};
+ghost use Rattle.hosts.specs.Views.{HostView};
+ghost use Rattle.node_service.specs.Batched.{EndsBatchedBy};
+ghost use Rattle.node_service.specs.Seated.{asked_of};
+ghost use Rattle.host_service.specs.Replying.{ActsSo, RepliesAlone, RepliesIn, RepliesTo, host_keeper, host_of};
+ghost use Rattle.host_service.specs.Serving.{NeverLies, ServesFrom};
+ghost use Rattle.host_service.specs.Texts.{host_text};
+
+use crate::asked::{asked_of_node, release_in, rest_of};
+use crate::number::{EpochNumber, number_before};
+use crate::reply::{HostReply, reply_of};
+use ballots::Bytes;
+use hosts::{Host, HostActed, Opens};
+use node_lines::{Ahead, LineFault, Request};
+use node_service::{BatchedEnd, Keeper, Lines, Outbox, Reply, serve_batched};
+use seats::Asked;
+use std::alloc::Global;
+
+/// A host that replies to lines. Its records are in its nodes, so that nothing that it did waits for a commit.
+#[derive(Drop)]
+pub struct HostServer<O: Opens> {
+    host: Host<O>,
+}
+
+/// The node of an epoch is asked what a line behind a number asks.
+fn act_in<O: Opens>(host: &mut Host<O>, number: EpochNumber, asked: &Request) -> HostActed
+    ensures { ActsSo host.old number.epoch number.places (asked_of asked.now) result host.new }
+{
+    let (epoch, places) = (number.epoch, number.places);
+    match asked {
+        Request::Lead => host.act(epoch, places, Asked::Lead),
+        Request::Offer(value) => host.act(epoch, places, Asked::Offer(value.as_slice())),
+        Request::Release(now) => host.act(epoch, places, Asked::Release(*now)),
+        Request::Letter(letter) => host.act(epoch, places, Asked::Receive(letter)),
+        Request::Tell(to, place) => host.act(epoch, places, Asked::Tell(to, *place)),
+    }
+}
+
+/// The reply to what is behind a number. What the number refuses isn't read.
+fn reply_in_epoch<O: Opens>(
+    alloc: Global,
+    host: &mut Host<O>,
+    number: EpochNumber,
+    rest: Vec<u8>,
+) -> HostReply
+    ensures { RepliesIn host.old number rest.items result host.new }
+{
+    if let Some(refused) = host.refusal(number.epoch, number.places) {
+        return HostReply::InEpoch(number, refused);
+    }
+    match asked_of_node(alloc, rest) {
+        Ok(asked) => HostReply::InEpoch(number, act_in(host, number, &asked)),
+        Err(why) => HostReply::AsNode(Reply::Refused(why)),
+    }
+}
+
+/// The reply to a line without a number.
+fn reply_alone<O: Opens>(alloc: Global, host: &mut Host<O>, line: Vec<u8>) -> HostReply
+    ensures { RepliesAlone host.old line.items result host.new }
+{
+    match release_in(alloc, line) {
+        Ok(now) => {
+            let places = host.places();
+            reply_of(places, host.release(now))
+        }
+        Err(why) => HostReply::AsNode(Reply::Refused(why)),
+    }
+}
+
+fn reply_to_line<O: Opens>(alloc: Global, host: &mut Host<O>, line: Vec<u8>) -> HostReply
+    ensures { RepliesTo host.old (Ok line.items) result host.new }
+{
+    match number_before(&line) {
+        Some((number, place)) => reply_in_epoch(alloc, host, number, rest_of(line, place)),
+        None => reply_alone(alloc, host, line),
+    }
+}
+
+impl<O: Opens> HostServer<O> {
+    pub fn new(host: Host<O>) -> HostServer<O>
+        ensures { host_of result ≡ host }
+    {
+        HostServer { host }
+    }
+
+    /// The host.
+    pub fn host(&self) -> &Host<O>
+        ensures { result.now ≡ host_of self.now }
+    {
+        &self.host
+    }
+}
+
+impl<O: Opens> Keeper for HostServer<O> {
+    type Reply = HostReply;
+
+    ghost up = { λ server. are_up (host_of server) };
+
+    ghost replies = { λ old came replied new. RepliesTo (host_of old) came replied (host_of new) };
+
+    ghost has_noted = { λ server. Unit {0} };
+
+    ghost has_room = { λ server. Unit {0} };
+
+    ghost has_kept = { λ server. Unit {0} };
+
+    ghost commits = { λ old new. new ≡ old };
+
+    ghost fails = { λ old told new. ⊥ };
+
+    fn can_act(&self) -> bool {
+        self.host.is_up()
+    }
+
+    fn reply_to(&mut self, alloc: Global, line: Result<Bytes, LineFault>) -> HostReply {
+        match line {
+            Ok(line) => reply_to_line(alloc, &mut self.host, line.into_vec()),
+            Err(why) => HostReply::AsNode(Reply::Refused(why)),
+        }
+    }
+
+    fn waits(&self) -> bool {
+        false
+    }
+
+    fn is_full(&self) -> bool {
+        false
+    }
+
+    fn commit(&mut self) -> Result<(), HostReply> {
+        Ok(())
+    }
+}
+
+/// A host replies to each line that comes, until there are no more or one of its nodes is down. Replies to lines that
+/// have come together go out together.
+pub fn serve_host<P: Opens, I: Lines + Ahead, O: Outbox>(
+    alloc: Global,
+    server: &mut HostServer<P>,
+    input: &mut I,
+    output: &mut O,
+) -> BatchedEnd
+    ensures ends { EndsBatchedBy host_keeper host_text I.Lines O.Outbox result server.old input.old output.old server.new input.new output.new }
+    ensures views { NeverLies (host_of server.old) → AreMembers (host_of server.old) → (v : HostView) → StandsAs (host_of server.old) v
+        → ServesFrom I.Lines O.Outbox (host_of server.old) v result input.old output.old input.new output.new }
+{
+    serve_batched(alloc, server, input, output)
+}
