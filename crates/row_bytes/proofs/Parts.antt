@@ -12,8 +12,9 @@ use Rattle.flow_state.specs.declared.flow.Lease.{Lease}
 use Rattle.flow_state.specs.declared.flow.Waiting.{Waiting}
 use Rattle.flow_state.specs.Limits.{is_good_channel, is_good_kind, is_size}
 use Rattle.flow_state.specs.Firm.{FitsChannel}
-use Rattle.row_bytes.specs.Settings.{FitsKind}
-use Rattle.row_bytes.specs.Settings.{phy_byte, kind_byte, kind_spelling, setting_spelling}
+use Rattle.grant_machine.specs.declared.command.Command.TheVariants as commands
+use Rattle.grant_machine.specs.Fits.{FitsKind}
+use Rattle.command_log.specs.Spelling.{phy_byte, kind_byte, kind_spelling, spelling}
 use Rattle.row_bytes.specs.declared.fault.RowsFault.TheVariants.{NoChannel, NoFlow, NoRequest}
 use Rattle.row_bytes.specs.Spelling.{number_2, number_4, number_8, row_spelling, lease_spelling, sent_spelling, flow_spelling, request_spelling}
 use Rattle.row_bytes.specs.Fits.{FitsRow, FitsLease, FitsSent, FitsFlow, FitsRequest}
@@ -102,7 +103,7 @@ channel phy id ucd short_max ranging sending base = record { id = id; ucd = ucd;
 abbrev channel_text : Channel → List ℕ
 channel_text c = (phy_byte c.phy ∷ []) ++ ((c.id ∷ []) ++ ((c.ucd ∷ []) ++ (number_2 c.short_max ++ ((c.ranging_backoff.0 ∷ c.ranging_backoff.1 ∷ []) ++ ((c.data_backoff.0 ∷ c.data_backoff.1 ∷ []) ++ number_8 c.base)))))
 
-channel_text-is : (c : Channel) → channel_text c ≡ setting_spelling c
+channel_text-is : (c : Channel) → channel_text c ≡ spelling (commands.Channel c)
 unfolding number_2 number_8
 channel_text-is c = refl
 
@@ -190,7 +191,7 @@ row_begins bytes x are e =
     let channel = channel_begins bytes a.0 are a.1 in
     let next = begins_8 a.0.1 n.0 channel.0.rest_fits n.1 in
     let ack = begins_8 n.0.1 k.0 next.0.rest_fits k.1 in
-    let spelled : Begins bytes (setting_spelling a.0.0) a.0.1 = subst (λ (t : List ℕ). Begins bytes t a.0.1) (channel_text-is a.0.0) channel.0 in
+    let spelled : Begins bytes (spelling (commands.Channel a.0.0)) a.0.1 = subst (λ (t : List ℕ). Begins bytes t a.0.1) (channel_text-is a.0.0) channel.0 in
     let whole = Begins-then _ _ _ _ _ spelled (Begins-then _ _ _ _ _ next.0 ack.0) in
     let same : row a.0.0 n.0.0 k.0.0 ≡ row w.0 n.0.0 k.0.0 = ap (λ (c : Channel). row c n.0.0 k.0.0) good.1 in
     subst (λ (y : ChannelRow × List ℕ). Begins bytes (row_spelling y.0) y.1 × IsRow y.0) (ap (λ (r : ChannelRow). (r, k.0.1)) same ∙ ok_is (row w.0 n.0.0 k.0.0, k.0.1) x k.2)
@@ -201,8 +202,8 @@ unfolding row_at
 row_again r rest is =
     let ack : List ℕ = number_8 r.ack ++ rest in
     let next : List ℕ = number_8 r.next_start ++ ack in
-    let regrouped : row_spelling r ++ rest ≡ channel_text r.channel ++ next = append_assoc (setting_spelling r.channel) (number_8 r.next_start ++ number_8 r.ack) rest
-    ∙ ap (λ (t : List ℕ). setting_spelling r.channel ++ t) (append_assoc (number_8 r.next_start) (number_8 r.ack) rest)
+    let regrouped : row_spelling r ++ rest ≡ channel_text r.channel ++ next = append_assoc (spelling (commands.Channel r.channel)) (number_8 r.next_start ++ number_8 r.ack) rest
+    ∙ ap (λ (t : List ℕ). spelling (commands.Channel r.channel) ++ t) (append_assoc (number_8 r.next_start) (number_8 r.ack) rest)
     ∙ ap (λ (t : List ℕ). t ++ next) (sym (channel_text-is r.channel)) in
     ap row_at regrouped ∙ rw (channel_again r.channel next is.fits.channel, is.within, again_8 r.next_start ack is.fits.next_start, again_8 r.ack rest is.fits.ack) refl
 

@@ -7,7 +7,7 @@ use Rattle.flow_state.specs.declared.flow.Lease.{Lease}
 use Rattle.flow_state.specs.declared.flow.Waiting.{Waiting}
 use Rattle.flow_state.specs.Rows.{Rows, Table}
 use Rattle.flow_state.specs.Firm.{FitsChannel}
-use Rattle.row_bytes.specs.Settings.{FitsKind}
+use Rattle.grant_machine.specs.Fits.{FitsKind}
 use Rattle.row_bytes.specs.Spelling.{Whole, whole_of}
 
 pub record FitsRow (r : ChannelRow) : Type 0 where

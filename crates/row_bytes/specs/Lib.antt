@@ -1,4 +1,3 @@
-pub mod Settings
 pub mod Spelling
 pub mod Fits
 pub mod Faults

@@ -1,5 +1,5 @@
 -- Reading tables from left to right, up to the first fault.
-use Rattle.std.specs.Prelude.{◌≡◌, ℕ, zero, suc, ◌+◌, ◌-◌, ◌<◌, ◌^◌, ◌==◌, Bool, List, [], ◌∷◌, length, take, drop, Option, Some, None, Result, Ok, Err, IsOk, slice_get, slice_index, Vec, nat_lt, if◌then◌else◌}
+use Rattle.std.specs.Prelude.{◌≡◌, ℕ, zero, suc, ◌+◌, ◌-◌, ◌<◌, ◌^◌, ◌==◌, Bool, List, [], ◌∷◌, length, take, drop, Option, Some, None, Result, Ok, Err, IsOk, slice_get, Vec, nat_lt, if◌then◌else◌}
 use Rattle.std.specs.declared.alloc.Global.{Global}
 use Rattle.std.specs.Int.{Width, w16, w32, w64, byte_len, from_be_bytes}
 use Rattle.flow_state.specs.declared.channel.Channel.{Channel}
@@ -12,6 +12,8 @@ use Rattle.flow_state.specs.declared.flow.FlowKind.TheVariants.{BestEffort, Ugs,
 use Rattle.flow_state.specs.declared.flow.Lease.{Lease}
 use Rattle.flow_state.specs.declared.flow.Waiting.{Waiting}
 use Rattle.flow_state.specs.Limits.{is_good_channel, is_good_kind, is_size}
+-- each element is a byte
+pub use Rattle.command_log.specs.Reading.{AreBytes}
 use Rattle.row_bytes.specs.declared.fault.RowsFault.{RowsFault}
 use Rattle.row_bytes.specs.declared.fault.RowsFault.TheVariants.{Short, NoChannel, NoFlow, NoRequest, NotFirm, OutOfMemory}
 use Rattle.row_bytes.specs.Spelling.{Whole}
@@ -234,10 +236,6 @@ whole_at bytes = do
   flows ← flows_at row.0.channel.id leases.0 leases.1
   requests ← requests_at flows.1
   Ok (record { row = row.0; leases = leases.0; flows = flows.0; waiting = requests.0 }, requests.1)
-
--- each element is a byte
-abbrev pub AreBytes : List ℕ → Type 0
-AreBytes bytes = (i : ℕ) → slice_index bytes i < 2 ^ 8
 
 -- of so many items there is a first one, without a fault
 abbrev pub HasItem : {X : Type 0} → (ℕ → List ℕ → Read (X × List ℕ)) → (place count : ℕ) → List ℕ → Type 0

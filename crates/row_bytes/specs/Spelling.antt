@@ -8,7 +8,8 @@ use Rattle.flow_state.specs.declared.flow.Flow.{Flow}
 use Rattle.flow_state.specs.declared.flow.Lease.{Lease}
 use Rattle.flow_state.specs.declared.flow.Waiting.{Waiting}
 use Rattle.flow_state.specs.Rows.{Rows, Table, lent_flow}
-use Rattle.row_bytes.specs.Settings.{kind_spelling, setting_spelling}
+use Rattle.grant_machine.specs.declared.command.Command.TheVariants as commands
+use Rattle.command_log.specs.Spelling.{kind_spelling, spelling}
 
 -- numbers of two, four and eight bytes
 unfoldable pub number_2 : ℕ → List ℕ
@@ -22,7 +23,7 @@ number_8 n = to_be_bytes w64 n
 
 -- a channel as the command that sets it, where its next MAP begins, and its Ack Time
 abbrev pub row_spelling : ChannelRow → List ℕ
-row_spelling r = setting_spelling r.channel ++ (number_8 r.next_start ++ number_8 r.ack)
+row_spelling r = spelling (commands.Channel r.channel) ++ (number_8 r.next_start ++ number_8 r.ack)
 
 -- a lease, whose place tells its SID
 abbrev pub lease_spelling : Lease → List ℕ

@@ -6,7 +6,6 @@ mod fields;
 mod laws;
 mod reading;
 mod rows;
-mod settings;
 mod writing;
 
 pub use fault::RowsFault;

@@ -4,12 +4,13 @@ ghost use Rattle.std.specs.Prelude.{◌≡◌, ◌++◌, ◌<◌, ◌^◌, All, 
 ghost use Rattle.std.specs.List.{AllByRecursion, flat_map, slice_get};
 ghost use Rattle.flow_state.specs.Firm.{AreFirm};
 ghost use Rattle.flow_state.specs.Rows.{Table};
+ghost use Rattle.grant_machine.specs.Fits.{FitsKind};
 ghost use Rattle.row_bytes.specs.Fits.{FitsLease, FitsFlow, FitsRequest, FitsRow, FitsSent, FitsTable};
 ghost use Rattle.row_bytes.specs.Tables.{Spells};
 ghost use Rattle.row_bytes.specs.Spelling.{flow_spelling, flows_spelling, lease_spelling, leases_spelling, requests_spelling, number_2, number_4, number_8, request_spelling, row_spelling, rows_spelling, sent_spelling, table_spelling};
 
-use crate::settings::{put_kind, put_setting};
-use flow_state::{ChannelRow, ChannelTable, Flow, Flows, Lease, Waiting};
+use command_log::{put_kind, put_setting};
+use flow_state::{ChannelRow, ChannelTable, Flow, FlowKind, Flows, Lease, Waiting};
 use std::alloc::{AllocError, Global};
 
 #[tactic(auto, unfolding(crate::specs::Spelling::number_2))]
@@ -71,10 +72,24 @@ fn put_request(out: &mut Vec<u8>, request: &Waiting) -> Result<(), AllocError>
     put_u64(out, request.sent)
 }
 
+// A service fits the types of its fields.
+fn kind_fits(kind: FlowKind)
+    ensures { FitsKind kind }
+{
+    match kind {
+        FlowKind::BestEffort(_) => {}
+        FlowKind::Ugs { .. } => {}
+        FlowKind::Poll { .. } => {}
+        FlowKind::Station { .. } => {}
+        FlowKind::Initial { .. } => {}
+    }
+}
+
 fn put_flow(out: &mut Vec<u8>, flow: &Flow) -> Result<(), AllocError>
     ensures fits { OnOk result (FitsFlow flow.now) }
     ensures spelled { OnOk result (out.new.items ≡ out.old.items ++ flow_spelling flow.now) }
 {
+    kind_fits(flow.kind);
     put_u16(out, flow.lease.sid)?;
     put_kind(out, flow.kind)?;
     put_u64(out, flow.due)?;

@@ -1,8 +1,8 @@
 //! Tests of times, MAP bodies and commands as bytes, of a cut beside its first body, of cuts with settings, of intervals
 //! for ranging, of modems, of calls at their limits, of tables that are adopted, of reasons of refusals, and of a
 //! scheduler over epochs, by the public calls of `minislot_time`, `map_body`, `flow_state`, `grant_machine`,
-//! `command_log`, `epochs` and `modem`. What plans print, and what modems
-//! of a script do, stands as data in examples/.
+//! `command_log`, `row_bytes`, `epochs` and `modem`. What plans print, and what modems of a script do, stands as data in
+//! examples/.
 #![tactic(auto)]
 
 #[cfg(test)]
@@ -27,6 +27,8 @@ mod maintenance;
 mod modems;
 #[cfg(test)]
 mod ranging;
+#[cfg(test)]
+mod rows;
 #[cfg(test)]
 mod times;
 #[cfg(test)]
