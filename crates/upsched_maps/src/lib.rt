@@ -4,7 +4,9 @@
 mod body_show;
 mod lines;
 mod plan_run;
+mod refusals;
 
 pub use body_show::{body_of, show};
 pub use lines::{element_text, head_text};
-pub use plan_run::maps;
+pub use plan_run::{maps, print_outputs};
+pub use refusals::{maps_named, print_refusals};

@@ -1,11 +1,12 @@
 //! `upsched maps PLAN`: from a plan to outputs.
 
-ghost use Rattle.std.specs.Prelude.{◌≡◌, ◌≢◌, OnOk};
+ghost use Rattle.std.specs.Prelude.{◌≡◌, ◌≢◌, IfErr, OnOk};
 ghost use Rattle.std.specs.Io.KnownBytes.{Appends};
 ghost use Rattle.grant_machine.specs.declared.command.Command.{Command};
 ghost use Rattle.grant_machine.specs.Steps.{step};
-ghost use Rattle.grant_machine.specs.Runs.{outputs_of};
+ghost use Rattle.grant_machine.specs.Runs.{outputs_from, rows_from};
 ghost use Rattle.upsched_ends.specs.declared.status.Status.TheVariants.{Done, NotUnderstood};
+ghost use Rattle.upsched_ends.specs.Faults.{StopsPrint};
 ghost use Rattle.upsched_maps.specs.Lines.{output_line, output_lines, PrintsPlan};
 ghost use Rattle.script_text.specs.Plan.{NoPlan};
 
@@ -26,6 +27,7 @@ fn print_output<'a, O: Write>(
     ensures rows { OnOk result (machine.new ≡ (step machine.old command.now).rows) }
     ensures printed { OnOk result (Appends (O.contents output.old) (O.contents output.new)
         (output_line number (step machine.old command.now).output)) }
+    ensures fault { IfErr result StopsPrint }
 {
     let answer = machine.apply(command)?;
     let text = output_text(alloc, &answer)?;
@@ -33,18 +35,20 @@ fn print_output<'a, O: Write>(
     Ok(())
 }
 
-/// Applies commands one after another to one scheduler, and writes a line for each.
-fn print_outputs<'a, O: Write>(
+/// Applies commands one after another to a scheduler, as it stands, and writes a line for each, numbered from 1 on.
+pub fn print_outputs<'a, O: Write>(
     alloc: Global,
+    machine: &mut Machine,
     commands: &[Command],
     output: &mut O,
 ) -> Result<(), Fault<'a>>
-    ensures { OnOk result (Appends (O.contents output.old) (O.contents output.new)
-        (output_lines 1 (outputs_of commands.now))) }
+    ensures rows { OnOk result (machine.new ≡ rows_from machine.old commands.now) }
+    ensures printed { OnOk result (Appends (O.contents output.old) (O.contents output.new)
+        (output_lines 1 (outputs_from machine.old commands.now))) }
+    ensures fault { IfErr result StopsPrint }
 {
-    let mut machine = Machine::new(alloc);
     for (i, command) in commands.iter().enumerate() {
-        print_output(alloc, &mut machine, i + 1, command, output)?;
+        print_output(alloc, machine, i + 1, command, output)?;
     }
     output.flush()?;
     Ok(())
@@ -60,7 +64,8 @@ fn print_plan<'a, R: Read, O: Write>(
     ensures no_plan { NoPlan (R.remaining plan.old) → output.new ≡ output.old }
 {
     let commands = plan_of(alloc, plan, path)?;
-    print_outputs(alloc, commands.as_slice(), output)
+    let mut machine = Machine::new(alloc);
+    print_outputs(alloc, &mut machine, commands.as_slice(), output)
 }
 
 /// Applies a plan's commands to one scheduler and prints for each its number and its output. A
