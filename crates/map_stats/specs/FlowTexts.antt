@@ -13,12 +13,16 @@ abbrev pub how_many : Option Waits → ℕ
 how_many None = 0
 how_many (Some w) = 1
 
+-- the accepted requests that were neither granted nor wait
+abbrev pub gone : Summary → ℕ
+gone s = s.asked - s.delays.count - how_many s.waits
+
 -- the requests that were accepted, those granted, whether one waits, and those that went with their flow
 abbrev pub requests_line : ℕ → Summary → List ℕ
 requests_line key s =
     if s.asked == 0 then []
     else flow_head key ++ (codes " requests " ++ (decimal s.asked ++ (codes " granted " ++ (decimal s.delays.count ++ (codes " waiting " ++ (decimal (how_many s.waits)
-    ++ (codes " gone " ++ (decimal (s.asked - s.delays.count - how_many s.waits) ++ 10 ∷ []))))))))
+    ++ (codes " gone " ++ (decimal (gone s) ++ 10 ∷ []))))))))
 
 -- a fraction, rounded down to hundredths
 abbrev pub fraction : ℕ → ℕ → List ℕ

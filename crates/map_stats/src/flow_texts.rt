@@ -1,7 +1,7 @@
 //! What is told of a flow as lines, each with its line's end.
 
 ghost use Rattle.std.specs.Prelude.{◌≡◌, ◌≢◌, IfOk, string_bytes};
-ghost use Rattle.map_stats.specs.FlowTexts.{flow_head, how_many, requests_line, fraction, delays_line, waits_line, windows_line, flow_lines};
+ghost use Rattle.map_stats.specs.FlowTexts.{flow_head, requests_line, fraction, delays_line, waits_line, windows_line, flow_lines};
 
 use crate::rows::FlowRow;
 use crate::summary::{Delays, Summary, Waits};
@@ -16,15 +16,6 @@ fn head(alloc: Global, key: u32) -> Result<String, AllocError>
     format!(in alloc; "channel {channel} sid {sid}")
 }
 
-fn how_many(waits: Option<Waits>) -> u64
-    ensures { result ≡ how_many waits }
-{
-    match waits {
-        Some(_) => 1,
-        None => 0,
-    }
-}
-
 fn requests_line(alloc: Global, key: u32, summary: &Summary) -> Result<String, AllocError>
     ensures { IfOk result (λ text. string_bytes text ≡ requests_line key summary.now) }
 {
@@ -34,13 +25,13 @@ fn requests_line(alloc: Global, key: u32, summary: &Summary) -> Result<String, A
     }
     let head = head(alloc, key)?;
     let granted = summary.delays.count;
-    let waiting = how_many(summary.waits);
-    let gone = asked.saturating_sub(granted).saturating_sub(waiting);
+    let waiting = summary.waiting();
+    let gone = summary.gone();
     format!(in alloc; "{head} requests {asked} granted {granted} waiting {waiting} gone {gone}\n")
 }
 
-/// A fraction, rounded down to hundredths.
-fn fraction(alloc: Global, whole: u64, count: u64) -> Result<String, AllocError>
+/// A fraction in decimal, rounded down to hundredths, as `3.50`. The count isn't 0.
+pub fn fraction(alloc: Global, whole: u64, count: u64) -> Result<String, AllocError>
     requires { count ≢ 0 }
     ensures { IfOk result (λ text. string_bytes text ≡ fraction whole count) }
 {

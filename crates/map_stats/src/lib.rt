@@ -10,9 +10,10 @@ mod sums;
 mod tally;
 mod texts;
 
-pub use flow_texts::flow_text;
+pub use flow_texts::{flow_text, fraction};
 pub use laws::sums_are_of_rows;
 pub use rows::{FlowRow, flow_rows};
 pub use stats::Stats;
+pub use summary::{Delays, Summary, Waits};
 pub use tally::{Tallies, Tally};
 pub use texts::{map_text, sid_text, use_text};

@@ -33,6 +33,30 @@ pub struct Summary {
     pub missed: u64,
 }
 
+impl Summary {
+    ghost use Rattle.std.specs.Prelude.{◌≡◌, ◌-◌};
+    ghost use Rattle.map_stats.specs.FlowTexts.{how_many, gone};
+
+    /// How many requests wait: 0 or 1.
+    pub fn waiting(&self) -> u64
+        ensures { result ≡ how_many self.now.waits }
+    {
+        match self.waits {
+            Some(_) => 1,
+            None => 0,
+        }
+    }
+
+    /// How many of the accepted requests went with their flow: they were neither granted, nor do they wait.
+    pub fn gone(&self) -> u64
+        ensures { result ≡ gone self.now }
+    {
+        self.asked
+            .saturating_sub(self.delays.count)
+            .saturating_sub(self.waiting())
+    }
+}
+
 /// The value at a rank, counted from 1; 0 where there is none.
 fn at_rank(sorted: &[u64], rank: usize) -> u64
     ensures { result ≡ at_rank sorted.now rank }

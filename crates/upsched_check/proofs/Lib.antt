@@ -3,5 +3,7 @@ mod Scripts
 mod Fitting
 mod Captured
 mod Told
+mod Warned
+mod Valued
 mod Drawn
 mod Lines

@@ -34,7 +34,7 @@ one_counted cs i b m m' s t f g d below (ds, did, holds, flows) rows is adds gro
     (ds ++ d ∷ [], one_done cs i b m m' ds d below did rows is, adds ds holds, grows ds flows)
 
 -- tables in the order of their keys are the tallies, and rows of flows the sums, of one account
-are_stats : (cs : List Command) (s : Stats) (f : Flows) (rows : List FlowRow) → IsOrdered nat_cmp s.maps → IsOrdered nat_cmp s.uses → IsOrdered nat_cmp s.sids
+pub are_stats : (cs : List Command) (s : Stats) (f : Flows) (rows : List FlowRow) → IsOrdered nat_cmp s.maps → IsOrdered nat_cmp s.uses → IsOrdered nat_cmp s.sids
     → HoldsBoth cs s f → ((ds : List Deed) → HoldsFlows ds f → TellsFlows ds rows)
     → (a : Account) × IsAccount cs (outputs_of cs) a × AreStats a s.maps.entries s.uses.entries s.sids.entries rows
 are_stats cs s f rows maps uses sids (ds, are, holds, flows) told =

@@ -3,9 +3,12 @@ use Rattle.std.specs.Prelude.{◌≡◌, ◌↔◌, ℕ, ◌≤◌, Bool, true, 
 use Rattle.std.specs.Io.KnownBytes.{Appends}
 use Rattle.toml.specs.Data.{Data, table, Members, get}
 use Rattle.toml.specs.Parse.{parse_document}
+use Rattle.grant_machine.specs.declared.command.Command.{Command}
 use Rattle.text_faults.specs.declared.fault.Fault.{Fault}
 use Rattle.text_faults.specs.Faults.{plan_faults, script_faults, IsPlanTable, IsScript}
 use Rattle.text_faults.specs.Texts.{fault_text}
+use Rattle.script_text.specs.Plan.{IsPlan}
+use Rattle.upsched_maps.specs.Refusals.{refusal_lines}
 use Rattle.text_faults.specs.Unread.{KeyThere, plan_unread, script_unread, unread_text}
 use Rattle.upsched_check.specs.declared.form.Form.{Form}
 use Rattle.upsched_check.specs.declared.form.Form.TheVariants.{Plan, Script}
@@ -94,11 +97,23 @@ table_lines path said d = form_lines path (form_of said d) d
 abbrev pub is_good : Option Form → Data → Bool
 is_good said d = is_empty (faults_of (form_of said d) d)
 
--- what is printed of a text that isn't TOML, or of its table, and whether it is good
+-- what a table is good as, if it is good
+abbrev pub good_as : Option Form → Data → Option Form
+good_as said d = if is_good said d then Some (form_of said d) else None
+
+-- what is printed behind that of a text that is good as this: a line for each command of a plan that is refused
+abbrev pub Warns : (path text : List ℕ) → Option Form → List ℕ → Type 0
+Warns path text (Some Plan) printed = (cs : List Command) × IsPlan text cs × (printed ≡ refusal_lines path cs)
+Warns path text (Some Script) printed = printed ≡ []
+Warns path text None printed = printed ≡ []
+
+-- what is printed of a text that isn't TOML, or of its table and a plan's commands, and whether it is good
 abbrev pub TellsOf : List ℕ → Option Form → List ℕ → Option Members → Bool → List ℕ → Type 0
 TellsOf path said text None good printed =
     (start : ℕ) × (why : List ℕ) × (start ≤ length text) × (printed ≡ toml_line path text start why) × (good ≡ false)
-TellsOf path said text (Some ms) good printed = (printed ≡ table_lines path said (table ms)) × (good ≡ is_good said (table ms))
+TellsOf path said text (Some ms) good printed =
+    (warned : List ℕ) × Warns path text (good_as said (table ms)) warned × (printed ≡ table_lines path said (table ms) ++ warned)
+    × (good ≡ is_good said (table ms))
 
 -- what is told of a text goes out
 abbrev pub Reports : List ℕ → Option Form → List ℕ → Bool → Option (List ℕ) → Option (List ℕ) → Type 0

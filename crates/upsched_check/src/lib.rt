@@ -6,6 +6,7 @@
 mod accounts;
 mod captures;
 mod form;
+mod json_lines;
 mod named_body;
 mod place;
 mod plan_draws;
@@ -15,6 +16,7 @@ mod sight;
 
 pub use captures::capture;
 pub use form::{CheckWords, Form};
+pub use json_lines::stats_as_json;
 pub use named_body::show_names;
 pub use plan_draws::{draw_commands, draw_plan, draw_text, tell_commands};
 pub use plan_stats::stats;

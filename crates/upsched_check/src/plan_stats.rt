@@ -41,7 +41,7 @@ fn add_to<'a>(
 }
 
 /// The tallies of the MAPs of commands, and what has happened to flows.
-fn stats_of<'a>(alloc: Global, commands: &[Command]) -> Result<(Stats, Flows), Fault<'a>>
+pub(crate) fn stats_of<'a>(alloc: Global, commands: &[Command]) -> Result<(Stats, Flows), Fault<'a>>
     ensures { IfOk result (λ told. HoldsBoth commands.now told.0 told.1) }
 {
     let mut machine = Machine::new(alloc);
@@ -55,7 +55,7 @@ fn stats_of<'a>(alloc: Global, commands: &[Command]) -> Result<(Stats, Flows), F
 }
 
 /// What is told of each flow.
-fn rows_of<'a>(alloc: Global, flows: &Flows) -> Result<Vec<FlowRow>, Fault<'a>>
+pub(crate) fn rows_of<'a>(alloc: Global, flows: &Flows) -> Result<Vec<FlowRow>, Fault<'a>>
     ensures { IfOk result (λ rows. (ds : List Deed) → HoldsFlows ds flows.now → TellsFlows ds rows.items) }
 {
     let Ok(requests) = request_rows(alloc, flows) else {
@@ -97,7 +97,7 @@ fn print_maps<'a, O: Write>(alloc: Global, maps: &Tallies, output: &mut O) -> Re
 }
 
 /// How many minislots the MAPs of a channel have.
-fn whole_of(maps: &Tallies, channel: u32) -> u64
+pub(crate) fn whole_of(maps: &Tallies, channel: u32) -> u64
     ensures { result ≡ whole_of maps.now.entries channel }
 {
     match maps.get(&channel) {
@@ -190,7 +190,7 @@ fn print_flows<'a, O: Write>(
 }
 
 /// The keys of a table ascend.
-fn in_order(tallies: &Tallies)
+pub(crate) fn in_order(tallies: &Tallies)
     ensures { IsOrdered nat_cmp tallies.now }
 {
     let _count = tallies.len();

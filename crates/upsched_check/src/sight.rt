@@ -1,6 +1,6 @@
 //! `upsched check FILE`: what is wrong with a text, line by line.
 
-ghost use Rattle.std.specs.Prelude.{◌≡◌, ◌≢◌, ◌≤◌, ◌↔◌, IfOk, OnOk, ℕ, List, flat_map, map, length, string_bytes, true, IfErr};
+ghost use Rattle.std.specs.Prelude.{◌≡◌, ◌≢◌, ◌≤◌, ◌↔◌, IfOk, OnOk, ℕ, List, flat_map, map, length, string_bytes, true, is_some, IfErr};
 ghost use Rattle.std.specs.Io.KnownBytes.{Appends};
 ghost use Rattle.toml.specs.Data.{table};
 ghost use Rattle.toml.specs.View.{view, table_view};
@@ -9,17 +9,19 @@ ghost use Rattle.toml.specs.Errors.{IsWithin};
 ghost use Rattle.text_faults.specs.Faults.{TellsWhether};
 ghost use Rattle.text_faults.specs.Unread.{key_there};
 ghost use Rattle.upsched_ends.specs.declared.status.Status.TheVariants.{Done, NotUnderstood};
-ghost use Rattle.upsched_check.specs.Reports.{IsForm, IsGood, fault_line, fault_lines, good_text, good_line, toml_line, unread_line, unread_of, form_of, is_empty, is_good, table_lines, TellsOf, Reports, ReportsKnown};
+ghost use Rattle.upsched_check.specs.Reports.{IsForm, IsGood, fault_line, fault_lines, good_text, good_line, toml_line, unread_line, unread_of, form_of, is_empty, is_good, good_as, table_lines, Warns, TellsOf, Reports, ReportsKnown};
 ghost use Rattle.upsched_ends.specs.Faults.{StopsPrint};
 
 use crate::form::{CheckWords, Form, faults_of, form_of, unread_of};
 use crate::place::place_behind;
+use script_text::read_plan;
 use std::alloc::{AllocError, Global};
 use std::io::{Read, Write};
 use text_faults::{Fault as TextFault, Unread, fault_text, unread_text};
 use toml::de::Error;
 use toml::{Table, Value};
 use upsched_ends::{Fault, Status, text_of};
+use upsched_maps::print_refusals;
 
 fn print_fault<'a, O: Write>(
     alloc: Global,
@@ -154,18 +156,18 @@ fn print_unread<'a, O: Write>(
     print_keys(alloc, path, unread.as_slice(), output)
 }
 
-/// Prints what is wrong with a table and which keys nothing reads, and gives whether it is good.
+/// Prints what is wrong with a table and which keys nothing reads, and gives what it is good as, if it is good.
 fn print_table<'a, O: Write>(
     alloc: Global,
     found: Table,
     path: &str,
     said: Option<Form>,
     output: &mut O,
-) -> Result<bool, Fault<'a>>
+) -> Result<Option<Form>, Fault<'a>>
     ensures printed { OnOk result (Appends (O.contents output.old) (O.contents output.new)
         (table_lines path.now said (table (table_view found)))) }
-    ensures good { IfOk result (λ good. good ≡ is_good said (table (table_view found))) }
-    ensures whether { IfOk result (λ good. (good ≡ true) ↔ IsForm (form_of said (table (table_view found))) (table_view found)) }
+    ensures good { IfOk result (λ good. good ≡ good_as said (table (table_view found))) }
+    ensures whether { IfOk result (λ good. (is_some good ≡ true) ↔ IsForm (form_of said (table (table_view found))) (table_view found)) }
     ensures fault { IfErr result StopsPrint }
 {
     let whole = Value::Table(found);
@@ -176,7 +178,29 @@ fn print_table<'a, O: Write>(
     let bare = whole.get(form.key()).is_none();
     print_faults(alloc, path, form, bare, faults.as_slice(), output)?;
     print_unread(alloc, path, form, &whole, output)?;
-    Ok(faults.is_empty())
+    Ok(if faults.is_empty() { Some(form) } else { None })
+}
+
+/// Prints of a text that is good as this what is to be known besides: of a plan, why commands are refused.
+fn print_warnings<'a, O: Write>(
+    alloc: Global,
+    text: &str,
+    path: &str,
+    good: Option<Form>,
+    output: &mut O,
+) -> Result<(), Fault<'a>>
+    ensures printed { OnOk result ((warned : List ℕ) × Warns path.now text.now good warned
+        × Appends (O.contents output.old) (O.contents output.new) warned) }
+    ensures fault { IfErr result StopsPrint }
+{
+    let Some(Form::Plan) = good else {
+        return Ok(());
+    };
+    // a text that is good as a plan is read as one, unless there is no memory for its commands
+    let Ok(commands) = read_plan(alloc, text) else {
+        return Err(Fault::Memory);
+    };
+    print_refusals(alloc, path, commands.as_slice(), output)
 }
 
 /// Prints where a text ends to be TOML, and why.
@@ -215,7 +239,11 @@ fn print_text<'a, O: Write>(
     ensures fault { IfErr result StopsPrint }
 {
     match toml::table_from_str(alloc, text) {
-        Ok(found) => print_table(alloc, found, path, said, output),
+        Ok(found) => {
+            let good = print_table(alloc, found, path, said, output)?;
+            print_warnings(alloc, text, path, good, output)?;
+            Ok(good.is_some())
+        }
         Err(error) if error.is_memory() => Err(Fault::Memory),
         Err(error) => {
             print_no_toml(path, text, &error, output)?;
@@ -224,7 +252,9 @@ fn print_text<'a, O: Write>(
     }
 }
 
-/// Prints what is wrong with a text, a line each, or a line that tells of no fault. Gives whether the text is good.
+/// Prints what is wrong with a text, a line each, or a line that tells of no fault. Behind them is a line for each key
+/// that nothing reads, and, where it is a good plan, one for each command that is refused, and why: these are no faults.
+/// Gives whether the text is good.
 pub fn report<'a, O: Write>(
     alloc: Global,
     text: &str,
