@@ -1,4 +1,5 @@
 mod Filled
+mod Numbered
 mod Rendered
 mod Sizes
 mod Wedged

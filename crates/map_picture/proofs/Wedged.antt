@@ -38,20 +38,20 @@ no_more_drawn f m (suc n) le none = elim (cases_lt n m) [
 -- ---- below a MAP
 
 -- an element in the place of one that isn't in the MAP
-of_option : (ts : List Sent) (ch start len y : ℕ) (o : Option Sent) → ((t : Sent) → o ≡ Some t → is_in ch start len t ≡ false) → wedge_for ts ch start len y o ≡ Nothing
-of_option ts ch start len y None out = refl
-of_option ts ch start len y (Some t) out = cond-false _ _ _ (out t refl)
+of_option : (ts : List Sent) (ch left start len y : ℕ) (o : Option Sent) → ((t : Sent) → o ≡ Some t → is_in ch start len t ≡ false) → wedge_for ts ch left start len y o ≡ Nothing
+of_option ts ch left start len y None out = refl
+of_option ts ch left start len y (Some t) out = cond-false _ _ _ (out t refl)
 
-no_wedge : (ts : List Sent) (ch start len y j : ℕ) → ((t : Sent) → slice_get ts j ≡ Some t → is_in ch start len t ≡ false) → wedge_at ts ch start len y j ≡ Nothing
-no_wedge ts ch start len y j out = of_option ts ch start len y (slice_get ts j) out
+no_wedge : (ts : List Sent) (ch left start len y j : ℕ) → ((t : Sent) → slice_get ts j ≡ Some t → is_in ch start len t ≡ false) → wedge_at ts ch left start len y j ≡ Nothing
+no_wedge ts ch left start len y j out = of_option ts ch left start len y (slice_get ts j) out
 
 -- that of one in it
-pub one_wedge : {T E : Type 0} (r : Result T E) (old new : List ℕ) (ts : List Sent) (ch start len y k : ℕ) (t : Sent) (clash : Bool) → slice_get ts k ≡ Some t
-    → is_in ch start len t ≡ true → clash ≡ collides ts t → OnOk r (new ≡ old ++ render (wedge clash start len y t))
-    → OnOk r (new ≡ old ++ render (wedge_at ts ch start len y k))
-one_wedge r old new ts ch start len y k t clash there inside is_clash added =
-    let here : wedge_at ts ch start len y k ≡ wedge (collides ts t) start len y t = ap (wedge_for ts ch start len y) there ∙ cond-true _ _ _ inside in
-    subst (λ (x : Xml). OnOk r (new ≡ old ++ render x)) (ap (λ b. wedge b start len y t) is_clash ∙ sym here) added
+pub one_wedge : {T E : Type 0} (r : Result T E) (old new : List ℕ) (ts : List Sent) (ch left start len y k : ℕ) (t : Sent) (clash : Bool) → slice_get ts k ≡ Some t
+    → is_in ch start len t ≡ true → clash ≡ collides ts t → OnOk r (new ≡ old ++ render (wedge clash left start len y t))
+    → OnOk r (new ≡ old ++ render (wedge_at ts ch left start len y k))
+one_wedge r old new ts ch left start len y k t clash there inside is_clash added =
+    let here : wedge_at ts ch left start len y k ≡ wedge (collides ts t) left start len y t = ap (wedge_for ts ch left start len y) there ∙ cond-true _ _ _ inside in
+    subst (λ (x : Xml). OnOk r (new ≡ old ++ render x)) (ap (λ b. wedge b left start len y t) is_clash ∙ sym here) added
 
 is_early : (ch start len : ℕ) (t : Sent) → slot_of t < start → is_in ch start len t ≡ false
 is_early ch start len t early = and_right _ _ (and_left _ _ (lt-leb start (slot_of t) early))
@@ -59,29 +59,29 @@ is_early ch start len t early = and_right _ _ (and_left _ _ (lt-leb start (slot_
 is_late : (ch start len : ℕ) (t : Sent) → start + len ≤ slot_of t → is_in ch start len t ≡ false
 is_late ch start len t late = and_right _ _ (and_right _ _ (le-ltb (slot_of t) (start + len) late))
 
-module _ (ts : List Sent) (ch start len y : ℕ) where
+module _ (ts : List Sent) (ch left start len y : ℕ) where
   -- those before the MAP have none
-  early : (first : ℕ) → AreBefore start first ts → (j : ℕ) → j < first → wedge_at ts ch start len y j ≡ Nothing
-  early first before j lt = no_wedge ts ch start len y j (λ t there.
+  early : (first : ℕ) → AreBefore start first ts → (j : ℕ) → j < first → wedge_at ts ch left start len y j ≡ Nothing
+  early first before j lt = no_wedge ts ch left start len y j (λ t there.
       is_early ch start len t (subst (λ (u : Sent). slot_of u < start) (get_or_from_slice_get ts j t t there) (before.before j t (omega arith) lt)))
 
   -- nor have those behind it
-  late : (past : ℕ) → AreBefore (start + len) past ts → (j : ℕ) → past ≤ j → wedge_at ts ch start len y j ≡ Nothing
-  late past before j le = no_wedge ts ch start len y j (λ t there.
+  late : (past : ℕ) → AreBefore (start + len) past ts → (j : ℕ) → past ≤ j → wedge_at ts ch left start len y j ≡ Nothing
+  late past before j le = no_wedge ts ch left start len y j (λ t there.
       is_late ch start len t (subst (λ (u : Sent). start + len ≤ slot_of u) (get_or_from_slice_get ts j t t there) (before.from j t le (slice_get_within ts j t there))))
 
   -- so none are drawn yet at the first that may be in it
-  pub none_yet : (first : ℕ) (old : List ℕ) → AreBefore start first ts → old ≡ old ++ render (each first (wedge_at ts ch start len y))
+  pub none_yet : (first : ℕ) (old : List ℕ) → AreBefore start first ts → old ≡ old ++ render (each first (wedge_at ts ch left start len y))
   none_yet first old before =
-      let none : each first (wedge_at ts ch start len y) ≡ Nothing = none_drawn (wedge_at ts ch start len y) first (early first before) in
+      let none : each first (wedge_at ts ch left start len y) ≡ Nothing = none_drawn (wedge_at ts ch left start len y) first (early first before) in
       sym (append-nil old) ∙ ap (λ x. old ++ render x) (sym none)
 
   -- and all are at the first behind it
-  pub all_wedges : (past k : ℕ) → AreBefore (start + len) past ts → past ≤ k → each k (wedge_at ts ch start len y) ≡ wedges ts ch start len y
+  pub all_wedges : (past k : ℕ) → AreBefore (start + len) past ts → past ≤ k → each k (wedge_at ts ch left start len y) ≡ wedges ts ch left start len y
   all_wedges past k before over =
-      let up_to : each k (wedge_at ts ch start len y) ≡ each past (wedge_at ts ch start len y) = no_more_drawn (wedge_at ts ch start len y) past k over (late past before) in
-      let whole : wedges ts ch start len y ≡ each past (wedge_at ts ch start len y) =
-      no_more_drawn (wedge_at ts ch start len y) past (length ts) before.bound (late past before) in
+      let up_to : each k (wedge_at ts ch left start len y) ≡ each past (wedge_at ts ch left start len y) = no_more_drawn (wedge_at ts ch left start len y) past k over (late past before) in
+      let whole : wedges ts ch left start len y ≡ each past (wedge_at ts ch left start len y) =
+      no_more_drawn (wedge_at ts ch left start len y) past (length ts) before.bound (late past before) in
       up_to ∙ sym whole
 
 -- ---- collisions

@@ -1,5 +1,5 @@
 -- A MAP as a strip of cells, a cell an interval, on an axis of its own.
-use Rattle.std.specs.Prelude.{◌≡◌, ℕ, ◌+◌, ◌-◌, ◌*◌, ◌/◌, ◌%◌, ◌==◌, ◌&&◌, ◌<◌, nat_lt, if◌then◌else◌, max, IsTrue, List, [], ◌∷◌, ◌++◌, length, codes, decimal, slice_get, Option, Some, None}
+use Rattle.std.specs.Prelude.{◌≡◌, ℕ, ◌+◌, ◌-◌, ◌*◌, ◌/◌, ◌%◌, ◌==◌, ◌&&◌, ◌<◌, ◌≤◌, ◌^◌, nat_lt, if◌then◌else◌, max, IsTrue, List, [], ◌∷◌, ◌++◌, length, codes, decimal, slice_get, Option, Some, None}
 use Rattle.map_body.specs.declared.interval.Interval.{Interval}
 use Rattle.map_body.specs.Iucs.{initial_maintenance, request}
 use Rattle.map_body.specs.Sids.{everybody}
@@ -8,6 +8,9 @@ use Rattle.xml_text.specs.Xml.{Xml, join, said, shape, titled}
 use Rattle.xml_text.specs.Xml.Tag.{Rectangle, Words}
 use Rattle.xml_text.specs.Xml.Xml.{Nothing}
 use Rattle.xml_text.specs.Each.{each}
+use Rattle.map_picture.specs.declared.axis.Axis.{Axis}
+use Rattle.map_picture.specs.declared.axis.Columns.{Columns}
+use Rattle.map_picture.specs.Axis.{at}
 
 -- the colour of a SID, by its remainder by 7
 abbrev pub colour : ℕ → List ℕ
@@ -30,12 +33,12 @@ high i = if i.sid == everybody then 14 else if i.iuc == request then 6 else 14
 abbrev pub words_class : ℕ → List ℕ
 words_class sid = if sid == everybody then codes "s mute" else codes "s k"
 
--- where a minislot of a MAP of so many begins: 768 units for all of them, from 104 on
-abbrev pub cell_x : (len x : ℕ) → ℕ
-cell_x len x = 104 + x * 768 / max len 1
+-- where a minislot of a MAP of so many begins: 768 units for all of them, from the left end on
+abbrev pub cell_x : (left len x : ℕ) → ℕ
+cell_x left len x = left + x * 768 / max len 1
 
-abbrev pub cell_width : (len : ℕ) → Interval → ℕ
-cell_width len i = cell_x len i.to - cell_x len i.from
+abbrev pub cell_width : (left len : ℕ) → Interval → ℕ
+cell_width left len i = cell_x left len i.to - cell_x left len i.from
 
 -- whose minislots of a SID are
 abbrev pub owner_name : ℕ → List ℕ
@@ -46,26 +49,29 @@ abbrev pub cell_title : Interval → List ℕ
 cell_title i =
     owner_name i.sid ++ (codes ", iuc " ++ (decimal i.iuc ++ (codes ": offset " ++ (decimal i.from ++ (codes ", " ++ (decimal (i.to - i.from) ++ codes " long"))))))
 
-abbrev pub cell_shape : (len y : ℕ) → Interval → Xml
-cell_shape len y i = titled (cell_title i) (shape (Rectangle (cell_x len i.from) y (cell_width len i) (high i) 0 (cell_class i)))
+abbrev pub cell_shape : (left len y : ℕ) → Interval → Xml
+cell_shape left len y i =
+    titled (cell_title i) (shape (Rectangle (cell_x left len i.from) y (cell_width left len i) (high i) 0 (cell_class i)))
 
--- whose it is, where there is room for it
-abbrev pub cell_words : (len y : ℕ) → Interval → Xml
-cell_words len y i = if nat_lt (cell_width len i) 44 then Nothing else said (Words (cell_x len i.from + 4) (y + 11) (words_class i.sid)) (owner_name i.sid)
+-- whose it is, where there is room for it: for 6 units a character
+abbrev pub cell_words : (left len y : ℕ) → Interval → Xml
+cell_words left len y i =
+    if nat_lt (cell_width left len i) (6 * length (owner_name i.sid) + 8) then Nothing
+    else said (Words (cell_x left len i.from + 4) (y + 11) (words_class i.sid)) (owner_name i.sid)
 
-abbrev pub cell : (len y : ℕ) → Interval → Xml
-cell len y i = join (cell_shape len y i) (cell_words len y i)
+abbrev pub cell : (left len y : ℕ) → Interval → Xml
+cell left len y i = join (cell_shape left len y i) (cell_words left len y i)
 
-abbrev pub cell_for : (len y : ℕ) → Option Interval → Xml
-cell_for len y (Some i) = cell len y i
-cell_for len y None = Nothing
+abbrev pub cell_for : (left len y : ℕ) → Option Interval → Xml
+cell_for left len y (Some i) = cell left len y i
+cell_for left len y None = Nothing
 
-abbrev pub cell_at : (len y : ℕ) → List Interval → ℕ → Xml
-cell_at len y is k = cell_for len y (slice_get is k)
+abbrev pub cell_at : (left len y : ℕ) → List Interval → ℕ → Xml
+cell_at left len y is k = cell_for left len y (slice_get is k)
 
 -- all of them
-abbrev pub cells : (len y : ℕ) → List Interval → Xml
-cells len y is = each (length is) (cell_at len y is)
+abbrev pub cells : (left len y : ℕ) → List Interval → Xml
+cells left len y is = each (length is) (cell_at left len y is)
 
 -- how wide intervals are together, where minislots begin there
 abbrev pub widths : (ℕ → ℕ) → List Interval → ℕ
@@ -74,4 +80,12 @@ widths x (i ∷ is) = (x i.to - x i.from) + widths x is
 
 -- the cells of intervals that follow one another from a MAP's first minislot to its last one fill the strip
 abbrev pub CellsFill : Type 0
-CellsFill = (is : List Interval) (len : ℕ) → 0 < len → IsTrue (follow 0 is len) → widths (cell_x len) is ≡ 768
+CellsFill = (is : List Interval) (left len : ℕ) → 0 < len → IsTrue (follow 0 is len) → widths (cell_x left len) is ≡ 768
+
+-- a frame and its strip have the same ends: the first MAP of a channel begins, and the last one ends, where strips do;
+-- and each minislot of a channel's only MAP is at the same place in both
+pub record EndsAgree : Type 0 where
+  pub first : (axis : Axis) (len : ℕ) → at axis axis.span.from ≡ cell_x axis.columns.left len 0
+  pub last : (axis : Axis) (len : ℕ) → axis.span.from < axis.span.to → 0 < len → at axis axis.span.to ≡ cell_x axis.columns.left len len
+  pub each : (columns : Columns) (start len x : ℕ) → 0 < len → len < 2 ^ 50 → x ≤ len
+      → at (record { columns = columns; span = record { from = start; to = start + len } }) (start + x) ≡ cell_x columns.left len x

@@ -1,7 +1,10 @@
 pub mod Axis
 pub mod Picked
 pub mod Cells
+pub mod Scales
+pub mod Windows
 pub mod Owners
 pub mod Asked
+pub mod Columns
 pub mod Wedges
 pub mod Pictures

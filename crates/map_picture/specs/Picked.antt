@@ -1,8 +1,9 @@
 -- Which rows a channel has: a row a lease, a row a request, a row a MAP.
-use Rattle.std.specs.Prelude.{ℕ, ◌+◌, ◌/◌, ◌^◌, ◌==◌, ◌&&◌, Bool, true, false, if◌then◌else◌, List, [], ◌∷◌, ◌++◌}
+use Rattle.std.specs.Prelude.{ℕ, ◌+◌, ◌/◌, ◌%◌, ◌^◌, ◌==◌, ◌&&◌, nat_le, Bool, true, false, if◌then◌else◌, List, [], ◌∷◌, ◌++◌}
 use Rattle.std.specs.List.{filter}
 use Rattle.flow_state.specs.declared.flow.FlowKind.{FlowKind}
 use Rattle.flow_state.specs.declared.flow.FlowKind.TheVariants.{BestEffort, Ugs, Poll, Station, Initial}
+use Rattle.map_body.specs.declared.interval.Interval.{Interval}
 use Rattle.plan_account.specs.declared.deed.Deed.{Deed}
 use Rattle.plan_account.specs.declared.deed.Deed.TheVariants as deeds
 use Rattle.plan_account.specs.declared.past.LeaseRow.{LeaseRow}
@@ -25,6 +26,10 @@ leases_on ch ls = filter (λ l. is_on ch l.key && has_row l.lease.kind) ls
 
 abbrev pub requests_on : ℕ → List RequestRow → List RequestRow
 requests_on ch rs = filter (λ r. is_on ch r.key) rs
+
+-- an interval is the SID's of the lease, and begins in it, in a MAP that begins then
+abbrev pub is_granted : LeaseRow → (start : ℕ) → Interval → Bool
+is_granted l start i = (i.sid == l.key % 2 ^ 16) && (nat_le l.lease.term.first (start + i.from) && nat_le (start + i.from) l.lease.term.last)
 
 -- a deed is a MAP of the channel
 abbrev pub is_map : ℕ → Deed → Bool

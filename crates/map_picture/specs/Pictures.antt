@@ -13,9 +13,13 @@ use Rattle.xml_text.specs.Xml.Tag.{Rectangle, Words}
 use Rattle.xml_text.specs.Xml.Xml.{Nothing}
 use Rattle.xml_text.specs.Each.{each}
 use Rattle.map_picture.specs.declared.axis.Axis.{Axis}
+use Rattle.map_picture.specs.declared.axis.Columns.{Columns}
 use Rattle.map_picture.specs.declared.axis.Page.{Page}
+use Rattle.map_picture.specs.declared.axis.Span.{Span}
 use Rattle.map_picture.specs.declared.sent.Sent.{Sent}
-use Rattle.map_picture.specs.Axis.{at, axis_of, wide}
+use Rattle.map_picture.specs.Axis.{at, right, span_of, wide}
+use Rattle.map_picture.specs.Scales.{no_map, numbers, scale, ticks}
+use Rattle.map_picture.specs.Columns.{columns_of}
 use Rattle.map_picture.specs.Picked.{leases_on, maps_on, requests_on}
 use Rattle.map_picture.specs.Cells.{cells}
 use Rattle.map_picture.specs.Owners.{owner}
@@ -27,35 +31,36 @@ abbrev pub IsRendered : List ℕ → Type 0
 IsRendered text = (x : Xml) × (text ≡ render x)
 
 -- the strip of MAP k: its number, from 1 on, its cells, what modems transmitted in it, and which command gave it when
-abbrev pub strip_name : (y k : ℕ) → Xml
-strip_name y k = said (Words 98 (y + 11) (codes "s e b")) (codes "MAP " ++ decimal (k + 1))
+abbrev pub strip_name : Columns → (y k : ℕ) → Xml
+strip_name columns y k = said (Words columns.names (y + 11) (codes "s e b")) (codes "MAP " ++ decimal (k + 1))
 
 abbrev pub strip_text : (i start len : ℕ) → List ℕ
 strip_text i start len = codes "command " ++ (decimal (i + 1) ++ (codes ": " ++ (decimal len ++ (codes " from " ++ decimal start))))
 
-abbrev pub strip_words : (y i start len : ℕ) → Xml
-strip_words y i start len = said (Words 880 (y + 11) (codes "s mute")) (strip_text i start len)
+abbrev pub strip_words : Columns → (y i start len : ℕ) → Xml
+strip_words columns y i start len = said (Words (right columns) (y + 11) (codes "s mute")) (strip_text i start len)
 
-abbrev pub strip : List Sent → (y k i ch start len : ℕ) → Shown → Xml
-strip ts y k i ch start len map =
-    join (join (join (strip_name y k) (cells len y map.intervals)) (wedges ts ch start len y)) (strip_words y i start len)
+abbrev pub strip : Columns → (ns : List ℕ) → List Sent → (y k i ch start len : ℕ) → Shown → Xml
+strip columns ns ts y k i ch start len map =
+    join (join (join (join (strip_name columns y k) (cells columns.left len y map.intervals)) (ticks columns.left start len y ns))
+    (wedges ts ch columns.left start len y)) (strip_words columns y i start len)
 
 -- the strip of deed i, which is MAP k
-abbrev pub strip_of : List Sent → (y k i : ℕ) → Deed → Xml
-strip_of ts y k i (deeds.Map c start len keep map) = strip ts y k i c start len map
-strip_of ts y k i (deeds.Channel c) = Nothing
-strip_of ts y k i (deeds.Flow c sid modem first last kind) = Nothing
-strip_of ts y k i (deeds.Drop c sid) = Nothing
-strip_of ts y k i (deeds.Request c sid n sent) = Nothing
-strip_of ts y k i deeds.Other = Nothing
+abbrev pub strip_of : Columns → (ns : List ℕ) → List Sent → (y k i : ℕ) → Deed → Xml
+strip_of columns ns ts y k i (deeds.Map c start len keep map) = strip columns ns ts y k i c start len map
+strip_of columns ns ts y k i (deeds.Channel c) = Nothing
+strip_of columns ns ts y k i (deeds.Flow c sid modem first last kind) = Nothing
+strip_of columns ns ts y k i (deeds.Drop c sid) = Nothing
+strip_of columns ns ts y k i (deeds.Request c sid n sent) = Nothing
+strip_of columns ns ts y k i deeds.Other = Nothing
 
-abbrev pub strip_with : List Sent → (y k i : ℕ) → Option Deed → Xml
-strip_with ts y k i (Some d) = strip_of ts y k i d
-strip_with ts y k i None = Nothing
+abbrev pub strip_with : Columns → (ns : List ℕ) → List Sent → (y k i : ℕ) → Option Deed → Xml
+strip_with columns ns ts y k i (Some d) = strip_of columns ns ts y k i d
+strip_with columns ns ts y k i None = Nothing
 
-abbrev pub strip_for : List Deed → List Sent → (y k : ℕ) → Option ℕ → Xml
-strip_for ds ts y k (Some i) = strip_with ts y k i (slice_get ds i)
-strip_for ds ts y k None = Nothing
+abbrev pub strip_for : List Deed → Columns → (ns : List ℕ) → List Sent → (y k : ℕ) → Option ℕ → Xml
+strip_for ds columns ns ts y k (Some i) = strip_with columns ns ts y k i (slice_get ds i)
+strip_for ds columns ns ts y k None = Nothing
 
 -- sections: a row a lease, a row a request, and a row a MAP, each 22 high
 abbrev pub owner_for : Page → List Deed → (y : ℕ) → Option LeaseRow → Xml
@@ -78,11 +83,11 @@ request_at axis top rows k = request_for axis (top + 22 * k) (slice_get rows k)
 abbrev pub requests : Axis → ℕ → List RequestRow → Xml
 requests axis top rows = each (length rows) (request_at axis top rows)
 
-abbrev pub strip_at : List Deed → List Sent → ℕ → List ℕ → ℕ → Xml
-strip_at ds ts top rows k = strip_for ds ts (top + 22 * k) k (slice_get rows k)
+abbrev pub strip_at : List Deed → Columns → (ns : List ℕ) → List Sent → ℕ → List ℕ → ℕ → Xml
+strip_at ds columns ns ts top rows k = strip_for ds columns ns ts (top + 22 * k) k (slice_get rows k)
 
-abbrev pub strips : List Deed → List Sent → ℕ → List ℕ → Xml
-strips ds ts top rows = each (length rows) (strip_at ds ts top rows)
+abbrev pub strips : List Deed → Columns → (ns : List ℕ) → List Sent → ℕ → List ℕ → Xml
+strips ds columns ns ts top rows = each (length rows) (strip_at ds columns ns ts top rows)
 
 -- the frame of MAP k on the axis of time, down to the last request
 abbrev pub frame_title : ℕ → List ℕ
@@ -114,20 +119,29 @@ frames p ds y height rows = each (length rows) (frame_at p ds y height rows)
 abbrev pub heading : (ch y : ℕ) → Xml
 heading ch y = said (Words 16 (y + 16) (codes "h")) (codes "channel " ++ decimal ch)
 
--- a channel from y down: frames of its MAPs round a row a lease and a row a request, and then a row a MAP
-abbrev pub channel_rows : Page → List Deed → List Sent → (y : ℕ) → List LeaseRow → List RequestRow → (maps : List ℕ) → Xml
-channel_rows p ds ts y ls rs maps =
-    join (join (join (join (heading p.ch y) (frames p ds (y + 26) (22 * length ls + 22 * length rs + 2) maps))
-    (owners p ds (y + 30) ls)) (requests p.axis (y + 30 + 22 * length ls) rs))
-    (strips ds ts (y + 44 + 22 * length ls + 22 * length rs) maps)
+-- a channel from y down: numbers of minislots, frames of its MAPs round a row a lease and a row a request, and then a
+-- row a MAP
+abbrev pub channel_rows : Page → List Deed → (ns : List ℕ) → List Sent → (y : ℕ) → List LeaseRow → List RequestRow → (maps : List ℕ) → Xml
+channel_rows p ds ns ts y ls rs maps =
+    join (join (join (join (join (join (heading p.ch y) (no_map p.axis y)) (scale p.axis y ns))
+    (frames p ds (y + 42) (22 * length ls + 22 * length rs + 2) maps)) (owners p ds (y + 46) ls)) (requests p.axis (y + 46 + 22 * length ls) rs))
+    (strips ds p.axis.columns ns ts (y + 60 + 22 * length ls + 22 * length rs) maps)
+
+-- its axis
+abbrev pub axis_by : Span → List LeaseRow → List RequestRow → Axis
+axis_by span ls rs = record { columns = columns_of span ls rs; span = span }
+
+abbrev pub axis_of : Rows → (ch : ℕ) → Axis
+axis_of a ch = axis_by (span_of a.deeds ch) (leases_on ch a.leases) (requests_on ch a.requests)
 
 abbrev pub channel : Rows → List Sent → (ch y : ℕ) → Xml
 channel a ts ch y =
-    channel_rows (record { ch = ch; axis = axis_of a.deeds ch }) a.deeds ts y (leases_on ch a.leases) (requests_on ch a.requests) (maps_on ch a.deeds)
+    channel_rows (record { ch = ch; axis = axis_of a ch }) a.deeds (numbers (span_of a.deeds ch)) ts y (leases_on ch a.leases)
+    (requests_on ch a.requests) (maps_on ch a.deeds)
 
 -- how high it is
 abbrev pub channel_height : Rows → ℕ → ℕ
-channel_height a ch = 64 + 22 * length (leases_on ch a.leases) + 22 * length (requests_on ch a.requests) + 22 * length (maps_on ch a.deeds)
+channel_height a ch = 80 + 22 * length (leases_on ch a.leases) + 22 * length (requests_on ch a.requests) + 22 * length (maps_on ch a.deeds)
 
 -- where channels begin, the first at y, and where the last one ends
 abbrev pub tops_from : Rows → ℕ → List ℕ → List ℕ
@@ -143,7 +157,7 @@ channel_at a ts channels tops k = channel_for a ts (slice_get channels k) (slice
 
 -- the channels that deeds set, one below the other
 abbrev pub first_top : ℕ
-first_top = 56
+first_top = 72
 
 abbrev pub channels_drawn : Rows → List Sent → Xml
 channels_drawn a ts = each (length (channels_of a.deeds)) (channel_at a ts (channels_of a.deeds) (tops_from a first_top (channels_of a.deeds)))

@@ -27,8 +27,8 @@ collides ts t = list_any (meets t) ts
 -- ---- what each looks like
 
 -- the middle of minislot x of a MAP of so many, on the axis of its cells
-abbrev pub middle : (len x : ℕ) → ℕ
-middle len x = 104 + (x * 768 + 384) / max len 1
+abbrev pub middle : (left len x : ℕ) → ℕ
+middle left len x = left + (x * 768 + 384) / max len 1
 
 -- a triangle with its tip there
 abbrev pub wedge_steps : (x y : ℕ) → List ℕ
@@ -53,22 +53,22 @@ abbrev pub wedge_title : Bool → Sent → List ℕ
 wedge_title clash t =
     codes "modem " ++ (decimal t.id ++ (codes ": " ++ (sending_words t.sending ++ (codes ", minislot " ++ (decimal t.slot ++ clash_words clash)))))
 
-abbrev pub wedge : Bool → (start len y : ℕ) → Sent → Xml
-wedge clash start len y t =
-    titled (wedge_title clash t) (shape (Path (wedge_steps (middle len (t.slot - start)) (y + 11)) (wedge_class clash)))
+abbrev pub wedge : Bool → (left start len y : ℕ) → Sent → Xml
+wedge clash left start len y t =
+    titled (wedge_title clash t) (shape (Path (wedge_steps (middle left len (t.slot - start)) (y + 11)) (wedge_class clash)))
 
 -- ---- all of them
 
-abbrev pub wedge_for : List Sent → (ch start len y : ℕ) → Option Sent → Xml
-wedge_for ts ch start len y (Some t) = if is_in ch start len t then wedge (collides ts t) start len y t else Nothing
-wedge_for ts ch start len y None = Nothing
+abbrev pub wedge_for : List Sent → (ch left start len y : ℕ) → Option Sent → Xml
+wedge_for ts ch left start len y (Some t) = if is_in ch start len t then wedge (collides ts t) left start len y t else Nothing
+wedge_for ts ch left start len y None = Nothing
 
-abbrev pub wedge_at : List Sent → (ch start len y k : ℕ) → Xml
-wedge_at ts ch start len y k = wedge_for ts ch start len y (slice_get ts k)
+abbrev pub wedge_at : List Sent → (ch left start len y k : ℕ) → Xml
+wedge_at ts ch left start len y k = wedge_for ts ch left start len y (slice_get ts k)
 
 -- a wedge for each transmission in the MAP, at its minislot, and for no other one
-abbrev pub wedges : List Sent → (ch start len y : ℕ) → Xml
-wedges ts ch start len y = each (length ts) (wedge_at ts ch start len y)
+abbrev pub wedges : List Sent → (ch left start len y : ℕ) → Xml
+wedges ts ch left start len y = each (length ts) (wedge_at ts ch left start len y)
 
 -- ---- how they are found
 

@@ -2,9 +2,9 @@
 
 ghost use Rattle.std.specs.Prelude.{◌≡◌, ◌++◌, ◌<◌, ◌^◌, IfOk, OnOk, string_bytes};
 ghost use Rattle.xml_text.specs.Xml.{render};
-ghost use Rattle.map_picture.specs.Asked.{asked, asked_line, asked_name, bar, end_mark, end_words, ended_at, ended_words, last_told, sent_mark, sent_title, stop, told_mark, told_title, wait_words};
+ghost use Rattle.map_picture.specs.Asked.{asked, asked_line, asked_marks, asked_name, asked_words, bar, before_at, before_words, end_mark, end_words, ended_at, ended_words, last_told, marks_at, sent_mark, sent_title, sent_x, stop, told_mark, told_title, wait_words};
 
-use crate::axis::{Axis, at, wide};
+use crate::axis::{Axis, Span, at, is_bare, is_before, right, wide};
 use crate::shapes::class_of;
 use crate::words::sid_of;
 use plan_account::{Fate, RequestRow, Told, Why, why_last, why_words};
@@ -25,25 +25,45 @@ fn stop(axis: Axis, row: &RequestRow) -> u64
     ensures { result ≡ stop axis row.now }
 {
     match row.fate {
-        Fate::Waits(_) => axis.to,
+        Fate::Waits(_) => axis.span.to,
         Fate::Gone => last_told(row.sent, row.told),
         Fate::Granted { start, .. } => start,
     }
 }
 
+/// Whose request it is.
+pub(crate) fn asked_words(alloc: Global, row: &RequestRow) -> Result<String, AllocError>
+    ensures { IfOk result (λ text. string_bytes text ≡ asked_words row.now) }
+{
+    let RequestRow { key, n, .. } = *row;
+    let sid = key % (1 << 16);
+    format!(in alloc; "sid {sid} asks {n}")
+}
+
 fn add_asked_name(
     alloc: Global,
     out: &mut String,
+    axis: Axis,
     y: u64,
     row: &RequestRow,
 ) -> Result<(), AllocError>
     requires { y < 2 ^ 62 }
-    ensures { OnOk result (string_bytes out.new ≡ string_bytes out.old ++ render (asked_name y row.now)) }
+    ensures { OnOk result (string_bytes out.new ≡ string_bytes out.old ++ render (asked_name axis y row.now)) }
 {
-    let RequestRow { key, n, .. } = *row;
-    let sid = key % (1 << 16);
-    let words = format!(in alloc; "sid {sid} asks {n}")?;
-    add_words(alloc, out, (98, y + 11), "s e", words.as_str())
+    let words = asked_words(alloc, row)?;
+    let point = (u64::from(axis.columns.names), y + 11);
+    add_words(alloc, out, point, "s e", words.as_str())
+}
+
+/// Where a request was sent: in the gutter, if that was before the axis begins.
+fn sent_x(axis: Axis, t: u64) -> u64
+    ensures { result ≡ sent_x axis t }
+{
+    if is_before(axis.span, t) {
+        u64::from(axis.columns.left).saturating_sub(10)
+    } else {
+        at(axis, t)
+    }
 }
 
 fn add_asked_line(
@@ -57,10 +77,43 @@ fn add_asked_line(
     ensures { OnOk result (string_bytes out.new ≡ string_bytes out.old ++ render (asked_line axis y row.now)) }
 {
     let (from, to) = (
-        (at(axis, row.sent), y + 7),
+        (sent_x(axis, row.sent), y + 7),
         (at(axis, stop(axis, row)), y + 7),
     );
     add_line(alloc, out, from, to, "ask")
+}
+
+/// How long before the axis begins a request was sent.
+pub(crate) fn before_words(
+    alloc: Global,
+    span: Span,
+    row: &RequestRow,
+) -> Result<String, AllocError>
+    ensures { IfOk result (λ text. string_bytes text ≡ before_words span row.now) }
+{
+    if !is_before(span, row.sent) {
+        return String::from_str(alloc, "");
+    }
+    let before = span.from.saturating_sub(row.sent);
+    format!(in alloc; "{before} before")
+}
+
+fn add_before(
+    alloc: Global,
+    out: &mut String,
+    axis: Axis,
+    y: u64,
+    row: &RequestRow,
+) -> Result<(), AllocError>
+    requires { y < 2 ^ 62 }
+    ensures { OnOk result (string_bytes out.new ≡ string_bytes out.old ++ render (before_at axis y row.now)) }
+{
+    if !is_before(axis.span, row.sent) {
+        return Ok(());
+    }
+    let words = before_words(alloc, axis.span, row)?;
+    let x = u64::from(axis.columns.left).saturating_sub(18);
+    add_words(alloc, out, (x, y + 11), "s e mute", words.as_str())
 }
 
 fn sent_title(alloc: Global, row: &RequestRow) -> Result<String, AllocError>
@@ -82,7 +135,7 @@ fn add_sent_mark(
     ensures { OnOk result (string_bytes out.new ≡ string_bytes out.old ++ render (sent_mark axis y row.now)) }
 {
     let title = sent_title(alloc, row)?;
-    let middle = (at(axis, row.sent), y + 7);
+    let middle = (sent_x(axis, row.sent), y + 7);
     add_titled_circle(alloc, out, title.as_str(), middle, 4, "sent")
 }
 
@@ -178,7 +231,7 @@ fn wait_words(alloc: Global, why: Option<Why>) -> Result<String, AllocError>
     }
 }
 
-fn ended_words(alloc: Global, row: &RequestRow) -> Result<String, AllocError>
+pub(crate) fn ended_words(alloc: Global, row: &RequestRow) -> Result<String, AllocError>
     ensures { IfOk result (λ text. string_bytes text ≡ ended_words row.now) }
 {
     let end = end_words(alloc, row.sent, row.fate)?;
@@ -186,12 +239,54 @@ fn ended_words(alloc: Global, row: &RequestRow) -> Result<String, AllocError>
     format!(in alloc; "{end}{wait}")
 }
 
-fn add_ended(alloc: Global, out: &mut String, y: u64, row: &RequestRow) -> Result<(), AllocError>
+fn add_ended(
+    alloc: Global,
+    out: &mut String,
+    axis: Axis,
+    y: u64,
+    row: &RequestRow,
+) -> Result<(), AllocError>
     requires { y < 2 ^ 62 }
-    ensures { OnOk result (string_bytes out.new ≡ string_bytes out.old ++ render (ended_at y row.now)) }
+    ensures { OnOk result (string_bytes out.new ≡ string_bytes out.old ++ render (ended_at axis y row.now)) }
 {
     let words = ended_words(alloc, row)?;
-    add_words(alloc, out, (880, y + 11), "s mute", words.as_str())
+    let point = (right(axis.columns), y + 11);
+    add_words(alloc, out, point, "s mute", words.as_str())
+}
+
+fn add_marks(
+    alloc: Global,
+    out: &mut String,
+    axis: Axis,
+    y: u64,
+    row: &RequestRow,
+) -> Result<(), AllocError>
+    requires { y < 2 ^ 62 }
+    ensures { OnOk result (string_bytes out.new ≡ string_bytes out.old ++ render (asked_marks axis y row.now)) }
+{
+    add_asked_line(alloc, out, axis, y, row)?;
+    add_before(alloc, out, axis, y, row)?;
+    add_sent_mark(alloc, out, axis, y, row)?;
+    add_told_mark(alloc, out, axis, y, row.told, why_last(row))?;
+    add_end_mark(alloc, out, axis, y, row)?;
+    Ok(())
+}
+
+/// The marks of a request: none, where the channel has no MAP.
+fn add_marks_at(
+    alloc: Global,
+    out: &mut String,
+    axis: Axis,
+    y: u64,
+    row: &RequestRow,
+) -> Result<(), AllocError>
+    requires { y < 2 ^ 62 }
+    ensures { OnOk result (string_bytes out.new ≡ string_bytes out.old ++ render (marks_at axis y row.now)) }
+{
+    if is_bare(axis.span) {
+        return Ok(());
+    }
+    add_marks(alloc, out, axis, y, row)
 }
 
 /// The row of a request.
@@ -205,11 +300,8 @@ pub(crate) fn add_asked(
     requires { y < 2 ^ 62 }
     ensures { OnOk result (string_bytes out.new ≡ string_bytes out.old ++ render (asked axis y row.now)) }
 {
-    add_asked_name(alloc, out, y, row)?;
-    add_asked_line(alloc, out, axis, y, row)?;
-    add_sent_mark(alloc, out, axis, y, row)?;
-    add_told_mark(alloc, out, axis, y, row.told, why_last(row))?;
-    add_end_mark(alloc, out, axis, y, row)?;
-    add_ended(alloc, out, y, row)?;
+    add_asked_name(alloc, out, axis, y, row)?;
+    add_marks_at(alloc, out, axis, y, row)?;
+    add_ended(alloc, out, axis, y, row)?;
     Ok(())
 }

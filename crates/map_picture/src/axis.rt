@@ -1,15 +1,29 @@
 //! The axis of time of a channel.
 
 ghost use Rattle.std.specs.Prelude.{◌≡◌, ◌<◌, ◌≤◌, ◌^◌};
-ghost use Rattle.map_picture.specs.Axis.{at, axis_of, coarse, wide, with_map};
+ghost use Rattle.map_picture.specs.Axis.{at, coarse, is_bare, is_before, right, span_of, wide, with_map};
 
 use plan_account::Deed;
 
-/// The span that is drawn: from its first minislot up to where it ends.
+/// A span of time: from its first minislot up to where it ends.
 #[derive(Clone, Copy)]
-pub(crate) struct Axis {
+pub(crate) struct Span {
     pub from: u64,
     pub to: u64,
+}
+
+/// Where the columns of a channel are: the right end of names, and the left end of its axis.
+#[derive(Clone, Copy)]
+pub(crate) struct Columns {
+    pub names: u32,
+    pub left: u32,
+}
+
+/// A span of time, and where it is drawn.
+#[derive(Clone, Copy)]
+pub(crate) struct Axis {
+    pub columns: Columns,
+    pub span: Span,
 }
 
 /// A channel, and the axis of its times.
@@ -17,6 +31,20 @@ pub(crate) struct Axis {
 pub(crate) struct Page {
     pub ch: u8,
     pub axis: Axis,
+}
+
+/// Whether a span is that of a channel without a MAP.
+pub(crate) fn is_bare(span: Span) -> bool
+    ensures { result ≡ is_bare span }
+{
+    span.to < span.from
+}
+
+/// Whether a time is before the first MAP begins.
+pub(crate) fn is_before(span: Span, t: u64) -> bool
+    ensures { result ≡ is_before span t }
+{
+    !is_bare(span) && t < span.from
 }
 
 /// A part of a span: where the span is long, in units of 2^20 minislots.
@@ -32,15 +60,16 @@ fn coarse(span: u64, part: u64) -> u64
     }
 }
 
-/// Where a time stands.
+/// Where a time is.
 #[tactic(auto, using(crate::proofs::Sizes::div_fits))]
 pub(crate) fn at(axis: Axis, t: u64) -> u64
     ensures value { result ≡ at axis t }
     ensures small { result < 2 ^ 61 }
 {
-    let span = axis.to.saturating_sub(axis.from);
-    let part = t.min(axis.to).saturating_sub(axis.from);
-    104 + coarse(span, part) * 768 / (coarse(span, span) + 1)
+    let Span { from, to } = axis.span;
+    let span = to.saturating_sub(from);
+    let part = t.min(to).saturating_sub(from);
+    u64::from(axis.columns.left) + coarse(span, part) * 768 / coarse(span, span).max(1)
 }
 
 /// How wide a stretch of time is.
@@ -50,9 +79,17 @@ pub(crate) fn wide(axis: Axis, from: u64, to: u64) -> u64
     at(axis, to).saturating_sub(at(axis, from)).max(2)
 }
 
+/// Where words begin, right of the axis.
+pub(crate) fn right(columns: Columns) -> u64
+    ensures value { result ≡ right columns }
+    ensures small { result < 2 ^ 33 }
+{
+    u64::from(columns.left) + 776
+}
+
 /// A span with a MAP of the channel more.
-fn with_map(ch: u8, axis: Axis, deed: &Deed) -> Axis
-    ensures { result ≡ with_map ch axis deed.now }
+fn with_map(ch: u8, span: Span, deed: &Deed) -> Span
+    ensures { result ≡ with_map ch span deed.now }
 {
     match deed {
         Deed::Map {
@@ -63,32 +100,32 @@ fn with_map(ch: u8, axis: Axis, deed: &Deed) -> Axis
         } => {
             if *c == ch {
                 let (from, end) = (start.get(), start.get() + u64::from(*len));
-                Axis {
-                    from: axis.from.min(from),
-                    to: axis.to.max(end),
+                Span {
+                    from: span.from.min(from),
+                    to: span.to.max(end),
                 }
             } else {
-                axis
+                span
             }
         }
-        Deed::Channel(_) => axis,
-        Deed::Flow { .. } => axis,
-        Deed::Drop { .. } => axis,
-        Deed::Request { .. } => axis,
-        Deed::Other => axis,
+        Deed::Channel(_) => span,
+        Deed::Flow { .. } => span,
+        Deed::Drop { .. } => span,
+        Deed::Request { .. } => span,
+        Deed::Other => span,
     }
 }
 
 /// The span of all MAPs of a channel.
-pub(crate) fn axis_of(deeds: &[Deed], ch: u8) -> Axis
-    ensures { result ≡ axis_of deeds.now ch }
+pub(crate) fn span_of(deeds: &[Deed], ch: u8) -> Span
+    ensures { result ≡ span_of deeds.now ch }
 {
-    let mut axis = Axis {
+    let mut span = Span {
         from: 1 << 63,
         to: 0,
     };
     for deed in deeds {
-        axis = with_map(ch, axis, deed);
+        span = with_map(ch, span, deed);
     }
-    axis
+    span
 }

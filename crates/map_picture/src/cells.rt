@@ -1,8 +1,8 @@
 //! A MAP as a strip of cells.
 
-ghost use Rattle.std.specs.Prelude.{◌≡◌, ◌++◌, ◌<◌, ◌^◌, IfOk, OnOk, string_bytes};
+ghost use Rattle.std.specs.Prelude.{◌≡◌, ◌++◌, ◌+◌, ◌*◌, ◌<◌, ◌^◌, IfOk, OnOk, length, nat_lt, string_bytes};
 ghost use Rattle.xml_text.specs.Xml.{render};
-ghost use Rattle.map_picture.specs.Cells.{cell, cell_at, cell_shape, cell_title, cell_width, cell_words, cell_x, cells, CellsFill};
+ghost use Rattle.map_picture.specs.Cells.{cell, cell_at, cell_shape, cell_title, cell_width, cell_words, cell_x, cells, CellsFill, EndsAgree};
 
 use crate::shapes::{add_block, cell_class, high, words_class};
 use crate::words::owner_name;
@@ -12,17 +12,19 @@ use xml_text::add_words;
 
 /// Where a minislot of a MAP of so many begins.
 #[tactic(auto, using(crate::proofs::Sizes::div_fits))]
-fn cell_x(len: u16, x: u16) -> u64
-    ensures value { result ≡ cell_x len x }
-    ensures small { result < 2 ^ 32 }
+pub(crate) fn cell_x(left: u32, len: u16, x: u16) -> u64
+    ensures value { result ≡ cell_x left len x }
+    ensures small { result < 2 ^ 33 }
 {
-    104 + u64::from(x) * 768 / u64::from(len.max(1))
+    u64::from(left) + u64::from(x) * 768 / u64::from(len.max(1))
 }
 
-fn cell_width(len: u16, interval: &Interval) -> u64
-    ensures { result ≡ cell_width len interval.now }
+fn cell_width(left: u32, len: u16, interval: &Interval) -> u64
+    ensures value { result ≡ cell_width left len interval.now }
+    ensures small { result < 2 ^ 33 }
 {
-    cell_x(len, interval.to.get()).saturating_sub(cell_x(len, interval.from.get()))
+    let from = cell_x(left, len, interval.from.get());
+    cell_x(left, len, interval.to.get()).saturating_sub(from)
 }
 
 /// What a cell tells when it is pointed at.
@@ -39,35 +41,46 @@ fn cell_title(alloc: Global, interval: &Interval) -> Result<String, AllocError>
 fn add_cell_shape(
     alloc: Global,
     out: &mut String,
+    left: u32,
     len: u16,
     y: u64,
     interval: &Interval,
 ) -> Result<(), AllocError>
-    ensures { OnOk result (string_bytes out.new ≡ string_bytes out.old ++ render (cell_shape len y interval.now)) }
+    ensures { OnOk result (string_bytes out.new ≡ string_bytes out.old ++ render (cell_shape left len y interval.now)) }
 {
     let title = cell_title(alloc, interval)?;
-    let corner = (cell_x(len, interval.from.get()), y);
-    let size = (cell_width(len, interval), high(interval));
+    let corner = (cell_x(left, len, interval.from.get()), y);
+    let size = (cell_width(left, len, interval), high(interval));
     let class = cell_class(interval);
     add_block(alloc, out, title.as_str(), corner, size, class)
+}
+
+/// Whether words have no room in a cell.
+fn lacks_room(width: u64, words: &str) -> bool
+    requires { width < 2 ^ 33 }
+    ensures { result ≡ nat_lt width (6 * length words.now + 8) }
+{
+    let length = words.len() as u64;
+    length >= 1 << 40 || width < 6 * length + 8
 }
 
 /// Whose a cell is, where there is room for it.
 fn add_cell_words(
     alloc: Global,
     out: &mut String,
+    left: u32,
     len: u16,
     y: u64,
     interval: &Interval,
 ) -> Result<(), AllocError>
     requires { y < 2 ^ 62 }
-    ensures { OnOk result (string_bytes out.new ≡ string_bytes out.old ++ render (cell_words len y interval.now)) }
+    ensures { OnOk result (string_bytes out.new ≡ string_bytes out.old ++ render (cell_words left len y interval.now)) }
 {
-    if cell_width(len, interval) < 44 {
+    let name = owner_name(alloc, interval.sid)?;
+    if lacks_room(cell_width(left, len, interval), name.as_str()) {
         return Ok(());
     }
-    let name = owner_name(alloc, interval.sid)?;
-    let x = cell_x(len, interval.from.get());
+    let x = cell_x(left, len, interval.from.get());
     let class = words_class(interval.sid);
     add_words(alloc, out, (x + 4, y + 11), class, name.as_str())
 }
@@ -75,48 +88,51 @@ fn add_cell_words(
 fn add_cell(
     alloc: Global,
     out: &mut String,
+    left: u32,
     len: u16,
     y: u64,
     interval: &Interval,
 ) -> Result<(), AllocError>
     requires { y < 2 ^ 62 }
-    ensures { OnOk result (string_bytes out.new ≡ string_bytes out.old ++ render (cell len y interval.now)) }
+    ensures { OnOk result (string_bytes out.new ≡ string_bytes out.old ++ render (cell left len y interval.now)) }
 {
-    add_cell_shape(alloc, out, len, y, interval)?;
-    add_cell_words(alloc, out, len, y, interval)?;
+    add_cell_shape(alloc, out, left, len, y, interval)?;
+    add_cell_words(alloc, out, left, len, y, interval)?;
     Ok(())
 }
 
 fn add_cell_at(
     alloc: Global,
     out: &mut String,
+    left: u32,
     len: u16,
     y: u64,
     intervals: &[Interval],
     k: usize,
 ) -> Result<(), AllocError>
     requires { y < 2 ^ 62 }
-    ensures { OnOk result (string_bytes out.new ≡ string_bytes out.old ++ render (cell_at len y intervals.now k)) }
+    ensures { OnOk result (string_bytes out.new ≡ string_bytes out.old ++ render (cell_at left len y intervals.now k)) }
 {
     if k >= intervals.len() {
         return Ok(());
     }
-    add_cell(alloc, out, len, y, &intervals[k])
+    add_cell(alloc, out, left, len, y, &intervals[k])
 }
 
 /// The cells of a MAP of so many minislots.
 pub(crate) fn add_cells(
     alloc: Global,
     out: &mut String,
+    left: u32,
     len: u16,
     y: u64,
     intervals: &[Interval],
 ) -> Result<(), AllocError>
     requires { y < 2 ^ 62 }
-    ensures { OnOk result (string_bytes out.new ≡ string_bytes out.old ++ render (cells len y intervals.now)) }
+    ensures { OnOk result (string_bytes out.new ≡ string_bytes out.old ++ render (cells left len y intervals.now)) }
 {
     for k in 0..intervals.len() {
-        add_cell_at(alloc, out, len, y, intervals, k)?;
+        add_cell_at(alloc, out, left, len, y, intervals, k)?;
     }
     Ok(())
 }
@@ -124,4 +140,9 @@ pub(crate) fn add_cells(
 /// The cells of a MAP's intervals, which follow one another, add up to the whole strip.
 pub fn cells_fill()
     ensures { CellsFill }
+{}
+
+/// A MAP's frame and its strip have the same ends.
+pub fn ends_agree()
+    ensures { EndsAgree }
 {}

@@ -9,17 +9,18 @@ ghost use Rattle.plan_account.specs.Deeds.{channels_of};
 ghost use Rattle.map_picture.specs.Pictures.{channel, channel_at, channel_height, channel_rows, channels_drawn, first_top, heading, layers, tops_from, IsDrawable, IsPictureOf};
 ghost use Rattle.map_picture.specs.Wedges.{IsInOrder};
 
-use crate::axis::{Page, axis_of};
+use crate::axis::{Axis, Page, span_of};
+use crate::columns::columns_of;
+use crate::legend::legend_for;
 use crate::picked::{leases_on, maps_on, requests_on};
 use crate::rows::{add_frames, add_owners, add_requests, add_strips};
+use crate::scales::{add_no_map, add_scale, numbers};
 use crate::sent::{Sent, in_order};
-use crate::style::{STYLE, legend_for, patterns};
+use crate::style::{STYLE, patterns};
+use crate::widths::width_of;
 use plan_account::{Account, Deed, LeaseRow, RequestRow, channels_of};
 use std::alloc::{AllocError, Global};
 use xml_text::{Layers, add_words, drawing};
-
-/// A time that is written in more than twelve digits.
-const LATE: u64 = 1_000_000_000_000;
 
 fn channel_height(alloc: Global, account: &Account, ch: u8) -> Result<u64, AllocError>
     requires { IsDrawable account.now }
@@ -29,7 +30,7 @@ fn channel_height(alloc: Global, account: &Account, ch: u8) -> Result<u64, Alloc
     let owners = leases_on(alloc, ch, account.leases())?.len() as u64;
     let requests = requests_on(alloc, ch, account.requests())?.len() as u64;
     let maps = maps_on(alloc, ch, account.deeds())?.len() as u64;
-    Ok(64 + 22 * owners + 22 * requests + 22 * maps)
+    Ok(80 + 22 * owners + 22 * requests + 22 * maps)
 }
 
 /// Where channels begin, and where the last one ends.
@@ -39,7 +40,7 @@ fn tops_of(alloc: Global, account: &Account, channels: &[u8]) -> Result<Vec<u64>
     ensures { IfOk result (λ tops. tops.items ≡ tops_from account.now first_top channels.now) }
 {
     let mut tops = Vec::new(alloc);
-    let mut y: u64 = 56;
+    let mut y: u64 = 72;
     for ch in channels {
         tops.push(y)?;
         y += channel_height(alloc, account, *ch)?;
@@ -62,6 +63,7 @@ fn add_rows(
     out: &mut String,
     page: Page,
     deeds: &[Deed],
+    numbers: &[u64],
     sent: &[Sent],
     y: u64,
     owners: &[LeaseRow],
@@ -74,15 +76,19 @@ fn add_rows(
     requires few_requests { length requests.now < 2 ^ 27 }
     requires few_maps { length maps.now < 2 ^ 27 }
     requires order { IsInOrder sent.now }
-    ensures { OnOk result (string_bytes out.new ≡ string_bytes out.old ++ render (channel_rows page deeds.now sent.now y owners.now requests.now maps.now)) }
+    ensures { OnOk result (string_bytes out.new ≡ string_bytes out.old
+        ++ render (channel_rows page deeds.now numbers.now sent.now y owners.now requests.now maps.now)) }
 {
     let first = 22 * (owners.len() as u64);
     let second = 22 * (requests.len() as u64);
     add_heading(alloc, out, page.ch, y)?;
-    add_frames(alloc, out, page, deeds, y + 26, first + second + 2, maps)?;
-    add_owners(alloc, out, page, deeds, y + 30, owners)?;
-    add_requests(alloc, out, page.axis, y + 30 + first, requests)?;
-    add_strips(alloc, out, deeds, sent, y + 44 + first + second, maps)?;
+    add_no_map(alloc, out, page.axis, y)?;
+    add_scale(alloc, out, page.axis, y, numbers)?;
+    add_frames(alloc, out, page, deeds, y + 42, first + second + 2, maps)?;
+    add_owners(alloc, out, page, deeds, y + 46, owners)?;
+    add_requests(alloc, out, page.axis, y + 46 + first, requests)?;
+    let (columns, below) = (page.axis.columns, y + 60 + first + second);
+    add_strips(alloc, out, deeds, columns, numbers, sent, below, maps)?;
     Ok(())
 }
 
@@ -103,9 +109,14 @@ fn add_channel(
     let owners = leases_on(alloc, ch, account.leases())?;
     let requests = requests_on(alloc, ch, account.requests())?;
     let maps = maps_on(alloc, ch, deeds)?;
-    let axis = axis_of(deeds, ch);
+    let span = span_of(deeds, ch);
+    let columns = columns_of(alloc, span, &owners, &requests)?;
+    let axis = Axis { columns, span };
     let page = Page { ch, axis };
-    add_rows(alloc, out, page, deeds, sent, y, &owners, &requests, &maps)?;
+    let marked = numbers(alloc, span)?;
+    add_rows(
+        alloc, out, page, deeds, &marked, sent, y, &owners, &requests, &maps,
+    )?;
     Ok(())
 }
 
@@ -218,18 +229,6 @@ fn drawn_so(
     Ok(text)
 }
 
-/// How wide the picture is: the words on its right need more room where they tell a late time.
-fn width_of(deeds: &[Deed]) -> u64 {
-    for deed in deeds {
-        if let Deed::Map { start, .. } = deed {
-            if start.get() >= LATE {
-                return 1180;
-            }
-        }
-    }
-    1082
-}
-
 /// The picture of what was sent and is now in order.
 fn drawn_in_order(
     alloc: Global,
@@ -252,7 +251,7 @@ fn drawn_in_order(
         Some(top) => *top,
         None => 0,
     };
-    let size = (width_of(account.deeds()), height);
+    let size = (width_of(alloc, account, &channels)?, height);
     drawn_so(
         alloc,
         account,

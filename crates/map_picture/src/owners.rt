@@ -1,142 +1,18 @@
 //! The row of a lease.
 
-ghost use Rattle.std.specs.Prelude.{◌≡◌, ◌++◌, ◌+◌, ◌<◌, ◌≤◌, ◌^◌, IfOk, OnOk, string_bytes};
+ghost use Rattle.std.specs.Prelude.{◌≡◌, ◌++◌, ◌<◌, ◌^◌, IfOk, OnOk, string_bytes};
 ghost use Rattle.xml_text.specs.Xml.{render};
-ghost use Rattle.map_picture.specs.Owners.{first_due, grant_at, grant_mark, grant_title, grants, grants_at, grants_in, grants_of, is_granted, kind_at, kind_words, owner, owner_name_at, window, window_at, window_count, windows, windows_from};
+ghost use Rattle.map_picture.specs.Owners.{flow_at, flow_words, grant_at, grant_mark, grant_title, grants, grants_at, grants_in, grants_of, kind_words, missed_words, owner, owner_name_at, owner_words};
 
-use crate::axis::{Axis, Page, at, wide};
+use crate::axis::{Axis, Page, at, right, wide};
+use crate::picked::is_granted;
 use crate::shapes::{add_block, class_of, high};
+use crate::windows::add_windows;
 use flow_state::FlowKind;
 use map_body::Interval;
 use plan_account::{Deed, LeaseRow};
 use std::alloc::{AllocError, Global};
-use xml_text::{add_rectangle, add_words};
-
-/// The first due time at the axis or behind it.
-fn first_due(axis: Axis, interval: u32, base: u64) -> u64
-    ensures { result ≡ first_due axis interval base }
-{
-    if axis.from < base {
-        base
-    } else {
-        let past = (axis.from - base) % u64::from(interval.max(1));
-        axis.from.saturating_sub(past)
-    }
-}
-
-/// A window from a due time to a jitter later, as far as it begins before the flow ends.
-fn add_window(
-    alloc: Global,
-    out: &mut String,
-    axis: Axis,
-    y: u64,
-    jitter: u32,
-    until: u64,
-    due: u64,
-) -> Result<(), AllocError>
-    requires y { y < 2 ^ 62 }
-    requires due { due < 2 ^ 63 + 2 ^ 42 }
-    ensures { OnOk result (string_bytes out.new ≡ string_bytes out.old ++ render (window axis y jitter until due)) }
-{
-    if due >= until {
-        return Ok(());
-    }
-    let end = (due + u64::from(jitter)).min(until);
-    let size = (wide(axis, due, end), 2);
-    add_rectangle(alloc, out, (at(axis, due), y + 15), size, 0, "due")
-}
-
-#[tactic(auto, using(crate::proofs::Sizes::step_fits))]
-fn add_window_at(
-    alloc: Global,
-    out: &mut String,
-    axis: Axis,
-    y: u64,
-    interval: u32,
-    jitter: u32,
-    until: u64,
-    first: u64,
-    k: u64,
-) -> Result<(), AllocError>
-    requires y { y < 2 ^ 62 }
-    requires k { k < 512 }
-    ensures { OnOk result (string_bytes out.new ≡ string_bytes out.old ++ render (window_at axis y interval jitter until first k)) }
-{
-    if first >= 1 << 63 {
-        return Ok(());
-    }
-    let due = first + k * u64::from(interval);
-    add_window(alloc, out, axis, y, jitter, until, due)
-}
-
-/// How many windows are drawn.
-fn window_count(interval: u32, until: u64, first: u64) -> u64
-    ensures value { result ≡ window_count interval until first }
-    ensures few { result ≤ 512 }
-{
-    let more = until.saturating_sub(first) / u64::from(interval.max(1));
-    more.min(511) + 1
-}
-
-/// The windows that begin before the flow ends, and no more than 512.
-fn add_windows_from(
-    alloc: Global,
-    out: &mut String,
-    axis: Axis,
-    y: u64,
-    interval: u32,
-    jitter: u32,
-    until: u64,
-    first: u64,
-) -> Result<(), AllocError>
-    requires { y < 2 ^ 62 }
-    ensures { OnOk result (string_bytes out.new ≡ string_bytes out.old ++ render (windows_from axis y interval jitter until first)) }
-{
-    for k in 0..window_count(interval, until, first) {
-        add_window_at(alloc, out, axis, y, interval, jitter, until, first, k)?;
-    }
-    Ok(())
-}
-
-/// The windows of a flow that goes until then.
-fn add_windows(
-    alloc: Global,
-    out: &mut String,
-    axis: Axis,
-    y: u64,
-    until: u64,
-    kind: FlowKind,
-) -> Result<(), AllocError>
-    requires { y < 2 ^ 62 }
-    ensures { OnOk result (string_bytes out.new ≡ string_bytes out.old ++ render (windows axis y until kind)) }
-{
-    match kind {
-        FlowKind::BestEffort(_) | FlowKind::Initial { .. } => Ok(()),
-        FlowKind::Ugs {
-            interval,
-            jitter,
-            base,
-            ..
-        }
-        | FlowKind::Station {
-            interval,
-            jitter,
-            base,
-            ..
-        } => {
-            let first = first_due(axis, interval, base);
-            add_windows_from(alloc, out, axis, y, interval, jitter, until, first)
-        }
-        FlowKind::Poll {
-            interval,
-            jitter,
-            base,
-        } => {
-            let first = first_due(axis, interval, base);
-            add_windows_from(alloc, out, axis, y, interval, jitter, until, first)
-        }
-    }
-}
+use xml_text::add_words;
 
 /// What a flow is.
 fn kind_words(alloc: Global, kind: FlowKind) -> Result<String, AllocError>
@@ -168,16 +44,6 @@ fn kind_words(alloc: Global, kind: FlowKind) -> Result<String, AllocError>
             ..
         } => format!(in alloc; "initial {size} every {interval} within {jitter}"),
     }
-}
-
-/// Whether an interval is the SID's of a lease, and begins in it, in a MAP that begins then.
-fn is_granted(row: &LeaseRow, start: u64, interval: &Interval) -> bool
-    requires { start < 2 ^ 63 }
-    ensures { result ≡ is_granted row.now start interval.now }
-{
-    let from = start + u64::from(interval.from.get());
-    let term = row.lease.term;
-    u32::from(interval.sid.get()) == row.key % (1 << 16) && term.first <= from && from <= term.last
 }
 
 fn grant_title(alloc: Global, start: u64, interval: &Interval) -> Result<String, AllocError>
@@ -319,21 +185,60 @@ fn add_grants(
 }
 
 /// Whose row it is.
-fn add_owner_name(alloc: Global, out: &mut String, row: &LeaseRow, y: u64) -> Result<(), AllocError>
-    requires { y < 2 ^ 62 }
-    ensures { OnOk result (string_bytes out.new ≡ string_bytes out.old ++ render (owner_name_at row.now y)) }
+pub(crate) fn owner_words(alloc: Global, row: &LeaseRow) -> Result<String, AllocError>
+    ensures { IfOk result (λ text. string_bytes text ≡ owner_words row.now) }
 {
     let (sid, modem) = (row.key % (1 << 16), row.lease.modem);
-    let words = format!(in alloc; "sid {sid}, modem {modem}")?;
-    add_words(alloc, out, (98, y + 11), "s e", words.as_str())
+    format!(in alloc; "sid {sid}, modem {modem}")
 }
 
-fn add_kind(alloc: Global, out: &mut String, kind: FlowKind, y: u64) -> Result<(), AllocError>
+fn add_owner_name(
+    alloc: Global,
+    out: &mut String,
+    axis: Axis,
+    row: &LeaseRow,
+    y: u64,
+) -> Result<(), AllocError>
     requires { y < 2 ^ 62 }
-    ensures { OnOk result (string_bytes out.new ≡ string_bytes out.old ++ render (kind_at kind y)) }
+    ensures { OnOk result (string_bytes out.new ≡ string_bytes out.old ++ render (owner_name_at axis row.now y)) }
 {
-    let words = kind_words(alloc, kind)?;
-    add_words(alloc, out, (880, y + 11), "s mute", words.as_str())
+    let words = owner_words(alloc, row)?;
+    let point = (u64::from(axis.columns.names), y + 11);
+    add_words(alloc, out, point, "s e", words.as_str())
+}
+
+/// How many windows were missed.
+fn missed_words(alloc: Global, missed: u64) -> Result<String, AllocError>
+    ensures { IfOk result (λ text. string_bytes text ≡ missed_words missed) }
+{
+    if missed == 0 {
+        return String::from_str(alloc, "");
+    }
+    format!(in alloc; ", {missed} missed")
+}
+
+/// What a flow is, and how many of its windows were missed.
+pub(crate) fn flow_words(alloc: Global, row: &LeaseRow) -> Result<String, AllocError>
+    ensures { IfOk result (λ text. string_bytes text ≡ flow_words row.now) }
+{
+    let kind = kind_words(alloc, row.lease.kind)?;
+    let missed = missed_words(alloc, row.missed)?;
+    format!(in alloc; "{kind}{missed}")
+}
+
+fn add_flow(
+    alloc: Global,
+    out: &mut String,
+    axis: Axis,
+    row: &LeaseRow,
+    y: u64,
+) -> Result<(), AllocError>
+    requires { y < 2 ^ 62 }
+    ensures { OnOk result (string_bytes out.new ≡ string_bytes out.old ++ render (flow_at axis row.now y)) }
+{
+    let words = flow_words(alloc, row)?;
+    let point = (right(axis.columns), y + 11);
+    add_words(alloc, out, point, "s mute", words.as_str())
 }
 
 /// The row of a lease.
@@ -348,9 +253,9 @@ pub(crate) fn add_owner(
     requires { y < 2 ^ 62 }
     ensures { OnOk result (string_bytes out.new ≡ string_bytes out.old ++ render (owner page deeds.now y row.now)) }
 {
-    add_owner_name(alloc, out, row, y)?;
-    add_windows(alloc, out, page.axis, y, row.until, row.lease.kind)?;
+    add_owner_name(alloc, out, page.axis, row, y)?;
+    add_windows(alloc, out, page, deeds, y, row)?;
     add_grants(alloc, out, page, deeds, row, y)?;
-    add_kind(alloc, out, row.lease.kind, y)?;
+    add_flow(alloc, out, page.axis, row, y)?;
     Ok(())
 }

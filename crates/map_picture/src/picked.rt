@@ -1,9 +1,10 @@
 //! Which rows a channel has.
 
-ghost use Rattle.std.specs.Prelude.{◌≡◌, ◌≤◌, length, IfOk};
-ghost use Rattle.map_picture.specs.Picked.{has_row, is_map, is_on, leases_on, maps_on, requests_on};
+ghost use Rattle.std.specs.Prelude.{◌≡◌, ◌<◌, ◌≤◌, ◌^◌, length, IfOk};
+ghost use Rattle.map_picture.specs.Picked.{has_row, is_granted, is_map, is_on, leases_on, maps_on, requests_on};
 
 use flow_state::FlowKind;
+use map_body::Interval;
 use plan_account::{Deed, LeaseRow, RequestRow};
 use std::alloc::{AllocError, Global};
 
@@ -61,6 +62,16 @@ pub(crate) fn requests_on(
         }
     }
     Ok(rows)
+}
+
+/// Whether an interval is the SID's of a lease, and begins in it, in a MAP that begins then.
+pub(crate) fn is_granted(row: &LeaseRow, start: u64, interval: &Interval) -> bool
+    requires { start < 2 ^ 63 }
+    ensures { result ≡ is_granted row.now start interval.now }
+{
+    let from = start + u64::from(interval.from.get());
+    let term = row.lease.term;
+    u32::from(interval.sid.get()) == row.key % (1 << 16) && term.first <= from && from <= term.last
 }
 
 /// Whether a deed is a MAP of the channel.

@@ -6,9 +6,10 @@ ghost use Rattle.map_picture.specs.Pictures.{frame, frame_at, frame_title, frame
 ghost use Rattle.map_picture.specs.Wedges.{IsInOrder};
 
 use crate::asked::add_asked;
-use crate::axis::{Axis, Page, at, wide};
+use crate::axis::{Axis, Columns, Page, at, right, wide};
 use crate::cells::add_cells;
 use crate::owners::add_owner;
+use crate::scales::add_ticks;
 use crate::sent::Sent;
 use crate::shapes::add_block;
 use crate::wedges::add_wedges;
@@ -16,17 +17,29 @@ use plan_account::{Deed, LeaseRow, RequestRow, ShownMap};
 use std::alloc::{AllocError, Global};
 use xml_text::add_words;
 
-fn add_strip_name(alloc: Global, out: &mut String, y: u64, k: usize) -> Result<(), AllocError>
+fn add_strip_name(
+    alloc: Global,
+    out: &mut String,
+    columns: Columns,
+    y: u64,
+    k: usize,
+) -> Result<(), AllocError>
     requires y { y < 2 ^ 62 }
     requires k { k < 2 ^ 62 }
-    ensures { OnOk result (string_bytes out.new ≡ string_bytes out.old ++ render (strip_name y k)) }
+    ensures { OnOk result (string_bytes out.new ≡ string_bytes out.old ++ render (strip_name columns y k)) }
 {
     let number = k + 1;
     let words = format!(in alloc; "MAP {number}")?;
-    add_words(alloc, out, (98, y + 11), "s e b", words.as_str())
+    let point = (u64::from(columns.names), y + 11);
+    add_words(alloc, out, point, "s e b", words.as_str())
 }
 
-fn strip_text(alloc: Global, i: usize, start: u64, len: u16) -> Result<String, AllocError>
+pub(crate) fn strip_text(
+    alloc: Global,
+    i: usize,
+    start: u64,
+    len: u16,
+) -> Result<String, AllocError>
     requires { i < 2 ^ 62 }
     ensures { IfOk result (λ text. string_bytes text ≡ strip_text i start len) }
 {
@@ -37,6 +50,7 @@ fn strip_text(alloc: Global, i: usize, start: u64, len: u16) -> Result<String, A
 fn add_strip_words(
     alloc: Global,
     out: &mut String,
+    columns: Columns,
     y: u64,
     i: usize,
     start: u64,
@@ -44,16 +58,19 @@ fn add_strip_words(
 ) -> Result<(), AllocError>
     requires y { y < 2 ^ 62 }
     requires i { i < 2 ^ 62 }
-    ensures { OnOk result (string_bytes out.new ≡ string_bytes out.old ++ render (strip_words y i start len)) }
+    ensures { OnOk result (string_bytes out.new ≡ string_bytes out.old ++ render (strip_words columns y i start len)) }
 {
     let words = strip_text(alloc, i, start, len)?;
-    add_words(alloc, out, (880, y + 11), "s mute", words.as_str())
+    let point = (right(columns), y + 11);
+    add_words(alloc, out, point, "s mute", words.as_str())
 }
 
 /// The strip of MAP `k`, of deed `i`, and what modems sent in it.
 fn add_strip(
     alloc: Global,
     out: &mut String,
+    columns: Columns,
+    numbers: &[u64],
     sent: &[Sent],
     y: u64,
     k: usize,
@@ -68,12 +85,14 @@ fn add_strip(
     requires i { i < 2 ^ 62 }
     requires order { IsInOrder sent.now }
     requires start { start < 2 ^ 63 }
-    ensures { OnOk result (string_bytes out.new ≡ string_bytes out.old ++ render (strip sent.now y k i ch start len map.now)) }
+    ensures { OnOk result (string_bytes out.new ≡ string_bytes out.old ++ render (strip columns numbers.now sent.now y k i ch start len map.now)) }
 {
-    add_strip_name(alloc, out, y, k)?;
-    add_cells(alloc, out, len, y, map.intervals())?;
-    add_wedges(alloc, out, sent, ch, start, len, y)?;
-    add_strip_words(alloc, out, y, i, start, len)?;
+    let left = columns.left;
+    add_strip_name(alloc, out, columns, y, k)?;
+    add_cells(alloc, out, left, len, y, map.intervals())?;
+    add_ticks(alloc, out, left, start, len, y, numbers)?;
+    add_wedges(alloc, out, sent, ch, left, start, len, y)?;
+    add_strip_words(alloc, out, columns, y, i, start, len)?;
     Ok(())
 }
 
@@ -81,6 +100,8 @@ fn add_strip(
 fn add_strip_of(
     alloc: Global,
     out: &mut String,
+    columns: Columns,
+    numbers: &[u64],
     sent: &[Sent],
     y: u64,
     k: usize,
@@ -91,7 +112,7 @@ fn add_strip_of(
     requires k { k < 2 ^ 62 }
     requires i { i < 2 ^ 62 }
     requires order { IsInOrder sent.now }
-    ensures { OnOk result (string_bytes out.new ≡ string_bytes out.old ++ render (strip_of sent.now y k i deed.now)) }
+    ensures { OnOk result (string_bytes out.new ≡ string_bytes out.old ++ render (strip_of columns numbers.now sent.now y k i deed.now)) }
 {
     match deed {
         Deed::Map {
@@ -100,7 +121,12 @@ fn add_strip_of(
             len,
             map,
             ..
-        } => add_strip(alloc, out, sent, y, k, i, *ch, start.get(), *len, map),
+        } => {
+            let start = start.get();
+            add_strip(
+                alloc, out, columns, numbers, sent, y, k, i, *ch, start, *len, map,
+            )
+        }
         Deed::Channel(_) => Ok(()),
         Deed::Flow { .. } => Ok(()),
         Deed::Drop { .. } => Ok(()),
@@ -113,6 +139,8 @@ fn add_strip_at(
     alloc: Global,
     out: &mut String,
     deeds: &[Deed],
+    columns: Columns,
+    numbers: &[u64],
     sent: &[Sent],
     top: u64,
     rows: &[usize],
@@ -122,7 +150,7 @@ fn add_strip_at(
     requires deeds { length deeds.now < 2 ^ 27 }
     requires rows { length rows.now < 2 ^ 27 }
     requires order { IsInOrder sent.now }
-    ensures { OnOk result (string_bytes out.new ≡ string_bytes out.old ++ render (strip_at deeds.now sent.now top rows.now k)) }
+    ensures { OnOk result (string_bytes out.new ≡ string_bytes out.old ++ render (strip_at deeds.now columns numbers.now sent.now top rows.now k)) }
 {
     if k >= rows.len() {
         return Ok(());
@@ -131,7 +159,8 @@ fn add_strip_at(
         return Ok(());
     }
     let y = top + 22 * (k as u64);
-    add_strip_of(alloc, out, sent, y, k, rows[k], &deeds[rows[k]])
+    let (i, deed) = (rows[k], &deeds[rows[k]]);
+    add_strip_of(alloc, out, columns, numbers, sent, y, k, i, deed)
 }
 
 /// A row a MAP.
@@ -139,6 +168,8 @@ pub(crate) fn add_strips(
     alloc: Global,
     out: &mut String,
     deeds: &[Deed],
+    columns: Columns,
+    numbers: &[u64],
     sent: &[Sent],
     top: u64,
     rows: &[usize],
@@ -147,10 +178,10 @@ pub(crate) fn add_strips(
     requires deeds { length deeds.now < 2 ^ 27 }
     requires rows { length rows.now < 2 ^ 27 }
     requires order { IsInOrder sent.now }
-    ensures { OnOk result (string_bytes out.new ≡ string_bytes out.old ++ render (strips deeds.now sent.now top rows.now)) }
+    ensures { OnOk result (string_bytes out.new ≡ string_bytes out.old ++ render (strips deeds.now columns numbers.now sent.now top rows.now)) }
 {
     for k in 0..rows.len() {
-        add_strip_at(alloc, out, deeds, sent, top, rows, k)?;
+        add_strip_at(alloc, out, deeds, columns, numbers, sent, top, rows, k)?;
     }
     Ok(())
 }

@@ -58,11 +58,11 @@ fn is_in(ch: u8, start: u64, len: u16, t: &Sent) -> bool
 
 /// The middle of minislot `x` of a MAP of so many.
 #[tactic(auto, using(crate::proofs::Sizes::div_fits))]
-fn middle(len: u16, x: u64) -> u64
+fn middle(left: u32, len: u16, x: u64) -> u64
     requires { x < 2 ^ 32 }
-    ensures { result ≡ middle len x }
+    ensures { result ≡ middle left len x }
 {
-    104 + (x * 768 + 384) / u64::from(len.max(1))
+    u64::from(left) + (x * 768 + 384) / u64::from(len.max(1))
 }
 
 fn wedge_steps(alloc: Global, x: u64, y: u64) -> Result<String, AllocError>
@@ -108,6 +108,7 @@ fn add_wedge(
     alloc: Global,
     out: &mut String,
     clash: bool,
+    left: u32,
     start: u64,
     len: u16,
     y: u64,
@@ -116,10 +117,10 @@ fn add_wedge(
     requires start { start < 2 ^ 63 }
     requires within { t.now.slot < start + len }
     requires y { y < 2 ^ 62 }
-    ensures { OnOk result (string_bytes out.new ≡ string_bytes out.old ++ render (wedge clash start len y t.now)) }
+    ensures { OnOk result (string_bytes out.new ≡ string_bytes out.old ++ render (wedge clash left start len y t.now)) }
 {
     let title = wedge_title(alloc, clash, t)?;
-    let x = middle(len, t.slot.get().saturating_sub(start));
+    let x = middle(left, len, t.slot.get().saturating_sub(start));
     let steps = wedge_steps(alloc, x, y + 11)?;
     add_titled_path(
         alloc,
@@ -135,6 +136,7 @@ fn add_wedge_at(
     out: &mut String,
     sent: &[Sent],
     ch: u8,
+    left: u32,
     start: u64,
     len: u16,
     y: u64,
@@ -143,7 +145,7 @@ fn add_wedge_at(
     requires order { IsInOrder sent.now }
     requires start { start < 2 ^ 63 }
     requires y { y < 2 ^ 62 }
-    ensures { OnOk result (string_bytes out.new ≡ string_bytes out.old ++ render (wedge_at sent.now ch start len y k)) }
+    ensures { OnOk result (string_bytes out.new ≡ string_bytes out.old ++ render (wedge_at sent.now ch left start len y k)) }
 {
     if k >= sent.len() {
         return Ok(());
@@ -152,7 +154,7 @@ fn add_wedge_at(
     if !is_in(ch, start, len, t) {
         return Ok(());
     }
-    add_wedge(alloc, out, collides(sent, t), start, len, y, t)
+    add_wedge(alloc, out, collides(sent, t), left, start, len, y, t)
 }
 
 /// A wedge for each transmission in a MAP of a channel. It costs the logarithm of how many transmissions there are, and
@@ -162,6 +164,7 @@ pub(crate) fn add_wedges(
     out: &mut String,
     sent: &[Sent],
     ch: u8,
+    left: u32,
     start: u64,
     len: u16,
     y: u64,
@@ -169,12 +172,12 @@ pub(crate) fn add_wedges(
     requires order { IsInOrder sent.now }
     requires start { start < 2 ^ 63 }
     requires y { y < 2 ^ 62 }
-    ensures { OnOk result (string_bytes out.new ≡ string_bytes out.old ++ render (wedges sent.now ch start len y)) }
+    ensures { OnOk result (string_bytes out.new ≡ string_bytes out.old ++ render (wedges sent.now ch left start len y)) }
 {
     let first = count_before(sent, start);
     let past = count_before(sent, start + u64::from(len));
     for k in first..past {
-        add_wedge_at(alloc, out, sent, ch, start, len, y, k)?;
+        add_wedge_at(alloc, out, sent, ch, left, start, len, y, k)?;
     }
     Ok(())
 }

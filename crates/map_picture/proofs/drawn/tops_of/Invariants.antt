@@ -6,4 +6,4 @@ use Rattle.map_picture.proofs.drawn.tops_of.Given as goal
 abbrev pub invariant-loop-ch : goal.invariant-loop-ch
 invariant-loop-ch l =
     (l.tops.items ++ tops_from l.account l.y (drop l.ch-index l.channels) ≡ tops_from l.account first_top l.channels)
-    × (l.y ≤ 56 + 2 ^ 34 * l.ch-index)
+    × (l.y ≤ 72 + 2 ^ 34 * l.ch-index)

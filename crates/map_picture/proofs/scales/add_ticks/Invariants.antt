@@ -1,0 +1,9 @@
+use Rattle.std.proofs.Common.{◌≡◌, ◌++◌, string_bytes}
+use Rattle.xml_text.specs.Xml.{render}
+use Rattle.xml_text.specs.Each.{each}
+use Rattle.map_picture.specs.Scales.{tick_at}
+use Rattle.map_picture.proofs.scales.add_ticks.Given as goal
+
+-- each so far
+abbrev pub invariant-loop-k : goal.invariant-loop-k
+invariant-loop-k l = string_bytes l.out ≡ string_bytes l.initial.out ++ render (each l.k (tick_at l.left l.start l.len l.y l.numbers))

@@ -1,0 +1,8 @@
+use Rattle.xml_text.proofs.Callers.{each_more}
+use Rattle.map_picture.specs.Windows.{counted, window_at}
+use Rattle.map_picture.proofs.windows.add_windows_from.Goals as goal
+
+pub loop-i-preserved : goal.loop-i-preserved
+loop-i-preserved c =
+    each_more c.loop-i.i (window_at c.args.axis c.args.y (counted c.args.dues) c.args.until c.args.found.now c.args.first) _ _ _ c.loop-i.invariant
+    c.in_ok-add_window.ensures
