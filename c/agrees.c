@@ -52,6 +52,10 @@ int main(void)
     IS(s[0].sending.kind, 1), IS(s[0].sending.sid, 2), IS(s[0].sending.minislots, 3);
     IS(s[0].event.slot, 1), IS(s[0].event.first, 2), IS(s[0].event.last, 3), IS(s[0].event.kind, 4);
     IS(s[0].event.sid, 5), IS(s[0].event.minislots, 6), IS(s[0].event.iuc, 7);
+    IS(s[0].channel.next_start, 1), IS(s[0].channel.ack, 2), IS(s[0].channel.waiting, 3);
+    IS(s[0].waiting.sent, 1), IS(s[0].waiting.sid, 2), IS(s[0].waiting.minislots, 3);
+    IS(s[0].flow.due, 1), IS(s[0].flow.first, 2), IS(s[0].flow.last, 3), IS(s[0].flow.modem, 4);
+    IS(s[0].flow.tag, 5), IS(s[0].flow.sid, 6), IS(s[0].flow.service, 7);
     for (size_t i = 0; i < sizeof s[1]; i++) IS(((const unsigned char *)&s[1])[i], 0xa5);
     IS(sizeof(upsched_handle), 16);
     printf("faults %d\n", faults);

@@ -1,14 +1,20 @@
 // The commands that the header for C++ makes are those that the header for C makes, with what else is given set; and an
 // error says in words what the status is.
 #include <cstdio>
-#include <cstring>
+#include <tuple>
 
 #include <upsched.hpp>
 
 static int faults;
 
+static auto fields(const upsched_command &c) {
+    return std::tie(c.kind, c.modem, c.tag, c.interval, c.jitter, c.base, c.last, c.sent, c.not_before, c.ack, c.sid,
+                    c.minislots, c.short_max, c.keep, c.ch, c.ucd, c.phy, c.service, c.priority, c.ranging_start,
+                    c.ranging_end, c.data_start, c.data_end);
+}
+
 static void is(const char *name, const upsched_command &made, const upsched_command &wanted) {
-    if (std::memcmp(&made, &wanted, sizeof made) == 0) return;
+    if (fields(made) == fields(wanted)) return;
     faults++;
     std::printf("%s makes another command\n", name);
 }
@@ -47,6 +53,11 @@ int main() {
         machine.apply(command, output);
         if (output.kind == UPSCHED_REFUSED) std::printf("refused: %s\n", upsched_refusal_text(output.refusal));
     }
+    machine.apply(best_effort(1, 50, 1), output);
+    machine.apply(request(1, 1, 20, 990), output);
+    const auto has = [](const auto &row) { return row ? "a row" : "none"; };
+    std::printf("%s, %s, %s\n", has(machine.channel(2)), has(machine.waiting(1, 0)), has(machine.flow(1, 1)));
+    if (machine.channel(1)) std::printf("next %d\n", static_cast<int>(machine.channel(1)->next_start));
     try {
         machine.apply(nullptr, 0, output);
     } catch (const Error &error) {

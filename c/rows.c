@@ -311,6 +311,54 @@ static void open_maps(upsched_handle *modem)
     upsched_close(&other);
 }
 
+/* What the scheduler has of channel 1: its row, its waiting requests, and its flows up to a SID. */
+static void print_rows(upsched_handle *machine, uint16_t last_sid)
+{
+    upsched_channel_state c = {0, 0, 0};
+    upsched_waiting_request w = {0, 0, 0};
+    upsched_flow_state f = {0, 0, 0, 0, 0, 0, 0};
+    GOOD(upsched_machine_channel(machine, 1, &c));
+    printf("next %" PRIu64 " ack %" PRIu64 " waiting %u\n", c.next_start, c.ack, (unsigned)c.waiting);
+    for (uint32_t k = 0; upsched_machine_waiting(machine, 1, k, &w) == UPSCHED_OK; k++)
+        printf("waiting %u sid %u minislots %u sent %" PRIu64 "\n", (unsigned)k, w.sid, w.minislots, w.sent);
+    for (uint16_t sid = 0; sid <= last_sid; sid++) {
+        if (upsched_machine_flow(machine, 1, sid, &f) != UPSCHED_OK) continue;
+        printf("sid %u modem %" PRIu32 " tag %" PRIu32 " first %" PRIu64 " last %" PRIu64 " service %u due %" PRIu64 "\n",
+               f.sid, f.modem, f.tag, f.first, f.last, f.service, f.due);
+    }
+}
+
+/* Rows of a scheduler, and what isn't there. */
+static void queries(void)
+{
+    upsched_command urgent = upsched_best_effort(1, 51, 4, 7), poll = upsched_poll(1, 52, 1, 40, 8, 1010);
+    const upsched_command before[] = {channel(1000), best_effort(50), (urgent.last = 5000, urgent), poll,
+                                      request(1, 200, 990), request(2, 5, 980)};
+    const upsched_command after[] = {cut(1, 100, 0, 995), request(2, 7, 996), drop(3)};
+    upsched_handle machine = {0}, closed = {0}, modem = {0};
+    upsched_output output;
+    upsched_channel_state c = {1, 2, 3};
+    upsched_waiting_request w = {1, 2, 3};
+    upsched_flow_state f = {1, 2, 3, 4, 5, 6, 7};
+    printf("-- rows of a scheduler\n");
+    GOOD(upsched_machine_open(&machine));
+    GOOD(upsched_modem_open(&modem, 1));
+    for (unsigned i = 0; i < 6; i++) GOOD(upsched_machine_apply(&machine, &before[i], &output, bodies[0]));
+    print_rows(&machine, 5);
+    for (unsigned i = 0; i < 3; i++) GOOD(upsched_machine_apply(&machine, &after[i], &output, bodies[0]));
+    print_rows(&machine, 5);
+    printf("no channel: %d\n", (int)upsched_machine_channel(&machine, 2, &c));
+    printf("no request: %d %d\n", (int)upsched_machine_waiting(&machine, 1, 2, &w),
+           (int)upsched_machine_waiting(&machine, 1, UINT32_MAX, &w));
+    printf("no flow: %d %d\n", (int)upsched_machine_flow(&machine, 1, 3, &f), (int)upsched_machine_flow(&machine, 2, 1, &f));
+    printf("closed: %d\n", (int)upsched_machine_channel(&closed, 1, &c));
+    printf("another kind: %d\n", (int)upsched_machine_waiting(&modem, 1, 0, &w));
+    printf("nowhere: %d\n", (int)upsched_machine_flow(&machine, 1, 1, NULL));
+    printf("untouched %" PRIu64 " %u %u\n", c.next_start, w.minislots, f.service);
+    upsched_close(&machine);
+    upsched_close(&modem);
+}
+
 /* What handles refuse. */
 static void handles(void)
 {
@@ -345,6 +393,7 @@ int main(void)
     plans();
     modems();
     ranging();
+    queries();
     handles();
     printf("faults %d\n", faults);
     return faults != 0;

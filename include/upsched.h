@@ -29,8 +29,8 @@
 #include <stdint.h>
 #include <string.h>
 
-#define UPSCHED_VERSION "0.2.0"
-#define UPSCHED_VERSION_NUMBER 0x000200
+#define UPSCHED_VERSION "0.3.0"
+#define UPSCHED_VERSION_NUMBER 0x000300
 
 #ifdef __cplusplus
 extern "C" {
@@ -55,6 +55,13 @@ enum {
     UPSCHED_MAP_OUT_OF_ORDER = 104, /* an element up to the Null begins before the one before it */
     UPSCHED_MAP_NO_NULL = 105,      /* no element has IUC 7 */
     UPSCHED_MAP_TOO_MANY = 107,     /* more than 255 elements */
+
+    UPSCHED_ROWS_SHORT = 201,      /* saved bytes end within a field, or before it */
+    UPSCHED_ROWS_TRAILING = 202,   /* bytes follow the last field */
+    UPSCHED_ROWS_NO_CHANNEL = 203, /* a byte begins no channel, or one of its values isn't within its limits */
+    UPSCHED_ROWS_NO_FLOW = 204,    /* likewise of a service, or of a last request */
+    UPSCHED_ROWS_NO_REQUEST = 205, /* a waiting request hasn't 1 to 255 minislots */
+    UPSCHED_ROWS_NOT_FIRM = 206,   /* no commands could leave the table of a channel behind those before it */
 
     UPSCHED_WANT_NOT_MINE = 301, /* no lease of the SID ends at the channel's clock or later */
     UPSCHED_WANT_WAITING = 302,  /* a want of the SID is there */
@@ -236,6 +243,28 @@ static inline int32_t upsched_machine_open(upsched_handle *machine)
     return upsched_c_machine_open(machine);
 }
 
+/* Writes all that the scheduler holds as bytes, most significant byte first, the same for the same tables: of each
+ * channel its settings, where its next MAP begins, its leases, flows and waiting requests. OK: the first *written of
+ * the bytes. NO_ROOM, exactly where there are more: *written is how many there are. A channel has 509,296 at most. */
+int32_t upsched_c_machine_save(upsched_handle *machine, uint8_t *bytes, size_t room, size_t *written);
+static inline int32_t upsched_machine_save(upsched_handle *machine, uint8_t *bytes, size_t room, size_t *written)
+{
+    uint8_t no_bytes[1] = {0};
+    if (!machine || !written || (!bytes && room)) return UPSCHED_NULL;
+    return upsched_c_machine_save(machine, bytes ? bytes : no_bytes, room, written);
+}
+
+/* A scheduler that goes on as the one that was saved. A fault ROWS_..: no scheduler was saved so, and it is the first
+ * from left to right. *ch is written at ROWS_NOT_FIRM alone: the channel. */
+int32_t upsched_c_machine_open_saved(upsched_handle *machine, const uint8_t *bytes, size_t len, uint8_t *ch);
+static inline int32_t upsched_machine_open_saved(upsched_handle *machine, const uint8_t *bytes, size_t len,
+                                                 uint8_t *ch)
+{
+    const uint8_t no_bytes[1] = {0};
+    if (!machine || !ch || (!bytes && len)) return UPSCHED_NULL;
+    return upsched_c_machine_open_saved(machine, bytes ? bytes : no_bytes, len, ch);
+}
+
 /* Applies a command, once; body has room for UPSCHED_BODY_BYTES. OK: *output, which a refusal is too, and of a MAP the
  * first output->body_len bytes of body. BAD_FIELD: the kind, the service or the PHY is none. */
 int32_t upsched_c_machine_apply(upsched_handle *machine, const upsched_command *command, upsched_output *output,
@@ -256,6 +285,57 @@ static inline int32_t upsched_machine_apply_bytes(upsched_handle *machine, const
     const uint8_t no_command[1] = {0};
     if (!machine || !output || !body || (!command && len)) return UPSCHED_NULL;
     return upsched_c_machine_apply_bytes(machine, command ? command : no_command, len, output, body);
+}
+
+/* ---- What the scheduler has ---- */
+
+/* None of these calls changes the scheduler, or wants memory. NONE: there is no such row. */
+
+/* A channel: where its next MAP begins, and its Ack Time, 0 before the first MAP. */
+typedef struct upsched_channel_state {
+    uint64_t next_start, ack;
+    uint32_t waiting; /* how many requests wait, 118 at most */
+} upsched_channel_state;
+
+/* A request that waits. */
+typedef struct upsched_waiting_request {
+    uint64_t sent; /* when the modem sent it */
+    uint16_t sid;
+    uint16_t minislots;
+} upsched_waiting_request;
+
+/* A flow: its next due time, and the lease of its SID. It is there until it is dropped, or its lease has ended. */
+typedef struct upsched_flow_state {
+    uint64_t due;         /* 0 of BEST_EFFORT, which is never due */
+    uint64_t first, last; /* the first and the last minislot of the lease */
+    uint32_t modem, tag;
+    uint16_t sid;
+    uint8_t service;
+} upsched_flow_state;
+
+int32_t upsched_c_machine_channel(upsched_handle *machine, uint8_t ch, upsched_channel_state *channel);
+static inline int32_t upsched_machine_channel(upsched_handle *machine, uint8_t ch, upsched_channel_state *channel)
+{
+    if (!machine || !channel) return UPSCHED_NULL;
+    return upsched_c_machine_channel(machine, ch, channel);
+}
+
+/* The channel's waiting request number k, by arrival, from 0. */
+int32_t upsched_c_machine_waiting(upsched_handle *machine, uint8_t ch, uint32_t k, upsched_waiting_request *waiting);
+static inline int32_t upsched_machine_waiting(upsched_handle *machine, uint8_t ch, uint32_t k,
+                                              upsched_waiting_request *waiting)
+{
+    if (!machine || !waiting) return UPSCHED_NULL;
+    return upsched_c_machine_waiting(machine, ch, k, waiting);
+}
+
+/* The channel's flow that has a SID. */
+int32_t upsched_c_machine_flow(upsched_handle *machine, uint8_t ch, uint16_t sid, upsched_flow_state *flow);
+static inline int32_t upsched_machine_flow(upsched_handle *machine, uint8_t ch, uint16_t sid,
+                                           upsched_flow_state *flow)
+{
+    if (!machine || !flow) return UPSCHED_NULL;
+    return upsched_c_machine_flow(machine, ch, sid, flow);
 }
 
 /* ---- The modem ---- */
@@ -389,6 +469,9 @@ typedef struct upsched_samples_t {
     upsched_output output;
     upsched_sending sending;
     upsched_event event;
+    upsched_channel_state channel;
+    upsched_waiting_request waiting;
+    upsched_flow_state flow;
 } upsched_samples_t;
 
 /* The version number (0 at NULL), and each struct with its fields numbered from 1 in their order. A client that
@@ -544,6 +627,12 @@ static inline const char *upsched_status_text(int32_t status)
     case UPSCHED_MAP_OUT_OF_ORDER: return "an element of a MAP up to the Null begins before the one before it";
     case UPSCHED_MAP_NO_NULL: return "no element of a MAP has IUC 7";
     case UPSCHED_MAP_TOO_MANY: return "a MAP has more than 255 elements";
+    case UPSCHED_ROWS_SHORT: return "saved tables end within a field, or before it";
+    case UPSCHED_ROWS_TRAILING: return "bytes follow the last field of saved tables";
+    case UPSCHED_ROWS_NO_CHANNEL: return "a channel of saved tables is none";
+    case UPSCHED_ROWS_NO_FLOW: return "a flow of saved tables is none";
+    case UPSCHED_ROWS_NO_REQUEST: return "a waiting request of saved tables hasn't 1 to 255 minislots";
+    case UPSCHED_ROWS_NOT_FIRM: return "no commands could leave the saved table of a channel";
     case UPSCHED_WANT_NOT_MINE: return "no lease of the SID ends at the channel's clock or later";
     case UPSCHED_WANT_WAITING: return "a want of the SID is there";
     case UPSCHED_WANT_BAD_SIZE: return "a want isn't for 1 to 255 minislots";

@@ -32,6 +32,13 @@ inline void check(std::int32_t status) {
     if (status != UPSCHED_OK) throw Error(status);
 }
 
+/// A value where the call answered OK; none where it answered NONE.
+template <class T> std::optional<T> found(std::int32_t status, const T &value) {
+    if (status == UPSCHED_NONE) return std::nullopt;
+    check(status);
+    return value;
+}
+
 /// A handle that is moved and never copied.
 class Handle {
   public:
@@ -84,10 +91,7 @@ inline std::vector<std::uint8_t> encode(const Map &map) {
 /// Whose minislot x of a body is, counted from its start.
 inline std::optional<upsched_map_cell> cell_at(const std::uint8_t *bytes, std::size_t len, std::uint16_t x) {
     upsched_map_cell cell{};
-    const std::int32_t status = upsched_map_cell_at(bytes, len, x, &cell);
-    if (status == UPSCHED_NONE) return std::nullopt;
-    check(status);
-    return cell;
+    return found(upsched_map_cell_at(bytes, len, x, &cell), cell);
 }
 
 /// A back-off: its start and its end, as exponents of two.
@@ -185,12 +189,51 @@ inline upsched_command cut_set(std::uint8_t ch, std::uint16_t len, std::uint64_t
 class Machine : public Handle {
   public:
     Machine() { check(upsched_machine_open(&handle_)); }
+    /// A scheduler that goes on as the one that was saved as these bytes.
+    static Machine open(const std::uint8_t *bytes, std::size_t len) {
+        Machine machine{Closed{}};
+        std::uint8_t ch = 0;
+        check(upsched_machine_open_saved(&machine.handle_, bytes, len, &ch));
+        return machine;
+    }
+    static Machine open(const std::vector<std::uint8_t> &bytes) { return open(bytes.data(), bytes.size()); }
+    /// All that it holds, as bytes.
+    std::vector<std::uint8_t> save() {
+        std::vector<std::uint8_t> bytes;
+        std::size_t written = 0;
+        std::int32_t status = upsched_machine_save(&handle_, nullptr, 0, &written);
+        if (status == UPSCHED_NO_ROOM) {
+            bytes.resize(written);
+            status = upsched_machine_save(&handle_, bytes.data(), bytes.size(), &written);
+        }
+        check(status);
+        return bytes;
+    }
     void apply(const upsched_command &command, Output &output) {
         check(upsched_machine_apply(&handle_, &command, &output, output.body.data()));
     }
     void apply(const std::uint8_t *command, std::size_t len, Output &output) {
         check(upsched_machine_apply_bytes(&handle_, command, len, &output, output.body.data()));
     }
+    /// Where the channel's next MAP begins, its Ack Time, and how many requests wait; none where it isn't set.
+    std::optional<upsched_channel_state> channel(std::uint8_t ch) {
+        upsched_channel_state channel{};
+        return found(upsched_machine_channel(&handle_, ch, &channel), channel);
+    }
+    /// The channel's waiting request number k, by arrival, from 0.
+    std::optional<upsched_waiting_request> waiting(std::uint8_t ch, std::uint32_t k) {
+        upsched_waiting_request waiting{};
+        return found(upsched_machine_waiting(&handle_, ch, k, &waiting), waiting);
+    }
+    /// The channel's flow that has a SID.
+    std::optional<upsched_flow_state> flow(std::uint8_t ch, std::uint16_t sid) {
+        upsched_flow_state flow{};
+        return found(upsched_machine_flow(&handle_, ch, sid, &flow), flow);
+    }
+
+  private:
+    struct Closed {};
+    explicit Machine(Closed) noexcept {}
 };
 
 /// A MAP that is read once, and heard by many modems.
@@ -235,10 +278,7 @@ class Modem : public Handle {
     /// The first minislot from one on whose tick does more than move the clock, and what it does.
     std::optional<upsched_event> next(std::uint8_t ch, std::uint64_t from) {
         upsched_event event{};
-        const std::int32_t status = upsched_modem_next(&handle_, ch, from, &event);
-        if (status == UPSCHED_NONE) return std::nullopt;
-        check(status);
-        return event;
+        return found(upsched_modem_next(&handle_, ch, from, &event), event);
     }
 };
 

@@ -14,6 +14,9 @@
  *           2. Open a number again only with ALL writes that its calls ever handed out, in their order. A node that is
  *              opened without them, or twice at once, may vote twice, and nodes then disagree. Where writes were lost,
  *              the number is lost: never open it again.
+ *           3. Several calls may share one sync. Copy the letters of each call before the next one, store the writes of
+ *              all of them in order, sync once, and only then send the letters and use outputs of a release. What a
+ *              crash leaves of the writes has to be a beginning of them.
  *           The struct is bytes alone: store it as it is, on any machine. Stored twice in a row it does no harm.
  * LETTERS   The letters of a call are there until the next call that sends some. Read and send each. Any order will
  *           do, and so will losses and repeats; nodes then wait, or are asked to lead again.
@@ -130,8 +133,8 @@ static inline int32_t upsched_node_tell(upsched_node *node, uint8_t to, uint64_t
 }
 
 /* A letter of the last call that was OK, counted from 0: its bytes, of which the second is the sender and the third is
- * the receiver, and in *len how many they are. NONE: there are fewer letters. Then comes want of memory, and then
- * NO_ROOM: *len is the room wanted. */
+ * the receiver, and in *len how many they are. NONE: there are fewer letters. NO_ROOM: *len is the room wanted. Then comes
+ * want of memory. */
 int32_t upsched_c_node_letter(upsched_node *node, size_t i, uint8_t *letter, size_t room, size_t *len);
 static inline int32_t upsched_node_letter(upsched_node *node, size_t i, uint8_t *letter, size_t room, size_t *len)
 {

@@ -71,6 +71,33 @@ class Calls(unittest.TestCase):
             self.assertEqual((kept.start, head.ucd, head.ranging, head.data), (1100, 8, (0, 1), (4, 4)))
             self.assertEqual(upsched.decode(machine.apply(Cut(1, 40)).body).data, (3, 8))
 
+    def test_rows_of_the_scheduler(self):
+        machine = Machine()
+        commands = [
+            Channel(1, 7, base=1000), BestEffort(1, 50, 1), BestEffort(1, 51, 4, priority=7, last=5000),
+            Poll(1, 52, 1, 40, 8, 1010), Initial(1, 0, 1, 30, 1000, 50, 1200), Request(1, 1, 200, 990),
+            Request(1, 2, 5, 980), Cut(1, 100, ack=995),
+        ]
+        for command in commands:
+            self.assertNotIsInstance(machine.apply(command), Refused)
+        self.assertEqual(machine.channel(1), upsched.ChannelState(1100, 995, 1))
+        self.assertEqual(machine.waiting(1, 0), upsched.WaitingRequest(1, 200, 990))
+        last = upsched.LAST_TIME
+        flows = [
+            upsched.FlowState(1, 50, 1, 0, last, upsched.Service.BEST_EFFORT, 0),
+            upsched.FlowState(2, 51, 4, 0, 5000, upsched.Service.BEST_EFFORT, 0),
+            upsched.FlowState(3, 52, 1, 0, last, upsched.Service.POLL, 1130),
+            upsched.FlowState(4, 0, 1, 0, last, upsched.Service.INITIAL, 1200),
+        ]
+        self.assertEqual([machine.flow(1, flow.sid) for flow in flows], flows)
+        machine.apply(Request(1, 2, 7, 996))
+        self.assertEqual([machine.waiting(1, k).sid for k in (0, 1)], [1, 2])
+        machine.apply(Drop(1, 1))
+        self.assertEqual(machine.waiting(1, 0), upsched.WaitingRequest(2, 7, 996))
+        none = [machine.channel(2), machine.waiting(2, 0), machine.waiting(1, 1), machine.waiting(1, 2**32 - 1)]
+        none += [machine.flow(2, 1), machine.flow(1, 1), machine.flow(1, 0), machine.flow(1, 5)]
+        self.assertEqual(none, [None] * 8)
+
     def test_the_modem(self):
         modem = modem_of_sid_1()
         rows = [
@@ -104,7 +131,7 @@ class Statuses(unittest.TestCase):
         modem.tick(1, 9, 0)
         rows = {
             Status.CLOSED: lambda: closed(Machine).apply(Noop()),
-            Status.OTHER_KIND: lambda: Machine.apply(Modem(1), Noop()),
+            Status.OTHER_KIND: lambda: Machine.flow(Modem(1), 1, 1),
             Status.OPEN: lambda: Machine().__init__(),
             Status.BAD_FIELD: lambda: Machine().apply(b""),
             Status.MAP_SHORT: lambda: upsched.decode(GRANT[:15]),
@@ -126,7 +153,8 @@ class Statuses(unittest.TestCase):
                 self.assertIn(status.text, str(raised.exception))
         # Of the others, two are no exceptions, one is in test_loading.py, and no call of the package has two.
         others = {Status.OK, Status.NONE, Status.WANT_WAITING, Status.OUT_OF_MEMORY, Status.NO_ROOM, Status.NULL}
-        self.assertEqual(set(rows) | others, set(Status))
+        saved = {status for status in Status if status.name.startswith("ROWS_")}  # test_saved.py has a call for each
+        self.assertEqual(set(rows) | others | saved, set(Status))
 
     def test_no_room(self):
         head, elements, count = _library.HeadFields(), _library.ElementFields(), _library.ctypes.c_size_t()
@@ -173,6 +201,10 @@ class Hostile(unittest.TestCase):
             ("start", 64, lambda n: modem.next(1, n)),
             ("ch", 8, lambda n: modem.next(n, 0)),
             ("ch", 8, lambda n: modem.clock(n)),
+            ("ch", 8, machine.channel),
+            ("ch", 8, lambda n: machine.waiting(n, 0)),
+            ("k", 32, lambda n: machine.waiting(1, n)),
+            ("sid", 16, lambda n: machine.flow(1, n)),
             ("minislot", 16, lambda n: upsched.cell_at(GRANT, n)),
             ("iuc", 8, lambda n: upsched.encode(with_elements((1, 0, n)))),
         ]

@@ -25,7 +25,8 @@ class Header(unittest.TestCase):
         structs = {
             "map_head": "HeadFields", "map_element": "ElementFields", "map_cell": "CellFields",
             "handle": "HandleFields", "command": "CommandFields", "output": "OutputFields",
-            "sending": "SendingFields", "event": "EventFields",
+            "sending": "SendingFields", "event": "EventFields", "channel_state": "ChannelFields",
+            "waiting_request": "WaitingFields", "flow_state": "FlowFields",
         }
         for name, made in structs.items():
             body = re.search(rf"typedef struct upsched_{name} {{(.*?)}} upsched_{name};", HEADER, re.S).group(1)

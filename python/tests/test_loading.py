@@ -22,6 +22,7 @@ uint32_t upsched_c_samples(upsched_samples_t *s)
         {1, 2, 3, 4, 5, 6, 7, 8}, {{1, 2, 3}, {1, 2, 3}}, {1, 2},
         {1, 2, 3, 4, 5, 6, 7, 8, 9, 10, 11, 12, 13, 14, 15, 16, 17, 18, 19, 20, 21, 22, 23},
         {1, 2, 3, 4, 5, 6, 7, 8, 9, 10, 11}, {1, 2, 3}, {1, 2, 3, 4, 5, 6, 7},
+        {1, 2, 3}, {1, 2, 3}, {1, 2, 3, 4, 5, 6, 7},
     };
     *s = n;
     CHANGED;
@@ -31,8 +32,9 @@ uint32_t upsched_c_samples(upsched_samples_t *s)
 """
 NAMES = [
     "map_decode", "map_encode", "map_cell_at", "map_open", "close", "machine_open", "machine_apply",
-    "machine_apply_bytes", "modem_open", "modem_hear_channel", "modem_hear_assigned", "modem_hear_map",
-    "modem_hear_open_map", "modem_want", "modem_tick", "modem_next", "modem_clock",
+    "machine_apply_bytes", "machine_save", "machine_open_saved", "machine_channel", "machine_waiting", "machine_flow",
+    "modem_open", "modem_hear_channel", "modem_hear_assigned", "modem_hear_map", "modem_hear_open_map", "modem_want",
+    "modem_tick", "modem_next", "modem_clock",
 ]
 
 # Refuses memory to the library alone, from when it is asked to.
@@ -109,6 +111,7 @@ class Loading(unittest.TestCase):
             ({"changed": "s->output.first = 4, s->output.last = 3"}, "has other structs than this package"),
             ({"changed": "s->elements[1].iuc = 0"}, "has other structs than this package"),
             ({"changed": "s->event.iuc = 6"}, "has other structs than this package"),
+            ({"changed": "s->flow.sid = 7, s->flow.service = 6"}, "has other structs than this package"),
             ({"changed": "((char *)(s + 1))[0] = 0"}, "has other structs than this package"),
         ]
         for wrong, why in rows:

@@ -26,11 +26,12 @@ from ._outputs import (
     Assigned, ChannelSet, Event, EventKind, Heard, MapMessage, Nothing, Output, OutputKind, Refusal, Refused, Sending,
     SendingKind,
 )
+from ._rows import ChannelState, FlowState, WaitingRequest
 
 __all__ = [
     "BODY_BYTES", "ELEMENTS", "EVERYBODY", "LAST_TIME", "Assigned", "Backoff", "BestEffort", "Cell", "Change",
-    "Channel", "ChannelSet", "Command", "CommandKind", "Cut", "Drop", "Element", "Event", "EventKind", "Heard",
+    "Channel", "ChannelSet", "ChannelState", "Command", "CommandKind", "Cut", "Drop", "Element", "Event", "EventKind", "FlowState", "Heard",
     "Initial", "Iuc", "Machine", "Map", "MapBody", "MapMessage", "Modem", "Noop", "Nothing", "OutOfMemory", "Output",
     "OutputKind", "Phy", "Poll", "Refusal", "Refused", "Request", "Sending", "SendingKind", "Service", "Station",
-    "Status", "Ugs", "UpschedError", "cell_at", "decode", "encode",
+    "Status", "Ugs", "UpschedError", "WaitingRequest", "cell_at", "decode", "encode",
 ]

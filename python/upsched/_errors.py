@@ -23,6 +23,12 @@ class Status(enum.IntEnum):
     MAP_OUT_OF_ORDER = 104
     MAP_NO_NULL = 105
     MAP_TOO_MANY = 107
+    ROWS_SHORT = 201
+    ROWS_TRAILING = 202
+    ROWS_NO_CHANNEL = 203
+    ROWS_NO_FLOW = 204
+    ROWS_NO_REQUEST = 205
+    ROWS_NOT_FIRM = 206
     WANT_NOT_MINE = 301
     WANT_WAITING = 302
     WANT_BAD_SIZE = 303
@@ -50,6 +56,12 @@ _TEXTS = {
     Status.MAP_OUT_OF_ORDER: "an element of a MAP up to the Null begins before the one before it",
     Status.MAP_NO_NULL: "no element of a MAP has IUC 7",
     Status.MAP_TOO_MANY: "a MAP has more than 255 elements",
+    Status.ROWS_SHORT: "saved tables end within a field, or before it",
+    Status.ROWS_TRAILING: "bytes follow the last field of saved tables",
+    Status.ROWS_NO_CHANNEL: "a channel of saved tables is none",
+    Status.ROWS_NO_FLOW: "a flow of saved tables is none",
+    Status.ROWS_NO_REQUEST: "a waiting request of saved tables hasn't 1 to 255 minislots",
+    Status.ROWS_NOT_FIRM: "no commands could leave the saved table of a channel",
     Status.WANT_NOT_MINE: "no lease of the SID ends at the channel's clock or later",
     Status.WANT_WAITING: "a want of the SID is there",
     Status.WANT_BAD_SIZE: "a want isn't for 1 to 255 minislots",
@@ -61,14 +73,16 @@ class UpschedError(Exception):
     """A call that answered another status than OK, and changed nothing.
 
     `status` is the Status, `name` its name, and `element` the element of a MAP that it is of, from 0, where it is of
-    one.
+    one. `channel` is the channel that it is of, where it is ROWS_NOT_FIRM.
     """
 
-    def __init__(self, status: int, element: Optional[int] = None) -> None:
+    def __init__(self, status: int, element: Optional[int] = None, channel: Optional[int] = None) -> None:
         self.status = Status(status)
         self.name = self.status.name
         self.element = element
+        self.channel = channel
         where = "" if element is None else f", element {element}"
+        where += "" if channel is None else f", channel {channel}"
         super().__init__(f"{self.name} ({int(status)}): {self.status.text}{where}")
 
 

@@ -9,16 +9,20 @@ from types import TracebackType
 from typing import Any, Callable, NoReturn, Optional, Type, TypeVar, Union
 
 from ._commands import Command
-from ._errors import Status, error
+from ._errors import Status, UpschedError, error
 from ._library import (
-    BODY_BYTES, KEEPS_LOCK, EventFields, HandleFields, Numbers, OutputFields, SendingFields, bytes_of, library,
+    BODY_BYTES, KEEPS_LOCK, ChannelFields, EventFields, FlowFields, HandleFields, Numbers, OutputFields, SendingFields,
+    WaitingFields, bytes_of, library,
 )
 from ._outputs import (
     HEARD, Assigned, ChannelSet, Event, Heard, MapMessage, Nothing, Output, Refused, Sending, event_of, output_of,
     sending_of,
 )
 
+from ._rows import ChannelState, FlowState, WaitingRequest, channel_of, flow_of, waiting_of
+
 Self = TypeVar("Self", bound="Handle")
+AMachine = TypeVar("AMachine", bound="Machine")
 
 _OUTPUT_BYTES = ctypes.sizeof(OutputFields)
 _Room = ctypes.c_char * (_OUTPUT_BYTES + BODY_BYTES)
@@ -42,8 +46,13 @@ def _one_at_a_time(call: Callable[..., Any]) -> Callable[..., Any]:
 
 _close = _one_at_a_time(library.upsched_c_close)
 _machine_open = _one_at_a_time(library.upsched_c_machine_open)
+_machine_open_saved = _one_at_a_time(library.upsched_c_machine_open_saved)
+_machine_save = _one_at_a_time(library.upsched_c_machine_save)
 _apply = _one_at_a_time(library.upsched_c_machine_apply)
 _apply_bytes = _one_at_a_time(library.upsched_c_machine_apply_bytes)
+_channel = _one_at_a_time(library.upsched_c_machine_channel)
+_waiting = _one_at_a_time(library.upsched_c_machine_waiting)
+_flow = _one_at_a_time(library.upsched_c_machine_flow)
 _map_open = _one_at_a_time(library.upsched_c_map_open)
 _modem_open = _one_at_a_time(library.upsched_c_modem_open)
 _hear_channel = _one_at_a_time(library.upsched_c_modem_hear_channel)
@@ -56,16 +65,20 @@ _next = _one_at_a_time(library.upsched_c_modem_next)
 _clock = _one_at_a_time(library.upsched_c_modem_clock)
 
 _NONE, _WAITING, _TIMES = int(Status.NONE), int(Status.WANT_WAITING), 1 << 64
+_NO_ROOM, _NOT_FIRM = int(Status.NO_ROOM), int(Status.ROWS_NOT_FIRM)
 
 # Refuse numbers that don't fit. Where they are seen to fit, these aren't called, since they take longer.
 _id_fits = Numbers("Modem", u32="modem").pack
 _time_fits = Numbers("hear", u64="near").pack
 _channel_fits = Numbers("ChannelSet", u8="ch ucd").pack
 _lease_fits = Numbers("Assigned", u32="modem", u8="ch", u16="sid", u64="first last").pack
+_waiting_fits = Numbers("waiting", u8="ch", u32="k").pack
+_flow_fits = Numbers("flow", u8="ch", u16="sid").pack
 _want_fits = Numbers("want", u8="ch", u16="sid minislots").pack
 _tick_fits = Numbers("tick", u8="ch", u64="slot random").pack
 _next_fits = Numbers("next", u8="ch", u64="start").pack
 _clock_fits = Numbers("clock", u8="ch").pack
+_state_fits = Numbers("channel", u8="ch").pack
 
 
 class Handle:
@@ -143,6 +156,72 @@ class Machine(Handle):
         if status:
             raise error(status)
         return output_of(room)
+
+    def channel(self, ch: int) -> Optional[ChannelState]:
+        """Where the channel's next MAP begins, its Ack Time, and how many requests wait; None where it isn't set.
+
+        Errors: CLOSED.
+        """
+        _state_fits(ch)
+        fields = ChannelFields()
+        status = _channel(self, ch, ctypes.addressof(fields))
+        if status == _NONE:
+            return None
+        if status:
+            raise error(status)
+        return channel_of(fields)
+
+    def waiting(self, ch: int, k: int) -> Optional[WaitingRequest]:
+        """The channel's waiting request number k, by arrival, from 0; None where there are no more. Errors: CLOSED."""
+        _waiting_fits(ch, k)
+        fields = WaitingFields()
+        status = _waiting(self, ch, k, ctypes.addressof(fields))
+        if status == _NONE:
+            return None
+        if status:
+            raise error(status)
+        return waiting_of(fields)
+
+    def flow(self, ch: int, sid: int) -> Optional[FlowState]:
+        """The channel's flow that has this SID; None where none has it, since it was dropped or its lease has ended.
+
+        Errors: CLOSED.
+        """
+        _flow_fits(ch, sid)
+        fields = FlowFields()
+        status = _flow(self, ch, sid, ctypes.addressof(fields))
+        if status == _NONE:
+            return None
+        if status:
+            raise error(status)
+        return flow_of(fields)
+
+
+    @classmethod
+    def open(cls: Type[AMachine], saved: bytes) -> AMachine:
+        """A scheduler that goes on as the one that was saved as these bytes.
+
+        Errors: OutOfMemory; ROWS_SHORT, ROWS_TRAILING, ROWS_NO_CHANNEL, ROWS_NO_FLOW, ROWS_NO_REQUEST, ROWS_NOT_FIRM
+        where no scheduler was saved so.
+        """
+        given = bytes_of("saved tables", saved)
+        machine, channel = cls.__new__(cls), ctypes.c_uint8()
+        status = _machine_open_saved(machine, given, len(given), ctypes.addressof(channel))
+        if status == _NOT_FIRM:
+            raise UpschedError(status, channel=channel.value)
+        if status:
+            raise error(status)
+        return machine
+
+    def save(self) -> bytes:
+        """All that the scheduler holds, as bytes: the same for the same tables. Errors: CLOSED, OutOfMemory."""
+        wanted, status = ctypes.c_size_t(), _NO_ROOM
+        while status == _NO_ROOM:
+            room = ctypes.create_string_buffer(wanted.value)
+            status = _machine_save(self, ctypes.addressof(room), len(room), ctypes.addressof(wanted))
+        if status:
+            raise error(status)
+        return room.raw[: wanted.value]
 
 
 class Map(Handle):

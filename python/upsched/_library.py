@@ -8,8 +8,8 @@ import sysconfig
 from pathlib import Path
 from typing import Any, Iterator, Type
 
-VERSION = "0.2.0"
-VERSION_NUMBER = 0x000200
+VERSION = "0.3.0"
+VERSION_NUMBER = 0x000300
 NAME = "libupsched.so.0"
 BODY_BYTES = 1036
 ELEMENTS = 255
@@ -44,6 +44,9 @@ OutputFields = _struct(
 )
 SendingFields = _struct("SendingFields", u32="kind", u16="sid minislots")
 EventFields = _struct("EventFields", u64="slot first last", u32="kind", u16="sid minislots", u8="iuc")
+ChannelFields = _struct("ChannelFields", u64="next_start ack", u32="waiting")
+WaitingFields = _struct("WaitingFields", u64="sent", u16="sid minislots")
+FlowFields = _struct("FlowFields", u64="due first last", u32="modem tag", u16="sid", u8="service")
 HandleFields = _struct("HandleFields", u64="private_at private_state")
 
 
@@ -58,6 +61,9 @@ class Samples(ctypes.Structure):
         ("output", OutputFields),
         ("sending", SendingFields),
         ("event", EventFields),
+        ("channel", ChannelFields),
+        ("waiting", WaitingFields),
+        ("flow", FlowFields),
     ]
 
 
@@ -174,10 +180,10 @@ def _declare(library: ctypes.PyDLL) -> None:
     }
     calls = {
         "map_decode": "bnppnp", "map_encode": "bbnpnp", "map_cell_at": "bn2p", "map_open": "pbn", "close": "p",
-        "machine_open": "p", "machine_apply": "pbpp", "machine_apply_bytes": "pbnpp", "modem_open": "p4",
+        "machine_open": "p", "machine_open_saved": "pbnp", "machine_save": "ppnp", "machine_apply": "pbpp", "machine_apply_bytes": "pbnpp", "modem_open": "p4",
         "modem_hear_channel": "p88p", "modem_hear_assigned": "p482qqp", "modem_hear_map": "pbnqp",
         "modem_hear_open_map": "ppqp", "modem_want": "p822", "modem_tick": "p8qqp", "modem_next": "p8qp",
-        "modem_clock": "p8p",
+        "modem_clock": "p8p", "machine_channel": "p8p", "machine_waiting": "p84p", "machine_flow": "p82p",
     }
     for name, codes in calls.items():
         call = getattr(library, f"upsched_c_{name}")

@@ -26,6 +26,7 @@ lacks bytes head es old new statuses.Open body is told = absurd told
 lacks bytes head es old new statuses.BadField body is told = absurd told
 lacks bytes head es old new statuses.Absent body is told = absurd told
 lacks bytes head es old new (statuses.Map fault) body is told = absurd told
+lacks bytes head es old new (statuses.Rows fault) body is told = absurd told
 lacks bytes head es old new (statuses.Want fault) body is told = absurd told
 lacks bytes head es old new statuses.TimeBack body is told = absurd told
 

@@ -7,3 +7,5 @@ pub mod Machines
 pub mod Modems
 pub mod Samples
 pub mod Maps
+pub mod Saved
+pub mod Queries

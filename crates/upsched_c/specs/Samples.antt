@@ -40,4 +40,7 @@ numbered = record {
   output = record { kind = 1; modem = 2; first = 3; last = 4; start = 5; body_len = 6; sid = 7; minislots = 8; ch = 9; ucd = 10; refusal = 11 };
   sending = record { kind = 1; sid = 2; minislots = 3 };
   event = record { slot = 1; first = 2; last = 3; kind = 4; sid = 5; minislots = 6; iuc = 7 };
+  channel = record { next_start = 1; ack = 2; waiting = 3 };
+  waiting = record { sent = 1; sid = 2; minislots = 3 };
+  flow = record { due = 1; first = 2; last = 3; modem = 4; tag = 5; sid = 6; service = 7 };
 }

@@ -4,10 +4,11 @@ use Rattle.map_body.specs.declared.fault.MapFault.{MapFault}
 use Rattle.map_body.specs.declared.fault.MapFault.TheVariants.{Short, Trailing, Expansion, OutOfOrder, NoNull, OutOfMemory, TooMany}
 use Rattle.map_body.specs.Faults as maps
 use Rattle.modem.specs.Wants as wants
+use Rattle.row_bytes.specs.Faults as rows
 use Rattle.upsched_c.specs.declared.status.Status.{Status}
 use Rattle.upsched_c.specs.declared.status.Status.TheVariants as statuses
 
--- the number of a status; a fault of a MAP body or of a want is its own number in a hundred of its own
+-- the number of a status; a fault of a MAP body, of tables or of a want is its own number in a hundred of its own
 abbrev pub status_number : Status → ℕ
 status_number statuses.Done = 0
 status_number statuses.Closed = 1
@@ -18,6 +19,7 @@ status_number statuses.BadField = 5
 status_number statuses.OutOfMemory = 6
 status_number statuses.Absent = 7
 status_number (statuses.Map fault) = 100 + maps.map_fault_number fault
+status_number (statuses.Rows fault) = 200 + rows.fault_number fault
 status_number (statuses.Want fault) = 300 + wants.number_of_fault fault
 status_number statuses.TimeBack = 401
 

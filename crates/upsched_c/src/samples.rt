@@ -4,6 +4,7 @@ ghost use Rattle.std.specs.Prelude.{◌≡◌};
 ghost use Rattle.upsched_c.specs.Samples.{numbered};
 
 use crate::command::CommandFields;
+use crate::queries::{ChannelFields, FlowFields, WaitingFields};
 use crate::sending::{EventFields, SendingFields};
 use crate::structs::{MapCell, MapElement, MapHead};
 use upsched_c_parts::OutputFields;
@@ -19,6 +20,9 @@ pub struct Samples {
     pub output: OutputFields,
     pub sending: SendingFields,
     pub event: EventFields,
+    pub channel: ChannelFields,
+    pub waiting: WaitingFields,
+    pub flow: FlowFields,
 }
 
 const HEAD: MapHead = MapHead {
@@ -88,10 +92,32 @@ const EVENT: EventFields = EventFields {
     iuc: 7,
 };
 
+const CHANNEL: ChannelFields = ChannelFields {
+    next_start: 1,
+    ack: 2,
+    waiting: 3,
+};
+
+const WAITING: WaitingFields = WaitingFields {
+    sent: 1,
+    sid: 2,
+    minislots: 3,
+};
+
+const FLOW: FlowFields = FlowFields {
+    due: 1,
+    first: 2,
+    last: 3,
+    modem: 4,
+    tag: 5,
+    sid: 6,
+    service: 7,
+};
+
 /// Numbers the fields of each struct from 1 in their order. The answer is the version of the library.
 #[unsafe(no_mangle)]
 pub extern "C" fn upsched_c_samples(samples: &mut Samples) -> u32
-    ensures version { result ≡ 512 }
+    ensures version { result ≡ 768 }
     ensures samples { samples.new ≡ numbered }
 {
     *samples = Samples {
@@ -106,6 +132,9 @@ pub extern "C" fn upsched_c_samples(samples: &mut Samples) -> u32
             minislots: 3,
         },
         event: EVENT,
+        channel: CHANNEL,
+        waiting: WAITING,
+        flow: FLOW,
     };
-    0x0200
+    0x0300
 }

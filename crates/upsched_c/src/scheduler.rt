@@ -2,7 +2,7 @@
 
 ghost use Rattle.grant_machine.specs.Fits.{FitsChannel, FitsCommand, FitsKind, FitsSettings};
 
-use flow_state::{Channel, ChannelSettings, FlowKind};
+use flow_state::{Channel, ChannelSettings, FlowKind, Flows};
 use grant_machine::{Command, Machine, Output, maps_are_bodies_from};
 use std::alloc::{AllocError, Global};
 use std::marker::Model;
@@ -67,6 +67,7 @@ fn fits(command: Command)
 impl Scheduler {
     ghost use Rattle.std.specs.Prelude.{◌≡◌, [], IsOk, IsSome, IfOk, OnOk, OnErr};
     ghost use Rattle.grant_machine.specs.Steps.{step, refusal_of, TakesNoMemory};
+    ghost use Rattle.flow_state.specs.Firm.{AreFirm};
     ghost use Rattle.upsched_c_parts.specs.Outputs.{FitsRoom};
 
     /// No channel is set.
@@ -76,6 +77,24 @@ impl Scheduler {
         Scheduler {
             machine: Machine::new(alloc),
         }
+    }
+
+    /// A scheduler over tables that commands could leave.
+    pub fn opened(alloc: Global, flows: Flows) -> Scheduler
+        requires { AreFirm flows }
+        ensures { result ≡ flows }
+    {
+        Scheduler {
+            machine: Machine::opened(alloc, flows),
+        }
+    }
+
+    /// The tables, for reading.
+    pub fn flows(&self) -> &Flows
+        ensures rows { result.now ≡ self.now }
+        ensures firm { AreFirm result.now }
+    {
+        self.machine.flows()
     }
 
     /// `Machine::apply`; a MAP of it fits the room for a body.

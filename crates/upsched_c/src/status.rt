@@ -5,6 +5,7 @@ ghost use Rattle.upsched_c.specs.Statuses.{status_number, place_of as place_of_l
 
 use map_body::MapFault;
 use modem::WantFault;
+use row_bytes::RowsFault;
 
 /// What a call answers. Any but `Done` leaves what a handle holds as it was.
 #[derive(Clone, Copy, Debug)]
@@ -27,6 +28,8 @@ pub enum Status {
     Absent,
     /// Bytes or elements are no MAP body.
     Map(MapFault),
+    /// Bytes spell no tables.
+    Rows(RowsFault),
     /// A want is refused.
     Want(WantFault),
     /// A tick before the channel's clock.
@@ -54,6 +57,7 @@ impl Status {
             Status::OutOfMemory => 6,
             Status::Absent => 7,
             Status::Map(fault) => 100 + u16::from(fault.number()),
+            Status::Rows(fault) => 200 + u16::from(fault.number()),
             Status::Want(fault) => 300 + u16::from(fault.number()),
             Status::TimeBack => 401,
         }
