@@ -1,5 +1,6 @@
 -- Numbers between commas are parted at the commas.
-use Rattle.std.proofs.Common.{◌≡◌, ◌≢◌, ℕ, ◌<◌, ◌^◌, List, [], ◌∷◌, ◌++◌, get_or, map, flat_map, length, drop, decimal, Option, Some, None, Result, Ok, Err, refl, sym, ap, subst, ◌∙◌, arith, eqb, Bool, false}
+use Rattle.std.proofs.Common.{◌≡◌, ℕ, ◌<◌, ◌^◌, List, [], ◌∷◌, ◌++◌, get_or, map, drop, decimal}
+use Rattle.std.proofs.Common.{Option, Some, None, Result, Ok, Err, refl, sym, ap, subst, ◌∙◌, arith, eqb, Bool, false}
 use Rattle.std.specs.List.{All, AllByRecursion, slice_split}
 use Rattle.std.specs.Char.{digit_value}
 use Rattle.std.specs.Result.{OkIff}
@@ -9,7 +10,7 @@ use Rattle.std.proofs.lemmas.Fmt.{decimal_is_IsNumeral}
 use Rattle.std.proofs.lemmas.List.{append-nil, append_assoc}
 use Rattle.std.proofs.lemmas.List.Elements.{All-nil, All-cons}
 use Rattle.std.proofs.lemmas.List.Splits.{slice_split_none, slice_split_at}
-use Rattle.upsched_script.specs.Scripts.{AreIds, next_number, numbers_text}
+use Rattle.upsched_script.specs.Scripts.{AreIds, numbers_text}
 
 abbrev is_comma : ℕ → Bool
 is_comma b = eqb b 44

@@ -1,5 +1,6 @@
 -- A script that was read back and run is as asked, and so is what is printed of it.
-use Rattle.std.proofs.Common.{◌≡◌, ℕ, List, length, subst, ◌∙◌, Bool, true, false, IsTrue, Option, Result, Ok, Err, IfOk, IfSome, OnOk, String, Global, string_bytes, option_map}
+use Rattle.std.proofs.Common.{◌≡◌, inl, inr, ℕ, List, length, subst, Bool, IsTrue, Option, Result, Ok, Err}
+use Rattle.std.proofs.Common.{IfOk, IfSome, OnOk, String, Global, string_bytes, option_map}
 use Rattle.std.proofs.lemmas.List.{length-replicate}
 use Rattle.std.specs.Io.KnownBytes.{Appends, Keeps}
 use Rattle.std.proofs.KnownBytes.{Appends-kept}
@@ -20,6 +21,9 @@ use Rattle.script_text.proofs.Callers.{no_plan_read}
 use Rattle.upsched_ends.specs.declared.words.ScriptWords.{ScriptWords}
 use Rattle.upsched_ends.specs.Members.{NamesMembers}
 use Rattle.upsched_script.specs.Scripts.{RunsAsAsked, IsWrittenSo, IsAsAsked, IsAskedFor, NamesIds}
+use Rattle.upsched_script.specs.Scripts.{AreNotUnderstood, Deserves, IsOfWords, NeedMore}
+use Rattle.upsched_script.specs.declared.refusal.Refusal.{Refusal}
+use Rattle.upsched_script.specs.declared.refusal.Refusal.TheVariants as refusal
 
 -- a run of fresh nodes and new modems is one of so many members and of these ids
 pub run_of : (members : ℕ) (ids : List ℕ) (count : ℕ) (modems : List ℕ) (events : List Event) (report : List Answer) (w : Written) → members ≡ count → ids ≡ modems
@@ -76,3 +80,19 @@ asked_for (Ok text) plan words commands read count ids lent plan_is read_is memb
 -- a text that is known to be no plan has no commands to ask for
 pub no_plan_asked : (plan : Option (List ℕ)) (words : ScriptWords) (text : List ℕ) → NoPlan plan → IsAskedFor plan words text → ⊥
 no_plan_asked plan words text none asked = no_plan_read plan asked.commands none asked.plan_is
+
+-- words that are refused deserve it
+pub not_understood : (plan : Option (List ℕ)) (words : ScriptWords) (r : Refusal) → IsOfWords r → Deserves plan words r → AreNotUnderstood plan words
+not_understood plan words refusal.Members is bad = inl bad
+not_understood plan words refusal.Modems is bad = inr (inl bad)
+not_understood plan words (refusal.Takeovers wished commands) is (same, more, has) = inr (inr (commands, subst (λ (w : ℕ). NeedMore w commands) same more, has))
+not_understood plan words refusal.OtherThanAsked is bad = absurd is
+not_understood plan words (refusal.Fault fault) is bad = absurd is
+
+-- a refusal that isn't of the words says nothing of them
+pub of_no_words : (plan : Option (List ℕ)) (words : ScriptWords) (r : Refusal) → (IsOfWords r → ⊥) → Deserves plan words r
+of_no_words plan words refusal.Members other = absurd (other tt)
+of_no_words plan words refusal.Modems other = absurd (other tt)
+of_no_words plan words (refusal.Takeovers wished commands) other = absurd (other tt)
+of_no_words plan words refusal.OtherThanAsked other = tt
+of_no_words plan words (refusal.Fault fault) other = tt

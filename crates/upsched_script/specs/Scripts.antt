@@ -1,5 +1,5 @@
 -- What `script` prints: a script that was read back, run, and found as asked.
-use Rattle.std.specs.Prelude.{◌≡◌, ◌≢◌, ℕ, ◌<◌, ◌^◌, List, [], ◌∷◌, ◌++◌, Option, Some, None}
+use Rattle.std.specs.Prelude.{◌≡◌, ◌≢◌, ◌⊎◌, ℕ, ◌<◌, ◌≤◌, ◌^◌, List, [], ◌∷◌, ◌++◌, length, Option, Some, None}
 use Rattle.std.specs.Prelude.{IfSome, option_map, codes, decimal, flat_map}
 use Rattle.std.specs.Io.KnownBytes.{Appends}
 use Rattle.std.specs.List.{AllByRecursion}
@@ -45,6 +45,37 @@ IsOfWords refusal.Modems = Unit {0}
 IsOfWords (refusal.Takeovers wished commands) = Unit {0}
 IsOfWords refusal.OtherThanAsked = ⊥
 IsOfWords (refusal.Fault fault) = ⊥
+
+-- a word names no members
+abbrev pub NamesNone : List ℕ → Type 0
+NamesNone word = (count : Members) → ¬ NamesMembers word count
+
+-- the word for modems is no numbers of 32 bits between commas
+abbrev pub NamesNoIds : Option (List ℕ) → Type 0
+NamesNoIds word = (ids : List ℕ) → AreIds ids → ¬ NamesIds word ids
+
+-- some takeovers need more commands than so many
+abbrev pub NeedMore : (takeovers commands : ℕ) → Type 0
+NeedMore takeovers commands = (0 < takeovers) × (commands ≤ takeovers)
+
+-- the plan, where its text is known, has so many commands
+abbrev pub HasCommands : Option (List ℕ) → ℕ → Type 0
+HasCommands plan count = (commands : List Command) × (length commands ≡ count) × IfSome plan (λ bytes. IsPlan bytes commands)
+
+-- a refusal of these words says what is so of them, and of the plan
+abbrev pub Deserves : Option (List ℕ) → ScriptWords → Refusal → Type 0
+Deserves plan words refusal.Members = NamesNone words.members.now
+Deserves plan words refusal.Modems = NamesNoIds (option_map (λ word. word.now) words.modems)
+Deserves plan words (refusal.Takeovers wished commands) = (wished ≡ words.takeovers) × NeedMore wished commands × HasCommands plan commands
+Deserves plan words refusal.OtherThanAsked = Unit {0}
+Deserves plan words (refusal.Fault fault) = Unit {0}
+
+-- why words aren't understood: of their members, of their modems, or since the plan has too few commands for them
+abbrev pub AreNotUnderstood : Option (List ℕ) → ScriptWords → Type 0
+AreNotUnderstood plan words =
+    NamesNone words.members.now
+    ⊎ NamesNoIds (option_map (λ word. word.now) words.modems)
+    ⊎ ((commands : ℕ) × NeedMore words.takeovers commands × HasCommands plan commands)
 
 -- ---- scripts
 

@@ -1,10 +1,12 @@
 //! `upsched script`: a script is made, tried and printed.
 
-ghost use Rattle.std.specs.Prelude.{◌≡◌, IfErr, IfOk, OnOk, string_bytes};
+ghost use Rattle.std.specs.Prelude.{◌≡◌, Err, IfErr, IfOk, OnOk, string_bytes};
 ghost use Rattle.std.specs.Io.KnownBytes.{Appends, Keeps};
 ghost use Rattle.upsched_ends.specs.declared.status.Status.TheVariants.{Done, NotUnderstood};
 ghost use Rattle.script_text.specs.Plan.{NoPlan};
-ghost use Rattle.upsched_script.specs.Scripts.{IsAsAsked, IsAskedFor, IsOfWords, PrintsAsked};
+ghost use Rattle.upsched_script.specs.Scripts.{AreNotUnderstood, Deserves, IsAsAsked, IsAskedFor, IsOfWords};
+ghost use Rattle.upsched_script.specs.Scripts.{NamesNone, PrintsAsked};
+ghost use Rattle.upsched_script.specs.declared.refusal.Refusal.TheVariants as refused;
 
 use crate::asked::ids_of;
 use crate::refusal::Refusal;
@@ -22,8 +24,9 @@ fn made_text<'a>(
     commands: &[Command],
     wishes: &Wishes<'_>,
 ) -> Result<String, Refusal<'a>>
-    ensures { IfOk result (λ text. IsAsAsked commands.now wishes.now.members wishes.now.modems.now wishes.now.crashes wishes.now.takeovers
+    ensures asked { IfOk result (λ text. IsAsAsked commands.now wishes.now.members wishes.now.modems.now wishes.now.crashes wishes.now.takeovers
         (string_bytes text)) }
+    ensures understood { IfErr result (λ refusal. ¬ IsOfWords refusal) }
 {
     let Ok(script) = made_script(alloc, commands, wishes) else {
         return Err(Refusal::Fault(Fault::Memory));
@@ -44,7 +47,9 @@ fn asked_text<'a, R: Read>(
     plan: &mut R,
     words: &ScriptWords<'a>,
 ) -> Result<String, Refusal<'a>>
-    ensures { IfOk result (λ text. IsAskedFor (R.remaining plan.old) words.now (string_bytes text)) }
+    ensures asked { IfOk result (λ text. IsAskedFor (R.remaining plan.old) words.now (string_bytes text)) }
+    ensures deserved { IfErr result (Deserves (R.remaining plan.old) words.now) }
+    ensures members { NamesNone words.now.members.now → result ≡ Err refused.Members }
 {
     let Some(members) = members_of(words.members) else {
         return Err(Refusal::Members);
@@ -103,6 +108,8 @@ fn print_asked<'a, R: Read, O: Write>(
     ensures printed { OnOk result (PrintsAsked (R.remaining plan.old) words.now (O.contents output.old) (O.contents output.new)) }
     ensures no_plan { NoPlan (R.remaining plan.old) → output.new ≡ output.old }
     ensures words { IfErr result (λ refusal. IsOfWords refusal → output.new ≡ output.old) }
+    ensures deserved { IfErr result (Deserves (R.remaining plan.old) words.now) }
+    ensures members { NamesNone words.now.members.now → result ≡ Err refused.Members }
 {
     let text = asked_text(alloc, plan, words)?;
     write_text(text.as_str(), output)?;
@@ -123,6 +130,8 @@ pub fn script<R: Read, O: Write, E: Write>(
     ensures quiet { result ≡ Done → errors.new ≡ errors.old }
     ensures no_plan { NoPlan (R.remaining plan.old) → output.new ≡ output.old }
     ensures understood { result ≡ NotUnderstood → output.new ≡ output.old }
+    ensures deserved { result ≡ NotUnderstood → AreNotUnderstood (R.remaining plan.old) words.now }
+    ensures members { NamesNone words.now.members.now → result ≡ NotUnderstood }
 {
     match print_asked(alloc, plan, words, output) {
         Ok(()) => Status::Done,

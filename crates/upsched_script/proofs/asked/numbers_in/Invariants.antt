@@ -1,4 +1,4 @@
-use Rattle.std.proofs.Common.{◌≡◌, List, ℕ}
+use Rattle.std.proofs.Common.{List, ℕ}
 use Rattle.std.proofs.lemmas.Iterator.{YieldsList}
 use Rattle.upsched_script.proofs.Spelled.{Parted}
 use Rattle.upsched_script.proofs.asked.numbers_in.Given as goal
