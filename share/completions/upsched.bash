@@ -3,18 +3,19 @@ _upsched() {
     local now=${COMP_WORDS[COMP_CWORD]} before=${COMP_WORDS[COMP_CWORD - 1]} options=""
     COMPREPLY=()
     if ((COMP_CWORD == 1)); then
-        COMPREPLY=($(compgen -W "maps run check capture stats script draw show live scheduler node audit -h --help -V --version" -- "$now"))
+        COMPREPLY=($(compgen -W "maps resume run check capture stats script draw show live scheduler node audit -h --help -V --version" -- "$now"))
         return
     fi
     case $before in
         --members) COMPREPLY=($(compgen -W "3 5" -- "$now")) && return ;;
     esac
     case ${COMP_WORDS[1]} in
-        maps) options="--json -h --help" ;;
+        maps) options="--names --json -h --help" ;;
+        resume) options="--from --to -h --help" ;;
         run) options="--store --trace --verbose --json -h --help" ;;
         check) options="--plan --script --store -h --help" ;;
         capture) options="-h --help" ;;
-        stats) options="-h --help" ;;
+        stats) options="--json -h --help" ;;
         script) options="--seed --lose --repeat --crash --takeover --members --plan --modems -h --help" ;;
         draw) options="--plan --maps --text -h --help" ;;
         show) options="--names --json -h --help" ;;

@@ -57,10 +57,18 @@ fn read_as(alloc: Global, words: &[&str]) -> Result<String, Fail> {
     }
 }
 
-static RUN_WORDS: [(&[&str], &str); 16] = [
+static RUN_WORDS: [(&[&str], &str); 18] = [
     (
         &["maps", "a plan.toml"],
         "Maps(MapsWords { plan: \"a plan.toml\" })",
+    ),
+    (
+        &["resume", "plan.toml"],
+        "Resume(ResumeWords { plan: \"plan.toml\", from: None, to: None })",
+    ),
+    (
+        &["resume", "--to", "b.rows", "plan.toml", "--from=a.rows"],
+        "Resume(ResumeWords { plan: \"plan.toml\", from: Some(\"a.rows\"), to: Some(\"b.rows\") })",
     ),
     (&["show", "00fF"], "Show(ShowWords { hex: \"00fF\" })"),
     (
@@ -174,7 +182,7 @@ static NODE_WORDS: [(&[&str], &str); 14] = [
     ),
 ];
 
-static CHECK_WORDS: [(&[&str], &str); 19] = [
+static CHECK_WORDS: [(&[&str], &str); 20] = [
     (
         &["audit", "--members", "3", "a", "b c"],
         "Audit(AuditWords { members: \"3\", journals: [\"a\", \"b c\"] })",
@@ -209,6 +217,10 @@ static CHECK_WORDS: [(&[&str], &str); 19] = [
     (
         &["stats", "plan.toml"],
         "Stats(StatsWords { plan: \"plan.toml\" })",
+    ),
+    (
+        &["stats", "plan.toml", "--json"],
+        "StatsAsJson(StatsWords { plan: \"plan.toml\" })",
     ),
     (&["stats"], "NotUnderstood"),
     (

@@ -3,10 +3,12 @@
 
 mod audit_run;
 mod journal_file;
+mod left_file;
 mod node_run;
 mod opening;
 mod plan_runs;
 mod program;
+mod resume_run;
 mod scheduler_run;
 mod script_runs;
 

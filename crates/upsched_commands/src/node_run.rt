@@ -1,14 +1,18 @@
 //! `upsched node K --members M`, with its records in memory or in a file, and with a journal or without one.
 
 use crate::journal_file::JournalFile;
+use node_lines::Ahead;
 use node_tape::{Heard, Spoken};
 use std::io::{BufReader, BufWriter, Read, Write};
 use upsched_ends::{Fault, NodeWords, Status};
 use upsched_store::{member_of, node, stored_node};
 use upsched_words::JournalWords;
 
+/// The bytes of lines that a node over a file takes from its input at once: what comes together shares a sync.
+const STORED_CAPACITY: usize = 65536;
+
 /// Ends as `node` does, or as `stored_node` where the words name a file of records.
-fn serve_node<I: Read, O: Write, E: Write>(
+fn serve_node<I: Read + Ahead, O: Write, E: Write>(
     rt: &HostRuntime,
     words: &NodeWords<'_>,
     input: &mut I,
@@ -21,8 +25,8 @@ fn serve_node<I: Read, O: Write, E: Write>(
     }
 }
 
-/// The same, where each line is in the journal before it is obeyed, and its reply before that goes out. Nothing is
-/// obeyed where the journal's file can't be opened.
+/// The same, where each line is in the journal before it is obeyed, and its reply before that goes out: so no two share
+/// a sync. Nothing is obeyed where the journal's file can't be opened.
 fn serve_journaled<I: Read + Drop, O: Write, E: Write>(
     rt: &HostRuntime,
     words: &NodeWords<'_>,
@@ -54,7 +58,11 @@ pub(crate) fn run_node<I: Read, O: Write, E: Write>(
     output: &mut O,
     errors: &mut E,
 ) -> Status {
-    let Ok(mut input) = BufReader::new(rt.alloc(), input) else {
+    let buffered = match words.store {
+        None => BufReader::new(rt.alloc(), input),
+        Some(_) => BufReader::with_capacity(rt.alloc(), STORED_CAPACITY, input),
+    };
+    let Ok(mut input) = buffered else {
         return Fault::Memory.told(errors);
     };
     match journal {

@@ -5,12 +5,12 @@ use std::alloc::Global;
 use std::io::{Read, Write};
 use upsched_check::{
     CaptureWords, CheckWords, StatsWords, capture, check, draw_plan, draw_text, is_plan_text,
-    stats, tell_plan,
+    stats, stats_as_json, tell_plan,
 };
 use upsched_draw::{draw_maps, draw_script, tell_maps};
 use upsched_ends::{Fault, MapsWords, ScriptWords, Status, text_of};
 use upsched_json::maps_as_json;
-use upsched_maps::maps;
+use upsched_maps::{maps, maps_named};
 use upsched_script::script;
 use upsched_words::{DrawWords, Subject};
 
@@ -23,6 +23,17 @@ pub(crate) fn run_maps<'a, O: Write, E: Write>(
 ) -> Result<Status, Fault<'a>> {
     let mut plan = opened(rt, words.plan)?;
     Ok(maps(rt.alloc(), &mut plan, words, output, errors))
+}
+
+/// Opens the plan and ends as `maps_named` does.
+pub(crate) fn run_maps_named<'a, O: Write, E: Write>(
+    rt: &HostRuntime,
+    words: &MapsWords<'a>,
+    output: &mut O,
+    errors: &mut E,
+) -> Result<Status, Fault<'a>> {
+    let mut plan = opened(rt, words.plan)?;
+    Ok(maps_named(rt.alloc(), &mut plan, words, output, errors))
 }
 
 /// Opens the plan and ends as `maps_as_json` does.
@@ -67,6 +78,17 @@ pub(crate) fn run_stats<'a, O: Write, E: Write>(
 ) -> Result<Status, Fault<'a>> {
     let mut plan = opened(rt, words.plan)?;
     Ok(stats(rt.alloc(), &mut plan, words, output, errors))
+}
+
+/// Opens the plan and ends as `stats_as_json` does.
+pub(crate) fn run_stats_as_json<'a, O: Write, E: Write>(
+    rt: &HostRuntime,
+    words: &StatsWords<'a>,
+    output: &mut O,
+    errors: &mut E,
+) -> Result<Status, Fault<'a>> {
+    let mut plan = opened(rt, words.plan)?;
+    Ok(stats_as_json(rt.alloc(), &mut plan, words, output, errors))
 }
 
 /// Opens the plan, if the words name one, and ends as `script` does.

@@ -3,8 +3,10 @@
 use crate::audit_run::run_audit;
 use crate::node_run::run_node;
 use crate::plan_runs::{
-    run_capture, run_check, run_draw, run_maps, run_maps_as_json, run_script_words, run_stats,
+    run_capture, run_check, run_draw, run_maps, run_maps_as_json, run_maps_named, run_script_words,
+    run_stats, run_stats_as_json,
 };
+use crate::resume_run::run_resume;
 use crate::scheduler_run::run_scheduler;
 use crate::script_runs::{run_live, run_run, run_run_as_json};
 use std::env;
@@ -51,6 +53,8 @@ fn run_command<'a, T: Threads + Wait + Clock + Sync + AllocGlobal, I: Read, O: W
         Words::Maps(words) => run_maps(rt, words, output, errors),
         Words::Run(words) => run_run(rt, words, false, output, errors),
         Words::Trace(words) => run_run(rt, words, true, output, errors),
+        Words::MapsNamed(words) => run_maps_named(rt, words, output, errors),
+        Words::Resume(words) => Ok(run_resume(rt, words, output, errors)),
         Words::MapsAsJson(words) => run_maps_as_json(rt, words, output, errors),
         Words::RunAsJson(words) => run_run_as_json(rt, words, false, output, errors),
         Words::TraceAsJson(words) => run_run_as_json(rt, words, true, output, errors),
@@ -58,6 +62,7 @@ fn run_command<'a, T: Threads + Wait + Clock + Sync + AllocGlobal, I: Read, O: W
         Words::CheckStore(words) => Ok(check_store(rt, words.folder, output, errors)),
         Words::Capture(words) => run_capture(rt, words, output, errors),
         Words::Stats(words) => run_stats(rt, words, output, errors),
+        Words::StatsAsJson(words) => run_stats_as_json(rt, words, output, errors),
         Words::Script(words) => run_script_words(rt, words, output, errors),
         Words::Draw(words) => run_draw(rt, words, output, errors),
         Words::Show(words) => Ok(show(rt.alloc(), words, output, errors)),

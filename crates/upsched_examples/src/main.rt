@@ -1,5 +1,6 @@
 //! Runs each example of the folders below as the program would, and tells which prints anything
-//! but what stands beside it: `NAME.stdout` where all goes well, `NAME.stderr` where it faults. Scripts
+//! but what stands beside it: `NAME.stdout` where all goes well, `NAME.stderr` where it faults. Parts of plans leave the
+//! tables that stand beside them too, from those of the part that `NAME.from` names. Scripts
 //! run a second time with `--store` and a third time over files in memory, plans of `live` with fewer turns and
 //! `--verbose`, and plans with a fault by `live` too. `check --store` is run on folders of databases.
 #![tactic(auto)]
@@ -33,6 +34,8 @@ enum Kind {
     SchedulerLines,
     Live,
     LiveWithFault,
+    Part,
+    RowsWithFault,
 }
 
 /// A folder of examples.
@@ -44,7 +47,7 @@ struct Folder {
     ending: &'static str,
 }
 
-const FOLDERS: [Folder; 10] = [
+const FOLDERS: [Folder; 12] = [
     Folder {
         path: "plans",
         kind: Kind::Plan,
@@ -95,10 +98,23 @@ const FOLDERS: [Folder; 10] = [
         kind: Kind::Body,
         ending: ".hex",
     },
+    Folder {
+        path: "parts",
+        kind: Kind::Part,
+        ending: ".toml",
+    },
+    Folder {
+        path: "faults/rows",
+        kind: Kind::RowsWithFault,
+        ending: ".rows",
+    },
 ];
 
 /// The node that replies to lines.
 const NODE: [&str; 4] = ["node", "0", "--members", "3"];
+
+/// The file in which a part leaves its tables.
+const LEFT: &str = "left.rows";
 
 /// Folders in which no run can keep its records, and what a run tells of them.
 const REFUSED: [(&str, &str); 5] = [
@@ -244,6 +260,46 @@ impl<T: Threads + Wait + Clock + Sync + AllocGlobal> Host<'_, T> {
         Ok(agree)
     }
 
+    /// What a part of a plan prints and leaves, behind the tables that `NAME.from` names where it is there.
+    fn part_of(&self, path: &str, stem: &str) -> io::Result<Run> {
+        let named = format!(in self.rt.alloc(); "{stem}.from")?;
+        if !fs::exists(self.rt, named.as_str())? {
+            return self.run_of(&["resume", path, "--to", LEFT], &[]);
+        }
+        let from = fs::read_to_string(self.rt, named.as_str())?;
+        let words = ["resume", path, "--from", from.trim_end(), "--to", LEFT];
+        self.run_of(words.as_slice(), &[])
+    }
+
+    /// Whether a part of a plan prints so, and leaves the tables that stand beside it.
+    fn part_agrees<O: Write>(
+        &self,
+        path: &str,
+        stem: &str,
+        wanted: Wanted<'_>,
+        output: &mut O,
+    ) -> io::Result<bool> {
+        let run = self.part_of(path, stem)?;
+        let mut agree = is_as_wanted(&["resume", path], &run, wanted, output)?;
+        let rows = format!(in self.rt.alloc(); "{stem}.rows")?;
+        if fs::read(self.rt, rows.as_str())? != fs::read(self.rt, LEFT)? {
+            writeln!(output, "{path} leaves other tables")?;
+            agree = false;
+        }
+        Ok(agree)
+    }
+
+    /// Whether a file of tables is refused so.
+    fn rows_agree<O: Write>(
+        &self,
+        path: &str,
+        wanted: Wanted<'_>,
+        output: &mut O,
+    ) -> io::Result<bool> {
+        let words = ["resume", "parts/day_two.toml", "--from", path];
+        self.agrees(words.as_slice(), wanted, output)
+    }
+
     /// Whether the example of this path, which is this one without its ending, prints what stands beside it.
     fn example_agrees<O: Write>(
         &self,
@@ -263,6 +319,8 @@ impl<T: Threads + Wait + Clock + Sync + AllocGlobal> Host<'_, T> {
             Kind::SchedulerLines => self.lines_agree(&["scheduler"], path, wanted, output),
             Kind::Live => self.live_agrees(path, wanted, output),
             Kind::LiveWithFault => self.agrees(&["live", path], wanted, output),
+            Kind::Part => self.part_agrees(path, stem, wanted, output),
+            Kind::RowsWithFault => self.rows_agree(path, wanted, output),
         }
     }
 

@@ -96,8 +96,41 @@ const MEMBERS: Argument = Argument(
 const MAPS: Usage = Usage {
     name: "maps",
     about: "Applies a plan's commands to one scheduler and prints their outputs",
-    example: None,
-    arguments: &[PLAN, JSON],
+    example: Some("Example: upsched maps examples/plans/refusals.toml --names"),
+    arguments: &[
+        PLAN,
+        Argument(
+            "names",
+            Flag,
+            NoneOf(&["json"]),
+            "Also prints of each refusal its name, and which value it is and what it may be",
+        ),
+        JSON,
+    ],
+    group: None,
+};
+
+const RESUME: Usage = Usage {
+    name: "resume",
+    about: "Applies a plan's commands as maps does, from the tables of a file on, and leaves the tables in a file",
+    example: Some(
+        "Example: upsched resume examples/parts/day_one.toml --to day.rows && upsched resume examples/parts/day_two.toml --from day.rows",
+    ),
+    arguments: &[
+        PLAN,
+        Argument(
+            "from",
+            Value("FILE"),
+            Any,
+            "Begins at the tables of this file, which --to left; without it no channel is set",
+        ),
+        Argument(
+            "to",
+            Value("FILE"),
+            Any,
+            "Leaves the tables behind the plan in this file, whole or not at all; it may be that of --from",
+        ),
+    ],
     group: None,
 };
 
@@ -180,7 +213,7 @@ const STATS: Usage = Usage {
     name: "stats",
     about: "Prints what a plan's MAPs give, by channel, by use (IUC) and by SID",
     example: Some("Example: upsched stats examples/plans/voice_and_poll.toml"),
-    arguments: &[PLAN],
+    arguments: &[PLAN, JSON],
     group: None,
 };
 
@@ -382,6 +415,6 @@ const AUDIT: Usage = Usage {
 };
 
 /// The commands, in the order in which the help tells of them.
-pub(crate) const USAGES: [Usage; 12] = [
-    MAPS, RUN, CHECK, CAPTURE, STATS, SCRIPT, DRAW, SHOW, LIVE, SCHEDULER, NODE, AUDIT,
+pub(crate) const USAGES: [Usage; 13] = [
+    MAPS, RESUME, RUN, CHECK, CAPTURE, STATS, SCRIPT, DRAW, SHOW, LIVE, SCHEDULER, NODE, AUDIT,
 ];

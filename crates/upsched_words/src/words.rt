@@ -13,6 +13,7 @@ use upsched_check::{CaptureWords, CheckWords, Form, StatsWords};
 use upsched_ends::{
     Fault, LiveWords, MapsWords, NodeWords, RunWords, ScriptWords, ShowWords, Status,
 };
+use upsched_resume::ResumeWords;
 use upsched_scheduler::ReplyForm;
 
 /// What `node` is told of its journal.
@@ -68,8 +69,12 @@ pub struct DrawWords<'a> {
 pub enum Words<'a> {
     /// Applies a plan's commands and prints their outputs.
     Maps(MapsWords<'a>),
-    /// The same as JSON.
+    /// The same, and why commands are refused.
+    MapsNamed(MapsWords<'a>),
+    /// The outputs as JSON.
     MapsAsJson(MapsWords<'a>),
+    /// Applies a plan's commands behind the tables of a file, prints their outputs and leaves the tables in a file.
+    Resume(ResumeWords<'a>),
     /// Runs a script and prints its answers.
     Run(RunWords<'a>),
     /// Runs a script and prints its answers and its letters.
@@ -86,6 +91,8 @@ pub enum Words<'a> {
     Capture(CaptureWords<'a>),
     /// Prints what a plan's MAPs give.
     Stats(StatsWords<'a>),
+    /// The same as JSON.
+    StatsAsJson(StatsWords<'a>),
     /// Prints a script that it makes.
     Script(ScriptWords<'a>),
     /// Draws what happens in a script, or the MAPs of a plan.
@@ -106,18 +113,26 @@ pub enum Words<'a> {
     Audit(AuditWords<'a>),
 }
 
-/// What `maps` is told: to print lines or JSON.
+/// What `maps` is told: to print lines, with the reasons of refusals or without, or JSON.
 fn maps_words<'a>(words: &ArgMatches<'a>) -> Option<Words<'a>> {
     let plan = words.get_str("PLAN")?;
     let told = MapsWords { plan };
-    Some(if words.get_flag("json") {
-        Words::MapsAsJson(told)
-    } else {
-        Words::Maps(told)
+    Some(match (words.get_flag("json"), words.get_flag("names")) {
+        (true, _) => Words::MapsAsJson(told),
+        (false, true) => Words::MapsNamed(told),
+        (false, false) => Words::Maps(told),
     })
 }
 
-/// What `show` is told: likewise, or to print names too.
+/// What `resume` is told.
+fn resume_words<'a>(words: &ArgMatches<'a>) -> Option<Words<'a>> {
+    let plan = words.get_str("PLAN")?;
+    let from = words.get_str("from");
+    let to = words.get_str("to");
+    Some(Words::Resume(ResumeWords { plan, from, to }))
+}
+
+/// What `show` is told: as `maps`, or to print names too.
 fn show_words<'a>(words: &ArgMatches<'a>) -> Option<Words<'a>> {
     let hex = words.get_str("HEX")?;
     let told = ShowWords { hex };
@@ -152,10 +167,15 @@ fn capture_words<'a>(words: &ArgMatches<'a>) -> Option<Words<'a>> {
     Some(Words::Capture(CaptureWords { plan }))
 }
 
-/// What `stats` is told.
+/// What `stats` is told: to print lines or JSON.
 fn stats_words<'a>(words: &ArgMatches<'a>) -> Option<Words<'a>> {
     let plan = words.get_str("PLAN")?;
-    Some(Words::Stats(StatsWords { plan }))
+    let told = StatsWords { plan };
+    Some(if words.get_flag("json") {
+        Words::StatsAsJson(told)
+    } else {
+        Words::Stats(told)
+    })
 }
 
 /// What `scheduler` is told: to reply by lines or by JSON.
@@ -266,6 +286,7 @@ fn command_of<'a>(
     };
     Ok(match name {
         "maps" => maps_words(words),
+        "resume" => resume_words(words),
         "run" => run_words(words),
         "check" => check_words(words),
         "capture" => capture_words(words),

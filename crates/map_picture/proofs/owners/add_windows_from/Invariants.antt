@@ -1,9 +1,0 @@
-use Rattle.std.proofs.Common.{◌≡◌, ◌++◌, string_bytes}
-use Rattle.xml_text.specs.Xml.{render}
-use Rattle.xml_text.specs.Each.{each}
-use Rattle.map_picture.specs.Owners.{window_at}
-use Rattle.map_picture.proofs.owners.add_windows_from.Given as goal
-
--- each so far
-abbrev pub invariant-loop-k : goal.invariant-loop-k
-invariant-loop-k l = string_bytes l.out ≡ string_bytes l.initial.out ++ render (each l.k (window_at l.axis l.y l.interval l.jitter l.until l.first))
