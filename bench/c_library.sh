@@ -33,10 +33,12 @@ g++ -std=c++17 "${clean[@]}" "${warn[@]}" failover.cpp "$node" -o "$work/failove
 g++ -std=c++17 "${clean[@]}" "${warn[@]}" both.cpp "$lib" "$node" -o "$work/both"
 g++ -std=c++17 "${clean[@]}" "${warn[@]}" sim.cpp "$lib" -o "$work/sim"
 g++ -std=c++17 "${clean[@]}" "${warn[@]}" commands.cpp "$lib" -o "$work/commands"
+g++ -std=c++17 "${clean[@]}" "${warn[@]}" saved.cpp "$lib" -o "$work/saved"
 "$work/agrees"
 "$work/node_agrees"
 "$work/rows" | diff - rows.stdout
 "$work/commands" | diff - commands.stdout
+"$work/saved" | diff - saved.stdout
 "$work/node" | diff - node.stdout
 "$work/failover" | diff - failover.stdout
 "$work/both"

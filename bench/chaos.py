@@ -7,10 +7,10 @@ Begins one short run after another, each with new files, until T seconds are ove
 seed S + I, so `--seed S+I --runs 1` repeats it, as far as processes allow: the plan is the seed's, the moment within a
 call at which a signal comes is not. Runs of even seeds have three members and those of odd seeds five.
 
-A run loses, repeats, delays and reorders letters. It kills processes, the leader before others, and starts them over
-their files; stops them for a while; parts the members; and fills disks: of a file system of its own for each node
-where one may be mounted, else by a limit of files' sizes. It asks for things that are no lines, and gives letters to
-the wrong node or cut. Then all is healed: each node is up, one leads, and who lags is told.
+A run loses, repeats, delays and reorders letters, and some give them in heaps. It kills processes, the leader before
+others, and starts them over their files; stops them for a while; parts the members; and fills disks: of a file system
+of its own for each node where one may be mounted, else by a limit of files' sizes. It asks for things that are no
+lines, and gives letters to the wrong node or cut. Then all is healed: each node is up, one leads, and who lags is told.
 
 At the end each node has to have released each chosen place, with one output at each place in all lives of all nodes;
 one scheduler alone has to give the same outputs; no minislot of a channel may be in two MAPs; and the files have to
@@ -71,6 +71,8 @@ class Run:
         self.now, self.order, self.mail, self.strikes = 0, 0, [], []
         self.leader, self.rest, self.sides, self.parted_until = None, 0, None, None
         self.work, self.offered = Workload(self.random, bytes_of), {b"\0"}
+        # Letters are given each so many ticks, all that have come together.
+        self.heap = pick([1, 1, 8, 40])
 
     # Troubles.
 
@@ -155,6 +157,8 @@ class Run:
             heapq.heappush(self.mail, (due, self.random.random() if self.delay else self.order, to, digits))
 
     def deliver(self):
+        if self.now % self.heap:
+            return
         while self.mail and self.mail[0][0] <= self.now:
             to, digits = heapq.heappop(self.mail)[2:]
             it = self.members[to]
@@ -163,6 +167,7 @@ class Run:
                 continue
             it.ask(b"letter " + digits)
             self.counts["letters"] += 1
+            self.counts["letters in heaps"] += self.heap > 1
             if self.random.random() < 0.01:
                 other = self.random.choice(self.members)
                 cut = self.random.choice([2, 4, 16, 18])
@@ -278,6 +283,7 @@ class Run:
 
     def heal(self):
         self.loss = self.repeat = self.delay = 0
+        self.heap = 1
         self.mend(lambda until: until is not None)
         for it in self.members:
             if it.process is None:

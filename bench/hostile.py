@@ -42,6 +42,7 @@ def examples(pattern):
 PLANS = examples("plans/*.toml") + examples("faults/plans/*.toml")
 LINES = examples("schedulers/*.lines")
 SCRIPTS = examples("scripts/*.toml") + examples("faults/scripts/*.toml")
+ROWS = examples("parts/*.rows") + examples("faults/rows/*.rows")
 BODIES = [text.strip() for text in examples("bodies/*.hex") + examples("faults/bodies/*.hex")]
 
 
@@ -365,6 +366,17 @@ def hex_text(rng):
     return rng.choice([b"", b"0", b"00", b"-", b"--", b"0x00", *long])
 
 
+def rows_file(rng):
+    """A file of tables that is cut, or has other bytes."""
+    text = rng.choice(ROWS)
+    if rng.random() < 0.5:
+        place = rng.randrange(max(len(text), 1))
+        return text[:place] + bytes([rng.choice([0, 1, 2, 127, 128, 255])]) + text[place + 1:]
+    for _ in range(rng.choice([1, 2])):
+        text = rng.choice([cut, double, flip, marked, no_text])(rng, text)
+    return text
+
+
 def text_of(rng, changeable, made, array):
     draw = rng.random()
     if draw < 0.06:
@@ -383,12 +395,14 @@ SCRIPTED |= {"run --json --trace": ["run", "--json", "--trace"]}
 # Those that read lines on standard input.
 SERVED = {"scheduler": ["scheduler"], "scheduler --json": ["scheduler", "--json"]}
 SHOWN = {"show": ["show", "--"], "show --names": ["show", "--names", "--"]}
-WORDS = ["maps", "maps", *PLANNED, *SERVED, *SHOWN, "run", "run", *SCRIPTED, "run --store", "run --store"]
+# The word that takes a file of tables.
+RESUMED = {"resume": ["resume", os.path.join(HERE, "examples/parts/day_two.toml"), "--from"]}
+WORDS = ["maps", "maps", *PLANNED, *RESUMED, *SERVED, *SHOWN, "run", "run", *SCRIPTED, "run --store", "run --store"]
 
 
 def words_of(how):
     """The words of a good text."""
-    return {**SHOWN, **PLANNED, **SERVED, **SCRIPTED}.get(how, ["run"])
+    return {**SHOWN, **PLANNED, **RESUMED, **SERVED, **SCRIPTED}.get(how, ["run"])
 
 
 def case_of(seed, k):
@@ -398,6 +412,8 @@ def case_of(seed, k):
         return Case(how, words_of(how), hex_text(rng).replace(b"\0", b"0")[:LONGEST_WORD])
     if how in PLANNED:
         return Case(how, PLANNED[how], text_of(rng, PLANS, made_plan, b"command"))
+    if how in RESUMED:
+        return Case(how, RESUMED[how], rows_file(rng))
     if how in SERVED:
         return Case(how, SERVED[how], text_of(rng, LINES, made_lines, b"command"))
     verbose = ["--verbose"] if how in ("run", "run --store") and rng.random() < 0.5 else []
@@ -447,6 +463,8 @@ def good_text(how, size):
     """A good text of about this length."""
     if how in SHOWN:
         return read(os.path.join(HERE, "examples/bodies/first_grant.hex")).strip()
+    if how in RESUMED:
+        return read(os.path.join(HERE, "examples/parts/day_one.rows"))
     if how in SERVED:
         return b"apply 00\n" * (size // 9)
     tick = b"[[event]]\nkind = 'tick'\nmodem = 0\nch = 1\nslot = 0\nrandom = 0\n"
@@ -471,7 +489,7 @@ class Pace:
 
     def good(self, how, length):
         """The time of the good text whose length is the greatest power of two up to this one."""
-        return self.taken(how, 0 if how in SHOWN else 1 << max(length, 64).bit_length() - 1)
+        return self.taken(how, 0 if how in SHOWN or how in RESUMED else 1 << max(length, 64).bit_length() - 1)
 
 
 def faults(case, ended, pace):

@@ -15,19 +15,21 @@ from process_beside import Etcd, sqlite_places
 from process_carrier import MEMBERS, Cluster
 from supervisor import bytes_of
 
-IN_FLIGHT = (1, 8, 64)
+IN_FLIGHT = (1, 8, 64, 512)
 CHANNEL = dict(kind="channel", ch=1, ucd=7, short_max=16, ranging=[2, 5], data=[3, 8], base=1000)
 FLOW = dict(kind="flow", ch=1, modem=50, tag=1, service="ugs", size=20, interval=100, jitter=0, base=1000)
 # A cut whose MAP has 28 bytes: a grant, minislots for all, and the Null.
 CUT = dict(kind="cut", ch=1, len=100, not_before=0, ack=995)
 CUT_BYTES = bytes_of(CUT)
-GOALS = {"memory": 20000, "sqlite": 2.0, "mebibytes": 64, "tell": 10.0}
+GOALS = {"memory": 20000, "mebibytes": {"memory": 64, "files": 80}, "tell": 10.0}
+# Over files: times etcd's places, places with 8 in flight, and times the program's before, places and delay.
+FILE_GOALS = {"etcd": 1.5, "eight": 1000, "before": 3.0, "delay": 1.1}
 
 
 class Bench:
     def __init__(self, given, folder):
         self.program, self.folder, self.what, self.places = given.program, folder, given.what, given.places
-        self.rates, self.ratios = {}, []
+        self.before, self.rates, self.medians = given.before, {}, {}
 
     def say(self, *words):
         print(*words, flush=True)
@@ -95,7 +97,7 @@ class Bench:
         sizes = [it.mebibytes() for it in cluster.nodes]
         self.say(f"{kind} {places} places: MiB of each node", *(f"{size:.1f}" for size in sizes))
         if places == 100000:
-            self.goal(f"MiB of a node in {kind}", max(sizes), GOALS["mebibytes"])
+            self.goal(f"MiB of a node in {kind}", max(sizes), GOALS["mebibytes"][kind])
 
     def speed(self, kind, cluster, places, in_flight):
         values = [CUT_BYTES.hex().encode()] * self.places
@@ -107,6 +109,7 @@ class Bench:
         now = resource.getrusage(resource.RUSAGE_SELF)
         carrier = (now.ru_utime + now.ru_stime - own.ru_utime - own.ru_stime) / len(values) * 1e6
         self.rates[kind, places, in_flight] = len(values) / taken
+        self.medians[kind, places, in_flight] = statistics.median(delays)
         spent = " ".join(f"{it:.0f}" for it in busy)
         self.say(f"{kind} {places} behind, {in_flight} in flight: {told(len(values) / taken, delays)}")
         self.say(f"  processor time a place, us: nodes {spent}, carrier {carrier:.0f}")
@@ -135,22 +138,47 @@ class Bench:
                 rate = self.places / (time.perf_counter() - began)
                 times = self.rates.get((kind, 1000, in_flight), 0) / rate
                 self.say(f"etcd in {kind}, {in_flight} in flight: {told(rate, delays)}; nodes: {times:.2f} times that")
+                if kind == "files" and in_flight >= 64:
+                    what = f"places a second over files, times etcd's, {in_flight} in flight"
+                    self.goal(what, times, FILE_GOALS["etcd"], at_least=True)
         finally:
             etcd.end()
             shutil.rmtree(room)
+
+    def beside(self, places):
+        """Another program over files like these, in the same run: that of the tree before."""
+        own, self.program = self.program, self.before
+        room = self.prepared(places)
+        cluster = self.cluster("files", places, room)
+        cluster.lead(0)
+        for in_flight in IN_FLIGHT:
+            self.speed("files of the program before", cluster, places, in_flight)
+        cluster.end()
+        shutil.rmtree(room)
+        self.program = own
+        now, then = (self.rates[kind, places, 64] for kind in ("files", "files of the program before"))
+        what = "places a second over files, times those before, 64 in flight"
+        self.goal(what, now / then, FILE_GOALS["before"], at_least=True)
+        now, then = (self.medians[kind, places, 1] for kind in ("files", "files of the program before"))
+        self.goal("median delay over files, times that before, 1 in flight", now / then, FILE_GOALS["delay"])
 
     def all(self):
         for kind in ("memory", "files"):
             self.run(kind, 1000)
             if self.what is None or self.what == "no-files" and kind == "memory":
                 self.run(kind, 100000)
+        if self.before:
+            self.beside(1000)
         self.etcd("memory", "/dev/shm" if os.path.isdir("/dev/shm") else self.folder)
         self.etcd("files", self.folder)
         limit = sqlite_places(self.folder, self.places, CUT_BYTES)
         self.say(f"sqlite3, two synced writes a place in each of three processes: {limit:.0f} places a second")
         for (kind, places, in_flight), rate in self.rates.items():
+            if kind == "files" and in_flight == 8:
+                what = f"places a second over files, 8 in flight, {places} behind"
+                self.goal(what, rate, FILE_GOALS["eight"], at_least=True)
             if kind == "files" and in_flight == 64:
-                self.goal(f"sqlite3's places a second over ours, {places} behind", limit / rate, GOALS["sqlite"])
+                self.say(f"sqlite3's, each write by itself, over ours, {places} behind: {limit / rate:.2f}")
             if kind == "memory" and in_flight == 64:
                 self.goal(f"places a second in memory, {places} behind", rate, GOALS["memory"], at_least=True)
 
@@ -167,6 +195,7 @@ def main():
     words.add_argument("what", nargs="?", choices=["quick", "no-files"])
     words.add_argument("--places", type=int, default=1000)
     words.add_argument("--program", default=os.path.join(ROOT, "crates/upsched/out/upsched"))
+    words.add_argument("--before", help="a program whose places a second over files are printed beside")
     given = words.parse_args()
     with tempfile.TemporaryDirectory(dir=os.environ.get("PROCESS_BENCH_DIR")) as folder:
         print(f"load {os.getloadavg()[0]:.1f} of {os.cpu_count()} processors", flush=True)

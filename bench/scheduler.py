@@ -1,11 +1,13 @@
 #!/usr/bin/env python3
-"""Compares the replies of `upsched scheduler` with what `maps` prints, and measures them side by side.
+"""Compares the replies of `upsched scheduler` with what `maps` prints, tries hostile inputs, and measures them.
 
 Usage: bench/scheduler.py PROGRAM FOLDER [COMMANDS [LINES]]
 """
 import glob
 import json
+import multiprocessing
 import os
+import re
 import subprocess
 import sys
 import time
@@ -16,10 +18,15 @@ LAST_TIME = 1 << 62
 SERVICES = {"best_effort": 0, "ugs": 1, "poll": 2, "station": 3, "initial": 4}
 
 
+def key_text(key):
+    """A key as TOML has it: in quotes, where it isn't a bare one."""
+    return key if re.fullmatch(r"[A-Za-z0-9_-]+", key) else json.dumps(key)
+
+
 def inline(value):
     """A value as TOML has it within a line."""
     if isinstance(value, dict):
-        return "{ " + ", ".join(f"{key} = {inline(item)}" for key, item in value.items()) + " }"
+        return "{ " + ", ".join(f"{key_text(key)} = {inline(item)}" for key, item in value.items()) + " }"
     return json.dumps(value)
 
 
@@ -98,6 +105,55 @@ def differing(program):
     return found, len(plans)
 
 
+def replies(*faults):
+    """The text of replies: NoLine and its like are errors, other words outputs."""
+    numbers = {"NoLine": 1, "NoHex": 2, "NoCommand": 4, "TooLong": 7}
+    outputs = (f"error {numbers[fault]} {fault}" if fault in numbers else fault for fault in faults)
+    return "".join(f"{number} {output}\n" for number, output in enumerate(outputs, 1)).encode()
+
+
+def hostile_inputs():
+    """By name the text that goes in, and what its lines are replied to."""
+    return {
+        "no input": (b"", ()),
+        "an empty line": (b"\n\n", ("NoLine", "NoLine")),
+        "CR before a line's end": (b"apply 00\r\ncommand = { kind = \"noop\" }\r\n", ("NoHex", "NoCommand")),
+        "half a last line": (b"apply 00\napply 00", ("nothing",)),
+        "100 MB without an end": (b"0" * 100_000_000, ()),
+        "a line of 100 MB": (b"0" * 100_000_000 + b"\napply 00\n", ("TooLong", "nothing")),
+        "NUL bytes": (b"\0\napply 00\0\napply \0\n\0apply 00\n", ("NoLine", "NoHex", "NoHex", "NoLine")),
+        "an odd digit": (b"apply 000\n", ("NoHex",)),
+        "capitals": (b"apply 0309FFFF\nAPPLY 00\nCommand = 1\n", ("refused 1", "NoLine", "NoLine")),
+        "65 bytes": (b"apply " + b"00" * 65 + b"\napply " + b"00" * 64 + b"\n", ("NoCommand", "NoCommand")),
+        "a noop with a byte more": (b"apply 0000\n", ("NoCommand",)),
+        "two of a key": (b"command = { kind = \"noop\", kind = \"noop\" }\n", ("NoCommand",)),
+        "bytes that are no text": (b"\xff\ncommand = \xff\napply \xff\n", ("NoLine", "NoCommand", "NoHex")),
+    }
+
+
+def falling_over(program):
+    """The hostile inputs that aren't replied to as they are to be, and how many there are."""
+    inputs = hostile_inputs()
+    found = [name for name, (text, said) in inputs.items() if printed(program, ["scheduler"], text) != replies(*said)]
+    pipe = subprocess.PIPE
+    gone = subprocess.Popen([program, "scheduler"], stdin=pipe, stdout=pipe, stderr=pipe)
+    gone.stdout.close()
+    try:
+        gone.stdin.write(b"apply 00\n" * 100_000)
+        gone.stdin.close()
+    except BrokenPipeError:
+        pass
+    if (gone.stderr.read(), gone.wait()) != (b"upsched: output\n", 1):
+        found.append("a reader that goes away")
+    return found, len(inputs) + 1
+
+
+def apart(work, *given):
+    """What the work gives, done by another process. So this one stays small: what it holds counts as its children's."""
+    with multiprocessing.get_context("fork").Pool(1) as pool:
+        return pool.apply(work, given)
+
+
 def taken(program, words, path):
     """The least processor time of three runs with a file as standard input, and the greatest memory in MiB."""
     least, peak = None, 0
@@ -116,21 +172,27 @@ def taken(program, words, path):
     return least, peak
 
 
-def measure(program, folder, count):
-    """How many commands a second, beside `maps`."""
-    plan = f"{folder}/plan.toml"
-    with open(plan, "wb") as file:
+def write_lines(folder, count):
+    """Makes a plan, and its commands as lines; how many there are."""
+    with open(f"{folder}/plan.toml", "wb") as file:
         subprocess.run([sys.executable, f"{HERE}/bench/plans.py", "mixed", str(count)], stdout=file, check=True)
-    commands = commands_in(plan)
-    runs = {"maps": (["maps", plan], None), "maps --json": (["maps", plan, "--json"], None)}
+    commands = commands_in(f"{folder}/plan.toml")
     for name, line in (("bytes", apply_line), ("tables", table_line)):
         with open(f"{folder}/{name}", "w") as file:
             file.writelines(map(line, commands))
+    return len(commands)
+
+
+def measure(program, folder, count):
+    """How many commands a second, beside `maps`."""
+    commands, plan = apart(write_lines, folder, count), f"{folder}/plan.toml"
+    runs = {"maps": (["maps", plan], os.devnull), "maps --json": (["maps", plan, "--json"], os.devnull)}
+    for name in ("bytes", "tables"):
         runs[name] = ["scheduler"], f"{folder}/{name}"
         runs[f"{name} --json"] = ["scheduler", "--json"], f"{folder}/{name}"
     for name, (words, path) in runs.items():
-        seconds, peak = taken(program, words, path or os.devnull)
-        print(f"{name:13} {len(commands) / seconds:9.0f} commands a second, peak {peak:5.1f} MiB", flush=True)
+        seconds, peak = taken(program, words, path)
+        print(f"{name:13} {commands / seconds:9.0f} commands a second, peak {peak:5.1f} MiB", flush=True)
 
 
 def wait_for_each(program, count):
@@ -174,14 +236,18 @@ def run_long(program, lines):
 def main():
     program, folder = sys.argv[1:3]
     count, lines = (int(word) for word in (sys.argv[3:] + ["60000", "10000000"][len(sys.argv) - 3 :])[:2])
-    found, plans = differing(program)
+    found, plans = apart(differing, program)
     print(f"{plans} plans, by bytes and as tables, in lines and as JSON: {len(found)} differ from maps")
     for one in found:
+        print(f"  {one}")
+    failed, inputs = apart(falling_over, program)
+    print(f"{inputs} hostile inputs: {len(failed)} are replied to otherwise")
+    for one in failed:
         print(f"  {one}")
     measure(program, folder, count)
     wait_for_each(program, 20000)
     run_long(program, lines)
-    sys.exit(bool(found))
+    sys.exit(bool(found or failed))
 
 
 main()

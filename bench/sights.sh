@@ -53,6 +53,7 @@ for plan in plans/*.toml live/*.toml; do
     says check "$plan"
     says capture "$plan"
     says stats "$plan"
+    says_json stats "$plan"
     draws "$plan" --plan
     says draw "$plan" --plan --text
     says script --members 3 --plan "$plan" --modems 50,51

@@ -4,8 +4,9 @@ Usage: bench/strace.py PROGRAM FOLDER
 
 The node gets its lines twice, each time with a new file: one at a time, the next one when the reply is there; and all
 at once. A reply goes out only when nothing that was written to the file or its log still waits for a sync. A reply
-that tells of something that is kept has a write and a sync since the reply before. And no write to standard output
-has parts of two replies, so each is flushed before the next line is looked at.
+that tells of something that is kept has a write and a sync since the replies before it went out. One at a time no write
+to standard output has parts of two replies, so each is flushed before the next line is waited for. All at once the
+lines share syncs: there are at most a third as many as replies that tell of something that is kept.
 """
 import os
 import re
@@ -122,13 +123,45 @@ def check(name, replies, wanted, trace):
     return syncs
 
 
+def check_together(name, replies, wanted, trace):
+    """The same where replies may go out together: those between two writes to the file share what was synced before."""
+    unsynced, wrote, synced, syncs, number, left = set(), False, False, 0, 0, len(replies[0])
+    goes_out = False
+    for event, what in events(trace, trace.removesuffix("trace") + "db"):
+        if event == "write":
+            if goes_out:
+                wrote = synced = goes_out = False
+            unsynced.add(what)
+            wrote = True
+        elif event == "sync":
+            unsynced.discard(what)
+            synced, syncs = True, syncs + 1
+        elif event == "out":
+            goes_out = True
+            if unsynced:
+                sys.exit(f"{name}: reply {number} went out, and {unsynced} waited for a sync")
+            while what:
+                if wanted[number] and not (wrote and synced):
+                    sys.exit(f"{name}: reply {number} ({replies[number]!r}) went out without a synced write")
+                part = min(what, left)
+                what, left = what - part, left - part
+                if not left:
+                    number += 1
+                    left = len(replies[number]) if number < len(replies) else 0
+    if number != len(replies):
+        sys.exit(f"{name}: the trace has {number} of {len(replies)} replies")
+    if syncs * 3 > sum(wanted):
+        sys.exit(f"{name}: {syncs} syncs for {sum(wanted)} replies that tell of something kept")
+    return syncs
+
+
 def main():
     program, folder = sys.argv[1:]
     wanted = [True] + [keeps for _, keeps in lines()]
     for name, at_once in (("one-at-a-time", False), ("all-at-once", True)):
         replies, trace = traced(program, folder, name, at_once)
-        syncs = check(name, replies, wanted, trace)
-        print(f"{name}: {len(replies)} replies, {sum(wanted)} behind a synced write of their own; {syncs} syncs")
+        syncs = (check_together if at_once else check)(name, replies, wanted, trace)
+        print(f"{name}: {len(replies)} replies, {sum(wanted)} behind a synced write; {syncs} syncs")
 
 
 if __name__ == "__main__":
