@@ -285,11 +285,13 @@ class Run:
         self.loss = self.repeat = self.delay = 0
         self.heap = 1
         self.mend(lambda until: until is not None)
+        self.mail = [(self.now, *letter[1:]) for letter in self.mail]
+        heapq.heapify(self.mail)
+        # A node that crashed as its disk was full is seen to be down once its last reply is read.
+        self.settle()
         for it in self.members:
             if it.process is None:
                 it.start()
-        self.mail = [(self.now, *letter[1:]) for letter in self.mail]
-        heapq.heapify(self.mail)
         self.settle()
         for _ in range(20):
             it = self.random.choice(self.members)
