@@ -5,7 +5,7 @@ PROGRAM is the built program, crates/upsched/out/upsched where the words don't s
 made, 1000 by default. Looked at are the pictures of examples/plans and of these (`draw --plan`), and those of
 examples/scripts (`draw --maps`):
 
-- no two texts overlap, and none leaves the paper, with the widths of DejaVu Sans, which is among the fonts that the
+- no two texts overlap, and none leaves the sheet, with the widths of DejaVu Sans, which is among the fonts that the
   style names and wider than the others;
 - of a plan, as many windows are red as `stats` counts as missed, and its rows say as many. The windows of a made plan
   begin with its channel's axis or later. Where some begin before, or more than are drawn, no more are red.
@@ -71,14 +71,14 @@ def box_of(text):
 
 
 def look_at_texts(svg):
-    """How many texts a picture has: apart from one another, and on the paper."""
+    """How many texts a picture has: apart from one another, and on the sheet."""
     boxes = sorted((box_of(text) for text in svg.iter(SVG + "text")), key=lambda box: box[1])
     wide, high = int(svg.get("width")), int(svg.get("height"))
     begun = []
     for box in boxes:
         left, top, right, bottom, words = box
         if left < 0 or top < 0 or right > wide or bottom > high:
-            raise Wrong(f"`{words}` leaves the paper: {left:.1f} to {right:.1f} of {wide}, at {bottom:.1f} of {high}")
+            raise Wrong(f"`{words}` leaves the sheet: {left:.1f} to {right:.1f} of {wide}, at {bottom:.1f} of {high}")
         begun = [other for other in begun if other[3] > top]
         for other in begun:
             if other[0] < right and left < other[2]:

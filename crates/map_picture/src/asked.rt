@@ -2,7 +2,10 @@
 
 ghost use Rattle.std.specs.Prelude.{◌≡◌, ◌++◌, ◌<◌, ◌^◌, IfOk, OnOk, string_bytes};
 ghost use Rattle.xml_text.specs.Xml.{render};
-ghost use Rattle.map_picture.specs.Asked.{asked, asked_line, asked_marks, asked_name, asked_words, bar, before_at, before_words, end_mark, end_words, ended_at, ended_words, last_told, marks_at, sent_mark, sent_title, sent_x, stop, told_mark, told_title, wait_words};
+ghost use Rattle.map_picture.specs.Asked.{asked, asked_line, asked_marks, asked_name, asked_words, bar, before_at};
+ghost use Rattle.map_picture.specs.Asked.{before_words, end_mark, end_words, ended_at, ended_words, last_told};
+ghost use Rattle.map_picture.specs.Asked.{marks_at, sent_mark, sent_title, sent_x, stop, told_mark, told_title};
+ghost use Rattle.map_picture.specs.Asked.{wait_words};
 
 use crate::axis::{Axis, Span, at, is_bare, is_before, right, wide};
 use crate::shapes::class_of;

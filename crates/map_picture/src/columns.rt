@@ -100,7 +100,7 @@ pub(crate) fn columns_of(
     Ok(columns_by(names, before))
 }
 
-/// No name of a lease begins left of the paper.
+/// No name of a lease begins left of the sheet.
 pub fn owners_fit()
     ensures { OwnersFit }
 {}

@@ -2,7 +2,9 @@
 
 ghost use Rattle.std.specs.Prelude.{◌≡◌, ◌++◌, ◌<◌, ◌^◌, IfOk, OnOk, string_bytes};
 ghost use Rattle.xml_text.specs.Xml.{render};
-ghost use Rattle.map_picture.specs.Owners.{flow_at, flow_words, grant_at, grant_mark, grant_title, grants, grants_at, grants_in, grants_of, kind_words, missed_words, owner, owner_name_at, owner_words};
+ghost use Rattle.map_picture.specs.Owners.{flow_at, flow_words, grant_at, grant_mark, grant_title, grants, grants_at};
+ghost use Rattle.map_picture.specs.Owners.{grants_in, grants_of, kind_words, missed_words, owner, owner_name_at};
+ghost use Rattle.map_picture.specs.Owners.{owner_words};
 
 use crate::axis::{Axis, Page, at, right, wide};
 use crate::picked::is_granted;

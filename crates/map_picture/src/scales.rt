@@ -2,7 +2,9 @@
 
 ghost use Rattle.std.specs.Prelude.{◌≡◌, ◌++◌, ◌*◌, ◌<◌, ◌≤◌, ◌^◌, ◌/◌, ◌+◌, ℕ, IfOk, OnOk, string_bytes};
 ghost use Rattle.xml_text.specs.Xml.{render};
-ghost use Rattle.map_picture.specs.Scales.{most_numbers, no_map, number, number_at, number_count, number_tick, number_words, numbers, numbers_by, part_of, round_step, scale, step_of, steps_before, ten_after, tick, tick_at, ticks, NumbersAreRound};
+ghost use Rattle.map_picture.specs.Scales.{most_numbers, no_map, number, number_at, number_count, number_tick};
+ghost use Rattle.map_picture.specs.Scales.{number_words, numbers, numbers_by, part_of, round_step, scale, step_of};
+ghost use Rattle.map_picture.specs.Scales.{steps_before, ten_after, tick, tick_at, ticks, NumbersAreRound};
 
 use crate::axis::{Axis, Span, at, is_bare};
 use crate::cells::cell_x;

@@ -3,7 +3,8 @@
 ghost use Rattle.std.specs.Prelude.{◌≡◌, ◌++◌, ◌<◌, ◌^◌, OnOk, IfOk, flat_map, string_bytes};
 ghost use Rattle.std.specs.List.{list_any};
 ghost use Rattle.xml_text.specs.Xml.{render};
-ghost use Rattle.map_picture.specs.Windows.{begins_in, begun, counted, first_window, is_missed, is_unasked, start_of, starts, starts_in, window, window_class, windows, windows_from};
+ghost use Rattle.map_picture.specs.Windows.{begins_in, begun, counted, first_window, is_missed, is_unasked, start_of};
+ghost use Rattle.map_picture.specs.Windows.{starts, starts_in, window, window_class, windows, windows_from};
 
 use crate::axis::{Axis, Page, at, wide};
 use crate::picked::is_granted;

@@ -9,7 +9,9 @@ ghost use Rattle.toml.specs.Errors.{IsWithin};
 ghost use Rattle.text_faults.specs.Faults.{TellsWhether};
 ghost use Rattle.text_faults.specs.Unread.{key_there};
 ghost use Rattle.upsched_ends.specs.declared.status.Status.TheVariants.{Done, NotUnderstood};
-ghost use Rattle.upsched_check.specs.Reports.{IsForm, IsGood, fault_line, fault_lines, good_text, good_line, toml_line, unread_line, unread_of, form_of, is_empty, is_good, good_as, table_lines, Warns, TellsOf, Reports, ReportsKnown};
+ghost use Rattle.upsched_check.specs.Reports.{IsForm, IsGood, fault_line, fault_lines, good_text, good_line};
+ghost use Rattle.upsched_check.specs.Reports.{toml_line, unread_line, unread_of, form_of, is_empty, is_good, good_as};
+ghost use Rattle.upsched_check.specs.Reports.{table_lines, Warns, TellsOf, Reports, ReportsKnown};
 ghost use Rattle.upsched_ends.specs.Faults.{StopsPrint};
 
 use crate::form::{CheckWords, Form, faults_of, form_of, unread_of};
