@@ -1,3 +1,4 @@
 mod Joined
 mod Scheduled
+mod Told
 pub mod Callers

@@ -1,5 +1,6 @@
 -- One value more, and what then waits.
-use Rattle.std.proofs.Common.{◌≡◌, ◌∙◌, ℕ, ◌+◌, ◌≤◌, List, [], ◌∷◌, ◌++◌, length, map, drop, refl, sym, ap, arith, length-append}
+use Rattle.std.proofs.Common.{◌≡◌, ◌∙◌, ℕ, ◌+◌, ◌≤◌, List, [], ◌∷◌, ◌++◌, length, map, drop, refl, sym, ap, arith}
+use Rattle.std.proofs.Common.{length-append}
 use Rattle.std.proofs.Math.ListN.{drop_of_length-le}
 use Rattle.std.proofs.lemmas.List.{map-append}
 use Rattle.grant_machine.specs.declared.output.Output.{Output}
@@ -11,7 +12,7 @@ use Rattle.command_log.specs.Values.{outputs_of_values}
 use Rattle.command_log.proofs.Callers.{outputs_append, values_length}
 use Rattle.map_release.specs.Released.{numbered}
 use Rattle.map_release.proofs.Callers.{drop_front, numbered_length, numbered_push}
-use Rattle.epochs.specs.Scheduling.{AppliesNext, HandsOutRest, StartsEmpty}
+use Rattle.epochs.specs.Scheduling.{AppliesNext, GoesOnFromTables, HandsOutRest, StartsEmpty}
 
 pub starts_empty : StartsEmpty
 starts_empty = refl
@@ -52,3 +53,6 @@ hands_out_rest values cursor =
     let all : length (numbered 1 (outputs_of_values values)) ≤ length values = omega (arith, numbered_length 1 (outputs_of_values values), values_length values) in
     let none = sym (drop_of_length-le (numbered 1 (outputs_of_values values)) all) in
     λ i. record { rows = rows_after (map command_of values); applied = length values; waiting = none i }
+
+pub goes_on_from_tables : GoesOnFromTables
+goes_on_from_tables values = hands_out_rest values 0

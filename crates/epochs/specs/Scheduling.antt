@@ -22,6 +22,10 @@ most_applied = 2 ^ 64 - 1
 abbrev pub no_values : SchedulerView
 no_values = record { rows = []; applied = 0; waiting = [] }
 
+-- so many are applied, their outputs were handed out, and these are the tables
+abbrev pub begun_from : Rows → ℕ → SchedulerView
+begun_from rows applied = record { rows = rows; applied = applied; waiting = [] }
+
 -- one value more is applied, and its output waits
 abbrev pub applied_to : SchedulerView → List ℕ → SchedulerView
 applied_to s value = record {
@@ -30,10 +34,14 @@ applied_to s value = record {
   waiting = s.waiting ++ record { place = s.applied + 1; output = (step s.rows (command_of value)).output } ∷ [];
 }
 
+-- the tables behind these values
+abbrev pub tables_after : List (List ℕ) → Rows
+tables_after values = rows_after (map command_of values)
+
 -- these values are applied, and the outputs of the first ones, so many, were handed out
 abbrev pub scheduled : List (List ℕ) → ℕ → SchedulerView
 scheduled values cursor = record {
-  rows = rows_after (map command_of values);
+  rows = tables_after values;
   applied = length values;
   waiting = drop cursor (numbered 1 (outputs_of_values values));
 }
@@ -49,3 +57,7 @@ AppliesNext = (values : List (List ℕ)) (value : List ℕ) (cursor : ℕ) → c
 -- where none waits, all were handed out
 abbrev pub HandsOutRest : Type 0
 HandsOutRest = (values : List (List ℕ)) (cursor : ℕ) → record (scheduled values cursor) { waiting = [] } ≡ scheduled values (length values)
+
+-- begun from the tables behind values it is the scheduler of these, all handed out
+abbrev pub GoesOnFromTables : Type 0
+GoesOnFromTables = (values : List (List ℕ)) → begun_from (tables_after values) (length values) ≡ scheduled values (length values)

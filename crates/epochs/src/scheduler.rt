@@ -51,7 +51,7 @@ impl Scheduler {
     ghost use Rattle.std.specs.Prelude.{◌≡◌, ◌<◌, ◌-◌, ◌^◌, ◌↔◌, [], not, filter, IfErr, OnErr, OnOk};
     ghost use Rattle.map_release.specs.Released.{has_ended};
     ghost use Rattle.epochs.specs.declared.scheduler.ScheduleFault.TheVariants.{Full};
-    ghost use Rattle.epochs.specs.Scheduling.{applied_to, most_applied, no_values};
+    ghost use Rattle.epochs.specs.Scheduling.{applied_to, begun_from, most_applied, no_values};
 
     /// No value is applied.
     pub fn new(alloc: Global) -> Scheduler
@@ -61,6 +61,18 @@ impl Scheduler {
             alloc,
             machine: Machine::new(alloc),
             applied: 0,
+            waiting: Vec::new(alloc),
+        }
+    }
+
+    /// It goes on from tables: so many values were applied before, and their outputs were handed out.
+    pub fn opened(alloc: Global, machine: Machine, applied: u64) -> Scheduler
+        ensures { result ≡ begun_from machine applied }
+    {
+        Scheduler {
+            alloc,
+            machine,
+            applied,
             waiting: Vec::new(alloc),
         }
     }
@@ -94,6 +106,13 @@ impl Scheduler {
         ensures { result ≡ self.now.applied }
     {
         self.applied
+    }
+
+    /// Its tables, for reading: those behind all values that are applied. It takes no memory.
+    pub fn machine(&self) -> &Machine
+        ensures { result.now ≡ self.now.rows }
+    {
+        &self.machine
     }
 
     /// Hands out the outputs that wait, in order, without the MAPs that have ended by `now` (in minislots). None waits

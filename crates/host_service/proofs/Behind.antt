@@ -1,5 +1,6 @@
 -- What is behind a number, or behind the word of a release.
-use Rattle.std.proofs.Common.{◌≡◌, ◌∙◌, ℕ, ◌+◌, ◌-◌, ◌≤◌, true, List, ◌++◌, length, get_or, take, drop, inl, inr, refl, sym, ap, arith, length-drop, take_all}
+use Rattle.std.proofs.Common.{◌≡◌, ◌∙◌, ℕ, ◌+◌, ◌-◌, ◌≤◌, true, List, ◌++◌, length, get_or, take, drop, inl, inr, refl}
+use Rattle.std.proofs.Common.{sym, ap, arith, length-drop, take_all}
 use Rattle.std.specs.List.{copy_within}
 use Rattle.std.proofs.Math.Seq.{paste}
 use Rattle.std.proofs.lemmas.List.Edits.{take-paste}

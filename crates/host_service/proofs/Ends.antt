@@ -43,12 +43,12 @@ seen_runs input output seen a i o b j q members me places v serves never there =
 
 -- the run of a host, with how it ends
 ended : {O N I Q : Type 0} {g : Ghosts O N} {h : Nodes N} (input : Inputs I) (output : Outputs Q) (end : BatchedEnd) (b : HostServer O N g h) (i : I) (o : Q) (i' : I) (o' : Q) (members me places : ℕ) (v : HostView) (turns : Turns)
-    → Runs (host_of b) members me places v turns → EndsAs input output end turns i o i' o' → ServesAs input output members me places v end i o i' o'
+    → Runs (host_of b) members me places v turns → EndsAs input output end turns i o i' o' → ServesAs input output g.may_fail members me places v end i o i' o'
 ended input output end b i o i' o' members me places v turns runs how =
     record { turns = turns; last = runs.last; whole = runs.whole; runs = runs.runs; ends = how }
 
 pub serves_as : {O N I Q : Type 0} {g : Ghosts O N} {h : Nodes N} (input : Inputs I) (output : Outputs Q) (end : BatchedEnd) (a : HostServer O N g h) (i : I) (o : Q) (a' : HostServer O N g h) (i' : I) (o' : Q) (members me places : ℕ) (v : HostView)
-    → EndsBatchedBy host_keeper host_text input output end a i o a' i' o' → NeverLie h → IsThere (host_of a) members me places v → ServesAs input output members me places v end i o i' o'
+    → EndsBatchedBy host_keeper host_text input output end a i o a' i' o' → NeverLie h → IsThere (host_of a) members me places v → ServesAs input output g.may_fail members me places v end i o i' o'
 serves_as input output ends.Input a i o a' i' o' members me places v (turns, rest, left, serves, up, gives, reads) never there =
     let all = seen_runs input output turns a i o a' rest o' members me places v serves never there in
     ended input output ends.Input a' i o i' o' members me places v turns all.0 (serves.written, (rest, left, all.1, gives, reads))
@@ -84,7 +84,7 @@ serves_as input output ends.Spent a i o a' i' o' members me places v (turns, ser
 -- from what is seen of a host
 pub serves_from : {O N I Q : Type 0} {g : Ghosts O N} {h : Nodes N} (input : Inputs I) (output : Outputs Q) (end : BatchedEnd) (a : HostServer O N g h) (i : I) (o : Q) (a' : HostServer O N g h) (i' : I) (o' : Q)
     → EndsBatchedBy host_keeper host_text input output end a i o a' i' o' → NeverLie h → AreMembers (host_of a) → (v : HostView) → StandsAs (host_of a) v
-    → ServesAs input output (member_of (host_of a)).1 (member_of (host_of a)).0 (places_of (host_of a)) v end i o i' o'
+    → ServesAs input output g.may_fail (member_of (host_of a)).1 (member_of (host_of a)).0 (places_of (host_of a)) v end i o i' o'
 serves_from input output end a i o a' i' o' served never members v stands =
     serves_as input output end a i o a' i' o' (member_of (host_of a)).1 (member_of (host_of a)).0 (places_of (host_of a)) v served never
     (record { who = refl; many = refl; are = members; stands = stands })

@@ -1,9 +1,11 @@
 -- A host that replies to lines, seen by where it stands.
-use Rattle.std.proofs.Common.{◌≡◌, ◌⊎◌, ◌∙◌, inl, inr, ℕ, zero, suc, ◌+◌, ◌<◌, ◌≤◌, List, [], ◌∷◌, ◌++◌, All, Result, Ok, Err, refl, sym, ap, subst}
+use Rattle.std.proofs.Common.{◌≡◌, ◌∙◌, inl, inr, ℕ, zero, suc, ◌+◌, ◌<◌, List, [], ◌∷◌, ◌++◌, All, Result}
+use Rattle.std.proofs.Common.{Ok, Err, refl, sym, ap, subst}
 use Rattle.std.proofs.lemmas.List.Elements.{All-cons, All-head, All-nil, All-tail}
-use Rattle.hosts.specs.Acting.{IsAskedIn, IsRefusedSo}
+use Rattle.hosts.proofs.Callers.{is_asked_near, is_gone}
+use Rattle.hosts.specs.Acting.{IsRefusedSo}
 use Rattle.hosts.specs.Hosts.{AreMembers, IsHonest, SameHost, StandsAs, member_of, places_of}
-use Rattle.hosts.specs.Views.{HostView, IsNear, MovesIn}
+use Rattle.hosts.specs.Views.{HostView, MovesIn}
 use Rattle.hosts.specs.declared.acted.HostActed.{HostActed}
 use Rattle.hosts.specs.declared.acted.HostActed.TheVariants.{Of, Ended, Ahead, Gone, OtherPlaces}
 use Rattle.hosts.specs.declared.host.Host.{Host}
@@ -28,7 +30,7 @@ use Rattle.host_service.specs.declared.service.HostServer.{HostServer}
 -- the same host, with all that is said of where it stands
 record Goes {O N : Type 0} {g : Ghosts O N} {h : Nodes N} (old : Host O N g h) (line : List ℕ) (replied : HostReply) (new : Host O N g h) (v : HostView) : Type 0 where
   view : HostView
-  replies : RepliesAs (member_of old).1 (member_of old).0 (places_of old) v line replied view
+  replies : RepliesAs g.may_fail (member_of old).1 (member_of old).0 (places_of old) v line replied view
   stands : StandsAs new view
 
 honest_host : {O N : Type 0} {g : Ghosts O N} {h : Nodes N} → NeverLie h → (host : Host O N g h) → IsHonest host
@@ -40,7 +42,7 @@ refused_moves : {O N : Type 0} {g : Ghosts O N} {h : Nodes N} (host : Host O N g
 refused_moves host members me e said (Of acted) v refused stands = absurd refused
 refused_moves host members me e said Ended v refused stands = absurd refused
 refused_moves host members me e said Ahead v refused stands = (refused.0, subst (λ n. n + 1 < e) stands.epoch refused.1, refl)
-refused_moves host members me e said Gone v refused stands = (refused.0, subst (λ n. (e ≡ 0) ⊎ (e + 1 < n)) stands.epoch refused.1, refl)
+refused_moves host members me e said Gone v refused stands = (refused.0, is_gone host v stands e refused.1, refl)
 refused_moves host members me e said OtherPlaces v refused stands = (refused, refl)
 
 refused_behind : {O N : Type 0} {g : Ghosts O N} {h : Nodes N} (host : Host O N g h) (e said : ℕ) (rest : List ℕ) (acted : HostActed) → IsRefusedSo host e said acted → IsBehind rest acted Crash
@@ -56,13 +58,6 @@ asked_behind rest Ended asked asks = (asked, asks, refl)
 asked_behind rest Ahead asked asks = tt
 asked_behind rest Gone asked asks = tt
 asked_behind rest OtherPlaces asked asks = tt
-
-near_view : {O N : Type 0} {g : Ghosts O N} {h : Nodes N} (host : Host O N g h) (e said : ℕ) (v : HostView) → IsAskedIn host e said → StandsAs host v → IsNear v e
-near_view host e said v near stands = record {
-  some = near.some;
-  low = subst (λ n. n ≤ e + 1) stands.epoch near.low;
-  high = subst (λ n. e ≤ n + 1) stands.epoch near.high;
-}
 
 -- a host that stays stands as before
 stays : {O N : Type 0} {g : Ghosts O N} {h : Nodes N} (old new : Host O N g h) (v : HostView) → new ≡ old → StandsAs old v → StandsAs new v
@@ -106,7 +101,7 @@ goes_in old line n rest (AsNode told) new v numbered (near, (why, is, nothing, s
   view = v;
   replies = inr (inr (record {
     why = why;
-    unasked = inr (inl (n, rest, numbered, near.places, near_view old n.epoch n.places v near stands, nothing));
+    unasked = inr (inl (n, rest, numbered, near.places, is_asked_near old v stands n.epoch n.places near, nothing));
     told = ap AsNode is;
     same = refl;
   }));
@@ -167,7 +162,7 @@ pub record IsThere {O N : Type 0} {g : Ghosts O N} {h : Nodes N} (host : Host O 
 -- lines were done from v on
 pub record Runs {O N : Type 0} {g : Ghosts O N} {h : Nodes N} (host : Host O N g h) (members me places : ℕ) (v : HostView) (turns : List (List ℕ × HostReply)) : Type 0 where
   pub last : HostView
-  pub runs : RunsAs members me places v turns last
+  pub runs : RunsAs g.may_fail members me places v turns last
   pub whole : All (λ turn. IsLine turn.0) turns
   pub there : IsThere host members me places last
 
@@ -178,18 +173,18 @@ runs_none {O} {N} {g} {h} a b members me places v same there =
 -- one line was done
 one_turn : {O N I : Type 0} {g : Ghosts O N} {h : Nodes N} (input : Inputs I) (line : List ℕ) (replied : HostReply) (a : HostServer O N g h) (i : I) (b : HostServer O N g h) (j : I) (members me places : ℕ) (v : HostView)
     → LineTurn host_keeper input line replied a i b j → NeverLie h → IsThere (host_of a) members me places v
-    → (v' : HostView) × RepliesAs members me places v line replied v' × IsThere (host_of b) members me places v'
-one_turn input line replied a i b j members me places v turn never there =
+    → (v' : HostView) × RepliesAs g.may_fail members me places v line replied v' × IsThere (host_of b) members me places v'
+one_turn {O} {N} {I} {g} {h} input line replied a i b j members me places v turn never there =
     let done = goes (host_of a) turn.came line replied (host_of b) v turn.is turn.replies never there.are there.stands in
     let kept = keeps (host_of a) turn.came replied (host_of b) turn.replies in (
       done.view,
-      subst (λ (m : ℕ × ℕ). RepliesAs m.1 m.0 places v line replied done.view) there.who
-          (subst (λ p. RepliesAs (member_of (host_of a)).1 (member_of (host_of a)).0 p v line replied done.view) there.many done.replies),
+      subst (λ (m : ℕ × ℕ). RepliesAs g.may_fail m.1 m.0 places v line replied done.view) there.who
+          (subst (λ p. RepliesAs g.may_fail (member_of (host_of a)).1 (member_of (host_of a)).0 p v line replied done.view) there.many done.replies),
       record { who = kept.same.member ∙ there.who; many = kept.same.places ∙ there.many; are = kept.members there.are; stands = done.stands },
     )
 
 runs_more : {O N : Type 0} {g : Ghosts O N} {h : Nodes N} (host : Host O N g h) (members me places : ℕ) (v between : HostView) (turn : List ℕ × HostReply) (turns : List (List ℕ × HostReply))
-    → IsLine turn.0 → RepliesAs members me places v turn.0 turn.1 between → Runs host members me places between turns → Runs host members me places v (turn ∷ turns)
+    → IsLine turn.0 → RepliesAs g.may_fail members me places v turn.0 turn.1 between → Runs host members me places between turns → Runs host members me places v (turn ∷ turns)
 runs_more host members me places v between turn turns whole replies runs =
     record { last = runs.last; runs = (between, replies, runs.runs); whole = All-cons (λ turn. IsLine turn.0) turn turns whole runs.whole; there = runs.there }
 
@@ -210,7 +205,7 @@ batched_runs {O} {N} {I} {g} {h} input (turn ∷ turns) a i b j members me place
 
 -- some lines, and then others
 pub runs_on : {O N : Type 0} {g : Ghosts O N} {h : Nodes N} (host : Host O N g h) (members me places : ℕ) (v between : HostView) (turns later : List (List ℕ × HostReply))
-    → RunsAs members me places v turns between → All (λ turn. IsLine turn.0) turns → Runs host members me places between later → Runs host members me places v (turns ++ later)
+    → RunsAs g.may_fail members me places v turns between → All (λ turn. IsLine turn.0) turns → Runs host members me places between later → Runs host members me places v (turns ++ later)
 runs_on {O} {N} {g} {h} host members me places v between [] later same whole after = subst (λ (x : HostView). Runs host members me places x later) same after
 runs_on host members me places v between (turn ∷ turns) later (mid, one, others) whole after =
     runs_more host members me places v mid turn (turns ++ later) (All-head (λ turn. IsLine turn.0) turn turns whole) one

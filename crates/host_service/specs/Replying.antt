@@ -65,7 +65,7 @@ pub record ReleasesSo {O N : Type 0} {g : Ghosts O N} {h : Nodes N} (old : Host 
   pub same : SameHost old new
   pub members : AreMembers old → AreMembers new
   pub trust : KeepsTrust old new
-  pub moves : IsHonest new → (v : HostView) → StandsAs old v → (v' : HostView) × Releases (places_of old) v now given v' × StandsAs new v'
+  pub moves : IsHonest new → (v : HostView) → StandsAs old v → (v' : HostView) × Releases g.may_fail (places_of old) v now given v' × StandsAs new v'
 
 -- the reply to a release of a host with so many places in an epoch
 abbrev pub reply_of : ℕ → Given → HostReply

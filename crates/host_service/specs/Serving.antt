@@ -22,6 +22,7 @@ use Rattle.node_service.specs.declared.batches.BatchedEnd.TheVariants as ends
 use Rattle.node_service.specs.declared.lines.Lines.{Ghosts as Inputs}
 use Rattle.node_service.specs.declared.outbox.Outbox.{Ghosts as Outputs}
 use Rattle.node_service.specs.declared.outgoing.Reply.TheVariants as reply
+use Rattle.proposer.specs.declared.fault.NodeFault.{NodeFault}
 use Rattle.seats.specs.Moves.{Ask}
 use Rattle.host_service.specs.Numbers.{HasNoNumber, IsNumbered}
 use Rattle.host_service.specs.Replying.{IsAskedOfNode, IsNoRelease, IsNotAskedOfNode, reply_of}
@@ -57,12 +58,12 @@ pub record ActsAs (members me places : ℕ) (v : HostView) (line : List ℕ) (re
   pub moves : MovesIn members me places v number.epoch number.places ask acted v'
   pub told : replied ≡ InEpoch number acted
 
--- a line asked to release
-pub record ReleasesAs (places : ℕ) (v : HostView) (line : List ℕ) (replied : HostReply) (v' : HostView) : Type 0 where
+-- a line asked a host to release, whose nodes may fail to open so
+pub record ReleasesAs (may_fail : NodeFault → Type 0) (places : ℕ) (v : HostView) (line : List ℕ) (replied : HostReply) (v' : HostView) : Type 0 where
   pub now : ℕ
   pub given : Given
   pub asks : Asks line (request.Release now)
-  pub moves : Releases places v now given v'
+  pub moves : Releases may_fail places v now given v'
   pub told : replied ≡ reply_of places given
 
 -- a line asks nothing, for this fault: it was let go; or what is behind its number asks nothing; or it has no number, and
@@ -80,15 +81,17 @@ pub record TurnsAway (places : ℕ) (v : HostView) (line : List ℕ) (replied : 
   pub told : replied ≡ AsNode (reply.Refused why)
   pub same : v' ≡ v
 
--- host me of so many members, with so many places in an epoch, which stood at v, replied so to a line, and stands at v'
-abbrev pub RepliesAs : (members me places : ℕ) → HostView → List ℕ → HostReply → HostView → Type 0
-RepliesAs members me places v line replied v' = ActsAs members me places v line replied v' ⊎ (ReleasesAs places v line replied v' ⊎ TurnsAway places v line replied v')
+-- host me of so many members, with so many places in an epoch, whose nodes may fail to open so, which stood at v, replied
+-- so to a line, and stands at v'
+abbrev pub RepliesAs : (NodeFault → Type 0) → (members me places : ℕ) → HostView → List ℕ → HostReply → HostView → Type 0
+RepliesAs may_fail members me places v line replied v' =
+    ActsAs members me places v line replied v' ⊎ (ReleasesAs may_fail places v line replied v' ⊎ TurnsAway places v line replied v')
 
 -- the same of lines, one after another
-abbrev pub RunsAs : (members me places : ℕ) → HostView → List (List ℕ × HostReply) → HostView → Type 0
-RunsAs members me places v [] v' = v' ≡ v
-RunsAs members me places v (turn ∷ turns) v' =
-    (between : HostView) × RepliesAs members me places v turn.0 turn.1 between × RunsAs members me places between turns v'
+abbrev pub RunsAs : (NodeFault → Type 0) → (members me places : ℕ) → HostView → List (List ℕ × HostReply) → HostView → Type 0
+RunsAs may_fail members me places v [] v' = v' ≡ v
+RunsAs may_fail members me places v (turn ∷ turns) v' =
+    (between : HostView) × RepliesAs may_fail members me places v turn.0 turn.1 between × RunsAs may_fail members me places between turns v'
 
 -- these lines were done and replied to, and then: no whole line was left; or a node was down; or the input failed; or the
 -- replies from one on couldn't be written or sent out; or they are all that a run may have
@@ -112,14 +115,16 @@ EndsAs {I} {O} input output ends.Spent turns i o i' o' =
     Appends (output.bytes_held o) (output.bytes_held o') (text_in host_text turns) × Consumes (input.bytes_left i) (input.bytes_left i') (lines_in turns)
     × (length turns ≡ 2 ^ 64 - 1)
 
--- a host that stood at v served an input and an output so, and ended so
-pub record ServesAs {I O : Type 0} (input : Inputs I) (output : Outputs O) (members me places : ℕ) (v : HostView) (end : BatchedEnd) (i : I) (o : O) (i' : I) (o' : O) : Type 0 where
+-- a host that stood at v, whose nodes may fail to open so, served an input and an output so, and ended so
+pub record ServesAs {I O : Type 0} (input : Inputs I) (output : Outputs O) (may_fail : NodeFault → Type 0) (members me places : ℕ) (v : HostView)
+    (end : BatchedEnd) (i : I) (o : O) (i' : I) (o' : O) : Type 0 where
   pub turns : List (List ℕ × HostReply)
   pub last : HostView
   pub whole : All (λ turn. IsLine turn.0) turns
-  pub runs : RunsAs members me places v turns last
+  pub runs : RunsAs may_fail members me places v turns last
   pub ends : EndsAs input output end turns i o i' o'
 
 -- a host that stood at v did so, as the member that it is, with the places that it has
 abbrev pub ServesFrom : {O N I P : Type 0} {g : Ghosts O N} {h : Nodes N} → Inputs I → Outputs P → Host O N g h → HostView → BatchedEnd → I → P → I → P → Type 0
-ServesFrom input output host v end i o i' o' = ServesAs input output (member_of host).1 (member_of host).0 (places_of host) v end i o i' o'
+ServesFrom {O} {N} {I} {P} {g} {h} input output host v end i o i' o' =
+    ServesAs input output g.may_fail (member_of host).1 (member_of host).0 (places_of host) v end i o i' o'

@@ -9,6 +9,6 @@ mod service;
 mod texts;
 
 pub use laws::{no_promise_is_longer, one_number};
-pub use number::EpochNumber;
+pub use number::{EpochNumber, number_in};
 pub use reply::HostReply;
 pub use service::{HostServer, serve_host};

@@ -16,7 +16,7 @@ pub struct EpochNumber {
 }
 
 /// The number of 64 bits that these digits are, without a sign or a zero too many.
-fn number_in(digits: &[u8]) -> Option<u64>
+pub fn number_in(digits: &[u8]) -> Option<u64>
     ensures { MatchOption result ((n : ℕ) → n < 2 ^ 64 → digits.now ≢ decimal n) (λ n. (n < 2 ^ 64) × (digits.now ≡ decimal n)) }
 {
     let Ok(text) = str::from_utf8(digits) else {

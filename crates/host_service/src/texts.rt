@@ -5,7 +5,8 @@ ghost use Rattle.std.specs.Io.KnownBytes.{Appends};
 ghost use Rattle.node_service.specs.Texts.{head_text, reply_text};
 ghost use Rattle.seats.specs.Acted.{letters_of};
 ghost use Rattle.host_service.specs.Numbers.{number_text};
-ghost use Rattle.host_service.specs.Texts.{acted_text_in, ended_text, host_text, in_epoch_text, next_text, numbered_letter, numbered_letters, there_text};
+ghost use Rattle.host_service.specs.Texts.{acted_text_in, ended_text, host_text, in_epoch_text, next_text};
+ghost use Rattle.host_service.specs.Texts.{numbered_letter, numbered_letters, there_text};
 
 use crate::number::EpochNumber;
 use crate::reply::HostReply;

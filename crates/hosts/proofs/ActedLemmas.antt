@@ -1,7 +1,7 @@
 -- What a host's node does, as the host stands.
-use Rattle.std.proofs.Common.{◌≡◌, ◌≢◌, ◌⊎◌, ◌∙◌, ℕ, ◌+◌, ◌<◌, Bool, true, false, cond, eqb, Option, Some, refl, sym, ap, subst, inl, inr, eqb-true, eq-eqb, arith}
-use Rattle.std.specs.Prelude.{is_some, nat_lt}
-use Rattle.std.proofs.lemmas.Bool.{ltb-true}
+use Rattle.std.proofs.Common.{◌≡◌, ◌≢◌, ◌∙◌, ℕ, ◌+◌, ◌<◌, Bool, true, false, cond, eqb, Option, Some, refl, sym}
+use Rattle.std.proofs.Common.{ap, subst, inl, inr, eqb-true, eq-eqb, arith}
+use Rattle.std.specs.Prelude.{is_some}
 use Rattle.node.specs.View.{Standing, started}
 use Rattle.node.specs.View.Standing.{Running}
 use Rattle.seats.specs.Acted.{letters_of, outputs_of, told}
@@ -21,6 +21,8 @@ use Rattle.hosts.specs.declared.acted.HostActed.TheVariants.{Of, Ended, Ahead, G
 use Rattle.hosts.specs.declared.host.Host.{Host}
 use Rattle.hosts.specs.declared.opens.Opens.{Ghosts}
 use Rattle.node.specs.declared.node.Node.{Ghosts as Nodes}
+use Rattle.hosts.proofs.KeptStates.{same_states}
+use Rattle.hosts.proofs.Windows.{above_first, is_gone}
 use Rattle.hosts.proofs.SlotLemmas.{eqb_no, same_inside, slot_cases}
 
 -- what a node owes where it was asked within its epoch: it stays the member that it was
@@ -129,20 +131,26 @@ acts_same old new e said ask Gone (is, far, same) = stays_same old new same
 acts_same old new e said ask OtherPlaces (is, same) = stays_same old new same
 
 -- a node that is there is one of the window
-is_above_one : {S : Type 0} (n : ℕ) (o : Option S) (s : S) → is_some o ≡ nat_lt 1 n → o ≡ Some s → 1 < n
-is_above_one {S} n o s window is = ltb-true 1 n (sym window ∙ ap (λ (x : Option S). is_some x) is)
+is_there : {S : Type 0} (o : Option S) (s : S) → o ≡ Some s → is_some o ≡ true
+is_there {S} o s is = ap (λ (x : Option S). is_some x) is
 
 pub is_near : {O N : Type 0} {g : Ghosts O N} {h : Nodes N} (host : Host O N g h) (v : HostView) → StandsAs host v → (e : ℕ) (seat : Seat N h) → seat_of host e ≡ Some seat → IsNear v e
 is_near {O} {N} {g} {h} host v stands e seat at =
     let is : host.number ≡ number v = stands.epoch in
     elim (slot_cases host.number host.before host.own host.after e seat at) [
-      | inl found ↦ let own = found.0 in record { some = omega (arith, own, host.first); low = omega (arith, own, is); high = omega (arith, own, is) }
+      | inl found ↦
+          let own = found.0 in
+          record { some = omega (arith, own, host.first); there = omega (arith, own, is, stands.since); low = omega (arith, own, is); high = omega (arith, own, is) }
       | inr more ↦ elim more [
-        | inl found ↦ let after = found.0 in record { some = omega (arith, after); low = omega (arith, after, is); high = omega (arith, after, is) }
+        | inl found ↦
+            let after = found.0 in
+            record { some = omega (arith, after); there = omega (arith, after, is, stands.since); low = omega (arith, after, is); high = omega (arith, after, is) }
         | inr found ↦
             let before = found.0 in
-            let some = is_above_one host.number host.before seat host.window found.1 in
-            record { some = omega (arith, before, some); low = omega (arith, before, is); high = omega (arith, before, is) }
+            let has : is_some host.before ≡ true = is_there host.before seat found.1 in
+            let some : 1 < host.number = host.window has in
+            let above : v.first < number v = above_first v.first (number v) (is_some host.before) stands.before has in
+            record { some = omega (arith, before, some); there = omega (arith, before, is, above); low = omega (arith, before, is); high = omega (arith, before, is) }
       ]
     ]
 
@@ -161,6 +169,10 @@ stands_on {O} {N} {g} {h} old new e ask acted acts v stands t after = record {
   above = λ f far.
       ap (λ b. cond b t (v.nodes f)) (eqb_no f e (λ same. omega (arith, same, far, (is_near old v stands e acts.before acts.was).high)))
       ∙ stands.above f far ∙ ap (λ (o : O). Running (started (g.begins o f))) (sym acts.rest.opens);
+  some = stands.some;
+  since = stands.since;
+  before = acts.rest.before ∙ stands.before;
+  states = same_states old.places new.places v.passed v.own old.states new.states acts.rest.places acts.rest.states stands.states;
 }
 
 -- where nothing moved it stands as before
@@ -174,6 +186,10 @@ ended {O} {N} {g} {h} old new e ask acts v stands = record {
   nodes = over_nodes old new e ask Ended (λ f seat. Stands seat (v.nodes f)) (λ f seat. Stands seat (v.nodes f)) acts
       (λ was. subst (λ (x : Seat N h). Stands x (v.nodes e)) (sym acts.acts.1) was) (λ f seat differ is. is) stands.nodes;
   above = λ f far. stands.above f far ∙ ap (λ (o : O). Running (started (g.begins o f))) (sym acts.rest.opens);
+  some = stands.some;
+  since = stands.since;
+  before = acts.rest.before ∙ stands.before;
+  states = same_states old.places new.places v.passed v.own old.states new.states acts.rest.places acts.rest.states stands.states;
 }
 
 -- the same member asks of it
@@ -203,7 +219,7 @@ acts_moves {O} {N} {g} {h} old new e said ask Ended (is, acts) honest members v 
 acts_moves {O} {N} {g} {h} old new e said ask Ahead (is, far, same) honest members v stands =
     (v, (is, subst (λ n. n + 1 < e) stands.epoch far, refl), subst (λ (x : Host O N g h). StandsAs x v) (sym same) stands)
 acts_moves {O} {N} {g} {h} old new e said ask Gone (is, far, same) honest members v stands =
-    (v, (is, subst (λ n. (e ≡ 0) ⊎ (e + 1 < n)) stands.epoch far, refl), subst (λ (x : Host O N g h). StandsAs x v) (sym same) stands)
+    (v, (is, is_gone old v stands e far, refl), subst (λ (x : Host O N g h). StandsAs x v) (sym same) stands)
 acts_moves {O} {N} {g} {h} old new e said ask OtherPlaces (is, same) honest members v stands = (v, (is, refl), subst (λ (x : Host O N g h). StandsAs x v) (sym same) stands)
 
 -- a node that was asked within the window is asked by who has as many places

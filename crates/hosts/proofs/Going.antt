@@ -1,5 +1,7 @@
 -- A host that goes on in the next epoch, and a whole release, as the host stands.
-use Rattle.std.proofs.Common.{◌≡◌, ◌∙◌, ℕ, ◌+◌, ◌<◌, ◌≤◌, Bool, true, false, cond, eqb, ltb, ◌&&◌, List, [], ◌∷◌, ◌++◌, length, Some, take, refl, sym, ap, subst, inl, inr, eqb-true, eq-eqb, arith, length-append}
+use Rattle.std.proofs.Common.{◌≡◌, ◌∙◌, ℕ, ◌+◌, ◌<◌, ◌≤◌, Bool, true, false, cond, eqb, ltb, ◌&&◌, List, [], ◌∷◌, ◌++◌}
+use Rattle.std.proofs.Common.{length, Option, Some, take, refl, sym, ap, subst, inl, inr, eqb-true, eq-eqb, arith}
+use Rattle.std.proofs.Common.{length-append}
 use Rattle.std.proofs.lemmas.Bool.{lt-ltb, ltb-true}
 use Rattle.std.proofs.lemmas.List.{append-nil}
 use Rattle.std.proofs.Math.Seq.{take-nil}
@@ -8,7 +10,8 @@ use Rattle.node.specs.View.{Standing, started}
 use Rattle.node.specs.View.Standing.{Running}
 use Rattle.proposer.specs.declared.fault.NodeFault.{NodeFault}
 use Rattle.proposer.specs.declared.fault.NodeFault.TheVariants.{OutOfMemory}
-use Rattle.seats.specs.Occupant.{IsClean as IsSeatClean, IsHonest as IsSeatHonest, Stands, member as member_of_seat, node_of}
+use Rattle.seats.specs.Occupant.{IsClean as IsSeatClean, IsHonest as IsSeatHonest, Stands, member as member_of_seat}
+use Rattle.seats.specs.Occupant.{node_of}
 use Rattle.seats.specs.Seat.{Shown}
 use Rattle.seats.specs.declared.seat.Seat.{Seat}
 use Rattle.epochs.specs.Epochs.{AreFull, ValuesGoOn}
@@ -16,15 +19,20 @@ use Rattle.epochs.specs.Scheduling.{AppliesNext, HandsOutRest, most_applied, sch
 use Rattle.hosts.specs.Hosts.{AreMembers, IsHonest, KeepsTrust, SameHost, StandsAs, member_of, places_of, seat_of}
 use Rattle.hosts.specs.Shifting.{CanGoOn, GivesOut, GoesOn, KeepsNodes, Shifts, Stays, TakesOwn}
 use Rattle.hosts.specs.Slots.{slot}
+use Rattle.hosts.specs.States.{gone_on}
 use Rattle.hosts.specs.Taking.{IsAllOf}
-use Rattle.hosts.specs.Views.{Gives, HostView, IsAll, Releases, TakesUp, all_given, from_here, is_passed, number, shifted, values, with_more}
+use Rattle.hosts.specs.Views.{Gives, HostView, IsAll, Releases, TakesUp, all_given, from_here, is_passed, number}
+use Rattle.hosts.specs.Views.{shifted, values, with_more}
 use Rattle.hosts.specs.declared.acted.Given.{Given}
 use Rattle.hosts.specs.declared.acted.Given.TheVariants.{Outputs, Failed}
 use Rattle.hosts.specs.declared.host.Host.{Host}
 use Rattle.hosts.specs.declared.opens.Opens.{Ghosts}
 use Rattle.node.specs.declared.node.Node.{Ghosts as Nodes}
+use Rattle.std.specs.Prelude.{is_some}
+use Rattle.hosts.proofs.KeptStates.{gone_states, same_states}
 use Rattle.hosts.proofs.SlotLemmas.{same_inside, slot_after, slot_before, slot_own, slots_all}
-use Rattle.hosts.proofs.Taken.{applied_is, gives_as, gives_stands, keeps_clean, keeps_honest, keeps_trust, takes_all, takes_stands, takes_up}
+use Rattle.hosts.proofs.Taken.{applied_is, gives_as, gives_stands, keeps_clean, keeps_honest, keeps_trust, takes_all}
+use Rattle.hosts.proofs.Taken.{takes_stands, takes_up}
 
 and_parts : (a b c : Bool) → (a && (b && c)) ≡ true → (a ≡ true) × (b ≡ true) × (c ≡ true)
 and_parts true true true is = (refl, refl, refl)
@@ -112,6 +120,13 @@ opened_stands {O} {N} {g} {h} old new shifts honest =
     let shown : Shown true (h.stands (node_of new.after)) s = (shifts.opened.begins honest, started (g.begins old.opens (old.number + 2)), refl) in
     subst (λ up. Shown up (h.stands (node_of new.after)) s) (sym shifts.up) shown
 
+-- no values more
+pub nothing_more : (places : ℕ) (vs : List (List ℕ)) → vs ++ take places [] ≡ vs
+nothing_more places vs = ap (λ (xs : List (List ℕ)). vs ++ xs) (none_of places) ∙ append-nil vs
+  where
+    none_of : (n : ℕ) → take {A = List ℕ} n [] ≡ []
+    none_of n = take-nil n
+
 shift_stands : {O N : Type 0} {g : Ghosts O N} {h : Nodes N} → ValuesGoOn → (old new : Host O N g h) → CanGoOn old → Shifts old new → IsHonest new → (v : HostView) → StandsAs old v → StandsAs new (shifted v)
 shift_stands {O} {N} {g} {h} on old new can shifts honest v stands =
     let next : number (shifted v) ≡ number v + 1 = ap (λ n. n + 1) (length-append v.passed (v.own ∷ [])) in
@@ -135,13 +150,12 @@ shift_stands {O} {N} {g} {h} on old new can shifts honest v stands =
       above = λ e above_it.
           let beyond : number v + 1 < e = omega (arith, above_it, next) in
           stands.above e beyond ∙ ap (λ (b : ℕ → Content). Running (started (b e))) (sym shifts.keeps.begins);
+      some = stands.some;
+      since = omega (arith, stands.since, next);
+      before = ap (λ (x : Option (Seat N h)). is_some x) shifts.before ∙ sym (lt-ltb v.first (number (shifted v)) (omega (arith, stands.since, next)));
+      states = same_states old.places new.places (v.passed ++ v.own ∷ []) [] (gone_on old.states) new.states shifts.places shifts.states.0
+          (gone_states old.places v.passed v.own old.states shifts.states.1 stands.states);
     }
-  where
-    nothing_more : (places : ℕ) (vs : List (List ℕ)) → vs ++ take places [] ≡ vs
-    nothing_more places vs = ap (λ (xs : List (List ℕ)). vs ++ xs) (none_of places) ∙ append-nil vs
-      where
-        none_of : (n : ℕ) → take {A = List ℕ} n [] ≡ []
-        none_of n = take-nil n
 
 -- the host goes on, or stays
 pub goes_trust : {O N : Type 0} {g : Ghosts O N} {h : Nodes N} (old new : Host O N g h) → GoesOn old new → KeepsTrust old new
@@ -179,7 +193,7 @@ stays_same old new stays = record { member = stays.keeps.member; places = stays.
 pub stays_members : {O N : Type 0} {g : Ghosts O N} {h : Nodes N} (old new : Host O N g h) → Stays old new → AreMembers old → AreMembers new
 stays_members {O} {N} {g} {h} old new stays members e seat at = members e seat (sym (stays_seats old new stays e) ∙ at) ∙ sym stays.keeps.member
 
-stays_stands : {O N : Type 0} {g : Ghosts O N} {h : Nodes N} (old new : Host O N g h) → Stays old new → (v : HostView) → StandsAs old v → StandsAs new v
+pub stays_stands : {O N : Type 0} {g : Ghosts O N} {h : Nodes N} (old new : Host O N g h) → Stays old new → (v : HostView) → StandsAs old v → StandsAs new v
 stays_stands {O} {N} {g} {h} old new stays v stands = record {
   epoch = stays.number ∙ stands.epoch;
   taken = stays.taken ∙ stands.taken;
@@ -188,6 +202,10 @@ stays_stands {O} {N} {g} {h} old new stays v stands = record {
   scheduler = stays.scheduler ∙ stands.scheduler ∙ ap (λ p. scheduled (values p v) v.cursor) (sym stays.places);
   nodes = λ e seat at. stands.nodes e seat (sym (stays_seats old new stays e) ∙ at);
   above = λ e far. stands.above e far ∙ ap (λ (b : ℕ → Content). Running (started (b e))) (sym stays.keeps.begins);
+  some = stands.some;
+  since = stands.since;
+  before = ap (λ (x : Option (Seat N h)). is_some x) stays.before ∙ stands.before;
+  states = same_states old.places new.places v.passed v.own old.states new.states stays.places stays.states stands.states;
 }
 
 -- a step behind which the nodes stay keeps what the one before it keeps
@@ -202,12 +220,12 @@ pub then_same : {O N : Type 0} {g : Ghosts O N} {h : Nodes N} (old mid new : Hos
 then_same old mid new first then = record { member = then.member ∙ first.member; places = then.places ∙ first.places }
 
 -- what each end of a release comes to
-pub fails_to_open : {O N : Type 0} {g : Ghosts O N} {h : Nodes N} (old new : Host O N g h) (now : ℕ) (fault : NodeFault) → CanGoOn old → Stays old new → (v : HostView) → StandsAs old v
-    → (v' : HostView) × Releases (places_of old) v now (Failed fault) v' × StandsAs new v'
-fails_to_open old new now fault can stays v stands = (v, inl (passed_is old v stands can, refl), stays_stands old new stays v stands)
+pub fails_to_open : {O N : Type 0} {g : Ghosts O N} {h : Nodes N} (old new : Host O N g h) (now : ℕ) (fault : NodeFault) → CanGoOn old → Stays old new → g.may_fail fault → (v : HostView) → StandsAs old v
+    → (v' : HostView) × Releases g.may_fail (places_of old) v now (Failed fault) v' × StandsAs new v'
+fails_to_open old new now fault can stays may v stands = (v, inl (passed_is old v stands can, may, refl), stays_stands old new stays v stands)
 
 pub lacks_memory : {O N : Type 0} {g : Ghosts O N} {h : Nodes N} → AppliesNext → ValuesGoOn → (old mid new : Host O N g h) (now : ℕ) → GoesOn old mid → TakesOwn mid new → IsHonest new → (v : HostView) → StandsAs old v
-    → (v' : HostView) × Releases (places_of old) v now (Failed OutOfMemory) v' × StandsAs new v'
+    → (v' : HostView) × Releases g.may_fail (places_of old) v now (Failed OutOfMemory) v' × StandsAs new v'
 lacks_memory next on old mid new now goes takes honest v stands =
     let w : HostView = from_here (places_of old) v in
     let stood : StandsAs mid w = goes_stands on old mid goes (keeps_honest mid new takes.nodes honest) v stands in
@@ -216,7 +234,7 @@ lacks_memory next on old mid new now goes takes honest v stands =
 
 -- what is given doesn't depend on the nodes
 pub gives_all : {O N : Type 0} {g : Ghosts O N} {h : Nodes N} → AppliesNext → HandsOutRest → ValuesGoOn → (old mid last new : Host O N g h) (now : ℕ) (given : Given) → GoesOn old mid → (takes : TakesOwn mid last) → IsAllOf mid.own mid.places last.taken
-    → GivesOut last now given new → IsHonest new → (v : HostView) → StandsAs old v → (v' : HostView) × Releases (places_of old) v now given v' × StandsAs new v'
+    → GivesOut last now given new → IsHonest new → (v : HostView) → StandsAs old v → (v' : HostView) × Releases g.may_fail (places_of old) v now given v' × StandsAs new v'
 gives_all next rest on old mid last new now (Outputs outputs epoch place) goes takes all gives honest v stands =
     let w : HostView = from_here (places_of old) v in
     let more : List (List ℕ) = takes.takes.more in

@@ -1,7 +1,7 @@
 -- What is there of an epoch among the nodes of three.
-use Rattle.std.proofs.Common.{◌≡◌, ◌≢◌, ◌⊎◌, ◌∙◌, ℕ, ◌+◌, ◌<◌, Bool, true, false, cond, eqb, Option, Some, None, refl, sym, ap, subst, inl, inr, eqb-true, eq-eqb, arith}
-use Rattle.std.specs.Prelude.{is_some, nat_lt, unwrap_or}
-use Rattle.std.proofs.lemmas.Bool.{lt-ltb}
+use Rattle.std.proofs.Common.{◌≡◌, ◌≢◌, ◌⊎◌, ◌∙◌, ℕ, ◌+◌, ◌<◌, ◌≤◌, Bool, true, false, cond, eqb, Option, Some, None, refl}
+use Rattle.std.proofs.Common.{sym, ap, subst, inl, inr, eqb-true, eq-eqb, arith}
+use Rattle.std.specs.Prelude.{unwrap_or}
 use Rattle.hosts.specs.Slots.{slot}
 
 pub eqb_no : (a b : ℕ) → a ≢ b → eqb a b ≡ false
@@ -93,10 +93,59 @@ slot_other_before {S} n before before' own after f differ =
     ap (λ (o : Option S). cond (eqb f n) (Some own) (cond (eqb f (n + 1)) (Some after) o))
     (ap (λ t. cond t before' None) (eqb_no (f + 1) n differ) ∙ sym (ap (λ t. cond t before None) (eqb_no (f + 1) n differ)))
 
--- above the first epoch there is one before
-pub has_before : {S : Type 0} (n : ℕ) (o : Option S) → is_some o ≡ nat_lt 1 n → 1 < n → o ≡ None → ⊥
-has_before {S} n o window above none =
-    let there : is_some o ≡ true = window ∙ lt-ltb 1 n above in
-    let gone : is_some o ≡ false = ap (λ (x : Option S). is_some x) none in
-    let wrong : true ≡ false = sym there ∙ gone in
-    cc (wrong)
+-- the next epoch and the one after: what was there of these and of the one before stays
+pub next_kept : {S : Type 0} (n : ℕ) (before : Option S) (own after last : S) (e : ℕ) (s : S) → n ≤ e → slot n before own after e ≡ Some s → slot (n + 1) (Some own) after last e ≡ Some s
+next_kept {S} n before own after last e s high at =
+    elim (slot_cases n before own after e s at) [
+      | inl found ↦
+          let below : e + 1 ≡ n + 1 = omega (arith, found.0) in
+          slot_before (n + 1) (Some own) after last e below ∙ ap (λ (x : S). Some x) found.1
+      | inr more ↦ elim more [
+        | inl found ↦ ap (slot (n + 1) (Some own) after last) found.0 ∙ slot_own (n + 1) (Some own) after last ∙ ap (λ (x : S). Some x) found.1
+        | inr found ↦ absurd (omega (arith, found.0, high))
+      ]
+    ]
+
+-- and nothing else is there but what was opened
+pub next_each : {S : Type 0} (n : ℕ) (before : Option S) (own after last : S) (e : ℕ) (s : S) → slot (n + 1) (Some own) after last e ≡ Some s
+    → (slot n before own after e ≡ Some s) ⊎ ((e ≡ n + 1 + 1) × (last ≡ s))
+next_each {S} n before own after last e s at =
+    elim (slot_cases (n + 1) (Some own) after last e s at) [
+      | inl found ↦ inl (ap (slot n before own after) found.0 ∙ slot_after n before own after ∙ ap (λ (x : S). Some x) found.1)
+      | inr more ↦ elim more [
+        | inl found ↦ inr found
+        | inr found ↦
+            let is : e ≡ n = omega (arith, found.0) in
+            inl (ap (slot n before own after) is ∙ slot_own n before own after ∙ found.1)
+      ]
+    ]
+
+-- the same of an epoch further above, of which both were opened: of the one before there is what was the one after
+pub far_kept : {S : Type 0} (n m : ℕ) (before : Option S) (own after : S) (before' : Option S) (own' after' : S) (e : ℕ) (s : S) → n + 1 < m → (m ≡ n + 2 → before' ≡ Some after)
+    → m ≤ e + 1 → slot n before own after e ≡ Some s → slot m before' own' after' e ≡ Some s
+far_kept {S} n m before own after before' own' after' e s far stays high at =
+    elim (slot_cases n before own after e s at) [
+      | inl found ↦ absurd (omega (arith, found.0, far, high))
+      | inr more ↦ elim more [
+        | inl found ↦
+            let is : m ≡ n + 2 = omega (arith, found.0, far, high) in
+            let below : e + 1 ≡ m = omega (arith, found.0, is) in
+            slot_before m before' own' after' e below ∙ stays is ∙ ap (λ (x : S). Some x) found.1
+        | inr found ↦ absurd (omega (arith, found.0, far, high))
+      ]
+    ]
+
+pub far_each : {S : Type 0} (n m : ℕ) (before : Option S) (own after : S) (before' : Option S) (own' after' : S) (e : ℕ) (s : S) → n + 1 < m
+    → ((x : S) → before' ≡ Some x → (m ≡ n + 2) × (after ≡ x)) → slot m before' own' after' e ≡ Some s
+    → (slot n before own after e ≡ Some s) ⊎ (((e ≡ m) × (own' ≡ s)) ⊎ ((e ≡ m + 1) × (after' ≡ s)))
+far_each {S} n m before own after before' own' after' e s far was at =
+    elim (slot_cases m before' own' after' e s at) [
+      | inl found ↦ inr (inl found)
+      | inr more ↦ elim more [
+        | inl found ↦ inr (inr found)
+        | inr found ↦
+            let stayed = was s found.1 in
+            let is : e ≡ n + 1 = omega (arith, found.0, stayed.0) in
+            inl (ap (slot n before own after) is ∙ slot_after n before own after ∙ ap (λ (x : S). Some x) stayed.1)
+      ]
+    ]

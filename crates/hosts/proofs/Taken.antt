@@ -1,23 +1,34 @@
 -- A host that takes up and gives, as it stands.
-use Rattle.std.proofs.Common.{◌≡◌, ◌∙◌, ℕ, ◌+◌, ◌≤◌, List, [], ◌∷◌, ◌++◌, length, Some, None, sym, ap, subst, inl, inr, arith, append_assoc, length-append, fold}
-use Rattle.std.specs.Prelude.{filter, not}
+use Rattle.std.proofs.Common.{◌≡◌, ◌∙◌, ℕ, ◌+◌, ◌≤◌, List, [], ◌∷◌, ◌++◌, length, Option, Some, None, sym, ap, subst}
+use Rattle.std.proofs.Common.{inl, inr}
+use Rattle.std.proofs.Common.{arith, append_assoc, length-append, fold}
+use Rattle.std.specs.declared.alloc.Global.{Global}
+use Rattle.std.specs.Prelude.{Contains, Err, IfOk, IsTrue, Ok, Result, Vec, filter, is_some, not}
+use Rattle.flow_state.specs.Rows.{Rows}
+use Rattle.grant_machine.specs.declared.output.Output.{Output}
+use Rattle.command_log.specs.Values.{outputs_of_values}
+use Rattle.epochs.specs.Again.{again_of}
 use Rattle.std.proofs.lemmas.List.{append-nil, take_all}
 use Rattle.map_release.specs.Released.{has_ended}
 use Rattle.node.specs.View.{started}
 use Rattle.node.specs.View.Standing.{Running}
 use Rattle.seats.specs.Occupant.{Stands}
+use Rattle.seats.specs.declared.seat.Seat.{Seat}
 use Rattle.epochs.specs.Epochs.{AreFull, ValuesGoOn, values_of}
 use Rattle.epochs.specs.Scheduling.{AppliesNext, HandsOutRest, SchedulerView, applied_to, scheduled}
+use Rattle.epochs.specs.Scheduling.{tables_after}
 use Rattle.hosts.specs.Hosts.{AreMembers, IsClean, IsHonest, KeepsTrust, SameHost, StandsAs, places_of, seat_of}
-use Rattle.hosts.specs.Shifting.{GivesOut, KeepsNodes, SaysNext, TakesOwn}
+use Rattle.hosts.specs.Shifting.{GivesOut, KeepsNodes, KeepsStates, SaysNext, TakesOwn}
 use Rattle.hosts.specs.Slots.{slot}
+use Rattle.hosts.specs.States.{AreStates, StatesView}
 use Rattle.hosts.specs.Taking.{IsAllOf}
-use Rattle.hosts.specs.Views.{Gives, HostView, IsAll, TakesUp, all_given, learned_at, number, values, with_more}
+use Rattle.hosts.specs.Views.{Gives, HostView, IsAll, TakesUp, TellsAgain, all_given, learned_at, number, values, with_more}
 use Rattle.hosts.specs.declared.acted.Given.{Given}
 use Rattle.hosts.specs.declared.acted.Given.TheVariants.{Outputs, Failed}
 use Rattle.hosts.specs.declared.host.Host.{Host}
 use Rattle.hosts.specs.declared.opens.Opens.{Ghosts}
 use Rattle.node.specs.declared.node.Node.{Ghosts as Nodes}
+use Rattle.hosts.proofs.KeptStates.{made_state, more_states, next_states, same_states}
 use Rattle.hosts.proofs.SlotLemmas.{slot_own}
 
 -- where the nodes stay, what is there of an epoch stays
@@ -85,6 +96,34 @@ takes_up old new takes v stands = record {
   fits = fits_own old new takes v stands;
 }
 
+-- the tables and counts of a host with more values
+took_scheduler : {O N : Type 0} {g : Ghosts O N} {h : Nodes N} → AppliesNext → ValuesGoOn → (old new : Host O N g h) (takes : TakesOwn old new) (v : HostView) → StandsAs old v
+    → new.scheduler ≡ scheduled (values old.places (with_more v takes.takes.more)) v.cursor
+took_scheduler next on old new takes v stands =
+    let more : List (List ℕ) = takes.takes.more in
+    takes.takes.scheduler ∙ ap (λ (s : SchedulerView). fold applied_to s more) stands.scheduler
+    ∙ applied_all next (values old.places v) more v.cursor (cursor_within old v stands)
+    ∙ ap (λ (vs : List (List ℕ)). scheduled vs v.cursor) (sym (more_values on old.places v.passed v.own more stands.full (fits_own old new takes v stands)))
+
+took_states : {O N : Type 0} {g : Ghosts O N} {h : Nodes N} → AppliesNext → ValuesGoOn → (old new : Host O N g h) (takes : TakesOwn old new) (v : HostView) → StandsAs old v
+    → AreStates old.places v.passed (v.own ++ takes.takes.more) new.states
+took_states {O} {N} {g} {h} next on old new takes v stands = by takes.states
+  where
+    none : IsTrue (is_some old.states.next) → length takes.takes.more ≤ 0
+    none some = omega (arith, takes.takes.taken, takes.takes.fits, old.full some)
+
+    epoch : old.number + 1 ≡ length (v.passed ++ (v.own ++ takes.takes.more) ∷ []) + 1
+    epoch = omega (arith, stands.epoch, length-append v.passed ((v.own ++ takes.takes.more) ∷ []))
+
+    by : KeepsStates old new → AreStates old.places v.passed (v.own ++ takes.takes.more) new.states
+    by (inl same) = subst (λ (s : StatesView). AreStates old.places v.passed (v.own ++ takes.takes.more) s) (sym same) (more_states old.places v.passed v.own takes.takes.more old.states none stands.states)
+    by (inr made) =
+        let is = took_scheduler next on old new takes v stands in
+        let state = made_state old.states (old.number + 1) old.places new.scheduler.applied new.scheduler.rows made.0 (v.passed ++ (v.own ++ takes.takes.more) ∷ []) epoch
+        (ap (λ (s : SchedulerView). s.applied) is) (ap (λ (s : SchedulerView). s.rows) is) made.1 in
+        subst (λ (s : StatesView). AreStates old.places v.passed (v.own ++ takes.takes.more) s) (sym made.2)
+        (next_states old.places v.passed (v.own ++ takes.takes.more) old.states made.0 stands.states.own_state state)
+
 pub takes_stands : {O N : Type 0} {g : Ghosts O N} {h : Nodes N} → AppliesNext → ValuesGoOn → (old new : Host O N g h) (takes : TakesOwn old new) (v : HostView) → StandsAs old v → StandsAs new (with_more v takes.takes.more)
 takes_stands {O} {N} {g} {h} next on old new takes v stands =
     let more : List (List ℕ) = takes.takes.more in
@@ -94,12 +133,13 @@ takes_stands {O} {N} {g} {h} next on old new takes v stands =
       taken = takes.takes.taken ∙ ap (λ n. n + length more) stands.taken ∙ sym (length-append v.own more);
       cursor = takes.cursor ∙ stands.cursor;
       full = subst (λ p. AreFull p v.passed) (sym keeps.places) stands.full;
-      scheduler = takes.takes.scheduler ∙ ap (λ (s : SchedulerView). fold applied_to s more) stands.scheduler
-          ∙ applied_all next (values old.places v) more v.cursor (cursor_within old v stands)
-          ∙ ap (λ (vs : List (List ℕ)). scheduled vs v.cursor) (sym (more_values on old.places v.passed v.own more stands.full (fits_own old new takes v stands)))
-          ∙ ap (λ p. scheduled (values p (with_more v more)) v.cursor) (sym keeps.places);
+      scheduler = took_scheduler next on old new takes v stands ∙ ap (λ p. scheduled (values p (with_more v more)) v.cursor) (sym keeps.places);
       nodes = λ e seat at. stands.nodes e seat (sym (same_seats old new keeps e) ∙ at);
       above = λ e far. stands.above e far ∙ ap (λ (o : O). Running (started (g.begins o e))) (sym keeps.opens);
+      some = stands.some;
+      since = stands.since;
+      before = ap (λ (x : Option (Seat N h)). is_some x) keeps.before ∙ stands.before;
+      states = subst (λ p. AreStates p v.passed (v.own ++ more) new.states) (sym keeps.places) (took_states next on old new takes v stands);
     }
 
 pub takes_all : {O N : Type 0} {g : Ghosts O N} {h : Nodes N} (old new : Host O N g h) (takes : TakesOwn old new) (v : HostView) → StandsAs old v → IsAllOf old.own old.places new.taken → IsAll (places_of old) (with_more v takes.takes.more)
@@ -129,4 +169,14 @@ gives_stands {O} {N} {g} {h} rest old now given new gives v stands =
           ∙ ap (λ p. scheduled (values p v) (length (values old.places v))) (sym keeps.places);
       nodes = λ e seat at. stands.nodes e seat (sym (same_seats old new keeps e) ∙ at);
       above = λ e far. stands.above e far ∙ ap (λ (o : O). Running (started (g.begins o e))) (sym keeps.opens);
+      some = stands.some;
+      since = stands.since;
+      before = ap (λ (x : Option (Seat N h)). is_some x) keeps.before ∙ stands.before;
+      states = same_states old.places new.places v.passed v.own old.states new.states keeps.places gives.states stands.states;
     }
+
+-- what it tells again
+pub tells_again : {E : Type 0} (places : ℕ) (v : HostView) (r : Result (Vec Output Global) E) (rows : Rows) → rows ≡ tables_after (values places v) → IfOk r (λ outputs. outputs.items ≡ again_of rows)
+    → IfOk r (λ outputs. (o : Output) → Contains outputs.items o → Contains (outputs_of_values (values places v)) o) → IfOk r (λ outputs. TellsAgain places v outputs.items)
+tells_again places v (Ok outputs) rows is all told = record { all = all ∙ ap again_of is; told = told }
+tells_again places v (Err e) rows is all told = tt

@@ -1,5 +1,5 @@
 -- What a host's node does, whatever its records do.
-use Rattle.std.specs.Prelude.{◌≡◌, ◌≢◌, ◌⊎◌, ℕ, ◌+◌, ◌<◌, ◌≤◌, Bool, true, false, ◌&&◌, Some}
+use Rattle.std.specs.Prelude.{◌≡◌, ◌≢◌, ℕ, ◌+◌, ◌<◌, ◌≤◌, Bool, true, false, ◌&&◌, Some}
 use Rattle.node.specs.declared.node.Node.{Ghosts as Nodes}
 use Rattle.node.specs.View.{Standing}
 use Rattle.seats.specs.Acted.{letters_of, outputs_of, told}
@@ -8,7 +8,7 @@ use Rattle.seats.specs.Moves.{Ask}
 use Rattle.seats.specs.Occupant.{Stands, is_up, node_of}
 use Rattle.seats.specs.declared.seat.Seat.{Seat}
 use Rattle.hosts.specs.Beyond.{is_beyond, is_offer, leads_beyond}
-use Rattle.hosts.specs.Hosts.{number_of, places_of, seat_of}
+use Rattle.hosts.specs.Hosts.{has_before, number_of, places_of, seat_of}
 use Rattle.hosts.specs.declared.acted.HostActed.{HostActed}
 use Rattle.hosts.specs.declared.acted.HostActed.TheVariants.{Of, Ended, Ahead, Gone, OtherPlaces}
 use Rattle.hosts.specs.declared.host.Host.{Host}
@@ -35,6 +35,8 @@ pub record KeepsRest {O N : Type 0} {g : Ghosts O N} {h : Nodes N} (old new : Ho
   pub taken : new.taken ≡ old.taken
   pub cursor : new.cursor ≡ old.cursor
   pub scheduler : new.scheduler ≡ old.scheduler
+  pub states : new.states ≡ old.states
+  pub before : has_before new ≡ has_before old
 
 -- its node of epoch e was asked so, and nothing else changed
 pub record NodeActs {O N : Type 0} {g : Ghosts O N} {h : Nodes N} (old : Host O N g h) (e : ℕ) (ask : Ask) (acted : HostActed) (new : Host O N g h) : Type 0 where
@@ -47,19 +49,25 @@ pub record NodeActs {O N : Type 0} {g : Ghosts O N} {h : Nodes N} (old : Host O 
   pub others : (f : ℕ) → f ≢ e → seat_of new f ≡ seat_of old f
   pub rest : KeepsRest old new
 
--- who asks has as many places in an epoch, and epoch e is its own one, the one before or the one after
+-- who asks has as many places in an epoch, and epoch e is its own one, the one after, or the one before, if it has a
+-- node of that
 pub record IsAskedIn {O N : Type 0} {g : Ghosts O N} {h : Nodes N} (host : Host O N g h) (e said : ℕ) : Type 0 where
   pub places : said ≡ places_of host
-  pub some : 1 ≤ e
   pub low : number_of host ≤ e + 1
   pub high : e ≤ number_of host + 1
+  pub before : e + 1 ≡ number_of host → has_before host ≡ true
+
+-- it has no node of an epoch below its own one
+pub record IsWithout {O N : Type 0} {g : Ghosts O N} {h : Nodes N} (host : Host O N g h) (e : ℕ) : Type 0 where
+  pub below : e < number_of host
+  pub far : e + 1 ≡ number_of host → has_before host ≡ false
 
 -- why who has so many places may ask nothing of the node of epoch e
 abbrev pub IsRefusedSo : {O N : Type 0} {g : Ghosts O N} {h : Nodes N} → Host O N g h → (e said : ℕ) → HostActed → Type 0
 IsRefusedSo host e said (Of acted) = ⊥
 IsRefusedSo host e said Ended = ⊥
 IsRefusedSo host e said Ahead = (said ≡ places_of host) × (number_of host + 1 < e)
-IsRefusedSo host e said Gone = (said ≡ places_of host) × ((e ≡ 0) ⊎ (e + 1 < number_of host))
+IsRefusedSo host e said Gone = (said ≡ places_of host) × IsWithout host e
 IsRefusedSo host e said OtherPlaces = said ≢ places_of host
 
 -- it was asked so of the node of epoch e, by who has so many places in an epoch: that node does it, or nothing changes
@@ -67,5 +75,5 @@ abbrev pub ActsIn : {O N : Type 0} {g : Ghosts O N} {h : Nodes N} → Host O N g
 ActsIn old e said ask (Of acted) new = (said ≡ places_of old) × NodeActs old e ask (Of acted) new
 ActsIn old e said ask Ended new = (said ≡ places_of old) × NodeActs old e ask Ended new
 ActsIn old e said ask Ahead new = (said ≡ places_of old) × (number_of old + 1 < e) × (new ≡ old)
-ActsIn old e said ask Gone new = (said ≡ places_of old) × ((e ≡ 0) ⊎ (e + 1 < number_of old)) × (new ≡ old)
+ActsIn old e said ask Gone new = (said ≡ places_of old) × IsWithout old e × (new ≡ old)
 ActsIn old e said ask OtherPlaces new = (said ≢ places_of old) × (new ≡ old)

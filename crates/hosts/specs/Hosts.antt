@@ -1,9 +1,11 @@
 -- What is seen of a host.
 use Rattle.std.specs.Prelude.{◌≡◌, ℕ, ◌+◌, ◌<◌, ◌≤◌, Bool, true, ◌&&◌, length, Option, Some, None}
+use Rattle.std.specs.Prelude.{is_some, nat_lt}
 use Rattle.acceptor.specs.Content.{Content}
 use Rattle.node.specs.View.{started}
 use Rattle.node.specs.View.Standing.{Running}
-use Rattle.seats.specs.Occupant.{IsClean as IsSeatClean, IsHonest as IsSeatHonest, Stands, is_up, member as member_of_seat}
+use Rattle.seats.specs.Occupant.{IsClean as IsSeatClean, IsHonest as IsSeatHonest, Stands, is_up}
+use Rattle.seats.specs.Occupant.{member as member_of_seat}
 use Rattle.seats.specs.declared.seat.Seat.{Seat}
 use Rattle.epochs.specs.Epochs.{AreFull}
 use Rattle.epochs.specs.Scheduling.{scheduled}
@@ -11,6 +13,7 @@ use Rattle.hosts.specs.declared.host.Host.{Host}
 use Rattle.hosts.specs.declared.opens.Opens.{Ghosts}
 use Rattle.node.specs.declared.node.Node.{Ghosts as Nodes}
 use Rattle.hosts.specs.Slots.{slot}
+use Rattle.hosts.specs.States.{AreStates}
 use Rattle.hosts.specs.Views.{HostView, number, values}
 
 -- its node of an epoch in its seat, of the three that it has
@@ -33,6 +36,10 @@ places_of host = host.places
 -- the number of its epoch
 abbrev pub number_of : {O N : Type 0} {g : Ghosts O N} {h : Nodes N} → Host O N g h → ℕ
 number_of host = host.number
+
+-- it has a node of the epoch before its own one
+abbrev pub has_before : {O N : Type 0} {g : Ghosts O N} {h : Nodes N} → Host O N g h → Bool
+has_before host = is_some host.before
 
 -- its number as a member, and of how many
 abbrev pub member_of : {O N : Type 0} {g : Ghosts O N} {h : Nodes N} → Host O N g h → ℕ × ℕ
@@ -74,3 +81,7 @@ pub record StandsAs {O N : Type 0} {g : Ghosts O N} {h : Nodes N} (host : Host O
   pub scheduler : host.scheduler ≡ scheduled (values host.places v) v.cursor
   pub nodes : (e : ℕ) (seat : Seat N h) → seat_of host e ≡ Some seat → Stands seat (v.nodes e)
   pub above : (e : ℕ) → number v + 1 < e → v.nodes e ≡ Running (started (begins_of host e))
+  pub some : 1 ≤ v.first
+  pub since : v.first ≤ number v
+  pub before : has_before host ≡ nat_lt v.first (number v)
+  pub states : AreStates host.places v.passed v.own host.states

@@ -2,8 +2,11 @@ pub mod Opening
 pub mod New
 pub mod Views
 pub mod Slots
+pub mod States
 pub mod Taking
 pub mod Beyond
 pub mod Hosts
 pub mod Acting
 pub mod Shifting
+pub mod Unread
+pub mod Joining

@@ -1,9 +1,10 @@
 -- What a host does as it releases: it goes on, takes up, and gives.
-use Rattle.std.specs.Prelude.{◌≡◌, ◌⊎◌, ℕ, ◌+◌, ◌<◌, not, true, filter, [], Some}
+use Rattle.std.specs.Prelude.{◌≡◌, ◌⊎◌, ℕ, ◌+◌, ◌<◌, not, true, filter, List, [], Some, IsTrue, is_some}
 use Rattle.map_release.specs.Released.{has_ended}
 use Rattle.seats.specs.Occupant.{IsClean, IsHonest, node_of, is_up}
 use Rattle.epochs.specs.Scheduling.{most_applied}
 use Rattle.hosts.specs.Opening.{IsOpenedAt, KeepsBeginnings}
+use Rattle.hosts.specs.States.{IsMade, gone_on}
 use Rattle.hosts.specs.Taking.{TakesFrom}
 use Rattle.hosts.specs.declared.acted.Given.{Given}
 use Rattle.hosts.specs.declared.acted.Given.TheVariants.{Outputs, Failed}
@@ -34,6 +35,7 @@ pub record Stays {O N : Type 0} {g : Ghosts O N} {h : Nodes N} (old new : Host O
   pub taken : new.taken ≡ old.taken
   pub cursor : new.cursor ≡ old.cursor
   pub scheduler : new.scheduler ≡ old.scheduler
+  pub states : new.states ≡ old.states
   pub before : new.before ≡ old.before
   pub own : new.own ≡ old.own
   pub after : new.after ≡ old.after
@@ -46,6 +48,7 @@ pub record Shifts {O N : Type 0} {g : Ghosts O N} {h : Nodes N} (old new : Host 
   pub taken : new.taken ≡ 0
   pub cursor : new.cursor ≡ old.cursor
   pub scheduler : new.scheduler ≡ old.scheduler
+  pub states : (new.states ≡ gone_on old.states) × IsTrue (is_some old.states.next)
   pub before : new.before ≡ Some old.own
   pub own : new.own ≡ old.after
   pub up : is_up new.after ≡ true
@@ -56,11 +59,30 @@ pub record Shifts {O N : Type 0} {g : Ghosts O N} {h : Nodes N} (old new : Host 
 abbrev pub GoesOn : {O N : Type 0} {g : Ghosts O N} {h : Nodes N} → Host O N g h → Host O N g h → Type 0
 GoesOn old new = (CanGoOn old × Shifts old new) ⊎ ((¬ CanGoOn old) × (new ≡ old))
 
+-- the state at the start of the next epoch stays as it was, or is that of the tables
+abbrev pub KeepsStates : {O N : Type 0} {g : Ghosts O N} {h : Nodes N} → Host O N g h → Host O N g h → Type 0
+KeepsStates old new =
+    (new.states ≡ old.states)
+    ⊎ ((bytes : List ℕ) × IsMade old.states (old.number + 1) old.places new.scheduler.applied new.scheduler.rows bytes × (new.states ≡ record old.states { next = Some bytes }))
+
 -- it took up what its own epoch's node has learned
 pub record TakesOwn {O N : Type 0} {g : Ghosts O N} {h : Nodes N} (old new : Host O N g h) : Type 0 where
   pub nodes : KeepsNodes old new
   pub cursor : new.cursor ≡ old.cursor
   pub takes : TakesFrom old.own old.places old.taken old.scheduler new.taken new.scheduler
+  pub states : KeepsStates old new
+
+-- nothing changed but that the state at the start of the next epoch may be there
+pub record Prepares {O N : Type 0} {g : Ghosts O N} {h : Nodes N} (old new : Host O N g h) : Type 0 where
+  pub nodes : KeepsNodes old new
+  pub taken : new.taken ≡ old.taken
+  pub cursor : new.cursor ≡ old.cursor
+  pub scheduler : new.scheduler ≡ old.scheduler
+  pub states : KeepsStates old new
+
+-- the state at the start of the next epoch is there, where its own one is full
+abbrev pub IsReady : {O N : Type 0} {g : Ghosts O N} {h : Nodes N} → Host O N g h → Type 0
+IsReady host = host.taken ≡ host.places → IsTrue (is_some host.states.next)
 
 -- it gave what waited, and said what it lacks
 abbrev pub SaysNext : {O N : Type 0} {g : Ghosts O N} {h : Nodes N} → Host O N g h → ℕ → Given → Type 0
@@ -73,4 +95,5 @@ pub record GivesOut {O N : Type 0} {g : Ghosts O N} {h : Nodes N} (old : Host O 
   pub taken : new.taken ≡ old.taken
   pub cursor : new.cursor ≡ old.scheduler.applied
   pub scheduler : new.scheduler ≡ record old.scheduler { waiting = [] }
+  pub states : new.states ≡ old.states
   pub says : SaysNext old now given

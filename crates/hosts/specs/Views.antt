@@ -1,29 +1,34 @@
 -- Where a host stands, and what it does.
-use Rattle.std.specs.Prelude.{◌≡◌, ◌≢◌, ◌⊎◌, ℕ, ◌+◌, ◌<◌, ◌≤◌, ◌==◌, ◌&&◌, nat_lt, Bool, true, false, if◌then◌else◌, List, [], ◌∷◌, ◌++◌, length, Option, Some, None, slice_get}
+use Rattle.std.specs.Prelude.{◌≡◌, ◌≢◌, ◌⊎◌, ℕ, ◌+◌, ◌<◌, ◌≤◌, ◌==◌, ◌&&◌, nat_le, nat_lt, Bool, true, false, if◌then◌else◌}
+use Rattle.std.specs.Prelude.{List, [], ◌∷◌, ◌++◌, length, Option, Some, None, slice_get, Contains}
 use Rattle.acceptor.specs.Content.{Content}
 use Rattle.ballots.specs.Rows.{at}
 use Rattle.map_release.specs.Released.{released}
 use Rattle.node.specs.View.{Standing, started}
 use Rattle.node.specs.View.Standing.{Running, Stopped}
+use Rattle.proposer.specs.declared.fault.NodeFault.{NodeFault}
 use Rattle.proposer.specs.declared.fault.NodeFault.TheVariants.{OutOfMemory}
 use Rattle.seats.specs.Acted.{letters_of, outputs_of, told}
 use Rattle.seats.specs.Acts.{GoesTo}
 use Rattle.seats.specs.Moves.{Ask}
+use Rattle.grant_machine.specs.declared.output.Output.{Output}
+use Rattle.epochs.specs.Again.{again_of}
 use Rattle.epochs.specs.Epochs.{outputs_over, values_of}
-use Rattle.epochs.specs.Scheduling.{most_applied}
+use Rattle.epochs.specs.Scheduling.{most_applied, tables_after}
 use Rattle.hosts.specs.Beyond.{is_beyond}
 use Rattle.hosts.specs.declared.acted.Given.{Given}
 use Rattle.hosts.specs.declared.acted.Given.TheVariants.{Outputs, Failed}
 use Rattle.hosts.specs.declared.acted.HostActed.{HostActed}
 use Rattle.hosts.specs.declared.acted.HostActed.TheVariants.{Of, Ended, Ahead, Gone, OtherPlaces}
 
--- where a host stands: the values of the epochs that it passed, those of its own that it took up, its node of each epoch,
--- and how many outputs it gave
+-- where a host stands: the values of the epochs that it passed, those of its own that it took up, its node of each
+-- epoch, how many outputs it gave, and the first epoch of which it has a node
 pub record HostView : Type 0 where
   pub passed : List (List (List ℕ))
   pub own : List (List ℕ)
   pub nodes : ℕ → Standing
   pub cursor : ℕ
+  pub first : ℕ
 
 -- the number of its epoch, from 1
 abbrev pub number : HostView → ℕ
@@ -39,13 +44,18 @@ values places v = values_of places (known v)
 
 -- a host that has done nothing, whose nodes begin over these contents
 abbrev pub opening : (ℕ → Content) → HostView
-opening begins = record { passed = []; own = []; nodes = λ e. Running (started (begins e)); cursor = 0 }
+opening begins = record { passed = []; own = []; nodes = λ e. Running (started (begins e)); cursor = 0; first = 1 }
 
--- an epoch of the window: its own, the one before or the one after
+-- an epoch of the window: its own, the one before or the one after, and none below the first one
 pub record IsNear (v : HostView) (e : ℕ) : Type 0 where
   pub some : 1 ≤ e
+  pub there : v.first ≤ e
   pub low : number v ≤ e + 1
   pub high : e ≤ number v + 1
+
+-- an epoch below the window
+abbrev pub IsGone : HostView → ℕ → Type 0
+IsGone v e = (e < v.first) ⊎ (e + 1 < number v)
 
 -- the node of one epoch stands so
 abbrev pub with_node : HostView → ℕ → Standing → HostView
@@ -85,6 +95,17 @@ IsAll places v = (length v.own ≡ places) ⊎ (learned_at (v.nodes (number v)) 
 abbrev pub all_given : ℕ → HostView → HostView
 all_given places v = record v { cursor = length (values places v) }
 
+-- a host goes to the start of the epoch behind these full ones, which is above its own. Of the nodes that it has those
+-- of the window stay; where it has none of the epoch before, that one is below its window from here on
+abbrev pub joined : ℕ → HostView → List (List (List ℕ)) → HostView
+joined places v passed = record {
+  passed = passed;
+  own = [];
+  nodes = v.nodes;
+  cursor = length (values_of places passed);
+  first = if nat_le (length passed) (number v + 1) then v.first else length passed + 1;
+}
+
 -- host me of so many members, which stood at v, was asked so of the node of epoch e, by who has so many places in an epoch,
 -- and stands at v'
 abbrev pub MovesIn : (members me places : ℕ) → HostView → (e said : ℕ) → Ask → HostActed → HostView → Type 0
@@ -93,7 +114,7 @@ MovesIn members me places v e said ask (Of acted) v' =
     × ((t : Standing) × GoesTo members me (v.nodes e) ask (told acted) (letters_of acted) (outputs_of acted) (λ u. u ≡ t) × (v' ≡ with_node v e t))
 MovesIn members me places v e said ask Ended v' = (said ≡ places) × IsNear v e × (is_beyond places (v.nodes e) ask ≡ true) × (v' ≡ v)
 MovesIn members me places v e said ask Ahead v' = (said ≡ places) × (number v + 1 < e) × (v' ≡ v)
-MovesIn members me places v e said ask Gone v' = (said ≡ places) × ((e ≡ 0) ⊎ (e + 1 < number v)) × (v' ≡ v)
+MovesIn members me places v e said ask Gone v' = (said ≡ places) × IsGone v e × (v' ≡ v)
 MovesIn members me places v e said ask OtherPlaces v' = (said ≢ places) × (v' ≡ v)
 
 -- these are the outputs behind the cursor, without the MAPs that have ended by now, and it says the number of its epoch, and
@@ -103,12 +124,17 @@ Gives places v now (Outputs outputs epoch place) =
     (outputs.items ≡ released now v.cursor (outputs_over places (known v))) × (epoch ≡ number v) × (place ≡ length v.own + 1)
 Gives places v now (Failed fault) = ⊥
 
--- a host takes up all that is there, from where it goes on, and gives all behind its cursor; or it can't go on; or memory
--- ends before it took up all, and nothing is given
-abbrev pub Releases : (places : ℕ) → HostView → (now : ℕ) → Given → HostView → Type 0
-Releases places v now (Outputs outputs epoch place) v' =
+-- a host, whose nodes may fail to open so, takes up all that is there, from where it goes on, and gives all behind its
+-- cursor; or the node that it goes on with fails to open; or memory ends before it took up all, and nothing is given
+abbrev pub Releases : (NodeFault → Type 0) → (places : ℕ) → HostView → (now : ℕ) → Given → HostView → Type 0
+Releases may_fail places v now (Outputs outputs epoch place) v' =
     (more : List (List ℕ)) × TakesUp places (from_here places v) more × IsAll places (with_more (from_here places v) more)
     × Gives places (with_more (from_here places v) more) now (Outputs outputs epoch place) × (v' ≡ all_given places (with_more (from_here places v) more))
-Releases places v now (Failed fault) v' =
-    ((is_passed places v ≡ true) × (v' ≡ v))
+Releases may_fail places v now (Failed fault) v' =
+    ((is_passed places v ≡ true) × may_fail fault × (v' ≡ v))
     ⊎ ((more : List (List ℕ)) × TakesUp places (from_here places v) more × (v' ≡ with_more (from_here places v) more) × (fault ≡ OutOfMemory))
+
+-- these are what the tables behind the values that it took up tell again, and each was an output of these values
+pub record TellsAgain (places : ℕ) (v : HostView) (outputs : List Output) : Type 0 where
+  pub all : outputs ≡ again_of (tables_after (values places v))
+  pub told : (o : Output) → Contains outputs o → Contains (outputs_over places (known v)) o

@@ -6,7 +6,8 @@ ghost use Rattle.seats.specs.Acted.{ask_of};
 ghost use Rattle.seats.specs.Occupant.{Stands};
 ghost use Rattle.hosts.specs.Acting.{SeatActs, seat_beyond};
 ghost use Rattle.hosts.specs.Hosts.{is_up_if_any as is_up_if_any_lem};
-ghost use Rattle.hosts.specs.Beyond.{is_beyond as is_beyond_lem, is_offer as is_offer_lem, leads_beyond as leads_beyond_lem};
+ghost use Rattle.hosts.specs.Beyond.{is_beyond as is_beyond_lem, is_offer as is_offer_lem};
+ghost use Rattle.hosts.specs.Beyond.{leads_beyond as leads_beyond_lem};
 
 use crate::acted::HostActed;
 use node::Node;

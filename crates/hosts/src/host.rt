@@ -1,15 +1,20 @@
 //! A host.
 
-ghost use Rattle.std.specs.Prelude.{◌≡◌, ◌+◌, ◌<◌, ◌≤◌, is_some, nat_lt};
+ghost use Rattle.std.specs.Prelude.{◌≡◌, ◌+◌, ◌<◌, ◌≤◌, IsTrue, is_some};
 ghost use Rattle.epochs.specs.Scheduling.{most_applied};
 
 use crate::acted::{Given, HostActed};
 use crate::beyond::{act_within, is_up_if_any};
-use crate::fault::HostFault;
+use crate::entering::{Opened, enter};
+use crate::fault::{HostFault, JoinFault, unread};
 use crate::opens::Opens;
+use crate::states::States;
 use crate::taking::take_up;
-use epochs::{Scheduler, epochs_join, schedulers_follow_values};
-use node::NodeFault;
+use epochs::{Scheduler, epochs_join, schedulers_follow_values, told_again};
+use grant_machine::{Machine, Output};
+use host_states::{StateHead, framed, one_spelling_of_states};
+use node::{Node, NodeFault};
+use row_bytes::read_rows;
 use seats::{Asked, Seat};
 use std::alloc::{AllocError, Global};
 use std::mem;
@@ -21,33 +26,44 @@ pub const MOST_EPOCH_PLACES: u64 = 999_000;
 /// and one scheduler, which takes the first places of each epoch, as many in each.
 #[derive(Drop)]
 pub struct Host<O: Opens> {
+    alloc: Global,
     opens: O,
     places: u64,
     number: u64,
     taken: u64,
     cursor: u64,
     scheduler: Scheduler,
+    states: States,
     before: Option<Seat<O::Node>>,
     own: Seat<O::Node>,
     after: Seat<O::Node>,
     ghost some: { 1 ≤ places },
     ghost first: { 1 ≤ number },
-    ghost window: { is_some before ≡ nat_lt 1 number },
+    ghost window: { IsTrue (is_some before) → 1 < number },
     ghost within: { taken ≤ places },
     ghost numbered: { number + taken ≤ scheduler.applied + 1 },
     ghost room: { scheduler.applied + places < most_applied + taken },
     ghost given: { cursor ≤ scheduler.applied },
+    ghost who: { O.member opens ≡ (states.id, states.members) },
+    ghost full: { IsTrue (is_some states.next) → taken ≡ places },
+    ghost ready: { taken ≡ places → cursor ≡ scheduler.applied → IsTrue (is_some states.next) },
 }
 
 impl<O: Opens> Host<O> {
-    ghost use Rattle.std.specs.Prelude.{◌≡◌, ◌≤◌, ◌<◌, ◌↔◌, ◌+◌, ℕ, IfErr, IfOk, IsTrue, MatchOption, MatchResult, OnErr, OnOk};
+    ghost use Rattle.std.specs.Prelude.{◌≡◌, ◌≤◌, ◌<◌, ◌↔◌, ◌+◌, ◌-◌, ◌^◌, ◌⊎◌, ℕ, true, IfErr, IfOk, IsTrue, MatchOption, MatchResult};
+    ghost use Rattle.std.specs.Prelude.{OnErr, OnOk};
     ghost use Rattle.seats.specs.Acted.{ask_of};
     ghost use Rattle.hosts.specs.Acting.{ActsIn, IsAskedIn, IsRefusedSo, NodeActs};
+    ghost use Rattle.hosts.specs.Joining.{Begins, CanJoin, IsOpenedFor, Joins, JoinsAs, StaysFor};
     ghost use Rattle.hosts.specs.New.{ArePlaces, IsNoHost};
-    ghost use Rattle.hosts.specs.Shifting.{CanGoOn, GivesOut, GoesOn, Shifts, Stays, TakesOwn};
+    ghost use Rattle.hosts.specs.Shifting.{CanGoOn, GivesOut, GoesOn, IsReady, Prepares, Shifts, Stays};
+    ghost use Rattle.hosts.specs.Shifting.{TakesOwn};
+    ghost use Rattle.hosts.specs.States.{IsStateOf};
+    ghost use Rattle.proposer.specs.declared.fault.NodeFault.TheVariants.{OutOfMemory};
     ghost use Rattle.hosts.specs.Taking.{IsAllOf};
-    ghost use Rattle.hosts.specs.Hosts.{AreMembers, IsHonest, KeepsTrust, SameHost, StandsAs, are_up, member_of, places_of};
-    ghost use Rattle.hosts.specs.Views.{HostView, MovesIn, Releases, opening};
+    ghost use Rattle.hosts.specs.Hosts.{AreMembers, IsHonest, KeepsTrust, SameHost, StandsAs, are_up, member_of};
+    ghost use Rattle.hosts.specs.Hosts.{has_before as has_before_lem, places_of};
+    ghost use Rattle.hosts.specs.Views.{HostView, MovesIn, Releases, TellsAgain, opening};
 
     /// A host that has done nothing, of so many places in an epoch, 1 to 999,000.
     pub fn new(alloc: Global, opens: O, places: u64) -> Result<Host<O>, HostFault>
@@ -78,13 +94,16 @@ impl<O: Opens> Host<O> {
         let mut opens = opens;
         let own = opens.open(1)?;
         let after = opens.open(2)?;
+        let states = States::new(alloc, own.id(), own.members());
         Ok(Host {
+            alloc,
             opens,
             places,
             number: 1,
             taken: 0,
             cursor: 0,
             scheduler: Scheduler::new(alloc),
+            states,
             before: None,
             own: Seat::new(own),
             after: Seat::new(after),
@@ -112,13 +131,21 @@ impl<O: Opens> Host<O> {
         if places != self.places {
             return Some(HostActed::OtherPlaces);
         }
-        if epoch == 0 || epoch < self.number - 1 {
+        if epoch < self.number && !self.has_before(epoch) {
             return Some(HostActed::Gone);
         }
         if self.number + 1 < epoch {
             return Some(HostActed::Ahead);
         }
         None
+    }
+
+    /// Whether an epoch below its own one is the one before, and it has a node of that.
+    fn has_before(&self, epoch: u64) -> bool
+        requires { epoch < self.now.number }
+        ensures { IsTrue result ↔ (epoch + 1 ≡ self.now.number) × IsTrue (has_before_lem self.now) }
+    {
+        epoch + 1 == self.number && self.before.is_some()
     }
 
     /// What is asked of the node of an epoch, by who has so many places in an epoch. The node does it where the epoch is
@@ -130,7 +157,8 @@ impl<O: Opens> Host<O> {
         ensures members { AreMembers self.old → AreMembers self.new }
         ensures trust { KeepsTrust self.old self.new }
         ensures moves { IsHonest self.new → AreMembers self.old → (v : HostView) → StandsAs self.old v
-            → (v' : HostView) × MovesIn (member_of self.old).1 (member_of self.old).0 (places_of self.old) v epoch places (ask_of asked.entry) result v' × StandsAs self.new v' }
+            → (v' : HostView) × MovesIn (member_of self.old).1 (member_of self.old).0 (places_of self.old) v epoch places (ask_of asked.entry)
+            result v' × StandsAs self.new v' }
     {
         self.act_near(epoch, places, asked)
     }
@@ -143,7 +171,7 @@ impl<O: Opens> Host<O> {
         ensures members { AreMembers self.old → AreMembers self.new }
         ensures trust { KeepsTrust self.old self.new }
         ensures moves { IsHonest self.new → (v : HostView) → StandsAs self.old v
-            → (v' : HostView) × Releases (places_of self.old) v now result v' × StandsAs self.new v' }
+            → (v' : HostView) × Releases O.may_fail (places_of self.old) v now result v' × StandsAs self.new v' }
     {
         schedulers_follow_values();
         epochs_join();
@@ -187,7 +215,7 @@ impl<O: Opens> Host<O> {
 
     /// The node of the epoch before is asked.
     fn act_before(&mut self, asked: Asked) -> HostActed
-        requires { 1 < self.old.number }
+        requires { has_before_lem self.old ≡ true }
         ensures { (e : ℕ) → e + 1 ≡ self.old.number → NodeActs self.old e (ask_of asked.entry) result self.new }
     {
         let places = self.places;
@@ -210,6 +238,7 @@ impl<O: Opens> Host<O> {
     fn go_on(&mut self) -> Result<(), NodeFault>
         ensures ok { OnOk result (GoesOn self.old self.new) }
         ensures err { OnErr result (CanGoOn self.old × Stays self.old self.new) }
+        ensures fails { IfErr result O.may_fail }
     {
         if self.can_go_on() {
             self.shift()
@@ -223,26 +252,56 @@ impl<O: Opens> Host<O> {
         requires { CanGoOn self.old }
         ensures ok { OnOk result (Shifts self.old self.new) }
         ensures err { OnErr result (Stays self.old self.new) }
+        ensures fails { IfErr result O.may_fail }
     {
         let opened = self.opens.open(self.number + 2)?;
         let after = mem::replace(&mut self.after, Seat::new(opened));
         let own = mem::replace(&mut self.own, after);
         self.before = Some(own);
+        self.states.go_on();
         self.number += 1;
         self.taken = 0;
         Ok(())
     }
 
-    /// Takes up what its own epoch's node has learned.
+    /// Takes up what its own epoch's node has learned. Where that is all of the epoch, it makes the state at the start of
+    /// the next one.
     fn take_up(&mut self) -> Result<(), AllocError>
         ensures takes { TakesOwn self.old self.new }
+        ensures all { OnOk result (IsAllOf self.old.own self.old.places self.new.taken) }
+        ensures ready { OnOk result (IsReady self.new) }
+    {
+        self.take_own()?;
+        self.prepare()
+    }
+
+    /// Takes up what its own epoch's node has learned.
+    fn take_own(&mut self) -> Result<(), AllocError>
+        ensures takes { TakesOwn self.old self.new }
+        ensures states { self.new.states ≡ self.old.states }
         ensures all { OnOk result (IsAllOf self.old.own self.old.places self.new.taken) }
     {
         take_up(&self.own, self.places, &mut self.taken, &mut self.scheduler)
     }
 
+    /// Makes the state at the start of the next epoch, where its own one is full and it isn't there.
+    fn prepare(&mut self) -> Result<(), AllocError>
+        ensures keeps { Prepares self.old self.new }
+        ensures ready { OnOk result (IsReady self.new) }
+    {
+        if self.taken < self.places || self.states.has_next() {
+            return Ok(());
+        }
+        let (epoch, before) = (self.number + 1, self.scheduler.applied());
+        let machine = self.scheduler.machine();
+        let bytes = self.states.made(epoch, self.places, before, machine)?;
+        self.states.set_next(bytes);
+        Ok(())
+    }
+
     /// Gives all outputs that wait.
     fn give(&mut self, now: u64) -> Given
+        requires { IsReady self.old }
         ensures { GivesOut self.old now result self.new }
     {
         let outputs = self.scheduler.hand_out(now);
@@ -252,5 +311,112 @@ impl<O: Opens> Host<O> {
             epoch: self.number,
             place: self.taken + 1,
         }
+    }
+    /// The state at the start of its own epoch: the tables behind all values of the epochs before, how many outputs these
+    /// had, and whose state it is. Only want of memory stops it.
+    pub fn state(&self) -> Result<Vec<u8>, AllocError>
+        ensures { (v : HostView) → StandsAs self.now v
+            → IfOk result (λ bytes. IsStateOf (member_of self.now).0 (member_of self.now).1 (places_of self.now) v.passed bytes.items) }
+    {
+        self.states.state(self.places)
+    }
+
+    /// What modems need that begin anew: of each channel, in the order in which channels were set, its UCD Count, and then
+    /// by SID each latest lease that isn't over when its next MAP begins. Each of these was an output of the values that it
+    /// took up. Only want of memory stops it.
+    pub fn again(&self) -> Result<Vec<Output>, AllocError>
+        ensures { (v : HostView) → StandsAs self.now v → IfOk result (λ outputs. TellsAgain (places_of self.now) v outputs.items) }
+    {
+        told_again(self.alloc, self.scheduler.machine())
+    }
+
+    /// Goes to the start of the epoch of a state that a host has told, which has to be above its own one: it has the tables
+    /// of the state, and takes no part any more in epochs before the one before that one. Where it fails nothing changes.
+    pub fn join(&mut self, state: &[u8]) -> Result<(), JoinFault>
+        ensures joins { OnOk result (Joins self.old state.now self.new) }
+        ensures stays { IfErr result (λ fault. StaysFor self.old state.now fault self.new) }
+        ensures same { SameHost self.old self.new }
+        ensures members { AreMembers self.old → AreMembers self.new }
+        ensures trust { KeepsTrust self.old self.new }
+        ensures moves { IsHonest self.new → (v : HostView) → StandsAs self.old v → JoinsAs self.old v state.now result self.new }
+    {
+        schedulers_follow_values();
+        epochs_join();
+        one_spelling_of_states();
+        self.join_state(state)
+    }
+
+    fn join_state(&mut self, state: &[u8]) -> Result<(), JoinFault>
+        ensures joins { OnOk result (Joins self.old state.now self.new) }
+        ensures stays { IfErr result (λ fault. StaysFor self.old state.now fault self.new) }
+    {
+        one_spelling_of_states();
+        let Some((head, spelling)) = framed(state) else {
+            return Err(JoinFault::NoState);
+        };
+        if !self.can_join(&head) {
+            return Err(JoinFault::NoState);
+        }
+        match read_rows(self.alloc, spelling) {
+            Ok(rows) => {
+                let machine = Machine::opened(self.alloc, rows);
+                self.begin(&head, machine)?;
+                Ok(())
+            }
+            Err(why) => Err(unread(why)),
+        }
+    }
+
+    /// Whether it can go on from a state with this head.
+    fn can_join(&self, head: &StateHead) -> bool
+        ensures { IsTrue result ↔ CanJoin self.now head.now }
+    {
+        head.members == self.states.members()
+            && head.places == self.places
+            && self.number < head.epoch
+            && self.places < u64::MAX - head.before
+            && head.epoch.checked_mul(self.places) == Some(head.before + self.places)
+    }
+
+    /// Goes to the start of an epoch.
+    fn begin(&mut self, head: &StateHead, machine: Machine) -> Result<(), NodeFault>
+        requires { CanJoin self.old head.now }
+        ensures ok { OnOk result (Begins self.old self.new head.now machine) }
+        ensures err { OnErr result (Stays self.old self.new) }
+        ensures fails { IfErr result (λ fault. O.may_fail fault ⊎ (fault ≡ OutOfMemory)) }
+    {
+        let (epoch, before) = (head.epoch, head.before);
+        let bytes = self.states.made(epoch, self.places, before, &machine)?;
+        let opened = self.open_for(epoch)?;
+        let gap = epoch - self.number;
+        enter(
+            gap,
+            &mut self.before,
+            &mut self.own,
+            &mut self.after,
+            opened,
+        );
+        self.states.set_own(bytes);
+        self.scheduler = Scheduler::opened(self.alloc, machine, before);
+        self.number = epoch;
+        self.taken = 0;
+        self.cursor = before;
+        Ok(())
+    }
+
+    /// Opens the nodes that it lacks of an epoch above its own, and of the one after that.
+    fn open_for(&mut self, epoch: u64) -> Result<Opened<O::Node>, NodeFault>
+        requires { (self.old.number < epoch) × (epoch < 2 ^ 64 - 1) }
+        ensures opened { IfOk result (IsOpenedFor self.old epoch) }
+        ensures stays { Stays self.old self.new }
+        ensures fails { IfErr result O.may_fail }
+    {
+        let own = if epoch == self.number + 1 {
+            None
+        } else {
+            Some(Seat::new(self.opens.open(epoch)?))
+        };
+        let after = Seat::new(self.opens.open(epoch + 1)?);
+        Ok(Opened { own, after })
     }
 }

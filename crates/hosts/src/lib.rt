@@ -3,12 +3,14 @@
 
 mod acted;
 mod beyond;
+mod entering;
 mod fault;
 mod host;
 mod opens;
+mod states;
 mod taking;
 
 pub use acted::{Given, HostActed};
-pub use fault::HostFault;
+pub use fault::{HostFault, JoinFault};
 pub use host::{Host, MOST_EPOCH_PLACES};
 pub use opens::{NewNodes, NewRecords, Opens, PlainOpens};

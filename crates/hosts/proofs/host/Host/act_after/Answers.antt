@@ -13,5 +13,5 @@ returns g c =
       beyond = c.act_within.ensures.beyond;
       acts = c.act_within.ensures.acts;
       others = λ f differ. slot_other_after host.number host.before host.own host.after c.act_within.new.seat f differ;
-      rest = record { opens = refl; places = refl; number = refl; taken = refl; cursor = refl; scheduler = refl };
+      rest = record { opens = refl; places = refl; number = refl; taken = refl; cursor = refl; scheduler = refl; states = refl; before = refl };
     }

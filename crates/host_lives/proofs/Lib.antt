@@ -1,0 +1,8 @@
+mod Lists
+mod Happened
+mod Knowing
+mod Turned
+mod Released
+mod Led
+mod Whole
+mod Serving

@@ -1,0 +1,96 @@
+-- Hosts that are processes, the runs that their lines are, and the one log that these are.
+use Rattle.std.specs.Prelude.{◌≡◌, ℕ, ◌+◌, ◌<◌, ◌≤◌, true, List, [], ◌∷◌, ◌++◌, length, All, Contains, Some, slice_get}
+use Rattle.acceptor.specs.Content.{no_content}
+use Rattle.ballots.specs.declared.letters.Letter.{Letter}
+use Rattle.epochs.specs.Epochs.{outputs_over}
+use Rattle.epoch_runs.specs.Runs.{FollowOneLog}
+use Rattle.grant_machine.specs.Laws.{InMap}
+use Rattle.grant_machine.specs.declared.output.Output.TheVariants.{Map}
+use Rattle.hosts.specs.Views.{HostView, opening}
+use Rattle.host_service.specs.Serving.{RunsAs}
+use Rattle.host_service.specs.declared.reply.HostReply.{HostReply}
+use Rattle.map_release.specs.declared.numbered.Numbered.{Numbered}
+use Rattle.network_script.specs.Next.{Run}
+use Rattle.network_script.specs.World.{Written}
+use Rattle.node_lines.specs.declared.request.Request.{Request}
+use Rattle.node_lines.specs.declared.request.Request.TheVariants as request
+use Rattle.proposer.specs.declared.fault.NodeFault.{NodeFault}
+use Rattle.seats.specs.Acted.{told}
+use Rattle.seats.specs.declared.acted.Acted.{Acted}
+use Rattle.seats.specs.declared.answer.Answer.{Answer}
+use Rattle.world_events.specs.declared.event.Event.{Event}
+use Rattle.world_events.specs.declared.event.Event.TheVariants as event
+use Rattle.host_lives.specs.Turns.{AllCome, DoesIn, HostTurn, is_done_in, letters_in, letters_sent, outputs_printed}
+use Rattle.host_lives.specs.Turns.{turns_in, turns_of}
+
+-- a host as it begins, over records that hold nothing
+abbrev pub new_host : HostView
+new_host = opening (λ e. no_content)
+
+-- a node may fail to open with whatever fault
+abbrev pub AnyFault : NodeFault → Type 0
+AnyFault fault = Unit {0}
+
+-- host me of so many, with so many places in an epoch, replied so to these lines, from its beginning on
+abbrev pub IsLife : (members me places : ℕ) → List (List ℕ × HostReply) → Type 0
+IsLife members me places turns = (last : HostView) × RunsAs AnyFault members me places new_host turns last
+
+-- each member has lived so, in an order in which each letter of an epoch was sent in that epoch before it came
+pub record HostsHaveLived (members places : ℕ) (turns : List HostTurn) : Type 0 where
+  pub named : All (λ t. t.host < members) turns
+  pub lived : (k : ℕ) → k < members → IsLife members k places (turns_of k turns)
+  pub come : AllCome turns
+
+-- what was asked of node k is this event, where these letters were sent before: a letter that comes is one of them
+abbrev pub IsEvent : List Letter → ℕ → Request → Event → Type 0
+IsEvent sent k request.Lead e = e ≡ event.Lead k
+IsEvent sent k (request.Offer value) e = e ≡ event.Offer k value
+IsEvent sent k (request.Release now) e = e ≡ event.Release k now
+IsEvent sent k (request.Tell to place) e = e ≡ event.Tell k to place
+IsEvent sent k (request.Letter l) e = (i : ℕ) × (slice_get sent i ≡ Some l) × (l.to ≡ k) × (e ≡ event.Deliver i)
+
+-- a turn is in epoch e this event, answered so, where these letters were sent before
+abbrev pub IsTurnOf : ℕ → List Letter → HostTurn → Event → Answer → Type 0
+IsTurnOf e sent t happens answer =
+    (asked : Request) × (acted : Acted) × DoesIn t e asked acted × IsEvent sent t.host asked happens × (answer ≡ told acted)
+
+-- so are turns, one after another
+abbrev pub AreEvents : ℕ → List Letter → List HostTurn → List Event → List Answer → Type 0
+AreEvents e sent [] [] [] = Unit {0}
+AreEvents e sent (t ∷ turns) (happens ∷ events) (answer ∷ answers) =
+    IsTurnOf e sent t happens answer × AreEvents e (sent ++ letters_in e t.reply) turns events answers
+AreEvents e sent turns events answers = ⊥
+
+-- what hosts did in epoch e is a run of so many fresh nodes, which came to this world
+pub record IsRunOf (members e : ℕ) (turns : List HostTurn) (w : Written) : Type 0 where
+  pub script : List Event
+  pub report : List Answer
+  pub events : AreEvents e [] (turns_in e turns) script report
+  pub run : Run members [] script report w
+  pub letters : w.letters ≡ letters_sent e turns
+
+-- an output is the one at its number of these epochs
+abbrev pub IsOutputOf : ℕ → List (List (List ℕ)) → Numbered → Type 0
+IsOutputOf places cs x = (i : ℕ) × (x.place ≡ i + 1) × (slice_get (outputs_over places cs) i ≡ Some x.output)
+
+-- what hosts did is a run in each epoch, and these runs, whose chosen values are these, are one log
+pub record AreOneLog (members places : ℕ) (turns : List HostTurn) (ws : List Written) (cs : List (List (List ℕ))) : Type 0 where
+  -- in epochs 1, 2 and so on
+  pub runs : (i : ℕ) (w : Written) → slice_get ws i ≡ Some w → IsRunOf members (i + 1) turns w
+  -- and in no other one did a node do anything
+  pub whole : (t : HostTurn) (e : ℕ) → Contains turns t → is_done_in e t.reply ≡ true → (1 ≤ e) × (e ≤ length ws)
+  pub log : FollowOneLog members places ws cs
+  -- each output that a host printed is the one at its number
+  pub printed : (x : Numbered) → Contains (outputs_printed turns) x → IsOutputOf places cs x
+  -- so hosts that print one number print one output
+  pub one : (x y : Numbered) → Contains (outputs_printed turns) x → Contains (outputs_printed turns) y → x.place ≡ y.place → x.output ≡ y.output
+  -- and MAPs that they print, and that share a minislot of a channel, have one number
+  pub maps : (x y : Numbered) → Contains (outputs_printed turns) x → Contains (outputs_printed turns) y
+      → (ch m start len start' len' : ℕ) (bytes bytes' : List ℕ) → x.output ≡ Map ch start len bytes → y.output ≡ Map ch start' len' bytes'
+      → InMap start len m → InMap start' len' m → x.place ≡ y.place
+
+-- hosts that have lived are one log
+abbrev pub HostsAreOneLog : Type 0
+HostsAreOneLog =
+    (members places : ℕ) (turns : List HostTurn) → HostsHaveLived members places turns
+    → (ws : List Written) × (cs : List (List (List ℕ))) × AreOneLog members places turns ws cs

@@ -1,0 +1,75 @@
+-- Lines that hosts read, with their replies, in one order.
+use Rattle.std.specs.Prelude.{◌≡◌, ℕ, ◌==◌, Bool, false, if◌then◌else◌, List, [], map, filter, take, Some, slice_get}
+use Rattle.std.specs.Prelude.{Contains}
+use Rattle.std.specs.List.{flat_map}
+use Rattle.ballots.specs.declared.letters.Letter.{Letter}
+use Rattle.hosts.specs.declared.acted.HostActed.TheVariants.{Of}
+use Rattle.host_service.specs.Numbers.{IsNumbered}
+use Rattle.host_service.specs.Replying.{IsAskedOfNode}
+use Rattle.host_service.specs.declared.number.EpochNumber.{EpochNumber}
+use Rattle.host_service.specs.declared.reply.HostReply.{HostReply}
+use Rattle.host_service.specs.declared.reply.HostReply.TheVariants.{InEpoch, Released, AsNode}
+use Rattle.map_release.specs.declared.numbered.Numbered.{Numbered}
+use Rattle.node_lines.specs.declared.request.Request.{Request}
+use Rattle.node_lines.specs.declared.request.Request.TheVariants as request
+use Rattle.node_service.specs.declared.outgoing.Reply.{Reply}
+use Rattle.node_service.specs.declared.outgoing.Reply.TheVariants as reply
+use Rattle.seats.specs.Acted.{letters_of, outputs_of}
+use Rattle.seats.specs.declared.acted.Acted.{Acted}
+
+-- a line that a host read, and its reply
+pub record HostTurn : Type 0 where
+  pub host : ℕ
+  pub line : List ℕ
+  pub reply : HostReply
+
+-- the lines of host k with their replies, in order
+abbrev pub turns_of : ℕ → List HostTurn → List (List ℕ × HostReply)
+turns_of k turns = map (λ t. (t.line, t.reply)) (filter (λ t. t.host == k) turns)
+
+-- the node of epoch e did what it was asked
+abbrev pub is_done_in : ℕ → HostReply → Bool
+is_done_in e (InEpoch n (Of acted)) = n.epoch == e
+is_done_in e other = false
+
+-- the turns at which it did, in order
+abbrev pub turns_in : ℕ → List HostTurn → List HostTurn
+turns_in e turns = filter (λ t. is_done_in e t.reply) turns
+
+-- the letters that went out with a reply as letters of epoch e
+abbrev pub letters_in : ℕ → HostReply → List Letter
+letters_in e (InEpoch n (Of acted)) = if n.epoch == e then letters_of acted else []
+letters_in e other = []
+
+-- all letters of epoch e that were sent, in order
+abbrev pub letters_sent : ℕ → List HostTurn → List Letter
+letters_sent e turns = flat_map (λ t. letters_in e t.reply) turns
+
+-- the outputs that a reply has, each on a line `place I OUTPUT`
+abbrev pub outputs_told : Reply → List Numbered
+outputs_told (reply.Acted acted) = outputs_of acted
+outputs_told other = []
+
+abbrev pub outputs_in : HostReply → List Numbered
+outputs_in (Released told next place) = outputs_told told
+outputs_in (AsNode told) = outputs_told told
+outputs_in other = []
+
+-- all outputs that were printed, in order
+abbrev pub outputs_printed : List HostTurn → List Numbered
+outputs_printed turns = flat_map (λ t. outputs_in t.reply) turns
+
+-- a line asked this of the node of epoch e, and this came of it
+pub record DoesIn (t : HostTurn) (e : ℕ) (asked : Request) (acted : Acted) : Type 0 where
+  pub number : EpochNumber
+  pub rest : List ℕ
+  pub numbered : IsNumbered t.line number rest
+  pub epoch : number.epoch ≡ e
+  pub asks : IsAskedOfNode rest asked
+  pub told : t.reply ≡ InEpoch number (Of acted)
+
+-- each letter that a host's node of epoch e was given is to that host, and was sent before as a letter of epoch e
+abbrev pub AllCome : List HostTurn → Type 0
+AllCome turns =
+    (i : ℕ) (t : HostTurn) → slice_get turns i ≡ Some t → (e : ℕ) (l : Letter) (acted : Acted) → DoesIn t e (request.Letter l) acted
+    → (l.to ≡ t.host) × Contains (letters_sent e (take i turns)) l

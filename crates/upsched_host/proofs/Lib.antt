@@ -1,0 +1,2 @@
+mod AsNamed
+mod Told
