@@ -1,0 +1,5 @@
+mod Best
+mod Doing
+mod Finds
+mod Listed
+mod Named

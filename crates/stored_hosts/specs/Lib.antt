@@ -1,0 +1,6 @@
+pub mod Acts
+pub mod Committing
+pub mod Finding
+pub mod Leaving
+pub mod Names
+pub mod Surveying

@@ -1,0 +1,47 @@
+//! What a start finds in a folder.
+
+ghost use Rattle.std.specs.Prelude.{◌≡◌, IfErr, IfOk};
+ghost use Rattle.stored_hosts.specs.Surveying.{AreRead, IsUnread, Surveys, is_state};
+
+use crate::fault::FolderFault;
+use crate::finding::{Found, StateFile, WhichHost, find};
+use crate::folder::Folder;
+use crate::names::{FileKind, HostFile};
+use std::alloc::Global;
+
+fn is_state(kind: FileKind) -> bool
+    ensures { result ≡ is_state kind }
+{
+    matches!(kind, FileKind::State)
+}
+
+/// The bytes of those of these files that are states, in their order.
+fn states_of<F: Folder>(
+    alloc: Global,
+    folder: &F,
+    files: &[HostFile],
+) -> Result<Vec<StateFile>, FolderFault>
+    ensures read { IfOk result (λ states. AreRead F.holds F.unread folder.now files.now states.items) }
+    ensures fails { IfErr result (IsUnread F.holds F.unread folder.now) }
+{
+    let mut states = Vec::new(alloc);
+    for file in files {
+        if is_state(file.kind) {
+            let bytes = folder.read(*file)?;
+            states.push(StateFile {
+                epoch: file.epoch,
+                bytes,
+            })?;
+        }
+    }
+    Ok(states)
+}
+
+/// What a start of this host finds in a folder. It changes nothing there.
+pub fn survey<F: Folder>(alloc: Global, folder: &F, which: WhichHost) -> Result<Found, FolderFault>
+    ensures { Surveys F.holds F.unread F.lists which folder.now result }
+{
+    let files = folder.files()?;
+    let states = states_of(alloc, folder, files.as_slice())?;
+    find(alloc, which, files.as_slice(), states.as_slice())
+}
