@@ -1,5 +1,6 @@
 -- What a batch of a node's writes does to the records, by what its transaction did.
-use Rattle.std.proofs.Common.{◌≡◌, inl, inr, ℕ, suc, Bool, true, List, take, slice_get, Some, Option, Ok, Err, IsTrue, refl, sym, subst, subst₂, ◌∙◌, arith}
+use Rattle.std.proofs.Common.{◌≡◌, inl, inr, ℕ, suc, Bool, true, List, take, slice_get, Some, Option, Ok, Err, IsTrue}
+use Rattle.std.proofs.Common.{refl, sym, subst, subst₂, ◌∙◌, arith}
 use Rattle.node_writes.proofs.Callers.{lead_next, lead_once}
 use Rattle.node_writes.specs.Writes.{LeadTo, SpellsOf, value_in}
 use Rattle.node_writes.specs.Rows.{row_write}
@@ -7,7 +8,10 @@ use Rattle.node_writes.specs.declared.reading.Row.{Row}
 use Rattle.node_writes.specs.declared.write_bytes.WriteBytes.{WriteBytes}
 use Rattle.acceptor_store_parts.specs.Batch.{HasWrittenAll, MayHaveWrittenAll}
 use Rattle.acceptor_store.specs.Batches.{AddsOnlyAll, HasMadeAll, MayHaveMadeAll, WritesAll}
-use Rattle.acceptor_store.proofs.Words.{∥∥₁_map, no_doubt, Ghosts, Trees, HasCleanDisk, Survives, Held, state, Content, after_write, IsHarmless, Findable, RecordsFault, Owner, ServesFor, StillServes, Numbers, AreNumbersOf, Linked, MayFind, MayFindIn, IsLinked, IsServing, content_once}
+use Rattle.acceptor_store.proofs.Words.{∥∥₁_map, no_doubt, Ghosts, Trees, HasCleanDisk, Survives, Held, state, Content}
+use Rattle.acceptor_store.proofs.Words.{after_write, IsHarmless, Findable, RecordsFault, Owner, ServesFor, StillServes}
+use Rattle.acceptor_store.proofs.Words.{Numbers, AreNumbersOf, Linked, MayFind, MayFindIn, IsLinked, IsServing}
+use Rattle.acceptor_store.proofs.Words.{content_once}
 use Rattle.acceptor_store.proofs.Same.{which}
 use Rattle.acceptor_store.proofs.Found.{served, found_it, found_is}
 use Rattle.acceptor_store.proofs.Calls.{Entered, same}

@@ -1,6 +1,9 @@
 -- The greatest ballot of the votes, where one is put at a place.
-use Rattle.std.proofs.Common.{◌≡◌, inl, inr, ℕ, ◌+◌, ◌<◌, ◌≤◌, ◌==◌, max, Bool, true, false, if◌then◌else◌, List, [], ◌∷◌, Some, refl, ap, ◌∙◌, arith}
-use Rattle.acceptor_store.proofs.Words.{nat_tests, Cast, put, in_order, put_before, put_here, put_after, Content, AreRowsFrom, after_write, greatest, promised, Promises, Votes, greatest_apart, replaced, greatest_beside}
+use Rattle.std.proofs.Common.{◌≡◌, inl, inr, ℕ, ◌+◌, ◌<◌, ◌≤◌, ◌==◌, max, Bool, true, false, if◌then◌else◌, List, []}
+use Rattle.std.proofs.Common.{◌∷◌, Some, refl, ap, ◌∙◌, arith}
+use Rattle.acceptor_store.proofs.Words.{nat_tests, Cast, put, in_order, put_before, put_here, put_after, Content}
+use Rattle.acceptor_store.proofs.Words.{AreRowsFrom, after_write, greatest, promised, Promises, Votes, greatest_apart}
+use Rattle.acceptor_store.proofs.Words.{replaced, greatest_beside}
 
 -- a ballot that isn't below the promised one is promised then
 pub raised_row : (ballot : ℕ) (c : Content) → promised c ≤ ballot → ballot ≡ promised (after_write c (Some (Promises ballot)))

@@ -1,6 +1,12 @@
 -- What a call on the records does, by what its statement did.
-use Rattle.std.proofs.Common.{◌≡◌, inl, inr, ℕ, Bool, true, false, Some, None, Option, Ok, Err, IsTrue, sym, ap, subst, subst₂, ◌∙◌, arith}
-use Rattle.acceptor_store.proofs.Words.{no_doubt, clean_of, Ghosts, Trees, HasCleanDisk, Survives, Held, state, Content, Write, after_write, KeepsTrust, Writes, IsHarmless, Findable, Holds, AddsNothing, AddsOnly, FindsSame, Keeps, HasMade, MayHaveMade, RecordsFault, Owner, Serves, ServesFor, StillServes, HasWritten, MayHaveWritten, Numbers, AreNumbersOf, Linked, MayFind, MayFindIn, IsHonest, is_clean_in, is_honest, held_of, IsLinked, IsServing, Knows}
+use Rattle.std.proofs.Common.{◌≡◌, inl, inr, ℕ, Bool, true, false, Some, None, Option, Ok, Err, IsTrue, sym, ap, subst}
+use Rattle.std.proofs.Common.{subst₂, ◌∙◌, arith}
+use Rattle.acceptor_store.proofs.Words.{no_doubt, clean_of, Ghosts, Trees, HasCleanDisk, Survives, Held, state, Content}
+use Rattle.acceptor_store.proofs.Words.{Write, after_write, KeepsTrust, Writes, IsHarmless, Findable, Holds}
+use Rattle.acceptor_store.proofs.Words.{AddsNothing, AddsOnly, FindsSame, Keeps, HasMade, MayHaveMade, RecordsFault}
+use Rattle.acceptor_store.proofs.Words.{Owner, Serves, ServesFor, StillServes, HasWritten, MayHaveWritten, Numbers}
+use Rattle.acceptor_store.proofs.Words.{AreNumbersOf, Linked, MayFind, MayFindIn, IsHonest, is_clean_in, is_honest}
+use Rattle.acceptor_store.proofs.Words.{held_of, IsLinked, IsServing, Knows}
 use Rattle.acceptor_store.proofs.Found.{served, now_holds, may_hold, only_adds, same_found, no_more, keeps_err}
 
 -- the records have this connection, and what is known of it

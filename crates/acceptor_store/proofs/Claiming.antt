@@ -1,8 +1,10 @@
 -- What is known of tables that were claimed, by what was read of them.
-use Rattle.std.proofs.Common.{◌≡◌, ◌≤◌, inr, Bool, Result, Ok, Err, IfOk, IfErr, refl, sym, subst, ◌∙◌}
+use Rattle.std.proofs.Common.{◌≡◌, ◌≢◌, ◌≤◌, inr, Bool, Result, Ok, Err, IfOk, IfErr, refl, sym, subst, ◌∙◌}
 use Rattle.sqlite_trees.specs.View.{doubt}
-use Rattle.acceptor_store.proofs.Words.{Ghosts, Trees, HasCleanDisk, Held, state, IsClean, Third, Owner, schema_of, HoldsNoneOwned, Numbers, OpenFault, Foreign, OwnerFault, Open, Blank, Unowned, OtherNode, OtherMembers, FailsAnew, FindsFor, IsDue}
-use Rattle.acceptor_store.specs.Owning.{Claims, IsToldOther}
+use Rattle.acceptor_store.proofs.Words.{Ghosts, Trees, HasCleanDisk, Held, state, IsClean, Third, Owner, schema_of}
+use Rattle.acceptor_store.proofs.Words.{HoldsNoneOwned, Numbers, OpenFault, Foreign, OwnerFault, Open, Blank, Unowned}
+use Rattle.acceptor_store.proofs.Words.{OtherNode, OtherMembers, FailsAnew, FindsFor, IsDue}
+use Rattle.acceptor_store.specs.Owning.{Claims, IsToldOther, Names}
 use Rattle.acceptor_store.specs.declared.OpenFault.TheVariants.{Refused, Broken, OutOfMemory}
 
 module _ {S : Type 0} (g : Ghosts S) (wanted : Owner) (conn : Held S) where
@@ -34,8 +36,13 @@ module _ {S : Type 0} (g : Ghosts S) (wanted : Owner) (conn : Held S) where
   claimed_left (Err unread) (Err told) claims leaves left = subst (λ (s : S). IsClean (g.view s) → (db : Trees) → g.recovers s db → (state g conn).may_leave db) (sym claims.1) left
 
   told_other : (is_new : Bool) (found : Owner) (fault : OwnerFault) → (state g conn).now.schema ≡ schema_of Third → (numbers : Numbers) (new : Held S) → FindsFor g found conn new numbers → IsToldOther wanted found fault → IsDue g wanted is_new conn fault
-  told_other is_new found OtherNode schema numbers new finds other = (found, (schema, finds.1.1.owned), other)
-  told_other is_new found OtherMembers schema numbers new finds other = (found, (schema, finds.1.1.owned), other.0, other.1)
+  told_other is_new found (OtherNode other) schema numbers new finds it =
+      let named : Names g conn other = subst (Names g conn) (sym it.0) (schema, finds.1.1.owned) in
+      (named, subst (λ (o : Owner). o.node ≢ wanted.node) (sym it.0) it.1)
+  told_other is_new found (OtherMembers other) schema numbers new finds it =
+      let named : Names g conn other = subst (Names g conn) (sym it.0) (schema, finds.1.1.owned) in
+      let differs = subst (λ (o : Owner). (o.node ≡ wanted.node) × (o.members ≢ wanted.members)) (sym it.0) (it.1, it.2) in
+      (named, differs.0, differs.1)
   told_other is_new found Blank schema numbers new finds other = absurd other
   told_other is_new found Unowned schema numbers new finds other = absurd other
   told_other is_new found (Open fault) schema numbers new finds other = absurd other

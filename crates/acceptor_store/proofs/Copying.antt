@@ -1,6 +1,8 @@
 -- Rows that are put one after another, by ascending place.
-use Rattle.std.proofs.Common.{◌≡◌, ℕ, zero, suc, ◌+◌, ◌≤◌, List, [], ◌∷◌, take, Some, refl, sym, ap, subst, ◌∙◌, arith, slice_get}
-use Rattle.acceptor_store.proofs.Words.{AreRowsFrom, Cast, Content, HasMade, IsSound, Write, after_write, no_content, put, put_after}
+use Rattle.std.proofs.Common.{◌≡◌, ℕ, zero, suc, ◌+◌, ◌≤◌, List, [], ◌∷◌, take, Some, refl, sym, ap, subst, ◌∙◌, arith}
+use Rattle.std.proofs.Common.{slice_get}
+use Rattle.acceptor_store.proofs.Words.{AreRowsFrom, Cast, Content, HasMade, IsSound, Write, after_write, no_content}
+use Rattle.acceptor_store.proofs.Words.{put, put_after}
 use Rattle.acceptor.specs.Kept.{is_it}
 
 -- a write that was made leaves the content after it

@@ -1,6 +1,8 @@
 -- What stays true of the records where a call failed, or made no statement.
 use Rattle.std.proofs.Common.{◌≡◌, inl, inr, Bool, true, false, if◌then◌else◌, Some, Option, sym, subst, ◌∙◌, arith}
-use Rattle.acceptor_store.proofs.Words.{Ghosts, Trees, HasCleanDisk, Survives, Held, state, Content, Write, after_write, Stop, Memory, Down, Owner, LeavesOpen, leaves_open, AreTablesFor, ServesFor, StillServes, DoesNotServe, MayHaveWritten, Numbers, IsLinked, IsServing}
+use Rattle.acceptor_store.proofs.Words.{Ghosts, Trees, HasCleanDisk, Survives, Held, state, Content, Write, after_write}
+use Rattle.acceptor_store.proofs.Words.{Stop, Memory, Down, Owner, LeavesOpen, leaves_open, AreTablesFor, ServesFor}
+use Rattle.acceptor_store.proofs.Words.{StillServes, DoesNotServe, MayHaveWritten, Numbers, IsLinked, IsServing}
 use Rattle.acceptor_store_parts.specs.declared.Stop.TheVariants.{Refused}
 
 -- records that are up still are over a connection that is open

@@ -1,6 +1,9 @@
 -- What an open after a crash finds of a connection that serves the records.
 use Rattle.std.proofs.Common.{◌≡◌, inl, inr, IsTrue, Option, Some, Err, sym, ap, subst, ◌∙◌}
-use Rattle.acceptor_store.proofs.Words.{∥∥₁_map, Ghosts, Trees, Database, HasCleanDisk, Survives, Held, state, Content, Write, after_write, IsHarmless, Findable, Holds, AddsNothing, AddsOnly, FindsSame, Keeps, HasMade, MayHaveMade, RecordsFault, Owner, AreTablesFor, ServesFor, MayHaveWritten, content_once, MayFindIn}
+use Rattle.acceptor_store.proofs.Words.{∥∥₁_map, Ghosts, Trees, Database, HasCleanDisk, Survives, Held, state, Content}
+use Rattle.acceptor_store.proofs.Words.{Write, after_write, IsHarmless, Findable, Holds, AddsNothing, AddsOnly}
+use Rattle.acceptor_store.proofs.Words.{FindsSame, Keeps, HasMade, MayHaveMade, RecordsFault, Owner, AreTablesFor}
+use Rattle.acceptor_store.proofs.Words.{ServesFor, MayHaveWritten, content_once, MayFindIn}
 use Rattle.acceptor.specs.declared.records.RecordsFault.TheVariants.{Refused, Broken, OutOfMemory}
 use Rattle.acceptor_store.proofs.Same.{which}
 

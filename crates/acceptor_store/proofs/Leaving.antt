@@ -1,6 +1,8 @@
 -- What is left where an open fails.
 use Rattle.std.proofs.Common.{◌≡◌, ◌⊎◌, inl, inr, ap, subst, ◌∙◌, arith}
-use Rattle.acceptor_store.proofs.Words.{Ghosts, Trees, Database, State, HasCleanDisk, Survives, Held, state, survives_then, Version, First, schema_of, ServesAs, IsOther, MayBeMade, Raised, Numbers, FindsContent, IsLeftWhole}
+use Rattle.acceptor_store.proofs.Words.{Ghosts, Trees, Database, State, HasCleanDisk, Survives, Held, state}
+use Rattle.acceptor_store.proofs.Words.{survives_then, Version, First, schema_of, ServesAs, IsOther, MayBeMade, Raised}
+use Rattle.acceptor_store.proofs.Words.{Numbers, FindsContent, IsLeftWhole}
 
 -- the reads of a version's tables commit nothing
 pub reads_leave : (version : Version) (old mid late new : State) → Survives old mid (λ _. IsOther old) → Survives mid late (λ _. IsOther mid) → Survives late new (λ _. late.now.schema ≡ schema_of version → ⊥)

@@ -1,6 +1,13 @@
 -- What is known of a connection that was opened for an owner.
-use Rattle.std.proofs.Common.{◌≡◌, ◌≢◌, ◌⊎◌, inl, inr, true, false, Bool, Some, None, IsSome, IsTrue, refl, sym, ap, subst, ◌∙◌}
-use Rattle.acceptor_store.proofs.Words.{Content, Ghosts, Trees, Database, State, HasCleanDisk, Survives, Held, state, survives_then, Third, Owner, schema_of, blank_schema, AreByRowid, AreTablesFor, IsOwner, OwnedBy, HasFacts, HoldsNone, HoldsNoneOwned, IsBroken, IsUnowned, IsMade, MayBeMade, Owned, serves_for, tables_as, tables_for, Numbers, OpenFault, Foreign, OwnerFault, Open, Blank, Unowned, OtherNode, OtherMembers, Examines, Had, IsLeftWhole, MakesReady, SeesForeign, StaysAs, AdoptsFor, ExaminesFor, FindsFor, HadBefore, IsDue, IsDueBefore, IsLeftAs, IsLeftBefore, PreparesFor}
+use Rattle.std.proofs.Common.{◌≡◌, ◌≢◌, ◌⊎◌, inl, inr, true, false, Bool, Some, None, IsSome, IsTrue, refl, sym, ap}
+use Rattle.std.proofs.Common.{subst, ◌∙◌}
+use Rattle.acceptor_store.proofs.Words.{Content, Ghosts, Trees, Database, State, HasCleanDisk, Survives, Held, state}
+use Rattle.acceptor_store.proofs.Words.{survives_then, Third, Owner, schema_of, blank_schema, AreByRowid, AreTablesFor}
+use Rattle.acceptor_store.proofs.Words.{IsOwner, OwnedBy, HasFacts, HoldsNone, HoldsNoneOwned, IsBroken, IsUnowned}
+use Rattle.acceptor_store.proofs.Words.{IsMade, MayBeMade, Owned, serves_for, tables_as, tables_for, Numbers, OpenFault}
+use Rattle.acceptor_store.proofs.Words.{Foreign, OwnerFault, Open, Blank, Unowned, OtherNode, OtherMembers, Examines}
+use Rattle.acceptor_store.proofs.Words.{Had, IsLeftWhole, MakesReady, SeesForeign, StaysAs, AdoptsFor, ExaminesFor}
+use Rattle.acceptor_store.proofs.Words.{FindsFor, HadBefore, IsDue, IsDueBefore, IsLeftAs, IsLeftBefore, PreparesFor}
 use Rattle.acceptor_store.specs.declared.OpenFault.TheVariants.{Refused, Broken, OutOfMemory}
 use Rattle.acceptor_store.proofs.Reopening.{by_rowid, still_by_rowid}
 
@@ -81,8 +88,8 @@ module _ {S : Type 0} (g : Ghosts S) (owner : Owner) (conn : Held S) where
   pub owned_due : (fault : OwnerFault) → HasFacts (state g conn).now.schema → IsDue g owner false conn fault → IsDueBefore g owner conn fault
   owned_due Blank facts due = due.0
   owned_due Unowned facts due = absurd (let e : false ≡ true = subst IsSome due.0 facts in cc)
-  owned_due OtherNode facts due = due
-  owned_due OtherMembers facts due = due
+  owned_due (OtherNode other) facts due = due
+  owned_due (OtherMembers other) facts due = due
   owned_due (Open Foreign) facts due = inl due
   owned_due (Open Refused) facts due = tt
   owned_due (Open Broken) facts due = tt

@@ -1,6 +1,9 @@
 -- Why an open is Refused.
-use Rattle.std.proofs.Common.{◌≡◌, inl, inr, ◌⊎◌, ℕ, ◌≤◌, Bool, true, false, Option, Some, None, Err, Result, IsSome, sym, ap, subst, ◌∙◌, arith}
-use Rattle.acceptor_store.proofs.Words.{cases_Bool, Ghosts, Trees, State, HasCleanDisk, Survives, Held, state, Error, SqliteFailure, Version, Stop, IsFault, IsTold, told_as, First, Rereads, Numbers, OpenFault, fault_of, FindsContent, HadIn, HasStopped, IsToMake, FailsAnew}
+use Rattle.std.proofs.Common.{◌≡◌, inl, inr, ◌⊎◌, ℕ, ◌≤◌, Bool, true, false, Option, Some, None, Err, Result, IsSome}
+use Rattle.std.proofs.Common.{sym, ap, subst, ◌∙◌, arith}
+use Rattle.acceptor_store.proofs.Words.{cases_Bool, Ghosts, Trees, State, HasCleanDisk, Survives, Held, state, Error}
+use Rattle.acceptor_store.proofs.Words.{SqliteFailure, Version, Stop, IsFault, IsTold, told_as, First, Rereads, Numbers}
+use Rattle.acceptor_store.proofs.Words.{OpenFault, fault_of, FindsContent, HadIn, HasStopped, IsToMake, FailsAnew}
 use Rattle.sqlite.specs.declared.error.ErrorCode.TheVariants.{OutOfMemory}
 use Rattle.acceptor_store_parts.specs.declared.Stop.TheVariants as stop
 use Rattle.acceptor_store.specs.declared.OpenFault.TheVariants.{Refused}

@@ -1,6 +1,19 @@
 -- What is known of a connection that was opened anew.
-use Rattle.std.proofs.Common.{◌≡◌, ◌⊎◌, inl, inr, ℕ, Bool, true, false, ◌==◌, if◌then◌else◌, List, [], ◌∷◌, length, map, Some, None, Option, Ok, Err, Result, IfOk, IfSome, OnOk, IsTrue, refl, sym, ap, subst, subst₂, ◌∙◌, arith}
-use Rattle.acceptor_store.proofs.Words.{∥∥₁_map, ∥∥₁_elim, ∥∥₁_prop, Cast, number_of, Content, AreRowsFrom, AreValues, greatest, Holds, HoldsEither, AddsNothing, Files, FileStore, over_files, file_state, image_of, IsOpened, Finds, survives_then, opens_again, Ghosts, Trees, Database, IsDatabase, State, HasCleanDisk, Survives, Opens, IsUnchanged, Version, First, Second, Third, AreByRowid, AreShaped, Rereads, Held, state, AllByRecursion, HasFacts, IsForeignSchema, Numbers, IsReread, Owner, schema_of, blank_schema, AreTablesOf, HasLearned, KeepsLearned, IsNumber, IsCast, IsLearned, vote_row, learned_row, AreTablesFor, schema_for, ServesFor, ServesAs, StillServes, DoesNotServe, one_content, AreNumbersOf, Linked, MayFind, MayFindIn, IsHonest, is_clean_in, held_of, IsLinked, IsServing, Stands, IsTested, CannotBeRead, Tells, Leaves, Reopens, Examines, Had, IsIn, IsFoundIn, SeesForeign, HasNumbers, StaysAs, no_doubt, clean_of}
+use Rattle.std.proofs.Common.{◌≡◌, ◌⊎◌, inl, inr, ℕ, Bool, true, false, ◌==◌, if◌then◌else◌, List, [], ◌∷◌, length, map}
+use Rattle.std.proofs.Common.{Some, None, Option, Ok, Err, Result, IfOk, IfSome, OnOk, IsTrue, refl, sym, ap, subst}
+use Rattle.std.proofs.Common.{subst₂, ◌∙◌, arith}
+use Rattle.acceptor_store.proofs.Words.{∥∥₁_map, ∥∥₁_elim, ∥∥₁_prop, Cast, number_of, Content, AreRowsFrom, AreValues}
+use Rattle.acceptor_store.proofs.Words.{greatest, Holds, HoldsEither, AddsNothing, Files, FileStore, over_files}
+use Rattle.acceptor_store.proofs.Words.{file_state, image_of, IsOpened, Finds, survives_then, opens_again, Ghosts}
+use Rattle.acceptor_store.proofs.Words.{Trees, Database, IsDatabase, State, HasCleanDisk, Survives, Opens, IsUnchanged}
+use Rattle.acceptor_store.proofs.Words.{Version, First, Second, Third, AreByRowid, AreShaped, Rereads, Held, state}
+use Rattle.acceptor_store.proofs.Words.{AllByRecursion, HasFacts, IsForeignSchema, Numbers, IsReread, Owner, schema_of}
+use Rattle.acceptor_store.proofs.Words.{blank_schema, AreTablesOf, HasLearned, KeepsLearned, IsNumber, IsCast}
+use Rattle.acceptor_store.proofs.Words.{IsLearned, vote_row, learned_row, AreTablesFor, schema_for, ServesFor, ServesAs}
+use Rattle.acceptor_store.proofs.Words.{StillServes, DoesNotServe, one_content, AreNumbersOf, Linked, MayFind}
+use Rattle.acceptor_store.proofs.Words.{MayFindIn, IsHonest, is_clean_in, held_of, IsLinked, IsServing, Stands}
+use Rattle.acceptor_store.proofs.Words.{IsTested, CannotBeRead, Tells, Leaves, Reopens, Examines, Had, IsIn, IsFoundIn}
+use Rattle.acceptor_store.proofs.Words.{SeesForeign, HasNumbers, StaysAs, no_doubt, clean_of}
 use Rattle.sqlite_schema.specs.declared.schema.Schema.{Schema}
 use Rattle.sqlite_disk.specs.declared.Disk as disk
 use Rattle.sqlite_schema.specs.Names.{same_name}

@@ -1,27 +1,39 @@
 -- Words of other libraries and of the specs that proofs use.
 pub use Rattle.acceptor.proofs.Callers.{greatest_apart, greatest_max, replaced}
 pub use Rattle.acceptor.specs.Calls.{KeepsTrust, Writes}
-pub use Rattle.acceptor.specs.Content.{AreRowsFrom, AreValues, Content, IsSound, Write, after_write, greatest, no_content, promised}
+pub use Rattle.acceptor.specs.Content.{AreRowsFrom, AreValues, Content, IsSound, Write, after_write, greatest}
+pub use Rattle.acceptor.specs.Content.{no_content, promised}
 pub use Rattle.acceptor.specs.Content.Write.{Promises, Votes}
 pub use Rattle.acceptor.specs.Faults.{IsHarmless}
-pub use Rattle.acceptor.specs.Found.{AddsNothing, AddsOnly, Findable, FindsSame, HasMade, Holds, HoldsEither, Keeps, MayHaveMade}
+pub use Rattle.acceptor.specs.Found.{AddsNothing, AddsOnly, Findable, FindsSame, HasMade, Holds, HoldsEither, Keeps}
+pub use Rattle.acceptor.specs.Found.{MayHaveMade}
 pub use Rattle.acceptor.specs.declared.records.RecordsFault.{RecordsFault}
-pub use Rattle.acceptor_store.specs.Linked.{AreNumbersOf, CannotBeRead, Examines, FailsAnew, FindsContent, Had, HadIn, HasFurther, HasNumbers, HasStopped, IsFoundIn, IsHonest, IsIn, IsLeftWhole, IsLinked, IsRefused, IsServing, IsTested, IsToMake, Knows, Leaves, Linked, MakesReady, MayFind, MayFindIn, Reopens, SeesForeign, ServesNone, Stands, StaysAs, Tells, greatest_beside, held_of, is_clean_in, is_honest}
-pub use Rattle.acceptor_store.specs.Owning.{AdoptsFor, ExaminesFor, FindsFor, HadAs, HadBefore, HasFurtherAs, IsDue, IsDueBefore, IsLeftAs, IsLeftBefore, IsRefusedFor, Names, PreparesFor}
+pub use Rattle.acceptor_store.specs.Linked.{AreNumbersOf, CannotBeRead, Examines, FailsAnew, FindsContent, Had, HadIn}
+pub use Rattle.acceptor_store.specs.Linked.{HasFurther, HasNumbers, HasStopped, IsFoundIn, IsHonest, IsIn, IsLeftWhole}
+pub use Rattle.acceptor_store.specs.Linked.{IsLinked, IsRefused, IsServing, IsTested, IsToMake, Knows, Leaves, Linked}
+pub use Rattle.acceptor_store.specs.Linked.{MakesReady, MayFind, MayFindIn, Reopens, SeesForeign, ServesNone, Stands}
+pub use Rattle.acceptor_store.specs.Linked.{StaysAs, Tells, greatest_beside, held_of, is_clean_in, is_honest}
+pub use Rattle.acceptor_store.specs.Owning.{AdoptsFor, ExaminesFor, FindsFor, HadAs, HadBefore, HasFurtherAs, IsDue}
+pub use Rattle.acceptor_store.specs.Owning.{IsDueBefore, IsLeftAs, IsLeftBefore, IsRefusedFor, Names, PreparesFor}
 pub use Rattle.acceptor_store.specs.Stopped.{fault_of}
 pub use Rattle.acceptor_store.specs.declared.OpenFault.{OpenFault}
 pub use Rattle.acceptor_store.specs.declared.OpenFault.TheVariants.{Foreign}
 pub use Rattle.acceptor_store.specs.declared.known.Numbers.{Numbers}
 pub use Rattle.acceptor_store.specs.declared.owned.OwnerFault.{OwnerFault}
-pub use Rattle.acceptor_store.specs.declared.owned.OwnerFault.TheVariants.{Blank, Open, OtherMembers, OtherNode, Unowned}
-pub use Rattle.acceptor_store_parts.proofs.Callers.{all_learned_shown, all_rows, all_shown, as_version, content_once, one_content, serves_as, serves_for, tables_as, tables_for}
-pub use Rattle.acceptor_store_parts.specs.Foreign.{HasFacts, HoldsNone, HoldsNoneOwned, IsBroken, IsForeignSchema, IsUnowned}
+pub use Rattle.acceptor_store.specs.declared.owned.OwnerFault.TheVariants.{Blank, Open, OtherMembers, OtherNode}
+pub use Rattle.acceptor_store.specs.declared.owned.OwnerFault.TheVariants.{Unowned}
+pub use Rattle.acceptor_store_parts.proofs.Callers.{all_learned_shown, all_rows, all_shown, as_version, content_once}
+pub use Rattle.acceptor_store_parts.proofs.Callers.{one_content, serves_as, serves_for, tables_as, tables_for}
+pub use Rattle.acceptor_store_parts.specs.Foreign.{HasFacts, HoldsNone, HoldsNoneOwned, IsBroken, IsForeignSchema}
+pub use Rattle.acceptor_store_parts.specs.Foreign.{IsUnowned}
 pub use Rattle.acceptor_store_parts.specs.Making.{IsMade, MayBeMade}
 pub use Rattle.acceptor_store_parts.specs.Owned.{AreTablesFor, IsOwner, OwnedBy, owner_bytes, schema_for, version_for}
 pub use Rattle.acceptor_store_parts.specs.Rowids.{AreByRowid, AreShaped, IsReread, Rereads}
-pub use Rattle.acceptor_store_parts.specs.Serves.{DoesNotServe, HasWritten, IsOther, MayHaveWritten, Serves, ServesAs, ServesFor, StillServes}
+pub use Rattle.acceptor_store_parts.specs.Serves.{DoesNotServe, HasWritten, IsOther, MayHaveWritten, Serves, ServesAs}
+pub use Rattle.acceptor_store_parts.specs.Serves.{ServesFor, StillServes}
 pub use Rattle.acceptor_store_parts.specs.Stops.{LeavesOpen, leaves_open}
-pub use Rattle.acceptor_store_parts.specs.Stored.{AreTablesOf, HasLearned, IsCast, IsLearned, IsNumber, KeepsLearned, learned_row, numbers_of, vote_row}
+pub use Rattle.acceptor_store_parts.specs.Stored.{AreTablesOf, HasLearned, IsCast, IsLearned, IsNumber, KeepsLearned}
+pub use Rattle.acceptor_store_parts.specs.Stored.{learned_row, numbers_of, vote_row}
 pub use Rattle.acceptor_store_parts.specs.Tables.{blank_schema, schema_of}
 pub use Rattle.acceptor_store_parts.specs.Tests.{IsFault, IsTold, told_as}
 pub use Rattle.acceptor_store_parts.specs.declared.Stop.{Stop}

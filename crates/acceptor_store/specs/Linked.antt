@@ -1,5 +1,6 @@
 -- Records over a connection.
-use Rattle.std.specs.Prelude.{◌≡◌, ◌≢◌, ◌==◌, ℕ, max, map, List, [], ◌∷◌, if◌then◌else◌, Bool, true, false, ◌&&◌, Option, Some, None, ◌⊎◌, IsSome, IsTrue, refl}
+use Rattle.std.specs.Prelude.{◌≡◌, ◌≢◌, ◌==◌, ℕ, max, map, List, [], ◌∷◌, if◌then◌else◌, Bool, true, false, ◌&&◌}
+use Rattle.std.specs.Prelude.{Option, Some, None, ◌⊎◌, IsSome, IsTrue, refl}
 use Rattle.std.specs.Coded.{Coded, code_by, coded×, coded_bool, coded_ℕ, coded_option}
 use Rattle.ballots.specs.Ballots.{number_of}
 use Rattle.ballots.specs.declared.letters.Cast.{Cast}

@@ -12,7 +12,7 @@ use Rattle.acceptor_store_parts.specs.declared.Version.TheVariants.{Third}
 use Rattle.acceptor_store_parts.specs.declared.owner.Owner.{Owner}
 use Rattle.acceptor_store_parts.specs.Tables.{schema_of, blank_schema}
 use Rattle.acceptor_store_parts.specs.Stored.{IsOfNode}
-use Rattle.acceptor_store_parts.specs.Owned.{AreTablesFor, OwnedBy}
+use Rattle.acceptor_store_parts.specs.Owned.{AreTablesFor, IsOwner, OwnedBy}
 use Rattle.acceptor_store_parts.specs.Rowids.{IsReread}
 use Rattle.acceptor_store_parts.specs.Foreign.{HasFacts, IsBroken, IsForeignOwned, IsUnowned}
 use Rattle.acceptor_store_parts.specs.Serves.{ServesFor}
@@ -21,7 +21,7 @@ use Rattle.acceptor_store.specs.declared.OpenFault.{OpenFault}
 use Rattle.acceptor_store.specs.declared.OpenFault.TheVariants.{Refused, Broken, OutOfMemory, Foreign}
 use Rattle.acceptor_store.specs.declared.owned.OwnerFault.{OwnerFault}
 use Rattle.acceptor_store.specs.declared.owned.OwnerFault.TheVariants.{Open, Blank, Unowned, OtherNode, OtherMembers}
-use Rattle.acceptor_store.specs.Linked.{AreNumbersOf, FailsAnew, Had, HadIn, IsRefused, SeesForeign}
+use Rattle.acceptor_store.specs.Linked.{AreNumbersOf, FailsAnew, Had, HadIn, IsHonest, IsRefused, Linked, SeesForeign}
 
 -- the last commit holds this content, which a node wrote, in tables of this owner
 abbrev pub HadFor : {S : Type 0} → Ghosts S → Owner → Held S → Content → Type 0
@@ -51,8 +51,8 @@ Names g conn owner = ((state g conn).now.schema ≡ schema_of Third) × OwnedBy 
 abbrev pub IsDue : {S : Type 0} → Ghosts S → Owner → Bool → Held S → OwnerFault → Type 0
 IsDue g owner is_new conn Blank = ((state g conn).now.schema ≡ blank_schema) × (is_new ≡ false)
 IsDue g owner is_new conn Unowned = IsUnowned (state g conn).now.schema
-IsDue g owner is_new conn OtherNode = (other : Owner) × Names g conn other × (other.node ≢ owner.node)
-IsDue g owner is_new conn OtherMembers = (other : Owner) × Names g conn other × (other.node ≡ owner.node) × (other.members ≢ owner.members)
+IsDue g owner is_new conn (OtherNode other) = Names g conn other × (other.node ≢ owner.node)
+IsDue g owner is_new conn (OtherMembers other) = Names g conn other × (other.node ≡ owner.node) × (other.members ≢ owner.members)
 IsDue g owner is_new conn (Open Foreign) = IsForeignOwned (state g conn).now.schema (state g conn).committed.trees
 IsDue g owner is_new conn (Open Refused) = Unit {0}
 IsDue g owner is_new conn (Open Broken) = Unit {0}
@@ -85,8 +85,8 @@ PreparesFor g owner is_new old new numbers = (c : Content) × HadAs g owner is_n
 abbrev pub IsDueBefore : {S : Type 0} → Ghosts S → Owner → Held S → OwnerFault → Type 0
 IsDueBefore g owner conn Blank = (state g conn).now.schema ≡ blank_schema
 IsDueBefore g owner conn Unowned = ⊥
-IsDueBefore g owner conn OtherNode = IsDue g owner false conn OtherNode
-IsDueBefore g owner conn OtherMembers = IsDue g owner false conn OtherMembers
+IsDueBefore g owner conn (OtherNode other) = IsDue g owner false conn (OtherNode other)
+IsDueBefore g owner conn (OtherMembers other) = IsDue g owner false conn (OtherMembers other)
 IsDueBefore g owner conn (Open Foreign) = IsForeignOwned (state g conn).now.schema (state g conn).committed.trees ⊎ ((HasFacts (state g conn).now.schema → ⊥) × SeesForeign g conn)
 IsDueBefore g owner conn (Open Refused) = Unit {0}
 IsDueBefore g owner conn (Open Broken) = Unit {0}
@@ -96,13 +96,28 @@ IsDueBefore g owner conn (Open OutOfMemory) = Unit {0}
 abbrev pub AdoptsFor : {S : Type 0} → Ghosts S → Owner → Held S → Held S → Numbers → Type 0
 AdoptsFor g owner old new numbers = (c : Content) × HadBefore g owner old c × ServesFor (Some owner) (state g new) c × AreNumbersOf numbers c
 
--- another owner than the one that is wanted is told by what it differs in
+-- another owner than the one that is wanted is told, by what it differs in
 abbrev pub IsToldOther : Owner → Owner → OwnerFault → Type 0
-IsToldOther wanted found OtherNode = found.node ≢ wanted.node
-IsToldOther wanted found OtherMembers = (found.node ≡ wanted.node) × (found.members ≢ wanted.members)
+IsToldOther wanted found (OtherNode other) = (other ≡ found) × (found.node ≢ wanted.node)
+IsToldOther wanted found (OtherMembers other) = (other ≡ found) × (found.node ≡ wanted.node) × (found.members ≢ wanted.members)
 IsToldOther wanted found Blank = ⊥
 IsToldOther wanted found Unowned = ⊥
 IsToldOther wanted found (Open fault) = ⊥
+
+-- the last commit holds content that a node wrote, in tables of this owner, who is another than the one that is wanted
+abbrev pub IsOthers : {S : Type 0} → Ghosts S → Owner → Held S → Owner → Type 0
+IsOthers g wanted conn other =
+    ((state g conn).in_transaction ≡ false) × (other ≢ wanted) × IsOwner other × ((c : Content) × HadFor g other conn c)
+
+-- tables couldn't be read: for want of memory, by a store that broke, or by a disk that failed or refused
+abbrev pub FailsToRead : {S : Type 0} → Ghosts S → Held S → OwnerFault × S → Type 0
+FailsToRead g conn told =
+    (told.0 ≡ Open OutOfMemory) ⊎ ((told.0 ≡ Open Broken) ⊎ ((told.0 ≡ Open Refused) × ((version : Version) × FailsAnew g version conn told.1)))
+
+-- what is answered of such a database: it isn't opened, and it is told whose it is where it could be read
+abbrev pub TellsOther : {S : Type 0} → Ghosts S → Owner → Held S → Owner → Result (Linked S) (OwnerFault × S) → Type 0
+TellsOther g wanted conn other (Ok r) = ¬ IsHonest g r
+TellsOther g wanted conn other (Err told) = IsClean (g.view told.1) → IsToldOther wanted other told.0 ⊎ FailsToRead g conn told
 
 -- the store that a connection had, of which a crash leaves nothing else
 abbrev pub GivesBack : {S : Type 0} → Ghosts S → Held S → S → Type 0

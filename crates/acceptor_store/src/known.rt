@@ -7,7 +7,8 @@ ghost use Rattle.acceptor.specs.Content.{Content, after_write, greatest, no_cont
 ghost use Rattle.sqlite.specs.State.{HasCleanDisk, Survives};
 ghost use Rattle.sqlite.specs.Held.{state};
 ghost use Rattle.acceptor_store_parts.specs.Asked.{write_of};
-ghost use Rattle.acceptor_store_parts.specs.Serves.{ServesFor, StillServes, HasWritten, MayHaveWritten, DoesNotServe, StaysOpen};
+ghost use Rattle.acceptor_store_parts.specs.Serves.{ServesFor, StillServes, HasWritten, MayHaveWritten, DoesNotServe};
+ghost use Rattle.acceptor_store_parts.specs.Serves.{StaysOpen};
 ghost use Rattle.acceptor_store_parts.specs.Stops.{LeavesOpen};
 ghost use Rattle.acceptor_store.specs.Linked.{AreNumbersOf, greatest_beside};
 

@@ -25,7 +25,8 @@ ghost use Rattle.acceptor_store_parts.specs.Owned.{schema_for};
 ghost use Rattle.acceptor_store_parts.specs.Serves.{StillServes};
 ghost use Rattle.acceptor_store_parts.specs.Stops.{LeavesOpen, leaves_open};
 ghost use Rattle.acceptor_store.specs.Stopped.{answer_of};
-ghost use Rattle.acceptor_store.specs.Linked.{MayFind, IsHonest, is_clean_in, is_honest, CannotBeRead, IsServing, Tells};
+ghost use Rattle.acceptor_store.specs.Linked.{MayFind, IsHonest, is_clean_in, is_honest, CannotBeRead, IsServing};
+ghost use Rattle.acceptor_store.specs.Linked.{Tells};
 ghost use Rattle.acceptor_store.specs.Linked.{Had, HasFurther, IsFoundIn, IsLeftWhole, IsRefused, SeesForeign};
 
 use crate::anew::{end_unopened, opened_anew};

@@ -11,10 +11,12 @@ ghost use Rattle.sqlite_trees.specs.View.{IsClean, doubt};
 ghost use Rattle.acceptor_store_parts.specs.Foreign.{HoldsNone, IsForeignSchema};
 ghost use Rattle.acceptor_store_parts.specs.Rowids.{AreByRowid, IsReread};
 ghost use Rattle.acceptor_store_parts.specs.Tables.{schema_of};
-ghost use Rattle.acceptor_store_parts.specs.Stored.{HasLearned, KeepsLearned, IsCast, IsLearned, IsNumber, IsOfNode, learned_row, vote_row};
+ghost use Rattle.acceptor_store_parts.specs.Stored.{HasLearned, KeepsLearned, IsCast, IsLearned, IsNumber, IsOfNode};
+ghost use Rattle.acceptor_store_parts.specs.Stored.{learned_row, vote_row};
 ghost use Rattle.acceptor_store_parts.specs.Serves.{ServesAs, IsOther};
 ghost use Rattle.acceptor_store.specs.Stopped.{fault_of};
-ghost use Rattle.acceptor_store.specs.Linked.{HasFurther, Examines, MakesReady, SeesForeign, HasNumbers, HasStopped, StaysAs};
+ghost use Rattle.acceptor_store.specs.Linked.{HasFurther, Examines, MakesReady, SeesForeign, HasNumbers, HasStopped};
+ghost use Rattle.acceptor_store.specs.Linked.{StaysAs};
 ghost use Rattle.acceptor_store.specs.Linked.{FailsAnew, FindsContent, IsLeftWhole, IsRefused, IsToMake};
 
 use crate::OpenFault;

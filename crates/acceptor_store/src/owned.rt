@@ -1,6 +1,7 @@
 //! Records that have an owner: whose file it is stands in the file.
 
-ghost use Rattle.std.specs.Prelude.{◌≡◌, ◌≢◌, ◌≤◌, ◌⊎◌, Err, false, IfErr, IfNone, IfOk, IfSome, IsErrAnd, OnOk, IsTrue, Some};
+ghost use Rattle.std.specs.Prelude.{◌≡◌, ◌≢◌, ◌≤◌, ◌⊎◌, Err, false, IfErr, IfNone, IfOk, IfSome, IsErrAnd, OnOk};
+ghost use Rattle.std.specs.Prelude.{IsTrue, Some};
 ghost use Rattle.acceptor.specs.Content.{Content};
 ghost use Rattle.acceptor.specs.Found.{Holds};
 ghost use Rattle.sqlite.specs.State.{HasCleanDisk, Survives};
@@ -13,7 +14,8 @@ ghost use Rattle.acceptor_store_parts.specs.Rowids.{AreByRowid, IsReread};
 ghost use Rattle.acceptor_store_parts.specs.Tables.{blank_schema, schema_of};
 ghost use Rattle.acceptor_store.specs.Linked.{FailsAnew, HasStopped, IsHonest, MayFind, StaysAs, is_clean_in};
 ghost use Rattle.acceptor_store.specs.Owning.{AdoptsFor, Claims, ExaminesFor, FindsFor, HadAs, HadBefore, HasFurtherAs};
-ghost use Rattle.acceptor_store.specs.Owning.{IsDue, IsDueBefore, IsLeftAs, IsLeftBefore, IsRefusedBefore, IsRefusedFor, IsToldOther, PreparesFor};
+ghost use Rattle.acceptor_store.specs.Owning.{IsDue, IsDueBefore, IsLeftAs, IsLeftBefore, IsRefusedBefore};
+ghost use Rattle.acceptor_store.specs.Owning.{IsOthers, IsRefusedFor, IsToldOther, PreparesFor, TellsOther};
 
 use crate::known::Numbers;
 use crate::opening::{examined, is_of, prepared, stopped};
@@ -38,12 +40,12 @@ pub enum OwnerFault {
     /// The tables have no owner. `SqlRecords::adopt` gives them one.
     #[error("Unowned")]
     Unowned,
-    /// Another node is the owner.
+    /// Another node is the owner: this one.
     #[error("OtherNode")]
-    OtherNode,
-    /// The node is the owner, as one of other members.
+    OtherNode(Owner),
+    /// The node is the owner, as one of other members: of these.
     #[error("OtherMembers")]
-    OtherMembers,
+    OtherMembers(Owner),
 }
 
 impl From<OpenFault> for OwnerFault {
@@ -62,10 +64,10 @@ fn differs(found: Owner, wanted: Owner) -> Option<OwnerFault>
     ensures other { IfSome result (IsToldOther wanted found) }
 {
     if found.node != wanted.node {
-        return Some(OwnerFault::OtherNode);
+        return Some(OwnerFault::OtherNode(found));
     }
     if found.members != wanted.members {
-        return Some(OwnerFault::OtherMembers);
+        return Some(OwnerFault::OtherMembers(found));
     }
     None
 }
@@ -293,6 +295,8 @@ impl<S: OpensAnew> SqlRecords<S> {
         ensures due { IfErr result (λ e. IsClean (S.Store.view e.1) → IsDue S.Store (record { node = node; members = members }) is_new conn e.0) }
         ensures refused { IfErr result (λ e. e.0 ≡ OwnerFault.Open OpenFault.Refused → IsClean (S.Store.view e.1) → IsRefusedFor S.Store conn e.1) }
         ensures used { IsTrue (state S.Store conn).in_transaction → IsErrAnd result (λ e. e.0 ≡ OwnerFault.Open OpenFault.Refused) }
+        ensures other { (other : Owner) → IsOthers S.Store (record { node = node; members = members }) conn other
+            → TellsOther S.Store (record { node = node; members = members }) conn other result }
         ensures blank { (state S.Store conn).in_transaction ≡ false → (state S.Store conn).now.schema ≡ blank_schema → is_new ≡ false
             → IsErrAnd result (λ e. e.0 ≡ OwnerFault.Blank) }
         ensures broken { (state S.Store conn).in_transaction ≡ false → IsBroken (state S.Store conn).now.schema
@@ -334,6 +338,8 @@ impl<S: OpensAnew> SqlRecords<S> {
         ensures due { IfErr result (λ e. IsClean (S.Store.view e.1) → IsDueBefore S.Store (record { node = node; members = members }) conn e.0) }
         ensures refused { IfErr result (λ e. e.0 ≡ OwnerFault.Open OpenFault.Refused → IsClean (S.Store.view e.1) → IsRefusedBefore S.Store conn e.1) }
         ensures used { IsTrue (state S.Store conn).in_transaction → IsErrAnd result (λ e. e.0 ≡ OwnerFault.Open OpenFault.Refused) }
+        ensures other { (other : Owner) → IsOthers S.Store (record { node = node; members = members }) conn other
+            → TellsOther S.Store (record { node = node; members = members }) conn other result }
         ensures blank { (state S.Store conn).in_transaction ≡ false → (state S.Store conn).now.schema ≡ blank_schema
             → IsErrAnd result (λ e. e.0 ≡ OwnerFault.Blank) }
     {

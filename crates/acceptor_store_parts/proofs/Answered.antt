@@ -1,10 +1,15 @@
 -- Votes and learned values, as queries show them.
 use Rattle.std.proofs.Common.{◌≡◌, ℕ, pos, List, [], ◌∷◌, map, Option, Result, IfOk, refl}
-use Rattle.acceptor_store_parts.proofs.Words.{IfOk-weaker, Cast, Content, Error, Null, Int, Blob, Row, overlay, State, Version, First, Second, Third, Owner, Asked, VoteAt, VotesFrom, LearnedAt, LearnedFrom, shown_of, all_votes_query, all_learned_query, vote_shown, learned_row, learned_shown, KeepsLearned, HasLearned, Serves, ServesFor, ServesAs}
+use Rattle.acceptor_store_parts.proofs.Words.{IfOk-weaker, Cast, Content, Error, Null, Int, Blob, Row, overlay, State}
+use Rattle.acceptor_store_parts.proofs.Words.{Version, First, Second, Third, Owner, Asked, VoteAt, VotesFrom, LearnedAt}
+use Rattle.acceptor_store_parts.proofs.Words.{LearnedFrom, shown_of, all_votes_query, all_learned_query, vote_shown}
+use Rattle.acceptor_store_parts.proofs.Words.{learned_row, learned_shown, KeepsLearned, HasLearned, Serves, ServesFor}
+use Rattle.acceptor_store_parts.proofs.Words.{ServesAs}
 use Rattle.sqlite.specs.Tree.{Trees}
 use Rattle.sqlite.specs.State.{Shown}
 use Rattle.acceptor_store_parts.specs.Asked.{text_of}
-use Rattle.acceptor_store_parts.proofs.Meaning.{two_columns, three_columns, asked_is, all_votes_query_is, all_learned_is, plain, reads}
+use Rattle.acceptor_store_parts.proofs.Meaning.{two_columns, three_columns, asked_is, all_votes_query_is}
+use Rattle.acceptor_store_parts.proofs.Meaning.{all_learned_is, plain, reads}
 use Rattle.acceptor_store_parts.proofs.Kept.{AlwaysPlain}
 use Rattle.acceptor_store_parts.proofs.Places.{rising}
 use Rattle.acceptor_store_parts.proofs.RowsShown.{shown_from, shown_at, shown_all}

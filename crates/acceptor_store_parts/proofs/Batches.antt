@@ -1,9 +1,13 @@
 -- What a transaction makes of a node's writes, and what is there where it is undone.
-use Rattle.std.proofs.Common.{◌≡◌, inl, inr, ℕ, suc, List, take, Some, Option, Ok, Err, Result, IsTrue, IfErr, OnErr, refl, sym, ap, subst, ◌∙◌, arith, slice_get, true, false}
+use Rattle.std.proofs.Common.{◌≡◌, inl, inr, ℕ, suc, List, take, Some, Option, Ok, Err, Result, IsTrue, IfErr, OnErr}
+use Rattle.std.proofs.Common.{refl, sym, ap, subst, ◌∙◌, arith, slice_get, true, false}
 use Rattle.node_writes.specs.declared.write_bytes.WriteBytes.{WriteBytes}
 use Rattle.node_writes.specs.Writes.{SpellsOf}
 use Rattle.node_writes.proofs.Callers.{lead_next}
-use Rattle.acceptor_store_parts.proofs.Words.{Write, after_write, Error, Database, State, Ghosts, Held, state, HasCleanDisk, Survives, Shows, IsRolledBack, AreTablesFor, StillServes, survives_begin, survives_then, HasWrittenAll, MayHaveWrittenAll, PutsAllInside, PutsInside}
+use Rattle.acceptor_store_parts.proofs.Words.{Write, after_write, Error, Database, State, Ghosts, Held, state}
+use Rattle.acceptor_store_parts.proofs.Words.{HasCleanDisk, Survives, Shows, IsRolledBack, AreTablesFor, StillServes}
+use Rattle.acceptor_store_parts.proofs.Words.{survives_begin, survives_then, HasWrittenAll, MayHaveWrittenAll}
+use Rattle.acceptor_store_parts.proofs.Words.{PutsAllInside, PutsInside}
 use Rattle.acceptor_store_parts.proofs.Makes.{served_after}
 use Rattle.sqlite.specs.State.{KeepsCommit}
 use Rattle.sqlite.specs.Steps.{FailsToCommit}

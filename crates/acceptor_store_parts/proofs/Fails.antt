@@ -1,10 +1,16 @@
 -- Why a query of a whole table fails.
-use Rattle.std.proofs.Common.{◌≡◌, inl, inr, List, [], ◌≤◌, length, true, Ok, Err, Result, IfErr, ℕ, None, refl, sym, ap, subst, ◌∙◌, le_refl}
-use Rattle.acceptor_store_parts.proofs.Words.{accepts_program, ProgramOverflows, timed, Schema, Term, Database, misses_table, IsSourceOf, Compiled, State, HasCause, IsNoStatement, FailsToShow, store_error, Error, StoreError, OutOfMemory, Io, Corrupt, Full, Broken, Unstorable, Version, First, Second, Third, KeepsLearned, schema_of, IsFault}
+use Rattle.std.proofs.Common.{◌≡◌, inl, inr, List, [], ◌≤◌, length, true, Ok, Err, Result, IfErr, ℕ, None, refl, sym}
+use Rattle.std.proofs.Common.{ap, subst, ◌∙◌, le_refl}
+use Rattle.acceptor_store_parts.proofs.Words.{accepts_program, ProgramOverflows, timed, Schema, Term, Database}
+use Rattle.acceptor_store_parts.proofs.Words.{misses_table, IsSourceOf, Compiled, State, HasCause, IsNoStatement}
+use Rattle.acceptor_store_parts.proofs.Words.{FailsToShow, store_error, Error, StoreError, OutOfMemory, Io, Corrupt}
+use Rattle.acceptor_store_parts.proofs.Words.{Full, Broken, Unstorable, Version, First, Second, Third, KeepsLearned}
+use Rattle.acceptor_store_parts.proofs.Words.{schema_of, IsFault}
 use Rattle.sqlite.specs.Tree.{Trees}
 use Rattle.sqlite.specs.Listing.{understood}
 use Rattle.sqlite.specs.State.{IsNotRun, FailsToQuery}
-use Rattle.acceptor_store_parts.proofs.Meaning.{Means, compiled_as, known, select, rows_query, both_query, all_query, all_learned_meaning, facts_meaning}
+use Rattle.acceptor_store_parts.proofs.Meaning.{Means, compiled_as, known, select, rows_query, both_query, all_query}
+use Rattle.acceptor_store_parts.proofs.Meaning.{all_learned_meaning, facts_meaning}
 
 pub numbers_typed : (version : Version) → accepts_program (schema_of version) [] both_query [] ≡ true
 numbers_typed First = refl

@@ -1,7 +1,8 @@
 -- What a query by ascending rowid shows of a table: the rows that its terms let pass, in their order.
 use Rattle.std.proofs.Common.{◌≡◌, inl, inr, ℕ, List, [], ◌∷◌, map, Bool, refl, ap, subst, ◌∙◌}
 use Rattle.std.specs.List.{filter, list_all}
-use Rattle.acceptor_store_parts.proofs.Words.{IsPermutation, Less, cases_Bool, Row, value_cmp, Output, IsAnswer, IsTable, Query, matches, output, output_cmp, inner, end, Term}
+use Rattle.acceptor_store_parts.proofs.Words.{IsPermutation, Less, cases_Bool, Row, value_cmp, Output, IsAnswer}
+use Rattle.acceptor_store_parts.proofs.Words.{IsTable, Query, matches, output, output_cmp, inner, end, Term}
 use Rattle.sqlite_sql.specs.Term.{eval_all, holds}
 use Rattle.sqlite_sql.proofs.QueryLemmas.{output_cmp_total}
 use Rattle.sqlite_keyed.proofs.ListLemmas.{ascending-filter, ascending-map, ascending_weaker, map-map}

@@ -1,6 +1,10 @@
 -- What a call leaves that read, or failed.
-use Rattle.std.proofs.Common.{◌≡◌, ◌⊎◌, inl, inr, ℕ, List, false, Some, None, Option, Ok, Err, Result, IsTrue, OnOk, IfOk, IfErr, sym, ap, subst, ◌∙◌}
-use Rattle.acceptor_store_parts.proofs.Words.{cases_Bool, Content, Returning, Error, Row, Database, Schema, Compiled, State, Executes, RunsCommand, shows_rows, ShowsRows, IsUnchanged, IsRolledBack, IsPlain, never_commits, Owner, AreTablesFor, schema_for, ServesFor, StillServes, Stays}
+use Rattle.std.proofs.Common.{◌≡◌, ◌⊎◌, inl, inr, ℕ, List, false, Some, None, Option, Ok, Err, Result, IsTrue, OnOk}
+use Rattle.std.proofs.Common.{IfOk, IfErr, sym, ap, subst, ◌∙◌}
+use Rattle.acceptor_store_parts.proofs.Words.{cases_Bool, Content, Returning, Error, Row, Database, Schema, Compiled}
+use Rattle.acceptor_store_parts.proofs.Words.{State, Executes, RunsCommand, shows_rows, ShowsRows, IsUnchanged}
+use Rattle.acceptor_store_parts.proofs.Words.{IsRolledBack, IsPlain, never_commits, Owner, AreTablesFor, schema_for}
+use Rattle.acceptor_store_parts.proofs.Words.{ServesFor, StillServes, Stays}
 use Rattle.sqlite.specs.Listing.{understood}
 use Rattle.sqlite.specs.State.{CommitsShowing, ExecutesIn, FailsToQuery, IsNotRun, Shown}
 use Rattle.sqlite.specs.Tree.{Trees}

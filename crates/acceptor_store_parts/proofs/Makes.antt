@@ -1,12 +1,26 @@
 -- What the texts make that make the tables.
-use Rattle.std.proofs.Common.{◌≡◌, ℕ, ◌/◌, List, [], ◌∷◌, length, map, pos, true, false, Option, Some, None, Ok, Err, Result, OnOk, refl, sym, ap, subst, ◌∙◌, arith}
-use Rattle.acceptor_store_parts.proofs.Words.{Row, Schema, Values, Replace, Int, Insert, InsertOr, CreateTable, created, next_tree, KeepsRows, Tally, Does, lacks_sequence, put_row, Database, value_rows, Term, table_defined_by, State, HasCleanDisk, Survives, Writes, Executes, Shows, Ghosts, Held, state, mode_of, edited, with_rowid, cast_row, Written, value_cmp-Int, Content, IsSound, no_content, Owner, number_row, vote_row, learned_row, fact_row, fact_shown, three, AreTablesOf, AreTablesFor, owner_bytes, schema_for, one_step, statement_of, survives_begin, survives_then, schema_of, blank_schema, ballot_table, vote_table, learned_table, fact_table, ballot_text, vote_text, learned_text, fact_text, fact_put, version_put, First, Second, Third, ServesFor, HoldsFor}
+use Rattle.std.proofs.Common.{◌≡◌, ℕ, ◌/◌, List, [], ◌∷◌, length, map, pos, true, false, Option, Some, None, Ok, Err}
+use Rattle.std.proofs.Common.{Result, OnOk, refl, sym, ap, subst, ◌∙◌, arith}
+use Rattle.acceptor_store_parts.proofs.Words.{Row, Schema, Values, Replace, Int, Insert, InsertOr, CreateTable, created}
+use Rattle.acceptor_store_parts.proofs.Words.{next_tree, KeepsRows, Tally, Does, lacks_sequence, put_row, Database}
+use Rattle.acceptor_store_parts.proofs.Words.{value_rows, Term, table_defined_by, State, HasCleanDisk, Survives, Writes}
+use Rattle.acceptor_store_parts.proofs.Words.{Executes, Shows, Ghosts, Held, state, mode_of, edited, with_rowid}
+use Rattle.acceptor_store_parts.proofs.Words.{cast_row, Written, value_cmp-Int, Content, IsSound, no_content, Owner}
+use Rattle.acceptor_store_parts.proofs.Words.{number_row, vote_row, learned_row, fact_row, fact_shown, three}
+use Rattle.acceptor_store_parts.proofs.Words.{AreTablesOf, AreTablesFor, owner_bytes, schema_for, one_step}
+use Rattle.acceptor_store_parts.proofs.Words.{statement_of, survives_begin, survives_then, schema_of, blank_schema}
+use Rattle.acceptor_store_parts.proofs.Words.{ballot_table, vote_table, learned_table, fact_table, ballot_text}
+use Rattle.acceptor_store_parts.proofs.Words.{vote_text, learned_text, fact_text, fact_put, version_put, First, Second}
+use Rattle.acceptor_store_parts.proofs.Words.{Third, ServesFor, HoldsFor}
 use Rattle.sqlite.specs.Tree.{Trees}
 use Rattle.sqlite.specs.Listing.{understood}
 use Rattle.sqlite.specs.Table.{Table}
 use Rattle.sqlite.specs.Edit.{edit_of}
 use Rattle.sqlite.specs.Rowids.TheVariants.{Chosen}
-use Rattle.acceptor_store_parts.proofs.Meaning.{Means, compiled_as, known, runs, ballot_schema, numbers_put, number_terms, numbers_terms, learned_terms, second_put, second_terms, create_ballot_is, create_vote_is, create_learned_is, numbers_put_is, second_put_is, create_fact_is, fact_put_is, version_put_is}
+use Rattle.acceptor_store_parts.proofs.Meaning.{Means, compiled_as, known, runs, ballot_schema, numbers_put}
+use Rattle.acceptor_store_parts.proofs.Meaning.{number_terms, numbers_terms, learned_terms, second_put, second_terms}
+use Rattle.acceptor_store_parts.proofs.Meaning.{create_ballot_is, create_vote_is, create_learned_is, numbers_put_is}
+use Rattle.acceptor_store_parts.proofs.Meaning.{second_put_is, create_fact_is, fact_put_is, version_put_is}
 use Rattle.acceptor_store_parts.proofs.Writes.{PutsRow, cast_number, put_number, put_fact, first_fact, puts_version}
 use Rattle.acceptor_store_parts.proofs.Puts.{went, same_value}
 

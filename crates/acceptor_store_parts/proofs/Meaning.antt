@@ -1,7 +1,17 @@
 -- What the statements mean.
-use Rattle.std.proofs.Common.{◌≡◌, refl, sym, ap, subst, Ok, false, [], List, ◌∷◌, length, pos, negsuc, Option, Some, None, codes, ℕ}
+use Rattle.std.proofs.Common.{◌≡◌, refl, sym, ap, subst, Ok, false, [], List, ◌∷◌, length, pos, negsuc, Option, Some}
+use Rattle.std.proofs.Common.{None, codes, ℕ}
 use Rattle.sqlite_tied.specs.Compute.{everything}
-use Rattle.acceptor_store_parts.proofs.Words.{Eq, Ge, Binary, misses_table, Row, Reads, State, Executes, Runs, compiled, Compiled, Command, Replace, Select, Insert, InsertOr, CreateTable, table_defined_by, Schema, Values, Null, Int, Query, inner, end, Term, lit, col, op2, IsPlain, command_of, statement_of, runs_as, reads_as, Version, First, Second, Third, Owner, KeepsLearned, schema_for, Asked, VoteAt, VotesFrom, LearnedAt, LearnedFrom, schema_of, blank_schema, ballot_table, vote_table, learned_table, fact_table, ballot_text, vote_text, learned_text, fact_text, tried_put, promised_put, vote_put, learned_put, fact_put, version_put, numbers_query, all_votes_query, all_learned_query, facts_query}
+use Rattle.acceptor_store_parts.proofs.Words.{Eq, Ge, Binary, misses_table, Row, Reads, State, Executes, Runs, compiled}
+use Rattle.acceptor_store_parts.proofs.Words.{Compiled, Command, Replace, Select, Insert, InsertOr, CreateTable}
+use Rattle.acceptor_store_parts.proofs.Words.{table_defined_by, Schema, Values, Null, Int, Query, inner, end, Term, lit}
+use Rattle.acceptor_store_parts.proofs.Words.{col, op2, IsPlain, command_of, statement_of, runs_as, reads_as, Version}
+use Rattle.acceptor_store_parts.proofs.Words.{First, Second, Third, Owner, KeepsLearned, schema_for, Asked, VoteAt}
+use Rattle.acceptor_store_parts.proofs.Words.{VotesFrom, LearnedAt, LearnedFrom, schema_of, blank_schema, ballot_table}
+use Rattle.acceptor_store_parts.proofs.Words.{vote_table, learned_table, fact_table, ballot_text, vote_text}
+use Rattle.acceptor_store_parts.proofs.Words.{learned_text, fact_text, tried_put, promised_put, vote_put, learned_put}
+use Rattle.acceptor_store_parts.proofs.Words.{fact_put, version_put, numbers_query, all_votes_query, all_learned_query}
+use Rattle.acceptor_store_parts.proofs.Words.{facts_query}
 use Rattle.sqlite_sql.specs.declared.ops.BinaryOp.TheVariants as by
 use Rattle.sqlite.specs.Listing.{understood}
 use Rattle.sqlite.specs.State.{Shown}

@@ -1,6 +1,8 @@
 -- The numbers, as the query shows them.
 use Rattle.std.proofs.Common.{◌≡◌, ℕ, pos, List, [], ◌∷◌, Result, refl, IfOk, lit<}
-use Rattle.acceptor_store_parts.proofs.Words.{IfOk-weaker, Content, Error, Null, Int, Row, overlay, State, Version, First, Second, Third, numbers_query, number_shown, numbers_of, numbers_shown, three, ServesAs}
+use Rattle.acceptor_store_parts.proofs.Words.{IfOk-weaker, Content, Error, Null, Int, Row, overlay, State, Version}
+use Rattle.acceptor_store_parts.proofs.Words.{First, Second, Third, numbers_query, number_shown, numbers_of}
+use Rattle.acceptor_store_parts.proofs.Words.{numbers_shown, three, ServesAs}
 use Rattle.sqlite.specs.State.{Shown}
 use Rattle.acceptor_store_parts.proofs.Meaning.{two_columns, numbers_query_is, reads}
 use Rattle.acceptor_store_parts.proofs.Rising.{IsRisingBy}

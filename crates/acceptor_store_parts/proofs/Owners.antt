@@ -1,6 +1,9 @@
 -- Tables for an owner are tables of its version.
 use Rattle.std.proofs.Common.{◌≡◌, List, [], ◌∷◌, Option, Some, None, Result, IfOk, refl, sym, subst}
-use Rattle.acceptor_store_parts.proofs.Words.{IfOk-weaker, Content, Schema, Error, Null, Blob, Row, overlay, State, IsPlain, Version, Second, Third, Owner, schema_of, facts_query, AreTablesOf, fact_shown, AreTablesFor, IsOwnedBy, OwnedBy, owner_bytes, schema_for, version_for, ServesAs, ServesFor}
+use Rattle.acceptor_store_parts.proofs.Words.{IfOk-weaker, Content, Schema, Error, Null, Blob, Row, overlay, State}
+use Rattle.acceptor_store_parts.proofs.Words.{IsPlain, Version, Second, Third, Owner, schema_of, facts_query}
+use Rattle.acceptor_store_parts.proofs.Words.{AreTablesOf, fact_shown, AreTablesFor, IsOwnedBy, OwnedBy, owner_bytes}
+use Rattle.acceptor_store_parts.proofs.Words.{schema_for, version_for, ServesAs, ServesFor}
 use Rattle.sqlite.specs.Tree.{Trees}
 use Rattle.sqlite.specs.State.{Shown}
 use Rattle.sqlite.specs.Listing.{understood}

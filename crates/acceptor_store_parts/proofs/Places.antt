@@ -1,6 +1,8 @@
 -- Rows by ascending place, and one put among them.
-use Rattle.std.proofs.Common.{◌≡◌, inl, inr, ℕ, ◌+◌, ◌<◌, ◌≤◌, List, [], ◌∷◌, ◌++◌, nat_lt, nat_le, refl, sym, ap, ◌∙◌, arith, true, false}
-use Rattle.acceptor_store_parts.proofs.Words.{AllByRecursion, nat_tests, put, rows_from, put_before, put_here, put_after, AreRowsFrom}
+use Rattle.std.proofs.Common.{◌≡◌, inl, inr, ℕ, ◌+◌, ◌<◌, ◌≤◌, List, [], ◌∷◌, ◌++◌, nat_lt, nat_le, refl, sym, ap, ◌∙◌}
+use Rattle.std.proofs.Common.{arith, true, false}
+use Rattle.acceptor_store_parts.proofs.Words.{AllByRecursion, nat_tests, put, rows_from, put_before, put_here}
+use Rattle.acceptor_store_parts.proofs.Words.{put_after, AreRowsFrom}
 use Rattle.std.specs.List.{filter}
 use Rattle.ballots.proofs.Callers.{in_order}
 use Rattle.acceptor_store_parts.proofs.Rising.{IsRisingBy}

@@ -1,6 +1,10 @@
 -- A row put into a table whose rows rise by their keys.
-use Rattle.std.proofs.Common.{◌≡◌, ◌≢◌, inl, inr, ℕ, pos, ◌<◌, List, [], ◌∷◌, ◌++◌, map, true, false, nat_lt, ◌==◌, not, None, refl, sym, ap, subst, ◌∙◌, arith}
-use Rattle.acceptor_store_parts.proofs.Words.{AllByRecursion, Less, Equal, Greater, ints, cases_lt, cases_eq, eq-eqb, eqb-true, nat_tests, without_all, id_in, Has, AreConflicts, conflicts, ids_of, value_cmp-Int, Int, Row, value_cmp, put_row, has_rowid, without_rowid}
+use Rattle.std.proofs.Common.{◌≡◌, ◌≢◌, inl, inr, ℕ, pos, ◌<◌, List, [], ◌∷◌, ◌++◌, map, true, false, nat_lt, ◌==◌, not}
+use Rattle.std.proofs.Common.{None, refl, sym, ap, subst, ◌∙◌, arith}
+use Rattle.acceptor_store_parts.proofs.Words.{AllByRecursion, Less, Equal, Greater, ints, cases_lt, cases_eq, eq-eqb}
+use Rattle.acceptor_store_parts.proofs.Words.{eqb-true, nat_tests, without_all, id_in, Has, AreConflicts, conflicts}
+use Rattle.acceptor_store_parts.proofs.Words.{ids_of, value_cmp-Int, Int, Row, value_cmp, put_row, has_rowid}
+use Rattle.acceptor_store_parts.proofs.Words.{without_rowid}
 use Rattle.std.specs.List.{filter}
 use Rattle.acceptor_store_parts.proofs.Rising.{IsRisingBy}
 use Rattle.acceptor_store_parts.proofs.Filters.{none_below, all_above, all_others, lower}

@@ -1,11 +1,15 @@
 -- What queries show of a table whose rows rise by their rowids.
-use Rattle.std.proofs.Common.{◌≡◌, inl, inr, ℕ, pos, ◌==◌, ◌<◌, List, [], ◌∷◌, map, Bool, nat_le, true, false, refl, sym, ap, subst, ◌∙◌, arith}
+use Rattle.std.proofs.Common.{◌≡◌, inl, inr, ℕ, pos, ◌==◌, ◌<◌, List, [], ◌∷◌, map, Bool, nat_le, true, false, refl}
+use Rattle.std.proofs.Common.{sym, ap, subst, ◌∙◌, arith}
 use Rattle.std.specs.List.{filter}
 use Rattle.std.proofs.Math.Bool.{and-true}
-use Rattle.acceptor_store_parts.proofs.Words.{int_cmp, Less, Equal, Greater, cases_lt, cases_eq, nat_tests, ints, rows_from, Eq, Ge, value_cmp-Int, Binary, Int, Row, value_cmp, is_true, IsAnswer, IsTable, Term}
+use Rattle.acceptor_store_parts.proofs.Words.{int_cmp, Less, Equal, Greater, cases_lt, cases_eq, nat_tests, ints}
+use Rattle.acceptor_store_parts.proofs.Words.{rows_from, Eq, Ge, value_cmp-Int, Binary, Int, Row, value_cmp, is_true}
+use Rattle.acceptor_store_parts.proofs.Words.{IsAnswer, IsTable, Term}
 use Rattle.sqlite_sql.specs.declared.ops.BinaryOp.TheVariants as by
 use Rattle.sqlite_sql.specs.Term.{eval_all}
-use Rattle.sqlite_keyed.proofs.ListLemmas.{ascending-map, ascending_weaker, filter-map, filter_all, filter_same, all_of, map-map, map_same}
+use Rattle.sqlite_keyed.proofs.ListLemmas.{ascending-map, ascending_weaker, filter-map, filter_all, filter_same, all_of}
+use Rattle.sqlite_keyed.proofs.ListLemmas.{map-map, map_same}
 use Rattle.sqlite.specs.Ops.{binary}
 use Rattle.sqlite.specs.Tree.{Trees, rowid}
 use Rattle.acceptor_store_parts.proofs.Meaning.{rows_query, is_from, is_at}

@@ -1,6 +1,8 @@
 -- Votes and learned values by the rows that show them.
-use Rattle.std.proofs.Common.{◌≡◌, ℕ, List, [], ◌∷◌, map, ◌==◌, filter, Some, true, false, refl, sym, ◌∙◌, arith, inl, inr}
-use Rattle.acceptor_store_parts.proofs.Words.{nat_tests, Cast, at, at_here, at_before, at_after, vote_shown, learned_shown, first_of}
+use Rattle.std.proofs.Common.{◌≡◌, ℕ, List, [], ◌∷◌, map, ◌==◌, filter, Some, true, false, refl, sym, ◌∙◌, arith, inl}
+use Rattle.std.proofs.Common.{inr}
+use Rattle.acceptor_store_parts.proofs.Words.{nat_tests, Cast, at, at_here, at_before, at_after, vote_shown}
+use Rattle.acceptor_store_parts.proofs.Words.{learned_shown, first_of}
 use Rattle.ballots.proofs.Callers.{in_order}
 use Rattle.acceptor_store_parts.proofs.Images.{same_lists}
 

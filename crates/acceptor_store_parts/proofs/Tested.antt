@@ -1,6 +1,7 @@
 -- What a test of a connection tells.
 use Rattle.std.proofs.Common.{◌≡◌, inl, inr, ℕ, List, true, false, Some, sym, ap, ◌∙◌}
-use Rattle.acceptor_store_parts.proofs.Words.{Row, State, HasCause, IsUnchanged, store_error, Error, StoreError, OutOfMemory, Io, Corrupt, Full, Broken, Unstorable, IsShutBy, tells_open}
+use Rattle.acceptor_store_parts.proofs.Words.{Row, State, HasCause, IsUnchanged, store_error, Error, StoreError}
+use Rattle.acceptor_store_parts.proofs.Words.{OutOfMemory, Io, Corrupt, Full, Broken, Unstorable, IsShutBy, tells_open}
 use Rattle.sqlite.specs.State.{IsNotRun}
 
 no_cause : (old new : State) (cause : StoreError) → HasCause old new ⊥ cause → tells_open (store_error cause) ≡ Some true → ⊥

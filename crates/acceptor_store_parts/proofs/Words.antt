@@ -4,12 +4,22 @@ pub use Rattle.acceptor.specs.Content.{AreRowsFrom, AreValues, Content, IsSound,
 pub use Rattle.acceptor.specs.Content.Write.{Learns, Promises, Votes}
 pub use Rattle.acceptor_store_parts.specs.Asked.{shown_of}
 pub use Rattle.acceptor_store_parts.specs.Batch.{HasWrittenAll, MayHaveWrittenAll, PutsAllInside, PutsInside}
-pub use Rattle.acceptor_store_parts.specs.Making.{HoldsFirst, HoldsFor, IsBlank, IsMade, Makes, MayBeMade, Was, owner_then}
-pub use Rattle.acceptor_store_parts.specs.Owned.{AreTablesFor, IsOwnedBy, OwnedBy, number_for, owner_bytes, schema_for, version_for}
-pub use Rattle.acceptor_store_parts.specs.Rowids.{AreByRowid, AreShaped, ShowsFacts, ShowsLearned, ShowsNumbers, ShowsVotes}
-pub use Rattle.acceptor_store_parts.specs.Serves.{DoesNotServe, HasWritten, MayHaveWritten, Serves, ServesAs, ServesFor, Stays, StillServes}
-pub use Rattle.acceptor_store_parts.specs.Stored.{AreTablesOf, HasLearned, IsCast, IsLearned, KeepsLearned, fact_row, fact_shown, first_of, learned_row, learned_shown, number_row, number_shown, numbers_of, numbers_shown, three, vote_row, vote_shown}
-pub use Rattle.acceptor_store_parts.specs.Tables.{all_learned_query, all_votes_query, ballot_table, ballot_text, blank_schema, fact_put, fact_table, fact_text, facts_query, learned_put, learned_table, learned_text, numbers_query, promised_put, schema_of, strict_table, tried_put, version_put, vote_put, vote_table, vote_text}
+pub use Rattle.acceptor_store_parts.specs.Making.{HoldsFirst, HoldsFor, IsBlank, IsMade, Makes, MayBeMade, Was}
+pub use Rattle.acceptor_store_parts.specs.Making.{owner_then}
+pub use Rattle.acceptor_store_parts.specs.Owned.{AreTablesFor, IsOwnedBy, OwnedBy, number_for, owner_bytes, schema_for}
+pub use Rattle.acceptor_store_parts.specs.Owned.{version_for}
+pub use Rattle.acceptor_store_parts.specs.Rowids.{AreByRowid, AreShaped, ShowsFacts, ShowsLearned, ShowsNumbers}
+pub use Rattle.acceptor_store_parts.specs.Rowids.{ShowsVotes}
+pub use Rattle.acceptor_store_parts.specs.Serves.{DoesNotServe, HasWritten, MayHaveWritten, Serves, ServesAs, ServesFor}
+pub use Rattle.acceptor_store_parts.specs.Serves.{Stays, StillServes}
+pub use Rattle.acceptor_store_parts.specs.Stored.{AreTablesOf, HasLearned, IsCast, IsLearned, KeepsLearned, fact_row}
+pub use Rattle.acceptor_store_parts.specs.Stored.{fact_shown, first_of, learned_row, learned_shown, number_row}
+pub use Rattle.acceptor_store_parts.specs.Stored.{number_shown, numbers_of, numbers_shown, three, vote_row, vote_shown}
+pub use Rattle.acceptor_store_parts.specs.Tables.{all_learned_query, all_votes_query, ballot_table, ballot_text}
+pub use Rattle.acceptor_store_parts.specs.Tables.{blank_schema, fact_put, fact_table, fact_text, facts_query}
+pub use Rattle.acceptor_store_parts.specs.Tables.{learned_put, learned_table, learned_text, numbers_query, promised_put}
+pub use Rattle.acceptor_store_parts.specs.Tables.{schema_of, strict_table, tried_put, version_put, vote_put, vote_table}
+pub use Rattle.acceptor_store_parts.specs.Tables.{vote_text}
 pub use Rattle.acceptor_store_parts.specs.Tests.{IsFault, IsShutBy, tells_open}
 pub use Rattle.acceptor_store_parts.specs.declared.Version.{Version}
 pub use Rattle.acceptor_store_parts.specs.declared.Version.TheVariants.{First, Second, Third}
@@ -20,7 +30,8 @@ pub use Rattle.ballots.proofs.Callers.{at_after, at_before, at_here, put_after, 
 pub use Rattle.ballots.specs.Limits.{IsPlace, IsValue}
 pub use Rattle.ballots.specs.Rows.{at, put, rows_from}
 pub use Rattle.ballots.specs.declared.letters.Cast.{Cast}
-pub use Rattle.sqlite.proofs.Callers.{IsPlain, command_of, never_commits, one_step, reads_as, runs_as, statement_of, survives_begin}
+pub use Rattle.sqlite.proofs.Callers.{IsPlain, command_of, never_commits, one_step, reads_as, runs_as, statement_of}
+pub use Rattle.sqlite.proofs.Callers.{survives_begin}
 pub use Rattle.sqlite.proofs.StateLemmas.{survives_then, survives_weaker}
 pub use Rattle.sqlite.proofs.StreamLemmas.{is_open_now}
 pub use Rattle.sqlite.specs.Change.{KeepsRows, created, next_tree}
@@ -38,10 +49,13 @@ pub use Rattle.sqlite.specs.Ops.{is_true}
 pub use Rattle.sqlite.specs.Order.{Row, column, value_cmp}
 pub use Rattle.sqlite.specs.Program.{ProgramOverflows, overlay}
 pub use Rattle.sqlite.specs.Query.{IsAnswer, Output, Query, end, inner, matches, output, output_cmp}
-pub use Rattle.sqlite.specs.Rows.{Clears, Counts, Judged, Task, TriesEach, Upserts, Written, count_of, mended, nothing, rowids_for, stamped}
+pub use Rattle.sqlite.specs.Rows.{Clears, Counts, Judged, Task, TriesEach, Upserts, Written, count_of, mended, nothing}
+pub use Rattle.sqlite.specs.Rows.{rowids_for, stamped}
 pub use Rattle.sqlite.specs.Schema.{Schema}
 pub use Rattle.sqlite.specs.Source.TheVariants.{Values}
-pub use Rattle.sqlite.specs.State.{Executes, FailsToShow, HasCause, HasCleanDisk, IsNoStatement, IsRolledBack, IsUnchanged, MayWrite, Runs, RunsCommand, Shows, ShowsRows, State, Survives, Writes, mode_of, shows_rows, store_error}
+pub use Rattle.sqlite.specs.State.{Executes, FailsToShow, HasCause, HasCleanDisk, IsNoStatement, IsRolledBack}
+pub use Rattle.sqlite.specs.State.{IsUnchanged, MayWrite, Runs, RunsCommand, Shows, ShowsRows, State, Survives, Writes}
+pub use Rattle.sqlite.specs.State.{mode_of, shows_rows, store_error}
 pub use Rattle.sqlite.specs.Store.{Ghosts}
 pub use Rattle.sqlite.specs.Term.{Term, col, lit, op2}
 pub use Rattle.sqlite.specs.Tree.{has_rowid, put_row, without_rowid}
@@ -72,7 +86,8 @@ pub use Rattle.sqlite_trees.specs.Props.{rows_set}
 pub use Rattle.sqlite_trees.specs.Tree.{IsTable}
 pub use Rattle.sqlite_trees.specs.View.{IsClean, IsShaped}
 pub use Rattle.sqlite_trees.specs.declared.error.StoreError.{StoreError}
-pub use Rattle.sqlite_trees.specs.declared.error.StoreError.TheVariants.{Broken, Corrupt, Full, Io, OutOfMemory, Unstorable}
+pub use Rattle.sqlite_trees.specs.declared.error.StoreError.TheVariants.{Broken, Corrupt, Full, Io, OutOfMemory}
+pub use Rattle.sqlite_trees.specs.declared.error.StoreError.TheVariants.{Unstorable}
 pub use Rattle.sqlite_typing.specs.Types.{accepts_program}
 pub use Rattle.sqlite_value.proofs.OrderLemmas.{value_cmp-Int}
 pub use Rattle.std.proofs.Math.Bridge.{le_prop}

@@ -1,6 +1,15 @@
 -- What the writes of the records make of the tables.
-use Rattle.std.proofs.Common.{◌≡◌, ◌≢◌, inl, inr, ℕ, ℤ, pos, List, [], ◌∷◌, ◌++◌, ◌/◌, length, map, filter, nat_lt, false, Some, None, Option, Ok, refl, ap, subst, ◌∙◌}
-use Rattle.acceptor_store_parts.proofs.Words.{Cast, IsPlace, IsValue, rows_put, values_put, Content, after_write, Promises, Votes, Learns, Replace, Refusal, cast_row, without_all, with_rowid, AreConflicts, ids_of, InsertOr, Values, Int, Mode, Row, put_row, Database, value_rows, Term, Tally, Does, OnRows, stamped, Counts, mended, rowids_for, Written, Task, Judged, Upserts, TriesEach, nothing, count_of, Owner, ballot_table, vote_table, learned_table, fact_table, number_row, vote_row, learned_row, fact_row, vote_shown, learned_shown, fact_shown, three, AreTablesFor, IsOwnedBy, owner_bytes, number_for, schema_for}
+use Rattle.std.proofs.Common.{◌≡◌, ◌≢◌, inl, inr, ℕ, ℤ, pos, List, [], ◌∷◌, ◌++◌, ◌/◌, length, map, filter, nat_lt}
+use Rattle.std.proofs.Common.{false, Some, None, Option, Ok, refl, ap, subst, ◌∙◌}
+use Rattle.acceptor_store_parts.proofs.Words.{Cast, IsPlace, IsValue, rows_put, values_put, Content, after_write}
+use Rattle.acceptor_store_parts.proofs.Words.{Promises, Votes, Learns, Replace, Refusal, cast_row, without_all}
+use Rattle.acceptor_store_parts.proofs.Words.{with_rowid, AreConflicts, ids_of, InsertOr, Values, Int, Mode, Row}
+use Rattle.acceptor_store_parts.proofs.Words.{put_row, Database, value_rows, Term, Tally, Does, OnRows, stamped, Counts}
+use Rattle.acceptor_store_parts.proofs.Words.{mended, rowids_for, Written, Task, Judged, Upserts, TriesEach, nothing}
+use Rattle.acceptor_store_parts.proofs.Words.{count_of, Owner, ballot_table, vote_table, learned_table, fact_table}
+use Rattle.acceptor_store_parts.proofs.Words.{number_row, vote_row, learned_row, fact_row, vote_shown, learned_shown}
+use Rattle.acceptor_store_parts.proofs.Words.{fact_shown, three, AreTablesFor, IsOwnedBy, owner_bytes, number_for}
+use Rattle.acceptor_store_parts.proofs.Words.{schema_for}
 use Rattle.acceptor.specs.Content.Write.{Tries as Tried}
 use Rattle.sqlite_rules.specs.declared.error.Rowids.TheVariants.{Chosen}
 use Rattle.sqlite.specs.Table.{Table}

@@ -8,7 +8,8 @@ use Rattle.sqlite_trees.specs.Tree.{Trees, IsTable}
 use Rattle.acceptor_store_parts.specs.declared.Version.{Version}
 use Rattle.acceptor_store_parts.specs.declared.Version.TheVariants.{First, Second, Third}
 use Rattle.acceptor_store_parts.specs.Tables.{schema_of}
-use Rattle.acceptor_store_parts.specs.Stored.{number_row, number_shown, vote_row, vote_shown, learned_row, learned_shown, fact_row, fact_shown, KeepsLearned}
+use Rattle.acceptor_store_parts.specs.Stored.{number_row, number_shown, vote_row, vote_shown, learned_row}
+use Rattle.acceptor_store_parts.specs.Stored.{learned_shown, fact_row, fact_shown, KeepsLearned}
 
 -- the trees of the version's tables are tables
 abbrev pub AreShaped : Version → Trees → Type 0

@@ -1,5 +1,6 @@
 -- What a node with records in memory holds there, wherever it stands.
-use Rattle.std.proofs.Common.{◌≡◌, ◌⊎◌, inl, inr, ℕ, Bool, true, false, Option, None, Result, Ok, Err, refl, sym, ap, subst, ◌∙◌, IsTrue}
+use Rattle.std.proofs.Common.{◌≡◌, ◌⊎◌, inl, inr, ℕ, Bool, true, false, Option, None, Result, Ok, Err, refl, sym, ap}
+use Rattle.std.proofs.Common.{subst, ◌∙◌, IsTrue}
 use Rattle.acceptor.specs.Content.{Content, Write, after_write}
 use Rattle.acceptor.specs.Kept.{is_it, no_break, no_failures}
 use Rattle.node.specs.Calls.{Cause, Course, TellsStore, Who}

@@ -1,5 +1,6 @@
 -- What waits leads from what a store holds to what the node has in memory.
-use Rattle.std.proofs.Common.{◌≡◌, ℕ, ◌<◌, ◌==◌, List, [], ◌∷◌, ◌++◌, Bool, true, false, Option, Some, None, refl, sym, ap, subst, ◌∙◌, arith, IsTrue, if◌then◌else◌}
+use Rattle.std.proofs.Common.{◌≡◌, ℕ, ◌<◌, ◌==◌, List, [], ◌∷◌, ◌++◌, Bool, true, false, Option, Some, None, refl, sym}
+use Rattle.std.proofs.Common.{ap, subst, ◌∙◌, arith, IsTrue, if◌then◌else◌}
 use Rattle.std.proofs.lemmas.Bool.{eqb-true}
 use Rattle.std.proofs.Common.{Vec}
 use Rattle.std.specs.declared.alloc.Global.{Global}
@@ -33,7 +34,8 @@ use Rattle.told_writes.proofs.Callers.{lead_rows, leads_on}
 use Rattle.told_writes.specs.States.{NodeState}
 use Rattle.told_writes.specs.Told.{IsToldOf}
 use Rattle.told_writes.specs.Telling.{IsOpen, WritesAfter}
-use Rattle.batched_node.proofs.Memory.{Effect, IsPlain, IsSure, Leads, known, memory, moved, stands_up, view_is, view_of}
+use Rattle.batched_node.proofs.Memory.{Effect, IsPlain, IsSure, Leads, known, memory, moved, stands_up, view_is}
+use Rattle.batched_node.proofs.Memory.{view_of}
 use Rattle.batched_node.proofs.Once.{holds_once}
 use Rattle.batched_node.specs.Noted.{IsKept, IsLeftBy, IsNoted}
 use Rattle.batched_node.specs.Serves.{content_of}

@@ -1,6 +1,7 @@
 //! A node in memory, the store of its writes, and what waits to be stored.
 
-ghost use Rattle.std.specs.Prelude.{◌≡◌, ◌<◌, [], false, true, vec_capacity, vec_len, IfOk, IsTrue, ◌++◌, ◌∷◌, if◌then◌else◌, ◌==◌};
+ghost use Rattle.std.specs.Prelude.{◌≡◌, ◌<◌, [], false, true, vec_capacity, vec_len, IfOk, IsTrue, ◌++◌, ◌∷◌};
+ghost use Rattle.std.specs.Prelude.{if◌then◌else◌, ◌==◌};
 ghost use Rattle.acceptor.specs.Content.{AreRowsFrom, Content};
 ghost use Rattle.acceptor.specs.Found.{Holds};
 ghost use Rattle.batched_node.specs.Noted.{IsKept, IsNoted};

@@ -1,5 +1,6 @@
 -- The frame within which a log ends.
-use Rattle.std.proofs.Common.{◌≡◌, ◌≢◌, ℕ, zero, suc, ◌+◌, ◌<◌, ◌≤◌, List, length, refl, ◌∙◌, subst, inl, inr, arith, add-one}
+use Rattle.std.proofs.Common.{◌≡◌, ◌≢◌, ℕ, zero, suc, ◌+◌, ◌<◌, ◌≤◌, List, length, refl, ◌∙◌, subst, inl, inr, arith}
+use Rattle.std.proofs.Common.{add-one}
 use Rattle.std.proofs.lemmas.Bool.{cases_eq, cases_lt, cases_order}
 use Rattle.sqlite_wal.specs.Format.{IsSigned, IsHeader, commit_size}
 use Rattle.sqlite_wal.specs.Recovery.{frame_at, header, frame, IsValid, Replays}

@@ -1,5 +1,6 @@
 -- What the bytes that were read are in the log.
-use Rattle.std.proofs.Common.{◌≡◌, ◌≢◌, ℕ, zero, suc, ap, subst₂, ◌+◌, ◌-◌, ◌*◌, ◌<◌, ◌≤◌, List, length, slice_index, sym, refl, ◌∙◌, ap₂, subst, arith, Option, Some, None, MatchOption}
+use Rattle.std.proofs.Common.{◌≡◌, ◌≢◌, ℕ, zero, suc, ap, subst₂, ◌+◌, ◌-◌, ◌*◌, ◌<◌, ◌≤◌, List, length, slice_index}
+use Rattle.std.proofs.Common.{sym, refl, ◌∙◌, ap₂, subst, arith, Option, Some, None, MatchOption}
 use Rattle.sqlite_disk.specs.Disk.{Holds}
 use Rattle.sqlite_wal.specs.Format.{part, be32, stored_sum, IsFrame, commit_size}
 use Rattle.sqlite_wal.specs.Recovery.{frame_at, frames_len, header, frame, sum_before}

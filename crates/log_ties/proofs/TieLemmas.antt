@@ -1,5 +1,6 @@
 -- What is told of a log by the frames that recovery takes.
-use Rattle.std.proofs.Common.{Result, Ok, Err, ◌≡◌, ◌≢◌, ◌⊎◌, ℕ, ◌≤◌, List, length, slice_index, sym, refl, ◌∙◌, subst, inl, inr, arith}
+use Rattle.std.proofs.Common.{Result, Ok, Err, ◌≡◌, ◌≢◌, ◌⊎◌, ℕ, ◌≤◌, List, length, slice_index, sym, refl, ◌∙◌, subst}
+use Rattle.std.proofs.Common.{inl, inr, arith}
 use Rattle.sqlite_wal.specs.Format.{be32, IsSigned, IsHeader}
 use Rattle.sqlite_wal.specs.Outcome.{FailsFor, Never, OnlyIf}
 use Rattle.sqlite_wal.specs.declared.error.Error.TheVariants.{Full, Corrupt}

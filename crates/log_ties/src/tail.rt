@@ -1,6 +1,7 @@
 //! Where a log ends behind its last commit.
 
-ghost use Rattle.std.specs.Prelude.{◌≡◌, ◌+◌, ◌*◌, ◌<◌, ◌≤◌, ◌↔◌, ℕ, length, slice_index, IfOk, IsTrue, MatchOption, OnOk};
+ghost use Rattle.std.specs.Prelude.{◌≡◌, ◌+◌, ◌*◌, ◌<◌, ◌≤◌, ◌↔◌, ℕ, length, slice_index, IfOk, IsTrue, MatchOption};
+ghost use Rattle.std.specs.Prelude.{OnOk};
 ghost use Rattle.log_ties.specs.Ties.{EndsWithin, HasOwnSaltsAt};
 ghost use Rattle.log_ties.specs.Tails.{IsQuiet, Reaches, IsShapeOf};
 ghost use Rattle.sqlite_disk.specs.Disk.{CountsFault, Holds};

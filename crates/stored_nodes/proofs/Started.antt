@@ -1,5 +1,6 @@
 -- What new nodes, and those that go on, have in common.
-use Rattle.std.proofs.Common.{◌≡◌, ◌∙◌, ◌⊎◌, inl, inr, ℕ, Bool, IsTrue, true, false, Option, Some, None, refl, sym, true≢false, subst, Result, IfOk, Ok, Err}
+use Rattle.std.proofs.Common.{◌≡◌, ◌∙◌, ◌⊎◌, inl, inr, ℕ, Bool, IsTrue, true, false, Option, Some, None, refl, sym}
+use Rattle.std.proofs.Common.{true≢false, subst, Result, IfOk, Ok, Err}
 use Rattle.std.proofs.lemmas.Bool.{cases_Bool}
 use Rattle.std.proofs.lemmas.Result.{IfOk-weaker}
 use Rattle.acceptor.specs.Content.{Content, no_content}

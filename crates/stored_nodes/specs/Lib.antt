@@ -1,4 +1,5 @@
 pub mod Faults
 pub mod Kept
+pub mod Lost
 pub mod States
 pub mod Starts

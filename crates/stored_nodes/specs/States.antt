@@ -1,19 +1,23 @@
 -- What opening files tells of them, and what stays of files that are only read.
-use Rattle.std.specs.Prelude.{◌≡◌, ℕ, Bool, true, false, List, Option, Some, None, Result, Ok, Err}
+use Rattle.std.specs.Prelude.{◌≡◌, ◌⊎◌, ℕ, Bool, true, false, IsTrue, List, Option, Some, None, Result, Ok, Err}
 use Rattle.acceptor_store.specs.declared.OpenFault.{OpenFault}
 use Rattle.acceptor_store.specs.declared.OpenFault.TheVariants as opening
 use Rattle.acceptor_store.specs.declared.owned.OwnerFault.{OwnerFault}
 use Rattle.acceptor_store.specs.declared.owned.OwnerFault.TheVariants as owner
+use Rattle.log_ties.specs.declared.tie.Loss.{Loss}
 use Rattle.proposer.specs.declared.fault.NodeFault.{NodeFault}
 use Rattle.proposer.specs.declared.fault.NodeFault.TheVariants as node
 use Rattle.sqlite_disk.specs.declared.Disk as disk
 use Rattle.sqlite_disk.specs.declared.Files.{Files}
 use Rattle.stored_nodes.specs.declared.fault.StoreFault.{StoreFault}
 use Rattle.stored_nodes.specs.declared.fault.StoreFault.TheVariants as store
+use Rattle.stored_nodes.specs.declared.start.FileFault.{FileFault}
+use Rattle.stored_nodes.specs.declared.start.FileFault.TheVariants.{Failed}
 use Rattle.stored_nodes.specs.declared.start.StartFault.{StartFault}
 use Rattle.stored_nodes.specs.declared.start.StartFault.TheVariants as start
 use Rattle.stored_nodes.specs.declared.states.FilesState.{FilesState}
-use Rattle.stored_nodes.specs.declared.states.FilesState.TheVariants.{Fresh, Used, Unowned, Foreign, Locked, OtherNode, Unusable}
+use Rattle.stored_nodes.specs.declared.states.FilesState.TheVariants.{Fresh, Begun, Used, Unowned, Foreign, Locked}
+use Rattle.stored_nodes.specs.declared.states.FilesState.TheVariants.{OtherNode, Lost, Unusable}
 use Rattle.stored_nodes.specs.declared.states.Told.{Told}
 use Rattle.stored_nodes.specs.declared.states.Told.TheVariants.{State, NoOwner, Memory}
 
@@ -21,7 +25,7 @@ use Rattle.stored_nodes.specs.declared.states.Told.TheVariants.{State, NoOwner, 
 abbrev pub told_open : OpenFault → Told
 told_open opening.Refused = State Foreign
 told_open opening.Foreign = State Foreign
-told_open opening.Broken = State Unusable
+told_open opening.Broken = State (Unusable Failed)
 told_open opening.OutOfMemory = Memory
 
 -- by what an open for an owner says; files without tables are as new
@@ -29,23 +33,25 @@ abbrev pub told_owner : OwnerFault → Told
 told_owner (owner.Open fault) = told_open fault
 told_owner owner.Blank = State Fresh
 told_owner owner.Unowned = NoOwner
-told_owner owner.OtherNode = State OtherNode
-told_owner owner.OtherMembers = State OtherNode
+told_owner (owner.OtherNode other) = State (OtherNode other)
+told_owner (owner.OtherMembers other) = State (OtherNode other)
 
 abbrev pub told_unread : NodeFault → Told
 told_unread node.OutOfMemory = Memory
-told_unread other = State Unusable
+told_unread other = State (Unusable Failed)
 
 abbrev pub told_start : StartFault → Told
 told_start (start.Unopened fault) = told_owner fault
 told_start (start.Unread fault) = told_unread fault
 told_start start.OutOfMemory = Memory
 told_start start.InUse = State Locked
-told_start other = State Unusable
+told_start (start.Lost loss) = State (Lost loss)
+told_start (start.Unusable why) = State (Unusable why)
+told_start other = State (Unusable Failed)
 
 -- by the open for an owner: whether the records hold nothing, or why there are none
 abbrev pub told_owned : Result Bool StartFault → Told
-told_owned (Ok true) = State Fresh
+told_owned (Ok true) = State Begun
 told_owned (Ok false) = State Used
 told_owned (Err fault) = told_start fault
 
@@ -62,9 +68,21 @@ state_told (State state) = Some state
 state_told NoOwner = Some Foreign
 state_told Memory = None
 
--- a read of a file gives what it gave, and a crash leaves nothing that it couldn't leave before
+-- a state that was told is such
+abbrev pub IsTold : (FilesState → Type 0) → Told → Type 0
+IsTold P (State state) = P state
+IsTold P NoOwner = P Foreign
+IsTold P Memory = Unit {0}
+
+-- the state is that the files lost this, or a read of them failed
+abbrev pub IsToldLost : Loss → FilesState → Type 0
+IsToldLost loss state = (state ≡ Lost loss) ⊎ ((why : FileFault) × (state ≡ Unusable why))
+
+-- a read of a file gives what it gave, a crash leaves nothing that it couldn't leave before, and a disk that gave no
+-- wrong answer had given none
 abbrev pub StaysFile : {D : Type 0} → disk.Ghosts D → D → D → Type 0
-StaysFile g old new = (g.seen new ≡ g.seen old) × ((bytes : List ℕ) → g.may_leave new bytes → g.may_leave old bytes)
+StaysFile g old new =
+    (g.seen new ≡ g.seen old) × ((bytes : List ℕ) → g.may_leave new bytes → g.may_leave old bytes) × (IsTrue (g.is_clean new) → IsTrue (g.is_clean old))
 
 -- so of a log and of a database
 abbrev pub StayFiles : {D : Type 0} → disk.Ghosts D → Files D → Files D → Type 0

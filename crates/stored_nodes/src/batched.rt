@@ -11,7 +11,7 @@ ghost use Rattle.stored_nodes.specs.Starts.{ComesOfStart, HasStartedBeside};
 
 use crate::fresh::{begun_with, resumed_with};
 use crate::opens::OpensRecords;
-use crate::own_file::{NewFiles, files_of};
+use crate::own_file::{FilesAt, files_of};
 use crate::start::StartFault;
 use acceptor::{PlainRecords, RecordsFault};
 use acceptor_store::SqlRecords;
@@ -140,7 +140,7 @@ fn use_new_batched<U: BatchedUse>(
     requires { member.0 < member_count member.1 }
     ensures { IfOk result (ComesOfStart (U.comes user member.0 (member_count member.1) true) (λ _. ⊥) true) }
 {
-    let made = NewFiles::at(rt, path)?;
+    let made = FilesAt::found(rt, path)?;
     let answer = match made.opened(rt) {
         Ok(files) => use_batched_over(rt.alloc(), files, member, true, user),
         Err(fault) => Err(fault),

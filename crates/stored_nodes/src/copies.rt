@@ -1,18 +1,24 @@
 //! Whether a node begins over files, found out without a change of them.
 
 ghost use Rattle.std.specs.Prelude.{◌≡◌, ◌<◌, ◌&&◌, Err, IsTrue, false};
+ghost use Rattle.acceptor.specs.Content.{Content};
+ghost use Rattle.acceptor.specs.Found.{Holds};
+ghost use Rattle.acceptor_store.specs.Linked.{IsHonest, MayFind};
 ghost use Rattle.ballots.specs.Members.{member_count};
 ghost use Rattle.stored_nodes.specs.States.{StayFiles, StaysFile};
 
+use crate::fresh::begun_with;
 use crate::owned::Claim;
-use crate::start::StartFault;
+use crate::start::{FileFault, StartFault};
 use crate::uses::{NodeUse, use_node_over};
+use acceptor_store::{OwnerFault, SqlRecords, open_files};
 use ballots::{Members, NodeId};
 use node::Node;
 use sqlite::Files;
 use sqlite_disk::{Disk, Memory};
 use std::alloc::Global;
 use std::io;
+use store_anew::OpensAnew;
 
 /// What a file holds, in memory.
 fn copied<D: Disk>(alloc: Global, file: &mut D) -> io::Result<Memory>
@@ -59,11 +65,47 @@ pub(crate) fn begins_by_copy<D: Disk>(
 ) -> Result<(), StartFault>
     requires { id < member_count members }
     ensures files { StayFiles D.Disk files.old files.new }
-    ensures unusable { (D.Disk.is_usable files.old.log && D.Disk.is_usable files.old.db) ≡ false → result ≡ Err StartFault.Unusable }
+    ensures unusable { (D.Disk.is_usable files.old.log && D.Disk.is_usable files.old.db) ≡ false → result ≡ Err (StartFault.Unusable FileFault.Failed) }
 {
     if !files.may_be_used() {
-        return Err(StartFault::Unusable);
+        return Err(StartFault::Unusable(FileFault::Failed));
     }
     let copy = copy_of(alloc, files)?;
     use_node_over(alloc, copy, (id, members), Some(claim), LetGo)
+}
+
+/// Whether a node begins over these records, or why it doesn't.
+fn begins_with<S: OpensAnew>(
+    alloc: Global,
+    records: SqlRecords<S>,
+    id: NodeId,
+    members: Members,
+) -> Result<(), StartFault>
+    requires member { id < member_count members }
+    requires certain { IsHonest S.Store records → (c : Content) × Holds (MayFind S.Store records.owner records.held) c }
+{
+    match begun_with(alloc, id, members, records) {
+        Ok(_node) => Ok(()),
+        Err(fault) => Err(fault),
+    }
+}
+
+/// Whether a node of nobody's begins over what is left in a copy of files that lost something, or why it doesn't.
+pub(crate) fn begins_by_rest<D: Disk>(
+    alloc: Global,
+    files: &mut Files<D>,
+    id: NodeId,
+    members: Members,
+) -> Result<(), StartFault>
+    requires { id < member_count members }
+    ensures { StayFiles D.Disk files.old files.new }
+{
+    if !files.may_be_used() {
+        return Err(StartFault::Unusable(FileFault::Failed));
+    }
+    let copy = copy_of(alloc, files)?;
+    match open_files(alloc, copy) {
+        Ok(records) => begins_with(alloc, records, id, members),
+        Err(fault) => Err(StartFault::Unopened(OwnerFault::Open(fault))),
+    }
 }

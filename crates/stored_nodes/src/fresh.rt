@@ -26,6 +26,7 @@ pub(crate) fn begun_with<R: Records + Drop>(
     ensures fresh { IfOk result (IsFreshAt ⟦<SchedNode<R> as Node>⟧.who ⟦<SchedNode<R> as Node>⟧.honest
         ⟦<SchedNode<R> as Node>⟧.stands (member_count members) id) }
     ensures empty { IfOk result (λ node. IsTrue (⟦<SchedNode<R> as Node>⟧.honest node) → (c : Content) → Holds (R.may_find records) c → c ≡ no_content) }
+    ensures honest { IfOk result (λ node. IsTrue (⟦<SchedNode<R> as Node>⟧.honest node) → IsTrue (R.is_honest records)) }
 {
     let mut node = SchedNode::new(alloc, id, members, records);
     if node.is_fresh()? {

@@ -13,6 +13,7 @@ mod start;
 mod states;
 mod stored;
 mod survey;
+mod ties;
 mod uses;
 
 pub use batched::{BatchedUse, use_batched_at};
@@ -21,7 +22,7 @@ pub use folder::use_nodes_in;
 pub use opens::records_for;
 pub use own_file::{new_node_of, node_of};
 pub use owned::{begun_node, resumed_node};
-pub use start::StartFault;
+pub use start::{FileFault, StartFault};
 pub use states::{FilesState, state_of_files};
 pub use stored::{StoredNode, stored_nodes};
 pub use survey::states_in;

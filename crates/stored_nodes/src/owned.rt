@@ -3,9 +3,12 @@
 ghost use Rattle.std.specs.Prelude.{◌≡◌, ◌<◌, false, is_some, IfOk, IsTrue};
 ghost use Rattle.acceptor.specs.Content.{Content};
 ghost use Rattle.ballots.specs.Members.{member_count};
+ghost use Rattle.log_ties.specs.Ties.{IsLost};
+ghost use Rattle.log_ties.specs.declared.tie.Loss.{Loss};
 ghost use Rattle.node.specs.View.{started};
 ghost use Rattle.node.specs.View.Standing.{Running};
 ghost use Rattle.seats.specs.Fresh.{IsFreshAt};
+ghost use Rattle.sqlite.specs.Files.{image_of};
 ghost use Rattle.stored_nodes.specs.Kept.{IsFoundFor};
 ghost use Rattle.stored_nodes.specs.Starts.{HasStarted};
 
@@ -34,6 +37,7 @@ pub(crate) fn resumed_over<F: OpensRecords>(
     ensures resumed { IfOk result (λ node. IsTrue (⟦<SchedNode<SqlRecords<F::Base>> as Node>⟧.honest node)
         → (c : Content) × F.found_for files (record { node = id; members = members }) false c
         × ⟦<SchedNode<SqlRecords<F::Base>> as Node>⟧.stands node (Running (started c))) }
+    ensures lost { (loss : Loss) → F.lost files loss → IfOk result (λ node. IsTrue (⟦<SchedNode<SqlRecords<F::Base>> as Node>⟧.honest node) → ⊥) }
 {
     let records = files.opened_for(alloc, id, members, false)?;
     resumed_with(alloc, id, members, records)
@@ -58,8 +62,9 @@ pub(crate) fn begun_over<F: OpensRecords>(
     claim: Claim,
 ) -> Result<SchedNode<SqlRecords<F::Base>>, StartFault>
     requires { id < member_count members }
-    ensures { IfOk result (IsFreshAt ⟦<SchedNode<SqlRecords<F::Base>> as Node>⟧.who ⟦<SchedNode<SqlRecords<F::Base>> as Node>⟧.honest
+    ensures fresh { IfOk result (IsFreshAt ⟦<SchedNode<SqlRecords<F::Base>> as Node>⟧.who ⟦<SchedNode<SqlRecords<F::Base>> as Node>⟧.honest
         ⟦<SchedNode<SqlRecords<F::Base>> as Node>⟧.stands (member_count members) id) }
+    ensures lost { (loss : Loss) → F.lost files loss → IfOk result (λ node. IsTrue (⟦<SchedNode<SqlRecords<F::Base>> as Node>⟧.honest node) → ⊥) }
 {
     let records = match claim {
         Claim::OwnOrNew => files.opened_for(alloc, id, members, true)?,
@@ -103,6 +108,8 @@ pub fn resumed_node<D: Disk + Drop>(
     ensures resumed { IfOk result (λ node. IsTrue (⟦<SchedNode<SqlRecords<FileStore<D>>> as Node>⟧.honest node)
         → (c : Content) × IsFoundFor D.Disk files (record { node = id; members = members }) false c
         × ⟦<SchedNode<SqlRecords<FileStore<D>>> as Node>⟧.stands node (Running (started c))) }
+    ensures lost { (loss : Loss) → IsLost (image_of D.Disk files) loss
+        → IfOk result (λ node. IsTrue (⟦<SchedNode<SqlRecords<FileStore<D>>> as Node>⟧.honest node) → ⊥) }
 {
     resumed_over(alloc, files, id, members)
 }
@@ -115,8 +122,10 @@ pub fn begun_node<D: Disk + Drop>(
     members: Members,
 ) -> Result<StoredNode<D>, StartFault>
     requires { id < member_count members }
-    ensures { IfOk result (IsFreshAt ⟦<SchedNode<SqlRecords<FileStore<D>>> as Node>⟧.who ⟦<SchedNode<SqlRecords<FileStore<D>>> as Node>⟧.honest
+    ensures fresh { IfOk result (IsFreshAt ⟦<SchedNode<SqlRecords<FileStore<D>>> as Node>⟧.who ⟦<SchedNode<SqlRecords<FileStore<D>>> as Node>⟧.honest
         ⟦<SchedNode<SqlRecords<FileStore<D>>> as Node>⟧.stands (member_count members) id) }
+    ensures lost { (loss : Loss) → IsLost (image_of D.Disk files) loss
+        → IfOk result (λ node. IsTrue (⟦<SchedNode<SqlRecords<FileStore<D>>> as Node>⟧.honest node) → ⊥) }
 {
     begun_over(alloc, files, id, members, Claim::OwnOrNew)
 }

@@ -1,11 +1,15 @@
 //! Why a node doesn't start over its files.
 
 ghost use Rattle.std.specs.IoError.{error_kind};
-ghost use Rattle.std.specs.Prelude.{◌≡◌, ◌≢◌, ◌⊎◌};
+ghost use Rattle.std.specs.declared.io.ErrorKind.TheVariants as kind;
+ghost use Rattle.std.specs.Prelude.{◌≡◌, ◌≢◌};
 ghost use Rattle.sqlite_std_file.specs.declared.pair.OpenError.TheVariants as pair;
+ghost use Rattle.stored_nodes.specs.Faults.{file_fault};
+ghost use Rattle.stored_nodes.specs.declared.start.FileFault.TheVariants.{Journal};
 ghost use Rattle.stored_nodes.specs.declared.start.StartFault.TheVariants.{InUse, OutOfMemory, Unusable};
 
 use acceptor_store::OwnerFault;
+use log_ties::Loss;
 use node::NodeFault;
 use sqlite_std_file::OpenError;
 use std::alloc::{AllocError, AllocFailed};
@@ -13,15 +17,40 @@ use std::io;
 use std::io::ErrorKind;
 use thiserror::Error;
 
+/// Why a file can't be used.
+#[derive(Clone, Copy, Debug, PartialEq, Eq, Error)]
+pub enum FileFault {
+    /// A folder of its path isn't there.
+    #[error("no folder")]
+    NoFolder,
+    /// It is a folder, a link, a device, or has a second name.
+    #[error("no regular file")]
+    NotRegular,
+    #[error("permission denied")]
+    Denied,
+    /// The disk is full.
+    #[error("no room")]
+    NoRoom,
+    /// SQLite left a rollback journal beside it.
+    #[error("rollback journal")]
+    Journal,
+    /// Another read or write failed.
+    #[error("a read or write failed")]
+    Failed,
+}
+
 /// Why a node doesn't start over its files.
 #[derive(Clone, Copy, Debug, Error)]
 pub enum StartFault {
     /// There is no file, and the node isn't new.
     #[error("NoFile")]
     NoFile,
-    /// A file can't be used: no regular file, or not to be read or written.
-    #[error("Unusable")]
-    Unusable,
+    /// A file can't be used.
+    #[error(transparent)]
+    Unusable(FileFault),
+    /// One of the two files lost something, or isn't there.
+    #[error("Lost")]
+    Lost(Loss),
     /// Another process has the files open.
     #[error("InUse")]
     InUse,
@@ -74,35 +103,42 @@ impl<T: Drop> From<AllocFailed<T>> for StartFault {
     }
 }
 
-impl From<io::Error> for StartFault {
-    ghost from_gives = { λ _ given. (given ≡ OutOfMemory) ⊎ (given ≡ Unusable) };
+fn file_fault(error: &io::Error) -> FileFault
+    ensures { result ≡ file_fault (error_kind error.now) }
+{
+    match error.kind() {
+        ErrorKind::NotFound | ErrorKind::NotADirectory => FileFault::NoFolder,
+        ErrorKind::Unsupported | ErrorKind::IsADirectory => FileFault::NotRegular,
+        ErrorKind::PermissionDenied | ErrorKind::ReadOnlyFilesystem => FileFault::Denied,
+        ErrorKind::StorageFull | ErrorKind::QuotaExceeded => FileFault::NoRoom,
+        _ => FileFault::Failed,
+    }
+}
 
-    fn from(error: io::Error) -> StartFault
-        ensures memory { error_kind error ≡ ErrorKind.OutOfMemory → result ≡ OutOfMemory }
-        ensures unusable { error_kind error ≢ ErrorKind.OutOfMemory → result ≡ Unusable }
-    {
+impl From<io::Error> for StartFault {
+    ghost from_gives = { λ error given. (error_kind error ≡ kind.OutOfMemory → given ≡ OutOfMemory)
+        × (error_kind error ≢ kind.OutOfMemory → given ≡ Unusable (file_fault (error_kind error))) };
+
+    fn from(error: io::Error) -> StartFault {
         match error.kind() {
             ErrorKind::OutOfMemory => StartFault::OutOfMemory,
-            _ => StartFault::Unusable,
+            _ => StartFault::Unusable(file_fault(&error)),
         }
     }
 }
 
 impl From<OpenError> for StartFault {
-    ghost from_gives = { λ error given. ((given ≡ OutOfMemory) ⊎ (given ≡ Unusable) ⊎ (given ≡ InUse))
-        × (error ≡ pair.OutOfMemory → given ≡ OutOfMemory)
-        × (error ≡ pair.Busy → given ≡ InUse) × (error ≡ pair.HotJournal → given ≡ Unusable) };
+    ghost from_gives = { λ error given. (error ≡ pair.OutOfMemory → given ≡ OutOfMemory)
+        × (error ≡ pair.Busy → given ≡ InUse) × (error ≡ pair.HotJournal → given ≡ Unusable Journal)
+        × ((fault : _) → error ≡ pair.Io fault → error_kind fault ≡ kind.OutOfMemory → given ≡ OutOfMemory)
+        × ((fault : _) → error ≡ pair.Io fault → error_kind fault ≢ kind.OutOfMemory → given ≡ Unusable (file_fault (error_kind fault))) };
 
-    fn from(error: OpenError) -> StartFault
-        ensures gives { ⟦<StartFault as From<OpenError>>⟧.from_gives error result }
-        ensures memory { (fault : _) → error ≡ OpenError.Io fault → error_kind fault ≡ ErrorKind.OutOfMemory → result ≡ OutOfMemory }
-        ensures unusable { (fault : _) → error ≡ OpenError.Io fault → error_kind fault ≢ ErrorKind.OutOfMemory → result ≡ Unusable }
-    {
+    fn from(error: OpenError) -> StartFault {
         match error {
             OpenError::OutOfMemory => StartFault::OutOfMemory,
             OpenError::Busy => StartFault::InUse,
             OpenError::Io(error) => StartFault::from(error),
-            OpenError::HotJournal => StartFault::Unusable,
+            OpenError::HotJournal => StartFault::Unusable(FileFault::Journal),
         }
     }
 }

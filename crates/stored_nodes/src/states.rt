@@ -1,18 +1,27 @@
 //! What a node's files are, found out without a change of them.
 
-ghost use Rattle.std.specs.Prelude.{◌≡◌, ◌<◌, ◌&&◌, Err, IfOk, IsOkAnd, None, OnErr, Some, false};
+ghost use Rattle.std.specs.Prelude.{◌≡◌, ◌<◌, ◌&&◌, IfOk, IsOkAnd, None, OnErr, Some, false, true};
 ghost use Rattle.ballots.specs.Members.{member_count};
+ghost use Rattle.log_ties.specs.Ties.{IsLost};
+ghost use Rattle.log_ties.specs.declared.tie.Loss.{Loss};
+ghost use Rattle.sqlite.specs.Files.{image_of};
+ghost use Rattle.sqlite_wal.specs.Reads.{AreClean};
+ghost use Rattle.stored_nodes.specs.declared.start.FileFault.TheVariants.{Failed};
 ghost use Rattle.stored_nodes.specs.declared.states.FilesState.TheVariants.{Unusable};
 ghost use Rattle.stored_nodes.specs.declared.states.Told.TheVariants.{State};
-ghost use Rattle.stored_nodes.specs.States.{StayFiles, StaysFile, state_told, told_open, told_owned, told_owner, told_start, told_unowned, told_unread};
+ghost use Rattle.stored_nodes.specs.States.{IsTold, IsToldLost, StayFiles, state_told, told_open, told_owned};
+ghost use Rattle.stored_nodes.specs.States.{told_owner, told_start, told_unowned, told_unread};
 
 use crate::copies::begins_by_copy;
 use crate::fault::StoreFault;
 use crate::owned::Claim;
-use crate::start::StartFault;
+use crate::start::{FileFault, StartFault};
 use crate::stored::examine;
+use crate::ties::refuse_lost;
 use acceptor_store::{OpenFault, OwnerFault};
+use acceptor_store_parts::Owner;
 use ballots::{Members, NodeId};
+use log_ties::Loss;
 use node::NodeFault;
 use sqlite::Files;
 use sqlite_disk::Disk;
@@ -21,8 +30,10 @@ use std::alloc::{AllocError, Global};
 /// What a node's files are.
 #[derive(Clone, Copy, Debug, PartialEq, Eq)]
 pub enum FilesState {
-    /// They have no tables, or hold nothing, as this node's or nobody's.
+    /// They have no tables, or are nobody's and hold nothing.
     Fresh,
+    /// They are this node's, and hold nothing.
+    Begun,
     /// They are this node's, and hold a ballot, a vote or a learned value.
     Used,
     /// They are nobody's, and hold one of these. No node goes on over them.
@@ -31,10 +42,12 @@ pub enum FilesState {
     Foreign,
     /// Another process has them open.
     Locked,
-    /// They are another node's, or one's of other members.
-    OtherNode,
-    /// A file can't be used: it is no regular file, or not to be read or written.
-    Unusable,
+    /// They are another node's, or one's of other members: this one's.
+    OtherNode(Owner),
+    /// One of the two lost something, or isn't there.
+    Lost(Loss),
+    /// A file can't be used.
+    Unusable(FileFault),
 }
 
 /// What an open tells of the files.
@@ -53,7 +66,7 @@ fn told_open(fault: OpenFault) -> Told
     match fault {
         OpenFault::Refused => Told::State(FilesState::Foreign),
         OpenFault::Foreign => Told::State(FilesState::Foreign),
-        OpenFault::Broken => Told::State(FilesState::Unusable),
+        OpenFault::Broken => Told::State(FilesState::Unusable(FileFault::Failed)),
         OpenFault::OutOfMemory => Told::Memory,
     }
 }
@@ -65,8 +78,8 @@ fn told_owner(fault: OwnerFault) -> Told
         OwnerFault::Open(fault) => told_open(fault),
         OwnerFault::Blank => Told::State(FilesState::Fresh),
         OwnerFault::Unowned => Told::NoOwner,
-        OwnerFault::OtherNode => Told::State(FilesState::OtherNode),
-        OwnerFault::OtherMembers => Told::State(FilesState::OtherNode),
+        OwnerFault::OtherNode(owner) => Told::State(FilesState::OtherNode(owner)),
+        OwnerFault::OtherMembers(owner) => Told::State(FilesState::OtherNode(owner)),
     }
 }
 
@@ -75,7 +88,7 @@ fn told_unread(fault: NodeFault) -> Told
 {
     match fault {
         NodeFault::OutOfMemory => Told::Memory,
-        _ => Told::State(FilesState::Unusable),
+        _ => Told::State(FilesState::Unusable(FileFault::Failed)),
     }
 }
 
@@ -87,7 +100,9 @@ fn told_start(fault: StartFault) -> Told
         StartFault::Unread(fault) => told_unread(fault),
         StartFault::OutOfMemory => Told::Memory,
         StartFault::InUse => Told::State(FilesState::Locked),
-        _ => Told::State(FilesState::Unusable),
+        StartFault::Lost(loss) => Told::State(FilesState::Lost(loss)),
+        StartFault::Unusable(why) => Told::State(FilesState::Unusable(why)),
+        _ => Told::State(FilesState::Unusable(FileFault::Failed)),
     }
 }
 
@@ -96,7 +111,7 @@ fn told_owned(opened: Result<bool, StartFault>) -> Told
     ensures { result ≡ told_owned opened }
 {
     match opened {
-        Ok(true) => Told::State(FilesState::Fresh),
+        Ok(true) => Told::State(FilesState::Begun),
         Ok(false) => Told::State(FilesState::Used),
         Err(fault) => told_start(fault),
     }
@@ -123,7 +138,6 @@ fn is_fresh_copy<D: Disk>(
 ) -> Result<bool, StartFault>
     requires { id < member_count members }
     ensures files { StayFiles D.Disk files.old files.new }
-    ensures unusable { (D.Disk.is_usable files.old.log && D.Disk.is_usable files.old.db) ≡ false → result ≡ Err StartFault.Unusable }
 {
     match begins_by_copy(alloc, files, id, members, Claim::Own) {
         Ok(()) => Ok(true),
@@ -139,10 +153,9 @@ fn is_fresh_owned<D: Disk>(
     id: NodeId,
 ) -> Result<bool, StartFault>
     ensures files { StayFiles D.Disk files.old files.new }
-    ensures unusable { (D.Disk.is_usable files.old.log && D.Disk.is_usable files.old.db) ≡ false → result ≡ Err StartFault.Unusable }
 {
     let five = is_fresh_copy(alloc, files, id, Members::Five);
-    if let Err(StartFault::Unopened(OwnerFault::OtherMembers)) = five {
+    if let Err(StartFault::Unopened(OwnerFault::OtherMembers(_))) = five {
         if id.number() < 3 {
             return is_fresh_copy(alloc, files, id, Members::Three);
         }
@@ -150,14 +163,29 @@ fn is_fresh_owned<D: Disk>(
     five
 }
 
-/// What an open of a copy tells of the files, for this node and then for nobody.
-fn told_of<D: Disk>(alloc: Global, files: &mut Files<D>, id: NodeId) -> Told
+/// What an open of a copy tells of files that lost nothing, for this node and then for nobody.
+fn told_whole<D: Disk>(alloc: Global, files: &mut Files<D>, id: NodeId) -> Told
     ensures files { StayFiles D.Disk files.old files.new }
-    ensures unusable { (D.Disk.is_usable files.old.log && D.Disk.is_usable files.old.db) ≡ false → result ≡ State Unusable }
 {
     match told_owned(is_fresh_owned(alloc, files, id)) {
         Told::NoOwner => told_unowned(examine(alloc, files)),
         told => told,
+    }
+}
+
+/// What is told of the files: what they lost, and else what an open of a copy tells.
+fn told_of<D: Disk>(alloc: Global, files: &mut Files<D>, id: NodeId) -> Told
+    ensures files { StayFiles D.Disk files.old files.new }
+    ensures unusable { (D.Disk.is_usable files.old.log && D.Disk.is_usable files.old.db) ≡ false → result ≡ State (Unusable Failed) }
+    ensures lost { (D.Disk.is_usable files.old.log && D.Disk.is_usable files.old.db) ≡ true → (loss : Loss) → IsLost (image_of D.Disk files.old) loss
+        → AreClean D.Disk files.new.log files.new.db → IsTold (IsToldLost loss) result }
+{
+    if !files.may_be_used() {
+        return Told::State(FilesState::Unusable(FileFault::Failed));
+    }
+    match refuse_lost(alloc, files) {
+        Ok(()) => told_whole(alloc, files, id),
+        Err(fault) => told_start(fault),
     }
 }
 
@@ -174,14 +202,16 @@ fn state_told(told: Told) -> Result<FilesState, AllocError>
 }
 
 /// What the files of this node are. A copy of them is opened in memory, so that they stay as they are. Files that may
-/// not be used are unusable.
+/// not be used are unusable. Of files that lost something it is told what, unless a read of them fails.
 pub fn state_of_files<D: Disk>(
     alloc: Global,
     files: &mut Files<D>,
     id: NodeId,
 ) -> Result<FilesState, AllocError>
     ensures files { StayFiles D.Disk files.old files.new }
-    ensures unusable { (D.Disk.is_usable files.old.log && D.Disk.is_usable files.old.db) ≡ false → IsOkAnd result (λ state. state ≡ Unusable) }
+    ensures unusable { (D.Disk.is_usable files.old.log && D.Disk.is_usable files.old.db) ≡ false → IsOkAnd result (λ state. state ≡ Unusable Failed) }
+    ensures lost { (D.Disk.is_usable files.old.log && D.Disk.is_usable files.old.db) ≡ true → (loss : Loss) → IsLost (image_of D.Disk files.old) loss
+        → AreClean D.Disk files.new.log files.new.db → IfOk result (IsToldLost loss) }
 {
     state_told(told_of(alloc, files, id))
 }

@@ -5,10 +5,11 @@ ghost use Rattle.ballots.specs.Members.{member_count};
 ghost use Rattle.seats.specs.Fresh.{AreFresh, IsFreshAt};
 ghost use Rattle.stored_nodes.specs.States.{StayFiles};
 
-use crate::copies::begins_by_copy;
+use crate::copies::{begins_by_copy, begins_by_rest};
 use crate::fault::StoreFault;
 use crate::opens::OpensRecords;
 use crate::owned::{Claim, begun_over};
+use crate::start::StartFault;
 use acceptor_store::SqlRecords;
 use ballots::{Members, NodeId};
 use node::{Node, SchedNode};
@@ -36,6 +37,17 @@ fn stored_node<F: OpensRecords>(
     Ok(begun_over(alloc, files, id, members, Claim::Nobodys)?)
 }
 
+/// What is told of files that lost something: what is left of them isn't fresh, or they can't be used.
+fn told_rest<D: Disk>(alloc: Global, files: &mut Files<D>, id: NodeId) -> StoreFault
+    requires { id < member_count Members.Three }
+    ensures { StayFiles D.Disk files.old files.new }
+{
+    match begins_by_rest(alloc, files, id, Members::Three) {
+        Ok(()) => StoreFault::Unusable,
+        Err(fault) => StoreFault::from(fault),
+    }
+}
+
 /// Refuses files that a fresh node can't start over. It opens a copy of them in memory, so nothing is written to them.
 pub(crate) fn examine<D: Disk>(alloc: Global, files: &mut Files<D>) -> Result<(), StoreFault>
     ensures { StayFiles D.Disk files.old files.new }
@@ -43,7 +55,11 @@ pub(crate) fn examine<D: Disk>(alloc: Global, files: &mut Files<D>) -> Result<()
     let Some(id) = NodeId::new(0) else {
         unreachable!();
     };
-    Ok(begins_by_copy(alloc, files, id, Members::Three, Claim::Nobodys)?)
+    match begins_by_copy(alloc, files, id, Members::Three, Claim::Nobodys) {
+        Ok(()) => Ok(()),
+        Err(StartFault::Lost(_)) => Err(told_rest(alloc, files, id)),
+        Err(fault) => Err(StoreFault::from(fault)),
+    }
 }
 
 pub(crate) fn examine_all<D: Disk>(

@@ -1,10 +1,12 @@
 //! What the files of a folder's nodes are.
 
 use crate::fault::StoreFault;
-use crate::own_file::is_there;
+use crate::own_file::length_of;
 use crate::start::StartFault;
 use crate::states::{FilesState, state_of_files, state_unopened};
+use crate::ties::Lengths;
 use ballots::NodeId;
+use log_ties::Loss;
 use sqlite::{File, Files, Unknown};
 use sqlite_disk::Disk;
 use std::alloc::AllocError;
@@ -32,31 +34,53 @@ fn state_opened(
     state
 }
 
-/// The state of the files of this path and its log.
-fn state_at(rt: &HostRuntime, path: &str, log: &str, id: NodeId) -> Result<FilesState, AllocError> {
-    let has_log = match is_there(rt, log) {
-        Ok(has_log) => has_log,
+/// The state of the database of this path, of so many bytes, and its log.
+fn state_at(
+    rt: &HostRuntime,
+    path: &str,
+    log: &str,
+    id: NodeId,
+    database: u64,
+) -> Result<FilesState, AllocError> {
+    let lengths = match length_of(rt, log) {
+        Ok(log) => Lengths {
+            database: Some(database),
+            log,
+        },
         Err(fault) => return state_unopened(fault),
     };
+    if let Some(loss) = lengths.loss() {
+        return Ok(FilesState::Lost(loss));
+    }
     match sqlite_std_file::open(rt, path, Unknown) {
-        Ok(mut files) => state_opened(rt, &mut files, id, log, has_log),
+        Ok(mut files) => state_opened(rt, &mut files, id, log, lengths.log.is_some()),
         Err(error) => state_unopened(StartFault::from(error)),
     }
 }
 
-/// The state of the files of a node in the folder, where its database is there.
-fn state_in(rt: &HostRuntime, folder: &str, id: NodeId) -> Result<Option<FilesState>, AllocError> {
-    let number = id.number();
-    let path = format!(in rt.alloc(); "{folder}/node-{number}.db")?;
-    let log = format!(in rt.alloc(); "{folder}/node-{number}.db-wal")?;
-    match is_there(rt, path.as_str()) {
-        Ok(false) => Ok(None),
-        Ok(true) => Ok(Some(state_at(rt, path.as_str(), log.as_str(), id)?)),
+/// The state of a node whose database isn't there: that is missing, where its log is there and has a byte.
+fn state_without(rt: &HostRuntime, log: &str) -> Result<Option<FilesState>, AllocError> {
+    match length_of(rt, log) {
+        Ok(None) | Ok(Some(0)) => Ok(None),
+        Ok(Some(_)) => Ok(Some(FilesState::Lost(Loss::NoDatabase))),
         Err(fault) => Ok(Some(state_unopened(fault)?)),
     }
 }
 
-/// What the files of nodes in a folder are, for each node from 0 on whose database is there. They stay as they are.
+/// The state of the files of a node in the folder, where its database or its log is there.
+fn state_in(rt: &HostRuntime, folder: &str, id: NodeId) -> Result<Option<FilesState>, AllocError> {
+    let number = id.number();
+    let path = format!(in rt.alloc(); "{folder}/node-{number}.db")?;
+    let log = format!(in rt.alloc(); "{folder}/node-{number}.db-wal")?;
+    match length_of(rt, path.as_str()) {
+        Ok(None) => state_without(rt, log.as_str()),
+        Ok(Some(length)) => Ok(Some(state_at(rt, path.as_str(), log.as_str(), id, length)?)),
+        Err(fault) => Ok(Some(state_unopened(fault)?)),
+    }
+}
+
+/// What the files of nodes in a folder are, for each node from 0 on whose database or log is there. They stay as they
+/// are.
 pub fn states_in(rt: &HostRuntime, folder: &str) -> Result<Vec<(u8, FilesState)>, StoreFault> {
     if !fs::metadata(rt, folder)?.is_dir() {
         return Err(StoreFault::Unusable);

@@ -1,6 +1,7 @@
 //! Nodes over files, for whoever needn't know what they keep their records in.
 
-ghost use Rattle.std.specs.Prelude.{◌≡◌, ◌<◌, ℕ, Bool, ⊤, true, false, is_some, IfOk, IsTrue, None, Option, Some, length};
+ghost use Rattle.std.specs.Prelude.{◌≡◌, ◌<◌, ℕ, Bool, ⊤, true, false, is_some, IfOk, IsTrue, None, Option, Some};
+ghost use Rattle.std.specs.Prelude.{length};
 ghost use Rattle.acceptor.specs.Content.{Content};
 ghost use Rattle.ballots.specs.Members.{member_count};
 ghost use Rattle.seats.specs.Fresh.{AreFresh};
@@ -11,7 +12,7 @@ ghost use Rattle.stored_nodes.specs.Starts.{ComesOfStart, HasStarted};
 
 use crate::fault::StoreFault;
 use crate::opens::OpensRecords;
-use crate::own_file::{NewFiles, files_of};
+use crate::own_file::{FilesAt, files_of};
 use crate::owned::{Claim, started_over};
 use crate::start::StartFault;
 use crate::stored::{examine_all, nodes_over};
@@ -149,7 +150,7 @@ fn use_new_node<U: NodeUse>(
     requires { member.0 < member_count member.1 }
     ensures { IfOk result (ComesOfStart (U.comes user member.0 (member_count member.1) true) (λ _. ⊥) true) }
 {
-    let made = NewFiles::at(rt, path)?;
+    let made = FilesAt::found(rt, path)?;
     let answer = match made.opened(rt) {
         Ok(files) => use_node_over(rt.alloc(), files, member, Some(Claim::OwnOrNew), user),
         Err(fault) => Err(fault),

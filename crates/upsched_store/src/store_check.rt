@@ -1,28 +1,34 @@
-//! `upsched check --store DIR`: what the files of a folder's nodes are.
+//! `upsched check --store DIR`: what the files of a folder's nodes are, and why.
 
-ghost use Rattle.std.specs.Prelude.{◌≡◌, ◌≢◌, [], ℕ, List, IfOk, IsTrue, OnOk, flat_map, IfErr};
+ghost use Rattle.std.specs.Prelude.{◌≡◌, ◌≢◌, ◌++◌, [], ℕ, List, IfOk, IsTrue, OnOk, codes, flat_map, IfErr};
 ghost use Rattle.std.specs.Io.KnownBytes.{Appends};
 ghost use Rattle.stored_nodes.specs.declared.states.FilesState.{FilesState as Found};
 ghost use Rattle.upsched_ends.specs.declared.status.Status.TheVariants.{Done, NotUnderstood};
 ghost use Rattle.upsched_store.specs.Surveys.{all_serve, each_serves, serves, state_line, state_lines, state_text};
+ghost use Rattle.upsched_store.specs.Surveys.{why_text};
+ghost use Rattle.stored_nodes.specs.declared.states.FilesState.TheVariants.{Lost, OtherNode, Unusable};
 ghost use Rattle.upsched_ends.specs.Faults.{StopsPrint};
 
 use crate::stored_run::fault_of;
+use acceptor_store_parts::Owner;
+use log_ties::Loss;
+use std::alloc::Global;
+use std::io;
 use std::io::Write;
-use stored_nodes::{FilesState, states_in};
+use stored_nodes::{FileFault, FilesState, states_in};
 use upsched_ends::{Fault, Status};
 
-fn state_text(state: FilesState) -> &'static str
-    ensures { result.now ≡ state_text state }
+/// Why a file can't be used.
+pub(crate) fn why_text(why: FileFault) -> &'static str
+    ensures { result.now ≡ why_text why }
 {
-    match state {
-        FilesState::Fresh => "fresh",
-        FilesState::Used => "used",
-        FilesState::Unowned => "used, of nobody",
-        FilesState::Foreign => "foreign",
-        FilesState::Locked => "locked",
-        FilesState::OtherNode => "of another node",
-        FilesState::Unusable => "unusable",
+    match why {
+        FileFault::NoFolder => "no folder",
+        FileFault::NotRegular => "no regular file",
+        FileFault::Denied => "permission denied",
+        FileFault::NoRoom => "no room",
+        FileFault::Journal => "rollback journal",
+        FileFault::Failed => "a read or write failed",
     }
 }
 
@@ -30,13 +36,72 @@ fn serves(state: FilesState) -> bool
     ensures { result ≡ serves state }
 {
     match state {
-        FilesState::Fresh => true,
-        FilesState::Used => true,
+        FilesState::Fresh | FilesState::Begun | FilesState::Used | FilesState::Locked => true,
         _ => false,
     }
 }
 
+/// Prints the line of files that lost something.
+fn print_loss<O: Write>(path: &str, loss: Loss, output: &mut O) -> io::Result<()>
+    ensures { OnOk result (Appends (O.contents output.old) (O.contents output.new) (path.now ++ (codes ": " ++ state_text path.now (Lost loss)))) }
+{
+    match loss {
+        Loss::NoLog => writeln!(output, "{path}: log missing: {path}-wal isn't there"),
+        Loss::CutAt(at) => writeln!(
+            output,
+            "{path}: log missing: {path}-wal is cut at byte {at}"
+        ),
+        Loss::Damaged => writeln!(output, "{path}: log missing: {path}-wal is damaged"),
+        Loss::NoDatabase => writeln!(output, "{path}: database missing: {path} isn't there"),
+    }
+}
+
+/// Prints the line of another node's files.
+fn print_other<O: Write>(path: &str, owner: Owner, output: &mut O) -> io::Result<()>
+    ensures { OnOk result (Appends (O.contents output.old) (O.contents output.new) (path.now ++ (codes ": "
+        ++ state_text path.now (OtherNode owner)))) }
+{
+    let (node, count) = (owner.node.number(), owner.members.count());
+    writeln!(output, "{path}: of another node: node {node} of {count}")
+}
+
+/// Prints the line of files that can't be used.
+fn print_unusable<O: Write>(path: &str, why: FileFault, output: &mut O) -> io::Result<()>
+    ensures { OnOk result (Appends (O.contents output.old) (O.contents output.new) (path.now ++ (codes ": "
+        ++ state_text path.now (Unusable why)))) }
+{
+    let why = why_text(why);
+    writeln!(output, "{path}: unusable: {why}")
+}
+
+/// Writes the line of the files of this path.
+fn write_state<O: Write>(path: &str, state: FilesState, output: &mut O) -> io::Result<()>
+    ensures { OnOk result (Appends (O.contents output.old) (O.contents output.new) (path.now ++ (codes ": " ++ state_text path.now state))) }
+{
+    match state {
+        FilesState::Fresh => writeln!(output, "{path}: fresh"),
+        FilesState::Begun => writeln!(output, "{path}: begun"),
+        FilesState::Used => writeln!(output, "{path}: used"),
+        FilesState::Unowned => writeln!(output, "{path}: used, of nobody"),
+        FilesState::Foreign => writeln!(output, "{path}: foreign"),
+        FilesState::Locked => writeln!(output, "{path}: locked: another process has it open"),
+        FilesState::OtherNode(owner) => print_other(path, owner, output),
+        FilesState::Lost(loss) => print_loss(path, loss, output),
+        FilesState::Unusable(why) => print_unusable(path, why, output),
+    }
+}
+
+/// Prints the line of the files of this path.
+fn print_state<'a, O: Write>(path: &str, state: FilesState, output: &mut O) -> Result<(), Fault<'a>>
+    ensures printed { OnOk result (Appends (O.contents output.old) (O.contents output.new) (path.now ++ (codes ": " ++ state_text path.now state))) }
+    ensures fault { IfErr result StopsPrint }
+{
+    write_state(path, state, output)?;
+    Ok(())
+}
+
 fn print_one<'a, O: Write>(
+    alloc: Global,
     folder: &str,
     found: &(u8, FilesState),
     output: &mut O,
@@ -45,12 +110,12 @@ fn print_one<'a, O: Write>(
     ensures fault { IfErr result StopsPrint }
 {
     let number = found.0;
-    let text = state_text(found.1);
-    writeln!(output, "{folder}/node-{number}.db: {text}")?;
-    Ok(())
+    let path = format!(in alloc; "{folder}/node-{number}.db")?;
+    print_state(path.as_str(), found.1, output)
 }
 
 fn print_each<'a, O: Write>(
+    alloc: Global,
     folder: &str,
     states: &[(u8, FilesState)],
     output: &mut O,
@@ -59,7 +124,7 @@ fn print_each<'a, O: Write>(
     ensures fault { IfErr result StopsPrint }
 {
     for found in states {
-        print_one(folder, found, output)?;
+        print_one(alloc, folder, found, output)?;
     }
     Ok(())
 }
@@ -73,6 +138,7 @@ fn print_none<'a, O: Write>(folder: &str, output: &mut O) -> Result<(), Fault<'a
 }
 
 fn print_states<'a, O: Write>(
+    alloc: Global,
     folder: &str,
     states: &[(u8, FilesState)],
     output: &mut O,
@@ -83,7 +149,7 @@ fn print_states<'a, O: Write>(
     if states.is_empty() {
         print_none(folder, output)
     } else {
-        print_each(folder, states, output)
+        print_each(alloc, folder, states, output)
     }
 }
 
@@ -99,8 +165,10 @@ fn all_serve(states: &[(u8, FilesState)]) -> bool
     !states.is_empty() && each_serves(states)
 }
 
-/// Prints what each node's files are, a line each, and gives whether nodes can begin or go on over all of them.
+/// Prints what each node's files are, a line each, and gives whether a node can begin or go on over each of them, or a
+/// process has it open.
 pub fn report_states<'a, O: Write>(
+    alloc: Global,
     folder: &str,
     states: &[(u8, FilesState)],
     output: &mut O,
@@ -109,7 +177,7 @@ pub fn report_states<'a, O: Write>(
     ensures serve { IfOk result (λ serve. serve ≡ all_serve states.now) }
     ensures fault { IfErr result StopsPrint }
 {
-    print_states(folder, states, output)?;
+    print_states(alloc, folder, states, output)?;
     output.flush()?;
     Ok(all_serve(states))
 }
@@ -123,13 +191,13 @@ fn report_folder<'a, O: Write>(
         × Appends (O.contents output.old) (O.contents output.new) (state_lines folder.now states)) }
 {
     match states_in(rt, folder) {
-        Ok(states) => report_states(folder, states.as_slice(), output),
+        Ok(states) => report_states(rt.alloc(), folder, states.as_slice(), output),
         Err(fault) => Err(fault_of(fault)),
     }
 }
 
-/// Tells what the files of a folder's nodes are. Where no node can begin or go on over one of them, or none is there,
-/// it ends as faulted.
+/// Tells what the files of a folder's nodes are. Where no node can begin or go on over one of them, which no process
+/// has open, or none is there, it ends as faulted.
 pub fn check_store<O: Write, E: Write>(
     rt: &HostRuntime,
     folder: &str,

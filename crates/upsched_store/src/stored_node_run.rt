@@ -5,14 +5,15 @@ ghost use Rattle.ballots.specs.Members.{member_count};
 ghost use Rattle.ballots.specs.declared.members.Members.{Members};
 ghost use Rattle.node_service.specs.declared.batches.BatchedEnd.TheVariants as batched;
 ghost use Rattle.node_service.specs.declared.service.End.TheVariants as ends;
-ghost use Rattle.upsched_ends.specs.declared.status.Status.TheVariants.{NotUnderstood};
+ghost use Rattle.upsched_ends.specs.declared.status.Status.TheVariants.{Faulted, NotUnderstood};
 ghost use Rattle.upsched_node.specs.Member.{NamesMember};
 
+use crate::start_lines::print_start;
 use acceptor::PlainRecords;
-use acceptor_store::{OpenFault, OwnerFault, SqlRecords};
+use acceptor_store::SqlRecords;
 use ballots::{Members, NodeId};
 use batched_node::{BatchedSeat, serve_batched_member};
-use node::{NodeFault, SchedNode};
+use node::SchedNode;
 use node_lines::{Ahead, Unwritten};
 use node_service::{BatchedEnd, End, Lines, Outbox, Reply};
 use std::alloc::Global;
@@ -22,28 +23,12 @@ use stored_nodes::{BatchedUse, StartFault, use_batched_at};
 use upsched_ends::{Fault, NodeWords, Status};
 use upsched_node::{NO_MEMBER, ended, member_of, unwritten};
 
-/// What is told of files that aren't opened as the node's.
-fn unopened<'a>(fault: OwnerFault) -> Fault<'a> {
-    match fault {
-        OwnerFault::Blank => Fault::NoStore,
-        OwnerFault::Unowned => Fault::StoreOf("nobody"),
-        OwnerFault::OtherNode => Fault::StoreOf("another node"),
-        OwnerFault::OtherMembers => Fault::StoreOf("other members"),
-        OwnerFault::Open(OpenFault::OutOfMemory) => Fault::Memory,
-        OwnerFault::Open(_) => Fault::Store,
-    }
-}
-
-/// What is told of a node that doesn't start over its files.
-fn not_started<'a>(fault: StartFault) -> Fault<'a> {
-    match fault {
-        StartFault::NoFile => Fault::NoStore,
-        StartFault::InUse => Fault::StoreInUse,
-        StartFault::NotFresh => Fault::StoreNotFresh,
-        StartFault::Unopened(fault) => unopened(fault),
-        StartFault::Unread(NodeFault::OutOfMemory) | StartFault::OutOfMemory => Fault::Memory,
-        StartFault::Unread(_) | StartFault::Unusable => Fault::Store,
-    }
+/// Why a node over a file of its own ended before its input did.
+#[derive(Drop)]
+enum Stopped {
+    /// It didn't start.
+    Unstarted(StartFault),
+    Ended(Fault<'static>),
 }
 
 /// How it ended, in the words of a node that stores each write by itself: one whose writes weren't stored has crashed.
@@ -107,14 +92,14 @@ impl<I: Lines + Ahead, O: Outbox> BatchedUse for Serving<'_, I, O> {
 }
 
 /// Serves over the database of a path: as a new node, or as one that goes on over what it left there.
-fn serve_over<'a, I: Lines + Ahead, O: Outbox>(
+fn serve_over<I: Lines + Ahead, O: Outbox>(
     rt: &HostRuntime,
     words: &NodeWords<'_>,
     path: &str,
     member: (NodeId, Members),
     input: &mut I,
     output: &mut O,
-) -> Result<(), Fault<'a>>
+) -> Result<(), Stopped>
     requires { member.0 < member_count member.1 }
 {
     let alloc = rt.alloc();
@@ -124,9 +109,28 @@ fn serve_over<'a, I: Lines + Ahead, O: Outbox>(
         output,
     };
     match use_batched_at(rt, path, member, words.is_new, serving) {
-        Ok(served) => served,
-        Err(fault) => Err(not_started(fault)),
+        Ok(Ok(())) => Ok(()),
+        Ok(Err(fault)) => Err(Stopped::Ended(fault)),
+        Err(fault) => Err(Stopped::Unstarted(fault)),
     }
+}
+
+/// Tells in one line why it ended, with the path of the file.
+fn tell_stopped<E: Write>(path: &str, why: &Stopped, errors: &mut E) -> Status
+    ensures { result ≡ Faulted }
+{
+    match why {
+        Stopped::Unstarted(fault) => {
+            let _ = print_start(path, *fault, errors);
+        }
+        Stopped::Ended(Fault::Crashed) => {
+            let _ = writeln!(errors, "upsched: crashed: {path}");
+        }
+        Stopped::Ended(fault) => {
+            let _ = fault.told(errors);
+        }
+    }
+    Status::Faulted
 }
 
 /// Serves as the member that the words name, with its records in the database of a path. Lines that have come together
@@ -148,6 +152,6 @@ pub fn stored_node<I: Lines + Ahead, O: Outbox, E: Write>(
     };
     match serve_over(rt, words, path, (id, members), input, output) {
         Ok(()) => Status::Done,
-        Err(fault) => fault.told(errors),
+        Err(why) => tell_stopped(path, &why, errors),
     }
 }

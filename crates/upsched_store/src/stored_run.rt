@@ -2,18 +2,18 @@
 
 ghost use Rattle.std.specs.Prelude.{◌≡◌, ◌≢◌};
 ghost use Rattle.upsched_ends.specs.declared.status.Status.TheVariants.{NotUnderstood};
-ghost use Rattle.script_text.specs.Script.{NoScript};
+ghost use Rattle.script_text.specs.StepScript.{NoSteps};
 
 use log::Log;
 use node::Node;
-use script_text::Script;
+use script_text::StepScript;
 use sqlite::Files;
 use sqlite_disk::Disk;
 use std::io::{Read, Write};
 use stored_nodes::{NodesUse, StoreFault, use_nodes_in, use_nodes_over};
-use upsched_ends::{Fault, RunWords, Status, script_of};
+use upsched_ends::{Fault, RunWords, Status, steps_of};
 use upsched_json_run::print_script_as_json;
-use upsched_run::{Telling, print_script};
+use upsched_run::{Telling, Trace, print_script};
 
 /// What is told of nodes that don't start over files.
 pub(crate) fn fault_of<'a>(fault: StoreFault) -> Fault<'a> {
@@ -36,7 +36,7 @@ enum Form {
 #[derive(Drop)]
 struct Printing<'a, R, O> {
     rt: &'a R,
-    script: &'a Script,
+    script: StepScript,
     form: Form,
     output: &'a mut O,
 }
@@ -73,7 +73,7 @@ fn printed<'a>(used: Result<Result<(), Fault<'static>>, StoreFault>) -> Result<(
 pub fn print_over<'a, R: Log + AllocGlobal, D: Disk + Drop, O: Write>(
     rt: &R,
     files: Vec<Files<D>>,
-    script: &Script,
+    script: StepScript,
     telling: Telling,
     output: &mut O,
 ) -> Result<(), Fault<'a>> {
@@ -96,13 +96,13 @@ fn print_in<'a, F: Read, O: Write>(
     form: Form,
     output: &mut O,
 ) -> Result<(), Fault<'a>>
-    ensures { NoScript (F.remaining script.old) → output.new ≡ output.old }
+    ensures { NoSteps (F.remaining script.old) → output.new ≡ output.old }
 {
-    let script = script_of(rt.alloc(), script, path)?;
+    let script = steps_of(rt.alloc(), script, path)?;
     let members = script.members;
     let printing = Printing {
         rt,
-        script: &script,
+        script,
         form,
         output,
     };
@@ -110,17 +110,18 @@ fn print_in<'a, F: Read, O: Write>(
 }
 
 /// Runs a script over fresh nodes with files in a folder, and prints as `run_script` does, or with a trace as
-/// `trace_script`. A fault of the script or of the store is found before anything is printed, and is told in one line.
+/// `trace_script` or `name_script`. A fault of the script or of the store is found before anything is printed, and is
+/// told in one line.
 pub fn run_stored_script<F: Read, O: Write, E: Write>(
     rt: &HostRuntime,
     script: &mut F,
     words: &RunWords<'_>,
     folder: &str,
-    trace: bool,
+    trace: Trace,
     output: &mut O,
     errors: &mut E,
 ) -> Status
-    ensures no_script { NoScript (F.remaining script.old) → output.new ≡ output.old }
+    ensures no_script { NoSteps (F.remaining script.old) → output.new ≡ output.old }
     ensures understood { result ≢ NotUnderstood }
 {
     let verbose = words.verbose;
@@ -141,7 +142,7 @@ pub fn run_stored_as_json<F: Read, O: Write, E: Write>(
     output: &mut O,
     errors: &mut E,
 ) -> Status
-    ensures no_script { NoScript (F.remaining script.old) → output.new ≡ output.old }
+    ensures no_script { NoSteps (F.remaining script.old) → output.new ≡ output.old }
     ensures understood { result ≢ NotUnderstood }
 {
     match print_in(

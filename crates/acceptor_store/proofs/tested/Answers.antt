@@ -1,6 +1,7 @@
 use Rattle.std.proofs.Common.{◌≡◌, Option, refl, sym, ap, ◌∙◌, arith}
 use Rattle.sqlite.specs.Schema.{Schema}
-use Rattle.acceptor_store.proofs.Words.{HasCleanDisk, state, survives_weaker, Version, Owner, schema_for, version_for, schema_of, as_version}
+use Rattle.acceptor_store.proofs.Words.{HasCleanDisk, state, survives_weaker, Version, Owner, schema_for, version_for}
+use Rattle.acceptor_store.proofs.Words.{schema_of, as_version}
 use Rattle.acceptor_store.proofs.Reopening.{tells, tests_leave}
 use Rattle.acceptor_store.proofs.tested.Goals as goal
 

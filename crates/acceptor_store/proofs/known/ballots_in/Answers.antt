@@ -1,5 +1,6 @@
 use Rattle.std.proofs.Common.{◌≡◌, IfSome, sym, ap, subst, ◌∙◌, arith}
-use Rattle.acceptor_store.proofs.Words.{number_of, rows_from, Content, HasCleanDisk, state, survives_then, ServesAs, all_rows, serves_as}
+use Rattle.acceptor_store.proofs.Words.{number_of, rows_from, Content, HasCleanDisk, state, survives_then, ServesAs}
+use Rattle.acceptor_store.proofs.Words.{all_rows, serves_as}
 use Rattle.acceptor_store.proofs.known.ballots_in.Goals as goal
 
 pub returns-clause-value : goal.returns-clause-value

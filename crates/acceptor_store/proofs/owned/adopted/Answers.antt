@@ -1,7 +1,8 @@
 use Rattle.std.proofs.Common.{◌≡◌, inl, inr, refl, sym, subst, ◌∙◌, arith}
 use Rattle.acceptor_store.proofs.Words.{IfErr-weaker, IfOk-weaker, HasCleanDisk, state, HasFacts, Open}
 use Rattle.acceptor_store.specs.declared.OpenFault.TheVariants.{Refused}
-use Rattle.acceptor_store.proofs.Owning.{adopts_owned, adopts_plain, left_adopting, left_owned, left_plain, owned_due, plain_due, store_due_before}
+use Rattle.acceptor_store.proofs.Owning.{adopts_owned, adopts_plain, left_adopting, left_owned, left_plain, owned_due}
+use Rattle.acceptor_store.proofs.Owning.{plain_due, store_due_before}
 use Rattle.acceptor_store.proofs.owned.adopted.Goals as goal
 
 pub returns-then-has_facts-clause-tables : goal.returns-then-has_facts-clause-tables

@@ -1,5 +1,6 @@
 use Rattle.std.proofs.Common.{◌≡◌, IsTrue, OnOk, OnErr, refl, sym, subst, rules, arith}
-use Rattle.acceptor_store_parts.proofs.Words.{HasCleanDisk, Survives, state, survives_begin, survives_weaker, StillServes, HasWrittenAll, MayHaveWrittenAll}
+use Rattle.acceptor_store_parts.proofs.Words.{HasCleanDisk, Survives, state, survives_begin, survives_weaker}
+use Rattle.acceptor_store_parts.proofs.Words.{StillServes, HasWrittenAll, MayHaveWrittenAll}
 use Rattle.acceptor_store_parts.proofs.Batches.{all_committed, may_commit_all, undone_serves, commit_failed}
 use Rattle.acceptor_store_parts.proofs.Makes.{inside_then, on_ok}
 use Rattle.acceptor_store_parts.proofs.batch.run_all.Goals as goal

@@ -1,5 +1,6 @@
 use Rattle.std.proofs.Common.{inl, rules, SFits, w64, arith}
-use Rattle.acceptor_store_parts.proofs.Words.{to_z-of_z, HasCleanDisk, State, state, survives_then, survives_weaker, DoesNotServe, Asked}
+use Rattle.acceptor_store_parts.proofs.Words.{to_z-of_z, HasCleanDisk, State, state, survives_then, survives_weaker}
+use Rattle.acceptor_store_parts.proofs.Words.{DoesNotServe, Asked}
 use Rattle.sqlite.specs.State.{CommitsShowing}
 use Rattle.sqlite.specs.Tree.{Trees}
 use Rattle.acceptor_store_parts.specs.Asked.{text_of}

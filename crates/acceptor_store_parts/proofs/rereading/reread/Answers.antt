@@ -1,5 +1,6 @@
 use Rattle.std.proofs.Common.{◌≡◌, false, refl, sym, ap, subst, ◌∙◌, arith}
-use Rattle.acceptor_store_parts.proofs.Words.{Database, IsTable, IsShaped, IsClean, is_open_now, Version, First, Second, Third, AreShaped, KeepsLearned}
+use Rattle.acceptor_store_parts.proofs.Words.{Database, IsTable, IsShaped, IsClean, is_open_now, Version, First, Second}
+use Rattle.acceptor_store_parts.proofs.Words.{Third, AreShaped, KeepsLearned}
 use Rattle.sqlite_trees.specs.Tree.{Trees}
 use Rattle.sqlite_trees.specs.declared.store.Shape.TheVariants.{Table}
 use Rattle.acceptor_store_parts.proofs.rereading.reread.Goals as goal

@@ -1,11 +1,13 @@
-use Rattle.std.proofs.Common.{arith, rules, ◌≡◌, ◌+◌, ◌≤◌, ◌<◌, ◌-◌, ℕ, suc, length, sym, ◌∙◌, ap, subst, subst₂, refl, inl, inr, IsTrue, List}
+use Rattle.std.proofs.Common.{arith, rules, ◌≡◌, ◌+◌, ◌≤◌, ◌<◌, ◌-◌, ℕ, suc, length, sym, ◌∙◌, ap, subst, subst₂, refl}
+use Rattle.std.proofs.Common.{inl, inr, IsTrue, List}
 use Rattle.std.proofs.lemmas.Bool.{cases_Bool, false≢true}
 use Rattle.std.proofs.lemmas.Nat.{le-div}
 use Rattle.sqlite_wal.specs.Recovery.{frame_at}
 use Rattle.sqlite_wal.proofs.PartLemmas.{frames_len-suc}
 use Rattle.log_ties.specs.Ties.{HasOwnSaltsAt}
 use Rattle.log_ties.specs.Tails.{Reaches}
-use Rattle.log_ties.proofs.EndLemmas.{taken_within, cut_behind_frames, cut_by_salts, uncut_behind_commit, uncut_behind_frame}
+use Rattle.log_ties.proofs.EndLemmas.{taken_within, cut_behind_frames, cut_by_salts, uncut_behind_commit}
+use Rattle.log_ties.proofs.EndLemmas.{uncut_behind_frame}
 use Rattle.log_ties.proofs.ReadLemmas.{offset_is}
 use Rattle.log_ties.proofs.tail.ends_within.Goals as goal
 

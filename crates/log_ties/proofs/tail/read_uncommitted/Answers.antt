@@ -3,7 +3,8 @@ use Rattle.std.proofs.lemmas.Bool.{false≢true}
 use Rattle.sqlite_wal.specs.Format.{part, stored_sum, commit_size, IsFrame}
 use Rattle.sqlite_wal.proofs.PartLemmas.{held_is_part}
 use Rattle.log_ties.proofs.tail.read_uncommitted.Goals as goal
-use Rattle.log_ties.proofs.tail.read_uncommitted.Goals.{else-is_frame-via-then-is_frame+else-get_be32-eq0, else-is_frame-via-else-is_frame}
+use Rattle.log_ties.proofs.tail.read_uncommitted.Goals.{else-is_frame-via-then-is_frame+else-get_be32-eq0}
+use Rattle.log_ties.proofs.tail.read_uncommitted.Goals.{else-is_frame-via-else-is_frame}
 
 pub returns-then-get_be32-eq0-clause-found : goal.returns-then-get_be32-eq0-clause-found
 returns-then-get_be32-eq0-clause-found g c clean =

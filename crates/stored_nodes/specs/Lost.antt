@@ -1,0 +1,36 @@
+-- What is told of files that lost something.
+use Rattle.std.specs.Prelude.{◌≡◌, ◌⊎◌, ◌<◌, ℕ, IsSomeAnd, Option}
+use Rattle.log_ties.specs.Ties.{IsLost, RefusesTie}
+use Rattle.log_ties.specs.declared.tie.Loss.{Loss}
+use Rattle.sqlite_disk.specs.Disk.{MoreFaults}
+use Rattle.sqlite_disk.specs.declared.Disk as disk
+use Rattle.sqlite_wal.specs.Reads.{AreClean}
+use Rattle.sqlite_wal.specs.Recovery.{Image}
+use Rattle.sqlite_wal.specs.declared.error.Error.TheVariants.{Full}
+use Rattle.stored_nodes.specs.declared.start.FileFault.{FileFault}
+use Rattle.stored_nodes.specs.declared.start.StartFault.{StartFault}
+use Rattle.stored_nodes.specs.declared.start.StartFault.TheVariants.{NoFile, Unusable, Lost, InUse, Unopened, NotFresh}
+use Rattle.stored_nodes.specs.declared.start.StartFault.TheVariants.{Unread, OutOfMemory}
+
+-- the disk gives no wrong answer
+abbrev pub NeverLies : {D : Type 0} → disk.Ghosts D → Type 0
+NeverLies {D} g = (log db : D) → AreClean g log db
+
+-- the fault is this loss, or why it isn't known: want of memory, or a read
+abbrev pub TellsLoss : Loss → StartFault → Type 0
+TellsLoss loss fault = (fault ≡ Lost loss) ⊎ ((fault ≡ OutOfMemory) ⊎ ((why : FileFault) × (fault ≡ Unusable why)))
+
+-- what a refusal before an open says of the files, and of how many calls of theirs failed before it and with it
+abbrev pub IsDueBefore : Image → ℕ → ℕ → StartFault → Type 0
+IsDueBefore image old new (Lost loss) = IsLost image loss
+IsDueBefore image old new (Unusable why) = MoreFaults old new ⊎ RefusesTie image.log Full
+IsDueBefore image old new OutOfMemory = Unit {0}
+IsDueBefore image old new NoFile = ⊥
+IsDueBefore image old new InUse = ⊥
+IsDueBefore image old new (Unopened fault) = ⊥
+IsDueBefore image old new NotFresh = ⊥
+IsDueBefore image old new (Unread fault) = ⊥
+
+-- there is a database of so many bytes
+abbrev pub IsLong : Option ℕ → Type 0
+IsLong length = IsSomeAnd length (λ n. 1 < n)
